@@ -1,1 +1,4 @@
 pub mod Ascii
+pub mod Find
+pub mod Keys
+pub mod Put

@@ -1,3 +1,7 @@
-pub mod Short
-pub mod Values
 pub mod Dates
+pub mod Formed
+pub mod Refusals
+pub mod Short
+pub mod State
+pub mod Values
+pub mod Words

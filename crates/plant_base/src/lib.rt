@@ -1,9 +1,23 @@
 //! Values, commands, rows and refusals of the desk, and the state that the rows make up.
 #![tactic(auto)]
 
+mod command;
 mod due;
+mod refusal;
+mod rows;
 mod short;
+mod states;
 mod values;
 
+pub use command::{AddClass, AddDefinition, Command, Envelope, Receive, Scrap, Stamp};
 pub use due::{Due, DueFault};
-pub use values::{Amount, Id, Moment, Text, Unit};
+pub use refusal::Refusal;
+pub use rows::{
+    Batch, BatchEvent, BatchRow, Class, ControlLine, Definition, Header, Hold, Job, Lot,
+    MasterLine, Meta, Movement, MovementKind, NEWEST_SCHEMA, OrderRow, Place, Position, Recipe,
+    RecipeLine, Sublot,
+};
+pub use states::{BatchState, Event, JobState, RecipeState, Word};
+pub use values::{
+    Amount, GREATEST_AMOUNT, GREATEST_MOMENT, GREATEST_SEQ, GREATEST_SUBLOT, Id, Moment, Text, Unit,
+};

@@ -1,0 +1,6 @@
+pub mod Nodes
+pub mod Reach
+pub mod Seen
+pub mod Sources
+pub mod Turned
+pub mod Growth

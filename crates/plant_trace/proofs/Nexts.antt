@@ -1,5 +1,5 @@
 -- The neighbours of a node in a list of pairs, pair by pair.
-use Rattle.std.proofs.Common.{◌≡◌, ℕ, ◌<◌, ◌+◌, true, List, [], ◌∷◌, ◌++◌, take, length, get_or, sym, subst, inl, inr, ◌⊎◌, ⊎_elim, ◌∙◌, ap, Contains}
+use Rattle.std.proofs.Common.{◌≡◌, ℕ, ◌<◌, ◌+◌, true, List, [], ◌∷◌, ◌++◌, take, length, get_or, subst, inl, inr, ◌⊎◌, ⊎_elim, ◌∙◌, ap, Contains}
 use Rattle.std.specs.BTreeSet.{BTreeSet, Updates}
 use Rattle.std.proofs.lemmas.List.{take_more}
 use Rattle.std.proofs.lemmas.List.Elements.{Contains-append_left, Contains-push, Contains-push_cases}

@@ -1,8 +1,8 @@
 -- What a search has found.
-use Rattle.std.proofs.Common.{◌≡◌, ℕ, ◌<◌, ◌≤◌, ◌+◌, List, [], ◌∷◌, ◌++◌, take, length, get_or, refl, sym, subst, inl, inr, ◌⊎◌, ⊎_elim, ◌∙◌, ap, arith, Contains}
+use Rattle.std.proofs.Common.{◌≡◌, ℕ, ◌<◌, ◌+◌, List, [], ◌∷◌, ◌++◌, take, length, get_or, sym, subst, ⊎_elim, arith, Contains}
 use Rattle.std.specs.List.{All}
 use Rattle.std.specs.List.Sorted.{IsStrictlySortedBy}
-use Rattle.std.proofs.lemmas.List.Elements.{All-weaker, All-push, All-contains, Contains-get_or, Contains-push, Contains-push_cases}
+use Rattle.std.proofs.lemmas.List.Elements.{All-weaker, All-push, Contains-get_or}
 use Rattle.std.proofs.lemmas.List.{take_more}
 use Rattle.plant_trace.specs.Nodes.{node_cmp}
 use Rattle.plant_trace.specs.Reach.{Reach, step, more, IsNext, IsReached, HasEdge, Lists}

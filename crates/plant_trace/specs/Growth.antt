@@ -1,5 +1,5 @@
 -- How a set of pairs grows with no cycle.
-use Rattle.std.specs.Prelude.{◌≡◌, List, Contains, ◌++◌}
+use Rattle.std.specs.Prelude.{◌≡◌, List, ◌++◌}
 use Rattle.plant_trace.specs.Reach.{Reach, HasEdge, IsAcyclic}
 use Rattle.plant_trace.specs.declared.node.Node.{Node}
 

@@ -1,5 +1,6 @@
 //! What can stop a trace.
 
+ghost use Rattle.std.specs.Prelude.{◌≡◌};
 ghost use Rattle.plant_trace.specs.declared.fault.TraceFault.TheVariants.{Memory};
 
 use std::alloc::AllocError;

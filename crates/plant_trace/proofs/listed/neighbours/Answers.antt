@@ -1,4 +1,4 @@
-use Rattle.std.proofs.Common.{◌≡◌, ◌∙◌, sym, ap}
+use Rattle.std.proofs.Common.{◌∙◌, sym, ap}
 use Rattle.plant_trace.specs.declared.node.Node.{Node}
 use Rattle.plant_trace.proofs.Nexts.{Nexts-other, Nexts-here}
 use Rattle.plant_trace.proofs.NodeLemmas.{node_ne_exact, node_not_ne}

@@ -1,4 +1,3 @@
-use Rattle.std.proofs.Common.{rules}
 use Rattle.plant_trace.proofs.Sets.{Adds_more}
 use Rattle.plant_trace.proofs.seen.note_all.Goals as goal
 

@@ -1,4 +1,3 @@
-use Rattle.std.proofs.Common.{rules}
 use Rattle.std.proofs.lemmas.Bool.{OnFalse_at}
 use Rattle.plant_trace.proofs.Sets.{Adds_more, Queues-then, Queues-push, Queues-still}
 use Rattle.plant_trace.proofs.seen.note_new.Goals as goal

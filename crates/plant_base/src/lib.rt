@@ -3,6 +3,7 @@
 
 mod command;
 mod due;
+mod items;
 mod refusal;
 mod rows;
 mod short;
@@ -11,6 +12,7 @@ mod values;
 
 pub use command::{AddClass, AddDefinition, Command, Envelope, Receive, Scrap, Stamp};
 pub use due::{Due, DueFault};
+pub use items::Items;
 pub use refusal::Refusal;
 pub use rows::{
     Batch, BatchEvent, BatchRow, Class, ControlLine, Definition, Header, Hold, Job, Lot,

@@ -1,0 +1,4 @@
+pub mod ReceiptTables
+pub mod ScrapTables
+pub mod Sublots
+pub mod Conserved

@@ -1,0 +1,12 @@
+pub mod Booking
+pub mod Catalogue
+pub mod Conserve
+pub mod Genealogy
+pub mod Receipt
+pub mod Refusing
+pub mod Scrapping
+pub mod Sound
+pub mod Step
+pub mod Tables
+pub mod Views
+pub mod Wrong

@@ -1,0 +1,18 @@
+-- Conditions: the first one that fails names the refusal.
+use Rattle.std.specs.Prelude.{ℕ, ◌-◌, Bool, Option, Some, None, if◌then◌else◌, nat_le, List}
+use Rattle.plant_base.specs.Values.{greatest_seq}
+use Rattle.plant_base.specs.State.{State}
+use Rattle.plant_base.specs.declared.refusal.Refusal.{Refusal}
+use Rattle.plant_stock.specs.Stock.{entered, left}
+
+-- refused where the test holds, and else for what follows
+abbrev pub refuse : Bool → Refusal → Option Refusal → Option Refusal
+refuse b r rest = if b then Some r else rest
+
+-- no further command is accepted
+abbrev pub at_limit : State → Bool
+at_limit s = nat_le greatest_seq s.seq
+
+-- what stands in a sublot: what entered it less what left it
+abbrev pub standing : State → List ℕ → ℕ → ℕ
+standing s lot number = entered s.movements lot number - left s.movements lot number

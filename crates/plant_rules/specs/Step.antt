@@ -1,0 +1,28 @@
+-- The state after a command.
+use Rattle.std.specs.Prelude.{Option, Some, None}
+use Rattle.plant_base.specs.State.{State}
+use Rattle.plant_base.specs.Formed.{stamp_of}
+use Rattle.plant_base.specs.declared.refusal.Refusal.{Refusal}
+use Rattle.plant_base.specs.declared.command.Stamp.{Stamp}
+use Rattle.plant_base.specs.declared.command.Command.{Command}
+use Rattle.plant_base.specs.declared.command.Command.TheVariants as body
+use Rattle.plant_base.specs.declared.command.Envelope.{Envelope}
+use Rattle.plant_rules.specs.Wrong.{wrong}
+use Rattle.plant_rules.specs.Catalogue.{add_class, add_definition}
+use Rattle.plant_rules.specs.Receipt.{receive}
+use Rattle.plant_rules.specs.Scrapping.{scrap}
+
+-- what an accepted command makes of the state
+abbrev pub step_body : State → Stamp → Command → State
+step_body s t (body.AddClass c) = add_class s t c
+step_body s t (body.AddDefinition c) = add_definition s t c
+step_body s t (body.Receive c) = receive s t c
+step_body s t (body.Scrap c) = scrap s t c
+
+-- the state itself where the command is refused
+abbrev pub unless_refused : Option Refusal → State → State → State
+unless_refused None s next = next
+unless_refused (Some r) s next = s
+
+unfoldable pub step : State → Envelope → State
+step s e = unless_refused (wrong s e) s (step_body s (stamp_of e) e.body)

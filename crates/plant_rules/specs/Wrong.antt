@@ -1,0 +1,25 @@
+-- The first condition that a command fails.
+use Rattle.std.specs.Prelude.{Bool, not, nat_lt, Option}
+use Rattle.plant_base.specs.State.{State}
+use Rattle.plant_base.specs.Formed.{is_formed}
+use Rattle.plant_base.specs.declared.refusal.Refusal.{Refusal}
+use Rattle.plant_base.specs.declared.refusal.Refusal.TheVariants.{BadForm, MomentBack}
+use Rattle.plant_base.specs.declared.command.Command.{Command}
+use Rattle.plant_base.specs.declared.command.Command.TheVariants as body
+use Rattle.plant_base.specs.declared.command.Envelope.{Envelope}
+use Rattle.plant_rules.specs.Refusing.{refuse}
+use Rattle.plant_rules.specs.Catalogue.{wrong_add_class, wrong_add_definition}
+use Rattle.plant_rules.specs.Receipt.{wrong_receive}
+use Rattle.plant_rules.specs.Scrapping.{wrong_scrap}
+
+abbrev pub wrong_body : State → Command → Option Refusal
+wrong_body s (body.AddClass c) = wrong_add_class s c
+wrong_body s (body.AddDefinition c) = wrong_add_definition s c
+wrong_body s (body.Receive c) = wrong_receive s c
+wrong_body s (body.Scrap c) = wrong_scrap s c
+
+-- none where no condition fails
+unfoldable pub wrong : State → Envelope → Option Refusal
+wrong s e =
+    refuse (not (is_formed e.body)) BadForm
+    (refuse (nat_lt e.at s.at) MomentBack (wrong_body s e.body))

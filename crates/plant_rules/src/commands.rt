@@ -1,0 +1,124 @@
+//! The decision of one command.
+ghost use Rattle.std.specs.Prelude.{◌≡◌, ◌+◌, ◌<◌, IfOk};
+ghost use Rattle.plant_base.specs.Values.{greatest_seq};
+ghost use Rattle.plant_base.specs.State.{newest_schema};
+ghost use Rattle.plant_base.specs.Formed.{stamp_of};
+ghost use Rattle.plant_trace.specs.Sources.{Told};
+ghost use Rattle.plant_rules.specs.Booking.{line_of};
+ghost use Rattle.plant_rules.specs.Sound.{IsSound};
+ghost use Rattle.plant_rules.specs.Step.{step, step_body};
+ghost use Rattle.plant_rules.specs.Tables.{Decides};
+ghost use Rattle.plant_rules.specs.Wrong.{wrong, wrong_body};
+
+mod add_class;
+mod add_definition;
+mod receive;
+mod scrap;
+
+use crate::change::{Decision, RowChange};
+use crate::fault::ViewFault;
+use crate::look;
+use crate::view::View;
+use add_class::decide_add_class;
+use add_definition::decide_add_definition;
+use plant_base::{
+    Amount, Command, Envelope, Id, Items, Meta, Movement, MovementKind, NEWEST_SCHEMA, Position,
+    Refusal, Stamp,
+};
+use receive::decide_receive;
+use scrap::decide_scrap;
+use std::alloc::{AllocError, Global};
+
+/// Decides one command over a view: the first condition that it fails, or the rows that it changes. Nothing is
+/// written.
+///
+/// It asks for a view of a sound state, as every state is that commands lead to. `ViewFault::View` comes where the
+/// view failed, `ViewFault::Memory` where memory was refused.
+#[tactic(auto, unfolding(crate::specs::Wrong::wrong, crate::specs::Step::step))]
+pub fn decide<V: View>(
+    alloc: Global,
+    view: &mut V,
+    envelope: &Envelope,
+) -> Result<Decision, ViewFault<V::Fault>>
+    requires { V.honest view.old → IsSound (V.state view.old) }
+    ensures { Told V.honest V.kept V.steady view.old view.new
+        (IfOk result (Decides (wrong (V.state view.old) envelope.now) (V.state view.old) (step (V.state view.old) envelope.now))) }
+{
+    if !envelope.body.is_formed() {
+        return Ok(Decision::Refused(Refusal::BadForm));
+    }
+    let position = look::position(view)?;
+    if envelope.at.get() < position.at.get() {
+        return Ok(Decision::Refused(Refusal::MomentBack));
+    }
+    decide_body(alloc, view, position.seq, &envelope.stamp(), &envelope.body)
+}
+
+fn decide_body<V: View>(
+    alloc: Global,
+    view: &mut V,
+    seq: u64,
+    stamp: &Stamp,
+    body: &Command,
+) -> Result<Decision, ViewFault<V::Fault>>
+    requires seq { V.honest view.old → seq ≡ (V.state view.old).seq }
+    requires sound { V.honest view.old → IsSound (V.state view.old) }
+    ensures { Told V.honest V.kept V.steady view.old view.new
+        (IfOk result (Decides (wrong_body (V.state view.old) body.now) (V.state view.old) (step_body (V.state view.old) stamp.now body.now))) }
+{
+    match body {
+        Command::AddClass(c) => decide_add_class(alloc, view, seq, stamp, c),
+        Command::AddDefinition(c) => decide_add_definition(alloc, view, seq, stamp, c),
+        Command::Receive(c) => decide_receive(alloc, view, seq, stamp, c),
+        Command::Scrap(c) => decide_scrap(alloc, view, seq, stamp, c),
+    }
+}
+
+// The changes of an accepted command.
+fn changes<const N: usize>(
+    alloc: Global,
+    rows: [RowChange; N],
+) -> Result<Items<RowChange>, AllocError>
+    ensures { IfOk result (λ c. c ≡ rows.entry) }
+{
+    Ok(Items::new(Vec::from_array(alloc, rows)?))
+}
+
+// The row of the desk's position after a command that is accepted.
+fn meta_after(seq: u64, stamp: &Stamp) -> RowChange
+    requires { seq < greatest_seq }
+    ensures { result ≡ RowChange.Meta (record { schema = newest_schema; position = record { seq = seq + 1; at = stamp.now.at } }) }
+{
+    RowChange::Meta(Meta {
+        schema: NEWEST_SCHEMA,
+        position: Position {
+            seq: seq + 1,
+            at: stamp.at,
+        },
+    })
+}
+
+// The one line of a movement that a command books.
+fn booked(
+    seq: u64,
+    stamp: &Stamp,
+    kind: MovementKind,
+    lot: Id,
+    sub: u16,
+    amount: Amount,
+) -> Movement
+    requires { seq < greatest_seq }
+    ensures { result ≡ line_of seq stamp.now kind lot sub amount }
+{
+    Movement {
+        seq: seq + 1,
+        line: 1,
+        kind,
+        lot,
+        sub,
+        amount,
+        at: stamp.at,
+        by: stamp.by,
+        note: stamp.note,
+    }
+}

@@ -1,0 +1,56 @@
+// The look-ups of a view, with the fault of a decision.
+ghost use Rattle.std.specs.Prelude.{◌≡◌, IfOk};
+ghost use Rattle.plant_base.specs.State.{class_at, definition_at, lot_at};
+ghost use Rattle.plant_trace.specs.Sources.{Told};
+ghost use Rattle.plant_rules.specs.Sound.{IsSound};
+ghost use Rattle.plant_rules.specs.Tables.{position_of};
+ghost use Rattle.plant_rules.specs.Views.{IsSublotOf};
+
+use crate::fault::ViewFault;
+use crate::view::View;
+use plant_base::{Class, Definition, Id, Lot, Position, Sublot};
+
+pub(crate) fn position<V: View>(view: &mut V) -> Result<Position, ViewFault<V::Fault>>
+    ensures { Told V.honest V.kept V.steady view.old view.new
+        (IfOk result (λ r. r ≡ position_of (V.state view.old))) }
+{
+    view.position().map_err(ViewFault::View)
+}
+
+pub(crate) fn class<V: View>(view: &mut V, id: Id) -> Result<Option<Class>, ViewFault<V::Fault>>
+    ensures { Told V.honest V.kept V.steady view.old view.new
+        (IfOk result (λ r. r ≡ class_at (V.state view.old) id)) }
+{
+    view.class(id).map_err(ViewFault::View)
+}
+
+pub(crate) fn definition<V: View>(
+    view: &mut V,
+    id: Id,
+) -> Result<Option<Definition>, ViewFault<V::Fault>>
+    ensures { Told V.honest V.kept V.steady view.old view.new
+        (IfOk result (λ r. r ≡ definition_at (V.state view.old) id)) }
+{
+    view.definition(id).map_err(ViewFault::View)
+}
+
+pub(crate) fn lot<V: View>(view: &mut V, id: Id) -> Result<Option<Lot>, ViewFault<V::Fault>>
+    ensures { Told V.honest V.kept V.steady view.old view.new
+        (IfOk result (λ r. r ≡ lot_at (V.state view.old) id)) }
+{
+    view.lot(id).map_err(ViewFault::View)
+}
+
+pub(crate) fn sublot<V: View>(
+    view: &mut V,
+    lot: Id,
+    number: u16,
+) -> Result<Option<Sublot>, ViewFault<V::Fault>>
+    ensures { Told V.honest V.kept V.steady view.old view.new
+        (IsSound (V.state view.old) → IfOk result (IsSublotOf (V.state view.old) lot number)) }
+{
+    match view.sublot(lot, number) {
+        Ok(row) => Ok(row),
+        Err(fault) => Err(ViewFault::View(fault)),
+    }
+}

@@ -1,0 +1,50 @@
+use plant_base::{Class, Definition, Id, Lot, Position, Sublot};
+use plant_trace::Edges;
+
+/// The rows of a state, each found by its key, however they are kept.
+///
+/// A view may fail, and one that isn't honest may answer anything. Where it ends a call honest it was honest
+/// before, its answer is that of its state, and neither the state nor what the view keeps has changed.
+pub trait View: Edges {
+    ghost use Rattle.std.specs.Prelude.{◌≡◌, IfOk, option_map};
+    ghost use Rattle.plant_base.specs.State.{State, class_at, definition_at, lot_at, place_at};
+    ghost use Rattle.plant_trace.specs.Sources.{Told};
+    ghost use Rattle.plant_rules.specs.Genealogy.{edges_of};
+    ghost use Rattle.plant_rules.specs.Tables.{position_of, sublot_row};
+    ghost use Rattle.plant_rules.specs.Sound.{IsSound};
+
+    /// The state that the rows stand for.
+    ghost state: { Self → State };
+
+    /// How many commands were accepted, and the moment of the last.
+    fn position(&mut self) -> Result<Position, Self::Fault>
+        ensures { Told Self.honest Self.kept Self.steady self.old self.new
+            (IfOk result (λ r. r ≡ position_of (state self.old))) };
+
+    /// The class of this id.
+    fn class(&mut self, id: Id) -> Result<Option<Class>, Self::Fault>
+        ensures { Told Self.honest Self.kept Self.steady self.old self.new
+            (IfOk result (λ r. r ≡ class_at (state self.old) id)) };
+
+    /// The definition of this id.
+    fn definition(&mut self, id: Id) -> Result<Option<Definition>, Self::Fault>
+        ensures { Told Self.honest Self.kept Self.steady self.old self.new
+            (IfOk result (λ r. r ≡ definition_at (state self.old) id)) };
+
+    /// The lot of this id.
+    fn lot(&mut self, id: Id) -> Result<Option<Lot>, Self::Fault>
+        ensures { Told Self.honest Self.kept Self.steady self.old self.new
+            (IfOk result (λ r. r ≡ lot_at (state self.old) id)) };
+
+    /// The sublot of this lot and number, with its stock. The stock is right where the state is sound.
+    fn sublot(&mut self, lot: Id, number: u16) -> Result<Option<Sublot>, Self::Fault>
+        ensures { Told Self.honest Self.kept Self.steady self.old self.new
+            (IsSound (state self.old) → IfOk result (λ r.
+            r ≡ option_map (sublot_row (state self.old).movements) (place_at (state self.old) lot number))) };
+
+    /// What is kept keeps the state.
+    ghost kept_state: { (s t : Self) → Self.kept s t → state t ≡ state s };
+
+    /// The edges are those of the state's movements.
+    ghost pairs_of_state: { (s : Self) → Self.pairs s ≡ edges_of (state s) };
+}

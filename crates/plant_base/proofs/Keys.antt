@@ -1,12 +1,13 @@
 -- Keys: their orders and their tests.
-use Rattle.std.proofs.Common.{◌≡◌, ◌∙◌, ℕ, Bool, true, false, nat_eq, eqb, List, sym, refl, ap}
+use Rattle.std.proofs.Common.{◌≡◌, ◌∙◌, ℕ, Bool, true, false, nat_eq, eqb, List, is_some, find, sym, refl, ap}
 use Rattle.std.specs.Prelude.{◌==◌, ◌&&◌}
 use Rattle.std.specs.Cmp.{IsTotalOrder, both_tied, unsigned_ties}
 use Rattle.std.specs.Cmp.Lexicographic.{slice_cmp, pointwise, texts_ties, same_text}
 use Rattle.std.specs.Ordering.{nat_cmp, is_eq, then_cmp, on}
 use Rattle.std.proofs.lemmas.Cmp.{then_total, on_total, nat_list_cmp_total, nat_cmp_total, nat_list_eq_equiv, eq_by_cmp_equiv}
 use Rattle.std.proofs.lemmas.Bool.{false≢true, eqb-true, eq-eqb}
-use Rattle.plant_base.specs.State.{same, place_order, lot_order}
+use Rattle.plant_base.specs.State.{same, put, id_cmp, place_order, lot_order}
+use Rattle.plant_base.proofs.Put.{found_still}
 use Rattle.plant_base.specs.declared.rows.Place.{Place}
 use Rattle.plant_base.specs.declared.rows.Lot.{Lot}
 use Rattle.std.specs.declared.cmp.Ordering.TheVariants.{Equal}
@@ -46,3 +47,17 @@ lot_tie a b e = same_id a.id b.id (texts_ties a.id b.id ∙ ap is_eq e)
 
 pub place_tie : (p q : Place) → place_order p q ≡ Equal → (p.lot ≡ q.lot) × (p.number ≡ q.number)
 place_tie p q e = same_key p.lot q.lot p.number q.number (same_key_tie p q ∙ ap is_eq e)
+
+-- ---- rows whose key is one id
+
+module _ {R : Type 0} (id : R → List ℕ) where
+  pub id_total : IsTotalOrder (λ a b. id_cmp (id a) (id b))
+  id_total = on_total id nat_list_cmp_total
+
+  -- rows of one key have one id
+  pub id_tie : (a b : R) → id_cmp (id a) (id b) ≡ Equal → id a ≡ id b
+  id_tie a b e = same_id (id a) (id b) (texts_ties (id a) (id b) ∙ ap is_eq e)
+
+  -- what a key found it finds still
+  pub id_still : (r : R) (rs : List R) (key : List ℕ) → is_some (find (λ x. same (id x) key) rs) ≡ true → is_some (find (λ x. same (id x) key) (put (λ a b. id_cmp (id a) (id b)) r rs)) ≡ true
+  id_still r rs key known = found_still (λ a b. id_cmp (id a) (id b)) r (λ x. same (id x) key) rs (λ q tie pass. ap (λ i. same i key) (id_tie r q tie) ∙ pass) known

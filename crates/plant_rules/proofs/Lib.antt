@@ -1,4 +1,9 @@
-pub mod ReceiptTables
-pub mod ScrapTables
-pub mod Sublots
+pub mod CatalogueSound
 pub mod Conserved
+pub mod KeptSound
+pub mod ReceiptSound
+pub mod ReceiptTables
+pub mod ScrapSound
+pub mod ScrapTables
+pub mod StepSound
+pub mod Sublots

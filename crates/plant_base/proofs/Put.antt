@@ -128,3 +128,22 @@ module _ {R : Type 0} (order : R → R → Ordering) (r : R) (test : R → Bool)
   pub found_new : (rs : List R) → test r ≡ true → is_some (find test rs) ≡ false → find test (put order r rs) ≡ Some r
   found_new [] t f = ap (λ b. cond b (Some r) (find test [])) t
   found_new (x ∷ xs) t f = new_by_order x xs t (test x) refl f (found_new xs t) (order r x)
+
+-- ---- rows of which a function keeps the key
+
+module _ {P R : Type 0} (f : R → P) (ro : R → R → Ordering) (po : P → P → Ordering) (agrees : (a b : R) → ro a b ≡ po (f a) (f b)) where
+  kept_by_order : (r x : R) (xs : List R) → map f (put ro r xs) ≡ put po (f r) (map f xs)
+      → (o : Ordering) → map f (match_ordering o (r ∷ x ∷ xs) (r ∷ xs) (x ∷ put ro r xs)) ≡ match_ordering o (f r ∷ f x ∷ map f xs) (f r ∷ map f xs) (f x ∷ put po (f r) (map f xs))
+  kept_by_order r x xs more Less = refl
+  kept_by_order r x xs more Equal = refl
+  kept_by_order r x xs more Greater = ap (λ ys. f x ∷ ys) more
+
+  -- what is put among them is put among what is kept of them
+  pub put_kept : (r : R) (rs : List R) → map f (put ro r rs) ≡ put po (f r) (map f rs)
+  put_kept r [] = refl
+  put_kept r (x ∷ xs) = kept_by_order r x xs (put_kept r xs) (ro r x) ∙ ap (λ o. match_ordering o (f r ∷ f x ∷ map f xs) (f r ∷ map f xs) (f x ∷ put po (f r) (map f xs))) (agrees r x)
+
+-- what is kept of rows that were made of others is those
+pub map_back : {P R : Type 0} (f : R → P) (g : P → R) → ((p : P) → f (g p) ≡ p) → (ps : List P) → map f (map g ps) ≡ ps
+map_back f g e [] = refl
+map_back f g e (p ∷ ps) = λ i. e p i ∷ map_back f g e ps i

@@ -1,0 +1,6 @@
+pub mod Asked
+pub mod Kept
+pub mod Plain
+pub mod Split
+pub mod Taking
+pub mod Totals

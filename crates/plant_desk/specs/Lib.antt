@@ -1,3 +1,4 @@
 pub mod Answers
 pub mod Keeping
+pub mod Lists
 pub mod Replies

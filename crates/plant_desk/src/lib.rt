@@ -1,10 +1,17 @@
 //! Keepers of the desk's state: what executes commands and answers questions.
 #![tactic(auto)]
 
+mod ask;
 mod keeper;
+mod keys;
+mod list_keeper;
+mod lists;
 mod question;
 mod reply;
+mod sorted;
+mod view;
 
 pub use keeper::Keeper;
+pub use list_keeper::ListKeeper;
 pub use question::{Answer, LotAnswer, Question};
 pub use reply::{DeskFault, Reply};

@@ -1,6 +1,6 @@
 use plant_base::{
-    BatchEvent, Class, ControlLine, Definition, Hold, Id, Items, Job, Lot, MasterLine, Meta,
-    Movement, Recipe, Refusal, Sublot,
+    BatchEvent, BatchRow, Class, ControlLine, Definition, Hold, Id, Items, Job, Lot, MasterLine,
+    Meta, Movement, Recipe, Refusal, Sublot,
 };
 
 /// One change of the desk's tables: a row that is added, or put in the place of the row with its key, or a hold
@@ -13,6 +13,7 @@ pub enum RowChange {
     Recipe(Recipe),
     MasterLine(MasterLine),
     Job(Job),
+    Batch(BatchRow),
     ControlLine(ControlLine),
     Event(BatchEvent),
     Lot(Lot),

@@ -12,10 +12,10 @@ use Rattle.plant_trace.specs.declared.node.Node.{Node}
 use Rattle.plant_trace.proofs.NodeLemmas.{node_total, node_exact}
 
 -- the set has the node, as a test and as a fact
-has_iff : (s : BTreeSet Node) (k : Node) → IsTrue (contains node_cmp s k) ↔ Contains s.keys k
+pub has_iff : (s : BTreeSet Node) (k : Node) → IsTrue (contains node_cmp s k) ↔ Contains s.keys k
 has_iff = btree_set_contains_iff node_total node_exact
 
-none : (y : Node) → Contains [] y → ⊥
+pub none : (y : Node) → Contains [] y → ⊥
 none y h = omega (arith, h.1)
 
 pub Adds-none : (old : List Node) → Adds [] old old

@@ -3,4 +3,6 @@ pub mod Reach
 pub mod Seen
 pub mod Sources
 pub mod Turned
+pub mod Index
+pub mod Ranks
 pub mod Growth

@@ -39,13 +39,18 @@ pub trait Edges {
         ensures { Told honest kept steady self.old self.new
             (IfOk result (λ nodes. Lists (IsNext Back (pairs self.old) node) nodes.items)) };
 
+    /// What is kept stays where nothing is called.
     ghost kept_itself: { (s : Self) → kept s s };
 
+    /// What each of two calls keeps, both keep.
     ghost kept_along: { (s t u : Self) → kept s t → kept t u → kept s u };
 
+    /// What is steady stays where nothing is called.
     ghost steady_itself: { (s : Self) → steady s s };
 
+    /// What is steady over each of two calls is steady over both.
     ghost steady_along: { (s t u : Self) → steady s t → steady t u → steady s u };
 
+    /// The pairs are kept.
     ghost kept_pairs: { (s t : Self) → kept s t → pairs t ≡ pairs s };
 }

@@ -1,15 +1,30 @@
 //! The genealogy of lots and batches: nodes, edges between them, traces along edges, and cycles.
 #![tactic(auto)]
 
+mod cycles;
 mod direction;
 mod edges;
 mod fault;
+mod growth;
+mod indexed;
 mod listed;
 mod node;
+mod positions;
+mod rounds;
 mod seen;
+mod steps;
+mod worklist;
 
+pub use cycles::acyclic;
 pub use direction::Direction;
 pub use edges::Edges;
 pub use fault::TraceFault;
+pub use growth::growth_law;
+pub use indexed::Indexed;
 pub use listed::{Listed, neighbours};
 pub use node::Node;
+pub use rounds::closure_in_rounds;
+pub use worklist::closure;
+
+#[cfg(test)]
+mod tests;

@@ -23,7 +23,7 @@ pub struct Listed<'a> {
 }
 
 /// The pair with its near end first, as the direction sees it.
-fn ends(pair: (Node, Node), direction: Direction) -> (Node, Node)
+pub fn ends(pair: (Node, Node), direction: Direction) -> (Node, Node)
     ensures { result ≡ turned direction pair }
 {
     match direction {

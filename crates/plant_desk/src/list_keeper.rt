@@ -1,0 +1,100 @@
+ghost use Rattle.std.specs.Prelude.{◌≡◌, IfOk, IfErr, OnOk, OnErr, false, refl};
+ghost use Rattle.plant_base.specs.State.{opening, newest_schema};
+ghost use Rattle.plant_base.specs.Formed.{HasValues};
+ghost use Rattle.plant_rules.specs.Step.{step};
+ghost use Rattle.plant_rules.specs.Sound.{IsSound};
+ghost use Rattle.plant_desk.specs.Replies.{reply};
+
+use crate::keeper::Keeper;
+use crate::lists::Lists;
+use crate::question::{Answer, Question};
+use crate::reply::{DeskFault, Reply};
+use plant_base::Envelope;
+use plant_rules::{Decision, decide};
+use std::alloc::Global;
+use std::marker::Model;
+
+impl Lists {
+    ghost use Rattle.plant_desk.specs.Lists.{state_of};
+
+    /// Executes one command.
+    #[tactic(auto, using(crate::proofs::Plain::leads), unfolding(crate::specs::Replies::reply))]
+    pub(crate) fn execute(&mut self, envelope: &Envelope) -> Result<Reply, DeskFault>
+        requires { IsSound (state_of self.old) }
+        ensures reply { IfOk result (λ r. r ≡ reply (state_of self.old) envelope.now) }
+        ensures ok { OnOk result (state_of self.new ≡ step (state_of self.old) envelope.now) }
+        ensures err { OnErr result (state_of self.new ≡ state_of self.old) }
+        ensures memory { IfErr result (λ f. f ≡ DeskFault.Memory) }
+    {
+        match decide(self.alloc, self, envelope) {
+            Ok(Decision::Refused(refusal)) => Ok(Reply::Refused(refusal)),
+            Ok(Decision::Change(rows)) => match self.apply(rows.as_slice()) {
+                Ok(()) => Ok(Reply::Accepted(self.seq)),
+                Err(_) => Err(DeskFault::Memory),
+            },
+            Err(_) => Err(DeskFault::Memory),
+        }
+    }
+}
+
+/// A keeper whose state stands in lists: the plain reference for every other keeper. It is never shut and never
+/// answers `Store`; `Memory` leaves it as it was.
+#[derive(Drop)]
+pub struct ListKeeper {
+    lists: Lists,
+}
+
+impl Model for ListKeeper {
+    ghost use Rattle.plant_base.specs.State.{State};
+    ghost use Rattle.plant_rules.specs.Sound.{IsSound};
+    ghost use Rattle.plant_desk.specs.Lists.{state_of};
+
+    ghost Value = { State };
+
+    ghost view = { λ k. state_of k.lists };
+
+    ghost invariant = { λ k. IsSound (state_of k.lists) };
+}
+
+impl ListKeeper {
+    /// A keeper of a desk that nothing was told yet. No memory is taken; the lists grow by this allocator.
+    #[tactic(auto, using(plant_rules::proofs::StepSound::opening_sound))]
+    pub fn new(alloc: Global) -> Self
+        ensures { result ≡ opening }
+    {
+        ListKeeper {
+            lists: Lists::new(alloc),
+        }
+    }
+}
+
+impl Keeper for ListKeeper {
+    ghost use Rattle.plant_base.specs.State.{newest_schema};
+
+    ghost honest = { λ _. Unit {0} };
+
+    ghost state = { λ k. k };
+
+    ghost schema = { λ _. newest_schema };
+
+    ghost shut = { λ _. false };
+
+    ghost may_leave = { λ k s. s ≡ k };
+
+    #[tactic(auto, using(plant_rules::proofs::StepSound::step_sound))]
+    fn execute(&mut self, envelope: &Envelope) -> Result<Reply, DeskFault> {
+        envelope.show_values();
+        self.lists.execute(envelope)
+    }
+
+    fn ask(&mut self, question: &Question) -> Result<Answer, DeskFault> {
+        match self.lists.answer(question) {
+            Ok(answer) => Ok(answer),
+            Err(_) => Err(DeskFault::Memory),
+        }
+    }
+
+    ghost leaves_state = { λ k h is_open. refl };
+
+    ghost leaves_only = { λ k s h is_open same. same };
+}

@@ -1,0 +1,151 @@
+ghost use Rattle.std.specs.Prelude.{◌≡◌, ℕ, ◌+◌, ◌<◌, ◌≤◌, ◌++◌, ◌∷◌, [], OnOk, OnErr, not, ◌&&◌, vec_len, vec_capacity};
+ghost use Rattle.plant_base.specs.State.{same};
+ghost use Rattle.plant_rules.specs.Tables.{without_hold};
+
+use crate::sorted::put_row;
+use plant_base::{
+    Batch, BatchEvent, Class, ControlLine, Definition, Hold, Id, Job, Lot, MasterLine, Moment,
+    Movement, Place, Recipe,
+};
+use plant_rules::RowChange;
+use std::alloc::{AllocError, Global};
+
+/// The lists of a state, each ascending by its key.
+#[derive(Drop)]
+pub(crate) struct Lists {
+    pub(crate) alloc: Global,
+    pub(crate) seq: u64,
+    pub(crate) at: Moment,
+    pub(crate) classes: Vec<Class>,
+    pub(crate) definitions: Vec<Definition>,
+    pub(crate) recipes: Vec<Recipe>,
+    pub(crate) master_lines: Vec<MasterLine>,
+    pub(crate) jobs: Vec<Job>,
+    pub(crate) batches: Vec<Batch>,
+    pub(crate) control_lines: Vec<ControlLine>,
+    pub(crate) events: Vec<BatchEvent>,
+    pub(crate) lots: Vec<Lot>,
+    pub(crate) places: Vec<Place>,
+    pub(crate) movements: Vec<Movement>,
+    pub(crate) holds: Vec<Hold>,
+}
+
+// One more row at the end.
+fn push_row<R: Copy>(rows: &mut Vec<R>, row: &R)
+    requires { vec_len rows.old < vec_capacity rows.old }
+    ensures items { rows.new.items ≡ rows.old.items ++ row.now ∷ [] }
+    ensures len { vec_len rows.new ≡ vec_len rows.old + 1 }
+    ensures capacity { vec_capacity rows.new ≡ vec_capacity rows.old }
+{
+    rows.push_reserved(*row);
+}
+
+impl Lists {
+    ghost use Rattle.plant_base.specs.State.{opening};
+    ghost use Rattle.plant_desk.specs.Lists.{state_of, applied, applied_all, HasRoom};
+
+    /// The lists of a desk that nothing was told yet. No memory is taken.
+    pub(crate) fn new(alloc: Global) -> Self
+        ensures { state_of result ≡ opening }
+    {
+        Lists {
+            alloc,
+            seq: 0,
+            at: Moment::zero(),
+            classes: Vec::new(alloc),
+            definitions: Vec::new(alloc),
+            recipes: Vec::new(alloc),
+            master_lines: Vec::new(alloc),
+            jobs: Vec::new(alloc),
+            batches: Vec::new(alloc),
+            control_lines: Vec::new(alloc),
+            events: Vec::new(alloc),
+            lots: Vec::new(alloc),
+            places: Vec::new(alloc),
+            movements: Vec::new(alloc),
+            holds: Vec::new(alloc),
+        }
+    }
+
+    // Room for n more rows in each list.
+    fn reserve(&mut self, n: usize) -> Result<(), AllocError>
+        ensures same { state_of self.new ≡ state_of self.old }
+        ensures room { OnOk result (HasRoom self.new n) }
+    {
+        self.classes.reserve(n)?;
+        self.definitions.reserve(n)?;
+        self.recipes.reserve(n)?;
+        self.master_lines.reserve(n)?;
+        self.jobs.reserve(n)?;
+        self.batches.reserve(n)?;
+        self.control_lines.reserve(n)?;
+        self.events.reserve(n)?;
+        self.lots.reserve(n)?;
+        self.places.reserve(n)?;
+        self.movements.reserve(n)?;
+        self.holds.reserve(n)?;
+        Ok(())
+    }
+
+    // One change, in room that was taken before. The kept columns of a row are dropped.
+    fn apply_one(&mut self, row: &RowChange)
+        requires { HasRoom self.old 1 }
+        ensures state { state_of self.new ≡ applied row.now (state_of self.old) }
+        ensures room { (n : ℕ) → HasRoom self.old (n + 1) → HasRoom self.new n }
+    {
+        match row {
+            RowChange::Meta(r) => {
+                self.seq = r.position.seq;
+                self.at = r.position.at;
+            }
+            RowChange::Class(r) => put_row(&mut self.classes, *r),
+            RowChange::Definition(r) => put_row(&mut self.definitions, *r),
+            RowChange::Recipe(r) => put_row(&mut self.recipes, *r),
+            RowChange::MasterLine(r) => put_row(&mut self.master_lines, *r),
+            RowChange::Job(r) => put_row(&mut self.jobs, *r),
+            RowChange::Batch(r) => put_row(&mut self.batches, r.batch),
+            RowChange::ControlLine(r) => put_row(&mut self.control_lines, *r),
+            RowChange::Event(r) => push_row(&mut self.events, r),
+            RowChange::Lot(r) => put_row(&mut self.lots, *r),
+            RowChange::Sublot(r) => {
+                let place = Place {
+                    lot: r.lot,
+                    number: r.number,
+                    place: r.place,
+                };
+                put_row(&mut self.places, place);
+            }
+            RowChange::Movement(r) => push_row(&mut self.movements, r),
+            RowChange::Hold(r) => put_row(&mut self.holds, *r),
+            RowChange::Unhold { lot, hold } => take_hold(&mut self.holds, *lot, *hold),
+        }
+    }
+
+    /// Makes all the changes, or none where memory is refused.
+    pub(crate) fn apply(&mut self, rows: &[RowChange]) -> Result<(), AllocError>
+        ensures ok { OnOk result (state_of self.new ≡ applied_all rows.now (state_of self.old)) }
+        ensures err { OnErr result (state_of self.new ≡ state_of self.old) }
+    {
+        self.reserve(rows.len())?;
+        for row in rows {
+            self.apply_one(row);
+        }
+        Ok(())
+    }
+}
+
+// Takes the hold of this lot and id away.
+fn take_hold(holds: &mut Vec<Hold>, lot: Id, hold: Id)
+    ensures items { holds.new.items ≡ without_hold lot hold holds.old.items }
+    ensures len { vec_len holds.new ≤ vec_len holds.old }
+    ensures capacity { vec_capacity holds.new ≡ vec_capacity holds.old }
+{
+    holds.retain(|h| is_other(h, lot, hold));
+}
+
+// Whether a hold isn't that of this lot and id.
+fn is_other(h: &Hold, lot: Id, hold: Id) -> bool
+    ensures { result ≡ not (same h.now.lot lot && same h.now.id hold) }
+{
+    !(h.lot == lot && h.id == hold)
+}

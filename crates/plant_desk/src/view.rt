@@ -1,0 +1,129 @@
+// The lists as a view: always honest.
+ghost use Rattle.std.specs.Prelude.{◌≡◌, ◌-◌, ◌≤◌, IfOk, refl};
+ghost use Rattle.std.specs.List.{filter_map};
+ghost use Rattle.std.proofs.Common.{ap};
+ghost use Rattle.plant_base.specs.Values.{greatest_amount};
+ghost use Rattle.plant_stock.specs.Stock.{entered, left};
+ghost use Rattle.plant_trace.specs.Sources.{same_along};
+ghost use Rattle.plant_rules.specs.Genealogy.{edge_of, edges_of};
+
+use crate::keys::{class_of, definition_of, lot_of, place_of};
+use crate::lists::Lists;
+use plant_base::{
+    Class, Definition, GREATEST_AMOUNT, Id, Lot, Movement, MovementKind, Position, Sublot,
+};
+use plant_rules::View;
+use plant_stock::stock_of;
+use plant_trace::{Direction, Edges, Node, neighbours};
+use std::alloc::{AllocError, Global};
+
+impl Edges for Lists {
+    ghost use Rattle.plant_desk.specs.Lists.{state_of};
+
+    type Fault = AllocError;
+
+    ghost honest = { λ _. Unit {0} };
+
+    ghost pairs = { λ l. edges_of (state_of l) };
+
+    ghost kept = { λ l m. state_of m ≡ state_of l };
+
+    ghost steady = { λ _ _. Unit {0} };
+
+    fn succ(&mut self, node: Node) -> Result<Vec<Node>, AllocError> {
+        let pairs = edges(self.alloc, &self.movements)?;
+        neighbours(self.alloc, &pairs, node, Direction::Forward)
+    }
+
+    fn pred(&mut self, node: Node) -> Result<Vec<Node>, AllocError> {
+        let pairs = edges(self.alloc, &self.movements)?;
+        neighbours(self.alloc, &pairs, node, Direction::Back)
+    }
+
+    ghost kept_itself = { λ l. refl };
+
+    ghost kept_along = { λ l m n a b. same_along a b };
+
+    ghost steady_itself = { λ l. tt };
+
+    ghost steady_along = { λ l m n a b. tt };
+
+    ghost kept_pairs = { λ l m a. ap edges_of a };
+}
+
+impl View for Lists {
+    ghost use Rattle.plant_desk.specs.Lists.{state_of};
+
+    ghost state = { state_of };
+
+    fn position(&mut self) -> Result<Position, AllocError> {
+        Ok(Position {
+            seq: self.seq,
+            at: self.at,
+        })
+    }
+
+    fn class(&mut self, id: Id) -> Result<Option<Class>, AllocError> {
+        Ok(class_of(&self.classes, id))
+    }
+
+    fn definition(&mut self, id: Id) -> Result<Option<Definition>, AllocError> {
+        Ok(definition_of(&self.definitions, id))
+    }
+
+    fn lot(&mut self, id: Id) -> Result<Option<Lot>, AllocError> {
+        Ok(lot_of(&self.lots, id))
+    }
+
+    fn sublot(&mut self, lot: Id, number: u16) -> Result<Option<Sublot>, AllocError> {
+        match place_of(&self.places, lot, number) {
+            None => Ok(None),
+            Some(p) => {
+                let stock = standing_of(&self.movements, p.lot, p.number);
+                Ok(Some(Sublot {
+                    lot: p.lot,
+                    number: p.number,
+                    place: p.place,
+                    stock,
+                }))
+            }
+        }
+    }
+
+    ghost kept_state = { λ l m a. a };
+
+    ghost pairs_of_state = { λ l. refl };
+}
+
+// The edge that a movement makes.
+fn edge(movement: &Movement) -> Option<(Node, Node)>
+    ensures { result ≡ edge_of movement.now }
+{
+    let lot = Node::Lot(movement.lot);
+    match movement.kind {
+        MovementKind::Received | MovementKind::Scrapped | MovementKind::Divided { .. } => None,
+        MovementKind::Consumed { batch } => Some((lot, Node::Batch(batch))),
+        MovementKind::Produced { batch } => Some((Node::Batch(batch), lot)),
+        MovementKind::Split { to } | MovementKind::Merged { to } => Some((lot, Node::Lot(to))),
+    }
+}
+
+// The edges that movements make.
+fn edges(alloc: Global, movements: &[Movement]) -> Result<Vec<(Node, Node)>, AllocError>
+    ensures { IfOk result (λ pairs. pairs.items ≡ filter_map edge_of movements.now) }
+{
+    movements.iter().filter_map(|m| edge(m)).collect(alloc)
+}
+
+// What stands in a sublot, where that is a stock.
+pub(crate) fn standing_of(movements: &[Movement], lot: Id, number: u16) -> u64
+    ensures value { entered movements.now lot number ≤ greatest_amount → left movements.now lot number ≤ entered movements.now lot number
+        → result ≡ entered movements.now lot number - left movements.now lot number }
+    ensures small { result ≤ greatest_amount }
+{
+    let stock = stock_of(movements, lot, number);
+    if stock < 0 || stock > i128::from(GREATEST_AMOUNT) {
+        return 0;
+    }
+    stock as u64
+}

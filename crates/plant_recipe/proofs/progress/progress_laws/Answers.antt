@@ -1,0 +1,10 @@
+use Rattle.plant_recipe.proofs.Runs.{ends_for_good, stays_in_range, never_falls, goes_along}
+use Rattle.plant_recipe.proofs.progress.progress_laws.Goals as goal
+
+pub returns : goal.returns
+returns c = record {
+  closed = ends_for_good;
+  range = stays_in_range;
+  attempt = never_falls;
+  total = goes_along;
+}

@@ -1,0 +1,5 @@
+use Rattle.plant_recipe.proofs.Moves.{whole_table}
+use Rattle.plant_recipe.proofs.table.table_law.Goals as goal
+
+pub returns : goal.returns
+returns c = whole_table

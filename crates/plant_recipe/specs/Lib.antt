@@ -1,0 +1,5 @@
+pub mod Control
+pub mod Form
+pub mod Progress
+pub mod Scaling
+pub mod StateTable

@@ -1,0 +1,65 @@
+-- How a run ends.
+use Rattle.std.proofs.Common.{◌≡◌, ℕ, List, [], ◌∷◌, ◌++◌, Bool, false, Option, sym, ap, ◌∙◌, subst}
+use Rattle.std.proofs.lemmas.List.{map-append}
+use Rattle.std.specs.Io.KnownBytes.{IsAtEnd}
+use Rattle.plant_base.specs.State.{State}
+use Rattle.plant_text.specs.declared.turns.Stop.{Stop}
+use Rattle.plant_text.specs.declared.turns.Stop.TheVariants as S
+use Rattle.plant_text.specs.Session.{Entry, Told, Stopped, Ends, entry_of, entries, ended_lines, all_lines, part_from}
+use Rattle.plant_text.specs.Turns.{LastEnds, end_of}
+use Rattle.plant_text.specs.declared.run.RunEnd.{RunEnd}
+use Rattle.plant_text.specs.declared.run.RunEnd.TheVariants as E
+use Rattle.plant_text.specs.Held.{held_after, entries_after}
+use Rattle.plant_text.proofs.HeldLemmas.{entries_after-front, held_after-front, last_entry_front}
+use Rattle.std.specs.Str.Lines.{lines}
+use Rattle.plant_text.proofs.RunLemmas.{told_more, told_stops}
+use Rattle.plant_text.proofs.LineLemmas.{told_lines}
+
+-- ---- the lines of bytes
+
+pub ended_entries : (bytes : List ℕ) → entries_after [] bytes ≡ entries (ended_lines bytes)
+ended_entries bytes = entries_after-front [] bytes
+
+pub all_entries : (bytes : List ℕ) → entries_after [] bytes ++ entry_of (part_from [] bytes) ∷ [] ≡ entries (all_lines bytes)
+all_entries bytes = ap (λ es. es ++ entry_of (part_from [] bytes) ∷ []) (ended_entries bytes) ∙ sym (map-append entry_of (ended_lines bytes) (part_from [] bytes ∷ []))
+
+last_entry : (bytes held : List ℕ) → held ≡ held_after [] bytes → entry_of held ≡ entry_of (part_from [] bytes)
+last_entry bytes held e = ap entry_of (e ∙ held_after-front [] bytes) ∙ last_entry_front (part_from [] bytes)
+
+-- ---- how a run ends
+
+pub read_ends : (k : ℕ) (s : State) (bytes : List ℕ) (a b : Option (List ℕ)) (t : State) (p q : Bool) → Told k s (entries_after [] bytes) a b t p q → Told k s (entries (ended_lines bytes)) a b t p q
+read_ends k s bytes a b t p q x = subst (λ (es : List Entry). Told k s es a b t p q) (ended_entries bytes) x
+
+pub stopped_ends : (k : ℕ) (s : State) (bytes : List ℕ) (left a b : Option (List ℕ)) (t : State) (shut : Bool) (may : State → Type 0) (stop : Stop)
+    → ((e : Entry) → Stopped k s (entries_after [] bytes ++ e ∷ []) a b t shut may stop) → Ends k s bytes left a b t shut may (end_of stop)
+stopped_ends k s bytes left a b t shut may S.Write h = subst (λ (es : List Entry). Stopped k s es a b t shut may S.Write) (all_entries bytes) (h (entry_of (part_from [] bytes)))
+stopped_ends k s bytes left a b t shut may (S.Fault f) h = subst (λ (es : List Entry). Stopped k s es a b t shut may (S.Fault f)) (all_entries bytes) (h (entry_of (part_from [] bytes)))
+
+last_entries : (bytes held : List ℕ) → held ≡ held_after [] bytes → entries_after [] bytes ++ entry_of held ∷ [] ≡ entries (all_lines bytes)
+last_entries bytes held e = ap (λ x. entries_after [] bytes ++ x ∷ []) (last_entry bytes held e) ∙ all_entries bytes
+
+last_told : (k j : ℕ) (s t u : State) (bytes held : List ℕ) (a b c : Option (List ℕ)) (p q r : Bool)
+    → Told k s (entries_after [] bytes) a b t p q → j ≡ k → held ≡ held_after [] bytes → Told j t (entry_of held ∷ []) b c u q r → Told k s (entries (lines bytes)) a c u p r
+last_told k j s t u bytes held a b c p q r x same_k same_held y =
+    told_lines k s bytes a c u p r (subst (λ (es : List Entry). Told k s es a c u p r) (last_entries bytes held same_held)
+    (told_more k s t u (entries_after [] bytes) (entry_of held ∷ []) a b c p q r x (subst (λ (n : ℕ). Told n t (entry_of held ∷ []) b c u q r) same_k y)))
+
+last_stops : (k j : ℕ) (s t u : State) (bytes held : List ℕ) (a b c : Option (List ℕ)) (p q : Bool) (shut : Bool) (may : State → Type 0) (stop : Stop)
+    → Told k s (entries_after [] bytes) a b t p q → j ≡ k → held ≡ held_after [] bytes → Stopped j t (entry_of held ∷ []) b c u shut may stop → Stopped k s (entries (all_lines bytes)) a c u shut may stop
+last_stops k j s t u bytes held a b c p q shut may stop x same_k same_held y =
+    subst (λ (es : List Entry). Stopped k s es a c u shut may stop) (last_entries bytes held same_held)
+    (told_stops k s t u (entries_after [] bytes) (entry_of held ∷ []) a b c p q shut may stop x (subst (λ (n : ℕ). Stopped n t (entry_of held ∷ []) b c u shut may stop) same_k y))
+
+pub last_ends : (k j : ℕ) (s t u : State) (bytes held : List ℕ) (left a b c : Option (List ℕ)) (q : Bool) (shut : Bool) (may : State → Type 0) (end : RunEnd)
+    → Told k s (entries_after [] bytes) a b t false q → j ≡ k → held ≡ held_after [] bytes → IsAtEnd left → LastEnds j t (entry_of held) b c u shut may q end → Ends k s bytes left a c u shut may end
+last_ends k j s t u bytes held left a b c q shut may (E.Done r) x same_k same_held l y = (l, last_told k j s t u bytes held a b c false q r x same_k same_held y.0, y.1)
+last_ends k j s t u bytes held left a b c q shut may E.Read x same_k same_held l y = absurd y
+last_ends k j s t u bytes held left a b c q shut may E.Endless x same_k same_held l y = absurd y
+last_ends k j s t u bytes held left a b c q shut may E.Write x same_k same_held l y = last_stops k j s t u bytes held a b c false q shut may S.Write x same_k same_held y
+last_ends k j s t u bytes held left a b c q shut may (E.Fault f) x same_k same_held l y = last_stops k j s t u bytes held a b c false q shut may (S.Fault f) x same_k same_held y
+
+pub last_stopped : (k : ℕ) (s : State) (e : Entry) (a b : Option (List ℕ)) (t : State) (shut : Bool) (may : State → Type 0) (p : Bool) (stop : Stop)
+    → Stopped k s (e ∷ []) a b t shut may stop → LastEnds k s e a b t shut may p (end_of stop)
+last_stopped k s e a b t shut may p S.Write h = h
+last_stopped k s e a b t shut may p (S.Fault f) h = h

@@ -1,0 +1,9 @@
+pub mod EndLemmas
+pub mod Floats
+pub mod HeldLemmas
+pub mod Known
+pub mod Leaving
+pub mod LineLemmas
+pub mod Reading
+pub mod RunLemmas
+pub mod TurnLemmas

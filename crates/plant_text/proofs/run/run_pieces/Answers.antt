@@ -1,0 +1,75 @@
+use Rattle.std.proofs.Common.{◌≡◌, ◌<◌, [], ◌++◌, length, false, sym, ap, ◌∙◌, refl, arith}
+use Rattle.std.proofs.lemmas.List.{append-nil}
+use Rattle.std.proofs.lemmas.Bool.Decides.{nat_tests}
+use Rattle.plant_text.proofs.Known.{Consumes-nil, Consumes-append, Consumes-keeps, Consumes-none}
+use Rattle.plant_text.proofs.HeldLemmas.{held_more, held_after_none, entries_after_none}
+use Rattle.plant_text.proofs.RunLemmas.{told_same, piece_told, piece_stops}
+use Rattle.plant_text.proofs.EndLemmas.{last_ends, read_ends, stopped_ends}
+use Rattle.plant_text.proofs.run.run_pieces.Goals as goal
+
+pub reads-init : goal.reads-init
+reads-init g c = record {
+  not_shut = c.requires.open;
+  honest = λ h. h;
+  schema = λ h. refl;
+  so_far = ([], Consumes-nil _, c.new-held.ensures.items ∙ sym (held_after_none []), λ h. told_same _ _ _ _ _ false (entries_after_none []) refl);
+}
+
+pub returns-in-Ok-eq0-clause-ends : goal.returns-in-Ok-eq0-clause-ends
+returns-in-Ok-eq0-clause-ends g c =
+    let inv = c.reads.invariant in
+    let some : 0 < length c.read.new.buf = omega arith in
+    let read = c.in-Ok-eq0.ensures.bytes in
+    let none : c.in-Ok-eq0.field-0 ≡ 0 = grind (arith, nat_tests) in (
+      inv.so_far.0,
+      Consumes-none _ _ _ inv.so_far.0 c.read.new.buf _ none inv.so_far.1 read.0,
+      λ h. let before = c.end_input.ensures.honest h in
+          last_ends (g.K.Keeper.schema c.args.keeper.now) _ (g.K.Keeper.state c.args.keeper.now) _ _ inv.so_far.0 c.reads.held.items _ _ _ _ _ _ _ c.end_input.result
+          (inv.so_far.3 before) (inv.schema before) inv.so_far.2 (read.1 none some) (rw (← c.deref.ensures.value) (c.end_input.ensures.ends h)),
+    )
+
+pub returns-in-Err-take_piece-clause-ends : goal.returns-in-Err-take_piece-clause-ends
+returns-in-Err-take_piece-clause-ends g c =
+    let inv = c.reads.invariant in
+    let front = c.split_at.result.0.now in
+    let read = rw (← c.split_at.ensures.front) at c.in-Ok.ensures.bytes.0 in (
+      inv.so_far.0 ++ front,
+      Consumes-append _ _ _ inv.so_far.0 front inv.so_far.1 read,
+      λ h. let before = c.take_piece.ensures.honest h in
+          rw c.end_of.ensures
+          (stopped_ends (g.K.Keeper.schema c.args.keeper.now) (g.K.Keeper.state c.args.keeper.now) (inv.so_far.0 ++ front) _ _ _ _ _ _ c.in-Err-take_piece.stop
+          (piece_stops _ _ _ _ _ [] c.reads.held.items inv.so_far.0 front [] (inv.so_far.0 ++ front) _ _ _ _ _ _ _ c.in-Err-take_piece.stop
+          (inv.so_far.3 before) (inv.schema before) inv.so_far.2 (c.in-Err-take_piece.ensures.ends h) (ap (λ ys. inv.so_far.0 ++ ys) (sym (append-nil front))))),
+    )
+
+pub returns-in-Err-clause-ends : goal.returns-in-Err-clause-ends
+returns-in-Err-clause-ends g c =
+    let inv = c.reads.invariant in (
+      inv.so_far.0,
+      Consumes-keeps _ _ _ inv.so_far.0 inv.so_far.1 c.in-Err.ensures.bytes,
+      λ h. (c.reads.refused, read_ends _ _ inv.so_far.0 _ _ _ _ _ (inv.so_far.3 h), inv.not_shut),
+    )
+
+pub reads-preserved : goal.reads-preserved
+reads-preserved g c =
+    let inv = c.reads.invariant in
+    let front = c.split_at.result.0.now in
+    let read = rw (← c.split_at.ensures.front) at c.in-Ok.ensures.bytes.0 in
+    record {
+      not_shut = c.in-Ok-take_piece.ensures.open;
+      honest = λ h. inv.honest (c.take_piece.ensures.honest h);
+      schema = λ h. c.take_piece.ensures.schema h ∙ inv.schema (c.take_piece.ensures.honest h);
+      so_far = (
+        inv.so_far.0 ++ front,
+        Consumes-append _ _ _ inv.so_far.0 front inv.so_far.1 read,
+        held_more [] c.reads.held.items _ inv.so_far.0 front (inv.so_far.0 ++ front) inv.so_far.2 c.in-Ok-take_piece.ensures.held refl,
+        λ h. let before = c.take_piece.ensures.honest h in
+            piece_told _ _ _ _ _ [] c.reads.held.items inv.so_far.0 front (inv.so_far.0 ++ front) _ _ _ _ _ _
+            (inv.so_far.3 before) (inv.schema before) inv.so_far.2 (c.in-Ok-take_piece.ensures.ends h) refl,
+      );
+    }
+
+pub returns-clause-ends : goal.returns-clause-ends
+returns-clause-ends g c =
+    let inv = c.reads.invariant in
+    (inv.so_far.0, inv.so_far.1, λ h. (c.reads.refused, read_ends _ _ inv.so_far.0 _ _ _ _ _ (inv.so_far.3 h), inv.not_shut))

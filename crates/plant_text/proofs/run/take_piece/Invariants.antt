@@ -1,0 +1,16 @@
+use Rattle.std.proofs.Common.{◌≡◌, false, take}
+use Rattle.plant_text.specs.Session.{Told}
+use Rattle.plant_text.specs.Held.{held_after, entries_after}
+use Rattle.plant_text.proofs.run.take_piece.Given as goal
+
+abbrev pub invariant-loop-b : goal.invariant-loop-b
+invariant-loop-b g l =
+    let keeper = g.K.Keeper in
+    record {
+      not_shut : keeper.shut l.keeper ≡ false;
+      honest : keeper.honest l.keeper → keeper.honest l.fn.keeper;
+      schema : keeper.honest l.keeper → keeper.schema l.keeper ≡ keeper.schema l.fn.keeper;
+      held : l.held.items ≡ held_after l.fn.held.items (take l.b-index l.piece);
+      told : keeper.honest l.keeper → Told (keeper.schema l.fn.keeper) (keeper.state l.fn.keeper) (entries_after l.fn.held.items (take l.b-index l.piece))
+          (g.W.Write.contents l.fn.writer) (g.W.Write.contents l.writer) (keeper.state l.keeper) l.fn.refused l.refused;
+    }

@@ -1,0 +1,33 @@
+-- The JSON trees of answers, and their texts with no blanks.
+use Rattle.std.specs.Prelude.{ℕ, List, map, codes}
+use Rattle.serde_json.specs.Data.{Data, Items, boolean, number, unsigned, string, array, object, member, no_members}
+use Rattle.serde_json.specs.View.{items_of}
+use Rattle.serde_json.specs.Written.{compact_text}
+use Rattle.plant_base.specs.declared.rows.Sublot.{Sublot}
+use Rattle.plant_desk.specs.declared.question.Answer.{Answer}
+use Rattle.plant_desk.specs.declared.question.Answer.TheVariants as A
+use Rattle.plant_desk.specs.declared.question.LotAnswer.{LotAnswer}
+use Rattle.plant_text.specs.Replies.{refusal_text}
+
+abbrev pub natural : ℕ → Data
+natural n = number (unsigned n)
+
+abbrev pub desk_data : ℕ → ℕ → Data
+desk_data schema seq = object (member (codes "schema") (natural schema) (member (codes "seq") (natural seq) no_members))
+
+abbrev pub sublot_data : Sublot → Data
+sublot_data s = object (member (codes "no") (natural s.number) (member (codes "place") (string s.place)
+    (member (codes "stock") (natural s.stock) no_members)))
+
+abbrev pub sublots_data : List Sublot → Items
+sublots_data sublots = items_of (map sublot_data sublots)
+
+abbrev pub lot_data : LotAnswer → Data
+lot_data a = object (member (codes "def") (string a.def) (member (codes "held") (boolean a.held) (member (codes "lot") (string a.lot)
+    (member (codes "stock") (natural a.stock) (member (codes "sublots") (array (sublots_data a.sublots)) no_members)))))
+
+-- the text of an answer, without its LF; an unknown id is answered as a refusal
+unfoldable pub text_of_answer : Answer → List ℕ
+text_of_answer (A.Desk schema seq) = compact_text (desk_data schema seq)
+text_of_answer (A.Lot lot) = compact_text (lot_data lot)
+text_of_answer (A.Unknown r) = refusal_text r

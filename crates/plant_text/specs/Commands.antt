@@ -1,0 +1,45 @@
+-- Which JSON values are commands.
+use Rattle.std.specs.Prelude.{ℕ, List, if◌then◌else◌, codes, Option, None, option_map, option_and_then}
+use Rattle.std.specs.Str.{bytes_eq}
+use Rattle.serde_json.specs.Data.{Data}
+use Rattle.plant_base.specs.declared.command.Command.{Command}
+use Rattle.plant_base.specs.declared.command.Command.TheVariants as body
+use Rattle.plant_base.specs.declared.command.Envelope.{Envelope}
+use Rattle.plant_text.specs.Fields.{when, string_at, id_at, text_at, unit_at, amount_at, moment_at, sublot_at, note_at, has_fields}
+
+abbrev pub add_class_of : Data → Option Command
+add_class_of d = when (has_fields 2 d)
+    (option_and_then (λ class. option_map (λ name. body.AddClass (record { class = class; name = name }))
+    (text_at (codes "name") d)) (id_at (codes "class") d))
+
+abbrev pub add_definition_of : Data → Option Command
+add_definition_of d = when (has_fields 4 d)
+    (option_and_then (λ def. option_and_then (λ class. option_and_then (λ name. option_map (λ unit.
+    body.AddDefinition (record { def = def; class = class; name = name; unit = unit }))
+    (unit_at (codes "unit") d)) (text_at (codes "name") d)) (id_at (codes "class") d)) (id_at (codes "def") d))
+
+abbrev pub receive_of : Data → Option Command
+receive_of d = when (has_fields 4 d)
+    (option_and_then (λ lot. option_and_then (λ def. option_and_then (λ amount. option_map (λ place.
+    body.Receive (record { lot = lot; def = def; amount = amount; place = place }))
+    (text_at (codes "place") d)) (amount_at (codes "amount") d)) (id_at (codes "def") d)) (id_at (codes "lot") d))
+
+abbrev pub scrap_of : Data → Option Command
+scrap_of d = when (has_fields 3 d)
+    (option_and_then (λ lot. option_and_then (λ sub. option_map (λ amount.
+    body.Scrap (record { lot = lot; sub = sub; amount = amount }))
+    (amount_at (codes "amount") d)) (sublot_at (codes "sub") d)) (id_at (codes "lot") d))
+
+-- the command of a word
+abbrev pub body_of : List ℕ → Data → Option Command
+body_of word d =
+    if bytes_eq word (codes "add_class") then add_class_of d else (
+    if bytes_eq word (codes "add_definition") then add_definition_of d else (
+    if bytes_eq word (codes "receive") then receive_of d else (
+    if bytes_eq word (codes "scrap") then scrap_of d else (
+    None))))
+
+abbrev pub envelope_of : Data → Option Envelope
+envelope_of d = option_and_then (λ at. option_and_then (λ by. option_and_then (λ note. option_and_then (λ word. option_map (λ body.
+    record { at = at; by = by; note = note; body = body })
+    (body_of word d)) (string_at (codes "do") d)) (note_at d)) (text_at (codes "by") d)) (moment_at (codes "at") d)

@@ -1,0 +1,65 @@
+-- What the members of a JSON object say. An object has a name once: where a text has it twice, the last one counts.
+use Rattle.std.specs.Prelude.{ℕ, ◌+◌, ◌==◌, List, Bool, nat_le, if◌then◌else◌, codes, Option, Some, None, option_and_then, is_some}
+use Rattle.std.specs.Option.{option_map_or}
+use Rattle.serde_json.specs.Data.{Data}
+use Rattle.serde_json.specs.Find.{get, as_number, as_u64, as_str, as_object}
+use Rattle.serde_json.specs.Events.{members_len}
+use Rattle.plant_base.specs.Values.{is_id, is_text, is_unit, is_amount, is_moment, greatest_sublot}
+
+-- the value, where it obeys the rule
+abbrev pub only : {A : Type 0} → (A → Bool) → A → Option A
+only obeys x = if obeys x then Some x else None
+
+-- the option, where the test holds
+abbrev pub when : {A : Type 0} → Bool → Option A → Option A
+when holds o = if holds then o else None
+
+-- ---- members by their name
+
+-- the string that the object has under the name
+abbrev pub string_at : List ℕ → Data → Option (List ℕ)
+string_at name d = option_and_then as_str (get name d)
+
+-- the whole number from 0 to 2^64 - 1, which is written with no sign, fraction or exponent
+abbrev pub natural_at : List ℕ → Data → Option ℕ
+natural_at name d = option_and_then as_u64 (option_and_then as_number (get name d))
+
+abbrev pub id_at : List ℕ → Data → Option (List ℕ)
+id_at name d = option_and_then (only is_id) (string_at name d)
+
+abbrev pub text_at : List ℕ → Data → Option (List ℕ)
+text_at name d = option_and_then (only is_text) (string_at name d)
+
+abbrev pub unit_at : List ℕ → Data → Option (List ℕ)
+unit_at name d = option_and_then (only is_unit) (string_at name d)
+
+abbrev pub amount_at : List ℕ → Data → Option ℕ
+amount_at name d = option_and_then (only is_amount) (natural_at name d)
+
+abbrev pub moment_at : List ℕ → Data → Option ℕ
+moment_at name d = option_and_then (only is_moment) (natural_at name d)
+
+abbrev pub sublot_at : List ℕ → Data → Option ℕ
+sublot_at name d = option_and_then (only (λ n. nat_le n greatest_sublot)) (natural_at name d)
+
+-- a text that may be left out, and is empty then; null isn't left out
+abbrev pub text_or_empty : Option Data → Option (List ℕ)
+text_or_empty None = Some (codes "")
+text_or_empty (Some d) = option_and_then (only is_text) (as_str d)
+
+abbrev pub note_at : Data → Option (List ℕ)
+note_at d = text_or_empty (get (codes "note") d)
+
+-- ---- no other members
+
+-- how many members the object has
+abbrev pub count_of : Data → ℕ
+count_of d = option_map_or members_len (as_object d) 0
+
+-- the members that each command has: at, by, do, and a note where there is one
+abbrev pub shared_count : Data → ℕ
+shared_count d = if is_some (get (codes "note") d) then 4 else 3
+
+-- a command's members beside its own, of which there are so many: where its own are there, no other is
+abbrev pub has_fields : ℕ → Data → Bool
+has_fields own d = count_of d == own + shared_count d

@@ -1,0 +1,20 @@
+-- What a run holds of the line that is coming, and the entries that come out of bytes.
+use Rattle.std.specs.Prelude.{ℕ, ◌+◌, ◌==◌, List, [], ◌∷◌, ◌++◌, length, nat_lt, if◌then◌else◌}
+use Rattle.std.specs.Str.Lines.{strip_carriage_return}
+use Rattle.plant_text.specs.Session.{Entry, entry_of, longest_line}
+
+-- the most bytes of a line that are held: the longest line, its CR, and one byte by which a longer line is told
+abbrev pub room : ℕ
+room = longest_line + 2
+
+-- a byte more, while there is room
+abbrev pub held_with : List ℕ → ℕ → List ℕ
+held_with held b = if nat_lt (length held) room then held ++ b ∷ [] else held
+
+unfoldable pub held_after : List ℕ → List ℕ → List ℕ
+held_after held [] = held
+held_after held (b ∷ bs) = if b == 10 then held_after [] bs else held_after (held_with held b) bs
+
+unfoldable pub entries_after : List ℕ → List ℕ → List Entry
+entries_after held [] = []
+entries_after held (b ∷ bs) = if b == 10 then entry_of (strip_carriage_return held) ∷ entries_after [] bs else entries_after (held_with held b) bs

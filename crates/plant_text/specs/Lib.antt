@@ -1,0 +1,10 @@
+pub mod Answers
+pub mod Commands
+pub mod Fields
+pub mod Held
+pub mod Lines
+pub mod Questions
+pub mod Replies
+pub mod Session
+pub mod Turns
+pub mod Writes

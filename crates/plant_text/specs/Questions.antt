@@ -1,0 +1,23 @@
+-- Which JSON values are questions. They have no note, and no other member.
+use Rattle.std.specs.Prelude.{ℕ, ◌==◌, List, if◌then◌else◌, codes, Option, Some, None, option_map, option_and_then}
+use Rattle.std.specs.Str.{bytes_eq}
+use Rattle.serde_json.specs.Data.{Data}
+use Rattle.plant_desk.specs.declared.question.Question.{Question}
+use Rattle.plant_desk.specs.declared.question.Question.TheVariants as Q
+use Rattle.plant_text.specs.Fields.{when, string_at, id_at, count_of}
+
+abbrev pub desk_of : Data → Option Question
+desk_of d = when (count_of d == 1) (Some Q.Desk)
+
+abbrev pub lot_of : Data → Option Question
+lot_of d = when (count_of d == 2) (option_map Q.Lot (id_at (codes "lot") d))
+
+-- the question of a word
+abbrev pub question_for : List ℕ → Data → Option Question
+question_for word d =
+    if bytes_eq word (codes "desk") then desk_of d else (
+    if bytes_eq word (codes "lot") then lot_of d else (
+    None))
+
+abbrev pub question_of : Data → Option Question
+question_of d = option_and_then (λ word. question_for word d) (string_at (codes "ask") d)

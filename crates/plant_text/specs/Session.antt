@@ -1,0 +1,170 @@
+-- What is written for the lines of an input, and where the keeper stands then.
+use Rattle.std.specs.Prelude.{◌≡◌, ℕ, ◌==◌, ◌||◌, List, [], ◌∷◌, ◌++◌, length, map, Bool, true, false, nat_lt, if◌then◌else◌, Option, Some, None, ◌⊎◌}
+use Rattle.std.specs.Str.Lines.{strip_carriage_return, lines}
+use Rattle.std.specs.Io.KnownBytes.{Appends, IsAtEnd}
+use Rattle.plant_base.specs.State.{State}
+use Rattle.plant_base.specs.declared.command.Envelope.{Envelope}
+use Rattle.plant_base.specs.declared.refusal.Refusal.TheVariants.{BadForm}
+use Rattle.plant_rules.specs.Step.{step}
+use Rattle.plant_desk.specs.Replies.{reply}
+use Rattle.plant_desk.specs.Answers.{answer}
+use Rattle.plant_desk.specs.Keeping.{LeavesOneOf}
+use Rattle.plant_desk.specs.declared.question.Question.{Question}
+use Rattle.plant_desk.specs.declared.question.Answer.{Answer}
+use Rattle.plant_desk.specs.declared.question.Answer.TheVariants as A
+use Rattle.plant_desk.specs.declared.reply.Reply.{Reply}
+use Rattle.plant_desk.specs.declared.reply.Reply.TheVariants.{Accepted, Refused}
+use Rattle.plant_desk.specs.declared.reply.DeskFault.{DeskFault}
+use Rattle.plant_desk.specs.declared.reply.DeskFault.TheVariants.{Store, Memory, Shut}
+use Rattle.plant_text.specs.Lines.{line_of}
+use Rattle.plant_text.specs.Replies.{reply_text, fault_text}
+use Rattle.plant_text.specs.Answers.{text_of_answer}
+use Rattle.plant_text.specs.Writes.{with_lf, AppendsFront}
+use Rattle.plant_text.specs.declared.read.Line.{Line}
+use Rattle.plant_text.specs.declared.read.Line.TheVariants as L
+use Rattle.plant_text.specs.declared.run.RunEnd.{RunEnd}
+use Rattle.plant_text.specs.declared.run.RunEnd.TheVariants as E
+use Rattle.plant_text.specs.declared.turns.Stop.{Stop}
+use Rattle.plant_text.specs.declared.turns.Stop.TheVariants as S
+
+-- ---- lines
+
+-- the bytes of the longest line that is read, its LF and the one CR before it not counted
+abbrev pub longest_line : ℕ
+longest_line = 262144
+
+-- the lines that an LF ends, where `part` stands before the bytes; one CR before the LF is dropped
+abbrev pub ended_from : List ℕ → List ℕ → List (List ℕ)
+ended_from part [] = []
+ended_from part (b ∷ bs) = if b == 10 then strip_carriage_return part ∷ ended_from [] bs else ended_from (part ++ b ∷ []) bs
+
+-- what stands behind the last LF
+abbrev pub part_from : List ℕ → List ℕ → List ℕ
+part_from part [] = part
+part_from part (b ∷ bs) = if b == 10 then part_from [] bs else part_from (part ++ b ∷ []) bs
+
+-- the lines whose LF was read
+abbrev pub ended_lines : List ℕ → List (List ℕ)
+ended_lines bytes = ended_from [] bytes
+
+-- these and what stands behind them, which may be empty
+abbrev pub all_lines : List ℕ → List (List ℕ)
+all_lines bytes = ended_lines bytes ++ part_from [] bytes ∷ []
+
+-- ---- what a line is to a session
+
+pub data Entry : Type 0 where
+  nothing : Entry
+  bad : Entry
+  command : Envelope → Entry
+  question : Question → Entry
+
+abbrev pub entry_where : Option Line → Entry
+entry_where None = bad
+entry_where (Some (L.Command c)) = command c
+entry_where (Some (L.Question q)) = question q
+
+-- an empty line is nothing, and a line that is too long or says nothing is bad
+unfoldable pub entry_of : List ℕ → Entry
+entry_of line = if length line == 0 then nothing else (if nat_lt longest_line (length line) then bad else entry_where (line_of line))
+
+abbrev pub entries : List (List ℕ) → List Entry
+entries ls = map entry_of ls
+
+-- ---- what is written, by a keeper of schema k
+
+-- an empty line has no reply
+abbrev pub entry_text : ℕ → State → Entry → List ℕ
+entry_text k s nothing = []
+entry_text k s bad = with_lf (reply_text (Refused BadForm))
+entry_text k s (command c) = with_lf (reply_text (reply s c))
+entry_text k s (question q) = with_lf (text_of_answer (answer k s q))
+
+abbrev pub after : State → Entry → State
+after s nothing = s
+after s bad = s
+after s (command c) = step s c
+after s (question q) = s
+
+abbrev pub is_refusal : Reply → Bool
+is_refusal (Accepted n) = false
+is_refusal (Refused r) = true
+
+abbrev pub is_unknown : Answer → Bool
+is_unknown (A.Desk schema seq) = false
+is_unknown (A.Lot lot) = false
+is_unknown (A.Unknown r) = true
+
+-- whether the reply is a refusal
+abbrev pub is_refused : ℕ → State → Entry → Bool
+is_refused k s nothing = false
+is_refused k s bad = true
+is_refused k s (command c) = is_refusal (reply s c)
+is_refused k s (question q) = is_unknown (answer k s q)
+
+-- the replies to entries, each in the state after those before it
+abbrev pub texts : ℕ → State → List Entry → List ℕ
+texts k s [] = []
+texts k s (e ∷ es) = entry_text k s e ++ texts k (after s e) es
+
+abbrev pub fold : State → List Entry → State
+fold s [] = s
+fold s (e ∷ es) = fold (after s e) es
+
+abbrev pub some_refused : ℕ → State → List Entry → Bool
+some_refused k s [] = false
+some_refused k s (e ∷ es) = is_refused k s e || some_refused k (after s e) es
+
+-- what is written for an input, whose lines are std's
+abbrev pub session : ℕ → State → List ℕ → List ℕ
+session k s bytes = texts k s (entries (lines bytes))
+
+-- ---- what a run has done
+
+-- these entries have been answered: their replies were written, and the keeper went from s to t
+pub record Told (k : ℕ) (s : State) (es : List Entry) (old new : Option (List ℕ)) (t : State) (before now : Bool) : Type 0 where
+  pub text : Appends old new (texts k s es)
+  pub state : t ≡ fold s es
+  pub refused : now ≡ (before || some_refused k s es)
+
+-- what a fault of the store leaves, which comes from a command or a question alone: a command shuts the keeper, and a
+-- stop may leave the state before it or after it
+abbrev pub StoreLeaves : State → Entry → Bool → (State → Type 0) → Type 0
+StoreLeaves s nothing shut may_leave = ⊥
+StoreLeaves s bad shut may_leave = ⊥
+StoreLeaves s (command c) shut may_leave = (shut ≡ true) × LeavesOneOf s (step s c) may_leave
+StoreLeaves s (question q) shut may_leave = shut ≡ false
+
+-- what a fault leaves a keeper at, which stood at s as the entry e came
+abbrev pub FaultLeaves : DeskFault → State → Entry → State → Bool → (State → Type 0) → Type 0
+FaultLeaves Store s e t shut may_leave = (t ≡ s) × StoreLeaves s e shut may_leave
+FaultLeaves Memory s e t shut may_leave = (t ≡ s) × (shut ≡ false)
+FaultLeaves Shut s e t shut may_leave = ⊥
+
+-- the text that comes next, and the keeper beside it: the reply to e, or a fault's line
+abbrev pub ComesNext : ℕ → State → Entry → List ℕ → State → Bool → (State → Type 0) → Type 0
+ComesNext k s e text t shut may_leave = ((text ≡ entry_text k s e) × (t ≡ after s e) × (shut ≡ false))
+    ⊎ ((f : DeskFault) × (text ≡ with_lf (fault_text f)) × FaultLeaves f s e t shut may_leave)
+
+-- how a run stops at the entry e: in its next text, or behind a fault's line
+abbrev pub StopsAt : ℕ → State → Entry → Option (List ℕ) → Option (List ℕ) → State → Bool → (State → Type 0) → Stop → Type 0
+StopsAt k s e old new t shut may_leave S.Write = (text : List ℕ) × ComesNext k s e text t shut may_leave × AppendsFront old new text
+StopsAt k s e old new t shut may_leave (S.Fault f) = Appends old new (with_lf (fault_text f)) × FaultLeaves f s e t shut may_leave
+
+-- some of the entries were answered, and the run stopped at the next one
+pub record Stopped (k : ℕ) (s : State) (es : List Entry) (old new : Option (List ℕ)) (t : State) (shut : Bool) (may_leave : State → Type 0) (stop : Stop) : Type 0 where
+  pub answered : List Entry
+  pub next : Entry
+  pub more : List Entry
+  pub cut : es ≡ answered ++ next ∷ more
+  pub between : Option (List ℕ)
+  pub told : Appends old between (texts k s answered)
+  pub stops : StopsAt k (fold s answered) next between new t shut may_leave stop
+
+-- how a run over these bytes ended, where `left` is what the reader has left
+abbrev pub Ends : ℕ → State → List ℕ → Option (List ℕ) → Option (List ℕ) → Option (List ℕ) → State → Bool → (State → Type 0) → RunEnd → Type 0
+Ends k s bytes left old new t shut may_leave (E.Done refused) = IsAtEnd left × Told k s (entries (lines bytes)) old new t false refused × (shut ≡ false)
+Ends k s bytes left old new t shut may_leave E.Read = (refused : Bool) × Told k s (entries (ended_lines bytes)) old new t false refused × (shut ≡ false)
+Ends k s bytes left old new t shut may_leave E.Endless = (refused : Bool) × Told k s (entries (ended_lines bytes)) old new t false refused × (shut ≡ false)
+Ends k s bytes left old new t shut may_leave E.Write = Stopped k s (entries (all_lines bytes)) old new t shut may_leave S.Write
+Ends k s bytes left old new t shut may_leave (E.Fault f) = Stopped k s (entries (all_lines bytes)) old new t shut may_leave (S.Fault f)

@@ -1,0 +1,47 @@
+-- How the parts of a run end.
+use Rattle.std.specs.Prelude.{◌≡◌, ℕ, List, [], ◌∷◌, ◌++◌, Bool, true, false, Option, Result, Ok, Err}
+use Rattle.std.specs.Io.KnownBytes.{Appends}
+use Rattle.plant_base.specs.State.{State}
+use Rattle.plant_base.specs.declared.refusal.Refusal.TheVariants.{BadForm}
+use Rattle.plant_desk.specs.declared.reply.Reply.TheVariants.{Refused}
+use Rattle.plant_desk.specs.declared.reply.DeskFault.{DeskFault}
+use Rattle.plant_text.specs.Replies.{reply_text, fault_text}
+use Rattle.plant_text.specs.Writes.{with_lf, AppendsFront}
+use Rattle.plant_text.specs.Session.{Entry, entry_text, after, is_refused, Told, StopsAt, Stopped}
+use Rattle.plant_text.specs.declared.run.RunEnd.{RunEnd}
+use Rattle.plant_text.specs.declared.run.RunEnd.TheVariants as E
+use Rattle.plant_text.specs.declared.turns.Stop.{Stop}
+use Rattle.plant_text.specs.declared.turns.Stop.TheVariants as S
+
+-- how the turn of one entry ends
+abbrev pub TurnEnds : ℕ → State → Entry → Option (List ℕ) → Option (List ℕ) → State → Bool → (State → Type 0) → Result Bool Stop → Type 0
+TurnEnds k s e old new t shut may_leave (Ok refused) = Appends old new (entry_text k s e) × (t ≡ after s e) × (refused ≡ is_refused k s e)
+TurnEnds k s e old new t shut may_leave (Err stop) = StopsAt k s e old new t shut may_leave stop
+
+-- what was written of a fault's line, by how the run stops
+abbrev pub FaultWritten : DeskFault → Option (List ℕ) → Option (List ℕ) → Stop → Type 0
+FaultWritten f old new S.Write = AppendsFront old new (with_lf (fault_text f))
+FaultWritten f old new (S.Fault g) = (g ≡ f) × Appends old new (with_lf (fault_text f))
+
+-- what was written of a bad line's reply
+abbrev pub BadWritten : Option (List ℕ) → Option (List ℕ) → Result Bool Stop → Type 0
+BadWritten old new (Ok refused) = Appends old new (with_lf (reply_text (Refused BadForm))) × (refused ≡ true)
+BadWritten old new (Err S.Write) = AppendsFront old new (with_lf (reply_text (Refused BadForm)))
+BadWritten old new (Err (S.Fault f)) = ⊥
+
+-- how the bytes of one read end: an error stops before whatever entry comes next
+abbrev pub PieceEnds : ℕ → State → List Entry → Option (List ℕ) → Option (List ℕ) → State → Bool → (State → Type 0) → Bool → Result Bool Stop → Type 0
+PieceEnds k s es old new t shut may_leave before (Ok refused) = Told k s es old new t before refused
+PieceEnds k s es old new t shut may_leave before (Err stop) = (e : Entry) → Stopped k s (es ++ e ∷ []) old new t shut may_leave stop
+
+abbrev pub end_of : Stop → RunEnd
+end_of S.Write = E.Write
+end_of (S.Fault f) = E.Fault f
+
+-- how the last line ends, which has no LF
+abbrev pub LastEnds : ℕ → State → Entry → Option (List ℕ) → Option (List ℕ) → State → Bool → (State → Type 0) → Bool → RunEnd → Type 0
+LastEnds k s e old new t shut may_leave before (E.Done refused) = Told k s (e ∷ []) old new t before refused × (shut ≡ false)
+LastEnds k s e old new t shut may_leave before E.Read = ⊥
+LastEnds k s e old new t shut may_leave before E.Endless = ⊥
+LastEnds k s e old new t shut may_leave before E.Write = Stopped k s (e ∷ []) old new t shut may_leave S.Write
+LastEnds k s e old new t shut may_leave before (E.Fault f) = Stopped k s (e ∷ []) old new t shut may_leave (S.Fault f)

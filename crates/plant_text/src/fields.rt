@@ -1,0 +1,107 @@
+//! Members of an object, by their name.
+ghost use Rattle.std.specs.Prelude.{◌≡◌, ◌<◌, ◌^◌};
+ghost use Rattle.serde_json.specs.View.{view};
+ghost use Rattle.plant_base.specs.Values.{is_id, is_text, is_unit};
+ghost use Rattle.plant_text.specs.Fields.{only, natural_at, id_at, text_at, unit_at, amount_at, moment_at, sublot_at, note_at, count_of, shared_count, has_fields};
+
+use plant_base::{Amount, GREATEST_SUBLOT, Id, Moment, Text, Unit};
+use serde_json::Value;
+
+fn read_id(bytes: &[u8]) -> Option<Id>
+    ensures { result ≡ only is_id bytes.now }
+{
+    Id::read(bytes)
+}
+
+fn read_text(bytes: &[u8]) -> Option<Text>
+    ensures { result ≡ only is_text bytes.now }
+{
+    Text::read(bytes)
+}
+
+fn read_unit(bytes: &[u8]) -> Option<Unit>
+    ensures { result ≡ only is_unit bytes.now }
+{
+    Unit::read(bytes)
+}
+
+fn natural_at(value: &Value, name: &str) -> Option<u64>
+    ensures { result ≡ natural_at name.now (view value.now) }
+{
+    value.get(name)?.as_u64()
+}
+
+pub(crate) fn id_at(value: &Value, name: &str) -> Option<Id>
+    ensures { result ≡ id_at name.now (view value.now) }
+{
+    read_id(value.get(name)?.as_str()?.as_bytes())
+}
+
+pub(crate) fn text_at(value: &Value, name: &str) -> Option<Text>
+    ensures { result ≡ text_at name.now (view value.now) }
+{
+    read_text(value.get(name)?.as_str()?.as_bytes())
+}
+
+pub(crate) fn unit_at(value: &Value, name: &str) -> Option<Unit>
+    ensures { result ≡ unit_at name.now (view value.now) }
+{
+    read_unit(value.get(name)?.as_str()?.as_bytes())
+}
+
+pub(crate) fn amount_at(value: &Value, name: &str) -> Option<Amount>
+    ensures { result ≡ amount_at name.now (view value.now) }
+{
+    Amount::new(natural_at(value, name)?)
+}
+
+pub(crate) fn moment_at(value: &Value, name: &str) -> Option<Moment>
+    ensures { result ≡ moment_at name.now (view value.now) }
+{
+    Moment::new(natural_at(value, name)?)
+}
+
+pub(crate) fn sublot_at(value: &Value, name: &str) -> Option<u16>
+    ensures { result ≡ sublot_at name.now (view value.now) }
+{
+    let number = natural_at(value, name)?;
+    if number <= u64::from(GREATEST_SUBLOT) {
+        Some(number as u16)
+    } else {
+        None
+    }
+}
+
+/// The note, which is empty where it is left out.
+pub(crate) fn note_at(value: &Value) -> Option<Text>
+    ensures { result ≡ note_at (view value.now) }
+{
+    match value.get("note") {
+        None => read_text(b""),
+        Some(note) => read_text(note.as_str()?.as_bytes()),
+    }
+}
+
+/// How many members the object has.
+pub(crate) fn count_of(value: &Value) -> usize
+    ensures { result ≡ count_of (view value.now) }
+{
+    match value.as_object() {
+        None => 0,
+        Some(map) => map.len(),
+    }
+}
+
+fn shared_count(value: &Value) -> usize
+    ensures { result ≡ shared_count (view value.now) }
+{
+    if value.get("note").is_some() { 4 } else { 3 }
+}
+
+/// Whether the object has as many members as a command with so many fields of its own.
+pub(crate) fn has_fields(value: &Value, own: usize) -> bool
+    requires { own < 100 }
+    ensures { result ≡ has_fields own (view value.now) }
+{
+    count_of(value) == own + shared_count(value)
+}

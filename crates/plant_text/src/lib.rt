@@ -1,0 +1,21 @@
+//! The desk in lines of JSON (RFC 8259): what a line says, the texts of replies and answers, and the run over the
+//! lines of an input.
+#![tactic(auto)]
+
+mod answers;
+mod commands;
+mod fields;
+mod questions;
+mod read;
+mod replies;
+mod run;
+#[cfg(test)]
+mod tests;
+mod turns;
+mod writes;
+
+pub use answers::answer_text;
+pub use read::{Line, LineFault, read_line};
+pub use replies::{ReplyText, fault_line, reply_line};
+pub use run::{RunEnd, run_lines};
+pub use writes::{Unwritten, write_line, write_text};

@@ -1,0 +1,47 @@
+//! Questions as JSON: one function a word.
+ghost use Rattle.std.specs.Prelude.{◌≡◌};
+ghost use Rattle.serde_json.specs.View.{view};
+ghost use Rattle.plant_text.specs.Questions.{desk_of, lot_of, question_for, question_of};
+
+use crate::fields::{count_of, id_at};
+use plant_desk::Question;
+use serde_json::Value;
+
+fn desk_of(value: &Value) -> Option<Question>
+    ensures { result ≡ desk_of (view value.now) }
+{
+    if count_of(value) == 1 {
+        Some(Question::Desk)
+    } else {
+        None
+    }
+}
+
+fn lot_of(value: &Value) -> Option<Question>
+    ensures { result ≡ lot_of (view value.now) }
+{
+    if count_of(value) != 2 {
+        return None;
+    }
+    let lot = id_at(value, "lot")?;
+    Some(Question::Lot(lot))
+}
+
+fn question_for(value: &Value, word: &str) -> Option<Question>
+    ensures { result ≡ question_for word.now (view value.now) }
+{
+    if word == "desk" {
+        desk_of(value)
+    } else if word == "lot" {
+        lot_of(value)
+    } else {
+        None
+    }
+}
+
+/// The question that the value is.
+pub(crate) fn question_of(value: &Value) -> Option<Question>
+    ensures { result ≡ question_of (view value.now) }
+{
+    question_for(value, value.get("ask")?.as_str()?)
+}

@@ -1,0 +1,83 @@
+//! What a line says.
+ghost use Rattle.std.specs.Prelude.{◌≡◌, Some, None, IfOk, IsErrOf};
+ghost use Rattle.serde_json.specs.Errors.{IsMemory};
+ghost use Rattle.serde_json.specs.View.{view};
+ghost use Rattle.plant_text.specs.Lines.{shape_of, line_of};
+
+use crate::commands::envelope_of;
+use crate::questions::question_of;
+use plant_base::Envelope;
+use plant_desk::Question;
+use serde_json::Value;
+use std::alloc::Global;
+use thiserror::Error;
+
+/// What a line says to the desk.
+#[derive(Debug, Drop)]
+pub enum Line {
+    /// A command for the desk to execute.
+    Command(Envelope),
+    /// A question about the desk's state.
+    Question(Question),
+}
+
+/// Why a line says nothing.
+#[derive(Clone, Copy, Debug, PartialEq, Eq, Error)]
+pub enum LineFault {
+    /// The line is no JSON text in UTF-8, or its value has the shape of no command and of no question.
+    #[error("no command and no question")]
+    BadForm,
+    /// Memory was refused while the line was read. Nothing is said of the line.
+    #[error("out of memory")]
+    Memory,
+}
+
+fn fault_of(error: &serde_json::Error) -> LineFault
+    ensures { result ≡ LineFault.BadForm → ¬ IsMemory error.now }
+{
+    if error.is_memory() {
+        LineFault::Memory
+    } else {
+        LineFault::BadForm
+    }
+}
+
+fn shape_of(value: &Value) -> Option<Line>
+    ensures { result ≡ shape_of (view value.now) }
+{
+    if value.get("do").is_some() {
+        Some(Line::Command(envelope_of(value)?))
+    } else {
+        Some(Line::Question(question_of(value)?))
+    }
+}
+
+/// Reads a line, which is given without its LF.
+///
+/// The line is a JSON text (RFC 8259) in UTF-8, as serde_json reads it; of members with one name the last counts.
+/// A command is an object with `at` (a moment), `by` (a text), `do` (the word), the fields of the word, a `note` (a
+/// text) or none, and nothing else:
+///
+/// - `add_class`: `class` (an id), `name` (a text)
+/// - `add_definition`: `def`, `class` (ids), `name` (a text), `unit` (a unit)
+/// - `receive`: `lot`, `def` (ids), `amount` (an amount), `place` (a text)
+/// - `scrap`: `lot` (an id), `sub` (0 to 99), `amount` (an amount)
+///
+/// A question is exactly `{"ask":"desk"}`, or `{"ask":"lot","lot":ID}`. Moments, amounts and `sub` are whole numbers
+/// with no sign, fraction or exponent, within the rules of `plant_base`.
+///
+/// `BadForm` comes exactly from a line that has none of these shapes. `Memory` may come for any line, since serde_json
+/// asks for memory first.
+pub fn read_line(alloc: Global, bytes: &[u8]) -> Result<Line, LineFault>
+    ensures ok { IfOk result (λ line. line_of bytes.now ≡ Some line) }
+    ensures bad_form { IsErrOf result LineFault.BadForm → line_of bytes.now ≡ None }
+{
+    let value = match Value::from_slice(alloc, bytes) {
+        Ok(value) => value,
+        Err(error) => return Err(fault_of(&error)),
+    };
+    match shape_of(&value) {
+        Some(line) => Ok(line),
+        None => Err(LineFault::BadForm),
+    }
+}

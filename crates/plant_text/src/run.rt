@@ -1,0 +1,238 @@
+//! The run over the lines of an input.
+ghost use Rattle.std.specs.Prelude.{◌≡◌, ℕ, ◌<◌, List, [], ◌∷◌, length, false, OnOk, IfErr};
+ghost use Rattle.std.specs.Str.Lines.{strip_carriage_return};
+ghost use Rattle.std.specs.Io.KnownBytes.{Consumes};
+ghost use Rattle.plant_text.specs.Session.{Ends, entry_of};
+ghost use Rattle.plant_text.specs.Turns.{PieceEnds, LastEnds, FaultWritten, end_of};
+ghost use Rattle.plant_text.specs.Held.{held_with, held_after, entries_after};
+
+use crate::turns::{Stop, take_line, tell_fault};
+use plant_desk::{DeskFault, Keeper};
+use std::alloc::Global;
+use std::io::{Read, Write};
+
+/// How a run ended.
+#[derive(Clone, Copy, Debug, PartialEq, Eq)]
+pub enum RunEnd {
+    /// The input ended, and each line was answered. `refused` says whether some reply was a refusal, as that of a line
+    /// of no form and of a question about an unknown id is.
+    Done { refused: bool },
+    /// A read failed. The lines whose LF was read are answered, and what stands behind the last LF is not.
+    Read,
+    /// A write failed, or took no byte. Of the text that comes next a front was written.
+    Write,
+    /// The run has made 10^9 reads. The lines whose LF was read are answered, and what stands behind the last LF is not.
+    Endless,
+    /// The keeper had this fault, or memory was refused outside it. Its line was written as the last one.
+    Fault(DeskFault),
+}
+
+/// The bytes of a line that are held. A longer line than may be read is told by these.
+const ROOM: usize = 262_146;
+
+/// After so many reads a run ends.
+const MOST_READS: u64 = 1_000_000_000;
+
+/// The line less one CR at its end.
+fn stripped(line: &[u8]) -> &[u8]
+    ensures { result.now ≡ strip_carriage_return line.now }
+{
+    let n = line.len();
+    if n > 0 && line[n - 1] == b'\r' {
+        &line[..n - 1]
+    } else {
+        line
+    }
+}
+
+fn end_of(stop: Stop) -> RunEnd
+    ensures { result ≡ end_of stop }
+{
+    match stop {
+        Stop::Write => RunEnd::Write,
+        Stop::Fault(fault) => RunEnd::Fault(fault),
+    }
+}
+
+/// Answers the line that is held, and forgets it.
+fn end_line<W: Write, K: Keeper>(
+    alloc: Global,
+    writer: &mut W,
+    keeper: &mut K,
+    held: &mut Vec<u8>,
+    refused: bool,
+) -> Result<bool, Stop>
+    requires { K.shut keeper.old ≡ false }
+    ensures honest { K.honest keeper.new → K.honest keeper.old }
+    ensures schema { K.honest keeper.new → K.schema keeper.new ≡ K.schema keeper.old }
+    ensures open { OnOk result (K.shut keeper.new ≡ false) }
+    ensures held { OnOk result (held.new.items ≡ []) }
+    ensures ends { K.honest keeper.new → PieceEnds (K.schema keeper.old) (K.state keeper.old) (entry_of (strip_carriage_return held.old.items) ∷ [])
+        (W.contents writer.old) (W.contents writer.new) (K.state keeper.new) (K.shut keeper.new) (K.may_leave keeper.new) refused result }
+{
+    match take_line(alloc, writer, keeper, stripped(held)) {
+        Ok(line_refused) => {
+            held.clear();
+            Ok(refused || line_refused)
+        }
+        Err(stop) => Err(stop),
+    }
+}
+
+/// Holds a byte more of the line, while there is room.
+fn hold_byte<W: Write>(writer: &mut W, held: &mut Vec<u8>, b: u8) -> Result<(), Stop>
+    ensures held { OnOk result (held.new.items ≡ held_with held.old.items b) }
+    ensures same { OnOk result (W.contents writer.new ≡ W.contents writer.old) }
+    ensures stops { IfErr result (FaultWritten DeskFault.Memory (W.contents writer.old) (W.contents writer.new)) }
+{
+    if held.len() < ROOM && held.push(b).is_err() {
+        return Err(tell_fault(writer, DeskFault::Memory));
+    }
+    Ok(())
+}
+
+/// Takes one byte.
+fn take_byte<W: Write, K: Keeper>(
+    alloc: Global,
+    writer: &mut W,
+    keeper: &mut K,
+    held: &mut Vec<u8>,
+    refused: bool,
+    b: u8,
+) -> Result<bool, Stop>
+    requires { K.shut keeper.old ≡ false }
+    ensures honest { K.honest keeper.new → K.honest keeper.old }
+    ensures schema { K.honest keeper.new → K.schema keeper.new ≡ K.schema keeper.old }
+    ensures open { OnOk result (K.shut keeper.new ≡ false) }
+    ensures held { OnOk result (held.new.items ≡ held_after held.old.items (b ∷ [])) }
+    ensures ends { K.honest keeper.new → PieceEnds (K.schema keeper.old) (K.state keeper.old) (entries_after held.old.items (b ∷ []))
+        (W.contents writer.old) (W.contents writer.new) (K.state keeper.new) (K.shut keeper.new) (K.may_leave keeper.new) refused result }
+{
+    if b == b'\n' {
+        return end_line(alloc, writer, keeper, held, refused);
+    }
+    match hold_byte(writer, held, b) {
+        Ok(()) => Ok(refused),
+        Err(stop) => Err(stop),
+    }
+}
+
+/// Takes the bytes of one read: each line that ends in them is answered.
+fn take_piece<W: Write, K: Keeper>(
+    alloc: Global,
+    writer: &mut W,
+    keeper: &mut K,
+    held: &mut Vec<u8>,
+    refused: bool,
+    piece: &[u8],
+) -> Result<bool, Stop>
+    requires { K.shut keeper.old ≡ false }
+    ensures honest { K.honest keeper.new → K.honest keeper.old }
+    ensures schema { K.honest keeper.new → K.schema keeper.new ≡ K.schema keeper.old }
+    ensures open { OnOk result (K.shut keeper.new ≡ false) }
+    ensures held { OnOk result (held.new.items ≡ held_after held.old.items piece.now) }
+    ensures ends { K.honest keeper.new → PieceEnds (K.schema keeper.old) (K.state keeper.old) (entries_after held.old.items piece.now)
+        (W.contents writer.old) (W.contents writer.new) (K.state keeper.new) (K.shut keeper.new) (K.may_leave keeper.new) refused result }
+{
+    let mut refused = refused;
+    for b in piece {
+        match take_byte(alloc, writer, keeper, held, refused, *b) {
+            Ok(now) => refused = now,
+            Err(stop) => return Err(stop),
+        }
+    }
+    Ok(refused)
+}
+
+/// Answers the last line, which no LF ended.
+fn end_input<W: Write, K: Keeper>(
+    alloc: Global,
+    writer: &mut W,
+    keeper: &mut K,
+    held: &[u8],
+    refused: bool,
+) -> RunEnd
+    requires { K.shut keeper.old ≡ false }
+    ensures honest { K.honest keeper.new → K.honest keeper.old }
+    ensures schema { K.honest keeper.new → K.schema keeper.new ≡ K.schema keeper.old }
+    ensures ends { K.honest keeper.new → LastEnds (K.schema keeper.old) (K.state keeper.old) (entry_of held.now)
+        (W.contents writer.old) (W.contents writer.new) (K.state keeper.new) (K.shut keeper.new) (K.may_leave keeper.new) refused result }
+{
+    match take_line(alloc, writer, keeper, held) {
+        Ok(line_refused) => RunEnd::Done {
+            refused: refused || line_refused,
+        },
+        Err(stop) => end_of(stop),
+    }
+}
+
+/// Reads into `piece` and answers, up to the end of the input.
+fn run_pieces<R: Read, W: Write, K: Keeper>(
+    alloc: Global,
+    reader: &mut R,
+    writer: &mut W,
+    keeper: &mut K,
+    piece: &mut [u8],
+) -> RunEnd
+    requires open { K.shut keeper.old ≡ false }
+    requires room { 0 < length piece.old }
+    ensures honest { K.honest keeper.new → K.honest keeper.old }
+    ensures schema { K.honest keeper.new → K.schema keeper.new ≡ K.schema keeper.old }
+    ensures ends { (bytes : List ℕ) × Consumes (R.remaining reader.old) (R.remaining reader.new) bytes
+        × (K.honest keeper.new → Ends (K.schema keeper.old) (K.state keeper.old) bytes (R.remaining reader.new)
+        (W.contents writer.old) (W.contents writer.new) (K.state keeper.new) (K.shut keeper.new) (K.may_leave keeper.new) result) }
+{
+    let mut held = Vec::new(alloc);
+    let mut refused = false;
+    'reads: for _ in 0..MOST_READS {
+        match reader.read(piece) {
+            Ok(0) => return end_input(alloc, writer, keeper, &held, refused),
+            Ok(n) => {
+                let (front, _) = piece.split_at(n);
+                match take_piece(alloc, writer, keeper, &mut held, refused, front) {
+                    Ok(now) => refused = now,
+                    Err(stop) => return end_of(stop),
+                }
+            }
+            Err(_) => return RunEnd::Read,
+        }
+    }
+    RunEnd::Endless
+}
+
+/// Takes the lines of the input one after the other, has the keeper execute and answer them, and writes a line to each.
+///
+/// A line ends with LF, and one CR before it is dropped; what stands behind the last LF counts as it stands. An empty
+/// line has no reply. A command is answered as [`crate::reply_line`] says and a question as [`crate::answer_text`], each
+/// in the state after the commands before it. A line of more than 262,144 bytes, LF and CR not counted, is passed over
+/// and answered as BadForm, and so is one that [`crate::read_line`] doesn't read; neither reaches the keeper. The first
+/// fault ends the run after its line ([`crate::fault_line`]); memory that is refused for a line or an answer is such a
+/// fault.
+///
+/// A reply is written whole before the next line is executed, and no memory is taken between a command's reply from
+/// the keeper and the end of its line. So at whatever end at most the last accepted command is unanswered, and all
+/// that was accepted stays.
+///
+/// What is written depends on the bytes of the input and not on the pieces in which they come, but for `Endless`. A
+/// read or a write that is interrupted counts as failed.
+///
+/// In the clause `ends`, `bytes` are those that the reader has lost; nothing is said of the keeper's state where the
+/// keeper doesn't end honest. What a stop afterwards may leave follows from the trait's law `leaves_only` where the
+/// keeper is open, and stands in the clause where it is shut: the keeper's state, or that after the line at which the
+/// run stopped, and no other (`run_leaves` in `proofs/Leaving.antt`).
+pub fn run_lines<R: Read, W: Write, K: Keeper>(
+    alloc: Global,
+    reader: &mut R,
+    writer: &mut W,
+    keeper: &mut K,
+) -> RunEnd
+    requires { K.shut keeper.old ≡ false }
+    ensures honest { K.honest keeper.new → K.honest keeper.old }
+    ensures schema { K.honest keeper.new → K.schema keeper.new ≡ K.schema keeper.old }
+    ensures ends { (bytes : List ℕ) × Consumes (R.remaining reader.old) (R.remaining reader.new) bytes
+        × (K.honest keeper.new → Ends (K.schema keeper.old) (K.state keeper.old) bytes (R.remaining reader.new)
+        (W.contents writer.old) (W.contents writer.new) (K.state keeper.new) (K.shut keeper.new) (K.may_leave keeper.new) result) }
+{
+    let mut piece = [0; 4096];
+    run_pieces(alloc, reader, writer, keeper, &mut piece)
+}

@@ -1,0 +1,143 @@
+//! One line: what it says, what the keeper does, what is written.
+ghost use Rattle.std.specs.Prelude.{◌≡◌, false, OnOk};
+ghost use Rattle.plant_text.specs.Session.{entry_of, is_refusal, is_unknown, command as command_entry, question as question_entry};
+ghost use Rattle.plant_text.specs.Turns.{TurnEnds, FaultWritten, BadWritten};
+
+use crate::answers::answer_text;
+use crate::read::{Line, LineFault, read_line};
+use crate::replies::{fault_line, reply_line};
+use crate::writes::write_line;
+use plant_base::{Envelope, Refusal};
+use plant_desk::{Answer, DeskFault, Keeper, Question, Reply};
+use std::alloc::Global;
+use std::io::Write;
+
+/// Why a run stops before the end of its input.
+#[derive(Clone, Copy, Debug, PartialEq, Eq)]
+pub enum Stop {
+    /// A text couldn't be written whole.
+    Write,
+    /// The fault, whose line was written.
+    Fault(DeskFault),
+}
+
+/// The bytes of the longest line that is read, its LF and the one CR before it not counted.
+const LONGEST_LINE: usize = 262_144;
+
+/// Writes a fault's line.
+pub(crate) fn tell_fault<W: Write>(writer: &mut W, fault: DeskFault) -> Stop
+    ensures { FaultWritten fault (W.contents writer.old) (W.contents writer.new) result }
+{
+    match write_line(writer, fault_line(fault).as_bytes()) {
+        Ok(()) => Stop::Fault(fault),
+        Err(_) => Stop::Write,
+    }
+}
+
+fn is_refusal(reply: &Reply) -> bool
+    ensures { result ≡ is_refusal reply.now }
+{
+    match reply {
+        Reply::Accepted(_) => false,
+        Reply::Refused(_) => true,
+    }
+}
+
+fn is_unknown(answer: &Answer) -> bool
+    ensures { result ≡ is_unknown answer.now }
+{
+    match answer {
+        Answer::Desk { .. } | Answer::Lot(_) => false,
+        Answer::Unknown(_) => true,
+    }
+}
+
+/// Answers a line that says nothing.
+fn tell_bad_form<W: Write>(writer: &mut W) -> Result<bool, Stop>
+    ensures { BadWritten (W.contents writer.old) (W.contents writer.new) result }
+{
+    let text = reply_line(&Reply::Refused(Refusal::BadForm));
+    match write_line(writer, text.as_bytes()) {
+        Ok(()) => Ok(true),
+        Err(_) => Err(Stop::Write),
+    }
+}
+
+/// Has a command executed, and writes the reply.
+///
+/// It is handed no allocator, and the reply's text stands in a room of fixed size: between the keeper's reply and the
+/// end of its line no memory is taken, so that only the writer can keep the line back.
+fn take_command<W: Write, K: Keeper>(
+    writer: &mut W,
+    keeper: &mut K,
+    envelope: &Envelope,
+) -> Result<bool, Stop>
+    requires { K.shut keeper.old ≡ false }
+    ensures honest { K.honest keeper.new → K.honest keeper.old }
+    ensures schema { K.honest keeper.new → K.schema keeper.new ≡ K.schema keeper.old }
+    ensures open { OnOk result (K.shut keeper.new ≡ false) }
+    ensures ends { K.honest keeper.new → TurnEnds (K.schema keeper.old) (K.state keeper.old) (command_entry envelope.now)
+        (W.contents writer.old) (W.contents writer.new) (K.state keeper.new) (K.shut keeper.new) (K.may_leave keeper.new) result }
+{
+    match keeper.execute(envelope) {
+        Ok(reply) => match write_line(writer, reply_line(&reply).as_bytes()) {
+            Ok(()) => Ok(is_refusal(&reply)),
+            Err(_) => Err(Stop::Write),
+        },
+        Err(fault) => Err(tell_fault(writer, fault)),
+    }
+}
+
+/// Asks a question, and writes the answer.
+fn take_question<W: Write, K: Keeper>(
+    alloc: Global,
+    writer: &mut W,
+    keeper: &mut K,
+    question: &Question,
+) -> Result<bool, Stop>
+    requires { K.shut keeper.old ≡ false }
+    ensures honest { K.honest keeper.new → K.honest keeper.old }
+    ensures schema { K.honest keeper.new → K.schema keeper.new ≡ K.schema keeper.old }
+    ensures open { OnOk result (K.shut keeper.new ≡ false) }
+    ensures ends { K.honest keeper.new → TurnEnds (K.schema keeper.old) (K.state keeper.old) (question_entry question.now)
+        (W.contents writer.old) (W.contents writer.new) (K.state keeper.new) (K.shut keeper.new) (K.may_leave keeper.new) result }
+{
+    match keeper.ask(question) {
+        Ok(answer) => match answer_text(alloc, &answer) {
+            Ok(text) => match write_line(writer, text.as_bytes()) {
+                Ok(()) => Ok(is_unknown(&answer)),
+                Err(_) => Err(Stop::Write),
+            },
+            Err(_) => Err(tell_fault(writer, DeskFault::Memory)),
+        },
+        Err(fault) => Err(tell_fault(writer, fault)),
+    }
+}
+
+/// Takes one line. `true` where its reply is a refusal.
+pub(crate) fn take_line<W: Write, K: Keeper>(
+    alloc: Global,
+    writer: &mut W,
+    keeper: &mut K,
+    line: &[u8],
+) -> Result<bool, Stop>
+    requires { K.shut keeper.old ≡ false }
+    ensures honest { K.honest keeper.new → K.honest keeper.old }
+    ensures schema { K.honest keeper.new → K.schema keeper.new ≡ K.schema keeper.old }
+    ensures open { OnOk result (K.shut keeper.new ≡ false) }
+    ensures ends { K.honest keeper.new → TurnEnds (K.schema keeper.old) (K.state keeper.old) (entry_of line.now)
+        (W.contents writer.old) (W.contents writer.new) (K.state keeper.new) (K.shut keeper.new) (K.may_leave keeper.new) result }
+{
+    if line.is_empty() {
+        return Ok(false);
+    }
+    if line.len() > LONGEST_LINE {
+        return tell_bad_form(writer);
+    }
+    match read_line(alloc, line) {
+        Ok(Line::Command(envelope)) => take_command(writer, keeper, &envelope),
+        Ok(Line::Question(question)) => take_question(alloc, writer, keeper, &question),
+        Err(LineFault::BadForm) => tell_bad_form(writer),
+        Err(LineFault::Memory) => Err(tell_fault(writer, DeskFault::Memory)),
+    }
+}

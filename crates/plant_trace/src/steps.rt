@@ -1,0 +1,26 @@
+//! One step of a trace.
+
+ghost use Rattle.std.specs.Prelude.{◌≡◌, List, IfOk};
+ghost use Rattle.plant_trace.specs.Reach.{IsNext, Lists};
+ghost use Rattle.plant_trace.specs.Sources.{Told};
+
+use crate::direction::Direction;
+use crate::edges::Edges;
+use crate::fault::TraceFault;
+use crate::node::Node;
+
+/// The nodes that come right after this one in the direction.
+pub fn ask<E: Edges>(
+    edges: &mut E,
+    node: Node,
+    direction: Direction,
+) -> Result<Vec<Node>, TraceFault<E::Fault>>
+    ensures { Told E.honest E.kept E.steady edges.old edges.new
+        (IfOk result (λ nodes. Lists (IsNext direction (E.pairs edges.old) node) nodes.items)) }
+{
+    let answer = match direction {
+        Direction::Forward => edges.succ(node),
+        Direction::Back => edges.pred(node),
+    };
+    answer.map_err(TraceFault::Edges)
+}

@@ -1,5 +1,5 @@
 -- Lines of recipes.
-use Rattle.std.proofs.Common.{◌≡◌, ◌∙◌, ℕ, ◌+◌, ◌*◌, ◌/◌, ◌<◌, ◌≤◌, Bool, true, false, cond, List, [], ◌∷◌, length, drop, get_or, refl, ap, sym, arith}
+use Rattle.std.proofs.Common.{◌≡◌, ◌∙◌, ℕ, ◌+◌, ◌*◌, ◌/◌, ◌<◌, ◌≤◌, Bool, true, false, cond, List, [], ◌∷◌, length, map, drop, get_or, Option, Some, None, refl, ap, sym, subst, arith}
 use Rattle.std.proofs.Math.Nat.{div-zero, div-mul-le_self, mul-le-mul_left}
 use Rattle.std.specs.Prelude.{zero, suc, nat_le, ◌&&◌, ◌||◌, not, count_by}
 use Rattle.std.specs.List.{list_any, list_all}
@@ -9,13 +9,14 @@ use Rattle.std.proofs.lemmas.List.{at_drop_more}
 use Rattle.std.proofs.lemmas.List.Folds.{list_all_at}
 use Rattle.std.proofs.lemmas.List.Sums.{sum_by-cons}
 use Rattle.plant_base.specs.Values.{greatest_amount}
+use Rattle.plant_base.specs.State.{same}
 use Rattle.plant_base.proofs.Keys.{same_id}
 use Rattle.plant_base.specs.declared.rows.Header.{Header}
 use Rattle.plant_base.specs.declared.rows.RecipeLine.{RecipeLine}
 use Rattle.plant_base.specs.declared.rows.RecipeLine.TheVariants.{In, Out, Parameter, Phase}
 use Rattle.plant_recipe.specs.Scaling.{scaled_of, RisesWithSize, KeepsAtBase}
-use Rattle.plant_recipe.specs.Form.{repeats, has_no_repeats, fits, all_fit, is_in_of, is_out_of, is_parameter_of, is_well_formed, StandsOnceWhereFormed}
-use Rattle.plant_recipe.specs.Control.{is_size_of}
+use Rattle.plant_recipe.specs.Form.{repeats, has_no_repeats, fits, all_fit, is_in_of, is_out_of, is_parameter_of, is_phase, has_allowed_length, has_size_range, has_phase, has_product, is_well_formed, phases_of, greatest_lines, StandsOnceWhereFormed, HasPhasesWhereFormed}
+use Rattle.plant_recipe.specs.Control.{is_size_of, line_scaled, scales_to_nothing, KeepsProcedure}
 
 -- the line at a place repeats none of the later ones, and these repeat none among themselves
 pub no_repeats_at : (lines : List RecipeLine) (i : ℕ) (d : RecipeLine) → i < length lines → has_no_repeats (drop i lines) ≡ (not (list_any (repeats (get_or lines i d)) (drop (i + 1) lines)) && has_no_repeats (drop (i + 1) lines))
@@ -129,3 +130,55 @@ stands_once header lines formed =
       outputs = λ def. once_by (is_out_of def) (out_alike def) lines apart;
       parameters = λ name. once_by (is_parameter_of name) (parameter_alike name) lines apart;
     }
+
+-- ---- phases
+
+count_some : (p : RecipeLine → Bool) (xs : List RecipeLine) → list_any p xs ≡ true → 1 ≤ count_by p xs
+count_some p [] e = absurd (false≢true e)
+count_some p (x ∷ xs) e = counted (p x) refl (λ f. count_some p xs f)
+  where
+    counted : (b : Bool) → p x ≡ b → (list_any p xs ≡ true → 1 ≤ count_by p xs) → 1 ≤ count_by p (x ∷ xs)
+    counted true f more = omega (arith, sum_by-cons (λ y. cond (p y) 1 0) x xs, ap {B = ℕ} (λ b. cond b 1 0) f)
+    counted false f more = omega (arith, sum_by-cons (λ y. cond (p y) 1 0) x xs, ap {B = ℕ} (λ b. cond b 1 0) f, more (sym (ap (λ b. b || list_any p xs) f) ∙ e))
+
+-- no line is a phase and an output
+one_kind : (product : List ℕ) (line : RecipeLine) → cond (is_phase line) 1 0 + cond (is_out_of product line) 1 0 ≤ 1
+one_kind product (In def amount) = omega arith
+one_kind product (Out def amount) = elim (same def product) as (λ b. 0 + cond b 1 0 ≤ 1) [ true ↦ omega arith | false ↦ omega arith ]
+one_kind product (Parameter name value) = omega arith
+one_kind product (Phase unit_procedure operation phase) = omega arith
+
+two_kinds : (product : List ℕ) (lines : List RecipeLine) → count_by is_phase lines + count_by (is_out_of product) lines ≤ length lines
+two_kinds product [] = omega arith
+two_kinds product (x ∷ xs) = omega (arith, sum_by-cons (λ y. cond (is_phase y) 1 0) x xs, sum_by-cons (λ y. cond (is_out_of product y) 1 0) x xs, one_kind product x, two_kinds product xs)
+
+pub has_phases : HasPhasesWhereFormed
+has_phases header lines formed =
+    let apart = first_test _ (all_fit header.base header.greatest lines) formed in
+    let outs = first_test _ (has_no_repeats lines) apart in
+    let phases = first_test _ (has_product header.product lines) outs in
+    let sizes = first_test _ (has_phase lines) phases in
+    let counts = first_test (has_allowed_length lines) (has_size_range header) sizes in
+    let short = leb-true (length lines) greatest_lines (second_test (nat_le 1 (length lines)) (nat_le (length lines) greatest_lines) counts) in
+    let some_phase = count_some is_phase lines (second_test _ (has_phase lines) phases) in
+    let some_out = count_some (is_out_of header.product) lines (second_test _ (has_product header.product lines) outs) in
+    (some_phase, omega (arith, short, some_out, two_kinds header.product lines))
+
+phase_kept : (base size : ℕ) (line : RecipeLine) → is_phase (line_scaled base size line) ≡ is_phase line
+phase_kept base size (In def amount) = refl
+phase_kept base size (Out def amount) = refl
+phase_kept base size (Parameter name value) = refl
+phase_kept base size (Phase unit_procedure operation phase) = refl
+
+phases_kept : (base size : ℕ) (lines : List RecipeLine) → (length (map (line_scaled base size) lines) ≡ length lines) × (phases_of (map (line_scaled base size) lines) ≡ phases_of lines)
+phases_kept base size [] = (refl, refl)
+phases_kept base size (x ∷ xs) =
+    let rest = phases_kept base size xs in
+    (omega (arith, rest.0), omega (arith, rest.1, sum_by-cons (λ y. cond (is_phase y) 1 0) x xs, sum_by-cons (λ y. cond (is_phase y) 1 0) (line_scaled base size x) (map (line_scaled base size) xs), ap {B = ℕ} (λ b. cond b 1 0) (phase_kept base size x)))
+
+chosen : {X : Type 0} (b : Bool) (x y : X) → cond b None (Some x) ≡ Some y → x ≡ y
+chosen true x y e = cc
+chosen false x y e = cc
+
+pub keeps_procedure : KeepsProcedure
+keeps_procedure header lines control size e = subst (λ (ls : List RecipeLine). (length ls ≡ length lines) × (phases_of ls ≡ phases_of lines)) (chosen (list_any (scales_to_nothing header.base size) lines) (map (line_scaled header.base size) lines) control e) (phases_kept header.base size lines)

@@ -1,9 +1,10 @@
 -- Control recipes: copies of master recipes, scaled to a size.
-use Rattle.std.specs.Prelude.{ℕ, Bool, false, ◌&&◌, ◌==◌, nat_le, if◌then◌else◌, List, map, Option, Some, None}
+use Rattle.std.specs.Prelude.{◌≡◌, ℕ, length, Bool, false, ◌&&◌, ◌==◌, nat_le, if◌then◌else◌, List, map, Option, Some, None}
 use Rattle.std.specs.List.{list_any}
 use Rattle.plant_base.specs.declared.rows.Header.{Header}
 use Rattle.plant_base.specs.declared.rows.RecipeLine.{RecipeLine}
 use Rattle.plant_base.specs.declared.rows.RecipeLine.TheVariants.{In, Out, Parameter, Phase}
+use Rattle.plant_recipe.specs.Form.{phases_of}
 use Rattle.plant_recipe.specs.Scaling.{scaled_of}
 
 -- the size is one of the recipe's
@@ -30,3 +31,9 @@ lines_scaled base size lines = if list_any (scales_to_nothing base size) lines t
 -- the control recipe of a master recipe for a size
 abbrev pub control_of : Header → List RecipeLine → ℕ → Option (List RecipeLine)
 control_of header lines size = lines_scaled header.base size lines
+
+-- ---- laws
+
+-- a control recipe has the lines and the phases of its master recipe
+abbrev pub KeepsProcedure : Type 0
+KeepsProcedure = (header : Header) (lines control : List RecipeLine) (size : ℕ) → control_of header lines size ≡ Some control → (length control ≡ length lines) × (phases_of control ≡ phases_of lines)

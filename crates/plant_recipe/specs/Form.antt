@@ -6,6 +6,7 @@ use Rattle.plant_base.specs.State.{same}
 use Rattle.plant_base.specs.declared.rows.Header.{Header}
 use Rattle.plant_base.specs.declared.rows.RecipeLine.{RecipeLine}
 use Rattle.plant_base.specs.declared.rows.RecipeLine.TheVariants.{In, Out, Parameter, Phase}
+use Rattle.plant_recipe.specs.Progress.{greatest_phases}
 use Rattle.plant_recipe.specs.Scaling.{scaled_of}
 
 -- a master recipe: its header and its lines
@@ -36,6 +37,10 @@ is_parameter_of wanted _ = false
 abbrev pub is_phase : RecipeLine → Bool
 is_phase (Phase unit_procedure operation phase) = true
 is_phase _ = false
+
+-- how many phases the procedure has
+abbrev pub phases_of : List RecipeLine → ℕ
+phases_of lines = count_by is_phase lines
 
 -- ---- rules
 
@@ -97,3 +102,7 @@ pub record StandsOnce (lines : List RecipeLine) : Type 0 where
 -- in a well-formed recipe a definition is at most one input and one output, and a name that of at most one parameter
 abbrev pub StandsOnceWhereFormed : Type 0
 StandsOnceWhereFormed = (header : Header) (lines : List RecipeLine) → IsTrue (is_well_formed header lines) → StandsOnce lines
+
+-- a well-formed recipe has 1 to 127 phases, which is all that a progress counts
+abbrev pub HasPhasesWhereFormed : Type 0
+HasPhasesWhereFormed = (header : Header) (lines : List RecipeLine) → IsTrue (is_well_formed header lines) → (1 ≤ phases_of lines) × (phases_of lines ≤ greatest_phases)

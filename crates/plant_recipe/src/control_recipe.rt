@@ -3,7 +3,7 @@ ghost use Rattle.std.specs.Prelude.{◌≡◌, ◌==◌, ◌≤◌, if◌then◌
 ghost use Rattle.plant_base.specs.Values.{greatest_amount};
 ghost use Rattle.plant_recipe.specs.Scaling.{scaled_of};
 ghost use Rattle.plant_recipe.specs.Form.{fits, all_fit};
-ghost use Rattle.plant_recipe.specs.Control.{is_size_of, line_scaled, scales_to_nothing, lines_scaled, control_of};
+ghost use Rattle.plant_recipe.specs.Control.{is_size_of, line_scaled, scales_to_nothing, lines_scaled, control_of, KeepsProcedure};
 ghost use Rattle.plant_recipe.specs.declared.control_recipe.RecipeFault.TheVariants.{Nothing, Memory};
 
 use crate::master::Master;
@@ -54,6 +54,12 @@ pub fn control(
     let lines = scale_lines(alloc, base, size, master.lines())?;
     Ok(Items::new(lines))
 }
+
+/// A control recipe has as many lines and phases as its master recipe, as a law that a proof above may cite. It does
+/// nothing when it runs.
+pub fn control_law()
+    ensures { KeepsProcedure }
+{}
 
 #[tactic(auto, using(crate::proofs::Lines::passes_at))]
 fn scale_lines(

@@ -1,7 +1,7 @@
 //! Which recipes are well formed.
 ghost use Rattle.std.specs.Prelude.{◌≡◌};
 ghost use Rattle.std.specs.List.{list_any};
-ghost use Rattle.plant_recipe.specs.Form.{is_in_of, is_out_of, is_parameter_of, is_phase, has_allowed_length, has_size_range, has_phase, has_product, repeats, has_no_repeats, fits, all_fit, is_well_formed, StandsOnceWhereFormed};
+ghost use Rattle.plant_recipe.specs.Form.{is_in_of, is_out_of, is_parameter_of, is_phase, phases_of, has_allowed_length, has_size_range, has_phase, has_product, repeats, has_no_repeats, fits, all_fit, is_well_formed, StandsOnceWhereFormed, HasPhasesWhereFormed};
 
 use crate::scaling::scaled;
 use plant_base::{Amount, GREATEST_AMOUNT, Header, Id, RecipeLine};
@@ -34,10 +34,20 @@ pub fn is_well_formed(header: &Header, lines: &[RecipeLine]) -> bool
         && all_scale(header.base, header.greatest, lines)
 }
 
-/// What holds of every well-formed recipe, as a law that a proof above may cite: a definition is at most one input and at
-/// most one output, and a name that of at most one parameter. It does nothing when it runs.
-pub fn form_law()
-    ensures { StandsOnceWhereFormed }
+/// How many phases the lines have.
+pub fn phase_count(lines: &[RecipeLine]) -> usize
+    ensures { result ≡ phases_of lines.now }
+{
+    lines.iter().filter(|&&line| is_phase_line(line)).count()
+}
+
+/// What holds of every well-formed recipe, as a law that a proof above may cite. It does nothing when it runs.
+///
+/// - `once`: a definition is at most one input and at most one output, and a name that of at most one parameter.
+/// - `phases`: there are 1 to 127 phases.
+pub fn form_laws()
+    ensures once { StandsOnceWhereFormed }
+    ensures phases { HasPhasesWhereFormed }
 {}
 
 fn has_allowed_count(lines: &[RecipeLine]) -> bool

@@ -8,8 +8,8 @@ mod progress;
 mod scaling;
 mod table;
 
-pub use control_recipe::{RecipeFault, control};
-pub use form::{GREATEST_LINES, form_law, is_well_formed};
+pub use control_recipe::{RecipeFault, control, control_law};
+pub use form::{GREATEST_LINES, form_laws, is_well_formed, phase_count};
 pub use master::Master;
 pub use progress::{GREATEST_ATTEMPT, GREATEST_PHASES, Progress, progress_laws};
 pub use scaling::{scaled, scaling_laws};

@@ -1,6 +1,6 @@
 use crate::{
-    GREATEST_LINES, Master, Progress, RecipeFault, control, form_law, is_well_formed, next_state,
-    progress_laws, scaled, scaling_laws, table_law,
+    GREATEST_LINES, Master, Progress, RecipeFault, control, control_law, form_laws, is_well_formed,
+    next_state, phase_count, progress_laws, scaled, scaling_laws, table_law,
 };
 use plant_base::{Amount, BatchState, Event, Header, Id, RecipeLine, Refusal, Text, Word};
 use std::alloc::Global;
@@ -288,6 +288,7 @@ fn control_recipes(rt: HostRuntime) -> Result<(), Fail> {
         phase()?,
     ];
     assert!(rt; matches!(&control, Ok(lines) if lines.as_slice() == scaled.as_slice()));
+    control_law();
     let kept = master.into_lines();
     assert_eq!(rt; kept.as_slice(), lines.as_slice());
     Ok(())
@@ -349,7 +350,7 @@ fn forms_of_lines(rt: HostRuntime) -> Result<(), Fail> {
     for lines in &refused {
         assert!(rt; !is_taken(rt.alloc(), header, lines)?);
     }
-    form_law();
+    form_laws();
     Ok(())
 }
 
@@ -363,6 +364,7 @@ fn numbers_of_lines(rt: HostRuntime) -> Result<(), Fail> {
         lines.push(phase()?)?;
     }
     assert!(rt; is_taken(rt.alloc(), header, &lines)?);
+    assert_eq!(rt; phase_count(&lines), 127);
     lines.push(phase()?)?;
     assert!(rt; !is_taken(rt.alloc(), header, &lines)?);
     Ok(())

@@ -37,8 +37,9 @@ impl<T: Drop> From<AllocFailed<T>> for RecipeFault {
 /// The control recipe of a master recipe for a size (IEC 61512-1: it begins as a copy of a version of a master recipe):
 /// the master's lines in their order, the inputs and outputs scaled from the base to the size, the others copied.
 ///
-/// The size is within the master's sizes. `Nothing` comes only where some input or output is scaled to 0, and there the
-/// call has no other answer but `Memory`, which comes where memory was refused.
+/// The caller knows that the size is within the master's sizes, its least and its greatest among them. `Nothing` comes
+/// only where some input or output is scaled to 0, and there no control recipe is given. `Memory` comes where memory was
+/// refused. What came about until a fault is dropped.
 pub fn control(
     alloc: Global,
     master: &Master,

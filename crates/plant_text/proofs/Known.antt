@@ -1,5 +1,5 @@
 -- Known bytes over several writes and reads.
-use Rattle.std.proofs.Common.{◌≡◌, ℕ, List, [], ◌++◌, Option, Some, None, refl, sym, ap, ◌∙◌, append_assoc, take, drop, subst, take-append-drop}
+use Rattle.std.proofs.Common.{◌≡◌, ℕ, List, [], ◌++◌, Option, Some, None, refl, sym, ap, ◌∙◌, append_assoc, take, drop, subst, take-append-drop, ◌<◌, length, length-append, arith}
 use Rattle.std.proofs.lemmas.List.{append-nil}
 use Rattle.std.specs.Io.KnownBytes.{Appends, Consumes, Keeps}
 use Rattle.plant_text.specs.Writes.{AppendsFront}
@@ -25,10 +25,12 @@ Consumes-append (Some us) (Some vs) None xs ys p q = absurd q
 Consumes-append (Some us) (Some vs) (Some ws) xs ys p q = p ∙ ap (λ zs. xs ++ zs) q ∙ sym (append_assoc xs ys ws)
 
 pub front_first : (a b : Option (List ℕ)) (xs ys : List ℕ) → AppendsFront a b xs → AppendsFront a b (xs ++ ys)
-front_first a b xs ys p = (p.0, p.1 ++ ys, ap (λ zs. zs ++ ys) p.2 ∙ append_assoc p.0 p.1 ys, p.3)
+front_first a b xs ys p =
+    let some : 0 < length p.1 = p.3 in
+    (p.0, p.1 ++ ys, ap (λ zs. zs ++ ys) p.2 ∙ append_assoc p.0 p.1 ys, omega (arith, length-append p.1 ys), p.4)
 
 pub front_second : (a b c : Option (List ℕ)) (xs ys : List ℕ) → Appends a b xs → AppendsFront b c ys → AppendsFront a c (xs ++ ys)
-front_second a b c xs ys p q = (xs ++ q.0, q.1, ap (λ zs. xs ++ zs) q.2 ∙ sym (append_assoc xs q.0 q.1), Appends-append a b c xs q.0 p q.3)
+front_second a b c xs ys p q = (xs ++ q.0, q.1, ap (λ zs. xs ++ zs) q.2 ∙ sym (append_assoc xs q.0 q.1), q.3, Appends-append a b c xs q.0 p q.4)
 
 -- n more bytes were written of what was left
 pub wrote_more : (a b c : Option (List ℕ)) (text done rest : List ℕ) (n : ℕ) → text ≡ done ++ rest → Appends a b done → Appends b c (take n rest)

@@ -4,6 +4,7 @@ pub mod HeldLemmas
 pub mod Known
 pub mod Leaving
 pub mod LineLemmas
+pub mod Listed
 pub mod Reading
 pub mod RunLemmas
 pub mod TurnLemmas

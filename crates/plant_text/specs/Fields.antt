@@ -60,6 +60,7 @@ count_of d = option_map_or members_len (as_object d) 0
 abbrev pub shared_count : Data → ℕ
 shared_count d = if is_some (get (codes "note") d) then 4 else 3
 
--- a command's members beside its own, of which there are so many: where its own are there, no other is
+-- as many members as a command with so many fields of its own: where each of those is there, no other is (`no_other` in
+-- proofs/Listed.antt)
 abbrev pub has_fields : ℕ → Data → Bool
 has_fields own d = count_of d == own + shared_count d

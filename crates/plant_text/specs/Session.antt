@@ -115,7 +115,7 @@ abbrev pub some_refused : ℕ → State → List Entry → Bool
 some_refused k s [] = false
 some_refused k s (e ∷ es) = is_refused k s e || some_refused k (after s e) es
 
--- what is written for an input, whose lines are std's
+-- what is written for an input, whose lines are std's: a run that is done appends it
 abbrev pub session : ℕ → State → List ℕ → List ℕ
 session k s bytes = texts k s (entries (lines bytes))
 

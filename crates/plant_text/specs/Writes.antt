@@ -1,11 +1,11 @@
 -- What reaches a writer.
-use Rattle.std.specs.Prelude.{◌≡◌, ℕ, List, [], ◌∷◌, ◌++◌, Option}
+use Rattle.std.specs.Prelude.{◌≡◌, ℕ, ◌<◌, List, [], ◌∷◌, ◌++◌, length, Option}
 use Rattle.std.specs.Io.KnownBytes.{Appends}
 
 -- the text and its LF
 abbrev pub with_lf : List ℕ → List ℕ
 with_lf text = text ++ 10 ∷ []
 
--- a front of the text was written, and nothing else
+-- a front of the text was written and nothing else, and something of it is missing
 abbrev pub AppendsFront : Option (List ℕ) → Option (List ℕ) → List ℕ → Type 0
-AppendsFront old new text = (front : List ℕ) × (missing : List ℕ) × (text ≡ front ++ missing) × Appends old new front
+AppendsFront old new text = (front : List ℕ) × (missing : List ℕ) × (text ≡ front ++ missing) × (0 < length missing) × Appends old new front

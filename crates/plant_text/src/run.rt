@@ -19,7 +19,7 @@ pub enum RunEnd {
     Done { refused: bool },
     /// A read failed. The lines whose LF was read are answered, and what stands behind the last LF is not.
     Read,
-    /// A write failed, or took no byte. Of the text that comes next a front was written.
+    /// A write failed, or took no byte. Of the line that comes next a front was written, and not all of it.
     Write,
     /// The run has made 10^9 reads. The lines whose LF was read are answered, and what stands behind the last LF is not.
     Endless,
@@ -67,8 +67,11 @@ fn end_line<W: Write, K: Keeper>(
     ensures schema { K.honest keeper.new → K.schema keeper.new ≡ K.schema keeper.old }
     ensures open { OnOk result (K.shut keeper.new ≡ false) }
     ensures held { OnOk result (held.new.items ≡ []) }
-    ensures ends { K.honest keeper.new → PieceEnds (K.schema keeper.old) (K.state keeper.old) (entry_of (strip_carriage_return held.old.items) ∷ [])
-        (W.contents writer.old) (W.contents writer.new) (K.state keeper.new) (K.shut keeper.new) (K.may_leave keeper.new) refused result }
+    ensures ends { K.honest keeper.new
+        → PieceEnds (K.schema keeper.old) (K.state keeper.old)
+        (entry_of (strip_carriage_return held.old.items) ∷ [])
+        (W.contents writer.old) (W.contents writer.new)
+        (K.state keeper.new) (K.shut keeper.new) (K.may_leave keeper.new) refused result }
 {
     match take_line(alloc, writer, keeper, stripped(held)) {
         Ok(line_refused) => {
@@ -105,8 +108,10 @@ fn take_byte<W: Write, K: Keeper>(
     ensures schema { K.honest keeper.new → K.schema keeper.new ≡ K.schema keeper.old }
     ensures open { OnOk result (K.shut keeper.new ≡ false) }
     ensures held { OnOk result (held.new.items ≡ held_after held.old.items (b ∷ [])) }
-    ensures ends { K.honest keeper.new → PieceEnds (K.schema keeper.old) (K.state keeper.old) (entries_after held.old.items (b ∷ []))
-        (W.contents writer.old) (W.contents writer.new) (K.state keeper.new) (K.shut keeper.new) (K.may_leave keeper.new) refused result }
+    ensures ends { K.honest keeper.new
+        → PieceEnds (K.schema keeper.old) (K.state keeper.old) (entries_after held.old.items (b ∷ []))
+        (W.contents writer.old) (W.contents writer.new)
+        (K.state keeper.new) (K.shut keeper.new) (K.may_leave keeper.new) refused result }
 {
     if b == b'\n' {
         return end_line(alloc, writer, keeper, held, refused);
@@ -131,8 +136,10 @@ fn take_piece<W: Write, K: Keeper>(
     ensures schema { K.honest keeper.new → K.schema keeper.new ≡ K.schema keeper.old }
     ensures open { OnOk result (K.shut keeper.new ≡ false) }
     ensures held { OnOk result (held.new.items ≡ held_after held.old.items piece.now) }
-    ensures ends { K.honest keeper.new → PieceEnds (K.schema keeper.old) (K.state keeper.old) (entries_after held.old.items piece.now)
-        (W.contents writer.old) (W.contents writer.new) (K.state keeper.new) (K.shut keeper.new) (K.may_leave keeper.new) refused result }
+    ensures ends { K.honest keeper.new
+        → PieceEnds (K.schema keeper.old) (K.state keeper.old) (entries_after held.old.items piece.now)
+        (W.contents writer.old) (W.contents writer.new)
+        (K.state keeper.new) (K.shut keeper.new) (K.may_leave keeper.new) refused result }
 {
     let mut refused = refused;
     for b in piece {
@@ -155,8 +162,10 @@ fn end_input<W: Write, K: Keeper>(
     requires { K.shut keeper.old ≡ false }
     ensures honest { K.honest keeper.new → K.honest keeper.old }
     ensures schema { K.honest keeper.new → K.schema keeper.new ≡ K.schema keeper.old }
-    ensures ends { K.honest keeper.new → LastEnds (K.schema keeper.old) (K.state keeper.old) (entry_of held.now)
-        (W.contents writer.old) (W.contents writer.new) (K.state keeper.new) (K.shut keeper.new) (K.may_leave keeper.new) refused result }
+    ensures ends { K.honest keeper.new
+        → LastEnds (K.schema keeper.old) (K.state keeper.old) (entry_of held.now)
+        (W.contents writer.old) (W.contents writer.new)
+        (K.state keeper.new) (K.shut keeper.new) (K.may_leave keeper.new) refused result }
 {
     match take_line(alloc, writer, keeper, held) {
         Ok(line_refused) => RunEnd::Done {
@@ -179,8 +188,10 @@ fn run_pieces<R: Read, W: Write, K: Keeper>(
     ensures honest { K.honest keeper.new → K.honest keeper.old }
     ensures schema { K.honest keeper.new → K.schema keeper.new ≡ K.schema keeper.old }
     ensures ends { (bytes : List ℕ) × Consumes (R.remaining reader.old) (R.remaining reader.new) bytes
-        × (K.honest keeper.new → Ends (K.schema keeper.old) (K.state keeper.old) bytes (R.remaining reader.new)
-        (W.contents writer.old) (W.contents writer.new) (K.state keeper.new) (K.shut keeper.new) (K.may_leave keeper.new) result) }
+        × (K.honest keeper.new
+        → Ends (K.schema keeper.old) (K.state keeper.old) bytes (R.remaining reader.new)
+        (W.contents writer.old) (W.contents writer.new)
+        (K.state keeper.new) (K.shut keeper.new) (K.may_leave keeper.new) result) }
 {
     let mut held = Vec::new(alloc);
     let mut refused = false;
@@ -230,8 +241,10 @@ pub fn run_lines<R: Read, W: Write, K: Keeper>(
     ensures honest { K.honest keeper.new → K.honest keeper.old }
     ensures schema { K.honest keeper.new → K.schema keeper.new ≡ K.schema keeper.old }
     ensures ends { (bytes : List ℕ) × Consumes (R.remaining reader.old) (R.remaining reader.new) bytes
-        × (K.honest keeper.new → Ends (K.schema keeper.old) (K.state keeper.old) bytes (R.remaining reader.new)
-        (W.contents writer.old) (W.contents writer.new) (K.state keeper.new) (K.shut keeper.new) (K.may_leave keeper.new) result) }
+        × (K.honest keeper.new
+        → Ends (K.schema keeper.old) (K.state keeper.old) bytes (R.remaining reader.new)
+        (W.contents writer.old) (W.contents writer.new)
+        (K.state keeper.new) (K.shut keeper.new) (K.may_leave keeper.new) result) }
 {
     let mut piece = [0; 4096];
     run_pieces(alloc, reader, writer, keeper, &mut piece)

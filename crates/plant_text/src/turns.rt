@@ -76,8 +76,10 @@ fn take_command<W: Write, K: Keeper>(
     ensures honest { K.honest keeper.new → K.honest keeper.old }
     ensures schema { K.honest keeper.new → K.schema keeper.new ≡ K.schema keeper.old }
     ensures open { OnOk result (K.shut keeper.new ≡ false) }
-    ensures ends { K.honest keeper.new → TurnEnds (K.schema keeper.old) (K.state keeper.old) (command_entry envelope.now)
-        (W.contents writer.old) (W.contents writer.new) (K.state keeper.new) (K.shut keeper.new) (K.may_leave keeper.new) result }
+    ensures ends { K.honest keeper.new
+        → TurnEnds (K.schema keeper.old) (K.state keeper.old) (command_entry envelope.now)
+        (W.contents writer.old) (W.contents writer.new)
+        (K.state keeper.new) (K.shut keeper.new) (K.may_leave keeper.new) result }
 {
     match keeper.execute(envelope) {
         Ok(reply) => match write_line(writer, reply_line(&reply).as_bytes()) {
@@ -99,8 +101,10 @@ fn take_question<W: Write, K: Keeper>(
     ensures honest { K.honest keeper.new → K.honest keeper.old }
     ensures schema { K.honest keeper.new → K.schema keeper.new ≡ K.schema keeper.old }
     ensures open { OnOk result (K.shut keeper.new ≡ false) }
-    ensures ends { K.honest keeper.new → TurnEnds (K.schema keeper.old) (K.state keeper.old) (question_entry question.now)
-        (W.contents writer.old) (W.contents writer.new) (K.state keeper.new) (K.shut keeper.new) (K.may_leave keeper.new) result }
+    ensures ends { K.honest keeper.new
+        → TurnEnds (K.schema keeper.old) (K.state keeper.old) (question_entry question.now)
+        (W.contents writer.old) (W.contents writer.new)
+        (K.state keeper.new) (K.shut keeper.new) (K.may_leave keeper.new) result }
 {
     match keeper.ask(question) {
         Ok(answer) => match answer_text(alloc, &answer) {
@@ -125,8 +129,10 @@ pub(crate) fn take_line<W: Write, K: Keeper>(
     ensures honest { K.honest keeper.new → K.honest keeper.old }
     ensures schema { K.honest keeper.new → K.schema keeper.new ≡ K.schema keeper.old }
     ensures open { OnOk result (K.shut keeper.new ≡ false) }
-    ensures ends { K.honest keeper.new → TurnEnds (K.schema keeper.old) (K.state keeper.old) (entry_of line.now)
-        (W.contents writer.old) (W.contents writer.new) (K.state keeper.new) (K.shut keeper.new) (K.may_leave keeper.new) result }
+    ensures ends { K.honest keeper.new
+        → TurnEnds (K.schema keeper.old) (K.state keeper.old) (entry_of line.now)
+        (W.contents writer.old) (W.contents writer.new)
+        (K.state keeper.new) (K.shut keeper.new) (K.may_leave keeper.new) result }
 {
     if line.is_empty() {
         return Ok(false);

@@ -13,7 +13,7 @@ pub struct Unwritten;
 
 /// Writes the text, in as many writes as the writer needs.
 ///
-/// `Unwritten`: a front of the text was written, perhaps none of it or all of it, and nothing else.
+/// `Unwritten`: a front of the text was written, perhaps none of it but never all, and nothing else.
 pub fn write_text<W: Write>(writer: &mut W, text: &[u8]) -> Result<(), Unwritten>
     ensures ok { OnOk result (Appends (W.contents writer.old) (W.contents writer.new) text.now) }
     ensures err { OnErr result (AppendsFront (W.contents writer.old) (W.contents writer.new) text.now) }
@@ -33,7 +33,7 @@ pub fn write_text<W: Write>(writer: &mut W, text: &[u8]) -> Result<(), Unwritten
 
 /// Writes the text and an LF.
 ///
-/// `Unwritten`: a front of both was written, and nothing else.
+/// `Unwritten`: a front of both was written, perhaps none of them but never all, and nothing else.
 pub fn write_line<W: Write>(writer: &mut W, text: &[u8]) -> Result<(), Unwritten>
     ensures ok { OnOk result (Appends (W.contents writer.old) (W.contents writer.new) (with_lf text.now)) }
     ensures err { OnErr result (AppendsFront (W.contents writer.old) (W.contents writer.new) (with_lf text.now)) }

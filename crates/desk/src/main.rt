@@ -3,6 +3,8 @@
 
 mod exit;
 #[cfg(test)]
+mod movement_tests;
+#[cfg(test)]
 mod tests;
 
 use exit::{fault_of, status_of};

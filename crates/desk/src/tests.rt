@@ -7,7 +7,7 @@ use std::process::Abort;
 use std::test::Fail;
 
 /// A class, a definition, a receipt of 500, a scrap of 20 and a question.
-const SESSION: &[u8] =
+pub(crate) const SESSION: &[u8] =
     b"{\"at\":100,\"by\":\"anna\",\"do\":\"add_class\",\"class\":\"RAW\",\"name\":\"Raw goods\"}
 {\"at\":100,\"by\":\"anna\",\"do\":\"add_definition\",\"def\":\"SUGAR\",\"class\":\"RAW\",\"name\":\"Sugar\",\"unit\":\"g\"}
 {\"at\":110,\"by\":\"anna\",\"do\":\"receive\",\"lot\":\"L-1\",\"def\":\"SUGAR\",\"amount\":500,\"place\":\"A1\"}
@@ -76,7 +76,10 @@ impl Write for Narrow {
 }
 
 /// What a new desk writes for an input, and how the run ends.
-fn session(rt: &(impl Abort + AllocGlobal), input: &[u8]) -> Result<(RunEnd, Vec<u8>), Fail> {
+pub(crate) fn session(
+    rt: &(impl Abort + AllocGlobal),
+    input: &[u8],
+) -> Result<(RunEnd, Vec<u8>), Fail> {
     let mut rest = input;
     let mut out = Vec::new(rt.alloc());
     let mut keeper = ListKeeper::new(rt.alloc());
@@ -115,7 +118,11 @@ fn answers(
 }
 
 /// The same behind the five lines of the session.
-fn answers_then(rt: &(impl Abort + AllocGlobal), more: &[u8], wanted: &[u8]) -> Result<(), Fail> {
+pub(crate) fn answers_then(
+    rt: &(impl Abort + AllocGlobal),
+    more: &[u8],
+    wanted: &[u8],
+) -> Result<(), Fail> {
     let mut input = Vec::new(rt.alloc());
     input.extend_from_slice(SESSION)?;
     input.extend_from_slice(more)?;

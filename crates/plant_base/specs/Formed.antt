@@ -1,6 +1,9 @@
 -- What holds of the values of an envelope, and which commands are well formed.
-use Rattle.std.specs.Prelude.{◌≡◌, ℕ, Bool, true, nat_le, IsTrue}
+use Rattle.std.specs.Prelude.{◌≡◌, ℕ, Bool, true, ◌&&◌, ◌==◌, not, nat_le, List, [], ◌∷◌, length, IsTrue, All}
+use Rattle.std.specs.List.{list_all, list_any}
 use Rattle.plant_base.specs.Values.{is_id, is_text, is_unit, is_amount, is_moment, greatest_sublot}
+use Rattle.plant_base.specs.State.{same}
+use Rattle.plant_base.specs.declared.command.Part.{Part}
 use Rattle.plant_base.specs.declared.command.Command.{Command}
 use Rattle.plant_base.specs.declared.command.Command.TheVariants as body
 use Rattle.plant_base.specs.declared.command.Envelope.{Envelope}
@@ -9,12 +12,39 @@ use Rattle.plant_base.specs.declared.command.Stamp.{Stamp}
 abbrev pub stamp_of : Envelope → Stamp
 stamp_of e = record { at = e.at; by = e.by; note = e.note }
 
+-- ---- the parts of a merge
+
+abbrev pub has_sublot : Part → Bool
+has_sublot p = nat_le p.sub greatest_sublot
+
+abbrev pub is_same_sublot : Part → Part → Bool
+is_same_sublot p q = same p.lot q.lot && p.sub == q.sub
+
+-- no two of them take from one sublot
+abbrev pub are_apart : List Part → Bool
+are_apart [] = true
+are_apart (p ∷ ps) = not (list_any (is_same_sublot p) ps) && are_apart ps
+
+-- 1 to 16 parts of distinct sublots
+abbrev pub are_parts : List Part → Bool
+are_parts ps = nat_le 1 (length ps) && nat_le (length ps) 16 && list_all has_sublot ps && are_apart ps
+
+-- ---- commands
+
 -- the numbers and lists whose types don't keep their rules do obey them
 abbrev pub is_formed : Command → Bool
 is_formed (body.AddClass c) = true
 is_formed (body.AddDefinition c) = true
 is_formed (body.Receive c) = true
 is_formed (body.Scrap c) = nat_le c.sub greatest_sublot
+is_formed (body.Divide c) = nat_le c.sub greatest_sublot
+is_formed (body.Split c) = nat_le c.sub greatest_sublot
+is_formed (body.Merge c) = are_parts c.parts
+is_formed (body.Hold c) = true
+is_formed (body.Unhold c) = true
+
+abbrev pub HasPartValues : Part → Type 0
+HasPartValues p = IsTrue (is_id p.lot) × IsTrue (is_amount p.amount)
 
 -- each value of the command obeys its rule; every command that a program holds does
 abbrev pub HasBodyValues : Command → Type 0
@@ -22,6 +52,11 @@ HasBodyValues (body.AddClass c) = IsTrue (is_id c.class) × IsTrue (is_text c.na
 HasBodyValues (body.AddDefinition c) = IsTrue (is_id c.def) × IsTrue (is_id c.class) × IsTrue (is_text c.name) × IsTrue (is_unit c.unit)
 HasBodyValues (body.Receive c) = IsTrue (is_id c.lot) × IsTrue (is_id c.def) × IsTrue (is_amount c.amount) × IsTrue (is_text c.place)
 HasBodyValues (body.Scrap c) = IsTrue (is_id c.lot) × IsTrue (is_amount c.amount)
+HasBodyValues (body.Divide c) = IsTrue (is_id c.lot) × IsTrue (is_amount c.amount) × IsTrue (is_text c.place)
+HasBodyValues (body.Split c) = IsTrue (is_id c.lot) × IsTrue (is_amount c.amount) × IsTrue (is_id c.new) × IsTrue (is_text c.place)
+HasBodyValues (body.Merge c) = IsTrue (is_id c.new) × IsTrue (is_text c.place) × All HasPartValues c.parts
+HasBodyValues (body.Hold c) = IsTrue (is_id c.lot) × IsTrue (is_id c.hold)
+HasBodyValues (body.Unhold c) = IsTrue (is_id c.lot) × IsTrue (is_id c.hold)
 
 pub record HasValues (e : Envelope) : Type 0 where
   pub at : IsTrue (is_moment e.at)

@@ -116,3 +116,6 @@ lot_at s id = find (λ r. same r.id id) s.lots
 
 abbrev pub place_at : State → List ℕ → ℕ → Option Place
 place_at s lot number = find (λ r. same r.lot lot && r.number == number) s.places
+
+abbrev pub hold_at : State → List ℕ → List ℕ → Option Hold
+hold_at s lot id = find (λ r. same r.lot lot && same r.id id) s.holds

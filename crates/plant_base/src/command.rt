@@ -1,7 +1,9 @@
 //! What the desk is told.
-ghost use Rattle.std.specs.Prelude.{◌≡◌};
-ghost use Rattle.plant_base.specs.Formed.{HasValues, is_formed, stamp_of};
+ghost use Rattle.std.specs.Prelude.{◌≡◌, All};
+ghost use Rattle.std.specs.List.{list_all, list_any};
+ghost use Rattle.plant_base.specs.Formed.{HasValues, HasPartValues, is_formed, stamp_of, are_parts, has_sublot, are_apart, is_same_sublot};
 
+use crate::items::Items;
 use crate::values::{Amount, GREATEST_SUBLOT, Id, Moment, Text, Unit};
 
 /// Makes a material class.
@@ -38,6 +40,62 @@ pub struct Scrap {
     pub amount: Amount,
 }
 
+/// Moves an amount of a sublot into a new sublot of the same lot, whose number is one above the greatest.
+#[derive(Clone, Copy, Debug, PartialEq, Eq)]
+pub struct Divide {
+    pub lot: Id,
+    /// 0 to 99; a greater number isn't well formed.
+    pub sub: u16,
+    pub amount: Amount,
+    pub place: Text,
+}
+
+/// Makes a new lot of the same definition from an amount of a sublot.
+#[derive(Clone, Copy, Debug, PartialEq, Eq)]
+pub struct Split {
+    pub lot: Id,
+    /// 0 to 99; a greater number isn't well formed.
+    pub sub: u16,
+    pub amount: Amount,
+    pub new: Id,
+    pub place: Text,
+}
+
+/// What a merge takes from one sublot.
+#[derive(Clone, Copy, Debug, PartialEq, Eq)]
+pub struct Part {
+    pub lot: Id,
+    /// 0 to 99; a greater number isn't well formed.
+    pub sub: u16,
+    pub amount: Amount,
+}
+
+/// Makes a new lot from parts of lots of one definition.
+#[derive(Clone, Debug, Drop)]
+pub struct Merge {
+    pub new: Id,
+    pub place: Text,
+    /// 1 to 16 parts of distinct sublots; other lists aren't well formed.
+    pub parts: Items<Part>,
+}
+
+/// Holds a lot: while it has a hold it isn't consumed, split or merged.
+#[derive(Clone, Copy, Debug, PartialEq, Eq)]
+pub struct HoldLot {
+    pub lot: Id,
+    pub hold: Id,
+}
+
+/// Takes a hold of a lot away.
+#[derive(Clone, Copy, Debug, PartialEq, Eq)]
+pub struct UnholdLot {
+    pub lot: Id,
+    pub hold: Id,
+}
+
+/// The greatest number of parts of a merge.
+pub const GREATEST_PARTS: usize = 16;
+
 /// One command of the desk.
 #[derive(Clone, Debug, Drop)]
 pub enum Command {
@@ -45,6 +103,11 @@ pub enum Command {
     AddDefinition(AddDefinition),
     Receive(Receive),
     Scrap(Scrap),
+    Divide(Divide),
+    Split(Split),
+    Merge(Merge),
+    Hold(HoldLot),
+    Unhold(UnholdLot),
 }
 
 impl Command {
@@ -54,7 +117,10 @@ impl Command {
         ensures { result ≡ is_formed self.now }
     {
         match self {
-            Command::Scrap(scrap) => scrap.sub <= GREATEST_SUBLOT,
+            Command::Scrap(c) => c.sub <= GREATEST_SUBLOT,
+            Command::Divide(c) => c.sub <= GREATEST_SUBLOT,
+            Command::Split(c) => c.sub <= GREATEST_SUBLOT,
+            Command::Merge(c) => are_parts(c.parts.as_slice()),
             _ => true,
         }
     }
@@ -96,7 +162,19 @@ impl Envelope {
         let _at = self.at.get();
         let _by = self.by.as_bytes();
         let _note = self.note.as_bytes();
-        match &self.body {
+        self.body.show_values();
+    }
+}
+
+// ---- the values of a command
+
+impl Command {
+    ghost use Rattle.plant_base.specs.Formed.{HasBodyValues};
+
+    fn show_values(&self)
+        ensures { HasBodyValues self.now }
+    {
+        match self {
             Command::AddClass(c) => {
                 let _class = c.class.as_bytes();
                 let _name = c.name.as_bytes();
@@ -117,6 +195,82 @@ impl Envelope {
                 let _lot = c.lot.as_bytes();
                 let _amount = c.amount.get();
             }
+            Command::Divide(c) => {
+                let _lot = c.lot.as_bytes();
+                let _amount = c.amount.get();
+                let _place = c.place.as_bytes();
+            }
+            Command::Split(c) => {
+                let _lot = c.lot.as_bytes();
+                let _amount = c.amount.get();
+                let _new = c.new.as_bytes();
+                let _place = c.place.as_bytes();
+            }
+            Command::Merge(c) => {
+                let _new = c.new.as_bytes();
+                let _place = c.place.as_bytes();
+                show_parts(c.parts.as_slice());
+            }
+            Command::Hold(c) => {
+                let _lot = c.lot.as_bytes();
+                let _hold = c.hold.as_bytes();
+            }
+            Command::Unhold(c) => {
+                let _lot = c.lot.as_bytes();
+                let _hold = c.hold.as_bytes();
+            }
         }
     }
+}
+
+fn show_parts(parts: &[Part])
+    ensures { All HasPartValues parts.now }
+{
+    for part in parts {
+        let _lot = part.lot.as_bytes();
+        let _amount = part.amount.get();
+    }
+}
+
+// ---- the parts of a merge
+
+fn are_parts(parts: &[Part]) -> bool
+    ensures { result ≡ are_parts parts.now }
+{
+    parts.len() >= 1 && parts.len() <= GREATEST_PARTS && have_sublots(parts) && are_apart(parts)
+}
+
+fn have_sublots(parts: &[Part]) -> bool
+    ensures { result ≡ list_all has_sublot parts.now }
+{
+    parts.iter().all(|part| has_sublot(part))
+}
+
+fn has_sublot(part: &Part) -> bool
+    ensures { result ≡ has_sublot part.now }
+{
+    part.sub <= GREATEST_SUBLOT
+}
+
+fn are_apart(parts: &[Part]) -> bool
+    ensures { result ≡ are_apart parts.now }
+{
+    for (index, part) in parts.iter().enumerate() {
+        if is_among(part, &parts[index + 1..]) {
+            return false;
+        }
+    }
+    true
+}
+
+fn is_among(part: &Part, others: &[Part]) -> bool
+    ensures { result ≡ list_any (is_same_sublot part.now) others.now }
+{
+    others.iter().any(|other| is_same_sublot(part, other))
+}
+
+fn is_same_sublot(part: &Part, other: &Part) -> bool
+    ensures { result ≡ is_same_sublot part.now other.now }
+{
+    part.lot == other.lot && part.sub == other.sub
 }

@@ -10,7 +10,10 @@ mod short;
 mod states;
 mod values;
 
-pub use command::{AddClass, AddDefinition, Command, Envelope, Receive, Scrap, Stamp};
+pub use command::{
+    AddClass, AddDefinition, Command, Divide, Envelope, GREATEST_PARTS, HoldLot, Merge, Part,
+    Receive, Scrap, Split, Stamp, UnholdLot,
+};
 pub use due::{Due, DueFault};
 pub use items::Items;
 pub use refusal::Refusal;

@@ -4,3 +4,4 @@ pub mod Plain
 pub mod Split
 pub mod Taking
 pub mod Totals
+pub mod Turns

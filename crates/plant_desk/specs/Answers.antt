@@ -1,23 +1,15 @@
 -- What a question is answered.
-use Rattle.std.specs.Prelude.{ℕ, Bool, List, Option, Some, None, is_some, find, map, filter, sum_by}
-use Rattle.plant_base.specs.State.{State, same, lot_at}
+use Rattle.std.specs.Prelude.{ℕ, List, Option, Some, None, sum_by}
+use Rattle.plant_base.specs.State.{State, lot_at}
 use Rattle.plant_base.specs.declared.rows.Lot.{Lot}
-use Rattle.plant_base.specs.declared.rows.Sublot.{Sublot}
 use Rattle.plant_base.specs.declared.refusal.Refusal.TheVariants.{UnknownLot}
-use Rattle.plant_rules.specs.Tables.{sublot_row}
+use Rattle.plant_rules.specs.Refusing.{is_held}
+use Rattle.plant_rules.specs.Tables.{sublots_of}
 use Rattle.plant_desk.specs.declared.question.Question.{Question}
 use Rattle.plant_desk.specs.declared.question.Question.TheVariants as Q
 use Rattle.plant_desk.specs.declared.question.Answer.{Answer}
 use Rattle.plant_desk.specs.declared.question.Answer.TheVariants as A
 use Rattle.plant_desk.specs.declared.question.LotAnswer.{LotAnswer}
-
--- a lot with at least one hold
-abbrev pub is_held : State → List ℕ → Bool
-is_held s lot = is_some (find (λ h. same h.lot lot) s.holds)
-
--- the sublots of a lot with their stock, by number
-abbrev pub sublots_of : State → List ℕ → List Sublot
-sublots_of s lot = map (sublot_row s.movements) (filter (λ p. same p.lot lot) s.places)
 
 abbrev pub lot_answer : State → Lot → LotAnswer
 lot_answer s l = record {

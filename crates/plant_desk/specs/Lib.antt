@@ -2,3 +2,4 @@ pub mod Answers
 pub mod Keeping
 pub mod Lists
 pub mod Replies
+pub mod Runs

@@ -4,7 +4,10 @@ use Rattle.plant_base.specs.State.{State, put, class_order, definition_order, re
 use Rattle.plant_base.specs.declared.rows.Batch.{Batch}
 use Rattle.plant_base.specs.declared.rows.BatchRow.{BatchRow}
 use Rattle.plant_base.specs.declared.rows.Place.{Place}
+use Rattle.plant_base.specs.Values.{greatest_amount}
 use Rattle.plant_base.specs.declared.rows.Sublot.{Sublot}
+use Rattle.plant_base.specs.declared.rows.Movement.{Movement}
+use Rattle.plant_stock.specs.Stock.{entered, left}
 use Rattle.plant_rules.specs.Tables.{without_hold}
 use Rattle.plant_rules.specs.declared.change.RowChange.{RowChange}
 use Rattle.plant_rules.specs.declared.change.RowChange.TheVariants as row
@@ -71,3 +74,8 @@ pub record HasRoom (l : Lists) (n : ℕ) : Type 0 where
   pub places : vec_len l.places + n ≤ vec_capacity l.places
   pub movements : vec_len l.movements + n ≤ vec_capacity l.movements
   pub holds : vec_len l.holds + n ≤ vec_capacity l.holds
+
+-- the movements leave a stock in each sublot: no more was taken than came, and no more came than an amount
+pub record IsStocked (ms : List Movement) : Type 0 where
+  pub small : (lot : List ℕ) (number : ℕ) → entered ms lot number ≤ greatest_amount
+  pub covered : (lot : List ℕ) (number : ℕ) → left ms lot number ≤ entered ms lot number

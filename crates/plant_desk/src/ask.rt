@@ -3,16 +3,17 @@ ghost use Rattle.std.specs.Prelude.{◌≡◌, ◌≤◌, ◌<◌, ◌^◌, ◌=
 ghost use Rattle.plant_base.specs.Values.{greatest_amount};
 ghost use Rattle.plant_base.specs.State.{same};
 ghost use Rattle.plant_stock.specs.Stock.{entered, left};
-ghost use Rattle.plant_rules.specs.Tables.{sublot_row};
+ghost use Rattle.plant_rules.specs.Refusing.{is_held};
+ghost use Rattle.plant_rules.specs.Tables.{sublot_row, sublots_of};
 ghost use Rattle.plant_rules.specs.Sound.{IsSound};
 ghost use Rattle.plant_desk.specs.Answers.{answer, lot_answer};
-ghost use Rattle.plant_desk.specs.Lists.{state_of};
+ghost use Rattle.plant_desk.specs.Lists.{state_of, IsStocked};
 
-use crate::keys::{hold_of, lot_of};
+use crate::keys::lot_of;
 use crate::lists::Lists;
 use crate::question::{Answer, LotAnswer, Question};
 use crate::view::standing_of;
-use plant_base::{Id, Items, Lot, Movement, NEWEST_SCHEMA, Place, Refusal, Sublot};
+use plant_base::{Hold, Id, Items, Lot, Movement, NEWEST_SCHEMA, Place, Refusal, Sublot};
 use std::alloc::{AllocError, Global};
 
 impl Lists {
@@ -40,28 +41,42 @@ impl Lists {
         requires { IsSound (state_of self.now) }
         ensures { IfOk result (λ a. a ≡ lot_answer (state_of self.now) lot) }
     {
-        let sublots = sublots_of(self.alloc, &self.places, &self.movements, lot.id)?;
+        let held = self.is_held(lot.id)?;
+        let sublots = self.sublots_of(lot.id)?;
         let stock = total_of(&sublots);
         Ok(LotAnswer {
             lot: lot.id,
             def: lot.def,
-            held: hold_of(&self.holds, lot.id).is_some(),
+            held,
             stock,
             sublots: Items::new(sublots),
         })
     }
+
+    fn is_held(&self, lot: Id) -> Result<bool, AllocError>
+        ensures { IfOk result (λ held. held ≡ is_held (state_of self.now) lot) }
+    {
+        let holds = holds_of(self.alloc, &self.holds, lot)?;
+        Ok(holds.len() >= 1)
+    }
+
+    fn sublots_of(&self, lot: Id) -> Result<Vec<Sublot>, AllocError>
+        requires { IsSound (state_of self.now) }
+        ensures { IfOk result (λ v. v.items ≡ sublots_of (state_of self.now) lot) }
+    {
+        stocked_sublots(self.alloc, &self.places, &self.movements, lot)
+    }
 }
 
-// The sublots of a lot with their stock.
-fn sublots_of(
+// The sublots of a lot with their stock, where the movements leave a stock in each.
+pub(crate) fn stocked_sublots(
     alloc: Global,
     places: &[Place],
     movements: &[Movement],
     lot: Id,
 ) -> Result<Vec<Sublot>, AllocError>
-    requires small { (l : List ℕ) (n : ℕ) → entered movements.now l n ≤ greatest_amount }
-    requires covered { (l : List ℕ) (n : ℕ) → left movements.now l n ≤ entered movements.now l n }
-    ensures { IfOk result (λ v. v.items ≡ map (sublot_row movements.now) (filter (λ p. same p.lot lot) places.now)) }
+    ensures { IsStocked movements.now
+        → IfOk result (λ v. v.items ≡ map (sublot_row movements.now) (filter (λ p. same p.lot lot) places.now)) }
 {
     let mut rows = Vec::new(alloc);
     for p in places {
@@ -73,6 +88,19 @@ fn sublots_of(
                 place: p.place,
                 stock,
             })?;
+        }
+    }
+    Ok(rows)
+}
+
+// The holds of a lot.
+pub(crate) fn holds_of(alloc: Global, holds: &[Hold], lot: Id) -> Result<Vec<Hold>, AllocError>
+    ensures { IfOk result (λ v. v.items ≡ filter (λ h. same h.lot lot) holds.now) }
+{
+    let mut rows = Vec::new(alloc);
+    for h in holds {
+        if h.lot == lot {
+            rows.push(*h)?;
         }
     }
     Ok(rows)

@@ -144,9 +144,8 @@ pub(crate) fn place_of(rows: &[Place], lot: Id, number: u16) -> Option<Place>
         .find(|r| r.lot == lot && r.number == number)
 }
 
-// Some hold of the lot.
-pub(crate) fn hold_of(rows: &[Hold], lot: Id) -> Option<Hold>
-    ensures { result ≡ find (λ r. same r.lot lot) rows.now }
+pub(crate) fn hold_of(rows: &[Hold], lot: Id, id: Id) -> Option<Hold>
+    ensures { result ≡ find (λ r. same r.lot lot && same r.id id) rows.now }
 {
-    rows.iter().copied().find(|r| r.lot == lot)
+    rows.iter().copied().find(|r| r.lot == lot && r.id == id)
 }

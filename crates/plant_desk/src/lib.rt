@@ -8,6 +8,7 @@ mod list_keeper;
 mod lists;
 mod question;
 mod reply;
+mod report;
 mod sorted;
 mod view;
 
@@ -15,3 +16,4 @@ pub use keeper::Keeper;
 pub use list_keeper::ListKeeper;
 pub use question::{Answer, LotAnswer, Question};
 pub use reply::{DeskFault, Reply};
+pub use report::RunReport;

@@ -9,7 +9,8 @@ use crate::keeper::Keeper;
 use crate::lists::Lists;
 use crate::question::{Answer, Question};
 use crate::reply::{DeskFault, Reply};
-use plant_base::Envelope;
+use crate::report::RunReport;
+use plant_base::{Envelope, Items};
 use plant_rules::{Decision, decide};
 use std::alloc::Global;
 use std::marker::Model;
@@ -68,6 +69,60 @@ impl ListKeeper {
     }
 }
 
+impl ListKeeper {
+    ghost use Rattle.std.specs.Prelude.{◌≤◌, length, take, IfNone};
+    ghost use Rattle.plant_rules.specs.Conserve.{IsConserved};
+    ghost use Rattle.plant_desk.specs.Runs.{fold, replies};
+
+    /// Executes commands in order, up to the first fault. Room for the replies is taken first; where it is refused,
+    /// nothing is executed.
+    pub fn run(&mut self, list: &[Envelope]) -> RunReport
+        ensures within { length result.replies ≤ length list.now }
+        ensures replies { result.replies ≡ replies self.old (take (length result.replies) list.now) }
+        ensures fold { self.new ≡ fold self.old (take (length result.replies) list.now) }
+        ensures whole { IfNone result.end (length result.replies ≡ length list.now) }
+
+        // Nothing is lost and nothing made, whatever the commands were.
+        ensures conserved { IsConserved self.new }
+    {
+        let mut items = Vec::new(self.lists.alloc);
+        if items.reserve(list.len()).is_err() {
+            return RunReport {
+                replies: Items::new(items),
+                end: Some(DeskFault::Memory),
+            };
+        }
+        for e in list {
+            match self.execute_one(e) {
+                Ok(reply) => items.push_reserved(reply),
+                Err(fault) => {
+                    return RunReport {
+                        replies: Items::new(items),
+                        end: Some(fault),
+                    };
+                }
+            }
+        }
+        RunReport {
+            replies: Items::new(items),
+            end: None,
+        }
+    }
+
+    // Executes one command.
+    #[tactic(auto, using(plant_rules::proofs::StepSound::step_sound, plant_rules::proofs::Conserved::conserved))]
+    fn execute_one(&mut self, envelope: &Envelope) -> Result<Reply, DeskFault>
+        ensures reply { IfOk result (λ r. r ≡ reply self.old envelope.now) }
+        ensures ok { OnOk result (self.new ≡ step self.old envelope.now) }
+        ensures err { OnErr result (self.new ≡ self.old) }
+        ensures memory { IfErr result (λ f. f ≡ DeskFault.Memory) }
+        ensures conserved { IsConserved self.new }
+    {
+        envelope.show_values();
+        self.lists.execute(envelope)
+    }
+}
+
 impl Keeper for ListKeeper {
     ghost use Rattle.plant_base.specs.State.{newest_schema};
 
@@ -81,10 +136,8 @@ impl Keeper for ListKeeper {
 
     ghost may_leave = { λ k s. s ≡ k };
 
-    #[tactic(auto, using(plant_rules::proofs::StepSound::step_sound))]
     fn execute(&mut self, envelope: &Envelope) -> Result<Reply, DeskFault> {
-        envelope.show_values();
-        self.lists.execute(envelope)
+        self.execute_one(envelope)
     }
 
     fn ask(&mut self, question: &Question) -> Result<Answer, DeskFault> {

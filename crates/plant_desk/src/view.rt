@@ -7,10 +7,11 @@ ghost use Rattle.plant_stock.specs.Stock.{entered, left};
 ghost use Rattle.plant_trace.specs.Sources.{same_along};
 ghost use Rattle.plant_rules.specs.Genealogy.{edge_of, edges_of};
 
-use crate::keys::{class_of, definition_of, lot_of, place_of};
+use crate::ask::{holds_of, stocked_sublots};
+use crate::keys::{class_of, definition_of, hold_of, lot_of, place_of};
 use crate::lists::Lists;
 use plant_base::{
-    Class, Definition, GREATEST_AMOUNT, Id, Lot, Movement, MovementKind, Position, Sublot,
+    Class, Definition, GREATEST_AMOUNT, Hold, Id, Lot, Movement, MovementKind, Position, Sublot,
 };
 use plant_rules::View;
 use plant_stock::stock_of;
@@ -88,6 +89,18 @@ impl View for Lists {
                 }))
             }
         }
+    }
+
+    fn sublots(&mut self, lot: Id) -> Result<Vec<Sublot>, AllocError> {
+        stocked_sublots(self.alloc, &self.places, &self.movements, lot)
+    }
+
+    fn hold(&mut self, lot: Id, id: Id) -> Result<Option<Hold>, AllocError> {
+        Ok(hold_of(&self.holds, lot, id))
+    }
+
+    fn holds(&mut self, lot: Id) -> Result<Vec<Hold>, AllocError> {
+        holds_of(self.alloc, &self.holds, lot)
     }
 
     ghost kept_state = { λ l m a. a };

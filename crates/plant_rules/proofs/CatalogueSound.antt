@@ -1,5 +1,5 @@
 -- A new class or definition keeps a state sound.
-use Rattle.std.proofs.Common.{◌≡◌, List, is_some, true}
+use Rattle.std.proofs.Common.{◌≡◌, is_some, true}
 use Rattle.plant_base.specs.State.{State, class_order, definition_order, class_at}
 use Rattle.plant_base.specs.declared.rows.Class.{Class}
 use Rattle.plant_base.specs.declared.rows.Definition.{Definition}
@@ -20,9 +20,11 @@ sound_add_class s sound t c =
       definitions = sound.definitions;
       lots = sound.lots;
       places = sound.places;
+      holds = sound.holds;
       classified = all_weaker _ _ (λ (d : Definition) known. id_still (λ (x : Class). x.id) r s.classes d.class known) s.definitions sound.classified;
       defined = sound.defined;
       housed = sound.housed;
+      placed = sound.placed;
       numbered = sound.numbered;
       named = sound.named;
       one_material = sound.one_material;
@@ -38,9 +40,11 @@ sound_add_definition s sound t c known =
       definitions = sorted_put definition_order (id_total (λ (x : Definition). x.id)) r s.definitions sound.definitions;
       lots = sound.lots;
       places = sound.places;
+      holds = sound.holds;
       classified = all_put definition_order (λ (d : Definition). is_some (class_at s d.class) ≡ true) r s.definitions known sound.classified;
       defined = all_weaker _ _ (λ (l : Lot) known. id_still (λ (x : Definition). x.id) r s.definitions l.def known) s.lots sound.defined;
       housed = sound.housed;
+      placed = sound.placed;
       numbered = sound.numbered;
       named = sound.named;
       one_material = sound.one_material;

@@ -1,8 +1,9 @@
 -- A receipt keeps a state sound.
-use Rattle.std.proofs.Common.{◌≡◌, ◌∙◌, ℕ, ◌≤◌, true, false, is_some, refl, ap, arith}
+use Rattle.std.proofs.Common.{◌≡◌, ◌∙◌, ◌≤◌, true, false, is_some, refl, ap, arith}
 use Rattle.std.specs.Prelude.{◌==◌, ◌&&◌}
 use Rattle.plant_base.specs.Values.{greatest_amount, greatest_sublot}
 use Rattle.plant_base.specs.State.{State, same, lot_order, place_order, definition_at, lot_at}
+use Rattle.plant_base.specs.declared.rows.Hold.{Hold}
 use Rattle.plant_base.specs.declared.rows.Lot.{Lot}
 use Rattle.plant_base.specs.declared.rows.Place.{Place}
 use Rattle.plant_base.specs.declared.rows.Movement.{Movement}
@@ -28,11 +29,13 @@ sound_receive s sound t c small known none =
       definitions = sound.definitions;
       lots = sorted_put lot_order lot_order_total r s.lots sound.lots;
       places = sorted_put place_order place_order_total p s.places sound.places;
+      holds = sound.holds;
       classified = sound.classified;
       defined = all_put lot_order (λ (l : Lot). is_some (definition_at s l.def) ≡ true) r s.lots known sound.defined;
       housed = all_put place_order (λ (q : Place). is_some (lot_at new q.lot) ≡ true) p s.places
           (found_put lot_order r (λ x. same x.id c.lot) s.lots (same_itself c.lot))
           (all_weaker _ _ (λ (q : Place) known. ap is_some (lot_stays s sound r none q.lot known) ∙ known) s.places sound.housed);
+      placed = all_weaker _ _ (λ (h : Hold) known. ap is_some (lot_stays s sound r none h.lot known) ∙ known) s.holds sound.placed;
       numbered = all_put place_order (λ (q : Place). q.number ≤ greatest_sublot) p s.places (omega arith) sound.numbered;
       named = all_push _ s.movements m
           (all_weaker _ _ (λ m n. (there_still s new p refl _ n.0, there_still s new p refl _ n.1)) s.movements sound.named)

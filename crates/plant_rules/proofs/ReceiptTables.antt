@@ -1,6 +1,5 @@
 -- The rows of a receipt make the tables of the next state.
-use Rattle.std.proofs.Common.{◌≡◌, ◌∙◌, ℕ, ◌+◌, ◌-◌, Bool, true, false, cond, List, [], ◌∷◌, ◌++◌, map, is_some, refl, ap, arith}
-use Rattle.std.specs.Ordering.{is_eq}
+use Rattle.std.proofs.Common.{◌≡◌, ◌∙◌, ℕ, ◌+◌, ◌-◌, false, cond, [], ◌∷◌, ◌++◌, map, is_some, refl, ap, arith}
 use Rattle.plant_base.specs.State.{State, put, newest_schema, place_order, lot_at}
 use Rattle.plant_base.specs.declared.rows.MovementKind.TheVariants.{Received}
 use Rattle.plant_base.specs.declared.rows.Place.{Place}
@@ -8,14 +7,13 @@ use Rattle.plant_base.specs.declared.rows.Movement.{Movement}
 use Rattle.plant_base.specs.declared.command.Stamp.{Stamp}
 use Rattle.plant_base.specs.declared.command.Receive.{Receive}
 use Rattle.plant_base.proofs.Keys.{key_itself}
-use Rattle.plant_stock.specs.Stock.{entered, left, entering, leaving}
+use Rattle.plant_stock.specs.Stock.{entered, left, entering}
 use Rattle.plant_stock.proofs.Book.{entered_push, left_push}
-use Rattle.plant_rules.specs.declared.change.RowChange.{RowChange}
 use Rattle.plant_rules.specs.declared.change.RowChange.TheVariants as row
 use Rattle.plant_rules.specs.Booking.{line_of}
 use Rattle.plant_rules.specs.Receipt.{receive}
 use Rattle.plant_rules.specs.Sound.{IsSound}
-use Rattle.plant_rules.specs.Tables.{sublot_order, sublot_row, tables_of, changed_all, position_of}
+use Rattle.plant_rules.specs.Tables.{sublot_order, sublot_row, tables_of, changed_all}
 use Rattle.plant_rules.proofs.Sublots.{TouchesOnly, sublots_put, apart_fails, nothing_entered, nothing_left, no_place}
 
 received_touches : (seq : ℕ) (t : Stamp) (p : Place) (amount : ℕ) → TouchesOnly (line_of seq t Received p.lot p.number amount) p

@@ -1,5 +1,5 @@
 -- Scrap keeps a state sound.
-use Rattle.std.proofs.Common.{◌≡◌, ℕ, ◌≤◌, true, is_some, arith}
+use Rattle.std.proofs.Common.{◌≡◌, ◌≤◌, true, is_some, arith}
 use Rattle.plant_base.specs.State.{State, place_at}
 use Rattle.plant_base.specs.declared.rows.Movement.{Movement}
 use Rattle.plant_base.specs.declared.rows.MovementKind.TheVariants.{Scrapped}
@@ -21,9 +21,11 @@ sound_scrap s sound t c there enough =
       definitions = sound.definitions;
       lots = sound.lots;
       places = sound.places;
+      holds = sound.holds;
       classified = sound.classified;
       defined = sound.defined;
       housed = sound.housed;
+      placed = sound.placed;
       numbered = sound.numbered;
       named = all_push _ s.movements m sound.named (tt, there);
       one_material = all_push _ s.movements m sound.one_material tt;

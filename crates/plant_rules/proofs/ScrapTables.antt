@@ -1,7 +1,6 @@
 -- The rows of a scrap make the tables of the next state.
-use Rattle.std.proofs.Common.{◌≡◌, ◌∙◌, ℕ, ◌+◌, ◌-◌, Bool, true, false, cond, List, [], ◌∷◌, ◌++◌, map, Some, refl, ap, arith}
+use Rattle.std.proofs.Common.{◌≡◌, ◌∙◌, ℕ, ◌+◌, ◌-◌, cond, List, [], ◌∷◌, ◌++◌, map, Some, refl, ap, arith}
 use Rattle.std.specs.Prelude.{◌==◌, ◌&&◌}
-use Rattle.std.specs.Ordering.{is_eq}
 use Rattle.plant_base.specs.State.{State, same, put, newest_schema, place_order, place_at}
 use Rattle.plant_base.specs.declared.rows.MovementKind.TheVariants.{Scrapped}
 use Rattle.plant_base.specs.declared.rows.Place.{Place}
@@ -10,15 +9,14 @@ use Rattle.plant_base.specs.declared.command.Stamp.{Stamp}
 use Rattle.plant_base.specs.declared.command.Scrap.{Scrap}
 use Rattle.plant_base.proofs.Keys.{key_itself, place_order_total, test_tie}
 use Rattle.plant_base.proofs.Put.{put_there}
-use Rattle.plant_stock.specs.Stock.{entered, left, entering, leaving}
+use Rattle.plant_stock.specs.Stock.{entered, left, leaving}
 use Rattle.plant_stock.proofs.Book.{entered_push, left_push}
-use Rattle.plant_rules.specs.declared.change.RowChange.{RowChange}
 use Rattle.plant_rules.specs.declared.change.RowChange.TheVariants as row
 use Rattle.plant_rules.specs.Booking.{line_of}
 use Rattle.plant_rules.specs.Refusing.{standing}
 use Rattle.plant_rules.specs.Scrapping.{scrap}
 use Rattle.plant_rules.specs.Sound.{IsSound}
-use Rattle.plant_rules.specs.Tables.{sublot_order, sublot_row, tables_of, changed_all, position_of}
+use Rattle.plant_rules.specs.Tables.{sublot_order, sublot_row, tables_of, changed_all}
 use Rattle.plant_rules.proofs.Sublots.{TouchesOnly, sublots_put, apart_fails}
 
 scrapped_touches : (seq : ℕ) (t : Stamp) (p : Place) (amount : ℕ) → TouchesOnly (line_of seq t Scrapped p.lot p.number amount) p

@@ -1,6 +1,6 @@
 -- Every command keeps a sound state sound, and the opening state is sound.
-use Rattle.std.proofs.Common.{◌≡◌, ℕ, ◌≤◌, refl, Bool, true, false, Option, Some, None, arith, nat_lt}
-use Rattle.std.specs.Prelude.{◌&&◌, nat_le, not}
+use Rattle.std.proofs.Common.{◌≡◌, ◌∙◌, ℕ, ◌≤◌, refl, sym, ap, is_some, true, Option, Some, None, arith, nat_lt}
+use Rattle.std.specs.Prelude.{not}
 use Rattle.std.specs.List.Sorted.{IsStrictlySortedBy}
 use Rattle.std.proofs.lemmas.Bool.{ltb-false}
 use Rattle.std.proofs.lemmas.Bool.Decides.{nat_tests}
@@ -9,12 +9,14 @@ use Rattle.plant_base.specs.State.{State, opening}
 use Rattle.plant_base.specs.Formed.{HasValues, HasBodyValues, is_formed, stamp_of}
 use Rattle.plant_base.specs.declared.refusal.Refusal.{Refusal}
 use Rattle.plant_base.specs.declared.refusal.Refusal.TheVariants.{BadForm, MomentBack}
+use Rattle.plant_base.specs.declared.command.Part.{Part}
 use Rattle.plant_base.specs.declared.command.Stamp.{Stamp}
 use Rattle.plant_base.specs.declared.command.Command.{Command}
 use Rattle.plant_base.specs.declared.command.Command.TheVariants as body
 use Rattle.plant_base.specs.declared.command.Envelope.{Envelope}
+use Rattle.plant_base.proofs.Put.{all_weaker}
 use Rattle.plant_stock.specs.Stock.{entered, left}
-use Rattle.plant_rules.specs.Refusing.{refuse}
+use Rattle.plant_rules.specs.Refusing.{refuse, standing}
 use Rattle.plant_rules.specs.Wrong.{wrong, wrong_body}
 use Rattle.plant_rules.specs.Step.{step, step_body, unless_refused}
 use Rattle.plant_rules.specs.Sound.{IsSound}
@@ -22,21 +24,54 @@ use Rattle.plant_rules.proofs.KeptSound.{passed, is_there}
 use Rattle.plant_rules.proofs.CatalogueSound.{sound_add_class, sound_add_definition}
 use Rattle.plant_rules.proofs.ReceiptSound.{sound_receive}
 use Rattle.plant_rules.proofs.ScrapSound.{sound_scrap}
+use Rattle.plant_rules.proofs.DivideSound.{sound_divide}
+use Rattle.plant_rules.proofs.SplitSound.{sound_split}
+use Rattle.plant_rules.proofs.Parting.{each_fails, not_false, formed_apart, formed_some, parts_there, parts_ready, parts_pass}
+use Rattle.plant_rules.proofs.MergeSound.{sound_merge}
+use Rattle.plant_rules.proofs.HoldSound.{sound_hold, sound_unhold}
 
 pub amount_small : (n : ℕ) → is_amount n ≡ true → n ≤ greatest_amount
 amount_small n e = grind (arith, nat_tests)
 
-sound_body : (s : State) → IsSound s → (t : Stamp) (c : Command) → HasBodyValues c → wrong_body s c ≡ None → IsSound (step_body s t c)
-sound_body s sound t (body.AddClass c) values fine = sound_add_class s sound t c
-sound_body s sound t (body.AddDefinition c) values fine = sound_add_definition s sound t c (is_there _ (passed _ _ _ fine).0)
-sound_body s sound t (body.Receive c) values fine =
+sound_body : (s : State) → IsSound s → (t : Stamp) (c : Command) → HasBodyValues c → is_formed c ≡ true → wrong_body s c ≡ None → IsSound (step_body s t c)
+sound_body s sound t (body.AddClass c) values formed fine = sound_add_class s sound t c
+sound_body s sound t (body.AddDefinition c) values formed fine = sound_add_definition s sound t c (is_there _ (passed _ _ _ fine).0)
+sound_body s sound t (body.Receive c) values formed fine =
     let known = passed _ _ _ fine in
     sound_receive s sound t c (amount_small c.amount values.2) (is_there _ known.0) (passed _ _ _ known.1).0
-sound_body s sound t (body.Scrap c) values fine =
+sound_body s sound t (body.Scrap c) values formed fine =
     let lot = passed _ _ _ fine in
     let sublot = passed _ _ _ lot.1 in
     let enough = passed _ _ _ sublot.1 in
     sound_scrap s sound t c (is_there _ sublot.0) (ltb-false _ _ enough.0)
+sound_body s sound t (body.Divide c) values formed fine =
+    let lot = passed _ _ _ fine in
+    let sublot = passed _ _ _ lot.1 in
+    let enough = passed _ _ _ sublot.1 in
+    let room = passed _ _ _ enough.1 in
+    sound_divide s sound t c (amount_small c.amount values.1) (is_there _ lot.0) (is_there _ sublot.0) (ltb-false _ _ enough.0) (ltb-false _ _ room.0)
+sound_body s sound t (body.Split c) values formed fine =
+    let lot = passed _ _ _ fine in
+    let sublot = passed _ _ _ lot.1 in
+    let new = passed _ _ _ sublot.1 in
+    let enough = passed _ _ _ new.1 in
+    sound_split s sound t c (amount_small c.amount values.1) (is_there _ lot.0) (is_there _ sublot.0) new.0 (ltb-false _ _ enough.0)
+sound_body s sound t (body.Merge c) values formed fine =
+    let there = parts_there s c.parts _ fine in
+    let ready = parts_ready s c.parts there in
+    let new = passed _ _ _ (sym (parts_pass s c.parts _ there) ∙ fine) in
+    let enough = passed _ _ _ new.1 in
+    let much = passed _ _ _ enough.1 in
+    let held = passed _ _ _ much.1 in
+    let mixed = passed _ _ _ held.1 in
+    sound_merge s sound t c (formed_some c.parts formed) (formed_apart c.parts formed)
+    (all_weaker _ _ (λ (p : Part) r. r.known) c.parts ready)
+    (all_weaker _ _ (λ (p : Part) r. ap is_some r.place) c.parts ready)
+    new.0
+    (all_weaker _ _ (λ (p : Part) e. ltb-false _ _ e) c.parts (each_fails (λ (p : Part). nat_lt (standing s p.lot p.sub) p.amount) c.parts enough.0))
+    (ltb-false _ _ much.0) mixed.0
+sound_body s sound t (body.Hold c) values formed fine = sound_hold s sound t c (is_there _ (passed _ _ _ fine).0)
+sound_body s sound t (body.Unhold c) values formed fine = sound_unhold s sound t c
 
 unless_sound : (w : Option Refusal) (s next : State) → IsSound s → (w ≡ None → IsSound next) → IsSound (unless_refused w s next)
 unless_sound None s next sound h = h refl
@@ -47,7 +82,7 @@ unfolding step wrong
 step_sound s sound e values = unless_sound (wrong s e) s (step_body s (stamp_of e) e.body) sound (λ fine.
     let formed = passed (not (is_formed e.body)) BadForm (refuse (nat_lt e.at s.at) MomentBack (wrong_body s e.body)) fine in
     let moment = passed (nat_lt e.at s.at) MomentBack (wrong_body s e.body) formed.1 in
-    sound_body s sound (stamp_of e) e.body values.body moment.1)
+    sound_body s sound (stamp_of e) e.body values.body (not_false _ formed.0) moment.1)
 
 pub opening_sound : IsSound opening
 unfolding entered left IsStrictlySortedBy
@@ -56,9 +91,11 @@ opening_sound = record {
   definitions = tt;
   lots = tt;
   places = tt;
+  holds = tt;
   classified = tt;
   defined = tt;
   housed = tt;
+  placed = tt;
   numbered = tt;
   named = tt;
   one_material = tt;

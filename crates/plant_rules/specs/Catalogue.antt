@@ -1,5 +1,5 @@
 -- Material classes and definitions: when they are refused, and what they add.
-use Rattle.std.specs.Prelude.{ℕ, ◌+◌, Option, None, is_some, is_none}
+use Rattle.std.specs.Prelude.{◌+◌, Option, None, is_some, is_none}
 use Rattle.plant_base.specs.State.{State, put, class_order, definition_order, class_at, definition_at}
 use Rattle.plant_base.specs.declared.refusal.Refusal.{Refusal}
 use Rattle.plant_base.specs.declared.refusal.Refusal.TheVariants.{Exists, UnknownClass, TooMany}

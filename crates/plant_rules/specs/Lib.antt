@@ -1,11 +1,16 @@
 pub mod Booking
 pub mod Catalogue
 pub mod Conserve
+pub mod Division
 pub mod Genealogy
+pub mod Holding
+pub mod Merging
+pub mod Parts
 pub mod Receipt
 pub mod Refusing
 pub mod Scrapping
 pub mod Sound
+pub mod Splitting
 pub mod Step
 pub mod Tables
 pub mod Views

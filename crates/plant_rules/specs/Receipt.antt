@@ -1,5 +1,5 @@
 -- A receipt: when it is refused, and what it adds.
-use Rattle.std.specs.Prelude.{ℕ, ◌+◌, [], ◌∷◌, ◌++◌, Option, None, is_some, is_none}
+use Rattle.std.specs.Prelude.{◌+◌, [], ◌∷◌, ◌++◌, Option, None, is_some, is_none}
 use Rattle.plant_base.specs.State.{State, put, lot_order, place_order, definition_at, lot_at}
 use Rattle.plant_base.specs.declared.refusal.Refusal.{Refusal}
 use Rattle.plant_base.specs.declared.refusal.Refusal.TheVariants.{Exists, UnknownDefinition, TooMany}

@@ -1,5 +1,5 @@
 -- Scrap: when it is refused, and what it adds.
-use Rattle.std.specs.Prelude.{ℕ, ◌+◌, [], ◌∷◌, ◌++◌, Option, None, is_none, nat_lt}
+use Rattle.std.specs.Prelude.{◌+◌, [], ◌∷◌, ◌++◌, Option, None, is_none, nat_lt}
 use Rattle.plant_base.specs.State.{State, lot_at, place_at}
 use Rattle.plant_base.specs.declared.refusal.Refusal.{Refusal}
 use Rattle.plant_base.specs.declared.refusal.Refusal.TheVariants.{UnknownLot, UnknownSublot, TooLittle, TooMany}

@@ -3,7 +3,7 @@ use Rattle.std.specs.Prelude.{◌≡◌, ℕ, ◌≤◌, true, List, Option, Som
 use Rattle.std.specs.List.{AllByRecursion}
 use Rattle.std.specs.List.Sorted.{IsStrictlySortedBy}
 use Rattle.plant_base.specs.Values.{greatest_amount, greatest_sublot}
-use Rattle.plant_base.specs.State.{State, class_order, definition_order, lot_order, place_order, class_at, definition_at, lot_at, place_at}
+use Rattle.plant_base.specs.State.{State, class_order, definition_order, lot_order, place_order, hold_order, class_at, definition_at, lot_at, place_at}
 use Rattle.plant_stock.specs.Stock.{goes_to, comes_from, entered, left}
 use Rattle.plant_rules.specs.Conserve.{is_of}
 
@@ -24,10 +24,12 @@ pub record IsSound (s : State) : Type 0 where
   pub definitions : IsStrictlySortedBy definition_order s.definitions
   pub lots : IsStrictlySortedBy lot_order s.lots
   pub places : IsStrictlySortedBy place_order s.places
-  -- each definition's class, each lot's definition and each sublot's lot is there
+  pub holds : IsStrictlySortedBy hold_order s.holds
+  -- each definition's class, each lot's definition, and the lot of each sublot and hold is there
   pub classified : AllByRecursion (λ d. is_some (class_at s d.class) ≡ true) s.definitions
   pub defined : AllByRecursion (λ l. is_some (definition_at s l.def) ≡ true) s.lots
   pub housed : AllByRecursion (λ p. is_some (lot_at s p.lot) ≡ true) s.places
+  pub placed : AllByRecursion (λ h. is_some (lot_at s h.lot) ≡ true) s.holds
   pub numbered : AllByRecursion (λ p. p.number ≤ greatest_sublot) s.places
   -- the sublots that a movement names are there, and of one definition
   pub named : AllByRecursion (λ m. IsThere s (goes_to m.kind m.lot m.sub) × IsThere s (comes_from m.kind m.lot m.sub)) s.movements

@@ -11,6 +11,10 @@ use Rattle.plant_rules.specs.Wrong.{wrong}
 use Rattle.plant_rules.specs.Catalogue.{add_class, add_definition}
 use Rattle.plant_rules.specs.Receipt.{receive}
 use Rattle.plant_rules.specs.Scrapping.{scrap}
+use Rattle.plant_rules.specs.Division.{divide}
+use Rattle.plant_rules.specs.Splitting.{split}
+use Rattle.plant_rules.specs.Merging.{merge}
+use Rattle.plant_rules.specs.Holding.{hold, unhold}
 
 -- what an accepted command makes of the state
 abbrev pub step_body : State → Stamp → Command → State
@@ -18,6 +22,11 @@ step_body s t (body.AddClass c) = add_class s t c
 step_body s t (body.AddDefinition c) = add_definition s t c
 step_body s t (body.Receive c) = receive s t c
 step_body s t (body.Scrap c) = scrap s t c
+step_body s t (body.Divide c) = divide s t c
+step_body s t (body.Split c) = split s t c
+step_body s t (body.Merge c) = merge s t c
+step_body s t (body.Hold c) = hold s t c
+step_body s t (body.Unhold c) = unhold s t c
 
 -- the state itself where the command is refused
 abbrev pub unless_refused : Option Refusal → State → State → State

@@ -1,5 +1,5 @@
 -- The tables that stand for a state, and what row changes do to them.
-use Rattle.std.specs.Prelude.{◌≡◌, ℕ, ◌-◌, Bool, not, ◌&&◌, List, [], ◌∷◌, ◌++◌, length, map, filter, Option, Some, None}
+use Rattle.std.specs.Prelude.{◌≡◌, ℕ, ◌-◌, not, ◌&&◌, List, [], ◌∷◌, ◌++◌, length, map, filter, Option, Some, None}
 use Rattle.std.specs.declared.cmp.Ordering.{Ordering}
 use Rattle.plant_base.specs.State.{State, same, put, numbered_cmp, newest_schema, class_order, definition_order, recipe_order, master_line_order, job_order, batch_order, control_line_order, lot_order, hold_order}
 use Rattle.plant_base.specs.declared.rows.Position.{Position}
@@ -72,6 +72,10 @@ batch_row lines es b = row_at b (progress_after (phases_among lines b.id) (event
 
 abbrev pub batch_row_order : BatchRow → BatchRow → Ordering
 batch_row_order a b = batch_order a.batch b.batch
+
+-- the sublots of a lot with their stock, by number
+abbrev pub sublots_of : State → List ℕ → List Sublot
+sublots_of s lot = map (sublot_row s.movements) (filter (λ p. same p.lot lot) s.places)
 
 -- the tables of a state in a schema
 abbrev pub tables_of : ℕ → State → Tables

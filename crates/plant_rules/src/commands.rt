@@ -1,8 +1,8 @@
 //! The decision of one command.
-ghost use Rattle.std.specs.Prelude.{◌≡◌, ◌+◌, ◌<◌, IfOk};
+ghost use Rattle.std.specs.Prelude.{◌≡◌, ◌+◌, ◌<◌, IfOk, IsTrue};
 ghost use Rattle.plant_base.specs.Values.{greatest_seq};
 ghost use Rattle.plant_base.specs.State.{newest_schema};
-ghost use Rattle.plant_base.specs.Formed.{stamp_of};
+ghost use Rattle.plant_base.specs.Formed.{stamp_of, is_formed};
 ghost use Rattle.plant_trace.specs.Sources.{Told};
 ghost use Rattle.plant_rules.specs.Booking.{line_of};
 ghost use Rattle.plant_rules.specs.Sound.{IsSound};
@@ -12,8 +12,13 @@ ghost use Rattle.plant_rules.specs.Wrong.{wrong, wrong_body};
 
 mod add_class;
 mod add_definition;
+mod divide;
+mod hold;
+mod merge;
 mod receive;
 mod scrap;
+mod split;
+mod unhold;
 
 use crate::change::{Decision, RowChange};
 use crate::fault::ViewFault;
@@ -21,13 +26,18 @@ use crate::look;
 use crate::view::View;
 use add_class::decide_add_class;
 use add_definition::decide_add_definition;
+use divide::decide_divide;
+use hold::decide_hold;
+use merge::decide_merge;
 use plant_base::{
     Amount, Command, Envelope, Id, Items, Meta, Movement, MovementKind, NEWEST_SCHEMA, Position,
     Refusal, Stamp,
 };
 use receive::decide_receive;
 use scrap::decide_scrap;
+use split::decide_split;
 use std::alloc::{AllocError, Global};
+use unhold::decide_unhold;
 
 /// Decides one command over a view: the first condition that it fails, or the rows that it changes. Nothing is
 /// written.
@@ -61,6 +71,7 @@ fn decide_body<V: View>(
     stamp: &Stamp,
     body: &Command,
 ) -> Result<Decision, ViewFault<V::Fault>>
+    requires formed { IsTrue (is_formed body.now) }
     requires seq { V.honest view.old → seq ≡ (V.state view.old).seq }
     requires sound { V.honest view.old → IsSound (V.state view.old) }
     ensures { Told V.honest V.kept V.steady view.old view.new
@@ -71,6 +82,11 @@ fn decide_body<V: View>(
         Command::AddDefinition(c) => decide_add_definition(alloc, view, seq, stamp, c),
         Command::Receive(c) => decide_receive(alloc, view, seq, stamp, c),
         Command::Scrap(c) => decide_scrap(alloc, view, seq, stamp, c),
+        Command::Divide(c) => decide_divide(alloc, view, seq, stamp, c),
+        Command::Split(c) => decide_split(alloc, view, seq, stamp, c),
+        Command::Merge(c) => decide_merge(alloc, view, seq, stamp, c),
+        Command::Hold(c) => decide_hold(alloc, view, seq, stamp, c),
+        Command::Unhold(c) => decide_unhold(alloc, view, seq, stamp, c),
     }
 }
 

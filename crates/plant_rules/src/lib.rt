@@ -6,6 +6,7 @@ mod change;
 mod commands;
 mod fault;
 mod look;
+mod parts;
 mod view;
 
 pub use change::{Decision, RowChange};

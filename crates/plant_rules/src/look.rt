@@ -1,14 +1,16 @@
 // The look-ups of a view, with the fault of a decision.
-ghost use Rattle.std.specs.Prelude.{◌≡◌, IfOk};
-ghost use Rattle.plant_base.specs.State.{class_at, definition_at, lot_at};
+ghost use Rattle.std.specs.Prelude.{◌≡◌, IfOk, map};
+ghost use Rattle.plant_base.specs.State.{class_at, definition_at, lot_at, hold_at};
 ghost use Rattle.plant_trace.specs.Sources.{Told};
+ghost use Rattle.plant_rules.specs.Division.{greatest, numbers_of};
+ghost use Rattle.plant_rules.specs.Refusing.{is_held};
 ghost use Rattle.plant_rules.specs.Sound.{IsSound};
 ghost use Rattle.plant_rules.specs.Tables.{position_of};
 ghost use Rattle.plant_rules.specs.Views.{IsSublotOf};
 
 use crate::fault::ViewFault;
 use crate::view::View;
-use plant_base::{Class, Definition, Id, Lot, Position, Sublot};
+use plant_base::{Class, Definition, Hold, Id, Lot, Position, Sublot};
 
 pub(crate) fn position<V: View>(view: &mut V) -> Result<Position, ViewFault<V::Fault>>
     ensures { Told V.honest V.kept V.steady view.old view.new
@@ -51,6 +53,49 @@ pub(crate) fn sublot<V: View>(
 {
     match view.sublot(lot, number) {
         Ok(row) => Ok(row),
+        Err(fault) => Err(ViewFault::View(fault)),
+    }
+}
+
+// The greatest number of a lot's sublots, and 0 where it has none.
+pub(crate) fn greatest_number<V: View>(view: &mut V, lot: Id) -> Result<u16, ViewFault<V::Fault>>
+    ensures { Told V.honest V.kept V.steady view.old view.new
+        (IsSound (V.state view.old) → IfOk result (λ n. n ≡ greatest (numbers_of (V.state view.old) lot))) }
+{
+    match view.sublots(lot) {
+        Ok(rows) => Ok(greatest_of(rows.as_slice())),
+        Err(fault) => Err(ViewFault::View(fault)),
+    }
+}
+
+fn greatest_of(rows: &[Sublot]) -> u16
+    ensures { result ≡ greatest (map (λ r. r.number) rows.now) }
+{
+    let mut so_far = 0;
+    for row in rows {
+        so_far = so_far.max(row.number);
+    }
+    so_far
+}
+
+pub(crate) fn hold<V: View>(
+    view: &mut V,
+    lot: Id,
+    id: Id,
+) -> Result<Option<Hold>, ViewFault<V::Fault>>
+    ensures { Told V.honest V.kept V.steady view.old view.new
+        (IfOk result (λ r. r ≡ hold_at (V.state view.old) lot id)) }
+{
+    view.hold(lot, id).map_err(ViewFault::View)
+}
+
+// Whether a lot has a hold.
+pub(crate) fn is_held<V: View>(view: &mut V, lot: Id) -> Result<bool, ViewFault<V::Fault>>
+    ensures { Told V.honest V.kept V.steady view.old view.new
+        (IfOk result (λ held. held ≡ is_held (V.state view.old) lot)) }
+{
+    match view.holds(lot) {
+        Ok(rows) => Ok(rows.len() >= 1),
         Err(fault) => Err(ViewFault::View(fault)),
     }
 }

@@ -1,4 +1,4 @@
-use plant_base::{Class, Definition, Id, Lot, Position, Sublot};
+use plant_base::{Class, Definition, Hold, Id, Lot, Position, Sublot};
 use plant_trace::Edges;
 
 /// The rows of a state, each found by its key, however they are kept.
@@ -7,10 +7,11 @@ use plant_trace::Edges;
 /// before, its answer is that of its state, and neither the state nor what the view keeps has changed.
 pub trait View: Edges {
     ghost use Rattle.std.specs.Prelude.{◌≡◌, IfOk, option_map};
-    ghost use Rattle.plant_base.specs.State.{State, class_at, definition_at, lot_at, place_at};
+    ghost use Rattle.plant_base.specs.State.{State, class_at, definition_at, lot_at, place_at, hold_at};
     ghost use Rattle.plant_trace.specs.Sources.{Told};
     ghost use Rattle.plant_rules.specs.Genealogy.{edges_of};
-    ghost use Rattle.plant_rules.specs.Tables.{position_of, sublot_row};
+    ghost use Rattle.plant_rules.specs.Tables.{position_of, sublot_row, sublots_of};
+    ghost use Rattle.plant_rules.specs.Refusing.{holds_of};
     ghost use Rattle.plant_rules.specs.Sound.{IsSound};
 
     /// The state that the rows stand for.
@@ -41,6 +42,21 @@ pub trait View: Edges {
         ensures { Told Self.honest Self.kept Self.steady self.old self.new
             (IsSound (state self.old) → IfOk result (λ r.
             r ≡ option_map (sublot_row (state self.old).movements) (place_at (state self.old) lot number))) };
+
+    /// The sublots of a lot with their stock, by number. The stocks are right where the state is sound.
+    fn sublots(&mut self, lot: Id) -> Result<Vec<Sublot>, Self::Fault>
+        ensures { Told Self.honest Self.kept Self.steady self.old self.new
+            (IsSound (state self.old) → IfOk result (λ rows. rows.items ≡ sublots_of (state self.old) lot)) };
+
+    /// The hold of this lot and id.
+    fn hold(&mut self, lot: Id, id: Id) -> Result<Option<Hold>, Self::Fault>
+        ensures { Told Self.honest Self.kept Self.steady self.old self.new
+            (IfOk result (λ r. r ≡ hold_at (state self.old) lot id)) };
+
+    /// The holds of a lot, by their ids.
+    fn holds(&mut self, lot: Id) -> Result<Vec<Hold>, Self::Fault>
+        ensures { Told Self.honest Self.kept Self.steady self.old self.new
+            (IfOk result (λ rows. rows.items ≡ holds_of (state self.old) lot)) };
 
     /// What is kept keeps the state.
     ghost kept_state: { (s t : Self) → Self.kept s t → state t ≡ state s };

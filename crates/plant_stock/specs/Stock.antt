@@ -1,6 +1,10 @@
 -- What movements bring to a sublot and take from it.
-use Rattle.std.specs.Prelude.{ℕ, ◌+◌, ◌-◌, Bool, false, ◌==◌, ◌&&◌, if◌then◌else◌, List, Option, Some, None, sum_by, ℤ, pos, ◌-ℤ◌}
+use Rattle.std.specs.Prelude.{ℕ, ◌+◌, ◌-◌, Bool, true, false, not, ◌==◌, ◌&&◌, nat_le, if◌then◌else◌, List, Option, Some, None, Result, Ok, Err, sum_by, ℤ, pos, ◌-ℤ◌}
+use Rattle.plant_base.specs.Values.{greatest_amount}
 use Rattle.plant_base.specs.State.{same}
+use Rattle.plant_base.specs.declared.command.Part.{Part}
+use Rattle.plant_base.specs.declared.refusal.Refusal.{Refusal}
+use Rattle.plant_base.specs.declared.refusal.Refusal.TheVariants.{TooMuch}
 use Rattle.plant_base.specs.declared.rows.Movement.{Movement}
 use Rattle.plant_base.specs.declared.rows.MovementKind.{MovementKind}
 use Rattle.plant_base.specs.declared.rows.MovementKind.TheVariants.{Received, Consumed, Produced, Scrapped, Divided, Split, Merged}
@@ -45,3 +49,42 @@ left ms lot number = sum_by (λ m. leaving m lot number) ms
 -- what entered less what left
 abbrev pub stock : List Movement → List ℕ → ℕ → ℤ
 stock ms lot number = pos (entered ms lot number) -ℤ pos (left ms lot number)
+
+-- ---- a whole lot
+
+-- a division moves an amount within its lot
+abbrev pub is_division : MovementKind → Bool
+is_division Received = false
+is_division (Consumed batch) = false
+is_division (Produced batch) = false
+is_division Scrapped = false
+is_division (Divided to) = true
+is_division (Split to) = false
+is_division (Merged to) = false
+
+abbrev pub is_in_lot : Option (List ℕ × ℕ) → List ℕ → Bool
+is_in_lot None lot = false
+is_in_lot (Some place) lot = same place.0 lot
+
+abbrev pub entering_lot : Movement → List ℕ → ℕ
+entering_lot m lot = if not (is_division m.kind) && is_in_lot (goes_to m.kind m.lot m.sub) lot then m.amount else 0
+
+abbrev pub leaving_lot : Movement → List ℕ → ℕ
+leaving_lot m lot = if not (is_division m.kind) && is_in_lot (comes_from m.kind m.lot m.sub) lot then m.amount else 0
+
+-- what came into the lot as it was made, and what left it since; divisions aren't counted
+unfoldable pub born_of : List Movement → List ℕ → ℕ
+born_of ms lot = sum_by (λ m. entering_lot m lot) ms
+
+unfoldable pub left_of : List Movement → List ℕ → ℕ
+left_of ms lot = sum_by (λ m. leaving_lot m lot) ms
+
+-- ---- a merge
+
+-- the amounts of the parts in all
+abbrev pub total_of : List Part → ℕ
+total_of ps = sum_by (λ p. p.amount) ps
+
+-- too much above the greatest amount
+abbrev pub merged_total_of : List Part → Result ℕ Refusal
+merged_total_of ps = if nat_le (total_of ps) greatest_amount then Ok (total_of ps) else Err TooMuch

@@ -1,11 +1,11 @@
 //! What movements of material bring to the sublots of a plant and take from them.
 #![tactic(auto)]
 
-ghost use Rattle.std.specs.Prelude.{◌≡◌, ◌≤◌};
+ghost use Rattle.std.specs.Prelude.{◌≡◌, ◌≤◌, length, pos};
 ghost use Rattle.plant_base.specs.Values.{greatest_amount};
-ghost use Rattle.plant_stock.specs.Stock.{goes_to, comes_from, is_place, entering, leaving, stock};
+ghost use Rattle.plant_stock.specs.Stock.{goes_to, comes_from, is_place, entering, leaving, stock, is_division, is_in_lot, entering_lot, leaving_lot, born_of, left_of, merged_total_of};
 
-use plant_base::{Id, Movement, MovementKind};
+use plant_base::{Amount, GREATEST_AMOUNT, Id, Movement, MovementKind, Part, Refusal};
 
 /// What a movement brings to a sublot and what it takes from it, each an amount or 0.
 ///
@@ -44,6 +44,90 @@ pub fn stock_of(movements: &[Movement], lot: Id, number: u16) -> i128
         left += u128::from(less);
     }
     entered as i128 - left as i128
+}
+
+/// What came into a whole lot as it was made: the amounts that movements brought to its sublots. Divisions, which move
+/// an amount within the lot, aren't counted.
+#[tactic(auto, unfolding(crate::specs::Stock::born_of))]
+pub fn born(movements: &[Movement], lot: Id) -> i128
+    ensures { result ≡ pos (born_of movements.now lot) }
+{
+    let mut born: u128 = 0;
+    for movement in movements {
+        born += u128::from(lot_effect(movement, lot).0);
+    }
+    born as i128
+}
+
+/// What left a whole lot: the amounts that movements took from its sublots, divisions not counted. The lot's stock is
+/// what was born less what left.
+#[tactic(auto, unfolding(crate::specs::Stock::left_of))]
+pub fn left(movements: &[Movement], lot: Id) -> i128
+    ensures { result ≡ pos (left_of movements.now lot) }
+{
+    let mut left: u128 = 0;
+    for movement in movements {
+        left += u128::from(lot_effect(movement, lot).1);
+    }
+    left as i128
+}
+
+/// The amount of a lot that is merged from these parts, of which there is at least one. `TooMuch` exactly where it is
+/// above the greatest amount, 10^12.
+pub fn merged_total(parts: &[Part]) -> Result<Amount, Refusal>
+    requires { 1 ≤ length parts.now }
+    ensures { result ≡ merged_total_of parts.now }
+{
+    let mut total: u128 = 0;
+    for part in parts {
+        total += u128::from(part.amount.get());
+    }
+    if total > u128::from(GREATEST_AMOUNT) {
+        return Err(Refusal::TooMuch);
+    }
+    Amount::new(total as u64).ok_or(Refusal::TooMuch)
+}
+
+// What a movement brings to a lot and what it takes from it, divisions not counted.
+fn lot_effect(movement: &Movement, lot: Id) -> (u64, u64)
+    ensures entering { result.0 ≡ entering_lot movement.now lot }
+    ensures leaving { result.1 ≡ leaving_lot movement.now lot }
+    ensures entering_small { result.0 ≤ greatest_amount }
+    ensures leaving_small { result.1 ≤ greatest_amount }
+{
+    if is_division(movement.kind) {
+        return (0, 0);
+    }
+    let amount = movement.amount.get();
+    let entering = if is_in_lot(target(movement), lot) {
+        amount
+    } else {
+        0
+    };
+    let leaving = if is_in_lot(source(movement), lot) {
+        amount
+    } else {
+        0
+    };
+    (entering, leaving)
+}
+
+fn is_division(kind: MovementKind) -> bool
+    ensures { result ≡ is_division kind }
+{
+    match kind {
+        MovementKind::Divided { .. } => true,
+        _ => false,
+    }
+}
+
+fn is_in_lot(place: Option<(Id, u16)>, lot: Id) -> bool
+    ensures { result ≡ is_in_lot place lot }
+{
+    match place {
+        None => false,
+        Some((its_lot, _)) => its_lot == lot,
+    }
 }
 
 // The sublot that the movement brings its amount to.

@@ -1,3 +1,4 @@
+pub mod Each
 pub mod EndLemmas
 pub mod Floats
 pub mod HeldLemmas

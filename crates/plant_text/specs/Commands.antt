@@ -6,6 +6,7 @@ use Rattle.plant_base.specs.declared.command.Command.{Command}
 use Rattle.plant_base.specs.declared.command.Command.TheVariants as body
 use Rattle.plant_base.specs.declared.command.Envelope.{Envelope}
 use Rattle.plant_text.specs.Fields.{when, string_at, id_at, text_at, unit_at, amount_at, moment_at, sublot_at, note_at, has_fields}
+use Rattle.plant_text.specs.Lists.{parts_at}
 
 abbrev pub add_class_of : Data → Option Command
 add_class_of d = when (has_fields 2 d)
@@ -30,6 +31,34 @@ scrap_of d = when (has_fields 3 d)
     body.Scrap (record { lot = lot; sub = sub; amount = amount }))
     (amount_at (codes "amount") d)) (sublot_at (codes "sub") d)) (id_at (codes "lot") d))
 
+abbrev pub divide_of : Data → Option Command
+divide_of d = when (has_fields 4 d)
+    (option_and_then (λ lot. option_and_then (λ sub. option_and_then (λ amount. option_map (λ place.
+    body.Divide (record { lot = lot; sub = sub; amount = amount; place = place }))
+    (text_at (codes "place") d)) (amount_at (codes "amount") d)) (sublot_at (codes "sub") d)) (id_at (codes "lot") d))
+
+abbrev pub split_of : Data → Option Command
+split_of d = when (has_fields 5 d)
+    (option_and_then (λ lot. option_and_then (λ sub. option_and_then (λ amount. option_and_then (λ new. option_map (λ place.
+    body.Split (record { lot = lot; sub = sub; amount = amount; new = new; place = place }))
+    (text_at (codes "place") d)) (id_at (codes "new") d)) (amount_at (codes "amount") d)) (sublot_at (codes "sub") d)) (id_at (codes "lot") d))
+
+abbrev pub merge_of : Data → Option Command
+merge_of d = when (has_fields 3 d)
+    (option_and_then (λ new. option_and_then (λ place. option_map (λ parts.
+    body.Merge (record { new = new; place = place; parts = parts }))
+    (parts_at (codes "parts") d)) (text_at (codes "place") d)) (id_at (codes "new") d))
+
+abbrev pub hold_of : Data → Option Command
+hold_of d = when (has_fields 2 d)
+    (option_and_then (λ lot. option_map (λ hold. body.Hold (record { lot = lot; hold = hold }))
+    (id_at (codes "hold") d)) (id_at (codes "lot") d))
+
+abbrev pub unhold_of : Data → Option Command
+unhold_of d = when (has_fields 2 d)
+    (option_and_then (λ lot. option_map (λ hold. body.Unhold (record { lot = lot; hold = hold }))
+    (id_at (codes "hold") d)) (id_at (codes "lot") d))
+
 -- the command of a word
 abbrev pub body_of : List ℕ → Data → Option Command
 body_of word d =
@@ -37,7 +66,12 @@ body_of word d =
     if bytes_eq word (codes "add_definition") then add_definition_of d else (
     if bytes_eq word (codes "receive") then receive_of d else (
     if bytes_eq word (codes "scrap") then scrap_of d else (
-    None))))
+    if bytes_eq word (codes "divide") then divide_of d else (
+    if bytes_eq word (codes "split") then split_of d else (
+    if bytes_eq word (codes "merge") then merge_of d else (
+    if bytes_eq word (codes "hold") then hold_of d else (
+    if bytes_eq word (codes "unhold") then unhold_of d else (
+    None)))))))))
 
 abbrev pub envelope_of : Data → Option Envelope
 envelope_of d = option_and_then (λ at. option_and_then (λ by. option_and_then (λ note. option_and_then (λ word. option_map (λ body.

@@ -3,6 +3,7 @@ pub mod Commands
 pub mod Fields
 pub mod Held
 pub mod Lines
+pub mod Lists
 pub mod Questions
 pub mod Replies
 pub mod Session

@@ -1,13 +1,21 @@
 //! Commands as JSON: one function a word.
-ghost use Rattle.std.specs.Prelude.{◌≡◌};
+ghost use Rattle.std.specs.Prelude.{◌≡◌, codes, option_map};
+ghost use Rattle.plant_text.specs.Fields.{string_at};
 ghost use Rattle.serde_json.specs.View.{view};
-ghost use Rattle.plant_text.specs.Commands.{add_class_of, add_definition_of, receive_of, scrap_of, body_of, envelope_of};
+ghost use Rattle.plant_text.specs.Commands.{add_class_of, add_definition_of, receive_of, scrap_of, divide_of, split_of, merge_of, hold_of, unhold_of, body_of, envelope_of};
+ghost use Rattle.plant_text.specs.Lists.{Reads};
 
 use crate::fields::{
     amount_at, has_fields, id_at, moment_at, note_at, sublot_at, text_at, unit_at,
 };
-use plant_base::{AddClass, AddDefinition, Command, Envelope, Receive, Scrap};
+use crate::parts::parts_at;
+use crate::read::LineFault;
+use plant_base::{
+    AddClass, AddDefinition, Command, Divide, Envelope, HoldLot, Merge, Receive, Scrap, Split,
+    UnholdLot,
+};
 use serde_json::Value;
+use std::alloc::Global;
 
 fn add_class_of(value: &Value) -> Option<Command>
     ensures { result ≡ add_class_of (view value.now) }
@@ -68,29 +76,118 @@ fn scrap_of(value: &Value) -> Option<Command>
     Some(Command::Scrap(Scrap { lot, sub, amount }))
 }
 
-fn body_of(value: &Value, word: &str) -> Option<Command>
-    ensures { result ≡ body_of word.now (view value.now) }
+fn divide_of(value: &Value) -> Option<Command>
+    ensures { result ≡ divide_of (view value.now) }
+{
+    if !has_fields(value, 4) {
+        return None;
+    }
+    let lot = id_at(value, "lot")?;
+    let sub = sublot_at(value, "sub")?;
+    let amount = amount_at(value, "amount")?;
+    let place = text_at(value, "place")?;
+    Some(Command::Divide(Divide {
+        lot,
+        sub,
+        amount,
+        place,
+    }))
+}
+
+fn split_of(value: &Value) -> Option<Command>
+    ensures { result ≡ split_of (view value.now) }
+{
+    if !has_fields(value, 5) {
+        return None;
+    }
+    let lot = id_at(value, "lot")?;
+    let sub = sublot_at(value, "sub")?;
+    let amount = amount_at(value, "amount")?;
+    let new = id_at(value, "new")?;
+    let place = text_at(value, "place")?;
+    Some(Command::Split(Split {
+        lot,
+        sub,
+        amount,
+        new,
+        place,
+    }))
+}
+
+fn merge_of(alloc: Global, value: &Value) -> Result<Command, LineFault>
+    ensures { Reads result (merge_of (view value.now)) }
+{
+    if !has_fields(value, 3) {
+        return Err(LineFault::BadForm);
+    }
+    let new = id_at(value, "new").ok_or(LineFault::BadForm)?;
+    let place = text_at(value, "place").ok_or(LineFault::BadForm)?;
+    let parts = parts_at(alloc, value, "parts")?;
+    Ok(Command::Merge(Merge { new, place, parts }))
+}
+
+fn hold_of(value: &Value) -> Option<Command>
+    ensures { result ≡ hold_of (view value.now) }
+{
+    if !has_fields(value, 2) {
+        return None;
+    }
+    let lot = id_at(value, "lot")?;
+    let hold = id_at(value, "hold")?;
+    Some(Command::Hold(HoldLot { lot, hold }))
+}
+
+fn unhold_of(value: &Value) -> Option<Command>
+    ensures { result ≡ unhold_of (view value.now) }
+{
+    if !has_fields(value, 2) {
+        return None;
+    }
+    let lot = id_at(value, "lot")?;
+    let hold = id_at(value, "hold")?;
+    Some(Command::Unhold(UnholdLot { lot, hold }))
+}
+
+fn body_of(alloc: Global, value: &Value, word: &str) -> Result<Command, LineFault>
+    ensures { Reads result (body_of word.now (view value.now)) }
 {
     if word == "add_class" {
-        add_class_of(value)
+        add_class_of(value).ok_or(LineFault::BadForm)
     } else if word == "add_definition" {
-        add_definition_of(value)
+        add_definition_of(value).ok_or(LineFault::BadForm)
     } else if word == "receive" {
-        receive_of(value)
+        receive_of(value).ok_or(LineFault::BadForm)
     } else if word == "scrap" {
-        scrap_of(value)
+        scrap_of(value).ok_or(LineFault::BadForm)
+    } else if word == "divide" {
+        divide_of(value).ok_or(LineFault::BadForm)
+    } else if word == "split" {
+        split_of(value).ok_or(LineFault::BadForm)
+    } else if word == "merge" {
+        merge_of(alloc, value)
+    } else if word == "hold" {
+        hold_of(value).ok_or(LineFault::BadForm)
+    } else if word == "unhold" {
+        unhold_of(value).ok_or(LineFault::BadForm)
     } else {
-        None
+        Err(LineFault::BadForm)
     }
 }
 
-/// The command that the value is.
-pub(crate) fn envelope_of(value: &Value) -> Option<Envelope>
-    ensures { result ≡ envelope_of (view value.now) }
+fn word_of(value: &Value) -> Option<&str>
+    ensures { option_map (λ s. s.now) result ≡ string_at (codes "do") (view value.now) }
 {
-    let at = moment_at(value, "at")?;
-    let by = text_at(value, "by")?;
-    let note = note_at(value)?;
-    let body = body_of(value, value.get("do")?.as_str()?)?;
-    Some(Envelope { at, by, note, body })
+    value.get("do")?.as_str()
+}
+
+/// The command that the value is.
+pub(crate) fn envelope_of(alloc: Global, value: &Value) -> Result<Envelope, LineFault>
+    ensures { Reads result (envelope_of (view value.now)) }
+{
+    let at = moment_at(value, "at").ok_or(LineFault::BadForm)?;
+    let by = text_at(value, "by").ok_or(LineFault::BadForm)?;
+    let note = note_at(value).ok_or(LineFault::BadForm)?;
+    let word = word_of(value).ok_or(LineFault::BadForm)?;
+    let body = body_of(alloc, value, word)?;
+    Ok(Envelope { at, by, note, body })
 }

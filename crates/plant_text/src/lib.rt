@@ -5,6 +5,7 @@
 mod answers;
 mod commands;
 mod fields;
+mod parts;
 mod questions;
 mod read;
 mod replies;

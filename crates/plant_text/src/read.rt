@@ -3,6 +3,7 @@ ghost use Rattle.std.specs.Prelude.{◌≡◌, Some, None, IfOk, IsErrOf};
 ghost use Rattle.serde_json.specs.Errors.{IsMemory};
 ghost use Rattle.serde_json.specs.View.{view};
 ghost use Rattle.plant_text.specs.Lines.{shape_of, line_of};
+ghost use Rattle.plant_text.specs.Lists.{Reads};
 
 use crate::commands::envelope_of;
 use crate::questions::question_of;
@@ -42,13 +43,15 @@ fn fault_of(error: &serde_json::Error) -> LineFault
     }
 }
 
-fn shape_of(value: &Value) -> Option<Line>
-    ensures { result ≡ shape_of (view value.now) }
+fn shape_of(alloc: Global, value: &Value) -> Result<Line, LineFault>
+    ensures { Reads result (shape_of (view value.now)) }
 {
     if value.get("do").is_some() {
-        Some(Line::Command(envelope_of(value)?))
+        let envelope = envelope_of(alloc, value)?;
+        Ok(Line::Command(envelope))
     } else {
-        Some(Line::Question(question_of(value)?))
+        let question = question_of(value).ok_or(LineFault::BadForm)?;
+        Ok(Line::Question(question))
     }
 }
 
@@ -62,6 +65,10 @@ fn shape_of(value: &Value) -> Option<Line>
 /// - `add_definition`: `def`, `class` (ids), `name` (a text), `unit` (a unit)
 /// - `receive`: `lot`, `def` (ids), `amount` (an amount), `place` (a text)
 /// - `scrap`: `lot` (an id), `sub` (0 to 99), `amount` (an amount)
+/// - `divide`: `lot` (an id), `sub` (0 to 99), `amount` (an amount), `place` (a text)
+/// - `split`: `lot` (an id), `sub` (0 to 99), `amount` (an amount), `new` (an id), `place` (a text)
+/// - `merge`: `new` (an id), `place` (a text), `parts` (objects with exactly `lot`, `sub` and `amount`)
+/// - `hold`, `unhold`: `lot`, `hold` (ids)
 ///
 /// A question is exactly `{"ask":"desk"}`, or `{"ask":"lot","lot":ID}`. Moments, amounts and `sub` are whole numbers
 /// with no sign, fraction or exponent, within the rules of `plant_base`.
@@ -76,8 +83,5 @@ pub fn read_line(alloc: Global, bytes: &[u8]) -> Result<Line, LineFault>
         Ok(value) => value,
         Err(error) => return Err(fault_of(&error)),
     };
-    match shape_of(&value) {
-        Some(line) => Ok(line),
-        None => Err(LineFault::BadForm),
-    }
+    shape_of(alloc, &value)
 }

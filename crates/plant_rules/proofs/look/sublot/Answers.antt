@@ -1,6 +1,5 @@
-use Rattle.std.proofs.Common.{◌≡◌, Option, option_map, refl, subst, sym}
+use Rattle.std.proofs.Common.{◌≡◌, option_map, refl, subst, sym}
 use Rattle.plant_base.specs.State.{place_at}
-use Rattle.plant_base.specs.declared.rows.Sublot.{Sublot}
 use Rattle.plant_trace.proofs.Sources.{Told-weaker}
 use Rattle.plant_rules.specs.Sound.{IsSound}
 use Rattle.plant_rules.specs.Tables.{sublot_row}

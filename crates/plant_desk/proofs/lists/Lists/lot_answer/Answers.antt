@@ -3,4 +3,4 @@ use Rattle.plant_desk.proofs.Totals.{total_fits}
 use Rattle.plant_desk.proofs.lists.Lists.lot_answer.Goals as goal
 
 pub total_of-stock-requires : goal.total_of-stock-requires
-total_of-stock-requires c = rw (c.deref-3.ensures.value, c.in_ok-sublots.ensures, c.deref.ensures.value, c.deref-2.ensures.value) (total_fits (state_of c.args.self.now) c.requires c.args.lot.id)
+total_of-stock-requires c = rw (c.deref.ensures.value, c.in_ok-sublots.ensures) (total_fits (state_of c.args.self.now) c.requires c.args.lot.id)

@@ -1,7 +1,0 @@
-use Rattle.std.proofs.Common.{◌≡◌, take, map, filter}
-use Rattle.plant_base.specs.State.{same}
-use Rattle.plant_rules.specs.Tables.{sublot_row}
-use Rattle.plant_desk.proofs.ask.sublots_of.Given as goal
-
-abbrev pub invariant-loop-p : goal.invariant-loop-p
-invariant-loop-p l = l.rows.items ≡ map (sublot_row l.movements) (filter (λ p. same p.lot l.lot) (take l.p-index l.places))

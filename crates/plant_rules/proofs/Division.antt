@@ -1,0 +1,71 @@
+-- The number of a lot's next sublot, and that it isn't taken.
+use Rattle.std.proofs.Common.{◌≡◌, ◌∙◌, ℕ, ◌+◌, ◌≤◌, ◌<◌, Bool, true, false, cond, List, [], ◌∷◌, map, filter, find, Some, None, refl, sym, ap, arith, max}
+use Rattle.std.specs.Prelude.{◌==◌, ◌&&◌}
+use Rattle.std.specs.List.{AllByRecursion}
+use Rattle.std.proofs.Math.Nat.{le-max_left, le-max_right}
+use Rattle.std.proofs.lemmas.Bool.{eqb-true}
+use Rattle.plant_base.specs.Values.{greatest_amount}
+use Rattle.plant_base.specs.State.{State, same, place_at}
+use Rattle.plant_base.specs.declared.rows.Place.{Place}
+use Rattle.plant_base.specs.declared.rows.Movement.{Movement}
+use Rattle.plant_base.specs.declared.rows.Sublot.{Sublot}
+use Rattle.plant_base.proofs.Put.{all_weaker}
+use Rattle.plant_base.proofs.Keys.{same_key, same_key_tie, test_tie}
+use Rattle.plant_stock.specs.Stock.{entered, is_place}
+use Rattle.plant_rules.specs.Division.{greatest, next_number}
+use Rattle.plant_rules.specs.Sound.{IsSound}
+use Rattle.plant_rules.specs.Tables.{sublot_row}
+use Rattle.plant_rules.proofs.Sublots.{nothing_entered}
+
+-- ---- the greatest number
+
+-- rows have the numbers of their places
+pub numbers_kept : (ms : List Movement) (ps : List Place) → map (λ (r : Sublot). r.number) (map (sublot_row ms) ps) ≡ map (λ (p : Place). p.number) ps
+numbers_kept ms [] = refl
+numbers_kept ms (p ∷ ps) = ap (λ ns. p.number ∷ ns) (numbers_kept ms ps)
+
+-- a greater number is none of them
+other_number : (m n g : ℕ) → max m g < n → (b : Bool) → (m == n) ≡ b → b ≡ false
+other_number m n g above true e = let same : m ≡ n = eqb-true m n e in absurd (omega (arith, le-max_left m g, above, same))
+other_number m n g above false e = refl
+
+free_above : (lot : List ℕ) (n : ℕ) (ps : List Place) → greatest (map (λ (p : Place). p.number) (filter (λ (p : Place). same p.lot lot) ps)) < n → find (λ (p : Place). same p.lot lot && p.number == n) ps ≡ None
+free_above lot n [] above = refl
+free_above lot n (p ∷ ps) above = elim (same p.lot lot) as (λ b. greatest (map (λ (p : Place). p.number) (cond b (p ∷ filter (λ (p : Place). same p.lot lot) ps) (filter (λ (p : Place). same p.lot lot) ps))) < n → cond (b && p.number == n) (Some p) (find (λ (p : Place). same p.lot lot && p.number == n) ps) ≡ None) [
+  | true ↦ λ h.
+      let g = greatest (map (λ (p : Place). p.number) (filter (λ (p : Place). same p.lot lot) ps)) in
+      ap (λ b. cond b (Some p) (find (λ (p : Place). same p.lot lot && p.number == n) ps)) (other_number p.number n g h (p.number == n) refl)
+      ∙ free_above lot n ps (omega (arith, le-max_right p.number g, h))
+  | false ↦ λ h. free_above lot n ps h
+] above
+
+-- no sublot of the lot has the next number
+pub next_free : (s : State) (lot : List ℕ) → place_at s lot (next_number s lot) ≡ None
+next_free s lot = free_above lot (next_number s lot) s.places (omega arith)
+
+-- ---- a sublot that isn't there
+
+-- what `find` doesn't find fails the test
+pub all_fail : {X : Type 0} (test : X → Bool) (xs : List X) → find test xs ≡ None → AllByRecursion (λ x. test x ≡ false) xs
+all_fail test [] e = tt
+all_fail {X} test (x ∷ xs) e = elim (test x) as (λ b. cond b (Some x) (find test xs) ≡ None → (b ≡ false) × AllByRecursion (λ y. test y ≡ false) xs) [
+  | true ↦ λ f. absurd cc
+  | false ↦ λ f. (refl, all_fail test xs f)
+] e
+
+-- nothing that goes to it goes to one that is
+pub none_among : (s : State) (lot : List ℕ) (number amount : ℕ) → place_at s lot number ≡ None → AllByRecursion (λ (q : Place). cond (is_place (Some (lot, number)) q.lot q.number) amount 0 ≡ 0) s.places
+none_among s lot number amount none =
+    let p : Place = record { lot = lot; number = number; place = [] } in
+    all_weaker _ _ (λ (q : Place) e. ap (λ b. cond b amount 0) (same_key_tie p q ∙ sym (test_tie p q) ∙ e)) s.places (all_fail (λ (q : Place). same q.lot lot && q.number == number) s.places none)
+
+-- an amount that enters it
+pub entering_new : (s : State) → IsSound s → (lot : List ℕ) (number amount : ℕ) → amount ≤ greatest_amount → place_at s lot number ≡ None → (l : List ℕ) (n : ℕ) → entered s.movements l n + cond (same lot l && number == n) amount 0 ≤ greatest_amount
+entering_new s sound lot number amount small none l n = elim (same lot l && number == n) as (λ b. (same lot l && number == n) ≡ b → entered s.movements l n + cond b amount 0 ≤ greatest_amount) [
+  | true ↦ λ e.
+      let keys = same_key lot l number n e in
+      let there : entered s.movements lot number ≡ entered s.movements l n = λ i. entered s.movements (keys.0 i) (keys.1 i) in
+      let nothing = nothing_entered s sound lot number none in
+      omega (arith, there, nothing, small)
+  | false ↦ λ e. omega (arith, sound.small l n)
+] refl

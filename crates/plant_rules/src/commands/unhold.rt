@@ -1,0 +1,40 @@
+ghost use Rattle.std.specs.Prelude.{◌≡◌, IfOk};
+ghost use Rattle.plant_trace.specs.Sources.{Told};
+ghost use Rattle.plant_rules.specs.Holding.{wrong_unhold, unhold};
+ghost use Rattle.plant_rules.specs.Tables.{Decides};
+
+use super::{changes, meta_after};
+use crate::change::{Decision, RowChange};
+use crate::fault::ViewFault;
+use crate::look;
+use crate::view::View;
+use plant_base::{GREATEST_SEQ, Refusal, Stamp, UnholdLot};
+use std::alloc::Global;
+
+pub(crate) fn decide_unhold<V: View>(
+    alloc: Global,
+    view: &mut V,
+    seq: u64,
+    stamp: &Stamp,
+    c: &UnholdLot,
+) -> Result<Decision, ViewFault<V::Fault>>
+    requires { V.honest view.old → seq ≡ (V.state view.old).seq }
+    ensures { Told V.honest V.kept V.steady view.old view.new
+        (IfOk result (Decides (wrong_unhold (V.state view.old) c.now) (V.state view.old) (unhold (V.state view.old) stamp.now c.now))) }
+{
+    if look::lot(view, c.lot)?.is_none() {
+        return Ok(Decision::Refused(Refusal::UnknownLot));
+    }
+    if seq >= GREATEST_SEQ {
+        return Ok(Decision::Refused(Refusal::TooMany));
+    }
+    if look::hold(view, c.lot, c.hold)?.is_none() {
+        return Ok(Decision::Refused(Refusal::HoldUnknown));
+    }
+    let away = RowChange::Unhold {
+        lot: c.lot,
+        hold: c.hold,
+    };
+    let rows = changes(alloc, [meta_after(seq, stamp), away])?;
+    Ok(Decision::Change(rows))
+}

@@ -71,7 +71,7 @@ impl ListKeeper {
 
 impl ListKeeper {
     ghost use Rattle.std.specs.Prelude.{◌≤◌, length, take, IfNone};
-    ghost use Rattle.plant_rules.specs.Conserve.{IsConserved};
+    ghost use Rattle.plant_rules.specs.Conserve.{IsConserved, IsBalanced};
     ghost use Rattle.plant_desk.specs.Runs.{fold, replies};
 
     /// Executes commands in order, up to the first fault. Room for the replies is taken first; where it is refused,
@@ -82,8 +82,9 @@ impl ListKeeper {
         ensures fold { self.new ≡ fold self.old (take (length result.replies) list.now) }
         ensures whole { IfNone result.end (length result.replies ≡ length list.now) }
 
-        // Nothing is lost and nothing made, whatever the commands were.
+        // Nothing is lost and nothing made, whatever the commands were: of each definition, and in each lot.
         ensures conserved { IsConserved self.new }
+        ensures balanced { IsBalanced self.new }
     {
         let mut items = Vec::new(self.lists.alloc);
         if items.reserve(list.len()).is_err() {
@@ -117,6 +118,7 @@ impl ListKeeper {
         ensures err { OnErr result (self.new ≡ self.old) }
         ensures memory { IfErr result (λ f. f ≡ DeskFault.Memory) }
         ensures conserved { IsConserved self.new }
+        ensures balanced { IsBalanced self.new }
     {
         envelope.show_values();
         self.lists.execute(envelope)

@@ -1,3 +1,4 @@
+pub mod Balanced
 pub mod CatalogueSound
 pub mod Conserved
 pub mod DivideSound
@@ -17,3 +18,4 @@ pub mod SplitSound
 pub mod SplitTables
 pub mod StepSound
 pub mod Sublots
+pub mod Summed

@@ -4,7 +4,9 @@ use Rattle.plant_base.specs.State.{State, same, lot_at}
 use Rattle.plant_base.specs.declared.rows.Lot.{Lot}
 use Rattle.plant_base.specs.declared.rows.MovementKind.{MovementKind}
 use Rattle.plant_base.specs.declared.rows.MovementKind.TheVariants.{Received, Consumed, Produced, Scrapped, Divided, Split, Merged}
+use Rattle.plant_stock.specs.Stock.{born_of, left_of}
 use Rattle.plant_rules.specs.Refusing.{standing}
+use Rattle.plant_rules.specs.Tables.{sublots_of}
 
 -- material that comes from outside the lots
 abbrev pub is_birth : MovementKind → Bool
@@ -47,3 +49,13 @@ stocks s def = sum_by (λ p. if is_of s def p.lot then standing s p.lot p.number
 -- nothing is lost and nothing made
 abbrev pub IsConserved : State → Type 0
 IsConserved s = (def : List ℕ) → brought s def ≡ taken s def + stocks s def
+
+-- ---- one lot
+
+-- the stock of a lot: that of all its sublots
+abbrev pub lot_stock : State → List ℕ → ℕ
+lot_stock s lot = sum_by (λ r. r.stock) (sublots_of s lot)
+
+-- each lot's stock is what was born in it less what left it
+abbrev pub IsBalanced : State → Type 0
+IsBalanced s = (lot : List ℕ) → lot_stock s lot + left_of s.movements lot ≡ born_of s.movements lot

@@ -1,3 +1,4 @@
+use Rattle.plant_rules.proofs.Balanced.{balanced}
 use Rattle.plant_rules.proofs.Conserved.{conserved}
 use Rattle.plant_desk.specs.Lists.{state_of}
 use Rattle.plant_desk.proofs.Kept.{kept}
@@ -8,3 +9,6 @@ invariant_of-self c = kept c.execute.result _ _ c.args.envelope.now c.self.invar
 
 pub returns-clause-conserved : goal.returns-clause-conserved
 returns-clause-conserved c = conserved (state_of c.execute.new.self) (kept c.execute.result _ _ c.args.envelope.now c.self.invariant c.show_values.ensures c.execute.ensures.ok c.execute.ensures.err)
+
+pub returns-clause-balanced : goal.returns-clause-balanced
+returns-clause-balanced c = balanced (state_of c.execute.new.self) (kept c.execute.result _ _ c.args.envelope.now c.self.invariant c.show_values.ensures c.execute.ensures.ok c.execute.ensures.err)

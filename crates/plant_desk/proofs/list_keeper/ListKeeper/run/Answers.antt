@@ -1,5 +1,6 @@
 use Rattle.std.proofs.Common.{◌≡◌, ◌∙◌, ◌+◌, ◌-◌, ◌∷◌, [], length, take, get_or, sym, ap, arith, rules}
 use Rattle.std.proofs.lemmas.Grind.{common_steps}
+use Rattle.plant_rules.proofs.Balanced.{balanced}
 use Rattle.plant_rules.proofs.Conserved.{conserved}
 use Rattle.plant_rules.specs.Conserve.{IsConserved}
 use Rattle.plant_desk.proofs.Turns.{fold_more, replies_more}
@@ -7,6 +8,9 @@ use Rattle.plant_desk.proofs.list_keeper.ListKeeper.run.Goals as goal
 
 pub returns-then-is_err-clause-conserved : goal.returns-then-is_err-clause-conserved
 returns-then-is_err-clause-conserved c = rw (← c.self.view_is) (conserved _ c.self.invariant)
+
+pub returns-then-is_err-clause-balanced : goal.returns-then-is_err-clause-balanced
+returns-then-is_err-clause-balanced c = rw (← c.self.view_is) (balanced _ c.self.invariant)
 
 pub loop-e-preserved : goal.loop-e-preserved
 loop-e-preserved c =
@@ -18,6 +22,7 @@ loop-e-preserved c =
       told = grind (arith, common_steps);
       stands = grind (arith, common_steps);
       conserved = c.execute_one.ensures.conserved;
+      balanced = c.execute_one.ensures.balanced;
     }
 
 pub loop-e-init : goal.loop-e-init
@@ -27,4 +32,5 @@ loop-e-init c = record {
   told = grind (arith, common_steps);
   stands = search rules;
   conserved = rw (← c.self.view_is) (conserved _ c.self.invariant);
+  balanced = rw (← c.self.view_is) (balanced _ c.self.invariant);
 }

@@ -1,5 +1,5 @@
 use Rattle.std.proofs.Common.{◌≡◌, ◌+◌, ◌-◌, ◌≤◌, length, take, vec_len, vec_capacity}
-use Rattle.plant_rules.specs.Conserve.{IsConserved}
+use Rattle.plant_rules.specs.Conserve.{IsConserved, IsBalanced}
 use Rattle.plant_desk.specs.Runs.{fold, replies}
 use Rattle.plant_desk.proofs.list_keeper.ListKeeper.run.Given as goal
 
@@ -10,4 +10,5 @@ invariant-loop-e l = record {
   told : l.items.items ≡ replies l.fn.self (take l.e-index l.list);
   stands : l.self ≡ fold l.fn.self (take l.e-index l.list);
   conserved : IsConserved l.self;
+  balanced : IsBalanced l.self;
 }

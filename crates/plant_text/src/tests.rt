@@ -13,8 +13,9 @@ fn command_of(alloc: Global, line: &[u8]) -> Option<Envelope> {
 }
 
 fn question_of(alloc: Global, line: &[u8]) -> Option<Question> {
-    match read_line(alloc, line) {
-        Ok(Line::Question(question)) => Some(question),
+    let said = read_line(alloc, line);
+    match &said {
+        Ok(Line::Question(question)) => Some(*question),
         _ => None,
     }
 }

@@ -17,3 +17,6 @@ pub use list_keeper::ListKeeper;
 pub use question::{Answer, LotAnswer, Question};
 pub use reply::{DeskFault, Reply};
 pub use report::RunReport;
+
+#[cfg(test)]
+mod tests;

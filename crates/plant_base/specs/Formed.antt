@@ -1,8 +1,13 @@
 -- What holds of the values of an envelope, and which commands are well formed.
 use Rattle.std.specs.Prelude.{◌≡◌, ℕ, Bool, true, ◌&&◌, ◌==◌, not, nat_le, List, [], ◌∷◌, length, IsTrue, All}
 use Rattle.std.specs.List.{list_all, list_any}
-use Rattle.plant_base.specs.Values.{is_id, is_text, is_unit, is_amount, is_moment, greatest_sublot}
+use Rattle.plant_base.specs.Values.{is_id, is_text, is_unit, is_amount, is_moment, greatest_sublot, greatest_version, greatest_priority}
+use Rattle.plant_base.specs.Dates.{is_due}
 use Rattle.plant_base.specs.State.{same}
+use Rattle.plant_base.specs.declared.rows.Header.{Header}
+use Rattle.plant_base.specs.declared.rows.RecipeLine.{RecipeLine}
+use Rattle.plant_base.specs.declared.rows.RecipeLine.TheVariants as line
+use Rattle.plant_base.specs.declared.rows.OrderRow.{OrderRow}
 use Rattle.plant_base.specs.declared.command.Part.{Part}
 use Rattle.plant_base.specs.declared.command.Command.{Command}
 use Rattle.plant_base.specs.declared.command.Command.TheVariants as body
@@ -29,9 +34,28 @@ are_apart (p ∷ ps) = not (list_any (is_same_sublot p) ps) && are_apart ps
 abbrev pub are_parts : List Part → Bool
 are_parts ps = nat_le 1 (length ps) && nat_le (length ps) 16 && list_all has_sublot ps && are_apart ps
 
+-- ---- recipes and orders
+
+-- 1 to 999
+abbrev pub is_version : ℕ → Bool
+is_version n = nat_le 1 n && nat_le n greatest_version
+
+-- 1 to 9
+abbrev pub is_priority : ℕ → Bool
+is_priority n = nat_le 1 n && nat_le n greatest_priority
+
+-- the numbers of an order are a version and a priority
+abbrev pub has_numbers : OrderRow → Bool
+has_numbers o = is_version o.version && is_priority o.priority
+
+-- at most 1,000 orders, each with its numbers
+abbrev pub are_orders : List OrderRow → Bool
+are_orders orders = nat_le (length orders) 1000 && list_all has_numbers orders
+
 -- ---- commands
 
--- the numbers and lists whose types don't keep their rules do obey them
+-- the numbers and lists whose types don't keep their rules do obey them; whether a recipe is well formed is a
+-- question of its own
 abbrev pub is_formed : Command → Bool
 is_formed (body.AddClass c) = true
 is_formed (body.AddDefinition c) = true
@@ -42,9 +66,35 @@ is_formed (body.Split c) = nat_le c.sub greatest_sublot
 is_formed (body.Merge c) = are_parts c.parts
 is_formed (body.Hold c) = true
 is_formed (body.Unhold c) = true
+is_formed (body.AddRecipe c) = is_version c.header.version
+is_formed (body.Approve c) = is_version c.version
+is_formed (body.Withdraw c) = is_version c.version
+is_formed (body.ImportOrders c) = are_orders c.orders
+is_formed (body.CancelOrder c) = true
+is_formed (body.Release c) = true
 
 abbrev pub HasPartValues : Part → Type 0
 HasPartValues p = IsTrue (is_id p.lot) × IsTrue (is_amount p.amount)
+
+abbrev pub HasLineValues : RecipeLine → Type 0
+HasLineValues (line.In def amount) = IsTrue (is_id def) × IsTrue (is_amount amount)
+HasLineValues (line.Out def amount) = IsTrue (is_id def) × IsTrue (is_amount amount)
+HasLineValues (line.Parameter name value) = IsTrue (is_id name) × IsTrue (is_text value)
+HasLineValues (line.Phase unit_procedure operation phase) = IsTrue (is_id unit_procedure) × IsTrue (is_id operation) × IsTrue (is_id phase)
+
+pub record HasHeaderValues (h : Header) : Type 0 where
+  pub recipe : IsTrue (is_id h.recipe)
+  pub product : IsTrue (is_id h.product)
+  pub base : IsTrue (is_amount h.base)
+  pub least : IsTrue (is_amount h.least)
+  pub greatest : IsTrue (is_amount h.greatest)
+  pub title : IsTrue (is_text h.title)
+
+pub record HasOrderValues (o : OrderRow) : Type 0 where
+  pub order : IsTrue (is_id o.order)
+  pub recipe : IsTrue (is_id o.recipe)
+  pub size : IsTrue (is_amount o.size)
+  pub due : IsTrue (is_due o.due)
 
 -- each value of the command obeys its rule; every command that a program holds does
 abbrev pub HasBodyValues : Command → Type 0
@@ -57,6 +107,12 @@ HasBodyValues (body.Split c) = IsTrue (is_id c.lot) × IsTrue (is_amount c.amoun
 HasBodyValues (body.Merge c) = IsTrue (is_id c.new) × IsTrue (is_text c.place) × All HasPartValues c.parts
 HasBodyValues (body.Hold c) = IsTrue (is_id c.lot) × IsTrue (is_id c.hold)
 HasBodyValues (body.Unhold c) = IsTrue (is_id c.lot) × IsTrue (is_id c.hold)
+HasBodyValues (body.AddRecipe c) = HasHeaderValues c.header × All HasLineValues c.lines
+HasBodyValues (body.Approve c) = IsTrue (is_id c.recipe)
+HasBodyValues (body.Withdraw c) = IsTrue (is_id c.recipe)
+HasBodyValues (body.ImportOrders c) = All HasOrderValues c.orders
+HasBodyValues (body.CancelOrder c) = IsTrue (is_id c.order)
+HasBodyValues (body.Release c) = IsTrue (is_id c.order) × IsTrue (is_id c.batch)
 
 pub record HasValues (e : Envelope) : Type 0 where
   pub at : IsTrue (is_moment e.at)

@@ -14,6 +14,13 @@ greatest_moment = 253402300799
 abbrev pub greatest_sublot : ℕ
 greatest_sublot = 99
 
+-- the greatest version of a recipe
+abbrev pub greatest_version : ℕ
+greatest_version = 999
+
+abbrev pub greatest_priority : ℕ
+greatest_priority = 9
+
 -- no command is accepted after this one
 abbrev pub greatest_seq : ℕ
 greatest_seq = 10 ^ 15

@@ -1,10 +1,13 @@
 //! What the desk is told.
 ghost use Rattle.std.specs.Prelude.{◌≡◌, All};
 ghost use Rattle.std.specs.List.{list_all, list_any};
-ghost use Rattle.plant_base.specs.Formed.{HasValues, HasPartValues, is_formed, stamp_of, are_parts, has_sublot, are_apart, is_same_sublot};
+ghost use Rattle.plant_base.specs.Formed.{HasValues, HasPartValues, HasHeaderValues, HasLineValues, HasOrderValues, is_version, is_priority, has_numbers, are_orders, is_formed, stamp_of, are_parts, has_sublot, are_apart, is_same_sublot};
 
 use crate::items::Items;
-use crate::values::{Amount, GREATEST_SUBLOT, Id, Moment, Text, Unit};
+use crate::rows::{Header, OrderRow, RecipeLine};
+use crate::values::{
+    Amount, GREATEST_PRIORITY, GREATEST_SUBLOT, GREATEST_VERSION, Id, Moment, Text, Unit,
+};
 
 /// Makes a material class.
 #[derive(Clone, Copy, Debug, PartialEq, Eq)]
@@ -93,6 +96,55 @@ pub struct UnholdLot {
     pub hold: Id,
 }
 
+/// Makes a version of a master recipe, as a draft (IEC 61512-1: its header, and the lines of its formula and
+/// procedure).
+#[derive(Clone, Debug, Drop)]
+pub struct AddRecipe {
+    /// Its version is 1 to 999; another number isn't well formed.
+    pub header: Header,
+    /// 1 to 128 lines, which with the header make up a well-formed recipe.
+    pub lines: Items<RecipeLine>,
+}
+
+/// Approves a draft, so that orders of it may be released.
+#[derive(Clone, Copy, Debug, PartialEq, Eq)]
+pub struct Approve {
+    pub recipe: Id,
+    /// 1 to 999; another number isn't well formed.
+    pub version: u16,
+}
+
+/// Withdraws an approved recipe, so that no further order of it is released.
+#[derive(Clone, Copy, Debug, PartialEq, Eq)]
+pub struct Withdraw {
+    pub recipe: Id,
+    /// 1 to 999; another number isn't well formed.
+    pub version: u16,
+}
+
+/// Makes each of these orders that isn't there yet (the job orders of IEC 62264-4), or none of them.
+#[derive(Clone, Debug, Drop)]
+pub struct ImportOrders {
+    /// At most 1,000 orders, of versions 1 to 999 and priorities 1 to 9; other lists aren't well formed.
+    pub orders: Items<OrderRow>,
+}
+
+/// Takes an open order back.
+#[derive(Clone, Copy, Debug, PartialEq, Eq)]
+pub struct CancelOrder {
+    pub order: Id,
+}
+
+/// Releases an open order as a batch, with the control recipe of its size (IEC 61512-1).
+#[derive(Clone, Copy, Debug, PartialEq, Eq)]
+pub struct Release {
+    pub order: Id,
+    pub batch: Id,
+}
+
+/// The greatest number of orders of one import.
+pub const GREATEST_ORDERS: usize = 1000;
+
 /// The greatest number of parts of a merge.
 pub const GREATEST_PARTS: usize = 16;
 
@@ -108,11 +160,18 @@ pub enum Command {
     Merge(Merge),
     Hold(HoldLot),
     Unhold(UnholdLot),
+    AddRecipe(AddRecipe),
+    Approve(Approve),
+    Withdraw(Withdraw),
+    ImportOrders(ImportOrders),
+    CancelOrder(CancelOrder),
+    Release(Release),
 }
 
 impl Command {
-    /// Whether the numbers and lists of the command obey the rules that their types don't keep. A command that
-    /// isn't well formed is refused as [`crate::Refusal::BadForm`].
+    /// Whether the numbers and lists of the command obey the rules that their types don't keep, but for the rules of
+    /// a well-formed recipe, which are looked at where recipes are. A command that isn't well formed is refused as
+    /// [`crate::Refusal::BadForm`].
     pub fn is_formed(&self) -> bool
         ensures { result ≡ is_formed self.now }
     {
@@ -121,6 +180,10 @@ impl Command {
             Command::Divide(c) => c.sub <= GREATEST_SUBLOT,
             Command::Split(c) => c.sub <= GREATEST_SUBLOT,
             Command::Merge(c) => are_parts(c.parts.as_slice()),
+            Command::AddRecipe(c) => is_version(c.header.version),
+            Command::Approve(c) => is_version(c.version),
+            Command::Withdraw(c) => is_version(c.version),
+            Command::ImportOrders(c) => are_orders(c.orders.as_slice()),
             _ => true,
         }
     }
@@ -209,7 +272,7 @@ impl Command {
             Command::Merge(c) => {
                 let _new = c.new.as_bytes();
                 let _place = c.place.as_bytes();
-                show_parts(c.parts.as_slice());
+                show_all(c.parts.as_slice());
             }
             Command::Hold(c) => {
                 let _lot = c.lot.as_bytes();
@@ -219,17 +282,133 @@ impl Command {
                 let _lot = c.lot.as_bytes();
                 let _hold = c.hold.as_bytes();
             }
+            Command::AddRecipe(c) => {
+                c.header.show();
+                show_all(c.lines.as_slice());
+            }
+            Command::Approve(c) => {
+                let _recipe = c.recipe.as_bytes();
+            }
+            Command::Withdraw(c) => {
+                let _recipe = c.recipe.as_bytes();
+            }
+            Command::ImportOrders(c) => show_all(c.orders.as_slice()),
+            Command::CancelOrder(c) => {
+                let _order = c.order.as_bytes();
+            }
+            Command::Release(c) => {
+                let _order = c.order.as_bytes();
+                let _batch = c.batch.as_bytes();
+            }
         }
     }
 }
 
-fn show_parts(parts: &[Part])
-    ensures { All HasPartValues parts.now }
+// What a command holds a list or a group of: a proof may be shown that its values obey their rules.
+trait Shown {
+    ghost has_values: { Self → Type 0 };
+
+    fn show(&self)
+        ensures { has_values self.now };
+}
+
+fn show_all<T: Shown>(items: &[T])
+    ensures { All T.has_values items.now }
 {
-    for part in parts {
-        let _lot = part.lot.as_bytes();
-        let _amount = part.amount.get();
+    for item in items {
+        item.show();
     }
+}
+
+impl Shown for Part {
+    ghost has_values = { HasPartValues };
+
+    fn show(&self) {
+        let _lot = self.lot.as_bytes();
+        let _amount = self.amount.get();
+    }
+}
+
+impl Shown for Header {
+    ghost has_values = { HasHeaderValues };
+
+    fn show(&self) {
+        let _recipe = self.recipe.as_bytes();
+        let _product = self.product.as_bytes();
+        let _base = self.base.get();
+        let _least = self.least.get();
+        let _greatest = self.greatest.get();
+        let _title = self.title.as_bytes();
+    }
+}
+
+impl Shown for RecipeLine {
+    ghost has_values = { HasLineValues };
+
+    fn show(&self) {
+        match self {
+            RecipeLine::In { def, amount } | RecipeLine::Out { def, amount } => {
+                let _def = def.as_bytes();
+                let _amount = amount.get();
+            }
+            RecipeLine::Parameter { name, value } => {
+                let _name = name.as_bytes();
+                let _value = value.as_bytes();
+            }
+            RecipeLine::Phase {
+                unit_procedure,
+                operation,
+                phase,
+            } => {
+                let _unit_procedure = unit_procedure.as_bytes();
+                let _operation = operation.as_bytes();
+                let _phase = phase.as_bytes();
+            }
+        }
+    }
+}
+
+impl Shown for OrderRow {
+    ghost has_values = { HasOrderValues };
+
+    fn show(&self) {
+        let _order = self.order.as_bytes();
+        let _recipe = self.recipe.as_bytes();
+        let _size = self.size.get();
+        let _due = self.due.as_bytes();
+    }
+}
+
+// ---- recipes and orders
+
+fn is_version(number: u16) -> bool
+    ensures { result ≡ is_version number }
+{
+    (1..=GREATEST_VERSION).contains(&number)
+}
+
+fn is_priority(number: u8) -> bool
+    ensures { result ≡ is_priority number }
+{
+    (1..=GREATEST_PRIORITY).contains(&number)
+}
+
+fn has_numbers(order: &OrderRow) -> bool
+    ensures { result ≡ has_numbers order.now }
+{
+    is_version(order.version) && is_priority(order.priority)
+}
+
+fn are_orders(orders: &[OrderRow]) -> bool
+    ensures { result ≡ are_orders orders.now }
+{
+    orders.len() <= GREATEST_ORDERS && have_numbers(orders)
+}
+
+fn have_numbers(orders: &[OrderRow]) -> bool
+    ensures { result ≡ list_all has_numbers orders.now }
+{
+    orders.iter().all(|order| has_numbers(order))
 }
 
 // ---- the parts of a merge

@@ -11,8 +11,9 @@ mod states;
 mod values;
 
 pub use command::{
-    AddClass, AddDefinition, Command, Divide, Envelope, GREATEST_PARTS, HoldLot, Merge, Part,
-    Receive, Scrap, Split, Stamp, UnholdLot,
+    AddClass, AddDefinition, AddRecipe, Approve, CancelOrder, Command, Divide, Envelope,
+    GREATEST_ORDERS, GREATEST_PARTS, HoldLot, ImportOrders, Merge, Part, Receive, Release, Scrap,
+    Split, Stamp, UnholdLot, Withdraw,
 };
 pub use due::{Due, DueFault};
 pub use items::Items;
@@ -24,5 +25,6 @@ pub use rows::{
 };
 pub use states::{BatchState, Event, JobState, RecipeState, Word};
 pub use values::{
-    Amount, GREATEST_AMOUNT, GREATEST_MOMENT, GREATEST_SEQ, GREATEST_SUBLOT, Id, Moment, Text, Unit,
+    Amount, GREATEST_AMOUNT, GREATEST_MOMENT, GREATEST_PRIORITY, GREATEST_SEQ, GREATEST_SUBLOT,
+    GREATEST_VERSION, Id, Moment, Text, Unit,
 };

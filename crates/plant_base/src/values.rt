@@ -14,6 +14,12 @@ pub const GREATEST_MOMENT: u64 = 253_402_300_799;
 /// The greatest number of a sublot.
 pub const GREATEST_SUBLOT: u16 = 99;
 
+/// The greatest version of a recipe.
+pub const GREATEST_VERSION: u16 = 999;
+
+/// The greatest priority of an order.
+pub const GREATEST_PRIORITY: u8 = 9;
+
 /// The greatest number of accepted commands, 10^15.
 pub const GREATEST_SEQ: u64 = 1_000_000_000_000_000;
 

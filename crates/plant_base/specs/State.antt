@@ -1,6 +1,6 @@
 -- The state of the desk: lists of rows, each ascending by its key. It holds no stock, no progress of a batch, no
 -- edges and no number of a schema: these follow from the movements and the events.
-use Rattle.std.specs.Prelude.{ℕ, Bool, List, [], ◌∷◌, Option, find, nat_eq, ◌==◌, ◌&&◌}
+use Rattle.std.specs.Prelude.{ℕ, Bool, List, [], ◌∷◌, Option, find, filter, nat_eq, ◌==◌, ◌&&◌}
 use Rattle.std.specs.Ordering.{nat_cmp, match_ordering, ordering_then}
 use Rattle.std.specs.declared.cmp.Ordering.{Ordering}
 use Rattle.std.specs.Cmp.Lexicographic.{slice_cmp, pointwise}
@@ -110,6 +110,27 @@ class_at s id = find (λ r. same r.id id) s.classes
 
 abbrev pub definition_at : State → List ℕ → Option Definition
 definition_at s id = find (λ r. same r.id id) s.definitions
+
+abbrev pub recipe_at : State → List ℕ → ℕ → Option Recipe
+recipe_at s id version = find (λ r. same r.header.recipe id && r.header.version == version) s.recipes
+
+-- the lines of a recipe, by number
+abbrev pub master_lines_of : State → List ℕ → ℕ → List MasterLine
+master_lines_of s id version = filter (λ l. same l.recipe id && l.version == version) s.master_lines
+
+abbrev pub job_at : State → List ℕ → Option Job
+job_at s id = find (λ r. same r.order.order id) s.jobs
+
+abbrev pub batch_at : State → List ℕ → Option Batch
+batch_at s id = find (λ r. same r.id id) s.batches
+
+-- the batch that an order was released as
+abbrev pub batch_of : State → List ℕ → Option Batch
+batch_of s order = find (λ r. same r.job order) s.batches
+
+-- the lines of a batch's control recipe, by number
+abbrev pub control_lines_of : State → List ℕ → List ControlLine
+control_lines_of s batch = filter (λ l. same l.batch batch) s.control_lines
 
 abbrev pub lot_at : State → List ℕ → Option Lot
 lot_at s id = find (λ r. same r.id id) s.lots

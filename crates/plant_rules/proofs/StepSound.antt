@@ -72,6 +72,12 @@ sound_body s sound t (body.Merge c) values formed fine =
     (ltb-false _ _ much.0) mixed.0
 sound_body s sound t (body.Hold c) values formed fine = sound_hold s sound t c (is_there _ (passed _ _ _ fine).0)
 sound_body s sound t (body.Unhold c) values formed fine = sound_unhold s sound t c
+sound_body s sound t (body.AddRecipe c) values formed fine = absurd cc
+sound_body s sound t (body.Approve c) values formed fine = absurd cc
+sound_body s sound t (body.Withdraw c) values formed fine = absurd cc
+sound_body s sound t (body.ImportOrders c) values formed fine = absurd cc
+sound_body s sound t (body.CancelOrder c) values formed fine = absurd cc
+sound_body s sound t (body.Release c) values formed fine = absurd cc
 
 unless_sound : (w : Option Refusal) (s next : State) → IsSound s → (w ≡ None → IsSound next) → IsSound (unless_refused w s next)
 unless_sound None s next sound h = h refl

@@ -27,6 +27,12 @@ step_body s t (body.Split c) = split s t c
 step_body s t (body.Merge c) = merge s t c
 step_body s t (body.Hold c) = hold s t c
 step_body s t (body.Unhold c) = unhold s t c
+step_body s t (body.AddRecipe c) = s
+step_body s t (body.Approve c) = s
+step_body s t (body.Withdraw c) = s
+step_body s t (body.ImportOrders c) = s
+step_body s t (body.CancelOrder c) = s
+step_body s t (body.Release c) = s
 
 -- the state itself where the command is refused
 abbrev pub unless_refused : Option Refusal → State → State → State

@@ -1,5 +1,5 @@
 -- The first condition that a command fails.
-use Rattle.std.specs.Prelude.{not, nat_lt, Option}
+use Rattle.std.specs.Prelude.{not, nat_lt, Option, Some}
 use Rattle.plant_base.specs.State.{State}
 use Rattle.plant_base.specs.Formed.{is_formed}
 use Rattle.plant_base.specs.declared.refusal.Refusal.{Refusal}
@@ -26,6 +26,12 @@ wrong_body s (body.Split c) = wrong_split s c
 wrong_body s (body.Merge c) = wrong_merge s c
 wrong_body s (body.Hold c) = wrong_hold s c
 wrong_body s (body.Unhold c) = wrong_unhold s c
+wrong_body s (body.AddRecipe c) = Some BadForm
+wrong_body s (body.Approve c) = Some BadForm
+wrong_body s (body.Withdraw c) = Some BadForm
+wrong_body s (body.ImportOrders c) = Some BadForm
+wrong_body s (body.CancelOrder c) = Some BadForm
+wrong_body s (body.Release c) = Some BadForm
 
 -- none where no condition fails
 unfoldable pub wrong : State → Envelope → Option Refusal

@@ -87,6 +87,12 @@ fn decide_body<V: View>(
         Command::Merge(c) => decide_merge(alloc, view, seq, stamp, c),
         Command::Hold(c) => decide_hold(alloc, view, seq, stamp, c),
         Command::Unhold(c) => decide_unhold(alloc, view, seq, stamp, c),
+        Command::AddRecipe(_)
+        | Command::Approve(_)
+        | Command::Withdraw(_)
+        | Command::ImportOrders(_)
+        | Command::CancelOrder(_)
+        | Command::Release(_) => Ok(Decision::Refused(Refusal::BadForm)),
     }
 }
 

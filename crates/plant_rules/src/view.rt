@@ -1,4 +1,6 @@
-use plant_base::{Class, Definition, Hold, Id, Lot, Position, Sublot};
+use plant_base::{
+    BatchRow, Class, Definition, Hold, Id, Job, Lot, MasterLine, Position, Recipe, Sublot,
+};
 use plant_trace::Edges;
 
 /// The rows of a state, each found by its key, however they are kept.
@@ -7,10 +9,10 @@ use plant_trace::Edges;
 /// before, its answer is that of its state, and neither the state nor what the view keeps has changed.
 pub trait View: Edges {
     ghost use Rattle.std.specs.Prelude.{◌≡◌, IfOk, option_map};
-    ghost use Rattle.plant_base.specs.State.{State, class_at, definition_at, lot_at, place_at, hold_at};
+    ghost use Rattle.plant_base.specs.State.{State, class_at, definition_at, recipe_at, master_lines_of, job_at, batch_at, lot_at, place_at, hold_at};
     ghost use Rattle.plant_trace.specs.Sources.{Told};
     ghost use Rattle.plant_rules.specs.Genealogy.{edges_of};
-    ghost use Rattle.plant_rules.specs.Tables.{position_of, sublot_row, sublots_of};
+    ghost use Rattle.plant_rules.specs.Tables.{position_of, batch_row, sublot_row, sublots_of};
     ghost use Rattle.plant_rules.specs.Refusing.{holds_of};
     ghost use Rattle.plant_rules.specs.Sound.{IsSound};
 
@@ -31,6 +33,28 @@ pub trait View: Edges {
     fn definition(&mut self, id: Id) -> Result<Option<Definition>, Self::Fault>
         ensures { Told Self.honest Self.kept Self.steady self.old self.new
             (IfOk result (λ r. r ≡ definition_at (state self.old) id)) };
+
+    /// The recipe of this id and version.
+    fn recipe(&mut self, id: Id, version: u16) -> Result<Option<Recipe>, Self::Fault>
+        ensures { Told Self.honest Self.kept Self.steady self.old self.new
+            (IfOk result (λ r. r ≡ recipe_at (state self.old) id version)) };
+
+    /// The lines of the recipe of this id and version, by number.
+    fn master_lines(&mut self, id: Id, version: u16) -> Result<Vec<MasterLine>, Self::Fault>
+        ensures { Told Self.honest Self.kept Self.steady self.old self.new
+            (IfOk result (λ rows. rows.items ≡ master_lines_of (state self.old) id version)) };
+
+    /// The job of the order of this id.
+    fn job(&mut self, order: Id) -> Result<Option<Job>, Self::Fault>
+        ensures { Told Self.honest Self.kept Self.steady self.old self.new
+            (IfOk result (λ r. r ≡ job_at (state self.old) order)) };
+
+    /// The batch of this id, with the columns that are the fold of its events. They are right where the state is
+    /// sound.
+    fn batch(&mut self, id: Id) -> Result<Option<BatchRow>, Self::Fault>
+        ensures { Told Self.honest Self.kept Self.steady self.old self.new
+            (IsSound (state self.old) → IfOk result (λ r.
+            r ≡ option_map (batch_row (state self.old).control_lines (state self.old).events) (batch_at (state self.old) id))) };
 
     /// The lot of this id.
     fn lot(&mut self, id: Id) -> Result<Option<Lot>, Self::Fault>

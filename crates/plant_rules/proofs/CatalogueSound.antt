@@ -11,6 +11,7 @@ use Rattle.plant_base.proofs.Put.{all_put, all_weaker, sorted_put}
 use Rattle.plant_base.proofs.Keys.{id_total, id_still}
 use Rattle.plant_rules.specs.Catalogue.{add_class, add_definition}
 use Rattle.plant_rules.specs.Sound.{IsSound}
+use Rattle.plant_rules.proofs.RecipesKept.{recipes_defined}
 
 pub sound_add_class : (s : State) → IsSound s → (t : Stamp) (c : AddClass) → IsSound (add_class s t c)
 sound_add_class s sound t c =
@@ -30,6 +31,9 @@ sound_add_class s sound t c =
       one_material = sound.one_material;
       small = sound.small;
       covered = sound.covered;
+      recipes = sound.recipes;
+      orders = sound.orders;
+      batches = sound.batches;
     }
 
 pub sound_add_definition : (s : State) → IsSound s → (t : Stamp) (c : AddDefinition) → is_some (class_at s c.class) ≡ true → IsSound (add_definition s t c)
@@ -50,4 +54,7 @@ sound_add_definition s sound t c known =
       one_material = sound.one_material;
       small = sound.small;
       covered = sound.covered;
+      recipes = recipes_defined s.definitions s.recipes s.master_lines r sound.recipes;
+      orders = sound.orders;
+      batches = sound.batches;
     }

@@ -41,4 +41,7 @@ sound_divide s sound t c small known there enough room =
       one_material = all_push _ s.movements m sound.one_material (λ def. refl);
       small = λ l n. let e = entered_push s.movements m l n in let h = entering_new s sound c.lot next c.amount small (next_free s c.lot) l n in omega (arith, e, h);
       covered = λ l n. let h = taking_covered s sound c.lot c.sub c.amount enough l n in omega (arith, entered_push s.movements m l n, left_push s.movements m l n, h);
+      recipes = sound.recipes;
+      orders = sound.orders;
+      batches = sound.batches;
     }

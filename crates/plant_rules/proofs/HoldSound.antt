@@ -56,6 +56,9 @@ sound_hold s sound t c known =
       one_material = sound.one_material;
       small = sound.small;
       covered = sound.covered;
+      recipes = sound.recipes;
+      orders = sound.orders;
+      batches = sound.batches;
     }
 
 pub sound_unhold : (s : State) → IsSound s → (t : Stamp) (c : UnholdLot) → IsSound (unhold s t c)
@@ -76,4 +79,7 @@ sound_unhold s sound t c =
       one_material = sound.one_material;
       small = sound.small;
       covered = sound.covered;
+      recipes = sound.recipes;
+      orders = sound.orders;
+      batches = sound.batches;
     }

@@ -9,9 +9,17 @@ pub mod KeptSound
 pub mod MergeDecides
 pub mod MergeSound
 pub mod MergeTables
+pub mod OrderTables
+pub mod OrdersKept
 pub mod Parting
+pub mod ProductionSound
 pub mod ReceiptSound
 pub mod ReceiptTables
+pub mod RecipeTables
+pub mod RecipesKept
+pub mod ReleaseTables
+pub mod RowKeys
+pub mod Rows
 pub mod ScrapSound
 pub mod ScrapTables
 pub mod SplitSound

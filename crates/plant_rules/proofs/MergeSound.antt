@@ -140,4 +140,7 @@ sound_merge s sound t c some apart known there none enough small alike =
           (all_lines s.seq t c.new (λ m. IsOneMaterial new (goes_to m.kind m.lot m.sub) (comes_from m.kind m.lot m.sub)) (λ q. (def : List ℕ) → is_of_lot def (lot_at new c.new) ≡ is_of_lot def (lot_at new q.lot)) (λ k q is. is) 1 ps one);
       small = λ l n. let e = entered_all s.seq t c.new ms 1 ps l n in let h = entering_small s sound c.new (total_of ps) small none l n in omega (arith, e, h);
       covered = covered_lines s.seq t c.new ms 1 ps enough apart sound.covered;
+      recipes = sound.recipes;
+      orders = sound.orders;
+      batches = sound.batches;
     }

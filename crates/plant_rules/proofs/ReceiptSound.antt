@@ -43,4 +43,7 @@ sound_receive s sound t c small known none =
       one_material = all_push _ s.movements m (all_two _ _ _ (λ m n one. of_stays s sound r none _ _ new refl n.0 n.1 one) s.movements sound.named sound.one_material) tt;
       small = λ l n. let e = entered_push s.movements m l n in let h = entering_small s sound c.lot c.amount small none l n in omega (arith, e, h);
       covered = λ l n. omega (arith, entered_push s.movements m l n, left_push s.movements m l n, sound.covered l n);
+      recipes = sound.recipes;
+      orders = sound.orders;
+      batches = sound.batches;
     }

@@ -31,4 +31,7 @@ sound_scrap s sound t c there enough =
       one_material = all_push _ s.movements m sound.one_material tt;
       small = λ l n. omega (arith, entered_push s.movements m l n, sound.small l n);
       covered = λ l n. omega (arith, entered_push s.movements m l n, left_push s.movements m l n, taking_covered s sound c.lot c.sub c.amount enough l n);
+      recipes = sound.recipes;
+      orders = sound.orders;
+      batches = sound.batches;
     }

@@ -59,4 +59,7 @@ sound_split s sound t c small known there none enough =
           (λ def. ap (is_of_lot def) (found_new lot_order r (λ x. same x.id c.new) s.lots (same_itself c.new) none) ∙ of_known def c.new (lot_at s c.lot) known ∙ sym (ap (is_of_lot def) (lot_stays s sound r none c.lot known)));
       small = λ l n. let e = entered_push s.movements m l n in let h = entering_small s sound c.new c.amount small none l n in omega (arith, e, h);
       covered = λ l n. let h = taking_covered s sound c.lot c.sub c.amount enough l n in omega (arith, entered_push s.movements m l n, left_push s.movements m l n, h);
+      recipes = sound.recipes;
+      orders = sound.orders;
+      batches = sound.batches;
     }

@@ -6,7 +6,8 @@ use Rattle.std.proofs.lemmas.Bool.{ltb-false}
 use Rattle.std.proofs.lemmas.Bool.Decides.{nat_tests}
 use Rattle.plant_base.specs.Values.{greatest_amount, is_amount}
 use Rattle.plant_base.specs.State.{State, opening}
-use Rattle.plant_base.specs.Formed.{HasValues, HasBodyValues, is_formed, stamp_of}
+use Rattle.plant_base.specs.Formed.{HasValues, HasBodyValues, is_version, are_parts, stamp_of}
+use Rattle.plant_base.specs.declared.states.RecipeState.TheVariants.{Approved, Withdrawn}
 use Rattle.plant_base.specs.declared.refusal.Refusal.{Refusal}
 use Rattle.plant_base.specs.declared.refusal.Refusal.TheVariants.{BadForm, MomentBack}
 use Rattle.plant_base.specs.declared.command.Part.{Part}
@@ -17,7 +18,7 @@ use Rattle.plant_base.specs.declared.command.Envelope.{Envelope}
 use Rattle.plant_base.proofs.Put.{all_weaker}
 use Rattle.plant_stock.specs.Stock.{entered, left}
 use Rattle.plant_rules.specs.Refusing.{refuse, standing}
-use Rattle.plant_rules.specs.Wrong.{wrong, wrong_body}
+use Rattle.plant_rules.specs.Wrong.{is_whole, wrong, wrong_body}
 use Rattle.plant_rules.specs.Step.{step, step_body, unless_refused}
 use Rattle.plant_rules.specs.Sound.{IsSound}
 use Rattle.plant_rules.proofs.KeptSound.{passed, is_there}
@@ -26,14 +27,15 @@ use Rattle.plant_rules.proofs.ReceiptSound.{sound_receive}
 use Rattle.plant_rules.proofs.ScrapSound.{sound_scrap}
 use Rattle.plant_rules.proofs.DivideSound.{sound_divide}
 use Rattle.plant_rules.proofs.SplitSound.{sound_split}
-use Rattle.plant_rules.proofs.Parting.{each_fails, not_false, formed_apart, formed_some, parts_there, parts_ready, parts_pass}
+use Rattle.plant_rules.proofs.ProductionSound.{sound_add_recipe, sound_moved, import_sized, sound_import, sound_cancel, sound_release}
+use Rattle.plant_rules.proofs.Parting.{and_left, and_right, each_fails, not_false, formed_apart, formed_some, parts_there, parts_ready, parts_pass}
 use Rattle.plant_rules.proofs.MergeSound.{sound_merge}
 use Rattle.plant_rules.proofs.HoldSound.{sound_hold, sound_unhold}
 
 pub amount_small : (n : ℕ) → is_amount n ≡ true → n ≤ greatest_amount
 amount_small n e = grind (arith, nat_tests)
 
-sound_body : (s : State) → IsSound s → (t : Stamp) (c : Command) → HasBodyValues c → is_formed c ≡ true → wrong_body s c ≡ None → IsSound (step_body s t c)
+sound_body : (s : State) → IsSound s → (t : Stamp) (c : Command) → HasBodyValues c → is_whole c ≡ true → wrong_body s c ≡ None → IsSound (step_body s t c)
 sound_body s sound t (body.AddClass c) values formed fine = sound_add_class s sound t c
 sound_body s sound t (body.AddDefinition c) values formed fine = sound_add_definition s sound t c (is_there _ (passed _ _ _ fine).0)
 sound_body s sound t (body.Receive c) values formed fine =
@@ -64,7 +66,8 @@ sound_body s sound t (body.Merge c) values formed fine =
     let much = passed _ _ _ enough.1 in
     let held = passed _ _ _ much.1 in
     let mixed = passed _ _ _ held.1 in
-    sound_merge s sound t c (formed_some c.parts formed) (formed_apart c.parts formed)
+    let parts = and_left (are_parts c.parts) true formed in
+    sound_merge s sound t c (formed_some c.parts parts) (formed_apart c.parts parts)
     (all_weaker _ _ (λ (p : Part) r. r.known) c.parts ready)
     (all_weaker _ _ (λ (p : Part) r. ap is_some r.place) c.parts ready)
     new.0
@@ -72,12 +75,24 @@ sound_body s sound t (body.Merge c) values formed fine =
     (ltb-false _ _ much.0) mixed.0
 sound_body s sound t (body.Hold c) values formed fine = sound_hold s sound t c (is_there _ (passed _ _ _ fine).0)
 sound_body s sound t (body.Unhold c) values formed fine = sound_unhold s sound t c
-sound_body s sound t (body.AddRecipe c) values formed fine = absurd cc
-sound_body s sound t (body.Approve c) values formed fine = absurd cc
-sound_body s sound t (body.Withdraw c) values formed fine = absurd cc
-sound_body s sound t (body.ImportOrders c) values formed fine = absurd cc
-sound_body s sound t (body.CancelOrder c) values formed fine = absurd cc
-sound_body s sound t (body.Release c) values formed fine = absurd cc
+sound_body s sound t (body.AddRecipe c) values formed fine =
+    let product = passed _ _ _ fine in
+    let lines = passed _ _ _ product.1 in
+    let new = passed _ _ _ lines.1 in
+    sound_add_recipe s sound t c (and_left _ _ formed) (and_right (is_version c.header.version) _ formed) (is_there _ product.0) (not_false _ lines.0) new.0
+sound_body s sound t (body.Approve c) values formed fine = sound_moved s sound t c.recipe c.version Approved
+sound_body s sound t (body.Withdraw c) values formed fine = sound_moved s sound t c.recipe c.version Withdrawn
+sound_body s sound t (body.ImportOrders c) values formed fine = sound_import s sound t c (import_sized s c fine)
+sound_body s sound t (body.CancelOrder c) values formed fine =
+    let there = passed _ _ _ fine in
+    sound_cancel s sound t c (not_false _ (passed _ _ _ there.1).0)
+sound_body s sound t (body.Release c) values formed fine =
+    let there = passed _ _ _ fine in
+    let new = passed _ _ _ there.1 in
+    let approved = passed _ _ _ new.1 in
+    let waits = passed _ _ _ approved.1 in
+    let control = passed _ _ _ waits.1 in
+    sound_release s sound t c new.0 (not_false _ waits.0) control.0
 
 unless_sound : (w : Option Refusal) (s next : State) → IsSound s → (w ≡ None → IsSound next) → IsSound (unless_refused w s next)
 unless_sound None s next sound h = h refl
@@ -86,7 +101,7 @@ unless_sound (Some r) s next sound h = sound
 pub step_sound : (s : State) → IsSound s → (e : Envelope) → HasValues e → IsSound (step s e)
 unfolding step wrong
 step_sound s sound e values = unless_sound (wrong s e) s (step_body s (stamp_of e) e.body) sound (λ fine.
-    let formed = passed (not (is_formed e.body)) BadForm (refuse (nat_lt e.at s.at) MomentBack (wrong_body s e.body)) fine in
+    let formed = passed (not (is_whole e.body)) BadForm (refuse (nat_lt e.at s.at) MomentBack (wrong_body s e.body)) fine in
     let moment = passed (nat_lt e.at s.at) MomentBack (wrong_body s e.body) formed.1 in
     sound_body s sound (stamp_of e) e.body values.body (not_false _ formed.0) moment.1)
 
@@ -107,4 +122,7 @@ opening_sound = record {
   one_material = tt;
   small = λ l n. omega arith;
   covered = λ l n. omega arith;
+  recipes = record { sorted = tt; rows_sorted = tt; whole = tt; listed = tt };
+  orders = record { sorted = tt; sized = tt; started = tt };
+  batches = record { sorted = tt; control_sorted = tt; each = tt; controlled = tt; witnessed = tt };
 }

@@ -5,9 +5,14 @@ pub mod Division
 pub mod Genealogy
 pub mod Holding
 pub mod Merging
+pub mod Orders
 pub mod Parts
+pub mod Production
 pub mod Receipt
+pub mod Recipes
 pub mod Refusing
+pub mod Releasing
+pub mod Rows
 pub mod Scrapping
 pub mod Sound
 pub mod Splitting

@@ -15,6 +15,9 @@ use Rattle.plant_rules.specs.Division.{divide}
 use Rattle.plant_rules.specs.Splitting.{split}
 use Rattle.plant_rules.specs.Merging.{merge}
 use Rattle.plant_rules.specs.Holding.{hold, unhold}
+use Rattle.plant_rules.specs.Recipes.{add_recipe, approve, withdraw}
+use Rattle.plant_rules.specs.Orders.{import_orders, cancel_order}
+use Rattle.plant_rules.specs.Releasing.{release}
 
 -- what an accepted command makes of the state
 abbrev pub step_body : State → Stamp → Command → State
@@ -27,12 +30,12 @@ step_body s t (body.Split c) = split s t c
 step_body s t (body.Merge c) = merge s t c
 step_body s t (body.Hold c) = hold s t c
 step_body s t (body.Unhold c) = unhold s t c
-step_body s t (body.AddRecipe c) = s
-step_body s t (body.Approve c) = s
-step_body s t (body.Withdraw c) = s
-step_body s t (body.ImportOrders c) = s
-step_body s t (body.CancelOrder c) = s
-step_body s t (body.Release c) = s
+step_body s t (body.AddRecipe c) = add_recipe s t c
+step_body s t (body.Approve c) = approve s t c
+step_body s t (body.Withdraw c) = withdraw s t c
+step_body s t (body.ImportOrders c) = import_orders s t c
+step_body s t (body.CancelOrder c) = cancel_order s t c
+step_body s t (body.Release c) = release s t c
 
 -- the state itself where the command is refused
 abbrev pub unless_refused : Option Refusal → State → State → State

@@ -1,5 +1,5 @@
 -- The first condition that a command fails.
-use Rattle.std.specs.Prelude.{not, nat_lt, Option, Some}
+use Rattle.std.specs.Prelude.{Bool, true, ◌&&◌, not, nat_lt, Option}
 use Rattle.plant_base.specs.State.{State}
 use Rattle.plant_base.specs.Formed.{is_formed}
 use Rattle.plant_base.specs.declared.refusal.Refusal.{Refusal}
@@ -7,6 +7,7 @@ use Rattle.plant_base.specs.declared.refusal.Refusal.TheVariants.{BadForm, Momen
 use Rattle.plant_base.specs.declared.command.Command.{Command}
 use Rattle.plant_base.specs.declared.command.Command.TheVariants as body
 use Rattle.plant_base.specs.declared.command.Envelope.{Envelope}
+use Rattle.plant_recipe.specs.Form.{is_well_formed}
 use Rattle.plant_rules.specs.Refusing.{refuse}
 use Rattle.plant_rules.specs.Catalogue.{wrong_add_class, wrong_add_definition}
 use Rattle.plant_rules.specs.Receipt.{wrong_receive}
@@ -15,6 +16,18 @@ use Rattle.plant_rules.specs.Division.{wrong_divide}
 use Rattle.plant_rules.specs.Splitting.{wrong_split}
 use Rattle.plant_rules.specs.Merging.{wrong_merge}
 use Rattle.plant_rules.specs.Holding.{wrong_hold, wrong_unhold}
+use Rattle.plant_rules.specs.Recipes.{wrong_add_recipe, wrong_approve, wrong_withdraw}
+use Rattle.plant_rules.specs.Orders.{wrong_import_orders, wrong_cancel_order}
+use Rattle.plant_rules.specs.Releasing.{wrong_release}
+
+-- the recipe that the command brings, if it brings one, is well formed
+abbrev pub brings_formed : Command → Bool
+brings_formed (body.AddRecipe c) = is_well_formed c.header c.lines
+brings_formed _ = true
+
+-- the command obeys the rules of its values, its lists and its recipe
+abbrev pub is_whole : Command → Bool
+is_whole c = is_formed c && brings_formed c
 
 abbrev pub wrong_body : State → Command → Option Refusal
 wrong_body s (body.AddClass c) = wrong_add_class s c
@@ -26,15 +39,15 @@ wrong_body s (body.Split c) = wrong_split s c
 wrong_body s (body.Merge c) = wrong_merge s c
 wrong_body s (body.Hold c) = wrong_hold s c
 wrong_body s (body.Unhold c) = wrong_unhold s c
-wrong_body s (body.AddRecipe c) = Some BadForm
-wrong_body s (body.Approve c) = Some BadForm
-wrong_body s (body.Withdraw c) = Some BadForm
-wrong_body s (body.ImportOrders c) = Some BadForm
-wrong_body s (body.CancelOrder c) = Some BadForm
-wrong_body s (body.Release c) = Some BadForm
+wrong_body s (body.AddRecipe c) = wrong_add_recipe s c
+wrong_body s (body.Approve c) = wrong_approve s c
+wrong_body s (body.Withdraw c) = wrong_withdraw s c
+wrong_body s (body.ImportOrders c) = wrong_import_orders s c
+wrong_body s (body.CancelOrder c) = wrong_cancel_order s c
+wrong_body s (body.Release c) = wrong_release s c
 
 -- none where no condition fails
 unfoldable pub wrong : State → Envelope → Option Refusal
 wrong s e =
-    refuse (not (is_formed e.body)) BadForm
+    refuse (not (is_whole e.body)) BadForm
     (refuse (nat_lt e.at s.at) MomentBack (wrong_body s e.body))

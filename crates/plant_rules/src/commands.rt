@@ -2,23 +2,32 @@
 ghost use Rattle.std.specs.Prelude.{◌≡◌, ◌+◌, ◌<◌, IfOk, IsTrue};
 ghost use Rattle.plant_base.specs.Values.{greatest_seq};
 ghost use Rattle.plant_base.specs.State.{newest_schema};
-ghost use Rattle.plant_base.specs.Formed.{stamp_of, is_formed};
+ghost use Rattle.plant_base.specs.Formed.{stamp_of};
+ghost use Rattle.plant_recipe.specs.Control.{is_size_of};
 ghost use Rattle.plant_trace.specs.Sources.{Told};
 ghost use Rattle.plant_rules.specs.Booking.{line_of};
+ghost use Rattle.plant_rules.specs.Orders.{is_open};
+ghost use Rattle.plant_rules.specs.Recipes.{is_approved};
 ghost use Rattle.plant_rules.specs.Sound.{IsSound};
 ghost use Rattle.plant_rules.specs.Step.{step, step_body};
 ghost use Rattle.plant_rules.specs.Tables.{Decides};
-ghost use Rattle.plant_rules.specs.Wrong.{wrong, wrong_body};
+ghost use Rattle.plant_rules.specs.Wrong.{brings_formed, is_whole, wrong, wrong_body};
 
 mod add_class;
 mod add_definition;
+mod add_recipe;
+mod approve;
+mod cancel_order;
 mod divide;
 mod hold;
+mod import_orders;
 mod merge;
 mod receive;
+mod release;
 mod scrap;
 mod split;
 mod unhold;
+mod withdraw;
 
 use crate::change::{Decision, RowChange};
 use crate::fault::ViewFault;
@@ -26,18 +35,25 @@ use crate::look;
 use crate::view::View;
 use add_class::decide_add_class;
 use add_definition::decide_add_definition;
+use add_recipe::decide_add_recipe;
+use approve::decide_approve;
+use cancel_order::decide_cancel_order;
 use divide::decide_divide;
 use hold::decide_hold;
+use import_orders::decide_import_orders;
 use merge::decide_merge;
 use plant_base::{
-    Amount, Command, Envelope, Id, Items, Meta, Movement, MovementKind, NEWEST_SCHEMA, Position,
-    Refusal, Stamp,
+    Amount, Command, Envelope, Header, Id, Items, JobState, Meta, Movement, MovementKind,
+    NEWEST_SCHEMA, Position, RecipeState, Refusal, Stamp,
 };
+use plant_recipe::is_well_formed;
 use receive::decide_receive;
+use release::decide_release;
 use scrap::decide_scrap;
 use split::decide_split;
 use std::alloc::{AllocError, Global};
 use unhold::decide_unhold;
+use withdraw::decide_withdraw;
 
 /// Decides one command over a view: the first condition that it fails, or the rows that it changes. Nothing is
 /// written.
@@ -54,7 +70,7 @@ pub fn decide<V: View>(
     ensures { Told V.honest V.kept V.steady view.old view.new
         (IfOk result (Decides (wrong (V.state view.old) envelope.now) (V.state view.old) (step (V.state view.old) envelope.now))) }
 {
-    if !envelope.body.is_formed() {
+    if !is_whole(&envelope.body) {
         return Ok(Decision::Refused(Refusal::BadForm));
     }
     let position = look::position(view)?;
@@ -71,7 +87,7 @@ fn decide_body<V: View>(
     stamp: &Stamp,
     body: &Command,
 ) -> Result<Decision, ViewFault<V::Fault>>
-    requires formed { IsTrue (is_formed body.now) }
+    requires formed { IsTrue (is_whole body.now) }
     requires seq { V.honest view.old → seq ≡ (V.state view.old).seq }
     requires sound { V.honest view.old → IsSound (V.state view.old) }
     ensures { Told V.honest V.kept V.steady view.old view.new
@@ -87,14 +103,53 @@ fn decide_body<V: View>(
         Command::Merge(c) => decide_merge(alloc, view, seq, stamp, c),
         Command::Hold(c) => decide_hold(alloc, view, seq, stamp, c),
         Command::Unhold(c) => decide_unhold(alloc, view, seq, stamp, c),
-        Command::AddRecipe(_)
-        | Command::Approve(_)
-        | Command::Withdraw(_)
-        | Command::ImportOrders(_)
-        | Command::CancelOrder(_)
-        | Command::Release(_) => Ok(Decision::Refused(Refusal::BadForm)),
+        Command::AddRecipe(c) => decide_add_recipe(alloc, view, seq, stamp, c),
+        Command::Approve(c) => decide_approve(alloc, view, seq, stamp, c),
+        Command::Withdraw(c) => decide_withdraw(alloc, view, seq, stamp, c),
+        Command::ImportOrders(c) => decide_import_orders(alloc, view, seq, stamp, c),
+        Command::CancelOrder(c) => decide_cancel_order(alloc, view, seq, stamp, c),
+        Command::Release(c) => decide_release(alloc, view, seq, stamp, c),
     }
 }
+
+// Whether the command obeys the rules of its values, its lists and its recipe.
+fn is_whole(body: &Command) -> bool
+    ensures { result ≡ is_whole body.now }
+{
+    body.is_formed() && brings_formed(body)
+}
+
+fn brings_formed(body: &Command) -> bool
+    ensures { result ≡ brings_formed body.now }
+{
+    match body {
+        Command::AddRecipe(c) => is_well_formed(&c.header, c.lines.as_slice()),
+        _ => true,
+    }
+}
+
+// ---- states and sizes
+
+fn is_approved(state: RecipeState) -> bool
+    ensures { result ≡ is_approved state }
+{
+    matches!(state, RecipeState::Approved)
+}
+
+fn is_open(state: JobState) -> bool
+    ensures { result ≡ is_open state }
+{
+    matches!(state, JobState::Open)
+}
+
+// Whether a size is one of the recipe's.
+fn is_size_of(header: &Header, size: Amount) -> bool
+    ensures { result ≡ is_size_of header.now size }
+{
+    header.least.get() <= size.get() && size.get() <= header.greatest.get()
+}
+
+// ---- rows
 
 // The changes of an accepted command.
 fn changes<const N: usize>(

@@ -6,6 +6,7 @@ mod change;
 mod commands;
 mod fault;
 mod look;
+mod orders;
 mod parts;
 mod view;
 

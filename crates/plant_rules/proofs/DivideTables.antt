@@ -1,5 +1,5 @@
 -- The rows of a division make the tables of the next state.
-use Rattle.std.proofs.Common.{◌≡◌, ◌∙◌, ℕ, ◌-◌, false, cond, List, [], ◌∷◌, ◌++◌, map, Some, None, ap, arith}
+use Rattle.std.proofs.Common.{◌≡◌, ◌∙◌, ℕ, ◌-◌, false, cond, List, [], ◌∷◌, ◌++◌, map, is_some, Some, None, ap, arith}
 use Rattle.std.specs.Prelude.{◌==◌, ◌&&◌}
 use Rattle.plant_base.specs.State.{State, same, put, newest_schema, place_order, place_at}
 use Rattle.plant_base.specs.declared.rows.MovementKind.TheVariants.{Divided}
@@ -20,7 +20,8 @@ use Rattle.plant_rules.specs.Views.{IsSublotAt}
 use Rattle.plant_rules.specs.Sound.{IsSound}
 use Rattle.plant_rules.specs.Tables.{sublot_order, sublot_row, tables_of, changed_all}
 use Rattle.plant_rules.proofs.Sublots.{sublots_taken, sublots_added, apart_fails, nothing_entered, nothing_left}
-use Rattle.plant_rules.proofs.Division.{all_fail, none_among, next_free}
+use Rattle.plant_rules.proofs.Division.{none_among, next_free}
+use Rattle.plant_rules.proofs.Rows.{none_passes}
 
 -- the column with the rows of the sublot that is taken from and of the new one of the same lot
 sublots_divided : (s : State) → IsSound s → (t : Stamp) (p : Place) (next : ℕ) (place : List ℕ) (amount : ℕ) → place_at s p.lot p.number ≡ Some p → place_at s p.lot next ≡ None
@@ -33,7 +34,7 @@ sublots_divided s sound t p next place amount found away =
     let ms = s.movements ++ m ∷ [] in
     let goes : leaving m p.lot p.number ≡ amount = ap (λ b. cond b amount 0) (key_itself p.lot p.number) in
     let apart : entering m p.lot p.number ≡ 0 = found_keeps (λ (q : Place). cond (is_place (Some (p.lot, next)) q.lot q.number) amount 0 ≡ 0) _ s.places p (none_among s p.lot next amount away) found in
-    let other : (same p.lot p.lot && p.number == next) ≡ false = found_keeps (λ (q : Place). (same q.lot p.lot && q.number == next) ≡ false) _ s.places p (all_fail _ s.places away) found in
+    let other : (same p.lot p.lot && p.number == next) ≡ false = found_keeps (λ (q : Place). (same q.lot p.lot && q.number == next) ≡ false) _ s.places p (none_passes _ s.places (ap is_some away)) found in
     let from : standing s p.lot p.number - amount ≡ entered ms p.lot p.number - left ms p.lot p.number = omega (arith, entered_push s.movements m p.lot p.number, left_push s.movements m p.lot p.number, apart, goes) in
     let comes : entering m p.lot next ≡ amount = ap (λ b. cond b amount 0) (key_itself p.lot next) in
     let stays : leaving m p.lot next ≡ 0 = ap (λ b. cond b amount 0) other in

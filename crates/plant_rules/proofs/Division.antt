@@ -1,5 +1,5 @@
 -- The number of a lot's next sublot, and that it isn't taken.
-use Rattle.std.proofs.Common.{◌≡◌, ◌∙◌, ℕ, ◌+◌, ◌≤◌, ◌<◌, Bool, true, false, cond, List, [], ◌∷◌, map, filter, find, Some, None, refl, sym, ap, arith, max}
+use Rattle.std.proofs.Common.{◌≡◌, ◌∙◌, ℕ, ◌+◌, ◌≤◌, ◌<◌, Bool, true, false, cond, List, [], ◌∷◌, map, filter, find, is_some, Some, None, refl, sym, ap, arith, max}
 use Rattle.std.specs.Prelude.{◌==◌, ◌&&◌}
 use Rattle.std.specs.List.{AllByRecursion}
 use Rattle.std.proofs.Math.Nat.{le-max_left, le-max_right}
@@ -16,6 +16,7 @@ use Rattle.plant_rules.specs.Division.{greatest, next_number}
 use Rattle.plant_rules.specs.Sound.{IsSound}
 use Rattle.plant_rules.specs.Tables.{sublot_row}
 use Rattle.plant_rules.proofs.Sublots.{nothing_entered}
+use Rattle.plant_rules.proofs.Rows.{none_passes}
 
 -- ---- the greatest number
 
@@ -45,19 +46,11 @@ next_free s lot = free_above lot (next_number s lot) s.places (omega arith)
 
 -- ---- a sublot that isn't there
 
--- what `find` doesn't find fails the test
-pub all_fail : {X : Type 0} (test : X → Bool) (xs : List X) → find test xs ≡ None → AllByRecursion (λ x. test x ≡ false) xs
-all_fail test [] e = tt
-all_fail {X} test (x ∷ xs) e = elim (test x) as (λ b. cond b (Some x) (find test xs) ≡ None → (b ≡ false) × AllByRecursion (λ y. test y ≡ false) xs) [
-  | true ↦ λ f. absurd cc
-  | false ↦ λ f. (refl, all_fail test xs f)
-] e
-
 -- nothing that goes to it goes to one that is
 pub none_among : (s : State) (lot : List ℕ) (number amount : ℕ) → place_at s lot number ≡ None → AllByRecursion (λ (q : Place). cond (is_place (Some (lot, number)) q.lot q.number) amount 0 ≡ 0) s.places
 none_among s lot number amount none =
     let p : Place = record { lot = lot; number = number; place = [] } in
-    all_weaker _ _ (λ (q : Place) e. ap (λ b. cond b amount 0) (same_key_tie p q ∙ sym (test_tie p q) ∙ e)) s.places (all_fail (λ (q : Place). same q.lot lot && q.number == number) s.places none)
+    all_weaker _ _ (λ (q : Place) e. ap (λ b. cond b amount 0) (same_key_tie p q ∙ sym (test_tie p q) ∙ e)) s.places (none_passes (λ (q : Place). same q.lot lot && q.number == number) s.places (ap is_some none))
 
 -- an amount that enters it
 pub entering_new : (s : State) → IsSound s → (lot : List ℕ) (number amount : ℕ) → amount ≤ greatest_amount → place_at s lot number ≡ None → (l : List ℕ) (n : ℕ) → entered s.movements l n + cond (same lot l && number == n) amount 0 ≤ greatest_amount

@@ -15,24 +15,18 @@ use Rattle.plant_base.specs.declared.command.UnholdLot.{UnholdLot}
 use Rattle.plant_base.proofs.Put.{all_put, sorted_put}
 use Rattle.plant_rules.specs.Holding.{hold, unhold}
 use Rattle.plant_rules.specs.Sound.{IsSound}
+use Rattle.plant_rules.proofs.Rows.{all_filtered}
 
 pub hold_order_total : IsTotalOrder hold_order
 hold_order_total = then_total (on_total (λ h. h.lot) nat_list_cmp_total) (on_total (λ h. h.id) nat_list_cmp_total)
 
 -- ---- rows of which some are taken away
 
-all_filter : {R : Type 0} (P : R → Type 0) (keeps : R → Bool) (rs : List R) → AllByRecursion P rs → AllByRecursion P (filter keeps rs)
-all_filter P keeps [] a = tt
-all_filter P keeps (x ∷ xs) a = elim (keeps x) as (λ b. AllByRecursion P (cond b (x ∷ filter keeps xs) (filter keeps xs))) [
-  | true ↦ (a.0, all_filter P keeps xs a.1)
-  | false ↦ all_filter P keeps xs a.1
-]
-
 sorted_filter : {R : Type 0} (order : R → R → Ordering) (keeps : R → Bool) (rs : List R) → IsStrictlySortedBy order rs → IsStrictlySortedBy order (filter keeps rs)
 unfolding IsStrictlySortedBy
 sorted_filter order keeps [] sorted = tt
 sorted_filter order keeps (x ∷ xs) sorted = elim (keeps x) as (λ b. IsStrictlySortedBy order (cond b (x ∷ filter keeps xs) (filter keeps xs))) [
-  | true ↦ (all_filter (λ y. order x y ≡ Less) keeps xs sorted.0, sorted_filter order keeps xs sorted.1)
+  | true ↦ (all_filtered (λ y. order x y ≡ Less) keeps xs sorted.0, sorted_filter order keeps xs sorted.1)
   | false ↦ sorted_filter order keeps xs sorted.1
 ]
 
@@ -73,7 +67,7 @@ sound_unhold s sound t c =
       classified = sound.classified;
       defined = sound.defined;
       housed = sound.housed;
-      placed = all_filter (λ (h : Hold). is_some (lot_at s h.lot) ≡ true) stays s.holds sound.placed;
+      placed = all_filtered (λ (h : Hold). is_some (lot_at s h.lot) ≡ true) stays s.holds sound.placed;
       numbered = sound.numbered;
       named = sound.named;
       one_material = sound.one_material;

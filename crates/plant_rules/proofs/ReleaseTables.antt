@@ -11,6 +11,7 @@ use Rattle.std.proofs.lemmas.Bool.Decides.{nat_tests}
 use Rattle.plant_base.specs.Values.{greatest_seq}
 use Rattle.plant_base.specs.State.{State, newest_schema, same, put, batch_order, control_line_order, recipe_at, master_lines_of, job_at, batch_at}
 use Rattle.plant_base.specs.declared.refusal.Refusal.TheVariants.{Exists, UnknownOrder, NotApproved, OrderNotOpen, ScaledToNothing, TooMany}
+use Rattle.plant_base.specs.declared.states.RecipeState.TheVariants.{Approved}
 use Rattle.plant_base.specs.declared.states.JobState.TheVariants.{Released}
 use Rattle.plant_base.specs.declared.rows.Header.{Header}
 use Rattle.plant_base.specs.declared.rows.Recipe.{Recipe}
@@ -31,7 +32,7 @@ use Rattle.plant_recipe.specs.Control.{is_size_of, control_of}
 use Rattle.plant_recipe.specs.Progress.{opening_progress, progress_after}
 use Rattle.plant_rules.specs.declared.change.RowChange.TheVariants as row
 use Rattle.plant_rules.specs.Refusing.{refuse, at_limit}
-use Rattle.plant_rules.specs.Recipes.{is_approved, is_in}
+use Rattle.plant_rules.specs.Recipes.{is_state, is_in}
 use Rattle.plant_rules.specs.Orders.{is_open, is_waiting, with_state}
 use Rattle.plant_rules.specs.Releasing.{recipe_of, control_by, control_for, lines_in, wrong_release, released_batch, control_line, release, release_rows}
 use Rattle.plant_rules.specs.Rows.{numbered, put_all}
@@ -133,12 +134,12 @@ module _ (s : State) (c : Release) (job : Job) (r : Recipe) (rows : List MasterL
   control_is : control_for s (job_at s c.order) ≡ its_control
   control_is = ap (control_for s) known ∙ ap (control_by s job.order) found ∙ ap (λ ls. control_of r.header (map (λ (l : MasterLine). l.line) ls) job.order.size) (sym listed)
 
-  module _ (free : is_some (batch_at s c.batch) ≡ false) (approved : is_approved r.state ≡ true) (waits : is_open job.state ≡ true) where
+  module _ (free : is_some (batch_at s c.batch) ≡ false) (approved : is_state Approved r.state ≡ true) (waits : is_open job.state ≡ true) where
     -- only the control recipe and the limit decide
     checked : wrong_release s c ≡ refuse (is_none its_control) ScaledToNothing (refuse (at_limit s) TooMany None)
     checked =
         let there : is_none (job_at s c.order) ≡ false = ap is_none known in
-        let in_state : is_in is_approved (recipe_of s (job_at s c.order)) ≡ true = ap (λ j. is_in is_approved (recipe_of s j)) known ∙ ap (is_in is_approved) found ∙ approved in
+        let in_state : is_in Approved (recipe_of s (job_at s c.order)) ≡ true = ap (λ j. is_in Approved (recipe_of s j)) known ∙ ap (is_in Approved) found ∙ approved in
         let waiting : is_waiting (job_at s c.order) ≡ true = ap is_waiting known ∙ waits in
         λ i. refuse (there i) UnknownOrder (refuse (free i) Exists (refuse (not (in_state i)) NotApproved (refuse (not (waiting i)) OrderNotOpen (refuse (is_none (control_is i)) ScaledToNothing (refuse (at_limit s) TooMany None)))))
 

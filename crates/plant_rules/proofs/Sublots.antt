@@ -17,6 +17,7 @@ use Rattle.plant_rules.specs.Tables.{sublot_order, sublot_row}
 use Rattle.plant_rules.specs.Sound.{IsSound, IsThere}
 use Rattle.plant_rules.specs.Refusing.{standing}
 use Rattle.plant_rules.specs.Views.{IsSublotOf}
+use Rattle.plant_rules.proofs.Rows.{all_of}
 
 -- a movement that names this sublot alone
 pub record TouchesOnly (m : Movement) (p : Place) : Type 0 where
@@ -29,10 +30,6 @@ row_stays ms m p touches q apart =
     let e : entered ms q.lot q.number ≡ entered (ms ++ m ∷ []) q.lot q.number = omega (arith, entered_push ms m q.lot q.number, touches.entering q apart) in
     let l : left ms q.lot q.number ≡ left (ms ++ m ∷ []) q.lot q.number = omega (arith, left_push ms m q.lot q.number, touches.leaving q apart) in
     λ i. record { lot = q.lot; number = q.number; place = q.place; stock = e i - l i }
-
-all_of : {X : Type 0} (P : X → Type 0) → ((x : X) → P x) → (xs : List X) → AllByRecursion P xs
-all_of P f [] = tt
-all_of P f (x ∷ xs) = (f x, all_of P f xs)
 
 -- putting the row of the sublot that the movement names makes the new column
 pub sublots_put : (ms : List Movement) (m : Movement) (p : Place) (places : List Place) → IsStrictlySortedBy place_order places → TouchesOnly m p → put sublot_order (sublot_row (ms ++ m ∷ []) p) (map (sublot_row ms) places) ≡ map (sublot_row (ms ++ m ∷ [])) (put place_order p places)

@@ -62,40 +62,42 @@ recipe_rows seq t c =
 
 -- ---- its states
 
-abbrev pub is_draft : RecipeState → Bool
-is_draft state.Draft = true
-is_draft state.Approved = false
-is_draft state.Withdrawn = false
+abbrev pub is_state : RecipeState → RecipeState → Bool
+is_state state.Draft state.Draft = true
+is_state state.Approved state.Approved = true
+is_state state.Withdrawn state.Withdrawn = true
+is_state _ _ = false
 
-abbrev pub is_approved : RecipeState → Bool
-is_approved state.Draft = false
-is_approved state.Approved = true
-is_approved state.Withdrawn = false
-
--- the recipe is there, and its state passes the test
-abbrev pub is_in : (RecipeState → Bool) → Option Recipe → Bool
-is_in test None = false
-is_in test (Some r) = test r.state
+-- the recipe is there, and in this state
+abbrev pub is_in : RecipeState → Option Recipe → Bool
+is_in wanted None = false
+is_in wanted (Some r) = is_state wanted r.state
 
 -- the recipes with this one in this state
 abbrev pub with_state : RecipeState → Option Recipe → List Recipe → List Recipe
 with_state to None recipes = recipes
 with_state to (Some r) recipes = put recipe_order (record { header = r.header; state = to }) recipes
 
-abbrev pub wrong_approve : State → Approve → Option Refusal
-wrong_approve s c =
-    refuse (is_none (recipe_at s c.recipe c.version)) UnknownRecipe
-    (refuse (not (is_in is_draft (recipe_at s c.recipe c.version))) NotDraft
+-- a recipe goes on from one state to another, or else there is this refusal
+abbrev pub wrong_advance : State → RecipeState → Refusal → Option Recipe → Option Refusal
+wrong_advance s from refusal r =
+    refuse (is_none r) UnknownRecipe
+    (refuse (not (is_in from r)) refusal
     (refuse (at_limit s) TooMany None))
+
+abbrev pub advance : State → Stamp → RecipeState → Option Recipe → State
+advance s t to r = record s { seq = s.seq + 1; at = t.at; recipes = with_state to r s.recipes }
+
+-- a draft becomes approved
+abbrev pub wrong_approve : State → Approve → Option Refusal
+wrong_approve s c = wrong_advance s state.Draft NotDraft (recipe_at s c.recipe c.version)
 
 abbrev pub approve : State → Stamp → Approve → State
-approve s t c = record s { seq = s.seq + 1; at = t.at; recipes = with_state state.Approved (recipe_at s c.recipe c.version) s.recipes }
+approve s t c = advance s t state.Approved (recipe_at s c.recipe c.version)
 
+-- an approved recipe becomes withdrawn
 abbrev pub wrong_withdraw : State → Withdraw → Option Refusal
-wrong_withdraw s c =
-    refuse (is_none (recipe_at s c.recipe c.version)) UnknownRecipe
-    (refuse (not (is_in is_approved (recipe_at s c.recipe c.version))) NotApproved
-    (refuse (at_limit s) TooMany None))
+wrong_withdraw s c = wrong_advance s state.Approved NotApproved (recipe_at s c.recipe c.version)
 
 abbrev pub withdraw : State → Stamp → Withdraw → State
-withdraw s t c = record s { seq = s.seq + 1; at = t.at; recipes = with_state state.Withdrawn (recipe_at s c.recipe c.version) s.recipes }
+withdraw s t c = advance s t state.Withdrawn (recipe_at s c.recipe c.version)

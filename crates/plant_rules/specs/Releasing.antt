@@ -3,6 +3,7 @@ use Rattle.std.specs.Prelude.{◌≡◌, ℕ, ◌+◌, not, List, [], ◌∷◌,
 use Rattle.plant_base.specs.State.{State, newest_schema, put, batch_order, control_line_order, recipe_at, master_lines_of, job_at, batch_at}
 use Rattle.plant_base.specs.declared.refusal.Refusal.{Refusal}
 use Rattle.plant_base.specs.declared.refusal.Refusal.TheVariants.{Exists, UnknownOrder, NotApproved, OrderNotOpen, ScaledToNothing, TooMany}
+use Rattle.plant_base.specs.declared.states.RecipeState.TheVariants.{Approved}
 use Rattle.plant_base.specs.declared.states.JobState.TheVariants.{Released}
 use Rattle.plant_base.specs.declared.rows.Recipe.{Recipe}
 use Rattle.plant_base.specs.declared.rows.RecipeLine.{RecipeLine}
@@ -18,7 +19,7 @@ use Rattle.plant_rules.specs.declared.change.RowChange.{RowChange}
 use Rattle.plant_rules.specs.declared.change.RowChange.TheVariants as row
 use Rattle.plant_rules.specs.Refusing.{refuse, at_limit}
 use Rattle.plant_rules.specs.Rows.{numbered, put_all}
-use Rattle.plant_rules.specs.Recipes.{is_approved, is_in}
+use Rattle.plant_rules.specs.Recipes.{is_in}
 use Rattle.plant_rules.specs.Orders.{is_waiting, with_state}
 use Rattle.plant_rules.specs.Tables.{row_at}
 
@@ -53,7 +54,7 @@ abbrev pub wrong_release : State → Release → Option Refusal
 wrong_release s c =
     refuse (is_none (job_at s c.order)) UnknownOrder
     (refuse (is_some (batch_at s c.batch)) Exists
-    (refuse (not (is_in is_approved (recipe_of s (job_at s c.order)))) NotApproved
+    (refuse (not (is_in Approved (recipe_of s (job_at s c.order)))) NotApproved
     (refuse (not (is_waiting (job_at s c.order))) OrderNotOpen
     (refuse (is_none (control_for s (job_at s c.order))) ScaledToNothing
     (refuse (at_limit s) TooMany None)))))

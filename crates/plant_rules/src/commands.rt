@@ -7,7 +7,6 @@ ghost use Rattle.plant_recipe.specs.Control.{is_size_of};
 ghost use Rattle.plant_trace.specs.Sources.{Told};
 ghost use Rattle.plant_rules.specs.Booking.{line_of};
 ghost use Rattle.plant_rules.specs.Orders.{is_open};
-ghost use Rattle.plant_rules.specs.Recipes.{is_approved};
 ghost use Rattle.plant_rules.specs.Sound.{IsSound};
 ghost use Rattle.plant_rules.specs.Step.{step, step_body};
 ghost use Rattle.plant_rules.specs.Tables.{Decides};
@@ -16,6 +15,7 @@ ghost use Rattle.plant_rules.specs.Wrong.{brings_formed, is_whole, wrong, wrong_
 mod add_class;
 mod add_definition;
 mod add_recipe;
+mod advance;
 mod approve;
 mod cancel_order;
 mod divide;
@@ -44,7 +44,7 @@ use import_orders::decide_import_orders;
 use merge::decide_merge;
 use plant_base::{
     Amount, Command, Envelope, Header, Id, Items, JobState, Meta, Movement, MovementKind,
-    NEWEST_SCHEMA, Position, RecipeState, Refusal, Stamp,
+    NEWEST_SCHEMA, Position, Refusal, Stamp,
 };
 use plant_recipe::is_well_formed;
 use receive::decide_receive;
@@ -129,12 +129,6 @@ fn brings_formed(body: &Command) -> bool
 }
 
 // ---- states and sizes
-
-fn is_approved(state: RecipeState) -> bool
-    ensures { result ≡ is_approved state }
-{
-    matches!(state, RecipeState::Approved)
-}
 
 fn is_open(state: JobState) -> bool
     ensures { result ≡ is_open state }

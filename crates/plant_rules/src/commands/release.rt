@@ -9,14 +9,15 @@ ghost use Rattle.plant_rules.specs.Releasing.{wrong_release, release, release_ro
 ghost use Rattle.plant_rules.specs.Sound.{IsSound};
 ghost use Rattle.plant_rules.specs.Tables.{Decides, row_at};
 
-use super::{is_approved, is_open, is_size_of, meta_after};
+use super::advance::is_state;
+use super::{is_open, is_size_of, meta_after};
 use crate::change::{Decision, RowChange};
 use crate::fault::ViewFault;
 use crate::look;
 use crate::view::View;
 use plant_base::{
     Amount, Batch, BatchRow, ControlLine, GREATEST_SEQ, Header, Items, Job, JobState, MasterLine,
-    Movement, MovementKind, OrderRow, Recipe, RecipeLine, Refusal, Release, Stamp,
+    Movement, MovementKind, OrderRow, Recipe, RecipeLine, RecipeState, Refusal, Release, Stamp,
 };
 use plant_recipe::{Master, Progress, RecipeFault, control};
 use std::alloc::{AllocError, Global};
@@ -82,7 +83,7 @@ fn released(
     let Some(recipe) = recipe else {
         return Ok(Decision::Refused(Refusal::NotApproved));
     };
-    if !is_approved(recipe.state) {
+    if !is_state(RecipeState::Approved, recipe.state) {
         return Ok(Decision::Refused(Refusal::NotApproved));
     }
     if !is_open(job.state) {

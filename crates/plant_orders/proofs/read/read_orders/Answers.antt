@@ -1,0 +1,79 @@
+use Rattle.std.proofs.Common.{◌≡◌, ℕ, suc, ◌+◌, ◌≤◌, [], ◌∷◌, ◌++◌, Bool, true, false, length, Option, Some, None, Ok, Err, refl, sym, ap, ◌∙◌, arith, rules}
+use Rattle.std.specs.Result.{is_ok}
+use Rattle.csv.specs.Records.{fields_of}
+use Rattle.csv.specs.Reading.{default_config, records_from}
+use Rattle.plant_orders.specs.Orders.{fault, rows_of, file_of, is_header, order_of}
+use Rattle.plant_orders.specs.declared.fault.CsvKind.TheVariants as kind
+use Rattle.plant_orders.proofs.OrderLemmas.{with_front, next_found, next_gone, records-none, records-some, front-nil, front-more, rows-ok, rows-err, rows-over, one_less, fails_as, short_text, past_header, bad_header, no_front}
+use Rattle.plant_orders.proofs.read.read_orders.Goals as goal
+
+pub returns-then-not-branch : goal.returns-then-not-branch
+returns-then-not-branch c =
+    let gone = next_gone _ _ _ _ (c.in_ok-next.ensures.reads _ _ c.reader-reader.ensures) (search rules) in
+    short_text c.args.bytes.now (omega arith) ∙ rw (records-none 1001 _ _ gone) refl
+
+pub returns-then-not-is_header : goal.returns-then-not-is_header
+returns-then-not-is_header c =
+    let (p, e, fields, stands) = next_found _ _ _ _ (c.in_ok-next.ensures.reads _ _ c.reader-reader.ensures) (search rules) in
+    let no : is_header (fields_of c.next.new.row) ≡ false = search rules in
+    short_text c.args.bytes.now (omega arith) ∙ ap file_of (records-some 1001 _ _ p e) ∙ bad_header _ _ (rw fields at no)
+
+pub loop-n-init : goal.loop-n-init
+loop-n-init c =
+    let (p, e, fields, stands) = next_found _ _ _ _ (c.in_ok-next.ensures.reads _ _ c.reader-reader.ensures) (search rules) in
+    let yes : is_header (fields_of c.next.new.row) ≡ true = search rules in (
+      p.1,
+      p.2,
+      1000,
+      refl,
+      stands,
+      short_text c.args.bytes.now (omega arith) ∙ ap file_of (records-some 1001 _ _ p e) ∙ past_header _ _ (rw fields at yes) ∙ rw c.new-orders.ensures.items (sym (no_front _)),
+    )
+
+pub returns-then-not-branch-2 : goal.returns-then-not-branch-2
+returns-then-not-branch-2 c =
+    let (s, text, k, size, stands, told) = c.loop-n.invariant in
+    let gone = next_gone _ _ _ _ (c.in_ok-next-2.ensures.reads _ _ stands) (search rules) in
+    told ∙ (rw (records-none k s text gone, c.new.ensures) (front-nil c.loop-n.orders.items))
+
+pub returns-in-Err : goal.returns-in-Err
+returns-in-Err c =
+    let (s, text, k, size, stands, told) = c.loop-n.invariant in
+    let (p, e, fields, after) = next_found _ _ _ _ (c.in_ok-next-2.ensures.reads _ _ stands) (search rules) in
+    let bad : order_of (fields_of c.next-in-loop-n.new.row) ≡ Err c.in-Err.kind = search rules in
+    fails_as c.in-Err.kind (fault (c.loop-n.n + 1) c.in-Err.kind) _ (
+    told ∙ ap (λ r. with_front c.loop-n.orders.items (rows_of c.loop-n.n r)) (records-some k s text p e)
+    ∙ ap (with_front c.loop-n.orders.items) (rows-err c.loop-n.n p.0 _ c.in-Err.kind (omega arith) (rw fields at bad)))
+
+pub loop-n-preserved : goal.loop-n-preserved
+loop-n-preserved c =
+    let (s, text, k, size, stands, told) = c.loop-n.invariant in
+    let (p, e, fields, after) = next_found _ _ _ _ (c.in_ok-next-2.ensures.reads _ _ stands) (search rules) in
+    let good : order_of (fields_of c.next-in-loop-n.new.row) ≡ Ok c.in-Ok.order = search rules in
+    let pushed : is_ok c.push.result ≡ true = search rules in
+    let items = rw pushed at c.push.ensures.items in
+    let (j, is) = one_less c.loop-n.n k 1000 size (omega arith) in (
+      p.1,
+      p.2,
+      j,
+      omega arith,
+      after,
+      told ∙ ap (λ r. with_front c.loop-n.orders.items (rows_of c.loop-n.n r)) (records-some k s text p e)
+          ∙ ap (with_front c.loop-n.orders.items) (rows-ok c.loop-n.n p.0 _ c.in-Ok.order (omega arith) (rw fields at good))
+          ∙ front-more c.loop-n.orders.items c.in-Ok.order _
+          ∙ ap (λ x. with_front (c.loop-n.orders.items ++ c.in-Ok.order ∷ []) (rows_of (c.loop-n.n + 1) (records_from default_config x p.1 p.2))) is
+          ∙ ap (λ x. with_front x (rows_of (c.loop-n.n + 1) (records_from default_config (suc j) p.1 p.2))) (sym items),
+    )
+
+pub returns-then-branch : goal.returns-then-branch
+returns-then-branch c =
+    let (s, text, k, size, stands, told) = c.loop-n.invariant in
+    let (p, e, fields, after) = next_found _ _ _ _ (c.in_ok-next-3.ensures.reads _ _ stands) (search rules) in
+    told ∙ ap (λ r. with_front c.loop-n.orders.items (rows_of c.loop-n.n r)) (records-some k s text p e)
+    ∙ ap (with_front c.loop-n.orders.items) (rows-over c.loop-n.n p.0 _ (omega arith))
+
+pub returns : goal.returns
+returns c =
+    let (s, text, k, size, stands, told) = c.loop-n.invariant in
+    let gone = next_gone _ _ _ _ (c.in_ok-next-3.ensures.reads _ _ stands) (search rules) in
+    told ∙ (rw (records-none k s text gone, c.new-2.ensures) (front-nil c.loop-n.orders.items))

@@ -1,0 +1,12 @@
+//! Order files: the orders of a planner as comma-separated values (RFC 4180).
+#![tactic(auto)]
+
+mod fault;
+mod number;
+mod read;
+mod row;
+#[cfg(test)]
+mod tests;
+
+pub use fault::{CsvFault, CsvKind};
+pub use read::{LONGEST_FILE, read_orders};

@@ -1,4 +1,5 @@
 pub mod Asked
+pub mod Events
 pub mod Kept
 pub mod Plain
 pub mod Split

@@ -1,4 +1,5 @@
 pub mod Answers
+pub mod Batches
 pub mod Keeping
 pub mod Lists
 pub mod Replies

@@ -1,19 +1,21 @@
 // What the lists answer of a lot.
 ghost use Rattle.std.specs.Prelude.{◌≡◌, ◌≤◌, ◌<◌, ◌^◌, ◌==◌, ◌&&◌, ℕ, List, IfOk, IfErr, is_some, find, map, filter, sum_by};
 ghost use Rattle.plant_base.specs.Values.{greatest_amount};
-ghost use Rattle.plant_base.specs.State.{same};
+ghost use Rattle.plant_base.specs.State.{same, job_at};
 ghost use Rattle.plant_stock.specs.Stock.{entered, left};
 ghost use Rattle.plant_rules.specs.Refusing.{is_held};
 ghost use Rattle.plant_rules.specs.Tables.{sublot_row, sublots_of};
 ghost use Rattle.plant_rules.specs.Sound.{IsSound};
-ghost use Rattle.plant_desk.specs.Answers.{answer, lot_answer};
+ghost use Rattle.plant_desk.specs.Answers.{answer, lot_answer, answer_order};
 ghost use Rattle.plant_desk.specs.Lists.{state_of, IsStocked};
 
-use crate::keys::lot_of;
+use crate::keys::{batch_id_of, job_of, lot_of};
 use crate::lists::Lists;
-use crate::question::{Answer, LotAnswer, Question};
+use crate::question::{Answer, LotAnswer, OrderAnswer, Question};
 use crate::view::standing_of;
-use plant_base::{Hold, Id, Items, Lot, Movement, NEWEST_SCHEMA, Place, Refusal, Sublot};
+use plant_base::{
+    Batch, Hold, Id, Items, Job, Lot, Movement, NEWEST_SCHEMA, Place, Refusal, Sublot,
+};
 use std::alloc::{AllocError, Global};
 
 impl Lists {
@@ -34,6 +36,19 @@ impl Lists {
                 None => Ok(Answer::Unknown(Refusal::UnknownLot)),
                 Some(row) => Ok(Answer::Lot(self.lot_answer(row)?)),
             },
+            Question::Order(order) => Ok(self.order_answer(*order)),
+        }
+    }
+
+    fn order_answer(&self, order: Id) -> Answer
+        ensures { result ≡ answer_order (state_of self.now) order (job_at (state_of self.now) order) }
+    {
+        match job_of(&self.jobs, order) {
+            None => Answer::Unknown(Refusal::UnknownOrder),
+            Some(job) => {
+                let batch = batch_id_of(&self.batches, order);
+                Answer::Order(OrderAnswer { job, batch })
+            }
         }
     }
 

@@ -1,5 +1,5 @@
 // The keys of the rows, and look-ups by them.
-ghost use Rattle.std.specs.Prelude.{◌≡◌, ◌==◌, ◌&&◌, find};
+ghost use Rattle.std.specs.Prelude.{◌≡◌, ◌==◌, ◌&&◌, find, option_map};
 ghost use Rattle.plant_base.specs.State.{same};
 
 use crate::sorted::Keyed;
@@ -128,6 +128,39 @@ pub(crate) fn definition_of(rows: &[Definition], id: Id) -> Option<Definition>
     ensures { result ≡ find (λ r. same r.id id) rows.now }
 {
     rows.iter().copied().find(|r| r.id == id)
+}
+
+pub(crate) fn recipe_of(rows: &[Recipe], id: Id, version: u16) -> Option<Recipe>
+    ensures { result ≡ find (λ r. same r.header.recipe id && r.header.version == version) rows.now }
+{
+    rows.iter()
+        .copied()
+        .find(|r| r.header.recipe == id && r.header.version == version)
+}
+
+pub(crate) fn job_of(rows: &[Job], order: Id) -> Option<Job>
+    ensures { result ≡ find (λ r. same r.order.order order) rows.now }
+{
+    rows.iter().copied().find(|r| r.order.order == order)
+}
+
+pub(crate) fn batch_of(rows: &[Batch], id: Id) -> Option<Batch>
+    ensures { result ≡ find (λ r. same r.id id) rows.now }
+{
+    rows.iter().copied().find(|r| r.id == id)
+}
+
+// The batch that an order was released as.
+pub(crate) fn batch_id_of(rows: &[Batch], order: Id) -> Option<Id>
+    ensures { result ≡ option_map (λ r. r.id) (find (λ r. same r.job order) rows.now) }
+{
+    batch_for(rows, order).map(|r| r.id)
+}
+
+fn batch_for(rows: &[Batch], order: Id) -> Option<Batch>
+    ensures { result ≡ find (λ r. same r.job order) rows.now }
+{
+    rows.iter().copied().find(|r| r.job == order)
 }
 
 pub(crate) fn lot_of(rows: &[Lot], id: Id) -> Option<Lot>

@@ -2,6 +2,7 @@
 #![tactic(auto)]
 
 mod ask;
+mod batches;
 mod keeper;
 mod keys;
 mod list_keeper;
@@ -14,7 +15,7 @@ mod view;
 
 pub use keeper::Keeper;
 pub use list_keeper::ListKeeper;
-pub use question::{Answer, LotAnswer, Question};
+pub use question::{Answer, LotAnswer, OrderAnswer, Question};
 pub use reply::{DeskFault, Reply};
 pub use report::RunReport;
 

@@ -1,4 +1,4 @@
-use plant_base::{Id, Items, Refusal, Sublot};
+use plant_base::{Id, Items, Job, Refusal, Sublot};
 
 /// What the desk is asked.
 #[derive(Clone, Copy, Debug, PartialEq, Eq)]
@@ -7,6 +7,8 @@ pub enum Question {
     Desk,
     /// What is known of this lot.
     Lot(Id),
+    /// What is known of this order.
+    Order(Id),
 }
 
 /// What the desk answers.
@@ -15,6 +17,7 @@ pub enum Answer {
     /// The schema of the desk's tables, and how many commands were accepted.
     Desk { schema: u64, seq: u64 },
     Lot(LotAnswer),
+    Order(OrderAnswer),
     /// The question names something that isn't there.
     Unknown(Refusal),
 }
@@ -30,4 +33,12 @@ pub struct LotAnswer {
     pub stock: u64,
     /// The sublots by number, also those with no stock.
     pub sublots: Items<Sublot>,
+}
+
+/// An order with its state and its batch (job order of IEC 62264-4).
+#[derive(Clone, Copy, Debug, PartialEq, Eq)]
+pub struct OrderAnswer {
+    pub job: Job,
+    /// The batch that the order was released as, if it was.
+    pub batch: Option<Id>,
 }

@@ -8,10 +8,14 @@ ghost use Rattle.plant_trace.specs.Sources.{same_along};
 ghost use Rattle.plant_rules.specs.Genealogy.{edge_of, edges_of};
 
 use crate::ask::{holds_of, stocked_sublots};
-use crate::keys::{class_of, definition_of, hold_of, lot_of, place_of};
+use crate::batches::{batch_row, master_lines_of};
+use crate::keys::{
+    batch_of, class_of, definition_of, hold_of, job_of, lot_of, place_of, recipe_of,
+};
 use crate::lists::Lists;
 use plant_base::{
-    Class, Definition, GREATEST_AMOUNT, Hold, Id, Lot, Movement, MovementKind, Position, Sublot,
+    BatchRow, Class, Definition, GREATEST_AMOUNT, Hold, Id, Job, Lot, MasterLine, Movement,
+    MovementKind, Position, Recipe, Sublot,
 };
 use plant_rules::View;
 use plant_stock::stock_of;
@@ -70,6 +74,25 @@ impl View for Lists {
 
     fn definition(&mut self, id: Id) -> Result<Option<Definition>, AllocError> {
         Ok(definition_of(&self.definitions, id))
+    }
+
+    fn recipe(&mut self, id: Id, version: u16) -> Result<Option<Recipe>, AllocError> {
+        Ok(recipe_of(&self.recipes, id, version))
+    }
+
+    fn master_lines(&mut self, id: Id, version: u16) -> Result<Vec<MasterLine>, AllocError> {
+        master_lines_of(self.alloc, &self.master_lines, id, version)
+    }
+
+    fn job(&mut self, order: Id) -> Result<Option<Job>, AllocError> {
+        Ok(job_of(&self.jobs, order))
+    }
+
+    fn batch(&mut self, id: Id) -> Result<Option<BatchRow>, AllocError> {
+        match batch_of(&self.batches, id) {
+            None => Ok(None),
+            Some(batch) => Ok(Some(batch_row(&self.control_lines, &self.events, batch))),
+        }
     }
 
     fn lot(&mut self, id: Id) -> Result<Option<Lot>, AllocError> {

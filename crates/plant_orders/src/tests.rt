@@ -1,13 +1,19 @@
 //! Order files, whole and with each kind of fault.
 use crate::{CsvFault, CsvKind, LONGEST_FILE, read_orders};
 use plant_base::OrderRow;
-use std::fs;
 use std::process::Abort;
 use std::test::Fail;
 
 const HEADER: &[u8] = b"order,recipe,version,size,due,priority\n";
 
 const ORDER: &[u8] = b"O-1,CAKE,1,500,2027-03-01,5\r\n";
+
+/// A template of an order file, as a planner fills it; it stands in examples/orders.csv too.
+const TEMPLATE: &[u8] = b"order,recipe,version,size,due,priority
+O-1,CAKE,1,500,2027-03-01,5
+O-2,CAKE,1,250,2027-03-08,5
+\"O-3\",\"BREAD\",2,0000000000000900,2027-03-08,1
+";
 
 /// The header and then these rows.
 fn file(rt: &impl AllocGlobal, rows: &[&[u8]]) -> Result<Vec<u8>, Fail> {
@@ -50,8 +56,7 @@ fn is_first(order: &OrderRow) -> bool {
 
 #[test]
 fn a_template_is_read(rt: HostRuntime) -> Result<(), Fail> {
-    let text = fs::read(&rt, "../../examples/orders.csv")?;
-    match &read_orders(rt.alloc(), &text) {
+    match &read_orders(rt.alloc(), TEMPLATE) {
         Ok(orders) => match orders.as_slice() {
             [first, _, third] => {
                 assert!(rt; is_first(first));

@@ -1,5 +1,6 @@
 -- Due dates: civil dates of the years 2000 to 2099, written as ISO 8601 writes a calendar date.
-use Rattle.std.specs.Prelude.{ℕ, ◌+◌, ◌-◌, ◌*◌, Bool, false, ◌&&◌, ◌==◌, nat_le, List, length, slice_index, Option, Some, None, option_and_then, pos, if◌then◌else◌}
+use Rattle.std.specs.Prelude.{ℕ, ◌+◌, ◌-◌, ◌*◌, Bool, false, ◌&&◌, ◌||◌, ◌==◌, nat_le, List, length, slice_index, Option, Some, None, option_and_then, pos, if◌then◌else◌}
+use Rattle.std.specs.List.{list_all}
 use Rattle.jiff.specs.Words.{days_in_month}
 use Rattle.plant_base.specs.Values.{is_digit}
 
@@ -35,6 +36,10 @@ abbrev pub is_yes : Option Bool → Bool
 is_yes None = false
 is_yes (Some b) = b
 
+-- a digit or a dash
+abbrev pub is_due_byte : ℕ → Bool
+is_due_byte b = is_digit b || b == 45
+
 -- `YYYY-MM-DD`, a civil date of the years 2000 to 2099
 abbrev pub is_due : List ℕ → Bool
-is_due bytes = (length bytes == 10) && is_yes (due_day_of bytes)
+is_due bytes = (length bytes == 10) && list_all is_due_byte bytes && is_yes (due_day_of bytes)

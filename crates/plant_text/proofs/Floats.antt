@@ -1,9 +1,10 @@
 -- Answers have no floats.
-use Rattle.std.proofs.Common.{◌≡◌, List, [], ◌∷◌, false, refl}
+use Rattle.std.proofs.Common.{◌≡◌, List, [], ◌∷◌, ℕ, Option, Some, None, false, refl}
 use Rattle.serde_json.specs.Written.{has_float, items_have_float}
 use Rattle.plant_base.specs.declared.rows.Sublot.{Sublot}
 use Rattle.plant_desk.specs.declared.question.LotAnswer.{LotAnswer}
-use Rattle.plant_text.specs.Answers.{sublots_data, lot_data}
+use Rattle.plant_desk.specs.declared.question.OrderAnswer.{OrderAnswer}
+use Rattle.plant_text.specs.Answers.{sublots_data, lot_data, id_or_null, order_data}
 
 no_float_in_sublots : (sublots : List Sublot) → items_have_float (sublots_data sublots) ≡ false
 no_float_in_sublots [] = refl
@@ -11,3 +12,10 @@ no_float_in_sublots (s ∷ sublots) = no_float_in_sublots sublots
 
 pub no_float_in_lot : (a : LotAnswer) → has_float (lot_data a) ≡ false
 no_float_in_lot a = rw (no_float_in_sublots a.sublots) refl
+
+no_float_in_id : (id : Option (List ℕ)) → has_float (id_or_null id) ≡ false
+no_float_in_id None = refl
+no_float_in_id (Some id) = refl
+
+pub no_float_in_order : (a : OrderAnswer) → has_float (order_data a) ≡ false
+no_float_in_order a = rw (no_float_in_id a.batch) refl

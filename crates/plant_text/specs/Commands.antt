@@ -6,7 +6,8 @@ use Rattle.plant_base.specs.declared.command.Command.{Command}
 use Rattle.plant_base.specs.declared.command.Command.TheVariants as body
 use Rattle.plant_base.specs.declared.command.Envelope.{Envelope}
 use Rattle.plant_text.specs.Fields.{when, string_at, id_at, text_at, unit_at, amount_at, moment_at, sublot_at, note_at, has_fields}
-use Rattle.plant_text.specs.Lists.{parts_at}
+use Rattle.plant_text.specs.Lists.{items_at, part_of}
+use Rattle.plant_text.specs.Plans.{add_recipe_of, approve_of, withdraw_of, import_orders_of, cancel_order_of, release_of}
 
 abbrev pub add_class_of : Data → Option Command
 add_class_of d = when (has_fields 2 d)
@@ -47,7 +48,7 @@ abbrev pub merge_of : Data → Option Command
 merge_of d = when (has_fields 3 d)
     (option_and_then (λ new. option_and_then (λ place. option_map (λ parts.
     body.Merge (record { new = new; place = place; parts = parts }))
-    (parts_at (codes "parts") d)) (text_at (codes "place") d)) (id_at (codes "new") d))
+    (items_at part_of (codes "parts") d)) (text_at (codes "place") d)) (id_at (codes "new") d))
 
 abbrev pub hold_of : Data → Option Command
 hold_of d = when (has_fields 2 d)
@@ -71,7 +72,13 @@ body_of word d =
     if bytes_eq word (codes "merge") then merge_of d else (
     if bytes_eq word (codes "hold") then hold_of d else (
     if bytes_eq word (codes "unhold") then unhold_of d else (
-    None)))))))))
+    if bytes_eq word (codes "add_recipe") then add_recipe_of d else (
+    if bytes_eq word (codes "approve") then approve_of d else (
+    if bytes_eq word (codes "withdraw") then withdraw_of d else (
+    if bytes_eq word (codes "import_orders") then import_orders_of d else (
+    if bytes_eq word (codes "cancel_order") then cancel_order_of d else (
+    if bytes_eq word (codes "release") then release_of d else (
+    None)))))))))))))))
 
 abbrev pub envelope_of : Data → Option Envelope
 envelope_of d = option_and_then (λ at. option_and_then (λ by. option_and_then (λ note. option_and_then (λ word. option_map (λ body.

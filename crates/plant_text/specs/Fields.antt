@@ -4,6 +4,8 @@ use Rattle.std.specs.Option.{option_map_or}
 use Rattle.serde_json.specs.Data.{Data}
 use Rattle.serde_json.specs.Find.{get, as_number, as_u64, as_str, as_object}
 use Rattle.serde_json.specs.Events.{members_len}
+use Rattle.plant_base.specs.Dates.{is_due}
+use Rattle.plant_base.specs.Formed.{is_version, is_priority}
 use Rattle.plant_base.specs.Values.{is_id, is_text, is_unit, is_amount, is_moment, greatest_sublot}
 
 -- the value, where it obeys the rule
@@ -41,6 +43,15 @@ moment_at name d = option_and_then (only is_moment) (natural_at name d)
 
 abbrev pub sublot_at : List ℕ → Data → Option ℕ
 sublot_at name d = option_and_then (only (λ n. nat_le n greatest_sublot)) (natural_at name d)
+
+abbrev pub version_at : List ℕ → Data → Option ℕ
+version_at name d = option_and_then (only is_version) (natural_at name d)
+
+abbrev pub priority_at : List ℕ → Data → Option ℕ
+priority_at name d = option_and_then (only is_priority) (natural_at name d)
+
+abbrev pub due_at : List ℕ → Data → Option (List ℕ)
+due_at name d = option_and_then (only is_due) (string_at name d)
 
 -- a text that may be left out, and is empty then; null isn't left out
 abbrev pub text_or_empty : Option Data → Option (List ℕ)

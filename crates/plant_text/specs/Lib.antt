@@ -4,6 +4,7 @@ pub mod Fields
 pub mod Held
 pub mod Lines
 pub mod Lists
+pub mod Plans
 pub mod Questions
 pub mod Replies
 pub mod Session

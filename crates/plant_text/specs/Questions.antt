@@ -12,12 +12,16 @@ desk_of d = when (count_of d == 1) (Some Q.Desk)
 abbrev pub lot_of : Data → Option Question
 lot_of d = when (count_of d == 2) (option_map Q.Lot (id_at (codes "lot") d))
 
+abbrev pub order_of : Data → Option Question
+order_of d = when (count_of d == 2) (option_map Q.Order (id_at (codes "order") d))
+
 -- the question of a word
 abbrev pub question_for : List ℕ → Data → Option Question
 question_for word d =
     if bytes_eq word (codes "desk") then desk_of d else (
     if bytes_eq word (codes "lot") then lot_of d else (
-    None))
+    if bytes_eq word (codes "order") then order_of d else (
+    None)))
 
 abbrev pub question_of : Data → Option Question
 question_of d = option_and_then (λ word. question_for word d) (string_at (codes "ask") d)

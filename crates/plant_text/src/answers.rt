@@ -3,11 +3,11 @@ ghost use Rattle.std.specs.Prelude.{◌≡◌, IfOk, string_bytes};
 ghost use Rattle.serde_json.specs.Data.{array};
 ghost use Rattle.serde_json.specs.View.{view};
 ghost use Rattle.serde_json.specs.Written.{compact_text};
-ghost use Rattle.plant_text.specs.Answers.{desk_data, sublot_data, sublots_data, lot_data, text_of_answer};
+ghost use Rattle.plant_text.specs.Answers.{desk_data, sublot_data, sublots_data, lot_data, id_or_null, order_data, text_of_answer};
 
 use crate::replies::refusal_line;
-use plant_base::Sublot;
-use plant_desk::{Answer, LotAnswer};
+use plant_base::{Id, Sublot};
+use plant_desk::{Answer, LotAnswer, OrderAnswer};
 use serde_json::{Value, json};
 use std::alloc::{AllocError, Global};
 
@@ -55,10 +55,43 @@ fn lot_text(alloc: Global, lot: &LotAnswer) -> Result<String, AllocError>
     value.to_string(alloc)
 }
 
+fn batch_value(alloc: Global, batch: Option<Id>) -> Result<Value, AllocError>
+    ensures { IfOk result (λ v. view v ≡ id_or_null batch) }
+{
+    match batch {
+        None => Ok(Value::Null),
+        Some(id) => json!(in alloc; (id.as_str())),
+    }
+}
+
+fn order_value(alloc: Global, answer: &OrderAnswer) -> Result<Value, AllocError>
+    ensures { IfOk result (λ v. view v ≡ order_data answer.now) }
+{
+    let order = answer.job.order;
+    let batch = batch_value(alloc, answer.batch)?;
+    let due = order.due.as_str();
+    let id = order.order.as_str();
+    let recipe = order.recipe.as_str();
+    let size = order.size.get();
+    let state = answer.job.state.name();
+    json!(in alloc; {
+        "batch": batch, "due": due, "order": id, "priority": (order.priority), "recipe": recipe,
+        "size": size, "state": state, "version": (order.version)
+    })
+}
+
+fn order_text(alloc: Global, answer: &OrderAnswer) -> Result<String, AllocError>
+    ensures { IfOk result (λ s. string_bytes s ≡ compact_text (order_data answer.now)) }
+{
+    let value = order_value(alloc, answer)?;
+    value.to_string(alloc)
+}
+
 /// The text of an answer, without an LF: JSON with no blanks, the members by the bytes of their names.
 ///
 /// - of the desk `{"schema":N,"seq":N}`
 /// - of a lot `{"def":ID,"held":BOOL,"lot":ID,"stock":N,"sublots":[{"no":N,"place":TEXT,"stock":N}]}`
+/// - of an order `{"batch":ID or null,"due":"YYYY-MM-DD","order":ID,"priority":N,"recipe":ID,"size":N,"state":WORD,"version":N}`
 /// - of an unknown id the refusal's text, as [`crate::reply_line`] gives it
 #[tactic(auto, unfolding(crate::specs::Answers::text_of_answer))]
 pub fn answer_text(alloc: Global, answer: &Answer) -> Result<String, AllocError>
@@ -67,6 +100,7 @@ pub fn answer_text(alloc: Global, answer: &Answer) -> Result<String, AllocError>
     match answer {
         Answer::Desk { schema, seq } => desk_value(alloc, *schema, *seq)?.to_string(alloc),
         Answer::Lot(lot) => lot_text(alloc, lot),
+        Answer::Order(order) => order_text(alloc, order),
         Answer::Unknown(refusal) => String::from_str(alloc, refusal_line(*refusal).as_str()),
     }
 }

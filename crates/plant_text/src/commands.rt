@@ -8,7 +8,10 @@ ghost use Rattle.plant_text.specs.Lists.{Reads};
 use crate::fields::{
     amount_at, has_fields, id_at, moment_at, note_at, sublot_at, text_at, unit_at,
 };
-use crate::parts::parts_at;
+use crate::lists::items_at;
+use crate::plans::{
+    add_recipe_of, approve_of, cancel_order_of, import_orders_of, release_of, withdraw_of,
+};
 use crate::read::LineFault;
 use plant_base::{
     AddClass, AddDefinition, Command, Divide, Envelope, HoldLot, Merge, Receive, Scrap, Split,
@@ -122,7 +125,7 @@ fn merge_of(alloc: Global, value: &Value) -> Result<Command, LineFault>
     }
     let new = id_at(value, "new").ok_or(LineFault::BadForm)?;
     let place = text_at(value, "place").ok_or(LineFault::BadForm)?;
-    let parts = parts_at(alloc, value, "parts")?;
+    let parts = items_at(alloc, value, "parts")?;
     Ok(Command::Merge(Merge { new, place, parts }))
 }
 
@@ -169,6 +172,18 @@ fn body_of(alloc: Global, value: &Value, word: &str) -> Result<Command, LineFaul
         hold_of(value).ok_or(LineFault::BadForm)
     } else if word == "unhold" {
         unhold_of(value).ok_or(LineFault::BadForm)
+    } else if word == "add_recipe" {
+        add_recipe_of(alloc, value)
+    } else if word == "approve" {
+        approve_of(value).ok_or(LineFault::BadForm)
+    } else if word == "withdraw" {
+        withdraw_of(value).ok_or(LineFault::BadForm)
+    } else if word == "import_orders" {
+        import_orders_of(alloc, value)
+    } else if word == "cancel_order" {
+        cancel_order_of(value).ok_or(LineFault::BadForm)
+    } else if word == "release" {
+        release_of(value).ok_or(LineFault::BadForm)
     } else {
         Err(LineFault::BadForm)
     }

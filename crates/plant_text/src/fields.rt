@@ -2,9 +2,12 @@
 ghost use Rattle.std.specs.Prelude.{◌≡◌, ◌<◌, ◌^◌};
 ghost use Rattle.serde_json.specs.View.{view};
 ghost use Rattle.plant_base.specs.Values.{is_id, is_text, is_unit};
-ghost use Rattle.plant_text.specs.Fields.{only, natural_at, id_at, text_at, unit_at, amount_at, moment_at, sublot_at, note_at, count_of, shared_count, has_fields};
+ghost use Rattle.plant_base.specs.Dates.{is_due};
+ghost use Rattle.plant_text.specs.Fields.{only, natural_at, id_at, text_at, unit_at, amount_at, moment_at, sublot_at, version_at, priority_at, due_at, note_at, count_of, shared_count, has_fields};
 
-use plant_base::{Amount, GREATEST_SUBLOT, Id, Moment, Text, Unit};
+use plant_base::{
+    Amount, Due, GREATEST_PRIORITY, GREATEST_SUBLOT, GREATEST_VERSION, Id, Moment, Text, Unit,
+};
 use serde_json::Value;
 
 fn read_id(bytes: &[u8]) -> Option<Id>
@@ -23,6 +26,12 @@ fn read_unit(bytes: &[u8]) -> Option<Unit>
     ensures { result ≡ only is_unit bytes.now }
 {
     Unit::read(bytes)
+}
+
+fn read_due(bytes: &[u8]) -> Option<Due>
+    ensures { result ≡ only is_due bytes.now }
+{
+    Due::read(bytes).ok()
 }
 
 fn natural_at(value: &Value, name: &str) -> Option<u64>
@@ -70,6 +79,34 @@ pub(crate) fn sublot_at(value: &Value, name: &str) -> Option<u16>
     } else {
         None
     }
+}
+
+pub(crate) fn version_at(value: &Value, name: &str) -> Option<u16>
+    ensures { result ≡ version_at name.now (view value.now) }
+{
+    let number = natural_at(value, name)?;
+    if (1..=u64::from(GREATEST_VERSION)).contains(&number) {
+        Some(number as u16)
+    } else {
+        None
+    }
+}
+
+pub(crate) fn priority_at(value: &Value, name: &str) -> Option<u8>
+    ensures { result ≡ priority_at name.now (view value.now) }
+{
+    let number = natural_at(value, name)?;
+    if (1..=u64::from(GREATEST_PRIORITY)).contains(&number) {
+        Some(number as u8)
+    } else {
+        None
+    }
+}
+
+pub(crate) fn due_at(value: &Value, name: &str) -> Option<Due>
+    ensures { result ≡ due_at name.now (view value.now) }
+{
+    read_due(value.get(name)?.as_str()?.as_bytes())
 }
 
 /// The note, which is empty where it is left out.

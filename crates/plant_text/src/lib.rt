@@ -5,7 +5,8 @@
 mod answers;
 mod commands;
 mod fields;
-mod parts;
+mod lists;
+mod plans;
 mod questions;
 mod read;
 mod replies;

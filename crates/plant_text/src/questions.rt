@@ -1,7 +1,7 @@
 //! Questions as JSON: one function a word.
 ghost use Rattle.std.specs.Prelude.{◌≡◌};
 ghost use Rattle.serde_json.specs.View.{view};
-ghost use Rattle.plant_text.specs.Questions.{desk_of, lot_of, question_for, question_of};
+ghost use Rattle.plant_text.specs.Questions.{desk_of, lot_of, order_of, question_for, question_of};
 
 use crate::fields::{count_of, id_at};
 use plant_desk::Question;
@@ -27,6 +27,16 @@ fn lot_of(value: &Value) -> Option<Question>
     Some(Question::Lot(lot))
 }
 
+fn order_of(value: &Value) -> Option<Question>
+    ensures { result ≡ order_of (view value.now) }
+{
+    if count_of(value) != 2 {
+        return None;
+    }
+    let order = id_at(value, "order")?;
+    Some(Question::Order(order))
+}
+
 fn question_for(value: &Value, word: &str) -> Option<Question>
     ensures { result ≡ question_for word.now (view value.now) }
 {
@@ -34,6 +44,8 @@ fn question_for(value: &Value, word: &str) -> Option<Question>
         desk_of(value)
     } else if word == "lot" {
         lot_of(value)
+    } else if word == "order" {
+        order_of(value)
     } else {
         None
     }

@@ -5,6 +5,8 @@ mod exit;
 #[cfg(test)]
 mod movement_tests;
 #[cfg(test)]
+mod order_tests;
+#[cfg(test)]
 mod tests;
 
 use exit::{fault_of, status_of};

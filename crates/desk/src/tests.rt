@@ -105,7 +105,7 @@ fn slow_session(
 }
 
 /// Checks what a new desk writes for an input.
-fn answers(
+pub(crate) fn answers(
     rt: &(impl Abort + AllocGlobal),
     input: &[u8],
     wanted: &[u8],

@@ -3,6 +3,7 @@ use crate::tests::answers;
 use plant_base::{Command, Envelope, ImportOrders, Items, Moment, OrderRow, Text};
 use plant_desk::{Keeper, ListKeeper, Reply};
 use plant_orders::read_orders;
+use std::process::Abort;
 use std::test::Fail;
 
 /// Two definitions, and an approved recipe of base 500 for sizes of 100 to 900: 1 of flour gives 500 of dough.
@@ -21,7 +22,7 @@ const ORDERS: &[u8] =
     b"{\"at\":100,\"by\":\"anna\",\"do\":\"import_orders\",\"orders\":[{\"order\":\"O-1\",\"recipe\":\"CAKE\",\"version\":1,\"size\":100,\"due\":\"2027-03-01\",\"priority\":5},{\"order\":\"O-2\",\"recipe\":\"CAKE\",\"version\":1,\"size\":250,\"due\":\"2027-03-08\",\"priority\":1}]}\n";
 
 /// Checks what a desk with the recipe writes for further lines, some of which are refused.
-fn plans(rt: &HostRuntime, more: &[&[u8]], wanted: &[u8]) -> Result<(), Fail> {
+fn plans(rt: &(impl Abort + AllocGlobal), more: &[&[u8]], wanted: &[u8]) -> Result<(), Fail> {
     let mut input = Vec::new(rt.alloc());
     input.extend_from_slice(RECIPE)?;
     for lines in more {

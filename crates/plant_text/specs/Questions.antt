@@ -9,11 +9,15 @@ use Rattle.plant_text.specs.Fields.{when, string_at, id_at, count_of}
 abbrev pub desk_of : Data → Option Question
 desk_of d = when (count_of d == 1) (Some Q.Desk)
 
+-- the one id that a question names
+abbrev pub named : List ℕ → Data → Option (List ℕ)
+named name d = when (count_of d == 2) (id_at name d)
+
 abbrev pub lot_of : Data → Option Question
-lot_of d = when (count_of d == 2) (option_map Q.Lot (id_at (codes "lot") d))
+lot_of d = option_map Q.Lot (named (codes "lot") d)
 
 abbrev pub order_of : Data → Option Question
-order_of d = when (count_of d == 2) (option_map Q.Order (id_at (codes "order") d))
+order_of d = option_map Q.Order (named (codes "order") d)
 
 -- the question of a word
 abbrev pub question_for : List ℕ → Data → Option Question

@@ -1,9 +1,10 @@
 //! Questions as JSON: one function a word.
 ghost use Rattle.std.specs.Prelude.{◌≡◌};
 ghost use Rattle.serde_json.specs.View.{view};
-ghost use Rattle.plant_text.specs.Questions.{desk_of, lot_of, order_of, question_for, question_of};
+ghost use Rattle.plant_text.specs.Questions.{desk_of, named, lot_of, order_of, question_for, question_of};
 
 use crate::fields::{count_of, id_at};
+use plant_base::Id;
 use plant_desk::Question;
 use serde_json::Value;
 
@@ -17,24 +18,26 @@ fn desk_of(value: &Value) -> Option<Question>
     }
 }
 
-fn lot_of(value: &Value) -> Option<Question>
-    ensures { result ≡ lot_of (view value.now) }
+// The one id that a question names.
+fn named(value: &Value, name: &str) -> Option<Id>
+    ensures { result ≡ named name.now (view value.now) }
 {
     if count_of(value) != 2 {
         return None;
     }
-    let lot = id_at(value, "lot")?;
-    Some(Question::Lot(lot))
+    id_at(value, name)
+}
+
+fn lot_of(value: &Value) -> Option<Question>
+    ensures { result ≡ lot_of (view value.now) }
+{
+    Some(Question::Lot(named(value, "lot")?))
 }
 
 fn order_of(value: &Value) -> Option<Question>
     ensures { result ≡ order_of (view value.now) }
 {
-    if count_of(value) != 2 {
-        return None;
-    }
-    let order = id_at(value, "order")?;
-    Some(Question::Order(order))
+    Some(Question::Order(named(value, "order")?))
 }
 
 fn question_for(value: &Value, word: &str) -> Option<Question>

@@ -80,17 +80,64 @@ fn reads_questions(rt: HostRuntime) {
         question_of(rt.alloc(), b"{\"lot\":\"L-1\",\"ask\":\"lot\"}"),
         Id::read(b"L-1").map(Question::Lot)
     );
+    assert_eq!(rt;
+        question_of(rt.alloc(), b"{\"ask\":\"order\",\"order\":\"O-1\"}"),
+        Id::read(b"O-1").map(Question::Order)
+    );
     for line in [
         b"{\"ask\":\"desk\",\"note\":\"\"}".as_slice(),
         b"{\"ask\":\"lot\"}",
         b"{\"ask\":\"lot\",\"lot\":\"l-1\"}",
         b"{\"ask\":\"lot\",\"lot\":\"L-1\",\"x\":1}",
-        b"{\"ask\":\"order\",\"order\":\"O-1\"}",
+        b"{\"ask\":\"order\",\"lot\":\"O-1\"}",
+        b"{\"ask\":\"orders\",\"order\":\"O-1\"}",
         b"{\"ask\":null}",
         b"[\"ask\",\"desk\"]",
     ] {
         assert!(rt; is_bad(rt.alloc(), line), "{line:?}");
     }
+}
+
+/// A line that adds a recipe of this line beside its product and its phase.
+fn recipe_line(alloc: Global, line: &str) -> Result<String, Fail> {
+    let text = format!(in alloc;
+        "{{\"at\":120,\"by\":\"ben\",\"do\":\"add_recipe\",\"recipe\":\"CAKE\",\"version\":1,\"product\":\"DOUGH\",\"base\":300,\"min\":100,\"max\":900,\"title\":\"\",\"lines\":[{line},{{\"kind\":\"out\",\"def\":\"DOUGH\",\"qty\":300}}]}}"
+    )?;
+    Ok(text)
+}
+
+#[test]
+fn reads_recipe_lines(rt: HostRuntime) -> Result<(), Fail> {
+    for (line, is_read) in [
+        ("{\"kind\":\"in\",\"def\":\"FLOUR\",\"qty\":100}", true),
+        (
+            "{\"kind\":\"par\",\"name\":\"TEMP\",\"value\":\"80 C\"}",
+            true,
+        ),
+        (
+            "{\"kind\":\"phase\",\"unit\":\"MIX\",\"oper\":\"BLEND\",\"phase\":\"STIR\"}",
+            true,
+        ),
+        ("{\"kind\":\"in\",\"def\":\"FLOUR\",\"qty\":0}", false),
+        (
+            "{\"kind\":\"in\",\"def\":\"FLOUR\",\"qty\":100,\"x\":1}",
+            false,
+        ),
+        (
+            "{\"kind\":\"par\",\"name\":\"temp\",\"value\":\"80 C\"}",
+            false,
+        ),
+        ("{\"kind\":\"unit\",\"def\":\"FLOUR\",\"qty\":100}", false),
+        ("[]", false),
+    ] {
+        let text = recipe_line(rt.alloc(), line)?;
+        assert_eq!(rt;
+            command_of(rt.alloc(), text.as_bytes()).is_some(),
+            is_read,
+            "{line}"
+        );
+    }
+    Ok(())
 }
 
 /// A line that scraps, with these numbers as they stand, and these members at its end.

@@ -1,5 +1,5 @@
 -- What holds of the values of an envelope, and which commands are well formed.
-use Rattle.std.specs.Prelude.{◌≡◌, ℕ, Bool, true, ◌&&◌, ◌==◌, not, nat_le, List, [], ◌∷◌, length, IsTrue, All}
+use Rattle.std.specs.Prelude.{ℕ, Bool, true, ◌&&◌, ◌==◌, not, nat_le, List, [], ◌∷◌, length, IsTrue, All}
 use Rattle.std.specs.List.{list_all, list_any}
 use Rattle.plant_base.specs.Values.{is_id, is_text, is_unit, is_amount, is_moment, greatest_sublot, greatest_version, greatest_priority}
 use Rattle.plant_base.specs.Dates.{is_due}

@@ -69,6 +69,19 @@ fn a_template_is_read(rt: HostRuntime) -> Result<(), Fail> {
     Ok(())
 }
 
+/// With ample memory the orders of the template are read; where an allocation is refused, `bench/orders.sh` runs this test.
+#[test]
+fn want_of_memory_is_told(rt: HostRuntime) {
+    let memory = CsvFault {
+        row: 0,
+        kind: CsvKind::Memory,
+    };
+    match read(&rt, TEMPLATE) {
+        Ok(count) => assert!(rt; count == 3),
+        Err(fault) => assert!(rt; fault == memory),
+    }
+}
+
 #[test]
 fn a_mark_is_skipped_once(rt: HostRuntime) -> Result<(), Fail> {
     let mut text = Vec::new(rt.alloc());

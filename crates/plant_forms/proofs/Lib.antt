@@ -1,0 +1,16 @@
+pub mod Column
+pub mod Given
+pub mod Texts
+pub mod Values
+pub mod RowFacts
+pub mod Conflicts
+pub mod Putting
+pub mod Turning
+pub mod Taking
+pub mod Apart
+pub mod Making
+pub mod Moving
+pub mod Founding
+pub mod Computed
+pub mod Listed
+pub mod Ending

@@ -1,0 +1,9 @@
+pub mod Forms
+pub mod Rows
+pub mod Standing
+pub mod Resting
+pub mod Views
+pub mod Written
+pub mod Texts
+pub mod Moves
+pub mod Stopping

@@ -1,0 +1,14 @@
+//! The description of a table, and what SQL statements make of tables that were so described.
+#![tactic(auto)]
+
+mod fault;
+mod form;
+mod frame;
+mod standing;
+mod statements;
+
+pub use fault::{Fault, fault_of};
+pub use form::{ColumnForm, Form};
+pub use frame::{Work, in_one};
+pub use standing::{Stand, stand_of};
+pub use statements::{make_tables, put_row, take_rows};

@@ -1,0 +1,55 @@
+-- A store tells one version at most, and none where the names are free.
+use Rattle.std.proofs.Common.{◌≡◌, refl, sym, ap, ◌∙◌, ℕ, ℤ, List, [], ◌∷◌, map, All, Some, None, true, false, Bool, ◌||◌, ◌<◌, arith, length, slice_index_or}
+use Rattle.sqlite.proofs.Callers.{one_permutation}
+use Rattle.sqlite.specs.Effect.{Database}
+use Rattle.sqlite.specs.Schema.{Schema}
+use Rattle.plant_forms.specs.Forms.{Form}
+use Rattle.plant_forms.specs.Standing.{HasTable, IsFree}
+use Rattle.plant_reads.specs.Reading.{Lists}
+use Rattle.plant_reads.proofs.Same.{lists_same, has_listed}
+use Rattle.plant_tables.specs.DeskForms.{desk_forms, meta_form}
+use Rattle.plant_loaded.specs.declared.meta.StoredMeta.{StoredMeta}
+use Rattle.plant_loaded.specs.Stored.{meta_row}
+use Rattle.plant_loaded.specs.Version.{IsGoodMeta, IsVersion}
+
+same_meta : (a b : StoredMeta) → meta_row a ≡ meta_row b → a ≡ b
+same_meta a b h =
+    let k : a.k ≡ b.k = cc in
+    let schema : a.schema ≡ b.schema = cc in
+    let seq : a.seq ≡ b.seq = cc in
+    let at : a.at ≡ b.at = cc in
+    made a.k b.k a.schema b.schema a.seq b.seq a.at b.at k schema seq at
+  where
+    made : (k k' schema schema' seq seq' at at' : ℤ) → k ≡ k' → schema ≡ schema' → seq ≡ seq' → at ≡ at'
+        → ◌≡◌ {A = StoredMeta} (record { k = k; schema = schema; seq = seq; at = at }) (record { k = k'; schema = schema'; seq = seq'; at = at' })
+    made k k' schema schema' seq seq' at at' p q r s = rw (p, q, r, s) refl
+
+one_meta : (list : List StoredMeta) (m : StoredMeta) → map meta_row list ≡ meta_row m ∷ [] → list ≡ m ∷ []
+one_meta [] m h = absurd (cc)
+one_meta (a ∷ []) m h = let row : meta_row a ≡ meta_row m = cc in ap (λ x. x ∷ []) (same_meta a m row)
+one_meta (a ∷ b ∷ more) m h = absurd (cc)
+
+-- the rows that were read are the one row of a version
+pub version_row : (db : Database) (list : List StoredMeta) (n : ℤ) → Lists db meta_form (map meta_row list) → (v : IsVersion db n) → list ≡ v.row ∷ []
+version_row db list n lists v = one_meta list v.row (one_permutation (meta_row v.row) _ (lists_same db meta_form _ _ v.alone lists))
+
+pub no_version : (db : Database) (list : List StoredMeta) → Lists db meta_form (map meta_row list) → ((m : StoredMeta) → list ≡ m ∷ [] → ¬ IsGoodMeta m) → (n : ℤ) → ¬ IsVersion db n
+no_version db list lists none n v = none v.row (version_row db list n lists v) v.good
+
+pub one_version : (db : Database) (n k : ℤ) → IsVersion db n → IsVersion db k → n ≡ k
+one_version db n k v w =
+    let rows : v.row ∷ [] ≡ w.row ∷ [] = version_row db (v.row ∷ []) k v.alone w in
+    let row : v.row ≡ w.row = cc in
+    sym v.tells ∙ ap (λ (m : StoredMeta). m.schema) row ∙ w.tells
+
+-- where the names are free there is no version
+pub free_tells_nothing : (db : Database) (n : ℤ) → All (IsFree db.schema) desk_forms → ¬ IsVersion db n
+free_tells_nothing db n free v =
+    let meta : IsFree db.schema meta_form = free 0 meta_form (omega arith) in
+    let unused = meta.unused in
+    let named = v.alone.declared.named in
+    absurd (let both = rw named at unused in cc)
+
+-- where table meta doesn't stand there is no version
+pub other_tells_nothing : (db : Database) (n : ℤ) → ¬ All (HasTable db.schema) (meta_form ∷ []) → ¬ IsVersion db n
+other_tells_nothing db n none v = none (λ k d low. let first : k ≡ 0 = omega arith in rw first (has_listed db meta_form _ v.alone))

@@ -1,0 +1,87 @@
+//! What a store holds of the desk.
+
+ghost use Rattle.std.specs.Prelude.{◌≡◌, ◌↔◌, ◌∷◌, [], false, true, All, None, ℤ, IfOk, IfSome};
+ghost use Rattle.sqlite.specs.Held.{state};
+ghost use Rattle.sqlite.specs.State.{HasCleanDisk, Survives};
+ghost use Rattle.plant_forms.specs.Resting.{Keeps};
+ghost use Rattle.plant_forms.specs.Standing.{IsFree};
+ghost use Rattle.plant_tables.specs.DeskForms.{desk_forms};
+ghost use Rattle.plant_loaded.specs.Version.{IsGoodMeta, IsVersion};
+
+use crate::forms::all_forms;
+use crate::meta::StoredMeta;
+use plant_base::{GREATEST_MOMENT, GREATEST_SEQ};
+use plant_forms::Fault;
+use plant_reads::{all_free, all_stand, read_table};
+use plant_tables::forms::META;
+use sqlite::{Alter, Connection};
+use std::alloc::Global;
+
+/// What a store holds of the desk's tables.
+#[derive(Clone, Copy, Debug, PartialEq, Eq)]
+pub enum FoundTables {
+    /// None of them: their names are free.
+    Nothing,
+    /// Some, but table meta doesn't stand as it is declared, or hasn't one row, or has a row with a number that it can't
+    /// have.
+    NoMeta,
+    /// Some, of this version, which is at least 1.
+    Version(i64),
+}
+
+/// Whether each number is one that the row of table meta can have.
+fn is_good(meta: &StoredMeta) -> bool
+    ensures { (result ≡ true) ↔ IsGoodMeta meta.now }
+{
+    meta.k == 1
+        && meta.schema >= 1
+        && 0 <= meta.seq
+        && meta.seq <= GREATEST_SEQ as i64
+        && 0 <= meta.at
+        && meta.at <= GREATEST_MOMENT as i64
+}
+
+/// The version that the one row tells, where it is good.
+fn version_in(list: &[StoredMeta]) -> Option<i64>
+    ensures some { IfSome result (λ n. (m : StoredMeta) × (list.now ≡ m ∷ []) × IsGoodMeta m × (m.schema ≡ n)) }
+    ensures none { result ≡ None → (m : StoredMeta) → list.now ≡ m ∷ [] → ¬ IsGoodMeta m }
+{
+    match list {
+        [one] => { if is_good(one) { Some(one.schema) } else { None } }
+        _ => None,
+    }
+}
+
+/// The version that table meta tells. `None` where it doesn't stand as it is declared, hasn't one row, or has a row
+/// that isn't good. The faults are those of [`found`].
+fn version<S: Alter>(alloc: Global, conn: &mut Connection<S>) -> Result<Option<i64>, Fault>
+    ensures some { HasCleanDisk (state S.Store conn.new) → IfOk result (λ found. IfSome found (IsVersion (state S.Store conn.old).now)) }
+    ensures none { HasCleanDisk (state S.Store conn.new) → IfOk result (λ found. found ≡ None → (n : ℤ) → ¬ IsVersion (state S.Store conn.old).now n) }
+    ensures kept { HasCleanDisk (state S.Store conn.new) → Keeps (state S.Store conn.old) (state S.Store conn.new) }
+    ensures mode { (state S.Store conn.old).in_transaction ≡ false → (state S.Store conn.new).in_transaction ≡ false }
+    ensures crash { Survives (state S.Store conn.old) (state S.Store conn.new) (λ _. ⊥) }
+{
+    if !all_stand(conn.schema(), &[META]) {
+        return Ok(None);
+    }
+    let list = read_table(alloc, conn)?;
+    Ok(version_in(list.as_slice()))
+}
+
+/// What the store holds of the desk's tables. Store where a transaction is open while table meta is to be read, and
+/// where the store fails; Memory where there is none. Nothing is changed.
+pub fn found<S: Alter>(alloc: Global, conn: &mut Connection<S>) -> Result<FoundTables, Fault>
+    ensures nothing { IfOk result (λ found. (found ≡ FoundTables.Nothing) ↔ All (IsFree (state S.Store conn.old).now.schema) desk_forms) }
+    ensures version { HasCleanDisk (state S.Store conn.new) → IfOk result (λ found. (n : ℤ) → (found ≡ FoundTables.Version n) ↔ IsVersion (state S.Store conn.old).now n) }
+    ensures kept { HasCleanDisk (state S.Store conn.new) → Keeps (state S.Store conn.old) (state S.Store conn.new) }
+    ensures mode { (state S.Store conn.old).in_transaction ≡ false → (state S.Store conn.new).in_transaction ≡ false }
+    ensures crash { Survives (state S.Store conn.old) (state S.Store conn.new) (λ _. ⊥) }
+{
+    if all_free(conn.schema(), &all_forms()) {
+        return Ok(FoundTables::Nothing);
+    }
+    match version(alloc, conn)? {
+        Some(version) => Ok(FoundTables::Version(version)),
+        None => Ok(FoundTables::NoMeta),
+    }
+}

@@ -1,0 +1,16 @@
+//! Loading the desk's tables: every row, as it is stored.
+#![tactic(auto)]
+
+mod finding;
+mod forms;
+mod loaded;
+pub mod masters;
+pub mod meta;
+pub mod orders;
+pub mod stocks;
+
+pub use finding::{FoundTables, found};
+pub use loaded::Loaded;
+
+#[cfg(test)]
+mod tests;

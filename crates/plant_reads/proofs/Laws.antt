@@ -1,0 +1,27 @@
+-- A store whose transaction is not broken has its tables in the order of their rowids.
+use Rattle.std.proofs.Common.{◌≡◌, true, false, refl, subst, Bool, IsTrue, Result, Ok, Err, IfOk}
+use Rattle.sqlite_trees.specs.View.{View, IsShaped, IsOrdered}
+use Rattle.sqlite_trees.specs.Objects.{IsListed, catalog_tree}
+use Rattle.sqlite_trees.specs.declared.store.Shape.TheVariants as shape
+use Rattle.sqlite_schema.specs.declared.schema.Schema.{Schema}
+use Rattle.sqlite_catalog.specs.Listing.{IsSound}
+use Rattle.sqlite_catalog.proofs.LayoutLemmas.{objects_rise, table_shape}
+use Rattle.plant_reads.specs.Ordered.{IsRising}
+
+pub rising_of : (v : View) (schema : Schema) → IsListed (v.trees catalog_tree) v.shape v.reals → IsOrdered v.shape v.trees → IsSound schema v.trees
+    → IsRising (record { schema = schema; trees = v.trees })
+rising_of v schema listed ordered sound = record {
+  rises = λ t h. subst (λ s. IsShaped s (v.trees t.tree)) (table_shape listed (objects_rise v listed ordered).0 sound.lists.listed t h).0 (ordered t.tree);
+}
+
+pub ok_three : {A E : Type 0} (r : Result A E) (P Q R T : A → Type 0) → ((x : A) → P x → Q x → R x → T x) → IfOk r P → IfOk r Q → IfOk r R → IfOk r T
+ok_three (Ok x) P Q R T f p q r = f x p q r
+ok_three (Err e) P Q R T f p q r = tt
+
+pub open_if : (o b : Bool) → (o ≡ false → IsTrue b) → b ≡ false → IsTrue o
+open_if true b h k = refl
+open_if false b h k = absurd (let broken = rw k at (h refl) in cc)
+
+pub ok_two : {A E : Type 0} (r : Result A E) (P Q T : A → Type 0) → ((x : A) → P x → Q x → T x) → IfOk r P → IfOk r Q → IfOk r T
+ok_two (Ok x) P Q T f p q = f x p q
+ok_two (Err e) P Q T f p q = tt

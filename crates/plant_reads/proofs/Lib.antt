@@ -1,0 +1,15 @@
+pub mod Three
+pub mod Body
+pub mod Query
+pub mod Answer
+pub mod Shown
+pub mod Entries
+pub mod Tests
+pub mod Stored
+pub mod Selecting
+pub mod KeepLemmas
+pub mod RiseLemmas
+pub mod Whole
+pub mod Laws
+pub mod Rising
+pub mod Same

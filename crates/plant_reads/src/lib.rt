@@ -1,0 +1,13 @@
+//! Reading the rows of described tables: what a fixed SELECT of one table means, and reading its answer row by row.
+#![tactic(auto)]
+
+pub mod cells;
+mod opening;
+mod reading;
+mod row;
+mod table;
+
+pub use opening::{open_over, reopen};
+pub use reading::read_rows;
+pub use row::TableRow;
+pub use table::{all_free, all_stand, find_rows, read_table};

@@ -1,0 +1,39 @@
+ghost use Rattle.std.specs.Prelude.{◌≡◌, ◌≤◌, IfOk, IfErr};
+ghost use Rattle.sqlite_trees.specs.View.{doubt, IsClean, IsQuiet};
+ghost use Rattle.sqlite.specs.State.{HasCleanDisk, Opens, IsLive};
+ghost use Rattle.sqlite.specs.Steps.{IsFresh};
+ghost use Rattle.sqlite.specs.Held.{state};
+ghost use Rattle.plant_reads.specs.Ordered.{IsRising};
+
+use sqlite::{Alter, Connection, Error, ErrorCode};
+use std::alloc::Global;
+
+/// A connection over a store that was just opened, with each table in the order of its rowids. What it answers where
+/// it doesn't open: the store's error, and the store.
+pub fn open_over<S: Alter + Drop>(alloc: Global, store: S) -> Result<Connection<S>, (Error, S)>
+    requires { IsClean (S.Store.view store) → IsFresh (S.Store.view store) }
+    ensures opens { IfOk result (λ c. HasCleanDisk (state S.Store c) → Opens (state S.Store c) × IsLive (state S.Store c)) }
+    ensures rising { IfOk result (λ c. HasCleanDisk (state S.Store c) → IsRising (state S.Store c).now) }
+    ensures trees { IfOk result (λ c. HasCleanDisk (state S.Store c) → (state S.Store c).now.trees ≡ (S.Store.view store).trees) }
+    ensures clean { IfOk result (λ c. doubt (S.Store.view store).is_clean ≤ doubt (state S.Store c).is_clean) }
+    ensures unharmed { IfErr result (λ e. IsQuiet S.Store.view S.Store.faults S.Store.recovers S.Store.is_shielded store e.1) }
+{
+    Connection::over(alloc, store)
+}
+
+/// The same connection opened anew, which shows what was committed, with each table in the order of its rowids. What
+/// it answers where it doesn't open: the store's error, and the store.
+pub fn reopen<S: Alter + Drop>(
+    alloc: Global,
+    conn: Connection<S>,
+) -> Result<Connection<S>, (Error, S)>
+    ensures opens { IfOk result (λ c. HasCleanDisk (state S.Store c) → Opens (state S.Store c) × IsLive (state S.Store c)) }
+    ensures rising { IfOk result (λ c. HasCleanDisk (state S.Store c) → IsRising (state S.Store c).now) }
+    ensures trees { IfOk result (λ c. HasCleanDisk (state S.Store c) → (state S.Store c).now.trees ≡ (state S.Store conn).committed.trees) }
+{
+    let store = conn.into_store();
+    if store.is_broken() {
+        return Err((Error::SqliteFailure(ErrorCode::Closed), store));
+    }
+    open_over(alloc, store)
+}

@@ -1,0 +1,287 @@
+-- A change of rows is the change of the desk's tables.
+use Rattle.std.proofs.Common.{◌≡◌, ◌≢◌, inl, inr, refl, sym, ap, subst, ◌∙◌, ℕ, ◌<◌, List, [], ◌∷◌, ◌++◌, Bool, true, false, not, ◌&&◌, ◌||◌, ◌==◌, if◌then◌else◌, map, filter, length, get_or, set, eqb-true, arith}
+use Rattle.std.proofs.lemmas.Bool.{cases_Bool}
+use Rattle.std.proofs.lemmas.Bool.Decides.{nat_tests}
+use Rattle.std.proofs.lemmas.List.{get_or-set_same, get_or-set_other}
+use Rattle.std.specs.List.{AllByRecursion}
+use Rattle.std.specs.List.Sorted.{IsStrictlySortedBy, IsPermutation}
+use Rattle.std.proofs.lemmas.List.Sorted.{IsPermutation-refl, IsPermutation-trans, IsPermutation-sym, IsPermutation-cons}
+use Rattle.std.specs.Cmp.{IsTotalOrder, unsigned_ties}
+use Rattle.std.specs.Cmp.Lexicographic.{texts_ties}
+use Rattle.std.specs.Ordering.{is_eq}
+use Rattle.std.specs.declared.cmp.Ordering.{Ordering}
+use Rattle.std.specs.declared.cmp.Ordering.TheVariants.{Less}
+use Rattle.std.proofs.lemmas.Cmp.{then_total, on_total, nat_list_cmp_total, nat_cmp_total, eq_by_cmp_equiv}
+use Rattle.sqlite_trees.proofs.ListLemmas.{IsPermutation-filter}
+use Rattle.sqlite.specs.Effect.{Database}
+use Rattle.sqlite_value.specs.Order.{Row}
+use Rattle.sqlite_value.specs.declared.value.Value.TheVariants.{Text}
+use Rattle.sqlite_value.specs.Keys.{first_key}
+use Rattle.plant_base.specs.State.{same, put, class_order, definition_order, recipe_order, master_line_order, job_order, control_line_order, lot_order, hold_order}
+use Rattle.plant_base.proofs.Put.{sorted_put}
+use Rattle.plant_base.specs.declared.rows.Meta.{Meta}
+use Rattle.plant_base.specs.declared.rows.Class.{Class}
+use Rattle.plant_base.specs.declared.rows.Definition.{Definition}
+use Rattle.plant_base.specs.declared.rows.Recipe.{Recipe}
+use Rattle.plant_base.specs.declared.rows.MasterLine.{MasterLine}
+use Rattle.plant_base.specs.declared.rows.Job.{Job}
+use Rattle.plant_base.specs.declared.rows.BatchRow.{BatchRow}
+use Rattle.plant_base.specs.declared.rows.ControlLine.{ControlLine}
+use Rattle.plant_base.specs.declared.rows.BatchEvent.{BatchEvent}
+use Rattle.plant_base.specs.declared.rows.Lot.{Lot}
+use Rattle.plant_base.specs.declared.rows.Sublot.{Sublot}
+use Rattle.plant_base.specs.declared.rows.Movement.{Movement}
+use Rattle.plant_base.specs.declared.rows.Hold.{Hold}
+use Rattle.plant_rules.specs.Tables.{Tables, batch_row_order, sublot_order, changed, changed_all, without_hold}
+use Rattle.plant_rules.specs.declared.change.RowChange.{RowChange}
+use Rattle.plant_rules.specs.declared.change.RowChange.TheVariants as change
+use Rattle.plant_forms.specs.Forms.{Form}
+use Rattle.plant_forms.specs.Rows.{meets, has_values, take_away, same_key}
+use Rattle.plant_forms.specs.Rows as rows
+use Rattle.plant_forms.specs.Standing.{Contents, StandIn}
+use Rattle.plant_forms.specs.Moves.{changed_at, taken_at}
+use Rattle.plant_tables.specs.DeskForms.{class_form, definition_form, recipe_form, recipe_line_form, job_form, batch_form, control_line_form, batch_event_form, lot_form, sublot_form, movement_form, hold_form, meta_form}
+use Rattle.plant_tables.specs.DeskTables.{rows_of, contents_of, rows_changed, all_rows_changed}
+use Rattle.plant_tables.specs.Encoding.{row_of_meta, row_of_class, row_of_definition, row_of_recipe, row_of_master_line, row_of_job, row_of_batch, row_of_control_line, row_of_event, row_of_lot, row_of_sublot, row_of_movement, row_of_hold}
+use Rattle.plant_tables.specs.Keyed.{AreKeyed, IsFresh, AreFresh}
+use Rattle.plant_tables.proofs.KeyTests.{or_false, one_text, second_text, two_texts, text_number, text_numbers, one_number, two_numbers, text_tie, and_true}
+use Rattle.plant_tables.proofs.Permuted.{put_by_key, put_at_end}
+
+-- ---- the orders
+
+class_total : IsTotalOrder class_order
+class_total = on_total (λ r. r.id) nat_list_cmp_total
+
+definition_total : IsTotalOrder definition_order
+definition_total = on_total (λ r. r.id) nat_list_cmp_total
+
+recipe_total : IsTotalOrder recipe_order
+recipe_total = then_total (on_total (λ r. r.header.recipe) nat_list_cmp_total) (on_total (λ r. r.header.version) nat_cmp_total)
+
+master_line_total : IsTotalOrder master_line_order
+master_line_total = then_total (then_total (on_total (λ r. r.recipe) nat_list_cmp_total) (on_total (λ r. r.version) nat_cmp_total)) (on_total (λ r. r.number) nat_cmp_total)
+
+job_total : IsTotalOrder job_order
+job_total = on_total (λ r. r.order.order) nat_list_cmp_total
+
+batch_total : IsTotalOrder batch_row_order
+batch_total = on_total (λ r. r.batch.id) nat_list_cmp_total
+
+control_line_total : IsTotalOrder control_line_order
+control_line_total = then_total (on_total (λ r. r.batch) nat_list_cmp_total) (on_total (λ r. r.number) nat_cmp_total)
+
+lot_total : IsTotalOrder lot_order
+lot_total = on_total (λ r. r.id) nat_list_cmp_total
+
+sublot_total : IsTotalOrder sublot_order
+sublot_total = then_total (on_total (λ r. r.lot) nat_list_cmp_total) (on_total (λ r. r.number) nat_cmp_total)
+
+hold_total : IsTotalOrder hold_order
+hold_total = then_total (on_total (λ r. r.lot) nat_list_cmp_total) (on_total (λ r. r.id) nat_list_cmp_total)
+
+-- ---- the table at a place
+
+-- as many rows in some order, in each table
+abbrev pub SameRows : Contents → Contents → Type 0
+SameRows a b = (i : ℕ) → IsPermutation (a i) (b i)
+
+at_place : (place : ℕ) (become : List Row → List Row) (l : List (List Row)) (new : List Row) → place < length l → IsPermutation (become (get_or l place [])) new
+    → SameRows (λ i. if i == place then become (get_or l place []) else get_or l i []) (λ i. get_or (set l place new) i [])
+at_place place become l new low same i = elim (cases_Bool (i == place)) [
+  | inl hit ↦ let at : i ≡ place = eqb-true i place hit in rw (hit, at, get_or-set_same l place new [] low) same
+  | inr miss ↦ let away : i ≢ place = λ e. absurd (grind (arith, nat_tests)) in rw (miss, get_or-set_other l place i new [] away) (IsPermutation-refl (get_or l i []))
+]
+
+-- the test of a key turned round, for each row
+ties : {R : Type 0} (order : R → R → Ordering) → IsTotalOrder order → (enc : R → Row) (form : Form) → ((x r : R) → meets form (enc x) (enc r) ≡ is_eq (order x r)) → (r : R) (xs : List R)
+    → AllByRecursion (λ x. meets form (enc x) (enc r) ≡ is_eq (order r x)) xs
+ties order total enc form met r [] = tt
+ties order total enc form met r (x ∷ xs) = (met x r ∙ (eq_by_cmp_equiv total).symm x r, ties order total enc form met r xs)
+
+put_typed : {R : Type 0} (order : R → R → Ordering) → IsTotalOrder order → (enc : R → Row) (form : Form) → ((x r : R) → meets form (enc x) (enc r) ≡ is_eq (order x r)) → (r : R) (xs : List R) → IsStrictlySortedBy order xs
+    → IsPermutation (rows.put form (enc r) (map enc xs)) (map enc (put order r xs))
+put_typed order total enc form met r xs sorted = put_by_key enc form r order total xs sorted (ties order total enc form met r xs)
+
+-- ---- the keys of the tables
+
+class_met : (x r : Class) → meets class_form (row_of_class x) (row_of_class r) ≡ is_eq (class_order x r)
+class_met x r = or_false _ ∙ one_text x.id r.id [] []
+
+definition_met : (x r : Definition) → meets definition_form (row_of_definition x) (row_of_definition r) ≡ is_eq (definition_order x r)
+definition_met x r = or_false _ ∙ one_text x.id r.id [] []
+
+recipe_met : (x r : Recipe) → meets recipe_form (row_of_recipe x) (row_of_recipe r) ≡ is_eq (recipe_order x r)
+recipe_met x r = or_false _ ∙ text_number x.header.recipe r.header.recipe x.header.version r.header.version [] []
+
+master_line_met : (x r : MasterLine) → meets recipe_line_form (row_of_master_line x) (row_of_master_line r) ≡ is_eq (master_line_order x r)
+master_line_met x r = or_false _ ∙ text_numbers x.recipe r.recipe x.version r.version x.number r.number [] []
+
+job_met : (x r : Job) → meets job_form (row_of_job x) (row_of_job r) ≡ is_eq (job_order x r)
+job_met x r = or_false _ ∙ one_text x.order.order r.order.order [] []
+
+control_line_met : (x r : ControlLine) → meets control_line_form (row_of_control_line x) (row_of_control_line r) ≡ is_eq (control_line_order x r)
+control_line_met x r = or_false _ ∙ text_number x.batch r.batch x.number r.number [] []
+
+lot_met : (x r : Lot) → meets lot_form (row_of_lot x) (row_of_lot r) ≡ is_eq (lot_order x r)
+lot_met x r = or_false _ ∙ one_text x.id r.id [] []
+
+sublot_met : (x r : Sublot) → meets sublot_form (row_of_sublot x) (row_of_sublot r) ≡ is_eq (sublot_order x r)
+sublot_met x r = or_false _ ∙ text_number x.lot r.lot x.number r.number [] []
+
+hold_met : (x r : Hold) → meets hold_form (row_of_hold x) (row_of_hold r) ≡ is_eq (hold_order x r)
+hold_met x r = or_false _ ∙ two_texts x.lot r.lot x.id r.id [] []
+
+implied_or : (a b : Bool) → (b ≡ true → a ≡ true) → (a || b) ≡ a
+implied_or true b h = refl
+implied_or false true h = sym (h refl)
+implied_or false false h = refl
+
+holds_values : (h : Hold) (lot hold : List ℕ) → has_values (1 ∷ 2 ∷ []) (Text lot ∷ Text hold ∷ []) (row_of_hold h) ≡ (same h.lot lot && same h.id hold)
+unfolding first_key
+holds_values h lot hold = rw (text_tie h.lot lot, text_tie h.id hold, and_true) (rw (texts_ties h.lot lot, texts_ties h.id hold) refl)
+
+-- a batch of an order that no other is of meets the one with its id alone
+batch_ties : (r : BatchRow) (xs : List BatchRow) → AllByRecursion (λ b. same b.batch.job r.batch.job ≡ true → same b.batch.id r.batch.id ≡ true) xs
+    → AllByRecursion (λ x. meets batch_form (row_of_batch x) (row_of_batch r) ≡ is_eq (batch_row_order r x)) xs
+batch_ties r [] fresh = tt
+batch_ties r (x ∷ xs) fresh =
+    let one = one_text x.batch.id r.batch.id [] [] in
+    let two = second_text x.batch.job r.batch.job [] [] x.batch.id r.batch.id in
+    let both : meets batch_form (row_of_batch x) (row_of_batch r) ≡ (same x.batch.id r.batch.id || same x.batch.job r.batch.job) =
+    rw (one, two, or_false) (rw (texts_ties x.batch.id r.batch.id, texts_ties x.batch.job r.batch.job) refl) in
+    let tied : same x.batch.id r.batch.id ≡ is_eq (batch_row_order r x) = texts_ties x.batch.id r.batch.id ∙ (eq_by_cmp_equiv batch_total).symm x r in
+    (both ∙ (implied_or _ _ fresh.0 ∙ tied), batch_ties r xs fresh.1)
+
+events_apart : (r : BatchEvent) (xs : List BatchEvent) → AllByRecursion (λ e. (e.seq == r.seq) ≡ false) xs → AllByRecursion (λ x. meets batch_event_form (row_of_event x) (row_of_event r) ≡ false) xs
+events_apart r [] fresh = tt
+events_apart r (x ∷ xs) fresh = (or_false _ ∙ (one_number x.seq r.seq [] [] ∙ (sym (unsigned_ties x.seq r.seq) ∙ fresh.0)), events_apart r xs fresh.1)
+
+movements_apart : (r : Movement) (xs : List Movement) → AllByRecursion (λ m. (m.seq == r.seq && m.line == r.line) ≡ false) xs → AllByRecursion (λ x. meets movement_form (row_of_movement x) (row_of_movement r) ≡ false) xs
+movements_apart r [] fresh = tt
+movements_apart r (x ∷ xs) fresh =
+    (or_false _ ∙ (two_numbers x.seq r.seq x.line r.line [] [] ∙ rw (sym (unsigned_ties x.seq r.seq), sym (unsigned_ties x.line r.line)) fresh.0), movements_apart r xs fresh.1)
+
+hold_taken : (lot hold : List ℕ) (hs : List Hold) → take_away (1 ∷ 2 ∷ []) (Text lot ∷ Text hold ∷ []) (map row_of_hold hs) ≡ map row_of_hold (without_hold lot hold hs)
+hold_taken lot hold [] = refl
+hold_taken lot hold (h ∷ hs) = elim (cases_Bool (same h.lot lot && same h.id hold)) [
+  | inl hit ↦ rw (holds_values h lot hold, hit) (hold_taken lot hold hs)
+  | inr miss ↦ rw (holds_values h lot hold, miss) (ap (λ l. row_of_hold h ∷ l) (hold_taken lot hold hs))
+]
+
+-- there is one row of meta
+meta_put : (r old : Meta) → IsPermutation (rows.put meta_form (row_of_meta r) (row_of_meta old ∷ [])) (row_of_meta r ∷ [])
+meta_put r old =
+    let met : meets meta_form (row_of_meta old) (row_of_meta r) ≡ true = or_false _ ∙ one_number 1 1 [] [] in
+    rw met (IsPermutation-refl (row_of_meta r ∷ []))
+
+-- ---- one change
+
+pub one_changed : (c : RowChange) (t : Tables) → AreKeyed t → IsFresh c t → SameRows (rows_changed c (contents_of t)) (contents_of (changed c t))
+unfolding rows_changed
+one_changed (change.Meta r) t keyed fresh = at_place 0 (rows.put meta_form (row_of_meta r)) (rows_of t) (row_of_meta r ∷ []) (omega arith) (meta_put r t.meta)
+one_changed (change.Class r) t keyed fresh = at_place 1 (rows.put class_form (row_of_class r)) (rows_of t) (map row_of_class (put class_order r t.classes)) (omega arith) (put_typed class_order class_total row_of_class class_form class_met r t.classes keyed.classes)
+one_changed (change.Definition r) t keyed fresh = at_place 2 (rows.put definition_form (row_of_definition r)) (rows_of t) (map row_of_definition (put definition_order r t.definitions)) (omega arith) (put_typed definition_order definition_total row_of_definition definition_form definition_met r t.definitions keyed.definitions)
+one_changed (change.Recipe r) t keyed fresh = at_place 3 (rows.put recipe_form (row_of_recipe r)) (rows_of t) (map row_of_recipe (put recipe_order r t.recipes)) (omega arith) (put_typed recipe_order recipe_total row_of_recipe recipe_form recipe_met r t.recipes keyed.recipes)
+one_changed (change.MasterLine r) t keyed fresh = at_place 4 (rows.put recipe_line_form (row_of_master_line r)) (rows_of t) (map row_of_master_line (put master_line_order r t.master_lines)) (omega arith) (put_typed master_line_order master_line_total row_of_master_line recipe_line_form master_line_met r t.master_lines keyed.master_lines)
+one_changed (change.Job r) t keyed fresh = at_place 5 (rows.put job_form (row_of_job r)) (rows_of t) (map row_of_job (put job_order r t.jobs)) (omega arith) (put_typed job_order job_total row_of_job job_form job_met r t.jobs keyed.jobs)
+one_changed (change.Batch r) t keyed fresh = at_place 6 (rows.put batch_form (row_of_batch r)) (rows_of t) (map row_of_batch (put batch_row_order r t.batches)) (omega arith) (put_by_key row_of_batch batch_form r batch_row_order batch_total t.batches keyed.batches (batch_ties r t.batches fresh))
+one_changed (change.ControlLine r) t keyed fresh = at_place 7 (rows.put control_line_form (row_of_control_line r)) (rows_of t) (map row_of_control_line (put control_line_order r t.control_lines)) (omega arith) (put_typed control_line_order control_line_total row_of_control_line control_line_form control_line_met r t.control_lines keyed.control_lines)
+one_changed (change.Event r) t keyed fresh = at_place 8 (rows.put batch_event_form (row_of_event r)) (rows_of t) (map row_of_event (t.events ++ r ∷ [])) (omega arith) (put_at_end row_of_event batch_event_form r t.events (events_apart r t.events fresh))
+one_changed (change.Lot r) t keyed fresh = at_place 9 (rows.put lot_form (row_of_lot r)) (rows_of t) (map row_of_lot (put lot_order r t.lots)) (omega arith) (put_typed lot_order lot_total row_of_lot lot_form lot_met r t.lots keyed.lots)
+one_changed (change.Sublot r) t keyed fresh = at_place 10 (rows.put sublot_form (row_of_sublot r)) (rows_of t) (map row_of_sublot (put sublot_order r t.sublots)) (omega arith) (put_typed sublot_order sublot_total row_of_sublot sublot_form sublot_met r t.sublots keyed.sublots)
+one_changed (change.Movement r) t keyed fresh = at_place 11 (rows.put movement_form (row_of_movement r)) (rows_of t) (map row_of_movement (t.movements ++ r ∷ [])) (omega arith) (put_at_end row_of_movement movement_form r t.movements (movements_apart r t.movements fresh))
+one_changed (change.Hold r) t keyed fresh = at_place 12 (rows.put hold_form (row_of_hold r)) (rows_of t) (map row_of_hold (put hold_order r t.holds)) (omega arith) (put_typed hold_order hold_total row_of_hold hold_form hold_met r t.holds keyed.holds)
+one_changed (change.Unhold lot hold) t keyed fresh =
+    at_place 12 (take_away (1 ∷ 2 ∷ []) (Text lot ∷ Text hold ∷ [])) (rows_of t) (map row_of_hold (without_hold lot hold t.holds)) (omega arith)
+    (subst (IsPermutation (take_away (1 ∷ 2 ∷ []) (Text lot ∷ Text hold ∷ []) (map row_of_hold t.holds))) (hold_taken lot hold t.holds) (IsPermutation-refl _))
+
+-- ---- the keys stay
+
+all_filter : {R : Type 0} (P : R → Type 0) (p : R → Bool) (xs : List R) → AllByRecursion P xs → AllByRecursion P (filter p xs)
+all_filter P p [] all = tt
+all_filter P p (x ∷ xs) all = elim (cases_Bool (p x)) [
+  | inl keeps ↦ rw keeps (all.0, all_filter P p xs all.1)
+  | inr drops ↦ rw drops (all_filter P p xs all.1)
+]
+
+sorted_filter : {R : Type 0} (order : R → R → Ordering) (p : R → Bool) (xs : List R) → IsStrictlySortedBy order xs → IsStrictlySortedBy order (filter p xs)
+unfolding IsStrictlySortedBy
+sorted_filter order p [] sorted = tt
+sorted_filter order p (x ∷ xs) sorted = elim (cases_Bool (p x)) [
+  | inl keeps ↦ rw keeps (all_filter (λ y. order x y ≡ Less) p xs sorted.0, sorted_filter order p xs sorted.1)
+  | inr drops ↦ rw drops (sorted_filter order p xs sorted.1)
+]
+
+pub keyed_after : (c : RowChange) (t : Tables) → AreKeyed t → AreKeyed (changed c t)
+keyed_after (change.Meta r) t k = record { classes = k.classes; definitions = k.definitions; recipes = k.recipes; master_lines = k.master_lines; jobs = k.jobs; batches = k.batches; control_lines = k.control_lines; lots = k.lots; sublots = k.sublots; holds = k.holds }
+keyed_after (change.Class r) t k = record { classes = sorted_put class_order class_total r t.classes k.classes; definitions = k.definitions; recipes = k.recipes; master_lines = k.master_lines; jobs = k.jobs; batches = k.batches; control_lines = k.control_lines; lots = k.lots; sublots = k.sublots; holds = k.holds }
+keyed_after (change.Definition r) t k = record { classes = k.classes; definitions = sorted_put definition_order definition_total r t.definitions k.definitions; recipes = k.recipes; master_lines = k.master_lines; jobs = k.jobs; batches = k.batches; control_lines = k.control_lines; lots = k.lots; sublots = k.sublots; holds = k.holds }
+keyed_after (change.Recipe r) t k = record { classes = k.classes; definitions = k.definitions; recipes = sorted_put recipe_order recipe_total r t.recipes k.recipes; master_lines = k.master_lines; jobs = k.jobs; batches = k.batches; control_lines = k.control_lines; lots = k.lots; sublots = k.sublots; holds = k.holds }
+keyed_after (change.MasterLine r) t k = record { classes = k.classes; definitions = k.definitions; recipes = k.recipes; master_lines = sorted_put master_line_order master_line_total r t.master_lines k.master_lines; jobs = k.jobs; batches = k.batches; control_lines = k.control_lines; lots = k.lots; sublots = k.sublots; holds = k.holds }
+keyed_after (change.Job r) t k = record { classes = k.classes; definitions = k.definitions; recipes = k.recipes; master_lines = k.master_lines; jobs = sorted_put job_order job_total r t.jobs k.jobs; batches = k.batches; control_lines = k.control_lines; lots = k.lots; sublots = k.sublots; holds = k.holds }
+keyed_after (change.Batch r) t k = record { classes = k.classes; definitions = k.definitions; recipes = k.recipes; master_lines = k.master_lines; jobs = k.jobs; batches = sorted_put batch_row_order batch_total r t.batches k.batches; control_lines = k.control_lines; lots = k.lots; sublots = k.sublots; holds = k.holds }
+keyed_after (change.ControlLine r) t k = record { classes = k.classes; definitions = k.definitions; recipes = k.recipes; master_lines = k.master_lines; jobs = k.jobs; batches = k.batches; control_lines = sorted_put control_line_order control_line_total r t.control_lines k.control_lines; lots = k.lots; sublots = k.sublots; holds = k.holds }
+keyed_after (change.Event r) t k = record { classes = k.classes; definitions = k.definitions; recipes = k.recipes; master_lines = k.master_lines; jobs = k.jobs; batches = k.batches; control_lines = k.control_lines; lots = k.lots; sublots = k.sublots; holds = k.holds }
+keyed_after (change.Lot r) t k = record { classes = k.classes; definitions = k.definitions; recipes = k.recipes; master_lines = k.master_lines; jobs = k.jobs; batches = k.batches; control_lines = k.control_lines; lots = sorted_put lot_order lot_total r t.lots k.lots; sublots = k.sublots; holds = k.holds }
+keyed_after (change.Sublot r) t k = record { classes = k.classes; definitions = k.definitions; recipes = k.recipes; master_lines = k.master_lines; jobs = k.jobs; batches = k.batches; control_lines = k.control_lines; lots = k.lots; sublots = sorted_put sublot_order sublot_total r t.sublots k.sublots; holds = k.holds }
+keyed_after (change.Movement r) t k = record { classes = k.classes; definitions = k.definitions; recipes = k.recipes; master_lines = k.master_lines; jobs = k.jobs; batches = k.batches; control_lines = k.control_lines; lots = k.lots; sublots = k.sublots; holds = k.holds }
+keyed_after (change.Hold r) t k = record { classes = k.classes; definitions = k.definitions; recipes = k.recipes; master_lines = k.master_lines; jobs = k.jobs; batches = k.batches; control_lines = k.control_lines; lots = k.lots; sublots = k.sublots; holds = sorted_put hold_order hold_total r t.holds k.holds }
+keyed_after (change.Unhold lot hold) t k = record { classes = k.classes; definitions = k.definitions; recipes = k.recipes; master_lines = k.master_lines; jobs = k.jobs; batches = k.batches; control_lines = k.control_lines; lots = k.lots; sublots = k.sublots; holds = sorted_filter hold_order _ t.holds k.holds }
+
+-- ---- the same rows, changed alike
+
+put_same : (form : Form) (row : Row) (xs ys : List Row) → IsPermutation xs ys → IsPermutation (rows.put form row xs) (rows.put form row ys)
+put_same form row xs ys same = IsPermutation-cons row _ _ (IsPermutation-filter (λ r. not (meets form r row)) xs ys same)
+
+changed_same : (place : ℕ) (form : Form) (row : Row) (a b : Contents) → SameRows a b → SameRows (changed_at place form row a) (changed_at place form row b)
+changed_same place form row a b same i = elim (cases_Bool (i == place)) [
+  | inl hit ↦ rw hit (put_same form row (a place) (b place) (same place))
+  | inr miss ↦ rw miss (same i)
+]
+
+taken_same : (place : ℕ) (key : List ℕ) (values : Row) (a b : Contents) → SameRows a b → SameRows (taken_at place key values a) (taken_at place key values b)
+taken_same place key values a b same i = elim (cases_Bool (i == place)) [
+  | inl hit ↦ rw hit (IsPermutation-filter (λ r. not (has_values key values r)) (a place) (b place) (same place))
+  | inr miss ↦ rw miss (same i)
+]
+
+rows_same : (c : RowChange) (a b : Contents) → SameRows a b → SameRows (rows_changed c a) (rows_changed c b)
+unfolding rows_changed
+rows_same (change.Meta r) a b same = changed_same 0 meta_form (row_of_meta r) a b same
+rows_same (change.Class r) a b same = changed_same 1 class_form (row_of_class r) a b same
+rows_same (change.Definition r) a b same = changed_same 2 definition_form (row_of_definition r) a b same
+rows_same (change.Recipe r) a b same = changed_same 3 recipe_form (row_of_recipe r) a b same
+rows_same (change.MasterLine r) a b same = changed_same 4 recipe_line_form (row_of_master_line r) a b same
+rows_same (change.Job r) a b same = changed_same 5 job_form (row_of_job r) a b same
+rows_same (change.Batch r) a b same = changed_same 6 batch_form (row_of_batch r) a b same
+rows_same (change.ControlLine r) a b same = changed_same 7 control_line_form (row_of_control_line r) a b same
+rows_same (change.Event r) a b same = changed_same 8 batch_event_form (row_of_event r) a b same
+rows_same (change.Lot r) a b same = changed_same 9 lot_form (row_of_lot r) a b same
+rows_same (change.Sublot r) a b same = changed_same 10 sublot_form (row_of_sublot r) a b same
+rows_same (change.Movement r) a b same = changed_same 11 movement_form (row_of_movement r) a b same
+rows_same (change.Hold r) a b same = changed_same 12 hold_form (row_of_hold r) a b same
+rows_same (change.Unhold lot hold) a b same = taken_same 12 (1 ∷ 2 ∷ []) (Text lot ∷ Text hold ∷ []) a b same
+
+all_same : (cs : List RowChange) (a b : Contents) → SameRows a b → SameRows (all_rows_changed cs a) (all_rows_changed cs b)
+all_same [] a b same = same
+all_same (c ∷ cs) a b same = all_same cs (rows_changed c a) (rows_changed c b) (rows_same c a b same)
+
+-- ---- all changes in turn
+
+pub all_changed : (cs : List RowChange) (t : Tables) → AreKeyed t → AreFresh cs t → SameRows (all_rows_changed cs (contents_of t)) (contents_of (changed_all cs t))
+all_changed [] t keyed fresh i = IsPermutation-refl (contents_of t i)
+all_changed (c ∷ cs) t keyed fresh i =
+    IsPermutation-trans _ _ _ (all_same cs (rows_changed c (contents_of t)) (contents_of (changed c t)) (one_changed c t keyed fresh.0) i) (all_changed cs (changed c t) (keyed_after c t keyed) fresh.1 i)
+
+pub keyed_after_all : (cs : List RowChange) (t : Tables) → AreKeyed t → AreKeyed (changed_all cs t)
+keyed_after_all [] t keyed = keyed
+keyed_after_all (c ∷ cs) t keyed = keyed_after_all cs (changed c t) (keyed_after c t keyed)
+
+-- tables that stand with the same rows in another order stand
+pub stand_as : (forms : List Form) (db : Database) (a b : Contents) → SameRows a b → StandIn forms db a → StandIn forms db b
+stand_as forms db a b same h = record {
+  sound = h.sound;
+  each = λ i form is.
+      let there = h.each i form is in
+      record { at = there.at; tree = there.tree; declared = there.declared; shaped = there.shaped; same = IsPermutation-trans _ _ _ (IsPermutation-sym _ _ (same i)) there.same };
+}

@@ -1,0 +1,22 @@
+use Rattle.std.proofs.Common.{arith}
+use Rattle.sqlite.specs.Held.{state}
+use Rattle.sqlite.specs.State.{HasCleanDisk}
+use Rattle.plant_forms.proofs.Moving.{kept_then}
+use Rattle.plant_tables.proofs.Opened.{desk_made_so}
+use Rattle.plant_tables.proofs.commit.OpeningWork.run.Goals as goal
+
+pub returns-clause-made : goal.returns-clause-made
+returns-clause-made g c clean =
+    let first = state g.S.Store c.args.tx.now.conn.now in
+    let mid = state g.S.Store c.create.new.tx.conn.now in
+    let last = state g.S.Store c.write_change.new.tx.conn.now in
+    let was : HasCleanDisk mid = omega (arith, c.write_change.ensures.survives.clean) in
+    let moved = rw c.zero.ensures at (c.write_change.ensures.moved clean) in
+    desk_made_so first mid last c.write_change.result (c.in_ok-create.ensures.founded was) moved
+
+pub returns-clause-kept : goal.returns-clause-kept
+returns-clause-kept g c clean =
+    let first = state g.S.Store c.args.tx.now.conn.now in
+    let mid = state g.S.Store c.create.new.tx.conn.now in
+    let last = state g.S.Store c.write_change.new.tx.conn.now in
+    kept_then first mid last (c.create.ensures.kept (omega (arith, c.write_change.ensures.survives.clean))) (c.write_change.ensures.kept clean)

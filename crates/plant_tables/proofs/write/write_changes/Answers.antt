@@ -1,0 +1,35 @@
+use Rattle.std.proofs.lemmas.List.{take_more, take_all}
+use Rattle.std.proofs.Common.{◌+◌, ◌≡◌, ◌∷◌, [], ◌++◌, take, sym, ap, subst, ◌∙◌, arith, rules}
+use Rattle.sqlite.specs.Held.{state}
+use Rattle.sqlite.specs.State.{HasCleanDisk}
+use Rattle.plant_forms.specs.Standing.{Contents}
+use Rattle.plant_forms.proofs.Moving.{survives_on, kept_then, moves_then, moves_as}
+use Rattle.plant_tables.specs.DeskForms.{desk_forms}
+use Rattle.plant_tables.specs.DeskTables.{rows_changed, all_rows_changed}
+use Rattle.plant_tables.specs.Keyed.{MovesTables}
+use Rattle.plant_tables.proofs.Ended.{tables_moved}
+use Rattle.plant_tables.proofs.DeskMoves.{one_more_change}
+use Rattle.plant_tables.proofs.write.write_changes.Goals as goal
+
+pub loop-change-preserved : goal.loop-change-preserved
+loop-change-preserved g c =
+    let first = state g.S.Store c.args.tx.now.conn.now in
+    let mid = state g.S.Store c.loop-change.tx.conn.now in
+    let last = state g.S.Store c.write_change.new.tx.conn.now in
+    let front = take c.loop-change.change-index c.args.changes.now in
+    record {
+      same = c.write_change.ensures.same_reference ∙ c.loop-change.invariant.same;
+      wrote = survives_on first mid last c.loop-change.invariant.wrote c.write_change.ensures.survives;
+      kept = λ clean. kept_then first mid last (c.loop-change.invariant.kept (omega (arith, c.write_change.ensures.survives.clean))) (c.write_change.ensures.kept clean);
+      moved = λ clean.
+          let was : HasCleanDisk mid = omega (arith, c.write_change.ensures.survives.clean) in
+          let more : take (c.loop-change.change-index + 1) c.args.changes.now ≡ front ++ c.change-item.result ∷ [] = search (rules, take_more) in
+          let both = moves_then desk_forms first mid last (all_rows_changed front) (rows_changed c.change-item.result) (c.loop-change.invariant.moved was) (c.in_ok-write_change.ensures.moved clean) in
+          moves_as desk_forms first last _ _ (λ (t : Contents). one_more_change front c.change-item.result t ∙ ap (λ cs. all_rows_changed cs t) (sym more)) both;
+    }
+
+pub returns-clause-tables : goal.returns-clause-tables
+returns-clause-tables g c clean =
+    let all : take c.loop-change.change-index c.args.changes.now ≡ c.args.changes.now = search (rules, take_all) in
+    subst (λ cs. MovesTables cs (state g.S.Store c.args.tx.now.conn.now).now (state g.S.Store c.loop-change.tx.conn.now).now) all
+    (tables_moved (take c.loop-change.change-index c.args.changes.now) (state g.S.Store c.args.tx.now.conn.now) (state g.S.Store c.loop-change.tx.conn.now) (c.loop-change.invariant.moved clean))

@@ -1,0 +1,46 @@
+-- The tables of the desk that a database holds, and the premises under which a change of rows is a change of the tables.
+use Rattle.std.specs.Prelude.{◌≡◌, ◌==◌, ◌&&◌, true, false, List, [], ◌∷◌, ⊤}
+use Rattle.std.specs.List.{AllByRecursion}
+use Rattle.std.specs.List.Sorted.{IsStrictlySortedBy}
+use Rattle.sqlite.specs.Effect.{Database}
+use Rattle.plant_base.specs.State.{same, class_order, definition_order, recipe_order, master_line_order, job_order, control_line_order, lot_order, hold_order}
+use Rattle.plant_rules.specs.Tables.{Tables, batch_row_order, sublot_order, changed, changed_all}
+use Rattle.plant_rules.specs.declared.change.RowChange.{RowChange}
+use Rattle.plant_rules.specs.declared.change.RowChange.TheVariants as change
+use Rattle.plant_forms.specs.Standing.{StandIn, KeepsOthers}
+use Rattle.plant_tables.specs.DeskForms.{desk_forms}
+use Rattle.plant_tables.specs.DeskTables.{contents_of}
+
+-- The database is sound, and each table is declared as its form says and has these rows.
+abbrev pub HoldsTables : Database → Tables → Type 0
+HoldsTables db t = StandIn desk_forms db (contents_of t)
+
+-- The rows that are put by their keys stand in the order of their keys, none with the key of another.
+pub record AreKeyed (t : Tables) : Type 0 where
+  pub classes : IsStrictlySortedBy class_order t.classes
+  pub definitions : IsStrictlySortedBy definition_order t.definitions
+  pub recipes : IsStrictlySortedBy recipe_order t.recipes
+  pub master_lines : IsStrictlySortedBy master_line_order t.master_lines
+  pub jobs : IsStrictlySortedBy job_order t.jobs
+  pub batches : IsStrictlySortedBy batch_row_order t.batches
+  pub control_lines : IsStrictlySortedBy control_line_order t.control_lines
+  pub lots : IsStrictlySortedBy lot_order t.lots
+  pub sublots : IsStrictlySortedBy sublot_order t.sublots
+  pub holds : IsStrictlySortedBy hold_order t.holds
+
+-- A row that is added at the end has a key that no row has, and a batch is of an order that no other batch is of.
+abbrev pub IsFresh : RowChange → Tables → Type 0
+IsFresh (change.Event r) t = AllByRecursion (λ e. (e.seq == r.seq) ≡ false) t.events
+IsFresh (change.Movement r) t = AllByRecursion (λ m. (m.seq == r.seq && m.line == r.line) ≡ false) t.movements
+IsFresh (change.Batch r) t = AllByRecursion (λ b. same b.batch.job r.batch.job ≡ true → same b.batch.id r.batch.id ≡ true) t.batches
+IsFresh _ t = ⊤
+
+-- each change is fresh in the tables that those before it made
+abbrev pub AreFresh : List RowChange → Tables → Type 0
+AreFresh [] t = ⊤
+AreFresh (c ∷ more) t = IsFresh c t × AreFresh more (changed c t)
+
+-- The changes were written, in one transaction or in part of one: from any tables that the one database holds, with keys
+-- as above, the other holds the changed ones, and tables of other names stand as they did.
+abbrev pub MovesTables : List RowChange → Database → Database → Type 0
+MovesTables changes old new = (t : Tables) → AreKeyed t → AreFresh changes t → HoldsTables old t → HoldsTables new (changed_all changes t) × KeepsOthers desk_forms old new

@@ -1,0 +1,5 @@
+pub mod DeskForms
+pub mod Encoding
+pub mod DeskTables
+pub mod Keyed
+pub mod DeskStopping

@@ -1,0 +1,73 @@
+ghost use Rattle.std.specs.Prelude.{◌≡◌, ◌≤◌, ◌^◌, IfOk};
+ghost use Rattle.sqlite_value.specs.declared.value.Value.TheVariants.{Int, Text as Bytes};
+ghost use Rattle.sqlite_value.specs.Value.{owned};
+ghost use Rattle.plant_tables.specs.Encoding.{number, flag};
+
+use plant_base::{Amount, Id, Moment, Text};
+use plant_forms::Fault;
+use sqlite_value::value::ValueRef;
+
+/// A number of any size: [`Fault::Store`] where it is above 2^63 - 1, which no column holds.
+pub fn large(n: u64) -> Result<ValueRef<'static>, Fault>
+    ensures { IfOk result (λ value. owned value ≡ number n) }
+{
+    match i64::try_from(n) {
+        Ok(n) => Ok(ValueRef::Int(n)),
+        Err(_) => Err(Fault::Store),
+    }
+}
+
+/// A small number.
+pub fn small(n: u16) -> ValueRef<'static>
+    ensures { owned result ≡ number n }
+{
+    ValueRef::Int(i64::from(n))
+}
+
+pub fn amount(n: Amount) -> ValueRef<'static>
+    ensures { owned result ≡ number n }
+{
+    ValueRef::Int(n.get() as i64)
+}
+
+pub fn moment(at: Moment) -> ValueRef<'static>
+    ensures { owned result ≡ number at }
+{
+    ValueRef::Int(at.get() as i64)
+}
+
+/// 1 for true, 0 for false.
+pub fn truth(is: bool) -> ValueRef<'static>
+    ensures { owned result ≡ flag is }
+{
+    if is {
+        ValueRef::Int(1)
+    } else {
+        ValueRef::Int(0)
+    }
+}
+
+pub fn id(id: &Id) -> ValueRef<'_>
+    ensures { owned result ≡ Bytes id.now }
+{
+    ValueRef::Text(id.as_bytes())
+}
+
+pub fn text(text: &Text) -> ValueRef<'_>
+    ensures { owned result ≡ Bytes text.now }
+{
+    ValueRef::Text(text.as_bytes())
+}
+
+pub fn word(word: &str) -> ValueRef<'_>
+    ensures { owned result ≡ Bytes word.now }
+{
+    ValueRef::Text(word.as_bytes())
+}
+
+/// A text of ASCII.
+pub fn bytes(text: &[u8]) -> ValueRef<'_>
+    ensures { owned result ≡ Bytes text.now }
+{
+    ValueRef::Text(text)
+}

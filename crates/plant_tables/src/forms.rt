@@ -1,0 +1,279 @@
+//! How each table of schema 1 is declared, and the fixed texts that make it and put a row into it.
+ghost use Rattle.std.specs.Prelude.{◌≡◌};
+ghost use Rattle.plant_tables.specs.DeskForms.{desk_forms};
+
+use plant_forms::ColumnForm::{Integer, IntegerOrNull, Text, TextOrNull};
+use plant_forms::Form;
+
+/// The one row that tells the schema of the tables and where the desk stands.
+pub const META: Form<'static> = Form {
+    name: b"meta",
+    columns: &[
+        Integer(b"k"),
+        Integer(b"schema"),
+        Integer(b"seq"),
+        Integer(b"at"),
+    ],
+    keys: &[&[1]],
+};
+
+pub(crate) const CREATE_META: &str =
+    "CREATE TABLE meta (k INTEGER NOT NULL, schema INTEGER NOT NULL, seq INTEGER NOT NULL, at INTEGER NOT NULL, UNIQUE (k)) STRICT";
+
+pub(crate) const PUT_META: &str =
+    "INSERT OR REPLACE INTO meta (k, schema, seq, at) VALUES (?1, ?2, ?3, ?4)";
+
+/// Material classes.
+pub const CLASS: Form<'static> = Form {
+    name: b"class",
+    columns: &[Text(b"id"), Text(b"name")],
+    keys: &[&[1]],
+};
+
+pub(crate) const CREATE_CLASS: &str =
+    "CREATE TABLE class (id TEXT NOT NULL, name TEXT NOT NULL, UNIQUE (id)) STRICT";
+
+pub(crate) const PUT_CLASS: &str = "INSERT OR REPLACE INTO class (id, name) VALUES (?1, ?2)";
+
+/// Material definitions.
+pub const DEFINITION: Form<'static> = Form {
+    name: b"definition",
+    columns: &[Text(b"id"), Text(b"class"), Text(b"name"), Text(b"unit")],
+    keys: &[&[1]],
+};
+
+pub(crate) const CREATE_DEFINITION: &str =
+    "CREATE TABLE definition (id TEXT NOT NULL, class TEXT NOT NULL, name TEXT NOT NULL, unit TEXT NOT NULL, UNIQUE (id)) STRICT";
+
+pub(crate) const PUT_DEFINITION: &str =
+    "INSERT OR REPLACE INTO definition (id, class, name, unit) VALUES (?1, ?2, ?3, ?4)";
+
+/// Versions of master recipes, without their lines.
+pub const RECIPE: Form<'static> = Form {
+    name: b"recipe",
+    columns: &[
+        Text(b"recipe"),
+        Integer(b"version"),
+        Text(b"product"),
+        Integer(b"base"),
+        Integer(b"low"),
+        Integer(b"high"),
+        Text(b"title"),
+        Text(b"state"),
+    ],
+    keys: &[&[1, 2]],
+};
+
+pub(crate) const CREATE_RECIPE: &str =
+    "CREATE TABLE recipe (recipe TEXT NOT NULL, version INTEGER NOT NULL, product TEXT NOT NULL, base INTEGER NOT NULL, low INTEGER NOT NULL, high INTEGER NOT NULL, title TEXT NOT NULL, state TEXT NOT NULL, UNIQUE (recipe, version)) STRICT";
+
+pub(crate) const PUT_RECIPE: &str =
+    "INSERT OR REPLACE INTO recipe (recipe, version, product, base, low, high, title, state) VALUES (?1, ?2, ?3, ?4, ?5, ?6, ?7, ?8)";
+
+/// The lines of master recipes.
+pub const RECIPE_LINE: Form<'static> = Form {
+    name: b"recipe_line",
+    columns: &[
+        Text(b"recipe"),
+        Integer(b"version"),
+        Integer(b"no"),
+        Integer(b"kind"),
+        TextOrNull(b"def"),
+        Integer(b"qty"),
+        Text(b"t1"),
+        Text(b"t2"),
+        Text(b"t3"),
+    ],
+    keys: &[&[1, 2, 3]],
+};
+
+pub(crate) const CREATE_RECIPE_LINE: &str =
+    "CREATE TABLE recipe_line (recipe TEXT NOT NULL, version INTEGER NOT NULL, no INTEGER NOT NULL, kind INTEGER NOT NULL, def TEXT, qty INTEGER NOT NULL, t1 TEXT NOT NULL, t2 TEXT NOT NULL, t3 TEXT NOT NULL, UNIQUE (recipe, version, no)) STRICT";
+
+pub(crate) const PUT_RECIPE_LINE: &str =
+    "INSERT OR REPLACE INTO recipe_line (recipe, version, no, kind, def, qty, t1, t2, t3) VALUES (?1, ?2, ?3, ?4, ?5, ?6, ?7, ?8, ?9)";
+
+/// Orders.
+pub const JOB: Form<'static> = Form {
+    name: b"job",
+    columns: &[
+        Text(b"id"),
+        Text(b"recipe"),
+        Integer(b"version"),
+        Integer(b"size"),
+        Text(b"due"),
+        Integer(b"priority"),
+        Text(b"state"),
+    ],
+    keys: &[&[1]],
+};
+
+pub(crate) const CREATE_JOB: &str =
+    "CREATE TABLE job (id TEXT NOT NULL, recipe TEXT NOT NULL, version INTEGER NOT NULL, size INTEGER NOT NULL, due TEXT NOT NULL, priority INTEGER NOT NULL, state TEXT NOT NULL, UNIQUE (id)) STRICT";
+
+pub(crate) const PUT_JOB: &str =
+    "INSERT OR REPLACE INTO job (id, recipe, version, size, due, priority, state) VALUES (?1, ?2, ?3, ?4, ?5, ?6, ?7)";
+
+/// Batches, with the columns that are the fold of their events. No two are of one order.
+pub const BATCH: Form<'static> = Form {
+    name: b"batch",
+    columns: &[
+        Text(b"id"),
+        Text(b"job"),
+        Integer(b"at"),
+        Text(b"by_who"),
+        Text(b"note"),
+        Text(b"state"),
+        Integer(b"attempt"),
+        Integer(b"next"),
+        Integer(b"closed"),
+    ],
+    keys: &[&[1], &[2]],
+};
+
+pub(crate) const CREATE_BATCH: &str =
+    "CREATE TABLE batch (id TEXT NOT NULL, job TEXT NOT NULL, at INTEGER NOT NULL, by_who TEXT NOT NULL, note TEXT NOT NULL, state TEXT NOT NULL, attempt INTEGER NOT NULL, next INTEGER NOT NULL, closed INTEGER NOT NULL, UNIQUE (id), UNIQUE (job)) STRICT";
+
+pub(crate) const PUT_BATCH: &str =
+    "INSERT OR REPLACE INTO batch (id, job, at, by_who, note, state, attempt, next, closed) VALUES (?1, ?2, ?3, ?4, ?5, ?6, ?7, ?8, ?9)";
+
+/// The lines of control recipes.
+pub const CONTROL_LINE: Form<'static> = Form {
+    name: b"control_line",
+    columns: &[
+        Text(b"batch"),
+        Integer(b"no"),
+        Integer(b"kind"),
+        TextOrNull(b"def"),
+        Integer(b"qty"),
+        Text(b"t1"),
+        Text(b"t2"),
+        Text(b"t3"),
+    ],
+    keys: &[&[1, 2]],
+};
+
+pub(crate) const CREATE_CONTROL_LINE: &str =
+    "CREATE TABLE control_line (batch TEXT NOT NULL, no INTEGER NOT NULL, kind INTEGER NOT NULL, def TEXT, qty INTEGER NOT NULL, t1 TEXT NOT NULL, t2 TEXT NOT NULL, t3 TEXT NOT NULL, UNIQUE (batch, no)) STRICT";
+
+pub(crate) const PUT_CONTROL_LINE: &str =
+    "INSERT OR REPLACE INTO control_line (batch, no, kind, def, qty, t1, t2, t3) VALUES (?1, ?2, ?3, ?4, ?5, ?6, ?7, ?8)";
+
+/// What happened to batches.
+pub const BATCH_EVENT: Form<'static> = Form {
+    name: b"batch_event",
+    columns: &[
+        Integer(b"seq"),
+        Text(b"batch"),
+        Text(b"word"),
+        Integer(b"phase"),
+        Integer(b"at"),
+        Text(b"by_who"),
+        Text(b"note"),
+    ],
+    keys: &[&[1]],
+};
+
+pub(crate) const CREATE_BATCH_EVENT: &str =
+    "CREATE TABLE batch_event (seq INTEGER NOT NULL, batch TEXT NOT NULL, word TEXT NOT NULL, phase INTEGER NOT NULL, at INTEGER NOT NULL, by_who TEXT NOT NULL, note TEXT NOT NULL, UNIQUE (seq)) STRICT";
+
+pub(crate) const PUT_BATCH_EVENT: &str =
+    "INSERT OR REPLACE INTO batch_event (seq, batch, word, phase, at, by_who, note) VALUES (?1, ?2, ?3, ?4, ?5, ?6, ?7)";
+
+/// Material lots.
+pub const LOT: Form<'static> = Form {
+    name: b"lot",
+    columns: &[Text(b"id"), Text(b"def")],
+    keys: &[&[1]],
+};
+
+pub(crate) const CREATE_LOT: &str =
+    "CREATE TABLE lot (id TEXT NOT NULL, def TEXT NOT NULL, UNIQUE (id)) STRICT";
+
+pub(crate) const PUT_LOT: &str = "INSERT OR REPLACE INTO lot (id, def) VALUES (?1, ?2)";
+
+/// Material sublots, with their stock.
+pub const SUBLOT: Form<'static> = Form {
+    name: b"sublot",
+    columns: &[
+        Text(b"lot"),
+        Integer(b"no"),
+        Text(b"place"),
+        Integer(b"stock"),
+    ],
+    keys: &[&[1, 2]],
+};
+
+pub(crate) const CREATE_SUBLOT: &str =
+    "CREATE TABLE sublot (lot TEXT NOT NULL, no INTEGER NOT NULL, place TEXT NOT NULL, stock INTEGER NOT NULL, UNIQUE (lot, no)) STRICT";
+
+pub(crate) const PUT_SUBLOT: &str =
+    "INSERT OR REPLACE INTO sublot (lot, no, place, stock) VALUES (?1, ?2, ?3, ?4)";
+
+/// Bookings.
+pub const MOVEMENT: Form<'static> = Form {
+    name: b"movement",
+    columns: &[
+        Integer(b"seq"),
+        Integer(b"line"),
+        Integer(b"kind"),
+        Text(b"lot"),
+        Integer(b"sub"),
+        TextOrNull(b"lot2"),
+        IntegerOrNull(b"sub2"),
+        TextOrNull(b"batch"),
+        Integer(b"amount"),
+        Integer(b"at"),
+        Text(b"by_who"),
+        Text(b"note"),
+    ],
+    keys: &[&[1, 2]],
+};
+
+pub(crate) const CREATE_MOVEMENT: &str =
+    "CREATE TABLE movement (seq INTEGER NOT NULL, line INTEGER NOT NULL, kind INTEGER NOT NULL, lot TEXT NOT NULL, sub INTEGER NOT NULL, lot2 TEXT, sub2 INTEGER, batch TEXT, amount INTEGER NOT NULL, at INTEGER NOT NULL, by_who TEXT NOT NULL, note TEXT NOT NULL, UNIQUE (seq, line)) STRICT";
+
+pub(crate) const PUT_MOVEMENT: &str =
+    "INSERT OR REPLACE INTO movement (seq, line, kind, lot, sub, lot2, sub2, batch, amount, at, by_who, note) VALUES (?1, ?2, ?3, ?4, ?5, ?6, ?7, ?8, ?9, ?10, ?11, ?12)";
+
+/// The holds of lots.
+pub const HOLD: Form<'static> = Form {
+    name: b"hold",
+    columns: &[
+        Text(b"lot"),
+        Text(b"id"),
+        Integer(b"at"),
+        Text(b"by_who"),
+        Text(b"note"),
+    ],
+    keys: &[&[1, 2]],
+};
+
+pub(crate) const CREATE_HOLD: &str =
+    "CREATE TABLE hold (lot TEXT NOT NULL, id TEXT NOT NULL, at INTEGER NOT NULL, by_who TEXT NOT NULL, note TEXT NOT NULL, UNIQUE (lot, id)) STRICT";
+
+pub(crate) const PUT_HOLD: &str =
+    "INSERT OR REPLACE INTO hold (lot, id, at, by_who, note) VALUES (?1, ?2, ?3, ?4, ?5)";
+
+pub(crate) const TAKE_HOLD: &str = "DELETE FROM hold WHERE lot = ?1 AND id = ?2";
+
+/// How each table of schema 1 is declared, in the order in which they are made.
+pub fn desk_forms() -> [Form<'static>; 13]
+    ensures { result ≡ desk_forms }
+{
+    [
+        META,
+        CLASS,
+        DEFINITION,
+        RECIPE,
+        RECIPE_LINE,
+        JOB,
+        BATCH,
+        CONTROL_LINE,
+        BATCH_EVENT,
+        LOT,
+        SUBLOT,
+        MOVEMENT,
+        HOLD,
+    ]
+}

@@ -1,0 +1,14 @@
+//! The tables of the desk in a SQLite store: how each is declared, and how its rows are written.
+#![tactic(auto)]
+
+mod columns;
+mod commit;
+mod encode;
+pub mod forms;
+mod write;
+
+pub use commit::{commit_changes, commit_opening};
+pub use write::{create, write_change, write_changes};
+
+#[cfg(test)]
+mod tests;

@@ -1,6 +1,7 @@
 pub mod Balanced
 pub mod CatalogueSound
 pub mod Conserved
+pub mod ControlMade
 pub mod DivideSound
 pub mod DivideTables
 pub mod Division

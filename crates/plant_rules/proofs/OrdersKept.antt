@@ -25,7 +25,7 @@ use Rattle.plant_base.proofs.Keys.{same_id, same_itself, id_total, id_tie, id_st
 use Rattle.plant_rules.specs.Orders.{is_open, opened, with_state}
 use Rattle.plant_rules.specs.Releasing.{control_line}
 use Rattle.plant_rules.specs.Rows.{numbered, put_all}
-use Rattle.plant_rules.specs.Production.{header_among, orders_of, order_among, batch_among, is_size_of_some, has_batch, AreSoundOrders, control_among, control_of_order, IsSoundBatch, is_batch_among, AreSoundBatches}
+use Rattle.plant_rules.specs.Production.{header_among, orders_of, order_among, batch_among, is_size_of_some, has_batch, HasGoodOrder, AreSoundOrders, control_among, control_of_order, HasBatchValues, IsSoundBatch, is_batch_among, AreSoundBatches}
 use Rattle.plant_rules.proofs.Rows.{all_mapped, all_unmapped, none_passes, none_left, sorted_mapped, find_mapped, all_put_apart, found_past, found_past_all, all_put_all, sorted_put_all, filter_past_all, filter_new_all, all_numbered, map_numbered, sorted_numbered}
 use Rattle.plant_rules.proofs.RowKeys.{order_row_order, control_line_order_total, control_batch_tied, ids_apart, control_rises}
 use Rattle.plant_rules.proofs.KeptSound.{all_two}
@@ -77,6 +77,7 @@ module _ (headers : List Header) (jobs : List Job) (batches : List Batch) (sound
       let r : Job = record { order = j.order; state = Cancelled } in
       record {
         sorted = sorted_put job_order job_order_total r jobs sound.sorted;
+        values = subst (AllByRecursion HasGoodOrder) (sym (orders_same jobs sound.sorted id (Some j) found Cancelled)) sound.values;
         sized = subst (AllByRecursion (λ (o : OrderRow). is_size_of_some (header_among headers o.recipe o.version) o.size ≡ true)) (sym (orders_same jobs sound.sorted id (Some j) found Cancelled)) sound.sized;
         started = all_put job_order (λ (x : Job). is_some (batch_among batches x.order.order) ≡ has_batch x.state) r jobs (open_has_none id j found waits) sound.started;
       }
@@ -112,12 +113,13 @@ module _ (headers : List Header) (rows : List MasterLine) (jobs : List Job) (bat
         let others = all_mapped (λ (j : Job). test j ≡ false) opened new (all_weaker _ _ (λ (o : OrderRow) none. (ids_apart is_there id o.order known none).1) new fresh) in
         order_of_job imported id ∙ ap (option_map (λ (j : Job). j.order)) (found_past_all job_order job_order_total test (job_tied id) (map opened new) jobs others) ∙ sym (order_of_job jobs id)
 
-    pub orders_imported : AllByRecursion (λ (o : OrderRow). is_size_of_some (header_among headers o.recipe o.version) o.size ≡ true) new → AreSoundOrders headers imported batches
-    orders_imported sized =
+    pub orders_imported : AllByRecursion (λ (o : OrderRow). is_size_of_some (header_among headers o.recipe o.version) o.size ≡ true) new → AllByRecursion HasGoodOrder new → AreSoundOrders headers imported batches
+    orders_imported sized values =
         let Fits : OrderRow → Type 0 = λ o. is_size_of_some (header_among headers o.recipe o.version) o.size ≡ true in
         let Stands : Job → Type 0 = λ j. is_some (batch_among batches j.order.order) ≡ has_batch j.state in
         record {
           sorted = sorted_put_all job_order job_order_total (map opened new) jobs sound.sorted;
+          values = all_mapped HasGoodOrder (λ (j : Job). j.order) imported (all_put_all job_order job_order_total (λ (j : Job). HasGoodOrder j.order) (map opened new) jobs (all_mapped (λ (j : Job). HasGoodOrder j.order) opened new values) (all_unmapped HasGoodOrder (λ (j : Job). j.order) jobs sound.values));
           sized = all_mapped Fits (λ (j : Job). j.order) imported (all_put_all job_order job_order_total (λ (j : Job). Fits j.order) (map opened new) jobs (all_mapped (λ (j : Job). Fits j.order) opened new sized) (all_unmapped Fits (λ (j : Job). j.order) jobs sound.sized));
           started = all_put_all job_order job_order_total Stands (map opened new) jobs (all_mapped Stands opened new (all_weaker _ _ (λ (o : OrderRow) none. no_batch o.order none) new fresh)) sound.started;
         }
@@ -127,6 +129,7 @@ module _ (headers : List Header) (rows : List MasterLine) (jobs : List Job) (bat
       sorted = own.sorted;
       control_sorted = own.control_sorted;
       each = all_weaker _ _ (λ (b : Batch) w. record {
+        values = w.values;
         alone = w.alone;
         scaled = ap (control_of_order headers rows) (order_stays b.job (some_order headers rows (order_among (orders_of jobs) b.job) _ w.scaled)) ∙ w.scaled;
         numbered = w.numbered;
@@ -164,6 +167,7 @@ module _ (headers : List Header) (rows : List MasterLine) (orders : List OrderRo
       let this : Stands r = ap (λ i. is_some (batch_among with_batch i)) key ∙ found_put batch_order b (λ (q : Batch). same q.job b.job) batches (same_itself b.job) in
       record {
         sorted = sorted_put job_order job_order_total r jobs sound.sorted;
+        values = subst (AllByRecursion HasGoodOrder) (sym (orders_same jobs sound.sorted b.job (Some j) found Released)) sound.values;
         sized = subst (AllByRecursion (λ (o : OrderRow). is_size_of_some (header_among headers o.recipe o.version) o.size ≡ true)) (sym (orders_same jobs sound.sorted b.job (Some j) found Released)) sound.sized;
         started = all_put_apart job_order job_order_total r Stands jobs sound.sorted this
             (all_weaker _ _ stands jobs sound.started);
@@ -183,12 +187,13 @@ module _ (headers : List Header) (rows : List MasterLine) (orders : List OrderRo
       let turned : same b.id q.id ≡ false = texts_ties b.id q.id ∙ (eq_by_cmp_equiv batch_order_total).symm b q ∙ sym (texts_ties q.id b.id) ∙ apart in
       filter_past_all control_line_order control_line_order_total (λ (l : ControlLine). same l.batch q.id) (control_batch_tied q.id) (numbered (control_line b.id) 1 lines) control (all_numbered (control_line b.id) (λ (l : ControlLine). same l.batch q.id ≡ false) (λ k l. turned) 1 lines)
 
-  pub batches_released : control_of_order headers rows (order_among orders b.job) ≡ Some lines → AreSoundBatches headers rows orders with_batch with_lines events
-  batches_released scaled =
+  pub batches_released : HasBatchValues b → control_of_order headers rows (order_among orders b.job) ≡ Some lines → AreSoundBatches headers rows orders with_batch with_lines events
+  batches_released values scaled =
       let line = λ (l : ControlLine). l.line in
       let Sound : Batch → Type 0 = IsSoundBatch headers rows orders with_batch with_lines in
       let its_lines : map line (control_among with_lines b.id) ≡ lines = ap (map line) its_control ∙ map_numbered (control_line b.id) line (λ k l. refl) 1 lines in
       let this : Sound b = record {
+        values = values;
         alone = found_new batch_order b (λ (q : Batch). same q.job b.job) batches (same_itself b.job) waits;
         scaled = scaled ∙ ap Some (sym its_lines);
         numbered = its_control ∙ ap (numbered (control_line b.id) 1) (sym its_lines);
@@ -200,6 +205,7 @@ module _ (headers : List Header) (rows : List MasterLine) (orders : List OrderRo
         each = all_put batch_order Sound b batches this (all_two _ _ _ (λ (q : Batch) w other.
             let same_lines = other_control q other in
             record {
+              values = w.values;
               alone = batch_stays q.job (ids_apart (λ id. is_some (batch_among batches id)) q.job b.job (ap is_some w.alone) waits).1 ∙ w.alone;
               scaled = w.scaled ∙ ap (λ ls. Some (map line ls)) (sym same_lines);
               numbered = same_lines ∙ w.numbered ∙ ap (λ ls. numbered (control_line q.id) 1 (map line ls)) (sym same_lines);

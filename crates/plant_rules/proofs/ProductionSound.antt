@@ -1,10 +1,11 @@
 -- Commands on recipes, orders and batches keep a state sound.
 use Rattle.std.proofs.Common.{◌≡◌, ◌∙◌, ℕ, ◌+◌, Bool, true, false, List, map, filter, find, Option, Some, None, is_some, is_none, option_map, refl, sym, ap, subst}
 use Rattle.std.specs.Prelude.{not, ◌&&◌, ◌==◌}
-use Rattle.std.specs.List.{AllByRecursion, list_all, list_any}
+use Rattle.std.specs.List.{All, AllByRecursion, list_all, list_any}
+use Rattle.std.proofs.lemmas.List.Elements.{recursion_from_All}
 use Rattle.std.proofs.lemmas.Bool.{false≢true}
 use Rattle.plant_base.specs.State.{State, same, put, recipe_order, batch_order, recipe_at, job_at, batch_at, definition_at}
-use Rattle.plant_base.specs.Formed.{is_version}
+use Rattle.plant_base.specs.Formed.{is_version, has_numbers, HasHeaderValues, HasLineValues, HasOrderValues}
 use Rattle.plant_base.specs.declared.refusal.Refusal.TheVariants.{UnknownRecipe, OrderConflict, SizeOutOfRange, TooMany}
 use Rattle.plant_base.specs.declared.states.RecipeState.{RecipeState}
 use Rattle.plant_base.specs.declared.states.RecipeState.TheVariants.{Draft}
@@ -31,10 +32,10 @@ use Rattle.plant_rules.specs.Recipes.{is_known, with_state, add_recipe}
 use Rattle.plant_rules.specs.Orders.{conflicts, wrong_import_orders, is_size_in, new_orders, is_waiting, import_orders, cancel_order}
 use Rattle.plant_rules.specs.Orders as orders
 use Rattle.plant_rules.specs.Releasing.{control_by, control_for, lines_in, released_batch, release}
-use Rattle.plant_rules.specs.Production.{headers_of, header_among, AreSoundRecipes, orders_of, order_among, batch_among, is_size_of_some, AreSoundOrders, control_from, control_of_order, AreSoundBatches}
+use Rattle.plant_rules.specs.Production.{HasGoodOrder, HasBatchValues, headers_of, header_among, AreSoundRecipes, orders_of, order_among, batch_among, is_size_of_some, AreSoundOrders, control_from, control_of_order, AreSoundBatches}
 use Rattle.plant_rules.specs.Sound.{IsSound}
-use Rattle.plant_rules.proofs.Rows.{all_filtered, filtered_passes, find_mapped, some_mapped}
-use Rattle.plant_rules.proofs.KeptSound.{passed}
+use Rattle.plant_rules.proofs.Rows.{each_passes, all_filtered, filtered_passes, find_mapped, some_mapped}
+use Rattle.plant_rules.proofs.KeptSound.{passed, all_two}
 use Rattle.plant_rules.proofs.Parting.{each_fails, not_false}
 use Rattle.plant_rules.proofs.RecipesKept.{headers_put, headers_same, with_state_sorted, recipes_moved, more, recipes_added, orders_headed, batches_headed}
 use Rattle.plant_rules.proofs.OrdersKept.{order_of_job, orders_same, open_has_none, orders_cancelled, orders_imported, batches_imported, orders_released, batches_released}
@@ -69,14 +70,14 @@ header_of_recipe s id version = find_mapped (λ (h : Header). same h.recipe id &
 
 -- ---- recipes
 
-pub sound_add_recipe : (s : State) → IsSound s → (t : Stamp) (c : AddRecipe) → is_version c.header.version ≡ true → is_well_formed c.header c.lines ≡ true → is_some (definition_at s c.header.product) ≡ true → list_all (is_known s.definitions) c.lines ≡ true → is_some (recipe_at s c.header.recipe c.header.version) ≡ false → IsSound (add_recipe s t c)
-sound_add_recipe s sound t c version formed product known none =
+pub sound_add_recipe : (s : State) → IsSound s → (t : Stamp) (c : AddRecipe) → HasHeaderValues c.header → All HasLineValues c.lines → is_version c.header.version ≡ true → is_well_formed c.header c.lines ≡ true → is_some (definition_at s c.header.product) ≡ true → list_all (is_known s.definitions) c.lines ≡ true → is_some (recipe_at s c.header.recipe c.header.version) ≡ false → IsSound (add_recipe s t c)
+sound_add_recipe s sound t c values line_values version formed product known none =
     let r : Recipe = record { header = c.header; state = Draft } in
     let free = ap is_some (header_of_recipe s c.header.recipe c.header.version) ∙ some_mapped (λ (x : Recipe). x.header) (recipe_at s c.header.recipe c.header.version) ∙ none in
     let rows = more s.definitions s.recipes s.master_lines sound.recipes r c.lines free in
     let back = sym (headers_put s.recipes r) in
     with_production s sound (s.seq + 1) t.at (put recipe_order r s.recipes) rows s.jobs s.batches s.control_lines
-    (recipes_added s.definitions s.recipes s.master_lines sound.recipes r c.lines free version formed product known)
+    (recipes_added s.definitions s.recipes s.master_lines sound.recipes r c.lines free values (recursion_from_All HasLineValues c.lines line_values) version formed product known)
     (subst (λ hs. AreSoundOrders hs s.jobs s.batches) back (orders_headed s.definitions s.recipes s.master_lines sound.recipes r c.lines free s.jobs s.batches sound.orders))
     (subst (λ hs. AreSoundBatches hs rows (orders_of s.jobs) s.batches s.control_lines s.events) back (batches_headed s.definitions s.recipes s.master_lines sound.recipes r c.lines free (orders_of s.jobs) s.batches s.control_lines s.events sound.batches))
 
@@ -108,8 +109,8 @@ import_sized s c fine =
     let planned = passed (list_any (λ (o : OrderRow). is_none (recipe_at s o.recipe o.version)) c.orders) UnknownRecipe (refuse conflict OrderConflict sizes) fine in
     (passed (list_any (λ (o : OrderRow). not (is_size_in (recipe_at s o.recipe o.version) o.size)) c.orders) SizeOutOfRange (refuse (at_limit s) TooMany None) (passed conflict OrderConflict sizes planned.1).1).0
 
-pub sound_import : (s : State) → IsSound s → (t : Stamp) (c : ImportOrders) → list_any (λ (o : OrderRow). not (is_size_in (recipe_at s o.recipe o.version) o.size)) c.orders ≡ false → IsSound (import_orders s t c)
-sound_import s sound t c sizes =
+pub sound_import : (s : State) → IsSound s → (t : Stamp) (c : ImportOrders) → All HasOrderValues c.orders → list_all has_numbers c.orders ≡ true → list_any (λ (o : OrderRow). not (is_size_in (recipe_at s o.recipe o.version) o.size)) c.orders ≡ false → IsSound (import_orders s t c)
+sound_import s sound t c values numbers sizes =
     let new = new_orders s c.orders in
     let headers = headers_of s.recipes in
     let is_new = λ (o : OrderRow). is_none (job_at s o.order) in
@@ -118,8 +119,10 @@ sound_import s sound t c sizes =
     let sized : AllByRecursion (λ (o : OrderRow). is_size_of_some (header_among headers o.recipe o.version) o.size ≡ true) new =
     all_filtered _ is_new c.orders (all_weaker _ _ (λ (o : OrderRow) fits. ap (λ h. is_size_of_some h o.size) (header_of_recipe s o.recipe o.version) ∙ sized_in (recipe_at s o.recipe o.version) o.size ∙ not_false _ fits) c.orders
     (each_fails (λ (o : OrderRow). not (is_size_in (recipe_at s o.recipe o.version) o.size)) c.orders sizes)) in
+    let good : AllByRecursion HasGoodOrder new =
+    all_filtered HasGoodOrder is_new c.orders (all_two HasOrderValues (λ (o : OrderRow). has_numbers o ≡ true) HasGoodOrder (λ o v n. (v, n)) c.orders (recursion_from_All HasOrderValues c.orders values) (each_passes has_numbers c.orders numbers)) in
     with_production s sound (s.seq + 1) t.at s.recipes s.master_lines (import_orders s t c).jobs s.batches s.control_lines sound.recipes
-    (orders_imported headers s.master_lines s.jobs s.batches s.control_lines s.events sound.orders sound.batches new fresh sized)
+    (orders_imported headers s.master_lines s.jobs s.batches s.control_lines s.events sound.orders sound.batches new fresh sized good)
     (batches_imported headers s.master_lines s.jobs s.batches s.control_lines s.events sound.orders sound.batches new fresh)
 
 module _ (s : State) (sound : IsSound s) (id : List ℕ) where
@@ -159,8 +162,8 @@ module _ (s : State) (sound : IsSound s) (b : Batch) (lines : List RecipeLine) (
   released None e waits unstarted = absurd (false≢true waits)
   released (Some j) e waits unstarted = orders_released (headers_of s.recipes) s.master_lines (orders_of s.jobs) s.batches s.control_lines s.events sound.batches b lines free unstarted s.jobs sound.orders j e
 
-pub sound_release : (s : State) → IsSound s → (t : Stamp) (c : Release) → is_some (batch_at s c.batch) ≡ false → is_waiting (job_at s c.order) ≡ true → is_none (control_for s (job_at s c.order)) ≡ false → IsSound (release s t c)
-sound_release s sound t c free waits some =
+pub sound_release : (s : State) → IsSound s → (t : Stamp) (c : Release) → HasBatchValues (released_batch t c) → is_some (batch_at s c.batch) ≡ false → is_waiting (job_at s c.order) ≡ true → is_none (control_for s (job_at s c.order)) ≡ false → IsSound (release s t c)
+sound_release s sound t c values free waits some =
     let b = released_batch t c in
     let headers = headers_of s.recipes in
     let lines = lines_in (control_for s (job_at s c.order)) in
@@ -170,4 +173,4 @@ sound_release s sound t c free waits some =
     let kept = orders_same s.jobs sound.orders.sorted c.order (job_at s c.order) refl Released in
     with_production s sound (s.seq + 1) t.at s.recipes s.master_lines next.jobs next.batches next.control_lines sound.recipes
     (released s sound b lines free (job_at s c.order) refl waits unstarted)
-    (subst (λ os. AreSoundBatches headers s.master_lines os next.batches next.control_lines s.events) (sym kept) (batches_released headers s.master_lines (orders_of s.jobs) s.batches s.control_lines s.events sound.batches b lines free unstarted scaled))
+    (subst (λ os. AreSoundBatches headers s.master_lines os next.batches next.control_lines s.events) (sym kept) (batches_released headers s.master_lines (orders_of s.jobs) s.batches s.control_lines s.events sound.batches b lines free unstarted values scaled))

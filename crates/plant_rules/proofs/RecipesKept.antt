@@ -6,7 +6,7 @@ use Rattle.std.specs.List.Sorted.{IsStrictlySortedBy}
 use Rattle.std.specs.Ordering.{is_eq}
 use Rattle.std.proofs.lemmas.Bool.{false≢true}
 use Rattle.plant_base.specs.State.{same, put, definition_order, recipe_order, master_line_order}
-use Rattle.plant_base.specs.Formed.{is_version}
+use Rattle.plant_base.specs.Formed.{is_version, HasHeaderValues, HasLineValues}
 use Rattle.plant_base.specs.declared.states.RecipeState.{RecipeState}
 use Rattle.plant_base.specs.declared.rows.Definition.{Definition}
 use Rattle.plant_base.specs.declared.rows.Header.{Header}
@@ -44,6 +44,8 @@ recipes_defined definitions recipes rows r sound = record {
   rows_sorted = sound.rows_sorted;
   whole = all_weaker _ _ (λ (h : Header) w. record {
     version = w.version;
+    values = w.values;
+    line_values = w.line_values;
     formed = w.formed;
     numbered = w.numbered;
     product = id_still (λ (d : Definition). d.id) r definitions h.product w.product;
@@ -89,6 +91,8 @@ whole_alike definitions rows more h e w =
     let line = λ (l : MasterLine). l.line in
     record {
       version = w.version;
+      values = w.values;
+      line_values = subst (λ ls. AllByRecursion HasLineValues (map line ls)) (sym e) w.line_values;
       formed = ap (λ ls. is_well_formed h (map line ls)) e ∙ w.formed;
       numbered = e ∙ w.numbered ∙ ap (λ ls. numbered (master_line h) 1 (map line ls)) (sym e);
       product = w.product;
@@ -142,12 +146,14 @@ module _ (definitions : List Definition) (recipes : List Recipe) (rows : List Ma
       let apart = (keys_apart is_there id version h.recipe h.version known free).1 in
       found_same header_order h (λ (q : Header). same q.recipe id && q.version == version) (headers_of recipes) apart (λ q e. let keys = numbered_tie h.recipe h.version q.recipe q.version e in (λ i. same (sym keys.0 i) id && sym keys.1 i == version) ∙ apart)
 
-  pub recipes_added : is_version r.header.version ≡ true → is_well_formed r.header lines ≡ true → is_defined definitions r.header.product ≡ true → list_all (is_known definitions) lines ≡ true → AreSoundRecipes definitions (put recipe_order r recipes) more
-  recipes_added version formed product known =
+  pub recipes_added : HasHeaderValues r.header → AllByRecursion HasLineValues lines → is_version r.header.version ≡ true → is_well_formed r.header lines ≡ true → is_defined definitions r.header.product ≡ true → list_all (is_known definitions) lines ≡ true → AreSoundRecipes definitions (put recipe_order r recipes) more
+  recipes_added values line_values version formed product known =
       let h = r.header in
       let test = λ (q : Header). same q.recipe h.recipe && q.version == h.version in
       let this : IsWholeRecipe definitions more h = record {
         version = version;
+        values = values;
+        line_values = subst (AllByRecursion HasLineValues) (sym its_lines) line_values;
         formed = ap (is_well_formed h) its_lines ∙ formed;
         numbered = its_rows ∙ ap (numbered (master_line h) 1) (sym its_lines);
         product = product;
@@ -169,6 +175,7 @@ module _ (definitions : List Definition) (recipes : List Recipe) (rows : List Ma
   pub orders_headed : (jobs : List Job) (batches : List Batch) → AreSoundOrders (headers_of recipes) jobs batches → AreSoundOrders headed jobs batches
   orders_headed jobs batches orders = record {
     sorted = orders.sorted;
+    values = orders.values;
     sized = all_weaker _ _ (λ (o : OrderRow) sized. ap (λ h. is_size_of_some h o.size) (header_stays o.recipe o.version (some_size _ o.size sized)) ∙ sized) (orders_of jobs) orders.sized;
     started = orders.started;
   }
@@ -185,7 +192,7 @@ module _ (definitions : List Definition) (recipes : List Recipe) (rows : List Ma
   batches_headed orders batches control events own = record {
     sorted = own.sorted;
     control_sorted = own.control_sorted;
-    each = all_weaker _ _ (λ (b : Batch) w. record { alone = w.alone; scaled = control_stays (order_among orders b.job) _ w.scaled; numbered = w.numbered }) batches own.each;
+    each = all_weaker _ _ (λ (b : Batch) w. record { values = w.values; alone = w.alone; scaled = control_stays (order_among orders b.job) _ w.scaled; numbered = w.numbered }) batches own.each;
     controlled = own.controlled;
     witnessed = own.witnessed;
   }

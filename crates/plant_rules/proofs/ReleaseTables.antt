@@ -56,7 +56,7 @@ control_changed : {L : Type 0} (f : ℕ → L → ControlLine) (k : ℕ) (ls : L
 control_changed f k [] t = refl
 control_changed f k (l ∷ ls) t = control_changed f (k + 1) ls (changed (row.ControlLine (f k l)) t)
 
-filter_both : {X : Type 0} (p q : X → Bool) (xs : List X) → filter (λ x. p x && q x) xs ≡ filter q (filter p xs)
+pub filter_both : {X : Type 0} (p q : X → Bool) (xs : List X) → filter (λ x. p x && q x) xs ≡ filter q (filter p xs)
 filter_both p q [] = refl
 filter_both p q (x ∷ xs) = elim (p x) as (λ b. cond (b && q x) (x ∷ filter (λ y. p y && q y) xs) (filter (λ y. p y && q y) xs) ≡ filter q (cond b (x ∷ filter p xs) (filter p xs))) [
   | true ↦ ap (λ ys. cond (q x) (x ∷ ys) ys) (filter_both p q xs)

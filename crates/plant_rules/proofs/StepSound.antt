@@ -1,12 +1,12 @@
 -- Every command keeps a sound state sound, and the opening state is sound.
-use Rattle.std.proofs.Common.{◌≡◌, ◌∙◌, ℕ, ◌≤◌, refl, sym, ap, is_some, true, Option, Some, None, arith, nat_lt}
+use Rattle.std.proofs.Common.{◌≡◌, ◌∙◌, ℕ, ◌≤◌, refl, sym, ap, is_some, true, Option, Some, None, arith, nat_lt, nat_le, length}
 use Rattle.std.specs.Prelude.{not}
 use Rattle.std.specs.List.Sorted.{IsStrictlySortedBy}
 use Rattle.std.proofs.lemmas.Bool.{ltb-false}
 use Rattle.std.proofs.lemmas.Bool.Decides.{nat_tests}
-use Rattle.plant_base.specs.Values.{greatest_amount, is_amount}
+use Rattle.plant_base.specs.Values.{greatest_amount, is_amount, is_moment, is_text}
 use Rattle.plant_base.specs.State.{State, opening}
-use Rattle.plant_base.specs.Formed.{HasValues, HasBodyValues, is_version, are_parts, stamp_of}
+use Rattle.plant_base.specs.Formed.{HasValues, HasBodyValues, is_version, are_orders, are_parts, stamp_of}
 use Rattle.plant_base.specs.declared.states.RecipeState.TheVariants.{Approved, Withdrawn}
 use Rattle.plant_base.specs.declared.refusal.Refusal.{Refusal}
 use Rattle.plant_base.specs.declared.refusal.Refusal.TheVariants.{BadForm, MomentBack}
@@ -35,30 +35,34 @@ use Rattle.plant_rules.proofs.HoldSound.{sound_hold, sound_unhold}
 pub amount_small : (n : ℕ) → is_amount n ≡ true → n ≤ greatest_amount
 amount_small n e = grind (arith, nat_tests)
 
-sound_body : (s : State) → IsSound s → (t : Stamp) (c : Command) → HasBodyValues c → is_whole c ≡ true → wrong_body s c ≡ None → IsSound (step_body s t c)
-sound_body s sound t (body.AddClass c) values formed fine = sound_add_class s sound t c
-sound_body s sound t (body.AddDefinition c) values formed fine = sound_add_definition s sound t c (is_there _ (passed _ _ _ fine).0)
-sound_body s sound t (body.Receive c) values formed fine =
+-- the values of a stamp obey their rules
+abbrev HasStamp : Stamp → Type 0
+HasStamp t = (is_moment t.at ≡ true) × (is_text t.by ≡ true) × (is_text t.note ≡ true)
+
+sound_body : (s : State) → IsSound s → (t : Stamp) (c : Command) → HasStamp t → HasBodyValues c → is_whole c ≡ true → wrong_body s c ≡ None → IsSound (step_body s t c)
+sound_body s sound t (body.AddClass c) stamp values formed fine = sound_add_class s sound t c
+sound_body s sound t (body.AddDefinition c) stamp values formed fine = sound_add_definition s sound t c (is_there _ (passed _ _ _ fine).0)
+sound_body s sound t (body.Receive c) stamp values formed fine =
     let known = passed _ _ _ fine in
     sound_receive s sound t c (amount_small c.amount values.2) (is_there _ known.0) (passed _ _ _ known.1).0
-sound_body s sound t (body.Scrap c) values formed fine =
+sound_body s sound t (body.Scrap c) stamp values formed fine =
     let lot = passed _ _ _ fine in
     let sublot = passed _ _ _ lot.1 in
     let enough = passed _ _ _ sublot.1 in
     sound_scrap s sound t c (is_there _ sublot.0) (ltb-false _ _ enough.0)
-sound_body s sound t (body.Divide c) values formed fine =
+sound_body s sound t (body.Divide c) stamp values formed fine =
     let lot = passed _ _ _ fine in
     let sublot = passed _ _ _ lot.1 in
     let enough = passed _ _ _ sublot.1 in
     let room = passed _ _ _ enough.1 in
     sound_divide s sound t c (amount_small c.amount values.1) (is_there _ lot.0) (is_there _ sublot.0) (ltb-false _ _ enough.0) (ltb-false _ _ room.0)
-sound_body s sound t (body.Split c) values formed fine =
+sound_body s sound t (body.Split c) stamp values formed fine =
     let lot = passed _ _ _ fine in
     let sublot = passed _ _ _ lot.1 in
     let new = passed _ _ _ sublot.1 in
     let enough = passed _ _ _ new.1 in
     sound_split s sound t c (amount_small c.amount values.1) (is_there _ lot.0) (is_there _ sublot.0) new.0 (ltb-false _ _ enough.0)
-sound_body s sound t (body.Merge c) values formed fine =
+sound_body s sound t (body.Merge c) stamp values formed fine =
     let there = parts_there s c.parts _ fine in
     let ready = parts_ready s c.parts there in
     let new = passed _ _ _ (sym (parts_pass s c.parts _ there) ∙ fine) in
@@ -73,26 +77,26 @@ sound_body s sound t (body.Merge c) values formed fine =
     new.0
     (all_weaker _ _ (λ (p : Part) e. ltb-false _ _ e) c.parts (each_fails (λ (p : Part). nat_lt (standing s p.lot p.sub) p.amount) c.parts enough.0))
     (ltb-false _ _ much.0) mixed.0
-sound_body s sound t (body.Hold c) values formed fine = sound_hold s sound t c (is_there _ (passed _ _ _ fine).0)
-sound_body s sound t (body.Unhold c) values formed fine = sound_unhold s sound t c
-sound_body s sound t (body.AddRecipe c) values formed fine =
+sound_body s sound t (body.Hold c) stamp values formed fine = sound_hold s sound t c (is_there _ (passed _ _ _ fine).0)
+sound_body s sound t (body.Unhold c) stamp values formed fine = sound_unhold s sound t c
+sound_body s sound t (body.AddRecipe c) stamp values formed fine =
     let product = passed _ _ _ fine in
     let lines = passed _ _ _ product.1 in
     let new = passed _ _ _ lines.1 in
-    sound_add_recipe s sound t c (and_left _ _ formed) (and_right (is_version c.header.version) _ formed) (is_there _ product.0) (not_false _ lines.0) new.0
-sound_body s sound t (body.Approve c) values formed fine = sound_moved s sound t c.recipe c.version Approved
-sound_body s sound t (body.Withdraw c) values formed fine = sound_moved s sound t c.recipe c.version Withdrawn
-sound_body s sound t (body.ImportOrders c) values formed fine = sound_import s sound t c (import_sized s c fine)
-sound_body s sound t (body.CancelOrder c) values formed fine =
+    sound_add_recipe s sound t c values.0 values.1 (and_left _ _ formed) (and_right (is_version c.header.version) _ formed) (is_there _ product.0) (not_false _ lines.0) new.0
+sound_body s sound t (body.Approve c) stamp values formed fine = sound_moved s sound t c.recipe c.version Approved
+sound_body s sound t (body.Withdraw c) stamp values formed fine = sound_moved s sound t c.recipe c.version Withdrawn
+sound_body s sound t (body.ImportOrders c) stamp values formed fine = sound_import s sound t c values (and_right (nat_le (length c.orders) 1000) _ (and_left (are_orders c.orders) true formed)) (import_sized s c fine)
+sound_body s sound t (body.CancelOrder c) stamp values formed fine =
     let there = passed _ _ _ fine in
     sound_cancel s sound t c (not_false _ (passed _ _ _ there.1).0)
-sound_body s sound t (body.Release c) values formed fine =
+sound_body s sound t (body.Release c) stamp values formed fine =
     let there = passed _ _ _ fine in
     let new = passed _ _ _ there.1 in
     let approved = passed _ _ _ new.1 in
     let waits = passed _ _ _ approved.1 in
     let control = passed _ _ _ waits.1 in
-    sound_release s sound t c new.0 (not_false _ waits.0) control.0
+    sound_release s sound t c (record { id = values.1; job = values.0; at = stamp.0; by = stamp.1; note = stamp.2 }) new.0 (not_false _ waits.0) control.0
 
 unless_sound : (w : Option Refusal) (s next : State) → IsSound s → (w ≡ None → IsSound next) → IsSound (unless_refused w s next)
 unless_sound None s next sound h = h refl
@@ -103,7 +107,7 @@ unfolding step wrong
 step_sound s sound e values = unless_sound (wrong s e) s (step_body s (stamp_of e) e.body) sound (λ fine.
     let formed = passed (not (is_whole e.body)) BadForm (refuse (nat_lt e.at s.at) MomentBack (wrong_body s e.body)) fine in
     let moment = passed (nat_lt e.at s.at) MomentBack (wrong_body s e.body) formed.1 in
-    sound_body s sound (stamp_of e) e.body values.body (not_false _ formed.0) moment.1)
+    sound_body s sound (stamp_of e) e.body (values.at, values.by, values.note) values.body (not_false _ formed.0) moment.1)
 
 pub opening_sound : IsSound opening
 unfolding entered left IsStrictlySortedBy
@@ -123,6 +127,6 @@ opening_sound = record {
   small = λ l n. omega arith;
   covered = λ l n. omega arith;
   recipes = record { sorted = tt; rows_sorted = tt; whole = tt; listed = tt };
-  orders = record { sorted = tt; sized = tt; started = tt };
+  orders = record { sorted = tt; values = tt; sized = tt; started = tt };
   batches = record { sorted = tt; control_sorted = tt; each = tt; controlled = tt; witnessed = tt };
 }

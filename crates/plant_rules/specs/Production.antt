@@ -3,7 +3,8 @@ use Rattle.std.specs.Prelude.{◌≡◌, ℕ, Bool, true, false, ◌&&◌, ◌==
 use Rattle.std.specs.List.{AllByRecursion}
 use Rattle.std.specs.List.Sorted.{IsStrictlySortedBy}
 use Rattle.plant_base.specs.State.{same, recipe_order, master_line_order, job_order, batch_order, control_line_order}
-use Rattle.plant_base.specs.Formed.{is_version}
+use Rattle.plant_base.specs.Values.{is_id, is_text, is_moment}
+use Rattle.plant_base.specs.Formed.{is_version, has_numbers, HasHeaderValues, HasLineValues, HasOrderValues}
 use Rattle.plant_base.specs.declared.states.JobState.{JobState}
 use Rattle.plant_base.specs.declared.states.JobState.TheVariants.{Open, Cancelled, Released, Finished}
 use Rattle.plant_base.specs.declared.rows.Definition.{Definition}
@@ -39,9 +40,11 @@ rows_among rows id version = filter (λ l. same l.recipe id && l.version == vers
 abbrev pub lines_among : List MasterLine → List ℕ → ℕ → List RecipeLine
 lines_among rows id version = map (λ l. l.line) (rows_among rows id version)
 
--- the recipe is well formed, its lines are numbered from 1, and what it names is there
+-- the recipe is well formed, its lines are numbered from 1, what it names is there, and its values obey their rules
 pub record IsWholeRecipe (definitions : List Definition) (rows : List MasterLine) (h : Header) : Type 0 where
   pub version : is_version h.version ≡ true
+  pub values : HasHeaderValues h
+  pub line_values : AllByRecursion HasLineValues (lines_among rows h.recipe h.version)
   pub formed : is_well_formed h (lines_among rows h.recipe h.version) ≡ true
   pub numbered : rows_among rows h.recipe h.version ≡ numbered (master_line h) 1 (lines_among rows h.recipe h.version)
   pub product : is_defined definitions h.product ≡ true
@@ -78,9 +81,14 @@ has_batch Cancelled = false
 has_batch Released = true
 has_batch Finished = true
 
+-- the values and the numbers of an order obey their rules
+abbrev pub HasGoodOrder : OrderRow → Type 0
+HasGoodOrder o = HasOrderValues o × (has_numbers o ≡ true)
+
 -- each order's recipe is there, and its size is one of it; an order has a batch where it is released or finished alone
 pub record AreSoundOrders (headers : List Header) (jobs : List Job) (batches : List Batch) : Type 0 where
   pub sorted : IsStrictlySortedBy job_order jobs
+  pub values : AllByRecursion HasGoodOrder (orders_of jobs)
   pub sized : AllByRecursion (λ o. is_size_of_some (header_among headers o.recipe o.version) o.size ≡ true) (orders_of jobs)
   pub started : AllByRecursion (λ j. is_some (batch_among batches j.order.order) ≡ has_batch j.state) jobs
 
@@ -99,8 +107,16 @@ abbrev pub control_of_order : List Header → List MasterLine → Option OrderRo
 control_of_order headers rows None = None
 control_of_order headers rows (Some o) = control_from rows o (header_among headers o.recipe o.version)
 
+pub record HasBatchValues (b : Batch) : Type 0 where
+  pub id : is_id b.id ≡ true
+  pub job : is_id b.job ≡ true
+  pub at : is_moment b.at ≡ true
+  pub by : is_text b.by ≡ true
+  pub note : is_text b.note ≡ true
+
 -- the batch is the only one of its order, and its lines are the control recipe of that order, numbered from 1
 pub record IsSoundBatch (headers : List Header) (rows : List MasterLine) (orders : List OrderRow) (batches : List Batch) (control : List ControlLine) (b : Batch) : Type 0 where
+  pub values : HasBatchValues b
   pub alone : batch_among batches b.job ≡ Some b
   pub scaled : control_of_order headers rows (order_among orders b.job) ≡ Some (map (λ l. l.line) (control_among control b.id))
   pub numbered : control_among control b.id ≡ numbered (control_line b.id) 1 (map (λ l. l.line) (control_among control b.id))

@@ -1,5 +1,5 @@
 -- What was loaded stands in the tables, as the writing side asks.
-use Rattle.std.proofs.Common.{◌≡◌, refl, subst, ap, sym, ◌∙◌, ℕ, zero, suc, List, [], ◌∷◌, Some, None, slice_get, slice_index_or, map}
+use Rattle.std.proofs.Common.{◌≡◌, subst, ℕ, zero, suc, List, [], ◌∷◌, Some, slice_get, slice_index_or}
 use Rattle.std.specs.Bool.{⊤}
 use Rattle.sqlite.specs.Effect.{Database, IsDatabase}
 use Rattle.sqlite.specs.Order.{Row}

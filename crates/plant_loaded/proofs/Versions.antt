@@ -1,13 +1,12 @@
 -- A store tells one version at most, and none where the names are free.
-use Rattle.std.proofs.Common.{◌≡◌, refl, sym, ap, ◌∙◌, ℕ, ℤ, List, [], ◌∷◌, map, All, Some, None, true, false, Bool, ◌||◌, ◌<◌, arith, length, slice_index_or}
+use Rattle.std.proofs.Common.{◌≡◌, refl, sym, ap, ◌∙◌, ℤ, List, [], ◌∷◌, map, All, arith}
 use Rattle.sqlite.proofs.Callers.{one_permutation}
 use Rattle.sqlite.specs.Effect.{Database}
-use Rattle.sqlite.specs.Schema.{Schema}
-use Rattle.plant_forms.specs.Forms.{Form}
 use Rattle.plant_forms.specs.Standing.{HasTable, IsFree}
 use Rattle.plant_reads.specs.Reading.{Lists}
 use Rattle.plant_reads.proofs.Same.{lists_same, has_listed}
 use Rattle.plant_tables.specs.DeskForms.{desk_forms, meta_form}
+use Rattle.plant_loaded.specs.declared.finding.FoundTables.TheVariants as answer
 use Rattle.plant_loaded.specs.declared.meta.StoredMeta.{StoredMeta}
 use Rattle.plant_loaded.specs.Stored.{meta_row}
 use Rattle.plant_loaded.specs.Version.{IsGoodMeta, IsVersion}
@@ -53,3 +52,19 @@ free_tells_nothing db n free v =
 -- where table meta doesn't stand there is no version
 pub other_tells_nothing : (db : Database) (n : ℤ) → ¬ All (HasTable db.schema) (meta_form ∷ []) → ¬ IsVersion db n
 other_tells_nothing db n none v = none (λ k d low. let first : k ≡ 0 = omega arith in rw first (has_listed db meta_form _ v.alone))
+
+-- the three answers differ
+pub nothing_or_version : (n : ℤ) → answer.Nothing ≡ answer.Version n → ⊥
+nothing_or_version n e = absurd (cc)
+
+pub version_or_nothing : (n : ℤ) → answer.Version n ≡ answer.Nothing → ⊥
+version_or_nothing n e = absurd (cc)
+
+pub unknown_or_nothing : answer.NoMeta ≡ answer.Nothing → ⊥
+unknown_or_nothing e = absurd (cc)
+
+pub unknown_or_version : (n : ℤ) → answer.NoMeta ≡ answer.Version n → ⊥
+unknown_or_version n e = absurd (cc)
+
+pub told_version : (m n : ℤ) → answer.Version m ≡ answer.Version n → m ≡ n
+told_version m n e = cc

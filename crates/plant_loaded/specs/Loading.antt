@@ -8,7 +8,6 @@ use Rattle.plant_reads.specs.Reading.{Lists}
 use Rattle.plant_reads.specs.Rises.{Rises}
 use Rattle.plant_tables.specs.DeskForms.{meta_form, class_form, definition_form, recipe_form, recipe_line_form, job_form, batch_form, control_line_form, batch_event_form, lot_form, sublot_form, movement_form, hold_form}
 use Rattle.plant_loaded.specs.Stored.{meta_row, meta_before, class_row, class_before, definition_row, definition_before, recipe_row, recipe_before, recipe_line_row, recipe_line_before, job_row, job_before, batch_row, batch_before, control_line_row, control_line_before, batch_event_row, batch_event_before, lot_row, lot_before, sublot_row, sublot_before, movement_row, movement_before, hold_row, hold_before}
-use Rattle.plant_loaded.specs.declared.meta.StoredMeta.{StoredMeta}
 use Rattle.plant_loaded.specs.declared.masters.Masters.{Masters}
 use Rattle.plant_loaded.specs.declared.orders.Orders.{Orders}
 use Rattle.plant_loaded.specs.declared.stocks.Stocks.{Stocks}

@@ -1,5 +1,6 @@
 //! What is read of stores in memory.
 
+use crate::finding::{FoundTables, found};
 use crate::loaded::Loaded;
 use crate::stocks::StoredSublot;
 use plant_forms::Fault;
@@ -29,6 +30,11 @@ fn filled(rt: &HostRuntime, sql: &str) -> Result<Connection<MemStore>, Fail> {
 /// What is read of it.
 fn loaded(rt: &HostRuntime, conn: &mut Connection<MemStore>) -> Result<Option<Loaded>, Fail> {
     Ok(Loaded::read(rt.alloc(), conn, 1)?)
+}
+
+/// What is found in it.
+fn found_in(rt: &HostRuntime, conn: &mut Connection<MemStore>) -> Result<FoundTables, Fail> {
+    Ok(found(rt.alloc(), conn)?)
 }
 
 /// The sublots of a lot.
@@ -159,5 +165,23 @@ fn opened_anew(rt: HostRuntime) -> Result<(), Fail> {
         }
         Err(_) => assert!(rt; false),
     }
+    Ok(())
+}
+
+#[test]
+fn versions_are_told(rt: HostRuntime) -> Result<(), Fail> {
+    let mut conn = filled(&rt, "INSERT INTO meta VALUES (1, 1, 5, 100)")?;
+    assert!(rt; found_in(&rt, &mut conn)? == FoundTables::Version(1));
+    let mut conn = filled(&rt, "INSERT INTO meta VALUES (1, 1, -1, 100)")?;
+    assert!(rt; found_in(&rt, &mut conn)? == FoundTables::NoMeta);
+    let mut conn = filled(&rt, "DROP TABLE meta")?;
+    assert!(rt; found_in(&rt, &mut conn)? == FoundTables::NoMeta);
+    Ok(())
+}
+
+#[test]
+fn no_tables_are_found(rt: HostRuntime) -> Result<(), Fail> {
+    let mut conn = Connection::open_in_memory(rt.alloc())?;
+    assert!(rt; found_in(&rt, &mut conn)? == FoundTables::Nothing);
     Ok(())
 }

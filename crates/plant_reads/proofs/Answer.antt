@@ -1,12 +1,12 @@
 -- What the answer of a query of one table is.
-use Rattle.std.proofs.Common.{◌≡◌, refl, sym, ap, subst, ◌∙◌, Ok, Err, List, ℕ, zero, suc, pos, ◌-◌, ◌+◌, ◌<◌, ◌^◌, Bool, [], ◌∷◌, ◌++◌, map, None, Some, Option, true, false, slice_get, nat_le, length, if◌then◌else◌}
+use Rattle.std.proofs.Common.{◌≡◌, refl, ap, ◌∙◌, List, ℕ, ◌^◌, Bool, [], ◌∷◌, ◌++◌, map, None, Option, true, false, nat_le, if◌then◌else◌}
 use Rattle.std.specs.Prelude.{filter, flat_map, IsPermutation}
 use Rattle.std.proofs.lemmas.List.Sorted.{IsPermutation-map}
 use Rattle.sqlite_value.specs.declared.value.Value.TheVariants.{Null}
 use Rattle.sqlite_value.specs.Order.{Row, column}
 use Rattle.sqlite_trees.specs.Tree.{Trees}
-use Rattle.sqlite_sql.specs.Term.{Term, Env, eval_all, col, holds}
-use Rattle.sqlite_sql.specs.Query.{Query, IsAnswer, Output, output, matches_as, inner, end}
+use Rattle.sqlite_sql.specs.Term.{Term, eval_all}
+use Rattle.sqlite_sql.specs.Query.{IsAnswer, Output, output}
 use Rattle.sqlite_sql.specs.Program.{overlay}
 use Rattle.sqlite_schema.specs.declared.schema.Table.{Table}
 use Rattle.sqlite_schema.specs.Names.{place_of}

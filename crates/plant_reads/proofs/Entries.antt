@@ -1,12 +1,11 @@
 -- The columns of a form as a query meets them.
-use Rattle.std.proofs.Common.{◌≡◌, refl, sym, ap, ap₂, subst, ◌∙◌, List, ℕ, zero, suc, ◌-◌, ◌+◌, ◌<◌, ◌≤◌, Bool, [], ◌∷◌, map, None, Some, Option, true, false, slice_get, arith, nat_lt, nat_le, length, ◌==◌, ◌&&◌, add-one}
+use Rattle.std.proofs.Common.{◌≡◌, refl, ap, ap₂, List, ℕ, ◌-◌, ◌+◌, ◌<◌, ◌≤◌, [], ◌∷◌, map, None, Some, Option, true, false, arith, nat_lt, nat_le, length, ◌&&◌, add-one}
 use Rattle.std.specs.List.{list_all}
 use Rattle.std.proofs.lemmas.Bool.{and_parts, not-true}
 use Rattle.std.proofs.lemmas.Option.{slice_get-get_or}
 use Rattle.sqlite.specs.Kind.TheVariants.{Integer}
 use Rattle.sqlite_value.specs.declared.keys.Collation.{Collation}
 use Rattle.sqlite_value.specs.declared.keys.Collation.TheVariants.{Binary}
-use Rattle.sqlite_schema.specs.declared.schema.Table.{Table}
 use Rattle.sqlite_schema.specs.Names.{column_named}
 use Rattle.plant_forms.specs.Forms.{Form, strict_column, table_of}
 use Rattle.sqlite_resolve.specs.Lowering.{max_budget}

@@ -1,9 +1,9 @@
 -- What reading leaves, from what `sqlite` says of each call.
-use Rattle.std.proofs.Common.{◌≡◌, ◌⊎◌, inl, inr, refl, sym, ap, subst, ◌∙◌, List, ℕ, [], None, Some, Ok, Err, Result, IfOk, Option, IsTrue, false}
+use Rattle.std.proofs.Common.{◌≡◌, ◌⊎◌, inl, inr, sym, subst, ◌∙◌, List, ℕ, [], None, Ok, Err, Result, IfOk}
 use Rattle.sqlite.specs.Order.{Row}
 use Rattle.sqlite.specs.Effect.{Database}
 use Rattle.sqlite.specs.Listing.{understood, reads_listing, IsSourceOf}
-use Rattle.sqlite.specs.State.{State, IsUnchanged, IsRolledBack, Fails, IsNotRun, FailsToQuery, FailsToShow, Shown, ShowsRows, IsStatement, Survives, CommitsShowing, HasCleanDisk}
+use Rattle.sqlite.specs.State.{State, IsUnchanged, IsRolledBack, Fails, IsNotRun, FailsToQuery, Shown, ShowsRows, Survives, CommitsShowing}
 use Rattle.sqlite.specs.Clock.{timed}
 use Rattle.sqlite.specs.declared.error.Error.{Error}
 use Rattle.sqlite.specs.Schema.{Schema}

@@ -1,47 +1,42 @@
 -- The query that SELECT of columns of one table stands for, whatever else the schema has.
-use Rattle.std.proofs.Common.{◌≡◌, refl, sym, ap, subst, ◌∙◌, ◌⊎◌, inl, inr, Ok, Err, List, ℕ, zero, suc, pos, negsuc, ◌-◌, ◌+◌, ◌<◌, Bool, [], ◌∷◌, ◌++◌, map, None, Some, Option, true, false, slice_get, arith, nat_lt, length, append-nil, ◌&&◌}
+use Rattle.std.proofs.Common.{◌≡◌, refl, ◌∙◌, ◌⊎◌, inl, inr, Ok, Err, List, ℕ, negsuc, ◌-◌, ◌+◌, ◌<◌, [], ◌∷◌, ◌++◌, map, None, Some, Option, true, false, slice_get, arith, nat_lt, length, append-nil, ◌&&◌}
 use Rattle.std.proofs.lemmas.List.{append_assoc}
 use Rattle.std.proofs.lemmas.Bool.{cases_Bool}
 use Rattle.std.specs.List.{position_from}
 use Rattle.sqlite_value.specs.declared.value.Value.TheVariants.{Int}
 use Rattle.sqlite_value.specs.declared.keys.Key.{Key}
-use Rattle.sqlite_value.specs.declared.keys.Collation.{Collation}
 use Rattle.sqlite_sql.specs.Term.{Term, lit, col}
-use Rattle.sqlite_sql.specs.Query.{Query, inner, end}
+use Rattle.sqlite_sql.specs.Query.{inner, end}
 use Rattle.sqlite_schema.specs.declared.schema.Schema.{Schema}
 use Rattle.sqlite_schema.specs.declared.schema.Table.{Table}
 use Rattle.sqlite_schema.specs.declared.command.Command.TheVariants.{Select}
 use Rattle.sqlite_schema.specs.Names.{same_name, table_named, place_of}
 use Rattle.sqlite_ast.specs.declared.Expr.{Expr}
-use Rattle.sqlite_ast.specs.declared.Expr.TheViews.{out-Core, out-Select, out-roll-Select}
+use Rattle.sqlite_ast.specs.declared.Expr.TheViews.{out-Select, out-roll-Select}
 use Rattle.sqlite_draft.specs.declared.join.Step.TheVariants.{Inner}
 use Rattle.sqlite_draft.specs.declared.query.Draft.{Draft}
 use Rattle.sqlite_draft.specs.Query.{query_of}
 use Rattle.sqlite_typing.specs.Types.{accepts_program}
 use Rattle.sqlite_resolve.specs.declared.scope.Output.{Output}
-use Rattle.sqlite_resolve.specs.declared.scope.Level.{Level}
-use Rattle.sqlite_resolve.specs.declared.body.Body.{Body}
-use Rattle.sqlite_resolve.specs.declared.select.Clauses.{Clauses}
 use Rattle.sqlite_resolve.specs.declared.state.State.{State}
 use Rattle.sqlite_resolve.specs.declared.state.Carried.{Carried}
 use Rattle.sqlite_resolve.specs.Lowering.{nothing, fresh, alone, max_budget}
-use Rattle.sqlite_resolve.specs.Scope.{Context, Name, declared, alias_of}
-use Rattle.sqlite_resolve.specs.Expr.{lower_to, lower}
+use Rattle.sqlite_resolve.specs.Scope.{Name, declared}
+use Rattle.sqlite_resolve.specs.Expr.{lower_to}
 use Rattle.sqlite_resolve.specs.Terms.{number}
 use Rattle.sqlite_resolve.specs.Body.{tests}
 use Rattle.sqlite_resolve.specs.Body as body
 use Rattle.sqlite_resolve.specs.Order as order
 use Rattle.sqlite_resolve.specs.Order.{key, keys, sort, sorts, placed, peeled, alias_in, collation_of, written_on, is_numeral, is_integer}
-use Rattle.sqlite_resolve.specs.Select.{outermost, inside, parts, having, ungrouped, assembled, named, paging, constant_or}
+use Rattle.sqlite_resolve.specs.Select.{outermost, parts, having, ungrouped, assembled, named, paging, constant_or}
 use Rattle.sqlite_resolve.specs.Program as whole
 use Rattle.sqlite_resolve.specs.Program.{query, query_to, level, with, viewing, single, source, sources, program}
 use Rattle.sqlite_resolve.specs.Compile.{read, first, compiled, planned, meaning, command, returning, timed}
 use Rattle.sqlite_resolve.specs.declared.compiled.Compiled.{Compiled}
 use Rattle.sqlite_resolve.specs.declared.error.CompileError.TheVariants.{Mismatch}
 use Rattle.sqlite.specs.Listing.{understood, reads_listing}
-use Rattle.sqlite_sql.specs.Program.{Let}
-use Rattle.plant_forms.specs.Written.{column_expr, filter_of}
-use Rattle.plant_reads.specs.Written.{shown_column, sort_by, from_table, core_of, select_of, parsed_as}
+use Rattle.plant_forms.specs.Written.{filter_of}
+use Rattle.plant_reads.specs.Written.{sort_by, from_table, core_of, select_of, parsed_as}
 use Rattle.plant_forms.specs.Views.{ast_views}
 use Rattle.plant_forms.proofs.Column.{the_bound, context_of, state_at, lower_column}
 use Rattle.plant_forms.proofs.Given.{Entry, AreColumns}

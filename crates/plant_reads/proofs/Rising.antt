@@ -1,5 +1,5 @@
 -- What is known of one table.
-use Rattle.std.proofs.Common.{◌≡◌, ℕ, List, Some, slice_get, IsTrue, subst, sym}
+use Rattle.std.proofs.Common.{◌≡◌, ℕ, List, Some, slice_get, subst, sym}
 use Rattle.sqlite.specs.Effect.{Database}
 use Rattle.sqlite.specs.Table.{Table}
 use Rattle.sqlite.specs.State.{State}

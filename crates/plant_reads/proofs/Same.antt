@@ -1,5 +1,5 @@
 -- A table has one list of rows, but for their order.
-use Rattle.std.proofs.Common.{◌≡◌, sym, ap, subst, ◌∙◌, List, ℕ, map, drop, Some, slice_get}
+use Rattle.std.proofs.Common.{◌≡◌, ap, subst, List, ℕ, map, drop}
 use Rattle.std.specs.Prelude.{IsPermutation}
 use Rattle.std.proofs.lemmas.List.Sorted.{IsPermutation-sym, IsPermutation-trans}
 use Rattle.sqlite.specs.Effect.{Database}

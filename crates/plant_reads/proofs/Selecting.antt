@@ -1,6 +1,6 @@
 -- What a text reads that selects from a form's table.
-use Rattle.std.proofs.Common.{◌≡◌, ◌⊎◌, inl, inr, refl, sym, ap, subst, ◌∙◌, Ok, Err, List, ℕ, zero, suc, ◌-◌, ◌+◌, ◌<◌, ◌≤◌, Bool, [], ◌∷◌, map, drop, None, Some, true, false, not, nat_lt, nat_le, length, arith, ◌&&◌}
-use Rattle.std.specs.Prelude.{filter, IsPermutation, IfOk}
+use Rattle.std.proofs.Common.{◌≡◌, ◌⊎◌, inl, inr, refl, sym, ap, ◌∙◌, Ok, Err, List, ℕ, ◌-◌, ◌+◌, ◌<◌, ◌≤◌, [], ◌∷◌, map, drop, true, false, not, nat_le, length, arith, ◌&&◌}
+use Rattle.std.specs.Prelude.{filter, IsPermutation}
 use Rattle.std.specs.List.{AllByRecursion, list_all}
 use Rattle.std.proofs.lemmas.Bool.{and_parts}
 use Rattle.std.proofs.lemmas.List.{length-map}
@@ -31,14 +31,14 @@ use Rattle.plant_forms.specs.Standing.{IsDeclared, HasTable}
 use Rattle.plant_reads.specs.Found.{has_values}
 use Rattle.plant_reads.specs.Plain.{OnlyReads}
 use Rattle.plant_reads.specs.Reading.{Lists, Finds}
-use Rattle.plant_reads.specs.Selects.{Selects, all_places, first_of, is_named, is_plain, names_at, is_readable, are_given}
+use Rattle.plant_reads.specs.Selects.{Selects, all_places, first_of, is_named, is_plain}
 use Rattle.plant_forms.specs.Written.{filter_of}
 use Rattle.plant_reads.specs.Written.{select_of, parsed_as}
 use Rattle.plant_forms.proofs.Given.{Entry, AreColumns, IsGiven, one_given, two_given}
 use Rattle.plant_reads.proofs.Three.{three_given}
 use Rattle.plant_reads.proofs.Body.{names_of, last_after, budget_after}
 use Rattle.plant_forms.proofs.Column.{context_of, state_at}
-use Rattle.plant_reads.proofs.Query.{draft_of, outputs_of, compiled_to, text_understood, text_unlisted}
+use Rattle.plant_reads.proofs.Query.{outputs_of, compiled_to, text_understood, text_unlisted}
 use Rattle.plant_reads.proofs.Shown.{at_places, passes_all}
 use Rattle.plant_reads.proofs.Answer.{places_of, reads_rows}
 use Rattle.plant_reads.proofs.Entries.{entry_at, entries, names_are, are_columns, is_given, places_are, Readable, readable}

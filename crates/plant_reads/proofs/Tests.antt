@@ -1,6 +1,5 @@
 -- A comparison of columns with parameters, and the rows that pass it.
-use Rattle.std.proofs.Common.{◌≡◌, refl, sym, ap, ap₂, subst, ◌∙◌, List, ℕ, zero, suc, ◌-◌, ◌+◌, ◌<◌, ◌≤◌, Bool, [], ◌∷◌, map, drop, None, Some, Option, true, false, arith, length, ◌&&◌, if◌then◌else◌, not}
-use Rattle.std.specs.Prelude.{filter}
+use Rattle.std.proofs.Common.{◌≡◌, refl, ap₂, List, ℕ, zero, suc, ◌-◌, ◌<◌, Bool, [], ◌∷◌, drop, Some, true, false, arith, length, ◌&&◌, not}
 use Rattle.std.specs.List.{list_all}
 use Rattle.std.specs.Ordering.{is_eq}
 use Rattle.std.proofs.lemmas.Bool.{and_parts, not-true}

@@ -1,8 +1,7 @@
 -- A row is the values of its columns.
-use Rattle.std.proofs.Common.{◌≡◌, refl, sym, ap, ap₂, ◌∙◌, ℕ, zero, suc, ◌+◌, List, [], ◌∷◌, length, arith, subst}
-use Rattle.std.specs.Bool.{⊤}
+use Rattle.std.proofs.Common.{◌≡◌, refl, sym, ap₂, ℕ, suc, [], ◌∷◌, arith}
 use Rattle.sqlite.specs.declared.types.Value.{Value}
-use Rattle.sqlite.specs.Order.{Row, column}
+use Rattle.sqlite.specs.Order.{Row}
 use Rattle.plant_reads.specs.Cells.{StandFrom, HasCells}
 
 shifted : (r : Value) (row : Row) (at : ℕ) (vs : Row) → StandFrom (r ∷ row) (suc at) vs → StandFrom row at vs

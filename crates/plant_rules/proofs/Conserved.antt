@@ -1,23 +1,14 @@
 -- Why nothing is lost and nothing made in a sound state.
-use Rattle.std.proofs.Common.{◌≡◌, ◌∙◌, ℕ, ◌+◌, Bool, true, false, cond, List, [], ◌∷◌, Option, Some, None, is_some, find, refl, sym, ap, arith}
-use Rattle.std.specs.Prelude.{◌&&◌, sum_by}
-use Rattle.std.specs.List.{AllByRecursion}
-use Rattle.std.specs.List.Sorted.{IsStrictlySortedBy}
-use Rattle.std.specs.Ordering.{is_eq}
-use Rattle.std.specs.declared.cmp.Ordering.{Ordering}
-use Rattle.std.specs.declared.cmp.Ordering.TheVariants.{Less, Equal, Greater}
-use Rattle.std.proofs.lemmas.List.Sums.{sum_by-cons}
-use Rattle.std.proofs.lemmas.Bool.{false≢true}
-use Rattle.plant_base.specs.State.{State, place_order}
-use Rattle.plant_base.specs.declared.rows.Place.{Place}
+use Rattle.std.proofs.Common.{◌≡◌, ◌∙◌, ℕ, ◌+◌, Bool, true, false, cond, List, refl, ap, arith}
+use Rattle.std.specs.Prelude.{◌&&◌}
+use Rattle.plant_base.specs.State.{State}
 use Rattle.plant_base.specs.declared.rows.Movement.{Movement}
 use Rattle.plant_base.specs.declared.rows.MovementKind.{MovementKind}
 use Rattle.plant_base.specs.declared.rows.MovementKind.TheVariants.{Received, Consumed, Produced, Scrapped, Divided, Split, Merged}
-use Rattle.plant_base.proofs.Put.{at_rest, all_weaker}
-use Rattle.plant_base.proofs.Keys.{same_key, place_order_total, same_key_tie, test_tie}
-use Rattle.plant_stock.specs.Stock.{entered, left, is_place, goes_to, comes_from}
+use Rattle.plant_base.proofs.Put.{all_weaker}
+use Rattle.plant_stock.specs.Stock.{entered, left, goes_to, comes_from}
 use Rattle.plant_rules.specs.Refusing.{standing}
-use Rattle.plant_rules.specs.Sound.{IsSound, IsThere, IsOneMaterial}
+use Rattle.plant_rules.specs.Sound.{IsSound, IsOneMaterial}
 use Rattle.plant_rules.specs.Conserve.{is_of, is_birth, is_end, IsConserved}
 use Rattle.plant_rules.proofs.Summed.{sums_add, each, chosen_add, of_place, total}
 

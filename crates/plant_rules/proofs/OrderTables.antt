@@ -1,8 +1,7 @@
 -- What is decided of the orders that were found, and the rows of an import.
-use Rattle.std.proofs.Common.{◌≡◌, ◌∙◌, ℕ, ◌+◌, Bool, true, false, cond, List, [], ◌∷◌, map, filter, None, is_none, refl, sym, ap}
-use Rattle.std.specs.Prelude.{not, nat_le}
+use Rattle.std.proofs.Common.{◌≡◌, ◌∙◌, ℕ, ◌+◌, true, false, cond, List, [], ◌∷◌, map, filter, None, is_none, refl, sym, ap}
+use Rattle.std.specs.Prelude.{not}
 use Rattle.std.specs.List.{list_any}
-use Rattle.plant_base.specs.Values.{greatest_seq}
 use Rattle.plant_base.specs.State.{State, newest_schema, job_order, recipe_at, job_at}
 use Rattle.plant_base.specs.declared.refusal.Refusal.TheVariants.{UnknownRecipe, OrderConflict, SizeOutOfRange, TooMany}
 use Rattle.plant_base.specs.declared.rows.OrderRow.{OrderRow}

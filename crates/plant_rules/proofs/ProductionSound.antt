@@ -1,5 +1,5 @@
 -- Commands on recipes, orders and batches keep a state sound.
-use Rattle.std.proofs.Common.{◌≡◌, ◌∙◌, ℕ, ◌+◌, Bool, true, false, List, map, filter, find, Option, Some, None, is_some, is_none, option_map, refl, sym, ap, subst}
+use Rattle.std.proofs.Common.{◌≡◌, ◌∙◌, ℕ, ◌+◌, true, false, List, Option, Some, None, is_some, is_none, option_map, refl, sym, ap, subst}
 use Rattle.std.specs.Prelude.{not, ◌&&◌, ◌==◌}
 use Rattle.std.specs.List.{All, AllByRecursion, list_all, list_any}
 use Rattle.std.proofs.lemmas.List.Elements.{recursion_from_All}

@@ -1,5 +1,5 @@
 -- What commands keep of sound recipes, and of the orders and batches that stand on them.
-use Rattle.std.proofs.Common.{◌≡◌, ◌∙◌, ℕ, Bool, true, false, List, map, filter, find, Option, Some, None, is_some, option_map, refl, sym, ap, subst}
+use Rattle.std.proofs.Common.{◌≡◌, ◌∙◌, ℕ, Bool, true, false, List, map, find, Option, Some, None, is_some, option_map, refl, sym, ap, subst}
 use Rattle.std.specs.Prelude.{◌&&◌, ◌==◌}
 use Rattle.std.specs.List.{AllByRecursion, list_all}
 use Rattle.std.specs.List.Sorted.{IsStrictlySortedBy}
@@ -26,7 +26,7 @@ use Rattle.plant_recipe.specs.Form.{is_well_formed}
 use Rattle.plant_recipe.specs.Control.{control_of}
 use Rattle.plant_rules.specs.Recipes.{is_defined, is_known, master_line, with_state}
 use Rattle.plant_rules.specs.Rows.{numbered, put_all}
-use Rattle.plant_rules.specs.Production.{headers_of, header_among, rows_among, lines_among, IsWholeRecipe, AreSoundRecipes, orders_of, order_among, is_size_of_some, AreSoundOrders, control_from, control_of_order, IsSoundBatch, AreSoundBatches}
+use Rattle.plant_rules.specs.Production.{headers_of, header_among, rows_among, lines_among, IsWholeRecipe, AreSoundRecipes, orders_of, order_among, is_size_of_some, AreSoundOrders, control_from, control_of_order, AreSoundBatches}
 use Rattle.plant_rules.proofs.Rows.{none_left, each_passes, sorted_mapped, find_mapped, all_put_apart, all_put_all, sorted_put_all, filter_past_all, filter_new_all, all_numbered, map_numbered, sorted_numbered}
 use Rattle.plant_rules.proofs.RowKeys.{header_order, header_order_total, recipe_order_total, master_line_order_total, numbered_tie, numbered_test, master_recipe_tied, header_test, keys_apart, master_rises}
 

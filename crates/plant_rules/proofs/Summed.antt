@@ -1,6 +1,6 @@
 -- What all movements bring to the sublots of some lots, summed over the sublots and over the movements.
 use Rattle.std.proofs.Common.{◌≡◌, ◌∙◌, ℕ, ◌+◌, Bool, true, false, cond, List, [], ◌∷◌, Option, Some, None, is_some, find, refl, sym, ap, arith}
-use Rattle.std.specs.Prelude.{◌&&◌, sum_by}
+use Rattle.std.specs.Prelude.{sum_by}
 use Rattle.std.specs.List.{AllByRecursion}
 use Rattle.std.specs.List.Sorted.{IsStrictlySortedBy}
 use Rattle.std.specs.Ordering.{is_eq}
@@ -11,14 +11,10 @@ use Rattle.std.proofs.lemmas.Bool.{false≢true}
 use Rattle.plant_base.specs.State.{State, place_order}
 use Rattle.plant_base.specs.declared.rows.Place.{Place}
 use Rattle.plant_base.specs.declared.rows.Movement.{Movement}
-use Rattle.plant_base.specs.declared.rows.MovementKind.{MovementKind}
-use Rattle.plant_base.specs.declared.rows.MovementKind.TheVariants.{Received, Consumed, Produced, Scrapped, Divided, Split, Merged}
 use Rattle.plant_base.proofs.Put.{at_rest, all_weaker}
 use Rattle.plant_base.proofs.Keys.{same_key, place_order_total, same_key_tie, test_tie}
-use Rattle.plant_stock.specs.Stock.{entered, left, is_place, goes_to, comes_from}
-use Rattle.plant_rules.specs.Refusing.{standing}
-use Rattle.plant_rules.specs.Sound.{IsSound, IsThere, IsOneMaterial}
-use Rattle.plant_rules.specs.Conserve.{is_of, is_birth, is_end, IsConserved}
+use Rattle.plant_stock.specs.Stock.{is_place}
+use Rattle.plant_rules.specs.Sound.{IsSound, IsThere}
 
 -- ---- sums
 

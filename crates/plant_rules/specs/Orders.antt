@@ -1,5 +1,5 @@
 -- Orders: when an import or a cancellation is refused, and what it adds and changes (the job orders of IEC 62264-4).
-use Rattle.std.specs.Prelude.{ℕ, ◌+◌, Bool, true, false, not, ◌&&◌, ◌==◌, List, [], ◌∷◌, map, filter, find, Option, Some, None, is_none, nat_le}
+use Rattle.std.specs.Prelude.{ℕ, ◌+◌, Bool, true, false, not, ◌&&◌, ◌==◌, List, ◌∷◌, map, filter, find, Option, Some, None, is_none, nat_le}
 use Rattle.std.specs.List.{list_any}
 use Rattle.plant_base.specs.Values.{greatest_seq}
 use Rattle.plant_base.specs.State.{State, newest_schema, same, put, job_order, recipe_at, job_at}

@@ -1,5 +1,5 @@
 -- Master recipes: when they are refused, what is added and how their states go on (IEC 61512-1).
-use Rattle.std.specs.Prelude.{ℕ, ◌+◌, Bool, true, false, not, List, [], ◌∷◌, find, Option, Some, None, is_some, is_none}
+use Rattle.std.specs.Prelude.{ℕ, ◌+◌, Bool, true, false, not, List, ◌∷◌, find, Option, Some, None, is_some, is_none}
 use Rattle.std.specs.List.{list_all}
 use Rattle.plant_base.specs.State.{State, newest_schema, same, put, recipe_order, master_line_order, definition_at, recipe_at}
 use Rattle.plant_base.specs.declared.refusal.Refusal.{Refusal}

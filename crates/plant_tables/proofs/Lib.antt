@@ -5,3 +5,4 @@ pub mod Permuted
 pub mod Bridge
 pub mod Ended
 pub mod Opened
+pub mod Fresh

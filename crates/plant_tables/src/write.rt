@@ -27,6 +27,7 @@ pub fn write_change<S: Alter>(tx: &mut Transaction<'_, S>, change: &RowChange) -
     ensures kept { HasCleanDisk (state S.Store tx.new.conn.now) → KeepsCommit (state S.Store tx.old.conn.now) (state S.Store tx.new.conn.now) }
     ensures survives { Survives (state S.Store tx.old.conn.now) (state S.Store tx.new.conn.now) (λ _. ⊥) }
 {
+    // The checker can't follow row changes, unless the function names these types.
     let _: Option<(RecipeLine, MasterLine, ControlLine)> = None;
     match change {
         RowChange::Meta(row) => {

@@ -1,7 +1,6 @@
-use Rattle.std.proofs.Common.{◌≡◌, subst, sym, arith, ap}
+use Rattle.std.proofs.Common.{subst, sym, arith}
 use Rattle.sqlite_trees.specs.View.{IsClean}
 use Rattle.sqlite_trees.specs.Tree.{Trees}
-use Rattle.sqlite.specs.Held.{state}
 use Rattle.sqlite_catalog.specs.Listing.{IsSound}
 use Rattle.plant_reads.specs.Ordered.{IsRising}
 use Rattle.plant_reads.proofs.Laws.{rising_of, ok_three}

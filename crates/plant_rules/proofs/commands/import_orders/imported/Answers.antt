@@ -1,4 +1,3 @@
-use Rattle.std.proofs.Common.{◌∙◌, ap}
 use Rattle.plant_rules.proofs.OrderTables.{import_decides}
 use Rattle.plant_rules.proofs.commands.import_orders.imported.Goals as goal
 

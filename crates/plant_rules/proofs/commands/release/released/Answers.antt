@@ -1,5 +1,4 @@
-use Rattle.std.proofs.Common.{◌≡◌, ◌∙◌, Some, sym, arith}
-use Rattle.plant_base.specs.State.{recipe_at}
+use Rattle.std.proofs.Common.{◌∙◌, Some, sym, arith}
 use Rattle.plant_rules.proofs.ReleaseTables.{order_ready, release_nothing, release_limit, release_fine, release_leads}
 use Rattle.plant_rules.proofs.commands.release.released.Goals as goal
 

@@ -7,7 +7,7 @@ use Rattle.plant_base.specs.State.{same}
 use Rattle.plant_base.specs.declared.rows.BatchEvent.{BatchEvent}
 use Rattle.plant_recipe.specs.Progress.{progress_after, turn_or_stay}
 use Rattle.plant_recipe.proofs.Runs.{progress_after_push}
-use Rattle.plant_rules.specs.Tables.{events_among}
+use Rattle.plant_view.specs.Tables.{events_among}
 use Rattle.plant_desk.specs.Batches.{turned}
 
 module _ (phases : ℕ) (front : List BatchEvent) (e : BatchEvent) where

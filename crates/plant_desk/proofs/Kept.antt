@@ -4,7 +4,7 @@ use Rattle.plant_base.specs.State.{State}
 use Rattle.plant_base.specs.Formed.{HasValues, stamp_of}
 use Rattle.plant_base.specs.declared.command.Envelope.{Envelope}
 use Rattle.plant_base.specs.declared.refusal.Refusal.{Refusal}
-use Rattle.plant_rules.specs.Sound.{IsSound}
+use Rattle.plant_view.specs.Sound.{IsSound}
 use Rattle.plant_rules.specs.Step.{step, step_body, unless_refused}
 use Rattle.plant_rules.specs.Wrong.{wrong}
 use Rattle.plant_rules.proofs.StepSound.{step_sound}

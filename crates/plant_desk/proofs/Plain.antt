@@ -6,9 +6,9 @@ use Rattle.plant_base.specs.declared.rows.BatchRow.{BatchRow}
 use Rattle.plant_base.specs.declared.rows.Place.{Place}
 use Rattle.plant_base.specs.declared.rows.Sublot.{Sublot}
 use Rattle.plant_base.proofs.Put.{put_kept, map_back}
-use Rattle.plant_rules.specs.declared.change.RowChange.{RowChange}
-use Rattle.plant_rules.specs.declared.change.RowChange.TheVariants as row
-use Rattle.plant_rules.specs.Tables.{Tables, tables_of, changed, changed_all, batch_row, batch_row_order, sublot_order, sublot_row}
+use Rattle.plant_view.specs.declared.change.RowChange.{RowChange}
+use Rattle.plant_view.specs.declared.change.RowChange.TheVariants as row
+use Rattle.plant_view.specs.Tables.{Tables, tables_of, changed, changed_all, batch_row, batch_row_order, sublot_order, sublot_row}
 use Rattle.plant_desk.specs.Lists.{without_progress, without_stock, applied, applied_all}
 
 -- the tables without their kept columns

@@ -16,8 +16,8 @@ use Rattle.plant_base.specs.declared.rows.Movement.{Movement}
 use Rattle.plant_base.proofs.Keys.{same_id}
 use Rattle.plant_base.proofs.Put.{all_weaker}
 use Rattle.plant_stock.specs.Stock.{entered, left}
-use Rattle.plant_rules.specs.Sound.{IsSound}
-use Rattle.plant_rules.specs.Tables.{sublot_row, sublots_of}
+use Rattle.plant_view.specs.Sound.{IsSound}
+use Rattle.plant_view.specs.Tables.{sublot_row, sublots_of}
 
 -- ---- numbers of one lot rise
 

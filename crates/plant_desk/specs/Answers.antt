@@ -4,8 +4,8 @@ use Rattle.plant_base.specs.State.{State, lot_at, job_at, batch_of}
 use Rattle.plant_base.specs.declared.rows.Job.{Job}
 use Rattle.plant_base.specs.declared.rows.Lot.{Lot}
 use Rattle.plant_base.specs.declared.refusal.Refusal.TheVariants.{UnknownOrder, UnknownLot}
-use Rattle.plant_rules.specs.Refusing.{is_held}
-use Rattle.plant_rules.specs.Tables.{sublots_of}
+use Rattle.plant_view.specs.Refusing.{is_held}
+use Rattle.plant_view.specs.Tables.{sublots_of}
 use Rattle.plant_desk.specs.declared.question.Question.{Question}
 use Rattle.plant_desk.specs.declared.question.Question.TheVariants as Q
 use Rattle.plant_desk.specs.declared.question.Answer.{Answer}

@@ -8,9 +8,9 @@ use Rattle.plant_base.specs.Values.{greatest_amount}
 use Rattle.plant_base.specs.declared.rows.Sublot.{Sublot}
 use Rattle.plant_base.specs.declared.rows.Movement.{Movement}
 use Rattle.plant_stock.specs.Stock.{entered, left}
-use Rattle.plant_rules.specs.Tables.{without_hold}
-use Rattle.plant_rules.specs.declared.change.RowChange.{RowChange}
-use Rattle.plant_rules.specs.declared.change.RowChange.TheVariants as row
+use Rattle.plant_view.specs.Tables.{without_hold}
+use Rattle.plant_view.specs.declared.change.RowChange.{RowChange}
+use Rattle.plant_view.specs.declared.change.RowChange.TheVariants as row
 use Rattle.plant_desk.specs.declared.lists.Lists.{Lists}
 
 abbrev pub state_of : Lists → State

@@ -3,9 +3,9 @@ ghost use Rattle.std.specs.Prelude.{◌≡◌, ◌≤◌, ◌<◌, ◌^◌, ◌=
 ghost use Rattle.plant_base.specs.Values.{greatest_amount};
 ghost use Rattle.plant_base.specs.State.{same, job_at};
 ghost use Rattle.plant_stock.specs.Stock.{entered, left};
-ghost use Rattle.plant_rules.specs.Refusing.{is_held};
-ghost use Rattle.plant_rules.specs.Tables.{sublot_row, sublots_of};
-ghost use Rattle.plant_rules.specs.Sound.{IsSound};
+ghost use Rattle.plant_view.specs.Refusing.{is_held};
+ghost use Rattle.plant_view.specs.Tables.{sublot_row, sublots_of};
+ghost use Rattle.plant_view.specs.Sound.{IsSound};
 ghost use Rattle.plant_desk.specs.Answers.{answer, lot_answer, answer_order};
 ghost use Rattle.plant_desk.specs.Lists.{state_of, IsStocked};
 

@@ -4,7 +4,7 @@ ghost use Rattle.plant_base.specs.State.{same};
 ghost use Rattle.plant_recipe.specs.Form.{is_phase};
 ghost use Rattle.plant_recipe.specs.Progress.{greatest_phases, progress_after};
 ghost use Rattle.plant_desk.specs.Batches.{turned};
-ghost use Rattle.plant_rules.specs.Tables.{batch_row, events_among, phases_among};
+ghost use Rattle.plant_view.specs.Tables.{batch_row, events_among, phases_among};
 
 use plant_base::{Batch, BatchEvent, BatchRow, ControlLine, Id, MasterLine, RecipeLine};
 use plant_recipe::{GREATEST_PHASES, Progress};
@@ -22,6 +22,23 @@ pub(crate) fn master_lines_of(
     let mut rows = Vec::new(alloc);
     for l in lines {
         if l.recipe == recipe && l.version == version {
+            rows.push(*l)?;
+        }
+    }
+    Ok(rows)
+}
+
+// The lines of the control recipe of a batch, by number.
+pub(crate) fn control_lines_of(
+    alloc: Global,
+    lines: &[ControlLine],
+    batch: Id,
+) -> Result<Vec<ControlLine>, AllocError>
+    ensures { IfOk result (λ v. v.items ≡ filter (λ l. same l.batch batch) lines.now) }
+{
+    let mut rows = Vec::new(alloc);
+    for l in lines {
+        if l.batch == batch {
             rows.push(*l)?;
         }
     }

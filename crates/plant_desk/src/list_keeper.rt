@@ -2,7 +2,7 @@ ghost use Rattle.std.specs.Prelude.{◌≡◌, IfOk, IfErr, OnOk, OnErr, false, 
 ghost use Rattle.plant_base.specs.State.{opening, newest_schema};
 ghost use Rattle.plant_base.specs.Formed.{HasValues};
 ghost use Rattle.plant_rules.specs.Step.{step};
-ghost use Rattle.plant_rules.specs.Sound.{IsSound};
+ghost use Rattle.plant_view.specs.Sound.{IsSound};
 ghost use Rattle.plant_desk.specs.Replies.{reply};
 
 use crate::keeper::Keeper;
@@ -11,7 +11,8 @@ use crate::question::{Answer, Question};
 use crate::reply::{DeskFault, Reply};
 use crate::report::RunReport;
 use plant_base::{Envelope, Items};
-use plant_rules::{Decision, decide};
+use plant_rules::decide;
+use plant_view::Decision;
 use std::alloc::Global;
 use std::marker::Model;
 
@@ -47,7 +48,7 @@ pub struct ListKeeper {
 
 impl Model for ListKeeper {
     ghost use Rattle.plant_base.specs.State.{State};
-    ghost use Rattle.plant_rules.specs.Sound.{IsSound};
+    ghost use Rattle.plant_view.specs.Sound.{IsSound};
     ghost use Rattle.plant_desk.specs.Lists.{state_of};
 
     ghost Value = { State };
@@ -71,7 +72,7 @@ impl ListKeeper {
 
 impl ListKeeper {
     ghost use Rattle.std.specs.Prelude.{◌≤◌, length, take, IfNone};
-    ghost use Rattle.plant_rules.specs.Conserve.{IsConserved, IsBalanced};
+    ghost use Rattle.plant_view.specs.Conserve.{IsConserved, IsBalanced};
     ghost use Rattle.plant_desk.specs.Runs.{fold, replies};
 
     /// Executes commands in order, up to the first fault. Room for the replies is taken first; where it is refused,
@@ -111,7 +112,7 @@ impl ListKeeper {
     }
 
     // Executes one command.
-    #[tactic(auto, using(plant_rules::proofs::StepSound::step_sound, plant_rules::proofs::Conserved::conserved))]
+    #[tactic(auto, using(plant_rules::proofs::StepSound::step_sound, plant_view::proofs::Conserved::conserved))]
     fn execute_one(&mut self, envelope: &Envelope) -> Result<Reply, DeskFault>
         ensures reply { IfOk result (λ r. r ≡ reply self.old envelope.now) }
         ensures ok { OnOk result (self.new ≡ step self.old envelope.now) }

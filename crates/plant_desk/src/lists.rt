@@ -1,13 +1,13 @@
 ghost use Rattle.std.specs.Prelude.{◌≡◌, ℕ, ◌+◌, ◌<◌, ◌≤◌, ◌++◌, ◌∷◌, [], OnOk, OnErr, not, ◌&&◌, vec_len, vec_capacity};
 ghost use Rattle.plant_base.specs.State.{same};
-ghost use Rattle.plant_rules.specs.Tables.{without_hold};
+ghost use Rattle.plant_view.specs.Tables.{without_hold};
 
 use crate::sorted::put_row;
 use plant_base::{
     Batch, BatchEvent, Class, ControlLine, Definition, Hold, Id, Job, Lot, MasterLine, Moment,
     Movement, Place, Recipe,
 };
-use plant_rules::RowChange;
+use plant_view::RowChange;
 use std::alloc::{AllocError, Global};
 
 /// The lists of a state, each ascending by its key.

@@ -5,7 +5,8 @@ use plant_base::{
     AddClass, AddDefinition, Amount, Command, Envelope, Id, Items, Merge, Moment, Part, Receive,
     Refusal, Scrap, Text, Unit,
 };
-use plant_rules::{Decision, RowChange, decide};
+use plant_rules::decide;
+use plant_view::{Decision, RowChange};
 use std::alloc::Global;
 use std::process::Abort;
 use std::test::Fail;

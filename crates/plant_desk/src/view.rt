@@ -5,21 +5,21 @@ ghost use Rattle.std.proofs.Common.{ap};
 ghost use Rattle.plant_base.specs.Values.{greatest_amount};
 ghost use Rattle.plant_stock.specs.Stock.{entered, left};
 ghost use Rattle.plant_trace.specs.Sources.{same_along};
-ghost use Rattle.plant_rules.specs.Genealogy.{edge_of, edges_of};
+ghost use Rattle.plant_view.specs.Genealogy.{edge_of, edges_of};
 
 use crate::ask::{holds_of, stocked_sublots};
-use crate::batches::{batch_row, master_lines_of};
+use crate::batches::{batch_row, control_lines_of, master_lines_of};
 use crate::keys::{
     batch_of, class_of, definition_of, hold_of, job_of, lot_of, place_of, recipe_of,
 };
 use crate::lists::Lists;
 use plant_base::{
-    BatchRow, Class, Definition, GREATEST_AMOUNT, Hold, Id, Job, Lot, MasterLine, Movement,
+    BatchRow, Class, ControlLine, Definition, GREATEST_AMOUNT, Hold, Id, Job, Lot, MasterLine, Movement,
     MovementKind, Position, Recipe, Sublot,
 };
-use plant_rules::View;
 use plant_stock::stock_of;
 use plant_trace::{Direction, Edges, Node, neighbours};
+use plant_view::View;
 use std::alloc::{AllocError, Global};
 
 impl Edges for Lists {
@@ -93,6 +93,10 @@ impl View for Lists {
             None => Ok(None),
             Some(batch) => Ok(Some(batch_row(&self.control_lines, &self.events, batch))),
         }
+    }
+
+    fn control_lines(&mut self, batch: Id) -> Result<Vec<ControlLine>, AllocError> {
+        control_lines_of(self.alloc, &self.control_lines, batch)
     }
 
     fn lot(&mut self, id: Id) -> Result<Option<Lot>, AllocError> {

@@ -10,8 +10,8 @@ use Rattle.plant_base.specs.declared.command.AddDefinition.{AddDefinition}
 use Rattle.plant_base.proofs.Put.{all_put, all_weaker, sorted_put}
 use Rattle.plant_base.proofs.Keys.{id_total, id_still}
 use Rattle.plant_rules.specs.Catalogue.{add_class, add_definition}
-use Rattle.plant_rules.specs.Sound.{IsSound}
-use Rattle.plant_rules.proofs.RecipesKept.{recipes_defined}
+use Rattle.plant_view.specs.Sound.{IsSound}
+use Rattle.plant_production.proofs.RecipesKept.{recipes_defined}
 
 pub sound_add_class : (s : State) → IsSound s → (t : Stamp) (c : AddClass) → IsSound (add_class s t c)
 sound_add_class s sound t c =

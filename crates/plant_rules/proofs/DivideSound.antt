@@ -12,10 +12,10 @@ use Rattle.plant_base.proofs.Put.{all_put, all_push, all_weaker, sorted_put, fou
 use Rattle.plant_base.proofs.Keys.{key_itself, place_order_total}
 use Rattle.plant_stock.proofs.Book.{entered_push, left_push}
 use Rattle.plant_rules.specs.Booking.{line_of}
-use Rattle.plant_rules.specs.Refusing.{standing}
+use Rattle.plant_view.specs.Refusing.{standing}
 use Rattle.plant_rules.specs.Division.{next_number, divide}
-use Rattle.plant_rules.specs.Sound.{IsSound}
-use Rattle.plant_rules.proofs.KeptSound.{there_still, taking_covered}
+use Rattle.plant_view.specs.Sound.{IsSound}
+use Rattle.plant_view.proofs.KeptSound.{there_still, taking_covered}
 use Rattle.plant_rules.proofs.Division.{next_free, entering_new}
 
 pub sound_divide : (s : State) → IsSound s → (t : Stamp) (c : Divide) → c.amount ≤ greatest_amount → is_some (lot_at s c.lot) ≡ true → is_some (place_at s c.lot c.sub) ≡ true → c.amount ≤ standing s c.lot c.sub → next_number s c.lot ≤ greatest_sublot → IsSound (divide s t c)

@@ -14,14 +14,14 @@ use Rattle.plant_base.proofs.Find.{found_keeps}
 use Rattle.plant_stock.specs.Stock.{entered, left, entering, leaving, is_place}
 use Rattle.plant_stock.proofs.Book.{entered_push, left_push}
 use Rattle.plant_rules.specs.Booking.{line_of}
-use Rattle.plant_rules.specs.Refusing.{standing}
+use Rattle.plant_view.specs.Refusing.{standing}
 use Rattle.plant_rules.specs.Division.{next_number, divide, divide_rows}
-use Rattle.plant_rules.specs.Views.{IsSublotAt}
-use Rattle.plant_rules.specs.Sound.{IsSound}
-use Rattle.plant_rules.specs.Tables.{sublot_order, sublot_row, tables_of, changed_all}
-use Rattle.plant_rules.proofs.Sublots.{sublots_taken, sublots_added, apart_fails, nothing_entered, nothing_left}
+use Rattle.plant_view.specs.Views.{IsSublotAt}
+use Rattle.plant_view.specs.Sound.{IsSound}
+use Rattle.plant_view.specs.Tables.{sublot_order, sublot_row, tables_of, changed_all}
+use Rattle.plant_view.proofs.Sublots.{sublots_taken, sublots_added, apart_fails, nothing_entered, nothing_left}
 use Rattle.plant_rules.proofs.Division.{none_among, next_free}
-use Rattle.plant_rules.proofs.Rows.{none_passes}
+use Rattle.plant_view.proofs.Rows.{none_passes}
 
 -- the column with the rows of the sublot that is taken from and of the new one of the same lot
 sublots_divided : (s : State) → IsSound s → (t : Stamp) (p : Place) (next : ℕ) (place : List ℕ) (amount : ℕ) → place_at s p.lot p.number ≡ Some p → place_at s p.lot next ≡ None

@@ -13,8 +13,8 @@ use Rattle.plant_base.specs.declared.command.HoldLot.{HoldLot}
 use Rattle.plant_base.specs.declared.command.UnholdLot.{UnholdLot}
 use Rattle.plant_base.proofs.Put.{all_put, sorted_put}
 use Rattle.plant_rules.specs.Holding.{hold, unhold}
-use Rattle.plant_rules.specs.Sound.{IsSound}
-use Rattle.plant_rules.proofs.Rows.{all_filtered}
+use Rattle.plant_view.specs.Sound.{IsSound}
+use Rattle.plant_view.proofs.Rows.{all_filtered}
 
 pub hold_order_total : IsTotalOrder hold_order
 hold_order_total = then_total (on_total (λ h. h.lot) nat_list_cmp_total) (on_total (λ h. h.id) nat_list_cmp_total)

@@ -8,16 +8,18 @@ use Rattle.plant_base.specs.Formed.{are_parts}
 use Rattle.plant_base.specs.declared.refusal.Refusal.TheVariants.{Exists, TooLittle, TooMuch, Held, MixedMaterials, TooMany}
 use Rattle.plant_base.specs.declared.command.Stamp.{Stamp}
 use Rattle.plant_base.specs.declared.command.Merge.{Merge}
-use Rattle.plant_rules.specs.declared.change.Decision.{Decision}
-use Rattle.plant_rules.specs.declared.change.Decision.TheVariants.{Change, Refused}
+use Rattle.plant_view.specs.declared.change.Decision.{Decision}
+use Rattle.plant_view.specs.declared.change.Decision.TheVariants.{Change, Refused}
 use Rattle.plant_rules.specs.declared.parts.Found.{Found}
-use Rattle.plant_rules.specs.Refusing.{refuse, at_limit}
+use Rattle.plant_view.specs.Refusing.{refuse, at_limit}
 use Rattle.plant_rules.specs.Merging.{is_short, total_of, is_some_held, is_mixed, wrong_parts, wrong_merge, merge}
-use Rattle.plant_rules.specs.Parts.{found_of, is_lacking, is_other, total_found, def_found, wrong_found, merge_rows, IsDecided}
-use Rattle.plant_rules.specs.Sound.{IsSound}
-use Rattle.plant_rules.specs.Tables.{tables_of, changed_all, Decides}
-use Rattle.plant_rules.proofs.KeptSound.{passed}
-use Rattle.plant_rules.proofs.Parting.{formed_apart, parts_ready, parts_pass, any_map, sum_map}
+use Rattle.plant_rules.specs.Parts.{found_of, is_lacking, is_other, total_found, def_found, wrong_found, merge_rows}
+use Rattle.plant_view.specs.Tables.{IsDecided}
+use Rattle.plant_view.specs.Sound.{IsSound}
+use Rattle.plant_view.specs.Tables.{tables_of, changed_all, Decides}
+use Rattle.plant_view.proofs.KeptSound.{passed}
+use Rattle.plant_rules.proofs.Parting.{formed_apart, parts_ready, parts_pass}
+use Rattle.plant_view.proofs.Tests.{any_map, sum_map}
 use Rattle.plant_rules.proofs.MergeTables.{def_same, merge_tables}
 
 -- the conditions are the same

@@ -18,14 +18,15 @@ use Rattle.plant_base.proofs.Put.{all_put, all_weaker, sorted_put, found_put, fo
 use Rattle.plant_base.proofs.Keys.{same_id, same_key, same_itself, key_itself, lot_order_total, place_order_total}
 use Rattle.plant_stock.specs.Stock.{entered, left, leaving, goes_to, comes_from}
 use Rattle.plant_stock.proofs.Book.{entered_push, left_push}
-use Rattle.plant_rules.specs.Refusing.{standing}
-use Rattle.plant_rules.specs.Conserve.{is_of_lot}
+use Rattle.plant_view.specs.Refusing.{standing}
+use Rattle.plant_view.specs.Conserve.{is_of_lot}
 use Rattle.plant_rules.specs.Splitting.{def_of}
 use Rattle.plant_rules.specs.Merging.{part_line, part_lines, total_of, def_at, def_of_parts, is_mixed, merge}
-use Rattle.plant_rules.specs.Sound.{IsSound, IsThere, IsOneMaterial}
-use Rattle.plant_rules.proofs.KeptSound.{all_two, lot_stays, of_stays, there_still, entering_small}
+use Rattle.plant_view.specs.Sound.{IsSound, IsThere, IsOneMaterial}
+use Rattle.plant_view.proofs.KeptSound.{all_two, lot_stays, of_stays, there_still, entering_small}
 use Rattle.plant_rules.proofs.SplitSound.{def_known}
-use Rattle.plant_rules.proofs.Parting.{AreApart, each_fails, not_false}
+use Rattle.plant_rules.proofs.Parting.{AreApart}
+use Rattle.plant_view.proofs.Tests.{each_fails, not_false}
 
 -- ---- the lines of the parts
 

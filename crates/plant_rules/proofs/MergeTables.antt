@@ -15,16 +15,17 @@ use Rattle.plant_base.proofs.Put.{put_there, all_weaker}
 use Rattle.plant_base.proofs.Keys.{key_itself, place_order_total, test_tie, same_id}
 use Rattle.plant_stock.specs.Stock.{entered, left, entering, leaving}
 use Rattle.plant_stock.proofs.Book.{entered_push, left_push}
-use Rattle.plant_rules.specs.Refusing.{standing}
-use Rattle.plant_rules.specs.Sound.{IsSound}
-use Rattle.plant_rules.specs.Tables.{Tables, tables_of, changed, changed_all, sublot_order, sublot_row}
-use Rattle.plant_rules.specs.declared.change.RowChange.{RowChange}
-use Rattle.plant_rules.specs.declared.change.RowChange.TheVariants as row
+use Rattle.plant_view.specs.Refusing.{standing}
+use Rattle.plant_view.specs.Sound.{IsSound}
+use Rattle.plant_view.specs.Tables.{Tables, tables_of, changed, changed_all, sublot_order, sublot_row}
+use Rattle.plant_view.specs.declared.change.RowChange.{RowChange}
+use Rattle.plant_view.specs.declared.change.RowChange.TheVariants as row
 use Rattle.plant_rules.specs.Merging.{part_line, part_lines, total_of, def_of_parts, merge}
 use Rattle.plant_rules.specs.Parts.{text_of, found_of, found_rows, total_found, def_found, merge_rows}
-use Rattle.plant_rules.proofs.KeptSound.{all_two}
-use Rattle.plant_rules.proofs.Sublots.{sublots_taken, sublots_added, not_among, apart_fails, lots_apart, no_place, nothing_entered, nothing_left}
-use Rattle.plant_rules.proofs.Parting.{Apart, AreApart, IsReady, sum_map}
+use Rattle.plant_view.proofs.KeptSound.{all_two}
+use Rattle.plant_view.proofs.Sublots.{sublots_taken, sublots_added, not_among, apart_fails, lots_apart, no_place, nothing_entered, nothing_left}
+use Rattle.plant_rules.proofs.Parting.{Apart, AreApart, IsReady}
+use Rattle.plant_view.proofs.Tests.{sum_map}
 
 module _ (s : State) (sound : IsSound s) (seq : ℕ) (t : Stamp) (new : List ℕ) (none : is_some (lot_at s new) ≡ false) where
   -- the new lot gets nothing that a known lot's sublot counts

@@ -15,8 +15,8 @@ use Rattle.plant_base.proofs.Keys.{same_itself, key_itself, lot_order_total, pla
 use Rattle.plant_stock.proofs.Book.{entered_push, left_push}
 use Rattle.plant_rules.specs.Booking.{line_of}
 use Rattle.plant_rules.specs.Receipt.{receive}
-use Rattle.plant_rules.specs.Sound.{IsSound}
-use Rattle.plant_rules.proofs.KeptSound.{all_two, lot_stays, of_stays, there_still, entering_small}
+use Rattle.plant_view.specs.Sound.{IsSound}
+use Rattle.plant_view.proofs.KeptSound.{all_two, lot_stays, of_stays, there_still, entering_small}
 
 pub sound_receive : (s : State) → IsSound s → (t : Stamp) (c : Receive) → c.amount ≤ greatest_amount → is_some (definition_at s c.def) ≡ true → is_some (lot_at s c.lot) ≡ false → IsSound (receive s t c)
 sound_receive s sound t c small known none =

@@ -9,12 +9,12 @@ use Rattle.plant_base.specs.declared.command.Receive.{Receive}
 use Rattle.plant_base.proofs.Keys.{key_itself}
 use Rattle.plant_stock.specs.Stock.{entered, left, entering}
 use Rattle.plant_stock.proofs.Book.{entered_push, left_push}
-use Rattle.plant_rules.specs.declared.change.RowChange.TheVariants as row
+use Rattle.plant_view.specs.declared.change.RowChange.TheVariants as row
 use Rattle.plant_rules.specs.Booking.{line_of}
 use Rattle.plant_rules.specs.Receipt.{receive}
-use Rattle.plant_rules.specs.Sound.{IsSound}
-use Rattle.plant_rules.specs.Tables.{sublot_order, sublot_row, tables_of, changed_all}
-use Rattle.plant_rules.proofs.Sublots.{TouchesOnly, sublots_put, apart_fails, nothing_entered, nothing_left, no_place}
+use Rattle.plant_view.specs.Sound.{IsSound}
+use Rattle.plant_view.specs.Tables.{sublot_order, sublot_row, tables_of, changed_all}
+use Rattle.plant_view.proofs.Sublots.{TouchesOnly, sublots_put, apart_fails, nothing_entered, nothing_left, no_place}
 
 received_touches : (seq : ℕ) (t : Stamp) (p : Place) (amount : ℕ) → TouchesOnly (line_of seq t Received p.lot p.number amount) p
 received_touches seq t p amount = record { entering = λ q apart. ap (λ b. cond b amount 0) (apart_fails p q apart); leaving = λ q apart. refl }

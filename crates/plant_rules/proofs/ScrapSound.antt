@@ -8,10 +8,10 @@ use Rattle.plant_base.specs.declared.command.Scrap.{Scrap}
 use Rattle.plant_base.proofs.Put.{all_push}
 use Rattle.plant_stock.proofs.Book.{entered_push, left_push}
 use Rattle.plant_rules.specs.Booking.{line_of}
-use Rattle.plant_rules.specs.Refusing.{standing}
+use Rattle.plant_view.specs.Refusing.{standing}
 use Rattle.plant_rules.specs.Scrapping.{scrap}
-use Rattle.plant_rules.specs.Sound.{IsSound}
-use Rattle.plant_rules.proofs.KeptSound.{taking_covered}
+use Rattle.plant_view.specs.Sound.{IsSound}
+use Rattle.plant_view.proofs.KeptSound.{taking_covered}
 
 pub sound_scrap : (s : State) → IsSound s → (t : Stamp) (c : Scrap) → is_some (place_at s c.lot c.sub) ≡ true → c.amount ≤ standing s c.lot c.sub → IsSound (scrap s t c)
 sound_scrap s sound t c there enough =

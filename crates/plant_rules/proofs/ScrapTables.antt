@@ -11,13 +11,13 @@ use Rattle.plant_base.proofs.Keys.{key_itself, place_order_total, test_tie}
 use Rattle.plant_base.proofs.Put.{put_there}
 use Rattle.plant_stock.specs.Stock.{entered, left, leaving}
 use Rattle.plant_stock.proofs.Book.{entered_push, left_push}
-use Rattle.plant_rules.specs.declared.change.RowChange.TheVariants as row
+use Rattle.plant_view.specs.declared.change.RowChange.TheVariants as row
 use Rattle.plant_rules.specs.Booking.{line_of}
-use Rattle.plant_rules.specs.Refusing.{standing}
+use Rattle.plant_view.specs.Refusing.{standing}
 use Rattle.plant_rules.specs.Scrapping.{scrap}
-use Rattle.plant_rules.specs.Sound.{IsSound}
-use Rattle.plant_rules.specs.Tables.{sublot_order, sublot_row, tables_of, changed_all}
-use Rattle.plant_rules.proofs.Sublots.{TouchesOnly, sublots_put, apart_fails}
+use Rattle.plant_view.specs.Sound.{IsSound}
+use Rattle.plant_view.specs.Tables.{sublot_order, sublot_row, tables_of, changed_all}
+use Rattle.plant_view.proofs.Sublots.{TouchesOnly, sublots_put, apart_fails}
 
 scrapped_touches : (seq : ℕ) (t : Stamp) (p : Place) (amount : ℕ) → TouchesOnly (line_of seq t Scrapped p.lot p.number amount) p
 scrapped_touches seq t p amount = record { entering = λ q apart. refl; leaving = λ q apart. ap (λ b. cond b amount 0) (apart_fails p q apart) }

@@ -16,11 +16,11 @@ use Rattle.plant_base.proofs.Find.{found_keeps}
 use Rattle.plant_base.proofs.Keys.{same_itself, key_itself, lot_order_total, place_order_total}
 use Rattle.plant_stock.proofs.Book.{entered_push, left_push}
 use Rattle.plant_rules.specs.Booking.{line_of}
-use Rattle.plant_rules.specs.Refusing.{standing}
-use Rattle.plant_rules.specs.Conserve.{is_of_lot}
+use Rattle.plant_view.specs.Refusing.{standing}
+use Rattle.plant_view.specs.Conserve.{is_of_lot}
 use Rattle.plant_rules.specs.Splitting.{def_of, split}
-use Rattle.plant_rules.specs.Sound.{IsSound}
-use Rattle.plant_rules.proofs.KeptSound.{all_two, lot_stays, of_stays, there_still, entering_small, taking_covered}
+use Rattle.plant_view.specs.Sound.{IsSound}
+use Rattle.plant_view.proofs.KeptSound.{all_two, lot_stays, of_stays, there_still, entering_small, taking_covered}
 
 -- a lot of the definition of one that is there is of its definition
 pub of_known : (def new : List ℕ) (o : Option Lot) → is_some o ≡ true → is_of_lot def (Some (record { id = new; def = def_of o })) ≡ is_of_lot def o

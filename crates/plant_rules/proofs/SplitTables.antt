@@ -15,12 +15,12 @@ use Rattle.plant_base.proofs.Find.{found_keeps}
 use Rattle.plant_stock.specs.Stock.{entered, left, entering, leaving, is_place}
 use Rattle.plant_stock.proofs.Book.{entered_push, left_push}
 use Rattle.plant_rules.specs.Booking.{line_of}
-use Rattle.plant_rules.specs.Refusing.{standing}
+use Rattle.plant_view.specs.Refusing.{standing}
 use Rattle.plant_rules.specs.Splitting.{def_of, split, split_rows}
-use Rattle.plant_rules.specs.Views.{IsSublotAt}
-use Rattle.plant_rules.specs.Sound.{IsSound}
-use Rattle.plant_rules.specs.Tables.{sublot_order, sublot_row, tables_of, changed_all}
-use Rattle.plant_rules.proofs.Sublots.{sublots_taken, sublots_added, not_among, lots_apart, apart_fails, nothing_entered, nothing_left, no_place}
+use Rattle.plant_view.specs.Views.{IsSublotAt}
+use Rattle.plant_view.specs.Sound.{IsSound}
+use Rattle.plant_view.specs.Tables.{sublot_order, sublot_row, tables_of, changed_all}
+use Rattle.plant_view.proofs.Sublots.{sublots_taken, sublots_added, not_among, lots_apart, apart_fails, nothing_entered, nothing_left, no_place}
 
 -- the column with the rows of the sublot that is taken from and of the new one
 sublots_split : (s : State) → IsSound s → (t : Stamp) (p : Place) (new place : List ℕ) (amount : ℕ) → place_at s p.lot p.number ≡ Some p → is_some (lot_at s p.lot) ≡ true → is_some (lot_at s new) ≡ false

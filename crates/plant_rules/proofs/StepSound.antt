@@ -17,18 +17,19 @@ use Rattle.plant_base.specs.declared.command.Command.TheVariants as body
 use Rattle.plant_base.specs.declared.command.Envelope.{Envelope}
 use Rattle.plant_base.proofs.Put.{all_weaker}
 use Rattle.plant_stock.specs.Stock.{entered, left}
-use Rattle.plant_rules.specs.Refusing.{refuse, standing}
+use Rattle.plant_view.specs.Refusing.{refuse, standing}
 use Rattle.plant_rules.specs.Wrong.{is_whole, wrong, wrong_body}
 use Rattle.plant_rules.specs.Step.{step, step_body, unless_refused}
-use Rattle.plant_rules.specs.Sound.{IsSound}
-use Rattle.plant_rules.proofs.KeptSound.{passed, is_there}
+use Rattle.plant_view.specs.Sound.{IsSound}
+use Rattle.plant_view.proofs.KeptSound.{passed, is_there}
 use Rattle.plant_rules.proofs.CatalogueSound.{sound_add_class, sound_add_definition}
 use Rattle.plant_rules.proofs.ReceiptSound.{sound_receive}
 use Rattle.plant_rules.proofs.ScrapSound.{sound_scrap}
 use Rattle.plant_rules.proofs.DivideSound.{sound_divide}
 use Rattle.plant_rules.proofs.SplitSound.{sound_split}
-use Rattle.plant_rules.proofs.ProductionSound.{sound_add_recipe, sound_moved, import_sized, sound_import, sound_cancel, sound_release}
-use Rattle.plant_rules.proofs.Parting.{and_left, and_right, each_fails, not_false, formed_apart, formed_some, parts_there, parts_ready, parts_pass}
+use Rattle.plant_production.proofs.ProductionSound.{sound_add_recipe, sound_moved, import_sized, sound_import, sound_cancel, sound_release}
+use Rattle.plant_view.proofs.Tests.{and_left, and_right, each_fails, not_false}
+use Rattle.plant_rules.proofs.Parting.{formed_apart, formed_some, parts_there, parts_ready, parts_pass}
 use Rattle.plant_rules.proofs.MergeSound.{sound_merge}
 use Rattle.plant_rules.proofs.HoldSound.{sound_hold, sound_unhold}
 

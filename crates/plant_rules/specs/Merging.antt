@@ -10,7 +10,7 @@ use Rattle.plant_base.specs.declared.rows.MovementKind.TheVariants.{Merged}
 use Rattle.plant_base.specs.declared.command.Stamp.{Stamp}
 use Rattle.plant_base.specs.declared.command.Part.{Part}
 use Rattle.plant_base.specs.declared.command.Merge.{Merge}
-use Rattle.plant_rules.specs.Refusing.{refuse, at_limit, standing, is_held}
+use Rattle.plant_view.specs.Refusing.{refuse, at_limit, standing, is_held}
 use Rattle.plant_rules.specs.Splitting.{def_of}
 
 -- ---- conditions

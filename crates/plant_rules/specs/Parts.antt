@@ -9,12 +9,10 @@ use Rattle.plant_base.specs.declared.rows.Place.{Place}
 use Rattle.plant_base.specs.declared.command.Stamp.{Stamp}
 use Rattle.plant_base.specs.declared.command.Part.{Part}
 use Rattle.plant_base.specs.declared.command.Merge.{Merge}
-use Rattle.plant_rules.specs.declared.change.RowChange.{RowChange}
-use Rattle.plant_rules.specs.declared.change.RowChange.TheVariants as row
-use Rattle.plant_rules.specs.declared.change.Decision.{Decision}
-use Rattle.plant_rules.specs.declared.change.Decision.TheVariants.{Change, Refused}
+use Rattle.plant_view.specs.declared.change.RowChange.{RowChange}
+use Rattle.plant_view.specs.declared.change.RowChange.TheVariants as row
 use Rattle.plant_rules.specs.declared.parts.Found.{Found}
-use Rattle.plant_rules.specs.Refusing.{refuse, standing, is_held}
+use Rattle.plant_view.specs.Refusing.{refuse, standing, is_held}
 use Rattle.plant_rules.specs.Merging.{def_at, wrong_parts, part_line}
 
 -- ---- what is found
@@ -83,8 +81,3 @@ merge_rows seq t c fs =
     row.Meta (record { schema = newest_schema; position = record { seq = seq + 1; at = t.at } })
     ∷ row.Lot (record { id = c.new; def = def_found fs })
     ∷ (found_rows seq t c.new 1 fs ++ row.Sublot (record { lot = c.new; number = 0; place = c.place; stock = total_found fs }) ∷ [])
-
--- the decision where this condition fails, or else these rows are changed
-abbrev pub IsDecided : Option Refusal → List RowChange → Decision → Type 0
-IsDecided w rows (Refused r) = w ≡ Some r
-IsDecided w rows (Change changes) = (w ≡ None) × (changes ≡ rows)

@@ -6,7 +6,7 @@ use Rattle.plant_base.specs.declared.refusal.Refusal.TheVariants.{Exists, Unknow
 use Rattle.plant_base.specs.declared.rows.MovementKind.TheVariants.{Received}
 use Rattle.plant_base.specs.declared.command.Stamp.{Stamp}
 use Rattle.plant_base.specs.declared.command.Receive.{Receive}
-use Rattle.plant_rules.specs.Refusing.{refuse, at_limit}
+use Rattle.plant_view.specs.Refusing.{refuse, at_limit}
 use Rattle.plant_rules.specs.Booking.{line_of}
 
 abbrev pub wrong_receive : State → Receive → Option Refusal

@@ -6,7 +6,7 @@ use Rattle.plant_base.specs.declared.refusal.Refusal.TheVariants.{UnknownLot, Un
 use Rattle.plant_base.specs.declared.rows.MovementKind.TheVariants.{Scrapped}
 use Rattle.plant_base.specs.declared.command.Stamp.{Stamp}
 use Rattle.plant_base.specs.declared.command.Scrap.{Scrap}
-use Rattle.plant_rules.specs.Refusing.{refuse, at_limit, standing}
+use Rattle.plant_view.specs.Refusing.{refuse, at_limit, standing}
 use Rattle.plant_rules.specs.Booking.{line_of}
 
 abbrev pub wrong_scrap : State → Scrap → Option Refusal

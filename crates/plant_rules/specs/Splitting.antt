@@ -8,9 +8,9 @@ use Rattle.plant_base.specs.declared.rows.Sublot.{Sublot}
 use Rattle.plant_base.specs.declared.rows.MovementKind.TheVariants as kind
 use Rattle.plant_base.specs.declared.command.Stamp.{Stamp}
 use Rattle.plant_base.specs.declared.command.Split.{Split}
-use Rattle.plant_rules.specs.declared.change.RowChange.{RowChange}
-use Rattle.plant_rules.specs.declared.change.RowChange.TheVariants as row
-use Rattle.plant_rules.specs.Refusing.{refuse, at_limit, standing, is_held}
+use Rattle.plant_view.specs.declared.change.RowChange.{RowChange}
+use Rattle.plant_view.specs.declared.change.RowChange.TheVariants as row
+use Rattle.plant_view.specs.Refusing.{refuse, at_limit, standing, is_held}
 use Rattle.plant_rules.specs.Booking.{line_of}
 
 -- a lot's definition, and none where there is no lot

@@ -15,9 +15,9 @@ use Rattle.plant_rules.specs.Division.{divide}
 use Rattle.plant_rules.specs.Splitting.{split}
 use Rattle.plant_rules.specs.Merging.{merge}
 use Rattle.plant_rules.specs.Holding.{hold, unhold}
-use Rattle.plant_rules.specs.Recipes.{add_recipe, approve, withdraw}
-use Rattle.plant_rules.specs.Orders.{import_orders, cancel_order}
-use Rattle.plant_rules.specs.Releasing.{release}
+use Rattle.plant_production.specs.Recipes.{add_recipe, approve, withdraw}
+use Rattle.plant_production.specs.Orders.{import_orders, cancel_order}
+use Rattle.plant_production.specs.Releasing.{release}
 
 -- what an accepted command makes of the state
 abbrev pub step_body : State → Stamp → Command → State

@@ -8,7 +8,7 @@ use Rattle.plant_base.specs.declared.command.Command.{Command}
 use Rattle.plant_base.specs.declared.command.Command.TheVariants as body
 use Rattle.plant_base.specs.declared.command.Envelope.{Envelope}
 use Rattle.plant_recipe.specs.Form.{is_well_formed}
-use Rattle.plant_rules.specs.Refusing.{refuse}
+use Rattle.plant_view.specs.Refusing.{refuse}
 use Rattle.plant_rules.specs.Catalogue.{wrong_add_class, wrong_add_definition}
 use Rattle.plant_rules.specs.Receipt.{wrong_receive}
 use Rattle.plant_rules.specs.Scrapping.{wrong_scrap}
@@ -16,9 +16,9 @@ use Rattle.plant_rules.specs.Division.{wrong_divide}
 use Rattle.plant_rules.specs.Splitting.{wrong_split}
 use Rattle.plant_rules.specs.Merging.{wrong_merge}
 use Rattle.plant_rules.specs.Holding.{wrong_hold, wrong_unhold}
-use Rattle.plant_rules.specs.Recipes.{wrong_add_recipe, wrong_approve, wrong_withdraw}
-use Rattle.plant_rules.specs.Orders.{wrong_import_orders, wrong_cancel_order}
-use Rattle.plant_rules.specs.Releasing.{wrong_release}
+use Rattle.plant_production.specs.Recipes.{wrong_add_recipe, wrong_approve, wrong_withdraw}
+use Rattle.plant_production.specs.Orders.{wrong_import_orders, wrong_cancel_order}
+use Rattle.plant_production.specs.Releasing.{wrong_release}
 
 -- the recipe that the command brings, if it brings one, is well formed
 abbrev pub brings_formed : Command → Bool

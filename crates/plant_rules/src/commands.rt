@@ -1,59 +1,41 @@
 //! The decision of one command.
 ghost use Rattle.std.specs.Prelude.{◌≡◌, ◌+◌, ◌<◌, IfOk, IsTrue};
 ghost use Rattle.plant_base.specs.Values.{greatest_seq};
-ghost use Rattle.plant_base.specs.State.{newest_schema};
 ghost use Rattle.plant_base.specs.Formed.{stamp_of};
-ghost use Rattle.plant_recipe.specs.Control.{is_size_of};
 ghost use Rattle.plant_trace.specs.Sources.{Told};
 ghost use Rattle.plant_rules.specs.Booking.{line_of};
-ghost use Rattle.plant_rules.specs.Orders.{is_open};
-ghost use Rattle.plant_rules.specs.Sound.{IsSound};
+ghost use Rattle.plant_view.specs.Sound.{IsSound};
 ghost use Rattle.plant_rules.specs.Step.{step, step_body};
-ghost use Rattle.plant_rules.specs.Tables.{Decides};
+ghost use Rattle.plant_view.specs.Tables.{Decides};
 ghost use Rattle.plant_rules.specs.Wrong.{brings_formed, is_whole, wrong, wrong_body};
 
 mod add_class;
 mod add_definition;
-mod add_recipe;
-mod advance;
-mod approve;
-mod cancel_order;
 mod divide;
 mod hold;
-mod import_orders;
 mod merge;
 mod receive;
-mod release;
 mod scrap;
 mod split;
 mod unhold;
-mod withdraw;
 
-use crate::change::{Decision, RowChange};
-use crate::fault::ViewFault;
-use crate::look;
-use crate::view::View;
 use add_class::decide_add_class;
 use add_definition::decide_add_definition;
-use add_recipe::decide_add_recipe;
-use approve::decide_approve;
-use cancel_order::decide_cancel_order;
 use divide::decide_divide;
 use hold::decide_hold;
-use import_orders::decide_import_orders;
 use merge::decide_merge;
-use plant_base::{
-    Amount, Command, Envelope, Header, Id, Items, JobState, Meta, Movement, MovementKind,
-    NEWEST_SCHEMA, Position, Refusal, Stamp,
+use plant_base::{Amount, Command, Envelope, Id, Movement, MovementKind, Refusal, Stamp};
+use plant_production::{
+    decide_add_recipe, decide_approve, decide_cancel_order, decide_import_orders, decide_release,
+    decide_withdraw,
 };
 use plant_recipe::is_well_formed;
+use plant_view::{Decision, RowChange, View, ViewFault, look};
 use receive::decide_receive;
-use release::decide_release;
 use scrap::decide_scrap;
 use split::decide_split;
-use std::alloc::{AllocError, Global};
+use std::alloc::Global;
 use unhold::decide_unhold;
-use withdraw::decide_withdraw;
 
 /// Decides one command over a view: the first condition that it fails, or the rows that it changes. Nothing is
 /// written.
@@ -128,46 +110,7 @@ fn brings_formed(body: &Command) -> bool
     }
 }
 
-// ---- states and sizes
-
-fn is_open(state: JobState) -> bool
-    ensures { result ≡ is_open state }
-{
-    matches!(state, JobState::Open)
-}
-
-// Whether a size is one of the recipe's.
-fn is_size_of(header: &Header, size: Amount) -> bool
-    ensures { result ≡ is_size_of header.now size }
-{
-    header.least.get() <= size.get() && size.get() <= header.greatest.get()
-}
-
 // ---- rows
-
-// The changes of an accepted command.
-fn changes<const N: usize>(
-    alloc: Global,
-    rows: [RowChange; N],
-) -> Result<Items<RowChange>, AllocError>
-    ensures { IfOk result (λ c. c ≡ rows.entry) }
-{
-    Ok(Items::new(Vec::from_array(alloc, rows)?))
-}
-
-// The row of the desk's position after a command that is accepted.
-fn meta_after(seq: u64, stamp: &Stamp) -> RowChange
-    requires { seq < greatest_seq }
-    ensures { result ≡ RowChange.Meta (record { schema = newest_schema; position = record { seq = seq + 1; at = stamp.now.at } }) }
-{
-    RowChange::Meta(Meta {
-        schema: NEWEST_SCHEMA,
-        position: Position {
-            seq: seq + 1,
-            at: stamp.at,
-        },
-    })
-}
 
 // The one line of a movement that a command books.
 fn booked(

@@ -2,15 +2,8 @@
 //! first condition that it fails.
 #![tactic(auto)]
 
-mod change;
 mod commands;
-mod fault;
-mod look;
-mod orders;
+mod greatest;
 mod parts;
-mod view;
 
-pub use change::{Decision, RowChange};
 pub use commands::decide;
-pub use fault::ViewFault;
-pub use view::View;

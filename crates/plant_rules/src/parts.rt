@@ -3,14 +3,12 @@ ghost use Rattle.std.specs.Prelude.{◌≡◌, IfOk, length};
 ghost use Rattle.plant_base.specs.State.{State, lot_at};
 ghost use Rattle.plant_trace.specs.Sources.{Told};
 ghost use Rattle.plant_rules.specs.Parts.{PartIs, PartsAre};
-ghost use Rattle.plant_rules.specs.Refusing.{is_held};
-ghost use Rattle.plant_rules.specs.Sound.{IsSound};
-ghost use Rattle.plant_rules.specs.Views.{IsSublotOf};
+ghost use Rattle.plant_view.specs.Refusing.{is_held};
+ghost use Rattle.plant_view.specs.Sound.{IsSound};
+ghost use Rattle.plant_view.specs.Views.{IsSublotOf};
 
-use crate::fault::ViewFault;
-use crate::look;
-use crate::view::View;
 use plant_base::{Id, Items, Lot, Part, Refusal, Sublot, Text};
+use plant_view::{View, ViewFault, look};
 use std::alloc::Global;
 
 // A part whose lot and sublot are there.

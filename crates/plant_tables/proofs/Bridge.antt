@@ -32,9 +32,9 @@ use Rattle.plant_base.specs.declared.rows.Lot.{Lot}
 use Rattle.plant_base.specs.declared.rows.Sublot.{Sublot}
 use Rattle.plant_base.specs.declared.rows.Movement.{Movement}
 use Rattle.plant_base.specs.declared.rows.Hold.{Hold}
-use Rattle.plant_rules.specs.Tables.{Tables, batch_row_order, sublot_order, changed, changed_all, without_hold}
-use Rattle.plant_rules.specs.declared.change.RowChange.{RowChange}
-use Rattle.plant_rules.specs.declared.change.RowChange.TheVariants as change
+use Rattle.plant_view.specs.Tables.{Tables, batch_row_order, sublot_order, changed, changed_all, without_hold}
+use Rattle.plant_view.specs.declared.change.RowChange.{RowChange}
+use Rattle.plant_view.specs.declared.change.RowChange.TheVariants as change
 use Rattle.plant_forms.specs.Forms.{Form}
 use Rattle.plant_forms.specs.Rows.{meets, has_values, take_away, same_key}
 use Rattle.plant_forms.specs.Rows as rows

@@ -17,7 +17,7 @@ use Rattle.plant_forms.specs.Rows.{fits_columns}
 use Rattle.plant_forms.specs.Texts.{IsPutText, IsTakeText}
 use Rattle.plant_forms.specs.Moves.{Moves, PutsRow, TakesRows, MakesTables, Founds, changed_at, taken_at}
 use Rattle.plant_forms.specs.Standing.{Contents}
-use Rattle.plant_rules.specs.declared.change.RowChange.{RowChange}
+use Rattle.plant_view.specs.declared.change.RowChange.{RowChange}
 use Rattle.plant_tables.specs.DeskTables.{rows_changed, all_rows_changed}
 use Rattle.plant_tables.specs.DeskForms.{desk_forms, recipe_line_form, batch_form, control_line_form, movement_form}
 use Rattle.plant_tables.specs.Encoding.{number, columns_of_line, row_of_master_line, row_of_batch, row_of_control_line, row_of_movement}

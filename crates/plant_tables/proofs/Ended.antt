@@ -3,8 +3,8 @@ use Rattle.std.proofs.Common.{◌≡◌, inl, inr, refl, sym, subst, List, Ok, E
 use Rattle.sqlite.specs.Tree.{Trees}
 use Rattle.sqlite.specs.Effect.{Database}
 use Rattle.sqlite.specs.State.{State}
-use Rattle.plant_rules.specs.Tables.{Tables, changed_all}
-use Rattle.plant_rules.specs.declared.change.RowChange.{RowChange}
+use Rattle.plant_view.specs.Tables.{Tables, changed_all}
+use Rattle.plant_view.specs.declared.change.RowChange.{RowChange}
 use Rattle.plant_forms.specs.Standing.{KeepsOthers}
 use Rattle.plant_forms.specs.Stopping.{IsSettled, IsUndone}
 use Rattle.plant_forms.specs.Moves.{Moves}

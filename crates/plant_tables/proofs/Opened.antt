@@ -10,7 +10,7 @@ use Rattle.sqlite.specs.Effect.{Database, IsDatabase}
 use Rattle.sqlite.specs.State.{State}
 use Rattle.plant_base.specs.State.{newest_schema}
 use Rattle.plant_base.specs.declared.rows.Meta.{Meta}
-use Rattle.plant_rules.specs.declared.change.RowChange.TheVariants as change
+use Rattle.plant_view.specs.declared.change.RowChange.TheVariants as change
 use Rattle.plant_forms.specs.Standing.{AreFree, KeepsOthers}
 use Rattle.plant_forms.specs.Stopping.{IsSettled, IsUndone}
 use Rattle.plant_forms.specs.Moves.{Moves, Founds}

@@ -5,7 +5,7 @@ use Rattle.sqlite.specs.Schema.{Schema}
 use Rattle.sqlite.specs.Effect.{Database, IsDatabase}
 use Rattle.sqlite.specs.State.{State}
 use Rattle.plant_base.specs.State.{newest_schema, opening}
-use Rattle.plant_rules.specs.Tables.{Tables, tables_of}
+use Rattle.plant_view.specs.Tables.{Tables, tables_of}
 use Rattle.plant_forms.specs.Standing.{KeepsOthers, AreFree}
 use Rattle.plant_forms.specs.Stopping.{IsSettled}
 use Rattle.plant_tables.specs.DeskForms.{desk_forms}

@@ -2,7 +2,7 @@ ghost use Rattle.std.specs.Prelude.{◌≡◌, false, IsTrue, OnOk, OnErr};
 ghost use Rattle.sqlite.specs.Effect.{Database, IsDatabase};
 ghost use Rattle.sqlite.specs.State.{HasCleanDisk, Survives, KeepsCommit};
 ghost use Rattle.sqlite.specs.Held.{state};
-ghost use Rattle.plant_rules.specs.Tables.{Tables, changed_all};
+ghost use Rattle.plant_view.specs.Tables.{Tables, changed_all};
 ghost use Rattle.plant_forms.specs.Standing.{KeepsOthers, AreFree};
 ghost use Rattle.plant_forms.specs.Stopping.{IsSettled};
 ghost use Rattle.plant_tables.specs.DeskForms.{desk_forms};
@@ -12,7 +12,7 @@ ghost use Rattle.plant_tables.specs.DeskStopping.{IsAt, IsCutShort, opening_tabl
 use crate::write::{create, write_change, write_changes};
 use plant_base::{Meta, Moment, NEWEST_SCHEMA, Position};
 use plant_forms::{Fault, Work, in_one};
-use plant_rules::RowChange;
+use plant_view::RowChange;
 use sqlite::{Alter, Connection, Transaction};
 
 /// The writing of some changes.

@@ -6,7 +6,7 @@ use plant_base::{
     OrderRow, Position, Recipe, RecipeLine, RecipeState, Sublot, Text, Unit,
 };
 use plant_forms::Fault;
-use plant_rules::RowChange;
+use plant_view::RowChange;
 use sqlite::{Connection, Error, MemStore};
 use std::alloc::Global;
 use std::process::Abort;

@@ -16,7 +16,7 @@ use crate::encode::{
 use crate::forms;
 use plant_base::{ControlLine, MasterLine, RecipeLine};
 use plant_forms::{Fault, make_tables, put_row, take_rows};
-use plant_rules::RowChange;
+use plant_view::RowChange;
 use sqlite::{Alter, Transaction};
 
 /// Makes one change inside the transaction, by one statement. [`Fault::Store`] comes where the store refuses it, or

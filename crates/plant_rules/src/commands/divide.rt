@@ -3,18 +3,16 @@ ghost use Rattle.plant_base.specs.Values.{greatest_seq};
 ghost use Rattle.plant_base.specs.State.{State, lot_at};
 ghost use Rattle.plant_trace.specs.Sources.{Told};
 ghost use Rattle.plant_rules.specs.Division.{wrong_divide, divide, divide_rows, greatest, numbers_of};
-ghost use Rattle.plant_rules.specs.Sound.{IsSound};
-ghost use Rattle.plant_rules.specs.Tables.{Decides};
-ghost use Rattle.plant_rules.specs.Views.{IsSublotOf};
+ghost use Rattle.plant_view.specs.Sound.{IsSound};
+ghost use Rattle.plant_view.specs.Tables.{Decides};
+ghost use Rattle.plant_view.specs.Views.{IsSublotOf};
 
-use super::{booked, changes, meta_after};
-use crate::change::{Decision, RowChange};
-use crate::fault::ViewFault;
-use crate::look;
-use crate::view::View;
+use super::booked;
+use crate::greatest::greatest_number;
 use plant_base::{
     Divide, GREATEST_SEQ, GREATEST_SUBLOT, Items, Lot, MovementKind, Refusal, Stamp, Sublot,
 };
+use plant_view::{Decision, RowChange, View, ViewFault, changes, look, meta_after};
 use std::alloc::{AllocError, Global};
 
 pub(crate) fn decide_divide<V: View>(
@@ -31,7 +29,7 @@ pub(crate) fn decide_divide<V: View>(
 {
     let lot = look::lot(view, c.lot)?;
     let sublot = look::sublot(view, c.lot, c.sub)?;
-    let last = look::greatest_number(view, c.lot)?;
+    let last = greatest_number(view, c.lot)?;
     Ok(divided(alloc, seq, stamp, c, lot, sublot, last)?)
 }
 

@@ -1,14 +1,10 @@
 ghost use Rattle.std.specs.Prelude.{◌≡◌, IfOk};
 ghost use Rattle.plant_trace.specs.Sources.{Told};
 ghost use Rattle.plant_rules.specs.Holding.{wrong_hold, hold};
-ghost use Rattle.plant_rules.specs.Tables.{Decides};
+ghost use Rattle.plant_view.specs.Tables.{Decides};
 
-use super::{changes, meta_after};
-use crate::change::{Decision, RowChange};
-use crate::fault::ViewFault;
-use crate::look;
-use crate::view::View;
 use plant_base::{GREATEST_SEQ, Hold, HoldLot, Refusal, Stamp};
+use plant_view::{Decision, RowChange, View, ViewFault, changes, look, meta_after};
 use std::alloc::Global;
 
 pub(crate) fn decide_hold<V: View>(

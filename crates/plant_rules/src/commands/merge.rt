@@ -5,20 +5,17 @@ ghost use Rattle.plant_base.specs.State.{State, lot_at};
 ghost use Rattle.plant_base.specs.Formed.{are_parts};
 ghost use Rattle.plant_trace.specs.Sources.{Told};
 ghost use Rattle.plant_rules.specs.Merging.{wrong_merge, merge, part_line};
-ghost use Rattle.plant_rules.specs.Parts.{PartsAre, IsDecided, wrong_found, merge_rows, found_rows, total_found, def_found, is_lacking, is_other};
-ghost use Rattle.plant_rules.specs.Sound.{IsSound};
-ghost use Rattle.plant_rules.specs.Tables.{Decides};
+ghost use Rattle.plant_rules.specs.Parts.{PartsAre, wrong_found, merge_rows, found_rows, total_found, def_found, is_lacking, is_other};
+ghost use Rattle.plant_view.specs.Tables.{IsDecided};
+ghost use Rattle.plant_view.specs.Sound.{IsSound};
+ghost use Rattle.plant_view.specs.Tables.{Decides};
 
-use super::meta_after;
-use crate::change::{Decision, RowChange};
-use crate::fault::ViewFault;
-use crate::look;
 use crate::parts::{Found, found_parts};
-use crate::view::View;
 use plant_base::{
     ControlLine, GREATEST_AMOUNT, GREATEST_SEQ, Id, Items, Lot, MasterLine, Merge, Movement,
     MovementKind, RecipeLine, Refusal, Stamp, Sublot,
 };
+use plant_view::{Decision, RowChange, View, ViewFault, look, meta_after};
 use std::alloc::{AllocError, Global};
 
 pub(crate) fn decide_merge<V: View>(

@@ -2,15 +2,12 @@ ghost use Rattle.std.specs.Prelude.{◌≡◌, IfOk};
 ghost use Rattle.plant_base.specs.State.{State, definition_at, lot_at};
 ghost use Rattle.plant_trace.specs.Sources.{Told};
 ghost use Rattle.plant_rules.specs.Receipt.{wrong_receive, receive};
-ghost use Rattle.plant_rules.specs.Sound.{IsSound};
-ghost use Rattle.plant_rules.specs.Tables.{Decides};
+ghost use Rattle.plant_view.specs.Sound.{IsSound};
+ghost use Rattle.plant_view.specs.Tables.{Decides};
 
-use super::{booked, changes, meta_after};
-use crate::change::{Decision, RowChange};
-use crate::fault::ViewFault;
-use crate::look;
-use crate::view::View;
+use super::booked;
 use plant_base::{Definition, GREATEST_SEQ, Lot, MovementKind, Receive, Refusal, Stamp, Sublot};
+use plant_view::{Decision, RowChange, View, ViewFault, changes, look, meta_after};
 use std::alloc::{AllocError, Global};
 
 pub(crate) fn decide_receive<V: View>(

@@ -2,16 +2,13 @@ ghost use Rattle.std.specs.Prelude.{◌≡◌, IfOk};
 ghost use Rattle.plant_base.specs.State.{State, lot_at};
 ghost use Rattle.plant_trace.specs.Sources.{Told};
 ghost use Rattle.plant_rules.specs.Scrapping.{wrong_scrap, scrap};
-ghost use Rattle.plant_rules.specs.Sound.{IsSound};
-ghost use Rattle.plant_rules.specs.Tables.{Decides};
-ghost use Rattle.plant_rules.specs.Views.{IsSublotOf};
+ghost use Rattle.plant_view.specs.Sound.{IsSound};
+ghost use Rattle.plant_view.specs.Tables.{Decides};
+ghost use Rattle.plant_view.specs.Views.{IsSublotOf};
 
-use super::{booked, changes, meta_after};
-use crate::change::{Decision, RowChange};
-use crate::fault::ViewFault;
-use crate::look;
-use crate::view::View;
+use super::booked;
 use plant_base::{GREATEST_SEQ, Lot, MovementKind, Refusal, Scrap, Stamp, Sublot};
+use plant_view::{Decision, RowChange, View, ViewFault, changes, look, meta_after};
 use std::alloc::{AllocError, Global};
 
 pub(crate) fn decide_scrap<V: View>(

@@ -2,18 +2,15 @@ ghost use Rattle.std.specs.Prelude.{◌≡◌, ◌≤◌, ◌<◌, IfOk};
 ghost use Rattle.plant_base.specs.Values.{greatest_seq};
 ghost use Rattle.plant_base.specs.State.{State, lot_at};
 ghost use Rattle.plant_trace.specs.Sources.{Told};
-ghost use Rattle.plant_rules.specs.Refusing.{is_held};
+ghost use Rattle.plant_view.specs.Refusing.{is_held};
 ghost use Rattle.plant_rules.specs.Splitting.{wrong_split, split, split_rows};
-ghost use Rattle.plant_rules.specs.Sound.{IsSound};
-ghost use Rattle.plant_rules.specs.Tables.{Decides};
-ghost use Rattle.plant_rules.specs.Views.{IsSublotOf};
+ghost use Rattle.plant_view.specs.Sound.{IsSound};
+ghost use Rattle.plant_view.specs.Tables.{Decides};
+ghost use Rattle.plant_view.specs.Views.{IsSublotOf};
 
-use super::{booked, changes, meta_after};
-use crate::change::{Decision, RowChange};
-use crate::fault::ViewFault;
-use crate::look;
-use crate::view::View;
+use super::booked;
 use plant_base::{GREATEST_SEQ, Items, Lot, MovementKind, Refusal, Split, Stamp, Sublot};
+use plant_view::{Decision, RowChange, View, ViewFault, changes, look, meta_after};
 use std::alloc::{AllocError, Global};
 
 pub(crate) fn decide_split<V: View>(

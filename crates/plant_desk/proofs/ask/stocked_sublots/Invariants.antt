@@ -1,6 +1,6 @@
 use Rattle.std.proofs.Common.{◌≡◌, take, map, filter}
 use Rattle.plant_base.specs.State.{same}
-use Rattle.plant_rules.specs.Tables.{sublot_row}
+use Rattle.plant_view.specs.Tables.{sublot_row}
 use Rattle.plant_desk.specs.Lists.{IsStocked}
 use Rattle.plant_desk.proofs.ask.stocked_sublots.Given as goal
 

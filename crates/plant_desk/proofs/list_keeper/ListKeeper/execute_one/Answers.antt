@@ -1,5 +1,5 @@
-use Rattle.plant_rules.proofs.Balanced.{balanced}
-use Rattle.plant_rules.proofs.Conserved.{conserved}
+use Rattle.plant_view.proofs.Balanced.{balanced}
+use Rattle.plant_view.proofs.Conserved.{conserved}
 use Rattle.plant_desk.specs.Lists.{state_of}
 use Rattle.plant_desk.proofs.Kept.{kept}
 use Rattle.plant_desk.proofs.list_keeper.ListKeeper.execute_one.Goals as goal

@@ -1,5 +1,5 @@
 use Rattle.std.proofs.Common.{◌≡◌, ◌+◌, ◌-◌, ◌≤◌, length, take, vec_len, vec_capacity}
-use Rattle.plant_rules.specs.Conserve.{IsConserved, IsBalanced}
+use Rattle.plant_view.specs.Conserve.{IsConserved, IsBalanced}
 use Rattle.plant_desk.specs.Runs.{fold, replies}
 use Rattle.plant_desk.proofs.list_keeper.ListKeeper.run.Given as goal
 

@@ -1,0 +1,7 @@
+pub mod ControlMade
+pub mod OrderTables
+pub mod OrdersKept
+pub mod ProductionSound
+pub mod RecipeTables
+pub mod RecipesKept
+pub mod ReleaseTables

@@ -1,7 +1,0 @@
-use Rattle.std.proofs.Common.{arith}
-use Rattle.std.proofs.lemmas.Grind.{common_steps}
-use Rattle.plant_rules.proofs.RecipeTables.{recipe_tables}
-use Rattle.plant_rules.proofs.commands.add_recipe.added.Goals as goal
-
-pub returns : goal.returns
-returns c = λ s seq product known recipe. (grind (arith, common_steps), rw (c.in_ok-rows.ensures, seq) (recipe_tables s c.args.stamp.now c.args.c.now))

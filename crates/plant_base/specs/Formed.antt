@@ -1,9 +1,11 @@
 -- What holds of the values of an envelope, and which commands are well formed.
-use Rattle.std.specs.Prelude.{ℕ, Bool, true, ◌&&◌, ◌==◌, not, nat_le, List, [], ◌∷◌, length, IsTrue, All}
+use Rattle.std.specs.Prelude.{ℕ, Bool, true, false, ◌&&◌, ◌==◌, not, nat_le, List, [], ◌∷◌, length, IsTrue, All}
 use Rattle.std.specs.List.{list_all, list_any}
-use Rattle.plant_base.specs.Values.{is_id, is_text, is_unit, is_amount, is_moment, greatest_sublot, greatest_version, greatest_priority}
+use Rattle.plant_base.specs.Values.{is_id, is_text, is_unit, is_amount, is_moment, greatest_sublot, greatest_version, greatest_priority, greatest_phase}
 use Rattle.plant_base.specs.Dates.{is_due}
 use Rattle.plant_base.specs.State.{same}
+use Rattle.plant_base.specs.declared.states.Word.{Word}
+use Rattle.plant_base.specs.declared.states.Word.TheVariants.{Done}
 use Rattle.plant_base.specs.declared.rows.Header.{Header}
 use Rattle.plant_base.specs.declared.rows.RecipeLine.{RecipeLine}
 use Rattle.plant_base.specs.declared.rows.RecipeLine.TheVariants as line
@@ -52,6 +54,17 @@ has_numbers o = is_version o.version && is_priority o.priority
 abbrev pub are_orders : List OrderRow → Bool
 are_orders orders = nat_le (length orders) 1000 && list_all has_numbers orders
 
+-- ---- batches
+
+-- a word that is commanded, and not the ending of a state
+abbrev pub is_command_word : Word → Bool
+is_command_word Done = false
+is_command_word _ = true
+
+-- 1 to 128
+abbrev pub is_phase_number : ℕ → Bool
+is_phase_number n = nat_le 1 n && nat_le n greatest_phase
+
 -- ---- commands
 
 -- the numbers and lists whose types don't keep their rules do obey them; whether a recipe is well formed is a
@@ -72,6 +85,12 @@ is_formed (body.Withdraw c) = is_version c.version
 is_formed (body.ImportOrders c) = are_orders c.orders
 is_formed (body.CancelOrder c) = true
 is_formed (body.Release c) = true
+is_formed (body.BatchCommand c) = is_command_word c.word
+is_formed (body.Settle c) = true
+is_formed (body.PhaseDone c) = is_phase_number c.phase
+is_formed (body.CloseBatch c) = true
+is_formed (body.Consume c) = nat_le c.sub greatest_sublot
+is_formed (body.Produce c) = true
 
 abbrev pub HasPartValues : Part → Type 0
 HasPartValues p = IsTrue (is_id p.lot) × IsTrue (is_amount p.amount)
@@ -113,6 +132,12 @@ HasBodyValues (body.Withdraw c) = IsTrue (is_id c.recipe)
 HasBodyValues (body.ImportOrders c) = All HasOrderValues c.orders
 HasBodyValues (body.CancelOrder c) = IsTrue (is_id c.order)
 HasBodyValues (body.Release c) = IsTrue (is_id c.order) × IsTrue (is_id c.batch)
+HasBodyValues (body.BatchCommand c) = IsTrue (is_id c.batch)
+HasBodyValues (body.Settle c) = IsTrue (is_id c.batch)
+HasBodyValues (body.PhaseDone c) = IsTrue (is_id c.batch)
+HasBodyValues (body.CloseBatch c) = IsTrue (is_id c.batch)
+HasBodyValues (body.Consume c) = IsTrue (is_id c.batch) × IsTrue (is_id c.lot) × IsTrue (is_amount c.amount)
+HasBodyValues (body.Produce c) = IsTrue (is_id c.batch) × IsTrue (is_id c.lot) × IsTrue (is_id c.def) × IsTrue (is_amount c.amount) × IsTrue (is_text c.place)
 
 pub record HasValues (e : Envelope) : Type 0 where
   pub at : IsTrue (is_moment e.at)

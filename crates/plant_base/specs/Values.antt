@@ -21,6 +21,10 @@ greatest_version = 999
 abbrev pub greatest_priority : ℕ
 greatest_priority = 9
 
+-- one above the greatest number of phases of a recipe
+abbrev pub greatest_phase : ℕ
+greatest_phase = 128
+
 -- no command is accepted after this one
 abbrev pub greatest_seq : ℕ
 greatest_seq = 10 ^ 15

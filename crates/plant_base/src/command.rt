@@ -1,12 +1,14 @@
 //! What the desk is told.
 ghost use Rattle.std.specs.Prelude.{◌≡◌, All};
 ghost use Rattle.std.specs.List.{list_all, list_any};
-ghost use Rattle.plant_base.specs.Formed.{HasValues, HasPartValues, HasHeaderValues, HasLineValues, HasOrderValues, is_version, is_priority, has_numbers, are_orders, is_formed, stamp_of, are_parts, has_sublot, are_apart, is_same_sublot};
+ghost use Rattle.plant_base.specs.Formed.{HasValues, HasPartValues, HasHeaderValues, HasLineValues, HasOrderValues, is_version, is_priority, has_numbers, are_orders, is_command_word, is_phase_number, is_formed, stamp_of, are_parts, has_sublot, are_apart, is_same_sublot};
 
 use crate::items::Items;
 use crate::rows::{Header, OrderRow, RecipeLine};
+use crate::states::Word;
 use crate::values::{
-    Amount, GREATEST_PRIORITY, GREATEST_SUBLOT, GREATEST_VERSION, Id, Moment, Text, Unit,
+    Amount, GREATEST_PHASE, GREATEST_PRIORITY, GREATEST_SUBLOT, GREATEST_VERSION, Id, Moment, Text,
+    Unit,
 };
 
 /// Makes a material class.
@@ -142,6 +144,55 @@ pub struct Release {
     pub batch: Id,
 }
 
+/// Moves a batch by a word of its state table (made after the example of IEC 61512-1).
+#[derive(Clone, Copy, Debug, PartialEq, Eq)]
+pub struct BatchCommand {
+    pub batch: Id,
+    /// A word of command; [`Word::Done`] isn't well formed.
+    pub word: Word,
+}
+
+/// Tells that the state of a batch came to its end without a command.
+#[derive(Clone, Copy, Debug, PartialEq, Eq)]
+pub struct Settle {
+    pub batch: Id,
+}
+
+/// Tells that a phase of a running batch was done.
+#[derive(Clone, Copy, Debug, PartialEq, Eq)]
+pub struct PhaseDone {
+    pub batch: Id,
+    /// 1 to 128; another number isn't well formed.
+    pub phase: u8,
+}
+
+/// Closes a batch that is complete, stopped or aborted. Its order is finished, and nothing more is booked or told of
+/// the batch.
+#[derive(Clone, Copy, Debug, PartialEq, Eq)]
+pub struct CloseBatch {
+    pub batch: Id,
+}
+
+/// Books what a batch takes from a sublot (the material consumed of IEC 62264-4).
+#[derive(Clone, Copy, Debug, PartialEq, Eq)]
+pub struct Consume {
+    pub batch: Id,
+    pub lot: Id,
+    /// 0 to 99; a greater number isn't well formed.
+    pub sub: u16,
+    pub amount: Amount,
+}
+
+/// Books what a batch brings as a new lot (the material produced of IEC 62264-4). It lies in the lot's sublot 0.
+#[derive(Clone, Copy, Debug, PartialEq, Eq)]
+pub struct Produce {
+    pub batch: Id,
+    pub lot: Id,
+    pub def: Id,
+    pub amount: Amount,
+    pub place: Text,
+}
+
 /// The greatest number of orders of one import.
 pub const GREATEST_ORDERS: usize = 1000;
 
@@ -166,6 +217,12 @@ pub enum Command {
     ImportOrders(ImportOrders),
     CancelOrder(CancelOrder),
     Release(Release),
+    BatchCommand(BatchCommand),
+    Settle(Settle),
+    PhaseDone(PhaseDone),
+    CloseBatch(CloseBatch),
+    Consume(Consume),
+    Produce(Produce),
 }
 
 impl Command {
@@ -184,6 +241,9 @@ impl Command {
             Command::Approve(c) => is_version(c.version),
             Command::Withdraw(c) => is_version(c.version),
             Command::ImportOrders(c) => are_orders(c.orders.as_slice()),
+            Command::BatchCommand(c) => is_command_word(c.word),
+            Command::PhaseDone(c) => is_phase_number(c.phase),
+            Command::Consume(c) => c.sub <= GREATEST_SUBLOT,
             _ => true,
         }
     }
@@ -300,6 +360,30 @@ impl Command {
                 let _order = c.order.as_bytes();
                 let _batch = c.batch.as_bytes();
             }
+            Command::BatchCommand(c) => {
+                let _batch = c.batch.as_bytes();
+            }
+            Command::Settle(c) => {
+                let _batch = c.batch.as_bytes();
+            }
+            Command::PhaseDone(c) => {
+                let _batch = c.batch.as_bytes();
+            }
+            Command::CloseBatch(c) => {
+                let _batch = c.batch.as_bytes();
+            }
+            Command::Consume(c) => {
+                let _batch = c.batch.as_bytes();
+                let _lot = c.lot.as_bytes();
+                let _amount = c.amount.get();
+            }
+            Command::Produce(c) => {
+                let _batch = c.batch.as_bytes();
+                let _lot = c.lot.as_bytes();
+                let _def = c.def.as_bytes();
+                let _amount = c.amount.get();
+                let _place = c.place.as_bytes();
+            }
         }
     }
 }
@@ -409,6 +493,20 @@ fn have_numbers(orders: &[OrderRow]) -> bool
     ensures { result ≡ list_all has_numbers orders.now }
 {
     orders.iter().all(|order| has_numbers(order))
+}
+
+// ---- batches
+
+fn is_command_word(word: Word) -> bool
+    ensures { result ≡ is_command_word word }
+{
+    !matches!(word, Word::Done)
+}
+
+fn is_phase_number(number: u8) -> bool
+    ensures { result ≡ is_phase_number number }
+{
+    (1..=GREATEST_PHASE).contains(&number)
 }
 
 // ---- the parts of a merge

@@ -11,9 +11,9 @@ mod states;
 mod values;
 
 pub use command::{
-    AddClass, AddDefinition, AddRecipe, Approve, CancelOrder, Command, Divide, Envelope,
-    GREATEST_ORDERS, GREATEST_PARTS, HoldLot, ImportOrders, Merge, Part, Receive, Release, Scrap,
-    Split, Stamp, UnholdLot, Withdraw,
+    AddClass, AddDefinition, AddRecipe, Approve, BatchCommand, CancelOrder, CloseBatch, Command,
+    Consume, Divide, Envelope, GREATEST_ORDERS, GREATEST_PARTS, HoldLot, ImportOrders, Merge, Part,
+    PhaseDone, Produce, Receive, Release, Scrap, Settle, Split, Stamp, UnholdLot, Withdraw,
 };
 pub use due::{Due, DueFault};
 pub use items::Items;
@@ -25,6 +25,6 @@ pub use rows::{
 };
 pub use states::{BatchState, Event, JobState, RecipeState, Word};
 pub use values::{
-    Amount, GREATEST_AMOUNT, GREATEST_MOMENT, GREATEST_PRIORITY, GREATEST_SEQ, GREATEST_SUBLOT,
-    GREATEST_VERSION, Id, Moment, Text, Unit,
+    Amount, GREATEST_AMOUNT, GREATEST_MOMENT, GREATEST_PHASE, GREATEST_PRIORITY, GREATEST_SEQ,
+    GREATEST_SUBLOT, GREATEST_VERSION, Id, Moment, Text, Unit,
 };

@@ -20,6 +20,9 @@ pub const GREATEST_VERSION: u16 = 999;
 /// The greatest priority of an order.
 pub const GREATEST_PRIORITY: u8 = 9;
 
+/// The greatest number of a phase: one above the greatest number of phases of a recipe.
+pub const GREATEST_PHASE: u8 = 128;
+
 /// The greatest number of accepted commands, 10^15.
 pub const GREATEST_SEQ: u64 = 1_000_000_000_000_000;
 

@@ -16,11 +16,11 @@ joined E r (step e) = more r e
 joined E r (more s e) = more (joined E r s) e
 
 -- a walk, or no step at all
-data UpTo {X : Type 0} (E : X → X → Type 0) : X → X → Type 0 where
+pub data UpTo {X : Type 0} (E : X → X → Type 0) : X → X → Type 0 where
   here : {a : X} → UpTo E a a
   on : {a b : X} → Reach E a b → UpTo E a b
 
-farther : {X : Type 0} {E : X → X → Type 0} {a b c : X} → UpTo E a b → E b c → Reach E a c
+pub farther : {X : Type 0} {E : X → X → Type 0} {a b c : X} → UpTo E a b → E b c → Reach E a c
 farther here e = step e
 farther (on r) e = more r e
 

@@ -1,7 +1,7 @@
 -- What a set of pairs leads to.
-use Rattle.std.specs.Prelude.{List, Contains}
+use Rattle.std.specs.Prelude.{◌≡◌, ◌↔◌, Bool, true, false, ◌&&◌, ◌||◌, List, [], ◌∷◌, Contains}
 use Rattle.std.specs.List.Sorted.{IsStrictlySortedBy}
-use Rattle.plant_trace.specs.Nodes.{node_cmp}
+use Rattle.plant_trace.specs.Nodes.{node_cmp, node_eq}
 use Rattle.plant_trace.specs.declared.direction.Direction.{Direction}
 use Rattle.plant_trace.specs.declared.direction.Direction.TheVariants.{Forward, Back}
 use Rattle.plant_trace.specs.declared.node.Node.{Node}
@@ -34,3 +34,13 @@ pub record Lists (P : Node → Type 0) (nodes : List Node) : Type 0 where
   pub ascending : IsStrictlySortedBy node_cmp nodes
   pub only : (y : Node) → Contains nodes y → P y
   pub all : (y : Node) → P y → Contains nodes y
+
+-- whether one or more pairs lead from a to b: those behind the first do, or they lead up to where the first begins and
+-- on from where it ends
+unfoldable pub leads : List (Node × Node) → Node → Node → Bool
+leads [] a b = false
+leads (p ∷ ps) a b = leads ps a b || ((node_eq a p.0 || leads ps a p.0) && (node_eq p.1 b || leads ps p.1 b))
+
+-- they do exactly where the least relation holds
+abbrev pub LeadsWhereReached : Type 0
+LeadsWhereReached = (pairs : List (Node × Node)) (a b : Node) → (leads pairs a b ≡ true) ↔ Reach (HasEdge pairs) a b

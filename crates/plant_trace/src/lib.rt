@@ -19,7 +19,7 @@ pub use cycles::acyclic;
 pub use direction::Direction;
 pub use edges::Edges;
 pub use fault::TraceFault;
-pub use growth::growth_law;
+pub use growth::{growth_law, reach_law};
 pub use indexed::Indexed;
 pub use listed::{Listed, neighbours};
 pub use node::Node;

@@ -1,0 +1,5 @@
+use Rattle.plant_trace.proofs.Leading.{leads_where_reached}
+use Rattle.plant_trace.proofs.growth.reach_law.Goals as goal
+
+pub returns : goal.returns
+returns c = leads_where_reached

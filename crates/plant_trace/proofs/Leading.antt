@@ -10,7 +10,7 @@ use Rattle.plant_trace.proofs.NodeLemmas.{node_eq_exact, node_eq_itself}
 use Rattle.plant_trace.proofs.Searching.{before}
 use Rattle.plant_trace.proofs.Growing.{UpTo, here, on, farther, first_edge, joined}
 
-none_in : {X : Type 0} (x : X) → Contains [] x → ⊥
+pub none_in : {X : Type 0} (x : X) → Contains [] x → ⊥
 none_in x e = omega (arith, e.1)
 
 first_in : {X : Type 0} (y : X) (xs : List X) → Contains (y ∷ xs) y
@@ -19,7 +19,7 @@ first_in y xs = Contains-append_left (y ∷ []) xs y (Contains-push [] y)
 rest_in : {X : Type 0} (y : X) (xs : List X) (x : X) → Contains xs x → Contains (y ∷ xs) x
 rest_in y xs x e = Contains-append_right (y ∷ []) xs x e
 
-first_or_rest : {X : Type 0} (y : X) (xs : List X) (x : X) → Contains (y ∷ xs) x → (y ≡ x) ⊎ Contains xs x
+pub first_or_rest : {X : Type 0} (y : X) (xs : List X) (x : X) → Contains (y ∷ xs) x → (y ≡ x) ⊎ Contains xs x
 first_or_rest y xs x e = ⊎_elim (λ f. ⊎_elim (λ n. absurd (none_in x n)) (λ s. inl s) (Contains-push_cases [] y x f)) (λ r. inr r) (Contains-append_cases (y ∷ []) xs x e)
 
 still_or_on : {X : Type 0} {E : X → X → Type 0} {a b : X} → UpTo E a b → (a ≡ b) ⊎ Reach E a b

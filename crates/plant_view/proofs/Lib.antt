@@ -1,5 +1,6 @@
 pub mod Balanced
 pub mod Conserved
+pub mod Descent
 pub mod KeptSound
 pub mod RowKeys
 pub mod Rows

@@ -6,6 +6,7 @@ use Rattle.plant_base.specs.Values.{greatest_amount, greatest_sublot}
 use Rattle.plant_base.specs.State.{State, class_order, definition_order, lot_order, place_order, hold_order, class_at, definition_at, lot_at, place_at}
 use Rattle.plant_stock.specs.Stock.{goes_to, comes_from, entered, left}
 use Rattle.plant_view.specs.Conserve.{is_of}
+use Rattle.plant_view.specs.Genealogy.{IsSoundGenealogy}
 use Rattle.plant_view.specs.Production.{AreSoundRecipes, AreSoundOrders, AreSoundBatches, headers_of, orders_of}
 
 -- the sublot, where one is named, is there
@@ -42,3 +43,5 @@ pub record IsSound (s : State) : Type 0 where
   pub recipes : AreSoundRecipes s.definitions s.recipes s.master_lines
   pub orders : AreSoundOrders (headers_of s.recipes) s.jobs s.batches
   pub batches : AreSoundBatches (headers_of s.recipes) s.master_lines (orders_of s.jobs) s.batches s.control_lines s.events
+  -- where goods came from
+  pub genealogy : IsSoundGenealogy s.batches s.movements

@@ -34,18 +34,20 @@ use Rattle.plant_production.specs.Orders.{conflicts, wrong_import_orders, is_siz
 use Rattle.plant_production.specs.Orders as orders
 use Rattle.plant_production.specs.Releasing.{control_by, control_for, lines_in, released_batch, release}
 use Rattle.plant_view.specs.Production.{HasGoodOrder, HasBatchValues, headers_of, header_among, AreSoundRecipes, orders_of, order_among, batch_among, is_size_of_some, AreSoundOrders, control_from, control_of_order, AreSoundBatches}
+use Rattle.plant_view.specs.Genealogy.{IsSoundGenealogy}
 use Rattle.plant_view.specs.Sound.{IsSound}
 use Rattle.plant_view.proofs.Rows.{each_passes, all_filtered, filtered_passes, find_mapped, some_mapped}
 use Rattle.plant_view.proofs.KeptSound.{passed, all_two}
+use Rattle.plant_view.proofs.Descent.{descent_released}
 use Rattle.plant_view.proofs.Tests.{each_fails, not_false}
 use Rattle.plant_production.proofs.RecipesKept.{headers_put, headers_same, with_state_sorted, recipes_moved, more, recipes_added, orders_headed, batches_headed}
 use Rattle.plant_production.proofs.OrdersKept.{order_of_job, orders_same, open_has_none, orders_cancelled, orders_imported, batches_imported, orders_released, batches_released}
 
 -- what is sound of recipes, orders and batches makes the state sound, where the rest stays
 pub with_production : (s : State) → IsSound s → (seq at : ℕ) (recipes : List Recipe) (master_lines : List MasterLine) (jobs : List Job) (batches : List Batch) (control_lines : List ControlLine)
-    → AreSoundRecipes s.definitions recipes master_lines → AreSoundOrders (headers_of recipes) jobs batches → AreSoundBatches (headers_of recipes) master_lines (orders_of jobs) batches control_lines s.events
+    → AreSoundRecipes s.definitions recipes master_lines → AreSoundOrders (headers_of recipes) jobs batches → AreSoundBatches (headers_of recipes) master_lines (orders_of jobs) batches control_lines s.events → IsSoundGenealogy batches s.movements
     → IsSound (record s { seq = seq; at = at; recipes = recipes; master_lines = master_lines; jobs = jobs; batches = batches; control_lines = control_lines })
-with_production s sound seq at recipes master_lines jobs batches control_lines planned ordered released = record {
+with_production s sound seq at recipes master_lines jobs batches control_lines planned ordered released descended = record {
   classes = sound.classes;
   definitions = sound.definitions;
   lots = sound.lots;
@@ -63,6 +65,7 @@ with_production s sound seq at recipes master_lines jobs batches control_lines p
   recipes = planned;
   orders = ordered;
   batches = released;
+  genealogy = descended;
 }
 
 -- the header of a recipe
@@ -81,6 +84,7 @@ sound_add_recipe s sound t c values line_values version formed product known non
     (recipes_added s.definitions s.recipes s.master_lines sound.recipes r c.lines free values (recursion_from_All HasLineValues c.lines line_values) version formed product known)
     (subst (λ hs. AreSoundOrders hs s.jobs s.batches) back (orders_headed s.definitions s.recipes s.master_lines sound.recipes r c.lines free s.jobs s.batches sound.orders))
     (subst (λ hs. AreSoundBatches hs rows (orders_of s.jobs) s.batches s.control_lines s.events) back (batches_headed s.definitions s.recipes s.master_lines sound.recipes r c.lines free (orders_of s.jobs) s.batches s.control_lines s.events sound.batches))
+    sound.genealogy
 
 -- a recipe whose state goes on
 pub sound_moved : (s : State) → IsSound s → (t : Stamp) (id : List ℕ) (version : ℕ) (to : RecipeState) → IsSound (record s { seq = s.seq + 1; at = t.at; recipes = with_state to (recipe_at s id version) s.recipes })
@@ -91,6 +95,7 @@ sound_moved s sound t id version to =
     (recipes_moved s.definitions s.recipes moved s.master_lines kept (with_state_sorted s.recipes sound.recipes.sorted (recipe_at s id version) to) sound.recipes)
     (subst (λ hs. AreSoundOrders hs s.jobs s.batches) (sym kept) sound.orders)
     (subst (λ hs. AreSoundBatches hs s.master_lines (orders_of s.jobs) s.batches s.control_lines s.events) (sym kept) sound.batches)
+    sound.genealogy
 
 -- ---- orders
 
@@ -125,6 +130,7 @@ sound_import s sound t c values numbers sizes =
     with_production s sound (s.seq + 1) t.at s.recipes s.master_lines (import_orders s t c).jobs s.batches s.control_lines sound.recipes
     (orders_imported headers s.master_lines s.jobs s.batches s.control_lines s.events sound.orders sound.batches new fresh sized good)
     (batches_imported headers s.master_lines s.jobs s.batches s.control_lines s.events sound.orders sound.batches new fresh)
+    sound.genealogy
 
 module _ (s : State) (sound : IsSound s) (id : List ℕ) where
   cancelled : (o : Option Job) → job_at s id ≡ o → is_waiting o ≡ true → AreSoundOrders (headers_of s.recipes) (orders.with_state Cancelled o s.jobs) s.batches
@@ -137,6 +143,7 @@ sound_cancel s sound t c waits =
     with_production s sound (s.seq + 1) t.at s.recipes s.master_lines (cancel_order s t c).jobs s.batches s.control_lines sound.recipes
     (cancelled s sound c.order (job_at s c.order) refl waits)
     (subst (λ os. AreSoundBatches (headers_of s.recipes) s.master_lines os s.batches s.control_lines s.events) (sym kept) sound.batches)
+    sound.genealogy
 
 -- ---- a release
 
@@ -175,3 +182,4 @@ sound_release s sound t c values free waits some =
     with_production s sound (s.seq + 1) t.at s.recipes s.master_lines next.jobs next.batches next.control_lines sound.recipes
     (released s sound b lines free (job_at s c.order) refl waits unstarted)
     (subst (λ os. AreSoundBatches headers s.master_lines os next.batches next.control_lines s.events) (sym kept) (batches_released headers s.master_lines (orders_of s.jobs) s.batches s.control_lines s.events sound.batches b lines free unstarted values scaled))
+    (descent_released s.batches s.movements b sound.genealogy)

@@ -34,6 +34,7 @@ sound_add_class s sound t c =
       recipes = sound.recipes;
       orders = sound.orders;
       batches = sound.batches;
+      genealogy = sound.genealogy;
     }
 
 pub sound_add_definition : (s : State) → IsSound s → (t : Stamp) (c : AddDefinition) → is_some (class_at s c.class) ≡ true → IsSound (add_definition s t c)
@@ -57,4 +58,5 @@ sound_add_definition s sound t c known =
       recipes = recipes_defined s.definitions s.recipes s.master_lines r sound.recipes;
       orders = sound.orders;
       batches = sound.batches;
+      genealogy = sound.genealogy;
     }

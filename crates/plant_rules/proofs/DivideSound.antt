@@ -15,6 +15,7 @@ use Rattle.plant_rules.specs.Booking.{line_of}
 use Rattle.plant_view.specs.Refusing.{standing}
 use Rattle.plant_rules.specs.Division.{next_number, divide}
 use Rattle.plant_view.specs.Sound.{IsSound}
+use Rattle.plant_view.proofs.Descent.{descent_stays}
 use Rattle.plant_view.proofs.KeptSound.{there_still, taking_covered}
 use Rattle.plant_rules.proofs.Division.{next_free, entering_new}
 
@@ -44,4 +45,5 @@ sound_divide s sound t c small known there enough room =
       recipes = sound.recipes;
       orders = sound.orders;
       batches = sound.batches;
+      genealogy = descent_stays s.batches s.movements m sound.genealogy refl refl;
     }

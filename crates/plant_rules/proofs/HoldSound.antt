@@ -52,6 +52,7 @@ sound_hold s sound t c known =
       recipes = sound.recipes;
       orders = sound.orders;
       batches = sound.batches;
+      genealogy = sound.genealogy;
     }
 
 pub sound_unhold : (s : State) → IsSound s → (t : Stamp) (c : UnholdLot) → IsSound (unhold s t c)
@@ -75,4 +76,5 @@ sound_unhold s sound t c =
       recipes = sound.recipes;
       orders = sound.orders;
       batches = sound.batches;
+      genealogy = sound.genealogy;
     }

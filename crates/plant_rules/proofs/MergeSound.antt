@@ -23,6 +23,9 @@ use Rattle.plant_view.specs.Conserve.{is_of_lot}
 use Rattle.plant_rules.specs.Splitting.{def_of}
 use Rattle.plant_rules.specs.Merging.{part_line, part_lines, total_of, def_at, def_of_parts, is_mixed, merge}
 use Rattle.plant_view.specs.Sound.{IsSound, IsThere, IsOneMaterial}
+use Rattle.plant_trace.specs.declared.node.Node.TheVariants as node
+use Rattle.plant_view.specs.Genealogy.{edge_of, batch_by, IsBatchThere}
+use Rattle.plant_view.proofs.Descent.{EdgeHas, descent_grows, keeps_into_new}
 use Rattle.plant_view.proofs.KeptSound.{all_two, lot_stays, of_stays, there_still, entering_small}
 use Rattle.plant_rules.proofs.SplitSound.{def_known}
 use Rattle.plant_rules.proofs.Parting.{AreApart}
@@ -144,4 +147,8 @@ sound_merge s sound t c some apart known there none enough small alike =
       recipes = sound.recipes;
       orders = sound.orders;
       batches = sound.batches;
+      genealogy = descent_grows s.batches ms lines sound.genealogy
+          (all_lines s.seq t c.new (λ m. IsBatchThere s.batches (batch_by m.kind)) (λ q. is_some (lot_at s q.lot) ≡ true) (λ k q known. tt) 1 ps known)
+          (keeps_into_new s sound c.new lines none (all_lines s.seq t c.new (λ m. EdgeHas (λ x y. (y ≡ node.Lot c.new) × (x ≡ node.Lot c.new → ⊥)) (edge_of m)) (λ q. is_some (lot_at s q.lot) ≡ true)
+          (λ k q known. (refl, λ e. let same : q.lot ≡ c.new = cc in false≢true (sym none ∙ ap (λ l. is_some (lot_at s l)) (sym same) ∙ known))) 1 ps known));
     }

@@ -1,5 +1,5 @@
 -- A split keeps a state sound.
-use Rattle.std.proofs.Common.{◌≡◌, ◌∙◌, ℕ, ◌≤◌, true, false, List, Option, Some, None, is_some, refl, sym, ap, arith}
+use Rattle.std.proofs.Common.{◌≡◌, ◌∙◌, ℕ, ◌≤◌, true, false, List, [], ◌∷◌, Option, Some, None, is_some, refl, sym, ap, arith}
 use Rattle.std.specs.Prelude.{◌==◌, ◌&&◌}
 use Rattle.std.proofs.lemmas.Bool.{false≢true}
 use Rattle.plant_base.specs.Values.{greatest_amount, greatest_sublot}
@@ -20,6 +20,7 @@ use Rattle.plant_view.specs.Refusing.{standing}
 use Rattle.plant_view.specs.Conserve.{is_of_lot}
 use Rattle.plant_rules.specs.Splitting.{def_of, split}
 use Rattle.plant_view.specs.Sound.{IsSound}
+use Rattle.plant_view.proofs.Descent.{descent_grows, keeps_into_new}
 use Rattle.plant_view.proofs.KeptSound.{all_two, lot_stays, of_stays, there_still, entering_small, taking_covered}
 
 -- a lot of the definition of one that is there is of its definition
@@ -62,4 +63,6 @@ sound_split s sound t c small known there none enough =
       recipes = sound.recipes;
       orders = sound.orders;
       batches = sound.batches;
+      genealogy = descent_grows s.batches s.movements (m ∷ []) sound.genealogy (tt, tt)
+          (keeps_into_new s sound c.new (m ∷ []) none ((refl, λ e. let same : c.lot ≡ c.new = cc in false≢true (sym none ∙ ap (λ l. is_some (lot_at s l)) (sym same) ∙ known)), tt));
     }

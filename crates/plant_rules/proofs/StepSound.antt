@@ -5,11 +5,11 @@ use Rattle.std.specs.List.Sorted.{IsStrictlySortedBy}
 use Rattle.std.proofs.lemmas.Bool.{ltb-false}
 use Rattle.std.proofs.lemmas.Bool.Decides.{nat_tests}
 use Rattle.plant_base.specs.Values.{greatest_amount, is_amount, is_moment, is_text}
-use Rattle.plant_base.specs.State.{State, opening}
+use Rattle.plant_base.specs.State.{State, opening, control_lines_of}
 use Rattle.plant_base.specs.Formed.{HasValues, HasBodyValues, is_version, are_orders, are_parts, stamp_of}
 use Rattle.plant_base.specs.declared.states.RecipeState.TheVariants.{Approved, Withdrawn}
 use Rattle.plant_base.specs.declared.refusal.Refusal.{Refusal}
-use Rattle.plant_base.specs.declared.refusal.Refusal.TheVariants.{BadForm, MomentBack}
+use Rattle.plant_base.specs.declared.refusal.Refusal.TheVariants.{BadForm, MomentBack, Held, BatchClosed, WrongState, NotInRecipe, OwnProduct, TooMany}
 use Rattle.plant_base.specs.declared.command.Part.{Part}
 use Rattle.plant_base.specs.declared.command.Stamp.{Stamp}
 use Rattle.plant_base.specs.declared.command.Command.{Command}
@@ -17,14 +17,19 @@ use Rattle.plant_base.specs.declared.command.Command.TheVariants as body
 use Rattle.plant_base.specs.declared.command.Envelope.{Envelope}
 use Rattle.plant_base.proofs.Put.{all_weaker}
 use Rattle.plant_stock.specs.Stock.{entered, left}
-use Rattle.plant_view.specs.Refusing.{refuse, standing}
+use Rattle.plant_view.specs.Refusing.{refuse, at_limit, standing, is_held}
+use Rattle.plant_view.specs.Tables.{progress_at}
+use Rattle.plant_rules.specs.Consumption.{is_idle, is_taken, is_own_product}
+use Rattle.plant_rules.specs.Merging.{def_at}
 use Rattle.plant_rules.specs.Wrong.{is_whole, wrong, wrong_body}
 use Rattle.plant_rules.specs.Step.{step, step_body, unless_refused}
 use Rattle.plant_view.specs.Sound.{IsSound}
+use Rattle.plant_trace.proofs.Growing.{first_edge}
+use Rattle.plant_trace.proofs.Leading.{none_in}
 use Rattle.plant_view.proofs.KeptSound.{passed, is_there}
 use Rattle.plant_rules.proofs.CatalogueSound.{sound_add_class, sound_add_definition}
-use Rattle.plant_rules.proofs.ReceiptSound.{sound_receive}
-use Rattle.plant_rules.proofs.ScrapSound.{sound_scrap}
+use Rattle.plant_rules.proofs.BirthSound.{sound_receive, sound_produce}
+use Rattle.plant_rules.proofs.TakingSound.{sound_scrap, sound_consume}
 use Rattle.plant_rules.proofs.DivideSound.{sound_divide}
 use Rattle.plant_rules.proofs.SplitSound.{sound_split}
 use Rattle.plant_production.proofs.ProductionSound.{sound_add_recipe, sound_moved, import_sized, sound_import, sound_cancel, sound_release}
@@ -98,6 +103,30 @@ sound_body s sound t (body.Release c) stamp values formed fine =
     let waits = passed _ _ _ approved.1 in
     let control = passed _ _ _ waits.1 in
     sound_release s sound t c (record { id = values.1; job = values.0; at = stamp.0; by = stamp.1; note = stamp.2 }) new.0 (not_false _ waits.0) control.0
+sound_body s sound t (body.BatchCommand c) stamp values formed fine = absurd cc
+sound_body s sound t (body.Settle c) stamp values formed fine = absurd cc
+sound_body s sound t (body.PhaseDone c) stamp values formed fine = absurd cc
+sound_body s sound t (body.CloseBatch c) stamp values formed fine = absurd cc
+sound_body s sound t (body.Consume c) stamp values formed fine =
+    let own = refuse (is_own_product s c.batch c.lot) OwnProduct (refuse (at_limit s) TooMany None) in
+    let listed = refuse (not (is_taken (control_lines_of s c.batch) (def_at s c.lot))) NotInRecipe own in
+    let begun = refuse (is_idle (progress_at s c.batch).state) WrongState listed in
+    let unended = refuse (progress_at s c.batch).closed BatchClosed begun in
+    let batch = passed _ _ _ fine in
+    let lot = passed _ _ _ batch.1 in
+    let sublot = passed _ _ _ lot.1 in
+    let enough = passed _ _ _ sublot.1 in
+    let free = passed (is_held s c.lot) Held unended enough.1 in
+    let unclosed = passed (progress_at s c.batch).closed BatchClosed begun free.1 in
+    let running = passed (is_idle (progress_at s c.batch).state) WrongState listed unclosed.1 in
+    let taken = passed (not (is_taken (control_lines_of s c.batch) (def_at s c.lot))) NotInRecipe own running.1 in
+    let foreign = passed (is_own_product s c.batch c.lot) OwnProduct (refuse (at_limit s) TooMany None) taken.1 in
+    sound_consume s sound t c (is_there _ batch.0) (is_there _ sublot.0) (ltb-false _ _ enough.0) foreign.0
+sound_body s sound t (body.Produce c) stamp values formed fine =
+    let batch = passed _ _ _ fine in
+    let known = passed _ _ _ batch.1 in
+    let new = passed _ _ _ known.1 in
+    sound_produce s sound t c (amount_small c.amount values.3) (is_there _ batch.0) (is_there _ known.0) new.0
 
 unless_sound : (w : Option Refusal) (s next : State) → IsSound s → (w ≡ None → IsSound next) → IsSound (unless_refused w s next)
 unless_sound None s next sound h = h refl
@@ -130,4 +159,5 @@ opening_sound = record {
   recipes = record { sorted = tt; rows_sorted = tt; whole = tt; listed = tt };
   orders = record { sorted = tt; values = tt; sized = tt; started = tt };
   batches = record { sorted = tt; control_sorted = tt; each = tt; controlled = tt; witnessed = tt };
+  genealogy = record { batched = tt; acyclic = λ x r. let first = first_edge r in none_in (x, first.0) first.1 };
 }

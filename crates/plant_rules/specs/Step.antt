@@ -14,6 +14,7 @@ use Rattle.plant_rules.specs.Scrapping.{scrap}
 use Rattle.plant_rules.specs.Division.{divide}
 use Rattle.plant_rules.specs.Splitting.{split}
 use Rattle.plant_rules.specs.Merging.{merge}
+use Rattle.plant_rules.specs.Consumption.{consume, produce}
 use Rattle.plant_rules.specs.Holding.{hold, unhold}
 use Rattle.plant_production.specs.Recipes.{add_recipe, approve, withdraw}
 use Rattle.plant_production.specs.Orders.{import_orders, cancel_order}
@@ -36,6 +37,12 @@ step_body s t (body.Withdraw c) = withdraw s t c
 step_body s t (body.ImportOrders c) = import_orders s t c
 step_body s t (body.CancelOrder c) = cancel_order s t c
 step_body s t (body.Release c) = release s t c
+step_body s t (body.BatchCommand c) = s
+step_body s t (body.Settle c) = s
+step_body s t (body.PhaseDone c) = s
+step_body s t (body.CloseBatch c) = s
+step_body s t (body.Consume c) = consume s t c
+step_body s t (body.Produce c) = produce s t c
 
 -- the state itself where the command is refused
 abbrev pub unless_refused : Option Refusal → State → State → State

@@ -1,5 +1,5 @@
 -- The first condition that a command fails.
-use Rattle.std.specs.Prelude.{Bool, true, ◌&&◌, not, nat_lt, Option}
+use Rattle.std.specs.Prelude.{Bool, true, ◌&&◌, not, nat_lt, Option, Some}
 use Rattle.plant_base.specs.State.{State}
 use Rattle.plant_base.specs.Formed.{is_formed}
 use Rattle.plant_base.specs.declared.refusal.Refusal.{Refusal}
@@ -15,6 +15,7 @@ use Rattle.plant_rules.specs.Scrapping.{wrong_scrap}
 use Rattle.plant_rules.specs.Division.{wrong_divide}
 use Rattle.plant_rules.specs.Splitting.{wrong_split}
 use Rattle.plant_rules.specs.Merging.{wrong_merge}
+use Rattle.plant_rules.specs.Consumption.{wrong_consume, wrong_produce}
 use Rattle.plant_rules.specs.Holding.{wrong_hold, wrong_unhold}
 use Rattle.plant_production.specs.Recipes.{wrong_add_recipe, wrong_approve, wrong_withdraw}
 use Rattle.plant_production.specs.Orders.{wrong_import_orders, wrong_cancel_order}
@@ -45,6 +46,12 @@ wrong_body s (body.Withdraw c) = wrong_withdraw s c
 wrong_body s (body.ImportOrders c) = wrong_import_orders s c
 wrong_body s (body.CancelOrder c) = wrong_cancel_order s c
 wrong_body s (body.Release c) = wrong_release s c
+wrong_body s (body.BatchCommand c) = Some BadForm
+wrong_body s (body.Settle c) = Some BadForm
+wrong_body s (body.PhaseDone c) = Some BadForm
+wrong_body s (body.CloseBatch c) = Some BadForm
+wrong_body s (body.Consume c) = wrong_consume s c
+wrong_body s (body.Produce c) = wrong_produce s c
 
 -- none where no condition fails
 unfoldable pub wrong : State → Envelope → Option Refusal

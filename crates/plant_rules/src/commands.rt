@@ -4,6 +4,7 @@ ghost use Rattle.plant_base.specs.Values.{greatest_seq};
 ghost use Rattle.plant_base.specs.Formed.{stamp_of};
 ghost use Rattle.plant_trace.specs.Sources.{Told};
 ghost use Rattle.plant_rules.specs.Booking.{line_of};
+ghost use Rattle.plant_rules.specs.Consumption.{is_idle};
 ghost use Rattle.plant_view.specs.Sound.{IsSound};
 ghost use Rattle.plant_rules.specs.Step.{step, step_body};
 ghost use Rattle.plant_view.specs.Tables.{Decides};
@@ -11,9 +12,11 @@ ghost use Rattle.plant_rules.specs.Wrong.{brings_formed, is_whole, wrong, wrong_
 
 mod add_class;
 mod add_definition;
+mod consume;
 mod divide;
 mod hold;
 mod merge;
+mod produce;
 mod receive;
 mod scrap;
 mod split;
@@ -21,16 +24,20 @@ mod unhold;
 
 use add_class::decide_add_class;
 use add_definition::decide_add_definition;
+use consume::decide_consume;
 use divide::decide_divide;
 use hold::decide_hold;
 use merge::decide_merge;
-use plant_base::{Amount, Command, Envelope, Id, Movement, MovementKind, Refusal, Stamp};
+use plant_base::{
+    Amount, BatchState, Command, Envelope, Id, Movement, MovementKind, Refusal, Stamp,
+};
 use plant_production::{
     decide_add_recipe, decide_approve, decide_cancel_order, decide_import_orders, decide_release,
     decide_withdraw,
 };
 use plant_recipe::is_well_formed;
 use plant_view::{Decision, RowChange, View, ViewFault, look};
+use produce::decide_produce;
 use receive::decide_receive;
 use scrap::decide_scrap;
 use split::decide_split;
@@ -91,6 +98,12 @@ fn decide_body<V: View>(
         Command::ImportOrders(c) => decide_import_orders(alloc, view, seq, stamp, c),
         Command::CancelOrder(c) => decide_cancel_order(alloc, view, seq, stamp, c),
         Command::Release(c) => decide_release(alloc, view, seq, stamp, c),
+        Command::BatchCommand(_)
+        | Command::Settle(_)
+        | Command::PhaseDone(_)
+        | Command::CloseBatch(_) => Ok(Decision::Refused(Refusal::BadForm)),
+        Command::Consume(c) => decide_consume(alloc, view, seq, stamp, c),
+        Command::Produce(c) => decide_produce(alloc, view, seq, stamp, c),
     }
 }
 
@@ -108,6 +121,15 @@ fn brings_formed(body: &Command) -> bool
         Command::AddRecipe(c) => is_well_formed(&c.header, c.lines.as_slice()),
         _ => true,
     }
+}
+
+// ---- batches
+
+// Whether a batch hasn't begun its attempt.
+fn is_idle(state: BatchState) -> bool
+    ensures { result ≡ is_idle state }
+{
+    matches!(state, BatchState::Idle)
 }
 
 // ---- rows

@@ -81,7 +81,7 @@ fn forward_from(alloc: Global, source: &mut Indexed, start: Node) -> Result<Vec<
 }
 
 /// Whether a list has a node.
-fn has(nodes: &[Node], node: Node) -> bool
+pub fn has(nodes: &[Node], node: Node) -> bool
     ensures { IsTrue result ↔ Contains nodes.now node }
 {
     nodes.contains(&node)

@@ -15,7 +15,7 @@ mod seen;
 mod steps;
 mod worklist;
 
-pub use cycles::acyclic;
+pub use cycles::{acyclic, has};
 pub use direction::Direction;
 pub use edges::Edges;
 pub use fault::TraceFault;

@@ -4,12 +4,13 @@ use Rattle.std.specs.List.{AllByRecursion, filter_map, cons_option}
 use Rattle.std.proofs.lemmas.Bool.{false≢true}
 use Rattle.std.proofs.lemmas.List.{append-nil}
 use Rattle.std.proofs.lemmas.List.Elements.{filter_map-append}
-use Rattle.plant_base.specs.State.{State, lot_at}
+use Rattle.plant_base.specs.State.{State, put, batch_order, lot_at}
 use Rattle.plant_base.specs.declared.rows.Batch.{Batch}
 use Rattle.plant_base.specs.declared.rows.Movement.{Movement}
 use Rattle.plant_base.specs.declared.rows.MovementKind.{MovementKind}
 use Rattle.plant_base.specs.declared.rows.MovementKind.TheVariants as kind
 use Rattle.plant_base.proofs.Put.{all_weaker}
+use Rattle.plant_base.proofs.Keys.{id_still}
 use Rattle.plant_stock.specs.Stock.{comes_from}
 use Rattle.plant_trace.specs.Reach.{Reach, HasEdge, IsAcyclic, leads}
 use Rattle.plant_trace.specs.Growth.{KeepsAcyclic, IsEnd}
@@ -83,3 +84,15 @@ keeps_into_batch pairs lot batch apart =
       apart = λ x y e f. let clash : node.Lot lot ≡ node.Batch batch = sym (one x y e).0 ∙ f in absurd cc;
       ahead = λ x y e r. false≢true (sym apart ∙ (leads_where_reached pairs (node.Batch batch) (node.Lot lot)).1 (subst (Reach (HasEdge pairs) (node.Batch batch)) (one x y e).0 r));
     })
+
+-- ---- a batch that is added
+
+still_there : (b : Batch) (batches : List Batch) (named : Option (List ℕ)) → IsBatchThere batches named → IsBatchThere (put batch_order b batches) named
+still_there b batches None there = tt
+still_there b batches (Some id) there = id_still (λ (x : Batch). x.id) b batches id there
+
+pub descent_released : (batches : List Batch) (ms : List Movement) (b : Batch) → IsSoundGenealogy batches ms → IsSoundGenealogy (put batch_order b batches) ms
+descent_released batches ms b g = record {
+  batched = all_weaker _ _ (λ (m : Movement) there. still_there b batches (batch_by m.kind) there) ms g.batched;
+  acyclic = g.acyclic;
+}

@@ -70,6 +70,10 @@ row_at b p = record { batch = b; state = p.state; attempt = p.attempt; next = p.
 abbrev pub batch_row : List ControlLine → List BatchEvent → Batch → BatchRow
 batch_row lines es b = row_at b (progress_after (phases_among lines b.id) (events_among es b.id))
 
+-- the progress of a batch: the fold of its events
+abbrev pub progress_at : State → List ℕ → Progress
+progress_at s batch = progress_after (phases_among s.control_lines batch) (events_among s.events batch)
+
 abbrev pub batch_row_order : BatchRow → BatchRow → Ordering
 batch_row_order a b = batch_order a.batch b.batch
 

@@ -1,6 +1,7 @@
 -- The recipes, orders and batches of the states that commands lead to.
 use Rattle.std.specs.Prelude.{◌≡◌, ℕ, Bool, true, false, ◌&&◌, ◌==◌, List, map, filter, find, Option, Some, None, is_some}
 use Rattle.std.specs.List.{AllByRecursion}
+use Rattle.std.specs.Result.{is_ok}
 use Rattle.std.specs.List.Sorted.{IsStrictlySortedBy}
 use Rattle.plant_base.specs.State.{same, recipe_order, master_line_order, job_order, batch_order, control_line_order}
 use Rattle.plant_base.specs.Values.{is_id, is_text, is_moment}
@@ -20,7 +21,9 @@ use Rattle.plant_base.specs.declared.rows.ControlLine.{ControlLine}
 use Rattle.plant_base.specs.declared.rows.BatchEvent.{BatchEvent}
 use Rattle.plant_recipe.specs.Form.{is_well_formed}
 use Rattle.plant_recipe.specs.Control.{is_size_of, control_of}
+use Rattle.plant_recipe.specs.Progress.{run_of, progress_after}
 use Rattle.plant_view.specs.Rows.{numbered}
+use Rattle.plant_view.specs.Tables.{phases_among, events_among}
 
 -- ---- lines
 
@@ -150,3 +153,27 @@ pub record AreSoundBatches (headers : List Header) (rows : List MasterLine) (ord
   pub each : AllByRecursion (IsSoundBatch headers rows orders batches control) batches
   pub controlled : AllByRecursion (λ l. is_batch_among batches l.batch ≡ true) control
   pub witnessed : AllByRecursion (λ e. is_batch_among batches e.batch ≡ true) events
+
+-- ---- what happened to batches
+
+abbrev pub job_among : List Job → List ℕ → Option Job
+job_among jobs id = find (λ j. same j.order.order id) jobs
+
+abbrev pub is_finished : JobState → Bool
+is_finished Open = false
+is_finished Cancelled = false
+is_finished Released = false
+is_finished Finished = true
+
+-- the order is there, and finished
+abbrev pub has_finished : Option Job → Bool
+has_finished None = false
+has_finished (Some job) = is_finished job.state
+
+-- each event of the batch was allowed at its place, and the batch is closed exactly where its order is finished
+pub record IsSoundRun (jobs : List Job) (control : List ControlLine) (events : List BatchEvent) (b : Batch) : Type 0 where
+  pub allowed : is_ok (run_of (phases_among control b.id) (events_among events b.id)) ≡ true
+  pub finished : (progress_after (phases_among control b.id) (events_among events b.id)).closed ≡ has_finished (job_among jobs b.job)
+
+abbrev pub AreSoundRuns : List Job → List Batch → List ControlLine → List BatchEvent → Type 0
+AreSoundRuns jobs batches control events = AllByRecursion (IsSoundRun jobs control events) batches

@@ -8,6 +8,7 @@ use Rattle.plant_stock.specs.Stock.{goes_to, comes_from, entered, left}
 use Rattle.plant_view.specs.Conserve.{is_of}
 use Rattle.plant_view.specs.Genealogy.{IsSoundGenealogy}
 use Rattle.plant_view.specs.Production.{AreSoundRecipes, AreSoundOrders, AreSoundBatches, headers_of, orders_of}
+use Rattle.plant_view.specs.Production.{AreSoundRecipes, AreSoundOrders, AreSoundBatches, AreSoundRuns, headers_of, orders_of}
 
 -- the sublot, where one is named, is there
 abbrev pub IsThere : State → Option (List ℕ × ℕ) → Type 0
@@ -45,3 +46,4 @@ pub record IsSound (s : State) : Type 0 where
   pub batches : AreSoundBatches (headers_of s.recipes) s.master_lines (orders_of s.jobs) s.batches s.control_lines s.events
   -- where goods came from
   pub genealogy : IsSoundGenealogy s.batches s.movements
+  pub runs : AreSoundRuns s.jobs s.batches s.control_lines s.events

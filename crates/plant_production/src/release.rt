@@ -10,6 +10,7 @@ ghost use Rattle.plant_view.specs.Sound.{IsSound};
 ghost use Rattle.plant_view.specs.Tables.{Decides, row_at};
 
 use crate::advance::is_state;
+use crate::events::row_at;
 use crate::orders::{is_open, is_size_of};
 use plant_base::{
     Amount, Batch, BatchRow, ControlLine, GREATEST_SEQ, Header, Items, Job, JobState, MasterLine,
@@ -185,12 +186,5 @@ fn opened(stamp: &Stamp, c: &Release) -> BatchRow
         by: stamp.by,
         note: stamp.note,
     };
-    let progress = Progress::opening();
-    BatchRow {
-        batch,
-        state: progress.state,
-        attempt: progress.attempt,
-        next: progress.next,
-        closed: progress.closed,
-    }
+    row_at(batch, Progress::opening())
 }

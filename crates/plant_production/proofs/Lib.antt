@@ -1,3 +1,4 @@
+pub mod BatchTables
 pub mod ControlMade
 pub mod OrderTables
 pub mod OrdersKept

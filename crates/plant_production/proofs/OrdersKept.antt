@@ -84,7 +84,8 @@ module _ (headers : List Header) (jobs : List Job) (batches : List Batch) (sound
 
 -- ---- new orders
 
-some_order : (headers : List Header) (rows : List MasterLine) (o : Option OrderRow) (lines : List RecipeLine) → control_of_order headers rows o ≡ Some lines → is_some o ≡ true
+-- an order that has a control recipe is there
+pub some_order : (headers : List Header) (rows : List MasterLine) (o : Option OrderRow) (lines : List RecipeLine) → control_of_order headers rows o ≡ Some lines → is_some o ≡ true
 some_order headers rows None lines e = absurd cc
 some_order headers rows (Some o) lines e = refl
 

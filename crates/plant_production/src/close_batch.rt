@@ -32,7 +32,8 @@ pub fn decide_close_batch<V: View>(
     let Some(row) = look::batch(view, c.batch)? else {
         return Ok(Decision::Refused(Refusal::UnknownBatch));
     };
-    let job = look::job(view, row.batch.job)?;
+    let batch = row.batch;
+    let job = look::job(view, batch.job)?;
     Ok(closed(alloc, seq, stamp, c, row, job)?)
 }
 

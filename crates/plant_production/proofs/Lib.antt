@@ -6,3 +6,4 @@ pub mod ProductionSound
 pub mod RecipeTables
 pub mod RecipesKept
 pub mod ReleaseTables
+pub mod RunsKept

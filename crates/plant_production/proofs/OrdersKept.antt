@@ -25,7 +25,7 @@ use Rattle.plant_base.proofs.Keys.{same_id, same_itself, id_total, id_tie, id_st
 use Rattle.plant_production.specs.Orders.{is_open, opened, with_state}
 use Rattle.plant_view.specs.Production.{control_line}
 use Rattle.plant_view.specs.Rows.{numbered, put_all}
-use Rattle.plant_view.specs.Production.{header_among, orders_of, order_among, batch_among, is_size_of_some, has_batch, HasGoodOrder, AreSoundOrders, control_among, control_of_order, HasBatchValues, IsSoundBatch, is_batch_among, AreSoundBatches}
+use Rattle.plant_view.specs.Production.{header_among, orders_of, order_among, batch_among, job_among, is_size_of_some, has_batch, HasGoodOrder, AreSoundOrders, control_among, control_of_order, HasBatchValues, IsSoundBatch, is_batch_among, AreSoundBatches}
 use Rattle.plant_view.proofs.Rows.{all_mapped, all_unmapped, none_passes, none_left, sorted_mapped, find_mapped, all_put_apart, found_past, found_past_all, all_put_all, sorted_put_all, filter_past_all, filter_new_all, all_numbered, map_numbered, sorted_numbered}
 use Rattle.plant_view.proofs.RowKeys.{order_row_order, control_line_order_total, control_batch_tied, ids_apart, control_rises}
 use Rattle.plant_view.proofs.KeptSound.{all_two}
@@ -41,7 +41,7 @@ job_order_total = id_total (λ (j : Job). j.order.order)
 pub batch_order_total : IsTotalOrder batch_order
 batch_order_total = id_total (λ (b : Batch). b.id)
 
-job_tied : (id : List ℕ) (a b : Job) → job_order a b ≡ Equal → same a.order.order id ≡ same b.order.order id
+pub job_tied : (id : List ℕ) (a b : Job) → job_order a b ≡ Equal → same a.order.order id ≡ same b.order.order id
 job_tied id a b e = ap (λ i. same i id) (id_tie (λ (j : Job). j.order.order) a b e)
 
 -- the order of a job that is found
@@ -72,14 +72,15 @@ module _ (headers : List Header) (jobs : List Job) (batches : List Batch) (sound
   pub open_has_none : (id : List ℕ) (j : Job) → find (λ (x : Job). same x.order.order id) jobs ≡ Some j → is_open j.state ≡ true → is_some (batch_among batches j.order.order) ≡ false
   open_has_none id j found waits = found_keeps (λ (x : Job). is_some (batch_among batches x.order.order) ≡ has_batch x.state) _ jobs j sound.started found ∙ open_is_free j.state waits
 
-  pub orders_cancelled : (id : List ℕ) (j : Job) → find (λ (x : Job). same x.order.order id) jobs ≡ Some j → is_open j.state ≡ true → AreSoundOrders headers (put job_order (record { order = j.order; state = Cancelled }) jobs) batches
-  orders_cancelled id j found waits =
-      let r : Job = record { order = j.order; state = Cancelled } in
+  -- an order goes on to a state that has a batch where it has one
+  pub orders_moved : (id : List ℕ) (j : Job) → find (λ (x : Job). same x.order.order id) jobs ≡ Some j → (to : JobState) → is_some (batch_among batches j.order.order) ≡ has_batch to → AreSoundOrders headers (put job_order (record { order = j.order; state = to }) jobs) batches
+  orders_moved id j found to stands =
+      let r : Job = record { order = j.order; state = to } in
       record {
         sorted = sorted_put job_order job_order_total r jobs sound.sorted;
-        values = subst (AllByRecursion HasGoodOrder) (sym (orders_same jobs sound.sorted id (Some j) found Cancelled)) sound.values;
-        sized = subst (AllByRecursion (λ (o : OrderRow). is_size_of_some (header_among headers o.recipe o.version) o.size ≡ true)) (sym (orders_same jobs sound.sorted id (Some j) found Cancelled)) sound.sized;
-        started = all_put job_order (λ (x : Job). is_some (batch_among batches x.order.order) ≡ has_batch x.state) r jobs (open_has_none id j found waits) sound.started;
+        values = subst (AllByRecursion HasGoodOrder) (sym (orders_same jobs sound.sorted id (Some j) found to)) sound.values;
+        sized = subst (AllByRecursion (λ (o : OrderRow). is_size_of_some (header_among headers o.recipe o.version) o.size ≡ true)) (sym (orders_same jobs sound.sorted id (Some j) found to)) sound.sized;
+        started = all_put job_order (λ (x : Job). is_some (batch_among batches x.order.order) ≡ has_batch x.state) r jobs stands sound.started;
       }
 
 -- ---- new orders
@@ -107,12 +108,19 @@ module _ (headers : List Header) (rows : List MasterLine) (jobs : List Job) (bat
     abbrev imported : List Job
     imported = put_all job_order (map opened new) jobs
 
-    -- the orders that are there are found as before
-    order_stays : (id : List ℕ) → is_there id ≡ true → order_among (orders_of imported) id ≡ order_among (orders_of jobs) id
-    order_stays id known =
+    -- the jobs that are there are found as before, and so are their orders
+    job_stays : (id : List ℕ) → is_there id ≡ true → job_among imported id ≡ job_among jobs id
+    job_stays id known =
         let test = λ (j : Job). same j.order.order id in
         let others = all_mapped (λ (j : Job). test j ≡ false) opened new (all_weaker _ _ (λ (o : OrderRow) none. (ids_apart is_there id o.order known none).1) new fresh) in
-        order_of_job imported id ∙ ap (option_map (λ (j : Job). j.order)) (found_past_all job_order job_order_total test (job_tied id) (map opened new) jobs others) ∙ sym (order_of_job jobs id)
+        found_past_all job_order job_order_total test (job_tied id) (map opened new) jobs others
+
+    order_stays : (id : List ℕ) → is_there id ≡ true → order_among (orders_of imported) id ≡ order_among (orders_of jobs) id
+    order_stays id known = order_of_job imported id ∙ ap (option_map (λ (j : Job). j.order)) (job_stays id known) ∙ sym (order_of_job jobs id)
+
+    -- those of the batches are
+    pub jobs_imported : AllByRecursion (λ (b : Batch). job_among imported b.job ≡ job_among jobs b.job) batches
+    jobs_imported = all_weaker _ _ (λ (b : Batch) w. job_stays b.job (some_order headers rows (order_among (orders_of jobs) b.job) _ w.scaled)) batches own.each
 
     pub orders_imported : AllByRecursion (λ (o : OrderRow). is_size_of_some (header_among headers o.recipe o.version) o.size ≡ true) new → AllByRecursion HasGoodOrder new → AreSoundOrders headers imported batches
     orders_imported sized values =

@@ -66,11 +66,11 @@ pub apart_batches : (p q : Batch) → is_eq (batch_order p q) ≡ false → same
 apart_batches p q e = texts_ties p.id q.id ∙ e
 
 module _ (s : State) (sound : IsSound s) (b : Batch) (free : is_batch_among s.batches b.id ≡ false) (lines : List RecipeLine) where
-  abbrev after : List ControlLine
+  abbrev pub after : List ControlLine
   after = put_all control_line_order (numbered (control_line b.id) 1 lines) s.control_lines
 
   -- another batch keeps its phases
-  phases_stay : (q : Batch) → is_eq (batch_order b q) ≡ false → phases_among s.control_lines q.id ≡ phases_among after q.id
+  pub phases_stay : (q : Batch) → is_eq (batch_order b q) ≡ false → phases_among s.control_lines q.id ≡ phases_among after q.id
   phases_stay q apart =
       let own = λ (l : ControlLine). same l.batch q.id in
       let phase = λ (l : ControlLine). is_phase l.line in
@@ -78,7 +78,7 @@ module _ (s : State) (sound : IsSound s) (b : Batch) (free : is_batch_among s.ba
       ap length (filter_both own phase s.control_lines) ∙ ap (λ ls. length (filter phase ls)) (sym past) ∙ sym (ap length (filter_both own phase after))
 
   -- a batch that isn't there has no events
-  no_events : events_among s.events b.id ≡ []
+  pub no_events : events_among s.events b.id ≡ []
   no_events = ap (map (λ (e : BatchEvent). e.event)) (none_left (λ (e : BatchEvent). same e.batch b.id) s.events (all_weaker _ _ (λ (e : BatchEvent) known. (ids_apart (is_batch_among s.batches) e.batch b.id known free).0) s.events sound.batches.witnessed))
 
   begins : row_at b opening_progress ≡ batch_row after s.events b

@@ -1,7 +1,6 @@
 -- The recipes, orders and batches of the states that commands lead to.
-use Rattle.std.specs.Prelude.{◌≡◌, ℕ, Bool, true, false, ◌&&◌, ◌==◌, List, map, filter, find, Option, Some, None, is_some}
+use Rattle.std.specs.Prelude.{◌≡◌, ℕ, Bool, true, false, ◌&&◌, ◌==◌, List, map, filter, find, Option, Some, None, is_some, IsOk}
 use Rattle.std.specs.List.{AllByRecursion}
-use Rattle.std.specs.Result.{is_ok}
 use Rattle.std.specs.List.Sorted.{IsStrictlySortedBy}
 use Rattle.plant_base.specs.State.{same, recipe_order, master_line_order, job_order, batch_order, control_line_order}
 use Rattle.plant_base.specs.Values.{is_id, is_text, is_moment}
@@ -172,7 +171,7 @@ has_finished (Some job) = is_finished job.state
 
 -- each event of the batch was allowed at its place, and the batch is closed exactly where its order is finished
 pub record IsSoundRun (jobs : List Job) (control : List ControlLine) (events : List BatchEvent) (b : Batch) : Type 0 where
-  pub allowed : is_ok (run_of (phases_among control b.id) (events_among events b.id)) ≡ true
+  pub allowed : IsOk (run_of (phases_among control b.id) (events_among events b.id))
   pub finished : (progress_after (phases_among control b.id) (events_among events b.id)).closed ≡ has_finished (job_among jobs b.job)
 
 abbrev pub AreSoundRuns : List Job → List Batch → List ControlLine → List BatchEvent → Type 0

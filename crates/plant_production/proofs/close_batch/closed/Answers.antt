@@ -33,8 +33,7 @@ returns c = λ s sound seq row job.
     let turn = rw c.progress_in.ensures at (sym c.apply.ensures ∙ c.in-Ok.is) in
     let allowed = rw (progress_found s c.args.c.now.batch c.args.row found.0 found.1 found.2) at turn in
     let known = ap (λ r. job_at s r.batch.job) (sym found.2) ∙ sym job ∙ c.in-Some.is in
-    let tables = close_tables s sound c.args.stamp.now c.args.c.now found.0 c.in-Some.job c.in-Ok.next found.1 known allowed in
-    (
+    let tables = close_tables s sound c.args.stamp.now c.args.c.now found.0 c.in-Some.job c.in-Ok.next found.1 known allowed in (
       close_decided s c.args.c.now c.args.row found.0 found.1 found.2 c.if-row.false (omega (arith, seq, c.if-seq-ge-GREATEST_SEQ.false)) ∙ ap (λ r. refuse_turn r None) turn,
       rw (c.in_ok-changes.ensures, c.meta_after.ensures, c.event_row.ensures, c.row_at.ensures, ap (λ r. r.batch) found.2, seq) tables,
     )

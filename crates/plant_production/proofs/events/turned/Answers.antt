@@ -20,8 +20,7 @@ returns c = λ s sound seq row lines.
     let found = found_row _ (batch_at s c.args.batch) c.in-Some.row (sym c.in-Some.is ∙ row) in
     let turn = turn_found s c.args.batch c.in-Some.row found.0 found.1 found.2 c.args.event c.args.lines.now lines in
     let allowed = sym turn ∙ rw (c.progress_in.ensures, c.phases_of.ensures) at (sym c.apply.ensures ∙ c.in-Ok.is) in
-    let tables = event_tables s sound c.args.stamp.now c.args.batch c.args.event found.0 found.1 c.in-Ok.next allowed in
-    (
+    let tables = event_tables s sound c.args.stamp.now c.args.batch c.args.event found.0 found.1 c.in-Ok.next allowed in (
       event_fine s c.args.batch c.in-Some.row found.0 found.1 found.2 c.args.event c.in-Ok.next allowed (omega (arith, seq, c.if-seq-ge-GREATEST_SEQ.false)),
       rw (c.in_ok-changes.ensures, c.meta_after.ensures, c.event_row.ensures, c.row_at.ensures, ap (λ r. r.batch) found.2, seq) tables,
     )

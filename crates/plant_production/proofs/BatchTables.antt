@@ -39,7 +39,8 @@ use Rattle.plant_view.specs.Tables.{tables_of, changed_all, row_at, batch_row, b
 use Rattle.plant_view.specs.Production.{headers_of, orders_of, order_among, IsSoundBatch}
 use Rattle.plant_view.proofs.Rows.{all_of, some_mapped}
 use Rattle.plant_production.specs.Orders.{with_state}
-use Rattle.plant_production.specs.Batches.{progress_at, turn_at, progress_in, refuse_turn, wrong_event, event_row, happened, wrong_close_batch, job_of, close_batch}
+use Rattle.plant_production.specs.Batches.{turn_at, progress_in, refuse_turn, wrong_event, event_row, happened, wrong_close_batch, job_of, close_batch}
+use Rattle.plant_view.specs.Tables.{progress_at}
 use Rattle.plant_production.proofs.OrdersKept.{order_of_job, some_order}
 use Rattle.plant_production.proofs.ReleaseTables.{filter_both, apart_batches}
 

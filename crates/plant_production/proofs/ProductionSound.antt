@@ -40,7 +40,8 @@ use Rattle.plant_view.specs.Production.{is_known}
 use Rattle.plant_production.specs.Recipes.{with_state, add_recipe}
 use Rattle.plant_production.specs.Orders.{conflicts, wrong_import_orders, is_size_in, new_orders, is_waiting, import_orders, cancel_order}
 use Rattle.plant_production.specs.Orders as orders
-use Rattle.plant_production.specs.Batches.{progress_at, turn_at, refuse_turn, wrong_event, event_row, happened, wrong_close_batch, job_of, close_batch}
+use Rattle.plant_production.specs.Batches.{turn_at, refuse_turn, wrong_event, event_row, happened, wrong_close_batch, job_of, close_batch}
+use Rattle.plant_view.specs.Tables.{progress_at}
 use Rattle.plant_production.specs.Releasing.{control_by, control_for, lines_in, released_batch, release}
 use Rattle.plant_view.specs.Production.{HasGoodOrder, HasBatchValues, headers_of, header_among, AreSoundRecipes, orders_of, order_among, batch_among, is_size_of_some, AreSoundOrders, control_from, control_of_order, IsSoundBatch, is_batch_among, AreSoundBatches, has_finished, AreSoundRuns}
 use Rattle.plant_view.specs.Genealogy.{IsSoundGenealogy}

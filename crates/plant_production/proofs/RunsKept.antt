@@ -32,7 +32,8 @@ use Rattle.plant_view.specs.Tables.{phases_among, events_among}
 use Rattle.plant_view.proofs.KeptSound.{all_two}
 use Rattle.plant_view.proofs.RowKeys.{ids_apart}
 use Rattle.plant_view.proofs.Rows.{all_of, all_put_apart, found_own}
-use Rattle.plant_production.specs.Batches.{progress_at, turn_at, event_row}
+use Rattle.plant_production.specs.Batches.{turn_at, event_row}
+use Rattle.plant_view.specs.Tables.{progress_at}
 use Rattle.plant_production.proofs.BatchTables.{own_event, other_event, batch_key, put_batch_there}
 use Rattle.plant_production.proofs.OrdersKept.{job_tied, job_order_total, batch_order_total}
 use Rattle.plant_production.proofs.ReleaseTables as releasing

@@ -18,18 +18,14 @@ use Rattle.plant_base.specs.declared.command.Settle.{Settle}
 use Rattle.plant_base.specs.declared.command.PhaseDone.{PhaseDone}
 use Rattle.plant_base.specs.declared.command.CloseBatch.{CloseBatch}
 use Rattle.plant_recipe.specs.declared.progress.Progress.{Progress}
-use Rattle.plant_recipe.specs.Progress.{is_ended, turn, progress_after}
+use Rattle.plant_recipe.specs.Progress.{is_ended, turn}
 use Rattle.plant_view.specs.Refusing.{refuse, at_limit}
-use Rattle.plant_view.specs.Tables.{phases_among, events_among}
+use Rattle.plant_view.specs.Tables.{phases_among, progress_at}
 use Rattle.plant_production.specs.Orders.{with_state}
 
 -- ---- the progress of a batch
 
--- the fold of its events
-abbrev pub progress_at : State → List ℕ → Progress
-progress_at s batch = progress_after (phases_among s.control_lines batch) (events_among s.events batch)
-
--- what an event makes of it, or the first condition that the event fails
+-- what an event makes of the progress of a batch, or the first condition that the event fails
 abbrev pub turn_at : State → List ℕ → Event → Result Progress Refusal
 turn_at s batch e = turn (phases_among s.control_lines batch) (progress_at s batch) e
 

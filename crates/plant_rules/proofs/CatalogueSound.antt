@@ -34,6 +34,7 @@ sound_add_class s sound t c =
       recipes = sound.recipes;
       orders = sound.orders;
       batches = sound.batches;
+      runs = sound.runs;
       genealogy = sound.genealogy;
     }
 
@@ -58,5 +59,6 @@ sound_add_definition s sound t c known =
       recipes = recipes_defined s.definitions s.recipes s.master_lines r sound.recipes;
       orders = sound.orders;
       batches = sound.batches;
+      runs = sound.runs;
       genealogy = sound.genealogy;
     }

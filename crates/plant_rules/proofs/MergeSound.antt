@@ -147,6 +147,7 @@ sound_merge s sound t c some apart known there none enough small alike =
       recipes = sound.recipes;
       orders = sound.orders;
       batches = sound.batches;
+      runs = sound.runs;
       genealogy = descent_grows s.batches ms lines sound.genealogy
           (all_lines s.seq t c.new (λ m. IsBatchThere s.batches (batch_by m.kind)) (λ q. is_some (lot_at s q.lot) ≡ true) (λ k q known. tt) 1 ps known)
           (keeps_into_new s sound c.new lines none (all_lines s.seq t c.new (λ m. EdgeHas (λ x y. (y ≡ node.Lot c.new) × (x ≡ node.Lot c.new → ⊥)) (edge_of m)) (λ q. is_some (lot_at s q.lot) ≡ true)

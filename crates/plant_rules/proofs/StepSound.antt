@@ -10,6 +10,8 @@ use Rattle.plant_base.specs.Formed.{HasValues, HasBodyValues, is_version, are_or
 use Rattle.plant_base.specs.declared.states.RecipeState.TheVariants.{Approved, Withdrawn}
 use Rattle.plant_base.specs.declared.refusal.Refusal.{Refusal}
 use Rattle.plant_base.specs.declared.refusal.Refusal.TheVariants.{BadForm, MomentBack, Held, BatchClosed, WrongState, NotInRecipe, OwnProduct, TooMany}
+use Rattle.plant_base.specs.declared.states.Word.TheVariants.{Done}
+use Rattle.plant_base.specs.declared.states.Event.TheVariants as event
 use Rattle.plant_base.specs.declared.command.Part.{Part}
 use Rattle.plant_base.specs.declared.command.Stamp.{Stamp}
 use Rattle.plant_base.specs.declared.command.Command.{Command}
@@ -32,7 +34,7 @@ use Rattle.plant_rules.proofs.BirthSound.{sound_receive, sound_produce}
 use Rattle.plant_rules.proofs.TakingSound.{sound_scrap, sound_consume}
 use Rattle.plant_rules.proofs.DivideSound.{sound_divide}
 use Rattle.plant_rules.proofs.SplitSound.{sound_split}
-use Rattle.plant_production.proofs.ProductionSound.{sound_add_recipe, sound_moved, import_sized, sound_import, sound_cancel, sound_release}
+use Rattle.plant_production.proofs.ProductionSound.{sound_add_recipe, sound_moved, import_sized, sound_import, sound_cancel, sound_release, sound_event, sound_close}
 use Rattle.plant_view.proofs.Tests.{and_left, and_right, each_fails, not_false}
 use Rattle.plant_rules.proofs.Parting.{formed_apart, formed_some, parts_there, parts_ready, parts_pass}
 use Rattle.plant_rules.proofs.MergeSound.{sound_merge}
@@ -103,10 +105,10 @@ sound_body s sound t (body.Release c) stamp values formed fine =
     let waits = passed _ _ _ approved.1 in
     let control = passed _ _ _ waits.1 in
     sound_release s sound t c (record { id = values.1; job = values.0; at = stamp.0; by = stamp.1; note = stamp.2 }) new.0 (not_false _ waits.0) control.0
-sound_body s sound t (body.BatchCommand c) stamp values formed fine = absurd cc
-sound_body s sound t (body.Settle c) stamp values formed fine = absurd cc
-sound_body s sound t (body.PhaseDone c) stamp values formed fine = absurd cc
-sound_body s sound t (body.CloseBatch c) stamp values formed fine = absurd cc
+sound_body s sound t (body.BatchCommand c) stamp values formed fine = sound_event s sound t c.batch (event.Moved c.word) refl fine
+sound_body s sound t (body.Settle c) stamp values formed fine = sound_event s sound t c.batch (event.Moved Done) refl fine
+sound_body s sound t (body.PhaseDone c) stamp values formed fine = sound_event s sound t c.batch (event.PhaseDone c.phase) refl fine
+sound_body s sound t (body.CloseBatch c) stamp values formed fine = sound_close s sound t c fine
 sound_body s sound t (body.Consume c) stamp values formed fine =
     let own = refuse (is_own_product s c.batch c.lot) OwnProduct (refuse (at_limit s) TooMany None) in
     let listed = refuse (not (is_taken (control_lines_of s c.batch) (def_at s c.lot))) NotInRecipe own in
@@ -159,5 +161,6 @@ opening_sound = record {
   recipes = record { sorted = tt; rows_sorted = tt; whole = tt; listed = tt };
   orders = record { sorted = tt; values = tt; sized = tt; started = tt };
   batches = record { sorted = tt; control_sorted = tt; each = tt; controlled = tt; witnessed = tt };
+  runs = tt;
   genealogy = record { batched = tt; acyclic = λ x r. let first = first_edge r in none_in (x, first.0) first.1 };
 }

@@ -19,6 +19,7 @@ use Rattle.plant_rules.specs.Holding.{hold, unhold}
 use Rattle.plant_production.specs.Recipes.{add_recipe, approve, withdraw}
 use Rattle.plant_production.specs.Orders.{import_orders, cancel_order}
 use Rattle.plant_production.specs.Releasing.{release}
+use Rattle.plant_production.specs.Batches.{command_batch, settle, phase_done, close_batch}
 
 -- what an accepted command makes of the state
 abbrev pub step_body : State → Stamp → Command → State
@@ -37,10 +38,10 @@ step_body s t (body.Withdraw c) = withdraw s t c
 step_body s t (body.ImportOrders c) = import_orders s t c
 step_body s t (body.CancelOrder c) = cancel_order s t c
 step_body s t (body.Release c) = release s t c
-step_body s t (body.BatchCommand c) = s
-step_body s t (body.Settle c) = s
-step_body s t (body.PhaseDone c) = s
-step_body s t (body.CloseBatch c) = s
+step_body s t (body.BatchCommand c) = command_batch s t c
+step_body s t (body.Settle c) = settle s t c
+step_body s t (body.PhaseDone c) = phase_done s t c
+step_body s t (body.CloseBatch c) = close_batch s t c
 step_body s t (body.Consume c) = consume s t c
 step_body s t (body.Produce c) = produce s t c
 

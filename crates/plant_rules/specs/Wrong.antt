@@ -1,5 +1,5 @@
 -- The first condition that a command fails.
-use Rattle.std.specs.Prelude.{Bool, true, ◌&&◌, not, nat_lt, Option, Some}
+use Rattle.std.specs.Prelude.{Bool, true, ◌&&◌, not, nat_lt, Option}
 use Rattle.plant_base.specs.State.{State}
 use Rattle.plant_base.specs.Formed.{is_formed}
 use Rattle.plant_base.specs.declared.refusal.Refusal.{Refusal}
@@ -20,6 +20,7 @@ use Rattle.plant_rules.specs.Holding.{wrong_hold, wrong_unhold}
 use Rattle.plant_production.specs.Recipes.{wrong_add_recipe, wrong_approve, wrong_withdraw}
 use Rattle.plant_production.specs.Orders.{wrong_import_orders, wrong_cancel_order}
 use Rattle.plant_production.specs.Releasing.{wrong_release}
+use Rattle.plant_production.specs.Batches.{wrong_batch, wrong_settle, wrong_phase_done, wrong_close_batch}
 
 -- the recipe that the command brings, if it brings one, is well formed
 abbrev pub brings_formed : Command → Bool
@@ -46,10 +47,10 @@ wrong_body s (body.Withdraw c) = wrong_withdraw s c
 wrong_body s (body.ImportOrders c) = wrong_import_orders s c
 wrong_body s (body.CancelOrder c) = wrong_cancel_order s c
 wrong_body s (body.Release c) = wrong_release s c
-wrong_body s (body.BatchCommand c) = Some BadForm
-wrong_body s (body.Settle c) = Some BadForm
-wrong_body s (body.PhaseDone c) = Some BadForm
-wrong_body s (body.CloseBatch c) = Some BadForm
+wrong_body s (body.BatchCommand c) = wrong_batch s c
+wrong_body s (body.Settle c) = wrong_settle s c
+wrong_body s (body.PhaseDone c) = wrong_phase_done s c
+wrong_body s (body.CloseBatch c) = wrong_close_batch s c
 wrong_body s (body.Consume c) = wrong_consume s c
 wrong_body s (body.Produce c) = wrong_produce s c
 

@@ -32,8 +32,8 @@ use plant_base::{
     Amount, BatchState, Command, Envelope, Id, Movement, MovementKind, Refusal, Stamp,
 };
 use plant_production::{
-    decide_add_recipe, decide_approve, decide_cancel_order, decide_import_orders, decide_release,
-    decide_withdraw,
+    decide_add_recipe, decide_approve, decide_batch, decide_cancel_order, decide_close_batch,
+    decide_import_orders, decide_phase_done, decide_release, decide_settle, decide_withdraw,
 };
 use plant_recipe::is_well_formed;
 use plant_view::{Decision, RowChange, View, ViewFault, look};
@@ -98,10 +98,10 @@ fn decide_body<V: View>(
         Command::ImportOrders(c) => decide_import_orders(alloc, view, seq, stamp, c),
         Command::CancelOrder(c) => decide_cancel_order(alloc, view, seq, stamp, c),
         Command::Release(c) => decide_release(alloc, view, seq, stamp, c),
-        Command::BatchCommand(_)
-        | Command::Settle(_)
-        | Command::PhaseDone(_)
-        | Command::CloseBatch(_) => Ok(Decision::Refused(Refusal::BadForm)),
+        Command::BatchCommand(c) => decide_batch(alloc, view, seq, stamp, c),
+        Command::Settle(c) => decide_settle(alloc, view, seq, stamp, c),
+        Command::PhaseDone(c) => decide_phase_done(alloc, view, seq, stamp, c),
+        Command::CloseBatch(c) => decide_close_batch(alloc, view, seq, stamp, c),
         Command::Consume(c) => decide_consume(alloc, view, seq, stamp, c),
         Command::Produce(c) => decide_produce(alloc, view, seq, stamp, c),
     }

@@ -14,7 +14,7 @@ returns g c =
     let nodes = c.in_ok-made.made.items in
     Told-weaker
     (λ (listed : Lists (IsReached Forward (g.V.Edges.pairs c.args.view.now) (node.Batch c.args.batch)) nodes).
-      own_by_trace (edges_of s) c.args.batch c.args.lot nodes c.has.result
-      (subst (λ (pairs : List (Node × Node)). Lists (IsReached Forward pairs (node.Batch c.args.batch)) nodes) (g.met.V.View.pairs_of_state c.args.view.now) listed)
-      (rw c.as_slice.ensures.value at c.has.ensures))
+    own_by_trace (edges_of s) c.args.batch c.args.lot nodes c.has.result
+    (subst (λ (pairs : List (Node × Node)). Lists (IsReached Forward pairs (node.Batch c.args.batch)) nodes) (g.met.V.View.pairs_of_state c.args.view.now) listed)
+    (rw c.as_slice.ensures.value at c.has.ensures))
     c.in_ok-made.ensures.told

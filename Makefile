@@ -1,7 +1,8 @@
 # make run   proves and builds the desk, and runs the stored session
 # make desk  leaves the built program at build/desk
-# make test  the gate: every proof, every must-fail edit, every test and the program
-.PHONY: run desk test
+# make order_check  leaves the built check of order files at build/order_check
+# make test  the gate: every proof, every must-fail edit, every test and the programs
+.PHONY: run desk order_check test
 
 run:
 	cd crates/desk && rt run < stdin
@@ -10,6 +11,11 @@ desk:
 	cd crates/desk && rt run < /dev/null
 	mkdir -p build
 	cp crates/desk/out/desk build/desk
+
+order_check:
+	cd crates/order_check && rt run < stdin
+	mkdir -p build
+	cp crates/order_check/out/order_check build/order_check
 
 test:
 	rt ci

@@ -8,8 +8,8 @@ const HEADER: &[u8] = b"order,recipe,version,size,due,priority\n";
 
 const ORDER: &[u8] = b"O-1,CAKE,1,500,2027-03-01,5\r\n";
 
-/// A template of an order file, as a planner fills it; it stands in examples/orders.csv too.
-const TEMPLATE: &[u8] = b"order,recipe,version,size,due,priority
+/// An order file, as a planner fills it.
+const PLAN: &[u8] = b"order,recipe,version,size,due,priority
 O-1,CAKE,1,500,2027-03-01,5
 O-2,CAKE,1,250,2027-03-08,5
 \"O-3\",\"BREAD\",2,0000000000000900,2027-03-08,1
@@ -55,8 +55,8 @@ fn is_first(order: &OrderRow) -> bool {
 }
 
 #[test]
-fn a_template_is_read(rt: HostRuntime) -> Result<(), Fail> {
-    match &read_orders(rt.alloc(), TEMPLATE) {
+fn a_plan_is_read(rt: HostRuntime) -> Result<(), Fail> {
+    match &read_orders(rt.alloc(), PLAN) {
         Ok(orders) => match orders.as_slice() {
             [first, _, third] => {
                 assert!(rt; is_first(first));
@@ -69,25 +69,19 @@ fn a_template_is_read(rt: HostRuntime) -> Result<(), Fail> {
     Ok(())
 }
 
-/// With ample memory the orders of the template are read; where an allocation is refused, `bench/orders.sh` runs this test.
-#[test]
-fn want_of_memory_is_told(rt: HostRuntime) {
-    let memory = CsvFault {
-        row: 0,
-        kind: CsvKind::Memory,
-    };
-    match read(&rt, TEMPLATE) {
-        Ok(count) => assert!(rt; count == 3),
-        Err(fault) => assert!(rt; fault == memory),
-    }
-}
-
 #[test]
 fn a_mark_is_skipped_once(rt: HostRuntime) -> Result<(), Fail> {
     let mut text = Vec::new(rt.alloc());
     text.extend_from_slice(b"\xEF\xBB\xBForder,recipe,version,size,due,priority\r\n")?;
     text.extend_from_slice(ORDER)?;
     assert!(rt; read(&rt, &text) == Ok(1));
+    let mut late = text.clone()?;
+    late.extend_from_slice(b"O-2,CAKE,1,500,2027-02-29,5\r\n")?;
+    let fault = Err(CsvFault {
+        row: 2,
+        kind: CsvKind::Due,
+    });
+    assert!(rt; read(&rt, &late) == fault);
     let mut twice = Vec::new(rt.alloc());
     twice.extend_from_slice(b"\xEF\xBB\xBF")?;
     twice.extend_from_slice(&text)?;

@@ -237,7 +237,14 @@ fn header(base: u64, least: u64, greatest: u64) -> Result<Header, Fail> {
 
 #[test]
 fn scaled_amounts(rt: HostRuntime) -> Result<(), Fail> {
-    for (number, size, base, wanted) in [(100, 500, 300, 167), (1, 250, 500, 1), (1, 100, 500, 0)] {
+    let most = 1_000_000_000_000;
+    for (number, size, base, wanted) in [
+        (100, 500, 300, 167),
+        (1, 250, 500, 1),
+        (1, 100, 500, 0),
+        (most, most, 1, 1_000_000_000_000_000_000_000_000),
+        (most, most, most, 1_000_000_000_000),
+    ] {
         let scaled = scaled(amount(number)?, amount(size)?, amount(base)?);
         assert_eq!(rt; scaled, wanted, "{number} {size} {base}");
     }

@@ -63,6 +63,10 @@ other_event es e batch other =
 pub batch_key : (s : State) (id : List ℕ) (b : Batch) → batch_at s id ≡ Some b → b.id ≡ id
 batch_key s id b found = same_id b.id id (found_passes (λ (x : Batch). same x.id id) s.batches b found)
 
+-- and is sound
+pub batch_sound : (s : State) → IsSound s → (id : List ℕ) (b : Batch) → batch_at s id ≡ Some b → IsSoundBatch (headers_of s.recipes) s.master_lines (orders_of s.jobs) s.batches s.control_lines b
+batch_sound s sound id b found = found_keeps (IsSoundBatch (headers_of s.recipes) s.master_lines (orders_of s.jobs) s.batches s.control_lines) (λ (x : Batch). same x.id id) s.batches b sound.batches.each found
+
 -- a batch that is there already is put in its own place
 pub put_batch_there : (s : State) → IsSound s → (id : List ℕ) (b : Batch) → batch_at s id ≡ Some b → put batch_order b s.batches ≡ s.batches
 put_batch_there s sound id b found =
@@ -150,20 +154,24 @@ module _ (s : State) (id : List ℕ) (r : BatchRow) (b : Batch) (found : batch_a
 
 -- ---- the closing
 
+-- the progress with the batch closed
+abbrev pub closed_at : Progress → Progress
+closed_at p = record { state = p.state; attempt = p.attempt; next = p.next; closed = true }
+
 -- an open batch is closed where it is ended
-ending : (p : Progress) → p.closed ≡ false → refuse (not (is_ended p.state)) NotFinished None ≡ refuse_turn (turn_closed p) None
+pub open_turn : (p : Progress) → p.closed ≡ false → turn_closed p ≡ progress.refuse (not (is_ended p.state)) NotFinished (Ok (closed_at p))
 unfolding turn_closed
+open_turn p unclosed = ap (λ b. progress.refuse b BatchClosed (progress.refuse (not (is_ended p.state)) NotFinished (Ok (closed_at p)))) unclosed
+
+ending : (p : Progress) → p.closed ≡ false → refuse (not (is_ended p.state)) NotFinished None ≡ refuse_turn (turn_closed p) None
 ending p unclosed =
-    let closed : Progress = record { state = p.state; attempt = p.attempt; next = p.next; closed = true } in
-    elim (not (is_ended p.state)) as (λ b. refuse b NotFinished None ≡ refuse_turn (progress.refuse false BatchClosed (progress.refuse b NotFinished (Ok closed))) None) [ true ↦ refl | false ↦ refl ]
-    ∙ ap (λ b. refuse_turn (progress.refuse b BatchClosed (progress.refuse (not (is_ended p.state)) NotFinished (Ok closed))) None) (sym unclosed)
+    elim (not (is_ended p.state)) as (λ b. refuse b NotFinished None ≡ refuse_turn (progress.refuse b NotFinished (Ok (closed_at p))) None) [ true ↦ refl | false ↦ refl ]
+    ∙ ap (λ r. refuse_turn r None) (sym (open_turn p unclosed))
 
 -- a batch has its order
 pub order_there : (s : State) → IsSound s → (id : List ℕ) (b : Batch) → batch_at s id ≡ Some b → is_some (job_at s b.job) ≡ true
 order_there s sound id b found =
-    let headers = headers_of s.recipes in
-    let w = found_keeps (IsSoundBatch headers s.master_lines (orders_of s.jobs) s.batches s.control_lines) (λ (x : Batch). same x.id id) s.batches b sound.batches.each found in
-    sym (ap is_some (order_of_job s.jobs b.job) ∙ some_mapped (λ (j : Job). j.order) (job_at s b.job)) ∙ some_order headers s.master_lines (order_among (orders_of s.jobs) b.job) _ w.scaled
+    sym (ap is_some (order_of_job s.jobs b.job) ∙ some_mapped (λ (j : Job). j.order) (job_at s b.job)) ∙ some_order (headers_of s.recipes) s.master_lines (order_among (orders_of s.jobs) b.job) _ (batch_sound s sound id b found).scaled
 
 module _ (s : State) (c : CloseBatch) (r : BatchRow) (b : Batch) (found : batch_at s c.batch ≡ Some b) (is : r ≡ batch_row s.control_lines s.events b) where
   tested : wrong_close_batch s c ≡ refuse r.closed BatchClosed (refuse (at_limit s) TooMany (refuse (not (is_ended r.state)) NotFinished None))

@@ -28,7 +28,7 @@ use Rattle.plant_base.specs.declared.command.ImportOrders.{ImportOrders}
 use Rattle.plant_base.specs.declared.command.CancelOrder.{CancelOrder}
 use Rattle.plant_base.specs.declared.command.Release.{Release}
 use Rattle.plant_base.specs.declared.command.CloseBatch.{CloseBatch}
-use Rattle.plant_base.proofs.Find.{found_passes, found_keeps}
+use Rattle.plant_base.proofs.Find.{found_passes}
 use Rattle.plant_base.proofs.Put.{all_weaker, all_push}
 use Rattle.plant_base.proofs.Keys.{same_id}
 use Rattle.plant_recipe.specs.declared.progress.Progress.{Progress}
@@ -43,16 +43,16 @@ use Rattle.plant_production.specs.Orders as orders
 use Rattle.plant_production.specs.Batches.{turn_at, refuse_turn, wrong_event, event_row, happened, wrong_close_batch, job_of, close_batch}
 use Rattle.plant_view.specs.Tables.{progress_at}
 use Rattle.plant_production.specs.Releasing.{control_by, control_for, lines_in, released_batch, release}
-use Rattle.plant_view.specs.Production.{HasGoodOrder, HasBatchValues, headers_of, header_among, AreSoundRecipes, orders_of, order_among, batch_among, is_size_of_some, AreSoundOrders, control_from, control_of_order, IsSoundBatch, is_batch_among, AreSoundBatches, has_finished, AreSoundRuns}
-use Rattle.plant_view.specs.Genealogy.{IsSoundGenealogy}
+use Rattle.plant_view.specs.Production.{HasGoodOrder, HasBatchValues, headers_of, header_among, AreSoundRecipes, orders_of, order_among, batch_among, is_size_of_some, AreSoundOrders, control_from, control_of_order, is_batch_among, AreSoundBatches, has_finished, AreSoundRuns}
 use Rattle.plant_view.specs.Sound.{IsSound}
 use Rattle.plant_view.proofs.Rows.{each_passes, all_filtered, filtered_passes, find_mapped, some_mapped}
-use Rattle.plant_view.proofs.KeptSound.{passed, all_two}
+use Rattle.plant_view.proofs.KeptSound.{passed, is_there, all_two}
+use Rattle.plant_view.specs.Genealogy.{IsSoundGenealogy}
 use Rattle.plant_view.proofs.Descent.{descent_released}
 use Rattle.plant_view.proofs.Tests.{each_fails, not_false}
 use Rattle.plant_production.proofs.RecipesKept.{headers_put, headers_same, with_state_sorted, recipes_moved, more, recipes_added, orders_headed, batches_headed}
 use Rattle.plant_production.proofs.OrdersKept.{order_of_job, orders_same, open_has_none, orders_moved, orders_imported, batches_imported, jobs_imported, orders_released, batches_released}
-use Rattle.plant_production.proofs.BatchTables.{order_there}
+use Rattle.plant_production.proofs.BatchTables.{batch_sound, closed_at, open_turn, order_there}
 use Rattle.plant_production.proofs.ReleaseTables.{after}
 use Rattle.plant_production.proofs.RunsKept.{job_own, runs_of_jobs, jobs_past, runs_released, is_closing, runs_happened, runs_closed}
 
@@ -218,8 +218,8 @@ sound_release s sound t c values free waits some =
 
 -- ---- what happens to a batch
 
-some_there : {X : Type 0} (o : Option X) → is_none o ≡ false → (x : X) × (o ≡ Some x)
-some_there None e = absurd (false≢true (sym e))
+some_there : {X : Type 0} (o : Option X) → is_some o ≡ true → (x : X) × (o ≡ Some x)
+some_there None e = absurd (false≢true e)
 some_there (Some x) e = (x, refl)
 
 turn_allowed : (r : Result Progress Refusal) (rest : Option Refusal) → refuse_turn r rest ≡ None → (p : Progress) × (r ≡ Ok p)
@@ -239,7 +239,7 @@ told_batches s sound t id e b found = record {
 pub sound_event : (s : State) → IsSound s → (t : Stamp) (id : List ℕ) (e : Event) → is_closing e ≡ false → wrong_event s id e ≡ None → IsSound (happened s t id e)
 sound_event s sound t id e open_still fine =
     let there = passed (is_none (batch_at s id)) UnknownBatch (refuse_turn (turn_at s id e) (refuse (at_limit s) TooMany None)) fine in
-    let batch = some_there (batch_at s id) there.0 in
+    let batch = some_there (batch_at s id) (is_there _ there.0) in
     let turn = turn_allowed (turn_at s id e) (refuse (at_limit s) TooMany None) there.1 in
     with_production s sound (s.seq + 1) t.at s.recipes s.master_lines s.jobs s.batches s.control_lines (happened s t id e).events sound.recipes sound.orders
     (told_batches s sound t id e batch.0 batch.1)
@@ -248,42 +248,28 @@ sound_event s sound t id e open_still fine =
 
 -- ---- a closing
 
--- the batch is closed
-abbrev closed_at : Progress → Progress
-closed_at p = record { state = p.state; attempt = p.attempt; next = p.next; closed = true }
-
-closing : (p : Progress) → p.closed ≡ false → is_ended p.state ≡ true → turn_closed p ≡ Ok (closed_at p)
-unfolding turn_closed
-closing p open_still ended =
-    ap (λ x. progress.refuse x BatchClosed (progress.refuse (not (is_ended p.state)) NotFinished (Ok (closed_at p)))) open_still
-    ∙ ap (λ x. progress.refuse (not x) NotFinished (Ok (closed_at p))) ended
-
-module _ (s : State) (sound : IsSound s) (t : Stamp) (c : CloseBatch) (b : Batch) (found : batch_at s c.batch ≡ Some b) (open_still : (progress_at s c.batch).closed ≡ false) (ended : is_ended (progress_at s c.batch).state ≡ true) where
+module _ (s : State) (sound : IsSound s) (t : Stamp) (c : CloseBatch) (b : Batch) (found : batch_at s c.batch ≡ Some b) (unclosed : (progress_at s c.batch).closed ≡ false) (ended : is_ended (progress_at s c.batch).state ≡ true) where
   finished : (j : Job) → job_at s b.job ≡ Some j → IsSound (record (happened s t c.batch Closed) { jobs = put job_order (record { order = j.order; state = Finished }) s.jobs })
   finished j known =
       let r : Job = record { order = j.order; state = Finished } in
       let headers = headers_of s.recipes in
-      let turn = closing (progress_at s c.batch) open_still ended in
-      let its = found_keeps (IsSoundBatch headers s.master_lines (orders_of s.jobs) s.batches s.control_lines) (λ (x : Batch). same x.id c.batch) s.batches b sound.batches.each found in
+      let now = progress_at s c.batch in
+      let turn = open_turn now unclosed ∙ ap (λ x. progress.refuse (not x) NotFinished (Ok (closed_at now))) ended in
       let key = same_id j.order.order b.job (found_passes _ s.jobs j known) in
       let kept = orders_same s.jobs sound.orders.sorted b.job (Some j) known Finished in
       with_production s sound (s.seq + 1) t.at s.recipes s.master_lines (put job_order r s.jobs) s.batches s.control_lines (happened s t c.batch Closed).events sound.recipes
-      (orders_moved headers s.jobs s.batches sound.orders b.job j known Finished (ap (λ id. is_some (batch_among s.batches id)) key ∙ ap is_some its.alone))
+      (orders_moved headers s.jobs s.batches sound.orders b.job j known Finished (ap (λ id. is_some (batch_among s.batches id)) key ∙ ap is_some (batch_sound s sound c.batch b found).alone))
       (subst (λ os. AreSoundBatches headers s.master_lines os s.batches s.control_lines (happened s t c.batch Closed).events) (sym kept) (told_batches s sound t c.batch Closed b found))
-      (runs_closed s sound t c.batch Closed b found (closed_at (progress_at s c.batch)) turn j known r refl refl refl)
+      (runs_closed s sound t c.batch Closed b found (closed_at now) turn j known r refl refl refl)
       sound.genealogy
 
 pub sound_close : (s : State) → IsSound s → (t : Stamp) (c : CloseBatch) → wrong_close_batch s c ≡ None → IsSound (close_batch s t c)
 sound_close s sound t c fine =
     let there = passed (is_none (batch_at s c.batch)) UnknownBatch _ fine in
-    let open_still = passed (progress_at s c.batch).closed BatchClosed _ there.1 in
-    let room = passed (at_limit s) TooMany _ open_still.1 in
+    let unclosed = passed (progress_at s c.batch).closed BatchClosed _ there.1 in
+    let room = passed (at_limit s) TooMany _ unclosed.1 in
     let ended = passed (not (is_ended (progress_at s c.batch).state)) NotFinished None room.1 in
-    let batch = some_there (batch_at s c.batch) there.0 in
-    let job = known_job (job_at s batch.0.job) (order_there s sound c.batch batch.0 batch.1) in
+    let batch = some_there (batch_at s c.batch) (is_there _ there.0) in
+    let job = some_there (job_at s batch.0.job) (order_there s sound c.batch batch.0 batch.1) in
     subst (λ o. IsSound (record (happened s t c.batch Closed) { jobs = orders.with_state Finished o s.jobs })) (sym (ap (job_of s) batch.1 ∙ job.1))
-    (finished s sound t c batch.0 batch.1 open_still.0 (not_false _ ended.0) job.0 job.1)
-  where
-    known_job : (o : Option Job) → is_some o ≡ true → (j : Job) × (o ≡ Some j)
-    known_job None e = absurd (false≢true e)
-    known_job (Some j) e = (j, refl)
+    (finished s sound t c batch.0 batch.1 unclosed.0 (not_false _ ended.0) job.0 job.1)

@@ -34,7 +34,7 @@ use Rattle.plant_view.proofs.RowKeys.{ids_apart}
 use Rattle.plant_view.proofs.Rows.{all_of, all_put_apart, found_own}
 use Rattle.plant_production.specs.Batches.{turn_at, event_row}
 use Rattle.plant_view.specs.Tables.{progress_at}
-use Rattle.plant_production.proofs.BatchTables.{own_event, other_event, batch_key, put_batch_there}
+use Rattle.plant_production.proofs.BatchTables.{own_event, other_event, batch_key, batch_sound, put_batch_there}
 use Rattle.plant_production.proofs.OrdersKept.{job_tied, job_order_total, batch_order_total}
 use Rattle.plant_production.proofs.ReleaseTables as releasing
 
@@ -51,17 +51,17 @@ job_own r jobs id key =
     let agrees : (q : Job) → test q ≡ is_eq (job_order r q) = λ q. (λ i. same q.order.order (sym key i)) ∙ texts_ties q.order.order r.order.order ∙ (eq_by_cmp_equiv job_order_total).symm q r in
     found_own job_order job_order_total r test jobs (ap (λ i. same i id) key ∙ same_itself id) agrees
 
--- nothing happens to batches whose orders stay as they are
+-- what happened to batches is sound still where their orders stay as they are
 pub runs_of_jobs : (jobs later : List Job) (batches : List Batch) (control : List ControlLine) (events : List BatchEvent) → AllByRecursion (λ (b : Batch). job_among later b.job ≡ job_among jobs b.job) batches → AreSoundRuns jobs batches control events → AreSoundRuns later batches control events
 runs_of_jobs jobs later batches control events same_jobs runs = all_two _ _ _ (λ (b : Batch) stays w. record { allowed = w.allowed; finished = w.finished ∙ ap has_finished (sym stays) }) batches same_jobs runs
 
 module _ (s : State) (sound : IsSound s) where
-  abbrev IsHeaded : Batch → Type 0
-  IsHeaded = IsSoundBatch (headers_of s.recipes) s.master_lines (orders_of s.jobs) s.batches s.control_lines
+  abbrev IsSoundIn : Batch → Type 0
+  IsSoundIn = IsSoundBatch (headers_of s.recipes) s.master_lines (orders_of s.jobs) s.batches s.control_lines
 
   -- an order without a batch is no batch's
   pub jobs_past : (r : Job) → is_some (batch_among s.batches r.order.order) ≡ false → AllByRecursion (λ (b : Batch). job_among (put job_order r s.jobs) b.job ≡ job_among s.jobs b.job) s.batches
-  jobs_past r none = all_weaker IsHeaded _ (λ (b : Batch) w. job_past r s.jobs b.job (ids_apart (λ id. is_some (batch_among s.batches id)) b.job r.order.order (ap is_some w.alone) none).1) s.batches sound.batches.each
+  jobs_past r none = all_weaker IsSoundIn _ (λ (b : Batch) w. job_past r s.jobs b.job (ids_apart (λ id. is_some (batch_among s.batches id)) b.job r.order.order (ap is_some w.alone) none).1) s.batches sound.batches.each
 
   -- nothing has happened to a batch that is released
   pub runs_released : (b : Batch) (lines : List RecipeLine) (free : is_batch_among s.batches b.id ≡ false) (later : List Job) → has_finished (job_among later b.job) ≡ false → AllByRecursion (λ (q : Batch). job_among later q.job ≡ job_among s.jobs q.job) s.batches
@@ -174,9 +174,9 @@ module _ (s : State) (sound : IsSound s) (t : Stamp) (id : List ℕ) (e : Event)
   pub runs_closed : (j : Job) → job_among s.jobs b.job ≡ Some j → (r : Job) → r.order ≡ j.order → has_finished (Some r) ≡ true → p.closed ≡ true → AreSoundRuns (put job_order r s.jobs) s.batches s.control_lines after
   runs_closed j known r order finished closed =
       let key : r.order.order ≡ b.job = ap (λ o. o.order) order ∙ same_id j.order.order b.job (found_passes (λ (x : Job). same x.order.order b.job) s.jobs j known) in
-      let its = found_keeps (IsHeaded s sound) (λ (x : Batch). same x.id id) s.batches b sound.batches.each found in
+      let its = batch_sound s sound id b found in
       runs_told (put job_order r s.jobs) (closed ∙ sym (ap has_finished (job_own r s.jobs b.job key) ∙ finished))
-      (all_weaker (IsHeaded s sound) (Stays (put job_order r s.jobs)) (λ q w apart. job_past r s.jobs q.job (ap (λ i. same i q.job) key ∙ jobs_apart q (sym its.alone) w.alone apart)) s.batches sound.batches.each)
+      (all_weaker (IsSoundIn s sound) (Stays (put job_order r s.jobs)) (λ q w apart. job_past r s.jobs q.job (ap (λ i. same i q.job) key ∙ jobs_apart q (sym its.alone) w.alone apart)) s.batches sound.batches.each)
     where
       some_alike : (x y : Batch) → Some x ≡ Some y → x ≡ y
       some_alike x y e = cc

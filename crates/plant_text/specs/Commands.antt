@@ -1,5 +1,5 @@
 -- Which JSON values are commands.
-use Rattle.std.specs.Prelude.{ℕ, List, if◌then◌else◌, codes, Option, None, option_map, option_and_then}
+use Rattle.std.specs.Prelude.{ℕ, List, if◌then◌else◌, codes, Option, option_map, option_and_then}
 use Rattle.std.specs.Str.{bytes_eq}
 use Rattle.serde_json.specs.Data.{Data}
 use Rattle.plant_base.specs.declared.command.Command.{Command}
@@ -7,6 +7,7 @@ use Rattle.plant_base.specs.declared.command.Command.TheVariants as body
 use Rattle.plant_base.specs.declared.command.Envelope.{Envelope}
 use Rattle.plant_text.specs.Fields.{when, string_at, id_at, text_at, unit_at, amount_at, moment_at, sublot_at, note_at, has_fields}
 use Rattle.plant_text.specs.Lists.{items_at, part_of}
+use Rattle.plant_text.specs.Batches.{body_on_batch}
 use Rattle.plant_text.specs.Plans.{add_recipe_of, approve_of, withdraw_of, import_orders_of, cancel_order_of, release_of}
 
 abbrev pub add_class_of : Data → Option Command
@@ -78,7 +79,7 @@ body_of word d =
     if bytes_eq word (codes "import_orders") then import_orders_of d else (
     if bytes_eq word (codes "cancel_order") then cancel_order_of d else (
     if bytes_eq word (codes "release") then release_of d else (
-    None)))))))))))))))
+    body_on_batch word d)))))))))))))))
 
 abbrev pub envelope_of : Data → Option Envelope
 envelope_of d = option_and_then (λ at. option_and_then (λ by. option_and_then (λ note. option_and_then (λ word. option_map (λ body.

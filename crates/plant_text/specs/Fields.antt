@@ -5,7 +5,7 @@ use Rattle.serde_json.specs.Data.{Data}
 use Rattle.serde_json.specs.Find.{get, as_number, as_u64, as_str, as_object}
 use Rattle.serde_json.specs.Events.{members_len}
 use Rattle.plant_base.specs.Dates.{is_due}
-use Rattle.plant_base.specs.Formed.{is_version, is_priority}
+use Rattle.plant_base.specs.Formed.{is_version, is_priority, is_phase_number}
 use Rattle.plant_base.specs.Values.{is_id, is_text, is_unit, is_amount, is_moment, greatest_sublot}
 
 -- the value, where it obeys the rule
@@ -49,6 +49,9 @@ version_at name d = option_and_then (only is_version) (natural_at name d)
 
 abbrev pub priority_at : List ℕ → Data → Option ℕ
 priority_at name d = option_and_then (only is_priority) (natural_at name d)
+
+abbrev pub phase_at : List ℕ → Data → Option ℕ
+phase_at name d = option_and_then (only is_phase_number) (natural_at name d)
 
 abbrev pub due_at : List ℕ → Data → Option (List ℕ)
 due_at name d = option_and_then (only is_due) (string_at name d)

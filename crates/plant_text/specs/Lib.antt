@@ -1,4 +1,5 @@
 pub mod Answers
+pub mod Batches
 pub mod Commands
 pub mod Fields
 pub mod Held

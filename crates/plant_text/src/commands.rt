@@ -5,6 +5,7 @@ ghost use Rattle.serde_json.specs.View.{view};
 ghost use Rattle.plant_text.specs.Commands.{add_class_of, add_definition_of, receive_of, scrap_of, divide_of, split_of, merge_of, hold_of, unhold_of, body_of, envelope_of};
 ghost use Rattle.plant_text.specs.Lists.{Reads};
 
+use crate::batches::body_on_batch;
 use crate::fields::{
     amount_at, has_fields, id_at, moment_at, note_at, sublot_at, text_at, unit_at,
 };
@@ -185,7 +186,7 @@ fn body_of(alloc: Global, value: &Value, word: &str) -> Result<Command, LineFaul
     } else if word == "release" {
         release_of(value).ok_or(LineFault::BadForm)
     } else {
-        Err(LineFault::BadForm)
+        body_on_batch(value, word).ok_or(LineFault::BadForm)
     }
 }
 

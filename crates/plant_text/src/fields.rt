@@ -3,10 +3,11 @@ ghost use Rattle.std.specs.Prelude.{◌≡◌, ◌<◌, ◌^◌};
 ghost use Rattle.serde_json.specs.View.{view};
 ghost use Rattle.plant_base.specs.Values.{is_id, is_text, is_unit};
 ghost use Rattle.plant_base.specs.Dates.{is_due};
-ghost use Rattle.plant_text.specs.Fields.{only, natural_at, id_at, text_at, unit_at, amount_at, moment_at, sublot_at, version_at, priority_at, due_at, note_at, count_of, shared_count, has_fields};
+ghost use Rattle.plant_text.specs.Fields.{only, natural_at, id_at, text_at, unit_at, amount_at, moment_at, sublot_at, version_at, priority_at, phase_at, due_at, note_at, count_of, shared_count, has_fields};
 
 use plant_base::{
-    Amount, Due, GREATEST_PRIORITY, GREATEST_SUBLOT, GREATEST_VERSION, Id, Moment, Text, Unit,
+    Amount, Due, GREATEST_PHASE, GREATEST_PRIORITY, GREATEST_SUBLOT, GREATEST_VERSION, Id, Moment,
+    Text, Unit,
 };
 use serde_json::Value;
 
@@ -97,6 +98,17 @@ pub(crate) fn priority_at(value: &Value, name: &str) -> Option<u8>
 {
     let number = natural_at(value, name)?;
     if (1..=u64::from(GREATEST_PRIORITY)).contains(&number) {
+        Some(number as u8)
+    } else {
+        None
+    }
+}
+
+pub(crate) fn phase_at(value: &Value, name: &str) -> Option<u8>
+    ensures { result ≡ phase_at name.now (view value.now) }
+{
+    let number = natural_at(value, name)?;
+    if (1..=u64::from(GREATEST_PHASE)).contains(&number) {
         Some(number as u8)
     } else {
         None

@@ -3,6 +3,7 @@
 #![tactic(auto)]
 
 mod answers;
+mod batches;
 mod commands;
 mod fields;
 mod lists;

@@ -1,6 +1,8 @@
 //! The desk: commands and questions as lines of JSON on standard input, replies on standard output.
 #![tactic(auto)]
 
+#[cfg(test)]
+mod batch_tests;
 mod exit;
 #[cfg(test)]
 mod movement_tests;

@@ -1,5 +1,5 @@
 -- The answers to a question about a lot.
-use Rattle.std.proofs.Common.{◌≡◌, ◌∙◌, ℕ, List, Option, Some, None, sym, ap}
+use Rattle.std.proofs.Common.{◌≡◌, ◌∙◌, ℕ, List, Some, None, sym, ap}
 use Rattle.plant_base.specs.State.{State, lot_at}
 use Rattle.plant_base.specs.declared.rows.Lot.{Lot}
 use Rattle.plant_base.specs.declared.refusal.Refusal.TheVariants.{UnknownLot}

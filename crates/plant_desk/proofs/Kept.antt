@@ -1,5 +1,5 @@
 -- Where a command leaves a keeper of lists.
-use Rattle.std.proofs.Common.{◌≡◌, ◌∙◌, Some, Result, Ok, Err, OnOk, OnErr, subst, sym, ap}
+use Rattle.std.proofs.Common.{◌≡◌, Some, Result, Ok, Err, OnOk, OnErr, subst, sym, ap}
 use Rattle.plant_base.specs.State.{State}
 use Rattle.plant_base.specs.Formed.{HasValues, stamp_of}
 use Rattle.plant_base.specs.declared.command.Envelope.{Envelope}

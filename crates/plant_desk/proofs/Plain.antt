@@ -1,10 +1,6 @@
 -- Row changes that lead to the tables of a state lead the plain lists to that state.
 use Rattle.std.proofs.Common.{◌≡◌, ◌∙◌, List, [], ◌∷◌, map, refl, sym, ap}
 use Rattle.plant_base.specs.State.{State, newest_schema, batch_order, place_order}
-use Rattle.plant_base.specs.declared.rows.Batch.{Batch}
-use Rattle.plant_base.specs.declared.rows.BatchRow.{BatchRow}
-use Rattle.plant_base.specs.declared.rows.Place.{Place}
-use Rattle.plant_base.specs.declared.rows.Sublot.{Sublot}
 use Rattle.plant_base.proofs.Put.{put_kept, map_back}
 use Rattle.plant_view.specs.declared.change.RowChange.{RowChange}
 use Rattle.plant_view.specs.declared.change.RowChange.TheVariants as row

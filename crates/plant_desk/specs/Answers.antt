@@ -1,11 +1,12 @@
 -- What a question is answered.
 use Rattle.std.specs.Prelude.{ℕ, List, Option, Some, None, option_map, sum_by}
-use Rattle.plant_base.specs.State.{State, lot_at, job_at, batch_of}
+use Rattle.plant_base.specs.State.{State, lot_at, job_at, batch_at, batch_of}
 use Rattle.plant_base.specs.declared.rows.Job.{Job}
 use Rattle.plant_base.specs.declared.rows.Lot.{Lot}
 use Rattle.plant_base.specs.declared.refusal.Refusal.TheVariants.{UnknownOrder, UnknownLot}
 use Rattle.plant_view.specs.Refusing.{is_held}
 use Rattle.plant_view.specs.Tables.{sublots_of}
+use Rattle.plant_desk.specs.BatchViews.{answer_batch}
 use Rattle.plant_desk.specs.declared.question.Question.{Question}
 use Rattle.plant_desk.specs.declared.question.Question.TheVariants as Q
 use Rattle.plant_desk.specs.declared.question.Answer.{Answer}
@@ -38,3 +39,4 @@ unfoldable pub answer : ℕ → State → Question → Answer
 answer k s Q.Desk = A.Desk k s.seq
 answer k s (Q.Lot lot) = answer_lot s (lot_at s lot)
 answer k s (Q.Order order) = answer_order s order (job_at s order)
+answer k s (Q.Batch batch) = answer_batch s (batch_at s batch)

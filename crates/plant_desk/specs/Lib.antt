@@ -1,4 +1,5 @@
 pub mod Answers
+pub mod BatchViews
 pub mod Batches
 pub mod Keeping
 pub mod Lists

@@ -1,5 +1,5 @@
 -- The lists of a keeper as a state.
-use Rattle.std.specs.Prelude.{◌≡◌, ℕ, ◌+◌, ◌≤◌, List, [], ◌∷◌, ◌++◌, vec_len, vec_capacity}
+use Rattle.std.specs.Prelude.{ℕ, ◌+◌, ◌≤◌, List, [], ◌∷◌, ◌++◌, vec_len, vec_capacity}
 use Rattle.plant_base.specs.State.{State, put, class_order, definition_order, recipe_order, master_line_order, job_order, batch_order, control_line_order, lot_order, place_order, hold_order}
 use Rattle.plant_base.specs.declared.rows.Batch.{Batch}
 use Rattle.plant_base.specs.declared.rows.BatchRow.{BatchRow}

@@ -37,6 +37,7 @@ impl Lists {
                 Some(row) => Ok(Answer::Lot(self.lot_answer(row)?)),
             },
             Question::Order(order) => Ok(self.order_answer(*order)),
+            Question::Batch(batch) => self.batch_answer(*batch),
         }
     }
 

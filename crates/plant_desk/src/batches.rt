@@ -46,11 +46,10 @@ pub(crate) fn control_lines_of(
 }
 
 // A batch with the columns that are the fold of its events.
-#[tactic(auto, using(plant_recipe::proofs::Runs::after_capped))]
 pub(crate) fn batch_row(lines: &[ControlLine], events: &[BatchEvent], batch: Batch) -> BatchRow
     ensures { result ≡ batch_row lines.now events.now batch }
 {
-    let progress = progress_of(phases_of(lines, batch.id), events, batch.id);
+    let progress = progress_in(lines, events, batch.id);
     BatchRow {
         batch,
         state: progress.state,
@@ -58,6 +57,31 @@ pub(crate) fn batch_row(lines: &[ControlLine], events: &[BatchEvent], batch: Bat
         next: progress.next,
         closed: progress.closed,
     }
+}
+
+// How far a batch has come: the fold of its events.
+#[tactic(auto, using(plant_recipe::proofs::Runs::after_capped))]
+pub(crate) fn progress_in(lines: &[ControlLine], events: &[BatchEvent], batch: Id) -> Progress
+    ensures { result ≡ progress_after (phases_among lines.now batch) (events_among events.now batch) }
+{
+    progress_of(phases_of(lines, batch), events, batch)
+}
+
+// What happened to a batch, in its order.
+pub(crate) fn events_of(
+    alloc: Global,
+    events: &[BatchEvent],
+    batch: Id,
+) -> Result<Vec<BatchEvent>, AllocError>
+    ensures { IfOk result (λ v. v.items ≡ filter (λ e. same e.batch batch) events.now) }
+{
+    let mut rows = Vec::new(alloc);
+    for e in events {
+        if e.batch == batch {
+            rows.push(*e)?;
+        }
+    }
+    Ok(rows)
 }
 
 // How many phases the control recipe of a batch has, as far as a progress counts them.

@@ -2,7 +2,9 @@
 #![tactic(auto)]
 
 mod ask;
+mod batch_view;
 mod batches;
+mod bookings;
 mod keeper;
 mod keys;
 mod list_keeper;
@@ -15,7 +17,7 @@ mod view;
 
 pub use keeper::Keeper;
 pub use list_keeper::ListKeeper;
-pub use question::{Answer, LotAnswer, OrderAnswer, Question};
+pub use question::{Answer, BatchView, Booking, LotAnswer, MeasuredLine, OrderAnswer, Question};
 pub use reply::{DeskFault, Reply};
 pub use report::RunReport;
 

@@ -1,4 +1,8 @@
-use plant_base::{Id, Items, Job, Refusal, Sublot};
+use plant_base::{
+    Amount, Batch, BatchEvent, ControlLine, Header, Id, Items, Job, Moment, Refusal, Sublot, Text,
+    Unit,
+};
+use plant_recipe::Progress;
 
 /// What the desk is asked.
 #[derive(Clone, Copy, Debug, PartialEq, Eq)]
@@ -9,6 +13,8 @@ pub enum Question {
     Lot(Id),
     /// What is known of this order.
     Order(Id),
+    /// What is known of this batch.
+    Batch(Id),
 }
 
 /// What the desk answers.
@@ -18,6 +24,7 @@ pub enum Answer {
     Desk { schema: u64, seq: u64 },
     Lot(LotAnswer),
     Order(OrderAnswer),
+    Batch(BatchView),
     /// The question names something that isn't there.
     Unknown(Refusal),
 }
@@ -41,4 +48,50 @@ pub struct OrderAnswer {
     pub job: Job,
     /// The batch that the order was released as, if it was.
     pub batch: Option<Id>,
+}
+
+/// A batch with all that is known of it (job response of IEC 62264-4; batch record of IEC 61512-1).
+#[derive(Debug, Drop)]
+pub struct BatchView {
+    /// The order that it was released for, with its state.
+    pub job: Job,
+    /// The header of its master recipe.
+    pub header: Header,
+    pub batch: Batch,
+    pub progress: Progress,
+    /// Its control recipe, by number.
+    pub lines: Items<MeasuredLine>,
+    /// What happened to it, in its order.
+    pub events: Items<BatchEvent>,
+    /// What it took, in its order.
+    pub consumed: Items<Booking>,
+    /// What it brought, in its order.
+    pub produced: Items<Booking>,
+}
+
+/// A line of a control recipe with the unit of its amount.
+#[derive(Clone, Copy, Debug, PartialEq, Eq)]
+pub struct MeasuredLine {
+    pub line: ControlLine,
+    /// The unit of the definition that an input or an output names, `None` for a parameter or a phase.
+    pub unit: Option<Unit>,
+}
+
+/// What a batch took from a lot or brought to one (material actual of IEC 62264-4).
+#[derive(Clone, Copy, Debug, PartialEq, Eq)]
+pub struct Booking {
+    pub seq: u64,
+    pub lot: Id,
+    /// 0 to 99.
+    pub sub: u16,
+    /// The definition of the lot.
+    pub def: Id,
+    /// The unit of the definition, in which the amount and what was scrapped are counted.
+    pub unit: Unit,
+    pub amount: Amount,
+    /// What was scrapped of a produced lot, of all its sublots; 0 for a consumed lot.
+    pub scrapped: u128,
+    pub at: Moment,
+    pub by: Text,
+    pub note: Text,
 }

@@ -14,8 +14,8 @@ use crate::keys::{
 };
 use crate::lists::Lists;
 use plant_base::{
-    BatchRow, Class, ControlLine, Definition, GREATEST_AMOUNT, Hold, Id, Job, Lot, MasterLine, Movement,
-    MovementKind, Position, Recipe, Sublot,
+    BatchRow, Class, ControlLine, Definition, GREATEST_AMOUNT, Hold, Id, Job, Lot, MasterLine,
+    Movement, MovementKind, Position, Recipe, Sublot,
 };
 use plant_stock::stock_of;
 use plant_trace::{Direction, Edges, Node, neighbours};

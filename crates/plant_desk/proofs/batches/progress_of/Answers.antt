@@ -1,4 +1,4 @@
-use Rattle.std.proofs.Common.{◌∙◌, sym, ap}
+use Rattle.std.proofs.Common.{◌∙◌, sym}
 use Rattle.plant_recipe.specs.Progress.{progress_after}
 use Rattle.plant_desk.specs.Batches.{turned}
 use Rattle.plant_desk.proofs.Events.{after_more}

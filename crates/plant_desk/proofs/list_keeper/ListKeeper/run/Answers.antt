@@ -1,8 +1,7 @@
-use Rattle.std.proofs.Common.{◌≡◌, ◌∙◌, ◌+◌, ◌-◌, ◌∷◌, [], length, take, get_or, sym, ap, arith, rules}
+use Rattle.std.proofs.Common.{arith, rules}
 use Rattle.std.proofs.lemmas.Grind.{common_steps}
 use Rattle.plant_view.proofs.Balanced.{balanced}
 use Rattle.plant_view.proofs.Conserved.{conserved}
-use Rattle.plant_view.specs.Conserve.{IsConserved}
 use Rattle.plant_desk.proofs.Turns.{fold_more, replies_more}
 use Rattle.plant_desk.proofs.list_keeper.ListKeeper.run.Goals as goal
 

@@ -1,4 +1,4 @@
-use Rattle.std.proofs.Common.{◌≡◌, ◌∙◌, ◌+◌, ◌-◌, ◌∷◌, ℕ, length, drop, get_or, sym, ap, subst, arith}
+use Rattle.std.proofs.Common.{◌∙◌, ◌+◌, ◌-◌, length, drop, sym, ap, subst, arith}
 use Rattle.std.proofs.lemmas.List.{at_drop_more}
 use Rattle.plant_desk.specs.Lists.{state_of, applied, applied_all, HasRoom}
 use Rattle.plant_desk.proofs.lists.Lists.apply.Goals as goal

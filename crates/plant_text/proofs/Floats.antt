@@ -1,9 +1,12 @@
 -- Answers have no floats.
-use Rattle.std.proofs.Common.{◌≡◌, List, [], ◌∷◌, ℕ, Option, Some, None, false, refl}
+use Rattle.std.proofs.Common.{◌≡◌, List, [], ◌∷◌, ℕ, Bool, true, Option, Some, None, false, refl}
 use Rattle.serde_json.specs.Written.{has_float, items_have_float}
 use Rattle.plant_base.specs.declared.rows.Sublot.{Sublot}
 use Rattle.plant_desk.specs.declared.question.LotAnswer.{LotAnswer}
 use Rattle.plant_desk.specs.declared.question.OrderAnswer.{OrderAnswer}
+use Rattle.plant_desk.specs.declared.question.BatchView.{BatchView}
+use Rattle.plant_desk.specs.declared.question.Booking.{Booking}
+use Rattle.plant_text.specs.BatchAnswers.{booking_data, bookings_data, batch_data}
 use Rattle.plant_text.specs.Answers.{sublots_data, lot_data, id_or_null, order_data}
 
 no_float_in_sublots : (sublots : List Sublot) → items_have_float (sublots_data sublots) ≡ false
@@ -19,3 +22,14 @@ no_float_in_id (Some id) = refl
 
 pub no_float_in_order : (a : OrderAnswer) → has_float (order_data a) ≡ false
 no_float_in_order a = rw (no_float_in_id a.batch) refl
+
+no_float_in_booking : (taken : Bool) (b : Booking) → has_float (booking_data taken b) ≡ false
+no_float_in_booking true b = refl
+no_float_in_booking false b = refl
+
+no_float_in_bookings : (taken : Bool) (bookings : List Booking) → items_have_float (bookings_data taken bookings) ≡ false
+no_float_in_bookings taken [] = refl
+no_float_in_bookings taken (b ∷ bookings) = rw (no_float_in_booking taken b) (no_float_in_bookings taken bookings)
+
+pub no_float_in_batch : (v : BatchView) → has_float (batch_data v) ≡ false
+no_float_in_batch v = rw (no_float_in_bookings true v.consumed, no_float_in_bookings false v.produced) refl

@@ -1,6 +1,6 @@
 -- The JSON trees of answers, and their texts with no blanks.
 use Rattle.std.specs.Prelude.{ℕ, List, map, codes, Option, Some, None}
-use Rattle.serde_json.specs.Data.{Data, Items, null, boolean, number, unsigned, string, array, object, member, no_members}
+use Rattle.serde_json.specs.Data.{Data, Items, null, boolean, string, array, object, member, no_members}
 use Rattle.serde_json.specs.View.{items_of}
 use Rattle.serde_json.specs.Written.{compact_text}
 use Rattle.plant_base.specs.Words.{job_state_name}
@@ -9,10 +9,9 @@ use Rattle.plant_desk.specs.declared.question.Answer.{Answer}
 use Rattle.plant_desk.specs.declared.question.Answer.TheVariants as A
 use Rattle.plant_desk.specs.declared.question.LotAnswer.{LotAnswer}
 use Rattle.plant_desk.specs.declared.question.OrderAnswer.{OrderAnswer}
+use Rattle.plant_text.specs.BatchAnswers.{batch_data}
+use Rattle.plant_text.specs.Natural.{natural}
 use Rattle.plant_text.specs.Replies.{refusal_text}
-
-abbrev pub natural : ℕ → Data
-natural n = number (unsigned n)
 
 abbrev pub desk_data : ℕ → ℕ → Data
 desk_data schema seq = object (member (codes "schema") (natural schema) (member (codes "seq") (natural seq) no_members))
@@ -43,4 +42,5 @@ unfoldable pub text_of_answer : Answer → List ℕ
 text_of_answer (A.Desk schema seq) = compact_text (desk_data schema seq)
 text_of_answer (A.Lot lot) = compact_text (lot_data lot)
 text_of_answer (A.Order order) = compact_text (order_data order)
+text_of_answer (A.Batch v) = compact_text (batch_data v)
 text_of_answer (A.Unknown r) = refusal_text r

@@ -1,10 +1,12 @@
 pub mod Answers
+pub mod BatchAnswers
 pub mod Batches
 pub mod Commands
 pub mod Fields
 pub mod Held
 pub mod Lines
 pub mod Lists
+pub mod Natural
 pub mod Plans
 pub mod Questions
 pub mod Replies

@@ -19,13 +19,17 @@ lot_of d = option_map Q.Lot (named (codes "lot") d)
 abbrev pub order_of : Data → Option Question
 order_of d = option_map Q.Order (named (codes "order") d)
 
+abbrev pub batch_of : Data → Option Question
+batch_of d = option_map Q.Batch (named (codes "batch") d)
+
 -- the question of a word
 abbrev pub question_for : List ℕ → Data → Option Question
 question_for word d =
     if bytes_eq word (codes "desk") then desk_of d else (
     if bytes_eq word (codes "lot") then lot_of d else (
     if bytes_eq word (codes "order") then order_of d else (
-    None)))
+    if bytes_eq word (codes "batch") then batch_of d else (
+    None))))
 
 abbrev pub question_of : Data → Option Question
 question_of d = option_and_then (λ word. question_for word d) (string_at (codes "ask") d)

@@ -94,6 +94,7 @@ abbrev pub is_unknown : Answer → Bool
 is_unknown (A.Desk schema seq) = false
 is_unknown (A.Lot lot) = false
 is_unknown (A.Order order) = false
+is_unknown (A.Batch v) = false
 is_unknown (A.Unknown r) = true
 
 -- whether the reply is a refusal

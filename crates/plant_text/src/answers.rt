@@ -5,6 +5,7 @@ ghost use Rattle.serde_json.specs.View.{view};
 ghost use Rattle.serde_json.specs.Written.{compact_text};
 ghost use Rattle.plant_text.specs.Answers.{desk_data, sublot_data, sublots_data, lot_data, id_or_null, order_data, text_of_answer};
 
+use crate::batch_answers::batch_text;
 use crate::replies::refusal_line;
 use plant_base::{Id, Sublot};
 use plant_desk::{Answer, LotAnswer, OrderAnswer};
@@ -92,6 +93,9 @@ fn order_text(alloc: Global, answer: &OrderAnswer) -> Result<String, AllocError>
 /// - of the desk `{"schema":N,"seq":N}`
 /// - of a lot `{"def":ID,"held":BOOL,"lot":ID,"stock":N,"sublots":[{"no":N,"place":TEXT,"stock":N}]}`
 /// - of an order `{"batch":ID or null,"due":"YYYY-MM-DD","order":ID,"priority":N,"recipe":ID,"size":N,"state":WORD,"version":N}`
+/// - of a batch `{"attempt":N,"batch":ID,"closed":BOOL,"consumed":[{"amount":N,"def":ID,"lot":ID,"seq":N,"sub":N}],
+///   "next":N,"order":ID,"phases":N,"produced":[{"amount":N,"def":ID,"lot":ID,"seq":N}],"recipe":ID,"size":N,
+///   "state":WORD,"version":N}`
 /// - of an unknown id the refusal's text, as [`crate::reply_line`] gives it
 #[tactic(auto, unfolding(crate::specs::Answers::text_of_answer))]
 pub fn answer_text(alloc: Global, answer: &Answer) -> Result<String, AllocError>
@@ -101,6 +105,7 @@ pub fn answer_text(alloc: Global, answer: &Answer) -> Result<String, AllocError>
         Answer::Desk { schema, seq } => desk_value(alloc, *schema, *seq)?.to_string(alloc),
         Answer::Lot(lot) => lot_text(alloc, lot),
         Answer::Order(order) => order_text(alloc, order),
+        Answer::Batch(batch) => batch_text(alloc, batch),
         Answer::Unknown(refusal) => String::from_str(alloc, refusal_line(*refusal).as_str()),
     }
 }

@@ -3,6 +3,7 @@
 #![tactic(auto)]
 
 mod answers;
+mod batch_answers;
 mod batches;
 mod commands;
 mod fields;

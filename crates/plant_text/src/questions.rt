@@ -1,7 +1,7 @@
 //! Questions as JSON: one function a word.
 ghost use Rattle.std.specs.Prelude.{◌≡◌};
 ghost use Rattle.serde_json.specs.View.{view};
-ghost use Rattle.plant_text.specs.Questions.{desk_of, named, lot_of, order_of, question_for, question_of};
+ghost use Rattle.plant_text.specs.Questions.{desk_of, named, lot_of, order_of, batch_of, question_for, question_of};
 
 use crate::fields::{count_of, id_at};
 use plant_base::Id;
@@ -40,6 +40,12 @@ fn order_of(value: &Value) -> Option<Question>
     Some(Question::Order(named(value, "order")?))
 }
 
+fn batch_of(value: &Value) -> Option<Question>
+    ensures { result ≡ batch_of (view value.now) }
+{
+    Some(Question::Batch(named(value, "batch")?))
+}
+
 fn question_for(value: &Value, word: &str) -> Option<Question>
     ensures { result ≡ question_for word.now (view value.now) }
 {
@@ -49,6 +55,8 @@ fn question_for(value: &Value, word: &str) -> Option<Question>
         lot_of(value)
     } else if word == "order" {
         order_of(value)
+    } else if word == "batch" {
+        batch_of(value)
     } else {
         None
     }

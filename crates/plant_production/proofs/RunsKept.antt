@@ -114,7 +114,7 @@ stays_open phases p (PhaseDone number) other =
 stays_open phases p Closed other = absurd (false≢true (sym other))
 
 -- a run in which nothing was refused comes to the progress
-run_is : (phases : ℕ) (es : List Event) → IsOk (run_of phases es) → run_of phases es ≡ Ok (progress_after phases es)
+pub run_is : (phases : ℕ) (es : List Event) → IsOk (run_of phases es) → run_of phases es ≡ Ok (progress_after phases es)
 run_is phases es allowed = elim (run_of phases es) as (λ r. run_of phases es ≡ r → IsOk r → r ≡ Ok (progress_after phases es)) [
   | Ok p ↦ λ e ok. ap Ok (sym (goes_along phases es p (ap result_ok e)))
   | Err refusal ↦ λ e ok. absurd (false≢true ok)

@@ -2,6 +2,7 @@ pub mod Asked
 pub mod Events
 pub mod Kept
 pub mod Plain
+pub mod Reaching
 pub mod Split
 pub mod Taking
 pub mod Totals

@@ -5,3 +5,4 @@ pub mod Keeping
 pub mod Lists
 pub mod Replies
 pub mod Runs
+pub mod Traces

@@ -38,6 +38,7 @@ impl Lists {
             },
             Question::Order(order) => Ok(self.order_answer(*order)),
             Question::Batch(batch) => self.batch_answer(*batch),
+            Question::Trace(direction, start) => self.trace_answer(*direction, *start),
         }
     }
 

@@ -13,6 +13,7 @@ mod question;
 mod reply;
 mod report;
 mod sorted;
+mod traces;
 mod view;
 
 pub use keeper::Keeper;

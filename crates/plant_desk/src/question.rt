@@ -3,6 +3,7 @@ use plant_base::{
     Unit,
 };
 use plant_recipe::Progress;
+use plant_trace::{Direction, Node};
 
 /// What the desk is asked.
 #[derive(Clone, Copy, Debug, PartialEq, Eq)]
@@ -15,6 +16,8 @@ pub enum Question {
     Order(Id),
     /// What is known of this batch.
     Batch(Id),
+    /// The lots and batches that this one was made from, or that were made from it.
+    Trace(Direction, Node),
 }
 
 /// What the desk answers.
@@ -25,6 +28,8 @@ pub enum Answer {
     Lot(LotAnswer),
     Order(OrderAnswer),
     Batch(BatchView),
+    /// Lots before batches, each ascending. The start is listed only where it leads to itself.
+    Trace(Items<Node>),
     /// The question names something that isn't there.
     Unknown(Refusal),
 }

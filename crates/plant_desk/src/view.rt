@@ -149,7 +149,7 @@ fn edge(movement: &Movement) -> Option<(Node, Node)>
 }
 
 // The edges that movements make.
-fn edges(alloc: Global, movements: &[Movement]) -> Result<Vec<(Node, Node)>, AllocError>
+pub(crate) fn edges(alloc: Global, movements: &[Movement]) -> Result<Vec<(Node, Node)>, AllocError>
     ensures { IfOk result (λ pairs. pairs.items ≡ filter_map edge_of movements.now) }
 {
     movements.iter().filter_map(|m| edge(m)).collect(alloc)

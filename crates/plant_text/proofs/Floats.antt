@@ -7,6 +7,9 @@ use Rattle.plant_desk.specs.declared.question.OrderAnswer.{OrderAnswer}
 use Rattle.plant_desk.specs.declared.question.BatchView.{BatchView}
 use Rattle.plant_desk.specs.declared.question.Booking.{Booking}
 use Rattle.plant_text.specs.BatchAnswers.{booking_data, bookings_data, batch_data}
+use Rattle.plant_trace.specs.declared.node.Node.{Node}
+use Rattle.plant_trace.specs.declared.node.Node.TheVariants.{Lot, Batch}
+use Rattle.plant_text.specs.TraceAnswers.{nodes_data, trace_data}
 use Rattle.plant_text.specs.Answers.{sublots_data, lot_data, id_or_null, order_data}
 
 no_float_in_sublots : (sublots : List Sublot) → items_have_float (sublots_data sublots) ≡ false
@@ -33,3 +36,11 @@ no_float_in_bookings taken (b ∷ bookings) = rw (no_float_in_booking taken b) (
 
 pub no_float_in_batch : (v : BatchView) → has_float (batch_data v) ≡ false
 no_float_in_batch v = rw (no_float_in_bookings true v.consumed, no_float_in_bookings false v.produced) refl
+
+no_float_in_nodes : (nodes : List Node) → items_have_float (nodes_data nodes) ≡ false
+no_float_in_nodes [] = refl
+no_float_in_nodes (Lot id ∷ nodes) = no_float_in_nodes nodes
+no_float_in_nodes (Batch id ∷ nodes) = no_float_in_nodes nodes
+
+pub no_float_in_trace : (nodes : List Node) → has_float (trace_data nodes) ≡ false
+no_float_in_trace nodes = rw (no_float_in_nodes nodes) refl

@@ -11,5 +11,6 @@ pub mod Plans
 pub mod Questions
 pub mod Replies
 pub mod Session
+pub mod TraceAnswers
 pub mod Turns
 pub mod Writes

@@ -2,6 +2,10 @@
 use Rattle.std.specs.Prelude.{ℕ, ◌==◌, List, if◌then◌else◌, codes, Option, Some, None, option_map, option_and_then}
 use Rattle.std.specs.Str.{bytes_eq}
 use Rattle.serde_json.specs.Data.{Data}
+use Rattle.plant_trace.specs.declared.direction.Direction.{Direction}
+use Rattle.plant_trace.specs.declared.direction.Direction.TheVariants.{Forward, Back}
+use Rattle.plant_trace.specs.declared.node.Node.{Node}
+use Rattle.plant_trace.specs.declared.node.Node.TheVariants.{Lot, Batch}
 use Rattle.plant_desk.specs.declared.question.Question.{Question}
 use Rattle.plant_desk.specs.declared.question.Question.TheVariants as Q
 use Rattle.plant_text.specs.Fields.{when, string_at, id_at, count_of}
@@ -22,6 +26,18 @@ order_of d = option_map Q.Order (named (codes "order") d)
 abbrev pub batch_of : Data → Option Question
 batch_of d = option_map Q.Batch (named (codes "batch") d)
 
+-- the lot, or else the batch
+abbrev pub lot_or_batch : Option (List ℕ) → Option (List ℕ) → Option Node
+lot_or_batch (Some lot) batch = Some (Lot lot)
+lot_or_batch None batch = option_map Batch batch
+
+-- the lot or the batch that a question names, exactly one of them
+abbrev pub traced : Data → Option Node
+traced d = lot_or_batch (named (codes "lot") d) (named (codes "batch") d)
+
+abbrev pub trace_of : Direction → Data → Option Question
+trace_of direction d = option_map (Q.Trace direction) (traced d)
+
 -- the question of a word
 abbrev pub question_for : List ℕ → Data → Option Question
 question_for word d =
@@ -29,7 +45,9 @@ question_for word d =
     if bytes_eq word (codes "lot") then lot_of d else (
     if bytes_eq word (codes "order") then order_of d else (
     if bytes_eq word (codes "batch") then batch_of d else (
-    None))))
+    if bytes_eq word (codes "back") then trace_of Back d else (
+    if bytes_eq word (codes "forward") then trace_of Forward d else (
+    None))))))
 
 abbrev pub question_of : Data → Option Question
 question_of d = option_and_then (λ word. question_for word d) (string_at (codes "ask") d)

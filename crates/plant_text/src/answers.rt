@@ -7,6 +7,7 @@ ghost use Rattle.plant_text.specs.Answers.{desk_data, sublot_data, sublots_data,
 
 use crate::batch_answers::batch_text;
 use crate::replies::refusal_line;
+use crate::trace_answers::trace_text;
 use plant_base::{Id, Sublot};
 use plant_desk::{Answer, LotAnswer, OrderAnswer};
 use serde_json::{Value, json};
@@ -96,6 +97,7 @@ fn order_text(alloc: Global, answer: &OrderAnswer) -> Result<String, AllocError>
 /// - of a batch `{"attempt":N,"batch":ID,"closed":BOOL,"consumed":[{"amount":N,"def":ID,"lot":ID,"seq":N,"sub":N}],
 ///   "next":N,"order":ID,"phases":N,"produced":[{"amount":N,"def":ID,"lot":ID,"seq":N}],"recipe":ID,"size":N,
 ///   "state":WORD,"version":N}`
+/// - of a trace `{"nodes":[{"lot":ID},{"batch":ID}]}`
 /// - of an unknown id the refusal's text, as [`crate::reply_line`] gives it
 #[tactic(auto, unfolding(crate::specs::Answers::text_of_answer))]
 pub fn answer_text(alloc: Global, answer: &Answer) -> Result<String, AllocError>
@@ -106,6 +108,7 @@ pub fn answer_text(alloc: Global, answer: &Answer) -> Result<String, AllocError>
         Answer::Lot(lot) => lot_text(alloc, lot),
         Answer::Order(order) => order_text(alloc, order),
         Answer::Batch(batch) => batch_text(alloc, batch),
+        Answer::Trace(nodes) => trace_text(alloc, nodes.as_slice()),
         Answer::Unknown(refusal) => String::from_str(alloc, refusal_line(*refusal).as_str()),
     }
 }

@@ -15,6 +15,7 @@ mod replies;
 mod run;
 #[cfg(test)]
 mod tests;
+mod trace_answers;
 mod turns;
 mod writes;
 

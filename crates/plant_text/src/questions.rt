@@ -1,11 +1,12 @@
 //! Questions as JSON: one function a word.
 ghost use Rattle.std.specs.Prelude.{◌≡◌};
 ghost use Rattle.serde_json.specs.View.{view};
-ghost use Rattle.plant_text.specs.Questions.{desk_of, named, lot_of, order_of, batch_of, question_for, question_of};
+ghost use Rattle.plant_text.specs.Questions.{desk_of, named, lot_of, order_of, batch_of, traced, trace_of, question_for, question_of};
 
 use crate::fields::{count_of, id_at};
 use plant_base::Id;
 use plant_desk::Question;
+use plant_trace::{Direction, Node};
 use serde_json::Value;
 
 fn desk_of(value: &Value) -> Option<Question>
@@ -46,6 +47,22 @@ fn batch_of(value: &Value) -> Option<Question>
     Some(Question::Batch(named(value, "batch")?))
 }
 
+// The lot or the batch that a question names, exactly one of them.
+fn traced(value: &Value) -> Option<Node>
+    ensures { result ≡ traced (view value.now) }
+{
+    match named(value, "lot") {
+        Some(lot) => Some(Node::Lot(lot)),
+        None => Some(Node::Batch(named(value, "batch")?)),
+    }
+}
+
+fn trace_of(value: &Value, direction: Direction) -> Option<Question>
+    ensures { result ≡ trace_of direction (view value.now) }
+{
+    Some(Question::Trace(direction, traced(value)?))
+}
+
 fn question_for(value: &Value, word: &str) -> Option<Question>
     ensures { result ≡ question_for word.now (view value.now) }
 {
@@ -57,6 +74,10 @@ fn question_for(value: &Value, word: &str) -> Option<Question>
         order_of(value)
     } else if word == "batch" {
         batch_of(value)
+    } else if word == "back" {
+        trace_of(value, Direction::Back)
+    } else if word == "forward" {
+        trace_of(value, Direction::Forward)
     } else {
         None
     }

@@ -47,7 +47,11 @@ fn is_unknown(answer: &Answer) -> bool
     ensures { result ≡ is_unknown answer.now }
 {
     match answer {
-        Answer::Desk { .. } | Answer::Lot(_) | Answer::Order(_) | Answer::Batch(_) => false,
+        Answer::Desk { .. }
+        | Answer::Lot(_)
+        | Answer::Order(_)
+        | Answer::Batch(_)
+        | Answer::Trace(_) => false,
         Answer::Unknown(_) => true,
     }
 }

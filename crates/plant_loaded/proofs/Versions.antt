@@ -1,8 +1,11 @@
 -- A store tells one version at most, and none where the names are free.
-use Rattle.std.proofs.Common.{◌≡◌, refl, sym, ap, ◌∙◌, ℤ, List, [], ◌∷◌, map, All, arith}
+use Rattle.std.proofs.Common.{◌≡◌, refl, sym, ap, subst, ◌∙◌, false, ℤ, List, [], ◌∷◌, map, All, arith}
+use Rattle.std.proofs.lemmas.Option.{get_or_from_slice_get, slice_get-get_or, slice_get_within}
 use Rattle.sqlite.proofs.Callers.{one_permutation}
+use Rattle.sqlite.specs.Does.{lacks_sequence}
 use Rattle.sqlite.specs.Effect.{Database}
-use Rattle.plant_forms.specs.Standing.{HasTable, IsFree}
+use Rattle.sqlite.specs.Schema.{Schema}
+use Rattle.plant_forms.specs.Standing.{HasTable, IsFree, AreFree}
 use Rattle.plant_reads.specs.Reading.{Lists}
 use Rattle.plant_reads.proofs.Same.{lists_same, has_listed}
 use Rattle.plant_tables.specs.DeskForms.{desk_forms, meta_form}
@@ -40,6 +43,16 @@ one_version db n k v w =
     let rows : v.row ∷ [] ≡ w.row ∷ [] = version_row db (v.row ∷ []) k v.alone w in
     let row : v.row ≡ w.row = cc in
     sym v.tells ∙ ap (λ (m : StoredMeta). m.schema) row ∙ w.tells
+
+-- names that are free one by one are those of tables that can be made, where no table still wants SQLite's table of counts
+pub are_free : (schema : Schema) → All (IsFree schema) desk_forms → lacks_sequence schema ≡ false → AreFree desk_forms schema
+are_free schema free counted = record {
+  each = λ i form is. subst (IsFree schema) (get_or_from_slice_get desk_forms i form form is) (free i form (slice_get_within desk_forms i form is));
+  counted = counted;
+}
+
+pub each_free : (schema : Schema) → AreFree desk_forms schema → All (IsFree schema) desk_forms
+each_free schema free i d low = free.each i _ (slice_get-get_or desk_forms i d low)
 
 -- where the names are free there is no version
 pub free_tells_nothing : (db : Database) (n : ℤ) → All (IsFree db.schema) desk_forms → ¬ IsVersion db n

@@ -1,26 +1,29 @@
 //! What a store holds of the desk.
 
-ghost use Rattle.std.specs.Prelude.{◌≡◌, ◌↔◌, ◌∷◌, [], false, true, All, None, ℤ, IfOk, IfSome};
+ghost use Rattle.std.specs.Prelude.{◌≡◌, ◌↔◌, ◌∷◌, [], false, true, None, ℤ, IfOk, IfSome, is_some};
+ghost use Rattle.std.specs.List.{list_any};
+ghost use Rattle.sqlite.specs.Does.{lacks_sequence};
 ghost use Rattle.sqlite.specs.Held.{state};
-ghost use Rattle.sqlite.specs.State.{HasCleanDisk, Survives};
+ghost use Rattle.sqlite.specs.Rows.{sequence};
+ghost use Rattle.sqlite.specs.State.{HasCleanDisk, IsLive, Survives};
 ghost use Rattle.plant_forms.specs.Resting.{Keeps};
-ghost use Rattle.plant_forms.specs.Standing.{IsFree};
+ghost use Rattle.plant_forms.specs.Standing.{AreFree};
 ghost use Rattle.plant_tables.specs.DeskForms.{desk_forms};
 ghost use Rattle.plant_loaded.specs.Version.{IsGoodMeta, IsVersion};
 
-use crate::forms::all_forms;
 use crate::meta::StoredMeta;
 use plant_base::{GREATEST_MOMENT, GREATEST_SEQ};
 use plant_forms::Fault;
 use plant_reads::{all_free, all_stand, read_table};
-use plant_tables::forms::META;
+use plant_tables::forms::{META, desk_forms};
 use sqlite::{Alter, Connection};
+use sqlite_schema::schema::{Schema, Table};
 use std::alloc::Global;
 
 /// What a store holds of the desk's tables.
 #[derive(Clone, Copy, Debug, PartialEq, Eq)]
 pub enum FoundTables {
-    /// None of them: their names are free.
+    /// None of them: their names are free, and they can be made.
     Nothing,
     /// Some, but table meta doesn't stand as it is declared, or hasn't one row, or has a row with a number that it can't
     /// have.
@@ -68,16 +71,45 @@ fn version<S: Alter>(alloc: Global, conn: &mut Connection<S>) -> Result<Option<i
     Ok(version_in(list.as_slice()))
 }
 
-/// What the store holds of the desk's tables. Store where a transaction is open while table meta is to be read, and
+/// Whether a table counts its rowids, as AUTOINCREMENT does.
+fn any_counts(tables: &[Table]) -> bool
+    ensures { result ≡ list_any (λ t. t.is_counted) tables.now }
+{
+    tables.iter().any(|table| table.is_counted)
+}
+
+/// Whether SQLite's own table of counts is there.
+fn has_counts(schema: &Schema) -> bool
+    ensures { result ≡ is_some (sequence schema.now) }
+{
+    match schema.table_named(b"sqlite_sequence") {
+        Some(at) => schema.tables.get(at).is_some(),
+        None => false,
+    }
+}
+
+/// Whether the next CREATE TABLE would make SQLite's table of counts as well.
+fn lacks_counts(schema: &Schema) -> bool
+    ensures { result ≡ lacks_sequence schema.now }
+{
+    any_counts(schema.tables.as_slice()) && !has_counts(schema)
+}
+
+/// What the store holds of the desk's tables. Store where a transaction is open while table meta is to be read, where
+/// the names of the tables are free but a table counts its rowids and SQLite's own table of counts isn't there, and
 /// where the store fails; Memory where there is none. Nothing is changed.
 pub fn found<S: Alter>(alloc: Global, conn: &mut Connection<S>) -> Result<FoundTables, Fault>
-    ensures nothing { IfOk result (λ found. (found ≡ FoundTables.Nothing) ↔ All (IsFree (state S.Store conn.old).now.schema) desk_forms) }
+    ensures nothing { IfOk result (λ found. (found ≡ FoundTables.Nothing) ↔ AreFree desk_forms (state S.Store conn.old).now.schema) }
     ensures version { HasCleanDisk (state S.Store conn.new) → IfOk result (λ found. (n : ℤ) → (found ≡ FoundTables.Version n) ↔ IsVersion (state S.Store conn.old).now n) }
+    ensures live { IsLive (state S.Store conn.old) }
     ensures kept { HasCleanDisk (state S.Store conn.new) → Keeps (state S.Store conn.old) (state S.Store conn.new) }
     ensures mode { (state S.Store conn.old).in_transaction ≡ false → (state S.Store conn.new).in_transaction ≡ false }
     ensures crash { Survives (state S.Store conn.old) (state S.Store conn.new) (λ _. ⊥) }
 {
-    if all_free(conn.schema(), &all_forms()) {
+    if all_free(conn.schema(), &desk_forms()) {
+        if lacks_counts(conn.schema()) {
+            return Err(Fault::Store);
+        }
         return Ok(FoundTables::Nothing);
     }
     match version(alloc, conn)? {

@@ -2,7 +2,6 @@
 #![tactic(auto)]
 
 mod finding;
-mod forms;
 mod loaded;
 pub mod masters;
 pub mod meta;

@@ -7,13 +7,13 @@ ghost use Rattle.plant_reads.specs.Ordered.{IsRising};
 ghost use Rattle.plant_tables.specs.DeskForms.{desk_forms};
 ghost use Rattle.plant_loaded.specs.Loading.{AreLoaded, contents_loaded};
 
-use crate::forms::all_forms;
 use crate::masters::Masters;
 use crate::meta::StoredMeta;
 use crate::orders::Orders;
 use crate::stocks::Stocks;
 use plant_forms::Fault;
 use plant_reads::{all_stand, read_table};
+use plant_tables::forms::desk_forms;
 use sqlite::{Alter, Connection};
 use std::alloc::Global;
 
@@ -47,7 +47,7 @@ impl Loaded {
         if version != 1 {
             return Err(Fault::Store);
         }
-        if !all_stand(conn.schema(), &all_forms()) {
+        if !all_stand(conn.schema(), &desk_forms()) {
             return Ok(None);
         }
         Ok(Some(Loaded::read_all(alloc, conn)?))

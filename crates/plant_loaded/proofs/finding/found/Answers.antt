@@ -1,24 +1,26 @@
 use Rattle.std.proofs.Common.{rules, ◌≡◌, ◌∙◌, refl, true, false, sym, ap, subst, subst₂, All, w64}
 use Rattle.std.proofs.lemmas.Int.{to_z-of_z}
 use mir.Val.{SFits}
+use Rattle.sqlite.specs.Does.{lacks_sequence}
 use Rattle.sqlite.specs.Held.{state}
 use Rattle.plant_forms.specs.Standing.{IsFree}
 use Rattle.plant_tables.specs.DeskForms.{desk_forms}
 use Rattle.plant_loaded.specs.Version.{IsVersion}
 use Rattle.plant_loaded.specs.declared.finding.FoundTables.TheVariants as answer
-use Rattle.plant_loaded.proofs.Versions.{one_version, free_tells_nothing, nothing_or_version, version_or_nothing, unknown_or_nothing, unknown_or_version, told_version}
+use Rattle.plant_loaded.proofs.Versions.{are_free, each_free, one_version, free_tells_nothing, nothing_or_version, version_or_nothing, unknown_or_nothing, unknown_or_version, told_version}
 use Rattle.plant_loaded.proofs.finding.found.Goals as goal
 
 pub returns-then-all_free-clause-nothing : goal.returns-then-all_free-clause-nothing
 returns-then-all_free-clause-nothing g c =
     let told : c.all_free.result ≡ true = search rules in
-    let free : All (IsFree c.args.conn.now.schema) desk_forms = subst₂ (λ schema forms. All (IsFree schema) forms) c.schema.ensures.value c.all_forms.ensures (c.all_free.ensures.0 told) in
-    (λ _. free, λ _. refl)
+    let free : All (IsFree c.args.conn.now.schema) desk_forms = subst₂ (λ schema forms. All (IsFree schema) forms) c.schema.ensures.value c.desk_forms.ensures (c.all_free.ensures.0 told) in
+    let counted : lacks_sequence c.args.conn.now.schema ≡ false = search rules in
+    (λ _. are_free c.args.conn.now.schema free counted, λ _. refl)
 
 pub returns-then-all_free-clause-version : goal.returns-then-all_free-clause-version
 returns-then-all_free-clause-version g c clean n =
     let told : c.all_free.result ≡ true = search rules in
-    let free : All (IsFree c.args.conn.now.schema) desk_forms = subst₂ (λ schema forms. All (IsFree schema) forms) c.schema.ensures.value c.all_forms.ensures (c.all_free.ensures.0 told) in
+    let free : All (IsFree c.args.conn.now.schema) desk_forms = subst₂ (λ schema forms. All (IsFree schema) forms) c.schema.ensures.value c.desk_forms.ensures (c.all_free.ensures.0 told) in
     (λ e. absurd (nothing_or_version n e), λ v. absurd (free_tells_nothing (state g.S.Store c.args.conn.now).now n free v))
 
 pub returns-in-Some-clause-nothing : goal.returns-in-Some-clause-nothing
@@ -26,7 +28,7 @@ returns-in-Some-clause-nothing g c =
     let failed : c.all_free.result ≡ false = search rules in (
       λ e. absurd (version_or_nothing _ e),
       λ free.
-          let stood : c.all_free.result ≡ true = c.all_free.ensures.1 (subst₂ (λ schema forms. All (IsFree schema) forms) (sym c.schema.ensures.value) (sym c.all_forms.ensures) free) in
+          let stood : c.all_free.result ≡ true = c.all_free.ensures.1 (subst₂ (λ schema forms. All (IsFree schema) forms) (sym c.schema.ensures.value) (sym c.desk_forms.ensures) (each_free c.args.conn.now.schema free)) in
           absurd (let both = sym stood ∙ failed in cc),
     )
 
@@ -44,7 +46,7 @@ returns-in-None-clause-nothing g c =
     let failed : c.all_free.result ≡ false = search rules in (
       λ e. absurd (unknown_or_nothing e),
       λ free.
-          let stood : c.all_free.result ≡ true = c.all_free.ensures.1 (subst₂ (λ schema forms. All (IsFree schema) forms) (sym c.schema.ensures.value) (sym c.all_forms.ensures) free) in
+          let stood : c.all_free.result ≡ true = c.all_free.ensures.1 (subst₂ (λ schema forms. All (IsFree schema) forms) (sym c.schema.ensures.value) (sym c.desk_forms.ensures) (each_free c.args.conn.now.schema free)) in
           absurd (let both = sym stood ∙ failed in cc),
     )
 

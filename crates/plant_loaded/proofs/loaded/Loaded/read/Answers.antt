@@ -12,6 +12,6 @@ returns-clause-stands g c clean rising =
 
 pub returns-then-not-all_stand-clause-missing : goal.returns-then-not-all_stand-clause-missing
 returns-then-not-all_stand-clause-missing g c none all =
-    let stood : c.all_stand.result ≡ true = c.all_stand.ensures.1 (subst₂ (λ schema forms. All (HasTable schema) forms) (sym c.schema.ensures.value) (sym c.all_forms.ensures) all) in
+    let stood : c.all_stand.result ≡ true = c.all_stand.ensures.1 (subst₂ (λ schema forms. All (HasTable schema) forms) (sym c.schema.ensures.value) (sym c.desk_forms.ensures) all) in
     let failed : c.all_stand.result ≡ false = search rules in
     absurd (let both = sym stood ∙ failed in cc)

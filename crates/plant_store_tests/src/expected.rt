@@ -1,0 +1,61 @@
+//! What the tables hold, written by hand: a line for each row, its columns after bars.
+
+/// Beside the desk's tables stands one of another name.
+pub const OTHER: &str = "other|7|x\nother|8|NULL\n";
+
+/// A desk that has accepted nothing.
+pub const OPENING: &str = "meta|1|1|0|0\n";
+
+pub const FIRST: &str = "meta|1|1|300|300
+class|RAW|one
+definition|FLOUR|RAW|one|kg
+recipe|CAKE|2|DOUGH|300|1|300|one|approved
+recipe_line|CAKE|2|1|1|FLOUR|300|||
+recipe_line|CAKE|2|2|2|DOUGH|300|||
+recipe_line|CAKE|2|3|3|NULL|0|TEMP|one|
+recipe_line|CAKE|2|4|4|NULL|0|MIX|BLEND|STIR
+job|O-1|CAKE|2|300|2027-03-01|5|released
+batch|B-1|O-1|300|anna|one|running|1|2|0
+control_line|B-1|1|1|FLOUR|300|||
+batch_event|11|B-1|start|0|300|ben|one
+batch_event|12|B-1|phase|1|300|ben|one
+batch_event|13|B-1|close|0|300|ben|one
+lot|L-1|FLOUR
+sublot|L-1|0|one|300
+movement|1|1|1|L-1|0|NULL|NULL|NULL|300|300|ben|one
+movement|2|1|2|L-1|0|NULL|NULL|B-1|300|300|ben|one
+movement|3|1|3|L-1|0|NULL|NULL|B-1|300|300|ben|one
+movement|4|1|4|L-1|0|NULL|NULL|NULL|300|300|ben|one
+movement|5|1|5|L-1|0|L-1|1|NULL|300|300|ben|one
+movement|6|1|6|L-1|0|L-2|0|NULL|300|300|ben|one
+movement|7|1|7|L-1|0|L-3|0|NULL|300|300|ben|one
+hold|L-1|H-1|300|ben|one
+hold|L-1|H-2|300|ben|one
+";
+
+/// Each row was overwritten, and the first hold was taken away.
+pub const SECOND: &str = "meta|1|1|500|500
+class|RAW|two
+definition|FLOUR|RAW|two|kg
+recipe|CAKE|2|DOUGH|500|1|500|two|approved
+recipe_line|CAKE|2|1|1|FLOUR|500|||
+recipe_line|CAKE|2|2|2|DOUGH|500|||
+recipe_line|CAKE|2|3|3|NULL|0|TEMP|two|
+recipe_line|CAKE|2|4|4|NULL|0|MIX|BLEND|STIR
+job|O-1|CAKE|2|500|2027-03-01|5|released
+batch|B-1|O-1|500|anna|two|running|1|2|0
+control_line|B-1|1|1|FLOUR|500|||
+batch_event|11|B-1|start|0|500|ben|two
+batch_event|12|B-1|phase|1|500|ben|two
+batch_event|13|B-1|close|0|500|ben|two
+lot|L-1|FLOUR
+sublot|L-1|0|two|500
+movement|1|1|1|L-1|0|NULL|NULL|NULL|500|500|ben|two
+movement|2|1|2|L-1|0|NULL|NULL|B-1|500|500|ben|two
+movement|3|1|3|L-1|0|NULL|NULL|B-1|500|500|ben|two
+movement|4|1|4|L-1|0|NULL|NULL|NULL|500|500|ben|two
+movement|5|1|5|L-1|0|L-1|1|NULL|500|500|ben|two
+movement|6|1|6|L-1|0|L-2|0|NULL|500|500|ben|two
+movement|7|1|7|L-1|0|L-3|0|NULL|500|500|ben|two
+hold|L-1|H-2|500|ben|two
+";

@@ -1,0 +1,82 @@
+//! A log and a database file in memory, each of which stops after so many calls.
+use sqlite::{Connection, FileStore, Files, Options};
+use sqlite_disk::{Crash, Disk, Fuse, Memory};
+use std::alloc::Global;
+use std::test::Fail;
+
+pub type InMemory = Files<Fuse<Memory>>;
+
+pub type Fused = Connection<FileStore<Fuse<Memory>>>;
+
+/// What stands in the two files.
+#[derive(Drop)]
+pub struct Image {
+    log: Vec<u8>,
+    db: Vec<u8>,
+}
+
+/// How many calls of each file are passed on.
+#[derive(Clone, Copy)]
+pub struct Calls {
+    pub log: u64,
+    pub db: u64,
+}
+
+/// No stop.
+pub const ALL: Calls = Calls {
+    log: u64::MAX,
+    db: u64::MAX,
+};
+
+fn file(alloc: Global, bytes: &[u8], calls: u64) -> Result<Fuse<Memory>, Fail> {
+    let mut memory = Memory::new(alloc);
+    if !bytes.is_empty() {
+        memory.write_at(0, bytes)?;
+        memory.sync()?;
+    }
+    Ok(Fuse::new(memory, calls))
+}
+
+impl Image {
+    /// Two files without a byte.
+    pub fn empty(alloc: Global) -> Image {
+        Image {
+            log: Vec::new(alloc),
+            db: Vec::new(alloc),
+        }
+    }
+
+    /// All that was written, synced or not.
+    pub fn of(alloc: Global, files: &InMemory) -> Result<Image, Fail> {
+        Ok(Image {
+            log: Vec::from_slice(alloc, files.log.inner().bytes())?,
+            db: Vec::from_slice(alloc, files.db.inner().bytes())?,
+        })
+    }
+
+    /// The files, which stop after so many calls.
+    pub fn files(&self, alloc: Global, calls: Calls) -> Result<InMemory, Fail> {
+        Ok(Files {
+            log: file(alloc, &self.log, calls.log)?,
+            db: file(alloc, &self.db, calls.db)?,
+        })
+    }
+}
+
+/// A connection to the files, or, where they don't open, the files.
+pub fn opened(alloc: Global, files: InMemory) -> Result<Fused, InMemory> {
+    if !files.log.may_be_used() || !files.db.may_be_used() {
+        return Err(files);
+    }
+    match Connection::open_files(alloc, files, Options::new(7)) {
+        Ok(conn) => Ok(conn),
+        Err((_, left)) => Err(left.into_files()),
+    }
+}
+
+/// The files, without what was not synced, and with no stop ahead.
+pub fn crashed(mut files: InMemory) -> InMemory {
+    files.log.crash();
+    files.db.crash();
+    files
+}

@@ -1,0 +1,18 @@
+//! Tests of the desk's tables in stores: every kind of row is written, overwritten and read back, and a transaction is
+//! stopped at each call of a file in turn.
+#![tactic(auto)]
+
+#[cfg(test)]
+mod expected;
+#[cfg(test)]
+mod files;
+#[cfg(test)]
+mod round_trip;
+#[cfg(test)]
+mod rows;
+#[cfg(test)]
+mod stops;
+#[cfg(test)]
+mod store;
+#[cfg(test)]
+mod told;

@@ -1,0 +1,274 @@
+//! Changes of every kind of row. The columns that are no key are made of a text and a number, so that other ones
+//! overwrite them.
+use plant_base::{
+    Amount, Batch, BatchEvent, BatchRow, BatchState, Class, ControlLine, Definition, Due, Event,
+    Header, Hold, Id, Job, JobState, Lot, MasterLine, Meta, Moment, Movement, MovementKind,
+    OrderRow, Position, Recipe, RecipeLine, RecipeState, Sublot, Text, Unit, Word,
+};
+use plant_rules::RowChange;
+use std::alloc::AllocError;
+use std::process::Abort;
+
+/// What the columns that are no key are made of: a text, and a number from 1 on.
+#[derive(Clone, Copy)]
+pub struct Content<'a> {
+    pub text: &'a [u8],
+    pub number: u16,
+}
+
+pub const FIRST: Content<'static> = Content {
+    text: b"one",
+    number: 300,
+};
+
+pub const SECOND: Content<'static> = Content {
+    text: b"two",
+    number: 500,
+};
+
+fn id(rt: &(impl Abort + AllocGlobal), bytes: &[u8]) -> Id {
+    Id::read(bytes).expect(rt, "an id")
+}
+
+fn text(rt: &(impl Abort + AllocGlobal), bytes: &[u8]) -> Text {
+    Text::read(bytes).expect(rt, "a text")
+}
+
+fn amount(rt: &(impl Abort + AllocGlobal), number: u16) -> Amount {
+    Amount::new(u64::from(number)).expect(rt, "an amount")
+}
+
+fn moment(rt: &(impl Abort + AllocGlobal), number: u16) -> Moment {
+    Moment::new(u64::from(number)).expect(rt, "a moment")
+}
+
+fn header(rt: &(impl Abort + AllocGlobal), of: Content<'_>) -> Header {
+    Header {
+        recipe: id(rt, b"CAKE"),
+        version: 2,
+        product: id(rt, b"DOUGH"),
+        base: amount(rt, of.number),
+        least: amount(rt, 1),
+        greatest: amount(rt, of.number),
+        title: text(rt, of.text),
+    }
+}
+
+fn in_line(rt: &(impl Abort + AllocGlobal), of: Content<'_>) -> RecipeLine {
+    RecipeLine::In {
+        def: id(rt, b"FLOUR"),
+        amount: amount(rt, of.number),
+    }
+}
+
+fn master_line(rt: &(impl Abort + AllocGlobal), number: u16, line: RecipeLine) -> RowChange {
+    RowChange::MasterLine(MasterLine {
+        recipe: id(rt, b"CAKE"),
+        version: 2,
+        number,
+        line,
+    })
+}
+
+fn parameter(rt: &(impl Abort + AllocGlobal), of: Content<'_>) -> RecipeLine {
+    RecipeLine::Parameter {
+        name: id(rt, b"TEMP"),
+        value: text(rt, of.text),
+    }
+}
+
+fn phase(rt: &(impl Abort + AllocGlobal)) -> RecipeLine {
+    RecipeLine::Phase {
+        unit_procedure: id(rt, b"MIX"),
+        operation: id(rt, b"BLEND"),
+        phase: id(rt, b"STIR"),
+    }
+}
+
+/// The row of meta, a class, a definition, a recipe and a line of each kind.
+fn masters(rt: &(impl Abort + AllocGlobal), of: Content<'_>) -> [RowChange; 8] {
+    let out = RecipeLine::Out {
+        def: id(rt, b"DOUGH"),
+        amount: amount(rt, of.number),
+    };
+    [
+        RowChange::Meta(Meta {
+            schema: 1,
+            position: Position {
+                seq: u64::from(of.number),
+                at: moment(rt, of.number),
+            },
+        }),
+        RowChange::Class(Class {
+            id: id(rt, b"RAW"),
+            name: text(rt, of.text),
+        }),
+        RowChange::Definition(Definition {
+            id: id(rt, b"FLOUR"),
+            class: id(rt, b"RAW"),
+            name: text(rt, of.text),
+            unit: Unit::read(b"kg").expect(rt, "a unit"),
+        }),
+        RowChange::Recipe(Recipe {
+            header: header(rt, of),
+            state: RecipeState::Approved,
+        }),
+        master_line(rt, 1, in_line(rt, of)),
+        master_line(rt, 2, out),
+        master_line(rt, 3, parameter(rt, of)),
+        master_line(rt, 4, phase(rt)),
+    ]
+}
+
+fn order(rt: &(impl Abort + AllocGlobal), of: Content<'_>) -> OrderRow {
+    OrderRow {
+        order: id(rt, b"O-1"),
+        recipe: id(rt, b"CAKE"),
+        version: 2,
+        size: amount(rt, of.number),
+        due: Due::read(b"2027-03-01").expect(rt, "a due date"),
+        priority: 5,
+    }
+}
+
+fn batch(rt: &(impl Abort + AllocGlobal), of: Content<'_>) -> Batch {
+    Batch {
+        id: id(rt, b"B-1"),
+        job: id(rt, b"O-1"),
+        at: moment(rt, of.number),
+        by: text(rt, b"anna"),
+        note: text(rt, of.text),
+    }
+}
+
+fn event(rt: &(impl Abort + AllocGlobal), seq: u64, event: Event, of: Content<'_>) -> RowChange {
+    RowChange::Event(BatchEvent {
+        seq,
+        batch: id(rt, b"B-1"),
+        event,
+        at: moment(rt, of.number),
+        by: text(rt, b"ben"),
+        note: text(rt, of.text),
+    })
+}
+
+/// An order, its batch, a line of the batch's recipe and an event of each kind.
+fn orders(rt: &(impl Abort + AllocGlobal), of: Content<'_>) -> [RowChange; 6] {
+    [
+        RowChange::Job(Job {
+            order: order(rt, of),
+            state: JobState::Released,
+        }),
+        RowChange::Batch(BatchRow {
+            batch: batch(rt, of),
+            state: BatchState::Running,
+            attempt: 1,
+            next: 2,
+            closed: false,
+        }),
+        RowChange::ControlLine(ControlLine {
+            batch: id(rt, b"B-1"),
+            number: 1,
+            line: in_line(rt, of),
+        }),
+        event(rt, 11, Event::Moved(Word::Start), of),
+        event(rt, 12, Event::PhaseDone(1), of),
+        event(rt, 13, Event::Closed, of),
+    ]
+}
+
+/// A movement of lot L-1.
+fn movement(
+    rt: &(impl Abort + AllocGlobal),
+    seq: u64,
+    kind: MovementKind,
+    of: Content<'_>,
+) -> RowChange {
+    RowChange::Movement(Movement {
+        seq,
+        line: 1,
+        kind,
+        lot: id(rt, b"L-1"),
+        sub: 0,
+        amount: amount(rt, of.number),
+        at: moment(rt, of.number),
+        by: text(rt, b"ben"),
+        note: text(rt, of.text),
+    })
+}
+
+/// A movement of each kind.
+fn movements(rt: &(impl Abort + AllocGlobal), of: Content<'_>) -> [RowChange; 7] {
+    let batch = id(rt, b"B-1");
+    [
+        movement(rt, 1, MovementKind::Received, of),
+        movement(rt, 2, MovementKind::Consumed { batch }, of),
+        movement(rt, 3, MovementKind::Produced { batch }, of),
+        movement(rt, 4, MovementKind::Scrapped, of),
+        movement(rt, 5, MovementKind::Divided { to: 1 }, of),
+        movement(rt, 6, MovementKind::Split { to: id(rt, b"L-2") }, of),
+        movement(rt, 7, MovementKind::Merged { to: id(rt, b"L-3") }, of),
+    ]
+}
+
+fn hold(rt: &(impl Abort + AllocGlobal), name: &[u8], of: Content<'_>) -> RowChange {
+    RowChange::Hold(Hold {
+        lot: id(rt, b"L-1"),
+        id: id(rt, name),
+        at: moment(rt, of.number),
+        by: text(rt, b"ben"),
+        note: text(rt, of.text),
+    })
+}
+
+/// A lot, a sublot of it, and two holds of it.
+fn stocks(rt: &(impl Abort + AllocGlobal), of: Content<'_>) -> [RowChange; 4] {
+    [
+        RowChange::Lot(Lot {
+            id: id(rt, b"L-1"),
+            def: id(rt, b"FLOUR"),
+        }),
+        RowChange::Sublot(Sublot {
+            lot: id(rt, b"L-1"),
+            number: 0,
+            place: text(rt, of.text),
+            stock: u64::from(of.number),
+        }),
+        hold(rt, b"H-1", of),
+        hold(rt, b"H-2", of),
+    ]
+}
+
+/// The first hold of lot L-1 is taken away.
+fn unhold(rt: &(impl Abort + AllocGlobal)) -> RowChange {
+    RowChange::Unhold {
+        lot: id(rt, b"L-1"),
+        hold: id(rt, b"H-1"),
+    }
+}
+
+/// A change of every kind: each row is added, or put in the place of the one with its key.
+pub fn rows(
+    rt: &(impl Abort + AllocGlobal),
+    of: Content<'_>,
+) -> Result<Vec<RowChange>, AllocError> {
+    // The checker can't follow row changes, unless the function names these types.
+    let _: Option<(RecipeLine, MasterLine, ControlLine, Movement, MovementKind)> = None;
+    let mut changes = Vec::new(rt.alloc());
+    changes.extend_from_slice(&masters(rt, of))?;
+    changes.extend_from_slice(&orders(rt, of))?;
+    changes.extend_from_slice(&stocks(rt, of))?;
+    changes.extend_from_slice(&movements(rt, of))?;
+    Ok(changes)
+}
+
+/// The same, and then the first hold is taken away.
+pub fn rows_and_unhold(
+    rt: &(impl Abort + AllocGlobal),
+    of: Content<'_>,
+) -> Result<Vec<RowChange>, AllocError> {
+    let _: Option<(RecipeLine, MasterLine, ControlLine, Movement, MovementKind)> = None;
+    let mut changes = rows(rt, of)?;
+    changes.push(unhold(rt))?;
+    Ok(changes)
+}

@@ -74,6 +74,14 @@ pub fn opened(alloc: Global, files: InMemory) -> Result<Fused, InMemory> {
     }
 }
 
+/// A connection to files that don't stop.
+pub fn reopened(alloc: Global, files: InMemory) -> Result<Fused, Fail> {
+    match opened(alloc, files) {
+        Ok(conn) => Ok(conn),
+        Err(_) => Err("the files don't open")?,
+    }
+}
+
 /// The files, without what was not synced, and with no stop ahead.
 pub fn crashed(mut files: InMemory) -> InMemory {
     files.log.crash();

@@ -1,6 +1,6 @@
 //! Every kind of row is written, overwritten and read back, beside a table of another name.
 use crate::expected::{FIRST, OPENING, SECOND};
-use crate::files::{ALL, Image, opened};
+use crate::files::{ALL, Image, reopened};
 use crate::store::{Step, held, make_other, take};
 use sqlite::{Alter, Connection};
 use std::process::Abort;
@@ -38,8 +38,6 @@ fn rows_are_read_back_from_memory(rt: HostRuntime) -> Result<(), Fail> {
 #[test]
 fn rows_are_read_back_from_files(rt: HostRuntime) -> Result<(), Fail> {
     let files = Image::empty(rt.alloc()).files(rt.alloc(), ALL)?;
-    match opened(rt.alloc(), files) {
-        Ok(mut conn) => check_all(&rt, &mut conn),
-        Err(_) => Err("the files don't open")?,
-    }
+    let mut conn = reopened(rt.alloc(), files)?;
+    check_all(&rt, &mut conn)
 }

@@ -1,8 +1,9 @@
 //! A transaction over files that are stopped after so many calls of one of them, for every number of calls. Opened anew,
 //! the files hold the tables from before it or from after it, and those from after it where it was answered.
 use crate::expected::{FIRST, OPENING, SECOND};
-use crate::files::{ALL, Calls, Image, InMemory, crashed, opened};
+use crate::files::{ALL, Calls, Image, InMemory, crashed, opened, reopened};
 use crate::store::{Step, held, make_other, take};
+use sqlite::{Alter, Connection};
 use std::process::Abort;
 use std::test::Fail;
 
@@ -34,26 +35,30 @@ struct Case<'a> {
     after: &'a str,
 }
 
+/// Makes a table of another name, and does the steps.
+fn prepare<S: Alter>(
+    rt: &(impl Abort + AllocGlobal),
+    conn: &mut Connection<S>,
+    steps: &[Step],
+) -> Result<(), Fail> {
+    make_other(conn)?;
+    for step in steps {
+        take(rt, conn, *step)??;
+    }
+    Ok(())
+}
+
 /// Two files with a table of another name, after these steps.
 fn image_after(rt: &(impl Abort + AllocGlobal), steps: &[Step]) -> Result<Image, Fail> {
-    match opened(rt.alloc(), Image::empty(rt.alloc()).files(rt.alloc(), ALL)?) {
-        Ok(mut conn) => {
-            make_other(&mut conn)?;
-            for step in steps {
-                take(rt, &mut conn, *step)??;
-            }
-            Image::of(rt.alloc(), &conn.into_store().close())
-        }
-        Err(_) => Err("the files don't open")?,
-    }
+    let files = Image::empty(rt.alloc()).files(rt.alloc(), ALL)?;
+    let mut conn = reopened(rt.alloc(), files)?;
+    prepare(rt, &mut conn, steps)?;
+    Image::of(rt.alloc(), &conn.into_store().close())
 }
 
 /// What the files hold.
 fn held_in(rt: &(impl Abort + AllocGlobal), files: InMemory) -> Result<String, Fail> {
-    match opened(rt.alloc(), files) {
-        Ok(mut conn) => held(rt, &mut conn),
-        Err(_) => Err("the files don't open again")?,
-    }
+    held(rt, &mut reopened(rt.alloc(), files)?)
 }
 
 /// Whether the step was answered, and the files as they were left.

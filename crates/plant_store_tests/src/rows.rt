@@ -5,7 +5,7 @@ use plant_base::{
     Header, Hold, Id, Job, JobState, Lot, MasterLine, Meta, Moment, Movement, MovementKind,
     OrderRow, Position, Recipe, RecipeLine, RecipeState, Sublot, Text, Unit, Word,
 };
-use plant_rules::RowChange;
+use plant_view::RowChange;
 use std::alloc::AllocError;
 use std::process::Abort;
 

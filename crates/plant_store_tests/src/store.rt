@@ -4,7 +4,7 @@ use crate::rows::{FIRST, SECOND, rows, rows_and_unhold};
 use crate::told::{push_loaded, push_row};
 use plant_forms::Fault;
 use plant_loaded::{FoundTables, Loaded, found};
-use plant_rules::RowChange;
+use plant_view::RowChange;
 use plant_tables::{commit_changes, commit_opening};
 use sqlite::types::ValueRef::{Int, Null, Text};
 use sqlite::{Alter, Connection};

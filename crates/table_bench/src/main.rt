@@ -13,7 +13,7 @@ use plant_base::{
 };
 use plant_forms::Fault;
 use plant_loaded::Loaded;
-use plant_rules::RowChange;
+use plant_view::RowChange;
 use plant_tables::{commit_changes, commit_opening};
 use sqlite::{Alter, Connection, File, FileStore};
 use std::alloc::Global;

@@ -45,6 +45,7 @@ fn a_batch_runs_to_its_close(rt: HostRuntime) -> Result<(), Fail> {
 {\"at\":300,\"by\":\"anna\",\"do\":\"produce\",\"batch\":\"B-1\",\"lot\":\"D-2\",\"def\":\"DOUGH\",\"amount\":1,\"place\":\"\"}
 {\"at\":300,\"by\":\"anna\",\"do\":\"close_batch\",\"batch\":\"B-1\"}
 {\"ask\":\"batch\",\"batch\":\"B-1\"}
+{\"ask\":\"back\",\"lot\":\"D-1\"}
 {\"ask\":\"batch\",\"batch\":\"B-9\"}
 {\"ask\":\"order\",\"order\":\"O-1\"}
 {\"ask\":\"lot\",\"lot\":\"F-1\"}
@@ -56,6 +57,7 @@ fn a_batch_runs_to_its_close(rt: HostRuntime) -> Result<(), Fail> {
 {\"name\":\"BatchClosed\",\"refused\":23}
 {\"name\":\"BatchClosed\",\"refused\":23}
 {\"attempt\":1,\"batch\":\"B-1\",\"closed\":true,\"consumed\":[{\"amount\":167,\"def\":\"FLOUR\",\"lot\":\"F-1\",\"seq\":10,\"sub\":0}],\"next\":2,\"order\":\"O-1\",\"phases\":1,\"produced\":[{\"amount\":490,\"def\":\"DOUGH\",\"lot\":\"D-1\",\"seq\":12}],\"recipe\":\"CAKE\",\"size\":500,\"state\":\"complete\",\"version\":1}
+{\"nodes\":[{\"lot\":\"F-1\"},{\"batch\":\"B-1\"}]}
 {\"name\":\"UnknownBatch\",\"refused\":8}
 {\"batch\":\"B-1\",\"due\":\"2027-03-01\",\"order\":\"O-1\",\"priority\":5,\"recipe\":\"CAKE\",\"size\":500,\"state\":\"finished\",\"version\":1}
 {\"def\":\"FLOUR\",\"held\":false,\"lot\":\"F-1\",\"stock\":833,\"sublots\":[{\"no\":0,\"place\":\"\",\"stock\":833}]}

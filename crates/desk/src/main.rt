@@ -10,6 +10,8 @@ mod movement_tests;
 mod order_tests;
 #[cfg(test)]
 mod tests;
+#[cfg(test)]
+mod trace_tests;
 
 use exit::{fault_of, status_of};
 use plant_desk::ListKeeper;

@@ -72,7 +72,9 @@ impl ListKeeper {
 
 impl ListKeeper {
     ghost use Rattle.std.specs.Prelude.{◌≤◌, length, take, IfNone};
+    ghost use Rattle.plant_trace.specs.Reach.{IsAcyclic};
     ghost use Rattle.plant_view.specs.Conserve.{IsConserved, IsBalanced};
+    ghost use Rattle.plant_view.specs.Genealogy.{edges_of};
     ghost use Rattle.plant_desk.specs.Runs.{fold, replies};
 
     /// Executes commands in order, up to the first fault. Room for the replies is taken first; where it is refused,
@@ -86,6 +88,9 @@ impl ListKeeper {
         // Nothing is lost and nothing made, whatever the commands were: of each definition, and in each lot.
         ensures conserved { IsConserved self.new }
         ensures balanced { IsBalanced self.new }
+
+        // And nothing was made from itself.
+        ensures acyclic { IsAcyclic (edges_of self.new) }
     {
         let mut items = Vec::new(self.lists.alloc);
         if items.reserve(list.len()).is_err() {
@@ -120,6 +125,7 @@ impl ListKeeper {
         ensures memory { IfErr result (λ f. f ≡ DeskFault.Memory) }
         ensures conserved { IsConserved self.new }
         ensures balanced { IsBalanced self.new }
+        ensures acyclic { IsAcyclic (edges_of self.new) }
     {
         envelope.show_values();
         self.lists.execute(envelope)

@@ -12,3 +12,8 @@ returns-clause-conserved c = conserved (state_of c.execute.new.self) (kept c.exe
 
 pub returns-clause-balanced : goal.returns-clause-balanced
 returns-clause-balanced c = balanced (state_of c.execute.new.self) (kept c.execute.result _ _ c.args.envelope.now c.self.invariant c.show_values.ensures c.execute.ensures.ok c.execute.ensures.err)
+
+pub returns-clause-acyclic : goal.returns-clause-acyclic
+returns-clause-acyclic c =
+    let sound = kept c.execute.result _ _ c.args.envelope.now c.self.invariant c.show_values.ensures c.execute.ensures.ok c.execute.ensures.err in
+    sound.genealogy.acyclic

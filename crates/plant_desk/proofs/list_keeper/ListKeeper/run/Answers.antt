@@ -11,6 +11,9 @@ returns-then-is_err-clause-conserved c = rw (← c.self.view_is) (conserved _ c.
 pub returns-then-is_err-clause-balanced : goal.returns-then-is_err-clause-balanced
 returns-then-is_err-clause-balanced c = rw (← c.self.view_is) (balanced _ c.self.invariant)
 
+pub returns-then-is_err-clause-acyclic : goal.returns-then-is_err-clause-acyclic
+returns-then-is_err-clause-acyclic c = rw (← c.self.view_is) c.self.invariant.genealogy.acyclic
+
 pub loop-e-preserved : goal.loop-e-preserved
 loop-e-preserved c =
     let folded = fold_more c.args.self.now c.args.list.now c.loop-e.e-index c.e-item.result c.loop-e-test.true c.e-item.is in
@@ -22,6 +25,7 @@ loop-e-preserved c =
       stands = grind (arith, common_steps);
       conserved = c.execute_one.ensures.conserved;
       balanced = c.execute_one.ensures.balanced;
+      acyclic = c.execute_one.ensures.acyclic;
     }
 
 pub loop-e-init : goal.loop-e-init
@@ -32,4 +36,5 @@ loop-e-init c = record {
   stands = search rules;
   conserved = rw (← c.self.view_is) (conserved _ c.self.invariant);
   balanced = rw (← c.self.view_is) (balanced _ c.self.invariant);
+  acyclic = rw (← c.self.view_is) c.self.invariant.genealogy.acyclic;
 }

@@ -13,8 +13,8 @@ use plant_base::{
 };
 use plant_forms::Fault;
 use plant_loaded::Loaded;
-use plant_view::RowChange;
 use plant_tables::{commit_changes, commit_opening};
+use plant_view::RowChange;
 use sqlite::{Alter, Connection, File, FileStore};
 use std::alloc::Global;
 use std::process::ExitCode;

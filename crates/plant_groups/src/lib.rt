@@ -2,10 +2,14 @@
 #![tactic(auto)]
 
 ghost use Rattle.std.specs.Prelude.{◌≡◌, OnOk, IfOk};
-ghost use Rattle.plant_groups.specs.Groups.{Groups, Joins, rows_at};
+ghost use Rattle.std.specs.List.{list_any};
+ghost use Rattle.plant_groups.specs.Groups.{Groups, Joins, is_keyed, rows_of};
 
 use std::alloc::{AllocError, Global};
 use std::collections::BTreeMap;
+
+#[cfg(test)]
+mod tests;
 
 /// What rows of one kind are grouped by.
 pub trait Grouping {
@@ -25,20 +29,13 @@ pub trait Grouping {
         ensures { result ≡ key_of row.now };
 }
 
-/// The rows of each key, in their order. The only error is that memory was refused.
-pub fn grouped<G: Grouping>(
-    alloc: Global,
-    rows: &[G::Row],
-) -> Result<BTreeMap<G::Key, Vec<G::Row>>, AllocError>
-    ensures { IfOk result (Groups G.Key.cmp G.key_of rows.now) }
-{
-    let mut groups = BTreeMap::new(alloc);
-    for row in rows {
-        if let Some(key) = G::key(row) {
-            join(alloc, &mut groups, key, *row)?;
-        }
-    }
-    Ok(groups)
+/// Rows, found by their key.
+#[derive(Drop)]
+pub struct Grouped<'a, G: Grouping> {
+    /// The rows, in any order.
+    pub rows: &'a [G::Row],
+    groups: BTreeMap<G::Key, Vec<G::Row>>,
+    ghost grouped: { Groups G.Key.cmp G.key_of rows.now groups },
 }
 
 // One more row at the end of its group.
@@ -56,12 +53,45 @@ fn join<K: Ord + Copy, R: Copy>(
     Ok(())
 }
 
-/// The rows of a key, in their order.
-pub fn rows_at<'a, K: Ord, R>(groups: &'a BTreeMap<K, Vec<R>>, key: &K) -> &'a [R]
-    ensures { result.now ≡ rows_at K.cmp groups.now key.now }
+fn groups_of<G: Grouping>(
+    alloc: Global,
+    rows: &[G::Row],
+) -> Result<BTreeMap<G::Key, Vec<G::Row>>, AllocError>
+    ensures { IfOk result (Groups G.Key.cmp G.key_of rows.now) }
 {
-    match groups.get(key) {
-        Some(group) => group.as_slice(),
-        None => &[],
+    let mut groups = BTreeMap::new(alloc);
+    for row in rows {
+        if let Some(key) = G::key(row) {
+            join(alloc, &mut groups, key, *row)?;
+        }
+    }
+    Ok(groups)
+}
+
+impl<'a, G: Grouping> Grouped<'a, G> {
+    /// Groups the rows by their key. The only error is that memory was refused.
+    pub fn new(alloc: Global, rows: &'a [G::Row]) -> Result<Self, AllocError>
+        ensures { IfOk result (λ g. g.rows.now ≡ rows.now) }
+    {
+        let groups = groups_of::<G>(alloc, rows)?;
+        Ok(Grouped { rows, groups })
+    }
+
+    /// The rows of a key, in their order.
+    pub fn at(&self, key: G::Key) -> &[G::Row]
+        ensures { result.now ≡ rows_of G.Key.cmp G.key_of self.now.rows.now key }
+    {
+        match self.groups.get(&key) {
+            Some(group) => group.as_slice(),
+            None => &[],
+        }
+    }
+
+    /// Whether some row has the key.
+    #[tactic(auto, using(crate::proofs::Passing::some_passes))]
+    pub fn has(&self, key: G::Key) -> bool
+        ensures { result ≡ list_any (λ r. is_keyed G.Key.cmp (G.key_of r) key) self.now.rows.now }
+    {
+        !self.at(key).is_empty()
     }
 }

@@ -1,7 +1,7 @@
 //! Rows by a key: each row is gone over once, and then all rows of a key are found at once.
 #![tactic(auto)]
 
-ghost use Rattle.std.specs.Prelude.{◌≡◌, OnOk, IfOk};
+ghost use Rattle.std.specs.Prelude.{◌≡◌, OnOk, IfOk, find};
 ghost use Rattle.std.specs.List.{list_any};
 ghost use Rattle.plant_groups.specs.Groups.{Groups, Joins, is_keyed, rows_of};
 
@@ -85,6 +85,14 @@ impl<'a, G: Grouping> Grouped<'a, G> {
             Some(group) => group.as_slice(),
             None => &[],
         }
+    }
+
+    /// The first row of a key, where there is one.
+    #[tactic(auto, using(crate::proofs::Passing::first_found))]
+    pub fn first(&self, key: G::Key) -> Option<G::Row>
+        ensures { result ≡ find (λ r. is_keyed G.Key.cmp (G.key_of r) key) self.now.rows.now }
+    {
+        self.at(key).first().copied()
     }
 
     /// Whether some row has the key.

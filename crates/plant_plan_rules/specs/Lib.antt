@@ -1,2 +1,5 @@
 pub mod Catalogue
 pub mod Recipes
+pub mod Orders
+pub mod Batches
+pub mod Events

@@ -1,11 +1,16 @@
 //! What rows are looked up by.
 
-ghost use Rattle.std.specs.Prelude.{◌≡◌};
-ghost use Rattle.plant_view.specs.Production.{is_defined, rows_among};
+ghost use Rattle.std.specs.Prelude.{◌≡◌, ◌==◌, filter, length};
+ghost use Rattle.plant_base.specs.State.{same};
+ghost use Rattle.plant_view.specs.Production.{is_defined, rows_among, control_among};
 ghost use Rattle.plant_plan_rules.specs.Catalogue.{is_class_among};
 ghost use Rattle.plant_plan_rules.specs.Recipes.{is_recipe_among};
+ghost use Rattle.plant_plan_rules.specs.Orders.{recipe_among, row_of_order};
+ghost use Rattle.plant_plan_rules.specs.Batches.{job_among, is_batch_among};
 
-use plant_base::{Class, Definition, Id, MasterLine, Recipe};
+use plant_base::{
+    BatchEvent, BatchRow, Class, ControlLine, Definition, Id, Job, MasterLine, Recipe,
+};
 use plant_groups::{Grouped, Grouping};
 
 /// Classes by their id.
@@ -76,6 +81,91 @@ impl Grouping for RecipeLines {
     }
 }
 
+/// Orders by their id.
+pub(crate) struct Orders;
+
+impl Grouping for Orders {
+    ghost use Rattle.std.specs.Prelude.{Some};
+
+    type Row = Job;
+
+    type Key = Id;
+
+    ghost key_of = { λ j. Some j.order.order };
+
+    fn key(row: &Job) -> Option<Id> {
+        Some(row.order.order)
+    }
+}
+
+/// Batches by their id.
+pub(crate) struct Batches;
+
+impl Grouping for Batches {
+    ghost use Rattle.std.specs.Prelude.{Some};
+
+    type Row = BatchRow;
+
+    type Key = Id;
+
+    ghost key_of = { λ b. Some b.batch.id };
+
+    fn key(row: &BatchRow) -> Option<Id> {
+        Some(row.batch.id)
+    }
+}
+
+/// Batches by their order.
+pub(crate) struct BatchesOfOrders;
+
+impl Grouping for BatchesOfOrders {
+    ghost use Rattle.std.specs.Prelude.{Some};
+
+    type Row = BatchRow;
+
+    type Key = Id;
+
+    ghost key_of = { λ b. Some b.batch.job };
+
+    fn key(row: &BatchRow) -> Option<Id> {
+        Some(row.batch.job)
+    }
+}
+
+/// Lines of control recipes by their batch.
+pub(crate) struct ControlLines;
+
+impl Grouping for ControlLines {
+    ghost use Rattle.std.specs.Prelude.{Some};
+
+    type Row = ControlLine;
+
+    type Key = Id;
+
+    ghost key_of = { λ l. Some l.batch };
+
+    fn key(row: &ControlLine) -> Option<Id> {
+        Some(row.batch)
+    }
+}
+
+/// Events by their batch.
+pub(crate) struct Events;
+
+impl Grouping for Events {
+    ghost use Rattle.std.specs.Prelude.{Some};
+
+    type Row = BatchEvent;
+
+    type Key = Id;
+
+    ghost key_of = { λ e. Some e.batch };
+
+    fn key(row: &BatchEvent) -> Option<Id> {
+        Some(row.batch)
+    }
+}
+
 pub(crate) fn has_class(classes: &Grouped<Classes>, id: Id) -> bool
     ensures { result ≡ is_class_among classes.now.rows.now id }
 {
@@ -102,4 +192,47 @@ pub(crate) fn lines_of<'a>(
     ensures { result.now ≡ rows_among lines.now.rows.now id version }
 {
     lines.at((id, version))
+}
+
+pub(crate) fn recipe_at(recipes: &Grouped<Recipes>, id: Id, version: u16) -> Option<Recipe>
+    ensures { result ≡ recipe_among recipes.now.rows.now id version }
+{
+    recipes.first((id, version))
+}
+
+pub(crate) fn job_at(jobs: &Grouped<Orders>, id: Id) -> Option<Job>
+    ensures { result ≡ job_among jobs.now.rows.now id }
+{
+    jobs.first(id)
+}
+
+pub(crate) fn has_batch(batches: &Grouped<Batches>, id: Id) -> bool
+    ensures { result ≡ is_batch_among batches.now.rows.now id }
+{
+    batches.has(id)
+}
+
+pub(crate) fn batch_of(batches: &Grouped<BatchesOfOrders>, order: Id) -> Option<BatchRow>
+    ensures { result ≡ row_of_order batches.now.rows.now order }
+{
+    batches.first(order)
+}
+
+// Whether the order has just one batch.
+pub(crate) fn has_one_batch(batches: &Grouped<BatchesOfOrders>, order: Id) -> bool
+    ensures { result ≡ (length (filter (λ b. same b.batch.job order) batches.now.rows.now) == 1) }
+{
+    batches.at(order).len() == 1
+}
+
+pub(crate) fn control_of<'a>(lines: &'a Grouped<ControlLines>, batch: Id) -> &'a [ControlLine]
+    ensures { result.now ≡ control_among lines.now.rows.now batch }
+{
+    lines.at(batch)
+}
+
+pub(crate) fn events_of<'a>(events: &'a Grouped<Events>, batch: Id) -> &'a [BatchEvent]
+    ensures { result.now ≡ filter (λ e. same e.batch batch) events.now.rows.now }
+{
+    events.at(batch)
 }

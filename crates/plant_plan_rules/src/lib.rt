@@ -3,9 +3,16 @@
 //! Each goes over its rows once, and looks the others up by their key.
 #![tactic(auto)]
 
+mod batches;
 mod catalogue;
+mod events;
 mod keys;
+mod numbered;
+mod orders;
 mod recipes;
 
+pub use batches::are_batches;
 pub use catalogue::are_classified;
+pub use events::are_events;
+pub use orders::are_orders;
 pub use recipes::are_recipes;

@@ -7,6 +7,7 @@ ghost use Rattle.plant_view.specs.Production.{is_defined, is_known};
 ghost use Rattle.plant_plan_rules.specs.Recipes.{are_numbered, is_whole_recipe, is_recipe_among, are_recipes};
 
 use crate::keys::{Definitions, RecipeLines, Recipes, has_definition, has_recipe, lines_of};
+use crate::numbered::are_numbered;
 use plant_base::{Definition, Header, MasterLine, Recipe, RecipeLine};
 use plant_groups::Grouped;
 use plant_recipe::is_well_formed;
@@ -93,7 +94,7 @@ fn are_known(definitions: &Grouped<Definitions>, lines: &[RecipeLine]) -> bool
     lines.iter().all(|line| is_known(definitions, line))
 }
 
-fn lines_in(alloc: Global, rows: &[MasterLine]) -> Result<Vec<RecipeLine>, AllocError>
+pub(crate) fn lines_in(alloc: Global, rows: &[MasterLine]) -> Result<Vec<RecipeLine>, AllocError>
     ensures { IfOk result (λ lines. lines.items ≡ map (λ r. r.line) rows.now) }
 {
     rows.iter().map(|r| r.line).collect(alloc)
@@ -109,18 +110,4 @@ fn is_known(definitions: &Grouped<Definitions>, line: &RecipeLine) -> bool
         ),
         RecipeLine::Parameter { .. } | RecipeLine::Phase { .. } => true,
     }
-}
-
-// Whether the rows are numbered from 1 on.
-fn are_numbered(rows: &[MasterLine]) -> bool
-    ensures { result ≡ are_numbered 1 (map (λ r. r.number) rows.now) }
-{
-    let mut next: u64 = 1;
-    for row in rows {
-        if u64::from(row.number) != next {
-            return false;
-        }
-        next += 1;
-    }
-    true
 }

@@ -1,10 +1,10 @@
 use Rattle.std.proofs.Common.{◌≡◌, ◌+◌, drop}
 use Rattle.std.specs.Prelude.{map}
 use Rattle.plant_plan_rules.specs.Recipes.{are_numbered}
-use Rattle.plant_plan_rules.proofs.recipes.are_numbered.Given as goal
+use Rattle.plant_plan_rules.proofs.numbered.are_numbered.Given as goal
 
 -- the rows so far are numbered: all are where those that are left go on from the next number
 abbrev pub invariant-loop-row : goal.invariant-loop-row
-invariant-loop-row l =
+invariant-loop-row g l =
     (l.next ≡ l.row-index + 1)
-    × (are_numbered l.next (map (λ r. r.number) (drop l.row-index l.rows)) ≡ are_numbered 1 (map (λ r. r.number) l.rows))
+    × (are_numbered l.next (map g.R.Numbered.number_of (drop l.row-index l.rows)) ≡ are_numbered 1 (map g.R.Numbered.number_of l.rows))

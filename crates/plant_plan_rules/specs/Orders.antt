@@ -1,0 +1,46 @@
+-- Orders and the batches that they were released as.
+use Rattle.std.specs.Prelude.{ℕ, Bool, true, false, not, ◌&&◌, ◌==◌, List, Option, Some, None, find, is_none}
+use Rattle.std.specs.List.{list_all}
+use Rattle.plant_base.specs.State.{same}
+use Rattle.plant_base.specs.declared.rows.BatchRow.{BatchRow}
+use Rattle.plant_base.specs.declared.rows.Job.{Job}
+use Rattle.plant_base.specs.declared.rows.Recipe.{Recipe}
+use Rattle.plant_base.specs.declared.states.JobState.{JobState}
+use Rattle.plant_base.specs.declared.states.JobState.TheVariants.{Open, Cancelled, Released, Finished}
+use Rattle.plant_recipe.specs.Control.{is_size_of}
+
+abbrev pub recipe_among : List Recipe → List ℕ → ℕ → Option Recipe
+recipe_among recipes id version = find (λ r. same r.header.recipe id && r.header.version == version) recipes
+
+-- the recipe is there, and the size is one of it
+abbrev pub is_size_of_recipe : Option Recipe → ℕ → Bool
+is_size_of_recipe None size = false
+is_size_of_recipe (Some r) size = is_size_of r.header size
+
+-- the batch of an order, with its kept columns
+abbrev pub row_of_order : List BatchRow → List ℕ → Option BatchRow
+row_of_order batches order = find (λ b. same b.batch.job order) batches
+
+abbrev pub is_running : Option BatchRow → Bool
+is_running None = false
+is_running (Some b) = not b.closed
+
+abbrev pub is_closed : Option BatchRow → Bool
+is_closed None = false
+is_closed (Some b) = b.closed
+
+-- a released order has a batch that isn't closed, a finished one a closed batch, and no other has one
+abbrev pub is_started : JobState → Option BatchRow → Bool
+is_started Open b = is_none b
+is_started Cancelled b = is_none b
+is_started Released b = is_running b
+is_started Finished b = is_closed b
+
+-- the order's recipe is there with its size, and it has a batch where it was released
+unfoldable pub is_right_order : List Recipe → List BatchRow → Job → Bool
+is_right_order recipes batches j =
+    is_size_of_recipe (recipe_among recipes j.order.recipe j.order.version) j.order.size
+    && is_started j.state (row_of_order batches j.order.order)
+
+abbrev pub are_orders : List Recipe → List BatchRow → List Job → Bool
+are_orders recipes batches jobs = list_all (is_right_order recipes batches) jobs

@@ -1,0 +1,46 @@
+//! Rows that are numbered.
+
+ghost use Rattle.std.specs.Prelude.{◌≡◌, map};
+ghost use Rattle.plant_plan_rules.specs.Recipes.{are_numbered};
+
+use plant_base::{ControlLine, MasterLine};
+
+/// A row with a number among its like.
+pub(crate) trait Numbered {
+    ghost use Rattle.std.specs.Prelude.{◌≡◌, ℕ};
+
+    ghost number_of: { Self → ℕ };
+
+    fn number(&self) -> u16
+        ensures { result ≡ number_of self.now };
+}
+
+impl Numbered for MasterLine {
+    ghost number_of = { λ l. l.number };
+
+    fn number(&self) -> u16 {
+        self.number
+    }
+}
+
+impl Numbered for ControlLine {
+    ghost number_of = { λ l. l.number };
+
+    fn number(&self) -> u16 {
+        self.number
+    }
+}
+
+/// Whether the rows are numbered from 1 on.
+pub(crate) fn are_numbered<R: Numbered>(rows: &[R]) -> bool
+    ensures { result ≡ are_numbered 1 (map R.number_of rows.now) }
+{
+    let mut next: u64 = 1;
+    for row in rows {
+        if u64::from(row.number()) != next {
+            return false;
+        }
+        next += 1;
+    }
+    true
+}

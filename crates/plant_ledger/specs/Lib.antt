@@ -1,0 +1,6 @@
+pub mod Births
+pub mod Bookings
+pub mod Good
+pub mod Keeping
+pub mod Timed
+pub mod Valued

@@ -1,7 +1,10 @@
 pub mod Asking
 pub mod Entering
 pub mod Growing
+pub mod Limits
 pub mod LineValues
 pub mod Listing
 pub mod Numbering
+pub mod PartLines
+pub mod StepGood
 pub mod Timing

@@ -1,0 +1,149 @@
+-- The rows of the desk that all stored rows stand for.
+use Rattle.std.specs.Prelude.{◌≡◌, ℕ, ◌≤◌, List, [], ◌∷◌, Option, Some, None, map}
+use Rattle.std.specs.List.{filter_map}
+use Rattle.plant_base.specs.Dates.{◌>>=◌}
+use Rattle.plant_base.specs.declared.rows.Meta.{Meta}
+use Rattle.plant_base.specs.declared.rows.Class.{Class}
+use Rattle.plant_base.specs.declared.rows.Definition.{Definition}
+use Rattle.plant_base.specs.declared.rows.Recipe.{Recipe}
+use Rattle.plant_base.specs.declared.rows.MasterLine.{MasterLine}
+use Rattle.plant_base.specs.declared.rows.Job.{Job}
+use Rattle.plant_base.specs.declared.rows.BatchRow.{BatchRow}
+use Rattle.plant_base.specs.declared.rows.ControlLine.{ControlLine}
+use Rattle.plant_base.specs.declared.rows.BatchEvent.{BatchEvent}
+use Rattle.plant_base.specs.declared.rows.Lot.{Lot}
+use Rattle.plant_base.specs.declared.rows.Sublot.{Sublot}
+use Rattle.plant_base.specs.declared.rows.Hold.{Hold}
+use Rattle.plant_loaded.specs.declared.masters.Masters.{Masters}
+use Rattle.plant_loaded.specs.declared.orders.Orders.{Orders}
+use Rattle.plant_loaded.specs.declared.stocks.Stocks.{Stocks}
+use Rattle.plant_loaded.specs.declared.loaded.Loaded.{Loaded}
+use Rattle.plant_rows.specs.Judging.{only_meta, class_from, definition_from, recipe_from, master_line_from, job_from, batch_from, control_line_from, batch_event_from, lot_from, sublot_from, booked_from, hold_from}
+use Rattle.plant_rows.specs.declared.booked.BookedRow.{BookedRow}
+use Rattle.plant_rows.specs.declared.desk_rows.DeskRows.{DeskRows}
+use Rattle.plant_rows.specs.declared.desk_rows.MasterRows as held_masters
+use Rattle.plant_rows.specs.declared.desk_rows.OrderRows as held_orders
+use Rattle.plant_rows.specs.declared.desk_rows.StockRows as held_stocks
+
+-- what all rows stand for, in their order: nothing where one stands for nothing
+abbrev pub all_from : {X R : Type 0} → (X → Option R) → List X → Option (List R)
+all_from row_from [] = Some []
+all_from row_from (x ∷ xs) = do
+  row ← row_from x
+  rows ← all_from row_from xs
+  Some (row ∷ rows)
+
+-- the rows of each table; a movement's columns may be those of another kind, and a line's number 0
+pub record Rows : Type 0 where
+  pub meta : Meta
+  pub classes : List Class
+  pub definitions : List Definition
+  pub recipes : List Recipe
+  pub master_lines : List MasterLine
+  pub jobs : List Job
+  pub batches : List BatchRow
+  pub control_lines : List ControlLine
+  pub events : List BatchEvent
+  pub lots : List Lot
+  pub sublots : List Sublot
+  pub movements : List BookedRow
+  pub holds : List Hold
+
+pub record MasterRows : Type 0 where
+  pub classes : List Class
+  pub definitions : List Definition
+  pub recipes : List Recipe
+  pub master_lines : List MasterLine
+
+pub record OrderRows : Type 0 where
+  pub jobs : List Job
+  pub batches : List BatchRow
+  pub control_lines : List ControlLine
+  pub events : List BatchEvent
+
+pub record StockRows : Type 0 where
+  pub lots : List Lot
+  pub sublots : List Sublot
+  pub movements : List BookedRow
+  pub holds : List Hold
+
+unfoldable pub masters_from : Masters → Option MasterRows
+masters_from x = do
+  classes ← all_from class_from x.classes.items
+  definitions ← all_from definition_from x.definitions.items
+  recipes ← all_from recipe_from x.recipes.items
+  master_lines ← all_from master_line_from x.recipe_lines.items
+  Some (record { classes = classes; definitions = definitions; recipes = recipes; master_lines = master_lines })
+
+unfoldable pub orders_from : Orders → Option OrderRows
+orders_from x = do
+  jobs ← all_from job_from x.jobs.items
+  batches ← all_from batch_from x.batches.items
+  control_lines ← all_from control_line_from x.control_lines.items
+  events ← all_from batch_event_from x.events.items
+  Some (record { jobs = jobs; batches = batches; control_lines = control_lines; events = events })
+
+unfoldable pub stocks_from : Stocks → Option StockRows
+stocks_from x = do
+  lots ← all_from lot_from x.lots.items
+  sublots ← all_from sublot_from x.sublots.items
+  movements ← all_from booked_from x.movements.items
+  holds ← all_from hold_from x.holds.items
+  Some (record { lots = lots; sublots = sublots; movements = movements; holds = holds })
+
+-- ---- the rows as lists
+
+abbrev pub masters_listed : held_masters.MasterRows → MasterRows
+masters_listed r = record { classes = r.classes.items; definitions = r.definitions.items; recipes = r.recipes.items; master_lines = r.lines.items }
+
+abbrev pub orders_listed : held_orders.OrderRows → OrderRows
+orders_listed r = record { jobs = r.jobs.items; batches = r.batches.items; control_lines = r.control_lines.items; events = r.events.items }
+
+abbrev pub stocks_listed : held_stocks.StockRows → StockRows
+stocks_listed r = record { lots = r.lots.items; sublots = r.sublots.items; movements = r.movements.items; holds = r.holds.items }
+
+-- ---- all tables
+
+abbrev pub rows_joined : Meta → MasterRows → OrderRows → StockRows → Rows
+rows_joined meta m o s = record {
+  meta = meta;
+  classes = m.classes;
+  definitions = m.definitions;
+  recipes = m.recipes;
+  master_lines = m.master_lines;
+  jobs = o.jobs;
+  batches = o.batches;
+  control_lines = o.control_lines;
+  events = o.events;
+  lots = s.lots;
+  sublots = s.sublots;
+  movements = s.movements;
+  holds = s.holds;
+}
+
+-- every value of every table obeys its rule, and these are the rows
+unfoldable pub rows_from : Loaded → Option Rows
+rows_from x = do
+  meta ← only_meta x.meta.items
+  m ← masters_from x.masters
+  o ← orders_from x.orders
+  s ← stocks_from x.stocks
+  Some (rows_joined meta m o s)
+
+-- the rows as lists
+unfoldable pub rows_listed : DeskRows → Rows
+rows_listed r = record {
+  meta = r.meta;
+  classes = r.classes.items;
+  definitions = r.definitions.items;
+  recipes = r.recipes.items;
+  master_lines = r.master_lines.items;
+  jobs = r.jobs.items;
+  batches = r.batches.items;
+  control_lines = r.control_lines.items;
+  events = r.events.items;
+  lots = r.lots.items;
+  sublots = r.sublots.items;
+  movements = r.movements.items;
+  holds = r.holds.items;
+}

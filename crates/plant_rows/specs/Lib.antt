@@ -1,0 +1,5 @@
+pub mod Reading
+pub mod Naming
+pub mod Judging
+pub mod Booked
+pub mod Collecting

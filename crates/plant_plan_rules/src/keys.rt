@@ -14,7 +14,7 @@ use plant_base::{
 use plant_groups::{Grouped, Grouping};
 
 /// Classes by their id.
-pub(crate) struct Classes;
+pub struct Classes;
 
 impl Grouping for Classes {
     ghost use Rattle.std.specs.Prelude.{Some};
@@ -31,7 +31,7 @@ impl Grouping for Classes {
 }
 
 /// Definitions by their id.
-pub(crate) struct Definitions;
+pub struct Definitions;
 
 impl Grouping for Definitions {
     ghost use Rattle.std.specs.Prelude.{Some};
@@ -48,7 +48,7 @@ impl Grouping for Definitions {
 }
 
 /// Recipes by their id and version.
-pub(crate) struct Recipes;
+pub struct Recipes;
 
 impl Grouping for Recipes {
     ghost use Rattle.std.specs.Prelude.{Some};
@@ -65,7 +65,7 @@ impl Grouping for Recipes {
 }
 
 /// Lines of recipes by the id and version of their recipe.
-pub(crate) struct RecipeLines;
+pub struct RecipeLines;
 
 impl Grouping for RecipeLines {
     ghost use Rattle.std.specs.Prelude.{Some};
@@ -82,7 +82,7 @@ impl Grouping for RecipeLines {
 }
 
 /// Orders by their id.
-pub(crate) struct Orders;
+pub struct Orders;
 
 impl Grouping for Orders {
     ghost use Rattle.std.specs.Prelude.{Some};
@@ -99,7 +99,7 @@ impl Grouping for Orders {
 }
 
 /// Batches by their id.
-pub(crate) struct Batches;
+pub struct Batches;
 
 impl Grouping for Batches {
     ghost use Rattle.std.specs.Prelude.{Some};
@@ -116,7 +116,7 @@ impl Grouping for Batches {
 }
 
 /// Batches by their order.
-pub(crate) struct BatchesOfOrders;
+pub struct BatchesOfOrders;
 
 impl Grouping for BatchesOfOrders {
     ghost use Rattle.std.specs.Prelude.{Some};
@@ -133,7 +133,7 @@ impl Grouping for BatchesOfOrders {
 }
 
 /// Lines of control recipes by their batch.
-pub(crate) struct ControlLines;
+pub struct ControlLines;
 
 impl Grouping for ControlLines {
     ghost use Rattle.std.specs.Prelude.{Some};
@@ -150,7 +150,7 @@ impl Grouping for ControlLines {
 }
 
 /// Events by their batch.
-pub(crate) struct Events;
+pub struct Events;
 
 impl Grouping for Events {
     ghost use Rattle.std.specs.Prelude.{Some};
@@ -166,25 +166,25 @@ impl Grouping for Events {
     }
 }
 
-pub(crate) fn has_class(classes: &Grouped<Classes>, id: Id) -> bool
+pub fn has_class(classes: &Grouped<Classes>, id: Id) -> bool
     ensures { result ≡ is_class_among classes.now.rows.now id }
 {
     classes.has(id)
 }
 
-pub(crate) fn has_definition(definitions: &Grouped<Definitions>, id: Id) -> bool
+pub fn has_definition(definitions: &Grouped<Definitions>, id: Id) -> bool
     ensures { result ≡ is_defined definitions.now.rows.now id }
 {
     definitions.has(id)
 }
 
-pub(crate) fn has_recipe(recipes: &Grouped<Recipes>, id: Id, version: u16) -> bool
+pub fn has_recipe(recipes: &Grouped<Recipes>, id: Id, version: u16) -> bool
     ensures { result ≡ is_recipe_among recipes.now.rows.now id version }
 {
     recipes.has((id, version))
 }
 
-pub(crate) fn lines_of<'a>(
+pub fn lines_of<'a>(
     lines: &'a Grouped<RecipeLines>,
     id: Id,
     version: u16,
@@ -194,44 +194,44 @@ pub(crate) fn lines_of<'a>(
     lines.at((id, version))
 }
 
-pub(crate) fn recipe_at(recipes: &Grouped<Recipes>, id: Id, version: u16) -> Option<Recipe>
+pub fn recipe_at(recipes: &Grouped<Recipes>, id: Id, version: u16) -> Option<Recipe>
     ensures { result ≡ recipe_among recipes.now.rows.now id version }
 {
     recipes.first((id, version))
 }
 
-pub(crate) fn job_at(jobs: &Grouped<Orders>, id: Id) -> Option<Job>
+pub fn job_at(jobs: &Grouped<Orders>, id: Id) -> Option<Job>
     ensures { result ≡ job_among jobs.now.rows.now id }
 {
     jobs.first(id)
 }
 
-pub(crate) fn has_batch(batches: &Grouped<Batches>, id: Id) -> bool
+pub fn has_batch(batches: &Grouped<Batches>, id: Id) -> bool
     ensures { result ≡ is_batch_among batches.now.rows.now id }
 {
     batches.has(id)
 }
 
-pub(crate) fn batch_of(batches: &Grouped<BatchesOfOrders>, order: Id) -> Option<BatchRow>
+pub fn batch_of(batches: &Grouped<BatchesOfOrders>, order: Id) -> Option<BatchRow>
     ensures { result ≡ row_of_order batches.now.rows.now order }
 {
     batches.first(order)
 }
 
-// Whether the order has just one batch.
-pub(crate) fn has_one_batch(batches: &Grouped<BatchesOfOrders>, order: Id) -> bool
+/// Whether the order has just one batch.
+pub fn has_one_batch(batches: &Grouped<BatchesOfOrders>, order: Id) -> bool
     ensures { result ≡ (length (filter (λ b. same b.batch.job order) batches.now.rows.now) == 1) }
 {
     batches.at(order).len() == 1
 }
 
-pub(crate) fn control_of<'a>(lines: &'a Grouped<ControlLines>, batch: Id) -> &'a [ControlLine]
+pub fn control_of<'a>(lines: &'a Grouped<ControlLines>, batch: Id) -> &'a [ControlLine]
     ensures { result.now ≡ control_among lines.now.rows.now batch }
 {
     lines.at(batch)
 }
 
-pub(crate) fn events_of<'a>(events: &'a Grouped<Events>, batch: Id) -> &'a [BatchEvent]
+pub fn events_of<'a>(events: &'a Grouped<Events>, batch: Id) -> &'a [BatchEvent]
     ensures { result.now ≡ filter (λ e. same e.batch batch) events.now.rows.now }
 {
     events.at(batch)

@@ -6,7 +6,7 @@
 mod batches;
 mod catalogue;
 mod events;
-mod keys;
+pub mod keys;
 mod numbered;
 mod orders;
 mod recipes;

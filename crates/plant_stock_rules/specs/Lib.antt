@@ -1,0 +1,3 @@
+pub mod Movements
+pub mod Numbering
+pub mod Times

@@ -7,7 +7,7 @@ mod batches;
 mod catalogue;
 mod events;
 pub mod keys;
-mod numbered;
+pub mod numbered;
 mod orders;
 mod recipes;
 

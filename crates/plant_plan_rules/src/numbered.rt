@@ -3,14 +3,15 @@
 ghost use Rattle.std.specs.Prelude.{◌≡◌, map};
 ghost use Rattle.plant_plan_rules.specs.Recipes.{are_numbered};
 
-use plant_base::{ControlLine, MasterLine};
+use plant_base::{ControlLine, MasterLine, Sublot};
 
 /// A row with a number among its like.
-pub(crate) trait Numbered {
+pub trait Numbered {
     ghost use Rattle.std.specs.Prelude.{◌≡◌, ℕ};
 
     ghost number_of: { Self → ℕ };
 
+    /// Its number.
     fn number(&self) -> u16
         ensures { result ≡ number_of self.now };
 }
@@ -31,11 +32,19 @@ impl Numbered for ControlLine {
     }
 }
 
-/// Whether the rows are numbered from 1 on.
-pub(crate) fn are_numbered<R: Numbered>(rows: &[R]) -> bool
-    ensures { result ≡ are_numbered 1 (map R.number_of rows.now) }
+impl Numbered for Sublot {
+    ghost number_of = { λ s. s.number };
+
+    fn number(&self) -> u16 {
+        self.number
+    }
+}
+
+/// Whether the rows are numbered from the first number on, which is 0 or 1.
+pub fn are_numbered<R: Numbered>(first: u8, rows: &[R]) -> bool
+    ensures { result ≡ are_numbered first (map R.number_of rows.now) }
 {
-    let mut next: u64 = 1;
+    let mut next = u64::from(first);
     for row in rows {
         if u64::from(row.number()) != next {
             return false;

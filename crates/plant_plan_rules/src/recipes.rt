@@ -82,7 +82,7 @@ fn is_whole_of(
         && is_defined definitions.now.rows.now header.now.product && list_all (is_known definitions.now.rows.now) lines.now) }
 {
     is_well_formed(header, lines)
-        && are_numbered(rows)
+        && are_numbered(1, rows)
         && has_definition(definitions, header.product)
         && are_known(definitions, lines)
 }

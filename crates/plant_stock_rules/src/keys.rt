@@ -9,7 +9,7 @@ use plant_base::{BatchEvent, Id, Lot, Movement, MovementKind, Sublot};
 use plant_groups::{Grouped, Grouping};
 
 /// Lots by their id.
-pub(crate) struct Lots;
+pub struct Lots;
 
 impl Grouping for Lots {
     ghost use Rattle.std.specs.Prelude.{Some};
@@ -26,7 +26,7 @@ impl Grouping for Lots {
 }
 
 /// Sublots by their lot and number.
-pub(crate) struct Sublots;
+pub struct Sublots;
 
 impl Grouping for Sublots {
     ghost use Rattle.std.specs.Prelude.{Some};
@@ -43,7 +43,7 @@ impl Grouping for Sublots {
 }
 
 /// The parts of merges by their number.
-pub(crate) struct Parts;
+pub struct Parts;
 
 impl Grouping for Parts {
     ghost use Rattle.std.specs.Prelude.{if◌then◌else◌, Some, None};
@@ -64,7 +64,7 @@ impl Grouping for Parts {
 }
 
 /// Events by their number.
-pub(crate) struct EventNumbers;
+pub struct EventNumbers;
 
 impl Grouping for EventNumbers {
     ghost use Rattle.std.specs.Prelude.{Some};
@@ -81,7 +81,7 @@ impl Grouping for EventNumbers {
 }
 
 /// Movements by the sublot that they enter.
-pub(crate) struct EnteredSublots;
+pub struct EnteredSublots;
 
 impl Grouping for EnteredSublots {
     ghost use Rattle.plant_stock.specs.Stock.{goes_to};
@@ -102,13 +102,13 @@ impl Grouping for EnteredSublots {
     }
 }
 
-pub(crate) fn lot_at(lots: &Grouped<Lots>, id: Id) -> Option<Lot>
+pub fn lot_at(lots: &Grouped<Lots>, id: Id) -> Option<Lot>
     ensures { result ≡ lot_among lots.now.rows.now id }
 {
     lots.first(id)
 }
 
-pub(crate) fn is_there(sublots: &Grouped<Sublots>, place: Option<(Id, u16)>) -> bool
+pub fn is_there(sublots: &Grouped<Sublots>, place: Option<(Id, u16)>) -> bool
     ensures { result ≡ is_there sublots.now.rows.now place }
 {
     match place {
@@ -117,19 +117,19 @@ pub(crate) fn is_there(sublots: &Grouped<Sublots>, place: Option<(Id, u16)>) -> 
     }
 }
 
-pub(crate) fn parts_of<'a>(parts: &'a Grouped<Parts>, seq: u64) -> &'a [Movement]
+pub fn parts_of<'a>(parts: &'a Grouped<Parts>, seq: u64) -> &'a [Movement]
     ensures { result.now ≡ parts_of parts.now.rows.now seq }
 {
     parts.at(seq)
 }
 
-pub(crate) fn has_event(events: &Grouped<EventNumbers>, seq: u64) -> bool
+pub fn has_event(events: &Grouped<EventNumbers>, seq: u64) -> bool
     ensures { result ≡ list_any (λ e. e.seq == seq) events.now.rows.now }
 {
     events.has(seq)
 }
 
-pub(crate) fn entries<'a>(entered: &'a Grouped<EnteredSublots>, place: (Id, u16)) -> &'a [Movement]
+pub fn entries<'a>(entered: &'a Grouped<EnteredSublots>, place: (Id, u16)) -> &'a [Movement]
     ensures { result.now ≡ entries entered.now.rows.now place.0 place.1 }
 {
     entered.at(place)

@@ -3,7 +3,7 @@
 //! Each goes over its rows once, and looks the others up by their key.
 #![tactic(auto)]
 
-mod keys;
+pub mod keys;
 mod movements;
 mod numbering;
 

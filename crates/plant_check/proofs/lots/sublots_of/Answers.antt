@@ -1,0 +1,7 @@
+use Rattle.std.proofs.Common.{◌∙◌}
+use Rattle.std.specs.Prelude.{filter}
+use Rattle.plant_plan_rules.proofs.Keying.{ids_tie}
+use Rattle.plant_check.proofs.lots.sublots_of.Goals as goal
+
+pub returns : goal.returns
+returns c = c.at.ensures ∙ (λ i. filter (λ s. ids_tie s.lot c.args.lot i) c.args.sublots.now.rows.now)

@@ -1,0 +1,81 @@
+-- Lots, and how their sublots came to be.
+use Rattle.std.specs.Prelude.{ℕ, ◌+◌, Bool, true, false, ◌&&◌, ◌==◌, nat_le, if◌then◌else◌, List, [], ◌∷◌, length, map, filter}
+use Rattle.std.specs.List.{list_any, list_all}
+use Rattle.plant_base.specs.Values.{greatest_amount}
+use Rattle.plant_base.specs.State.{same}
+use Rattle.plant_base.specs.declared.rows.Definition.{Definition}
+use Rattle.plant_base.specs.declared.rows.Hold.{Hold}
+use Rattle.plant_base.specs.declared.rows.Lot.{Lot}
+use Rattle.plant_base.specs.declared.rows.Sublot.{Sublot}
+use Rattle.plant_plan_rules.specs.Recipes.{are_numbered}
+use Rattle.plant_view.specs.Production.{is_defined}
+use Rattle.plant_rows.specs.declared.booked.BookedRow.{BookedRow}
+use Rattle.plant_rows.specs.declared.booked.MovementSort.{MovementSort}
+use Rattle.plant_rows.specs.declared.booked.MovementSort.TheVariants as sort
+use Rattle.plant_check.specs.Ends.{entries, total_of}
+
+-- 0, or 0 and 1, and so on
+abbrev pub are_from_zero : List ℕ → Bool
+are_from_zero numbers = nat_le 1 (length numbers) && are_numbered 0 numbers
+
+abbrev pub sublots_among : List Sublot → List ℕ → List Sublot
+sublots_among sublots lot = filter (λ s. same s.lot lot) sublots
+
+-- its definition is there, and its sublots are numbered from 0 on
+unfoldable pub is_right_lot : List Definition → List Sublot → Lot → Bool
+is_right_lot definitions sublots l = is_defined definitions l.def && are_from_zero (map (λ s. s.number) (sublots_among sublots l.id))
+
+-- a movement of this sort makes a lot
+abbrev pub makes_a_lot : MovementSort → Bool
+makes_a_lot sort.Received = true
+makes_a_lot sort.Consumed = false
+makes_a_lot sort.Produced = true
+makes_a_lot sort.Scrapped = false
+makes_a_lot sort.Divided = false
+makes_a_lot sort.Split = true
+makes_a_lot sort.Merged = true
+
+abbrev pub is_division : MovementSort → Bool
+is_division sort.Divided = true
+is_division _ = false
+
+-- both are of this sort
+abbrev pub are_of_one_sort : MovementSort → MovementSort → Bool
+are_of_one_sort sort.Received sort.Received = true
+are_of_one_sort sort.Produced sort.Produced = true
+are_of_one_sort sort.Split sort.Split = true
+are_of_one_sort sort.Merged sort.Merged = true
+are_of_one_sort _ _ = false
+
+-- of the same number and the same sort, which makes a lot
+abbrev pub is_of_one_birth : BookedRow → BookedRow → Bool
+is_of_one_birth first r = r.seq == first.seq && are_of_one_sort first.sort r.sort
+
+-- there are some, all of one number and of one sort that makes a lot, and they bring no more than an amount
+abbrev pub is_birth : List BookedRow → Bool
+is_birth [] = false
+is_birth (r ∷ rows) = list_all (is_of_one_birth r) (r ∷ rows) && nat_le (total_of (r ∷ rows)) greatest_amount
+
+-- it is one, and a division
+abbrev pub is_one_division : List BookedRow → Bool
+is_one_division [] = false
+is_one_division (r ∷ []) = is_division r.sort
+is_one_division (r ∷ s ∷ rows) = false
+
+-- sublot 0 came to be with its lot, each other sublot by one division
+abbrev pub is_born : List BookedRow → Sublot → Bool
+is_born rows s = if s.number == 0 then is_birth (entries rows s.lot s.number) else is_one_division (entries rows s.lot s.number)
+
+abbrev pub is_lot_among : List Lot → List ℕ → Bool
+is_lot_among lots id = list_any (λ l. same l.id id) lots
+
+unfoldable pub is_right_sublot : List Lot → List BookedRow → Sublot → Bool
+is_right_sublot lots rows s = is_lot_among lots s.lot && is_born rows s
+
+-- no sublot and no hold is without its lot, and each sublot came to be
+abbrev pub are_in_lots : List Lot → List Sublot → List Hold → List BookedRow → Bool
+are_in_lots lots sublots holds rows = list_all (is_right_sublot lots rows) sublots && list_all (λ h. is_lot_among lots h.lot) holds
+
+-- and each lot is right
+abbrev pub are_lots : List Definition → List Lot → List Sublot → List Hold → List BookedRow → Bool
+are_lots definitions lots sublots holds rows = list_all (is_right_lot definitions sublots) lots && are_in_lots lots sublots holds rows

@@ -1,0 +1,133 @@
+//! What rows of table movement bring to a sublot and take from it, as their columns say.
+
+ghost use Rattle.std.specs.Prelude.{◌≡◌, ◌<◌, ◌^◌, IfOk};
+ghost use Rattle.plant_check.specs.Ends.{other_end, entered_by, left_by, entries, exits, total_of, has_right_stock, are_stocks};
+
+use plant_base::{Id, Sublot};
+use plant_groups::{Grouped, Grouping};
+use plant_rows::{BookedRow, MovementSort};
+use std::alloc::{AllocError, Global};
+
+/// Rows by the sublot that they bring their amount to.
+pub(crate) struct EnteredPlaces;
+
+impl Grouping for EnteredPlaces {
+    ghost use Rattle.plant_check.specs.Ends.{entered_by};
+
+    type Row = BookedRow;
+
+    type Key = (Id, u16);
+
+    ghost key_of = { λ r. entered_by r.sort r };
+
+    fn key(row: &BookedRow) -> Option<(Id, u16)> {
+        entered_by(row)
+    }
+}
+
+/// Rows by the sublot that they take their amount from.
+pub(crate) struct LeftPlaces;
+
+impl Grouping for LeftPlaces {
+    ghost use Rattle.plant_check.specs.Ends.{left_by};
+
+    type Row = BookedRow;
+
+    type Key = (Id, u16);
+
+    ghost key_of = { λ r. left_by r.sort r };
+
+    fn key(row: &BookedRow) -> Option<(Id, u16)> {
+        left_by(row)
+    }
+}
+
+fn other_end(lot: Option<Id>, sub: Option<u16>) -> Option<(Id, u16)>
+    ensures { result ≡ other_end lot sub }
+{
+    match lot {
+        None => None,
+        Some(lot) => match sub {
+            None => None,
+            Some(sub) => Some((lot, sub)),
+        },
+    }
+}
+
+fn entered_by(row: &BookedRow) -> Option<(Id, u16)>
+    ensures { result ≡ entered_by row.now.sort row.now }
+{
+    match row.sort {
+        MovementSort::Received | MovementSort::Produced => Some((row.lot, row.sub)),
+        MovementSort::Consumed | MovementSort::Scrapped => None,
+        MovementSort::Divided | MovementSort::Split | MovementSort::Merged => {
+            other_end(row.lot2, row.sub2)
+        }
+    }
+}
+
+fn left_by(row: &BookedRow) -> Option<(Id, u16)>
+    ensures { result ≡ left_by row.now.sort row.now }
+{
+    match row.sort {
+        MovementSort::Received | MovementSort::Produced => None,
+        _ => Some((row.lot, row.sub)),
+    }
+}
+
+pub(crate) fn entries<'a>(
+    entered: &'a Grouped<EnteredPlaces>,
+    lot: Id,
+    number: u16,
+) -> &'a [BookedRow]
+    ensures { result.now ≡ entries entered.now.rows.now lot number }
+{
+    entered.at((lot, number))
+}
+
+fn exits<'a>(left: &'a Grouped<LeftPlaces>, lot: Id, number: u16) -> &'a [BookedRow]
+    ensures { result.now ≡ exits left.now.rows.now lot number }
+{
+    left.at((lot, number))
+}
+
+/// The amounts of the rows in all.
+pub(crate) fn total_of(rows: &[BookedRow]) -> u128
+    ensures total { result ≡ total_of rows.now }
+    ensures small { result < 2 ^ 127 }
+{
+    let mut total = 0;
+    for row in rows {
+        total += u128::from(row.amount.get());
+    }
+    total
+}
+
+/// Whether each sublot's stock is what entered it less what left it. The only error is that memory was refused.
+pub(crate) fn are_stocks(
+    alloc: Global,
+    rows: &[BookedRow],
+    sublots: &[Sublot],
+) -> Result<bool, AllocError>
+    ensures { IfOk result (λ b. b ≡ are_stocks rows.now sublots.now) }
+{
+    let entered = Grouped::<EnteredPlaces>::new(alloc, rows)?;
+    let left = Grouped::<LeftPlaces>::new(alloc, rows)?;
+    Ok(sublots
+        .iter()
+        .all(|s| has_right_stock(&entered, &left, s)))
+}
+
+#[tactic(auto, unfolding(crate::specs::Ends::has_right_stock))]
+fn has_right_stock(
+    entered: &Grouped<EnteredPlaces>,
+    left: &Grouped<LeftPlaces>,
+    sublot: &Sublot,
+) -> bool
+    requires { entered.now.rows.now ≡ left.now.rows.now }
+    ensures { result ≡ has_right_stock entered.now.rows.now sublot.now }
+{
+    let more = total_of(entries(entered, sublot.lot, sublot.number));
+    let less = total_of(exits(left, sublot.lot, sublot.number));
+    u128::from(sublot.stock) + less == more
+}

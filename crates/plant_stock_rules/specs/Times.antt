@@ -24,11 +24,20 @@ is_no_later a b = not (nat_lt a.0 b.0) || nat_le a.1 b.1
 abbrev pub never_fall : List (ℕ × ℕ) → Bool
 never_fall ms = list_all (λ a. list_all (is_no_later a) ms) ms
 
--- and none is later than the desk's
-abbrev pub are_times : ℕ → List Movement → List BatchEvent → List BatchRow → List Hold → Bool
-are_times at ms es batches holds =
-    never_fall (marks ms es)
-    && list_all (λ m. nat_le m.at at) ms
+-- none is later than the desk's
+abbrev pub are_by : ℕ → List Movement → List BatchEvent → List BatchRow → List Hold → Bool
+are_by at ms es batches holds =
+    list_all (λ m. nat_le m.at at) ms
     && list_all (λ e. nat_le e.at at) es
     && list_all (λ b. nat_le b.batch.at at) batches
     && list_all (λ h. nat_le h.at at) holds
+
+abbrev pub are_times : ℕ → List Movement → List BatchEvent → List BatchRow → List Hold → Bool
+are_times at ms es batches holds = never_fall (marks ms es) && are_by at ms es batches holds
+
+-- ---- in the order of the numbers
+
+-- no moment falls below the one before it
+abbrev pub rises : ℕ → List (ℕ × ℕ) → Bool
+rises latest [] = true
+rises latest (m ∷ ms) = nat_le latest m.1 && rises m.1 ms

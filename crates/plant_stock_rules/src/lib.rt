@@ -6,6 +6,8 @@
 pub mod keys;
 mod movements;
 mod numbering;
+mod times;
 
 pub use movements::are_movements;
 pub use numbering::are_numbers;
+pub use times::are_times;

@@ -1,0 +1,2 @@
+pub mod AddedRows
+pub mod TableKeys

@@ -1,5 +1,5 @@
 -- Row changes that make the tables after a command add each row under a key of its own.
-use Rattle.std.proofs.Common.{◌≡◌, ◌∙◌, ℕ, ◌≤◌, Bool, true, false, List, [], ◌∷◌, ◌++◌, length, filter, map, Option, Some, None, refl, sym, ap, subst, append_assoc, arith}
+use Rattle.std.proofs.Common.{◌≡◌, ◌∙◌, ℕ, ◌≤◌, Bool, true, false, List, [], ◌∷◌, ◌++◌, length, filter, Some, refl, sym, ap, subst, append_assoc, arith}
 use Rattle.std.specs.Prelude.{◌&&◌, ◌==◌, nat_le}
 use Rattle.std.specs.Cmp.{both_tied, unsigned_ties}
 use Rattle.std.specs.Cmp.Lexicographic.{texts_ties}
@@ -19,8 +19,8 @@ use Rattle.plant_base.specs.declared.rows.BatchEvent.{BatchEvent}
 use Rattle.plant_base.specs.declared.rows.Movement.{Movement}
 use Rattle.plant_base.specs.declared.command.Envelope.{Envelope}
 use Rattle.plant_base.proofs.Put.{all_weaker}
-use Rattle.plant_base.proofs.Keys.{same_id, same_itself, id_tie}
-use Rattle.plant_view.specs.Production.{headers_of, orders_of, batch_among, IsSoundBatch}
+use Rattle.plant_base.proofs.Keys.{same_id, same_itself}
+use Rattle.plant_view.specs.Production.{batch_among}
 use Rattle.plant_view.specs.Sound.{IsSound}
 use Rattle.plant_view.specs.Tables.{Tables, tables_of, changed, changed_all, batch_row, batch_row_order}
 use Rattle.plant_view.specs.declared.change.RowChange.{RowChange}

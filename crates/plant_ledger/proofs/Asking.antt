@@ -1,6 +1,5 @@
 -- Batches keep to their control recipes after one more command.
-use Rattle.std.proofs.Common.{◌≡◌, ◌∙◌, ℕ, true, false, List, filter, is_some, refl, ap}
-use Rattle.std.specs.List.{AllByRecursion}
+use Rattle.std.proofs.Common.{◌≡◌, ◌∙◌, ℕ, true, false, List, is_some, ap}
 use Rattle.plant_base.specs.State.{State, same, put, lot_order, control_line_order, lot_at}
 use Rattle.plant_base.specs.declared.rows.RecipeLine.{RecipeLine}
 use Rattle.plant_base.specs.declared.rows.ControlLine.{ControlLine}

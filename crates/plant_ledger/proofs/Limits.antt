@@ -1,5 +1,5 @@
 -- A command that isn't refused has a number: the limit of accepted commands isn't reached.
-use Rattle.std.proofs.Common.{◌≡◌, ◌∙◌, ℕ, ◌<◌, Bool, true, false, List, Option, Some, None, Result, Ok, Err, is_some, is_none, sym, arith, nat_le, nat_lt, refl}
+use Rattle.std.proofs.Common.{◌≡◌, ◌∙◌, ℕ, ◌<◌, Bool, false, List, Option, None, Result, Ok, Err, is_some, is_none, sym, arith, nat_le, nat_lt, refl}
 use Rattle.std.specs.Prelude.{not}
 use Rattle.std.specs.List.{list_any, list_all}
 use Rattle.std.proofs.lemmas.Bool.Decides.{nat_tests}

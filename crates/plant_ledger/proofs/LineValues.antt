@@ -1,5 +1,5 @@
 -- The values of the lines of recipes and of control recipes in a sound state.
-use Rattle.std.proofs.Common.{◌≡◌, ◌∙◌, ℕ, true, false, List, map, find, Option, Some, None, is_some, refl, sym, ap}
+use Rattle.std.proofs.Common.{◌≡◌, ◌∙◌, ℕ, true, List, Option, Some, None, is_some, refl, sym, ap}
 use Rattle.std.specs.Prelude.{◌&&◌, ◌==◌}
 use Rattle.std.specs.List.{AllByRecursion}
 use Rattle.std.proofs.lemmas.Bool.{false≢true}
@@ -7,7 +7,6 @@ use Rattle.plant_base.specs.Values.{is_id}
 use Rattle.plant_base.specs.Formed.{is_version, HasLineValues}
 use Rattle.plant_base.specs.State.{State, same, batch_at}
 use Rattle.plant_base.specs.declared.rows.Header.{Header}
-use Rattle.plant_base.specs.declared.rows.RecipeLine.{RecipeLine}
 use Rattle.plant_base.specs.declared.rows.MasterLine.{MasterLine}
 use Rattle.plant_base.specs.declared.rows.Batch.{Batch}
 use Rattle.plant_base.specs.declared.rows.ControlLine.{ControlLine}

@@ -1,21 +1,18 @@
 -- The lines of a merge are one booking, which makes its lot.
-use Rattle.std.proofs.Common.{◌≡◌, ◌∙◌, ℕ, ◌+◌, ◌≤◌, true, false, List, [], ◌∷◌, length, map, is_some, refl, arith}
+use Rattle.std.proofs.Common.{◌≡◌, ℕ, ◌+◌, ◌≤◌, true, false, List, [], ◌∷◌, length, map, is_some, refl, arith}
 use Rattle.std.specs.List.{AllByRecursion}
 use Rattle.plant_base.specs.Values.{is_id}
 use Rattle.plant_base.specs.Formed.{HasPartValues}
 use Rattle.plant_base.specs.State.{State, put, lot_order, place_at}
 use Rattle.plant_base.specs.declared.rows.Lot.{Lot}
-use Rattle.plant_base.specs.declared.rows.Place.{Place}
 use Rattle.plant_base.specs.declared.rows.MovementKind.TheVariants.{Merged}
 use Rattle.plant_base.specs.declared.rows.Movement.{Movement}
 use Rattle.plant_base.specs.declared.command.Stamp.{Stamp}
 use Rattle.plant_base.specs.declared.command.Part.{Part}
-use Rattle.plant_base.proofs.Put.{all_weaker}
 use Rattle.plant_base.proofs.Keys.{same_itself}
 use Rattle.plant_stock.specs.Stock.{comes_from}
 use Rattle.plant_view.specs.Sound.{IsThere}
 use Rattle.plant_view.proofs.KeptSound.{all_two}
-use Rattle.plant_view.proofs.Rows.{all_of}
 use Rattle.plant_rules.specs.Merging.{part_line, part_lines}
 use Rattle.plant_rules.proofs.Parting.{Apart, AreApart}
 use Rattle.plant_ledger.specs.Valued.{HasMovementValues}

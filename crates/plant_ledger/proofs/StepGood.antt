@@ -1,11 +1,11 @@
 -- Every command leaves a good state good, and the opening state is good.
-use Rattle.std.proofs.Common.{◌≡◌, ◌∙◌, ℕ, ◌≤◌, refl, sym, ap, subst, is_some, is_none, true, false, List, [], ◌∷◌, Option, Some, None, arith, nat_lt, nat_le, length}
+use Rattle.std.proofs.Common.{◌≡◌, ◌∙◌, ℕ, ◌≤◌, refl, sym, ap, subst, is_some, is_none, true, List, [], ◌∷◌, Option, Some, None, arith, nat_lt, length}
 use Rattle.std.specs.Prelude.{not, ◌&&◌, filter}
-use Rattle.std.specs.List.{All, AllByRecursion}
+use Rattle.std.specs.List.{AllByRecursion}
 use Rattle.std.specs.List.Sorted.{IsStrictlySortedBy}
 use Rattle.std.proofs.lemmas.Bool.{false≢true, ltb-false}
 use Rattle.std.proofs.lemmas.List.Elements.{recursion_from_All}
-use Rattle.plant_base.specs.Values.{is_id, is_amount, is_moment, is_text}
+use Rattle.plant_base.specs.Values.{is_id}
 use Rattle.plant_base.specs.State.{State, opening, same, put, class_order, definition_order, batch_order, lot_order, hold_order, control_lines_of, definition_at, lot_at, place_at, batch_at, job_at}
 use Rattle.plant_base.specs.Formed.{HasValues, HasBodyValues, HasPartValues, is_phase_number, are_parts, stamp_of}
 use Rattle.plant_base.specs.declared.refusal.Refusal.{Refusal}
@@ -18,7 +18,6 @@ use Rattle.plant_base.specs.declared.rows.Batch.{Batch}
 use Rattle.plant_base.specs.declared.rows.Lot.{Lot}
 use Rattle.plant_base.specs.declared.rows.Place.{Place}
 use Rattle.plant_base.specs.declared.rows.Hold.{Hold}
-use Rattle.plant_base.specs.declared.rows.Movement.{Movement}
 use Rattle.plant_base.specs.declared.rows.MovementKind.TheVariants as kind
 use Rattle.plant_base.specs.declared.command.Part.{Part}
 use Rattle.plant_base.specs.declared.command.Stamp.{Stamp}

@@ -1,5 +1,5 @@
 -- The values of the rows obey their rules.
-use Rattle.std.specs.Prelude.{◌≡◌, ℕ, ◌≤◌, true, List, ⊤}
+use Rattle.std.specs.Prelude.{◌≡◌, ◌≤◌, true, ⊤}
 use Rattle.std.specs.List.{AllByRecursion}
 use Rattle.plant_base.specs.Values.{is_id, is_text, is_unit, is_amount, is_moment, greatest_sublot, greatest_seq}
 use Rattle.plant_base.specs.Formed.{is_version, is_phase_number, HasLineValues}

@@ -1,6 +1,7 @@
 pub mod Asking
 pub mod Entering
 pub mod Growing
+pub mod KeptColumns
 pub mod Limits
 pub mod LineValues
 pub mod Listing

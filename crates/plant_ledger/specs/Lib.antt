@@ -1,5 +1,6 @@
 pub mod Births
 pub mod Bookings
+pub mod Columns
 pub mod Good
 pub mod Keeping
 pub mod Timed

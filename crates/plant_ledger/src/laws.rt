@@ -1,12 +1,15 @@
 //! Laws of the states that commands lead to.
 
-ghost use Rattle.plant_ledger.specs.Good.{OpeningIsGood, StepKeepsGood};
+ghost use Rattle.plant_ledger.specs.Good.{OpeningIsGood, StepKeepsGood, GoodHasColumns};
 
 /// What the opening state and each state after a command has, as laws about them; the function itself does nothing.
 ///
 /// `opening`: the opening state is good.
 /// `step`: from a good state each command, accepted or refused, leads to a good one.
+/// `columns`: in the tables of a good state a batch's attempt is 1 to 99 and its next phase 1 to 128, a sublot's stock is
+/// at most 10^12, and what was received or produced came into sublot 0.
 pub fn good_law()
     ensures opening { OpeningIsGood }
     ensures step { StepKeepsGood }
+    ensures columns { GoodHasColumns }
 {}

@@ -4,7 +4,7 @@ use Rattle.std.specs.Prelude.{◌==◌, ◌&&◌}
 use Rattle.std.specs.List.{AllByRecursion}
 use Rattle.std.specs.Ordering.{nat_cmp, ordering_then}
 use Rattle.std.specs.declared.cmp.Ordering.TheVariants.{Equal}
-use Rattle.std.proofs.lemmas.Cmp.{tied_itself, nat_list_cmp_total}
+use Rattle.std.proofs.lemmas.Cmp.{tied_itself, nat_list_cmp_total, nat_list_eq_equiv}
 use Rattle.std.proofs.lemmas.Bool.{false≢true}
 use Rattle.std.proofs.lemmas.List.{map-append}
 use Rattle.std.proofs.Math.Nat.{le-max_left, le-max_right}
@@ -18,7 +18,7 @@ use Rattle.plant_stock.specs.Stock.{goes_to, is_place}
 use Rattle.plant_view.specs.Sound.{IsSound, IsThere}
 use Rattle.plant_view.proofs.KeptSound.{all_two}
 use Rattle.plant_view.proofs.Rows.{none_passes, none_left, filtered_passes, filter_past, filter_put, put_last}
-use Rattle.plant_view.proofs.RowKeys.{ids_apart}
+use Rattle.plant_view.proofs.RowKeys.{ids_apart, keys_apart}
 use Rattle.plant_view.proofs.Sublots.{no_place}
 use Rattle.plant_rules.proofs.Division.{next_free}
 use Rattle.plant_rules.specs.Division.{greatest, next_number}
@@ -26,13 +26,6 @@ use Rattle.plant_ledger.specs.Bookings.{AreCounted}
 use Rattle.plant_ledger.specs.Births.{numbers_among, AreFromZero, entries, IsBirth, IsDivision, IsBorn, AreBorn}
 use Rattle.plant_ledger.proofs.Listing.{filter_old, filter_added, number_less}
 use Rattle.plant_ledger.proofs.Numbering.{IsUnentered}
-
-same_swap : (a b : List ℕ) → same a b ≡ false → same b a ≡ false
-same_swap a b other = by (same b a) refl
-  where
-    by : (t : Bool) → same b a ≡ t → t ≡ false
-    by true e = absurd (false≢true (sym other ∙ ap (same a) (same_id b a e) ∙ same_itself a))
-    by false e = refl
 
 -- ---- sublots that are there, and those that aren't
 
@@ -44,11 +37,7 @@ IsAbsent s (Some sublot) = is_some (place_at s sublot.0 sublot.1) ≡ false
 -- a sublot that is there isn't one that isn't
 apart_from : (s : State) (k : Option (List ℕ × ℕ)) (lot : List ℕ) (number : ℕ) → IsAbsent s k → is_some (place_at s lot number) ≡ true → is_place k lot number ≡ false
 apart_from s None lot number absent there = refl
-apart_from s (Some k) lot number absent there = by (same k.0 lot && k.1 == number) refl
-  where
-    by : (b : Bool) → (same k.0 lot && k.1 == number) ≡ b → b ≡ false
-    by true e = let keys = same_key k.0 lot k.1 number e in absurd (false≢true (sym absent ∙ (λ i. is_some (place_at s (keys.0 i) (keys.1 i))) ∙ there))
-    by false e = refl
+apart_from s (Some k) lot number absent there = (keys_apart (λ l n. is_some (place_at s l n)) lot number k.0 k.1 there absent).1
 
 -- what enters no sublot that is there enters none that a movement takes from
 pub unentered : (s : State) (lines : List Movement) (k : Option (List ℕ × ℕ)) → AllByRecursion (λ m. IsAbsent s (goes_to m.kind m.lot m.sub)) lines → IsThere s k → IsUnentered lines k
@@ -61,11 +50,7 @@ never_entered s sound p none = all_weaker _ _ (λ (m : Movement) named. by_place
   where
     by_place : (k : Option (List ℕ × ℕ)) → IsThere s k → is_place k p.lot p.number ≡ false
     by_place None there = refl
-    by_place (Some k) there = by (same k.0 p.lot && k.1 == p.number) refl
-      where
-        by : (b : Bool) → (same k.0 p.lot && k.1 == p.number) ≡ b → b ≡ false
-        by true e = let keys = same_key k.0 p.lot k.1 p.number e in absurd (false≢true (sym none ∙ sym (λ i. is_some (place_at s (keys.0 i) (keys.1 i))) ∙ there))
-        by false e = refl
+    by_place (Some k) there = (keys_apart (λ l n. is_some (place_at s l n)) k.0 k.1 p.lot p.number there none).0
 
 -- ---- entries
 
@@ -171,7 +156,7 @@ births_new s sound r place lines none into birth births =
     ap (map (λ (q : Place). q.number)) (filter_put place_order place_order_total p own (place_tied r.id p) s.places sound.places (same_itself r.id) ∙ ap (put place_order p) (none_left own s.places others)) in
     record {
       numbered = all_put lot_order _ r s.lots (subst AreFromZero (sym first) (omega arith, (refl, tt)))
-          (all_two _ _ _ (λ (l : Lot) other whole. subst AreFromZero (sym (numbers_past p s.places l.id (same_swap l.id r.id other))) whole) s.lots (none_passes (λ (l : Lot). same l.id r.id) s.lots none) births.numbered);
+          (all_two _ _ _ (λ (l : Lot) other whole. subst AreFromZero (sym (numbers_past p s.places l.id (nat_list_eq_equiv.symm r.id l.id ∙ other))) whole) s.lots (none_passes (λ (l : Lot). same l.id r.id) s.lots none) births.numbered);
       each = each_born s sound p (ap is_some (no_place s sound r.id 0 none)) lines into (λ e. birth) (λ l. absurd (omega (arith, l))) births.each;
     }
 

@@ -59,6 +59,14 @@ module _ (s : State) (good : IsGood s) (t : Stamp) (stamp : IsNextStamp s t) whe
   seq_small : s.seq + 1 ≤ greatest_seq
   seq_small = omega (arith, stamp.room)
 
+  -- the batches that were there are no later
+  pub no_later : AllByRecursion (λ b. b.at ≤ t.at) s.batches
+  no_later = batches_earlier s.seq s.at s.movements s.events s.batches s.holds good.numbers good.moments t.at stamp.on
+
+  -- so are the holds
+  pub held_no_later : AllByRecursion (λ h. h.at ≤ t.at) s.holds
+  held_no_later = holds_earlier s.seq s.at s.movements s.events s.batches s.holds good.numbers good.moments t.at stamp.on
+
   -- ---- classes and definitions
 
   pub good_catalogued : (classes : List Class) (definitions : List Definition) → AllByRecursion HasClassValues classes → AllByRecursion HasDefinitionValues definitions
@@ -82,8 +90,8 @@ module _ (s : State) (good : IsGood s) (t : Stamp) (stamp : IsNextStamp s t) whe
     kept = good.kept;
     numbers = numbers_later s.seq s.movements s.events good.numbers;
     moments = moments_later s.seq s.at s.movements s.events s.batches s.holds good.numbers good.moments t.at stamp.on s.batches s.holds
-        (batches_earlier s.seq s.at s.movements s.events s.batches s.holds good.numbers good.moments t.at stamp.on)
-        (holds_earlier s.seq s.at s.movements s.events s.batches s.holds good.numbers good.moments t.at stamp.on);
+        no_later
+        held_no_later;
   }
 
   -- ---- holds
@@ -109,7 +117,7 @@ module _ (s : State) (good : IsGood s) (t : Stamp) (stamp : IsNextStamp s t) whe
     kept = good.kept;
     numbers = numbers_later s.seq s.movements s.events good.numbers;
     moments = moments_later s.seq s.at s.movements s.events s.batches s.holds good.numbers good.moments t.at stamp.on s.batches holds
-        (batches_earlier s.seq s.at s.movements s.events s.batches s.holds good.numbers good.moments t.at stamp.on)
+        no_later
         earlier;
   }
 
@@ -139,16 +147,8 @@ module _ (s : State) (good : IsGood s) (t : Stamp) (stamp : IsNextStamp s t) whe
         kept = kept;
         numbers = numbers_later s.seq s.movements s.events good.numbers;
         moments = moments_later s.seq s.at s.movements s.events s.batches s.holds good.numbers good.moments t.at stamp.on batches s.holds earlier
-            (holds_earlier s.seq s.at s.movements s.events s.batches s.holds good.numbers good.moments t.at stamp.on);
+            held_no_later;
       }
-
-  -- the batches that were there are no later
-  pub no_later : AllByRecursion (λ b. b.at ≤ t.at) s.batches
-  no_later = batches_earlier s.seq s.at s.movements s.events s.batches s.holds good.numbers good.moments t.at stamp.on
-
-  -- so are the holds
-  pub held_no_later : AllByRecursion (λ h. h.at ≤ t.at) s.holds
-  held_no_later = holds_earlier s.seq s.at s.movements s.events s.batches s.holds good.numbers good.moments t.at stamp.on
 
   -- ---- an event
 

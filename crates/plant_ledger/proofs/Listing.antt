@@ -76,9 +76,9 @@ module _ {X : Type 0} (order : X → X → Ordering) where
 pub number_less : (m n : ℕ) → m < n → nat_cmp m n ≡ Less
 number_less m n less = sym (nat_cmp_is m n Less less)
 
-pub lower_differs : (m n : ℕ) → m < n → (m == n) ≡ false
-lower_differs m n less = by (m == n) refl
+pub numbers_differ : (m n : ℕ) → (m ≡ n → ⊥) → (m == n) ≡ false
+numbers_differ m n apart = by (m == n) refl
   where
     by : (b : Bool) → (m == n) ≡ b → b ≡ false
-    by true e = let same : m ≡ n = eqb-true m n e in absurd (omega (arith, less, same))
+    by true e = absurd (apart (eqb-true m n e))
     by false e = refl

@@ -13,7 +13,7 @@ use Rattle.plant_base.proofs.Put.{all_weaker, all_push}
 use Rattle.plant_stock.specs.Stock.{goes_to, comes_from, is_place}
 use Rattle.plant_view.proofs.KeptSound.{all_two}
 use Rattle.plant_ledger.specs.Bookings.{movement_order, event_order, AreCounted, booked, IsBooking, IsEnteredBefore, IsNumbered}
-use Rattle.plant_ledger.proofs.Listing.{all_append, filter_old, filter_added, sorted_append, sorted_push, number_less, lower_differs}
+use Rattle.plant_ledger.proofs.Listing.{all_append, filter_old, filter_added, sorted_append, sorted_push, number_less, numbers_differ}
 
 -- ---- the order of movements
 
@@ -71,7 +71,7 @@ module _ (seq : ℕ) (ms : List Movement) (es : List BatchEvent) (n : IsNumbered
     events = sorted_push event_order es e n.events (all_weaker _ _ (λ (x : BatchEvent) g. number_less x.seq e.seq (omega (arith, g.1, new))) es n.events_given);
     movements_given = numbers_later.movements_given;
     events_given = all_push _ es e numbers_later.events_given (omega (arith, new), omega (arith, new));
-    apart = all_two _ _ _ (λ (m : Movement) g apart. all_push (λ (x : BatchEvent). (m.seq == x.seq) ≡ false) es e apart (lower_differs m.seq e.seq (omega (arith, g.1, new)))) ms n.movements_given n.apart;
+    apart = all_two _ _ _ (λ (m : Movement) g apart. all_push (λ (x : BatchEvent). (m.seq == x.seq) ≡ false) es e apart (numbers_differ m.seq e.seq (λ same. omega (arith, g.1, new, same)))) ms n.movements_given n.apart;
     bookings = n.bookings;
     entered_before = n.entered_before;
   }
@@ -82,14 +82,11 @@ module _ (seq : ℕ) (ms : List Movement) (es : List BatchEvent) (n : IsNumbered
     booked_more : (number : ℕ) → IsBooking (booked (ms ++ lines) number)
     booked_more number = by (seq + 1 == number) refl
       where
-        test : Movement → Bool
-        test m = m.seq == number
-
         by : (b : Bool) → (seq + 1 == number) ≡ b → IsBooking (booked (ms ++ lines) number)
         by true e =
             let same : seq + 1 ≡ number = eqb-true (seq + 1) number e in
             subst IsBooking (sym (filter_added (λ (m : Movement). m.seq == number) ms lines
-            (all_weaker _ _ (λ (m : Movement) g. lower_differs m.seq number (omega (arith, g.1, same))) ms n.movements_given)
+            (all_weaker _ _ (λ (m : Movement) g. numbers_differ m.seq number (λ own. omega (arith, g.1, same, own))) ms n.movements_given)
             (all_weaker _ _ (λ (m : Movement) own. ap (λ k. k == number) own ∙ e) lines new))) one
         by false e = subst IsBooking (sym (filter_old (λ (m : Movement). m.seq == number) ms lines (all_weaker _ _ (λ (m : Movement) own. ap (λ k. k == number) own ∙ e) lines new))) (n.bookings number)
 
@@ -100,16 +97,9 @@ module _ (seq : ℕ) (ms : List Movement) (es : List BatchEvent) (n : IsNumbered
       events = n.events;
       movements_given = all_append _ ms lines numbers_later.movements_given (all_weaker _ _ (λ (m : Movement) own. (omega (arith, own), omega (arith, own))) lines new);
       events_given = numbers_later.events_given;
-      apart = all_append _ ms lines n.apart (all_weaker _ _ (λ (m : Movement) own. all_weaker _ _ (λ (e : BatchEvent) g. higher_differs m.seq e.seq (omega (arith, g.1, own))) es n.events_given) lines new);
+      apart = all_append _ ms lines n.apart (all_weaker _ _ (λ (m : Movement) own. all_weaker _ _ (λ (e : BatchEvent) g. numbers_differ m.seq e.seq (λ same. omega (arith, g.1, own, same))) es n.events_given) lines new);
       bookings = booked_more;
       entered_before = all_append _ ms lines
           (all_two _ _ _ (λ (m : Movement) before none. entered_more ms lines m.seq (comes_from m.kind m.lot m.sub) before none) ms n.entered_before old_apart)
           (all_two _ _ _ (λ (m : Movement) own none. entered_more ms lines m.seq (comes_from m.kind m.lot m.sub) (entered_lower m.seq (comes_from m.kind m.lot m.sub) (omega (arith, own))) none) lines new new_apart);
     }
-      where
-        higher_differs : (a b : ℕ) → b < a → (a == b) ≡ false
-        higher_differs a b less = by (a == b) refl
-          where
-            by : (t : Bool) → (a == b) ≡ t → t ≡ false
-            by true e = let same : a ≡ b = eqb-true a b e in absurd (omega (arith, less, same))
-            by false e = refl

@@ -1,6 +1,6 @@
 -- Row changes that make the tables after a command add each row under a key of its own.
 use Rattle.std.proofs.Common.{◌≡◌, ◌∙◌, ℕ, ◌≤◌, Bool, true, false, List, [], ◌∷◌, ◌++◌, length, filter, Some, refl, sym, ap, subst, append_assoc, arith}
-use Rattle.std.specs.Prelude.{◌&&◌, ◌==◌, nat_le}
+use Rattle.std.specs.Prelude.{◌&&◌, ◌==◌, nat_le, count_by}
 use Rattle.std.specs.Cmp.{both_tied, unsigned_ties}
 use Rattle.std.specs.Cmp.Lexicographic.{texts_ties}
 use Rattle.std.specs.List.{AllByRecursion}
@@ -11,6 +11,7 @@ use Rattle.std.specs.declared.cmp.Ordering.TheVariants.{Less, Equal, Greater}
 use Rattle.std.proofs.lemmas.Bool.{false≢true}
 use Rattle.std.proofs.lemmas.Bool.Decides.{nat_tests}
 use Rattle.std.proofs.lemmas.List.{append-nil}
+use Rattle.std.proofs.lemmas.List.Sums.{length-filter}
 use Rattle.plant_base.specs.State.{State, newest_schema, same, put}
 use Rattle.plant_base.specs.Formed.{HasValues}
 use Rattle.plant_base.specs.declared.rows.Batch.{Batch}
@@ -83,6 +84,7 @@ HaveOwnJobs batches = AllByRecursion (λ a. AllByRecursion (IsOneJob a) batches)
 
 -- where no change is of a batch the batches stay
 batches_stay : (rows : List RowChange) (t : Tables) → length (filter is_batch rows) ≡ 0 → (changed_all rows t).batches ≡ t.batches
+unfolding is_batch
 batches_stay [] t none = refl
 batches_stay (change.Batch r ∷ rows) t none = absurd (omega (arith, none))
 batches_stay (c ∷ rows) t none = batches_stay rows (changed c t) none
@@ -127,6 +129,7 @@ fresh_batch r rows t none own =
 -- ---- changes one after the other
 
 fresh_rows : (rows : List RowChange) (t : Tables) → IsStrictlySortedBy movement_order (changed_all rows t).movements → IsStrictlySortedBy event_order (changed_all rows t).events → HaveOwnJobs (changed_all rows t).batches → length (filter is_batch rows) ≤ 1 → AreFresh rows t
+unfolding is_batch
 fresh_rows [] t movements events batches one = tt
 fresh_rows (change.Movement r ∷ rows) t movements events batches one = (fresh_movement r rows t movements, fresh_rows rows (changed (change.Movement r) t) movements events batches one)
 fresh_rows (change.Event r ∷ rows) t movements events batches one = (fresh_event r rows t events, fresh_rows rows (changed (change.Event r) t) movements events batches one)
@@ -164,4 +167,4 @@ fresh s good e values rows leads one =
     (subst (λ (t : Tables). IsStrictlySortedBy movement_order t.movements) (sym leads) next.numbers.movements)
     (subst (λ (t : Tables). IsStrictlySortedBy event_order t.events) (sym leads) next.numbers.events)
     (subst (λ (t : Tables). HaveOwnJobs t.batches) (sym leads) (own_jobs (step s e) next.sound))
-    (at_most_one (length (filter is_batch rows)) one)
+    (omega (arith, at_most_one (count_by is_batch rows) one, length-filter is_batch rows))

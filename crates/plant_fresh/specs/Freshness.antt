@@ -1,5 +1,5 @@
 -- What the tables of good states tell of the rows that commands change: no row that is added has the key of another.
-use Rattle.std.specs.Prelude.{◌≡◌, Bool, true, false, List, length, filter, nat_le}
+use Rattle.std.specs.Prelude.{◌≡◌, Bool, true, false, List, nat_le, count_by}
 use Rattle.plant_base.specs.State.{State, newest_schema}
 use Rattle.plant_base.specs.Formed.{HasValues}
 use Rattle.plant_base.specs.declared.command.Envelope.{Envelope}
@@ -11,13 +11,13 @@ use Rattle.plant_rules.specs.Step.{step}
 use Rattle.plant_ledger.specs.Good.{IsGood}
 use Rattle.plant_tables.specs.Keyed.{AreKeyed, AreFresh}
 
-abbrev pub is_batch : RowChange → Bool
+unfoldable pub is_batch : RowChange → Bool
 is_batch (change.Batch r) = true
 is_batch _ = false
 
 -- at most one of the changes is of a batch
 abbrev pub puts_one_batch : List RowChange → Bool
-puts_one_batch rows = nat_le (length (filter is_batch rows)) 1
+puts_one_batch rows = nat_le (count_by is_batch rows) 1
 
 -- ---- laws
 

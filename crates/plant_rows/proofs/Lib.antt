@@ -1,2 +1,4 @@
-pub mod NumberLemmas
 pub mod ListLemmas
+pub mod ValueLemmas
+pub mod NameLemmas
+pub mod LineLemmas

@@ -58,5 +58,60 @@ moved_as r k = record {
   note = r.note;
 }
 
+-- the movement of a row whose columns are those of its kind
 unfoldable pub movement_from : BookedRow → Option Movement
 movement_from r = option_map (moved_as r) (kind_from r)
+
+-- ---- the row that books a movement
+
+abbrev pub sort_of : MovementKind → MovementSort
+sort_of kind.Received = sort.Received
+sort_of (kind.Consumed batch) = sort.Consumed
+sort_of (kind.Produced batch) = sort.Produced
+sort_of kind.Scrapped = sort.Scrapped
+sort_of (kind.Divided to) = sort.Divided
+sort_of (kind.Split to) = sort.Split
+sort_of (kind.Merged to) = sort.Merged
+
+abbrev pub other_lot : MovementKind → List ℕ → Option (List ℕ)
+other_lot kind.Received lot = None
+other_lot (kind.Consumed batch) lot = None
+other_lot (kind.Produced batch) lot = None
+other_lot kind.Scrapped lot = None
+other_lot (kind.Divided to) lot = Some lot
+other_lot (kind.Split to) lot = Some to
+other_lot (kind.Merged to) lot = Some to
+
+abbrev pub other_sublot : MovementKind → Option ℕ
+other_sublot kind.Received = None
+other_sublot (kind.Consumed batch) = None
+other_sublot (kind.Produced batch) = None
+other_sublot kind.Scrapped = None
+other_sublot (kind.Divided to) = Some to
+other_sublot (kind.Split to) = Some 0
+other_sublot (kind.Merged to) = Some 0
+
+abbrev pub batch_of : MovementKind → Option (List ℕ)
+batch_of kind.Received = None
+batch_of (kind.Consumed batch) = Some batch
+batch_of (kind.Produced batch) = Some batch
+batch_of kind.Scrapped = None
+batch_of (kind.Divided to) = None
+batch_of (kind.Split to) = None
+batch_of (kind.Merged to) = None
+
+abbrev pub booked_of : Movement → BookedRow
+booked_of m = record {
+  seq = m.seq;
+  line = m.line;
+  sort = sort_of m.kind;
+  lot = m.lot;
+  sub = m.sub;
+  lot2 = other_lot m.kind m.lot;
+  sub2 = other_sublot m.kind;
+  batch = batch_of m.kind;
+  amount = m.amount;
+  at = m.at;
+  by = m.by;
+  note = m.note;
+}

@@ -3,3 +3,4 @@ pub mod Naming
 pub mod Judging
 pub mod Booked
 pub mod Collecting
+pub mod Obeying

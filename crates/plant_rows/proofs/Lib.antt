@@ -2,3 +2,5 @@ pub mod ListLemmas
 pub mod ValueLemmas
 pub mod NameLemmas
 pub mod LineLemmas
+pub mod KindLemmas
+pub mod RowLemmas

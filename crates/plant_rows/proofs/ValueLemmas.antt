@@ -125,6 +125,22 @@ unfolding number_in
 number_again low high (pos m) n same good = only_again (is_in low high) m n (cc) good
 number_again low high (negsuc m) n same good = absurd (cc)
 
+-- a number of one value
+pub number_is : (only_one : ℕ) (z : ℤ) (n : ℕ) → number_in only_one only_one z ≡ Some n → n ≡ only_one
+unfolding number_in
+number_is k (pos m) n h =
+    let parts = and_parts (nat_le k n) (nat_le n k) (only_back (is_in k k) m n h).1 in
+    let least : nat_le k n ≡ true = parts.0 in
+    let most : nat_le n k ≡ true = parts.1 in
+    grind (arith, nat_tests)
+number_is k (negsuc m) n h = absurd (cc)
+
+-- every number is at least 0
+pub up_to : (high n : ℕ) → nat_le n high ≡ true → is_in 0 high n ≡ true
+up_to high n h =
+    let least : nat_le 0 n ≡ true = grind (arith, nat_tests) in
+    rw (least, h) refl
+
 -- the column of a number or none
 abbrev pub number_column : Option ℕ → Value
 number_column None = Null
@@ -134,19 +150,19 @@ abbrev pub IsSublotOrNone : Option ℕ → Type 0
 IsSublotOrNone None = Unit {0}
 IsSublotOrNone (Some n) = is_in 0 greatest_sublot n ≡ true
 
-pub sublot_back : (n : Option ℤ) (sub : Option ℕ) → sublot_or_null n ≡ Some sub → number_or_null n ≡ number_column sub
+pub sub_back : (n : Option ℤ) (sub : Option ℕ) → sublot_or_null n ≡ Some sub → number_or_null n ≡ number_column sub
 unfolding sublot_or_null
-sublot_back None sub h = let same : None ≡ sub = cc in ap number_column same
-sublot_back (Some z) sub h =
+sub_back None sub h = let same : None ≡ sub = cc in ap number_column same
+sub_back (Some z) sub h =
     let read = mapped Some (number_in 0 greatest_sublot z) sub h in
     ap Int (number_back 0 greatest_sublot z read.0 read.1) ∙ ap number_column read.2
 
-pub sublot_again : (n : Option ℤ) (sub : Option ℕ) → number_or_null n ≡ number_column sub → IsSublotOrNone sub → sublot_or_null n ≡ Some sub
+pub sub_again : (n : Option ℤ) (sub : Option ℕ) → number_or_null n ≡ number_column sub → IsSublotOrNone sub → sublot_or_null n ≡ Some sub
 unfolding sublot_or_null
-sublot_again None None same good = refl
-sublot_again None (Some k) same good = absurd (cc)
-sublot_again (Some z) None same good = absurd (cc)
-sublot_again (Some z) (Some k) same good = ap (option_map Some) (number_again 0 greatest_sublot z k (cc) good)
+sub_again None None same good = refl
+sub_again None (Some k) same good = absurd (cc)
+sub_again (Some z) None same good = absurd (cc)
+sub_again (Some z) (Some k) same good = ap (option_map Some) (number_again 0 greatest_sublot z k (cc) good)
 
 -- a line that has a number has the one that is stored
 pub line_back : (z : ℤ) (n : ℕ) → line_number z ≡ n → 1 ≤ n → z ≡ pos n

@@ -1,6 +1,9 @@
 -- The rows of the desk that all stored rows stand for.
-use Rattle.std.specs.Prelude.{◌≡◌, ℕ, ◌≤◌, List, [], ◌∷◌, Option, Some, None, map}
-use Rattle.std.specs.List.{filter_map}
+use Rattle.std.specs.Prelude.{◌≡◌, ◌≤◌, true, List, [], ◌∷◌, Option, Some, map, is_some}
+use Rattle.std.specs.List.{AllByRecursion, filter_map}
+use Rattle.std.specs.List.Sorted.{IsStrictlySortedBy}
+use Rattle.std.specs.Ordering.{nat_cmp, ordering_then}
+use Rattle.std.specs.declared.cmp.Ordering.{Ordering}
 use Rattle.plant_base.specs.Dates.{◌>>=◌}
 use Rattle.plant_base.specs.declared.rows.Meta.{Meta}
 use Rattle.plant_base.specs.declared.rows.Class.{Class}
@@ -13,11 +16,15 @@ use Rattle.plant_base.specs.declared.rows.ControlLine.{ControlLine}
 use Rattle.plant_base.specs.declared.rows.BatchEvent.{BatchEvent}
 use Rattle.plant_base.specs.declared.rows.Lot.{Lot}
 use Rattle.plant_base.specs.declared.rows.Sublot.{Sublot}
+use Rattle.plant_base.specs.declared.rows.Movement.{Movement}
 use Rattle.plant_base.specs.declared.rows.Hold.{Hold}
+use Rattle.plant_view.specs.Tables.{Tables}
+use Rattle.plant_tables.specs.Keyed.{AreKeyed}
 use Rattle.plant_loaded.specs.declared.masters.Masters.{Masters}
 use Rattle.plant_loaded.specs.declared.orders.Orders.{Orders}
 use Rattle.plant_loaded.specs.declared.stocks.Stocks.{Stocks}
 use Rattle.plant_loaded.specs.declared.loaded.Loaded.{Loaded}
+use Rattle.plant_rows.specs.Booked.{movement_from, booked_of}
 use Rattle.plant_rows.specs.Judging.{only_meta, class_from, definition_from, recipe_from, master_line_from, job_from, batch_from, control_line_from, batch_event_from, lot_from, sublot_from, booked_from, hold_from}
 use Rattle.plant_rows.specs.declared.booked.BookedRow.{BookedRow}
 use Rattle.plant_rows.specs.declared.desk_rows.DeskRows.{DeskRows}
@@ -147,3 +154,60 @@ rows_listed r = record {
   movements = r.movements.items;
   holds = r.holds.items;
 }
+
+-- ---- rows and tables
+
+-- the tables of rows whose movements have the columns of their kinds
+abbrev pub tables_in : Rows → Tables
+tables_in r = record {
+  meta = r.meta;
+  classes = r.classes;
+  definitions = r.definitions;
+  recipes = r.recipes;
+  master_lines = r.master_lines;
+  jobs = r.jobs;
+  batches = r.batches;
+  control_lines = r.control_lines;
+  events = r.events;
+  lots = r.lots;
+  sublots = r.sublots;
+  movements = filter_map movement_from r.movements;
+  holds = r.holds;
+}
+
+-- each line has a number, and each movement the columns of its kind
+pub record AreWhole (r : Rows) : Type 0 where
+  pub master_lines : AllByRecursion (λ l. 1 ≤ l.number) r.master_lines
+  pub control_lines : AllByRecursion (λ l. 1 ≤ l.number) r.control_lines
+  pub movement_lines : AllByRecursion (λ m. 1 ≤ m.line) r.movements
+  pub movements : AllByRecursion (λ m. is_some (movement_from m) ≡ true) r.movements
+
+-- the rows of the tables
+abbrev pub rows_in : Tables → Rows
+rows_in t = record {
+  meta = t.meta;
+  classes = t.classes;
+  definitions = t.definitions;
+  recipes = t.recipes;
+  master_lines = t.master_lines;
+  jobs = t.jobs;
+  batches = t.batches;
+  control_lines = t.control_lines;
+  events = t.events;
+  lots = t.lots;
+  sublots = t.sublots;
+  movements = map booked_of t.movements;
+  holds = t.holds;
+}
+
+abbrev pub event_order : BatchEvent → BatchEvent → Ordering
+event_order a b = nat_cmp a.seq b.seq
+
+abbrev pub movement_order : Movement → Movement → Ordering
+movement_order a b = ordering_then (nat_cmp a.seq b.seq) (nat_cmp a.line b.line)
+
+-- the rows of each table stand in the order of their keys, none with the key of another
+pub record AreInOrder (t : Tables) : Type 0 where
+  pub keyed : AreKeyed t
+  pub events : IsStrictlySortedBy event_order t.events
+  pub movements : IsStrictlySortedBy movement_order t.movements

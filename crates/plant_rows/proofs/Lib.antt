@@ -4,3 +4,4 @@ pub mod NameLemmas
 pub mod LineLemmas
 pub mod KindLemmas
 pub mod RowLemmas
+pub mod SortedLemmas

@@ -5,3 +5,5 @@ pub mod LineLemmas
 pub mod KindLemmas
 pub mod RowLemmas
 pub mod SortedLemmas
+pub mod TableLemmas
+pub mod StandLemmas

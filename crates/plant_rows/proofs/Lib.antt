@@ -7,3 +7,5 @@ pub mod RowLemmas
 pub mod SortedLemmas
 pub mod TableLemmas
 pub mod StandLemmas
+pub mod KeyLemmas
+pub mod AgainLemmas

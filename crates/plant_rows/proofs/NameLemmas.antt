@@ -178,6 +178,5 @@ movement_sort_own movement_sort.Divided = refl
 movement_sort_own movement_sort.Split = refl
 movement_sort_own movement_sort.Merged = refl
 
-
 pub movement_sort_again : (kind : ℤ) (s : MovementSort) → kind ≡ pos (movement_sort_number s) → movement_sort_from kind ≡ Some s
 movement_sort_again kind s is = ap movement_sort_from is ∙ movement_sort_own s

@@ -14,3 +14,6 @@ mod stocks;
 pub use booked::{BookedRow, MovementSort};
 pub use desk_rows::{DeskRows, rows_of};
 pub use judged::{Judged, judge_all};
+
+#[cfg(test)]
+mod tests;

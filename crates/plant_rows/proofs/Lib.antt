@@ -9,3 +9,4 @@ pub mod TableLemmas
 pub mod StandLemmas
 pub mod KeyLemmas
 pub mod AgainLemmas
+pub mod WholeLemmas

@@ -15,11 +15,11 @@ use Rattle.plant_reads.specs.Cells.{text_or_null}
 use Rattle.plant_tables.specs.Encoding.{number, columns_of_line}
 use Rattle.plant_rows.specs.Reading.{id_from, text_from, id_there, number_in}
 use Rattle.plant_rows.specs.Naming.{line_sort_from, line_sort_number}
-use Rattle.plant_rows.specs.Judging.{are_empty, material_from, has_no_material, in_from, out_from, parameter_from, phase_from, line_of_sort, line_from}
+use Rattle.plant_rows.specs.Judging.{are_empty, material_from, has_no_material, parameter_from, phase_from, line_of_sort, line_from}
 use Rattle.plant_rows.specs.declared.line.LineSort.{LineSort}
 use Rattle.plant_rows.specs.declared.line.LineSort.TheVariants as line_sort
 use Rattle.plant_rows.specs.declared.line.Material.{Material}
-use Rattle.plant_rows.proofs.ValueLemmas.{bound, some_same, id_back, id_again, text_back, text_again, there_back, there_again, number_back, number_again, value_head, text_head, int_head}
+use Rattle.plant_rows.proofs.ValueLemmas.{bound, mapped, some_same, id_back, id_again, text_back, text_again, there_back, there_again, number_back, number_again, value_head, text_head, int_head}
 use Rattle.plant_rows.proofs.NameLemmas.{int_same, line_sort_back, line_sort_again}
 
 -- the columns as they are stored
@@ -78,15 +78,15 @@ module _ (def : Option (Vec ℕ Global)) (qty : ℤ) (t1 t2 t3 : List ℕ) where
   ] none
 
   sort_back : (kind : ℤ) (s : LineSort) (l : RecipeLine) → kind ≡ pos (line_sort_number s) → line_of_sort s def qty t1 t2 t3 ≡ Some l → stored_line kind def qty t1 t2 t3 ≡ columns_of_line l
-  unfolding in_from out_from parameter_from phase_from
+  unfolding parameter_from phase_from
   sort_back kind line_sort.In l is h =
-      let p = bound (material_from def qty t1 t2 t3) _ l h in
+      let p = mapped (λ (m : Material). line.In m.def m.amount) (material_from def qty t1 t2 t3) l h in
       let m = material_back p.0 p.1 in
-      columns is m.is_def m.is_qty m.no_first m.no_second m.no_third ∙ ap columns_of_line (some_same _ l p.2)
+      columns is m.is_def m.is_qty m.no_first m.no_second m.no_third ∙ ap columns_of_line p.2
   sort_back kind line_sort.Out l is h =
-      let p = bound (material_from def qty t1 t2 t3) _ l h in
+      let p = mapped (λ (m : Material). line.Out m.def m.amount) (material_from def qty t1 t2 t3) l h in
       let m = material_back p.0 p.1 in
-      columns is m.is_def m.is_qty m.no_first m.no_second m.no_third ∙ ap columns_of_line (some_same _ l p.2)
+      columns is m.is_def m.is_qty m.no_first m.no_second m.no_third ∙ ap columns_of_line p.2
   sort_back kind line_sort.Parameter l is h =
       let parts = where_true (has_no_material def qty && length t3 == 0) _ l h in
       let tests = and_parts (has_no_material def qty) (length t3 == 0) parts.0 in
@@ -118,7 +118,7 @@ module _ (def : Option (Vec ℕ Global)) (qty : ℤ) (t1 t2 t3 : List ℕ) where
   read_line kind s l is h = rw (line_sort_again kind s is) h
 
   pub line_again : (kind : ℤ) (l : RecipeLine) → stored_line kind def qty t1 t2 t3 ≡ columns_of_line l → HasLineValues l → line_from kind def qty t1 t2 t3 ≡ Some l
-  unfolding in_from out_from parameter_from phase_from
+  unfolding parameter_from phase_from
   line_again kind (line.In d n) h good =
       let c1 = int_head h in
       let c2 = value_head c1.1 in

@@ -25,6 +25,7 @@ use Rattle.plant_base.specs.declared.rows.MovementKind.{MovementKind}
 use Rattle.plant_base.specs.declared.rows.MovementKind.TheVariants as kind
 use Rattle.plant_base.specs.declared.rows.Movement.{Movement}
 use Rattle.plant_base.specs.declared.rows.Hold.{Hold}
+use Rattle.plant_recipe.specs.Progress.{greatest_attempt}
 use Rattle.plant_view.specs.Production.{HasBatchValues, HasGoodOrder}
 use Rattle.plant_reads.specs.Cells.{number_or_null, text_or_null}
 use Rattle.plant_tables.specs.Encoding.{number, columns_of_line, row_of_meta, row_of_class, row_of_definition, row_of_recipe, row_of_master_line, row_of_job, row_of_batch, row_of_control_line, row_of_event, row_of_lot, row_of_sublot, row_of_movement, row_of_hold}
@@ -277,12 +278,12 @@ unfolding batch_from
 batch_back x r h =
     let p1 = bound (released_from x) _ r h in
     let p2 = bound (batch_state_from x.state.items) _ r p1.2 in
-    let p3 = bound (number_in 1 99 x.attempt) _ r p2.2 in
+    let p3 = bound (number_in 1 greatest_attempt x.attempt) _ r p2.2 in
     let p4 = bound (number_in 1 greatest_phase x.next) _ r p3.2 in
     let p5 = bound (flag_from x.closed) _ r p4.2 in
     let is = released_back x p1.0 p1.1 in
     let state = batch_state_back x.state.items p2.0 p2.1 in
-    let attempt = number_back 1 99 x.attempt p3.0 p3.1 in
+    let attempt = number_back 1 greatest_attempt x.attempt p3.0 p3.1 in
     let next = number_back 1 greatest_phase x.next p4.0 p4.1 in
     let closed = flag_back x.closed p5.0 p5.1 in
     let same : record { batch = p1.0; state = p2.0; attempt = p3.0; next = p4.0; closed = p5.0 } ≡ r = some_same _ _ p5.2 in
@@ -301,7 +302,7 @@ batch_again x r h good =
     let c8 = int_head c7.1 in
     let c9 = value_head c8.1 in
     let is : IsBatchOf x r.batch = record { is_id = c1.0; is_job = c2.0; is_stamp = record { was_at = c3.0; was_by = c4.0; has_note = c5.0 } } in
-    rw (released_again x r.batch is good.batch, batch_state_again x.state.items r.state c6.0, number_again 1 99 x.attempt r.attempt c7.0 good.attempt, number_again 1 greatest_phase x.next r.next c8.0 good.next, flag_again x.closed r.closed c9.0) refl
+    rw (released_again x r.batch is good.batch, batch_state_again x.state.items r.state c6.0, number_again 1 greatest_attempt x.attempt r.attempt c7.0 good.attempt, number_again 1 greatest_phase x.next r.next c8.0 good.next, flag_again x.closed r.closed c9.0) refl
 
 pub event_row_back : (x : StoredBatchEvent) (r : BatchEvent) → batch_event_from x ≡ Some r → batch_event_row x ≡ row_of_event r
 unfolding batch_event_from

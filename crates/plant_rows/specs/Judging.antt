@@ -1,9 +1,10 @@
 -- The row of the desk that a stored row stands for: nothing where one of its values breaks its rule.
-use Rattle.std.specs.Prelude.{ℕ, ℤ, List, [], ◌∷◌, Bool, ◌&&◌, length, ◌==◌, Option, Some, None, Vec, pos, true, false, if◌then◌else◌}
+use Rattle.std.specs.Prelude.{ℕ, ℤ, List, [], ◌∷◌, Bool, ◌&&◌, length, ◌==◌, Option, Some, None, option_map, Vec, pos, true, false, if◌then◌else◌}
 use Rattle.std.specs.declared.alloc.Global.{Global}
 use Rattle.std.specs.Ordering.{int_eq}
 use Rattle.plant_base.specs.Dates.{◌>>=◌}
 use Rattle.plant_base.specs.Values.{greatest_amount, greatest_phase, greatest_priority, greatest_sublot, greatest_version}
+use Rattle.plant_recipe.specs.Progress.{greatest_attempt}
 use Rattle.plant_base.specs.declared.rows.Meta.{Meta}
 use Rattle.plant_base.specs.declared.rows.Class.{Class}
 use Rattle.plant_base.specs.declared.rows.Definition.{Definition}
@@ -108,16 +109,6 @@ unfoldable pub has_no_material : Option (Vec ℕ Global) → ℤ → Bool
 has_no_material None qty = int_eq qty (pos 0)
 has_no_material (Some def) qty = false
 
-unfoldable pub in_from : Option (Vec ℕ Global) → ℤ → List ℕ → List ℕ → List ℕ → Option RecipeLine
-in_from def qty t1 t2 t3 = do
-  m ← material_from def qty t1 t2 t3
-  Some (line.In m.def m.amount)
-
-unfoldable pub out_from : Option (Vec ℕ Global) → ℤ → List ℕ → List ℕ → List ℕ → Option RecipeLine
-out_from def qty t1 t2 t3 = do
-  m ← material_from def qty t1 t2 t3
-  Some (line.Out m.def m.amount)
-
 unfoldable pub parameter_from : Option (Vec ℕ Global) → ℤ → List ℕ → List ℕ → List ℕ → Option RecipeLine
 parameter_from def qty t1 t2 t3 = if has_no_material def qty && length t3 == 0 then (do
   name ← id_from t1
@@ -133,10 +124,10 @@ phase_from def qty t1 t2 t3 = if has_no_material def qty then (do
 
 -- a line of this kind, from its columns
 abbrev pub line_of_sort : LineSort → Option (Vec ℕ Global) → ℤ → List ℕ → List ℕ → List ℕ → Option RecipeLine
-line_of_sort line_sort.In = in_from
-line_of_sort line_sort.Out = out_from
-line_of_sort line_sort.Parameter = parameter_from
-line_of_sort line_sort.Phase = phase_from
+line_of_sort line_sort.In def qty t1 t2 t3 = option_map (λ m. line.In m.def m.amount) (material_from def qty t1 t2 t3)
+line_of_sort line_sort.Out def qty t1 t2 t3 = option_map (λ m. line.Out m.def m.amount) (material_from def qty t1 t2 t3)
+line_of_sort line_sort.Parameter def qty t1 t2 t3 = parameter_from def qty t1 t2 t3
+line_of_sort line_sort.Phase def qty t1 t2 t3 = phase_from def qty t1 t2 t3
 
 -- the line that has these columns: kind, def, qty, t1, t2, t3
 unfoldable pub line_from : ℤ → Option (Vec ℕ Global) → ℤ → List ℕ → List ℕ → List ℕ → Option RecipeLine
@@ -186,7 +177,7 @@ unfoldable pub batch_from : StoredBatch → Option BatchRow
 batch_from x = do
   batch ← released_from x
   state ← batch_state_from x.state.items
-  attempt ← number_in 1 99 x.attempt
+  attempt ← number_in 1 greatest_attempt x.attempt
   next ← number_in 1 greatest_phase x.next
   closed ← flag_from x.closed
   Some (record { batch = batch; state = state; attempt = attempt; next = next; closed = closed })

@@ -4,3 +4,4 @@ pub mod Judging
 pub mod Booked
 pub mod Collecting
 pub mod Obeying
+pub mod Laws

@@ -20,6 +20,7 @@ use Rattle.plant_base.specs.declared.rows.MovementKind.{MovementKind}
 use Rattle.plant_base.specs.declared.rows.MovementKind.TheVariants as kind
 use Rattle.plant_base.specs.declared.rows.Movement.{Movement}
 use Rattle.plant_base.specs.declared.rows.Hold.{Hold}
+use Rattle.plant_recipe.specs.Progress.{greatest_attempt}
 use Rattle.plant_view.specs.Production.{HasBatchValues, HasGoodOrder}
 use Rattle.plant_view.specs.Tables.{Tables}
 use Rattle.plant_rows.specs.Reading.{is_in, greatest_number}
@@ -58,7 +59,7 @@ HasJobValues j = HasGoodOrder j.order
 
 pub record HasBatchRowValues (b : BatchRow) : Type 0 where
   pub batch : HasBatchValues b.batch
-  pub attempt : is_in 1 99 b.attempt ≡ true
+  pub attempt : is_in 1 greatest_attempt b.attempt ≡ true
   pub next : is_phase_number b.next ≡ true
 
 pub record HasControlLineValues (l : ControlLine) : Type 0 where

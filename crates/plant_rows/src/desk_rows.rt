@@ -1,6 +1,7 @@
 ghost use Rattle.std.specs.Prelude.{◌≡◌, IfOk, option_map};
 ghost use Rattle.plant_rows.specs.Judging.{meta_from, only_meta};
 ghost use Rattle.plant_rows.specs.Collecting.{masters_listed, masters_from, orders_listed, orders_from, stocks_listed, stocks_from, rows_listed, rows_from};
+ghost use Rattle.plant_rows.specs.Laws.{StandFor, AreReadAgain, AreWholeRows, AreSameTables, IsBookedAgain};
 
 use crate::booked::BookedRow;
 use crate::judged::judge_all;
@@ -193,3 +194,20 @@ pub fn rows_of(alloc: Global, loaded: &Loaded) -> Result<Option<DeskRows>, Alloc
         holds: stocks.holds,
     }))
 }
+
+/// What the reading of rows keeps, as laws that a proof above may cite. It does nothing when it runs.
+///
+/// - `stand_for`: rows whose lines have numbers, and whose movements have the columns of their kinds, are the tables
+///   that were loaded.
+/// - `read_again`: what a database holds is read as it was written, where the keys of the tables rise and each value
+///   obeys its rule.
+/// - `whole`: the rows of such tables have numbers and the columns of their kinds.
+/// - `tables`: the tables of the rows of tables are those tables.
+/// - `booked`: the row that books a movement books that movement.
+pub fn reading_laws()
+    ensures stand_for { StandFor }
+    ensures read_again { AreReadAgain }
+    ensures whole { AreWholeRows }
+    ensures tables { AreSameTables }
+    ensures booked { IsBookedAgain }
+{}

@@ -2,7 +2,7 @@
 
 ghost use Rattle.std.specs.Prelude.{◌≡◌, pos};
 ghost use Rattle.plant_rows.specs.Naming.{line_sort_number, all_line_sorts, line_sort_from};
-ghost use Rattle.plant_rows.specs.Judging.{are_empty, material_from, has_no_material, in_from, out_from, parameter_from, phase_from, line_from};
+ghost use Rattle.plant_rows.specs.Judging.{are_empty, material_from, has_no_material, parameter_from, phase_from, line_from};
 
 use crate::reading::{amount, id, standing_id, text};
 use plant_base::{Amount, Id, RecipeLine};
@@ -86,29 +86,13 @@ fn material_of(
 
 /// Whether the columns of the material are unused.
 #[tactic(auto, unfolding(crate::specs::Judging::has_no_material))]
-fn is_immaterial(def: &Option<Vec<u8>>, qty: &i64) -> bool
+fn names_no_material(def: &Option<Vec<u8>>, qty: &i64) -> bool
     ensures { result ≡ has_no_material def.now qty.now }
 {
     match def {
         Some(_) => false,
         None => *qty == 0,
     }
-}
-
-#[tactic(auto, unfolding(crate::specs::Judging::in_from))]
-fn in_line(def: &Option<Vec<u8>>, qty: &i64, t1: &[u8], t2: &[u8], t3: &[u8]) -> Option<RecipeLine>
-    ensures { result ≡ in_from def.now qty.now t1.now t2.now t3.now }
-{
-    let Material { def, amount } = material_of(def, qty, t1, t2, t3)?;
-    Some(RecipeLine::In { def, amount })
-}
-
-#[tactic(auto, unfolding(crate::specs::Judging::out_from))]
-fn out_line(def: &Option<Vec<u8>>, qty: &i64, t1: &[u8], t2: &[u8], t3: &[u8]) -> Option<RecipeLine>
-    ensures { result ≡ out_from def.now qty.now t1.now t2.now t3.now }
-{
-    let Material { def, amount } = material_of(def, qty, t1, t2, t3)?;
-    Some(RecipeLine::Out { def, amount })
 }
 
 #[tactic(auto, unfolding(crate::specs::Judging::parameter_from))]
@@ -121,7 +105,7 @@ fn parameter(
 ) -> Option<RecipeLine>
     ensures { result ≡ parameter_from def.now qty.now t1.now t2.now t3.now }
 {
-    if !(is_immaterial(def, qty) && t3.is_empty()) {
+    if !(names_no_material(def, qty) && t3.is_empty()) {
         return None;
     }
     Some(RecipeLine::Parameter {
@@ -134,7 +118,7 @@ fn parameter(
 fn phase(def: &Option<Vec<u8>>, qty: &i64, t1: &[u8], t2: &[u8], t3: &[u8]) -> Option<RecipeLine>
     ensures { result ≡ phase_from def.now qty.now t1.now t2.now t3.now }
 {
-    if !is_immaterial(def, qty) {
+    if !names_no_material(def, qty) {
         return None;
     }
     Some(RecipeLine::Phase {
@@ -158,8 +142,14 @@ pub fn line(
     ensures { result ≡ line_from kind.now def.now qty.now t1.now t2.now t3.now }
 {
     match line_sort(kind)? {
-        LineSort::In => in_line(def, qty, t1, t2, t3),
-        LineSort::Out => out_line(def, qty, t1, t2, t3),
+        LineSort::In => {
+            let Material { def, amount } = material_of(def, qty, t1, t2, t3)?;
+            Some(RecipeLine::In { def, amount })
+        }
+        LineSort::Out => {
+            let Material { def, amount } = material_of(def, qty, t1, t2, t3)?;
+            Some(RecipeLine::Out { def, amount })
+        }
         LineSort::Parameter => parameter(def, qty, t1, t2, t3),
         LineSort::Phase => phase(def, qty, t1, t2, t3),
     }

@@ -12,9 +12,7 @@ use plant_base::{
     GREATEST_VERSION, Job, OrderRow,
 };
 use plant_loaded::orders::{StoredBatch, StoredBatchEvent, StoredControlLine, StoredJob};
-
-/// The greatest attempt of a batch.
-const GREATEST_ATTEMPT: u8 = 99;
+use plant_recipe::GREATEST_ATTEMPT;
 
 #[tactic(auto, unfolding(crate::specs::Judging::order_from))]
 fn order(row: &StoredJob) -> Option<OrderRow>

@@ -1,6 +1,6 @@
 //! Stored rows of every kind, and one row for each rule that a value can break. The wanted rows were written by hand.
 
-use crate::{BookedRow, DeskRows, Judged, MovementSort, rows_of};
+use crate::{BookedRow, DeskRows, Judged, MovementSort, reading_laws, rows_of};
 use plant_base::{
     Amount, Batch, BatchEvent, BatchRow, BatchState, Class, ControlLine, Definition, Due, Event,
     Header, Hold, Id, Job, JobState, Lot, Meta, Moment, Movement, MovementKind, OrderRow, Position,
@@ -434,6 +434,11 @@ fn rows_of_every_kind(rt: HostRuntime) -> Result<(), Fail> {
     Ok(())
 }
 
+#[test]
+fn laws(_: HostRuntime) {
+    reading_laws();
+}
+
 fn is_taken(alloc: Global, loaded: &Loaded) -> Result<bool, AllocError> {
     Ok(rows_of(alloc, loaded)?.is_some())
 }
@@ -678,6 +683,14 @@ fn movements_of_every_kind(rt: HostRuntime) -> Result<(), Fail> {
     Ok(())
 }
 
+/// Whether the values are good, and the columns aren't those of the kind.
+fn is_misfit(alloc: Global, booking: Booking) -> Result<bool, AllocError> {
+    match booked(alloc, booking)? {
+        Some(row) => Ok(row.movement().is_none()),
+        None => Ok(false),
+    }
+}
+
 #[test]
 fn columns_of_another_kind(rt: HostRuntime) -> Result<(), Fail> {
     let alloc = rt.alloc();
@@ -693,8 +706,7 @@ fn columns_of_another_kind(rt: HostRuntime) -> Result<(), Fail> {
         (1, 7, 0, "", Some(0), "", 5),
         (1, 7, 0, "F-2", Some(0), "B-1", 5),
     ] {
-        assert!(rt; booked(alloc, booking)?.is_some());
-        assert!(rt; kind(alloc, booking)?.is_none());
+        assert!(rt; is_misfit(alloc, booking)?);
     }
     Ok(())
 }

@@ -11,24 +11,23 @@ use Rattle.plant_desk.specs.declared.reply.Reply.{Reply}
 use Rattle.plant_desk.specs.declared.reply.DeskFault.{DeskFault}
 use Rattle.plant_desk.specs.declared.reply.DeskFault.TheVariants.{Store, Memory, Shut}
 
--- a stop may leave one of two states, at least one of them, and no other
-pub record LeavesOneOf (s t : State) (may_leave : State → Type 0) : Type 0 where
-  pub some : may_leave s ⊎ may_leave t
-  pub only : (u : State) → may_leave u → (u ≡ s) ⊎ (u ≡ t)
+-- a set of states
+abbrev pub States : Type 1
+States = State → Type 0
 
--- what `execute` does to an open keeper at s that is at t afterwards
-abbrev pub Executes : State → State → (State → Type 0) → Envelope → Result Reply DeskFault → Type 0
-Executes s t may_leave e (Ok r) = (r ≡ reply s e) × (t ≡ step s e)
-Executes s t may_leave e (Err Store) = (t ≡ s) × LeavesOneOf s (step s e) may_leave
-Executes s t may_leave e (Err Memory) = t ≡ s
-Executes s t may_leave e (Err Shut) = ⊥
+-- what `execute` does to an open keeper at s: what is said of where it stands afterwards, and of what a stop leaves
+abbrev pub Executes : State → States → (States → Type 0) → Envelope → Result Reply DeskFault → Type 0
+Executes s stands leaves e (Ok r) = (r ≡ reply s e) × stands (step s e)
+Executes s stands leaves e (Err Store) = stands s × leaves (λ u. (u ≡ s) ⊎ (u ≡ step s e))
+Executes s stands leaves e (Err Memory) = stands s
+Executes s stands leaves e (Err Shut) = ⊥
 
--- what `ask` does to an open keeper of schema k at s that is at t afterwards
-abbrev pub Asks : ℕ → State → State → Question → Result Answer DeskFault → Type 0
-Asks k s t q (Ok a) = (a ≡ answer k s q) × (t ≡ s)
-Asks k s t q (Err Store) = t ≡ s
-Asks k s t q (Err Memory) = t ≡ s
-Asks k s t q (Err Shut) = ⊥
+-- what `ask` does to an open keeper of schema k at s
+abbrev pub Asks : ℕ → State → States → Question → Result Answer DeskFault → Type 0
+Asks k s stands q (Ok a) = (a ≡ answer k s q) × stands s
+Asks k s stands q (Err Store) = stands s
+Asks k s stands q (Err Memory) = stands s
+Asks k s stands q (Err Shut) = ⊥
 
 -- whether an open keeper is shut after an `execute`
 abbrev pub shuts : Result Reply DeskFault → Bool

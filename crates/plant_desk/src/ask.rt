@@ -21,9 +21,11 @@ use std::alloc::{AllocError, Global};
 impl Lists {
     ghost use Rattle.plant_base.specs.State.{newest_schema};
 
-    /// Answers a question. Nothing is changed.
+    /// Answers a question in the state of the lists, which is sound, as a desk of the newest schema. Nothing is changed.
+    ///
+    /// The error is want of memory.
     #[tactic(auto, unfolding(crate::specs::Answers::answer))]
-    pub(crate) fn answer(&self, question: &Question) -> Result<Answer, AllocError>
+    pub fn answer(&self, question: &Question) -> Result<Answer, AllocError>
         requires { IsSound (state_of self.now) }
         ensures { IfOk result (λ a. a ≡ answer newest_schema (state_of self.now) question.now) }
     {

@@ -18,6 +18,7 @@ mod view;
 
 pub use keeper::Keeper;
 pub use list_keeper::ListKeeper;
+pub use lists::Lists;
 pub use question::{Answer, BatchView, Booking, LotAnswer, MeasuredLine, OrderAnswer, Question};
 pub use reply::{DeskFault, Reply};
 pub use report::RunReport;

@@ -1,4 +1,4 @@
-ghost use Rattle.std.specs.Prelude.{◌≡◌, IfOk, IfErr, OnOk, OnErr, false, refl};
+ghost use Rattle.std.specs.Prelude.{◌≡◌, IfOk, IfErr, OnOk, OnErr, false};
 ghost use Rattle.plant_base.specs.State.{opening, newest_schema};
 ghost use Rattle.plant_base.specs.Formed.{HasValues};
 ghost use Rattle.plant_rules.specs.Step.{step};
@@ -137,13 +137,13 @@ impl Keeper for ListKeeper {
 
     ghost honest = { λ _. Unit {0} };
 
-    ghost state = { λ k. k };
+    ghost stands = { λ k s. k ≡ s };
 
     ghost schema = { λ _. newest_schema };
 
     ghost shut = { λ _. false };
 
-    ghost may_leave = { λ k s. s ≡ k };
+    ghost leaves = { λ k P. P k };
 
     fn execute(&mut self, envelope: &Envelope) -> Result<Reply, DeskFault> {
         self.execute_one(envelope)
@@ -156,7 +156,5 @@ impl Keeper for ListKeeper {
         }
     }
 
-    ghost leaves_state = { λ k h is_open. refl };
-
-    ghost leaves_only = { λ k s h is_open same. same };
+    ghost leaves_state = { λ k s h is_open stood. stood };
 }

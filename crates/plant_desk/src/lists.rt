@@ -10,24 +10,43 @@ use plant_base::{
 use plant_view::RowChange;
 use std::alloc::{AllocError, Global};
 
-/// The lists of a state, each ascending by its key.
+/// The rows of a state in lists, and a view of that state: over them a command is decided and a question answered,
+/// whether they were kept in memory or read.
+///
+/// Whoever fills the lists answers for their order, and for the state being sound where `decide` and `answer` ask for
+/// it; nothing is tested here.
 #[derive(Drop)]
-pub(crate) struct Lists {
-    pub(crate) alloc: Global,
-    pub(crate) seq: u64,
-    pub(crate) at: Moment,
-    pub(crate) classes: Vec<Class>,
-    pub(crate) definitions: Vec<Definition>,
-    pub(crate) recipes: Vec<Recipe>,
-    pub(crate) master_lines: Vec<MasterLine>,
-    pub(crate) jobs: Vec<Job>,
-    pub(crate) batches: Vec<Batch>,
-    pub(crate) control_lines: Vec<ControlLine>,
-    pub(crate) events: Vec<BatchEvent>,
-    pub(crate) lots: Vec<Lot>,
-    pub(crate) places: Vec<Place>,
-    pub(crate) movements: Vec<Movement>,
-    pub(crate) holds: Vec<Hold>,
+pub struct Lists {
+    /// What lists and answers grow by.
+    pub alloc: Global,
+    /// How many commands were accepted.
+    pub seq: u64,
+    /// The moment of the last of them.
+    pub at: Moment,
+    /// By id.
+    pub classes: Vec<Class>,
+    /// By id.
+    pub definitions: Vec<Definition>,
+    /// By id and version.
+    pub recipes: Vec<Recipe>,
+    /// By recipe, version and number.
+    pub master_lines: Vec<MasterLine>,
+    /// By order.
+    pub jobs: Vec<Job>,
+    /// By id.
+    pub batches: Vec<Batch>,
+    /// By batch and number.
+    pub control_lines: Vec<ControlLine>,
+    /// By the number of the command.
+    pub events: Vec<BatchEvent>,
+    /// By id.
+    pub lots: Vec<Lot>,
+    /// By lot and number.
+    pub places: Vec<Place>,
+    /// By the number of the command, the parts of a merge one after the other.
+    pub movements: Vec<Movement>,
+    /// By lot and id.
+    pub holds: Vec<Hold>,
 }
 
 // One more row at the end.
@@ -45,7 +64,7 @@ impl Lists {
     ghost use Rattle.plant_desk.specs.Lists.{state_of, applied, applied_all, HasRoom};
 
     /// The lists of a desk that nothing was told yet. No memory is taken.
-    pub(crate) fn new(alloc: Global) -> Self
+    pub fn new(alloc: Global) -> Self
         ensures { state_of result ≡ opening }
     {
         Lists {

@@ -1,11 +1,12 @@
 -- Turns, one after the other.
-use Rattle.std.proofs.Common.{◌≡◌, ℕ, List, [], ◌∷◌, ◌++◌, Bool, true, false, ◌||◌, Option, Result, Ok, Err, refl, sym, ap, ◌∙◌, subst, append_assoc}
+use Rattle.std.proofs.Common.{◌≡◌, ℕ, List, [], ◌∷◌, ◌++◌, Bool, true, false, ◌||◌, Option, Ok, Err, refl, sym, ap, ◌∙◌, subst, append_assoc}
 use Rattle.std.proofs.lemmas.List.{append-nil}
 use Rattle.std.proofs.Math.Bool.{or_assoc}
 use Rattle.plant_base.specs.State.{State}
+use Rattle.plant_desk.specs.Keeping.{States}
 use Rattle.plant_text.specs.declared.turns.Stop.{Stop}
 use Rattle.plant_text.specs.Session.{Entry, entry_text, after, is_refused, texts, fold, some_refused, Told, StopsAt, Stopped}
-use Rattle.plant_text.specs.Turns.{TurnEnds, FaultWritten, PieceEnds}
+use Rattle.plant_text.specs.Turns.{TurnEnds, FaultWritten}
 use Rattle.plant_desk.specs.declared.reply.DeskFault.TheVariants.{Memory}
 use Rattle.plant_text.proofs.Known.{Appends-nil, Appends-append}
 use Rattle.plant_text.specs.Held.{held_after, entries_after}
@@ -28,51 +29,56 @@ pub or_false : (b : Bool) → (b || false) ≡ b
 or_false true = refl
 or_false false = refl
 
-pub told_nothing : (k : ℕ) (s : State) (a : Option (List ℕ)) (r : Bool) → Told k s [] a a s r r
-told_nothing k s a r = record { text = Appends-nil a; state = refl; refused = sym (or_false r) }
+pub told_nothing : (k : ℕ) (s : State) (a : Option (List ℕ)) (stands : States) (r : Bool) → stands s → Told k s [] a a stands r r
+told_nothing k s a stands r stood = record { text = Appends-nil a; state = stood; refused = sym (or_false r) }
 
-pub told_more : (k : ℕ) (s t u : State) (xs ys : List Entry) (a b c : Option (List ℕ)) (p q r : Bool) → Told k s xs a b t p q → Told k t ys b c u q r → Told k s (xs ++ ys) a c u p r
-told_more k s t u xs ys a b c p q r x y = record {
-  text = rw (texts-append k s xs ys, ← x.state) (Appends-append a b c _ _ x.text y.text);
-  state = y.state ∙ ap (λ v. fold v ys) x.state ∙ sym (fold-append s xs ys);
-  refused = y.refused ∙ ap (λ v. v || some_refused k t ys) x.refused ∙ or_assoc p (some_refused k s xs) (some_refused k t ys)
-      ∙ ap (λ v. p || (some_refused k s xs || some_refused k v ys)) x.state ∙ ap (λ v. p || v) (sym (some_refused-append k s xs ys));
-}
+pub told_more : (k : ℕ) (s : State) (mid now : States) (xs ys : List Entry) (a b c : Option (List ℕ)) (p q r : Bool)
+    → Told k s xs a b mid p q → ((t : State) → mid t → Told k t ys b c now q r) → Told k s (xs ++ ys) a c now p r
+told_more k s mid now xs ys a b c p q r x more =
+    let y : Told k (fold s xs) ys b c now q r = more (fold s xs) x.state in
+    record {
+      text = rw (texts-append k s xs ys) (Appends-append a b c _ _ x.text y.text);
+      state = subst now (sym (fold-append s xs ys)) y.state;
+      refused = y.refused ∙ ap (λ v. v || some_refused k (fold s xs) ys) x.refused ∙ or_assoc p (some_refused k s xs) (some_refused k (fold s xs) ys)
+          ∙ ap (λ v. p || v) (sym (some_refused-append k s xs ys));
+    }
 
 -- ---- a turn as a run of one entry
 
-pub turn_told : (k : ℕ) (s : State) (e : Entry) (a b : Option (List ℕ)) (t : State) (shut : Bool) (may : State → Type 0) (p r : Bool) → TurnEnds k s e a b t shut may (Ok r) → Told k s (e ∷ []) a b t p (p || r)
-turn_told k s e a b t shut may p r h = record {
+pub turn_told : (k : ℕ) (s : State) (e : Entry) (a b : Option (List ℕ)) (stands : States) (shut : Bool) (leaves : States → Type 0) (p r : Bool) → TurnEnds k s e a b stands shut leaves (Ok r) → Told k s (e ∷ []) a b stands p (p || r)
+turn_told k s e a b stands shut leaves p r h = record {
   text = rw (append-nil (entry_text k s e)) h.0;
   state = h.1;
   refused = ap (λ v. p || v) (h.2 ∙ sym (or_false (is_refused k s e)));
 }
 
-pub turn_stops : (k : ℕ) (s : State) (e : Entry) (more : List Entry) (a b : Option (List ℕ)) (t : State) (shut : Bool) (may : State → Type 0) (stop : Stop) → TurnEnds k s e a b t shut may (Err stop) → Stopped k s (e ∷ more) a b t shut may stop
-turn_stops k s e more a b t shut may stop h = record { answered = []; next = e; more = more; cut = refl; between = a; told = Appends-nil a; stops = h }
+pub turn_stops : (k : ℕ) (s : State) (e : Entry) (more : List Entry) (a b : Option (List ℕ)) (stands : States) (shut : Bool) (leaves : States → Type 0) (stop : Stop) → TurnEnds k s e a b stands shut leaves (Err stop) → Stopped k s (e ∷ more) a b stands shut leaves stop
+turn_stops k s e more a b stands shut leaves stop h = record { answered = []; next = e; more = more; cut = refl; between = a; told = Appends-nil a; stops = h }
 
 -- memory may be refused before any entry
-pub memory_stops : (k : ℕ) (s : State) (e : Entry) (a b : Option (List ℕ)) (shut : Bool) (may : State → Type 0) (stop : Stop) → FaultWritten Memory a b stop → shut ≡ false → Stopped k s (e ∷ []) a b s shut may stop
-memory_stops k s e a b shut may stop w h = record { answered = []; next = e; more = []; cut = refl; between = a; told = Appends-nil a; stops = stops_by_fault k s e a b s shut may Memory stop w (refl, h) }
+pub memory_stops : (k : ℕ) (s : State) (e : Entry) (a b : Option (List ℕ)) (stands : States) (shut : Bool) (leaves : States → Type 0) (stop : Stop)
+    → FaultWritten Memory a b stop → stands s → shut ≡ false → Stopped k s (e ∷ []) a b stands shut leaves stop
+memory_stops k s e a b stands shut leaves stop w stood h = record { answered = []; next = e; more = []; cut = refl; between = a; told = Appends-nil a; stops = stops_by_fault k s e a b stands shut leaves Memory stop w (stood, h) }
 
 -- ---- a stop behind what was told, and before what would have come
 
-pub told_stops : (k : ℕ) (s t u : State) (xs ys : List Entry) (a b c : Option (List ℕ)) (p q : Bool) (shut : Bool) (may : State → Type 0) (stop : Stop)
-    → Told k s xs a b t p q → Stopped k t ys b c u shut may stop → Stopped k s (xs ++ ys) a c u shut may stop
-told_stops k s t u xs ys a b c p q shut may stop x y = record {
-  answered = xs ++ y.answered;
-  next = y.next;
-  more = y.more;
-  cut = ap (λ zs. xs ++ zs) y.cut ∙ sym (append_assoc xs y.answered (y.next ∷ y.more));
-  between = y.between;
-  told = rw (texts-append k s xs y.answered, ← x.state) (Appends-append a b y.between _ _ x.text y.told);
-  stops = let same : fold t y.answered ≡ fold s (xs ++ y.answered) = ap (λ v. fold v y.answered) x.state ∙ sym (fold-append s xs y.answered) in
-      subst (λ (v : State). StopsAt k v y.next y.between c u shut may stop) same y.stops;
-}
+pub told_stops : (k : ℕ) (s : State) (mid now : States) (xs ys : List Entry) (a b c : Option (List ℕ)) (p q : Bool) (shut : Bool) (leaves : States → Type 0) (stop : Stop)
+    → Told k s xs a b mid p q → ((t : State) → mid t → Stopped k t ys b c now shut leaves stop) → Stopped k s (xs ++ ys) a c now shut leaves stop
+told_stops k s mid now xs ys a b c p q shut leaves stop x stopped =
+    let y : Stopped k (fold s xs) ys b c now shut leaves stop = stopped (fold s xs) x.state in
+    record {
+      answered = xs ++ y.answered;
+      next = y.next;
+      more = y.more;
+      cut = ap (λ zs. xs ++ zs) y.cut ∙ sym (append_assoc xs y.answered (y.next ∷ y.more));
+      between = y.between;
+      told = rw (texts-append k s xs y.answered) (Appends-append a b y.between _ _ x.text y.told);
+      stops = subst (λ (v : State). StopsAt k v y.next y.between c now shut leaves stop) (sym (fold-append s xs y.answered)) y.stops;
+    }
 
-stopped_before : (k : ℕ) (s : State) (xs : List Entry) (e : Entry) (ys : List Entry) (a b : Option (List ℕ)) (t : State) (shut : Bool) (may : State → Type 0) (stop : Stop)
-    → Stopped k s (xs ++ e ∷ []) a b t shut may stop → Stopped k s (xs ++ e ∷ ys) a b t shut may stop
-stopped_before k s xs e ys a b t shut may stop y = record {
+stopped_before : (k : ℕ) (s : State) (xs : List Entry) (e : Entry) (ys : List Entry) (a b : Option (List ℕ)) (stands : States) (shut : Bool) (leaves : States → Type 0) (stop : Stop)
+    → Stopped k s (xs ++ e ∷ []) a b stands shut leaves stop → Stopped k s (xs ++ e ∷ ys) a b stands shut leaves stop
+stopped_before k s xs e ys a b stands shut leaves stop y = record {
   answered = y.answered;
   next = y.next;
   more = y.more ++ ys;
@@ -82,45 +88,40 @@ stopped_before k s xs e ys a b t shut may stop y = record {
   stops = y.stops;
 }
 
-pub stopped_more : (k : ℕ) (s : State) (xs ys : List Entry) (a b : Option (List ℕ)) (t : State) (shut : Bool) (may : State → Type 0) (stop : Stop)
-    → ((e : Entry) → Stopped k s (xs ++ e ∷ []) a b t shut may stop) → (e : Entry) → Stopped k s ((xs ++ ys) ++ e ∷ []) a b t shut may stop
-stopped_more k s xs [] a b t shut may stop h e = rw (append-nil xs) (h e)
-stopped_more k s xs (y ∷ ys) a b t shut may stop h e = rw (append_assoc xs (y ∷ ys) (e ∷ [])) (stopped_before k s xs y (ys ++ e ∷ []) a b t shut may stop (h y))
+pub stopped_more : (k : ℕ) (s : State) (xs ys : List Entry) (a b : Option (List ℕ)) (stands : States) (shut : Bool) (leaves : States → Type 0) (stop : Stop)
+    → ((e : Entry) → Stopped k s (xs ++ e ∷ []) a b stands shut leaves stop) → (e : Entry) → Stopped k s ((xs ++ ys) ++ e ∷ []) a b stands shut leaves stop
+stopped_more k s xs [] a b stands shut leaves stop h e = rw (append-nil xs) (h e)
+stopped_more k s xs (y ∷ ys) a b stands shut leaves stop h e = rw (append_assoc xs (y ∷ ys) (e ∷ [])) (stopped_before k s xs y (ys ++ e ∷ []) a b stands shut leaves stop (h y))
 
 -- ---- the entries of bytes
 
-pub piece_by : (k : ℕ) (s : State) (es ds : List Entry) (a b : Option (List ℕ)) (t : State) (shut : Bool) (may : State → Type 0) (p : Bool) (r : Result Bool Stop)
-    → es ≡ ds → PieceEnds k s ds a b t shut may p r → PieceEnds k s es a b t shut may p r
-piece_by k s es ds a b t shut may p r e h = subst (λ (xs : List Entry). PieceEnds k s xs a b t shut may p r) (sym e) h
+pub told_same : (k : ℕ) (s : State) (es : List Entry) (a b : Option (List ℕ)) (stands : States) (r : Bool) → es ≡ [] → b ≡ a → stands s → Told k s es a b stands r r
+told_same k s es a b stands r e f stood = rw (e, f) (told_nothing k s a stands r stood)
 
-pub told_same : (k : ℕ) (s : State) (es : List Entry) (a b : Option (List ℕ)) (r : Bool) → es ≡ [] → b ≡ a → Told k s es a b s r r
-told_same k s es a b r e f = rw (e, f) (told_nothing k s a r)
-
-pub memory_stops_at : (k : ℕ) (s : State) (es : List Entry) (e : Entry) (a b : Option (List ℕ)) (shut : Bool) (may : State → Type 0) (stop : Stop)
-    → es ≡ [] → FaultWritten Memory a b stop → shut ≡ false → Stopped k s (es ++ e ∷ []) a b s shut may stop
-memory_stops_at k s es e a b shut may stop q w h = rw q (memory_stops k s e a b shut may stop w h)
+pub memory_stops_at : (k : ℕ) (s : State) (es : List Entry) (e : Entry) (a b : Option (List ℕ)) (stands : States) (shut : Bool) (leaves : States → Type 0) (stop : Stop)
+    → es ≡ [] → FaultWritten Memory a b stop → stands s → shut ≡ false → Stopped k s (es ++ e ∷ []) a b stands shut leaves stop
+memory_stops_at k s es e a b stands shut leaves stop q w stood h = rw q (memory_stops k s e a b stands shut leaves stop w stood h)
 
 -- a piece more was taken
-pub piece_told : (k j : ℕ) (s t u : State) (first held done piece all : List ℕ) (a b c : Option (List ℕ)) (p q r : Bool)
-    → Told k s (entries_after first done) a b t p q → j ≡ k → held ≡ held_after first done → Told j t (entries_after held piece) b c u q r
-    → all ≡ done ++ piece → Told k s (entries_after first all) a c u p r
-piece_told k j s t u first held done piece all a b c p q r x same_k same_held y e =
-    rw (e, entries_after-append first done piece, ← same_held) (told_more k s t u (entries_after first done) (entries_after held piece) a b c p q r x (rw (← same_k) y))
+pub piece_told : (k j : ℕ) (s : State) (mid now : States) (first held done piece all : List ℕ) (a b c : Option (List ℕ)) (p q r : Bool)
+    → Told k s (entries_after first done) a b mid p q → j ≡ k → held ≡ held_after first done → ((t : State) → mid t → Told j t (entries_after held piece) b c now q r)
+    → all ≡ done ++ piece → Told k s (entries_after first all) a c now p r
+piece_told k j s mid now first held done piece all a b c p q r x same_k same_held y e =
+    rw (e, entries_after-append first done piece, ← same_held) (told_more k s mid now (entries_after first done) (entries_after held piece) a b c p q r x (λ t stood. rw (← same_k) (y t stood)))
 
 -- the run stopped in a piece
-pub piece_stops : (k j : ℕ) (s t u : State) (first held done piece rest all : List ℕ) (a b c : Option (List ℕ)) (p q : Bool) (shut : Bool) (may : State → Type 0) (stop : Stop)
-    → Told k s (entries_after first done) a b t p q → j ≡ k → held ≡ held_after first done
-    → ((e : Entry) → Stopped j t (entries_after held piece ++ e ∷ []) b c u shut may stop)
-    → all ≡ done ++ (piece ++ rest) → (e : Entry) → Stopped k s (entries_after first all ++ e ∷ []) a c u shut may stop
-piece_stops k j s t u first held done piece rest all a b c p q shut may stop x same_k same_held y e d =
+pub piece_stops : (k j : ℕ) (s : State) (mid now : States) (first held done piece rest all : List ℕ) (a b c : Option (List ℕ)) (p q : Bool) (shut : Bool) (leaves : States → Type 0) (stop : Stop)
+    → Told k s (entries_after first done) a b mid p q → j ≡ k → held ≡ held_after first done
+    → ((t : State) → mid t → (e : Entry) → Stopped j t (entries_after held piece ++ e ∷ []) b c now shut leaves stop)
+    → all ≡ done ++ (piece ++ rest) → (e : Entry) → Stopped k s (entries_after first all ++ e ∷ []) a c now shut leaves stop
+piece_stops k j s mid now first held done piece rest all a b c p q shut leaves stop x same_k same_held y e d =
     let parts : entries_after first all ≡ entries_after first done ++ (entries_after held piece ++ entries_after (held_after held piece) rest) =
     ap (entries_after first) e ∙ entries_after-append first done (piece ++ rest) ∙ ap (λ h. entries_after first done ++ entries_after h (piece ++ rest)) (sym same_held)
     ∙ ap (λ es. entries_after first done ++ es) (entries_after-append held piece rest) in
-    let here : Stopped j t ((entries_after held piece ++ entries_after (held_after held piece) rest) ++ d ∷ []) b c u shut may stop =
-    stopped_more j t (entries_after held piece) (entries_after (held_after held piece) rest) b c u shut may stop y d in
-    let there : Stopped k t ((entries_after held piece ++ entries_after (held_after held piece) rest) ++ d ∷ []) b c u shut may stop =
-    subst (λ (n : ℕ). Stopped n t ((entries_after held piece ++ entries_after (held_after held piece) rest) ++ d ∷ []) b c u shut may stop) same_k here in
-    let whole : Stopped k s (entries_after first done ++ ((entries_after held piece ++ entries_after (held_after held piece) rest) ++ d ∷ [])) a c u shut may stop =
-    told_stops k s t u (entries_after first done) ((entries_after held piece ++ entries_after (held_after held piece) rest) ++ d ∷ []) a b c p q shut may stop x there in
-    subst (λ (es : List Entry). Stopped k s es a c u shut may stop)
+    let here : (t : State) → mid t → Stopped k t ((entries_after held piece ++ entries_after (held_after held piece) rest) ++ d ∷ []) b c now shut leaves stop =
+    λ t stood. subst (λ (n : ℕ). Stopped n t ((entries_after held piece ++ entries_after (held_after held piece) rest) ++ d ∷ []) b c now shut leaves stop) same_k
+    (stopped_more j t (entries_after held piece) (entries_after (held_after held piece) rest) b c now shut leaves stop (y t stood) d) in
+    let whole : Stopped k s (entries_after first done ++ ((entries_after held piece ++ entries_after (held_after held piece) rest) ++ d ∷ [])) a c now shut leaves stop =
+    told_stops k s mid now (entries_after first done) ((entries_after held piece ++ entries_after (held_after held piece) rest) ++ d ∷ []) a b c p q shut leaves stop x here in
+    subst (λ (es : List Entry). Stopped k s es a c now shut leaves stop)
     (sym (append_assoc (entries_after first done) (entries_after held piece ++ entries_after (held_after held piece) rest) (d ∷ [])) ∙ ap (λ es. es ++ d ∷ []) (sym parts)) whole

@@ -8,7 +8,7 @@ use Rattle.plant_base.specs.declared.refusal.Refusal.TheVariants.{BadForm}
 use Rattle.plant_rules.specs.Step.{step}
 use Rattle.plant_desk.specs.Replies.{reply}
 use Rattle.plant_desk.specs.Answers.{answer}
-use Rattle.plant_desk.specs.Keeping.{LeavesOneOf}
+use Rattle.plant_desk.specs.Keeping.{States}
 use Rattle.plant_desk.specs.declared.question.Question.{Question}
 use Rattle.plant_desk.specs.declared.question.Answer.{Answer}
 use Rattle.plant_desk.specs.declared.question.Answer.TheVariants as A
@@ -124,50 +124,50 @@ session k s bytes = texts k s (entries (lines bytes))
 
 -- ---- what a run has done
 
--- these entries have been answered: their replies were written, and the keeper went from s to t
-pub record Told (k : ℕ) (s : State) (es : List Entry) (old new : Option (List ℕ)) (t : State) (before now : Bool) : Type 0 where
+-- these entries have been answered: their replies were written, and the keeper, which stood at s, stands at their fold
+pub record Told (k : ℕ) (s : State) (es : List Entry) (old new : Option (List ℕ)) (stands : States) (before now : Bool) : Type 0 where
   pub text : Appends old new (texts k s es)
-  pub state : t ≡ fold s es
+  pub state : stands (fold s es)
   pub refused : now ≡ (before || some_refused k s es)
 
 -- what a fault of the store leaves, which comes from a command or a question alone: a command shuts the keeper, and a
--- stop may leave the state before it or after it
-abbrev pub StoreLeaves : State → Entry → Bool → (State → Type 0) → Type 0
-StoreLeaves s nothing shut may_leave = ⊥
-StoreLeaves s bad shut may_leave = ⊥
-StoreLeaves s (command c) shut may_leave = (shut ≡ true) × LeavesOneOf s (step s c) may_leave
-StoreLeaves s (question q) shut may_leave = shut ≡ false
+-- stop leaves the state before it or after it
+abbrev pub StoreLeaves : State → Entry → Bool → (States → Type 0) → Type 0
+StoreLeaves s nothing shut leaves = ⊥
+StoreLeaves s bad shut leaves = ⊥
+StoreLeaves s (command c) shut leaves = (shut ≡ true) × leaves (λ u. (u ≡ s) ⊎ (u ≡ step s c))
+StoreLeaves s (question q) shut leaves = shut ≡ false
 
 -- what a fault leaves a keeper at, which stood at s as the entry e came
-abbrev pub FaultLeaves : DeskFault → State → Entry → State → Bool → (State → Type 0) → Type 0
-FaultLeaves Store s e t shut may_leave = (t ≡ s) × StoreLeaves s e shut may_leave
-FaultLeaves Memory s e t shut may_leave = (t ≡ s) × (shut ≡ false)
-FaultLeaves Shut s e t shut may_leave = ⊥
+abbrev pub FaultLeaves : DeskFault → State → Entry → States → Bool → (States → Type 0) → Type 0
+FaultLeaves Store s e stands shut leaves = stands s × StoreLeaves s e shut leaves
+FaultLeaves Memory s e stands shut leaves = stands s × (shut ≡ false)
+FaultLeaves Shut s e stands shut leaves = ⊥
 
 -- the text that comes next, and the keeper beside it: the reply to e, or a fault's line
-abbrev pub ComesNext : ℕ → State → Entry → List ℕ → State → Bool → (State → Type 0) → Type 0
-ComesNext k s e text t shut may_leave = ((text ≡ entry_text k s e) × (t ≡ after s e) × (shut ≡ false))
-    ⊎ ((f : DeskFault) × (text ≡ with_lf (fault_text f)) × FaultLeaves f s e t shut may_leave)
+abbrev pub ComesNext : ℕ → State → Entry → List ℕ → States → Bool → (States → Type 0) → Type 0
+ComesNext k s e text stands shut leaves = ((text ≡ entry_text k s e) × stands (after s e) × (shut ≡ false))
+    ⊎ ((f : DeskFault) × (text ≡ with_lf (fault_text f)) × FaultLeaves f s e stands shut leaves)
 
 -- how a run stops at the entry e: in its next text, or behind a fault's line
-abbrev pub StopsAt : ℕ → State → Entry → Option (List ℕ) → Option (List ℕ) → State → Bool → (State → Type 0) → Stop → Type 0
-StopsAt k s e old new t shut may_leave S.Write = (text : List ℕ) × ComesNext k s e text t shut may_leave × AppendsFront old new text
-StopsAt k s e old new t shut may_leave (S.Fault f) = Appends old new (with_lf (fault_text f)) × FaultLeaves f s e t shut may_leave
+abbrev pub StopsAt : ℕ → State → Entry → Option (List ℕ) → Option (List ℕ) → States → Bool → (States → Type 0) → Stop → Type 0
+StopsAt k s e old new stands shut leaves S.Write = (text : List ℕ) × ComesNext k s e text stands shut leaves × AppendsFront old new text
+StopsAt k s e old new stands shut leaves (S.Fault f) = Appends old new (with_lf (fault_text f)) × FaultLeaves f s e stands shut leaves
 
 -- some of the entries were answered, and the run stopped at the next one
-pub record Stopped (k : ℕ) (s : State) (es : List Entry) (old new : Option (List ℕ)) (t : State) (shut : Bool) (may_leave : State → Type 0) (stop : Stop) : Type 0 where
+pub record Stopped (k : ℕ) (s : State) (es : List Entry) (old new : Option (List ℕ)) (stands : States) (shut : Bool) (leaves : States → Type 0) (stop : Stop) : Type 0 where
   pub answered : List Entry
   pub next : Entry
   pub more : List Entry
   pub cut : es ≡ answered ++ next ∷ more
   pub between : Option (List ℕ)
   pub told : Appends old between (texts k s answered)
-  pub stops : StopsAt k (fold s answered) next between new t shut may_leave stop
+  pub stops : StopsAt k (fold s answered) next between new stands shut leaves stop
 
 -- how a run over these bytes ended, where `left` is what the reader has left
-abbrev pub Ends : ℕ → State → List ℕ → Option (List ℕ) → Option (List ℕ) → Option (List ℕ) → State → Bool → (State → Type 0) → RunEnd → Type 0
-Ends k s bytes left old new t shut may_leave (E.Done refused) = IsAtEnd left × Told k s (entries (lines bytes)) old new t false refused × (shut ≡ false)
-Ends k s bytes left old new t shut may_leave E.Read = (refused : Bool) × Told k s (entries (ended_lines bytes)) old new t false refused × (shut ≡ false)
-Ends k s bytes left old new t shut may_leave E.Endless = (refused : Bool) × Told k s (entries (ended_lines bytes)) old new t false refused × (shut ≡ false)
-Ends k s bytes left old new t shut may_leave E.Write = Stopped k s (entries (all_lines bytes)) old new t shut may_leave S.Write
-Ends k s bytes left old new t shut may_leave (E.Fault f) = Stopped k s (entries (all_lines bytes)) old new t shut may_leave (S.Fault f)
+abbrev pub Ends : ℕ → State → List ℕ → Option (List ℕ) → Option (List ℕ) → Option (List ℕ) → States → Bool → (States → Type 0) → RunEnd → Type 0
+Ends k s bytes left old new stands shut leaves (E.Done refused) = IsAtEnd left × Told k s (entries (lines bytes)) old new stands false refused × (shut ≡ false)
+Ends k s bytes left old new stands shut leaves E.Read = (refused : Bool) × Told k s (entries (ended_lines bytes)) old new stands false refused × (shut ≡ false)
+Ends k s bytes left old new stands shut leaves E.Endless = (refused : Bool) × Told k s (entries (ended_lines bytes)) old new stands false refused × (shut ≡ false)
+Ends k s bytes left old new stands shut leaves E.Write = Stopped k s (entries (all_lines bytes)) old new stands shut leaves S.Write
+Ends k s bytes left old new stands shut leaves (E.Fault f) = Stopped k s (entries (all_lines bytes)) old new stands shut leaves (S.Fault f)

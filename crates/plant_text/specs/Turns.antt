@@ -3,6 +3,7 @@ use Rattle.std.specs.Prelude.{◌≡◌, ℕ, List, [], ◌∷◌, ◌++◌, Boo
 use Rattle.std.specs.Io.KnownBytes.{Appends}
 use Rattle.plant_base.specs.State.{State}
 use Rattle.plant_base.specs.declared.refusal.Refusal.TheVariants.{BadForm}
+use Rattle.plant_desk.specs.Keeping.{States}
 use Rattle.plant_desk.specs.declared.reply.Reply.TheVariants.{Refused}
 use Rattle.plant_desk.specs.declared.reply.DeskFault.{DeskFault}
 use Rattle.plant_text.specs.Replies.{reply_text, fault_text}
@@ -14,9 +15,9 @@ use Rattle.plant_text.specs.declared.turns.Stop.{Stop}
 use Rattle.plant_text.specs.declared.turns.Stop.TheVariants as S
 
 -- how the turn of one entry ends
-abbrev pub TurnEnds : ℕ → State → Entry → Option (List ℕ) → Option (List ℕ) → State → Bool → (State → Type 0) → Result Bool Stop → Type 0
-TurnEnds k s e old new t shut may_leave (Ok refused) = Appends old new (entry_text k s e) × (t ≡ after s e) × (refused ≡ is_refused k s e)
-TurnEnds k s e old new t shut may_leave (Err stop) = StopsAt k s e old new t shut may_leave stop
+abbrev pub TurnEnds : ℕ → State → Entry → Option (List ℕ) → Option (List ℕ) → States → Bool → (States → Type 0) → Result Bool Stop → Type 0
+TurnEnds k s e old new stands shut leaves (Ok refused) = Appends old new (entry_text k s e) × stands (after s e) × (refused ≡ is_refused k s e)
+TurnEnds k s e old new stands shut leaves (Err stop) = StopsAt k s e old new stands shut leaves stop
 
 -- what was written of a fault's line, by how the run stops
 abbrev pub FaultWritten : DeskFault → Option (List ℕ) → Option (List ℕ) → Stop → Type 0
@@ -30,18 +31,18 @@ BadWritten old new (Err S.Write) = AppendsFront old new (with_lf (reply_text (Re
 BadWritten old new (Err (S.Fault f)) = ⊥
 
 -- how the bytes of one read end: an error stops before whatever entry comes next
-abbrev pub PieceEnds : ℕ → State → List Entry → Option (List ℕ) → Option (List ℕ) → State → Bool → (State → Type 0) → Bool → Result Bool Stop → Type 0
-PieceEnds k s es old new t shut may_leave before (Ok refused) = Told k s es old new t before refused
-PieceEnds k s es old new t shut may_leave before (Err stop) = (e : Entry) → Stopped k s (es ++ e ∷ []) old new t shut may_leave stop
+abbrev pub PieceEnds : ℕ → State → List Entry → Option (List ℕ) → Option (List ℕ) → States → Bool → (States → Type 0) → Bool → Result Bool Stop → Type 0
+PieceEnds k s es old new stands shut leaves before (Ok refused) = Told k s es old new stands before refused
+PieceEnds k s es old new stands shut leaves before (Err stop) = (e : Entry) → Stopped k s (es ++ e ∷ []) old new stands shut leaves stop
 
 abbrev pub end_of : Stop → RunEnd
 end_of S.Write = E.Write
 end_of (S.Fault f) = E.Fault f
 
 -- how the last line ends, which has no LF
-abbrev pub LastEnds : ℕ → State → Entry → Option (List ℕ) → Option (List ℕ) → State → Bool → (State → Type 0) → Bool → RunEnd → Type 0
-LastEnds k s e old new t shut may_leave before (E.Done refused) = Told k s (e ∷ []) old new t before refused × (shut ≡ false)
-LastEnds k s e old new t shut may_leave before E.Read = ⊥
-LastEnds k s e old new t shut may_leave before E.Endless = ⊥
-LastEnds k s e old new t shut may_leave before E.Write = Stopped k s (e ∷ []) old new t shut may_leave S.Write
-LastEnds k s e old new t shut may_leave before (E.Fault f) = Stopped k s (e ∷ []) old new t shut may_leave (S.Fault f)
+abbrev pub LastEnds : ℕ → State → Entry → Option (List ℕ) → Option (List ℕ) → States → Bool → (States → Type 0) → Bool → RunEnd → Type 0
+LastEnds k s e old new stands shut leaves before (E.Done refused) = Told k s (e ∷ []) old new stands before refused × (shut ≡ false)
+LastEnds k s e old new stands shut leaves before E.Read = ⊥
+LastEnds k s e old new stands shut leaves before E.Endless = ⊥
+LastEnds k s e old new stands shut leaves before E.Write = Stopped k s (e ∷ []) old new stands shut leaves S.Write
+LastEnds k s e old new stands shut leaves before (E.Fault f) = Stopped k s (e ∷ []) old new stands shut leaves (S.Fault f)

@@ -2,6 +2,7 @@
 ghost use Rattle.std.specs.Prelude.{◌≡◌, ℕ, ◌<◌, List, [], ◌∷◌, length, false, OnOk, IfErr};
 ghost use Rattle.std.specs.Str.Lines.{strip_carriage_return};
 ghost use Rattle.std.specs.Io.KnownBytes.{Consumes};
+ghost use Rattle.plant_base.specs.State.{State};
 ghost use Rattle.plant_text.specs.Session.{Ends, entry_of};
 ghost use Rattle.plant_text.specs.Turns.{PieceEnds, LastEnds, FaultWritten, end_of};
 ghost use Rattle.plant_text.specs.Held.{held_with, held_after, entries_after};
@@ -67,11 +68,11 @@ fn end_line<W: Write, K: Keeper>(
     ensures schema { K.honest keeper.new → K.schema keeper.new ≡ K.schema keeper.old }
     ensures open { OnOk result (K.shut keeper.new ≡ false) }
     ensures held { OnOk result (held.new.items ≡ []) }
-    ensures ends { K.honest keeper.new
-        → PieceEnds (K.schema keeper.old) (K.state keeper.old)
+    ensures ends { K.honest keeper.new → (s : State) → K.stands keeper.old s
+        → PieceEnds (K.schema keeper.old) s
         (entry_of (strip_carriage_return held.old.items) ∷ [])
         (W.contents writer.old) (W.contents writer.new)
-        (K.state keeper.new) (K.shut keeper.new) (K.may_leave keeper.new) refused result }
+        (K.stands keeper.new) (K.shut keeper.new) (K.leaves keeper.new) refused result }
 {
     match take_line(alloc, writer, keeper, stripped(held)) {
         Ok(line_refused) => {
@@ -108,10 +109,10 @@ fn take_byte<W: Write, K: Keeper>(
     ensures schema { K.honest keeper.new → K.schema keeper.new ≡ K.schema keeper.old }
     ensures open { OnOk result (K.shut keeper.new ≡ false) }
     ensures held { OnOk result (held.new.items ≡ held_after held.old.items (b ∷ [])) }
-    ensures ends { K.honest keeper.new
-        → PieceEnds (K.schema keeper.old) (K.state keeper.old) (entries_after held.old.items (b ∷ []))
+    ensures ends { K.honest keeper.new → (s : State) → K.stands keeper.old s
+        → PieceEnds (K.schema keeper.old) s (entries_after held.old.items (b ∷ []))
         (W.contents writer.old) (W.contents writer.new)
-        (K.state keeper.new) (K.shut keeper.new) (K.may_leave keeper.new) refused result }
+        (K.stands keeper.new) (K.shut keeper.new) (K.leaves keeper.new) refused result }
 {
     if b == b'\n' {
         return end_line(alloc, writer, keeper, held, refused);
@@ -136,10 +137,10 @@ fn take_piece<W: Write, K: Keeper>(
     ensures schema { K.honest keeper.new → K.schema keeper.new ≡ K.schema keeper.old }
     ensures open { OnOk result (K.shut keeper.new ≡ false) }
     ensures held { OnOk result (held.new.items ≡ held_after held.old.items piece.now) }
-    ensures ends { K.honest keeper.new
-        → PieceEnds (K.schema keeper.old) (K.state keeper.old) (entries_after held.old.items piece.now)
+    ensures ends { K.honest keeper.new → (s : State) → K.stands keeper.old s
+        → PieceEnds (K.schema keeper.old) s (entries_after held.old.items piece.now)
         (W.contents writer.old) (W.contents writer.new)
-        (K.state keeper.new) (K.shut keeper.new) (K.may_leave keeper.new) refused result }
+        (K.stands keeper.new) (K.shut keeper.new) (K.leaves keeper.new) refused result }
 {
     let mut refused = refused;
     for b in piece {
@@ -162,10 +163,10 @@ fn end_input<W: Write, K: Keeper>(
     requires { K.shut keeper.old ≡ false }
     ensures honest { K.honest keeper.new → K.honest keeper.old }
     ensures schema { K.honest keeper.new → K.schema keeper.new ≡ K.schema keeper.old }
-    ensures ends { K.honest keeper.new
-        → LastEnds (K.schema keeper.old) (K.state keeper.old) (entry_of held.now)
+    ensures ends { K.honest keeper.new → (s : State) → K.stands keeper.old s
+        → LastEnds (K.schema keeper.old) s (entry_of held.now)
         (W.contents writer.old) (W.contents writer.new)
-        (K.state keeper.new) (K.shut keeper.new) (K.may_leave keeper.new) refused result }
+        (K.stands keeper.new) (K.shut keeper.new) (K.leaves keeper.new) refused result }
 {
     match take_line(alloc, writer, keeper, held) {
         Ok(line_refused) => RunEnd::Done {
@@ -188,10 +189,10 @@ fn run_pieces<R: Read, W: Write, K: Keeper>(
     ensures honest { K.honest keeper.new → K.honest keeper.old }
     ensures schema { K.honest keeper.new → K.schema keeper.new ≡ K.schema keeper.old }
     ensures ends { (bytes : List ℕ) × Consumes (R.remaining reader.old) (R.remaining reader.new) bytes
-        × (K.honest keeper.new
-        → Ends (K.schema keeper.old) (K.state keeper.old) bytes (R.remaining reader.new)
+        × (K.honest keeper.new → (s : State) → K.stands keeper.old s
+        → Ends (K.schema keeper.old) s bytes (R.remaining reader.new)
         (W.contents writer.old) (W.contents writer.new)
-        (K.state keeper.new) (K.shut keeper.new) (K.may_leave keeper.new) result) }
+        (K.stands keeper.new) (K.shut keeper.new) (K.leaves keeper.new) result) }
 {
     let mut held = Vec::new(alloc);
     let mut refused = false;
@@ -227,10 +228,10 @@ fn run_pieces<R: Read, W: Write, K: Keeper>(
 /// What is written depends on the bytes of the input and not on the pieces in which they come, but for `Endless`. A
 /// read or a write that is interrupted counts as failed.
 ///
-/// In the clause `ends`, `bytes` are those that the reader has lost; nothing is said of the keeper's state where the
-/// keeper doesn't end honest. What a stop afterwards may leave follows from the trait's law `leaves_only` where the
-/// keeper is open, and stands in the clause where it is shut: the keeper's state, or that after the line at which the
-/// run stopped, and no other (`run_leaves` in `proofs/Leaving.antt`).
+/// In the clause `ends`, `bytes` are those that the reader has lost and `s` is a state that the keeper stood at;
+/// nothing is said of where the keeper stands if it doesn't end honest. What a stop afterwards leaves follows from the
+/// trait's law `leaves_state` where the keeper is open, and stands in the clause where it is shut: the keeper's state,
+/// or that after the line at which the run stopped, and no other (`run_leaves` in `proofs/Leaving.antt`).
 pub fn run_lines<R: Read, W: Write, K: Keeper>(
     alloc: Global,
     reader: &mut R,
@@ -241,10 +242,10 @@ pub fn run_lines<R: Read, W: Write, K: Keeper>(
     ensures honest { K.honest keeper.new → K.honest keeper.old }
     ensures schema { K.honest keeper.new → K.schema keeper.new ≡ K.schema keeper.old }
     ensures ends { (bytes : List ℕ) × Consumes (R.remaining reader.old) (R.remaining reader.new) bytes
-        × (K.honest keeper.new
-        → Ends (K.schema keeper.old) (K.state keeper.old) bytes (R.remaining reader.new)
+        × (K.honest keeper.new → (s : State) → K.stands keeper.old s
+        → Ends (K.schema keeper.old) s bytes (R.remaining reader.new)
         (W.contents writer.old) (W.contents writer.new)
-        (K.state keeper.new) (K.shut keeper.new) (K.may_leave keeper.new) result) }
+        (K.stands keeper.new) (K.shut keeper.new) (K.leaves keeper.new) result) }
 {
     let mut piece = [0; 4096];
     run_pieces(alloc, reader, writer, keeper, &mut piece)

@@ -1,5 +1,6 @@
 //! One line: what it says, what the keeper does, what is written.
 ghost use Rattle.std.specs.Prelude.{◌≡◌, false, OnOk};
+ghost use Rattle.plant_base.specs.State.{State};
 ghost use Rattle.plant_text.specs.Session.{entry_of, is_refusal, is_unknown, command as command_entry, question as question_entry};
 ghost use Rattle.plant_text.specs.Turns.{TurnEnds, FaultWritten, BadWritten};
 
@@ -80,10 +81,10 @@ fn take_command<W: Write, K: Keeper>(
     ensures honest { K.honest keeper.new → K.honest keeper.old }
     ensures schema { K.honest keeper.new → K.schema keeper.new ≡ K.schema keeper.old }
     ensures open { OnOk result (K.shut keeper.new ≡ false) }
-    ensures ends { K.honest keeper.new
-        → TurnEnds (K.schema keeper.old) (K.state keeper.old) (command_entry envelope.now)
+    ensures ends { K.honest keeper.new → (s : State) → K.stands keeper.old s
+        → TurnEnds (K.schema keeper.old) s (command_entry envelope.now)
         (W.contents writer.old) (W.contents writer.new)
-        (K.state keeper.new) (K.shut keeper.new) (K.may_leave keeper.new) result }
+        (K.stands keeper.new) (K.shut keeper.new) (K.leaves keeper.new) result }
 {
     match keeper.execute(envelope) {
         Ok(reply) => match write_line(writer, reply_line(&reply).as_bytes()) {
@@ -105,10 +106,10 @@ fn take_question<W: Write, K: Keeper>(
     ensures honest { K.honest keeper.new → K.honest keeper.old }
     ensures schema { K.honest keeper.new → K.schema keeper.new ≡ K.schema keeper.old }
     ensures open { OnOk result (K.shut keeper.new ≡ false) }
-    ensures ends { K.honest keeper.new
-        → TurnEnds (K.schema keeper.old) (K.state keeper.old) (question_entry question.now)
+    ensures ends { K.honest keeper.new → (s : State) → K.stands keeper.old s
+        → TurnEnds (K.schema keeper.old) s (question_entry question.now)
         (W.contents writer.old) (W.contents writer.new)
-        (K.state keeper.new) (K.shut keeper.new) (K.may_leave keeper.new) result }
+        (K.stands keeper.new) (K.shut keeper.new) (K.leaves keeper.new) result }
 {
     match keeper.ask(question) {
         Ok(answer) => match answer_text(alloc, &answer) {
@@ -133,10 +134,10 @@ pub(crate) fn take_line<W: Write, K: Keeper>(
     ensures honest { K.honest keeper.new → K.honest keeper.old }
     ensures schema { K.honest keeper.new → K.schema keeper.new ≡ K.schema keeper.old }
     ensures open { OnOk result (K.shut keeper.new ≡ false) }
-    ensures ends { K.honest keeper.new
-        → TurnEnds (K.schema keeper.old) (K.state keeper.old) (entry_of line.now)
+    ensures ends { K.honest keeper.new → (s : State) → K.stands keeper.old s
+        → TurnEnds (K.schema keeper.old) s (entry_of line.now)
         (W.contents writer.old) (W.contents writer.new)
-        (K.state keeper.new) (K.shut keeper.new) (K.may_leave keeper.new) result }
+        (K.stands keeper.new) (K.shut keeper.new) (K.leaves keeper.new) result }
 {
     if line.is_empty() {
         return Ok(false);

@@ -1,5 +1,5 @@
 use Rattle.std.proofs.Common.{◌≡◌, ◌∙◌, subst, sym, Option}
-use Rattle.std.specs.Prelude.{IfOk, IsErrOf, Some, None}
+use Rattle.std.specs.Prelude.{IfOk, Some}
 use Rattle.plant_text.specs.declared.read.Line.{Line}
 use Rattle.plant_text.specs.declared.read.LineFault.TheVariants.{BadForm}
 use Rattle.plant_text.proofs.Reading.{at_value, at_refusal, read_ok, read_bad_form}

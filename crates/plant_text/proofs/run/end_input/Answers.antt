@@ -5,8 +5,9 @@ use Rattle.plant_text.proofs.EndLemmas.{last_stopped}
 use Rattle.plant_text.proofs.run.end_input.Goals as goal
 
 pub returns-in-Err-clause-ends : goal.returns-in-Err-clause-ends
-returns-in-Err-clause-ends g c = λ honest.
-    let k = g.K.Keeper.schema c.args.keeper.now in
-    let s = g.K.Keeper.state c.args.keeper.now in
+returns-in-Err-clause-ends g c = λ honest s stood.
+    let keeper = g.K.Keeper in
+    let k = keeper.schema c.args.keeper.now in
+    let now = c.take_line.new.keeper in
     let e = entry_of c.args.held.now in
-    rw c.end_of.ensures (last_stopped k s e _ _ _ _ _ c.args.refused c.in-Err.stop (turn_stops k s e [] _ _ _ _ _ c.in-Err.stop (c.in-Err.ensures.ends honest)))
+    rw c.end_of.ensures (last_stopped k s e _ _ (keeper.stands now) (keeper.shut now) (keeper.leaves now) c.args.refused c.in-Err.stop (turn_stops k s e [] _ _ _ _ _ c.in-Err.stop (c.in-Err.ensures.ends honest s stood)))

@@ -3,5 +3,5 @@ use Rattle.plant_text.proofs.RunLemmas.{turn_stops}
 use Rattle.plant_text.proofs.run.end_line.Goals as goal
 
 pub returns-in-Err-clause-ends : goal.returns-in-Err-clause-ends
-returns-in-Err-clause-ends g c = λ honest e.
-    turn_stops (g.K.Keeper.schema c.args.keeper.now) (g.K.Keeper.state c.args.keeper.now) _ (e ∷ []) _ _ _ _ _ c.in-Err.stop (rw (← c.deref.ensures.value, ← c.stripped.ensures) (c.in-Err.ensures.ends honest))
+returns-in-Err-clause-ends g c = λ honest s stood e.
+    turn_stops (g.K.Keeper.schema c.args.keeper.now) s _ (e ∷ []) _ _ _ _ _ c.in-Err.stop (rw (← c.deref.ensures.value, ← c.stripped.ensures) (c.in-Err.ensures.ends honest s stood))

@@ -12,7 +12,7 @@ reads-init g c = record {
   not_shut = c.requires.open;
   honest = λ h. h;
   schema = λ h. refl;
-  so_far = ([], Consumes-nil _, c.new-held.ensures.items ∙ sym (held_after_none []), λ h. told_same _ _ _ _ _ false (entries_after_none []) refl);
+  so_far = ([], Consumes-nil _, c.new-held.ensures.items ∙ sym (held_after_none []), λ h s stood. told_same _ _ _ _ _ _ false (entries_after_none []) refl stood);
 }
 
 pub returns-in-Ok-eq0-clause-ends : goal.returns-in-Ok-eq0-clause-ends
@@ -23,9 +23,11 @@ returns-in-Ok-eq0-clause-ends g c =
     let none : c.in-Ok-eq0.field-0 ≡ 0 = grind (arith, nat_tests) in (
       inv.so_far.0,
       Consumes-none _ _ _ inv.so_far.0 c.read.new.buf _ none inv.so_far.1 read.0,
-      λ h. let before = c.end_input.ensures.honest h in
-          last_ends (g.K.Keeper.schema c.args.keeper.now) _ (g.K.Keeper.state c.args.keeper.now) _ _ inv.so_far.0 c.reads.held.items _ _ _ _ _ _ _ c.end_input.result
-          (inv.so_far.3 before) (inv.schema before) inv.so_far.2 (read.1 none some) (rw (← c.deref.ensures.value) (c.end_input.ensures.ends h)),
+      λ h s stood. let before = c.end_input.ensures.honest h in
+          let keeper = g.K.Keeper in
+          let now = c.end_input.new.keeper in
+          last_ends (keeper.schema c.args.keeper.now) _ s _ (keeper.stands now) inv.so_far.0 c.reads.held.items _ _ _ _ _ (keeper.shut now) (keeper.leaves now) c.end_input.result
+          (inv.so_far.3 before s stood) (inv.schema before) inv.so_far.2 (read.1 none some) (rw (← c.deref.ensures.value) (c.end_input.ensures.ends h)),
     )
 
 pub returns-in-Err-take_piece-clause-ends : goal.returns-in-Err-take_piece-clause-ends
@@ -35,11 +37,13 @@ returns-in-Err-take_piece-clause-ends g c =
     let read = rw (← c.split_at.ensures.front) at c.in-Ok.ensures.bytes.0 in (
       inv.so_far.0 ++ front,
       Consumes-append _ _ _ inv.so_far.0 front inv.so_far.1 read,
-      λ h. let before = c.take_piece.ensures.honest h in
+      λ h s stood. let before = c.take_piece.ensures.honest h in
+          let keeper = g.K.Keeper in
+          let now = c.take_piece.new.keeper in
           rw c.end_of.ensures
-          (stopped_ends (g.K.Keeper.schema c.args.keeper.now) (g.K.Keeper.state c.args.keeper.now) (inv.so_far.0 ++ front) _ _ _ _ _ _ c.in-Err-take_piece.stop
+          (stopped_ends (keeper.schema c.args.keeper.now) s (inv.so_far.0 ++ front) _ _ _ (keeper.stands now) (keeper.shut now) (keeper.leaves now) c.in-Err-take_piece.stop
           (piece_stops _ _ _ _ _ [] c.reads.held.items inv.so_far.0 front [] (inv.so_far.0 ++ front) _ _ _ _ _ _ _ c.in-Err-take_piece.stop
-          (inv.so_far.3 before) (inv.schema before) inv.so_far.2 (c.in-Err-take_piece.ensures.ends h) (ap (λ ys. inv.so_far.0 ++ ys) (sym (append-nil front))))),
+          (inv.so_far.3 before s stood) (inv.schema before) inv.so_far.2 (c.in-Err-take_piece.ensures.ends h) (ap (λ ys. inv.so_far.0 ++ ys) (sym (append-nil front))))),
     )
 
 pub returns-in-Err-clause-ends : goal.returns-in-Err-clause-ends
@@ -47,7 +51,7 @@ returns-in-Err-clause-ends g c =
     let inv = c.reads.invariant in (
       inv.so_far.0,
       Consumes-keeps _ _ _ inv.so_far.0 inv.so_far.1 c.in-Err.ensures.bytes,
-      λ h. (c.reads.refused, read_ends _ _ inv.so_far.0 _ _ _ _ _ (inv.so_far.3 h), inv.not_shut),
+      λ h s stood. (c.reads.refused, read_ends _ _ inv.so_far.0 _ _ _ _ _ (inv.so_far.3 h s stood), inv.not_shut),
     )
 
 pub reads-preserved : goal.reads-preserved
@@ -63,13 +67,13 @@ reads-preserved g c =
         inv.so_far.0 ++ front,
         Consumes-append _ _ _ inv.so_far.0 front inv.so_far.1 read,
         held_more [] c.reads.held.items _ inv.so_far.0 front (inv.so_far.0 ++ front) inv.so_far.2 c.in-Ok-take_piece.ensures.held refl,
-        λ h. let before = c.take_piece.ensures.honest h in
+        λ h s stood. let before = c.take_piece.ensures.honest h in
             piece_told _ _ _ _ _ [] c.reads.held.items inv.so_far.0 front (inv.so_far.0 ++ front) _ _ _ _ _ _
-            (inv.so_far.3 before) (inv.schema before) inv.so_far.2 (c.in-Ok-take_piece.ensures.ends h) refl,
+            (inv.so_far.3 before s stood) (inv.schema before) inv.so_far.2 (c.in-Ok-take_piece.ensures.ends h) refl,
       );
     }
 
 pub returns-clause-ends : goal.returns-clause-ends
 returns-clause-ends g c =
     let inv = c.reads.invariant in
-    (inv.so_far.0, inv.so_far.1, λ h. (c.reads.refused, read_ends _ _ inv.so_far.0 _ _ _ _ _ (inv.so_far.3 h), inv.not_shut))
+    (inv.so_far.0, inv.so_far.1, λ h s stood. (c.reads.refused, read_ends _ _ inv.so_far.0 _ _ _ _ _ (inv.so_far.3 h s stood), inv.not_shut))

@@ -2,7 +2,7 @@ use Rattle.std.proofs.Common.{◌≡◌, true, false, nat_eq, sym, ◌∙◌, ar
 use Rattle.std.proofs.lemmas.Bool.Decides.{nat_tests}
 use Rattle.std.proofs.lemmas.Result.{on_ok_weaker}
 use Rattle.plant_text.proofs.HeldLemmas.{held_after_lf, held_after_byte, entries_after_lf, entries_after_byte}
-use Rattle.plant_text.proofs.RunLemmas.{piece_by, told_same, memory_stops_at}
+use Rattle.plant_text.proofs.RunLemmas.{told_same, memory_stops_at}
 use Rattle.plant_text.proofs.run.take_byte.Goals as goal
 
 pub returns-then-b-eq10-clause-held : goal.returns-then-b-eq10-clause-held
@@ -11,10 +11,9 @@ returns-then-b-eq10-clause-held g c =
     on_ok_weaker c.end_line.result (λ e. e ∙ sym (held_after_lf c.args.held.now.items c.args.b lf)) c.end_line.ensures.held
 
 pub returns-then-b-eq10-clause-ends : goal.returns-then-b-eq10-clause-ends
-returns-then-b-eq10-clause-ends g c = λ honest.
+returns-then-b-eq10-clause-ends g c = λ honest s stood.
     let lf : nat_eq c.args.b 10 ≡ true = grind (arith, nat_tests) in
-    piece_by (g.K.Keeper.schema c.args.keeper.now) (g.K.Keeper.state c.args.keeper.now) _ _ _ _ _ _ _ c.args.refused c.end_line.result
-    (entries_after_lf c.args.held.now.items c.args.b lf) (c.end_line.ensures.ends honest)
+    rw (entries_after_lf c.args.held.now.items c.args.b lf) (c.end_line.ensures.ends honest s stood)
 
 pub returns-in-Ok-clause-held : goal.returns-in-Ok-clause-held
 returns-in-Ok-clause-held g c =
@@ -22,11 +21,11 @@ returns-in-Ok-clause-held g c =
     rw (held_after_byte c.args.held.now.items c.args.b other) c.in-Ok.ensures.held
 
 pub returns-in-Ok-clause-ends : goal.returns-in-Ok-clause-ends
-returns-in-Ok-clause-ends g c = λ honest.
+returns-in-Ok-clause-ends g c = λ honest s stood.
     let other : nat_eq c.args.b 10 ≡ false = grind (arith, nat_tests) in
-    told_same _ _ _ _ _ c.args.refused (entries_after_byte c.args.held.now.items c.args.b other) c.in-Ok.ensures.same
+    told_same _ _ _ _ _ _ c.args.refused (entries_after_byte c.args.held.now.items c.args.b other) c.in-Ok.ensures.same stood
 
 pub returns-in-Err-clause-ends : goal.returns-in-Err-clause-ends
-returns-in-Err-clause-ends g c = λ honest e.
+returns-in-Err-clause-ends g c = λ honest s stood e.
     let other : nat_eq c.args.b 10 ≡ false = grind (arith, nat_tests) in
-    memory_stops_at _ _ _ e _ _ _ _ c.in-Err.stop (entries_after_byte c.args.held.now.items c.args.b other) c.in-Err.ensures.stops c.requires
+    memory_stops_at _ _ _ e _ _ _ _ _ c.in-Err.stop (entries_after_byte c.args.held.now.items c.args.b other) c.in-Err.ensures.stops stood c.requires

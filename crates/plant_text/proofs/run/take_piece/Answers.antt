@@ -10,11 +10,11 @@ loop-b-init g c = record {
   honest = λ h. h;
   schema = λ h. refl;
   held = sym (held_after_none c.args.held.now.items);
-  told = λ h. told_same _ _ _ _ _ c.args.refused (entries_after_none c.args.held.now.items) refl;
+  told = λ h s stood. told_same _ _ _ _ _ _ c.args.refused (entries_after_none c.args.held.now.items) refl stood;
 }
 
 pub returns-in-Err-clause-ends : goal.returns-in-Err-clause-ends
-returns-in-Err-clause-ends g c = λ honest e.
+returns-in-Err-clause-ends g c = λ honest s stood e.
     let i = c.loop-b.b-index in
     let xs = c.args.piece.now in
     let within : i < length xs = omega arith in
@@ -22,7 +22,7 @@ returns-in-Err-clause-ends g c = λ honest e.
     let inv = c.loop-b.invariant in
     let before = c.take_byte.ensures.honest honest in
     piece_stops _ _ _ _ _ c.args.held.now.items c.loop-b.held.items (take i xs) (get_or xs i 0 ∷ []) (drop (i + 1) xs) xs _ _ _ _ _ _ _ c.in-Err.stop
-    (inv.told before) (inv.schema before) inv.held (c.in-Err.ensures.ends honest) cut e
+    (inv.told before s stood) (inv.schema before) inv.held (c.in-Err.ensures.ends honest) cut e
 
 pub loop-b-preserved : goal.loop-b-preserved
 loop-b-preserved g c =
@@ -36,7 +36,7 @@ loop-b-preserved g c =
       honest = λ h. inv.honest (c.take_byte.ensures.honest h);
       schema = λ h. c.take_byte.ensures.schema h ∙ inv.schema (c.take_byte.ensures.honest h);
       held = held_more c.args.held.now.items c.loop-b.held.items _ (take i xs) (get_or xs i 0 ∷ []) (take (i + 1) xs) inv.held c.in-Ok.ensures.held more;
-      told = λ h. let before = c.take_byte.ensures.honest h in
+      told = λ h s stood. let before = c.take_byte.ensures.honest h in
           piece_told _ _ _ _ _ c.args.held.now.items c.loop-b.held.items (take i xs) (get_or xs i 0 ∷ []) (take (i + 1) xs) _ _ _ _ _ _
-          (inv.told before) (inv.schema before) inv.held (c.in-Ok.ensures.ends h) more;
+          (inv.told before s stood) (inv.schema before) inv.held (c.in-Ok.ensures.ends h) more;
     }

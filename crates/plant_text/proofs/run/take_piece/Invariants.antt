@@ -1,4 +1,5 @@
 use Rattle.std.proofs.Common.{◌≡◌, false, take}
+use Rattle.plant_base.specs.State.{State}
 use Rattle.plant_text.specs.Session.{Told}
 use Rattle.plant_text.specs.Held.{held_after, entries_after}
 use Rattle.plant_text.proofs.run.take_piece.Given as goal
@@ -11,6 +12,7 @@ invariant-loop-b g l =
       honest : keeper.honest l.keeper → keeper.honest l.fn.keeper;
       schema : keeper.honest l.keeper → keeper.schema l.keeper ≡ keeper.schema l.fn.keeper;
       held : l.held.items ≡ held_after l.fn.held.items (take l.b-index l.piece);
-      told : keeper.honest l.keeper → Told (keeper.schema l.fn.keeper) (keeper.state l.fn.keeper) (entries_after l.fn.held.items (take l.b-index l.piece))
-          (g.W.Write.contents l.fn.writer) (g.W.Write.contents l.writer) (keeper.state l.keeper) l.fn.refused l.refused;
+      told : keeper.honest l.keeper → (s : State) → keeper.stands l.fn.keeper s
+          → Told (keeper.schema l.fn.keeper) s (entries_after l.fn.held.items (take l.b-index l.piece))
+          (g.W.Write.contents l.fn.writer) (g.W.Write.contents l.writer) (keeper.stands l.keeper) l.fn.refused l.refused;
     }

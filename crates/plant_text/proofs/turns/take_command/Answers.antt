@@ -6,15 +6,14 @@ use Rattle.plant_text.proofs.TurnLemmas.{stops_by_fault, stops_unwritten, comman
 use Rattle.plant_text.proofs.turns.take_command.Goals as goal
 
 pub returns-in-Err-write_line-clause-ends : goal.returns-in-Err-write_line-clause-ends
-returns-in-Err-write_line-clause-ends g c = λ honest.
+returns-in-Err-write_line-clause-ends g c = λ honest s stood.
     let k = g.K.Keeper.schema c.args.keeper.now in
-    let s = g.K.Keeper.state c.args.keeper.now in
-    let done = c.in-Ok.ensures.executes honest c.requires in
+    let done = c.in-Ok.ensures.executes honest c.requires s stood in
     stops_unwritten k s (command c.args.envelope.now) _ _ _ _ _ _ (ap with_lf (c.as_bytes.ensures ∙ c.reply_line.ensures ∙ ap reply_text done.0)) done.1 (c.in-Ok.ensures.open c.requires) c.in-Err-write_line.ensures.err
 
 pub returns-in-Err-clause-ends : goal.returns-in-Err-clause-ends
-returns-in-Err-clause-ends g c = λ honest.
-    let k = g.K.Keeper.schema c.args.keeper.now in
-    let s = g.K.Keeper.state c.args.keeper.now in
-    stops_by_fault k s (command c.args.envelope.now) _ _ _ _ _ c.in-Err.fault _ c.tell_fault.ensures
-    (command_faults _ _ _ _ c.args.envelope.now c.in-Err.fault (c.in-Err.ensures.executes honest c.requires) (c.in-Err.ensures.open c.requires))
+returns-in-Err-clause-ends g c = λ honest s stood.
+    let keeper = g.K.Keeper in
+    let now = c.execute.new.self in
+    stops_by_fault (keeper.schema c.args.keeper.now) s (command c.args.envelope.now) _ _ (keeper.stands now) (keeper.shut now) (keeper.leaves now) c.in-Err.fault _ c.tell_fault.ensures
+    (command_faults s (keeper.stands now) (keeper.leaves now) (keeper.shut now) c.args.envelope.now c.in-Err.fault (c.in-Err.ensures.executes honest c.requires s stood) (c.in-Err.ensures.open c.requires))

@@ -1,51 +1,50 @@
-use Rattle.std.proofs.Common.{◌≡◌, ◌<◌, length, false, Ok, Err, None, Some, refl, ap, ◌∙◌, arith}
+use Rattle.std.proofs.Common.{◌≡◌, ◌<◌, length, Err, None, Some, ap, ◌∙◌, arith}
 use Rattle.std.proofs.lemmas.Bool.Decides.{nat_tests}
 use Rattle.plant_desk.specs.declared.reply.DeskFault.TheVariants.{Memory}
 use Rattle.plant_text.specs.declared.read.Line.TheVariants as L
 use Rattle.plant_text.specs.Lines.{line_of}
-use Rattle.plant_text.specs.Session.{nothing, bad, command, question, entry_of}
-use Rattle.plant_text.proofs.TurnLemmas.{turn_by, nothing_ends, bad_ends, stops_by_fault, entry_empty, entry_long, entry_read}
+use Rattle.plant_text.specs.Session.{entry_of}
+use Rattle.plant_text.proofs.TurnLemmas.{nothing_ends, bad_ends, stops_by_fault, entry_empty, entry_long, entry_read}
 use Rattle.plant_text.proofs.turns.take_line.Goals as goal
 
 pub returns-then-is_empty-clause-ends : goal.returns-then-is_empty-clause-ends
-returns-then-is_empty-clause-ends g c = λ honest.
-    let k = g.K.Keeper.schema c.args.keeper.now in
-    let s = g.K.Keeper.state c.args.keeper.now in
+returns-then-is_empty-clause-ends g c = λ honest s stood.
+    let keeper = g.K.Keeper in
+    let same = c.args.keeper.now in
     let empty : length c.args.line.now ≡ 0 = grind (arith, nat_tests) in
-    turn_by k s (entry_of c.args.line.now) nothing _ _ s (g.K.Keeper.shut c.args.keeper.now) (g.K.Keeper.may_leave c.args.keeper.now) (Ok false) (entry_empty c.args.line.now empty) (nothing_ends k s _ (g.K.Keeper.shut c.args.keeper.now) (g.K.Keeper.may_leave c.args.keeper.now))
+    rw (entry_empty c.args.line.now empty) (nothing_ends (keeper.schema same) s _ (keeper.stands same) (keeper.shut same) (keeper.leaves same) stood)
 
 pub returns-then-line-gt-LONGEST_LINE-clause-ends : goal.returns-then-line-gt-LONGEST_LINE-clause-ends
-returns-then-line-gt-LONGEST_LINE-clause-ends g c = λ honest.
-    let k = g.K.Keeper.schema c.args.keeper.now in
-    let s = g.K.Keeper.state c.args.keeper.now in
-    turn_by k s (entry_of c.args.line.now) bad _ _ s _ _ c.tell_bad_form.result (entry_long c.args.line.now (omega arith)) (bad_ends k s _ _ _ _ c.tell_bad_form.result c.tell_bad_form.ensures c.requires)
+returns-then-line-gt-LONGEST_LINE-clause-ends g c = λ honest s stood.
+    let keeper = g.K.Keeper in
+    let same = c.args.keeper.now in
+    rw (entry_long c.args.line.now (omega arith))
+    (bad_ends (keeper.schema same) s _ _ (keeper.stands same) (keeper.shut same) (keeper.leaves same) c.tell_bad_form.result c.tell_bad_form.ensures stood c.requires)
 
 pub returns-in-Ok-Command-clause-ends : goal.returns-in-Ok-Command-clause-ends
-returns-in-Ok-Command-clause-ends g c = λ honest.
-    let k = g.K.Keeper.schema c.args.keeper.now in
-    let s = g.K.Keeper.state c.args.keeper.now in
+returns-in-Ok-Command-clause-ends g c = λ honest s stood.
     let some : 0 < length c.args.line.now = grind (arith, nat_tests) in
     let says : line_of c.args.line.now ≡ Some (L.Command c.in-Ok-Command.envelope) = c.in-Ok-Command.ensures.ok ∙ ap Some c.in-Ok-Command.field-0-is in
-    turn_by k s (entry_of c.args.line.now) (command c.in-Ok-Command.envelope) _ _ _ _ _ c.take_command.result (entry_read c.args.line.now _ some (omega arith) says) (c.take_command.ensures.ends honest)
+    rw (entry_read c.args.line.now _ some (omega arith) says) (c.take_command.ensures.ends honest s stood)
 
 pub returns-in-Ok-Question-clause-ends : goal.returns-in-Ok-Question-clause-ends
-returns-in-Ok-Question-clause-ends g c = λ honest.
-    let k = g.K.Keeper.schema c.args.keeper.now in
-    let s = g.K.Keeper.state c.args.keeper.now in
+returns-in-Ok-Question-clause-ends g c = λ honest s stood.
     let some : 0 < length c.args.line.now = grind (arith, nat_tests) in
     let says : line_of c.args.line.now ≡ Some (L.Question c.in-Ok-Question.question) = c.in-Ok-Question.ensures.ok ∙ ap Some c.in-Ok-Question.field-0-is in
-    turn_by k s (entry_of c.args.line.now) (question c.in-Ok-Question.question) _ _ _ _ _ c.take_question.result (entry_read c.args.line.now _ some (omega arith) says) (c.take_question.ensures.ends honest)
+    rw (entry_read c.args.line.now _ some (omega arith) says) (c.take_question.ensures.ends honest s stood)
 
 pub returns-in-Err-BadForm-clause-ends : goal.returns-in-Err-BadForm-clause-ends
-returns-in-Err-BadForm-clause-ends g c = λ honest.
-    let k = g.K.Keeper.schema c.args.keeper.now in
-    let s = g.K.Keeper.state c.args.keeper.now in
+returns-in-Err-BadForm-clause-ends g c = λ honest s stood.
+    let keeper = g.K.Keeper in
+    let same = c.args.keeper.now in
     let some : 0 < length c.args.line.now = grind (arith, nat_tests) in
     let says : line_of c.args.line.now ≡ None = c.in-Err-BadForm.ensures.bad_form (ap Err c.in-Err-BadForm.field-0-is) in
-    turn_by k s (entry_of c.args.line.now) bad _ _ s _ _ c.tell_bad_form-in-Err-BadForm.result (entry_read c.args.line.now _ some (omega arith) says) (bad_ends k s _ _ _ _ c.tell_bad_form-in-Err-BadForm.result c.tell_bad_form-in-Err-BadForm.ensures c.requires)
+    let told = c.tell_bad_form-in-Err-BadForm in
+    rw (entry_read c.args.line.now _ some (omega arith) says)
+    (bad_ends (keeper.schema same) s _ _ (keeper.stands same) (keeper.shut same) (keeper.leaves same) told.result told.ensures stood c.requires)
 
 pub returns-in-Err-Memory-clause-ends : goal.returns-in-Err-Memory-clause-ends
-returns-in-Err-Memory-clause-ends g c = λ honest.
-    let k = g.K.Keeper.schema c.args.keeper.now in
-    let s = g.K.Keeper.state c.args.keeper.now in
-    stops_by_fault k s (entry_of c.args.line.now) _ _ _ _ _ Memory _ c.tell_fault.ensures (refl, c.requires)
+returns-in-Err-Memory-clause-ends g c = λ honest s stood.
+    let keeper = g.K.Keeper in
+    let same = c.args.keeper.now in
+    stops_by_fault (keeper.schema same) s (entry_of c.args.line.now) _ _ (keeper.stands same) (keeper.shut same) (keeper.leaves same) Memory _ c.tell_fault.ensures (stood, c.requires)

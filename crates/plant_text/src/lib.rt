@@ -14,6 +14,8 @@ mod read;
 mod replies;
 mod run;
 #[cfg(test)]
+mod run_tests;
+#[cfg(test)]
 mod tests;
 mod trace_answers;
 mod turns;

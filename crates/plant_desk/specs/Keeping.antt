@@ -15,14 +15,14 @@ use Rattle.plant_desk.specs.declared.reply.DeskFault.TheVariants.{Store, Memory,
 abbrev pub States : Type 1
 States = State → Type 0
 
--- what `execute` does to an open keeper at s: what is said of where it stands afterwards, and of what a stop leaves
+-- what comes of `execute` at an open keeper that stood at s: the reply, where it stands afterwards, and what a stop leaves
 abbrev pub Executes : State → States → (States → Type 0) → Envelope → Result Reply DeskFault → Type 0
 Executes s stands leaves e (Ok r) = (r ≡ reply s e) × stands (step s e)
 Executes s stands leaves e (Err Store) = stands s × leaves (λ u. (u ≡ s) ⊎ (u ≡ step s e))
 Executes s stands leaves e (Err Memory) = stands s
 Executes s stands leaves e (Err Shut) = ⊥
 
--- what `ask` does to an open keeper of schema k at s
+-- what comes of `ask` at an open keeper of schema k that stood at s: the answer, and where it stands afterwards
 abbrev pub Asks : ℕ → State → States → Question → Result Answer DeskFault → Type 0
 Asks k s stands q (Ok a) = (a ≡ answer k s q) × stands s
 Asks k s stands q (Err Store) = stands s

@@ -1,3 +1,4 @@
+pub mod Broken
 pub mod Ends
 pub mod Lots
 pub mod Numbered

@@ -113,9 +113,7 @@ pub(crate) fn are_stocks(
 {
     let entered = Grouped::<EnteredPlaces>::new(alloc, rows)?;
     let left = Grouped::<LeftPlaces>::new(alloc, rows)?;
-    Ok(sublots
-        .iter()
-        .all(|s| has_right_stock(&entered, &left, s)))
+    Ok(sublots.iter().all(|s| has_right_stock(&entered, &left, s)))
 }
 
 #[tactic(auto, unfolding(crate::specs::Ends::has_right_stock))]

@@ -1,8 +1,11 @@
 //! Whether tables are those of a desk: the first of the rules of good tables that they break.
 #![tactic(auto)]
 
+mod checking;
 mod ends;
+mod history;
 mod lots;
 mod rule;
 
+pub use checking::{check, check_rows};
 pub use rule::Rule;

@@ -1,4 +1,4 @@
-ghost use Rattle.std.specs.Prelude.{◌≡◌, IfOk, option_map};
+ghost use Rattle.std.specs.Prelude.{◌≡◌, IfOk, is_some, option_map};
 ghost use Rattle.plant_rows.specs.Judging.{meta_from, only_meta};
 ghost use Rattle.plant_rows.specs.Collecting.{masters_listed, masters_from, orders_listed, orders_from, stocks_listed, stocks_from, rows_listed, rows_from};
 ghost use Rattle.plant_rows.specs.Laws.{StandFor, AreReadAgain, AreWholeRows, AreSameTables, IsBookedAgain};
@@ -86,6 +86,14 @@ fn only_meta(rows: &[StoredMeta]) -> Option<Meta>
         [row] => meta_row(row),
         _ => None,
     }
+}
+
+/// Whether meta has one row, whose values obey their rules: k is 1, the schema at least 1, seq 0 to 10^15, `at` a
+/// moment.
+pub fn has_meta(loaded: &Loaded) -> bool
+    ensures { result ≡ is_some (only_meta loaded.now.meta.items) }
+{
+    only_meta(loaded.meta.as_slice()).is_some()
 }
 
 #[tactic(auto, unfolding(crate::specs::Collecting::masters_from))]

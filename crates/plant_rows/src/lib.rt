@@ -12,7 +12,7 @@ mod reading;
 mod stocks;
 
 pub use booked::{BookedRow, MovementSort};
-pub use desk_rows::{DeskRows, reading_laws, rows_of};
+pub use desk_rows::{DeskRows, has_meta, reading_laws, rows_of};
 pub use judged::{Judged, judge_all};
 
 #[cfg(test)]

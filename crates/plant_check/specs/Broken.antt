@@ -1,0 +1,84 @@
+-- The rules that tables obey which a desk has written, and the first that is broken.
+use Rattle.std.specs.Prelude.{ℕ, Bool, true, not, ◌&&◌, if◌then◌else◌, List, Option, Some, None, is_some, is_none, map}
+use Rattle.std.specs.List.{list_all, filter_map}
+use Rattle.plant_base.specs.declared.rows.Movement.{Movement}
+use Rattle.plant_trace.specs.Reach.{leads}
+use Rattle.plant_trace.specs.declared.node.Node.{Node}
+use Rattle.plant_view.specs.Genealogy.{edges_among}
+use Rattle.plant_plan_rules.specs.Catalogue.{are_classified}
+use Rattle.plant_plan_rules.specs.Recipes.{are_recipes}
+use Rattle.plant_plan_rules.specs.Orders.{are_orders}
+use Rattle.plant_plan_rules.specs.Batches.{are_batches}
+use Rattle.plant_plan_rules.specs.Events.{are_events}
+use Rattle.plant_stock_rules.specs.Movements.{are_movements}
+use Rattle.plant_stock_rules.specs.Numbering.{are_numbers}
+use Rattle.plant_stock_rules.specs.Times.{are_times}
+use Rattle.plant_loaded.specs.declared.loaded.Loaded.{Loaded}
+use Rattle.plant_rows.specs.Booked.{movement_from}
+use Rattle.plant_rows.specs.Collecting.{Rows, rows_from}
+use Rattle.plant_rows.specs.Judging.{only_meta}
+use Rattle.plant_rows.specs.declared.booked.BookedRow.{BookedRow}
+use Rattle.plant_check.specs.Ends.{are_stocks}
+use Rattle.plant_check.specs.Lots.{are_lots}
+use Rattle.plant_check.specs.declared.rule.Rule.{Rule}
+use Rattle.plant_check.specs.declared.rule.Rule.TheVariants as rule
+
+-- the rule where it is broken, and else what else is
+abbrev pub unless : Bool → Rule → Option Rule → Option Rule
+unless obeyed r rest = if obeyed then rest else Some r
+
+-- each row has the columns of its kind
+abbrev pub are_whole : List BookedRow → Bool
+are_whole rows = list_all (λ r. is_some (movement_from r)) rows
+
+abbrev pub movements_in : List BookedRow → List Movement
+movements_in rows = filter_map movement_from rows
+
+-- no node leads to itself
+abbrev pub are_acyclic : List (Node × Node) → Bool
+are_acyclic pairs = list_all (λ p. not (leads pairs p.0 p.0)) pairs
+
+-- the first, where one is broken, and else what else is
+abbrev pub or_else : Option Rule → Option Rule → Option Rule
+or_else None rest = rest
+or_else (Some r) rest = Some r
+
+-- the first rule on classes, recipes, orders and batches that is broken
+unfoldable pub broken_plan : Rows → Option Rule
+broken_plan r =
+    unless (are_classified r.classes r.definitions) rule.Classes
+    (unless (are_recipes r.definitions r.recipes r.master_lines) rule.Recipes
+    (unless (are_orders r.recipes r.batches r.jobs) rule.Orders
+    (unless (are_batches r.recipes r.master_lines r.jobs r.batches r.control_lines) rule.Batches None)))
+
+-- the first on stocks and lots
+unfoldable pub broken_lot : Rows → Option Rule
+broken_lot r =
+    unless (are_stocks r.movements r.sublots) rule.Stocks
+    (unless (are_lots r.definitions r.lots r.sublots r.holds r.movements) rule.Lots None)
+
+abbrev pub are_right_movements : Rows → List Movement → Bool
+are_right_movements r ms = are_whole r.movements && are_movements r.lots r.sublots r.batches r.control_lines ms
+
+abbrev pub are_right_numbers : Rows → List Movement → Bool
+are_right_numbers r ms = are_numbers r.meta.position.seq r.events ms && are_times r.meta.position.at ms r.events r.batches r.holds
+
+-- the first on what was done
+unfoldable pub broken_history : Rows → Option Rule
+broken_history r =
+    unless (are_right_movements r (movements_in r.movements)) rule.Movements
+    (unless (are_events r.control_lines r.events r.batches) rule.Events
+    (unless (are_right_numbers r (movements_in r.movements)) rule.Numbers
+    (unless (are_acyclic (edges_among (movements_in r.movements))) rule.Descent None)))
+
+-- the first rule that rows break whose values obey theirs
+unfoldable pub first_broken_of : Rows → Option Rule
+first_broken_of r = or_else (broken_plan r) (or_else (broken_lot r) (broken_history r))
+
+abbrev pub broken_rows : Option Rows → Option Rule
+broken_rows None = Some rule.Values
+broken_rows (Some r) = first_broken_of r
+
+-- the first rule that is broken
+unfoldable pub first_broken : Loaded → Option Rule
+first_broken x = unless (is_some (only_meta x.meta.items)) rule.Tables (broken_rows (rows_from x))

@@ -1,0 +1,58 @@
+//! What was done, as rows of table movement tell it.
+
+ghost use Rattle.std.specs.Prelude.{◌≡◌, ◌↔◌, IfOk, IsTrue, true};
+ghost use Rattle.plant_trace.specs.Reach.{IsAcyclic};
+ghost use Rattle.plant_view.specs.Genealogy.{edge_of, edges_among};
+ghost use Rattle.plant_check.specs.Broken.{are_whole, movements_in, are_acyclic};
+
+use plant_base::{Movement, MovementKind};
+use plant_rows::BookedRow;
+use plant_trace::{Node, acyclic};
+use std::alloc::{AllocError, Global};
+
+/// Whether each row has the columns of its kind.
+pub(crate) fn are_whole(rows: &[BookedRow]) -> bool
+    ensures { result ≡ are_whole rows.now }
+{
+    rows.iter().all(|r| r.movement().is_some())
+}
+
+/// The movements of the rows that have the columns of their kinds.
+pub(crate) fn movements_in(alloc: Global, rows: &[BookedRow]) -> Result<Vec<Movement>, AllocError>
+    ensures { IfOk result (λ list. list.items ≡ movements_in rows.now) }
+{
+    rows.iter().filter_map(|r| r.movement()).collect(alloc)
+}
+
+/// Whether nothing was made from itself. The only error is that memory was refused.
+pub(crate) fn are_acyclic(alloc: Global, movements: &[Movement]) -> Result<bool, AllocError>
+    ensures { IfOk result (λ b. b ≡ are_acyclic (edges_among movements.now)) }
+{
+    let pairs = edges(alloc, movements)?;
+    is_acyclic(alloc, &pairs)
+}
+
+fn is_acyclic(alloc: Global, pairs: &[(Node, Node)]) -> Result<bool, AllocError>
+    ensures { IfOk result (λ b. b ≡ are_acyclic pairs.now) }
+{
+    acyclic(alloc, pairs)
+}
+
+fn edges(alloc: Global, movements: &[Movement]) -> Result<Vec<(Node, Node)>, AllocError>
+    ensures { IfOk result (λ pairs. pairs.items ≡ edges_among movements.now) }
+{
+    movements.iter().filter_map(|m| edge(m)).collect(alloc)
+}
+
+// The edge that a movement makes.
+fn edge(movement: &Movement) -> Option<(Node, Node)>
+    ensures { result ≡ edge_of movement.now }
+{
+    let lot = Node::Lot(movement.lot);
+    match movement.kind {
+        MovementKind::Received | MovementKind::Scrapped | MovementKind::Divided { .. } => None,
+        MovementKind::Consumed { batch } => Some((lot, Node::Batch(batch))),
+        MovementKind::Produced { batch } => Some((Node::Batch(batch), lot)),
+        MovementKind::Split { to } | MovementKind::Merged { to } => Some((lot, Node::Lot(to))),
+    }
+}

@@ -43,6 +43,32 @@ pub record AreLoaded (db : Database) (x : Loaded) : Type 0 where
   pub orders : AreOrders db x.orders
   pub stocks : AreStocks db x.stocks
 
+-- ---- lists that rise by their keys
+
+pub record AreRisingMasters (x : Masters) : Type 0 where
+  pub classes : Rises class_before x.classes.items
+  pub definitions : Rises definition_before x.definitions.items
+  pub recipes : Rises recipe_before x.recipes.items
+  pub recipe_lines : Rises recipe_line_before x.recipe_lines.items
+
+pub record AreRisingOrders (x : Orders) : Type 0 where
+  pub jobs : Rises job_before x.jobs.items
+  pub batches : Rises batch_before x.batches.items
+  pub control_lines : Rises control_line_before x.control_lines.items
+  pub events : Rises batch_event_before x.events.items
+
+pub record AreRisingStocks (x : Stocks) : Type 0 where
+  pub lots : Rises lot_before x.lots.items
+  pub sublots : Rises sublot_before x.sublots.items
+  pub movements : Rises movement_before x.movements.items
+  pub holds : Rises hold_before x.holds.items
+
+-- each list rises by its key, whatever the store did
+pub record AreRising (x : Loaded) : Type 0 where
+  pub masters : AreRisingMasters x.masters
+  pub orders : AreRisingOrders x.orders
+  pub stocks : AreRisingStocks x.stocks
+
 -- the rows of each table, in the order of the forms
 abbrev pub rows_loaded : Loaded → List (List Row)
 rows_loaded x =

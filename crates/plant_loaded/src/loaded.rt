@@ -5,7 +5,7 @@ ghost use Rattle.plant_forms.specs.Resting.{Keeps};
 ghost use Rattle.plant_forms.specs.Standing.{HasTable, StandIn};
 ghost use Rattle.plant_reads.specs.Ordered.{IsRising};
 ghost use Rattle.plant_tables.specs.DeskForms.{desk_forms};
-ghost use Rattle.plant_loaded.specs.Loading.{AreLoaded, contents_loaded};
+ghost use Rattle.plant_loaded.specs.Loading.{AreLoaded, AreRising, contents_loaded};
 
 use crate::masters::Masters;
 use crate::meta::StoredMeta;
@@ -37,6 +37,7 @@ impl Loaded {
         version: i64,
     ) -> Result<Option<Loaded>, Fault>
         ensures rows { HasCleanDisk (state S.Store conn.new) → IfOk result (λ found. IfSome found (AreLoaded (state S.Store conn.old).now)) }
+        ensures ordered { IfOk result (λ found. IfSome found AreRising) }
         ensures stands { HasCleanDisk (state S.Store conn.new) → IsRising (state S.Store conn.old).now → IfOk result (λ found. IfSome found (λ loaded. StandIn desk_forms (state S.Store conn.old).now (contents_loaded loaded))) }
         ensures missing { IfOk result (λ found. found ≡ None → ¬ All (HasTable (state S.Store conn.old).now.schema) desk_forms) }
         ensures same { HasCleanDisk (state S.Store conn.new) → IfOk result (λ found. IfSome found (λ _. IsUnchanged (state S.Store conn.old) (state S.Store conn.new))) }
@@ -55,6 +56,7 @@ impl Loaded {
 
     fn read_all<S: Alter>(alloc: Global, conn: &mut Connection<S>) -> Result<Loaded, Fault>
         ensures rows { HasCleanDisk (state S.Store conn.new) → IfOk result (AreLoaded (state S.Store conn.old).now) }
+        ensures rising { IfOk result AreRising }
         ensures same { HasCleanDisk (state S.Store conn.new) → OnOk result (IsUnchanged (state S.Store conn.old) (state S.Store conn.new)) }
         ensures kept { HasCleanDisk (state S.Store conn.new) → Keeps (state S.Store conn.old) (state S.Store conn.new) }
         ensures mode { (state S.Store conn.old).in_transaction ≡ false → (state S.Store conn.new).in_transaction ≡ false }

@@ -5,7 +5,7 @@ ghost use Rattle.sqlite.specs.Held.{state};
 ghost use Rattle.sqlite.specs.State.{HasCleanDisk, IsUnchanged, Survives};
 ghost use Rattle.plant_forms.specs.Resting.{Keeps};
 ghost use Rattle.plant_tables.specs.DeskForms.{class_form, definition_form, recipe_form, recipe_line_form};
-ghost use Rattle.plant_loaded.specs.Loading.{AreMasters};
+ghost use Rattle.plant_loaded.specs.Loading.{AreMasters, AreRisingMasters};
 ghost use Rattle.plant_loaded.specs.Stored.{class_row, class_before, definition_row, definition_before, recipe_row, recipe_before, recipe_line_row, recipe_line_before};
 
 use plant_forms::{Fault, Form};
@@ -207,6 +207,7 @@ impl Masters {
     /// a transaction is open, and where the store fails; Memory where there is none. Nothing is changed.
     pub(crate) fn read<S: Alter>(alloc: Global, conn: &mut Connection<S>) -> Result<Masters, Fault>
         ensures rows { HasCleanDisk (state S.Store conn.new) → IfOk result (AreMasters (state S.Store conn.old).now) }
+        ensures rising { IfOk result AreRisingMasters }
         ensures same { HasCleanDisk (state S.Store conn.new) → OnOk result (IsUnchanged (state S.Store conn.old) (state S.Store conn.new)) }
         ensures kept { HasCleanDisk (state S.Store conn.new) → Keeps (state S.Store conn.old) (state S.Store conn.new) }
         ensures mode { (state S.Store conn.old).in_transaction ≡ false → (state S.Store conn.new).in_transaction ≡ false }

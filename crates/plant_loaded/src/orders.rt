@@ -5,7 +5,7 @@ ghost use Rattle.sqlite.specs.Held.{state};
 ghost use Rattle.sqlite.specs.State.{HasCleanDisk, IsUnchanged, Survives};
 ghost use Rattle.plant_forms.specs.Resting.{Keeps};
 ghost use Rattle.plant_tables.specs.DeskForms.{job_form, batch_form, control_line_form, batch_event_form};
-ghost use Rattle.plant_loaded.specs.Loading.{AreOrders};
+ghost use Rattle.plant_loaded.specs.Loading.{AreOrders, AreRisingOrders};
 ghost use Rattle.plant_loaded.specs.Stored.{job_row, job_before, batch_row, batch_before, control_line_row, control_line_before, batch_event_row, batch_event_before};
 
 use plant_forms::{Fault, Form};
@@ -215,6 +215,7 @@ impl Orders {
     /// a transaction is open, and where the store fails; Memory where there is none. Nothing is changed.
     pub(crate) fn read<S: Alter>(alloc: Global, conn: &mut Connection<S>) -> Result<Orders, Fault>
         ensures rows { HasCleanDisk (state S.Store conn.new) → IfOk result (AreOrders (state S.Store conn.old).now) }
+        ensures rising { IfOk result AreRisingOrders }
         ensures same { HasCleanDisk (state S.Store conn.new) → OnOk result (IsUnchanged (state S.Store conn.old) (state S.Store conn.new)) }
         ensures kept { HasCleanDisk (state S.Store conn.new) → Keeps (state S.Store conn.old) (state S.Store conn.new) }
         ensures mode { (state S.Store conn.old).in_transaction ≡ false → (state S.Store conn.new).in_transaction ≡ false }

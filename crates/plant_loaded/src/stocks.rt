@@ -5,7 +5,7 @@ ghost use Rattle.sqlite.specs.Held.{state};
 ghost use Rattle.sqlite.specs.State.{HasCleanDisk, IsUnchanged, Survives};
 ghost use Rattle.plant_forms.specs.Resting.{Keeps};
 ghost use Rattle.plant_tables.specs.DeskForms.{lot_form, sublot_form, movement_form, hold_form};
-ghost use Rattle.plant_loaded.specs.Loading.{AreStocks};
+ghost use Rattle.plant_loaded.specs.Loading.{AreStocks, AreRisingStocks};
 ghost use Rattle.plant_loaded.specs.Stored.{lot_row, lot_before, sublot_row, sublot_before, movement_row, movement_before, hold_row, hold_before};
 
 use plant_forms::{Fault, Form};
@@ -206,6 +206,7 @@ impl Stocks {
     /// a transaction is open, and where the store fails; Memory where there is none. Nothing is changed.
     pub(crate) fn read<S: Alter>(alloc: Global, conn: &mut Connection<S>) -> Result<Stocks, Fault>
         ensures rows { HasCleanDisk (state S.Store conn.new) → IfOk result (AreStocks (state S.Store conn.old).now) }
+        ensures rising { IfOk result AreRisingStocks }
         ensures same { HasCleanDisk (state S.Store conn.new) → OnOk result (IsUnchanged (state S.Store conn.old) (state S.Store conn.new)) }
         ensures kept { HasCleanDisk (state S.Store conn.new) → Keeps (state S.Store conn.old) (state S.Store conn.new) }
         ensures mode { (state S.Store conn.old).in_transaction ≡ false → (state S.Store conn.new).in_transaction ≡ false }

@@ -22,9 +22,9 @@ use Rattle.plant_loaded.specs.declared.orders.Orders.{Orders}
 use Rattle.plant_loaded.specs.declared.stocks.Stocks.{Stocks}
 use Rattle.plant_loaded.specs.declared.loaded.Loaded.{Loaded}
 use Rattle.plant_rows.specs.Booked.{booked_of}
-use Rattle.plant_rows.specs.Judging.{only_meta, class_from, definition_from, recipe_from, master_line_from, job_from, batch_from, control_line_from, batch_event_from, lot_from, sublot_from, booked_from, hold_from}
+use Rattle.plant_rows.specs.Judging.{class_from, definition_from, recipe_from, master_line_from, job_from, batch_from, control_line_from, batch_event_from, lot_from, sublot_from, booked_from, hold_from}
 use Rattle.plant_rows.specs.Obeying.{HasClassValues, HasDefinitionValues, HasRecipeValues, HasMasterLineValues, HasJobValues, HasBatchRowValues, HasControlLineValues, HasEventValues, HasLotValues, HasSublotValues, HasMovementValues, HasHoldValues, HasGoodValues}
-use Rattle.plant_rows.specs.Collecting.{all_from, MasterRows, OrderRows, StockRows, masters_from, orders_from, stocks_from, rows_from, rows_in, event_order, movement_order, AreInOrder}
+use Rattle.plant_rows.specs.Collecting.{all_from, masters_from, orders_from, stocks_from, rows_from, rows_in, event_order, movement_order, AreInOrder}
 use Rattle.plant_rows.proofs.KeyLemmas.{by_text, text_total, by_number, number_total, by_both, both_total, then_same}
 use Rattle.plant_rows.proofs.SortedLemmas.{int_cmp_pos, sorted_keys}
 use Rattle.plant_rows.proofs.TableLemmas.{map_same, all_again, loaded_rows}

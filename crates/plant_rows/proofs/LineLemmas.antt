@@ -1,5 +1,5 @@
 -- The columns that a line was read from, and what is read from its columns.
-use Rattle.std.proofs.Common.{◌≡◌, refl, sym, ap, ◌∙◌, subst, ℕ, zero, suc, ℤ, pos, List, [], ◌∷◌, length, Vec, Bool, true, false, ◌==◌, ◌&&◌, Option, Some, None, eqb-true, arith}
+use Rattle.std.proofs.Common.{◌≡◌, refl, ap, ◌∙◌, subst, ℕ, ℤ, pos, List, [], ◌∷◌, length, Vec, Bool, true, false, ◌==◌, ◌&&◌, Option, Some, None, eqb-true, arith}
 use Rattle.std.specs.Prelude.{if◌then◌else◌}
 use Rattle.std.specs.declared.alloc.Global.{Global}
 use Rattle.std.specs.Ordering.{int_eq}
@@ -12,7 +12,7 @@ use Rattle.plant_base.specs.Formed.{HasLineValues}
 use Rattle.plant_base.specs.declared.rows.RecipeLine.{RecipeLine}
 use Rattle.plant_base.specs.declared.rows.RecipeLine.TheVariants as line
 use Rattle.plant_reads.specs.Cells.{text_or_null}
-use Rattle.plant_tables.specs.Encoding.{number, columns_of_line}
+use Rattle.plant_tables.specs.Encoding.{columns_of_line}
 use Rattle.plant_rows.specs.Reading.{id_from, text_from, id_there, number_in}
 use Rattle.plant_rows.specs.Naming.{line_sort_from, line_sort_number}
 use Rattle.plant_rows.specs.Judging.{are_empty, material_from, has_no_material, parameter_from, phase_from, line_of_sort, line_from}

@@ -1,8 +1,7 @@
 -- The words and numbers that states, events and kinds were read from, and what is read from theirs.
-use Rattle.std.proofs.Common.{◌≡◌, refl, sym, ap, ◌∙◌, subst, ℕ, ◌≤◌, ℤ, pos, arith, List, Bool, true, false, Option, Some, None, option_map, find, codes}
+use Rattle.std.proofs.Common.{◌≡◌, refl, sym, ap, ◌∙◌, subst, ℕ, ◌≤◌, ℤ, pos, arith, List, Bool, true, false, Some, option_map, find, codes}
 use Rattle.std.specs.Prelude.{if◌then◌else◌, option_and_then}
 use Rattle.std.specs.Ordering.{int_eq}
-use Rattle.std.proofs.lemmas.Bool.{and_parts}
 use Rattle.std.proofs.lemmas.Bool.Decides.{Decides-int_eq}
 use Rattle.plant_base.specs.State.{same}
 use Rattle.plant_base.specs.Values.{greatest_phase}
@@ -20,7 +19,7 @@ use Rattle.plant_base.specs.declared.states.Event.TheVariants as event
 use Rattle.plant_base.proofs.Find.{found_passes}
 use Rattle.plant_base.proofs.Keys.{same_id}
 use Rattle.plant_tables.specs.Encoding.{event_name, event_phase}
-use Rattle.plant_rows.specs.Reading.{is_in, number_in}
+use Rattle.plant_rows.specs.Reading.{number_in}
 use Rattle.plant_rows.specs.Naming.{all_recipe_states, recipe_state_from, all_job_states, job_state_from, all_batch_states, batch_state_from, all_words, word_from, plain_event, event_from, line_sort_number, all_line_sorts, line_sort_from, movement_sort_number, all_movement_sorts, movement_sort_from}
 use Rattle.plant_rows.specs.Obeying.{HasPhase}
 use Rattle.plant_rows.specs.declared.line.LineSort.{LineSort}

@@ -1,10 +1,9 @@
 -- Table by table: a row of the desk has the columns of the stored row that it was read from, and what stands in its
 -- own columns is read as the row.
-use Rattle.std.proofs.Common.{◌≡◌, refl, sym, ap, ◌∙◌, subst, ℕ, ◌≤◌, pos, List, [], ◌∷◌, map, Bool, true, nat_le, Option, Some, None}
+use Rattle.std.proofs.Common.{◌≡◌, refl, sym, ap, ◌∙◌, subst, ℕ, ◌≤◌, pos, List, [], ◌∷◌, map, true, Some}
 use Rattle.std.proofs.lemmas.Bool.{and_parts}
 use Rattle.sqlite.specs.declared.types.Value.TheVariants.{Int, Text}
-use Rattle.sqlite.specs.Order.{Row}
-use Rattle.plant_base.specs.Values.{is_id, is_text, greatest_amount, greatest_moment, greatest_phase, greatest_priority, greatest_seq, greatest_sublot, greatest_version}
+use Rattle.plant_base.specs.Values.{is_id, greatest_amount, greatest_moment, greatest_phase, greatest_priority, greatest_seq, greatest_sublot, greatest_version}
 use Rattle.plant_base.specs.Formed.{is_version, is_priority, HasHeaderValues}
 use Rattle.plant_base.specs.declared.command.Stamp.{Stamp}
 use Rattle.plant_base.specs.declared.rows.Meta.{Meta}
@@ -28,7 +27,7 @@ use Rattle.plant_base.specs.declared.rows.Hold.{Hold}
 use Rattle.plant_recipe.specs.Progress.{greatest_attempt}
 use Rattle.plant_view.specs.Production.{HasBatchValues, HasGoodOrder}
 use Rattle.plant_reads.specs.Cells.{number_or_null, text_or_null}
-use Rattle.plant_tables.specs.Encoding.{number, columns_of_line, row_of_meta, row_of_class, row_of_definition, row_of_recipe, row_of_master_line, row_of_job, row_of_batch, row_of_control_line, row_of_event, row_of_lot, row_of_sublot, row_of_movement, row_of_hold}
+use Rattle.plant_tables.specs.Encoding.{columns_of_line, row_of_meta, row_of_class, row_of_definition, row_of_recipe, row_of_master_line, row_of_job, row_of_batch, row_of_control_line, row_of_event, row_of_lot, row_of_sublot, row_of_movement, row_of_hold}
 use Rattle.plant_loaded.specs.Stored.{meta_row, class_row, definition_row, recipe_row, recipe_line_row, job_row, batch_row, control_line_row, batch_event_row, lot_row, sublot_row, movement_row, hold_row}
 use Rattle.plant_loaded.specs.declared.meta.StoredMeta.{StoredMeta}
 use Rattle.plant_loaded.specs.declared.masters.StoredClass.{StoredClass}
@@ -43,7 +42,7 @@ use Rattle.plant_loaded.specs.declared.stocks.StoredLot.{StoredLot}
 use Rattle.plant_loaded.specs.declared.stocks.StoredSublot.{StoredSublot}
 use Rattle.plant_loaded.specs.declared.stocks.StoredMovement.{StoredMovement}
 use Rattle.plant_loaded.specs.declared.stocks.StoredHold.{StoredHold}
-use Rattle.plant_rows.specs.Reading.{is_in, greatest_number, id_from, text_from, unit_from, due_from, id_or_null, number_in, sublot_or_null, line_number, flag_from, stamp_from}
+use Rattle.plant_rows.specs.Reading.{greatest_number, id_from, text_from, unit_from, due_from, id_or_null, number_in, sublot_or_null, line_number, flag_from, stamp_from}
 use Rattle.plant_rows.specs.Naming.{recipe_state_from, job_state_from, batch_state_from, event_from, movement_sort_from}
 use Rattle.plant_rows.specs.Booked.{movement_from, sort_of, other_lot, other_sublot, batch_of, booked_of}
 use Rattle.plant_rows.specs.Judging.{meta_from, only_meta, class_from, definition_from, header_from, recipe_from, line_from, master_line_from, order_from, job_from, released_from, batch_from, control_line_from, batch_event_from, lot_from, sublot_from, other_end_from, booked_from, hold_from}

@@ -1,9 +1,8 @@
 -- Rows that were read stand for the tables that were loaded.
-use Rattle.std.proofs.Common.{◌≡◌, refl, sym, ap, ◌∙◌, ℕ, ◌≤◌, Bool, true, List, [], ◌∷◌, map, Option, Some, None, is_some, slice_index_or}
+use Rattle.std.proofs.Common.{◌≡◌, refl, sym, ap, ◌∙◌, ℕ, ◌≤◌, true, List, [], ◌∷◌, map, Option, Some, None, is_some, slice_index_or}
 use Rattle.std.specs.Bool.{⊤}
 use Rattle.std.specs.List.{AllByRecursion, filter_map, cons_option}
 use Rattle.std.proofs.lemmas.Bool.{false≢true}
-use Rattle.sqlite.specs.Order.{Row}
 use Rattle.plant_base.specs.declared.rows.Movement.{Movement}
 use Rattle.plant_tables.specs.Encoding.{row_of_meta, row_of_class, row_of_definition, row_of_recipe, row_of_master_line, row_of_job, row_of_batch, row_of_control_line, row_of_event, row_of_lot, row_of_sublot, row_of_movement, row_of_hold}
 use Rattle.plant_tables.specs.DeskTables.{rows_of, contents_of}

@@ -1,5 +1,5 @@
 -- All rows of a table: as they are stored, and as they were read.
-use Rattle.std.proofs.Common.{◌≡◌, refl, sym, ap, ◌∙◌, subst, ℕ, List, [], ◌∷◌, map, drop, Bool, Option, Some, slice_get, is_lt}
+use Rattle.std.proofs.Common.{◌≡◌, refl, sym, ap, ◌∙◌, subst, List, [], ◌∷◌, map, drop, Bool, Option, Some, slice_get, is_lt}
 use Rattle.std.specs.Bool.{⊤}
 use Rattle.std.specs.declared.cmp.Ordering.{Ordering}
 use Rattle.std.specs.Cmp.{IsTotalOrder}
@@ -15,7 +15,7 @@ use Rattle.plant_reads.specs.Reading.{Lists}
 use Rattle.plant_loaded.specs.Loading.{Loads}
 use Rattle.plant_rows.specs.Collecting.{all_from}
 use Rattle.plant_rows.proofs.ValueLemmas.{bound, some_same}
-use Rattle.plant_rows.proofs.SortedLemmas.{same_sorted, strictly_sorted, sorted_keys}
+use Rattle.plant_rows.proofs.SortedLemmas.{same_sorted, strictly_sorted}
 
 pub every : {R : Type 0} (rs : List R) → AllByRecursion (λ _. ⊤) rs
 every [] = tt

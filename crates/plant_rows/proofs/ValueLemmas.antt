@@ -1,5 +1,5 @@
 -- What the bytes and numbers are that one value was read from, and what is read from a value that obeys its rule.
-use Rattle.std.proofs.Common.{◌≡◌, refl, subst, sym, ◌∙◌, ap, ℕ, zero, suc, ◌≤◌, ℤ, pos, negsuc, List, [], ◌∷◌, Vec, Bool, true, false, Option, Some, None, option_map, nat_le, arith}
+use Rattle.std.proofs.Common.{◌≡◌, refl, subst, ◌∙◌, ap, ℕ, zero, suc, ◌≤◌, ℤ, pos, negsuc, List, ◌∷◌, Vec, Bool, true, false, Option, Some, None, option_map, nat_le, arith}
 use Rattle.std.proofs.lemmas.Bool.{and_parts}
 use Rattle.std.proofs.lemmas.Bool.Decides.{nat_tests}
 use Rattle.std.specs.Prelude.{if◌then◌else◌, option_and_then, unwrap_or}

@@ -1,5 +1,5 @@
 -- The movement that a row of table movement books, where its columns are those of its kind.
-use Rattle.std.specs.Prelude.{ℕ, ◌==◌, Bool, false, ◌&&◌, List, Option, Some, None, is_some, is_none, option_map, if◌then◌else◌}
+use Rattle.std.specs.Prelude.{ℕ, ◌==◌, Bool, false, ◌&&◌, List, Option, Some, None, is_none, option_map, if◌then◌else◌}
 use Rattle.plant_base.specs.State.{same}
 use Rattle.plant_base.specs.declared.rows.MovementKind.{MovementKind}
 use Rattle.plant_base.specs.declared.rows.MovementKind.TheVariants as kind

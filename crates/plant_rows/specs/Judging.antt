@@ -1,5 +1,5 @@
 -- The row of the desk that a stored row stands for: nothing where one of its values breaks its rule.
-use Rattle.std.specs.Prelude.{ℕ, ℤ, List, [], ◌∷◌, Bool, ◌&&◌, length, ◌==◌, Option, Some, None, option_map, Vec, pos, true, false, if◌then◌else◌}
+use Rattle.std.specs.Prelude.{ℕ, ℤ, List, [], ◌∷◌, Bool, ◌&&◌, length, ◌==◌, Option, Some, None, option_map, Vec, pos, false, if◌then◌else◌}
 use Rattle.std.specs.declared.alloc.Global.{Global}
 use Rattle.std.specs.Ordering.{int_eq}
 use Rattle.plant_base.specs.Dates.{◌>>=◌}

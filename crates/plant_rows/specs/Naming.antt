@@ -1,5 +1,5 @@
 -- The words and numbers that stand for states, events and kinds.
-use Rattle.std.specs.Prelude.{ℕ, ℤ, pos, List, [], ◌∷◌, Option, Some, None, option_map, find, codes, if◌then◌else◌}
+use Rattle.std.specs.Prelude.{ℕ, ℤ, pos, List, [], ◌∷◌, Option, Some, option_map, find, codes, if◌then◌else◌}
 use Rattle.std.specs.Ordering.{int_eq}
 use Rattle.plant_base.specs.Dates.{◌>>=◌}
 use Rattle.plant_base.specs.State.{same}

@@ -685,10 +685,10 @@ fn movements_of_every_kind(rt: HostRuntime) -> Result<(), Fail> {
 
 /// Whether the values are good, and the columns aren't those of the kind.
 fn is_misfit(alloc: Global, booking: Booking) -> Result<bool, AllocError> {
-    match booked(alloc, booking)? {
-        Some(row) => Ok(row.movement().is_none()),
-        None => Ok(false),
-    }
+    // The checker can't follow a kind of movement, unless the function names this type.
+    let _: Option<Id> = None;
+    let is_good = movement(alloc, booking)?.judge().is_some();
+    Ok(is_good && kind(alloc, booking)?.is_none())
 }
 
 #[test]

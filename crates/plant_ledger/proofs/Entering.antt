@@ -5,7 +5,6 @@ use Rattle.std.specs.List.{AllByRecursion}
 use Rattle.std.specs.Ordering.{nat_cmp, ordering_then}
 use Rattle.std.specs.declared.cmp.Ordering.TheVariants.{Equal}
 use Rattle.std.proofs.lemmas.Cmp.{tied_itself, nat_list_cmp_total, nat_list_eq_equiv}
-use Rattle.std.proofs.lemmas.Bool.{false≢true}
 use Rattle.std.proofs.lemmas.List.{map-append}
 use Rattle.std.proofs.Math.Nat.{le-max_left, le-max_right}
 use Rattle.plant_base.specs.State.{State, same, put, id_cmp, lot_order, place_order, lot_at, place_at}
@@ -13,7 +12,7 @@ use Rattle.plant_base.specs.declared.rows.Lot.{Lot}
 use Rattle.plant_base.specs.declared.rows.Place.{Place}
 use Rattle.plant_base.specs.declared.rows.Movement.{Movement}
 use Rattle.plant_base.proofs.Put.{all_weaker, all_put}
-use Rattle.plant_base.proofs.Keys.{same_id, same_key, same_itself, key_itself, same_key_tie, test_tie, place_order_total, place_tie}
+use Rattle.plant_base.proofs.Keys.{same_id, same_itself, key_itself, same_key_tie, test_tie, place_order_total, place_tie}
 use Rattle.plant_stock.specs.Stock.{goes_to, is_place}
 use Rattle.plant_view.specs.Sound.{IsSound, IsThere}
 use Rattle.plant_view.proofs.KeptSound.{all_two}

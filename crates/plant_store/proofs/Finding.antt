@@ -1,0 +1,34 @@
+-- What rows that were read and break no rule stand for.
+use Rattle.std.proofs.Common.{◌≡◌, ◌∙◌, Some, Result, Ok, Err, IfOk, sym, ap, None, IsTrue}
+use Rattle.sqlite.specs.State as store
+use Rattle.plant_base.specs.State.{State, newest_schema}
+use Rattle.plant_view.specs.Tables.{tables_of}
+use Rattle.plant_ledger.specs.Good.{IsGood}
+use Rattle.plant_loaded.specs.Loading.{AreLoaded, AreRising}
+use Rattle.plant_loaded.specs.declared.loaded.Loaded.{Loaded}
+use Rattle.plant_forms.specs.declared.fault.Fault.{Fault}
+use Rattle.plant_rows.specs.Collecting.{Rows, rows_from, rows_in, rows_listed}
+use Rattle.plant_rows.specs.declared.desk_rows.DeskRows.{DeskRows}
+use Rattle.plant_rows.proofs.WholeLemmas.{same_tables}
+use Rattle.plant_check.specs.Broken.{first_broken_of}
+use Rattle.plant_desk.proofs.Plain.{plain, plain_tables}
+use Rattle.plant_store.specs.Reading.{state_in}
+use Rattle.plant_store.specs.Standing.{StandsAt}
+use Rattle.plant_store.proofs.Laws.{unbroken_good, read_good}
+
+pub good_of : (x : Loaded) (r : Result DeskRows Fault) → AreRising x → IfOk r (λ rows. rows_from x ≡ Some (rows_listed rows)) → IfOk r (λ rows. first_broken_of (rows_listed rows) ≡ None)
+    → IfOk r (λ rows. IsGood (state_in (rows_listed rows)))
+good_of x (Err f) rising from unbroken = tt
+good_of x (Ok rows) rising from unbroken = unbroken_good x (rows_listed rows) rising from unbroken
+
+-- the state of the rows of a state's tables
+state_again : (s : State) → state_in (rows_in (tables_of newest_schema s)) ≡ s
+state_again s = ap plain (same_tables (tables_of newest_schema s)) ∙ plain_tables s
+
+pub found_of : (c : store.State) (s : State) (x : Loaded) (r : Result DeskRows Fault) → IsTrue c.is_open → StandsAt c s → AreLoaded c.now x → IfOk r (λ rows. rows_from x ≡ Some (rows_listed rows))
+    → IfOk r (λ rows. state_in (rows_listed rows) ≡ s)
+found_of c s x (Err f) live stands loaded from = tt
+found_of c s x (Ok rows) live stands loaded from =
+    let again = (read_good c.now s x stands.good (stands.shows live).holds loaded).0 in
+    let same : rows_listed rows ≡ rows_in (tables_of newest_schema s) = (let both = sym from ∙ again in cc) in
+    ap state_in same ∙ state_again s

@@ -1,0 +1,4 @@
+pub mod Finding
+pub mod Laws
+pub mod Resting
+pub mod Stepping

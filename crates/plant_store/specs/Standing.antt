@@ -1,0 +1,44 @@
+-- Where the store of a desk stands, and what a stop leaves of it, in states of the desk.
+use Rattle.std.specs.Prelude.{◌≡◌, ◌⊎◌, Bool, false, Result, Ok, Err, IsTrue}
+use Rattle.sqlite.specs.Tree.{Trees}
+use Rattle.sqlite.specs.Schema.{Schema}
+use Rattle.sqlite.specs.State as store
+use Rattle.plant_base.specs.State.{State, newest_schema}
+use Rattle.plant_base.specs.declared.command.Envelope.{Envelope}
+use Rattle.plant_view.specs.Tables.{tables_of}
+use Rattle.plant_rules.specs.Step.{step}
+use Rattle.plant_ledger.specs.Good.{IsGood}
+use Rattle.plant_tables.specs.DeskStopping.{IsAt}
+use Rattle.plant_tables.specs.Keyed.{HoldsTables}
+use Rattle.plant_desk.specs.Keeping.{States}
+use Rattle.plant_desk.specs.Replies.{reply}
+use Rattle.plant_desk.specs.declared.reply.Reply.{Reply}
+use Rattle.plant_desk.specs.declared.reply.DeskFault.{DeskFault}
+use Rattle.plant_desk.specs.declared.reply.DeskFault.TheVariants.{Store, Memory, Shut}
+
+-- The state is good, and the store, where it is open, shows its tables.
+pub record StandsAt (c : store.State) (s : State) : Type 0 where
+  pub good : IsGood s
+  pub shows : IsTrue c.is_open → IsAt c (tables_of newest_schema s)
+
+-- What an opening of these trees finds are the tables of this state.
+pub record FindsState (trees : Trees) (s : State) : Type 0 where
+  pub schema : Schema
+  pub holds : HoldsTables (record { schema = schema; trees = trees }) (tables_of newest_schema s)
+
+-- A stop leaves something, and whatever it leaves are the tables of one of these states.
+pub record Leaves (c : store.State) (states : States) : Type 0 where
+  pub something : ∥ ((db : Trees) × c.may_leave db) ∥₁
+  pub nothing_else : (db : Trees) → c.may_leave db → (s : State) × states s × FindsState db s
+
+-- The store stands at the state, and a stop leaves that alone.
+pub record IsOpenAt (c : store.State) (s : State) : Type 0 where
+  pub stands : StandsAt c s
+  pub leaves : Leaves c (λ u. u ≡ s)
+
+-- what comes of a command over a store that stood at s
+abbrev pub Executed : State → store.State → Envelope → Result Reply DeskFault → Type 0
+Executed s new e (Ok r) = (r ≡ reply s e) × IsOpenAt new (step s e)
+Executed s new e (Err Store) = StandsAt new s × Leaves new (λ u. (u ≡ s) ⊎ (u ≡ step s e))
+Executed s new e (Err Memory) = IsOpenAt new s
+Executed s new e (Err Shut) = ⊥

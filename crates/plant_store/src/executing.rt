@@ -1,0 +1,72 @@
+//! Commands over a store.
+
+ghost use Rattle.std.specs.Prelude.{◌≡◌, ◌⊎◌, ◌+◌, ◌<◌, ◌^◌, false, true, None, IfOk, IfErr, OnOk, OnErr, IsTrue};
+ghost use Rattle.sqlite.specs.Held.{state};
+ghost use Rattle.sqlite.specs.State.{HasCleanDisk};
+ghost use Rattle.plant_base.specs.State.{State, newest_schema};
+ghost use Rattle.plant_view.specs.Tables.{tables_of, changed_all};
+ghost use Rattle.plant_tables.specs.Keyed.{AreFresh};
+ghost use Rattle.plant_fresh.specs.Freshness.{puts_one_batch};
+ghost use Rattle.plant_ledger.specs.Good.{IsGood};
+ghost use Rattle.plant_store.specs.Standing.{StandsAt, Leaves, IsOpenAt, Executed};
+
+use crate::deciding::{decide_in, read_lists};
+use plant_base::{ControlLine, Envelope, MasterLine, Movement, MovementKind, RecipeLine};
+use plant_desk::{DeskFault, Reply};
+use plant_fresh::puts_one_batch;
+use plant_tables::commit_changes;
+use plant_view::{Decision, RowChange};
+use sqlite::{Alter, Connection};
+use std::alloc::Global;
+
+/// Executes a command over a store in which no transaction is open: all tables are read, and what the command changes
+/// is written in one transaction.
+pub(crate) fn execute_on<S: Alter>(
+    alloc: Global,
+    connection: &mut Connection<S>,
+    envelope: &Envelope,
+) -> Result<Reply, DeskFault>
+    requires { (state S.Store connection.old).in_transaction ≡ false }
+    ensures mode { (state S.Store connection.new).in_transaction ≡ false }
+    ensures clean { HasCleanDisk (state S.Store connection.new) → HasCleanDisk (state S.Store connection.old) }
+    ensures executed { HasCleanDisk (state S.Store connection.new) → (s : State) → IsOpenAt (state S.Store connection.old) s → Executed s (state S.Store connection.new) envelope.now result }
+{
+    // The checker can't follow row changes, unless the function names these types.
+    let _: Option<(RecipeLine, MasterLine, ControlLine, Movement, MovementKind)> = None;
+    let mut lists = read_lists(alloc, connection)?;
+    let seq = lists.seq;
+    envelope.show_values();
+    match decide_in(alloc, &mut lists, envelope)? {
+        Decision::Refused(refusal) => Ok(Reply::Refused(refusal)),
+        Decision::Change(changes) => commit_on(connection, seq, changes.as_slice()),
+    }
+}
+
+/// Writes what a command changes, of which this many were accepted before it, in one transaction.
+fn commit_on<S: Alter>(
+    connection: &mut Connection<S>,
+    seq: u64,
+    changes: &[RowChange],
+) -> Result<Reply, DeskFault>
+    requires rest { (state S.Store connection.old).in_transaction ≡ false }
+    requires fits { seq + 1 < 2 ^ 64 }
+    ensures mode { (state S.Store connection.new).in_transaction ≡ false }
+    ensures clean { HasCleanDisk (state S.Store connection.new) → HasCleanDisk (state S.Store connection.old) }
+    ensures reply { IfOk result (λ r. r ≡ Reply.Accepted (seq + 1)) }
+    ensures fault { IfErr result (λ f. f ≡ DeskFault.Store) }
+    ensures accepted { HasCleanDisk (state S.Store connection.new) → (s next : State) → IsOpenAt (state S.Store connection.old) s → IsTrue (state S.Store connection.old).is_open → IsGood next
+        → changed_all changes.now (tables_of newest_schema s) ≡ tables_of newest_schema next → (puts_one_batch changes.now ≡ true → AreFresh changes.now (tables_of newest_schema s))
+        → OnOk result (IsOpenAt (state S.Store connection.new) next) }
+    ensures cut_short { HasCleanDisk (state S.Store connection.new) → (s next : State) → IsOpenAt (state S.Store connection.old) s → IsTrue (state S.Store connection.old).is_open → IsGood next
+        → changed_all changes.now (tables_of newest_schema s) ≡ tables_of newest_schema next → (puts_one_batch changes.now ≡ true → AreFresh changes.now (tables_of newest_schema s))
+        → OnErr result (StandsAt (state S.Store connection.new) s × Leaves (state S.Store connection.new) (λ u. (u ≡ s) ⊎ (u ≡ next))) }
+{
+    // No command puts two batches, so this is never answered.
+    if !puts_one_batch(changes) {
+        return Err(DeskFault::Store);
+    }
+    match commit_changes(connection, changes) {
+        Ok(()) => Ok(Reply::Accepted(seq + 1)),
+        Err(_) => Err(DeskFault::Store),
+    }
+}

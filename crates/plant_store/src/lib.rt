@@ -1,0 +1,7 @@
+//! The desk over its file: a keeper whose state stands in the tables of one store.
+#![tactic(auto)]
+
+mod deciding;
+mod executing;
+mod lists;
+mod reading;

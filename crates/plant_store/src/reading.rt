@@ -1,0 +1,62 @@
+//! What the tables of a store hold.
+
+ghost use Rattle.std.specs.Prelude.{◌≡◌, false, Some, None, IfOk, OnOk, IsTrue};
+ghost use Rattle.sqlite.specs.Held.{state};
+ghost use Rattle.sqlite.specs.State.{HasCleanDisk, Survives};
+ghost use Rattle.plant_base.specs.State.{State};
+ghost use Rattle.plant_forms.specs.Resting.{Keeps};
+ghost use Rattle.plant_ledger.specs.Good.{IsGood};
+ghost use Rattle.plant_rows.specs.Collecting.{rows_from, rows_listed};
+ghost use Rattle.plant_check.specs.Broken.{first_broken_of};
+ghost use Rattle.plant_store.specs.Reading.{state_in};
+ghost use Rattle.plant_store.specs.Standing.{StandsAt};
+
+use plant_base::NEWEST_SCHEMA;
+use plant_check::check_rows;
+use plant_forms::Fault;
+use plant_loaded::Loaded;
+use plant_rows::{DeskRows, rows_of};
+use sqlite::{Alter, Connection};
+use std::alloc::Global;
+
+/// The rows of all tables, where they are those of a desk. Store where they aren't, and where the store fails; Memory
+/// where there is none. Nothing is changed.
+pub(crate) fn read_rows<S: Alter>(
+    alloc: Global,
+    connection: &mut Connection<S>,
+) -> Result<DeskRows, Fault>
+    ensures good { IfOk result (λ rows. IsGood (state_in (rows_listed rows))) }
+    ensures found { HasCleanDisk (state S.Store connection.new) → (s : State) → StandsAt (state S.Store connection.old) s → IfOk result (λ rows. state_in (rows_listed rows) ≡ s) }
+    ensures live { HasCleanDisk (state S.Store connection.new) → OnOk result (IsTrue (state S.Store connection.new).is_open) }
+    ensures kept { HasCleanDisk (state S.Store connection.new) → Keeps (state S.Store connection.old) (state S.Store connection.new) }
+    ensures mode { (state S.Store connection.old).in_transaction ≡ false → (state S.Store connection.new).in_transaction ≡ false }
+    ensures crash { Survives (state S.Store connection.old) (state S.Store connection.new) (λ _. ⊥) }
+{
+    match Loaded::read(alloc, connection, NEWEST_SCHEMA as i64)? {
+        None => Err(Fault::Store),
+        Some(loaded) => checked(alloc, &loaded),
+    }
+}
+
+// The rows that were loaded, where they break no rule.
+fn checked(alloc: Global, loaded: &Loaded) -> Result<DeskRows, Fault>
+    ensures rows { IfOk result (λ rows. rows_from loaded.now ≡ Some (rows_listed rows)) }
+    ensures unbroken { IfOk result (λ rows. first_broken_of (rows_listed rows) ≡ None) }
+{
+    match rows_of(alloc, loaded) {
+        Err(_) => Err(Fault::Memory),
+        Ok(None) => Err(Fault::Store),
+        Ok(Some(rows)) => unbroken(alloc, rows),
+    }
+}
+
+fn unbroken(alloc: Global, rows: DeskRows) -> Result<DeskRows, Fault>
+    ensures same { IfOk result (λ r. r ≡ rows) }
+    ensures unbroken { IfOk result (λ r. first_broken_of (rows_listed r) ≡ None) }
+{
+    match check_rows(alloc, &rows) {
+        Err(_) => Err(Fault::Memory),
+        Ok(Some(_)) => Err(Fault::Store),
+        Ok(None) => Ok(rows),
+    }
+}

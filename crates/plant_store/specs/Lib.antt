@@ -1,2 +1,4 @@
 pub mod Reading
+pub mod Running
 pub mod Standing
+pub mod Adopting

@@ -36,6 +36,10 @@ pub record IsOpenAt (c : store.State) (s : State) : Type 0 where
   pub stands : StandsAt c s
   pub leaves : Leaves c (λ u. u ≡ s)
 
+-- A desk over the store stands at the state: a stop of one that isn't shut leaves that alone.
+abbrev pub Stands : store.State → Bool → States
+Stands c shut s = StandsAt c s × (shut ≡ false → Leaves c (λ u. u ≡ s))
+
 -- what comes of a command over a store that stood at s
 abbrev pub Executed : State → store.State → Envelope → Result Reply DeskFault → Type 0
 Executed s new e (Ok r) = (r ≡ reply s e) × IsOpenAt new (step s e)

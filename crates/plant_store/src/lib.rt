@@ -1,11 +1,14 @@
 //! The desk over its file: a keeper whose state stands in the tables of one store.
 #![tactic(auto)]
 
+mod adopting;
 mod asking;
 mod deciding;
 mod executing;
 mod lists;
 mod reading;
+mod running;
 mod stored;
 
+pub use adopting::{AdoptFault, AdoptRefused};
 pub use stored::Desk;

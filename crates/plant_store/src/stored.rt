@@ -3,8 +3,9 @@ ghost use Rattle.plant_desk.specs.Keeping.{shuts};
 
 use crate::asking::ask_on;
 use crate::executing::execute_on;
-use plant_base::Envelope;
-use plant_desk::{Answer, DeskFault, Keeper, Question, Reply};
+use crate::running::run_over;
+use plant_base::{Envelope, Items};
+use plant_desk::{Answer, DeskFault, Keeper, Question, Reply, RunReport};
 use sqlite::{Alter, Connection};
 use std::alloc::Global;
 
@@ -20,6 +21,35 @@ pub struct Desk<S: Alter> {
 }
 
 impl<S: Alter> Desk<S> {
+    ghost use Rattle.std.specs.Prelude.{◌≡◌, ◌≤◌, [], true, false, Some, length, take};
+    ghost use Rattle.sqlite.specs.Held.{state};
+    ghost use Rattle.sqlite.specs.State.{HasCleanDisk};
+    ghost use Rattle.plant_base.specs.State.{State};
+    ghost use Rattle.plant_desk.specs.Runs.{fold};
+    ghost use Rattle.plant_trace.specs.Reach.{IsAcyclic};
+    ghost use Rattle.plant_view.specs.Conserve.{IsConserved, IsBalanced};
+    ghost use Rattle.plant_view.specs.Genealogy.{edges_of};
+    ghost use Rattle.plant_store.specs.Standing.{Leaves, Stands};
+    ghost use Rattle.plant_store.specs.Running.{Ran};
+
+    /// Executes commands in order, up to the first fault. Room for the replies is taken first; where it is refused,
+    /// nothing is executed. A desk that is shut gives no replies, and ends `Shut`.
+    pub fn run(&mut self, list: &[Envelope]) -> RunReport
+        ensures honest { HasCleanDisk (state S.Store self.new.connection) → HasCleanDisk (state S.Store self.old.connection) }
+        ensures within { length result.replies ≤ length list.now }
+        ensures ran { HasCleanDisk (state S.Store self.new.connection) → self.old.is_shut ≡ false → (s : State) → Stands (state S.Store self.old.connection) self.old.is_shut s
+            → Ran s list.now result.replies result.end (Stands (state S.Store self.new.connection) self.new.is_shut) (Leaves (state S.Store self.new.connection)) self.new.is_shut }
+        ensures shut { self.old.is_shut ≡ true → (result.replies ≡ []) × (result.end ≡ Some DeskFault.Shut) }
+    {
+        if self.is_shut {
+            return RunReport {
+                replies: Items::new(Vec::new(self.alloc)),
+                end: Some(DeskFault::Shut),
+            };
+        }
+        run_over(self.alloc, self, list)
+    }
+
     /// Gives the store back. No memory is taken.
     pub fn close(self) -> Connection<S>
         ensures { result ≡ self.connection }
@@ -41,11 +71,11 @@ impl<S: Alter> Keeper for Desk<S> {
     ghost use Rattle.sqlite.specs.Held.{state};
     ghost use Rattle.sqlite.specs.State.{HasCleanDisk};
     ghost use Rattle.plant_base.specs.State.{newest_schema};
-    ghost use Rattle.plant_store.specs.Standing.{StandsAt, Leaves};
+    ghost use Rattle.plant_store.specs.Standing.{Stands, Leaves};
 
     ghost honest = { λ d. HasCleanDisk (state S.Store d.connection) };
 
-    ghost stands = { λ d s. StandsAt (state S.Store d.connection) s × (d.is_shut ≡ false → Leaves (state S.Store d.connection) (λ u. u ≡ s)) };
+    ghost stands = { λ d. Stands (state S.Store d.connection) d.is_shut };
 
     ghost schema = { λ _. newest_schema };
 

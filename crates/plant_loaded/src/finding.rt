@@ -5,7 +5,7 @@ ghost use Rattle.std.specs.List.{list_any};
 ghost use Rattle.sqlite.specs.Does.{lacks_sequence};
 ghost use Rattle.sqlite.specs.Held.{state};
 ghost use Rattle.sqlite.specs.Rows.{sequence};
-ghost use Rattle.sqlite.specs.State.{HasCleanDisk, IsLive, Survives};
+ghost use Rattle.sqlite.specs.State.{HasCleanDisk, IsLive, IsUnchanged, Survives};
 ghost use Rattle.plant_forms.specs.Resting.{Keeps};
 ghost use Rattle.plant_forms.specs.Standing.{AreFree};
 ghost use Rattle.plant_tables.specs.DeskForms.{desk_forms};
@@ -60,6 +60,7 @@ fn version_in(list: &[StoredMeta]) -> Option<i64>
 fn version<S: Alter>(alloc: Global, conn: &mut Connection<S>) -> Result<Option<i64>, Fault>
     ensures some { HasCleanDisk (state S.Store conn.new) → IfOk result (λ found. IfSome found (IsVersion (state S.Store conn.old).now)) }
     ensures none { HasCleanDisk (state S.Store conn.new) → IfOk result (λ found. found ≡ None → (n : ℤ) → ¬ IsVersion (state S.Store conn.old).now n) }
+    ensures same { HasCleanDisk (state S.Store conn.new) → IfOk result (λ found. IfSome found (λ _. IsUnchanged (state S.Store conn.old) (state S.Store conn.new))) }
     ensures kept { HasCleanDisk (state S.Store conn.new) → Keeps (state S.Store conn.old) (state S.Store conn.new) }
     ensures mode { (state S.Store conn.old).in_transaction ≡ false → (state S.Store conn.new).in_transaction ≡ false }
     ensures crash { Survives (state S.Store conn.old) (state S.Store conn.new) (λ _. ⊥) }
@@ -102,6 +103,8 @@ pub fn found<S: Alter>(alloc: Global, conn: &mut Connection<S>) -> Result<FoundT
     ensures nothing { IfOk result (λ found. (found ≡ FoundTables.Nothing) ↔ AreFree desk_forms (state S.Store conn.old).now.schema) }
     ensures version { HasCleanDisk (state S.Store conn.new) → IfOk result (λ found. (n : ℤ) → (found ≡ FoundTables.Version n) ↔ IsVersion (state S.Store conn.old).now n) }
     ensures live { IsLive (state S.Store conn.old) }
+    ensures untouched { IfOk result (λ found. found ≡ FoundTables.Nothing → conn.new ≡ conn.old) }
+    ensures same { HasCleanDisk (state S.Store conn.new) → IfOk result (λ found. (n : ℤ) → found ≡ FoundTables.Version n → IsUnchanged (state S.Store conn.old) (state S.Store conn.new)) }
     ensures kept { HasCleanDisk (state S.Store conn.new) → Keeps (state S.Store conn.old) (state S.Store conn.new) }
     ensures mode { (state S.Store conn.old).in_transaction ≡ false → (state S.Store conn.new).in_transaction ≡ false }
     ensures crash { Survives (state S.Store conn.old) (state S.Store conn.new) (λ _. ⊥) }

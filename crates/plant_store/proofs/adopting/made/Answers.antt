@@ -1,0 +1,12 @@
+use Rattle.sqlite.specs.Held.{state}
+use Rattle.plant_base.specs.State.{opening}
+use Rattle.plant_ledger.proofs.StepGood.{opening_good}
+use Rattle.plant_forms.proofs.Ending.{IsStore}
+use Rattle.plant_store.proofs.Resting.{open_at}
+use Rattle.plant_store.proofs.adopting.made.Goals as goal
+
+pub returns-in-Ok-clause-opening : goal.returns-in-Ok-clause-opening
+returns-in-Ok-clause-opening g c clean settled sound free =
+    let end = c.commit_opening.new.conn in
+    let store : IsStore (state g.S.Store end) = record { settled = g.met.S.Store.settled end.store; stays = g.met.S.Store.stays end.store; something = g.met.S.Store.survives end.store } in
+    open_at (state g.S.Store end) opening opening_good (c.in-Ok.ensures.made clean settled sound free).0 clean store

@@ -1,0 +1,5 @@
+use Rattle.plant_good.proofs.Values.{in_order, good_values}
+use Rattle.plant_good.proofs.laws.good_laws.Goals as goal
+
+pub returns : goal.returns
+returns c = record { in_order = in_order; values = good_values }

@@ -1,2 +1,6 @@
+mod Batches
+mod Events
+mod Orders
+mod Recipes
 mod Testing
 mod Values

@@ -1,14 +1,20 @@
 -- Tests that each element passes, and elements that are apart.
-use Rattle.std.proofs.Common.{◌≡◌, ◌∙◌, ℕ, Bool, true, false, cond, List, [], ◌∷◌, Option, Some, None, map, filter, find, is_some, length, refl, sym, ap}
+use Rattle.std.proofs.Common.{◌≡◌, ◌∙◌, ℕ, ◌+◌, Bool, true, false, cond, List, [], ◌∷◌, Option, Some, None, map, filter, find, is_some, length, refl, sym, ap}
 use Rattle.std.specs.Prelude.{◌&&◌}
 use Rattle.std.specs.List.{AllByRecursion, list_any, list_all}
 use Rattle.std.specs.List.Sorted.{IsStrictlySortedBy}
 use Rattle.std.specs.declared.cmp.Ordering.{Ordering}
 use Rattle.std.specs.declared.cmp.Ordering.TheVariants.{Less}
+use Rattle.std.specs.Ordering.{is_eq}
+use Rattle.std.proofs.lemmas.Bool.{eq-eqb}
+use Rattle.std.proofs.lemmas.Cmp.{nat_list_eq_equiv}
+use Rattle.plant_base.specs.State.{same, id_cmp}
 use Rattle.plant_base.proofs.Put.{all_weaker}
 use Rattle.plant_view.proofs.KeptSound.{all_two}
 use Rattle.plant_view.proofs.Rows.{none_left}
-use Rattle.plant_plan_rules.proofs.Keying.{found_any}
+use Rattle.plant_view.specs.Rows.{numbered}
+use Rattle.plant_plan_rules.specs.Recipes.{are_numbered}
+use Rattle.plant_plan_rules.proofs.Keying.{found_any, ids_tie}
 
 pub both_pass : (a b : Bool) → a ≡ true → b ≡ true → (a && b) ≡ true
 both_pass a b e f = ap (λ x. x && b) e ∙ f
@@ -59,3 +65,20 @@ module _ {X : Type 0} (has_key_of : X → X → Bool) where
   unfolding IsStrictlySortedBy
   apart_sorted order h [] sorted = tt
   apart_sorted order h (x ∷ xs) sorted = (all_weaker _ _ (λ y less. h x y less) xs sorted.0, apart_sorted order h xs sorted.1)
+
+  -- and the one that is found by it
+  pub one_found : ((x : X) → has_key_of x x ≡ true) → (xs : List X) → AreApart xs → AllByRecursion (λ x. find (has_key_of x) xs ≡ Some x) xs
+  one_found own xs apart = all_weaker _ _ (λ x left. found_left (has_key_of x) xs x [] left) xs (one_left own xs apart)
+
+-- ids in their order are two
+pub ids_apart : (a b : List ℕ) → id_cmp a b ≡ Less → (same a b ≡ false) × (same b a ≡ false)
+ids_apart a b less =
+    let apart : same a b ≡ false = sym (ids_tie a b) ∙ ap is_eq less in
+    (apart, nat_list_eq_equiv.symm b a ∙ apart)
+
+-- ---- rows that are numbered
+
+module _ {L R : Type 0} (f : ℕ → L → R) (number_of : R → ℕ) (is_numbered : (k : ℕ) (l : L) → number_of (f k l) ≡ k) where
+  pub numbers_pass : (k : ℕ) (ls : List L) → are_numbered k (map number_of (numbered f k ls)) ≡ true
+  numbers_pass k [] = refl
+  numbers_pass k (l ∷ ls) = both_pass _ _ (eq-eqb (number_of (f k l)) k (is_numbered k l)) (numbers_pass (k + 1) ls)

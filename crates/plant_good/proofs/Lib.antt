@@ -1,6 +1,11 @@
 mod Batches
+mod Descent
 mod Events
+mod Lots
+mod Movements
 mod Orders
 mod Recipes
+mod Stocks
 mod Testing
+mod Times
 mod Values

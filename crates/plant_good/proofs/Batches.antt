@@ -1,9 +1,8 @@
 -- Batches of a sound state keep their rule.
-use Rattle.std.proofs.Common.{◌≡◌, ◌∙◌, ℕ, Bool, true, false, List, [], ◌∷◌, map, filter, length, Option, Some, None, is_some, option_map, refl, sym, ap}
+use Rattle.std.proofs.Common.{◌≡◌, ◌∙◌, ℕ, Bool, true, false, List, [], ◌∷◌, map, filter, length, Option, Some, None, option_map, refl, sym, ap}
 use Rattle.std.specs.Prelude.{◌&&◌, ◌==◌, cond}
 use Rattle.std.specs.List.{AllByRecursion}
 use Rattle.std.specs.List.Sorted.{IsStrictlySortedBy}
-use Rattle.std.specs.Cmp.Lexicographic.{pointwise}
 use Rattle.std.specs.declared.cmp.Ordering.TheVariants.{Less}
 use Rattle.std.proofs.lemmas.Bool.{false≢true, eq-eqb}
 use Rattle.std.proofs.lemmas.Cmp.{lists_equiv, nat_list_eq_equiv}
@@ -99,7 +98,7 @@ module _ (s : State) (sound : IsSound s) where
       let lines = map (λ (l : ControlLine). l.line) rows in
       let one = eq-eqb _ 1 (ap length (filter_mapped (λ (x : BatchRow). same x.batch.job b.job) row s.batches) ∙ length-map (filter (has_order_of b) s.batches) row ∙ ap length alone) in
       let counted : are_numbered 1 (map (λ (l : ControlLine). l.number) rows) ≡ true =
-          ap (λ (ls : List ControlLine). are_numbered 1 (map (λ (l : ControlLine). l.number) ls)) its.numbered ∙ numbers_pass (control_line b.id) (λ l. l.number) (λ k l. refl) 1 lines in
+      ap (λ (ls : List ControlLine). are_numbered 1 (map (λ (l : ControlLine). l.number) ls)) its.numbered ∙ numbers_pass (control_line b.id) (λ l. l.number) (λ k l. refl) 1 lines in
       both_pass _ _ (both_pass _ _ one counted) (ap (λ c. is_control c lines) (control_asked b.job lines its.scaled) ∙ (lists_equiv laws-law).refl lines)
 
   pub batches_pass : are_batches s.recipes s.master_lines s.jobs (map row s.batches) s.control_lines ≡ true

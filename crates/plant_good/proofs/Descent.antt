@@ -1,8 +1,6 @@
 -- The rows that book movements tell these movements, and what a sound state's tell of descent keeps its rule.
-use Rattle.std.proofs.Common.{◌≡◌, ◌∙◌, Bool, true, List, map, refl, sym, ap}
-use Rattle.std.specs.List.{filter_map, list_all}
+use Rattle.std.proofs.Common.{◌≡◌, true, map, refl, sym, ap}
 use Rattle.plant_base.specs.State.{State, newest_schema}
-use Rattle.plant_base.specs.declared.rows.Movement.{Movement}
 use Rattle.plant_view.specs.Genealogy.{edges_among}
 use Rattle.plant_view.specs.Sound.{IsSound}
 use Rattle.plant_view.specs.Tables.{Tables, tables_of}

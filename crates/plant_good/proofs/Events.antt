@@ -1,7 +1,6 @@
 -- What happened to batches of a sound state keeps its rule.
-use Rattle.std.proofs.Common.{◌≡◌, ◌∙◌, ℕ, Bool, true, false, List, map, Option, Some, None, is_some, Result, Ok, Err, refl, sym, ap}
-use Rattle.std.specs.Prelude.{◌&&◌, IsOk}
-use Rattle.std.specs.List.{AllByRecursion, list_any}
+use Rattle.std.proofs.Common.{◌≡◌, ◌∙◌, ℕ, true, List, map, Result, Ok, Err, refl, ap}
+use Rattle.std.specs.Prelude.{IsOk}
 use Rattle.std.specs.Result.{result_ok}
 use Rattle.plant_base.specs.State.{State, same}
 use Rattle.plant_base.specs.declared.refusal.Refusal.{Refusal}

@@ -3,9 +3,11 @@ mod Descent
 mod Events
 mod Lots
 mod Movements
+mod Numbers
 mod Orders
 mod Recipes
 mod Stocks
 mod Testing
 mod Times
+mod Unbroken
 mod Values

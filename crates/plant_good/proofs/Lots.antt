@@ -1,13 +1,12 @@
 -- The lots of a good state, their sublots and their holds keep their rule.
-use Rattle.std.proofs.Common.{◌≡◌, ◌∙◌, ℕ, ◌+◌, ◌≤◌, Bool, true, false, cond, List, [], ◌∷◌, map, filter, length, is_some, refl, sym, ap, subst, arith}
-use Rattle.std.specs.Prelude.{◌==◌, ◌&&◌, nat_le}
+use Rattle.std.proofs.Common.{◌≡◌, ◌∙◌, ℕ, ◌+◌, ◌≤◌, Bool, true, false, cond, List, [], ◌∷◌, map, filter, length, refl, sym, ap, subst, arith}
+use Rattle.std.specs.Prelude.{◌==◌}
 use Rattle.std.specs.List.{AllByRecursion}
 use Rattle.std.proofs.lemmas.Bool.{false≢true, eq-eqb, eqb-true, le-leb}
 use Rattle.std.proofs.lemmas.Bool.Decides.{nat_tests}
 use Rattle.std.proofs.lemmas.Simd.{map-map}
 use Rattle.plant_base.specs.State.{State, same}
 use Rattle.plant_base.specs.Values.{greatest_amount}
-use Rattle.plant_base.specs.declared.rows.Definition.{Definition}
 use Rattle.plant_base.specs.declared.rows.Hold.{Hold}
 use Rattle.plant_base.specs.declared.rows.Lot.{Lot}
 use Rattle.plant_base.specs.declared.rows.Movement.{Movement}
@@ -28,7 +27,7 @@ use Rattle.plant_ledger.specs.Good.{IsGood}
 use Rattle.plant_rows.specs.Booked.{booked_of, sort_of}
 use Rattle.plant_rows.specs.declared.booked.BookedRow.{BookedRow}
 use Rattle.plant_check.specs.Ends.{entries, total_of}
-use Rattle.plant_check.specs.Lots.{are_from_zero, sublots_among, is_right_lot, is_division, are_of_one_sort, is_of_one_birth, is_birth, is_one_division, is_born, is_lot_among, is_right_sublot, are_in_lots, are_lots}
+use Rattle.plant_check.specs.Lots.{are_from_zero, sublots_among, is_right_lot, is_division, are_of_one_sort, is_of_one_birth, is_birth, is_one_division, is_born, is_lot_among, is_right_sublot, are_lots}
 use Rattle.plant_good.proofs.Testing.{both_pass, all_pass, any_found, filter_mapped}
 use Rattle.plant_good.proofs.Stocks.{entries_booked, total_entered}
 
@@ -89,8 +88,8 @@ module _ (s : State) (good : IsGood s) where
   lot_passes l defined numbered =
       let own = λ (p : Place). same p.lot l.id in
       let numbers : map (λ (r : Sublot). r.number) (sublots_among sublots l.id) ≡ kept.numbers_among s.places l.id =
-          ap (map (λ (r : Sublot). r.number)) (filter_mapped (λ (r : Sublot). same r.lot l.id) (sublot_row s.movements) s.places)
-          ∙ map-map (λ (r : Sublot). r.number) (sublot_row s.movements) (filter own s.places) in
+      ap (map (λ (r : Sublot). r.number)) (filter_mapped (λ (r : Sublot). same r.lot l.id) (sublot_row s.movements) s.places)
+      ∙ map-map (λ (r : Sublot). r.number) (sublot_row s.movements) (filter own s.places) in
       both_pass _ _ defined (ap are_from_zero numbers ∙ both_pass _ _ (le-leb 1 (length (kept.numbers_among s.places l.id)) numbered.0) (counted_pass 0 (kept.numbers_among s.places l.id) numbered.1))
 
   sublot_passes : (p : Place) → is_lot_among s.lots p.lot ≡ true → is_born rows (sublot_row s.movements p) ≡ true → is_right_sublot s.lots rows (sublot_row s.movements p) ≡ true

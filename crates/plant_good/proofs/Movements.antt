@@ -1,10 +1,9 @@
 -- The movements of a good state keep their rule.
-use Rattle.std.proofs.Common.{◌≡◌, ◌∙◌, ℕ, ◌≤◌, Bool, true, false, cond, List, [], ◌∷◌, map, filter, find, length, Option, Some, None, is_some, refl, sym, ap, subst, arith}
-use Rattle.std.specs.Prelude.{◌==◌, ◌&&◌, ◌||◌, not, nat_le, count_by}
+use Rattle.std.proofs.Common.{◌≡◌, ◌∙◌, ℕ, ◌≤◌, Bool, true, false, cond, List, [], ◌∷◌, map, filter, length, Option, Some, None, is_some, refl, sym, ap, arith}
+use Rattle.std.specs.Prelude.{◌==◌, ◌&&◌, ◌||◌, not}
 use Rattle.std.specs.List.{AllByRecursion, list_any}
 use Rattle.std.proofs.lemmas.Bool.{false≢true, le-leb}
 use Rattle.plant_base.specs.State.{State, same, lot_at}
-use Rattle.plant_base.specs.declared.rows.Batch.{Batch}
 use Rattle.plant_base.specs.declared.rows.BatchRow.{BatchRow}
 use Rattle.plant_base.specs.declared.rows.ControlLine.{ControlLine}
 use Rattle.plant_base.specs.declared.rows.Lot.{Lot}
@@ -13,11 +12,10 @@ use Rattle.plant_base.specs.declared.rows.MovementKind.{MovementKind}
 use Rattle.plant_base.specs.declared.rows.MovementKind.TheVariants as kind
 use Rattle.plant_base.specs.declared.rows.Place.{Place}
 use Rattle.plant_base.specs.declared.rows.Sublot.{Sublot}
-use Rattle.plant_base.proofs.Put.{all_weaker}
 use Rattle.plant_base.proofs.Keys.{same_itself}
 use Rattle.plant_stock.specs.Stock.{goes_to, comes_from}
 use Rattle.plant_view.specs.Conserve.{is_of_lot}
-use Rattle.plant_view.specs.Genealogy.{batch_by, IsBatchThere}
+use Rattle.plant_view.specs.Genealogy.{IsBatchThere}
 use Rattle.plant_view.specs.Production.{control_among}
 use Rattle.plant_view.specs.Sound.{IsThere, IsOneMaterial}
 use Rattle.plant_view.specs.Tables.{batch_row, sublot_row}
@@ -30,7 +28,7 @@ use Rattle.plant_rules.specs.Splitting.{def_of}
 use Rattle.plant_ledger.specs.Bookings.{booked, greatest_parts, is_one_source, AreDistinct}
 use Rattle.plant_ledger.specs.Keeping.{IsAsked}
 use Rattle.plant_ledger.specs.Good.{IsGood}
-use Rattle.plant_stock_rules.specs.Movements.{is_there, is_batch_there, names_known, lot_among, are_of_one, is_asked_for, is_yielded, is_of_right_definition, is_merged, parts_of, are_distinct, are_parts, is_of_right_merge, is_right_movement, are_movements}
+use Rattle.plant_stock_rules.specs.Movements.{is_there, is_batch_there, names_known, are_of_one, is_asked_for, is_yielded, is_of_right_definition, is_merged, parts_of, are_distinct, are_parts, is_right_movement, are_movements}
 use Rattle.plant_rows.specs.Booked.{movement_from, booked_of}
 use Rattle.plant_rows.specs.declared.booked.BookedRow.{BookedRow}
 use Rattle.plant_rows.proofs.KindLemmas.{movement_again}

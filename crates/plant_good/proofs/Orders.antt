@@ -1,5 +1,5 @@
 -- Orders of a sound state keep their rule.
-use Rattle.std.proofs.Common.{◌≡◌, ◌∙◌, ℕ, Bool, true, false, List, map, find, Option, Some, None, is_some, option_map, refl, sym, ap}
+use Rattle.std.proofs.Common.{◌≡◌, ◌∙◌, ℕ, true, List, map, Option, Some, None, is_some, option_map, refl, sym, ap}
 use Rattle.std.specs.Prelude.{◌&&◌, ◌==◌, not}
 use Rattle.std.specs.List.{AllByRecursion}
 use Rattle.std.proofs.lemmas.Bool.{false≢true}
@@ -14,7 +14,7 @@ use Rattle.plant_base.specs.declared.states.JobState.{JobState}
 use Rattle.plant_base.specs.declared.states.JobState.TheVariants.{Open, Cancelled, Released, Finished}
 use Rattle.plant_base.proofs.Find.{found_passes, found_keeps}
 use Rattle.plant_base.proofs.Keys.{same_id, same_itself}
-use Rattle.plant_view.specs.Production.{headers_of, header_among, is_size_of_some, orders_of, batch_among, has_batch, job_among, is_finished, has_finished, IsSoundRun}
+use Rattle.plant_view.specs.Production.{headers_of, header_among, is_size_of_some, batch_among, has_batch, job_among, is_finished, has_finished, IsSoundRun}
 use Rattle.plant_view.specs.Sound.{IsSound}
 use Rattle.plant_view.specs.Tables.{batch_row}
 use Rattle.plant_view.proofs.KeptSound.{all_two}

@@ -1,7 +1,6 @@
 -- Classes and recipes of a sound state keep their rules.
-use Rattle.std.proofs.Common.{◌≡◌, ◌∙◌, ℕ, Bool, true, List, map, is_some, refl, sym, ap, subst}
+use Rattle.std.proofs.Common.{◌≡◌, ◌∙◌, true, List, map, is_some, refl, sym, ap}
 use Rattle.std.specs.Prelude.{◌&&◌, ◌==◌}
-use Rattle.std.specs.List.{AllByRecursion, list_any}
 use Rattle.plant_base.specs.State.{State, same}
 use Rattle.plant_base.specs.declared.rows.Class.{Class}
 use Rattle.plant_base.specs.declared.rows.Definition.{Definition}
@@ -27,7 +26,7 @@ module _ (s : State) (sound : IsSound s) where
   whole_passes r whole =
       let lines = lines_among s.master_lines r.header.recipe r.header.version in
       let counted : are_numbered 1 (map (λ (l : MasterLine). l.number) (rows_among s.master_lines r.header.recipe r.header.version)) ≡ true =
-          ap (λ (rows : List MasterLine). are_numbered 1 (map (λ (l : MasterLine). l.number) rows)) whole.numbered ∙ numbers_pass (master_line r.header) (λ l. l.number) (λ k l. refl) 1 lines in
+      ap (λ (rows : List MasterLine). are_numbered 1 (map (λ (l : MasterLine). l.number) rows)) whole.numbered ∙ numbers_pass (master_line r.header) (λ l. l.number) (λ k l. refl) 1 lines in
       both_pass _ _ (both_pass _ _ (both_pass _ _ whole.formed counted) whole.product) (all_pass (is_known s.definitions) lines whole.materials)
 
   recipe_there : (l : MasterLine) → is_some (header_among (headers_of s.recipes) l.recipe l.version) ≡ true → is_recipe_among s.recipes l.recipe l.version ≡ true

@@ -1,7 +1,6 @@
 -- The stocks of a sound state's sublots keep their rule.
-use Rattle.std.proofs.Common.{◌≡◌, ◌∙◌, ℕ, ◌+◌, ◌≤◌, Bool, true, false, cond, List, [], ◌∷◌, map, filter, Option, Some, None, refl, sym, ap, arith}
-use Rattle.std.specs.Prelude.{◌==◌, sum_by}
-use Rattle.std.specs.List.{AllByRecursion}
+use Rattle.std.proofs.Common.{◌≡◌, ◌∙◌, ℕ, ◌+◌, Bool, true, false, cond, List, [], ◌∷◌, map, filter, refl, sym, ap, arith}
+use Rattle.std.specs.Prelude.{sum_by}
 use Rattle.std.proofs.lemmas.Bool.{eq-eqb}
 use Rattle.std.proofs.lemmas.List.Sums.{sum_by-cons}
 use Rattle.plant_base.specs.State.{State}
@@ -16,7 +15,7 @@ use Rattle.plant_view.specs.Tables.{sublot_row}
 use Rattle.plant_view.proofs.Rows.{all_of, all_mapped}
 use Rattle.plant_view.proofs.Tests.{sum_map}
 use Rattle.plant_ledger.specs.Births as kept
-use Rattle.plant_rows.specs.Booked.{booked_of, sort_of, other_lot, other_sublot}
+use Rattle.plant_rows.specs.Booked.{booked_of, sort_of}
 use Rattle.plant_rows.specs.declared.booked.BookedRow.{BookedRow}
 use Rattle.plant_check.specs.Ends.{entered_by, left_by, entries, exits, total_of, has_right_stock, are_stocks}
 use Rattle.plant_good.proofs.Testing.{all_pass, filter_mapped}

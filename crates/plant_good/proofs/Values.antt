@@ -1,9 +1,8 @@
 -- The values of a good state's tables, and the order of their rows.
-use Rattle.std.proofs.Common.{◌≡◌, ◌∙◌, ℕ, ◌+◌, ◌<◌, ◌≤◌, Bool, true, false, List, [], ◌∷◌, Option, Some, None, is_some, map, filter, length, refl, sym, ap, subst, arith}
+use Rattle.std.proofs.Common.{◌≡◌, ◌∙◌, ℕ, ◌+◌, ◌≤◌, true, List, [], ◌∷◌, Option, Some, None, is_some, map, length, refl, sym, ap, subst, arith}
 use Rattle.std.specs.Prelude.{◌&&◌, ◌==◌, ◌^◌, nat_le}
 use Rattle.std.specs.List.{AllByRecursion}
 use Rattle.std.proofs.lemmas.Bool.{false≢true, le-leb, leb-true, eq-eqb}
-use Rattle.std.proofs.lemmas.Bool.Decides.{nat_tests}
 use Rattle.std.proofs.lemmas.List.{length-map}
 use Rattle.plant_base.specs.State.{State, same, newest_schema, batch_at}
 use Rattle.plant_base.specs.Values.{greatest_seq}
@@ -13,7 +12,6 @@ use Rattle.plant_base.specs.declared.rows.Recipe.{Recipe}
 use Rattle.plant_base.specs.declared.rows.MasterLine.{MasterLine}
 use Rattle.plant_base.specs.declared.rows.Job.{Job}
 use Rattle.plant_base.specs.declared.rows.Batch.{Batch}
-use Rattle.plant_base.specs.declared.rows.BatchRow.{BatchRow}
 use Rattle.plant_base.specs.declared.rows.ControlLine.{ControlLine}
 use Rattle.plant_base.specs.declared.rows.BatchEvent.{BatchEvent}
 use Rattle.plant_base.specs.declared.rows.Movement.{Movement}
@@ -36,7 +34,7 @@ use Rattle.plant_view.proofs.Rows.{all_mapped, all_unmapped}
 use Rattle.plant_view.proofs.Tests.{and_left, and_right}
 use Rattle.plant_production.proofs.ControlMade.{control_made}
 use Rattle.plant_ledger.specs.Valued as kept
-use Rattle.plant_ledger.specs.Bookings.{AreCounted, booked, IsBooking}
+use Rattle.plant_ledger.specs.Bookings.{AreCounted, booked}
 use Rattle.plant_ledger.specs.Columns.{HasProgressValues}
 use Rattle.plant_ledger.specs.Good.{IsGood}
 use Rattle.plant_ledger.proofs.KeptColumns.{columns}
@@ -44,7 +42,7 @@ use Rattle.plant_ledger.proofs.Listing.{all_swap, all_passing}
 use Rattle.plant_fresh.proofs.TableKeys.{keyed}
 use Rattle.plant_rows.specs.Reading.{is_in}
 use Rattle.plant_rows.specs.Collecting.{AreInOrder}
-use Rattle.plant_rows.specs.Obeying.{HasMetaValues, HasClassValues, HasDefinitionValues, HasRecipeValues, IsLineNumber, HasMasterLineValues, HasBatchRowValues, HasControlLineValues, HasPhase, HasEventValues, HasLotValues, HasSublotValues, HasKindValues, HasMovementValues, HasHoldValues, HasGoodValues}
+use Rattle.plant_rows.specs.Obeying.{HasClassValues, HasDefinitionValues, HasRecipeValues, IsLineNumber, HasMasterLineValues, HasBatchRowValues, HasControlLineValues, HasPhase, HasEventValues, HasLotValues, HasSublotValues, HasKindValues, HasMovementValues, HasHoldValues, HasGoodValues}
 use Rattle.plant_good.proofs.Testing.{both_pass}
 
 -- ---- order

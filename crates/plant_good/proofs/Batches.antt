@@ -4,7 +4,7 @@ use Rattle.std.specs.Prelude.{◌&&◌, ◌==◌, cond}
 use Rattle.std.specs.List.{AllByRecursion}
 use Rattle.std.specs.List.Sorted.{IsStrictlySortedBy}
 use Rattle.std.specs.declared.cmp.Ordering.TheVariants.{Less}
-use Rattle.std.proofs.lemmas.Bool.{false≢true, eq-eqb}
+use Rattle.std.proofs.lemmas.Bool.{false≢true, eq-eqb, and_from}
 use Rattle.std.proofs.lemmas.Cmp.{lists_equiv, nat_list_eq_equiv}
 use Rattle.std.proofs.lemmas.List.{length-map}
 use Rattle.plant_base.specs.State.{State, same, batch_order}
@@ -31,24 +31,23 @@ use Rattle.plant_view.proofs.Rows.{all_mapped, all_unmapped, find_mapped}
 use Rattle.plant_plan_rules.specs.Batches.{job_among, control_sized, control_for, control_from, control_by, is_control, is_batch_among, is_right_batch, are_batches}
 use Rattle.plant_plan_rules.specs.Orders.{recipe_among, is_size_of_recipe}
 use Rattle.plant_plan_rules.specs.Recipes.{are_numbered}
-use Rattle.plant_good.proofs.Testing.{both_pass, all_pass, filter_mapped, AreApart, one_left, ids_apart, numbers_pass}
+use Rattle.plant_good.proofs.Testing.{all_pass, filter_mapped, AreApart, one_left, ids_apart, numbers_pass}
 use Rattle.plant_good.proofs.Orders.{header_found, sizes_pass}
 use Rattle.plant_good.proofs.Events.{batch_there}
-
-some_alike : {X : Type 0} (x y : X) → Some x ≡ Some y → x ≡ y
-some_alike x y e = cc
 
 -- ---- one batch an order
 
 abbrev has_order_of : Batch → Batch → Bool
 has_order_of b x = same x.job b.job
 
+-- two batches that are each the first of their orders are of two orders
 orders_differ : (batches : List Batch) (a b : Batch) → batch_order a b ≡ Less → batch_among batches a.job ≡ Some a → batch_among batches b.job ≡ Some b → (has_order_of a b ≡ false) × (has_order_of b a ≡ false)
 orders_differ batches a b less first second = (nat_list_eq_equiv.symm b.job a.job ∙ apart, apart)
   where
     by : (z : Bool) → same a.job b.job ≡ z → z ≡ false
     by true e =
-        let both : a ≡ b = some_alike a b (sym first ∙ ap (batch_among batches) (same_id a.job b.job e) ∙ second) in
+        let found : Some a ≡ Some b = sym first ∙ ap (batch_among batches) (same_id a.job b.job e) ∙ second in
+        let both : a ≡ b = cc in
         absurd (false≢true (sym (ids_apart a.id b.id less).0 ∙ ap (λ (x : Batch). same a.id x.id) (sym both) ∙ same_itself a.id))
     by false e = refl
 
@@ -99,12 +98,12 @@ module _ (s : State) (sound : IsSound s) where
       let one = eq-eqb _ 1 (ap length (filter_mapped (λ (x : BatchRow). same x.batch.job b.job) row s.batches) ∙ length-map (filter (has_order_of b) s.batches) row ∙ ap length alone) in
       let counted : are_numbered 1 (map (λ (l : ControlLine). l.number) rows) ≡ true =
       ap (λ (ls : List ControlLine). are_numbered 1 (map (λ (l : ControlLine). l.number) ls)) its.numbered ∙ numbers_pass (control_line b.id) (λ l. l.number) (λ k l. refl) 1 lines in
-      both_pass _ _ (both_pass _ _ one counted) (ap (λ c. is_control c lines) (control_asked b.job lines its.scaled) ∙ (lists_equiv laws-law).refl lines)
+      and_from _ _ (and_from _ _ one counted) (ap (λ c. is_control c lines) (control_asked b.job lines its.scaled) ∙ (lists_equiv laws-law).refl lines)
 
   pub batches_pass : are_batches s.recipes s.master_lines s.jobs (map row s.batches) s.control_lines ≡ true
   batches_pass =
       let passes = λ (r : BatchRow). is_right_batch s.recipes s.master_lines s.jobs (map row s.batches) s.control_lines r in
       let alone = one_left has_order_of (λ b. same_itself b.job) s.batches (orders_apart s.batches s.batches sound.batches.sorted (all_weaker SoundBatch _ (λ b its. its.alone) s.batches sound.batches.each)) in
-      both_pass _ _
+      and_from _ _
       (all_pass passes (map row s.batches) (all_mapped (λ (r : BatchRow). passes r ≡ true) row s.batches (all_two SoundBatch _ _ batch_passes s.batches sound.batches.each alone)))
       (all_pass (λ (l : ControlLine). is_batch_among (map row s.batches) l.batch) s.control_lines (all_weaker _ _ (λ (l : ControlLine) there. batch_there s sound l.batch there) s.control_lines sound.batches.controlled))

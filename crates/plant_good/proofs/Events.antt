@@ -2,6 +2,7 @@
 use Rattle.std.proofs.Common.{◌≡◌, ◌∙◌, ℕ, true, List, map, Result, Ok, Err, refl, ap}
 use Rattle.std.specs.Prelude.{IsOk}
 use Rattle.std.specs.Result.{result_ok}
+use Rattle.std.proofs.lemmas.Bool.{and_from}
 use Rattle.plant_base.specs.State.{State, same}
 use Rattle.plant_base.specs.declared.refusal.Refusal.{Refusal}
 use Rattle.plant_base.specs.declared.rows.Batch.{Batch}
@@ -20,7 +21,7 @@ use Rattle.plant_view.proofs.Rows.{all_mapped}
 use Rattle.plant_view.proofs.Tests.{any_map}
 use Rattle.plant_plan_rules.specs.Batches.{is_batch_among}
 use Rattle.plant_plan_rules.specs.Events.{is_run, has_right_run, are_events}
-use Rattle.plant_good.proofs.Testing.{both_pass, all_pass, any_found}
+use Rattle.plant_good.proofs.Testing.{all_pass, any_found}
 
 -- a fold of events that were all allowed
 run_passes : (phases : ℕ) (events : List Event) → IsOk (run_of phases events) → is_run (run_of phases events) (progress_after phases events) ≡ true
@@ -40,7 +41,7 @@ module _ (s : State) (sound : IsSound s) where
 
   pub events_pass : are_events s.control_lines s.events (map row s.batches) ≡ true
   unfolding has_right_run
-  events_pass = both_pass _ _
+  events_pass = and_from _ _
       (all_pass (has_right_run s.control_lines s.events) (map row s.batches) (all_mapped (λ (r : BatchRow). has_right_run s.control_lines s.events r ≡ true) row s.batches
       (all_weaker _ _ (λ (b : Batch) run. run_passes (phases_among s.control_lines b.id) (events_among s.events b.id) run.allowed) s.batches sound.runs)))
       (all_pass (λ (e : BatchEvent). is_batch_among (map row s.batches) e.batch) s.events (all_weaker _ _ (λ (e : BatchEvent) there. batch_there e.batch there) s.events sound.batches.witnessed))

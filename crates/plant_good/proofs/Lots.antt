@@ -2,7 +2,7 @@
 use Rattle.std.proofs.Common.{◌≡◌, ◌∙◌, ℕ, ◌+◌, ◌≤◌, Bool, true, false, cond, List, [], ◌∷◌, map, filter, length, refl, sym, ap, subst, arith}
 use Rattle.std.specs.Prelude.{◌==◌}
 use Rattle.std.specs.List.{AllByRecursion}
-use Rattle.std.proofs.lemmas.Bool.{false≢true, eq-eqb, eqb-true, le-leb}
+use Rattle.std.proofs.lemmas.Bool.{false≢true, eq-eqb, eqb-true, le-leb, and_from}
 use Rattle.std.proofs.lemmas.Bool.Decides.{nat_tests}
 use Rattle.std.proofs.lemmas.Simd.{map-map}
 use Rattle.plant_base.specs.State.{State, same}
@@ -28,12 +28,13 @@ use Rattle.plant_rows.specs.Booked.{booked_of, sort_of}
 use Rattle.plant_rows.specs.declared.booked.BookedRow.{BookedRow}
 use Rattle.plant_check.specs.Ends.{entries, total_of}
 use Rattle.plant_check.specs.Lots.{are_from_zero, sublots_among, is_right_lot, is_division, are_of_one_sort, is_of_one_birth, is_birth, is_one_division, is_born, is_lot_among, is_right_sublot, are_lots}
-use Rattle.plant_good.proofs.Testing.{both_pass, all_pass, any_found, filter_mapped}
+use Rattle.plant_good.proofs.Testing.{all_pass, any_found, filter_mapped}
 use Rattle.plant_good.proofs.Stocks.{entries_booked, total_entered}
 
+-- numbers that count pass the test that they do
 counted_pass : (k : ℕ) (ns : List ℕ) → AreCounted k ns → are_numbered k ns ≡ true
 counted_pass k [] counted = refl
-counted_pass k (n ∷ ns) counted = both_pass (n == k) _ (eq-eqb n k counted.0) (counted_pass (k + 1) ns counted.1)
+counted_pass k (n ∷ ns) counted = and_from (n == k) _ (eq-eqb n k counted.0) (counted_pass (k + 1) ns counted.1)
 
 -- kinds of one birth are booked as one sort
 one_sort : (a b : MovementKind) → kept.are_one_birth a b ≡ true → are_of_one_sort (sort_of a) (sort_of b) ≡ true
@@ -43,19 +44,22 @@ one_sort (kind.Split a) (kind.Split b) e = refl
 one_sort (kind.Merged a) (kind.Merged b) e = refl
 one_sort _ _ e = absurd (false≢true e)
 
+-- and a division as one
 division_sort : (k : MovementKind) → stock.is_division k ≡ true → is_division (sort_of k) ≡ true
 division_sort (kind.Divided to) e = refl
 division_sort _ e = absurd (false≢true e)
 
+-- movements of one birth that bring no more than an amount
 birth_passes : (ms : List Movement) → kept.IsBirth ms → total_of (map booked_of ms) ≤ greatest_amount → is_birth (map booked_of ms) ≡ true
 birth_passes [] birth small = absurd birth
 birth_passes (m ∷ ms) birth small =
     let of_one = λ (r : BookedRow). is_of_one_birth (booked_of m) r in
-    both_pass _ _
+    and_from _ _
     (all_pass of_one (map booked_of (m ∷ ms)) (all_mapped (λ (r : BookedRow). of_one r ≡ true) booked_of (m ∷ ms)
-    (all_weaker _ _ (λ (x : Movement) one. both_pass _ _ (eq-eqb x.seq m.seq one.0) (one_sort m.kind x.kind one.1)) (m ∷ ms) birth)))
+    (all_weaker _ _ (λ (x : Movement) one. and_from _ _ (eq-eqb x.seq m.seq one.0) (one_sort m.kind x.kind one.1)) (m ∷ ms) birth)))
     (le-leb (total_of (map booked_of (m ∷ ms))) greatest_amount small)
 
+-- one division
 division_passes : (ms : List Movement) → kept.IsDivision ms → is_one_division (map booked_of ms) ≡ true
 division_passes [] division = absurd division
 division_passes (m ∷ []) division = division_sort m.kind division
@@ -90,11 +94,11 @@ module _ (s : State) (good : IsGood s) where
       let numbers : map (λ (r : Sublot). r.number) (sublots_among sublots l.id) ≡ kept.numbers_among s.places l.id =
       ap (map (λ (r : Sublot). r.number)) (filter_mapped (λ (r : Sublot). same r.lot l.id) (sublot_row s.movements) s.places)
       ∙ map-map (λ (r : Sublot). r.number) (sublot_row s.movements) (filter own s.places) in
-      both_pass _ _ defined (ap are_from_zero numbers ∙ both_pass _ _ (le-leb 1 (length (kept.numbers_among s.places l.id)) numbered.0) (counted_pass 0 (kept.numbers_among s.places l.id) numbered.1))
+      and_from _ _ defined (ap are_from_zero numbers ∙ and_from _ _ (le-leb 1 (length (kept.numbers_among s.places l.id)) numbered.0) (counted_pass 0 (kept.numbers_among s.places l.id) numbered.1))
 
   sublot_passes : (p : Place) → is_lot_among s.lots p.lot ≡ true → is_born rows (sublot_row s.movements p) ≡ true → is_right_sublot s.lots rows (sublot_row s.movements p) ≡ true
   unfolding is_right_sublot
-  sublot_passes p there born = both_pass _ _ there born
+  sublot_passes p there born = and_from _ _ there born
 
   sublots_pass : AllByRecursion (λ p. is_right_sublot s.lots rows (sublot_row s.movements p) ≡ true) s.places
   sublots_pass = all_two (λ (p : Place). is_lot_among s.lots p.lot ≡ true) _ _ sublot_passes s.places
@@ -105,8 +109,8 @@ module _ (s : State) (good : IsGood s) where
   holds_pass = all_weaker _ _ (λ (h : Hold) there. any_found (λ (l : Lot). same l.id h.lot) s.lots there) s.holds good.sound.placed
 
   pub lots_pass : are_lots s.definitions s.lots sublots s.holds rows ≡ true
-  lots_pass = both_pass _ _
+  lots_pass = and_from _ _
       (all_pass (is_right_lot s.definitions sublots) s.lots (all_two _ _ _ lot_passes s.lots good.sound.defined good.births.numbered))
-      (both_pass _ _
+      (and_from _ _
       (all_pass (is_right_sublot s.lots rows) sublots (all_mapped (λ (r : Sublot). is_right_sublot s.lots rows r ≡ true) (sublot_row s.movements) s.places sublots_pass))
       (all_pass (λ (h : Hold). is_lot_among s.lots h.lot) s.holds holds_pass))

@@ -1,8 +1,10 @@
 -- The movements of a good state keep their rule.
 use Rattle.std.proofs.Common.{◌≡◌, ◌∙◌, ℕ, ◌≤◌, Bool, true, false, cond, List, [], ◌∷◌, map, filter, length, Option, Some, None, is_some, refl, sym, ap, arith}
-use Rattle.std.specs.Prelude.{◌==◌, ◌&&◌, ◌||◌, not}
+use Rattle.std.specs.Prelude.{◌==◌, ◌&&◌, not}
+use Rattle.std.proofs.Math.Bool.{and_comm}
 use Rattle.std.specs.List.{AllByRecursion, list_any}
-use Rattle.std.proofs.lemmas.Bool.{false≢true, le-leb}
+use Rattle.std.proofs.lemmas.Bool.{false≢true, le-leb, and_from, or_right}
+use Rattle.std.proofs.lemmas.List.Sums.{length-filter, count_by-le-length}
 use Rattle.plant_base.specs.State.{State, same, lot_at}
 use Rattle.plant_base.specs.declared.rows.BatchRow.{BatchRow}
 use Rattle.plant_base.specs.declared.rows.ControlLine.{ControlLine}
@@ -33,7 +35,7 @@ use Rattle.plant_rows.specs.Booked.{movement_from, booked_of}
 use Rattle.plant_rows.specs.declared.booked.BookedRow.{BookedRow}
 use Rattle.plant_rows.proofs.KindLemmas.{movement_again}
 use Rattle.plant_check.specs.Broken.{are_whole}
-use Rattle.plant_good.proofs.Testing.{both_pass, all_pass, any_found}
+use Rattle.plant_good.proofs.Testing.{all_pass, none_any, any_found}
 use Rattle.plant_good.proofs.Events.{batch_there}
 
 -- the rows that book movements have the columns of their kinds
@@ -44,51 +46,31 @@ whole_pass ms =
 
 -- ---- parts of merges
 
-pub none_any : {X : Type 0} (test : X → Bool) (xs : List X) → AllByRecursion (λ x. test x ≡ false) xs → list_any test xs ≡ false
-none_any test [] a = refl
-none_any test (x ∷ xs) a = ap (λ b. b || list_any test xs) a.0 ∙ none_any test xs a.1
-
-no_longer : {X : Type 0} (test : X → Bool) (xs : List X) → length (filter test xs) ≤ length xs
-no_longer test [] = omega arith
-no_longer {X} test (x ∷ xs) =
-    let more = no_longer test xs in
-    elim (test x) as (λ b. length (cond b (x ∷ filter test xs) (filter test xs)) ≤ length (x ∷ xs)) [
-      | true ↦ omega (arith, more)
-      | false ↦ omega (arith, more)
-    ]
-
+-- what a filter leaves of distinct sources is distinct
 distinct_left : (test : Movement → Bool) (ms : List Movement) → AreDistinct ms → are_distinct (filter test ms) ≡ true
 distinct_left test [] distinct = refl
 distinct_left test (m ∷ ms) distinct =
     let more = distinct_left test ms distinct.1 in
     let first : list_any (is_one_source m) (filter test ms) ≡ false = none_any (is_one_source m) (filter test ms) (all_filtered (λ (x : Movement). is_one_source m x ≡ false) test ms distinct.0) in
     elim (test m) as (λ b. are_distinct (cond b (m ∷ filter test ms) (filter test ms)) ≡ true) [
-      | true ↦ both_pass _ _ (ap not first) more
+      | true ↦ and_from _ _ (ap not first) more
       | false ↦ more
     ]
-
-and_turned : (a b : Bool) → (a && b) ≡ (b && a)
-and_turned true true = refl
-and_turned true false = refl
-and_turned false true = refl
-and_turned false false = refl
-
-or_right : (a b : Bool) → b ≡ true → (a || b) ≡ true
-or_right true b e = refl
-or_right false b e = e
 
 -- the parts of a merge are among what one command booked
 parts_booked : (ms : List Movement) (seq : ℕ) → parts_of ms seq ≡ filter (λ m. is_merged m.kind) (booked ms seq)
 parts_booked ms seq =
-    (λ i. filter (λ (m : Movement). and_turned (is_merged m.kind) (m.seq == seq) i) ms)
+    (λ i. filter (λ (m : Movement). and_comm (is_merged m.kind) (m.seq == seq) i) ms)
     ∙ filter_both (λ (m : Movement). m.seq == seq) (λ (m : Movement). is_merged m.kind) ms
 
 -- ---- lots
 
+-- a lot that is there has the definition that a batch takes
 asked_passes : (lines : List ControlLine) (o : Option Lot) → is_some o ≡ true → is_taken lines (def_of o) ≡ true → is_asked_for lines o ≡ true
 asked_passes lines None there taken = absurd (false≢true there)
 asked_passes lines (Some l) there taken = taken
 
+-- or that it makes
 yielded_passes : (lines : List ControlLine) (o : Option Lot) → is_some o ≡ true → is_made lines (def_of o) ≡ true → is_yielded lines o ≡ true
 yielded_passes lines None there made = absurd (false≢true there)
 yielded_passes lines (Some l) there made = made
@@ -127,14 +109,14 @@ module _ (s : State) (good : IsGood s) where
   parts_pass seq =
       let booking = good.numbers.bookings seq in
       let merged = λ (m : Movement). is_merged m.kind in
-      let few : length (filter merged (booked s.movements seq)) ≤ greatest_parts = omega (arith, booking.few, no_longer merged (booked s.movements seq)) in
-      ap are_parts (parts_booked s.movements seq) ∙ both_pass _ _ (le-leb (length (filter merged (booked s.movements seq))) greatest_parts few) (distinct_left merged (booked s.movements seq) booking.distinct)
+      let few : length (filter merged (booked s.movements seq)) ≤ greatest_parts = omega (arith, booking.few, length-filter merged (booked s.movements seq), count_by-le-length merged (booked s.movements seq)) in
+      ap are_parts (parts_booked s.movements seq) ∙ and_from _ _ (le-leb (length (filter merged (booked s.movements seq))) greatest_parts few) (distinct_left merged (booked s.movements seq) booking.distinct)
 
   abbrev Names : Movement → Type 0
   Names m = IsThere s (goes_to m.kind m.lot m.sub) × IsThere s (comes_from m.kind m.lot m.sub)
 
   names_pass : AllByRecursion (λ m. names_known sublots batches m ≡ true) s.movements
-  names_pass = all_two Names _ _ (λ (m : Movement) named batched. both_pass _ _ (both_pass _ _ (place_there _ named.0) (place_there _ named.1)) (named_batch _ batched)) s.movements good.sound.named good.sound.genealogy.batched
+  names_pass = all_two Names _ _ (λ (m : Movement) named batched. and_from _ _ (and_from _ _ (place_there _ named.0) (place_there _ named.1)) (named_batch _ batched)) s.movements good.sound.named good.sound.genealogy.batched
 
   abbrev IsOf : Movement → Type 0
   IsOf m = IsOneMaterial s (goes_to m.kind m.lot m.sub) (comes_from m.kind m.lot m.sub) × IsAsked s.lots s.control_lines m.kind m.lot
@@ -146,4 +128,4 @@ module _ (s : State) (good : IsGood s) where
   pub movements_pass : are_movements s.lots sublots batches s.control_lines s.movements ≡ true
   unfolding is_right_movement
   movements_pass = all_pass (is_right_movement s.lots sublots batches s.control_lines s.movements) s.movements
-      (all_two _ _ _ (λ (m : Movement) named defined. both_pass _ _ (both_pass _ _ named defined) (or_right (not (is_merged m.kind)) _ (parts_pass m.seq))) s.movements names_pass definitions_pass)
+      (all_two _ _ _ (λ (m : Movement) named defined. and_from _ _ (and_from _ _ named defined) (or_right (not (is_merged m.kind)) _ (parts_pass m.seq))) s.movements names_pass definitions_pass)

@@ -6,7 +6,7 @@ use Rattle.std.specs.List.Sorted.{IsStrictlySortedBy}
 use Rattle.std.specs.Ordering.{nat_cmp, ordering_then}
 use Rattle.std.specs.declared.cmp.Ordering.{Ordering}
 use Rattle.std.specs.declared.cmp.Ordering.TheVariants.{Less}
-use Rattle.std.proofs.lemmas.Bool.{false≢true, le-leb, lt-ltb, eq-eqb, eqb-true, eqb-false}
+use Rattle.std.proofs.lemmas.Bool.{false≢true, le-leb, lt-ltb, eq-eqb, eqb-true, eqb-false, and_from}
 use Rattle.std.proofs.lemmas.Bool.Decides.{nat_tests}
 use Rattle.plant_base.specs.State.{State, same}
 use Rattle.plant_base.specs.declared.rows.BatchEvent.{BatchEvent}
@@ -23,11 +23,11 @@ use Rattle.plant_ledger.specs.Bookings.{movement_order, AreCounted, booked, are_
 use Rattle.plant_ledger.specs.Good.{IsGood}
 use Rattle.plant_ledger.proofs.Listing.{numbers_differ}
 use Rattle.plant_stock_rules.specs.Numbering.{is_given, is_next_part, are_lines, is_apart, is_entered_before, has_right_number, are_numbers}
-use Rattle.plant_good.proofs.Testing.{both_pass, all_pass}
-use Rattle.plant_good.proofs.Movements.{none_any}
+use Rattle.plant_good.proofs.Testing.{all_pass, none_any}
 
 -- ---- lines
 
+-- numbers don't fall where movements rise by their order
 seq_rises_by : (m n : ℕ) (rest o : Ordering) → nat_cmp m n ≡ o → ordering_then o rest ≡ Less → m ≤ n
 seq_rises_by m n rest o e less = grind (arith, nat_tests)
 
@@ -44,6 +44,7 @@ merge_through _ _ _ e f = absurd (false≢true e)
 booked_past : (m : Movement) (ms : List Movement) (number : ℕ) → (m.seq == number) ≡ false → booked (m ∷ ms) number ≡ booked ms number
 booked_past m ms number e = ap (λ b. cond b (m ∷ booked ms number) (booked ms number)) e
 
+-- and one of this number is its first
 booked_at : (m : Movement) (ms : List Movement) (number : ℕ) → (m.seq == number) ≡ true → booked (m ∷ ms) number ≡ m ∷ booked ms number
 booked_at m ms number e = ap (λ b. cond b (m ∷ booked ms number) (booked ms number)) e
 
@@ -78,7 +79,7 @@ module _ (before m : Movement) (ms : List Movement) (on : GoOn before (m ∷ ms)
       let merged = subst (AllByRecursion (λ (x : Movement). are_one_merge before.kind x.kind ≡ true)) own on.merged in
       let rest = subst (λ n. AreCounted (before.line + 1 + 1) (numbers_of (booked ms n))) e counted.1 in
       let others = subst (λ n. AllByRecursion (λ (x : Movement). are_one_merge before.kind x.kind ≡ true) (booked ms n)) e merged.1 in (
-        both_pass _ _ (eq-eqb m.line (before.line + 1) counted.0) merged.0,
+        and_from _ _ (eq-eqb m.line (before.line + 1) counted.0) merged.0,
         record {
           sorted = sorted_rest;
           above = above_first;
@@ -119,8 +120,8 @@ lines_go_on before [] on = refl
 lines_go_on before (m ∷ ms) on = by (before.seq == m.seq) refl (lines_go_on m ms)
   where
     by : (z : Bool) → (before.seq == m.seq) ≡ z → (GoOn m ms → are_lines (Some m) ms ≡ true) → (cond z (is_next_part before m) (m.line == 1) && are_lines (Some m) ms) ≡ true
-    by true e more = let next = next_part before m ms on (eqb-true before.seq m.seq e) in both_pass _ _ next.0 (more next.1)
-    by false e more = let next = next_booking before m ms on e in both_pass _ _ next.0 (more next.1)
+    by true e more = let next = next_part before m ms on (eqb-true before.seq m.seq e) in and_from _ _ next.0 (more next.1)
+    by false e more = let next = next_booking before m ms on e in and_from _ _ next.0 (more next.1)
 
 lines_pass : (ms : List Movement) → IsStrictlySortedBy movement_order ms → ((number : ℕ) → IsBooking (booked ms number)) → are_lines None ms ≡ true
 unfolding IsStrictlySortedBy
@@ -136,12 +137,12 @@ lines_pass (m ∷ ms) sorted bookings =
       merged = merged;
       whole = λ number apart. let past = booked_past m ms number apart in (subst (λ ls. AreCounted 1 (numbers_of ls)) past (bookings number).numbered, subst AreOfOneMerge past (bookings number).merged);
     } in
-    both_pass _ _ (eq-eqb m.line 1 counted.0) (lines_go_on m ms on)
+    and_from _ _ (eq-eqb m.line 1 counted.0) (lines_go_on m ms on)
 
 -- ---- each number
 
 given_passes : (greatest n : ℕ) → (1 ≤ n) × (n ≤ greatest) → is_given greatest n ≡ true
-given_passes greatest n given = both_pass _ _ (le-leb 1 n given.0) (le-leb n greatest given.1)
+given_passes greatest n given = and_from _ _ (le-leb 1 n given.0) (le-leb n greatest given.1)
 
 apart_passes : (events : List BatchEvent) (m : Movement) → AllByRecursion (λ e. (m.seq == e.seq) ≡ false) events → is_apart events m ≡ true
 apart_passes events m apart =
@@ -162,11 +163,11 @@ module _ (s : State) (good : IsGood s) where
 
   number_passes : (m : Movement) → (1 ≤ m.seq) × (m.seq ≤ s.seq) → IsNew m → has_right_number s.seq s.events s.movements m ≡ true
   unfolding has_right_number
-  number_passes m given new = both_pass _ _ (both_pass _ _ (given_passes s.seq m.seq given) (apart_passes s.events m new.0)) (entered_passes s.movements m.seq (comes_from m.kind m.lot m.sub) new.1)
+  number_passes m given new = and_from _ _ (and_from _ _ (given_passes s.seq m.seq given) (apart_passes s.events m new.0)) (entered_passes s.movements m.seq (comes_from m.kind m.lot m.sub) new.1)
 
   pub numbers_pass : are_numbers s.seq s.events s.movements ≡ true
   numbers_pass =
-      both_pass _ _ (both_pass _ _
+      and_from _ _ (and_from _ _
       (lines_pass s.movements good.numbers.movements good.numbers.bookings)
       (all_pass (has_right_number s.seq s.events s.movements) s.movements (all_two _ _ _ number_passes s.movements good.numbers.movements_given
       (all_two _ _ IsNew (λ (m : Movement) apart before. (apart, before)) s.movements good.numbers.apart good.numbers.entered_before))))

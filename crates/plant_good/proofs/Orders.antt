@@ -2,7 +2,7 @@
 use Rattle.std.proofs.Common.{◌≡◌, ◌∙◌, ℕ, true, List, map, Option, Some, None, is_some, option_map, refl, sym, ap}
 use Rattle.std.specs.Prelude.{◌&&◌, ◌==◌, not}
 use Rattle.std.specs.List.{AllByRecursion}
-use Rattle.std.proofs.lemmas.Bool.{false≢true}
+use Rattle.std.proofs.lemmas.Bool.{false≢true, and_from}
 use Rattle.plant_base.specs.State.{State, same, job_order}
 use Rattle.plant_base.specs.declared.rows.Header.{Header}
 use Rattle.plant_base.specs.declared.rows.Recipe.{Recipe}
@@ -20,7 +20,7 @@ use Rattle.plant_view.specs.Tables.{batch_row}
 use Rattle.plant_view.proofs.KeptSound.{all_two}
 use Rattle.plant_view.proofs.Rows.{all_unmapped, find_mapped}
 use Rattle.plant_plan_rules.specs.Orders.{recipe_among, is_size_of_recipe, row_of_order, is_started, is_right_order, are_orders}
-use Rattle.plant_good.proofs.Testing.{both_pass, all_pass, one_found, apart_sorted, ids_apart}
+use Rattle.plant_good.proofs.Testing.{all_pass, one_found, apart_sorted, ids_apart}
 
 -- a look-up among headers is one among recipes
 pub header_found : (recipes : List Recipe) (id : List ℕ) (version : ℕ) → header_among (headers_of recipes) id version ≡ option_map (λ r. r.header) (recipe_among recipes id version)
@@ -71,4 +71,4 @@ module _ (s : State) (sound : IsSound s) where
 
   pub orders_pass : are_orders s.recipes (map row s.batches) s.jobs ≡ true
   unfolding is_right_order
-  orders_pass = all_pass (is_right_order s.recipes (map row s.batches)) s.jobs (all_two _ _ _ (λ (j : Job) sized started. both_pass _ _ sized started) s.jobs sizes_pass starts_pass)
+  orders_pass = all_pass (is_right_order s.recipes (map row s.batches)) s.jobs (all_two _ _ _ (λ (j : Job) sized started. and_from _ _ sized started) s.jobs sizes_pass starts_pass)

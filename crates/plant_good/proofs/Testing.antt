@@ -1,12 +1,12 @@
 -- Tests that each element passes, and elements that are apart.
 use Rattle.std.proofs.Common.{◌≡◌, ◌∙◌, ℕ, ◌+◌, Bool, true, false, cond, List, [], ◌∷◌, Some, map, filter, find, is_some, refl, sym, ap}
-use Rattle.std.specs.Prelude.{◌&&◌}
+use Rattle.std.specs.Prelude.{◌||◌}
 use Rattle.std.specs.List.{AllByRecursion, list_any, list_all}
 use Rattle.std.specs.List.Sorted.{IsStrictlySortedBy}
 use Rattle.std.specs.declared.cmp.Ordering.{Ordering}
 use Rattle.std.specs.declared.cmp.Ordering.TheVariants.{Less}
 use Rattle.std.specs.Ordering.{is_eq}
-use Rattle.std.proofs.lemmas.Bool.{eq-eqb}
+use Rattle.std.proofs.lemmas.Bool.{eq-eqb, and_from}
 use Rattle.std.proofs.lemmas.Cmp.{nat_list_eq_equiv}
 use Rattle.plant_base.specs.State.{same, id_cmp}
 use Rattle.plant_base.proofs.Put.{all_weaker}
@@ -16,13 +16,15 @@ use Rattle.plant_view.specs.Rows.{numbered}
 use Rattle.plant_plan_rules.specs.Recipes.{are_numbered}
 use Rattle.plant_plan_rules.proofs.Keying.{found_any, ids_tie}
 
-pub both_pass : (a b : Bool) → a ≡ true → b ≡ true → (a && b) ≡ true
-both_pass a b e f = ap (λ x. x && b) e ∙ f
-
 -- what each element passes all pass
 pub all_pass : {X : Type 0} (test : X → Bool) (xs : List X) → AllByRecursion (λ x. test x ≡ true) xs → list_all test xs ≡ true
 all_pass test [] a = refl
-all_pass test (x ∷ xs) a = both_pass (test x) (list_all test xs) a.0 (all_pass test xs a.1)
+all_pass test (x ∷ xs) a = and_from (test x) (list_all test xs) a.0 (all_pass test xs a.1)
+
+-- and none does where each fails
+pub none_any : {X : Type 0} (test : X → Bool) (xs : List X) → AllByRecursion (λ x. test x ≡ false) xs → list_any test xs ≡ false
+none_any test [] a = refl
+none_any test (x ∷ xs) a = ap (λ b. b || list_any test xs) a.0 ∙ none_any test xs a.1
 
 -- what is found is there
 pub any_found : {X : Type 0} (test : X → Bool) (xs : List X) → is_some (find test xs) ≡ true → list_any test xs ≡ true
@@ -81,4 +83,4 @@ ids_apart a b less =
 module _ {L R : Type 0} (f : ℕ → L → R) (number_of : R → ℕ) (is_numbered : (k : ℕ) (l : L) → number_of (f k l) ≡ k) where
   pub numbers_pass : (k : ℕ) (ls : List L) → are_numbered k (map number_of (numbered f k ls)) ≡ true
   numbers_pass k [] = refl
-  numbers_pass k (l ∷ ls) = both_pass _ _ (eq-eqb (number_of (f k l)) k (is_numbered k l)) (numbers_pass (k + 1) ls)
+  numbers_pass k (l ∷ ls) = and_from _ _ (eq-eqb (number_of (f k l)) k (is_numbered k l)) (numbers_pass (k + 1) ls)

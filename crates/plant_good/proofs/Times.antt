@@ -2,7 +2,7 @@
 use Rattle.std.proofs.Common.{◌≡◌, ◌∙◌, ℕ, ◌≤◌, Bool, true, false, List, [], ◌∷◌, ◌++◌, map, refl, sym, ap}
 use Rattle.std.specs.Prelude.{◌||◌, not, nat_le, nat_lt}
 use Rattle.std.specs.List.{AllByRecursion, list_all}
-use Rattle.std.proofs.lemmas.Bool.{le-leb, ltb-true}
+use Rattle.std.proofs.lemmas.Bool.{le-leb, ltb-true, and_from}
 use Rattle.std.proofs.lemmas.List.{map-append}
 use Rattle.std.proofs.lemmas.Simd.{map-map}
 use Rattle.plant_base.specs.State.{State}
@@ -18,11 +18,12 @@ use Rattle.plant_view.proofs.Rows.{all_mapped, all_unmapped}
 use Rattle.plant_ledger.specs.Timed as kept
 use Rattle.plant_ledger.specs.Good.{IsGood}
 use Rattle.plant_stock_rules.specs.Times.{marks, is_no_later, never_fall, are_by, are_times}
-use Rattle.plant_good.proofs.Testing.{both_pass, all_pass}
+use Rattle.plant_good.proofs.Testing.{all_pass}
 
 abbrev mark_at : Position → ℕ × ℕ
 mark_at p = (p.seq, p.at)
 
+-- the marks by which the rows are tested are those of the state
 marks_alike : (ms : List Movement) (es : List BatchEvent) → map mark_at (kept.marks ms es) ≡ marks ms es
 marks_alike ms es =
     map-append mark_at (map kept.mark_of_movement ms) (map kept.mark_of_event es)
@@ -35,6 +36,7 @@ later_passes a b later = by (nat_lt a.seq b.seq) refl
     by true e = le-leb a.at b.at (later (ltb-true a.seq b.seq e))
     by false e = refl
 
+-- what holds of all of two lists holds of all of each
 all_parted : {X : Type 0} (P : X → Type 0) (xs ys : List X) → AllByRecursion P (xs ++ ys) → AllByRecursion P xs × AllByRecursion P ys
 all_parted P [] ys a = (tt, a)
 all_parted P (x ∷ xs) ys a = let rest = all_parted P xs ys a.1 in ((a.0, rest.0), rest.1)
@@ -55,11 +57,11 @@ module _ (s : State) (good : IsGood s) where
       let Past : Position → Type 0 = λ a. a.at ≤ s.at in
       let parted = all_parted Past (map kept.mark_of_movement s.movements) (map kept.mark_of_event s.events) good.moments.bookings in
       let row = batch_row s.control_lines s.events in
-      both_pass _ _ (both_pass _ _ (both_pass _ _
+      and_from _ _ (and_from _ _ (and_from _ _
       (all_pass (λ (m : Movement). nat_le m.at s.at) s.movements (all_weaker _ _ (λ (m : Movement) past. le-leb m.at s.at past) s.movements (all_unmapped Past kept.mark_of_movement s.movements parted.0)))
       (all_pass (λ (e : BatchEvent). nat_le e.at s.at) s.events (all_weaker _ _ (λ (e : BatchEvent) past. le-leb e.at s.at past) s.events (all_unmapped Past kept.mark_of_event s.events parted.1))))
       (all_pass (λ (b : BatchRow). nat_le b.batch.at s.at) (map row s.batches) (all_mapped (λ (b : BatchRow). nat_le b.batch.at s.at ≡ true) row s.batches (all_weaker _ _ (λ (b : Batch) past. le-leb b.at s.at past) s.batches good.moments.released))))
       (all_pass (λ (h : Hold). nat_le h.at s.at) s.holds (all_weaker _ _ (λ (h : Hold) past. le-leb h.at s.at past) s.holds good.moments.held))
 
   pub times_pass : are_times s.at s.movements s.events (map (batch_row s.control_lines s.events) s.batches) s.holds ≡ true
-  times_pass = both_pass _ _ (ap never_fall (sym (marks_alike s.movements s.events)) ∙ rising_passes) by_passes
+  times_pass = and_from _ _ (ap never_fall (sym (marks_alike s.movements s.events)) ∙ rising_passes) by_passes

@@ -1,5 +1,6 @@
 -- The tables of a good state break no rule, and are read again.
 use Rattle.std.proofs.Common.{◌≡◌, ◌∙◌, Bool, true, Option, Some, None, is_some, refl, ap}
+use Rattle.std.proofs.lemmas.Bool.{and_from}
 use Rattle.sqlite.specs.Effect.{Database}
 use Rattle.plant_base.specs.State.{State, newest_schema}
 use Rattle.plant_base.specs.declared.rows.Meta.{Meta}
@@ -15,7 +16,6 @@ use Rattle.plant_rows.proofs.AgainLemmas.{read_again}
 use Rattle.plant_check.specs.Broken.{unless, or_else, are_acyclic, broken_plan, broken_lot, broken_history, first_broken_of, are_right_movements, are_right_numbers, broken_rows, first_broken}
 use Rattle.plant_check.specs.declared.rule.Rule.{Rule}
 use Rattle.plant_check.specs.declared.rule.Rule.TheVariants as rule
-use Rattle.plant_good.proofs.Testing.{both_pass}
 use Rattle.plant_good.proofs.Values.{in_order, good_values}
 use Rattle.plant_good.proofs.Recipes.{classes_pass, recipes_pass}
 use Rattle.plant_good.proofs.Orders.{orders_pass}
@@ -52,9 +52,9 @@ module _ (s : State) (good : IsGood s) where
   unfolding broken_history
   history_unbroken =
       let again = movements_again s in
-      obeyed _ rule.Movements _ (ap (are_right_movements rows) again ∙ both_pass _ _ (whole_pass s.movements) (movements_pass s good))
+      obeyed _ rule.Movements _ (ap (are_right_movements rows) again ∙ and_from _ _ (whole_pass s.movements) (movements_pass s good))
       (obeyed _ rule.Events _ (events_pass s good.sound)
-      (obeyed _ rule.Numbers _ (ap (are_right_numbers rows) again ∙ both_pass _ _ (numbers_pass s good) (times_pass s good))
+      (obeyed _ rule.Numbers _ (ap (are_right_numbers rows) again ∙ and_from _ _ (numbers_pass s good) (times_pass s good))
       (obeyed _ rule.Descent _ (ap (λ ms. are_acyclic (edges_among ms)) again ∙ descent_passes s good.sound) refl)))
 
   pub good_unbroken : first_broken_of rows ≡ None

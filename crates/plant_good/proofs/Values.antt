@@ -2,7 +2,7 @@
 use Rattle.std.proofs.Common.{◌≡◌, ◌∙◌, ℕ, ◌+◌, ◌≤◌, true, List, [], ◌∷◌, Option, Some, None, is_some, map, length, refl, sym, ap, subst, arith}
 use Rattle.std.specs.Prelude.{◌&&◌, ◌==◌, ◌^◌, nat_le}
 use Rattle.std.specs.List.{AllByRecursion}
-use Rattle.std.proofs.lemmas.Bool.{false≢true, le-leb, leb-true, eq-eqb}
+use Rattle.std.proofs.lemmas.Bool.{false≢true, le-leb, leb-true, eq-eqb, and_from}
 use Rattle.std.proofs.lemmas.List.{length-map}
 use Rattle.plant_base.specs.State.{State, same, newest_schema, batch_at}
 use Rattle.plant_base.specs.Values.{greatest_seq}
@@ -43,7 +43,6 @@ use Rattle.plant_fresh.proofs.TableKeys.{keyed}
 use Rattle.plant_rows.specs.Reading.{is_in}
 use Rattle.plant_rows.specs.Collecting.{AreInOrder}
 use Rattle.plant_rows.specs.Obeying.{HasClassValues, HasDefinitionValues, HasRecipeValues, IsLineNumber, HasMasterLineValues, HasBatchRowValues, HasControlLineValues, HasPhase, HasEventValues, HasLotValues, HasSublotValues, HasKindValues, HasMovementValues, HasHoldValues, HasGoodValues}
-use Rattle.plant_good.proofs.Testing.{both_pass}
 
 -- ---- order
 
@@ -53,7 +52,7 @@ in_order s good = record { keyed = keyed s good.sound; events = good.numbers.eve
 -- ---- numbers of lines
 
 in_range : (low high n : ℕ) → low ≤ n → n ≤ high → is_in low high n ≡ true
-in_range low high n l h = both_pass (nat_le low n) (nat_le n high) (le-leb low n l) (le-leb n high h)
+in_range low high n l h = and_from (nat_le low n) (nat_le n high) (le-leb low n l) (le-leb n high h)
 
 few_lines : (h : Header) (lines : List RecipeLine) → is_well_formed h lines ≡ true → length lines ≤ greatest_lines
 few_lines h lines formed = leb-true (length lines) greatest_lines (and_right _ _ (and_left _ _ (and_left _ _ (and_left _ _ (and_left _ _ (and_left _ _ formed))))))

@@ -35,7 +35,7 @@ of_acyclic pairs a = none_leads pairs pairs (λ x. never x (leads pairs x x) ref
     never x true e = absurd (a x ((leads_where_reached pairs x x).0 e))
     never x false e = refl
 
-to_acyclic : (pairs : List (Node × Node)) → are_acyclic pairs ≡ true → IsAcyclic pairs
+pub to_acyclic : (pairs : List (Node × Node)) → are_acyclic pairs ≡ true → IsAcyclic pairs
 to_acyclic pairs e x r =
     let f = first_edge r in
     let passes : not (leads pairs x x) ≡ true = of_one (λ (p : Node × Node). not (leads pairs p.0 p.0)) pairs (x, f.0) e f.1 in

@@ -41,8 +41,11 @@ module _ {X R T : Type 0} (stored : X → Row) (before : X → X → Bool) (key 
 
 -- ---- keys of more than one column
 
-numbered_by : (a b : List ℕ) (m n : ℕ) → numbered_cmp a m b n ≡ ordering_then (id_cmp a b) (int_cmp (pos m) (pos n))
+pub numbered_by : (a b : List ℕ) (m n : ℕ) → numbered_cmp a m b n ≡ ordering_then (id_cmp a b) (int_cmp (pos m) (pos n))
 numbered_by a b m n = ap (ordering_then (id_cmp a b)) (sym (int_cmp_pos m n))
+
+pub line_by : (a b : MasterLine) → master_line_order a b ≡ ordering_then (id_cmp a.recipe b.recipe) (ordering_then (int_cmp (pos a.version) (pos b.version)) (int_cmp (pos a.number) (pos b.number)))
+line_by a b = then_same (id_cmp a.recipe b.recipe) (nat_cmp a.version b.version) (nat_cmp a.number b.number) ∙ (λ i. ordering_then (id_cmp a.recipe b.recipe) (ordering_then (sym (int_cmp_pos a.version b.version) i) (sym (int_cmp_pos a.number b.number) i)))
 
 module _ (db : Database) (t : Tables) (holds : HoldsTables db t) (ordered : AreInOrder t) (good : HasGoodValues t) where
   masters_again : (x : Masters) → AreMasters db x → masters_from x ≡ Some (record { classes = t.classes; definitions = t.definitions; recipes = t.recipes; master_lines = t.master_lines })
@@ -53,9 +56,6 @@ module _ (db : Database) (t : Tables) (holds : HoldsTables db t) (ordered : AreI
       let recipes = table_again recipe_row recipe_before (by_both (by_text 0) (by_number 1)) (both_total _ _ (text_total 0) (number_total 1)) (λ a b. refl) row_of_recipe recipe_order (λ a b. numbered_by a.header.recipe b.header.recipe a.header.version b.header.version) recipe_from (λ r. r) HasRecipeValues recipe_again db recipe_form _ t.recipes are.recipes (holds.each 3 recipe_form refl) ordered.keyed.recipes good.recipes in
       let lines = table_again recipe_line_row recipe_line_before (by_both (by_text 0) (by_both (by_number 1) (by_number 2))) (both_total _ _ (text_total 0) (both_total _ _ (number_total 1) (number_total 2))) (λ a b. refl) row_of_master_line master_line_order line_by master_line_from (λ r. r) HasMasterLineValues master_line_again db recipe_line_form _ t.master_lines are.recipe_lines (holds.each 4 recipe_line_form refl) ordered.keyed.master_lines good.master_lines in
       rw (classes, map_same t.classes, definitions, map_same t.definitions, recipes, map_same t.recipes, lines, map_same t.master_lines) refl
-    where
-      line_by : (a b : MasterLine) → master_line_order a b ≡ ordering_then (id_cmp a.recipe b.recipe) (ordering_then (int_cmp (pos a.version) (pos b.version)) (int_cmp (pos a.number) (pos b.number)))
-      line_by a b = then_same (id_cmp a.recipe b.recipe) (nat_cmp a.version b.version) (nat_cmp a.number b.number) ∙ (λ i. ordering_then (id_cmp a.recipe b.recipe) (ordering_then (sym (int_cmp_pos a.version b.version) i) (sym (int_cmp_pos a.number b.number) i)))
 
   orders_again : (x : Orders) → AreOrders db x → orders_from x ≡ Some (record { jobs = t.jobs; batches = t.batches; control_lines = t.control_lines; events = t.events })
   unfolding orders_from

@@ -46,25 +46,25 @@ pub record Names (r : BookedRow) (lot : Option (List ℕ)) (sub : Option ℕ) (b
 named_columns : {r : BookedRow} {lot : Option (List ℕ)} {sub : Option ℕ} {batch : Option (List ℕ)} → Names r lot sub batch → other_columns r.lot2 r.sub2 r.batch ≡ other_columns lot sub batch
 named_columns n = λ i. other_columns (n.other_lot i) (n.other_sub i) (n.its_batch i)
 
-nothing_named : (r : BookedRow) → names_nothing r ≡ true → Names r None None None
+pub nothing_named : (r : BookedRow) → names_nothing r ≡ true → Names r None None None
 nothing_named r h =
     let outer = and_parts (is_none r.lot2 && is_none r.sub2) (is_none r.batch) h in
     let inner = and_parts (is_none r.lot2) (is_none r.sub2) outer.0 in
     record { other_lot = no_id r.lot2 inner.0; other_sub = no_number r.sub2 inner.1; its_batch = no_id r.batch outer.1 }
 
-one_batch : (r : BookedRow) (batch : List ℕ) → batch_named r ≡ Some batch → Names r None None (Some batch)
+pub one_batch : (r : BookedRow) (batch : List ℕ) → batch_named r ≡ Some batch → Names r None None (Some batch)
 one_batch r batch h =
     let parts = where_true (is_none r.lot2 && is_none r.sub2) r.batch batch h in
     let inner = and_parts (is_none r.lot2) (is_none r.sub2) parts.0 in
     record { other_lot = no_id r.lot2 inner.0; other_sub = no_number r.sub2 inner.1; its_batch = parts.1 }
 
-one_lot : (r : BookedRow) (to : List ℕ) → lot_named r ≡ Some to → Names r (Some to) (Some 0) None
+pub one_lot : (r : BookedRow) (to : List ℕ) → lot_named r ≡ Some to → Names r (Some to) (Some 0) None
 one_lot r to h =
     let parts = where_true (is_zero r.sub2 && is_none r.batch) r.lot2 to h in
     let inner = and_parts (is_zero r.sub2) (is_none r.batch) parts.0 in
     record { other_lot = parts.1; other_sub = number_zero r.sub2 inner.0; its_batch = no_id r.batch inner.1 }
 
-one_sublot : (r : BookedRow) (to : ℕ) → sublot_named r ≡ Some to → Names r (Some r.lot) (Some to) None
+pub one_sublot : (r : BookedRow) (to : ℕ) → sublot_named r ≡ Some to → Names r (Some r.lot) (Some to) None
 one_sublot r to h =
     let parts = where_true (is_lot r.lot r.lot2 && is_none r.batch) r.sub2 to h in
     let inner = and_parts (is_lot r.lot r.lot2) (is_none r.batch) parts.0 in

@@ -22,13 +22,13 @@ use Rattle.plant_rows.proofs.RowLemmas.{meta_back, class_back, definition_back, 
 use Rattle.plant_rows.proofs.TableLemmas.{every, all_back}
 
 -- what each table of these is read as
-record AreMasterRows (x : Masters) (r : MasterRows) : Type 0 where
+pub record AreMasterRows (x : Masters) (r : MasterRows) : Type 0 where
   pub classes : all_from class_from x.classes.items ≡ Some r.classes
   pub definitions : all_from definition_from x.definitions.items ≡ Some r.definitions
   pub recipes : all_from recipe_from x.recipes.items ≡ Some r.recipes
   pub master_lines : all_from master_line_from x.recipe_lines.items ≡ Some r.master_lines
 
-masters_back : (x : Masters) (r : MasterRows) → masters_from x ≡ Some r → AreMasterRows x r
+pub masters_back : (x : Masters) (r : MasterRows) → masters_from x ≡ Some r → AreMasterRows x r
 unfolding masters_from
 masters_back x r h =
     let p1 = bound (all_from class_from x.classes.items) _ r h in
@@ -43,13 +43,13 @@ masters_back x r h =
       master_lines = p4.1 ∙ ap (λ r. Some r.master_lines) same;
     }
 
-record AreOrderRows (x : Orders) (r : OrderRows) : Type 0 where
+pub record AreOrderRows (x : Orders) (r : OrderRows) : Type 0 where
   pub jobs : all_from job_from x.jobs.items ≡ Some r.jobs
   pub batches : all_from batch_from x.batches.items ≡ Some r.batches
   pub control_lines : all_from control_line_from x.control_lines.items ≡ Some r.control_lines
   pub events : all_from batch_event_from x.events.items ≡ Some r.events
 
-orders_back : (x : Orders) (r : OrderRows) → orders_from x ≡ Some r → AreOrderRows x r
+pub orders_back : (x : Orders) (r : OrderRows) → orders_from x ≡ Some r → AreOrderRows x r
 unfolding orders_from
 orders_back x r h =
     let p1 = bound (all_from job_from x.jobs.items) _ r h in
@@ -64,13 +64,13 @@ orders_back x r h =
       events = p4.1 ∙ ap (λ r. Some r.events) same;
     }
 
-record AreStockRows (x : Stocks) (r : StockRows) : Type 0 where
+pub record AreStockRows (x : Stocks) (r : StockRows) : Type 0 where
   pub lots : all_from lot_from x.lots.items ≡ Some r.lots
   pub sublots : all_from sublot_from x.sublots.items ≡ Some r.sublots
   pub movements : all_from booked_from x.movements.items ≡ Some r.movements
   pub holds : all_from hold_from x.holds.items ≡ Some r.holds
 
-stocks_back : (x : Stocks) (r : StockRows) → stocks_from x ≡ Some r → AreStockRows x r
+pub stocks_back : (x : Stocks) (r : StockRows) → stocks_from x ≡ Some r → AreStockRows x r
 unfolding stocks_from
 stocks_back x r h =
     let p1 = bound (all_from lot_from x.lots.items) _ r h in
@@ -102,7 +102,7 @@ fitted (r ∷ rs) all = go (movement_from r) refl all.0 (fitted rs all.1)
 -- ---- all tables
 
 -- each table's stored rows are those that the read rows would be written as
-record AreStored (x : Loaded) (r : Rows) : Type 0 where
+pub record AreStored (x : Loaded) (r : Rows) : Type 0 where
   pub meta : map meta_row x.meta.items ≡ row_of_meta r.meta ∷ []
   pub classes : map class_row x.masters.classes.items ≡ map row_of_class r.classes
   pub definitions : map definition_row x.masters.definitions.items ≡ map row_of_definition r.definitions
@@ -117,7 +117,7 @@ record AreStored (x : Loaded) (r : Rows) : Type 0 where
   pub movements : map movement_row x.stocks.movements.items ≡ map row_of_movement (filter_map movement_from r.movements)
   pub holds : map hold_row x.stocks.holds.items ≡ map row_of_hold r.holds
 
-are_stored : (x : Loaded) (r : Rows) → rows_from x ≡ Some r → AreWhole r → AreStored x r
+pub are_stored : (x : Loaded) (r : Rows) → rows_from x ≡ Some r → AreWhole r → AreStored x r
 unfolding rows_from
 are_stored x r h whole =
     let p1 = bound (only_meta x.meta.items) _ r h in

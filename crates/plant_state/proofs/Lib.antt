@@ -1,0 +1,6 @@
+pub mod Members
+pub mod Values
+pub mod Booking
+pub mod Passing
+pub mod Rising
+pub mod Matching

@@ -1,0 +1,12 @@
+//! Laws of the state of tables that break no rule.
+
+ghost use Rattle.plant_state.specs.Restoring.{UnbrokenIsGood, UnbrokenHolds};
+
+/// What loaded tables that break no rule have, as laws about them; the function itself does nothing.
+///
+/// `good`: their rows are whole, and their tables are those of a good state.
+/// `holds`: the database that they were loaded from holds the tables of that state.
+pub fn state_laws()
+    ensures good { UnbrokenIsGood }
+    ensures holds { UnbrokenHolds }
+{}

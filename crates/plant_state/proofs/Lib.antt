@@ -4,3 +4,5 @@ pub mod Booking
 pub mod Passing
 pub mod Rising
 pub mod Matching
+pub mod Counted
+pub mod Recipes

@@ -6,3 +6,5 @@ pub mod Rising
 pub mod Matching
 pub mod Counted
 pub mod Recipes
+pub mod Orders
+pub mod Batches

@@ -8,3 +8,6 @@ pub mod Counted
 pub mod Recipes
 pub mod Orders
 pub mod Batches
+pub mod Histories
+pub mod Stocks
+pub mod Lots

@@ -11,3 +11,7 @@ pub mod Batches
 pub mod Histories
 pub mod Stocks
 pub mod Lots
+pub mod Movements
+pub mod Numbers
+pub mod Moments
+pub mod Restored

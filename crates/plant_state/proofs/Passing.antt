@@ -33,7 +33,7 @@ pub record PassesAll (r : Rows) : Type 0 where
   pub times : are_times r.meta.position.at (movements_in r.movements) r.events r.batches r.holds ≡ true
   pub descent : are_acyclic (edges_among (movements_in r.movements)) ≡ true
 
-obeyed : (b : Bool) (r : Rule) (rest : Option Rule) → unless b r rest ≡ None → (b ≡ true) × (rest ≡ None)
+pub obeyed : (b : Bool) (r : Rule) (rest : Option Rule) → unless b r rest ≡ None → (b ≡ true) × (rest ≡ None)
 obeyed true r rest e = (refl, e)
 obeyed false r rest e = absurd (cc)
 

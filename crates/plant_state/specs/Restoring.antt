@@ -1,5 +1,5 @@
 -- The state whose tables are the rows that were loaded.
-use Rattle.std.specs.Prelude.{◌≡◌, List, Some, None, map}
+use Rattle.std.specs.Prelude.{◌≡◌, Some, None, map}
 use Rattle.std.specs.List.{filter_map}
 use Rattle.sqlite.specs.Effect.{Database}
 use Rattle.plant_base.specs.State.{State, newest_schema}
@@ -16,7 +16,7 @@ use Rattle.plant_loaded.specs.Loading.{AreLoaded, contents_loaded}
 use Rattle.plant_loaded.specs.declared.loaded.Loaded.{Loaded}
 use Rattle.plant_rows.specs.Booked.{movement_from}
 use Rattle.plant_rows.specs.Collecting.{Rows, rows_from, tables_in, AreWhole}
-use Rattle.plant_check.specs.Broken.{first_broken_of}
+use Rattle.plant_check.specs.Broken.{first_broken, first_broken_of}
 
 -- a batch without the columns that its events tell
 abbrev pub batch_without_columns : BatchRow → Batch
@@ -59,6 +59,10 @@ pub record AreUnbroken (db : Database) (x : Loaded) (r : Rows) : Type 0 where
   pub newest : r.meta.schema ≡ newest_schema
 
 -- ---- laws
+
+-- what breaks no rule was read as rows that break none
+abbrev pub UnbrokenIsRead : Type 0
+UnbrokenIsRead = (x : Loaded) → first_broken x ≡ None → (r : Rows) × (rows_from x ≡ Some r) × (first_broken_of r ≡ None)
 
 -- rows that break no rule are those of a good state's tables
 abbrev pub UnbrokenIsGood : Type 0

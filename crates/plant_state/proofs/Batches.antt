@@ -1,15 +1,13 @@
 -- Batches that pass their tests are sound.
-use Rattle.std.proofs.Common.{◌≡◌, ◌∙◌, ℕ, ◌≤◌, Bool, true, false, List, [], ◌∷◌, length, map, filter, find, Option, Some, None, is_some, option_map, refl, sym, ap, subst, eqb-true}
-use Rattle.std.specs.Prelude.{◌&&◌, ◌==◌, if◌then◌else◌}
+use Rattle.std.proofs.Common.{◌≡◌, ◌∙◌, ℕ, ◌≤◌, true, List, length, map, filter, find, Option, Some, None, option_map, refl, sym, ap, eqb-true}
+use Rattle.std.specs.Prelude.{◌&&◌, ◌==◌}
 use Rattle.std.specs.List.{AllByRecursion, list_all}
 use Rattle.std.specs.List.Sorted.{IsStrictlySortedBy}
-use Rattle.std.proofs.lemmas.Bool.{false≢true}
 use Rattle.plant_base.specs.State.{same, batch_order, control_line_order}
 use Rattle.plant_base.specs.declared.rows.Batch.{Batch}
 use Rattle.plant_base.specs.declared.rows.BatchEvent.{BatchEvent}
 use Rattle.plant_base.specs.declared.rows.BatchRow.{BatchRow}
 use Rattle.plant_base.specs.declared.rows.ControlLine.{ControlLine}
-use Rattle.plant_base.specs.declared.rows.Header.{Header}
 use Rattle.plant_base.specs.declared.rows.Job.{Job}
 use Rattle.plant_base.specs.declared.rows.MasterLine.{MasterLine}
 use Rattle.plant_base.specs.declared.rows.OrderRow.{OrderRow}
@@ -26,6 +24,7 @@ use Rattle.plant_view.proofs.Tests.{and_left, and_right}
 use Rattle.plant_plan_rules.specs.Batches.{job_among, control_sized, control_for, control_from, control_by, is_control, is_right_batch, are_batches}
 use Rattle.plant_plan_rules.specs.Batches as rules
 use Rattle.plant_plan_rules.specs.Orders.{recipe_among}
+use Rattle.plant_rows.proofs.LineLemmas.{where_true}
 use Rattle.plant_plan_rules.specs.Recipes.{are_numbered}
 use Rattle.plant_state.specs.Restoring.{batch_without_columns}
 use Rattle.plant_state.proofs.Counted.{counted, counted_least, numbered_rows, id_of, alone_found}
@@ -54,10 +53,6 @@ tested recipes rows jobs batches control b e =
 
 -- ---- the control recipe
 
-where_so : {A : Type 0} (test : Bool) (o : Option A) (y : A) → (if test then o else None) ≡ Some y → o ≡ Some y
-where_so true o y e = e
-where_so false o y e = absurd (cc)
-
 -- a control recipe that was found by tests is the one that the order's header scales
 scaled_from : (rows : List MasterLine) (o : OrderRow) (found : Option Recipe) (lines : List RecipeLine) → ((q : Recipe) → found ≡ Some q → (q.header.recipe ≡ o.recipe) × (q.header.version ≡ o.version)) → control_from rows o.size found ≡ Some lines
     → view.control_from rows o (option_map (λ q. q.header) found) ≡ Some lines
@@ -65,7 +60,7 @@ scaled_from rows o None lines key e = absurd (cc)
 scaled_from rows o (Some q) lines key e =
     let own = lines_among rows q.header.recipe q.header.version in
     let k = key q refl in
-    let scaled : control_of q.header own o.size ≡ Some lines = where_so (is_size_of q.header o.size) (control_of q.header own o.size) lines (where_so (is_well_formed q.header own) (control_sized q.header own o.size) lines e) in
+    let scaled = (where_true (is_size_of q.header o.size) (control_of q.header own o.size) lines (where_true (is_well_formed q.header own) (control_sized q.header own o.size) lines e).1).1 in
     (λ i. control_of q.header (lines_among rows (sym k.0 i) (sym k.1 i)) o.size) ∙ scaled
 
 scaled_by : (recipes : List Recipe) (rows : List MasterLine) (j : Option Job) (lines : List RecipeLine) → control_by recipes rows j ≡ Some lines → control_of_order (headers_of recipes) rows (option_map (λ j. j.order) j) ≡ Some lines

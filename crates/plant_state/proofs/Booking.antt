@@ -1,8 +1,7 @@
 -- A row of table movement whose columns are those of its kind is the row that books its movement.
-use Rattle.std.proofs.Common.{◌≡◌, ◌∙◌, ℕ, ◌≤◌, Bool, true, false, nat_le, List, [], ◌∷◌, map, Option, Some, None, is_some, refl, sym, ap, subst, arith}
+use Rattle.std.proofs.Common.{◌≡◌, ◌∙◌, ℕ, ◌≤◌, true, nat_le, List, [], ◌∷◌, map, Option, Some, None, is_some, refl, sym, ap, subst}
 use Rattle.std.specs.List.{AllByRecursion, filter_map, cons_option}
-use Rattle.std.proofs.lemmas.Bool.{false≢true, and_parts}
-use Rattle.std.proofs.lemmas.Bool.Decides.{nat_tests}
+use Rattle.std.proofs.lemmas.Bool.{false≢true, and_parts, leb-true}
 use Rattle.plant_base.specs.Values.{greatest_sublot}
 use Rattle.plant_base.specs.declared.rows.MovementKind.{MovementKind}
 use Rattle.plant_base.specs.declared.rows.MovementKind.TheVariants as kind
@@ -66,9 +65,7 @@ all_booked (r ∷ rows) all = go (movement_from r) refl all.0 (all_booked rows a
 -- ---- the values of a movement are those of its row
 
 sublot_most : (n : ℕ) → is_in 0 greatest_sublot n ≡ true → n ≤ greatest_sublot
-sublot_most n h =
-    let most : nat_le n greatest_sublot ≡ true = (and_parts (nat_le 0 n) (nat_le n greatest_sublot) h).1 in
-    grind (arith, nat_tests)
+sublot_most n h = leb-true n greatest_sublot (and_parts (nat_le 0 n) (nat_le n greatest_sublot) h).1
 
 kind_values : (k : MovementKind) (lot : List ℕ) → IsIdOrNone (other_lot k lot) → IsSublotOrNone (other_sublot k) → IsIdOrNone (batch_of k) → HasKindValues k
 kind_values kind.Received lot a b c = tt

@@ -1,12 +1,11 @@
 -- Batches whose kept columns are the fold of their events have sound runs.
-use Rattle.std.proofs.Common.{◌≡◌, ◌∙◌, ℕ, Bool, true, false, not, List, [], ◌∷◌, map, find, Option, Some, None, Result, Ok, Err, refl, sym, ap, subst}
-use Rattle.std.specs.Prelude.{◌&&◌, ◌==◌, IsOk}
+use Rattle.std.proofs.Common.{◌≡◌, ◌∙◌, true, List, [], ◌∷◌, map, Option, Some, None, Result, Ok, Err, refl, sym, ap, subst}
+use Rattle.std.specs.Prelude.{IsOk}
 use Rattle.std.specs.List.{AllByRecursion, list_all}
 use Rattle.std.specs.Result.{result_ok}
 use Rattle.std.proofs.lemmas.Bool.{false≢true}
 use Rattle.plant_base.specs.State.{same}
 use Rattle.plant_base.specs.declared.refusal.Refusal.{Refusal}
-use Rattle.plant_base.specs.declared.states.Event.{Event}
 use Rattle.plant_base.specs.declared.states.JobState.{JobState}
 use Rattle.plant_base.specs.declared.states.JobState.TheVariants.{Open, Cancelled, Released, Finished}
 use Rattle.plant_base.specs.declared.rows.BatchEvent.{BatchEvent}
@@ -17,7 +16,7 @@ use Rattle.plant_base.specs.declared.rows.MasterLine.{MasterLine}
 use Rattle.plant_base.specs.declared.rows.Recipe.{Recipe}
 use Rattle.plant_base.specs.declared.rows.RecipeLine.{RecipeLine}
 use Rattle.plant_base.proofs.Keys.{same_id}
-use Rattle.plant_recipe.specs.Progress.{progress_of, run_of, progress_after}
+use Rattle.plant_recipe.specs.Progress.{run_of, progress_after}
 use Rattle.plant_recipe.specs.declared.progress.Progress.{Progress}
 use Rattle.plant_recipe.proofs.Runs.{goes_along}
 use Rattle.plant_view.specs.Production.{is_finished, has_finished, IsSoundRun, AreSoundRuns}

@@ -1,8 +1,8 @@
 -- Lots that pass their tests, and how their sublots came to be.
-use Rattle.std.proofs.Common.{◌≡◌, ◌∙◌, ℕ, suc, ◌+◌, ◌≤◌, Bool, true, false, cond, nat_le, List, [], ◌∷◌, length, map, filter, find, Option, Some, None, is_some, refl, sym, ap, subst, eqb-true, eq-eqb, arith}
-use Rattle.std.specs.Prelude.{◌&&◌, ◌==◌, if◌then◌else◌}
+use Rattle.std.proofs.Common.{◌≡◌, ◌∙◌, ℕ, ◌≤◌, Bool, true, false, cond, nat_le, List, [], ◌∷◌, length, map, filter, find, is_some, refl, sym, ap, subst, eqb-true, eq-eqb, arith}
+use Rattle.std.specs.Prelude.{◌==◌, if◌then◌else◌}
 use Rattle.std.specs.List.{AllByRecursion, list_all, list_any}
-use Rattle.std.proofs.lemmas.Bool.{false≢true}
+use Rattle.std.proofs.lemmas.Bool.{false≢true, leb-true}
 use Rattle.std.proofs.lemmas.Bool.Decides.{nat_tests}
 use Rattle.plant_base.specs.Values.{greatest_amount}
 use Rattle.plant_base.specs.State.{same}
@@ -20,28 +20,25 @@ use Rattle.plant_stock.specs.Stock as stock
 use Rattle.plant_view.specs.Production.{is_defined}
 use Rattle.plant_view.proofs.Rows.{all_mapped}
 use Rattle.plant_view.proofs.Tests.{and_left, and_right}
+use Rattle.plant_plan_rules.proofs.Keying.{found_any}
 use Rattle.plant_plan_rules.specs.Catalogue.{is_class_among, are_classified}
 use Rattle.plant_plan_rules.specs.Recipes.{are_numbered}
 use Rattle.plant_ledger.specs.Births.{numbers_among, AreFromZero, are_one_birth, IsBirth, IsDivision, IsBorn, AreBorn}
 use Rattle.plant_ledger.specs.Births as births
 use Rattle.plant_rows.specs.Booked.{sort_of, booked_of}
-use Rattle.plant_rows.specs.declared.booked.BookedRow.{BookedRow}
-use Rattle.plant_check.specs.Ends.{entries, total_of}
+use Rattle.plant_check.specs.Ends.{total_of}
 use Rattle.plant_check.specs.Lots.{are_from_zero, sublots_among, is_right_lot, is_division, are_of_one_sort, is_of_one_birth, is_birth, is_one_division, is_born, is_lot_among, is_right_sublot, are_in_lots, are_lots}
 use Rattle.plant_state.specs.Restoring.{place_of_sublot}
 use Rattle.plant_state.proofs.Counted.{counted}
-use Rattle.plant_state.proofs.Members.{IsIn, all_in, pass_at, any_in, finds}
+use Rattle.plant_state.proofs.Members.{IsIn, all_in, pass_at}
 use Rattle.plant_state.proofs.Stocks.{same_entries}
 
 -- one that is there is found
-pub any_found : {X : Type 0} (p : X → Bool) (xs : List X) → list_any p xs ≡ true → is_some (find p xs) ≡ true
-any_found p xs there = let x = any_in p xs there in finds p xs x.0 x.1 x.2
+any_found : {X : Type 0} (p : X → Bool) (xs : List X) → list_any p xs ≡ true → is_some (find p xs) ≡ true
+any_found p xs there = found_any p xs ∙ there
 
 pub classes_found : (classes : List Class) (definitions : List Definition) → are_classified classes definitions ≡ true → AllByRecursion (λ d. is_some (find (λ c. same c.id d.class) classes) ≡ true) definitions
 classes_found classes definitions tests = all_in (λ (d : Definition). is_some (find (λ (c : Class). same c.id d.class) classes) ≡ true) definitions (λ d h. any_found (λ (c : Class). same c.id d.class) classes (pass_at (λ d. is_class_among classes d.class) definitions d tests h))
-
-at_least : (m n : ℕ) → nat_le m n ≡ true → m ≤ n
-at_least m n e = grind (arith, nat_tests)
 
 -- ---- numbers of sublots
 
@@ -56,7 +53,7 @@ numbers_same (s ∷ sublots) lot = by (same s.lot lot) (numbers_same sublots lot
     by false more = more
 
 from_zero : (numbers : List ℕ) → are_from_zero numbers ≡ true → AreFromZero numbers
-from_zero numbers e = (at_least 1 (length numbers) (and_left (nat_le 1 (length numbers)) (are_numbered 0 numbers) e), counted 0 numbers (and_right (nat_le 1 (length numbers)) (are_numbered 0 numbers) e))
+from_zero numbers e = (leb-true 1 (length numbers) (and_left (nat_le 1 (length numbers)) (are_numbered 0 numbers) e), counted 0 numbers (and_right (nat_le 1 (length numbers)) (are_numbered 0 numbers) e))
 
 -- ---- births
 
@@ -82,7 +79,7 @@ birth [] e = absurd (false≢true e)
 birth (m ∷ ms) e =
     let of_one = list_all (is_of_one_birth (booked_of m)) (map booked_of (m ∷ ms)) in
     let few = nat_le (total_of (map booked_of (m ∷ ms))) greatest_amount in
-    (all_of_birth m (m ∷ ms) (and_left of_one few e), at_least (total_of (map booked_of (m ∷ ms))) greatest_amount (and_right of_one few e))
+    (all_of_birth m (m ∷ ms) (and_left of_one few e), leb-true (total_of (map booked_of (m ∷ ms))) greatest_amount (and_right of_one few e))
 
 division_kind : (k : MovementKind) → is_division (sort_of k) ≡ true → stock.is_division k ≡ true
 division_kind (kind.Divided to) e = refl
@@ -106,7 +103,7 @@ record IsBornBy (ms : List Movement) (s : Sublot) : Type 0 where
 born_by : (ms : List Movement) (s : Sublot) → is_born (map booked_of ms) s ≡ true → IsBornBy ms s
 born_by ms s e =
     let own : (if s.number == 0 then is_birth (map booked_of (births.entries ms s.lot s.number)) else is_one_division (map booked_of (births.entries ms s.lot s.number))) ≡ true =
-        (λ i. if s.number == 0 then is_birth (sym (same_entries ms s.lot s.number) i) else is_one_division (sym (same_entries ms s.lot s.number) i)) ∙ e in
+    (λ i. if s.number == 0 then is_birth (sym (same_entries ms s.lot s.number) i) else is_one_division (sym (same_entries ms s.lot s.number) i)) ∙ e in
     record {
       whole = λ z. ap (λ b. if b then is_birth (map booked_of (births.entries ms s.lot s.number)) else is_one_division (map booked_of (births.entries ms s.lot s.number))) (sym (eq-eqb s.number 0 z)) ∙ own;
       divided = λ l. ap (λ b. if b then is_birth (map booked_of (births.entries ms s.lot s.number)) else is_one_division (map booked_of (births.entries ms s.lot s.number))) (sym (not_zero l)) ∙ own;

@@ -1,7 +1,8 @@
 -- Lines and progresses that `==` calls equal are one.
-use Rattle.std.proofs.Common.{◌≡◌, ◌∙◌, ℕ, Bool, true, false, List, [], ◌∷◌, Option, Some, None, refl, sym, ap, eqb-true}
-use mathlib.Core.Bool.{beq}
+use Rattle.std.proofs.Common.{◌≡◌, Bool, true, false, List, [], ◌∷◌, Option, Some, None, refl, ap, eqb-true}
+use Rattle.std.proofs.Math.Bool.{beq}
 use Rattle.std.specs.Prelude.{◌&&◌, ◌==◌}
+use Rattle.std.specs.Cmp.{booleans_Decides}
 use Rattle.std.specs.Cmp.Lexicographic.{pointwise}
 use Rattle.std.proofs.lemmas.Bool.{false≢true}
 use Rattle.plant_base.specs.State.{same}
@@ -65,12 +66,6 @@ one_state state.Aborting state.Aborting h = refl
 one_state state.Aborted state.Aborted h = refl
 one_state a b h = absurd (false≢true h)
 
-one_flag : (a b : Bool) → beq a b ≡ true → a ≡ b
-one_flag true true h = refl
-one_flag true false h = absurd (false≢true h)
-one_flag false true h = absurd (false≢true h)
-one_flag false false h = refl
-
 pub one_progress : (p q : Progress) → equal_progress.eq p q ≡ true → p ≡ q
 one_progress p q h =
     let last = p.next == q.next && beq p.closed q.closed in
@@ -80,5 +75,5 @@ one_progress p q h =
     let e1 = one_state p.state q.state (and_left (equal_state.eq p.state q.state) three h) in
     let e2 = eqb-true p.attempt q.attempt (and_left (p.attempt == q.attempt) last h1) in
     let e3 = eqb-true p.next q.next (and_left (p.next == q.next) (beq p.closed q.closed) h2) in
-    let e4 = one_flag p.closed q.closed (and_right (p.next == q.next) (beq p.closed q.closed) h2) in
+    let e4 = (booleans_Decides p.closed q.closed).0 (and_right (p.next == q.next) (beq p.closed q.closed) h2) in
     λ i. record { state = e1 i; attempt = e2 i; next = e3 i; closed = e4 i }

@@ -1,7 +1,8 @@
 -- Moments that pass their tests don't fall as the numbers rise.
-use Rattle.std.proofs.Common.{◌≡◌, ◌∙◌, ℕ, ◌<◌, ◌≤◌, Bool, true, false, not, nat_le, nat_lt, List, [], ◌∷◌, ◌++◌, map, refl, sym, ap, subst, arith}
-use Rattle.std.specs.Prelude.{◌&&◌, ◌||◌}
+use Rattle.std.proofs.Common.{◌≡◌, ℕ, ◌≤◌, true, nat_le, List, [], ◌∷◌, map, refl, sym, ap, subst, arith}
+use Rattle.std.specs.Prelude.{◌&&◌}
 use Rattle.std.specs.List.{AllByRecursion, list_all}
+use Rattle.std.proofs.lemmas.Bool.{leb-true}
 use Rattle.std.proofs.lemmas.Bool.Decides.{nat_tests}
 use Rattle.plant_base.specs.declared.rows.Batch.{Batch}
 use Rattle.plant_base.specs.declared.rows.BatchEvent.{BatchEvent}
@@ -42,11 +43,8 @@ rising xs e =
     xs (each_passes (λ (a : ℕ × ℕ). list_all (is_no_later a) xs) xs e))
 
 module _ {X : Type 0} (moment : X → ℕ) (at : ℕ) where
-  by_then : (m n : ℕ) → nat_le m n ≡ true → m ≤ n
-  by_then m n e = grind (arith, nat_tests)
-
   all_by : (xs : List X) → list_all (λ x. nat_le (moment x) at) xs ≡ true → AllByRecursion (λ x. moment x ≤ at) xs
-  all_by xs e = all_weaker (λ (x : X). nat_le (moment x) at ≡ true) (λ x. moment x ≤ at) (λ x h. by_then (moment x) at h) xs (each_passes (λ (x : X). nat_le (moment x) at) xs e)
+  all_by xs e = all_weaker (λ (x : X). nat_le (moment x) at ≡ true) (λ x. moment x ≤ at) (λ x h. leb-true (moment x) at h) xs (each_passes (λ (x : X). nat_le (moment x) at) xs e)
 
 pub sound_moments : (at : ℕ) (ms : List Movement) (es : List BatchEvent) (batches : List BatchRow) (holds : List Hold) → are_times at ms es batches holds ≡ true → HasMoments at ms es (map batch_without_columns batches) holds
 sound_moments at ms es batches holds tests =

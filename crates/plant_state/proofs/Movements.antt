@@ -1,10 +1,9 @@
 -- Movements that pass their tests: what they name is there, and what they bring and take is covered.
-use Rattle.std.proofs.Common.{◌≡◌, ◌∙◌, ℕ, suc, ◌+◌, ◌-◌, ◌≤◌, Bool, true, false, List, [], ◌∷◌, map, filter, find, Option, Some, None, is_some, refl, sym, ap, subst, eqb-true, arith, zero}
+use Rattle.std.proofs.Common.{◌≡◌, ◌∙◌, ℕ, suc, ◌+◌, ◌-◌, ◌≤◌, Bool, true, false, List, [], ◌∷◌, map, find, Option, Some, None, is_some, refl, sym, ap, subst, arith, zero}
 use Rattle.std.specs.Prelude.{◌&&◌, ◌==◌, nat_le}
-use Rattle.std.specs.List.{AllByRecursion, list_all, list_any}
-use Rattle.std.proofs.lemmas.Bool.{false≢true}
-use Rattle.std.proofs.lemmas.Bool.Decides.{nat_tests}
-use Rattle.plant_base.specs.Values.{is_amount, greatest_amount}
+use Rattle.std.specs.List.{AllByRecursion}
+use Rattle.std.proofs.lemmas.Bool.{false≢true, leb-true}
+use Rattle.plant_base.specs.Values.{greatest_amount}
 use Rattle.plant_base.specs.State.{same}
 use Rattle.plant_base.specs.declared.rows.Batch.{Batch}
 use Rattle.plant_base.specs.declared.rows.BatchRow.{BatchRow}
@@ -17,14 +16,13 @@ use Rattle.plant_base.specs.declared.rows.Place.{Place}
 use Rattle.plant_base.specs.declared.rows.Sublot.{Sublot}
 use Rattle.plant_base.proofs.Keys.{same_id, same_key}
 use Rattle.plant_stock.specs.Stock.{goes_to, comes_from, is_place, entered, left}
-use Rattle.plant_view.specs.Conserve.{is_of_lot, is_of}
+use Rattle.plant_view.specs.Conserve.{is_of_lot}
 use Rattle.plant_view.specs.Genealogy.{batch_by, IsBatchThere}
 use Rattle.plant_view.specs.Production.{control_among}
 use Rattle.plant_view.specs.Sound.{IsThere, IsOneMaterial}
 use Rattle.plant_view.specs.Tables.{sublot_row}
 use Rattle.plant_view.proofs.Rows.{none_left, all_filtered}
 use Rattle.plant_view.proofs.Tests.{and_left, and_right}
-use Rattle.plant_plan_rules.specs.Batches.{is_batch_among}
 use Rattle.plant_rules.specs.Splitting.{def_of}
 use Rattle.plant_rules.specs.Consumption.{is_taken, is_made}
 use Rattle.plant_stock_rules.specs.Movements.{is_there, is_batch_there, names_known, lot_among, are_of_one, is_asked_for, is_yielded, is_of_right_definition, is_of_right_merge, is_right_movement, are_movements}
@@ -40,7 +38,7 @@ use Rattle.plant_check.specs.Lots.{are_lots}
 use Rattle.plant_state.specs.Restoring.{state_in, place_of_sublot, batch_without_columns}
 use Rattle.plant_state.proofs.Histories.{joined_again}
 use Rattle.plant_state.proofs.Lots.{small_birth, one_division}
-use Rattle.plant_state.proofs.Members.{IsIn, all_in, all_at, pass_at, any_in, finds, found_in, in_map}
+use Rattle.plant_state.proofs.Members.{IsIn, all_in, pass_at, any_in, finds, found_in, in_map}
 use Rattle.plant_state.proofs.Stocks.{movement_exits, entered_of, left_of, stock_is}
 
 -- ---- one movement
@@ -143,13 +141,13 @@ module _ (r : Rows) (tests : are_movements r.lots r.sublots r.batches r.control_
     never_entered : entered (movements_in r.movements) lot number ≡ 0
     never_entered =
         let no_entry : births.entries (movements_in r.movements) lot number ≡ [] = none_left (λ (m : Movement). is_place (goes_to m.kind m.lot m.sub) lot number) (movements_in r.movements)
-            (all_in (λ (m : Movement). is_place (goes_to m.kind m.lot m.sub) lot number ≡ false) (movements_in r.movements) (λ m h. not_there (goes_to m.kind m.lot m.sub) (goes m h) (is_place (goes_to m.kind m.lot m.sub) lot number) refl)) in
+        (all_in (λ (m : Movement). is_place (goes_to m.kind m.lot m.sub) lot number ≡ false) (movements_in r.movements) (λ m h. not_there (goes_to m.kind m.lot m.sub) (goes m h) (is_place (goes_to m.kind m.lot m.sub) lot number) refl)) in
         sym (entered_of (movements_in r.movements) lot number) ∙ ap (λ es. total_of (map booked_of es)) no_entry
 
     never_left : left (movements_in r.movements) lot number ≡ 0
     never_left =
         let no_exit : movement_exits (movements_in r.movements) lot number ≡ [] = none_left (λ (m : Movement). is_place (comes_from m.kind m.lot m.sub) lot number) (movements_in r.movements)
-            (all_in (λ (m : Movement). is_place (comes_from m.kind m.lot m.sub) lot number ≡ false) (movements_in r.movements) (λ m h. not_there (comes_from m.kind m.lot m.sub) (comes m h) (is_place (comes_from m.kind m.lot m.sub) lot number) refl)) in
+        (all_in (λ (m : Movement). is_place (comes_from m.kind m.lot m.sub) lot number ≡ false) (movements_in r.movements) (λ m h. not_there (comes_from m.kind m.lot m.sub) (comes m h) (is_place (comes_from m.kind m.lot m.sub) lot number) refl)) in
         sym (left_of (movements_in r.movements) lot number) ∙ ap (λ es. total_of (map booked_of es)) no_exit
 
   -- ---- stocks
@@ -178,12 +176,9 @@ module _ (r : Rows) (tests : are_movements r.lots r.sublots r.batches r.control_
       pub all_small : (lot : List ℕ) (number : ℕ) → entered (movements_in r.movements) lot number ≤ greatest_amount
       all_small lot number = by (find (λ (s : Sublot). same s.lot lot && s.number == number) r.sublots) refl
         where
-          amount_small : (n : ℕ) → is_amount n ≡ true → n ≤ greatest_amount
-          amount_small n e = let most : nat_le n greatest_amount ≡ true = and_right (nat_le 1 n) (nat_le n greatest_amount) e in grind (arith, nat_tests)
-
           single : (es : List Movement) → IsDivision es → AllByRecursion HasMovementValues es → total_of (map booked_of es) ≤ greatest_amount
           single [] d v = absurd d
-          single (m ∷ []) d v = let small = amount_small m.amount v.0.amount in omega (arith, small)
+          single (m ∷ []) d v = let small = leb-true m.amount greatest_amount (and_right (nat_le 1 m.amount) (nat_le m.amount greatest_amount) v.0.amount) in omega (arith, small)
           single (m ∷ n ∷ es) d v = absurd d
 
           divided : (n : ℕ) (s : Sublot) → IsIn s r.sublots → s.number ≡ n → total_of (map booked_of (births.entries (movements_in r.movements) s.lot s.number)) ≤ greatest_amount

@@ -1,15 +1,12 @@
 -- Numbers that pass their tests: the movements of each number are the lines of one booking.
-use Rattle.std.proofs.Common.{◌≡◌, ◌∙◌, ℕ, suc, ◌+◌, ◌<◌, ◌≤◌, Bool, true, false, cond, not, nat_le, nat_lt, List, [], ◌∷◌, length, map, filter, Option, Some, None, refl, sym, ap, subst, inl, inr, ◌⊎◌, eqb-true, eq-eqb, arith}
+use Rattle.std.proofs.Common.{◌≡◌, ◌∙◌, ℕ, ◌+◌, ◌<◌, ◌≤◌, Bool, true, false, cond, not, nat_le, nat_lt, List, [], ◌∷◌, length, map, Option, Some, None, refl, sym, ap, subst, inl, inr, ◌⊎◌, eqb-true, eq-eqb, arith}
 use Rattle.std.specs.Prelude.{◌&&◌, ◌||◌, ◌==◌, if◌then◌else◌}
 use Rattle.std.specs.List.{AllByRecursion, list_all, list_any}
 use Rattle.std.specs.List.Sorted.{IsStrictlySortedBy}
 use Rattle.std.specs.Cmp.{nat_cmp_is}
 use Rattle.std.specs.Ordering.{nat_cmp, ordering_then}
-use Rattle.std.specs.declared.cmp.Ordering.{Ordering}
 use Rattle.std.specs.declared.cmp.Ordering.TheVariants.{Less, Greater}
-use Rattle.std.proofs.lemmas.Bool.{false≢true, cases_lt}
-use Rattle.std.proofs.lemmas.Bool.Decides.{nat_tests}
-use Rattle.plant_base.specs.State.{same}
+use Rattle.std.proofs.lemmas.Bool.{false≢true, cases_lt, leb-true, ltb-true}
 use Rattle.plant_base.specs.declared.rows.BatchEvent.{BatchEvent}
 use Rattle.plant_base.specs.declared.rows.Movement.{Movement}
 use Rattle.plant_base.specs.declared.rows.MovementKind.{MovementKind}
@@ -17,12 +14,12 @@ use Rattle.plant_base.specs.declared.rows.MovementKind.TheVariants as kind
 use Rattle.plant_base.proofs.Keys.{same_id}
 use Rattle.plant_base.proofs.Put.{all_weaker}
 use Rattle.plant_stock.specs.Stock.{goes_to, comes_from, is_place}
-use Rattle.plant_view.proofs.Rows.{filtered_passes, none_left, each_passes}
+use Rattle.plant_view.proofs.Rows.{none_left, each_passes}
 use Rattle.plant_view.proofs.Tests.{and_left, and_right, not_true, each_fails}
 use Rattle.plant_stock_rules.specs.Movements.{is_merged, parts_of, are_distinct, are_parts, is_of_right_merge}
 use Rattle.plant_stock_rules.specs.Numbering.{is_given, is_next_part, is_line_after, is_next_line, are_lines, is_apart, is_entered_before, has_right_number, are_numbers}
 use Rattle.plant_ledger.specs.Births.{entries}
-use Rattle.plant_ledger.specs.Bookings.{greatest_parts, movement_order, event_order, AreCounted, booked, are_one_merge, AreOfOneMerge, is_one_source, AreDistinct, IsBooking, IsEnteredBefore, IsNumbered}
+use Rattle.plant_ledger.specs.Bookings.{greatest_parts, movement_order, event_order, AreCounted, booked, are_one_merge, is_one_source, AreDistinct, IsBooking, IsEnteredBefore, IsNumbered}
 use Rattle.plant_ledger.proofs.Listing.{all_passing, numbers_differ}
 use Rattle.plant_state.proofs.Members.{IsIn, all_in, pass_at, filter_in}
 
@@ -158,31 +155,19 @@ module _ (ms : List Movement) (merges : (m : Movement) → IsIn m ms → is_of_r
       let most : nat_le (length (m ∷ x ∷ rest)) greatest_parts ≡ true = and_left (nat_le (length (m ∷ x ∷ rest)) greatest_parts) (are_distinct (m ∷ x ∷ rest)) parts in
       record {
         numbered = (chain.0, chain.1.0);
-        few = at_most (length (m ∷ x ∷ rest)) greatest_parts most;
+        few = leb-true (length (m ∷ x ∷ rest)) greatest_parts most;
         merged = chain.1.1;
         distinct = distinct (m ∷ x ∷ rest) (and_right (nat_le (length (m ∷ x ∷ rest)) greatest_parts) (are_distinct (m ∷ x ∷ rest)) parts);
       }
-    where
-      at_most : (a b : ℕ) → nat_le a b ≡ true → a ≤ b
-      at_most a b e = grind (arith, nat_tests)
 
 -- ---- all of it
 
 given : (greatest seq : ℕ) → is_given greatest seq ≡ true → (1 ≤ seq) × (seq ≤ greatest)
-given greatest seq e = (low (and_left (nat_le 1 seq) (nat_le seq greatest) e), high (and_right (nat_le 1 seq) (nat_le seq greatest) e))
-  where
-    low : nat_le 1 seq ≡ true → 1 ≤ seq
-    low h = grind (arith, nat_tests)
-
-    high : nat_le seq greatest ≡ true → seq ≤ greatest
-    high h = grind (arith, nat_tests)
+given greatest seq e = (leb-true 1 seq (and_left (nat_le 1 seq) (nat_le seq greatest) e), leb-true seq greatest (and_right (nat_le 1 seq) (nat_le seq greatest) e))
 
 before_it : (ms : List Movement) (seq : ℕ) (k : Option (List ℕ × ℕ)) → is_entered_before ms seq k ≡ true → IsEnteredBefore ms seq k
 before_it ms seq None e = tt
-before_it ms seq (Some k) e = all_passing (λ (m : Movement). m.seq < seq) (λ m. is_place (goes_to m.kind m.lot m.sub) k.0 k.1) ms (all_weaker (λ (m : Movement). nat_lt m.seq seq ≡ true) (λ m. m.seq < seq) (λ m h. lower m.seq h) (entries ms k.0 k.1) (each_passes (λ (m : Movement). nat_lt m.seq seq) (entries ms k.0 k.1) e))
-  where
-    lower : (n : ℕ) → nat_lt n seq ≡ true → n < seq
-    lower n h = grind (arith, nat_tests)
+before_it ms seq (Some k) e = all_passing (λ (m : Movement). m.seq < seq) (λ m. is_place (goes_to m.kind m.lot m.sub) k.0 k.1) ms (all_weaker (λ (m : Movement). nat_lt m.seq seq ≡ true) (λ m. m.seq < seq) (λ m h. ltb-true m.seq seq h) (entries ms k.0 k.1) (each_passes (λ (m : Movement). nat_lt m.seq seq) (entries ms k.0 k.1) e))
 
 apart_from : (events : List BatchEvent) (m : Movement) → is_apart events m ≡ true → AllByRecursion (λ e. (m.seq == e.seq) ≡ false) events
 apart_from events m h = all_weaker (λ (e : BatchEvent). (e.seq == m.seq) ≡ false) (λ e. (m.seq == e.seq) ≡ false) (λ e f. numbers_differ m.seq e.seq (λ s. false≢true (sym f ∙ eq-eqb e.seq m.seq (sym s)))) events

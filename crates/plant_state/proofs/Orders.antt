@@ -1,7 +1,7 @@
 -- Orders that pass their tests are sound.
-use Rattle.std.proofs.Common.{◌≡◌, ◌∙◌, ℕ, Bool, true, false, List, [], ◌∷◌, map, find, Option, Some, None, is_some, option_map, refl, sym, ap}
+use Rattle.std.proofs.Common.{◌≡◌, ◌∙◌, ℕ, true, List, map, Option, Some, None, is_some, option_map, refl, ap}
 use Rattle.std.specs.Prelude.{◌&&◌, ◌==◌}
-use Rattle.std.specs.List.{AllByRecursion, list_all}
+use Rattle.std.specs.List.{AllByRecursion}
 use Rattle.std.specs.List.Sorted.{IsStrictlySortedBy}
 use Rattle.std.proofs.lemmas.Bool.{false≢true}
 use Rattle.plant_base.specs.State.{same, job_order}
@@ -13,7 +13,7 @@ use Rattle.plant_base.specs.declared.rows.OrderRow.{OrderRow}
 use Rattle.plant_base.specs.declared.rows.Recipe.{Recipe}
 use Rattle.plant_base.specs.declared.states.JobState.{JobState}
 use Rattle.plant_base.specs.declared.states.JobState.TheVariants.{Open, Cancelled, Released, Finished}
-use Rattle.plant_view.specs.Production.{headers_of, header_among, orders_of, batch_among, is_size_of_some, has_batch, HasGoodOrder, AreSoundOrders}
+use Rattle.plant_view.specs.Production.{headers_of, header_among, batch_among, is_size_of_some, has_batch, HasGoodOrder, AreSoundOrders}
 use Rattle.plant_view.proofs.Rows.{all_mapped, find_mapped, some_mapped}
 use Rattle.plant_view.proofs.Tests.{and_left, and_right}
 use Rattle.plant_plan_rules.specs.Orders.{recipe_among, is_size_of_recipe, row_of_order, is_started, is_right_order, are_orders}
@@ -64,7 +64,7 @@ module _ (recipes : List Recipe) (batches : List BatchRow) (jobs : List Job) (te
     values = all_mapped HasGoodOrder (λ j. j.order) jobs values;
     sized = all_mapped (λ (o : OrderRow). is_size_of_some (header_among (headers_of recipes) o.recipe o.version) o.size ≡ true) (λ j. j.order) jobs
         (all_in (λ (j : Job). is_size_of_some (header_among (headers_of recipes) j.order.recipe j.order.version) j.order.size ≡ true) jobs (λ j h.
-            ap (λ o. is_size_of_some o j.order.size) (header_found recipes j.order.recipe j.order.version) ∙ sized_same (recipe_among recipes j.order.recipe j.order.version) j.order.size ∙ (tested_order j h).sized));
+        ap (λ o. is_size_of_some o j.order.size) (header_found recipes j.order.recipe j.order.version) ∙ sized_same (recipe_among recipes j.order.recipe j.order.version) j.order.size ∙ (tested_order j h).sized));
     started = all_in (λ (j : Job). is_some (batch_among (map batch_without_columns batches) j.order.order) ≡ has_batch j.state) jobs (λ j h.
         ap is_some (batch_found batches j.order.order) ∙ some_mapped batch_without_columns (row_of_order batches j.order.order) ∙ has_one j.state (row_of_order batches j.order.order) (tested_order j h).started);
   }

@@ -1,8 +1,5 @@
 -- Rows that break no rule pass the test of each.
-use Rattle.std.proofs.Common.{◌≡◌, Bool, true, false, List, Option, Some, None, refl}
-use Rattle.std.specs.Prelude.{◌&&◌}
-use Rattle.plant_base.specs.declared.rows.Movement.{Movement}
-use Rattle.plant_trace.specs.declared.node.Node.{Node}
+use Rattle.std.proofs.Common.{◌≡◌, Bool, true, false, Option, Some, None, refl}
 use Rattle.plant_view.specs.Genealogy.{edges_among}
 use Rattle.plant_view.proofs.Tests.{and_left, and_right}
 use Rattle.plant_plan_rules.specs.Catalogue.{are_classified}

@@ -1,12 +1,9 @@
 -- Rows that break no rule are those of a good state's tables.
-use Rattle.std.proofs.Common.{◌≡◌, ◌∙◌, ℕ, ◌≤◌, Bool, true, List, map, Option, Some, None, is_some, refl, sym, ap, subst}
+use Rattle.std.proofs.Common.{◌≡◌, ◌∙◌, ◌≤◌, true, map, Option, Some, None, is_some, refl, sym, ap, subst}
 use Rattle.std.specs.List.{AllByRecursion}
-use Rattle.sqlite.specs.Effect.{Database}
 use Rattle.plant_base.specs.Values.{greatest_sublot}
 use Rattle.plant_base.specs.State.{newest_schema, batch_order, place_order}
-use Rattle.plant_base.specs.declared.rows.Movement.{Movement}
 use Rattle.plant_base.specs.declared.rows.Place.{Place}
-use Rattle.plant_base.specs.declared.rows.Sublot.{Sublot}
 use Rattle.plant_base.proofs.Put.{all_weaker}
 use Rattle.plant_view.specs.Genealogy.{edges_among}
 use Rattle.plant_view.specs.Sound.{IsSound}
@@ -14,12 +11,8 @@ use Rattle.plant_view.specs.Tables.{tables_of}
 use Rattle.plant_view.proofs.Rows.{all_mapped, each_passes, sorted_mapped}
 use Rattle.plant_ledger.specs.Good.{IsGood}
 use Rattle.plant_ledger.specs.Valued.{HasRowValues, HasPlaceValues, HasMovementValues}
-use Rattle.plant_forms.specs.Standing.{Stands, StandIn}
-use Rattle.plant_tables.specs.DeskForms.{desk_forms}
+use Rattle.plant_forms.specs.Standing.{Stands}
 use Rattle.plant_tables.specs.DeskTables.{contents_of}
-use Rattle.plant_tables.specs.Keyed.{HoldsTables}
-use Rattle.plant_loaded.specs.Loading.{contents_loaded}
-use Rattle.plant_loaded.specs.declared.loaded.Loaded.{Loaded}
 use Rattle.plant_rows.specs.Booked.{movement_from, booked_of}
 use Rattle.plant_rows.specs.Collecting.{Rows, rows_from, tables_in, AreWhole, AreInOrder}
 use Rattle.plant_rows.specs.Judging.{only_meta}
@@ -29,7 +22,7 @@ use Rattle.plant_check.specs.Broken.{movements_in, broken_rows, first_broken_of,
 use Rattle.plant_check.specs.Ends.{are_stocks}
 use Rattle.plant_check.specs.Lots.{are_lots}
 use Rattle.plant_check.proofs.Cycles.{to_acyclic}
-use Rattle.plant_state.specs.Restoring.{state_in, place_of_sublot, batch_without_columns, AreOfGood, AreUnbroken, UnbrokenIsRead, UnbrokenIsGood, UnbrokenHolds}
+use Rattle.plant_state.specs.Restoring.{state_in, place_of_sublot, batch_without_columns, UnbrokenIsRead, UnbrokenIsGood, UnbrokenHolds}
 use Rattle.plant_state.proofs.Batches.{control_numbered, sound_batches}
 use Rattle.plant_state.proofs.Booking.{all_booked, movement_values}
 use Rattle.plant_state.proofs.Histories.{witnessed, sound_runs, same_batches}

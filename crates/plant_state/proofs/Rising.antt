@@ -1,5 +1,5 @@
 -- The rows that were read stand in the order of their keys.
-use Rattle.std.proofs.Common.{◌≡◌, ◌∙◌, ℕ, pos, List, [], ◌∷◌, map, Bool, Some, is_lt, refl, sym, subst}
+use Rattle.std.proofs.Common.{◌≡◌, ◌∙◌, List, [], ◌∷◌, map, Bool, Some, is_lt, refl, sym, subst}
 use Rattle.std.specs.Cmp.{IsTotalOrder}
 use Rattle.std.specs.List.{AllByRecursion}
 use Rattle.std.specs.List.Sorted.{IsStrictlySortedBy}
@@ -18,7 +18,7 @@ use Rattle.plant_loaded.specs.declared.loaded.Loaded.{Loaded}
 use Rattle.plant_rows.specs.Collecting.{Rows, rows_from, tables_in, event_order, movement_order, AreWhole, AreInOrder}
 use Rattle.plant_rows.proofs.KeyLemmas.{by_text, text_total, by_number, number_total, by_both, both_total}
 use Rattle.plant_rows.proofs.SortedLemmas.{int_cmp_pos, strictly_sorted}
-use Rattle.plant_rows.proofs.StandLemmas.{AreStored, are_stored}
+use Rattle.plant_rows.proofs.StandLemmas.{are_stored}
 use Rattle.plant_rows.proofs.AgainLemmas.{numbered_by, line_by}
 
 -- ---- from keys that rise to rows that do

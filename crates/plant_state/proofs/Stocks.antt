@@ -1,14 +1,12 @@
 -- Stocks that pass their tests: what the rows bring to a sublot and take from it is what their movements do.
-use Rattle.std.proofs.Common.{◌≡◌, ◌∙◌, ℕ, ◌+◌, ◌-◌, ◌≤◌, Bool, true, false, cond, List, [], ◌∷◌, map, filter, Option, Some, None, is_some, find, refl, sym, ap, subst, eqb-true, arith}
-use Rattle.std.specs.Prelude.{◌&&◌, ◌==◌, sum_by, if◌then◌else◌}
-use Rattle.std.specs.List.{AllByRecursion, list_all}
-use Rattle.std.proofs.lemmas.Bool.{false≢true}
+use Rattle.std.proofs.Common.{◌≡◌, ◌∙◌, ℕ, ◌+◌, Bool, true, false, cond, List, [], ◌∷◌, map, filter, refl, sym, ap, eqb-true, arith}
+use Rattle.std.specs.Prelude.{sum_by, if◌then◌else◌}
 use Rattle.std.proofs.lemmas.List.Sums.{sum_by-cons}
 use Rattle.plant_base.specs.declared.rows.Movement.{Movement}
 use Rattle.plant_base.specs.declared.rows.MovementKind.{MovementKind}
 use Rattle.plant_base.specs.declared.rows.MovementKind.TheVariants as kind
 use Rattle.plant_base.specs.declared.rows.Sublot.{Sublot}
-use Rattle.plant_stock.specs.Stock.{goes_to, comes_from, is_place, entering, leaving, entered, left}
+use Rattle.plant_stock.specs.Stock.{goes_to, comes_from, is_place, entered, left}
 use Rattle.plant_ledger.specs.Births as births
 use Rattle.plant_rows.specs.Booked.{booked_of}
 use Rattle.plant_rows.specs.declared.booked.BookedRow.{BookedRow}

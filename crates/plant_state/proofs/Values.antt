@@ -1,12 +1,13 @@
 -- Values that were read obey their rules.
-use Rattle.std.proofs.Common.{◌≡◌, ◌∙◌, ℕ, ◌≤◌, ℤ, pos, negsuc, List, [], ◌∷◌, Vec, Bool, true, false, Option, Some, None, option_map, nat_le, codes, refl, sym, ap, subst}
+use Rattle.std.proofs.Common.{◌≡◌, ℕ, ◌≤◌, ℤ, pos, negsuc, List, [], ◌∷◌, Vec, true, false, Option, Some, None, option_map, nat_le, codes, subst}
 use Rattle.std.specs.Prelude.{if◌then◌else◌, ◌&&◌, ◌==◌, option_and_then, length}
 use Rattle.std.specs.List.{AllByRecursion}
 use Rattle.std.specs.declared.alloc.Global.{Global}
 use Rattle.std.proofs.lemmas.Bool.{and_parts}
+use Rattle.std.specs.Cmp.Derive.{both_true}
 use Rattle.plant_base.specs.Values.{is_id, is_text, is_unit, is_moment, greatest_amount, greatest_moment, greatest_phase, greatest_priority, greatest_seq, greatest_sublot, greatest_version}
 use Rattle.plant_base.specs.Dates.{is_due}
-use Rattle.plant_base.specs.Formed.{is_version, is_priority, HasHeaderValues, HasLineValues}
+use Rattle.plant_base.specs.Formed.{is_version, HasHeaderValues, HasLineValues}
 use Rattle.plant_base.specs.State.{same}
 use Rattle.plant_base.specs.declared.command.Stamp.{Stamp}
 use Rattle.plant_base.specs.declared.states.Event.{Event}
@@ -30,7 +31,7 @@ use Rattle.plant_base.specs.declared.rows.Sublot.{Sublot}
 use Rattle.plant_base.specs.declared.rows.Hold.{Hold}
 use Rattle.plant_recipe.specs.Progress.{greatest_attempt}
 use Rattle.plant_view.specs.Production.{HasBatchValues, HasGoodOrder}
-use Rattle.plant_ledger.specs.Valued.{HasClassValues, HasDefinitionValues, HasMasterValues, HasControlValues, HasLotValues, HasPlaceValues, HasPhaseNumber, HasEventValues, HasHoldValues}
+use Rattle.plant_ledger.specs.Valued.{HasClassValues, HasDefinitionValues, HasMasterValues, HasControlValues, HasLotValues, HasPhaseNumber, HasEventValues, HasHoldValues}
 use Rattle.plant_loaded.specs.declared.meta.StoredMeta.{StoredMeta}
 use Rattle.plant_loaded.specs.declared.masters.StoredClass.{StoredClass}
 use Rattle.plant_loaded.specs.declared.masters.StoredDefinition.{StoredDefinition}
@@ -264,12 +265,8 @@ order_good x r h =
     let same : record { order = p1.0; recipe = p2.0; version = p3.0; size = p4.0; due = p5.0; priority = p6.0 } ≡ r = some_same _ _ p6.2 in
     subst HasGoodOrder same (
       record { order = id_good _ p1.0 p1.1; recipe = id_good _ p2.0 p2.1; size = number_good 1 greatest_amount x.size p4.0 p4.1; due = due_good _ p5.0 p5.1 },
-      both_true (is_version p3.0) (is_priority p6.0) (number_good 1 greatest_version x.version p3.0 p3.1) (number_good 1 greatest_priority x.priority p6.0 p6.1),
+      both_true (number_good 1 greatest_version x.version p3.0 p3.1) (number_good 1 greatest_priority x.priority p6.0 p6.1),
     )
-  where
-    both_true : (a b : Bool) → a ≡ true → b ≡ true → (a && b) ≡ true
-    both_true true b e f = f
-    both_true false b e f = e
 
 job_good : (x : StoredJob) (r : Job) → job_from x ≡ Some r → HasGoodOrder r.order
 unfolding job_from

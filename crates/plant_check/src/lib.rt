@@ -9,3 +9,8 @@ mod rule;
 
 pub use checking::{check, check_rows};
 pub use rule::Rule;
+
+#[cfg(test)]
+mod good_desk;
+#[cfg(test)]
+mod tests;

@@ -9,5 +9,5 @@ mod Recipes
 mod Stocks
 mod Testing
 mod Times
-mod Unbroken
+pub mod Unbroken
 mod Values

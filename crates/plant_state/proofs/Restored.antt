@@ -121,18 +121,18 @@ module _ (r : Rows) (p : PassesAll r) where
       λ i. record (tables_in r) { meta = record r.meta { schema = newest i }; batches = sym batches i; sublots = sym sublots i }
 
 pub unbroken_good : UnbrokenIsGood
-unbroken_good db x r u =
+unbroken_good x r u =
     let p = passes_all r u.unbroken in
     let w = whole r p in
     record {
-      good = good r p (have_values x r u.read) (in_order db x r u.loaded u.read w);
+      good = good r p (have_values x r u.read) (in_order x r u.rising u.read w);
       whole = w;
       tables = same_tables r p u.newest;
     }
 
 pub unbroken_holds : UnbrokenHolds
 unbroken_holds db x r u stand =
-    let g = unbroken_good db x r u in
+    let g = unbroken_good x r u in
     record {
       sound = stand.sound;
       each = λ i form e. subst (Stands db form) (stands_for x r u.read g.whole i ∙ ap (λ t. contents_of t i) g.tables) (stand.each i form e);

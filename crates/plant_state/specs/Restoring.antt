@@ -12,7 +12,7 @@ use Rattle.plant_ledger.specs.Good.{IsGood}
 use Rattle.plant_forms.specs.Standing.{StandIn}
 use Rattle.plant_tables.specs.DeskForms.{desk_forms}
 use Rattle.plant_tables.specs.Keyed.{HoldsTables}
-use Rattle.plant_loaded.specs.Loading.{AreLoaded, contents_loaded}
+use Rattle.plant_loaded.specs.Loading.{AreRising, contents_loaded}
 use Rattle.plant_loaded.specs.declared.loaded.Loaded.{Loaded}
 use Rattle.plant_rows.specs.Booked.{movement_from}
 use Rattle.plant_rows.specs.Collecting.{Rows, rows_from, tables_in, AreWhole}
@@ -51,9 +51,9 @@ pub record AreOfGood (r : Rows) : Type 0 where
   pub whole : AreWhole r
   pub tables : tables_in r ≡ tables_of newest_schema (state_in r)
 
--- these rows of the newest schema were loaded, and break no rule
-pub record AreUnbroken (db : Database) (x : Loaded) (r : Rows) : Type 0 where
-  pub loaded : AreLoaded db x
+-- these rows of the newest schema were loaded, each table by its key, and break no rule
+pub record AreUnbroken (x : Loaded) (r : Rows) : Type 0 where
+  pub rising : AreRising x
   pub read : rows_from x ≡ Some r
   pub unbroken : first_broken_of r ≡ None
   pub newest : r.meta.schema ≡ newest_schema
@@ -66,8 +66,8 @@ UnbrokenIsRead = (x : Loaded) → first_broken x ≡ None → (r : Rows) × (row
 
 -- rows that break no rule are those of a good state's tables
 abbrev pub UnbrokenIsGood : Type 0
-UnbrokenIsGood = (db : Database) (x : Loaded) (r : Rows) → AreUnbroken db x r → AreOfGood r
+UnbrokenIsGood = (x : Loaded) (r : Rows) → AreUnbroken x r → AreOfGood r
 
 -- and the database that they were loaded from holds these tables
 abbrev pub UnbrokenHolds : Type 0
-UnbrokenHolds = (db : Database) (x : Loaded) (r : Rows) → AreUnbroken db x r → StandIn desk_forms db (contents_loaded x) → HoldsTables db (tables_of newest_schema (state_in r))
+UnbrokenHolds = (db : Database) (x : Loaded) (r : Rows) → AreUnbroken x r → StandIn desk_forms db (contents_loaded x) → HoldsTables db (tables_of newest_schema (state_in r))

@@ -12,14 +12,16 @@ use Rattle.plant_rows.specs.declared.desk_rows.DeskRows.{DeskRows}
 use Rattle.plant_rows.proofs.WholeLemmas.{same_tables}
 use Rattle.plant_check.specs.Broken.{first_broken_of}
 use Rattle.plant_desk.proofs.Plain.{plain, plain_tables}
-use Rattle.plant_store.specs.Reading.{state_in}
+use Rattle.plant_state.specs.Restoring.{state_in}
 use Rattle.plant_store.specs.Standing.{StandsAt}
-use Rattle.plant_store.proofs.Laws.{unbroken_good, read_good}
+use Rattle.plant_state.proofs.Restored.{unbroken_good}
+use Rattle.plant_good.proofs.Unbroken.{read_good}
 
 pub good_of : (x : Loaded) (r : Result DeskRows Fault) → AreRising x → IfOk r (λ rows. rows_from x ≡ Some (rows_listed rows)) → IfOk r (λ rows. first_broken_of (rows_listed rows) ≡ None)
-    → IfOk r (λ rows. IsGood (state_in (rows_listed rows)))
-good_of x (Err f) rising from unbroken = tt
-good_of x (Ok rows) rising from unbroken = unbroken_good x (rows_listed rows) rising from unbroken
+    → IfOk r (λ rows. rows.meta.schema ≡ newest_schema) → IfOk r (λ rows. IsGood (state_in (rows_listed rows)))
+unfolding rows_listed
+good_of x (Err f) rising from unbroken newest = tt
+good_of x (Ok rows) rising from unbroken newest = (unbroken_good x (rows_listed rows) (record { rising = rising; read = from; unbroken = unbroken; newest = newest })).good
 
 -- the state of the rows of a state's tables
 state_again : (s : State) → state_in (rows_in (tables_of newest_schema s)) ≡ s

@@ -1,9 +1,14 @@
 -- What is judged of loaded rows, and of the store that they were loaded of.
-use Rattle.std.proofs.Common.{◌≡◌, ◌∙◌, Bool, true, false, Option, None, Some, is_some, Result, Ok, Err, IfErr, OnOk, refl, sym, ap, subst, inl, inr, Unit}
+use Rattle.std.proofs.Common.{◌≡◌, ◌∙◌, Bool, true, false, Option, None, Some, is_some, Result, Ok, Err, IfErr, OnOk, refl, sym, ap, subst, inl, inr}
 use Rattle.std.specs.Prelude.{◌⊎◌}
+use Rattle.sqlite.specs.Effect.{Database}
 use Rattle.sqlite.specs.State as store
-use Rattle.plant_base.specs.State.{State, newest_schema}
-use Rattle.plant_forms.specs.Standing.{StandIn}
+use Rattle.sqlite.specs.State.{HasCleanDisk, IsUnchanged}
+use Rattle.plant_base.specs.State.{State, opening, newest_schema}
+use Rattle.plant_forms.specs.Standing.{StandIn, AreFree}
+use Rattle.plant_forms.specs.Resting.{Keeps}
+use Rattle.plant_forms.proofs.Ending.{IsStore}
+use Rattle.plant_reads.specs.Ordered.{IsRising}
 use Rattle.plant_tables.specs.DeskForms.{desk_forms}
 use Rattle.plant_tables.specs.Keyed.{HoldsTables}
 use Rattle.plant_view.specs.Tables.{tables_of}
@@ -14,13 +19,13 @@ use Rattle.plant_rows.specs.Collecting.{Rows, rows_from}
 use Rattle.plant_rows.specs.Judging.{only_meta}
 use Rattle.plant_check.specs.Broken.{first_broken, first_broken_of, broken_rows, unless}
 use Rattle.plant_check.specs.declared.rule.Rule.TheVariants as rule
-use Rattle.plant_store.specs.Adopting.{IsBroken, BrokenBy, IsRefusedBy}
-use Rattle.plant_store.specs.Reading.{state_in}
+use Rattle.plant_store.specs.Adopting.{IsNewlyOpened, AdoptedFrom, IsBroken, BrokenBy, IsRefusedBy}
+use Rattle.plant_state.specs.Restoring.{state_in, AreUnbroken}
 use Rattle.plant_store.specs.Standing.{IsOpenAt}
 use Rattle.plant_store.specs.declared.adopting.AdoptFault.{AdoptFault}
 use Rattle.plant_store.specs.declared.adopting.AdoptFault.TheVariants as fault
-use Rattle.plant_store.proofs.Laws.{unbroken_good, unbroken_holds}
-use Rattle.plant_store.proofs.Resting.{open_at}
+use Rattle.plant_state.proofs.Restored.{unbroken_good, unbroken_holds}
+use Rattle.plant_store.proofs.Resting.{still_at, open_at}
 
 -- ---- rules
 
@@ -48,12 +53,51 @@ rows_unbroken x r (Ok u) f h = (r, f, h.0, h.1)
 -- ---- the store
 
 -- a rule that the loaded rows break is one that the tables do
-pub broken_tables : (c : store.State) (x : Loaded) (f : AdoptFault) → AreLoaded c.now x → BrokenBy x f → IsRefusedBy c f
-broken_tables c x fault.Store loaded h = tt
-broken_tables c x (fault.Newer n) loaded h = absurd h
-broken_tables c x (fault.Damaged r) loaded h = inr (x, loaded, h)
-broken_tables c x fault.Memory loaded h = tt
+pub broken_tables : (db : Database) (x : Loaded) (f : AdoptFault) → AreLoaded db x → BrokenBy x f → IsRefusedBy db f
+broken_tables db x fault.Store loaded h = tt
+broken_tables db x (fault.Newer n) loaded h = absurd h
+broken_tables db x (fault.Damaged r) loaded h = inr (x, loaded, h)
+broken_tables db x fault.Memory loaded h = tt
 
-pub all_broken : (c : store.State) (x : Loaded) (judged : Result (Unit {0}) AdoptFault) → AreLoaded c.now x → IfErr judged (BrokenBy x) → IfErr judged (IsRefusedBy c)
-all_broken c x (Ok u) loaded h = tt
-all_broken c x (Err f) loaded h = broken_tables c x f loaded h
+pub all_broken : (db : Database) (x : Loaded) (judged : Result (Unit {0}) AdoptFault) → AreLoaded db x → IfErr judged (BrokenBy x) → IfErr judged (IsRefusedBy db)
+all_broken db x (Ok u) loaded h = tt
+all_broken db x (Err f) loaded h = broken_tables db x f loaded h
+
+-- ---- what is adopted
+
+-- rows that break no rule are those of a good state, whose tables the store holds
+pub rows_good : (c new : store.State) (x : Loaded) (judged : Result (Unit {0}) AdoptFault) → AreRising x → StandIn desk_forms c.now (contents_loaded x)
+    → ((s : State) → IsGood s → HoldsTables c.now (tables_of newest_schema s) → IsOpenAt new s)
+    → OnOk judged ((r : Rows) × (rows_from x ≡ Some r) × (first_broken_of r ≡ None) × (r.meta.schema ≡ newest_schema))
+    → OnOk judged ((s : State) × IsGood s × HoldsTables c.now (tables_of newest_schema s) × IsOpenAt new s)
+rows_good c new x (Err f) rising stands opens h = tt
+rows_good c new x (Ok u) rising stands opens h =
+    let r = h.0 in
+    let unbroken : AreUnbroken x r = record { rising = rising; read = h.1; unbroken = h.2; newest = h.3 } in
+    let good = (unbroken_good x r unbroken).good in
+    let holds = unbroken_holds c.now x r unbroken stands in
+    (state_in r, good, holds, opens (state_in r) good holds)
+
+-- a store that is unchanged is as it was opened
+pub still_new : (old new : store.State) → IsNewlyOpened old → IsUnchanged old new → IsStore new → IsNewlyOpened new
+still_new old new newly same laws = record {
+  settled = record {
+    is_open = same.0.is_open;
+    shows = same.0.now_is ∙ newly.settled.shows ∙ sym same.0.committed_is;
+    leaves = laws.stays same.0.is_open;
+    nothing_else = λ db left. laws.settled db same.0.is_open left;
+  };
+  rising = subst IsRising (sym same.0.now_is) newly.rising;
+}
+
+pub opens_new : (old new : store.State) → IsNewlyOpened old → HasCleanDisk new → IsUnchanged old new → Keeps old new → IsStore new → (s : State) → IsGood s → HoldsTables old.now (tables_of newest_schema s) → IsOpenAt new s
+opens_new old new newly clean same kept laws s good holds =
+    open_at new s good (still_at old new (tables_of newest_schema s) (record { settled = newly.settled; holds = holds }) kept laws same.0.is_open) clean laws
+
+pub adopts_none : (c new : store.State) (made : Result (Unit {0}) AdoptFault) → AreFree desk_forms c.now.schema → OnOk made (IsOpenAt new opening) → OnOk made (AdoptedFrom c (IsOpenAt new))
+adopts_none c new (Err f) free h = tt
+adopts_none c new (Ok u) free h = inl (free, h)
+
+pub adopts_some : (c new : store.State) (db : Database) (judged : Result (Unit {0}) AdoptFault) → db ≡ c.now → OnOk judged ((s : State) × IsGood s × HoldsTables db (tables_of newest_schema s) × IsOpenAt new s) → OnOk judged (AdoptedFrom c (IsOpenAt new))
+adopts_some c new db (Err f) same h = tt
+adopts_some c new db (Ok u) same h = inr (h.0, h.1, subst (λ (d : Database). HoldsTables d (tables_of newest_schema h.0)) same h.2, h.3)

@@ -17,7 +17,7 @@ use Rattle.plant_store.specs.Standing.{StandsAt, FindsState, Leaves, IsOpenAt}
 
 -- ---- a call that only reads
 
-still_at : (old new : store.State) (t : Tables) → IsAt old t → Keeps old new → IsStore new → IsTrue new.is_open → IsAt new t
+pub still_at : (old new : store.State) (t : Tables) → IsAt old t → Keeps old new → IsStore new → IsTrue new.is_open → IsAt new t
 still_at old new t at kept laws live = record {
   settled = record {
     is_open = live;
@@ -55,12 +55,16 @@ still_open old new s at clean kept survives laws = record {
 leaves_at : (new : store.State) (s : State) → IsAt new (tables_of newest_schema s) → HasCleanDisk new → IsStore new → Leaves new (λ u. u ≡ s)
 leaves_at new s at clean laws = record {
   something = laws.something clean;
-  nothing_else = λ db left. (s, refl, record {
-    schema = new.now.schema;
-    holds =
-        let same : new.now.trees ≡ db = ap (λ (d : Database). d.trees) at.settled.shows ∙ sym (at.settled.nothing_else db left) in
-        subst (λ (trees : Trees). HoldsTables (record { schema = new.now.schema; trees = trees }) (tables_of newest_schema s)) same at.holds;
-  });
+  nothing_else = λ db left. (
+    s,
+    refl,
+    record {
+      schema = new.now.schema;
+      holds =
+          let same : new.now.trees ≡ db = ap (λ (d : Database). d.trees) at.settled.shows ∙ sym (at.settled.nothing_else db left) in
+          subst (λ (trees : Trees). HoldsTables (record { schema = new.now.schema; trees = trees }) (tables_of newest_schema s)) same at.holds;
+    },
+  );
 }
 
 pub open_at : (new : store.State) (s : State) → IsGood s → IsAt new (tables_of newest_schema s) → HasCleanDisk new → IsStore new → IsOpenAt new s
@@ -79,11 +83,15 @@ cut_at old new s next good cut = (
       | inl before ↦ (s, inl refl, found_in old.now db s before)
       | inr after ↦ (next, inr refl, found_in old.now db next after)
     ];
-  })
+  },
+)
 
 -- where nothing was begun a stop leaves the state before
 pub before_only : (new : store.State) (s next : State) → IsOpenAt new s → StandsAt new s × Leaves new (λ u. (u ≡ s) ⊎ (u ≡ next))
-before_only new s next at = (at.stands, record {
-  something = at.leaves.something;
-  nothing_else = λ db left. let found = at.leaves.nothing_else db left in (found.0, inl found.1, found.2);
-})
+before_only new s next at = (
+  at.stands,
+  record {
+    something = at.leaves.something;
+    nothing_else = λ db left. let found = at.leaves.nothing_else db left in (found.0, inl found.1, found.2);
+  },
+)

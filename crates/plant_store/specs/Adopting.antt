@@ -1,5 +1,6 @@
 -- How a store that was opened is adopted.
 use Rattle.std.specs.Prelude.{◌≡◌, ◌⊎◌, ◌<◌, ℤ, pos, All, Option, Some, ⊤}
+use Rattle.sqlite.specs.Effect.{Database}
 use Rattle.sqlite.specs.State as store
 use Rattle.plant_base.specs.State.{State, opening, newest_schema}
 use Rattle.plant_view.specs.Tables.{tables_of}
@@ -30,12 +31,12 @@ abbrev pub AdoptedFrom : store.State → States → Type 0
 AdoptedFrom c stands = (AreFree desk_forms c.now.schema × stands opening) ⊎ ((s : State) × IsGood s × HoldsTables c.now (tables_of newest_schema s) × stands s)
 
 -- table meta doesn't stand with one good row, or a table doesn't stand as it is declared
-abbrev pub LacksTables : store.State → Type 0
-LacksTables c = ((n : ℤ) → ¬ IsVersion c.now n) ⊎ (¬ All (HasTable c.now.schema) desk_forms)
+abbrev pub LacksTables : Database → Type 0
+LacksTables db = ((n : ℤ) → ¬ IsVersion db n) ⊎ (¬ All (HasTable db.schema) desk_forms)
 
 -- this is the first rule that the tables break
-abbrev pub IsDamaged : store.State → Rule → Type 0
-IsDamaged c r = ((r ≡ rule.Tables) × LacksTables c) ⊎ ((x : Loaded) × AreLoaded c.now x × (first_broken x ≡ Some r))
+abbrev pub IsDamaged : Database → Rule → Type 0
+IsDamaged db r = ((r ≡ rule.Tables) × LacksTables db) ⊎ ((x : Loaded) × AreLoaded db x × (first_broken x ≡ Some r))
 
 -- where a rule is named, it is this one
 abbrev pub IsBroken : Option Rule → AdoptFault → Type 0
@@ -49,8 +50,8 @@ abbrev pub BrokenBy : Loaded → AdoptFault → Type 0
 BrokenBy x f = IsBroken (first_broken x) f
 
 -- the fault has its cause
-abbrev pub IsRefusedBy : store.State → AdoptFault → Type 0
-IsRefusedBy c fault.Store = ⊤
-IsRefusedBy c (fault.Newer n) = IsVersion c.now (pos n) × (newest_schema < n)
-IsRefusedBy c (fault.Damaged r) = IsDamaged c r
-IsRefusedBy c fault.Memory = ⊤
+abbrev pub IsRefusedBy : Database → AdoptFault → Type 0
+IsRefusedBy db fault.Store = ⊤
+IsRefusedBy db (fault.Newer n) = IsVersion db (pos n) × (newest_schema < n)
+IsRefusedBy db (fault.Damaged r) = IsDamaged db r
+IsRefusedBy db fault.Memory = ⊤

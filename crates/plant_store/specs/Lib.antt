@@ -1,4 +1,3 @@
-pub mod Reading
+pub mod Adopting
 pub mod Running
 pub mod Standing
-pub mod Adopting

@@ -66,14 +66,11 @@ impl<S: Alter> Desk<S> {
     /// - `Newer`: the tables are of a schema above the newest. Nothing is changed.
     /// - `Damaged`: the tables break this rule, and none before it. Nothing is changed.
     /// - `Store`, `Memory`: the tables are as they were, or, where there were none, made with the opening state.
-    pub fn adopt(
-        alloc: Global,
-        mut connection: Connection<S>,
-    ) -> Result<Desk<S>, AdoptRefused<S>>
+    pub fn adopt(alloc: Global, mut connection: Connection<S>) -> Result<Desk<S>, AdoptRefused<S>>
         requires { (state S.Store connection).in_transaction ≡ false }
         ensures adopted { IfOk result (λ desk. HasCleanDisk (state S.Store desk.connection) → IsNewlyOpened (state S.Store connection) → AdoptedFrom (state S.Store connection) (IsOpenAt (state S.Store desk.connection))) }
         ensures open { IfOk result (λ desk. desk.is_shut ≡ false) }
-        ensures refused { IfErr result (λ refused. HasCleanDisk (state S.Store refused.connection) → IsRefusedBy (state S.Store connection) refused.fault) }
+        ensures refused { IfErr result (λ refused. HasCleanDisk (state S.Store refused.connection) → IsRefusedBy (state S.Store connection).now refused.fault) }
     {
         match opened(alloc, &mut connection) {
             Ok(()) => Ok(Desk {
@@ -90,7 +87,7 @@ fn opened<S: Alter>(alloc: Global, connection: &mut Connection<S>) -> Result<(),
     requires { (state S.Store connection.old).in_transaction ≡ false }
     ensures mode { (state S.Store connection.new).in_transaction ≡ false }
     ensures adopted { HasCleanDisk (state S.Store connection.new) → IsNewlyOpened (state S.Store connection.old) → OnOk result (AdoptedFrom (state S.Store connection.old) (IsOpenAt (state S.Store connection.new))) }
-    ensures refused { HasCleanDisk (state S.Store connection.new) → IfErr result (IsRefusedBy (state S.Store connection.old)) }
+    ensures refused { HasCleanDisk (state S.Store connection.new) → IfErr result (IsRefusedBy (state S.Store connection.old).now) }
 {
     match found(alloc, connection) {
         Err(fault) => Err(fault_of(fault)),
@@ -108,8 +105,9 @@ fn opened<S: Alter>(alloc: Global, connection: &mut Connection<S>) -> Result<(),
 fn made<S: Alter>(connection: &mut Connection<S>) -> Result<(), AdoptFault>
     requires { (state S.Store connection.old).in_transaction ≡ false }
     ensures mode { (state S.Store connection.new).in_transaction ≡ false }
+    ensures clean { HasCleanDisk (state S.Store connection.new) → HasCleanDisk (state S.Store connection.old) }
     ensures opening { HasCleanDisk (state S.Store connection.new) → IsSettled (state S.Store connection.old) → IsDatabase (state S.Store connection.old).now → AreFree desk_forms (state S.Store connection.old).now.schema → OnOk result (IsOpenAt (state S.Store connection.new) opening) }
-    ensures refused { IfErr result (IsRefusedBy (state S.Store connection.old)) }
+    ensures refused { IfErr result (IsRefusedBy (state S.Store connection.old).now) }
 {
     match commit_opening(connection) {
         Ok(()) => Ok(()),
@@ -120,8 +118,9 @@ fn made<S: Alter>(connection: &mut Connection<S>) -> Result<(), AdoptFault>
 fn judged<S: Alter>(alloc: Global, connection: &mut Connection<S>) -> Result<(), AdoptFault>
     requires { (state S.Store connection.old).in_transaction ≡ false }
     ensures mode { (state S.Store connection.new).in_transaction ≡ false }
+    ensures clean { HasCleanDisk (state S.Store connection.new) → HasCleanDisk (state S.Store connection.old) }
     ensures good { HasCleanDisk (state S.Store connection.new) → IsNewlyOpened (state S.Store connection.old) → OnOk result ((s : State) × IsGood s × HoldsTables (state S.Store connection.old).now (tables_of newest_schema s) × IsOpenAt (state S.Store connection.new) s) }
-    ensures refused { HasCleanDisk (state S.Store connection.new) → IfErr result (IsRefusedBy (state S.Store connection.old)) }
+    ensures refused { HasCleanDisk (state S.Store connection.new) → IfErr result (IsRefusedBy (state S.Store connection.old).now) }
 {
     match Loaded::read(alloc, connection, NEWEST_SCHEMA as i64) {
         Err(fault) => Err(fault_of(fault)),

@@ -5,7 +5,7 @@ ghost use Rattle.std.specs.List.{filter_map};
 ghost use Rattle.plant_desk.specs.Lists.{state_of, without_stock, without_progress};
 ghost use Rattle.plant_rows.specs.Booked.{movement_from};
 ghost use Rattle.plant_rows.specs.Collecting.{rows_listed};
-ghost use Rattle.plant_store.specs.Reading.{state_in};
+ghost use Rattle.plant_state.specs.Restoring.{state_in};
 
 use plant_base::{Batch, BatchRow, Movement, Place, Sublot};
 use plant_desk::Lists;

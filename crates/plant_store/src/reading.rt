@@ -3,12 +3,12 @@
 ghost use Rattle.std.specs.Prelude.{◌≡◌, false, Some, None, IfOk, OnOk, IsTrue};
 ghost use Rattle.sqlite.specs.Held.{state};
 ghost use Rattle.sqlite.specs.State.{HasCleanDisk, Survives};
-ghost use Rattle.plant_base.specs.State.{State};
+ghost use Rattle.plant_base.specs.State.{State, newest_schema};
 ghost use Rattle.plant_forms.specs.Resting.{Keeps};
 ghost use Rattle.plant_ledger.specs.Good.{IsGood};
 ghost use Rattle.plant_rows.specs.Collecting.{rows_from, rows_listed};
 ghost use Rattle.plant_check.specs.Broken.{first_broken_of};
-ghost use Rattle.plant_store.specs.Reading.{state_in};
+ghost use Rattle.plant_state.specs.Restoring.{state_in};
 ghost use Rattle.plant_store.specs.Standing.{StandsAt};
 
 use plant_base::NEWEST_SCHEMA;
@@ -42,6 +42,7 @@ pub(crate) fn read_rows<S: Alter>(
 fn checked(alloc: Global, loaded: &Loaded) -> Result<DeskRows, Fault>
     ensures rows { IfOk result (λ rows. rows_from loaded.now ≡ Some (rows_listed rows)) }
     ensures unbroken { IfOk result (λ rows. first_broken_of (rows_listed rows) ≡ None) }
+    ensures newest { IfOk result (λ rows. rows.meta.schema ≡ newest_schema) }
 {
     match rows_of(alloc, loaded) {
         Err(_) => Err(Fault::Memory),
@@ -53,10 +54,22 @@ fn checked(alloc: Global, loaded: &Loaded) -> Result<DeskRows, Fault>
 fn unbroken(alloc: Global, rows: DeskRows) -> Result<DeskRows, Fault>
     ensures same { IfOk result (λ r. r ≡ rows) }
     ensures unbroken { IfOk result (λ r. first_broken_of (rows_listed r) ≡ None) }
+    ensures newest { IfOk result (λ r. r.meta.schema ≡ newest_schema) }
 {
     match check_rows(alloc, &rows) {
         Err(_) => Err(Fault::Memory),
         Ok(Some(_)) => Err(Fault::Store),
-        Ok(None) => Ok(rows),
+        Ok(None) => of_newest(rows),
+    }
+}
+
+fn of_newest(rows: DeskRows) -> Result<DeskRows, Fault>
+    ensures same { IfOk result (λ r. r ≡ rows) }
+    ensures newest { IfOk result (λ r. r.meta.schema ≡ newest_schema) }
+{
+    if rows.meta.schema == NEWEST_SCHEMA {
+        Ok(rows)
+    } else {
+        Err(Fault::Store)
     }
 }

@@ -16,6 +16,7 @@ returns-in-Ok-None-clause-broken c =
     no_rows c.args.loaded.now there nothing
 
 pub returns-in-Ok-Some-clause-unbroken : goal.returns-in-Ok-Some-clause-unbroken
+unfolding rows_listed
 returns-in-Ok-Some-clause-unbroken c =
     let from : rows_from c.args.loaded.now ≡ Some (rows_listed c.in-Ok-Some.rows) = search rules in
     rows_unbroken c.args.loaded.now (rows_listed c.in-Ok-Some.rows) c.judged_values.result from c.judged_values.ensures.unbroken

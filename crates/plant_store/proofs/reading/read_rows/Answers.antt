@@ -3,7 +3,7 @@ use Rattle.plant_store.proofs.Finding.{good_of, found_of}
 use Rattle.plant_store.proofs.reading.read_rows.Goals as goal
 
 pub returns-in-Some-clause-good : goal.returns-in-Some-clause-good
-returns-in-Some-clause-good g c = good_of c.in-Some.loaded c.checked.result (rw c.in-Some.is at c.in_ok-read.ensures.ordered) c.checked.ensures.rows c.checked.ensures.unbroken
+returns-in-Some-clause-good g c = good_of c.in-Some.loaded c.checked.result (rw c.in-Some.is at c.in_ok-read.ensures.ordered) c.checked.ensures.rows c.checked.ensures.unbroken c.checked.ensures.newest
 
 pub returns-in-Some-clause-found : goal.returns-in-Some-clause-found
 returns-in-Some-clause-found g c clean s stands =

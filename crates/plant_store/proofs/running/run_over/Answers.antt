@@ -1,4 +1,4 @@
-use Rattle.std.proofs.Common.{◌≡◌, ◌∙◌, ◌++◌, ◌∷◌, [], ap, sym, subst, take, arith, rules}
+use Rattle.std.proofs.Common.{◌≡◌, ◌∙◌, ◌++◌, ◌∷◌, [], sym, subst, take, arith}
 use Rattle.std.proofs.lemmas.Grind.{common_steps}
 use Rattle.plant_base.specs.State.{State}
 use Rattle.plant_desk.specs.Replies.{reply}

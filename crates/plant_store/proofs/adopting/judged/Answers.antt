@@ -1,0 +1,18 @@
+use Rattle.sqlite.specs.Held.{state}
+use Rattle.plant_forms.proofs.Ending.{IsStore}
+use Rattle.plant_store.proofs.Judging.{rows_good, opens_new, all_broken}
+use Rattle.plant_store.proofs.adopting.judged.Goals as goal
+
+pub returns-in-Ok-Some-clause-good : goal.returns-in-Ok-Some-clause-good
+returns-in-Ok-Some-clause-good g c clean newly =
+    let old = state g.S.Store c.args.connection.now in
+    let end = c.read.new.conn in
+    let new = state g.S.Store end in
+    let store : IsStore new = record { settled = g.met.S.Store.settled end.store; stays = g.met.S.Store.stays end.store; something = g.met.S.Store.survives end.store } in
+    let same = rw c.in-Ok-Some.field-0-is at (c.in-Ok-Some.ensures.same clean) in
+    rows_good old new c.in-Ok-Some.loaded c.judged_rows.result (rw c.in-Ok-Some.field-0-is at c.in-Ok-Some.ensures.ordered) (rw c.in-Ok-Some.field-0-is at (c.in-Ok-Some.ensures.stands clean newly.rising))
+    (opens_new old new newly clean same (c.read.ensures.kept clean) store) c.judged_rows.ensures.unbroken
+
+pub returns-in-Ok-Some-clause-refused : goal.returns-in-Ok-Some-clause-refused
+returns-in-Ok-Some-clause-refused g c clean =
+    all_broken (state g.S.Store c.args.connection.now).now c.in-Ok-Some.loaded c.judged_rows.result (rw c.in-Ok-Some.field-0-is at (c.in-Ok-Some.ensures.rows clean)) c.judged_rows.ensures.broken

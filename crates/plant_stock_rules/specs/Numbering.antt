@@ -1,9 +1,9 @@
 -- The numbers of movements and events.
-use Rattle.std.specs.Prelude.{ℕ, ◌+◌, Bool, true, false, not, ◌&&◌, ◌||◌, ◌==◌, nat_le, nat_lt, if◌then◌else◌, List, [], ◌∷◌, Option, Some, None}
+use Rattle.std.specs.Prelude.{ℕ, ◌+◌, Bool, true, not, ◌&&◌, ◌==◌, nat_le, nat_lt, if◌then◌else◌, List, [], ◌∷◌, Option, Some, None}
 use Rattle.std.specs.List.{list_any, list_all}
 use Rattle.plant_base.specs.declared.rows.BatchEvent.{BatchEvent}
 use Rattle.plant_base.specs.declared.rows.Movement.{Movement}
-use Rattle.plant_stock.specs.Stock.{goes_to, comes_from}
+use Rattle.plant_stock.specs.Stock.{comes_from}
 use Rattle.plant_ledger.specs.Bookings.{are_one_merge}
 use Rattle.plant_ledger.specs.Births.{entries}
 

@@ -4,7 +4,7 @@ use Rattle.std.specs.Prelude.{◌==◌, ◌&&◌, ◌||◌}
 use Rattle.std.specs.List.{list_any}
 use Rattle.std.specs.Cmp.{both_tied, unsigned_ties}
 use Rattle.std.specs.Cmp.Lexicographic.{slice_cmp, texts_ties}
-use Rattle.std.specs.Ordering.{nat_cmp, is_eq, ordering_then}
+use Rattle.std.specs.Ordering.{nat_cmp, is_eq}
 use Rattle.plant_base.specs.State.{same, id_cmp, numbered_cmp}
 
 -- two ids tie where they are one

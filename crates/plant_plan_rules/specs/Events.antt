@@ -1,5 +1,5 @@
 -- What happened to batches.
-use Rattle.std.specs.Prelude.{ℕ, Bool, true, false, ◌&&◌, List, Result, Ok, Err}
+use Rattle.std.specs.Prelude.{Bool, false, ◌&&◌, List, Result, Ok, Err}
 use Rattle.std.specs.List.{list_all}
 use Rattle.plant_base.specs.declared.refusal.Refusal.{Refusal}
 use Rattle.plant_base.specs.declared.rows.BatchEvent.{BatchEvent}

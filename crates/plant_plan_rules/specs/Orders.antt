@@ -1,5 +1,5 @@
 -- Orders and the batches that they were released as.
-use Rattle.std.specs.Prelude.{ℕ, Bool, true, false, not, ◌&&◌, ◌==◌, List, Option, Some, None, find, is_none}
+use Rattle.std.specs.Prelude.{ℕ, Bool, false, not, ◌&&◌, ◌==◌, List, Option, Some, None, find, is_none}
 use Rattle.std.specs.List.{list_all}
 use Rattle.plant_base.specs.State.{same}
 use Rattle.plant_base.specs.declared.rows.BatchRow.{BatchRow}

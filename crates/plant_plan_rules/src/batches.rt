@@ -170,7 +170,11 @@ fn is_right(
     let lines = control_of(controls, batch.batch.id);
     let wanted = plans.control_by(alloc, job_at(&plans.jobs, order))?;
     let found = lines_among(alloc, lines)?;
-    Ok(has_one_batch(orders, order) && are_numbered(1, lines) && is_control(&wanted, found.as_slice()))
+    Ok(
+        has_one_batch(orders, order)
+            && are_numbered(1, lines)
+            && is_control(&wanted, found.as_slice()),
+    )
 }
 
 fn lines_among(alloc: Global, rows: &[ControlLine]) -> Result<Vec<RecipeLine>, AllocError>

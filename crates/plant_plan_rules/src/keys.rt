@@ -184,11 +184,7 @@ pub fn has_recipe(recipes: &Grouped<Recipes>, id: Id, version: u16) -> bool
     recipes.has((id, version))
 }
 
-pub fn lines_of<'a>(
-    lines: &'a Grouped<RecipeLines>,
-    id: Id,
-    version: u16,
-) -> &'a [MasterLine]
+pub fn lines_of<'a>(lines: &'a Grouped<RecipeLines>, id: Id, version: u16) -> &'a [MasterLine]
     ensures { result.now ≡ rows_among lines.now.rows.now id version }
 {
     lines.at((id, version))

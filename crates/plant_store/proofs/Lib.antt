@@ -1,4 +1,5 @@
 pub mod Finding
 pub mod Judging
+pub mod Lasting
 pub mod Resting
 pub mod Stepping

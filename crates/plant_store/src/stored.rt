@@ -40,6 +40,12 @@ impl<S: Alter> Desk<S> {
         ensures ran { HasCleanDisk (state S.Store self.new.connection) → self.old.is_shut ≡ false → (s : State) → Stands (state S.Store self.old.connection) self.old.is_shut s
             → Ran s list.now result.replies result.end (Stands (state S.Store self.new.connection) self.new.is_shut) (Leaves (state S.Store self.new.connection)) self.new.is_shut }
         ensures shut { self.old.is_shut ≡ true → (result.replies ≡ []) × (result.end ≡ Some DeskFault.Shut) }
+
+        // Nothing is lost and nothing made, of each definition and in each lot, and nothing was made from itself.
+        ensures conserved { HasCleanDisk (state S.Store self.new.connection) → self.old.is_shut ≡ false → (s : State) → Stands (state S.Store self.old.connection) self.old.is_shut s
+            → IsConserved (fold s (take (length result.replies) list.now)) × IsBalanced (fold s (take (length result.replies) list.now)) }
+        ensures acyclic { HasCleanDisk (state S.Store self.new.connection) → self.old.is_shut ≡ false → (s : State) → Stands (state S.Store self.old.connection) self.old.is_shut s
+            → IsAcyclic (edges_of (fold s (take (length result.replies) list.now))) }
     {
         if self.is_shut {
             return RunReport {

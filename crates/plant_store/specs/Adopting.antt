@@ -1,5 +1,6 @@
 -- How a store that was opened is adopted.
 use Rattle.std.specs.Prelude.{◌≡◌, ◌⊎◌, ◌<◌, ℤ, pos, All, Option, Some, ⊤}
+use Rattle.sqlite.specs.Tree.{Trees}
 use Rattle.sqlite.specs.Effect.{Database}
 use Rattle.sqlite.specs.State as store
 use Rattle.plant_base.specs.State.{State, opening, newest_schema}
@@ -9,6 +10,7 @@ use Rattle.plant_forms.specs.Standing.{AreFree, HasTable}
 use Rattle.plant_forms.specs.Stopping.{IsSettled}
 use Rattle.plant_reads.specs.Ordered.{IsRising}
 use Rattle.plant_tables.specs.DeskForms.{desk_forms}
+use Rattle.plant_tables.specs.DeskStopping.{MakesDesk}
 use Rattle.plant_tables.specs.Keyed.{HoldsTables}
 use Rattle.plant_loaded.specs.Loading.{AreLoaded}
 use Rattle.plant_loaded.specs.Version.{IsVersion}
@@ -55,3 +57,7 @@ IsRefusedBy db fault.Store = ⊤
 IsRefusedBy db (fault.Newer n) = IsVersion db (pos n) × (newest_schema < n)
 IsRefusedBy db (fault.Damaged r) = IsDamaged db r
 IsRefusedBy db fault.Memory = ⊤
+
+-- the trees with the tables of the opening state made in this database
+abbrev pub Opened : Database → Trees → Type 0
+Opened old trees = (db : Database) × MakesDesk old db × (trees ≡ db.trees)

@@ -1,8 +1,8 @@
 //! The adoption of a store.
 
-ghost use Rattle.std.specs.Prelude.{◌≡◌, ◌⊎◌, false, Some, None, IfOk, IfErr, OnOk};
+ghost use Rattle.std.specs.Prelude.{◌≡◌, ◌⊎◌, false, Some, None, IfOk, IfErr, OnOk, MatchResult};
 ghost use Rattle.sqlite.specs.Held.{state};
-ghost use Rattle.sqlite.specs.State.{HasCleanDisk};
+ghost use Rattle.sqlite.specs.State.{HasCleanDisk, Survives};
 ghost use Rattle.sqlite.specs.Effect.{IsDatabase};
 ghost use Rattle.plant_view.specs.Tables.{tables_of};
 ghost use Rattle.plant_ledger.specs.Good.{IsGood};
@@ -13,7 +13,7 @@ ghost use Rattle.plant_forms.specs.Standing.{AreFree};
 ghost use Rattle.plant_tables.specs.DeskForms.{desk_forms};
 ghost use Rattle.plant_rows.specs.Collecting.{Rows, rows_from, rows_listed};
 ghost use Rattle.plant_check.specs.Broken.{first_broken, first_broken_of};
-ghost use Rattle.plant_store.specs.Adopting.{IsNewlyOpened, AdoptedFrom, IsRefusedBy, BrokenBy, IsBroken};
+ghost use Rattle.plant_store.specs.Adopting.{IsNewlyOpened, AdoptedFrom, IsRefusedBy, BrokenBy, IsBroken, Opened};
 ghost use Rattle.plant_store.specs.Standing.{IsOpenAt};
 
 use crate::stored::Desk;
@@ -71,6 +71,11 @@ impl<S: Alter> Desk<S> {
         ensures adopted { IfOk result (λ desk. HasCleanDisk (state S.Store desk.connection) → IsNewlyOpened (state S.Store connection) → AdoptedFrom (state S.Store connection) (IsOpenAt (state S.Store desk.connection))) }
         ensures open { IfOk result (λ desk. desk.is_shut ≡ false) }
         ensures refused { IfErr result (λ refused. HasCleanDisk (state S.Store refused.connection) → IsRefusedBy (state S.Store connection).now refused.fault) }
+
+        // What a stop leaves: where the store has some of the desk's tables, what it left before; else that or the
+        // opening state's tables.
+        ensures spared { (AreFree desk_forms (state S.Store connection).now.schema → ⊥) → MatchResult result (λ desk. Survives (state S.Store connection) (state S.Store desk.connection) (λ _. ⊥)) (λ refused. Survives (state S.Store connection) (state S.Store refused.connection) (λ _. ⊥)) }
+        ensures crash { MatchResult result (λ desk. Survives (state S.Store connection) (state S.Store desk.connection) (Opened (state S.Store connection).now)) (λ refused. Survives (state S.Store connection) (state S.Store refused.connection) (Opened (state S.Store connection).now)) }
     {
         match opened(alloc, &mut connection) {
             Ok(()) => Ok(Desk {
@@ -88,6 +93,8 @@ fn opened<S: Alter>(alloc: Global, connection: &mut Connection<S>) -> Result<(),
     ensures mode { (state S.Store connection.new).in_transaction ≡ false }
     ensures adopted { HasCleanDisk (state S.Store connection.new) → IsNewlyOpened (state S.Store connection.old) → OnOk result (AdoptedFrom (state S.Store connection.old) (IsOpenAt (state S.Store connection.new))) }
     ensures refused { HasCleanDisk (state S.Store connection.new) → IfErr result (IsRefusedBy (state S.Store connection.old).now) }
+    ensures spared { (AreFree desk_forms (state S.Store connection.old).now.schema → ⊥) → Survives (state S.Store connection.old) (state S.Store connection.new) (λ _. ⊥) }
+    ensures crash { Survives (state S.Store connection.old) (state S.Store connection.new) (Opened (state S.Store connection.old).now) }
 {
     match found(alloc, connection) {
         Err(fault) => Err(fault_of(fault)),
@@ -108,6 +115,7 @@ fn made<S: Alter>(connection: &mut Connection<S>) -> Result<(), AdoptFault>
     ensures clean { HasCleanDisk (state S.Store connection.new) → HasCleanDisk (state S.Store connection.old) }
     ensures opening { HasCleanDisk (state S.Store connection.new) → IsSettled (state S.Store connection.old) → IsDatabase (state S.Store connection.old).now → AreFree desk_forms (state S.Store connection.old).now.schema → OnOk result (IsOpenAt (state S.Store connection.new) opening) }
     ensures refused { IfErr result (IsRefusedBy (state S.Store connection.old).now) }
+    ensures crash { Survives (state S.Store connection.old) (state S.Store connection.new) (Opened (state S.Store connection.old).now) }
 {
     match commit_opening(connection) {
         Ok(()) => Ok(()),
@@ -121,6 +129,7 @@ fn judged<S: Alter>(alloc: Global, connection: &mut Connection<S>) -> Result<(),
     ensures clean { HasCleanDisk (state S.Store connection.new) → HasCleanDisk (state S.Store connection.old) }
     ensures good { HasCleanDisk (state S.Store connection.new) → IsNewlyOpened (state S.Store connection.old) → OnOk result ((s : State) × IsGood s × HoldsTables (state S.Store connection.old).now (tables_of newest_schema s) × IsOpenAt (state S.Store connection.new) s) }
     ensures refused { HasCleanDisk (state S.Store connection.new) → IfErr result (IsRefusedBy (state S.Store connection.old).now) }
+    ensures crash { Survives (state S.Store connection.old) (state S.Store connection.new) (λ _. ⊥) }
 {
     match Loaded::read(alloc, connection, NEWEST_SCHEMA as i64) {
         Err(fault) => Err(fault_of(fault)),

@@ -1,5 +1,5 @@
 -- What rows that were read and break no rule stand for.
-use Rattle.std.proofs.Common.{◌≡◌, ◌∙◌, Some, Result, Ok, Err, IfOk, sym, ap, None, IsTrue}
+use Rattle.std.proofs.Common.{◌≡◌, ◌∙◌, Some, Result, Ok, Err, IfOk, sym, ap, Option, None, IsTrue}
 use Rattle.sqlite.specs.State as store
 use Rattle.plant_base.specs.State.{State, newest_schema}
 use Rattle.plant_view.specs.Tables.{tables_of}
@@ -10,7 +10,9 @@ use Rattle.plant_forms.specs.declared.fault.Fault.{Fault}
 use Rattle.plant_rows.specs.Collecting.{Rows, rows_from, rows_in, rows_listed}
 use Rattle.plant_rows.specs.declared.desk_rows.DeskRows.{DeskRows}
 use Rattle.plant_rows.proofs.WholeLemmas.{same_tables}
-use Rattle.plant_check.specs.Broken.{first_broken_of}
+use Rattle.plant_check.specs.Broken.{first_broken, first_broken_of}
+use Rattle.plant_check.specs.declared.rule.Rule.{Rule}
+use Rattle.plant_desk.specs.declared.reply.DeskFault.{DeskFault}
 use Rattle.plant_desk.proofs.Plain.{plain, plain_tables}
 use Rattle.plant_state.specs.Restoring.{state_in}
 use Rattle.plant_store.specs.Standing.{StandsAt}
@@ -34,3 +36,9 @@ found_of c s x (Ok rows) live stands loaded from =
     let again = (read_good c.now s x stands.good (stands.shows live).holds loaded).0 in
     let same : rows_listed rows ≡ rows_in (tables_of newest_schema s) = (let both = sym from ∙ again in cc) in
     ap state_in same ∙ state_again s
+
+-- the tables of the state where the store stands break no rule
+pub unbroken_of : (c : store.State) (s : State) (x : Loaded) (r : Result (Option Rule) DeskFault) → IsTrue c.is_open → StandsAt c s → AreLoaded c.now x → IfOk r (λ broken. broken ≡ first_broken x)
+    → IfOk r (λ broken. broken ≡ None)
+unbroken_of c s x (Err f) live stands loaded told = tt
+unbroken_of c s x (Ok broken) live stands loaded told = told ∙ (read_good c.now s x stands.good (stands.shows live).holds loaded).1

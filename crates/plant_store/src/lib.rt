@@ -9,6 +9,7 @@ mod lists;
 mod reading;
 mod running;
 mod stored;
+mod verifying;
 
 pub use adopting::{AdoptFault, AdoptRefused};
 pub use stored::Desk;

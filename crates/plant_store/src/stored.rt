@@ -4,7 +4,9 @@ ghost use Rattle.plant_desk.specs.Keeping.{shuts};
 use crate::asking::ask_on;
 use crate::executing::execute_on;
 use crate::running::run_over;
+use crate::verifying::verify_on;
 use plant_base::{Envelope, Items};
+use plant_check::Rule;
 use plant_desk::{Answer, DeskFault, Keeper, Question, Reply, RunReport};
 use sqlite::{Alter, Connection};
 use std::alloc::Global;
@@ -21,9 +23,9 @@ pub struct Desk<S: Alter> {
 }
 
 impl<S: Alter> Desk<S> {
-    ghost use Rattle.std.specs.Prelude.{◌≡◌, ◌≤◌, [], true, false, Some, length, take};
+    ghost use Rattle.std.specs.Prelude.{◌≡◌, ◌≤◌, [], true, false, Some, None, IfOk, IsErrOf, length, take};
     ghost use Rattle.sqlite.specs.Held.{state};
-    ghost use Rattle.sqlite.specs.State.{HasCleanDisk};
+    ghost use Rattle.sqlite.specs.State.{HasCleanDisk, Survives};
     ghost use Rattle.plant_base.specs.State.{State};
     ghost use Rattle.plant_desk.specs.Runs.{fold};
     ghost use Rattle.plant_trace.specs.Reach.{IsAcyclic};
@@ -54,6 +56,23 @@ impl<S: Alter> Desk<S> {
             };
         }
         run_over(self.alloc, self, list)
+    }
+
+    /// Reads and tests all tables: the first rule that they break. A desk whose store has kept its word answers `None`, or a
+    /// fault: `Store` where a table doesn't stand any more as it is declared, and where the store fails; `Memory`; `Shut`
+    /// exactly from a desk that is shut. Nothing is changed, and an open desk stays open.
+    pub fn verify(&mut self) -> Result<Option<Rule>, DeskFault>
+        ensures honest { HasCleanDisk (state S.Store self.new.connection) → HasCleanDisk (state S.Store self.old.connection) }
+        ensures open { self.new.is_shut ≡ self.old.is_shut }
+        ensures shut { self.old.is_shut ≡ true → IsErrOf result DeskFault.Shut }
+        ensures unbroken { HasCleanDisk (state S.Store self.new.connection) → self.old.is_shut ≡ false → (s : State) → Stands (state S.Store self.old.connection) self.old.is_shut s
+            → IfOk result (λ broken. broken ≡ None) × Stands (state S.Store self.new.connection) self.new.is_shut s }
+        ensures crash { Survives (state S.Store self.old.connection) (state S.Store self.new.connection) (λ _. ⊥) }
+    {
+        if self.is_shut {
+            return Err(DeskFault::Shut);
+        }
+        verify_on(self.alloc, &mut self.connection)
     }
 
     /// Gives the store back. No memory is taken.

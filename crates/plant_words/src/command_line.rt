@@ -1,0 +1,37 @@
+//! The command line, as clap is told it.
+ghost use Rattle.std.specs.Prelude.{◌≡◌, IfOk, codes};
+ghost use Rattle.clap.specs.Words.{app_of};
+ghost use Rattle.plant_words.specs.CommandLine.{the_program, word_app, IsLocal};
+
+use clap::{Arg, Command};
+use std::alloc::{AllocError, Global};
+
+/// The word `name`, which takes the name of a file.
+fn word_command<'a>(
+    alloc: Global,
+    name: &'a str,
+    about: &'a str,
+) -> Result<Command<'a>, AllocError>
+    ensures app { IfOk result (λ c. app_of c ≡ word_app name.entry.now) }
+    ensures local { IfOk result (λ c. IsLocal c) }
+{
+    let file = Arg::new(alloc, "file")
+        .required(true)
+        .help("The file of the desk, or :memory:");
+    Command::new(alloc, name).about(about).arg(file)
+}
+
+/// The command line of the program.
+pub(crate) fn command_line<'a>(alloc: Global) -> Result<Command<'a>, AllocError>
+    ensures { IfOk result (λ c. app_of c ≡ the_program) }
+{
+    let init = word_command(alloc, "init", "Makes a desk, or checks the one that is there")?;
+    let run = word_command(alloc, "run", "Answers the lines of standard input")?;
+    let verify = word_command(alloc, "verify", "Checks every row of a desk")?;
+    let top = Command::new(alloc, "desk")
+        .about("A manufacturing desk. With no words it runs over memory, as run :memory:")
+        .disable_help_subcommand(true);
+    let one = top.subcommand(init)?;
+    let two = one.subcommand(run)?;
+    two.subcommand(verify)
+}

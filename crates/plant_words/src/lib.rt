@@ -1,0 +1,9 @@
+//! The words of the command line: what the desk's program is told to do.
+#![tactic(auto)]
+
+mod command_line;
+mod meaning;
+mod read;
+
+pub use meaning::{Words, WordsFault};
+pub use read::read_words;

@@ -47,13 +47,29 @@ abbrev pub asks_help : ErrorKind → Bool
 asks_help kind.DisplayHelp = true
 asks_help _ = false
 
+-- a mistake in the words: neither a request for help nor want of memory
+abbrev pub is_mistake : ErrorKind → Bool
+is_mistake kind.DisplayHelp = false
+is_mistake kind.OutOfMemory = false
+is_mistake _ = true
+
 -- one of the kinds is a mistake in the words
 abbrev pub has_mistake : Kinds → Bool
-has_mistake = list_any (λ k. not (asks_help k))
+has_mistake = list_any is_mistake
 
 -- one of the kinds is a request for help
 abbrev pub has_request : Kinds → Bool
 has_request = list_any asks_help
+
+-- the fault that tells an error of this kind
+abbrev pub IsFaultOf : ErrorKind → WordsFault → Type 0
+IsFaultOf k (Usage text) = is_mistake k ≡ true
+IsFaultOf k (Help text) = asks_help k ≡ true
+IsFaultOf k Memory = Unit {0}
+
+abbrev pub IsNotHelp : WordsFault → Type 0
+IsNotHelp (Help text) = ⊥
+IsNotHelp _ = Unit {0}
 
 -- the words are refused by this fault only where there is a mistake in them or they mean nothing,
 -- only where they ask for help, or for want of memory

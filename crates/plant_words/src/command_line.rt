@@ -1,7 +1,7 @@
 //! The command line, as clap is told it.
 ghost use Rattle.std.specs.Prelude.{◌≡◌, IfOk, codes};
 ghost use Rattle.clap.specs.Words.{app_of};
-ghost use Rattle.plant_words.specs.CommandLine.{the_program, word_app, IsLocal};
+ghost use Rattle.plant_words.specs.CommandLine.{bare_program, the_program, word_app, IsLocal};
 
 use clap::{Arg, Command};
 use std::alloc::{AllocError, Global};
@@ -21,6 +21,15 @@ fn word_command<'a>(
     Command::new(alloc, name).about(about).arg(file)
 }
 
+/// The program with no word.
+fn bare_command<'a>(alloc: Global) -> Command<'a>
+    ensures { app_of result ≡ bare_program }
+{
+    Command::new(alloc, "desk")
+        .about("A manufacturing desk; with no words as run :memory:")
+        .disable_help_subcommand(true)
+}
+
 /// The command line of the program.
 pub(crate) fn command_line<'a>(alloc: Global) -> Result<Command<'a>, AllocError>
     ensures { IfOk result (λ c. app_of c ≡ the_program) }
@@ -28,10 +37,7 @@ pub(crate) fn command_line<'a>(alloc: Global) -> Result<Command<'a>, AllocError>
     let init = word_command(alloc, "init", "Makes a desk, or checks the one that is there")?;
     let run = word_command(alloc, "run", "Answers the lines of standard input")?;
     let verify = word_command(alloc, "verify", "Checks every row of a desk")?;
-    let top = Command::new(alloc, "desk")
-        .about("A manufacturing desk. With no words it runs over memory, as run :memory:")
-        .disable_help_subcommand(true);
-    let one = top.subcommand(init)?;
+    let one = bare_command(alloc).subcommand(init)?;
     let two = one.subcommand(run)?;
     two.subcommand(verify)
 }

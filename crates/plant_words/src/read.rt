@@ -1,8 +1,8 @@
 //! The reading of the words.
 ghost use Rattle.std.specs.Prelude.{◌≡◌, IfErr, IfOk, Some, [], map};
-ghost use Rattle.clap.specs.Words.{fault_of, subcommand_of};
+ghost use Rattle.clap.specs.Words.{fault_of, kind_of, subcommand_of};
 ghost use Rattle.plant_words.specs.CommandLine.{the_program};
-ghost use Rattle.plant_words.specs.Meaning.{IsRefusedBy, meant_in, words_meant};
+ghost use Rattle.plant_words.specs.Meaning.{IsFaultOf, IsNotHelp, IsRefusedBy, meant_in, words_meant};
 
 use crate::command_line::command_line;
 use crate::meaning::{Words, WordsFault, words_in};
@@ -11,7 +11,9 @@ use clap::error::ErrorKind;
 use std::alloc::Global;
 
 /// clap's refusal of the words, with its text.
-fn refusal_of(alloc: Global, error: Error) -> WordsFault {
+fn refusal_of(alloc: Global, error: Error) -> WordsFault
+    ensures { IsFaultOf (kind_of error) result }
+{
     let kind = error.kind();
     let Ok(text) = error.to_string(alloc) else {
         return WordsFault::Memory;
@@ -46,7 +48,9 @@ pub fn read_words<'a>(alloc: Global, words: &'a [&'a str]) -> Result<Words<'a>, 
 }
 
 /// The refusal of words that clap takes and that mean nothing.
-fn no_meaning(alloc: Global) -> WordsFault {
+fn no_meaning(alloc: Global) -> WordsFault
+    ensures { IsNotHelp result }
+{
     match String::from_str(alloc, "error: the words name no file\n") {
         Ok(text) => WordsFault::Usage(text),
         Err(_) => WordsFault::Memory,

@@ -6,7 +6,7 @@ use Rattle.clap.specs.Words.{App, Rule, Text, new_app, new_rule, with_rule, with
 
 -- the name of a file, which has to be there
 abbrev pub file_rule : Rule
-file_rule = record (new_rule (codes "file")) { required = true }
+file_rule = record (new_rule (codes "file")) { required = true; value_names = 1 }
 
 -- a word that takes a file
 abbrev pub word_app : Text → App

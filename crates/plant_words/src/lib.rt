@@ -4,6 +4,8 @@
 mod command_line;
 mod meaning;
 mod read;
+#[cfg(test)]
+mod tests;
 
 pub use meaning::{Words, WordsFault};
 pub use read::read_words;

@@ -20,6 +20,6 @@ returns-in-Ok-try_get_matches_from-clause-refused c =
     let m = c.in-Ok-try_get_matches_from.matches in
     let Has : App → Type 0 = λ a. HasMatchesOf a words m in
     let same : subcommand_rows_of m ≡ subcommand_of the_program words
-        = (subst Has app c.in-Ok-try_get_matches_from.ensures.matches refl).1 in
+    = (subst Has app c.in-Ok-try_get_matches_from.ensures.matches refl).1 in
     let meant : None ≡ meant_in (subcommand_rows_of m) = ap (λ r. option_map words_meant r) (sym c.in-None.is) ∙ c.words_in.ensures in
     meaningless words c.no_meaning.result (sym (meant ∙ ap meant_in same)) c.no_meaning.ensures

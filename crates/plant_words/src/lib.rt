@@ -2,10 +2,12 @@
 #![tactic(auto)]
 
 mod command_line;
+mod laws;
 mod meaning;
 mod read;
 #[cfg(test)]
 mod tests;
 
+pub use laws::plain_words_law;
 pub use meaning::{Words, WordsFault};
 pub use read::read_words;

@@ -1,5 +1,5 @@
 //! Words with a file, words that aren't understood, and help.
-use crate::{Words, WordsFault, read_words};
+use crate::{Words, WordsFault, plain_words_law, read_words};
 use std::process::Abort;
 
 const HELP: &str = "The manufacturing desk of a batch plant; alone it does run :memory:
@@ -71,6 +71,7 @@ fn assert_words(rt: &(impl Abort + AllocGlobal), words: &[&str], wanted: Words<'
 
 #[test]
 fn words_with_a_file_and_none(rt: HostRuntime) {
+    plain_words_law();
     let file = "plant.db";
     assert_words(&rt, &["desk", "init", file], Words::Init { file });
     assert_words(&rt, &["bin/desk", "run", file], Words::Run { file });

@@ -6,10 +6,10 @@ use Rattle.plant_program.specs.Faults.{status_of}
 use Rattle.plant_program.specs.Texts.{ready_text, good_text, fault_text}
 use Rattle.plant_program.specs.declared.fault.Fault.{Fault}
 use Rattle.plant_program.specs.declared.fault.Fault.TheVariants as fault
-use Rattle.plant_program.specs.declared.words.Words.{Words}
-use Rattle.plant_program.specs.declared.words.Words.TheVariants as words
-use Rattle.plant_program.specs.declared.words.WordsFault.{WordsFault}
-use Rattle.plant_program.specs.declared.words.WordsFault.TheVariants as unmeant
+use Rattle.plant_words.specs.declared.meaning.Words.{Words}
+use Rattle.plant_words.specs.declared.meaning.Words.TheVariants as words
+use Rattle.plant_words.specs.declared.meaning.WordsFault.{WordsFault}
+use Rattle.plant_words.specs.declared.meaning.WordsFault.TheVariants as unmeant
 
 -- some lines, of which one is written
 abbrev pub Lines : Type 1

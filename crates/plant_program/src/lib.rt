@@ -10,7 +10,6 @@ mod session;
 mod standing;
 mod telling;
 mod verified;
-mod words;
 
 pub use fault::Fault;
 pub use performing::perform;
@@ -18,4 +17,3 @@ pub use ready::init;
 pub use session::{Session, run};
 pub use telling::{tell_opening, tell_words};
 pub use verified::verify;
-pub use words::{Words, WordsFault};

@@ -8,7 +8,7 @@ use crate::ready::init;
 use crate::session::run;
 use crate::telling::tell_fault;
 use crate::verified::verify;
-use crate::words::Words;
+use plant_words::Words;
 use sqlite::{Alter, Connection};
 use std::alloc::Global;
 use std::io::{Read, Write};

@@ -4,8 +4,8 @@ ghost use Rattle.plant_program.specs.Performing.{TellsFault, TellsWords};
 
 use crate::fault::{Fault, opening_fault};
 use crate::lines::fault_line;
-use crate::words::WordsFault;
 use plant_text::{write_line, write_text};
+use plant_words::WordsFault;
 use sqlite::Error;
 use std::io::Write;
 

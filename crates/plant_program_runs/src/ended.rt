@@ -1,5 +1,6 @@
 //! Programs that were run to their end.
-use plant_program::{Words, perform};
+use plant_program::perform;
+use plant_words::Words;
 use sqlite::{Alter, Connection};
 use std::process::Abort;
 use std::test::Fail;

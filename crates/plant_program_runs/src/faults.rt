@@ -1,7 +1,7 @@
 //! Stores that aren't adopted: nothing is written to standard output.
-use crate::ended::{Outcome, INIT, RUN, SESSION, VERIFY, performed, is_fault};
+use crate::ended::{INIT, Outcome, RUN, SESSION, VERIFY, is_fault, performed};
 use crate::sessions::after_session;
-use plant_program::Words;
+use plant_words::Words;
 use sqlite::Connection;
 use std::process::Abort;
 use std::test::Fail;

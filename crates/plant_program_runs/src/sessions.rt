@@ -1,5 +1,5 @@
 //! Words that are done.
-use crate::ended::{INIT, REPLIES, RUN, SESSION, VERIFY, performed, ends_so};
+use crate::ended::{INIT, REPLIES, RUN, SESSION, VERIFY, ends_so, performed};
 use plant_program::run;
 use plant_store::Desk;
 use sqlite::{Alter, Connection};

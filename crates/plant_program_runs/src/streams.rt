@@ -1,6 +1,7 @@
 //! Streams that fail.
 use crate::ended::{INIT, RUN, SESSION, VERIFY};
-use plant_program::{Words, perform};
+use plant_program::perform;
+use plant_words::Words;
 use sqlite::Connection;
 use std::io;
 use std::io::{Read, Write};

@@ -1,5 +1,6 @@
 //! Faults before a store is open.
-use plant_program::{WordsFault, tell_opening, tell_words};
+use plant_program::{tell_opening, tell_words};
+use plant_words::WordsFault;
 use sqlite::{Error, ErrorCode};
 use std::process::Abort;
 use std::test::Fail;
@@ -32,7 +33,10 @@ fn words_are_told(rt: HostRuntime) -> Result<(), Fail> {
 /// Checks what is told of a file that doesn't open.
 fn opening_tells(rt: &(impl Abort + AllocGlobal), code: ErrorCode, errors: &[u8], status: u8) {
     let mut told = Vec::new(rt.alloc());
-    assert_eq!(rt; tell_opening(&Error::SqliteFailure(code), &mut told), status);
+    assert_eq!(rt;
+        tell_opening(&Error::SqliteFailure(code), &mut told),
+        status
+    );
     assert!(rt; told.as_slice() == errors);
 }
 

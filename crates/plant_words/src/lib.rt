@@ -1,0 +1,11 @@
+//! The words of the command line: what the desk's program is told to do.
+#![tactic(auto)]
+
+mod command_line;
+mod meaning;
+mod read;
+#[cfg(test)]
+mod tests;
+
+pub use meaning::{Words, WordsFault};
+pub use read::read_words;

@@ -1,0 +1,19 @@
+//! What the words of the program do over an opened store and the three standard streams, and how the program ends.
+#![tactic(auto)]
+
+mod adopting;
+mod fault;
+mod lines;
+mod performing;
+mod ready;
+mod session;
+mod standing;
+mod telling;
+mod verified;
+
+pub use fault::Fault;
+pub use performing::perform;
+pub use ready::init;
+pub use session::{Session, run};
+pub use telling::{tell_opening, tell_words};
+pub use verified::verify;

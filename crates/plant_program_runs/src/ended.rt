@@ -1,0 +1,85 @@
+//! Programs that were run to their end.
+use plant_program::perform;
+use plant_words::Words;
+use sqlite::{Alter, Connection};
+use std::process::Abort;
+use std::test::Fail;
+
+/// The words of the program over a store, whose file has no part in them here.
+pub const INIT: Words<'static> = Words::Init { file: "plant.db" };
+
+pub const RUN: Words<'static> = Words::Run { file: "plant.db" };
+
+pub const VERIFY: Words<'static> = Words::Verify { file: "plant.db" };
+
+/// Five lines, of which none is refused.
+pub const SESSION: &[u8] =
+    b"{\"at\":100,\"by\":\"anna\",\"do\":\"add_class\",\"class\":\"RAW\",\"name\":\"Raw goods\"}
+{\"at\":100,\"by\":\"anna\",\"do\":\"add_definition\",\"def\":\"SUGAR\",\"class\":\"RAW\",\"name\":\"Sugar\",\"unit\":\"g\"}
+{\"at\":110,\"by\":\"anna\",\"do\":\"receive\",\"lot\":\"L-1\",\"def\":\"SUGAR\",\"amount\":500,\"place\":\"A1\"}
+{\"at\":120,\"by\":\"ben\",\"do\":\"scrap\",\"lot\":\"L-1\",\"sub\":0,\"amount\":20}
+{\"ask\":\"lot\",\"lot\":\"L-1\"}
+";
+
+/// What a new desk answers them.
+pub const REPLIES: &[u8] = b"{\"ok\":1}
+{\"ok\":2}
+{\"ok\":3}
+{\"ok\":4}
+{\"def\":\"SUGAR\",\"held\":false,\"lot\":\"L-1\",\"stock\":480,\"sublots\":[{\"no\":0,\"place\":\"A1\",\"stock\":480}]}
+";
+
+/// What a program wrote, and its exit status.
+#[derive(Drop)]
+pub struct Outcome {
+    pub output: Vec<u8>,
+    pub errors: Vec<u8>,
+    pub status: u8,
+}
+
+/// Runs the program over a store.
+pub fn performed<S: Alter + Drop>(
+    rt: &impl AllocGlobal,
+    words: &Words<'_>,
+    connection: Connection<S>,
+    input: &[u8],
+) -> Outcome {
+    let mut rest = input;
+    let mut output = Vec::new(rt.alloc());
+    let mut errors = Vec::new(rt.alloc());
+    let status = perform(
+        rt.alloc(),
+        words,
+        connection,
+        &mut rest,
+        &mut output,
+        &mut errors,
+    );
+    Outcome {
+        output,
+        errors,
+        status,
+    }
+}
+
+/// Runs the program over a new store, and checks how it ends.
+pub fn ends_so(
+    rt: &(impl Abort + AllocGlobal),
+    words: &Words<'_>,
+    input: &[u8],
+    output: &[u8],
+    status: u8,
+) -> Result<(), Fail> {
+    let end = performed(rt, words, Connection::open_in_memory(rt.alloc())?, input);
+    assert_eq!(rt; end.status, status);
+    assert!(rt; end.output.as_slice() == output);
+    assert!(rt; end.errors.is_empty());
+    Ok(())
+}
+
+/// Checks that a program performed by a fault, with nothing on standard output.
+pub fn is_fault(rt: &impl Abort, end: &Outcome, errors: &[u8], status: u8) {
+    assert_eq!(rt; end.status, status);
+    assert!(rt; end.output.is_empty());
+    assert!(rt; end.errors.as_slice() == errors);
+}

@@ -1,0 +1,49 @@
+//! Faults before a store is open.
+use plant_program::{tell_opening, tell_words};
+use plant_words::WordsFault;
+use sqlite::{Error, ErrorCode};
+use std::process::Abort;
+use std::test::Fail;
+
+/// Checks what is told of words that give nothing to do.
+fn words_tell(
+    rt: &(impl Abort + AllocGlobal),
+    fault: &WordsFault,
+    output: &[u8],
+    errors: &[u8],
+    status: u8,
+) {
+    let mut written = Vec::new(rt.alloc());
+    let mut told = Vec::new(rt.alloc());
+    assert_eq!(rt; tell_words(fault, &mut written, &mut told), status);
+    assert!(rt; written.as_slice() == output);
+    assert!(rt; told.as_slice() == errors);
+}
+
+#[test]
+fn words_are_told(rt: HostRuntime) -> Result<(), Fail> {
+    let help = WordsFault::Help(format!(in rt.alloc(); "help\n")?);
+    words_tell(&rt, &help, b"help\n", b"", 0);
+    let usage = WordsFault::Usage(format!(in rt.alloc(); "usage\n")?);
+    words_tell(&rt, &usage, b"", b"usage\n", 2);
+    words_tell(&rt, &WordsFault::Memory, b"", b"fault: memory\n", 4);
+    Ok(())
+}
+
+/// Checks what is told of a file that doesn't open.
+fn opening_tells(rt: &(impl Abort + AllocGlobal), code: ErrorCode, errors: &[u8], status: u8) {
+    let mut told = Vec::new(rt.alloc());
+    assert_eq!(rt;
+        tell_opening(&Error::SqliteFailure(code), &mut told),
+        status
+    );
+    assert!(rt; told.as_slice() == errors);
+}
+
+#[test]
+fn openings_are_told(rt: HostRuntime) {
+    opening_tells(&rt, ErrorCode::OutOfMemory, b"fault: memory\n", 4);
+    opening_tells(&rt, ErrorCode::CannotOpen, b"fault: store\n", 3);
+    opening_tells(&rt, ErrorCode::DatabaseBusy, b"fault: store\n", 3);
+    opening_tells(&rt, ErrorCode::NotADatabase, b"fault: store\n", 3);
+}

@@ -1,11 +1,14 @@
-# make run   proves and builds the desk, and runs the stored session
+# make run   proves and builds the desk, and runs the stored session over a file, build/plant.db, which is made anew
 # make desk  leaves the built program at build/desk
 # make order_check  leaves the built check of order files at build/order_check
 # make test  the gate: every proof, every must-fail edit, every test and the programs
 .PHONY: run desk order_check test
 
-run:
-	cd crates/desk && rt run < stdin
+run: desk
+	rm -f build/plant.db build/plant.db-wal
+	build/desk init build/plant.db
+	build/desk run build/plant.db < crates/desk/stdin
+	build/desk verify build/plant.db
 
 desk:
 	cd crates/desk && rt run < /dev/null

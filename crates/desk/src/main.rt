@@ -1,42 +1,29 @@
-//! The desk: commands and questions as lines of JSON on standard input, replies on standard output.
+//! The desk: its words tell what to do with which file, lines of JSON come in on standard input, replies go out on
+//! standard output.
 #![tactic(auto)]
 
-#[cfg(test)]
-mod batch_tests;
-mod exit;
-#[cfg(test)]
-mod movement_tests;
-#[cfg(test)]
-mod order_tests;
-#[cfg(test)]
-mod tests;
-#[cfg(test)]
-mod trace_tests;
+mod arguments;
+mod opening;
 
-use exit::{fault_of, status_of};
-use plant_desk::ListKeeper;
-use plant_text::run_lines;
+use arguments::{read_arguments, texts_of};
+use opening::perform_over;
+use plant_program::tell_words;
+use plant_words::{WordsFault, read_words};
+use std::io;
 use std::process::ExitCode;
-use std::{env, io};
-
-/// The exit status where the words of the command line aren't understood.
-const USAGE: u8 = 2;
 
 fn main(rt: HostRuntime) -> ExitCode {
-    let words = match env::args(&rt) {
-        Ok(words) => words.count(),
-        Err(_) => 0,
+    let status = match perform_words(&rt) {
+        Ok(status) => status,
+        Err(fault) => tell_words(&fault, &mut io::writer(&rt), &mut rt.stderr()),
     };
-    if words != 1 {
-        let _ = eprintln!(rt; "usage: desk < LINES");
-        return ExitCode::from(USAGE);
-    }
-    let mut keeper = ListKeeper::new(rt.alloc());
-    let mut reader = rt.reader();
-    let mut writer = io::writer(&rt);
-    let end = run_lines(rt.alloc(), &mut reader, &mut writer, &mut keeper);
-    if let Some(fault) = fault_of(end) {
-        let _ = eprintln!(rt; "fault: {fault}");
-    }
-    ExitCode::from(status_of(end))
+    ExitCode::from(status)
+}
+
+/// Does what the words of the command line tell, and gives the exit status.
+fn perform_words(rt: &HostRuntime) -> Result<u8, WordsFault> {
+    let arguments = read_arguments(rt)?;
+    let texts = texts_of(rt.alloc(), arguments.as_slice())?;
+    let words = read_words(rt.alloc(), texts.as_slice())?;
+    Ok(perform_over(rt, &words))
 }

@@ -1,0 +1,2 @@
+mod Adopted
+mod OneLine

@@ -1,5 +1,5 @@
 //! The adoption of the program's store.
-ghost use Rattle.std.specs.Prelude.{◌≡◌, false, IfOk, IfErr};
+ghost use Rattle.std.specs.Prelude.{◌≡◌, ◌≢◌, false, IfOk, IfErr};
 ghost use Rattle.sqlite.specs.Held.{state};
 ghost use Rattle.sqlite.specs.State.{HasCleanDisk};
 ghost use Rattle.plant_store.specs.Adopting.{IsNewlyOpened, AdoptedFrom};
@@ -18,6 +18,7 @@ pub(crate) fn adopted<S: Alter + Drop>(
 ) -> Result<Desk<S>, Fault>
     ensures adopted { IfOk result (λ desk. HasCleanDisk (state S.Store desk.connection) → IsNewlyOpened (state S.Store connection) → AdoptedFrom (state S.Store connection) (IsOpenAt (state S.Store desk.connection))) }
     ensures open { IfOk result (λ desk. desk.is_shut ≡ false) }
+    ensures unwritten { IfErr result (λ fault. fault ≢ Fault.Write) }
 {
     if !connection.is_autocommit() {
         return Err(Fault::Store);

@@ -6,7 +6,7 @@ ghost use Rattle.plant_program.specs.Faults as spec;
 use plant_check::Rule;
 use plant_desk::DeskFault;
 use plant_store::AdoptFault;
-use plant_text::{RunEnd, Unwritten};
+use plant_text::RunEnd;
 use sqlite::{Error, ErrorCode};
 
 /// Why the program doesn't do what it is told.
@@ -72,17 +72,6 @@ impl From<DeskFault> for Fault {
             DeskFault::Store | DeskFault::Shut => Fault::Store,
             DeskFault::Memory => Fault::Memory,
         }
-    }
-}
-
-impl From<Unwritten> for Fault {
-    ghost use Rattle.std.specs.Prelude.{◌≡◌};
-    ghost use Rattle.plant_program.specs.declared.fault.Fault.TheVariants as fault;
-
-    ghost from_gives = { λ _ told. told ≡ fault.Write };
-
-    fn from(_: Unwritten) -> Fault {
-        Fault::Write
     }
 }
 

@@ -5,6 +5,7 @@ mod adopting;
 mod fault;
 mod lines;
 mod performing;
+mod printing;
 mod ready;
 mod session;
 mod standing;

@@ -13,10 +13,10 @@ ghost use Rattle.plant_program.specs.Performing.{IsReady, Printed, Unprinted};
 use crate::adopting::adopted;
 use crate::fault::Fault;
 use crate::lines::ready_line;
+use crate::printing::print_line;
 use crate::standing::ask_standing;
 use plant_desk::Keeper;
 use plant_store::Desk;
-use plant_text::write_line;
 use sqlite::{Alter, Connection};
 use std::alloc::Global;
 use std::io::Write;
@@ -31,8 +31,7 @@ fn tell_ready<W: Write, K: Keeper>(writer: &mut W, keeper: &mut K) -> Result<(),
     ensures printed { MatchResult result (λ _. Printed IsReady (W.contents writer.old) (W.contents writer.new)) (Unprinted IsReady (W.contents writer.old) (W.contents writer.new)) }
 {
     let at = ask_standing(keeper)?;
-    write_line(writer, ready_line(at.schema).as_bytes())?;
-    Ok(())
+    print_line(writer, &ready_line(at.schema))
 }
 
 /// Does `init FILE`: adopts the store, which gets the desk's tables where it has none of them, and prints

@@ -1,5 +1,6 @@
 //! How the program tells why it ends.
 ghost use Rattle.std.specs.Prelude.{◌≡◌, ◌≢◌};
+ghost use Rattle.sqlite.specs.declared.error.ErrorCode.TheVariants as code;
 ghost use Rattle.plant_program.specs.Performing.{TellsFault, TellsWords};
 
 use crate::fault::{Fault, opening_fault};
@@ -44,8 +45,8 @@ pub fn tell_words<W: Write, E: Write>(fault: &WordsFault, writer: &mut W, errors
 /// Tells on standard error why FILE doesn't open, and gives the exit status: `fault: memory` and 4 for want of memory,
 /// `fault: store` and 3 for every other error of the store.
 pub fn tell_opening<E: Write>(error: &Error, errors: &mut E) -> u8
-    ensures memory { error.now ≡ Error.SqliteFailure ErrorCode.OutOfMemory → TellsFault Fault.Memory (E.contents errors.old) (E.contents errors.new) result }
-    ensures store { error.now ≢ Error.SqliteFailure ErrorCode.OutOfMemory → TellsFault Fault.Store (E.contents errors.old) (E.contents errors.new) result }
+    ensures memory { error.now ≡ Error.SqliteFailure code.OutOfMemory → TellsFault Fault.Memory (E.contents errors.old) (E.contents errors.new) result }
+    ensures store { error.now ≢ Error.SqliteFailure code.OutOfMemory → TellsFault Fault.Store (E.contents errors.old) (E.contents errors.new) result }
 {
     tell_fault(opening_fault(error), errors)
 }

@@ -13,10 +13,10 @@ ghost use Rattle.plant_program.specs.Performing.{IsGoodLine, Printed, Unprinted}
 use crate::adopting::adopted;
 use crate::fault::Fault;
 use crate::lines::good_line;
+use crate::printing::print_line;
 use crate::standing::ask_standing;
 use plant_desk::Keeper;
 use plant_store::Desk;
-use plant_text::write_line;
 use sqlite::{Alter, Connection};
 use std::alloc::Global;
 use std::io::Write;
@@ -46,8 +46,7 @@ fn tell_good<W: Write, K: Keeper>(writer: &mut W, keeper: &mut K) -> Result<(), 
     ensures printed { MatchResult result (λ _. Printed IsGoodLine (W.contents writer.old) (W.contents writer.new)) (Unprinted IsGoodLine (W.contents writer.old) (W.contents writer.new)) }
 {
     let at = ask_standing(keeper)?;
-    write_line(writer, good_line(at.schema, at.seq).as_bytes())?;
-    Ok(())
+    print_line(writer, &good_line(at.schema, at.seq))
 }
 
 /// Does `verify FILE`: adopts the store, tests all its tables anew, and prints `good schema N seq S` and an LF, S being

@@ -29,27 +29,37 @@ pub trait Keeper {
     /// Whether a stop now leaves something, and whatever it leaves is one of these states.
     ghost leaves: { Self → States → Type 0 };
 
+    /// What stands beside the state and isn't the keeper's to change, as tables of other names in its store.
+    ghost Beside: { Type 0 };
+
+    /// Whether this stands beside the keeper's state, and whatever a stop now leaves.
+    ghost beside: { Self → Beside → Type 0 };
+
     /// Executes a command. Accepted and Refused are the definitions' reply, and the keeper goes to the state of
     /// their step, which is the same state where the command is refused.
     ///
     /// `Store`: the keeper is shut and stands where it stood; a stop leaves that state or the next one, and no other.
     /// `Memory`: nothing has changed. `Shut` comes exactly from a keeper that is shut.
+    /// Whatever comes, what stood beside the state stands there still.
     fn execute(&mut self, envelope: &Envelope) -> Result<Reply, DeskFault>
         ensures honest { honest self.new → honest self.old }
         ensures schema { honest self.new → schema self.new ≡ schema self.old }
         ensures executes { honest self.new → shut self.old ≡ false → (s : State) → stands self.old s
             → Executes s (stands self.new) (leaves self.new) envelope.now result }
+        ensures beside { honest self.new → (b : Beside) → beside self.old b → beside self.new b }
         ensures open { shut self.old ≡ false → shut self.new ≡ shuts result }
         ensures shut { shut self.old ≡ true → IsErrOf result DeskFault.Shut };
 
     /// Answers a question. The state stays as it is, and an open keeper stays open.
     ///
-    /// `Store`, `Memory`: there is no answer. `Shut` comes exactly from a keeper that is shut.
+    /// `Store`, `Memory`: there is no answer. `Shut` comes exactly from a keeper that is shut. What stood beside the state
+    /// stands there still.
     fn ask(&mut self, question: &Question) -> Result<Answer, DeskFault>
         ensures honest { honest self.new → honest self.old }
         ensures schema { honest self.new → schema self.new ≡ schema self.old }
         ensures asks { honest self.new → shut self.old ≡ false → (s : State) → stands self.old s
             → Asks (schema self.old) s (stands self.new) question.now result }
+        ensures beside { honest self.new → (b : Beside) → beside self.old b → beside self.new b }
         ensures open { shut self.new ≡ shut self.old }
         ensures shut { shut self.old ≡ true → IsErrOf result DeskFault.Shut };
 

@@ -145,6 +145,10 @@ impl Keeper for ListKeeper {
 
     ghost leaves = { λ k P. P k };
 
+    ghost Beside = { Unit {0} };
+
+    ghost beside = { λ _ _. Unit {0} };
+
     fn execute(&mut self, envelope: &Envelope) -> Result<Reply, DeskFault> {
         self.execute_one(envelope)
     }

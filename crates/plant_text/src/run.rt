@@ -66,6 +66,7 @@ fn end_line<W: Write, K: Keeper>(
     requires { K.shut keeper.old ≡ false }
     ensures honest { K.honest keeper.new → K.honest keeper.old }
     ensures schema { K.honest keeper.new → K.schema keeper.new ≡ K.schema keeper.old }
+    ensures beside { K.honest keeper.new → (b : K.Beside) → K.beside keeper.old b → K.beside keeper.new b }
     ensures open { OnOk result (K.shut keeper.new ≡ false) }
     ensures held { OnOk result (held.new.items ≡ []) }
     ensures ends { K.honest keeper.new → (s : State) → K.stands keeper.old s
@@ -107,6 +108,7 @@ fn take_byte<W: Write, K: Keeper>(
     requires { K.shut keeper.old ≡ false }
     ensures honest { K.honest keeper.new → K.honest keeper.old }
     ensures schema { K.honest keeper.new → K.schema keeper.new ≡ K.schema keeper.old }
+    ensures beside { K.honest keeper.new → (b : K.Beside) → K.beside keeper.old b → K.beside keeper.new b }
     ensures open { OnOk result (K.shut keeper.new ≡ false) }
     ensures held { OnOk result (held.new.items ≡ held_after held.old.items (b ∷ [])) }
     ensures ends { K.honest keeper.new → (s : State) → K.stands keeper.old s
@@ -135,6 +137,7 @@ fn take_piece<W: Write, K: Keeper>(
     requires { K.shut keeper.old ≡ false }
     ensures honest { K.honest keeper.new → K.honest keeper.old }
     ensures schema { K.honest keeper.new → K.schema keeper.new ≡ K.schema keeper.old }
+    ensures beside { K.honest keeper.new → (b : K.Beside) → K.beside keeper.old b → K.beside keeper.new b }
     ensures open { OnOk result (K.shut keeper.new ≡ false) }
     ensures held { OnOk result (held.new.items ≡ held_after held.old.items piece.now) }
     ensures ends { K.honest keeper.new → (s : State) → K.stands keeper.old s
@@ -163,6 +166,7 @@ fn end_input<W: Write, K: Keeper>(
     requires { K.shut keeper.old ≡ false }
     ensures honest { K.honest keeper.new → K.honest keeper.old }
     ensures schema { K.honest keeper.new → K.schema keeper.new ≡ K.schema keeper.old }
+    ensures beside { K.honest keeper.new → (b : K.Beside) → K.beside keeper.old b → K.beside keeper.new b }
     ensures ends { K.honest keeper.new → (s : State) → K.stands keeper.old s
         → LastEnds (K.schema keeper.old) s (entry_of held.now)
         (W.contents writer.old) (W.contents writer.new)
@@ -188,6 +192,7 @@ fn run_pieces<R: Read, W: Write, K: Keeper>(
     requires room { 0 < length piece.old }
     ensures honest { K.honest keeper.new → K.honest keeper.old }
     ensures schema { K.honest keeper.new → K.schema keeper.new ≡ K.schema keeper.old }
+    ensures beside { K.honest keeper.new → (b : K.Beside) → K.beside keeper.old b → K.beside keeper.new b }
     ensures ends { (bytes : List ℕ) × Consumes (R.remaining reader.old) (R.remaining reader.new) bytes
         × (K.honest keeper.new → (s : State) → K.stands keeper.old s
         → Ends (K.schema keeper.old) s bytes (R.remaining reader.new)
@@ -241,6 +246,7 @@ pub fn run_lines<R: Read, W: Write, K: Keeper>(
     requires { K.shut keeper.old ≡ false }
     ensures honest { K.honest keeper.new → K.honest keeper.old }
     ensures schema { K.honest keeper.new → K.schema keeper.new ≡ K.schema keeper.old }
+    ensures beside { K.honest keeper.new → (b : K.Beside) → K.beside keeper.old b → K.beside keeper.new b }
     ensures ends { (bytes : List ℕ) × Consumes (R.remaining reader.old) (R.remaining reader.new) bytes
         × (K.honest keeper.new → (s : State) → K.stands keeper.old s
         → Ends (K.schema keeper.old) s bytes (R.remaining reader.new)

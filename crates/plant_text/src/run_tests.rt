@@ -26,6 +26,10 @@ impl Keeper for FailingKeeper {
 
     ghost leaves = { λ k P. P k.desk };
 
+    ghost Beside = { Unit {0} };
+
+    ghost beside = { λ _ _. Unit {0} };
+
     fn execute(&mut self, envelope: &Envelope) -> Result<Reply, DeskFault> {
         if self.is_shut {
             return Err(DeskFault::Shut);

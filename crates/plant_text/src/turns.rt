@@ -80,6 +80,7 @@ fn take_command<W: Write, K: Keeper>(
     requires { K.shut keeper.old ≡ false }
     ensures honest { K.honest keeper.new → K.honest keeper.old }
     ensures schema { K.honest keeper.new → K.schema keeper.new ≡ K.schema keeper.old }
+    ensures beside { K.honest keeper.new → (b : K.Beside) → K.beside keeper.old b → K.beside keeper.new b }
     ensures open { OnOk result (K.shut keeper.new ≡ false) }
     ensures ends { K.honest keeper.new → (s : State) → K.stands keeper.old s
         → TurnEnds (K.schema keeper.old) s (command_entry envelope.now)
@@ -105,6 +106,7 @@ fn take_question<W: Write, K: Keeper>(
     requires { K.shut keeper.old ≡ false }
     ensures honest { K.honest keeper.new → K.honest keeper.old }
     ensures schema { K.honest keeper.new → K.schema keeper.new ≡ K.schema keeper.old }
+    ensures beside { K.honest keeper.new → (b : K.Beside) → K.beside keeper.old b → K.beside keeper.new b }
     ensures open { OnOk result (K.shut keeper.new ≡ false) }
     ensures ends { K.honest keeper.new → (s : State) → K.stands keeper.old s
         → TurnEnds (K.schema keeper.old) s (question_entry question.now)
@@ -133,6 +135,7 @@ pub(crate) fn take_line<W: Write, K: Keeper>(
     requires { K.shut keeper.old ≡ false }
     ensures honest { K.honest keeper.new → K.honest keeper.old }
     ensures schema { K.honest keeper.new → K.schema keeper.new ≡ K.schema keeper.old }
+    ensures beside { K.honest keeper.new → (b : K.Beside) → K.beside keeper.old b → K.beside keeper.new b }
     ensures open { OnOk result (K.shut keeper.new ≡ false) }
     ensures ends { K.honest keeper.new → (s : State) → K.stands keeper.old s
         → TurnEnds (K.schema keeper.old) s (entry_of line.now)

@@ -12,6 +12,7 @@ reads-init g c = record {
   not_shut = c.requires.open;
   honest = λ h. h;
   schema = λ h. refl;
+  beside = λ h b stood. stood;
   so_far = ([], Consumes-nil _, c.new-held.ensures.items ∙ sym (held_after_none []), λ h s stood. told_same _ _ _ _ _ _ false (entries_after_none []) refl stood);
 }
 
@@ -63,6 +64,7 @@ reads-preserved g c =
       not_shut = c.in-Ok-take_piece.ensures.open;
       honest = λ h. inv.honest (c.take_piece.ensures.honest h);
       schema = λ h. c.take_piece.ensures.schema h ∙ inv.schema (c.take_piece.ensures.honest h);
+      beside = λ h b stood. c.take_piece.ensures.beside h b (inv.beside (c.take_piece.ensures.honest h) b stood);
       so_far = (
         inv.so_far.0 ++ front,
         Consumes-append _ _ _ inv.so_far.0 front inv.so_far.1 read,

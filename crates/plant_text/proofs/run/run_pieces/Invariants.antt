@@ -12,6 +12,7 @@ invariant-reads g l =
       not_shut : keeper.shut l.keeper ≡ false;
       honest : keeper.honest l.keeper → keeper.honest l.fn.keeper;
       schema : keeper.honest l.keeper → keeper.schema l.keeper ≡ keeper.schema l.fn.keeper;
+      beside : keeper.honest l.keeper → (b : keeper.Beside) → keeper.beside l.fn.keeper b → keeper.beside l.keeper b;
       so_far : (bytes : List ℕ) × Consumes (g.R.Read.remaining l.fn.reader) (g.R.Read.remaining l.reader) bytes
           × (l.held.items ≡ held_after [] bytes)
           × (keeper.honest l.keeper → (s : State) → keeper.stands l.fn.keeper s → Told (keeper.schema l.fn.keeper) s (entries_after [] bytes)

@@ -9,6 +9,7 @@ loop-b-init g c = record {
   not_shut = c.requires;
   honest = λ h. h;
   schema = λ h. refl;
+  beside = λ h b stood. stood;
   held = sym (held_after_none c.args.held.now.items);
   told = λ h s stood. told_same _ _ _ _ _ _ c.args.refused (entries_after_none c.args.held.now.items) refl stood;
 }
@@ -35,6 +36,7 @@ loop-b-preserved g c =
       not_shut = c.in-Ok.ensures.open;
       honest = λ h. inv.honest (c.take_byte.ensures.honest h);
       schema = λ h. c.take_byte.ensures.schema h ∙ inv.schema (c.take_byte.ensures.honest h);
+      beside = λ h b stood. c.take_byte.ensures.beside h b (inv.beside (c.take_byte.ensures.honest h) b stood);
       held = held_more c.args.held.now.items c.loop-b.held.items _ (take i xs) (get_or xs i 0 ∷ []) (take (i + 1) xs) inv.held c.in-Ok.ensures.held more;
       told = λ h s stood. let before = c.take_byte.ensures.honest h in
           piece_told _ _ _ _ _ c.args.held.now.items c.loop-b.held.items (take i xs) (get_or xs i 0 ∷ []) (take (i + 1) xs) _ _ _ _ _ _

@@ -11,6 +11,7 @@ invariant-loop-b g l =
       not_shut : keeper.shut l.keeper ≡ false;
       honest : keeper.honest l.keeper → keeper.honest l.fn.keeper;
       schema : keeper.honest l.keeper → keeper.schema l.keeper ≡ keeper.schema l.fn.keeper;
+      beside : keeper.honest l.keeper → (b : keeper.Beside) → keeper.beside l.fn.keeper b → keeper.beside l.keeper b;
       held : l.held.items ≡ held_after l.fn.held.items (take l.b-index l.piece);
       told : keeper.honest l.keeper → (s : State) → keeper.stands l.fn.keeper s
           → Told (keeper.schema l.fn.keeper) s (entries_after l.fn.held.items (take l.b-index l.piece))

@@ -1,5 +1,5 @@
-//! Tests of a desk over a store in memory: what it is told is there when the store is adopted again, and a store that
-//! was changed by hand is refused.
+//! Tests of a desk over one store: what it is told is there when the store is adopted again, a store that was changed by
+//! hand is refused, and ten commands are stopped at each call of a file in turn.
 #![tactic(auto)]
 
 #[cfg(test)]
@@ -10,3 +10,5 @@ mod desks;
 mod kept;
 #[cfg(test)]
 mod refused;
+#[cfg(test)]
+mod stops;

@@ -4,12 +4,14 @@ use sqlite_disk::{Crash, Disk, Fuse, Memory};
 use std::alloc::Global;
 use std::test::Fail;
 
+/// A log and a database file, each with its fuse.
 pub type InMemory = Files<Fuse<Memory>>;
 
+/// A connection to the two.
 pub type Fused = Connection<FileStore<Fuse<Memory>>>;
 
 /// What stands in the two files.
-#[derive(Drop)]
+#[derive(Drop, PartialEq, Eq)]
 pub struct Image {
     log: Vec<u8>,
     db: Vec<u8>,
@@ -27,6 +29,23 @@ pub const ALL: Calls = Calls {
     log: u64::MAX,
     db: u64::MAX,
 };
+
+/// The file that is stopped.
+#[derive(Clone, Copy)]
+pub enum Stopped {
+    Log,
+    Database,
+}
+
+impl Stopped {
+    /// A stop of this file after so many of its calls, and none of the other.
+    pub fn after(self, calls: u64) -> Calls {
+        match self {
+            Stopped::Log => Calls { log: calls, ..ALL },
+            Stopped::Database => Calls { db: calls, ..ALL },
+        }
+    }
+}
 
 fn file(alloc: Global, bytes: &[u8], calls: u64) -> Result<Fuse<Memory>, Fail> {
     let mut memory = Memory::new(alloc);
@@ -63,15 +82,29 @@ impl Image {
     }
 }
 
-/// A connection to the files, or, where they don't open, the files.
-pub fn opened(alloc: Global, files: InMemory) -> Result<Fused, InMemory> {
+/// A connection to the files, whose log is copied into the database whenever it is so long; or, where they don't open,
+/// the files.
+pub fn opened_with_log_of(
+    alloc: Global,
+    files: InMemory,
+    checkpoint_frames: usize,
+) -> Result<Fused, InMemory> {
     if !files.log.may_be_used() || !files.db.may_be_used() {
         return Err(files);
     }
-    match Connection::open_files(alloc, files, Options::new(7)) {
+    let options = Options {
+        checkpoint_frames,
+        ..Options::new(7)
+    };
+    match Connection::open_files(alloc, files, options) {
         Ok(conn) => Ok(conn),
         Err((_, left)) => Err(left.into_files()),
     }
+}
+
+/// A connection to the files, with a log that grows as by default; or, where they don't open, the files.
+pub fn opened(alloc: Global, files: InMemory) -> Result<Fused, InMemory> {
+    opened_with_log_of(alloc, files, Options::new(7).checkpoint_frames)
 }
 
 /// A connection to files that don't stop.
@@ -87,4 +120,20 @@ pub fn crashed(mut files: InMemory) -> InMemory {
     files.log.crash();
     files.db.crash();
     files
+}
+
+/// The files of a connection that is closed, where the log is copied into the database as far as no stop is in the way.
+pub fn closed(conn: Fused) -> InMemory {
+    match conn.close_files() {
+        Ok(files) => files,
+        Err((_, store)) => store.close(),
+    }
+}
+
+/// Whether neither file has stopped: each is asked for its length.
+pub fn are_running(files: &mut InMemory) -> bool {
+    if !files.log.may_be_used() || !files.db.may_be_used() {
+        return false;
+    }
+    files.log.len().is_ok() && files.db.len().is_ok()
 }

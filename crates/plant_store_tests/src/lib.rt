@@ -1,11 +1,10 @@
 //! Tests of the desk's tables in stores: every kind of row is written, overwritten and read back, and a transaction is
-//! stopped at each call of a file in turn.
+//! stopped at each call of a file in turn. What other tests of stores need stands open: files that stop, and tables as text.
 #![tactic(auto)]
 
 #[cfg(test)]
 mod expected;
-#[cfg(test)]
-mod files;
+pub mod files;
 #[cfg(test)]
 mod round_trip;
 #[cfg(test)]
@@ -14,5 +13,4 @@ mod rows;
 mod stops;
 #[cfg(test)]
 mod store;
-#[cfg(test)]
-mod told;
+pub mod told;

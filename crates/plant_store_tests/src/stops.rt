@@ -1,7 +1,7 @@
 //! A transaction over files that are stopped after so many calls of one of them, for every number of calls. Opened anew,
 //! the files hold the tables from before it or from after it, and those from after it where it was answered.
 use crate::expected::{FIRST, OPENING, SECOND};
-use crate::files::{ALL, Calls, Image, InMemory, crashed, opened, reopened};
+use crate::files::{ALL, Calls, Image, InMemory, Stopped, crashed, opened, reopened};
 use crate::store::{Step, held, make_other, take};
 use sqlite::{Alter, Connection};
 use std::process::Abort;
@@ -9,22 +9,6 @@ use std::test::Fail;
 
 /// A stop after so many calls that no run comes to it.
 const FAR: u64 = 5000;
-
-/// The file that is stopped.
-#[derive(Clone, Copy)]
-enum Stopped {
-    Log,
-    Database,
-}
-
-impl Stopped {
-    fn after(self, calls: u64) -> Calls {
-        match self {
-            Stopped::Log => Calls { log: calls, ..ALL },
-            Stopped::Database => Calls { db: calls, ..ALL },
-        }
-    }
-}
 
 /// A step over files, with what they hold before and after it.
 #[derive(Clone, Copy)]

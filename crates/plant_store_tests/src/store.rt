@@ -1,9 +1,8 @@
 //! What is done to a store: the making of its tables, the writing of rows, and the reading of all that it holds.
 use crate::expected::OTHER;
 use crate::rows::{FIRST, SECOND, rows, rows_and_unhold};
-use crate::told::{push_loaded, push_row};
+use crate::told::{push_row, tables_told};
 use plant_forms::Fault;
-use plant_loaded::{FoundTables, Loaded, found};
 use plant_tables::{commit_changes, commit_opening};
 use plant_view::RowChange;
 use sqlite::types::ValueRef::{Int, Null, Text};
@@ -85,12 +84,5 @@ pub fn held<S: Alter>(
     let mut other = String::new(rt.alloc());
     push_other(&mut other, rt.alloc(), conn)?;
     assert_eq!(rt; other.as_str(), OTHER);
-    let mut text = String::new(rt.alloc());
-    if found(rt.alloc(), conn)? != FoundTables::Nothing {
-        match &Loaded::read(rt.alloc(), conn, 1)? {
-            Some(loaded) => push_loaded(&mut text, rt.alloc(), loaded)?,
-            None => text.push_str("a table is missing\n")?,
-        }
-    }
-    Ok(text)
+    tables_told(rt.alloc(), conn)
 }

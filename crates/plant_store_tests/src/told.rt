@@ -1,14 +1,16 @@
 //! What was loaded of the tables, as text.
-use plant_loaded::Loaded;
 use plant_loaded::masters::{
     Masters, StoredClass, StoredDefinition, StoredRecipe, StoredRecipeLine,
 };
 use plant_loaded::meta::StoredMeta;
 use plant_loaded::orders::{Orders, StoredBatch, StoredBatchEvent, StoredControlLine, StoredJob};
 use plant_loaded::stocks::{Stocks, StoredHold, StoredLot, StoredMovement, StoredSublot};
+use plant_loaded::{FoundTables, Loaded, found};
 use sqlite::types::ValueRef;
 use sqlite::types::ValueRef::{Int, Null, Text};
+use sqlite::{Alter, Connection};
 use std::alloc::{AllocError, Global};
+use std::test::Fail;
 
 fn push_value(text: &mut String, alloc: Global, value: ValueRef<'_>) -> Result<(), AllocError> {
     match value {
@@ -243,4 +245,17 @@ pub fn push_loaded(text: &mut String, alloc: Global, loaded: &Loaded) -> Result<
     push_masters(text, alloc, &loaded.masters)?;
     push_orders(text, alloc, &loaded.orders)?;
     push_stocks(text, alloc, &loaded.stocks)
+}
+
+/// The rows of the desk's tables in a store, as text; none where none of its tables stands.
+pub fn tables_told<S: Alter>(alloc: Global, conn: &mut Connection<S>) -> Result<String, Fail> {
+    let mut text = String::new(alloc);
+    if found(alloc, conn)? == FoundTables::Nothing {
+        return Ok(text);
+    }
+    match &Loaded::read(alloc, conn, 1)? {
+        Some(loaded) => push_loaded(&mut text, alloc, loaded)?,
+        None => text.push_str("a table is missing\n")?,
+    }
+    Ok(text)
 }

@@ -1,0 +1,27 @@
+#!/usr/bin/env bash
+# The seconds and the peak memory of adopting a file with so many movements and testing all its tables once more, and how
+# many times those of the file before; of its adoption alone; and of one question to a file that was empty. Wants the
+# built program (`rt run` in crates/verify_bench). Usage: bench/verify.sh [N ..], by default 1000 10000 100000.
+set -eu
+cd "$(dirname "$0")/.."
+program=$PWD/crates/verify_bench/out/verify_bench
+work=$(mktemp -d)
+trap 'rm -rf "$work"' EXIT
+timed() { # words..
+  /usr/bin/time -f '%e %M' -o "$work/time" "$program" "$@" > "$work/out"
+  read -r seconds memory < "$work/time"
+}
+timed ask "$work/empty.db"
+echo "an empty file, $(cat "$work/out"): $seconds s, $memory kB at most"
+before=
+for count in ${@:-1000 10000 100000}; do
+  file=$work/$count.db
+  timed write "$file" "$count"
+  echo "write $(cat "$work/out"): $seconds s, $memory kB at most"
+  timed adopt "$file"
+  echo "  adopt: $seconds s, $memory kB at most"
+  timed verify "$file"
+  ratio=$(awk -v s="$seconds" -v b="${before:-0}" 'BEGIN { if (b > 0) printf ", %.1f times the file before", s / b }')
+  echo "  adopt and verify, $(cat "$work/out"): $seconds s$ratio, $memory kB at most"
+  before=$seconds
+done

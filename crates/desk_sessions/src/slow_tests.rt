@@ -1,0 +1,112 @@
+//! Sessions over readers that give a byte a read and writers that take three bytes a write, and fail.
+use crate::session::{REPLIES, SESSION};
+use plant_desk::ListKeeper;
+use plant_text::{RunEnd, run_lines};
+use std::io;
+use std::io::{Error, ErrorKind, Read, Write};
+use std::test::Fail;
+
+/// A byte a read, and a failure after so many reads.
+#[derive(Drop)]
+struct Trickle<'a> {
+    rest: &'a [u8],
+    reads: u64,
+}
+
+impl Read for Trickle<'_> {
+    fn read(&mut self, buf: &mut [u8]) -> io::Result<usize> {
+        if self.reads == 0 {
+            return Err(Error::from(ErrorKind::Other));
+        }
+        self.reads -= 1;
+        let rest = self.rest;
+        match rest {
+            [first, later @ ..] if !buf.is_empty() => {
+                buf[0] = *first;
+                self.rest = later;
+                Ok(1)
+            }
+            _ => Ok(0),
+        }
+    }
+}
+
+/// Takes three bytes a write, and none after so many writes.
+#[derive(Drop)]
+struct Narrow {
+    held: Vec<u8>,
+    writes: u64,
+}
+
+impl Write for Narrow {
+    fn write(&mut self, buf: &[u8]) -> io::Result<usize> {
+        if self.writes == 0 {
+            return Ok(0);
+        }
+        self.writes -= 1;
+        let n = buf.len().min(3);
+        self.held.extend_from_slice(&buf[..n])?;
+        Ok(n)
+    }
+
+    fn flush(&mut self) -> io::Result<()> {
+        Ok(())
+    }
+}
+
+/// What a new desk over lists writes for an input, a byte a read and three bytes a write, up to so many of each.
+fn slow_session(
+    rt: &impl AllocGlobal,
+    input: &[u8],
+    reads: u64,
+    writes: u64,
+) -> Result<(RunEnd, Vec<u8>), Fail> {
+    let mut reader = Trickle { rest: input, reads };
+    let mut writer = Narrow {
+        held: Vec::new(rt.alloc()),
+        writes,
+    };
+    let mut keeper = ListKeeper::new(rt.alloc());
+    let end = run_lines(rt.alloc(), &mut reader, &mut writer, &mut keeper);
+    Ok((end, writer.held))
+}
+
+#[test]
+fn pieces_make_no_difference(rt: HostRuntime) -> Result<(), Fail> {
+    let (end, out) = slow_session(&rt, SESSION, 1_000_000, 1_000_000)?;
+    assert!(rt; end == RunEnd::Done { refused: false });
+    assert!(rt; out.as_slice() == REPLIES);
+    Ok(())
+}
+
+/// How many lines of the input end in its first bytes.
+fn line_ends(bytes: &[u8]) -> usize {
+    bytes.iter().filter(|b| **b == b'\n').count()
+}
+
+/// The reader fails at its n-th read, for every n: what was written are the replies to the lines that it gave.
+#[test]
+fn a_reader_may_fail(rt: HostRuntime) -> Result<(), Fail> {
+    for n in 0..SESSION.len() {
+        let (end, out) = slow_session(&rt, SESSION, n as u64, 1_000_000)?;
+        assert!(rt; end == RunEnd::Read);
+        assert!(rt; REPLIES.starts_with(&out));
+        assert!(rt; line_ends(&out) == line_ends(&SESSION[..n]));
+    }
+    Ok(())
+}
+
+/// The writer takes nothing at its n-th write, for every n: what was written is a front of the replies.
+#[test]
+fn a_writer_may_fail(rt: HostRuntime) -> Result<(), Fail> {
+    for writes in 0..REPLIES.len() {
+        let (end, out) = slow_session(&rt, SESSION, 1_000_000, writes as u64)?;
+        assert!(rt; REPLIES.starts_with(&out));
+        if end == (RunEnd::Done { refused: false }) {
+            assert!(rt; out.as_slice() == REPLIES);
+            return Ok(());
+        }
+        assert!(rt; end == RunEnd::Write);
+    }
+    Err(Fail::from("no run ended"))
+}

@@ -10,7 +10,3 @@ mod rule;
 pub use checking::{check, check_rows};
 pub use rule::Rule;
 
-#[cfg(test)]
-mod good_desk;
-#[cfg(test)]
-mod tests;

@@ -23,5 +23,3 @@ pub use question::{Answer, BatchView, Booking, LotAnswer, MeasuredLine, OrderAns
 pub use reply::{DeskFault, Reply};
 pub use report::RunReport;
 
-#[cfg(test)]
-mod tests;

@@ -8,8 +8,6 @@ ghost use Rattle.plant_groups.specs.Groups.{Groups, Joins, is_keyed, rows_of};
 use std::alloc::{AllocError, Global};
 use std::collections::BTreeMap;
 
-#[cfg(test)]
-mod tests;
 
 /// What rows of one kind are grouped by.
 pub trait Grouping {

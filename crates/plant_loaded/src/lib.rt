@@ -11,5 +11,3 @@ pub mod stocks;
 pub use finding::{FoundTables, found};
 pub use loaded::Loaded;
 
-#[cfg(test)]
-mod tests;

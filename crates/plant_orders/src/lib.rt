@@ -5,8 +5,6 @@ mod fault;
 mod number;
 mod read;
 mod row;
-#[cfg(test)]
-mod tests;
 
 pub use fault::{CsvFault, CsvKind};
 pub use read::{LONGEST_FILE, read_orders};

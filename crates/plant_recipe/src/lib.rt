@@ -15,5 +15,3 @@ pub use progress::{GREATEST_ATTEMPT, GREATEST_PHASES, Progress, progress_laws};
 pub use scaling::{scaled, scaling_laws};
 pub use table::{next_state, table_law};
 
-#[cfg(test)]
-mod tests;

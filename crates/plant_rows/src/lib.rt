@@ -15,5 +15,3 @@ pub use booked::{BookedRow, MovementSort};
 pub use desk_rows::{DeskRows, has_meta, reading_laws, rows_of};
 pub use judged::{Judged, judge_all};
 
-#[cfg(test)]
-mod tests;

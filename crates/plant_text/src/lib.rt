@@ -13,10 +13,6 @@ mod questions;
 mod read;
 mod replies;
 mod run;
-#[cfg(test)]
-mod run_tests;
-#[cfg(test)]
-mod tests;
 mod trace_answers;
 mod turns;
 mod writes;

@@ -1,7 +1,7 @@
 //! A desk that obeys every rule, and for each rule stored values that break it and none before it.
 
 use crate::good_desk::{bytes, control_line, good_desk, master_line, optional, sublot};
-use crate::{Rule, check};
+use plant_check::{Rule, check};
 use plant_loaded::Loaded;
 use plant_loaded::masters::StoredDefinition;
 use plant_loaded::meta::StoredMeta;

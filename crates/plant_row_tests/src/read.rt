@@ -1,9 +1,8 @@
 //! What is read of stores in memory.
 
-use crate::finding::{FoundTables, found};
-use crate::loaded::Loaded;
-use crate::stocks::StoredSublot;
 use plant_forms::Fault;
+use plant_loaded::stocks::StoredSublot;
+use plant_loaded::{FoundTables, Loaded, found};
 use plant_reads::{find_rows, reopen};
 use plant_tables::create;
 use sqlite::types::ValueRef;

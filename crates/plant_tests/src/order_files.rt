@@ -1,6 +1,6 @@
 //! Order files, whole and with each kind of fault.
-use crate::{CsvFault, CsvKind, LONGEST_FILE, read_orders};
 use plant_base::OrderRow;
+use plant_orders::{CsvFault, CsvKind, LONGEST_FILE, read_orders};
 use std::process::Abort;
 use std::test::Fail;
 

@@ -1,12 +1,11 @@
 //! A keeper of lists that is handed commands as values.
-use crate::lists::Lists;
-use crate::{Answer, BatchView, Booking, Keeper, ListKeeper, Question, Reply};
 use plant_base::{
     AddClass, AddDefinition, AddRecipe, Amount, Approve, BatchCommand, BatchState, CloseBatch,
     Command, Consume, Due, Envelope, Header, Id, ImportOrders, Items, JobState, Merge, Moment,
     OrderRow, Part, PhaseDone, Produce, Receive, RecipeLine, Refusal, Release, Scrap, Settle,
     Split, Text, Unit, Word,
 };
+use plant_desk::{Answer, BatchView, Booking, Keeper, ListKeeper, Lists, Question, Reply};
 use plant_rules::decide;
 use plant_trace::{Direction, Node};
 use plant_view::{Decision, RowChange};

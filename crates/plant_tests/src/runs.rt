@@ -1,7 +1,7 @@
 //! A run over a keeper whose store fails.
-use crate::{RunEnd, run_lines};
 use plant_base::Envelope;
 use plant_desk::{Answer, DeskFault, Keeper, ListKeeper, Question, Reply};
+use plant_text::{RunEnd, run_lines};
 use std::test::Fail;
 
 /// A keeper over lists that executes so many commands, and whose store fails at the next one.

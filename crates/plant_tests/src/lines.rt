@@ -1,7 +1,7 @@
 //! What lines say, and the texts of replies and answers, against lines and texts that were written by hand.
-use crate::{Line, LineFault, answer_text, fault_line, read_line, reply_line, write_line};
 use plant_base::{Amount, Command, Envelope, Id, Items, Refusal, Sublot, Text, Unit};
 use plant_desk::{Answer, DeskFault, LotAnswer, Question, Reply};
+use plant_text::{Line, LineFault, answer_text, fault_line, read_line, reply_line, write_line};
 use std::alloc::Global;
 use std::test::Fail;
 

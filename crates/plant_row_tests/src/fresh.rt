@@ -1,6 +1,6 @@
 //! Counts of batches among row changes. The wanted answers were written by hand.
-use crate::{fresh_law, puts_one_batch};
 use plant_base::{Batch, BatchRow, BatchState, Id, Moment, Text};
+use plant_fresh::{fresh_law, puts_one_batch};
 use plant_view::RowChange;
 use std::process::Abort;
 use std::test::Fail;

@@ -1,4 +1,4 @@
-use crate::{Grouped, Grouping};
+use plant_groups::{Grouped, Grouping};
 use std::alloc::{AllocError, AllocGlobal};
 use std::process::Abort;
 

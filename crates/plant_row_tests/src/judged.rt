@@ -1,6 +1,5 @@
 //! Stored rows of every kind, and one row for each rule that a value can break. The wanted rows were written by hand.
 
-use crate::{BookedRow, DeskRows, Judged, MovementSort, reading_laws, rows_of};
 use plant_base::{
     Amount, Batch, BatchEvent, BatchRow, BatchState, Class, ControlLine, Definition, Due, Event,
     Header, Hold, Id, Job, JobState, Lot, Meta, Moment, Movement, MovementKind, OrderRow, Position,
@@ -13,6 +12,7 @@ use plant_loaded::masters::{
 use plant_loaded::meta::StoredMeta;
 use plant_loaded::orders::{Orders, StoredBatch, StoredBatchEvent, StoredControlLine, StoredJob};
 use plant_loaded::stocks::{Stocks, StoredHold, StoredLot, StoredMovement, StoredSublot};
+use plant_rows::{BookedRow, DeskRows, Judged, MovementSort, reading_laws, rows_of};
 use std::alloc::{AllocError, Global};
 use std::process::Abort;
 use std::test::Fail;

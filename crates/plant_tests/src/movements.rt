@@ -1,6 +1,6 @@
 //! The bookings of one lot and what was split from it.
-use crate::{born, effect, left, merged_total, stock_of};
 use plant_base::{Amount, Id, Moment, Movement, MovementKind, Part, Refusal, Text};
+use plant_stock::{born, effect, left, merged_total, stock_of};
 use std::test::Fail;
 
 fn id(bytes: &[u8]) -> Result<Id, Fail> {

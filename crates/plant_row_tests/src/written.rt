@@ -1,11 +1,11 @@
 //! Rows that are written to a store in memory, and what SQL finds there. The wanted columns were written by hand.
-use crate::{commit_changes, create};
 use plant_base::{
     Amount, Batch, BatchEvent, BatchRow, BatchState, Class, ControlLine, Definition, Due, Event,
     Header, Hold, Id, Job, JobState, Lot, MasterLine, Meta, Moment, Movement, MovementKind,
     OrderRow, Position, Recipe, RecipeLine, RecipeState, Sublot, Text, Unit,
 };
 use plant_forms::Fault;
+use plant_tables::{commit_changes, create};
 use plant_view::RowChange;
 use sqlite::{Connection, Error, MemStore};
 use std::alloc::Global;

@@ -1,8 +1,8 @@
-use crate::{
+use plant_base::{Amount, BatchState, Event, Header, Id, RecipeLine, Refusal, Text, Word};
+use plant_recipe::{
     GREATEST_LINES, Master, Progress, RecipeFault, control, control_law, form_laws, is_well_formed,
     next_state, phase_count, progress_laws, scaled, scaling_laws, table_law,
 };
-use plant_base::{Amount, BatchState, Event, Header, Id, RecipeLine, Refusal, Text, Word};
 use std::alloc::Global;
 use std::test::Fail;
 

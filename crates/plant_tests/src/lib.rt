@@ -1,0 +1,17 @@
+//! Tests of recipes, stock, orders, keepers over lists, lines and runs, by the public functions of their crates.
+#![tactic(auto)]
+
+#[cfg(test)]
+mod groups;
+#[cfg(test)]
+mod keepers;
+#[cfg(test)]
+mod lines;
+#[cfg(test)]
+mod movements;
+#[cfg(test)]
+mod order_files;
+#[cfg(test)]
+mod recipes;
+#[cfg(test)]
+mod runs;

@@ -1,11 +1,11 @@
 -- What is judged of loaded rows, and of the store that they were loaded of.
 use Rattle.std.proofs.Common.{◌≡◌, ◌∙◌, Bool, true, false, Option, None, Some, is_some, Result, Ok, Err, IfErr, OnOk, refl, sym, ap, subst, inl, inr}
 use Rattle.std.specs.Prelude.{◌⊎◌}
-use Rattle.sqlite.specs.Effect.{Database}
+use Rattle.sqlite.specs.Effect.{Database, IsDatabase}
 use Rattle.sqlite.specs.State as store
 use Rattle.sqlite.specs.State.{HasCleanDisk, IsUnchanged}
 use Rattle.plant_base.specs.State.{State, opening, newest_schema}
-use Rattle.plant_forms.specs.Standing.{StandIn, AreFree}
+use Rattle.plant_forms.specs.Standing.{StandIn, AreFree, KeepsOthers}
 use Rattle.plant_forms.specs.Resting.{Keeps}
 use Rattle.plant_forms.proofs.Ending.{IsStore}
 use Rattle.plant_reads.specs.Ordered.{IsRising}
@@ -21,10 +21,11 @@ use Rattle.plant_check.specs.Broken.{first_broken, first_broken_of, broken_rows,
 use Rattle.plant_check.specs.declared.rule.Rule.TheVariants as rule
 use Rattle.plant_store.specs.Adopting.{IsNewlyOpened, AdoptedFrom, IsBroken, BrokenBy, IsRefusedBy}
 use Rattle.plant_state.specs.Restoring.{state_in, AreUnbroken}
-use Rattle.plant_store.specs.Standing.{IsOpenAt}
+use Rattle.plant_store.specs.Standing.{IsOpenAt, OthersStand}
 use Rattle.plant_store.specs.declared.adopting.AdoptFault.{AdoptFault}
 use Rattle.plant_store.specs.declared.adopting.AdoptFault.TheVariants as fault
 use Rattle.plant_state.proofs.Restored.{unbroken_good, unbroken_holds}
+use Rattle.plant_store.proofs.Others.{others_settled, keeps_itself}
 use Rattle.plant_store.proofs.Resting.{still_at, open_at}
 
 -- ---- rules
@@ -101,3 +102,15 @@ adopts_none c new (Ok u) free h = inl (free, h)
 pub adopts_some : (c new : store.State) (db : Database) (judged : Result (Unit {0}) AdoptFault) → db ≡ c.now → OnOk judged ((s : State) × IsGood s × HoldsTables db (tables_of newest_schema s) × IsOpenAt new s) → OnOk judged (AdoptedFrom c (IsOpenAt new))
 adopts_some c new db (Err f) same h = tt
 adopts_some c new db (Ok u) same h = inr (h.0, h.1, subst (λ (d : Database). HoldsTables d (tables_of newest_schema h.0)) same h.2, h.3)
+
+-- ---- tables of a good state
+
+pub whenever : (P : Type 0) (r : Result (Unit {0}) AdoptFault) → P → OnOk r P
+whenever P (Ok u) h = h
+whenever P (Err f) h = tt
+
+pub judged_others : (old new : store.State) (judged : Result (Unit {0}) AdoptFault) → IsNewlyOpened new → new.now ≡ old.now
+    → OnOk judged ((s : State) × IsGood s × HoldsTables old.now (tables_of newest_schema s) × IsOpenAt new s) → OnOk judged (OthersStand old.now new)
+judged_others old new (Err f) newly same h = tt
+judged_others old new (Ok u) newly same h =
+    others_settled old.now new newly.settled (subst IsDatabase (sym same) h.2.sound) (subst (KeepsOthers desk_forms old.now) (sym same) (keeps_itself old.now))

@@ -1,5 +1,9 @@
+pub mod Again
 pub mod Finding
 pub mod Judging
 pub mod Lasting
+pub mod OneSchema
+pub mod Others
+pub mod Reopening
 pub mod Resting
 pub mod Stepping

@@ -52,13 +52,14 @@ still_open old new s at clean kept survives laws = record {
 -- ---- a commit
 
 -- what stands is what a stop leaves
-leaves_at : (new : store.State) (s : State) → IsAt new (tables_of newest_schema s) → HasCleanDisk new → IsStore new → Leaves new (λ u. u ≡ s)
-leaves_at new s at clean laws = record {
+leaves_at : (new : store.State) (s : State) → IsGood s → IsAt new (tables_of newest_schema s) → HasCleanDisk new → IsStore new → Leaves new (λ u. u ≡ s)
+leaves_at new s good at clean laws = record {
   something = laws.something clean;
   nothing_else = λ db left. (
     s,
     refl,
     record {
+      good = good;
       schema = new.now.schema;
       holds =
           let same : new.now.trees ≡ db = ap (λ (d : Database). d.trees) at.settled.shows ∙ sym (at.settled.nothing_else db left) in
@@ -68,20 +69,20 @@ leaves_at new s at clean laws = record {
 }
 
 pub open_at : (new : store.State) (s : State) → IsGood s → IsAt new (tables_of newest_schema s) → HasCleanDisk new → IsStore new → IsOpenAt new s
-open_at new s good at clean laws = record { stands = record { good = good; shows = λ live. at }; leaves = leaves_at new s at clean laws }
+open_at new s good at clean laws = record { stands = record { good = good; shows = λ live. at }; leaves = leaves_at new s good at clean laws }
 
-found_in : (old : Database) (db : Trees) (s : State) → Finds old db (tables_of newest_schema s) → FindsState db s
-found_in old db s finds = record { schema = finds.schema; holds = finds.holds }
+found_in : (old : Database) (db : Trees) (s : State) → IsGood s → Finds old db (tables_of newest_schema s) → FindsState db s
+found_in old db s good finds = record { good = good; schema = finds.schema; holds = finds.holds }
 
-pub cut_at : (old new : store.State) (s next : State) → IsGood s → IsCutShort old new (tables_of newest_schema s) (tables_of newest_schema next)
+pub cut_at : (old new : store.State) (s next : State) → IsGood s → IsGood next → IsCutShort old new (tables_of newest_schema s) (tables_of newest_schema next)
     → StandsAt new s × Leaves new (λ u. (u ≡ s) ⊎ (u ≡ next))
-cut_at old new s next good cut = (
+cut_at old new s next good later cut = (
   record { good = good; shows = λ live. (cut.shows live).0 },
   record {
     something = cut.leaves;
     nothing_else = λ db left. elim (cut.nothing_else db left) [
-      | inl before ↦ (s, inl refl, found_in old.now db s before)
-      | inr after ↦ (next, inr refl, found_in old.now db next after)
+      | inl before ↦ (s, inl refl, found_in old.now db s good before)
+      | inr after ↦ (next, inr refl, found_in old.now db next later after)
     ];
   },
 )

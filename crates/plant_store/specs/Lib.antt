@@ -1,3 +1,4 @@
 pub mod Adopting
+pub mod Laws
 pub mod Running
 pub mod Standing

@@ -14,7 +14,7 @@ ghost use Rattle.plant_tables.specs.DeskForms.{desk_forms};
 ghost use Rattle.plant_rows.specs.Collecting.{Rows, rows_from, rows_listed};
 ghost use Rattle.plant_check.specs.Broken.{first_broken, first_broken_of};
 ghost use Rattle.plant_store.specs.Adopting.{IsNewlyOpened, AdoptedFrom, IsRefusedBy, BrokenBy, IsBroken, Opened};
-ghost use Rattle.plant_store.specs.Standing.{IsOpenAt};
+ghost use Rattle.plant_store.specs.Standing.{IsOpenAt, OthersStand};
 
 use crate::stored::Desk;
 use plant_base::NEWEST_SCHEMA;
@@ -70,6 +70,11 @@ impl<S: Alter> Desk<S> {
         requires { (state S.Store connection).in_transaction ≡ false }
         ensures adopted { IfOk result (λ desk. HasCleanDisk (state S.Store desk.connection) → IsNewlyOpened (state S.Store connection) → AdoptedFrom (state S.Store connection) (IsOpenAt (state S.Store desk.connection))) }
         ensures open { IfOk result (λ desk. desk.is_shut ≡ false) }
+
+        // Over the tables of a good state the desk stands at this state; and tables of other names stand as they did.
+        ensures again { IfOk result (λ desk. HasCleanDisk (state S.Store desk.connection) → IsNewlyOpened (state S.Store connection)
+            → (s : State) → IsGood s → HoldsTables (state S.Store connection).now (tables_of newest_schema s) → IsOpenAt (state S.Store desk.connection) s) }
+        ensures others { IfOk result (λ desk. HasCleanDisk (state S.Store desk.connection) → IsNewlyOpened (state S.Store connection) → OthersStand (state S.Store connection).now (state S.Store desk.connection)) }
         ensures refused { IfErr result (λ refused. HasCleanDisk (state S.Store refused.connection) → IsRefusedBy (state S.Store connection).now refused.fault) }
 
         // What a stop leaves: where the store has some of the desk's tables, what it left before; else that or the
@@ -92,6 +97,8 @@ fn opened<S: Alter>(alloc: Global, connection: &mut Connection<S>) -> Result<(),
     requires { (state S.Store connection.old).in_transaction ≡ false }
     ensures mode { (state S.Store connection.new).in_transaction ≡ false }
     ensures adopted { HasCleanDisk (state S.Store connection.new) → IsNewlyOpened (state S.Store connection.old) → OnOk result (AdoptedFrom (state S.Store connection.old) (IsOpenAt (state S.Store connection.new))) }
+    ensures again { HasCleanDisk (state S.Store connection.new) → IsNewlyOpened (state S.Store connection.old) → (s : State) → IsGood s → HoldsTables (state S.Store connection.old).now (tables_of newest_schema s) → OnOk result (IsOpenAt (state S.Store connection.new) s) }
+    ensures others { HasCleanDisk (state S.Store connection.new) → IsNewlyOpened (state S.Store connection.old) → OnOk result (OthersStand (state S.Store connection.old).now (state S.Store connection.new)) }
     ensures refused { HasCleanDisk (state S.Store connection.new) → IfErr result (IsRefusedBy (state S.Store connection.old).now) }
     ensures spared { (AreFree desk_forms (state S.Store connection.old).now.schema → ⊥) → Survives (state S.Store connection.old) (state S.Store connection.new) (λ _. ⊥) }
     ensures crash { Survives (state S.Store connection.old) (state S.Store connection.new) (Opened (state S.Store connection.old).now) }
@@ -114,6 +121,7 @@ fn made<S: Alter>(connection: &mut Connection<S>) -> Result<(), AdoptFault>
     ensures mode { (state S.Store connection.new).in_transaction ≡ false }
     ensures clean { HasCleanDisk (state S.Store connection.new) → HasCleanDisk (state S.Store connection.old) }
     ensures opening { HasCleanDisk (state S.Store connection.new) → IsSettled (state S.Store connection.old) → IsDatabase (state S.Store connection.old).now → AreFree desk_forms (state S.Store connection.old).now.schema → OnOk result (IsOpenAt (state S.Store connection.new) opening) }
+    ensures others { HasCleanDisk (state S.Store connection.new) → IsSettled (state S.Store connection.old) → IsDatabase (state S.Store connection.old).now → AreFree desk_forms (state S.Store connection.old).now.schema → OnOk result (OthersStand (state S.Store connection.old).now (state S.Store connection.new)) }
     ensures refused { IfErr result (IsRefusedBy (state S.Store connection.old).now) }
     ensures crash { Survives (state S.Store connection.old) (state S.Store connection.new) (Opened (state S.Store connection.old).now) }
 {
@@ -128,6 +136,8 @@ fn judged<S: Alter>(alloc: Global, connection: &mut Connection<S>) -> Result<(),
     ensures mode { (state S.Store connection.new).in_transaction ≡ false }
     ensures clean { HasCleanDisk (state S.Store connection.new) → HasCleanDisk (state S.Store connection.old) }
     ensures good { HasCleanDisk (state S.Store connection.new) → IsNewlyOpened (state S.Store connection.old) → OnOk result ((s : State) × IsGood s × HoldsTables (state S.Store connection.old).now (tables_of newest_schema s) × IsOpenAt (state S.Store connection.new) s) }
+    ensures again { HasCleanDisk (state S.Store connection.new) → IsNewlyOpened (state S.Store connection.old) → (s : State) → IsGood s → HoldsTables (state S.Store connection.old).now (tables_of newest_schema s) → OnOk result (IsOpenAt (state S.Store connection.new) s) }
+    ensures others { HasCleanDisk (state S.Store connection.new) → IsNewlyOpened (state S.Store connection.old) → OnOk result (OthersStand (state S.Store connection.old).now (state S.Store connection.new)) }
     ensures refused { HasCleanDisk (state S.Store connection.new) → IfErr result (IsRefusedBy (state S.Store connection.old).now) }
     ensures crash { Survives (state S.Store connection.old) (state S.Store connection.new) (λ _. ⊥) }
 {

@@ -1,6 +1,7 @@
 //! Commands over a store.
 
 ghost use Rattle.std.specs.Prelude.{◌≡◌, ◌⊎◌, ◌+◌, ◌<◌, ◌^◌, false, true, None, IfOk, IfErr, OnOk, OnErr, IsTrue};
+ghost use Rattle.sqlite.specs.Effect.{Database};
 ghost use Rattle.sqlite.specs.Held.{state};
 ghost use Rattle.sqlite.specs.State.{HasCleanDisk};
 ghost use Rattle.plant_base.specs.State.{State, newest_schema};
@@ -8,7 +9,7 @@ ghost use Rattle.plant_view.specs.Tables.{tables_of, changed_all};
 ghost use Rattle.plant_tables.specs.Keyed.{AreFresh};
 ghost use Rattle.plant_fresh.specs.Freshness.{puts_one_batch};
 ghost use Rattle.plant_ledger.specs.Good.{IsGood};
-ghost use Rattle.plant_store.specs.Standing.{StandsAt, Leaves, IsOpenAt, Executed};
+ghost use Rattle.plant_store.specs.Standing.{StandsAt, Leaves, IsOpenAt, Executed, OthersStand};
 
 use crate::deciding::{decide_in, read_lists};
 use plant_base::{ControlLine, Envelope, MasterLine, Movement, MovementKind, RecipeLine};
@@ -30,6 +31,7 @@ pub(crate) fn execute_on<S: Alter>(
     ensures mode { (state S.Store connection.new).in_transaction ≡ false }
     ensures clean { HasCleanDisk (state S.Store connection.new) → HasCleanDisk (state S.Store connection.old) }
     ensures executed { HasCleanDisk (state S.Store connection.new) → (s : State) → IsOpenAt (state S.Store connection.old) s → Executed s (state S.Store connection.new) envelope.now result }
+    ensures others { HasCleanDisk (state S.Store connection.new) → (s : State) → IsOpenAt (state S.Store connection.old) s → (before : Database) → OthersStand before (state S.Store connection.old) → OthersStand before (state S.Store connection.new) }
 {
     // The checker can't follow row changes, unless the function names these types.
     let _: Option<(RecipeLine, MasterLine, ControlLine, Movement, MovementKind)> = None;
@@ -60,6 +62,9 @@ fn commit_on<S: Alter>(
     ensures cut_short { HasCleanDisk (state S.Store connection.new) → (s next : State) → IsOpenAt (state S.Store connection.old) s → IsTrue (state S.Store connection.old).is_open → IsGood next
         → changed_all changes.now (tables_of newest_schema s) ≡ tables_of newest_schema next → (puts_one_batch changes.now ≡ true → AreFresh changes.now (tables_of newest_schema s))
         → OnErr result (StandsAt (state S.Store connection.new) s × Leaves (state S.Store connection.new) (λ u. (u ≡ s) ⊎ (u ≡ next))) }
+    ensures others { HasCleanDisk (state S.Store connection.new) → (s next : State) → IsOpenAt (state S.Store connection.old) s → IsTrue (state S.Store connection.old).is_open → IsGood next
+        → changed_all changes.now (tables_of newest_schema s) ≡ tables_of newest_schema next → (puts_one_batch changes.now ≡ true → AreFresh changes.now (tables_of newest_schema s))
+        → (before : Database) → OthersStand before (state S.Store connection.old) → OthersStand before (state S.Store connection.new) }
 {
     // No command puts two batches, so this is never answered.
     if !puts_one_batch(changes) {

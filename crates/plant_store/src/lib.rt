@@ -5,6 +5,7 @@ mod adopting;
 mod asking;
 mod deciding;
 mod executing;
+mod laws;
 mod lists;
 mod reading;
 mod running;
@@ -12,4 +13,5 @@ mod stored;
 mod verifying;
 
 pub use adopting::{AdoptFault, AdoptRefused};
+pub use laws::desk_laws;
 pub use stored::Desk;

@@ -15,6 +15,7 @@ pub(crate) fn run_over<K: Keeper>(alloc: Global, keeper: &mut K, list: &[Envelop
     requires { K.shut keeper.old ≡ false }
     ensures honest { K.honest keeper.new → K.honest keeper.old }
     ensures within { length result.replies ≤ length list.now }
+    ensures beside { K.honest keeper.new → (b : K.Beside) → K.beside keeper.old b → K.beside keeper.new b }
     ensures ran { K.honest keeper.new → (s : State) → K.stands keeper.old s → Ran s list.now result.replies result.end (K.stands keeper.new) (K.leaves keeper.new) (K.shut keeper.new) }
 {
     let mut items = Vec::new(alloc);

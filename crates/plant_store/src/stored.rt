@@ -24,6 +24,7 @@ pub struct Desk<S: Alter> {
 
 impl<S: Alter> Desk<S> {
     ghost use Rattle.std.specs.Prelude.{◌≡◌, ◌≤◌, [], true, false, Some, None, IfOk, IsErrOf, length, take};
+    ghost use Rattle.sqlite.specs.Effect.{Database};
     ghost use Rattle.sqlite.specs.Held.{state};
     ghost use Rattle.sqlite.specs.State.{HasCleanDisk, Survives};
     ghost use Rattle.plant_base.specs.State.{State};
@@ -31,7 +32,7 @@ impl<S: Alter> Desk<S> {
     ghost use Rattle.plant_trace.specs.Reach.{IsAcyclic};
     ghost use Rattle.plant_view.specs.Conserve.{IsConserved, IsBalanced};
     ghost use Rattle.plant_view.specs.Genealogy.{edges_of};
-    ghost use Rattle.plant_store.specs.Standing.{Leaves, Stands};
+    ghost use Rattle.plant_store.specs.Standing.{Leaves, Stands, IsBeside};
     ghost use Rattle.plant_store.specs.Running.{Ran};
 
     /// Executes commands in order, up to the first fault. Room for the replies is taken first; where it is refused,
@@ -48,6 +49,9 @@ impl<S: Alter> Desk<S> {
             → IsConserved (fold s (take (length result.replies) list.now)) × IsBalanced (fold s (take (length result.replies) list.now)) }
         ensures acyclic { HasCleanDisk (state S.Store self.new.connection) → self.old.is_shut ≡ false → (s : State) → Stands (state S.Store self.old.connection) self.old.is_shut s
             → IsAcyclic (edges_of (fold s (take (length result.replies) list.now))) }
+
+        // Tables of other names stand as they did, also in what a stop leaves.
+        ensures others { HasCleanDisk (state S.Store self.new.connection) → (before : Database) → IsBeside (state S.Store self.old.connection) self.old.is_shut before → IsBeside (state S.Store self.new.connection) self.new.is_shut before }
     {
         if self.is_shut {
             return RunReport {
@@ -96,7 +100,8 @@ impl<S: Alter> Keeper for Desk<S> {
     ghost use Rattle.sqlite.specs.Held.{state};
     ghost use Rattle.sqlite.specs.State.{HasCleanDisk};
     ghost use Rattle.plant_base.specs.State.{newest_schema};
-    ghost use Rattle.plant_store.specs.Standing.{Stands, Leaves};
+    ghost use Rattle.sqlite.specs.Effect.{Database};
+    ghost use Rattle.plant_store.specs.Standing.{Stands, Leaves, IsBeside};
 
     ghost honest = { λ d. HasCleanDisk (state S.Store d.connection) };
 
@@ -107,6 +112,11 @@ impl<S: Alter> Keeper for Desk<S> {
     ghost shut = { λ d. d.is_shut };
 
     ghost leaves = { λ d states. Leaves (state S.Store d.connection) states };
+
+    // Tables of other names, as they stand in a database.
+    ghost Beside = { Database };
+
+    ghost beside = { λ d before. IsBeside (state S.Store d.connection) d.is_shut before };
 
     fn execute(&mut self, envelope: &Envelope) -> Result<Reply, DeskFault> {
         if self.is_shut {

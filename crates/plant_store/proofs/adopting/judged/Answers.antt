@@ -1,6 +1,7 @@
 use Rattle.sqlite.specs.Held.{state}
 use Rattle.plant_forms.proofs.Ending.{IsStore}
-use Rattle.plant_store.proofs.Judging.{rows_good, opens_new, all_broken}
+use Rattle.plant_store.specs.Standing.{IsOpenAt}
+use Rattle.plant_store.proofs.Judging.{rows_good, opens_new, all_broken, whenever, judged_others, still_new}
 use Rattle.plant_store.proofs.adopting.judged.Goals as goal
 
 pub returns-in-Ok-Some-clause-good : goal.returns-in-Ok-Some-clause-good
@@ -16,3 +17,23 @@ returns-in-Ok-Some-clause-good g c clean newly =
 pub returns-in-Ok-Some-clause-refused : goal.returns-in-Ok-Some-clause-refused
 returns-in-Ok-Some-clause-refused g c clean =
     all_broken (state g.S.Store c.args.connection.now).now c.in-Ok-Some.loaded c.judged_rows.result (rw c.in-Ok-Some.field-0-is at (c.in-Ok-Some.ensures.rows clean)) c.judged_rows.ensures.broken
+
+pub returns-in-Ok-Some-clause-again : goal.returns-in-Ok-Some-clause-again
+returns-in-Ok-Some-clause-again g c clean newly s good holds =
+    let old = state g.S.Store c.args.connection.now in
+    let end = c.read.new.conn in
+    let new = state g.S.Store end in
+    let store : IsStore new = record { settled = g.met.S.Store.settled end.store; stays = g.met.S.Store.stays end.store; something = g.met.S.Store.survives end.store } in
+    let same = rw c.in-Ok-Some.field-0-is at (c.in-Ok-Some.ensures.same clean) in
+    whenever (IsOpenAt new s) c.judged_rows.result (opens_new old new newly clean same (c.read.ensures.kept clean) store s good holds)
+
+pub returns-in-Ok-Some-clause-others : goal.returns-in-Ok-Some-clause-others
+returns-in-Ok-Some-clause-others g c clean newly =
+    let old = state g.S.Store c.args.connection.now in
+    let end = c.read.new.conn in
+    let new = state g.S.Store end in
+    let store : IsStore new = record { settled = g.met.S.Store.settled end.store; stays = g.met.S.Store.stays end.store; something = g.met.S.Store.survives end.store } in
+    let same = rw c.in-Ok-Some.field-0-is at (c.in-Ok-Some.ensures.same clean) in
+    judged_others old new c.judged_rows.result (still_new old new newly same store) same.0.now_is
+    (rows_good old new c.in-Ok-Some.loaded c.judged_rows.result (rw c.in-Ok-Some.field-0-is at c.in-Ok-Some.ensures.ordered) (rw c.in-Ok-Some.field-0-is at (c.in-Ok-Some.ensures.stands clean newly.rising))
+    (opens_new old new newly clean same (c.read.ensures.kept clean) store) c.judged_rows.ensures.unbroken)

@@ -18,6 +18,7 @@ loop-envelope-preserved g c =
       room = grind (arith, common_steps);
       is_open = c.in-Ok.ensures.open live;
       before = λ h. c.loop-envelope.invariant.before (c.in-Ok.ensures.honest h);
+      beside = λ h b stood. c.in-Ok.ensures.beside h b (c.loop-envelope.invariant.beside (c.in-Ok.ensures.honest h) b stood);
       told = λ h s stood.
           let was = c.in-Ok.ensures.honest h in
           let ran = c.in-Ok.ensures.executes h live (fold s (take i list)) (c.loop-envelope.invariant.stands was s stood) in

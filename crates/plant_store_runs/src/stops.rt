@@ -36,12 +36,22 @@ fn text_after(rt: &(impl Abort + AllocGlobal), commands: &[Envelope]) -> Result<
     tables_told(rt.alloc(), &mut desk.close())
 }
 
-fn course_of(rt: &(impl Abort + AllocGlobal)) -> Result<Course, Fail> {
-    let commands = ten_commands(rt.alloc())?;
+/// The rows of all tables after none of the commands, after the first, and so on up to the last.
+fn texts_after(
+    rt: &(impl Abort + AllocGlobal),
+    commands: &[Envelope],
+) -> Result<Vec<String>, Fail> {
     let mut texts = Vec::new(rt.alloc());
-    for count in 0..=commands.len() {
+    for count in 0..commands.len() {
         texts.push(text_after(rt, &commands[..count])?)?;
     }
+    texts.push(text_after(rt, commands)?)?;
+    Ok(texts)
+}
+
+fn course_of(rt: &(impl Abort + AllocGlobal)) -> Result<Course, Fail> {
+    let commands = ten_commands(rt.alloc())?;
+    let texts = texts_after(rt, &commands)?;
     Ok(Course { commands, texts })
 }
 

@@ -9,6 +9,7 @@ use arguments::{read_arguments, texts_of};
 use opening::perform_over;
 use plant_program::tell_words;
 use plant_words::{WordsFault, read_words};
+use sqlite::Wary;
 use std::io;
 use std::process::ExitCode;
 
@@ -25,5 +26,6 @@ fn perform_words(rt: &HostRuntime) -> Result<u8, WordsFault> {
     let arguments = read_arguments(rt)?;
     let texts = texts_of(rt.alloc(), arguments.as_slice())?;
     let words = read_words(rt.alloc(), texts.as_slice())?;
-    Ok(perform_over(rt, &words))
+    // A write that a stop tears may leave any bytes.
+    Ok(perform_over(rt, &words, Wary))
 }

@@ -8,7 +8,7 @@ ghost use Rattle.plant_reads.specs.Ordered.{IsRising};
 use plant_program::{perform, tell_opening};
 use plant_reads::reopen;
 use plant_words::Words;
-use sqlite::{Alter, Connection, Error, ErrorCode, File, FileStore};
+use sqlite::{Alter, Connection, Error, ErrorCode, FileFrom, FileStore, Start};
 use std::alloc::Global;
 use std::io;
 
@@ -16,7 +16,9 @@ use std::io;
 const IN_MEMORY: &str = ":memory:";
 
 /// Opens the file that the words name and does over it what they tell. Gives the exit status.
-pub(crate) fn perform_over(rt: &HostRuntime, words: &Words<'_>) -> u8 {
+///
+/// `start` stands for what the file holds before it is opened, whatever that is.
+pub(crate) fn perform_over<S: Start>(rt: &HostRuntime, words: &Words<'_>, start: S) -> u8 {
     if words.file() == IN_MEMORY {
         return match Connection::open_in_memory(rt.alloc()) {
             Ok(connection) => perform_with(rt, words, connection),
@@ -26,7 +28,7 @@ pub(crate) fn perform_over(rt: &HostRuntime, words: &Words<'_>) -> u8 {
             ),
         };
     }
-    match open_file(rt, words.file()) {
+    match open_file(rt, words.file(), start) {
         Ok(connection) => perform_with(rt, words, connection),
         Err(error) => tell_opening(&error, &mut rt.stderr()),
     }
@@ -34,12 +36,18 @@ pub(crate) fn perform_over(rt: &HostRuntime, words: &Words<'_>) -> u8 {
 
 /// A connection over the file, which is made where it isn't there, with each table in the order of its rowids. What it
 /// answers where it doesn't open: the store's error.
-fn open_file(rt: &HostRuntime, file: &str) -> Result<Connection<FileStore<File>>, Error>
+fn open_file<S: Start>(
+    rt: &HostRuntime,
+    file: &str,
+    start: S,
+) -> Result<Connection<FileStore<FileFrom<S>>>, Error>
     ensures opens { IfOk result (λ c. HasCleanDisk (file_state c) → Opens (file_state c) × IsLive (file_state c)) }
     ensures rising { IfOk result (λ c. HasCleanDisk (file_state c) → IsRising (file_state c).now) }
 {
-    let connection = Connection::open(rt, file)?;
-    in_order(rt.alloc(), connection)
+    match Connection::open_from(rt, file, false, start) {
+        Ok(connection) => in_order(rt.alloc(), connection),
+        Err((error, _)) => Err(error),
+    }
 }
 
 /// The same connection opened anew, with each table in the order of its rowids. What it answers where it doesn't open:

@@ -9,4 +9,3 @@ mod rule;
 
 pub use checking::{check, check_rows};
 pub use rule::Rule;
-

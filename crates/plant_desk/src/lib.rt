@@ -22,4 +22,3 @@ pub use lists::Lists;
 pub use question::{Answer, BatchView, Booking, LotAnswer, MeasuredLine, OrderAnswer, Question};
 pub use reply::{DeskFault, Reply};
 pub use report::RunReport;
-

@@ -6,4 +6,3 @@ mod laws;
 
 pub use batches::puts_one_batch;
 pub use laws::fresh_law;
-

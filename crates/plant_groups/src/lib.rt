@@ -8,7 +8,6 @@ ghost use Rattle.plant_groups.specs.Groups.{Groups, Joins, is_keyed, rows_of};
 use std::alloc::{AllocError, Global};
 use std::collections::BTreeMap;
 
-
 /// What rows of one kind are grouped by.
 pub trait Grouping {
     ghost use Rattle.std.specs.Prelude.{◌≡◌, Option};

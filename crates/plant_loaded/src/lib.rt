@@ -10,4 +10,3 @@ pub mod stocks;
 
 pub use finding::{FoundTables, found};
 pub use loaded::Loaded;
-

@@ -14,4 +14,3 @@ pub use master::Master;
 pub use progress::{GREATEST_ATTEMPT, GREATEST_PHASES, Progress, progress_laws};
 pub use scaling::{scaled, scaling_laws};
 pub use table::{next_state, table_law};
-

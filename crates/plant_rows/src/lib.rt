@@ -14,4 +14,3 @@ mod stocks;
 pub use booked::{BookedRow, MovementSort};
 pub use desk_rows::{DeskRows, has_meta, reading_laws, rows_of};
 pub use judged::{Judged, judge_all};
-

@@ -7,7 +7,6 @@ ghost use Rattle.plant_stock.specs.Stock.{goes_to, comes_from, is_place, enterin
 
 use plant_base::{Amount, GREATEST_AMOUNT, Id, Movement, MovementKind, Part, Refusal};
 
-
 /// What a movement brings to a sublot and what it takes from it, each an amount or 0.
 ///
 /// Receipts and productions bring their amount, consumptions and scrap take it, and divisions, splits and merges

@@ -9,4 +9,3 @@ mod write;
 
 pub use commit::{commit_changes, commit_opening};
 pub use write::{create, write_change, write_changes};
-

@@ -1,12 +1,12 @@
 #!/usr/bin/env bash
-# Writes so many movements to the desk's tables in a file and reads them back, and prints rows a second and the peak memory
-# of both. With sqlite3 at hand it also shows what sqlite3 finds in our file, and what we find in a file that sqlite3 wrote
-# with our declarations. Wants the built program (`rt run` in crates/table_bench). Usage: bench/tables.sh [N], by default
+# Writes the tables of a desk with so many movements to a file, twelve rows for ten movements, reads them back, and prints
+# movements a second and the peak memory of both. With sqlite3 at hand it also shows what sqlite3 finds in our file, and what we find in a file that sqlite3 wrote
+# with our declarations. Wants the built program (`rt run` in crates/store_bench). Usage: bench/tables.sh [N], by default
 # 100000.
 set -eu
 cd "$(dirname "$0")/.."
 count=${1:-100000}
-program=$PWD/crates/table_bench/out/table_bench
+program=$PWD/crates/store_bench/out/store_bench
 work=$(mktemp -d)
 trap 'rm -rf "$work"' EXIT
 timed() { # name, words..
@@ -14,7 +14,7 @@ timed() { # name, words..
   shift
   /usr/bin/time -f '%e %M' -o "$work/time" "$program" "$@" > "$work/out"
   read -r seconds memory < "$work/time"
-  echo "$name: $(cat "$work/out"), $seconds s, $(awk -v n="$count" -v s="$seconds" 'BEGIN { printf "%d", n / (s > 0 ? s : 0.01) }') rows/s, $memory kB at most"
+  echo "$name: $(cat "$work/out"), $seconds s, $(awk -v n="$count" -v s="$seconds" 'BEGIN { printf "%d", n / (s > 0 ? s : 0.01) }') movements/s, $memory kB at most"
 }
 timed write write "$work/desk.db" "$count"
 timed read read "$work/desk.db"

@@ -31,6 +31,7 @@ impl<const N: usize> Model for Short<N> {
 }
 
 impl<const N: usize> Short<N> {
+    /// The text, or `None` where it is longer than `N` bytes.
     pub fn new(text: &[u8]) -> Option<Self>
         ensures fits { IsSome result ↔ (length text.now ≤ N) }
         ensures value { IfSome result (λ s. s ≡ text.now) }
@@ -44,6 +45,7 @@ impl<const N: usize> Short<N> {
         Some(Short { len, bytes })
     }
 
+    /// The bytes of the text.
     pub fn as_bytes(&self) -> &[u8]
         ensures value { result.now ≡ self.now }
     {

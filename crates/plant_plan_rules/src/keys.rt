@@ -166,48 +166,56 @@ impl Grouping for Events {
     }
 }
 
+/// Whether a class has the id.
 pub fn has_class(classes: &Grouped<Classes>, id: Id) -> bool
     ensures { result ≡ is_class_among classes.now.rows.now id }
 {
     classes.has(id)
 }
 
+/// Whether a definition has the id.
 pub fn has_definition(definitions: &Grouped<Definitions>, id: Id) -> bool
     ensures { result ≡ is_defined definitions.now.rows.now id }
 {
     definitions.has(id)
 }
 
+/// Whether a recipe has the id in this version.
 pub fn has_recipe(recipes: &Grouped<Recipes>, id: Id, version: u16) -> bool
     ensures { result ≡ is_recipe_among recipes.now.rows.now id version }
 {
     recipes.has((id, version))
 }
 
+/// The lines of the recipe in this version, in the order of the rows; none where there is no such recipe.
 pub fn lines_of<'a>(lines: &'a Grouped<RecipeLines>, id: Id, version: u16) -> &'a [MasterLine]
     ensures { result.now ≡ rows_among lines.now.rows.now id version }
 {
     lines.at((id, version))
 }
 
+/// The first recipe with the id in this version, or `None`.
 pub fn recipe_at(recipes: &Grouped<Recipes>, id: Id, version: u16) -> Option<Recipe>
     ensures { result ≡ recipe_among recipes.now.rows.now id version }
 {
     recipes.first((id, version))
 }
 
+/// The first order with the id, or `None`.
 pub fn job_at(jobs: &Grouped<Orders>, id: Id) -> Option<Job>
     ensures { result ≡ job_among jobs.now.rows.now id }
 {
     jobs.first(id)
 }
 
+/// Whether a batch has the id.
 pub fn has_batch(batches: &Grouped<Batches>, id: Id) -> bool
     ensures { result ≡ is_batch_among batches.now.rows.now id }
 {
     batches.has(id)
 }
 
+/// The first batch of the order, or `None`.
 pub fn batch_of(batches: &Grouped<BatchesOfOrders>, order: Id) -> Option<BatchRow>
     ensures { result ≡ row_of_order batches.now.rows.now order }
 {
@@ -221,12 +229,14 @@ pub fn has_one_batch(batches: &Grouped<BatchesOfOrders>, order: Id) -> bool
     batches.at(order).len() == 1
 }
 
+/// The lines of the batch's control recipe, in the order of the rows; none where there is no such batch.
 pub fn control_of<'a>(lines: &'a Grouped<ControlLines>, batch: Id) -> &'a [ControlLine]
     ensures { result.now ≡ control_among lines.now.rows.now batch }
 {
     lines.at(batch)
 }
 
+/// The events of the batch, in the order of the rows.
 pub fn events_of<'a>(events: &'a Grouped<Events>, batch: Id) -> &'a [BatchEvent]
     ensures { result.now ≡ filter (λ e. same e.batch batch) events.now.rows.now }
 {

@@ -1,21 +1,41 @@
-//! Stored rows of every kind, and one row for each rule that a value can break. The wanted rows were written by hand.
+//! Rows of every kind as they are read, and changes that break each rule of their values. The wanted rows were written by
+//! hand.
 
+use crate::stores::{changed, filled, read};
 use plant_base::{
     Amount, Batch, BatchEvent, BatchRow, BatchState, Class, ControlLine, Definition, Due, Event,
     Header, Hold, Id, Job, JobState, Lot, Meta, Moment, Movement, MovementKind, OrderRow, Position,
     Recipe, RecipeLine, RecipeState, Sublot, Text, Unit, Word,
 };
-use plant_loaded::Loaded;
-use plant_loaded::masters::{
-    Masters, StoredClass, StoredDefinition, StoredRecipe, StoredRecipeLine,
-};
-use plant_loaded::meta::StoredMeta;
-use plant_loaded::orders::{Orders, StoredBatch, StoredBatchEvent, StoredControlLine, StoredJob};
-use plant_loaded::stocks::{Stocks, StoredHold, StoredLot, StoredMovement, StoredSublot};
-use plant_rows::{BookedRow, DeskRows, Judged, MovementSort, reading_laws, rows_of};
-use std::alloc::{AllocError, Global};
+use plant_rows::{BookedRow, DeskRows, MovementSort, reading_laws, rows_of};
+use sqlite::params;
+use sqlite::types::ValueRef;
+use std::alloc::{AllocGlobal, Global};
 use std::process::Abort;
 use std::test::Fail;
+
+/// The statements that put the rows in.
+const ROWS: &str = "
+    INSERT INTO meta VALUES (1, 1, 15, 300);
+    INSERT INTO class VALUES ('RAW', 'Raw goods');
+    INSERT INTO definition VALUES ('FLOUR', 'RAW', 'Flour', 'kg');
+    INSERT INTO recipe VALUES ('CAKE', 2, 'DOUGH', 300, 100, 900, 'A cake', 'approved');
+    INSERT INTO recipe_line VALUES
+        ('CAKE', 2, 1, 1, 'FLOUR', 100, '', '', ''),
+        ('CAKE', 2, 2, 2, 'DOUGH', 300, '', '', ''),
+        ('CAKE', 2, 3, 3, NULL, 0, 'TEMP', '80 C', ''),
+        ('CAKE', 2, 4, 4, NULL, 0, 'MIX', 'BLEND', 'STIR');
+    INSERT INTO job VALUES ('O-1', 'CAKE', 2, 500, '2027-03-01', 5, 'released');
+    INSERT INTO batch VALUES ('B-1', 'O-1', 200, 'anna', '', 'running', 1, 2, 0);
+    INSERT INTO control_line VALUES ('B-1', 1, 1, 'FLOUR', 167, '', '', '');
+    INSERT INTO batch_event VALUES
+        (9, 'B-1', 'start', 0, 230, 'ben', 'wet'),
+        (11, 'B-1', 'phase', 1, 230, 'ben', 'wet'),
+        (15, 'B-1', 'close', 0, 230, 'ben', 'wet');
+    INSERT INTO lot VALUES ('F-1', 'FLOUR');
+    INSERT INTO sublot VALUES ('F-1', 4, 'A1', 833);
+    INSERT INTO movement VALUES (10, 1, 5, 'F-1', 0, 'F-1', 4, NULL, 833, 220, 'ben', '');
+    INSERT INTO hold VALUES ('F-1', 'H-1', 250, 'ben', 'look')";
 
 // ---- values of the desk
 
@@ -33,242 +53,6 @@ fn amount(rt: &(impl Abort + AllocGlobal), number: u64) -> Amount {
 
 fn moment(rt: &(impl Abort + AllocGlobal), seconds: u64) -> Moment {
     Moment::new(seconds).expect(rt, "a moment")
-}
-
-// ---- stored rows
-
-fn bytes(alloc: Global, text: &str) -> Result<Vec<u8>, AllocError> {
-    Vec::from_slice(alloc, text.as_bytes())
-}
-
-fn optional(alloc: Global, text: &str) -> Result<Option<Vec<u8>>, AllocError> {
-    if text.is_empty() {
-        return Ok(None);
-    }
-    Ok(Some(bytes(alloc, text)?))
-}
-
-fn class(alloc: Global, id: &str, name: &str) -> Result<StoredClass, AllocError> {
-    Ok(StoredClass {
-        id: bytes(alloc, id)?,
-        name: bytes(alloc, name)?,
-    })
-}
-
-fn definition(alloc: Global, class: &str, unit: &str) -> Result<StoredDefinition, AllocError> {
-    Ok(StoredDefinition {
-        id: bytes(alloc, "FLOUR")?,
-        class: bytes(alloc, class)?,
-        name: bytes(alloc, "Flour")?,
-        unit: bytes(alloc, unit)?,
-    })
-}
-
-fn recipe(
-    alloc: Global,
-    version: i64,
-    base: i64,
-    title: &str,
-    state: &str,
-) -> Result<StoredRecipe, AllocError> {
-    Ok(StoredRecipe {
-        recipe: bytes(alloc, "CAKE")?,
-        version,
-        product: bytes(alloc, "DOUGH")?,
-        base,
-        low: 100,
-        high: 900,
-        title: bytes(alloc, title)?,
-        state: bytes(alloc, state)?,
-    })
-}
-
-/// The columns kind, def (empty for null), qty, t1, t2 and t3 of a line.
-type Columns = (
-    i64,
-    &'static str,
-    i64,
-    &'static str,
-    &'static str,
-    &'static str,
-);
-
-fn master_line(
-    alloc: Global,
-    number: i64,
-    columns: Columns,
-) -> Result<StoredRecipeLine, AllocError> {
-    let (kind, def, qty, t1, t2, t3) = columns;
-    Ok(StoredRecipeLine {
-        recipe: bytes(alloc, "CAKE")?,
-        version: 2,
-        number,
-        kind,
-        def: optional(alloc, def)?,
-        qty,
-        t1: bytes(alloc, t1)?,
-        t2: bytes(alloc, t2)?,
-        t3: bytes(alloc, t3)?,
-    })
-}
-
-fn control_line(
-    alloc: Global,
-    number: i64,
-    columns: Columns,
-) -> Result<StoredControlLine, AllocError> {
-    let (kind, def, qty, t1, t2, t3) = columns;
-    Ok(StoredControlLine {
-        batch: bytes(alloc, "B-1")?,
-        number,
-        kind,
-        def: optional(alloc, def)?,
-        qty,
-        t1: bytes(alloc, t1)?,
-        t2: bytes(alloc, t2)?,
-        t3: bytes(alloc, t3)?,
-    })
-}
-
-fn job(alloc: Global, due: &str, priority: i64, state: &str) -> Result<StoredJob, AllocError> {
-    Ok(StoredJob {
-        id: bytes(alloc, "O-1")?,
-        recipe: bytes(alloc, "CAKE")?,
-        version: 2,
-        size: 500,
-        due: bytes(alloc, due)?,
-        priority,
-        state: bytes(alloc, state)?,
-    })
-}
-
-fn batch(
-    alloc: Global,
-    at: i64,
-    state: &str,
-    attempt: i64,
-    next: i64,
-    closed: i64,
-) -> Result<StoredBatch, AllocError> {
-    Ok(StoredBatch {
-        id: bytes(alloc, "B-1")?,
-        job: bytes(alloc, "O-1")?,
-        at,
-        by_who: bytes(alloc, "anna")?,
-        note: bytes(alloc, "")?,
-        state: bytes(alloc, state)?,
-        attempt,
-        next,
-        closed,
-    })
-}
-
-fn event(alloc: Global, seq: i64, word: &str, phase: i64) -> Result<StoredBatchEvent, AllocError> {
-    Ok(StoredBatchEvent {
-        seq,
-        batch: bytes(alloc, "B-1")?,
-        word: bytes(alloc, word)?,
-        phase,
-        at: 230,
-        by_who: bytes(alloc, "ben")?,
-        note: bytes(alloc, "wet")?,
-    })
-}
-
-fn lot(alloc: Global, def: &str) -> Result<StoredLot, AllocError> {
-    Ok(StoredLot {
-        id: bytes(alloc, "F-1")?,
-        def: bytes(alloc, def)?,
-    })
-}
-
-fn sublot(alloc: Global, number: i64, place: &str, stock: i64) -> Result<StoredSublot, AllocError> {
-    Ok(StoredSublot {
-        lot: bytes(alloc, "F-1")?,
-        number,
-        place: bytes(alloc, place)?,
-        stock,
-    })
-}
-
-/// The columns line, kind, sub, lot2, sub2, batch and amount of a movement.
-type Booking = (i64, i64, i64, &'static str, Option<i64>, &'static str, i64);
-
-fn movement(alloc: Global, booking: Booking) -> Result<StoredMovement, AllocError> {
-    let (line, kind, sub, lot2, sub2, batch, amount) = booking;
-    Ok(StoredMovement {
-        seq: 10,
-        line,
-        kind,
-        lot: bytes(alloc, "F-1")?,
-        sub,
-        lot2: optional(alloc, lot2)?,
-        sub2,
-        batch: optional(alloc, batch)?,
-        amount,
-        at: 220,
-        by_who: bytes(alloc, "ben")?,
-        note: bytes(alloc, "")?,
-    })
-}
-
-fn hold(alloc: Global, note: &str) -> Result<StoredHold, AllocError> {
-    Ok(StoredHold {
-        lot: bytes(alloc, "F-1")?,
-        id: bytes(alloc, "H-1")?,
-        at: 250,
-        by_who: bytes(alloc, "ben")?,
-        note: bytes(alloc, note)?,
-    })
-}
-
-fn meta(k: i64, schema: i64, seq: i64, at: i64) -> StoredMeta {
-    StoredMeta { k, schema, seq, at }
-}
-
-fn masters(alloc: Global) -> Result<Masters, AllocError> {
-    Ok(Masters {
-        classes: vec![in alloc; class(alloc, "RAW", "Raw goods")?]?,
-        definitions: vec![in alloc; definition(alloc, "RAW", "kg")?]?,
-        recipes: vec![in alloc; recipe(alloc, 2, 300, "A cake", "approved")?]?,
-        recipe_lines: vec![in alloc;
-            master_line(alloc, 1, (1, "FLOUR", 100, "", "", ""))?,
-            master_line(alloc, 2, (2, "DOUGH", 300, "", "", ""))?,
-            master_line(alloc, 3, (3, "", 0, "TEMP", "80 C", ""))?,
-            master_line(alloc, 4, (4, "", 0, "MIX", "BLEND", "STIR"))?,
-        ]?,
-    })
-}
-
-fn orders(alloc: Global) -> Result<Orders, AllocError> {
-    Ok(Orders {
-        jobs: vec![in alloc; job(alloc, "2027-03-01", 5, "released")?]?,
-        batches: vec![in alloc; batch(alloc, 200, "running", 1, 2, 0)?]?,
-        control_lines: vec![in alloc; control_line(alloc, 1, (1, "FLOUR", 167, "", "", ""))?]?,
-        events: vec![in alloc;
-            event(alloc, 9, "start", 0)?,
-            event(alloc, 11, "phase", 1)?,
-            event(alloc, 15, "close", 0)?,
-        ]?,
-    })
-}
-
-fn stocks(alloc: Global) -> Result<Stocks, AllocError> {
-    Ok(Stocks {
-        lots: vec![in alloc; lot(alloc, "FLOUR")?]?,
-        sublots: vec![in alloc; sublot(alloc, 4, "A1", 833)?]?,
-        movements: vec![in alloc; movement(alloc, (1, 5, 0, "F-1", Some(4), "", 833))?]?,
-        holds: vec![in alloc; hold(alloc, "look")?]?,
-    })
-}
-
-fn loaded(alloc: Global) -> Result<Loaded, AllocError> {
-    Ok(Loaded {
-        meta: vec![in alloc; meta(1, 1, 15, 300)]?,
-        masters: masters(alloc)?,
-        orders: orders(alloc)?,
-        stocks: stocks(alloc)?,
-    })
 }
 
 // ---- rows of every kind
@@ -418,10 +202,14 @@ fn check_rest(rt: &(impl Abort + AllocGlobal), rows: &DeskRows) {
     assert!(rt; rows.meta == meta);
 }
 
+/// The rows after this change; none where a value breaks its rule.
+fn rows_after(alloc: Global, change: &str) -> Result<Option<DeskRows>, Fail> {
+    Ok(rows_of(alloc, &changed(alloc, ROWS, change)?)?)
+}
+
 #[test]
 fn rows_of_every_kind(rt: HostRuntime) -> Result<(), Fail> {
-    let loaded = loaded(rt.alloc())?;
-    match rows_of(rt.alloc(), &loaded)? {
+    match rows_after(rt.alloc(), "")? {
         Some(rows) => {
             check_masters(&rt, &rows);
             check_lines(&rt, &rows);
@@ -439,72 +227,85 @@ fn laws(_: HostRuntime) {
     reading_laws();
 }
 
-fn is_taken(alloc: Global, loaded: &Loaded) -> Result<bool, AllocError> {
-    Ok(rows_of(alloc, loaded)?.is_some())
-}
+// ---- values that break their rules
 
-#[test]
-fn one_broken_value_of_any_table(rt: HostRuntime) -> Result<(), Fail> {
-    let alloc = rt.alloc();
-    let mut broken = loaded(alloc)?;
-    broken.meta = vec![in alloc; meta(1, 1, -1, 300)]?;
-    assert!(rt; !is_taken(alloc, &broken)?);
-    broken = loaded(alloc)?;
-    broken.meta = Vec::new(alloc);
-    assert!(rt; !is_taken(alloc, &broken)?);
-    broken = loaded(alloc)?;
-    broken.masters.classes.push(class(alloc, "raw", "")?)?;
-    assert!(rt; !is_taken(alloc, &broken)?);
-    broken = loaded(alloc)?;
-    broken.orders.events.push(event(alloc, 16, "begin", 0)?)?;
-    assert!(rt; !is_taken(alloc, &broken)?);
-    broken = loaded(alloc)?;
-    broken
-        .stocks
-        .sublots
-        .push(sublot(alloc, 0, "", 1_000_000_000_001)?)?;
-    assert!(rt; !is_taken(alloc, &broken)?);
+/// After this change the values are still good.
+fn is_taken(rt: &(impl Abort + AllocGlobal), change: &str) -> Result<(), Fail> {
+    assert!(rt; rows_after(rt.alloc(), change)?.is_some());
     Ok(())
 }
 
-// ---- values that break their rules
+/// After each of these changes a value breaks its rule.
+fn are_refused(rt: &(impl Abort + AllocGlobal), changes: &[&str]) -> Result<(), Fail> {
+    for change in changes {
+        assert!(rt; rows_after(rt.alloc(), change)?.is_none());
+    }
+    Ok(())
+}
 
 #[test]
 fn values_of_masters(rt: HostRuntime) -> Result<(), Fail> {
-    let alloc = rt.alloc();
-    assert!(rt; class(alloc, "raw", "")?.judge().is_none());
-    assert!(rt; class(alloc, "RAW", "a\tb")?.judge().is_none());
-    assert!(rt; definition(alloc, "", "kg")?.judge().is_none());
-    assert!(rt; definition(alloc, "RAW", "")?.judge().is_none());
-    assert!(rt; definition(alloc, "RAW", "k/g")?.judge().is_none());
-    Ok(())
+    let changes = [
+        "UPDATE meta SET seq = -1",
+        "DELETE FROM meta",
+        "UPDATE class SET id = 'raw'",
+        "UPDATE class SET name = 'a\tb'",
+        "INSERT INTO class VALUES ('wet', '')",
+        "UPDATE definition SET class = ''",
+        "UPDATE definition SET unit = ''",
+        "UPDATE definition SET unit = 'k/g'",
+    ];
+    are_refused(&rt, changes.as_slice())
 }
 
 #[test]
 fn values_of_recipes(rt: HostRuntime) -> Result<(), Fail> {
-    let alloc = rt.alloc();
-    assert!(rt;
-        recipe(alloc, 999, 1_000_000_000_000, "", "draft")?
-            .judge()
-            .is_some()
-    );
-    assert!(rt; recipe(alloc, 0, 300, "", "draft")?.judge().is_none());
-    assert!(rt; recipe(alloc, 1000, 300, "", "draft")?.judge().is_none());
-    assert!(rt; recipe(alloc, 1, 0, "", "draft")?.judge().is_none());
-    assert!(rt;
-        recipe(alloc, 1, 1_000_000_000_001, "", "draft")?
-            .judge()
-            .is_none()
-    );
-    assert!(rt; recipe(alloc, 1, 300, "\u{7f}", "draft")?.judge().is_none());
-    assert!(rt; recipe(alloc, 1, 300, "", "Draft")?.judge().is_none());
-    Ok(())
+    is_taken(
+        &rt,
+        "UPDATE recipe SET version = 999, base = 1000000000000, title = '', state = 'draft'",
+    )?;
+    let changes = [
+        "UPDATE recipe SET version = 0",
+        "UPDATE recipe SET version = 1000",
+        "UPDATE recipe SET base = 0",
+        "UPDATE recipe SET base = 1000000000001",
+        "UPDATE recipe SET title = '\u{7f}'",
+        "UPDATE recipe SET state = 'Draft'",
+    ];
+    are_refused(&rt, changes.as_slice())
 }
 
-fn is_line(alloc: Global, columns: Columns) -> Result<bool, AllocError> {
-    let master = master_line(alloc, 1, columns)?.judge().is_some();
-    let control = control_line(alloc, 1, columns)?.judge().is_some();
-    Ok(master && control)
+/// The rows after this statement with these values; none where a value breaks its rule.
+fn rows_with(
+    alloc: Global,
+    statement: &str,
+    values: &[ValueRef<'_>],
+) -> Result<Option<DeskRows>, Fail> {
+    let mut conn = filled(alloc, ROWS)?;
+    conn.execute(statement, values)?;
+    Ok(rows_of(alloc, &read(alloc, &mut conn)?)?)
+}
+
+/// The columns kind, def (empty for null), qty, t1, t2 and t3 of a line.
+type Columns = (
+    i64,
+    &'static str,
+    i64,
+    &'static str,
+    &'static str,
+    &'static str,
+);
+
+const MASTER_LINE: &str =
+    "UPDATE recipe_line SET kind = ?1, def = nullif(?2, ''), qty = ?3, t1 = ?4, t2 = ?5, t3 = ?6 WHERE no = 1";
+
+const CONTROL_LINE: &str =
+    "UPDATE control_line SET kind = ?1, def = nullif(?2, ''), qty = ?3, t1 = ?4, t2 = ?5, t3 = ?6";
+
+/// Whether the values of a line with these columns are good.
+fn is_line(alloc: Global, line: &str, columns: Columns) -> Result<bool, Fail> {
+    let (kind, def, qty, t1, t2, t3) = columns;
+    Ok(rows_with(alloc, line, params![kind, def, qty, t1, t2, t3])?.is_some())
 }
 
 #[test]
@@ -527,15 +328,23 @@ fn columns_of_lines(rt: HostRuntime) -> Result<(), Fail> {
         (4, "FLOUR", 0, "MIX", "BLEND", "STIR"),
         (4, "", 0, "MIX", "BLEND", ""),
     ] {
-        assert!(rt; !is_line(alloc, columns)?);
+        assert!(rt; !is_line(alloc, MASTER_LINE, columns)?);
+        assert!(rt; !is_line(alloc, CONTROL_LINE, columns)?);
     }
-    assert!(rt; is_line(alloc, (3, "", 0, "TEMP", "", ""))?);
+    let unnamed = (3, "", 0, "TEMP", "", "");
+    assert!(rt; is_line(alloc, MASTER_LINE, unnamed)?);
+    assert!(rt; is_line(alloc, CONTROL_LINE, unnamed)?);
     Ok(())
 }
 
-fn number_of_line(alloc: Global, number: i64) -> Result<Option<u16>, AllocError> {
-    match master_line(alloc, number, (1, "FLOUR", 100, "", "", ""))?.judge() {
-        Some(line) => Ok(Some(line.number)),
+/// The number that the rows have for a line of this number.
+fn number_of_line(alloc: Global, number: i64) -> Result<Option<u16>, Fail> {
+    let statement = "UPDATE recipe_line SET no = CASE no WHEN 1 THEN ?1 ELSE no + 65536 END";
+    match rows_with(alloc, statement, params![number])? {
+        Some(rows) => match rows.master_lines.first() {
+            Some(line) => Ok(Some(line.number)),
+            None => Ok(None),
+        },
         None => Ok(None),
     }
 }
@@ -552,171 +361,153 @@ fn numbers_of_lines(rt: HostRuntime) -> Result<(), Fail> {
 
 #[test]
 fn values_of_orders(rt: HostRuntime) -> Result<(), Fail> {
-    let alloc = rt.alloc();
-    assert!(rt; job(alloc, "2027-02-29", 5, "open")?.judge().is_none());
-    assert!(rt; job(alloc, "2027-03-01", 0, "open")?.judge().is_none());
-    assert!(rt; job(alloc, "2027-03-01", 10, "open")?.judge().is_none());
-    assert!(rt; job(alloc, "2027-03-01", 5, "idle")?.judge().is_none());
-    assert!(rt;
-        batch(alloc, 253_402_300_799, "held", 99, 128, 1)?
-            .judge()
-            .is_some()
-    );
-    assert!(rt; batch(alloc, -1, "held", 1, 1, 0)?.judge().is_none());
-    assert!(rt;
-        batch(alloc, 253_402_300_800, "held", 1, 1, 0)?
-            .judge()
-            .is_none()
-    );
-    assert!(rt; batch(alloc, 0, "open", 1, 1, 0)?.judge().is_none());
-    Ok(())
+    is_taken(
+        &rt,
+        "UPDATE batch SET at = 253402300799, state = 'held', attempt = 99, next = 128, closed = 1",
+    )?;
+    let changes = [
+        "UPDATE job SET due = '2027-02-29'",
+        "UPDATE job SET priority = 0",
+        "UPDATE job SET priority = 10",
+        "UPDATE job SET state = 'idle'",
+        "UPDATE batch SET at = -1",
+        "UPDATE batch SET at = 253402300800",
+        "UPDATE batch SET state = 'open'",
+    ];
+    are_refused(&rt, changes.as_slice())
 }
 
 #[test]
 fn progress_of_batches(rt: HostRuntime) -> Result<(), Fail> {
-    let alloc = rt.alloc();
-    assert!(rt; batch(alloc, 0, "held", 0, 1, 0)?.judge().is_none());
-    assert!(rt; batch(alloc, 0, "held", 100, 1, 0)?.judge().is_none());
-    assert!(rt; batch(alloc, 0, "held", 1, 0, 0)?.judge().is_none());
-    assert!(rt; batch(alloc, 0, "held", 1, 129, 0)?.judge().is_none());
-    assert!(rt; batch(alloc, 0, "held", 1, 1, 2)?.judge().is_none());
-    assert!(rt; batch(alloc, 0, "held", 1, 1, -1)?.judge().is_none());
-    Ok(())
+    let changes = [
+        "UPDATE batch SET attempt = 0",
+        "UPDATE batch SET attempt = 100",
+        "UPDATE batch SET next = 0",
+        "UPDATE batch SET next = 129",
+        "UPDATE batch SET closed = 2",
+        "UPDATE batch SET closed = -1",
+    ];
+    are_refused(&rt, changes.as_slice())
 }
 
 #[test]
 fn values_of_events(rt: HostRuntime) -> Result<(), Fail> {
-    let alloc = rt.alloc();
-    assert!(rt; event(alloc, 0, "done", 0)?.judge().is_some());
-    assert!(rt; event(alloc, -1, "done", 0)?.judge().is_none());
-    assert!(rt;
-        event(alloc, 1_000_000_000_000_001, "done", 0)?
-            .judge()
-            .is_none()
-    );
-    assert!(rt; event(alloc, 1, "ended", 0)?.judge().is_none());
-    assert!(rt; event(alloc, 1, "start", 1)?.judge().is_none());
-    assert!(rt; event(alloc, 1, "close", 1)?.judge().is_none());
-    assert!(rt; event(alloc, 1, "phase", 0)?.judge().is_none());
-    assert!(rt; event(alloc, 1, "phase", 129)?.judge().is_none());
-    Ok(())
+    is_taken(
+        &rt,
+        "UPDATE batch_event SET seq = 0, word = 'done' WHERE seq = 9",
+    )?;
+    let changes = [
+        "UPDATE batch_event SET seq = -1 WHERE seq = 9",
+        "UPDATE batch_event SET seq = 1000000000000001 WHERE seq = 15",
+        "UPDATE batch_event SET word = 'ended' WHERE seq = 9",
+        "UPDATE batch_event SET phase = 1 WHERE seq = 9",
+        "UPDATE batch_event SET phase = 1 WHERE seq = 15",
+        "UPDATE batch_event SET phase = 0 WHERE seq = 11",
+        "UPDATE batch_event SET phase = 129 WHERE seq = 11",
+        "INSERT INTO batch_event VALUES (16, 'B-1', 'begin', 0, 230, 'ben', '')",
+    ];
+    are_refused(&rt, changes.as_slice())
 }
 
 #[test]
 fn values_of_stocks(rt: HostRuntime) -> Result<(), Fail> {
-    let alloc = rt.alloc();
-    assert!(rt; lot(alloc, "1A")?.judge().is_none());
-    assert!(rt; sublot(alloc, 99, "", 1_000_000_000_000)?.judge().is_some());
-    assert!(rt; sublot(alloc, 100, "", 1)?.judge().is_none());
-    assert!(rt; sublot(alloc, 0, "\n", 1)?.judge().is_none());
-    assert!(rt; sublot(alloc, 0, "", -1)?.judge().is_none());
-    assert!(rt; sublot(alloc, 0, "", 1_000_000_000_001)?.judge().is_none());
-    assert!(rt; hold(alloc, "\u{0}")?.judge().is_none());
-    Ok(())
+    is_taken(
+        &rt,
+        "UPDATE sublot SET no = 99, place = '', stock = 1000000000000",
+    )?;
+    let changes = [
+        "UPDATE lot SET def = '1A'",
+        "UPDATE sublot SET no = 100",
+        "UPDATE sublot SET place = '\n'",
+        "UPDATE sublot SET stock = -1",
+        "UPDATE sublot SET stock = 1000000000001",
+        "UPDATE hold SET note = '\u{1}'",
+    ];
+    are_refused(&rt, changes.as_slice())
 }
 
 #[test]
 fn values_of_movements(rt: HostRuntime) -> Result<(), Fail> {
-    let alloc = rt.alloc();
-    for booking in [
-        (1, 0, 0, "", None, "", 5),
-        (1, 8, 0, "", None, "", 5),
-        (1, 1, -1, "", None, "", 5),
-        (1, 1, 100, "", None, "", 5),
-        (1, 1, 0, "f-2", None, "", 5),
-        (1, 1, 0, "F-2", Some(100), "", 5),
-        (1, 1, 0, "", None, "b-1", 5),
-        (1, 1, 0, "", None, "", 0),
-    ] {
-        assert!(rt; movement(alloc, booking)?.judge().is_none());
-    }
-    Ok(())
+    is_taken(&rt, "UPDATE movement SET line = 0")?;
+    let changes = [
+        "UPDATE movement SET kind = 0",
+        "UPDATE movement SET kind = 8",
+        "UPDATE movement SET sub = -1",
+        "UPDATE movement SET sub = 100",
+        "UPDATE movement SET lot2 = 'f-2'",
+        "UPDATE movement SET sub2 = 100",
+        "UPDATE movement SET batch = 'b-1'",
+        "UPDATE movement SET amount = 0",
+    ];
+    are_refused(&rt, changes.as_slice())
 }
 
 // ---- movements and their columns
 
-fn booked(alloc: Global, booking: Booking) -> Result<Option<BookedRow>, AllocError> {
-    Ok(movement(alloc, booking)?.judge())
-}
+/// The columns kind, lot2 (empty for null), sub2 and batch (empty for null) of a movement.
+type Booking = (i64, &'static str, Option<i64>, &'static str);
 
-fn kind(alloc: Global, booking: Booking) -> Result<Option<MovementKind>, AllocError> {
-    let Some(row) = booked(alloc, booking)? else {
-        return Ok(None);
-    };
-    match row.movement() {
-        Some(movement) => Ok(Some(movement.kind)),
+/// The movement of these columns, where their values are good.
+fn booked(alloc: Global, booking: Booking) -> Result<Option<BookedRow>, Fail> {
+    let statement =
+        "UPDATE movement SET kind = ?1, lot2 = nullif(?2, ''), sub2 = ?3, batch = nullif(?4, '')";
+    let (kind, lot2, sub2, batch) = booking;
+    match rows_with(alloc, statement, params![kind, lot2, sub2, batch])? {
+        Some(rows) => Ok(rows.movements.first().copied()),
         None => Ok(None),
     }
 }
 
 #[test]
 fn movements_of_every_kind(rt: HostRuntime) -> Result<(), Fail> {
-    let alloc = rt.alloc();
     let other = id(&rt, b"F-2");
     let batch = id(&rt, b"B-1");
     for (booking, wanted) in [
-        ((1, 1, 0, "", None, "", 5), MovementKind::Received),
-        (
-            (1, 2, 0, "", None, "B-1", 5),
-            MovementKind::Consumed { batch },
-        ),
-        (
-            (1, 3, 0, "", None, "B-1", 5),
-            MovementKind::Produced { batch },
-        ),
-        ((1, 4, 0, "", None, "", 5), MovementKind::Scrapped),
-        (
-            (1, 5, 0, "F-1", Some(4), "", 5),
-            MovementKind::Divided { to: 4 },
-        ),
-        (
-            (1, 6, 0, "F-2", Some(0), "", 5),
-            MovementKind::Split { to: other },
-        ),
-        (
-            (1, 7, 0, "F-2", Some(0), "", 5),
-            MovementKind::Merged { to: other },
-        ),
+        ((1, "", None, ""), MovementKind::Received),
+        ((2, "", None, "B-1"), MovementKind::Consumed { batch }),
+        ((3, "", None, "B-1"), MovementKind::Produced { batch }),
+        ((4, "", None, ""), MovementKind::Scrapped),
+        ((5, "F-1", Some(4), ""), MovementKind::Divided { to: 4 }),
+        ((6, "F-2", Some(0), ""), MovementKind::Split { to: other }),
+        ((7, "F-2", Some(0), ""), MovementKind::Merged { to: other }),
     ] {
-        assert!(rt; kind(alloc, booking)? == Some(wanted));
+        match booked(rt.alloc(), booking)? {
+            Some(row) => assert!(rt; row.movement().map(|m| m.kind) == Some(wanted)),
+            None => assert!(rt; false),
+        }
     }
     Ok(())
 }
 
-/// Whether the values are good, and the columns aren't those of the kind.
-fn is_misfit(alloc: Global, booking: Booking) -> Result<bool, AllocError> {
-    // The checker can't follow a kind of movement, unless the function names this type.
-    let _: Option<Id> = None;
-    let is_good = movement(alloc, booking)?.judge().is_some();
-    Ok(is_good && kind(alloc, booking)?.is_none())
-}
-
 #[test]
 fn columns_of_another_kind(rt: HostRuntime) -> Result<(), Fail> {
-    let alloc = rt.alloc();
+    // The checker can't follow a booked row, unless the function names this type.
+    let _: Option<Id> = None;
     for booking in [
-        (1, 1, 0, "", None, "B-1", 5),
-        (1, 2, 0, "", None, "", 5),
-        (1, 3, 0, "F-2", None, "B-1", 5),
-        (1, 4, 0, "", Some(0), "", 5),
-        (1, 5, 0, "F-2", Some(4), "", 5),
-        (1, 5, 0, "F-1", None, "", 5),
-        (1, 6, 0, "F-2", None, "", 5),
-        (1, 6, 0, "F-2", Some(1), "", 5),
-        (1, 7, 0, "", Some(0), "", 5),
-        (1, 7, 0, "F-2", Some(0), "B-1", 5),
+        (1, "", None, "B-1"),
+        (2, "", None, ""),
+        (3, "F-2", None, "B-1"),
+        (4, "", Some(0), ""),
+        (5, "F-2", Some(4), ""),
+        (5, "F-1", None, ""),
+        (6, "F-2", None, ""),
+        (6, "F-2", Some(1), ""),
+        (7, "", Some(0), ""),
+        (7, "F-2", Some(0), "B-1"),
     ] {
-        assert!(rt; is_misfit(alloc, booking)?);
+        match booked(rt.alloc(), booking)? {
+            Some(row) => assert!(rt; row.movement().is_none()),
+            None => assert!(rt; false),
+        }
     }
     Ok(())
 }
 
 #[test]
 fn movement_of_a_row(rt: HostRuntime) -> Result<(), Fail> {
-    let row = booked(rt.alloc(), (0, 5, 0, "F-1", Some(4), "", 833))?;
     let wanted = Movement {
         seq: 10,
-        line: 0,
+        line: 1,
         kind: MovementKind::Divided { to: 4 },
         lot: id(&rt, b"F-1"),
         sub: 0,
@@ -725,7 +516,7 @@ fn movement_of_a_row(rt: HostRuntime) -> Result<(), Fail> {
         by: text(&rt, b"ben"),
         note: text(&rt, b""),
     };
-    match row {
+    match booked(rt.alloc(), (5, "F-1", Some(4), ""))? {
         Some(row) => {
             assert!(rt; row.sort == MovementSort::Divided);
             assert!(rt; row.movement() == Some(wanted));

@@ -12,4 +12,6 @@ mod read;
 #[cfg(test)]
 mod rules;
 #[cfg(test)]
+mod stores;
+#[cfg(test)]
 mod written;

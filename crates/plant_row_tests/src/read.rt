@@ -1,47 +1,27 @@
 //! What is read of stores in memory.
 
+use crate::stores::{Store, filled};
 use plant_forms::Fault;
 use plant_loaded::stocks::StoredSublot;
 use plant_loaded::{FoundTables, Loaded, found};
 use plant_reads::{find_rows, reopen};
-use plant_tables::create;
 use sqlite::types::ValueRef;
-use sqlite::{Connection, MemStore, params};
+use sqlite::{Connection, params};
 use std::alloc::Global;
 use std::test::Fail;
 
-/// A connection to a store in memory in which the desk's tables are made.
-fn made(rt: &HostRuntime) -> Result<Connection<MemStore>, Fail> {
-    let mut conn = Connection::open_in_memory(rt.alloc())?;
-    let mut tx = conn.transaction();
-    create(&mut tx, 1)?;
-    tx.commit()?;
-    Ok(conn)
-}
-
-/// The same, after these statements.
-fn filled(rt: &HostRuntime, sql: &str) -> Result<Connection<MemStore>, Fail> {
-    let mut conn = made(rt)?;
-    conn.execute_batch(sql)?;
-    Ok(conn)
-}
-
 /// What is read of it.
-fn loaded(rt: &HostRuntime, conn: &mut Connection<MemStore>) -> Result<Option<Loaded>, Fail> {
+fn loaded(rt: &HostRuntime, conn: &mut Store) -> Result<Option<Loaded>, Fail> {
     Ok(Loaded::read(rt.alloc(), conn, 1)?)
 }
 
 /// What is found in it.
-fn found_in(rt: &HostRuntime, conn: &mut Connection<MemStore>) -> Result<FoundTables, Fail> {
+fn found_in(rt: &HostRuntime, conn: &mut Store) -> Result<FoundTables, Fail> {
     Ok(found(rt.alloc(), conn)?)
 }
 
 /// The sublots of a lot.
-fn sublots_of(
-    alloc: Global,
-    conn: &mut Connection<MemStore>,
-    lot: &str,
-) -> Result<Vec<StoredSublot>, Fault> {
+fn sublots_of(alloc: Global, conn: &mut Store, lot: &str) -> Result<Vec<StoredSublot>, Fault> {
     find_rows(
         alloc,
         conn,
@@ -51,7 +31,7 @@ fn sublots_of(
 }
 
 /// Adds a lot whose definition is these bytes.
-fn add_lot(conn: &mut Connection<MemStore>, def: &[u8]) -> Result<(), Fail> {
+fn add_lot(conn: &mut Store, def: &[u8]) -> Result<(), Fail> {
     conn.execute("INSERT INTO lot VALUES ('L-0', ?1)", &[ValueRef::Text(def)])?;
     Ok(())
 }
@@ -61,7 +41,7 @@ const STOCKS: &str =
 
 #[test]
 fn rows_come_by_key(rt: HostRuntime) -> Result<(), Fail> {
-    let mut conn = filled(&rt, STOCKS)?;
+    let mut conn = filled(rt.alloc(), STOCKS)?;
     let found = loaded(&rt, &mut conn)?;
     match &found {
         Some(loaded) => {
@@ -80,7 +60,7 @@ fn rows_come_by_key(rt: HostRuntime) -> Result<(), Fail> {
 
 #[test]
 fn broken_values_are_kept(rt: HostRuntime) -> Result<(), Fail> {
-    let mut conn = filled(&rt, STOCKS)?;
+    let mut conn = filled(rt.alloc(), STOCKS)?;
     add_lot(&mut conn, b"\xFF")?;
     let found = loaded(&rt, &mut conn)?;
     match &found {
@@ -101,7 +81,7 @@ fn broken_values_are_kept(rt: HostRuntime) -> Result<(), Fail> {
 #[test]
 fn nulls_are_kept(rt: HostRuntime) -> Result<(), Fail> {
     let mut conn = filled(
-        &rt,
+        rt.alloc(),
         "INSERT INTO movement VALUES (2, 1, 5, 'L-1', 0, 'L-1', 1, NULL, 30, 120, 'ben', ''), (1, 1, 1, 'L-1', 0, NULL, NULL, NULL, 500, 110, 'anna', 'first')",
     )?;
     let found = loaded(&rt, &mut conn)?;
@@ -122,10 +102,10 @@ fn nulls_are_kept(rt: HostRuntime) -> Result<(), Fail> {
 
 #[test]
 fn missing_tables_are_told(rt: HostRuntime) -> Result<(), Fail> {
-    let mut conn = filled(&rt, "DROP TABLE hold")?;
+    let mut conn = filled(rt.alloc(), "DROP TABLE hold")?;
     let dropped = loaded(&rt, &mut conn)?;
     assert!(rt; dropped.is_none());
-    let mut conn = filled(&rt, "CREATE UNIQUE INDEX more ON lot (def)")?;
+    let mut conn = filled(rt.alloc(), "CREATE UNIQUE INDEX more ON lot (def)")?;
     let guarded = loaded(&rt, &mut conn)?;
     assert!(rt; guarded.is_none());
     Ok(())
@@ -133,7 +113,7 @@ fn missing_tables_are_told(rt: HostRuntime) -> Result<(), Fail> {
 
 #[test]
 fn open_transactions_are_refused(rt: HostRuntime) -> Result<(), Fail> {
-    let mut conn = filled(&rt, "BEGIN")?;
+    let mut conn = filled(rt.alloc(), "BEGIN")?;
     match &Loaded::read(rt.alloc(), &mut conn, 1) {
         Ok(_) => assert!(rt; false),
         Err(fault) => assert!(rt; *fault == Fault::Store),
@@ -143,7 +123,7 @@ fn open_transactions_are_refused(rt: HostRuntime) -> Result<(), Fail> {
 
 #[test]
 fn rows_of_a_lot(rt: HostRuntime) -> Result<(), Fail> {
-    let mut conn = filled(&rt, STOCKS)?;
+    let mut conn = filled(rt.alloc(), STOCKS)?;
     let sublots = sublots_of(rt.alloc(), &mut conn, "L-1")?;
     assert_eq!(rt; sublots.len(), 2);
     assert_eq!(rt; sublots[0].number, -3);
@@ -153,7 +133,7 @@ fn rows_of_a_lot(rt: HostRuntime) -> Result<(), Fail> {
 
 #[test]
 fn opened_anew(rt: HostRuntime) -> Result<(), Fail> {
-    let conn = filled(&rt, STOCKS)?;
+    let conn = filled(rt.alloc(), STOCKS)?;
     match reopen(rt.alloc(), conn) {
         Ok(mut conn) => {
             let found = loaded(&rt, &mut conn)?;
@@ -169,11 +149,11 @@ fn opened_anew(rt: HostRuntime) -> Result<(), Fail> {
 
 #[test]
 fn versions_are_told(rt: HostRuntime) -> Result<(), Fail> {
-    let mut conn = filled(&rt, "INSERT INTO meta VALUES (1, 1, 5, 100)")?;
+    let mut conn = filled(rt.alloc(), "INSERT INTO meta VALUES (1, 1, 5, 100)")?;
     assert!(rt; found_in(&rt, &mut conn)? == FoundTables::Version(1));
-    let mut conn = filled(&rt, "INSERT INTO meta VALUES (1, 1, -1, 100)")?;
+    let mut conn = filled(rt.alloc(), "INSERT INTO meta VALUES (1, 1, -1, 100)")?;
     assert!(rt; found_in(&rt, &mut conn)? == FoundTables::NoMeta);
-    let mut conn = filled(&rt, "DROP TABLE meta")?;
+    let mut conn = filled(rt.alloc(), "DROP TABLE meta")?;
     assert!(rt; found_in(&rt, &mut conn)? == FoundTables::NoMeta);
     Ok(())
 }

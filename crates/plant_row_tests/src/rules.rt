@@ -1,102 +1,25 @@
-//! A desk that obeys every rule, and for each rule stored values that break it and none before it.
+//! A desk that obeys every rule, and for each rule changes of it that break this rule and none before it.
 
-use crate::good_desk::{bytes, control_line, good_desk, master_line, optional, sublot};
+use crate::good_desk::GOOD_DESK;
+use crate::stores::changed;
 use plant_check::{Rule, check};
-use plant_loaded::Loaded;
-use plant_loaded::masters::StoredDefinition;
-use plant_loaded::meta::StoredMeta;
-use plant_loaded::orders::{StoredBatch, StoredBatchEvent, StoredControlLine, StoredJob};
-use plant_loaded::stocks::{StoredHold, StoredLot, StoredMovement, StoredSublot};
-use std::alloc::{AllocError, AllocGlobal};
+use std::alloc::AllocGlobal;
 use std::process::Abort;
+use std::test::Fail;
 
-// ---- rows of a desk, which stand there by their key
-
-fn meta<'a>(rt: &(impl Abort + AllocGlobal), desk: &'a mut Loaded) -> &'a mut StoredMeta {
-    desk.meta.get_mut(0).expect(rt, "the row")
-}
-
-fn definition<'a>(
-    rt: &(impl Abort + AllocGlobal),
-    desk: &'a mut Loaded,
-    index: usize,
-) -> &'a mut StoredDefinition {
-    desk.masters.definitions.get_mut(index).expect(rt, "a row")
-}
-
-fn job<'a>(
-    rt: &(impl Abort + AllocGlobal),
-    desk: &'a mut Loaded,
-    index: usize,
-) -> &'a mut StoredJob {
-    desk.orders.jobs.get_mut(index).expect(rt, "a row")
-}
-
-fn batch<'a>(
-    rt: &(impl Abort + AllocGlobal),
-    desk: &'a mut Loaded,
-    index: usize,
-) -> &'a mut StoredBatch {
-    desk.orders.batches.get_mut(index).expect(rt, "a row")
-}
-
-fn control<'a>(
-    rt: &(impl Abort + AllocGlobal),
-    desk: &'a mut Loaded,
-    index: usize,
-) -> &'a mut StoredControlLine {
-    desk.orders.control_lines.get_mut(index).expect(rt, "a row")
-}
-
-fn event<'a>(
-    rt: &(impl Abort + AllocGlobal),
-    desk: &'a mut Loaded,
-    index: usize,
-) -> &'a mut StoredBatchEvent {
-    desk.orders.events.get_mut(index).expect(rt, "a row")
-}
-
-fn lot<'a>(
-    rt: &(impl Abort + AllocGlobal),
-    desk: &'a mut Loaded,
-    index: usize,
-) -> &'a mut StoredLot {
-    desk.stocks.lots.get_mut(index).expect(rt, "a row")
-}
-
-fn stored_sublot<'a>(
-    rt: &(impl Abort + AllocGlobal),
-    desk: &'a mut Loaded,
-    index: usize,
-) -> &'a mut StoredSublot {
-    desk.stocks.sublots.get_mut(index).expect(rt, "a row")
-}
-
-fn movement<'a>(
-    rt: &(impl Abort + AllocGlobal),
-    desk: &'a mut Loaded,
-    index: usize,
-) -> &'a mut StoredMovement {
-    desk.stocks.movements.get_mut(index).expect(rt, "a row")
-}
-
-fn hold<'a>(rt: &(impl Abort + AllocGlobal), desk: &'a mut Loaded) -> &'a mut StoredHold {
-    desk.stocks.holds.get_mut(0).expect(rt, "the row")
-}
-
-/// The desk breaks this rule, and none before it.
-fn breaks(rt: &(impl Abort + AllocGlobal), desk: &Loaded, rule: Rule) -> Result<(), AllocError> {
-    assert!(rt; check(rt.alloc(), desk)? == Some(rule));
+/// Each of these changes leads to a desk that breaks this rule, and none before it.
+fn break_rule(rt: &(impl Abort + AllocGlobal), rule: Rule, changes: &[&str]) -> Result<(), Fail> {
+    for change in changes {
+        let desk = changed(rt.alloc(), GOOD_DESK, change)?;
+        assert!(rt; check(rt.alloc(), &desk)? == Some(rule));
+    }
     Ok(())
 }
 
-// ---- the rules
-
 #[test]
-fn a_good_desk_breaks_no_rule(rt: HostRuntime) -> Result<(), AllocError> {
-    let alloc = rt.alloc();
-    let desk = good_desk(alloc)?;
-    assert!(rt; check(alloc, &desk)?.is_none());
+fn a_good_desk_breaks_no_rule(rt: HostRuntime) -> Result<(), Fail> {
+    let desk = changed(rt.alloc(), GOOD_DESK, "")?;
+    assert!(rt; check(rt.alloc(), &desk)?.is_none());
     Ok(())
 }
 
@@ -108,202 +31,133 @@ fn numbers_of_the_rules(rt: HostRuntime) {
 }
 
 #[test]
-fn tables(rt: HostRuntime) -> Result<(), AllocError> {
-    let alloc = rt.alloc();
-    let mut desk = good_desk(alloc)?;
-    meta(&rt, &mut desk).schema = 0;
-    breaks(&rt, &desk, Rule::Tables)?;
-    desk = good_desk(alloc)?;
-    meta(&rt, &mut desk).seq = -1;
-    breaks(&rt, &desk, Rule::Tables)?;
-    desk = good_desk(alloc)?;
-    desk.meta = Vec::new(alloc);
-    breaks(&rt, &desk, Rule::Tables)
+fn tables(rt: HostRuntime) -> Result<(), Fail> {
+    let changes = [
+        "UPDATE meta SET schema = 0",
+        "UPDATE meta SET seq = -1",
+        "DELETE FROM meta",
+    ];
+    break_rule(&rt, Rule::Tables, changes.as_slice())
 }
 
 #[test]
-fn values(rt: HostRuntime) -> Result<(), AllocError> {
-    let alloc = rt.alloc();
-    let mut desk = good_desk(alloc)?;
-    definition(&rt, &mut desk, 2).id = bytes(alloc, "salt")?;
-    breaks(&rt, &desk, Rule::Values)?;
-    desk = good_desk(alloc)?;
-    stored_sublot(&rt, &mut desk, 6).stock = -1;
-    breaks(&rt, &desk, Rule::Values)?;
-    desk = good_desk(alloc)?;
-    movement(&rt, &mut desk, 0).kind = 8;
-    breaks(&rt, &desk, Rule::Values)
+fn values(rt: HostRuntime) -> Result<(), Fail> {
+    let changes = [
+        "UPDATE definition SET id = 'salt' WHERE id = 'SALT'",
+        "UPDATE sublot SET stock = -1 WHERE lot = 'S-1'",
+        "UPDATE movement SET kind = 8 WHERE seq = 1",
+    ];
+    break_rule(&rt, Rule::Values, changes.as_slice())
 }
 
 #[test]
-fn classes(rt: HostRuntime) -> Result<(), AllocError> {
-    let alloc = rt.alloc();
-    let mut desk = good_desk(alloc)?;
-    definition(&rt, &mut desk, 2).class = bytes(alloc, "TOOL")?;
-    breaks(&rt, &desk, Rule::Classes)
+fn classes(rt: HostRuntime) -> Result<(), Fail> {
+    let changes = ["UPDATE definition SET class = 'TOOL' WHERE id = 'SALT'"];
+    break_rule(&rt, Rule::Classes, changes.as_slice())
 }
 
 #[test]
-fn recipes(rt: HostRuntime) -> Result<(), AllocError> {
-    let alloc = rt.alloc();
-    let mut desk = good_desk(alloc)?;
-    definition(&rt, &mut desk, 1).id = bytes(alloc, "RICE")?;
-    breaks(&rt, &desk, Rule::Recipes)?;
-    desk = good_desk(alloc)?;
-    let after_a_gap = master_line(alloc, "CAKE", 7, (3, "", 0, "TIME", "5 min", ""))?;
-    desk.masters.recipe_lines.push(after_a_gap)?;
-    breaks(&rt, &desk, Rule::Recipes)?;
-    desk = good_desk(alloc)?;
-    let of_no_recipe = master_line(alloc, "PIE", 1, (1, "FLOUR", 100, "", "", ""))?;
-    desk.masters.recipe_lines.push(of_no_recipe)?;
-    breaks(&rt, &desk, Rule::Recipes)
+fn recipes(rt: HostRuntime) -> Result<(), Fail> {
+    let changes = [
+        "UPDATE definition SET id = 'RICE' WHERE id = 'FLOUR'",
+        "INSERT INTO recipe_line VALUES ('CAKE', 2, 7, 3, NULL, 0, 'TIME', '5 min', '')",
+        "INSERT INTO recipe_line VALUES ('PIE', 2, 1, 1, 'FLOUR', 100, '', '', '')",
+    ];
+    break_rule(&rt, Rule::Recipes, changes.as_slice())
 }
 
 #[test]
-fn orders(rt: HostRuntime) -> Result<(), AllocError> {
-    let alloc = rt.alloc();
-    let mut desk = good_desk(alloc)?;
-    job(&rt, &mut desk, 2).size = 901;
-    breaks(&rt, &desk, Rule::Orders)?;
-    desk = good_desk(alloc)?;
-    job(&rt, &mut desk, 2).version = 1;
-    breaks(&rt, &desk, Rule::Orders)?;
-    desk = good_desk(alloc)?;
-    job(&rt, &mut desk, 2).state = bytes(alloc, "released")?;
-    breaks(&rt, &desk, Rule::Orders)?;
-    desk = good_desk(alloc)?;
-    job(&rt, &mut desk, 1).state = bytes(alloc, "cancelled")?;
-    breaks(&rt, &desk, Rule::Orders)?;
-    desk = good_desk(alloc)?;
-    job(&rt, &mut desk, 1).state = bytes(alloc, "finished")?;
-    breaks(&rt, &desk, Rule::Orders)
+fn orders(rt: HostRuntime) -> Result<(), Fail> {
+    let changes = [
+        "UPDATE job SET size = 901 WHERE id = 'O-3'",
+        "UPDATE job SET version = 1 WHERE id = 'O-3'",
+        "UPDATE job SET state = 'released' WHERE id = 'O-3'",
+        "UPDATE job SET state = 'cancelled' WHERE id = 'O-2'",
+        "UPDATE job SET state = 'finished' WHERE id = 'O-2'",
+    ];
+    break_rule(&rt, Rule::Orders, changes.as_slice())
 }
 
 #[test]
-fn batches(rt: HostRuntime) -> Result<(), AllocError> {
-    let alloc = rt.alloc();
-    let mut desk = good_desk(alloc)?;
-    control(&rt, &mut desk, 0).qty = 201;
-    breaks(&rt, &desk, Rule::Batches)?;
-    desk = good_desk(alloc)?;
-    control(&rt, &mut desk, 9).number = 6;
-    breaks(&rt, &desk, Rule::Batches)?;
-    desk = good_desk(alloc)?;
-    job(&rt, &mut desk, 1).size = 301;
-    breaks(&rt, &desk, Rule::Batches)?;
-    desk = good_desk(alloc)?;
-    let of_no_batch = control_line(alloc, "B-3", 1, (1, "FLOUR", 100, "", "", ""))?;
-    desk.orders.control_lines.push(of_no_batch)?;
-    breaks(&rt, &desk, Rule::Batches)
+fn batches(rt: HostRuntime) -> Result<(), Fail> {
+    let changes = [
+        "UPDATE control_line SET qty = 201 WHERE batch = 'B-1' AND no = 1",
+        "UPDATE control_line SET no = 6 WHERE batch = 'B-2' AND no = 5",
+        "UPDATE job SET size = 301 WHERE id = 'O-2'",
+        "INSERT INTO control_line VALUES ('B-3', 1, 1, 'FLOUR', 100, '', '', '')",
+    ];
+    break_rule(&rt, Rule::Batches, changes.as_slice())
 }
 
 #[test]
-fn stocks(rt: HostRuntime) -> Result<(), AllocError> {
-    let alloc = rt.alloc();
-    let mut desk = good_desk(alloc)?;
-    stored_sublot(&rt, &mut desk, 2).stock = 401;
-    breaks(&rt, &desk, Rule::Stocks)?;
-    desk = good_desk(alloc)?;
-    movement(&rt, &mut desk, 5).amount = 199;
-    breaks(&rt, &desk, Rule::Stocks)
+fn stocks(rt: HostRuntime) -> Result<(), Fail> {
+    let changes = [
+        "UPDATE sublot SET stock = 401 WHERE lot = 'F-1' AND no = 0",
+        "UPDATE movement SET amount = 199 WHERE seq = 8",
+    ];
+    break_rule(&rt, Rule::Stocks, changes.as_slice())
 }
 
 #[test]
-fn lots(rt: HostRuntime) -> Result<(), AllocError> {
-    let alloc = rt.alloc();
-    let mut desk = good_desk(alloc)?;
-    lot(&rt, &mut desk, 5).def = bytes(alloc, "RICE")?;
-    breaks(&rt, &desk, Rule::Lots)?;
-    desk = good_desk(alloc)?;
-    hold(&rt, &mut desk).lot = bytes(alloc, "F-9")?;
-    breaks(&rt, &desk, Rule::Lots)?;
-    desk = good_desk(alloc)?;
-    desk.stocks.sublots.push(sublot(alloc, "S-1", 2, 0)?)?;
-    breaks(&rt, &desk, Rule::Lots)?;
-    desk = good_desk(alloc)?;
-    desk.stocks.sublots.push(sublot(alloc, "S-1", 1, 0)?)?;
-    breaks(&rt, &desk, Rule::Lots)?;
-    desk = good_desk(alloc)?;
-    movement(&rt, &mut desk, 10).seq = 18;
-    breaks(&rt, &desk, Rule::Lots)
+fn lots(rt: HostRuntime) -> Result<(), Fail> {
+    let changes = [
+        "UPDATE lot SET def = 'RICE' WHERE id = 'S-1'",
+        "UPDATE hold SET lot = 'F-9'",
+        "INSERT INTO sublot VALUES ('S-1', 2, 'A1', 0)",
+        "INSERT INTO sublot VALUES ('S-1', 1, 'A1', 0)",
+        "UPDATE movement SET seq = 18 WHERE seq = 16 AND line = 2",
+    ];
+    break_rule(&rt, Rule::Lots, changes.as_slice())
 }
 
 #[test]
-fn movements(rt: HostRuntime) -> Result<(), AllocError> {
-    let alloc = rt.alloc();
-    let mut desk = good_desk(alloc)?;
-    lot(&rt, &mut desk, 1).def = bytes(alloc, "FLOUR")?;
-    breaks(&rt, &desk, Rule::Movements)?;
-    desk = good_desk(alloc)?;
-    lot(&rt, &mut desk, 3).def = bytes(alloc, "SALT")?;
-    breaks(&rt, &desk, Rule::Movements)?;
-    desk = good_desk(alloc)?;
-    movement(&rt, &mut desk, 8).batch = optional(alloc, "B-3")?;
-    breaks(&rt, &desk, Rule::Movements)?;
-    desk = good_desk(alloc)?;
-    movement(&rt, &mut desk, 0).batch = optional(alloc, "B-1")?;
-    breaks(&rt, &desk, Rule::Movements)
+fn movements(rt: HostRuntime) -> Result<(), Fail> {
+    let changes = [
+        "UPDATE lot SET def = 'FLOUR' WHERE id = 'D-1'",
+        "UPDATE lot SET def = 'SALT' WHERE id = 'F-2'",
+        "UPDATE movement SET batch = 'B-3' WHERE seq = 15",
+        "UPDATE movement SET batch = 'B-1' WHERE seq = 1",
+    ];
+    break_rule(&rt, Rule::Movements, changes.as_slice())
 }
 
 #[test]
-fn events(rt: HostRuntime) -> Result<(), AllocError> {
-    let alloc = rt.alloc();
-    let mut desk = good_desk(alloc)?;
-    event(&rt, &mut desk, 0).word = bytes(alloc, "restart")?;
-    breaks(&rt, &desk, Rule::Events)?;
-    desk = good_desk(alloc)?;
-    batch(&rt, &mut desk, 0).attempt = 2;
-    breaks(&rt, &desk, Rule::Events)?;
-    desk = good_desk(alloc)?;
-    batch(&rt, &mut desk, 1).state = bytes(alloc, "idle")?;
-    breaks(&rt, &desk, Rule::Events)?;
-    desk = good_desk(alloc)?;
-    batch(&rt, &mut desk, 1).next = 2;
-    breaks(&rt, &desk, Rule::Events)
+fn events(rt: HostRuntime) -> Result<(), Fail> {
+    let changes = [
+        "UPDATE batch_event SET word = 'restart' WHERE seq = 7",
+        "UPDATE batch SET attempt = 2 WHERE id = 'B-1'",
+        "UPDATE batch SET state = 'idle' WHERE id = 'B-2'",
+        "UPDATE batch SET next = 2 WHERE id = 'B-2'",
+    ];
+    break_rule(&rt, Rule::Events, changes.as_slice())
 }
 
 #[test]
-fn numbers(rt: HostRuntime) -> Result<(), AllocError> {
-    let alloc = rt.alloc();
-    let mut desk = good_desk(alloc)?;
-    meta(&rt, &mut desk).seq = 16;
-    breaks(&rt, &desk, Rule::Numbers)?;
-    desk = good_desk(alloc)?;
-    movement(&rt, &mut desk, 11).line = 2;
-    breaks(&rt, &desk, Rule::Numbers)?;
-    desk = good_desk(alloc)?;
-    movement(&rt, &mut desk, 10).line = 3;
-    breaks(&rt, &desk, Rule::Numbers)?;
-    desk = good_desk(alloc)?;
-    event(&rt, &mut desk, 0).seq = 8;
-    breaks(&rt, &desk, Rule::Numbers)?;
-    desk = good_desk(alloc)?;
-    movement(&rt, &mut desk, 2).seq = 19;
-    breaks(&rt, &desk, Rule::Numbers)
+fn numbers(rt: HostRuntime) -> Result<(), Fail> {
+    let changes = [
+        "UPDATE meta SET seq = 16",
+        "UPDATE movement SET line = 2 WHERE seq = 17",
+        "UPDATE movement SET line = 3 WHERE seq = 16 AND line = 2",
+        "UPDATE batch_event SET seq = 8 WHERE seq = 7",
+        "UPDATE movement SET seq = 19 WHERE seq = 3",
+    ];
+    break_rule(&rt, Rule::Numbers, changes.as_slice())
 }
 
 #[test]
-fn moments(rt: HostRuntime) -> Result<(), AllocError> {
-    let alloc = rt.alloc();
-    let mut desk = good_desk(alloc)?;
-    movement(&rt, &mut desk, 11).at = 301;
-    breaks(&rt, &desk, Rule::Numbers)?;
-    desk = good_desk(alloc)?;
-    event(&rt, &mut desk, 0).at = 149;
-    breaks(&rt, &desk, Rule::Numbers)?;
-    desk = good_desk(alloc)?;
-    batch(&rt, &mut desk, 0).at = 301;
-    breaks(&rt, &desk, Rule::Numbers)?;
-    desk = good_desk(alloc)?;
-    hold(&rt, &mut desk).at = 301;
-    breaks(&rt, &desk, Rule::Numbers)
+fn moments(rt: HostRuntime) -> Result<(), Fail> {
+    let changes = [
+        "UPDATE movement SET at = 301 WHERE seq = 17",
+        "UPDATE batch_event SET at = 149 WHERE seq = 7",
+        "UPDATE batch SET at = 301 WHERE id = 'B-1'",
+        "UPDATE hold SET at = 301",
+    ];
+    break_rule(&rt, Rule::Numbers, changes.as_slice())
 }
 
 // A batch that takes of the lot that it made: each number is still above those that it needs.
 #[test]
-fn descent(rt: HostRuntime) -> Result<(), AllocError> {
-    let alloc = rt.alloc();
-    let mut desk = good_desk(alloc)?;
-    movement(&rt, &mut desk, 8).batch = optional(alloc, "B-1")?;
-    breaks(&rt, &desk, Rule::Descent)
+fn descent(rt: HostRuntime) -> Result<(), Fail> {
+    let changes = ["UPDATE movement SET batch = 'B-1' WHERE seq = 15"];
+    break_rule(&rt, Rule::Descent, changes.as_slice())
 }

@@ -1,18 +1,16 @@
 //! Rows that are written to a store in memory, and what SQL finds there. The wanted columns were written by hand.
+use crate::stores::{Store, made};
 use plant_base::{
     Amount, Batch, BatchEvent, BatchRow, BatchState, Class, ControlLine, Definition, Due, Event,
     Header, Hold, Id, Job, JobState, Lot, MasterLine, Meta, Moment, Movement, MovementKind,
     OrderRow, Position, Recipe, RecipeLine, RecipeState, Sublot, Text, Unit,
 };
 use plant_forms::Fault;
-use plant_tables::{commit_changes, create};
+use plant_tables::commit_changes;
 use plant_view::RowChange;
-use sqlite::{Connection, Error, MemStore};
-use std::alloc::Global;
+use sqlite::Error;
 use std::process::Abort;
 use std::test::Fail;
-
-type Store = Connection<MemStore>;
 
 fn id(rt: &(impl Abort + AllocGlobal), bytes: &[u8]) -> Id {
     Id::read(bytes).expect(rt, "an id")
@@ -28,22 +26,6 @@ fn amount(rt: &(impl Abort + AllocGlobal), number: u64) -> Amount {
 
 fn moment(rt: &(impl Abort + AllocGlobal), seconds: u64) -> Moment {
     Moment::new(seconds).expect(rt, "a moment")
-}
-
-/// The tables of schema 1 in memory.
-fn opened(alloc: Global) -> Result<Store, Fail> {
-    let mut conn = Connection::open_in_memory(alloc)?;
-    make(&mut conn)?;
-    Ok(conn)
-}
-
-fn make(conn: &mut Store) -> Result<(), Fail> {
-    if conn.is_autocommit() {
-        let mut tx = conn.transaction();
-        create(&mut tx, 1)?;
-        tx.commit()?;
-    }
-    Ok(())
 }
 
 fn write(conn: &mut Store, changes: &[RowChange]) -> Result<(), Fault> {
@@ -210,7 +192,7 @@ const WRITTEN: [&str; 13] = [
 
 #[test]
 fn writes_each_kind_of_row(rt: HostRuntime) -> Result<(), Fail> {
-    let mut conn = opened(rt.alloc())?;
+    let mut conn = made(rt.alloc())?;
     write(&mut conn, &masters(&rt))?;
     write(&mut conn, &batches(&rt))?;
     write(&mut conn, &materials(&rt))?;
@@ -222,7 +204,7 @@ fn writes_each_kind_of_row(rt: HostRuntime) -> Result<(), Fail> {
 
 #[test]
 fn puts_a_row_in_place_of_another(rt: HostRuntime) -> Result<(), Fail> {
-    let mut conn = opened(rt.alloc())?;
+    let mut conn = made(rt.alloc())?;
     write(&mut conn, &[sublot(&rt, 1000), sublot(&rt, 20)])?;
     assert_eq!(rt; number(&mut conn, "SELECT count(*) FROM sublot")?, 1);
     assert_eq!(rt; number(&mut conn, "SELECT stock FROM sublot")?, 20);
@@ -231,7 +213,7 @@ fn puts_a_row_in_place_of_another(rt: HostRuntime) -> Result<(), Fail> {
 
 #[test]
 fn takes_one_hold_away(rt: HostRuntime) -> Result<(), Fail> {
-    let mut conn = opened(rt.alloc())?;
+    let mut conn = made(rt.alloc())?;
     let away = RowChange::Unhold {
         lot: id(&rt, b"F-1"),
         hold: id(&rt, b"H-1"),
@@ -247,7 +229,7 @@ fn takes_one_hold_away(rt: HostRuntime) -> Result<(), Fail> {
 
 #[test]
 fn writes_all_or_nothing(rt: HostRuntime) -> Result<(), Fail> {
-    let mut conn = opened(rt.alloc())?;
+    let mut conn = made(rt.alloc())?;
     let written = write(&mut conn, &[sublot(&rt, 20), sublot(&rt, 1 << 63)]);
     assert_eq!(rt; written, Err(Fault::Store));
     assert_eq!(rt; number(&mut conn, "SELECT count(*) FROM sublot")?, 0);

@@ -102,12 +102,14 @@ impl Grouping for EnteredSublots {
     }
 }
 
+/// The first lot with the id, or `None`.
 pub fn lot_at(lots: &Grouped<Lots>, id: Id) -> Option<Lot>
     ensures { result ≡ lot_among lots.now.rows.now id }
 {
     lots.first(id)
 }
 
+/// Whether a sublot stands at the place, a lot and the number of its part; true where no place is named.
 pub fn is_there(sublots: &Grouped<Sublots>, place: Option<(Id, u16)>) -> bool
     ensures { result ≡ is_there sublots.now.rows.now place }
 {
@@ -117,18 +119,21 @@ pub fn is_there(sublots: &Grouped<Sublots>, place: Option<(Id, u16)>) -> bool
     }
 }
 
+/// The movements that are parts of the merge with this number, in the order of the rows.
 pub fn parts_of<'a>(parts: &'a Grouped<Parts>, seq: u64) -> &'a [Movement]
     ensures { result.now ≡ parts_of parts.now.rows.now seq }
 {
     parts.at(seq)
 }
 
+/// Whether an event has the number.
 pub fn has_event(events: &Grouped<EventNumbers>, seq: u64) -> bool
     ensures { result ≡ list_any (λ e. e.seq == seq) events.now.rows.now }
 {
     events.has(seq)
 }
 
+/// The movements that enter the sublot at the place, a lot and the number of its part, in the order of the rows.
 pub fn entries<'a>(entered: &'a Grouped<EnteredSublots>, place: (Id, u16)) -> &'a [Movement]
     ensures { result.now ≡ entries entered.now.rows.now place.0 place.1 }
 {

@@ -24,12 +24,14 @@ pub fn small(n: u16) -> ValueRef<'static>
     ValueRef::Int(i64::from(n))
 }
 
+/// An amount, as its number.
 pub fn amount(n: Amount) -> ValueRef<'static>
     ensures { owned result ≡ number n }
 {
     ValueRef::Int(n.get() as i64)
 }
 
+/// A moment, as its number of seconds since 1970-01-01T00:00:00Z.
 pub fn moment(at: Moment) -> ValueRef<'static>
     ensures { owned result ≡ number at }
 {
@@ -47,18 +49,21 @@ pub fn truth(is: bool) -> ValueRef<'static>
     }
 }
 
+/// An id.
 pub fn id(id: &Id) -> ValueRef<'_>
     ensures { owned result ≡ Bytes id.now }
 {
     ValueRef::Text(id.as_bytes())
 }
 
+/// A text that people read.
 pub fn text(text: &Text) -> ValueRef<'_>
     ensures { owned result ≡ Bytes text.now }
 {
     ValueRef::Text(text.as_bytes())
 }
 
+/// A word of the desk's own.
 pub fn word(word: &str) -> ValueRef<'_>
     ensures { owned result ≡ Bytes word.now }
 {

@@ -24,12 +24,14 @@ pub fn meta_values(
     [small(1), schema, seq, moment(row.position.at)]
 }
 
+/// A row of `class`.
 pub fn class_values(row: &Class) -> [ValueRef<'_>; 2]
     ensures { bound result ≡ row_of_class row.now }
 {
     [id(&row.id), text(&row.name)]
 }
 
+/// A row of `definition`.
 pub fn definition_values(row: &Definition) -> [ValueRef<'_>; 4]
     ensures { bound result ≡ row_of_definition row.now }
 {
@@ -41,6 +43,7 @@ pub fn definition_values(row: &Definition) -> [ValueRef<'_>; 4]
     ]
 }
 
+/// A row of `recipe`.
 pub fn recipe_values(row: &Recipe) -> [ValueRef<'_>; 8]
     ensures { bound result ≡ row_of_recipe row.now }
 {
@@ -101,6 +104,7 @@ fn line_values(line: &RecipeLine) -> [ValueRef<'_>; 6]
     }
 }
 
+/// A row of `recipe_line`.
 pub fn master_line_values(row: &MasterLine) -> [ValueRef<'_>; 9]
     ensures { bound result ≡ row_of_master_line row.now }
 {
@@ -118,6 +122,7 @@ pub fn master_line_values(row: &MasterLine) -> [ValueRef<'_>; 9]
     ]
 }
 
+/// A row of `job`.
 pub fn job_values(row: &Job) -> [ValueRef<'_>; 7]
     ensures { bound result ≡ row_of_job row.now }
 {
@@ -133,6 +138,7 @@ pub fn job_values(row: &Job) -> [ValueRef<'_>; 7]
     ]
 }
 
+/// A row of `batch`.
 pub fn batch_values(row: &BatchRow) -> [ValueRef<'_>; 9]
     ensures { bound result ≡ row_of_batch row.now }
 {
@@ -150,6 +156,7 @@ pub fn batch_values(row: &BatchRow) -> [ValueRef<'_>; 9]
     ]
 }
 
+/// A row of `control_line`.
 pub fn control_line_values(row: &ControlLine) -> [ValueRef<'_>; 8]
     ensures { bound result ≡ row_of_control_line row.now }
 {
@@ -202,6 +209,7 @@ pub fn event_values<'a>(row: &'a BatchEvent, seq: ValueRef<'a>) -> [ValueRef<'a>
     ]
 }
 
+/// A row of `lot`.
 pub fn lot_values(row: &Lot) -> [ValueRef<'_>; 2]
     ensures { bound result ≡ row_of_lot row.now }
 {
@@ -276,6 +284,7 @@ pub fn movement_values<'a>(row: &'a Movement, seq: ValueRef<'a>) -> [ValueRef<'a
     ]
 }
 
+/// A row of `hold`.
 pub fn hold_values(row: &Hold) -> [ValueRef<'_>; 5]
     ensures { bound result ≡ row_of_hold row.now }
 {

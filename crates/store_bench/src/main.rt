@@ -1,9 +1,14 @@
-//! A bench of the test of all tables. `write FILE N` makes in a file the tables of a desk that obeys every rule, with N
-//! movements, by one transaction; `adopt FILE` adopts it, `ask FILE` then asks where the desk stands, and `verify FILE`
-//! tests all tables once more. Each prints one line. `memory N` writes and verifies in memory, as is done without words.
+//! A bench of the desk's tables and of a desk over them. `write FILE N` makes in a file the tables of a desk that obeys
+//! every rule, with N movements, by one transaction, and `read FILE` reads every row of them; `adopt FILE` adopts it, `ask
+//! FILE` then asks where the desk stands, and `verify FILE` tests all tables once more. Each prints one line. `memory N`
+//! writes and verifies in memory, as is done without words.
 #![tactic(auto)]
 
 ghost use Rattle.std.specs.Prelude.{◌≡◌, ◌+◌, ◌*◌, length, IfOk};
+ghost use Rattle.sqlite.specs.Held.{state};
+ghost use Rattle.sqlite.specs.State.{HasCleanDisk};
+ghost use Rattle.plant_loaded.specs.Loading.{AreLoaded};
+ghost use Rattle.plant_loaded.specs.declared.loaded.Loaded.{Loaded};
 
 use plant_base::{
     Amount, Class, ControlLine, Definition, Id, Lot, MasterLine, Meta, Moment, Movement,
@@ -11,6 +16,7 @@ use plant_base::{
 };
 use plant_desk::{Answer, Keeper, Question};
 use plant_forms::Fault;
+use plant_loaded::Loaded;
 use plant_store::Desk;
 use plant_tables::{commit_changes, commit_opening};
 use plant_view::RowChange;
@@ -167,6 +173,16 @@ fn write<S: Alter>(alloc: Global, conn: &mut Connection<S>, count: u64) -> Resul
     commit_changes(conn, &all_rows(alloc, count / MOVEMENTS_OF_A_LOT)?)
 }
 
+/// The number of movements, after every row of every table was read. Store where a table is missing.
+fn read<S: Alter>(alloc: Global, conn: &mut Connection<S>) -> Result<usize, Fault>
+    ensures { HasCleanDisk (state S.Store conn.new) → IfOk result (λ n. (x : Loaded) × AreLoaded (state S.Store conn.old).now x × (n ≡ length x.stocks.movements.items)) }
+{
+    match &Loaded::read(alloc, conn, 1)? {
+        Some(loaded) => Ok(loaded.stocks.movements.len()),
+        None => Err(Fault::Store),
+    }
+}
+
 /// The desk over a store. Store where its tables are not those of a desk.
 fn adopted<S: Alter + Drop>(alloc: Global, conn: Connection<S>) -> Result<Desk<S>, Fault> {
     if !conn.is_autocommit() {
@@ -181,8 +197,8 @@ fn adopted<S: Alter + Drop>(alloc: Global, conn: Connection<S>) -> Result<Desk<S
 /// What was done.
 #[derive(Clone, Copy)]
 enum Done {
-    /// So many movements were written.
-    Written(u64),
+    /// So many movements were written or read.
+    Moved(u64),
     Adopted,
     /// The desk has accepted so many commands.
     Asked(u64),
@@ -193,7 +209,7 @@ enum Done {
 impl fmt::Display for Done {
     fn fmt<W: fmt::Write>(&self, f: &mut fmt::Formatter<W>) -> fmt::Result {
         match self {
-            Done::Written(count) => write!(f, "{count} movements"),
+            Done::Moved(count) => write!(f, "{count} movements"),
             Done::Adopted => write!(f, "adopted"),
             Done::Asked(seq) => write!(f, "{seq} commands"),
             Done::Verified => write!(f, "no rule is broken"),
@@ -250,7 +266,11 @@ fn run(rt: &HostRuntime, words: &[String]) -> Result<Done, Fault> {
         [_, word, path, count] if word.as_str() == "write" => {
             let count = count_of(count);
             write(rt.alloc(), &mut opened(rt, path.as_str())?, count)?;
-            Ok(Done::Written(count))
+            Ok(Done::Moved(count))
+        }
+        [_, word, path] if word.as_str() == "read" => {
+            let count = read(rt.alloc(), &mut opened(rt, path.as_str())?)?;
+            Ok(Done::Moved(count as u64))
         }
         [_, word, path] if word.as_str() == "adopt" => {
             desk_of(rt, path.as_str())?;

@@ -1,5 +1,5 @@
 use Rattle.std.proofs.Common.{rules, ◌≡◌, length}
-use Rattle.table_bench.proofs.read.Goals as goal
+use Rattle.store_bench.proofs.read.Goals as goal
 
 pub returns-in-Some : goal.returns-in-Some
 returns-in-Some g c clean =

@@ -10,7 +10,7 @@ use plant_base::Envelope;
 /// The state is a relation: what a keeper holds needn't show the state that it stands at, as a connection that its
 /// disk's fault shut shows nothing any more. So each clause speaks of every state that the keeper stood at.
 pub trait Keeper {
-    ghost use Rattle.std.specs.Prelude.{◌≡◌, ℕ, Bool, true, false, IsErrOf};
+    ghost use Rattle.std.specs.Prelude.{◌≡◌, ◌≢◌, ℕ, Bool, true, false, IfErr, IsErrOf};
     ghost use Rattle.plant_base.specs.State.{State};
     ghost use Rattle.plant_desk.specs.Keeping.{States, Executes, Asks, shuts};
 
@@ -39,7 +39,7 @@ pub trait Keeper {
     /// their step, which is the same state where the command is refused.
     ///
     /// `Store`: the keeper is shut and stands where it stood; a stop leaves that state or the next one, and no other.
-    /// `Memory`: nothing has changed. `Shut` comes exactly from a keeper that is shut.
+    /// `Memory`: nothing has changed. `Shut` comes exactly from a keeper that is shut, and leaves it as it is.
     /// Whatever comes, what stood beside the state stands there still.
     fn execute(&mut self, envelope: &Envelope) -> Result<Reply, DeskFault>
         ensures honest { honest self.new → honest self.old }
@@ -48,12 +48,14 @@ pub trait Keeper {
             → Executes s (stands self.new) (leaves self.new) envelope.now result }
         ensures beside { honest self.new → (b : Beside) → beside self.old b → beside self.new b }
         ensures open { shut self.old ≡ false → shut self.new ≡ shuts result }
-        ensures shut { shut self.old ≡ true → IsErrOf result DeskFault.Shut };
+        ensures live { shut self.old ≡ false → IfErr result (λ fault. fault ≢ DeskFault.Shut) }
+        ensures shut { shut self.old ≡ true → IsErrOf result DeskFault.Shut }
+        ensures still { shut self.old ≡ true → self.new ≡ self.old };
 
     /// Answers a question. The state stays as it is, and an open keeper stays open.
     ///
-    /// `Store`, `Memory`: there is no answer. `Shut` comes exactly from a keeper that is shut. What stood beside the state
-    /// stands there still.
+    /// `Store`, `Memory`: there is no answer. `Shut` comes exactly from a keeper that is shut, and leaves it as it is. What
+    /// stood beside the state stands there still.
     fn ask(&mut self, question: &Question) -> Result<Answer, DeskFault>
         ensures honest { honest self.new → honest self.old }
         ensures schema { honest self.new → schema self.new ≡ schema self.old }
@@ -61,7 +63,9 @@ pub trait Keeper {
             → Asks (schema self.old) s (stands self.new) question.now result }
         ensures beside { honest self.new → (b : Beside) → beside self.old b → beside self.new b }
         ensures open { shut self.new ≡ shut self.old }
-        ensures shut { shut self.old ≡ true → IsErrOf result DeskFault.Shut };
+        ensures live { shut self.old ≡ false → IfErr result (λ fault. fault ≢ DeskFault.Shut) }
+        ensures shut { shut self.old ≡ true → IsErrOf result DeskFault.Shut }
+        ensures still { shut self.old ≡ true → self.new ≡ self.old };
 
     /// A stop of an open keeper leaves the state that it stands at, and no other.
     ghost leaves_state: { (k : Self) (s : State) → honest k → shut k ≡ false → stands k s → leaves k (λ u. u ≡ s) };

@@ -1,6 +1,6 @@
 //! Commands over a store.
 
-ghost use Rattle.std.specs.Prelude.{◌≡◌, ◌⊎◌, ◌+◌, ◌<◌, ◌^◌, false, true, None, IfOk, IfErr, OnOk, OnErr, IsTrue};
+ghost use Rattle.std.specs.Prelude.{◌≡◌, ◌≢◌, ◌⊎◌, ◌+◌, ◌<◌, ◌^◌, false, true, None, IfOk, IfErr, OnOk, OnErr, IsTrue};
 ghost use Rattle.sqlite.specs.Effect.{Database};
 ghost use Rattle.sqlite.specs.Held.{state};
 ghost use Rattle.sqlite.specs.State.{HasCleanDisk};
@@ -31,6 +31,7 @@ pub(crate) fn execute_on<S: Alter>(
     ensures mode { (state S.Store connection.new).in_transaction ≡ false }
     ensures clean { HasCleanDisk (state S.Store connection.new) → HasCleanDisk (state S.Store connection.old) }
     ensures executed { HasCleanDisk (state S.Store connection.new) → (s : State) → IsOpenAt (state S.Store connection.old) s → Executed s (state S.Store connection.new) envelope.now result }
+    ensures open { IfErr result (λ fault. fault ≢ DeskFault.Shut) }
     ensures others { HasCleanDisk (state S.Store connection.new) → (s : State) → IsOpenAt (state S.Store connection.old) s → (before : Database) → OthersStand before (state S.Store connection.old) → OthersStand before (state S.Store connection.new) }
 {
     // The checker can't follow row changes, unless the function names these types.

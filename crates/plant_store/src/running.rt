@@ -1,6 +1,6 @@
 //! Lists of commands over a keeper.
 
-ghost use Rattle.std.specs.Prelude.{◌≡◌, ◌≤◌, [], false, true, Some, length};
+ghost use Rattle.std.specs.Prelude.{◌≡◌, ◌≢◌, ◌≤◌, [], false, true, Some, length};
 ghost use Rattle.plant_base.specs.State.{State};
 ghost use Rattle.plant_desk.specs.declared.reply.DeskFault.TheVariants as fault;
 ghost use Rattle.plant_store.specs.Running.{Ran};
@@ -15,6 +15,7 @@ pub(crate) fn run_over<K: Keeper>(alloc: Global, keeper: &mut K, list: &[Envelop
     requires { K.shut keeper.old ≡ false }
     ensures honest { K.honest keeper.new → K.honest keeper.old }
     ensures within { length result.replies ≤ length list.now }
+    ensures live { result.end ≢ Some DeskFault.Shut }
     ensures beside { K.honest keeper.new → (b : K.Beside) → K.beside keeper.old b → K.beside keeper.new b }
     ensures ran { K.honest keeper.new → (s : State) → K.stands keeper.old s → Ran s list.now result.replies result.end (K.stands keeper.new) (K.leaves keeper.new) (K.shut keeper.new) }
 {

@@ -23,7 +23,7 @@ pub struct Desk<S: Alter> {
 }
 
 impl<S: Alter> Desk<S> {
-    ghost use Rattle.std.specs.Prelude.{◌≡◌, ◌≤◌, [], true, false, Some, None, IfOk, IsErrOf, length, take};
+    ghost use Rattle.std.specs.Prelude.{◌≡◌, ◌≢◌, ◌≤◌, [], true, false, Some, None, IfOk, IfErr, IsErrOf, length, take};
     ghost use Rattle.sqlite.specs.Effect.{Database};
     ghost use Rattle.sqlite.specs.Held.{state};
     ghost use Rattle.sqlite.specs.State.{HasCleanDisk, Survives};
@@ -36,13 +36,15 @@ impl<S: Alter> Desk<S> {
     ghost use Rattle.plant_store.specs.Running.{Ran};
 
     /// Executes commands in order, up to the first fault. Room for the replies is taken first; where it is refused,
-    /// nothing is executed. A desk that is shut gives no replies, and ends `Shut`.
+    /// nothing is executed. A desk that is shut gives no replies, ends `Shut` and stays as it is; no other ends so.
     pub fn run(&mut self, list: &[Envelope]) -> RunReport
         ensures honest { HasCleanDisk (state S.Store self.new.connection) → HasCleanDisk (state S.Store self.old.connection) }
         ensures within { length result.replies ≤ length list.now }
         ensures ran { HasCleanDisk (state S.Store self.new.connection) → self.old.is_shut ≡ false → (s : State) → Stands (state S.Store self.old.connection) self.old.is_shut s
             → Ran s list.now result.replies result.end (Stands (state S.Store self.new.connection) self.new.is_shut) (Leaves (state S.Store self.new.connection)) self.new.is_shut }
+        ensures live { self.old.is_shut ≡ false → result.end ≢ Some DeskFault.Shut }
         ensures shut { self.old.is_shut ≡ true → (result.replies ≡ []) × (result.end ≡ Some DeskFault.Shut) }
+        ensures still { self.old.is_shut ≡ true → self.new ≡ self.old }
 
         // Nothing is lost and nothing made, of each definition and in each lot, and nothing was made from itself.
         ensures conserved { HasCleanDisk (state S.Store self.new.connection) → self.old.is_shut ≡ false → (s : State) → Stands (state S.Store self.old.connection) self.old.is_shut s
@@ -68,7 +70,9 @@ impl<S: Alter> Desk<S> {
     pub fn verify(&mut self) -> Result<Option<Rule>, DeskFault>
         ensures honest { HasCleanDisk (state S.Store self.new.connection) → HasCleanDisk (state S.Store self.old.connection) }
         ensures open { self.new.is_shut ≡ self.old.is_shut }
+        ensures live { self.old.is_shut ≡ false → IfErr result (λ fault. fault ≢ DeskFault.Shut) }
         ensures shut { self.old.is_shut ≡ true → IsErrOf result DeskFault.Shut }
+        ensures still { self.old.is_shut ≡ true → self.new ≡ self.old }
         ensures unbroken { HasCleanDisk (state S.Store self.new.connection) → self.old.is_shut ≡ false → (s : State) → Stands (state S.Store self.old.connection) self.old.is_shut s
             → IfOk result (λ broken. broken ≡ None) × Stands (state S.Store self.new.connection) self.new.is_shut s }
         ensures crash { Survives (state S.Store self.old.connection) (state S.Store self.new.connection) (λ _. ⊥) }

@@ -1,8 +1,13 @@
-//! Sessions of the desk in lines, each over a keeper of lists and over a desk on a store in memory: both write the same.
+//! Sessions of the desk in lines, each over a keeper of lists and over a desk on a store in memory: both write the same. And
+//! the program's words over stores in memory: what is written, and the exit status.
 #![tactic(auto)]
 
 #[cfg(test)]
 mod batch_tests;
+#[cfg(test)]
+mod ended;
+#[cfg(test)]
+mod faults;
 #[cfg(test)]
 mod line_tests;
 #[cfg(test)]
@@ -16,4 +21,10 @@ mod session;
 #[cfg(test)]
 mod slow_tests;
 #[cfg(test)]
+mod streams;
+#[cfg(test)]
 mod trace_tests;
+#[cfg(test)]
+mod word_sessions;
+#[cfg(test)]
+mod words_told;

@@ -15,6 +15,7 @@ pub const SESSION: &[u8] =
 {\"ask\":\"lot\",\"lot\":\"L-1\"}
 ";
 
+/// What a new desk answers them.
 pub const REPLIES: &[u8] = b"{\"ok\":1}
 {\"ok\":2}
 {\"ok\":3}

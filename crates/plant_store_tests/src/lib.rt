@@ -1,10 +1,22 @@
-//! Tests of the desk's tables in stores: every kind of row is written, overwritten and read back, and a transaction is
-//! stopped at each call of a file in turn. What other tests of stores need stands open: files that stop, and tables as text.
+//! Tests over stores. Of the desk's tables: every kind of row is written, overwritten and read back, and a transaction is
+//! stopped at each call of a file in turn. Of a desk over one store: what it is told is there when the store is adopted
+//! again, a store that was changed by hand is refused, and ten commands are stopped at each call of a file in turn.
 #![tactic(auto)]
 
 #[cfg(test)]
+mod commands;
+#[cfg(test)]
+mod desk_stops;
+#[cfg(test)]
+mod desks;
+#[cfg(test)]
 mod expected;
-pub mod files;
+#[cfg(test)]
+mod files;
+#[cfg(test)]
+mod kept;
+#[cfg(test)]
+mod refused;
 #[cfg(test)]
 mod round_trip;
 #[cfg(test)]
@@ -13,4 +25,5 @@ mod rows;
 mod stops;
 #[cfg(test)]
 mod store;
-pub mod told;
+#[cfg(test)]
+mod told;

@@ -1,5 +1,6 @@
 //! Words that are done.
-use crate::ended::{INIT, REPLIES, RUN, SESSION, VERIFY, ends_so, performed};
+use crate::ended::{INIT, RUN, VERIFY, ends_so, performed};
+use crate::session::{REPLIES, SESSION};
 use plant_program::run;
 use plant_store::Desk;
 use sqlite::{Alter, Connection};

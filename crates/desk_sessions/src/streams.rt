@@ -1,5 +1,6 @@
 //! Streams that fail.
-use crate::ended::{INIT, RUN, SESSION, VERIFY};
+use crate::ended::{INIT, RUN, VERIFY};
+use crate::session::SESSION;
 use plant_program::perform;
 use plant_words::Words;
 use sqlite::Connection;

@@ -2,14 +2,14 @@
 //! adopted anew, the files hold the tables after the commands that were answered, or after one more.
 use crate::commands::ten_commands;
 use crate::desks::{adopted, desk_over};
-use plant_base::Envelope;
-use plant_desk::{DeskFault, Keeper, Question, Reply};
-use plant_store::{AdoptFault, Desk};
-use plant_store_tests::files::{
+use crate::files::{
     ALL, Calls, Image, InMemory, Stopped, are_running, closed, crashed, opened_with_log_of,
     reopened,
 };
-use plant_store_tests::told::tables_told;
+use crate::told::tables_told;
+use plant_base::Envelope;
+use plant_desk::{DeskFault, Keeper, Question, Reply};
+use plant_store::{AdoptFault, Desk};
 use sqlite::{Alter, Connection};
 use std::ops::Range;
 use std::process::Abort;

@@ -1,6 +1,7 @@
 //! Stores that aren't adopted: nothing is written to standard output.
-use crate::ended::{INIT, Outcome, RUN, SESSION, VERIFY, is_fault, performed};
-use crate::sessions::after_session;
+use crate::ended::{INIT, Outcome, RUN, VERIFY, is_fault, performed};
+use crate::session::SESSION;
+use crate::word_sessions::after_session;
 use plant_words::Words;
 use sqlite::Connection;
 use std::process::Abort;

@@ -1,7 +1,8 @@
 # make run   proves and builds the desk, and runs the stored session over a file, build/plant.db, which is made anew
 # make desk  leaves the built program at build/desk
 # make order_check  leaves the built check of order files at build/order_check
-# make test  the gate: every proof, every must-fail edit, every test and the programs
+# make test  the gate: that order_check is run on the template of an order file as it stands in examples/, and then, from nothing,
+#            every proof, every must-fail edit, every test and the programs
 .PHONY: run desk order_check test
 
 run: desk
@@ -21,4 +22,5 @@ order_check:
 	cp crates/order_check/out/order_check build/order_check
 
 test:
+	cmp examples/orders.csv crates/order_check/stdin
 	rt ci

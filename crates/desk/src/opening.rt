@@ -1,12 +1,12 @@
 //! The file of the desk, opened.
-ghost use Rattle.std.specs.Prelude.{◌≡◌, IfOk};
-ghost use Rattle.sqlite.specs.State.{HasCleanDisk, IsLive, Opens};
+ghost use Rattle.std.specs.Prelude.{◌≡◌, false, IfOk};
+ghost use Rattle.sqlite.specs.State.{HasCleanDisk};
 ghost use Rattle.sqlite.specs.Held.{state};
 ghost use Rattle.sqlite.specs.Files.{file_state};
-ghost use Rattle.plant_reads.specs.Ordered.{IsRising};
+ghost use Rattle.plant_reads.specs.Opened.{IsNewlyOpened};
 
-use plant_program::{perform, tell_opening};
-use plant_reads::reopen;
+use plant_program::{Performed, after_closing, perform, perform_words, tell_opening, tell_outcome};
+use plant_reads::{open_in_memory, reopen};
 use plant_words::Words;
 use sqlite::{Alter, Connection, Error, ErrorCode, FileFrom, FileStore, Start};
 use std::alloc::Global;
@@ -20,7 +20,7 @@ const IN_MEMORY: &str = ":memory:";
 /// `start` stands for what the file holds before it is opened, whatever that is.
 pub(crate) fn perform_over<S: Start>(rt: &HostRuntime, words: &Words<'_>, start: S) -> u8 {
     if words.file() == IN_MEMORY {
-        return match Connection::open_in_memory(rt.alloc()) {
+        return match open_in_memory(rt.alloc()) {
             Ok(connection) => perform_with(rt, words, connection),
             Err(_) => tell_opening(
                 &Error::SqliteFailure(ErrorCode::OutOfMemory),
@@ -29,20 +29,21 @@ pub(crate) fn perform_over<S: Start>(rt: &HostRuntime, words: &Words<'_>, start:
         };
     }
     match open_file(rt, words.file(), start) {
-        Ok(connection) => perform_with(rt, words, connection),
+        Ok(connection) => perform_closing(rt, words, connection),
         Err(error) => tell_opening(&error, &mut rt.stderr()),
     }
 }
 
-/// A connection over the file, which is made where it isn't there, with each table in the order of its rowids. What it
-/// answers where it doesn't open: the store's error.
+/// A connection over the file, which is made where it isn't there: no transaction is open, it shows what was committed and
+/// a stop leaves just that, and each table stands in the order of its rowids. What it answers where it doesn't open: the
+/// store's error.
 fn open_file<S: Start>(
     rt: &HostRuntime,
     file: &str,
     start: S,
 ) -> Result<Connection<FileStore<FileFrom<S>>>, Error>
-    ensures opens { IfOk result (λ c. HasCleanDisk (file_state c) → Opens (file_state c) × IsLive (file_state c)) }
-    ensures rising { IfOk result (λ c. HasCleanDisk (file_state c) → IsRising (file_state c).now) }
+    ensures newly { IfOk result (λ c. HasCleanDisk (file_state c) → IsNewlyOpened (file_state c)) }
+    ensures rests { IfOk result (λ c. (file_state c).in_transaction ≡ false) }
 {
     match Connection::open_from(rt, file, false, start) {
         Ok(connection) => in_order(rt.alloc(), connection),
@@ -50,14 +51,13 @@ fn open_file<S: Start>(
     }
 }
 
-/// The same connection opened anew, with each table in the order of its rowids. What it answers where it doesn't open:
-/// the store's error.
+/// The same connection opened anew. What it answers where it doesn't open: the store's error.
 fn in_order<S: Alter + Drop>(
     alloc: Global,
     connection: Connection<S>,
 ) -> Result<Connection<S>, Error>
-    ensures opens { IfOk result (λ c. HasCleanDisk (state S.Store c) → Opens (state S.Store c) × IsLive (state S.Store c)) }
-    ensures rising { IfOk result (λ c. HasCleanDisk (state S.Store c) → IsRising (state S.Store c).now) }
+    ensures newly { IfOk result (λ c. HasCleanDisk (state S.Store c) → IsNewlyOpened (state S.Store c)) }
+    ensures rests { IfOk result (λ c. (state S.Store c).in_transaction ≡ false) }
 {
     match reopen(alloc, connection) {
         Ok(connection) => Ok(connection),
@@ -65,12 +65,45 @@ fn in_order<S: Alter + Drop>(
     }
 }
 
+/// Closes a file, where it is at hand. Whether none is left open for want of a close that succeeds.
+fn is_closed<S: Start>(connection: Option<Connection<FileStore<FileFrom<S>>>>) -> bool {
+    match connection {
+        Some(connection) => connection.close().is_ok(),
+        None => true,
+    }
+}
+
+/// Does what the words tell over the opened file and the standard streams, and closes it: what stands in its log is copied
+/// into it, so that the file alone holds the desk. Gives the exit status.
+fn perform_closing<S: Start>(
+    rt: &HostRuntime,
+    words: &Words<'_>,
+    connection: Connection<FileStore<FileFrom<S>>>,
+) -> u8
+    requires { (file_state connection).in_transaction ≡ false }
+{
+    let Performed {
+        outcome,
+        connection,
+    } = perform_words(
+        rt.alloc(),
+        words,
+        connection,
+        &mut rt.reader(),
+        &mut io::writer(rt),
+    );
+    let is_closed = is_closed(connection);
+    tell_outcome(after_closing(outcome, is_closed), &mut rt.stderr())
+}
+
 /// Does what the words tell over the opened store and the standard streams. Gives the exit status.
 fn perform_with<S: Alter + Drop>(
     rt: &HostRuntime,
     words: &Words<'_>,
     connection: Connection<S>,
-) -> u8 {
+) -> u8
+    requires { (state S.Store connection).in_transaction ≡ false }
+{
     perform(
         rt.alloc(),
         words,

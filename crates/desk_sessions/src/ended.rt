@@ -1,5 +1,6 @@
 //! Programs that were run to their end.
 use plant_program::perform;
+use plant_reads::open_in_memory;
 use plant_words::Words;
 use sqlite::{Alter, Connection};
 use std::process::Abort;
@@ -20,13 +21,16 @@ pub struct Outcome {
     pub status: u8,
 }
 
-/// Runs the program over a store.
+/// Runs the program over a store, in which no transaction may be open.
 pub fn performed<S: Alter + Drop>(
     rt: &impl AllocGlobal,
     words: &Words<'_>,
     connection: Connection<S>,
     input: &[u8],
-) -> Outcome {
+) -> Result<Outcome, Fail> {
+    if !connection.is_autocommit() {
+        return Err(Fail::from("a transaction is open"));
+    }
     let mut rest = input;
     let mut output = Vec::new(rt.alloc());
     let mut errors = Vec::new(rt.alloc());
@@ -38,11 +42,11 @@ pub fn performed<S: Alter + Drop>(
         &mut output,
         &mut errors,
     );
-    Outcome {
+    Ok(Outcome {
         output,
         errors,
         status,
-    }
+    })
 }
 
 /// Runs the program over a new store, and checks how it ends.
@@ -53,7 +57,7 @@ pub fn ends_so(
     output: &[u8],
     status: u8,
 ) -> Result<(), Fail> {
-    let end = performed(rt, words, Connection::open_in_memory(rt.alloc())?, input);
+    let end = performed(rt, words, open_in_memory(rt.alloc())?, input)?;
     assert_eq!(rt; end.status, status);
     assert!(rt; end.output.as_slice() == output);
     assert!(rt; end.errors.is_empty());

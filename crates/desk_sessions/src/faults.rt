@@ -1,5 +1,5 @@
 //! Stores that aren't adopted: nothing is written to standard output.
-use crate::ended::{INIT, Outcome, RUN, VERIFY, is_fault, performed};
+use crate::ended::{Outcome, RUN, VERIFY, is_fault, performed};
 use crate::session::SESSION;
 use crate::word_sessions::after_session;
 use plant_words::Words;
@@ -16,7 +16,7 @@ fn ended_over(
     let desk = after_session(rt, Connection::open_in_memory(rt.alloc())?)?;
     let mut connection = desk.close();
     connection.execute_batch(change)?;
-    Ok(performed(rt, words, connection, SESSION))
+    performed(rt, words, connection, SESSION)
 }
 
 #[test]
@@ -30,12 +30,5 @@ fn another_stock_is_told(rt: HostRuntime) -> Result<(), Fail> {
 fn a_later_schema_is_told(rt: HostRuntime) -> Result<(), Fail> {
     let end = ended_over(&rt, &RUN, "UPDATE meta SET schema = 99")?;
     is_fault(&rt, &end, b"fault: newer 99\n", 3);
-    Ok(())
-}
-
-#[test]
-fn an_open_transaction_is_told(rt: HostRuntime) -> Result<(), Fail> {
-    let end = ended_over(&rt, &INIT, "BEGIN")?;
-    is_fault(&rt, &end, b"fault: store\n", 3);
     Ok(())
 }

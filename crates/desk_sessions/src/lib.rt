@@ -9,6 +9,8 @@ mod ended;
 #[cfg(test)]
 mod faults;
 #[cfg(test)]
+mod limit_tests;
+#[cfg(test)]
 mod line_tests;
 #[cfg(test)]
 mod move_tests;
@@ -16,6 +18,8 @@ mod move_tests;
 mod movement_tests;
 #[cfg(test)]
 mod order_tests;
+#[cfg(test)]
+mod script;
 #[cfg(test)]
 mod session;
 #[cfg(test)]

@@ -2,8 +2,8 @@
 use crate::ended::{INIT, RUN, VERIFY};
 use crate::session::SESSION;
 use plant_program::perform;
+use plant_reads::open_in_memory;
 use plant_words::Words;
-use sqlite::Connection;
 use std::io;
 use std::io::{Read, Write};
 use std::process::Abort;
@@ -41,7 +41,7 @@ fn tells<R: Read, W: Write>(
     writer: &mut W,
     wanted: &[u8],
 ) -> Result<(), Fail> {
-    let connection = Connection::open_in_memory(rt.alloc())?;
+    let connection = open_in_memory(rt.alloc())?;
     let mut errors = Vec::new(rt.alloc());
     let status = perform(rt.alloc(), words, connection, reader, writer, &mut errors);
     assert_eq!(rt; status, 3);
@@ -68,7 +68,7 @@ fn a_broken_reader_is_told(rt: HostRuntime) -> Result<(), Fail> {
 /// The status stays that of the fault where its line can't be written.
 #[test]
 fn full_errors_change_no_status(rt: HostRuntime) -> Result<(), Fail> {
-    let connection = Connection::open_in_memory(rt.alloc())?;
+    let connection = open_in_memory(rt.alloc())?;
     let mut output = Vec::new(rt.alloc());
     let status = perform(
         rt.alloc(),

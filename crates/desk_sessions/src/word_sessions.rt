@@ -52,7 +52,7 @@ fn a_refused_line_is_told(rt: HostRuntime) -> Result<(), Fail> {
 #[test]
 fn a_session_is_kept(rt: HostRuntime) -> Result<(), Fail> {
     let desk = after_session(&rt, Connection::open_in_memory(rt.alloc())?)?;
-    let end = performed(&rt, &VERIFY, desk.close(), b"");
+    let end = performed(&rt, &VERIFY, desk.close(), b"")?;
     assert_eq!(rt; end.status, 0);
     assert!(rt; end.output.as_slice() == b"good schema 1 seq 4\n".as_slice());
     assert!(rt; end.errors.is_empty());

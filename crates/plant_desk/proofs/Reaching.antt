@@ -8,7 +8,7 @@ use Rattle.std.specs.declared.cmp.Ordering.TheVariants.{Less, Equal, Greater}
 use Rattle.std.proofs.lemmas.List.Elements.{Contains-append_left, Contains-append_right, All-contains, All-from_recursion, recursion_from_All, filter_passes}
 use Rattle.std.proofs.lemmas.Map.Lookups.{CmpEqualImpliesEq}
 use Rattle.plant_base.specs.State.{put}
-use Rattle.plant_trace.specs.Nodes.{node_cmp}
+use Rattle.plant_trace.specs.Nodes.{node_cmp, node_total}
 use Rattle.plant_trace.specs.Reach.{Reach, step, more, IsReached, Lists}
 use Rattle.plant_trace.specs.declared.direction.Direction.{Direction}
 use Rattle.plant_trace.specs.declared.direction.Direction.TheVariants.{Forward, Back}
@@ -16,7 +16,7 @@ use Rattle.plant_trace.specs.declared.node.Node.{Node}
 use Rattle.plant_trace.proofs.Growing.{first_edge}
 use Rattle.plant_trace.proofs.Leading.{none_in, first_or_rest, leads_where_reached}
 use Rattle.plant_trace.proofs.Listing.{Lists-unique}
-use Rattle.plant_trace.proofs.NodeLemmas.{node_total, node_exact}
+use Rattle.plant_trace.proofs.NodeLemmas.{node_exact}
 use Rattle.plant_view.specs.Rows.{put_all}
 use Rattle.plant_view.proofs.Rows.{sorted_put_all, all_put_all}
 use Rattle.plant_desk.specs.Traces.{is_reached, ends, trace_along}
@@ -109,7 +109,7 @@ module _ (pairs : List (Node × Node)) (direction : Direction) (start : Node) wh
   abbrev found : List Node
   found = filter (is_reached direction pairs start) (ends pairs)
 
-  trace_lists : Lists (IsReached direction pairs start) (trace_along pairs direction start)
+  pub trace_lists : Lists (IsReached direction pairs start) (trace_along pairs direction start)
   unfolding IsStrictlySortedBy
   trace_lists = record {
     ascending = sorted_put_all node_cmp node_total found [] tt;

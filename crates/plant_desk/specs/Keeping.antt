@@ -8,6 +8,7 @@ use Rattle.plant_desk.specs.Answers.{answer}
 use Rattle.plant_desk.specs.declared.question.Question.{Question}
 use Rattle.plant_desk.specs.declared.question.Answer.{Answer}
 use Rattle.plant_desk.specs.declared.reply.Reply.{Reply}
+use Rattle.plant_desk.specs.declared.reply.Reply.TheVariants.{Accepted, Refused}
 use Rattle.plant_desk.specs.declared.reply.DeskFault.{DeskFault}
 use Rattle.plant_desk.specs.declared.reply.DeskFault.TheVariants.{Store, Memory, Shut}
 
@@ -35,3 +36,11 @@ shuts (Ok r) = false
 shuts (Err Store) = true
 shuts (Err Memory) = false
 shuts (Err Shut) = false
+
+-- whether nothing was written for a command: it was refused, memory was, or the keeper is shut
+abbrev pub writes_nothing : Result Reply DeskFault → Bool
+writes_nothing (Ok (Accepted n)) = false
+writes_nothing (Ok (Refused r)) = true
+writes_nothing (Err Store) = false
+writes_nothing (Err Memory) = true
+writes_nothing (Err Shut) = true

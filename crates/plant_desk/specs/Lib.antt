@@ -2,6 +2,7 @@ pub mod Answers
 pub mod BatchViews
 pub mod Batches
 pub mod Keeping
+pub mod Laws
 pub mod Lists
 pub mod Replies
 pub mod Runs

@@ -1,5 +1,5 @@
 -- The lists of a keeper as a state.
-use Rattle.std.specs.Prelude.{ℕ, ◌+◌, ◌≤◌, List, [], ◌∷◌, ◌++◌, vec_len, vec_capacity}
+use Rattle.std.specs.Prelude.{ℕ, ◌+◌, ◌≤◌, List, [], ◌∷◌, ◌++◌, map, vec_len, vec_capacity}
 use Rattle.plant_base.specs.State.{State, put, class_order, definition_order, recipe_order, master_line_order, job_order, batch_order, control_line_order, lot_order, place_order, hold_order}
 use Rattle.plant_base.specs.declared.rows.Batch.{Batch}
 use Rattle.plant_base.specs.declared.rows.BatchRow.{BatchRow}
@@ -8,7 +8,7 @@ use Rattle.plant_base.specs.Values.{greatest_amount}
 use Rattle.plant_base.specs.declared.rows.Sublot.{Sublot}
 use Rattle.plant_base.specs.declared.rows.Movement.{Movement}
 use Rattle.plant_stock.specs.Stock.{entered, left}
-use Rattle.plant_view.specs.Tables.{without_hold}
+use Rattle.plant_view.specs.Tables.{Tables, without_hold}
 use Rattle.plant_view.specs.declared.change.RowChange.{RowChange}
 use Rattle.plant_view.specs.declared.change.RowChange.TheVariants as row
 use Rattle.plant_desk.specs.declared.lists.Lists.{Lists}
@@ -38,6 +38,25 @@ without_stock r = record { lot = r.lot; number = r.number; place = r.place }
 -- a batch without its kept columns
 abbrev pub without_progress : BatchRow → Batch
 without_progress r = r.batch
+
+-- the state whose lists are the rows of these tables without their kept columns
+abbrev pub state_without_kept : Tables → State
+state_without_kept t = record {
+  seq = t.meta.position.seq;
+  at = t.meta.position.at;
+  classes = t.classes;
+  definitions = t.definitions;
+  recipes = t.recipes;
+  master_lines = t.master_lines;
+  jobs = t.jobs;
+  batches = map without_progress t.batches;
+  control_lines = t.control_lines;
+  events = t.events;
+  lots = t.lots;
+  places = map without_stock t.sublots;
+  movements = t.movements;
+  holds = t.holds;
+}
 
 -- a row change at a state, which keeps no columns
 abbrev pub applied : RowChange → State → State

@@ -4,7 +4,7 @@ ghost use Rattle.plant_base.specs.Values.{greatest_amount};
 ghost use Rattle.plant_base.specs.State.{same, job_at};
 ghost use Rattle.plant_stock.specs.Stock.{entered, left};
 ghost use Rattle.plant_view.specs.Refusing.{is_held};
-ghost use Rattle.plant_view.specs.Tables.{sublot_row, sublots_of};
+ghost use Rattle.plant_view.specs.Tables.{place_of_row, sublot_row, sublots_of};
 ghost use Rattle.plant_view.specs.Sound.{IsSound};
 ghost use Rattle.plant_desk.specs.Answers.{answer, lot_answer, answer_order};
 ghost use Rattle.plant_desk.specs.Lists.{state_of, IsStocked};
@@ -87,14 +87,15 @@ impl Lists {
     }
 }
 
-// The sublots of a lot with their stock, where the movements leave a stock in each.
+// The sublots of a lot, and with their stock where the movements leave a stock in each.
 pub(crate) fn stocked_sublots(
     alloc: Global,
     places: &[Place],
     movements: &[Movement],
     lot: Id,
 ) -> Result<Vec<Sublot>, AllocError>
-    ensures { IsStocked movements.now
+    ensures rows { IfOk result (λ v. map place_of_row v.items ≡ filter (λ p. same p.lot lot) places.now) }
+    ensures stocks { IsStocked movements.now
         → IfOk result (λ v. v.items ≡ map (sublot_row movements.now) (filter (λ p. same p.lot lot) places.now)) }
 {
     let mut rows = Vec::new(alloc);

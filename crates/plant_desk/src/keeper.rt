@@ -12,7 +12,10 @@ use plant_base::Envelope;
 pub trait Keeper {
     ghost use Rattle.std.specs.Prelude.{◌≡◌, ◌≢◌, ℕ, Bool, true, false, IfErr, IsErrOf};
     ghost use Rattle.plant_base.specs.State.{State};
-    ghost use Rattle.plant_desk.specs.Keeping.{States, Executes, Asks, shuts};
+    ghost use Rattle.plant_desk.specs.Keeping.{States, Executes, Asks, shuts, writes_nothing};
+
+    /// Whether the keeper stands on a store, which may fail.
+    ghost has_store: { Bool };
 
     /// Whether what the keeper stands on has kept its word so far.
     ghost honest: { Self → Type 0 };
@@ -29,6 +32,9 @@ pub trait Keeper {
     /// Whether a stop now leaves something, and whatever it leaves is one of these states.
     ghost leaves: { Self → States → Type 0 };
 
+    /// Whether a stop of the second leaves no more than a stop of the first did, where the second is honest.
+    ghost spares: { Self → Self → Type 0 };
+
     /// What stands beside the state and isn't the keeper's to change, as tables of other names in its store.
     ghost Beside: { Type 0 };
 
@@ -40,13 +46,16 @@ pub trait Keeper {
     ///
     /// `Store`: the keeper is shut and stands where it stood; a stop leaves that state or the next one, and no other.
     /// `Memory`: nothing has changed. `Shut` comes exactly from a keeper that is shut, and leaves it as it is.
-    /// Whatever comes, what stood beside the state stands there still.
+    /// Whatever comes, what stood beside the state stands there still. Where the command is refused, and where memory is,
+    /// a stop leaves no more than it left before. A keeper without a store never answers `Store`.
     fn execute(&mut self, envelope: &Envelope) -> Result<Reply, DeskFault>
         ensures honest { honest self.new → honest self.old }
         ensures schema { honest self.new → schema self.new ≡ schema self.old }
         ensures executes { honest self.new → shut self.old ≡ false → (s : State) → stands self.old s
             → Executes s (stands self.new) (leaves self.new) envelope.now result }
         ensures beside { honest self.new → (b : Beside) → beside self.old b → beside self.new b }
+        ensures spared { writes_nothing result ≡ true → spares self.old self.new }
+        ensures store { has_store ≡ false → IfErr result (λ fault. fault ≢ DeskFault.Store) }
         ensures open { shut self.old ≡ false → shut self.new ≡ shuts result }
         ensures live { shut self.old ≡ false → IfErr result (λ fault. fault ≢ DeskFault.Shut) }
         ensures shut { shut self.old ≡ true → IsErrOf result DeskFault.Shut }
@@ -55,13 +64,16 @@ pub trait Keeper {
     /// Answers a question. The state stays as it is, and an open keeper stays open.
     ///
     /// `Store`, `Memory`: there is no answer. `Shut` comes exactly from a keeper that is shut, and leaves it as it is. What
-    /// stood beside the state stands there still.
+    /// stood beside the state stands there still, and a stop leaves no more than it left before. A keeper without a store
+    /// never answers `Store`.
     fn ask(&mut self, question: &Question) -> Result<Answer, DeskFault>
         ensures honest { honest self.new → honest self.old }
         ensures schema { honest self.new → schema self.new ≡ schema self.old }
         ensures asks { honest self.new → shut self.old ≡ false → (s : State) → stands self.old s
             → Asks (schema self.old) s (stands self.new) question.now result }
         ensures beside { honest self.new → (b : Beside) → beside self.old b → beside self.new b }
+        ensures spared { spares self.old self.new }
+        ensures store { has_store ≡ false → IfErr result (λ fault. fault ≢ DeskFault.Store) }
         ensures open { shut self.new ≡ shut self.old }
         ensures live { shut self.old ≡ false → IfErr result (λ fault. fault ≢ DeskFault.Shut) }
         ensures shut { shut self.old ≡ true → IsErrOf result DeskFault.Shut }
@@ -69,4 +81,10 @@ pub trait Keeper {
 
     /// A stop of an open keeper leaves the state that it stands at, and no other.
     ghost leaves_state: { (k : Self) (s : State) → honest k → shut k ≡ false → stands k s → leaves k (λ u. u ≡ s) };
+
+    /// A stop leaves something: what it leaves is never one of no states.
+    ghost leaves_something: { (k : Self) → leaves k (λ _. ⊥) → ⊥ };
+
+    /// Where a stop left a state and no other, and leaves no more than before, it leaves that state still.
+    ghost spares_leaves: { (a b : Self) (s : State) → honest b → spares a b → leaves a (λ u. u ≡ s) → leaves b (λ u. u ≡ s) };
 }

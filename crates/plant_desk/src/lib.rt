@@ -7,6 +7,7 @@ mod batches;
 mod bookings;
 mod keeper;
 mod keys;
+mod laws;
 mod list_keeper;
 mod lists;
 mod question;
@@ -17,6 +18,7 @@ mod traces;
 mod view;
 
 pub use keeper::Keeper;
+pub use laws::{stock_law, tables_law, trace_law};
 pub use list_keeper::ListKeeper;
 pub use lists::Lists;
 pub use question::{Answer, BatchView, Booking, LotAnswer, MeasuredLine, OrderAnswer, Question};

@@ -13,7 +13,7 @@ use crate::report::RunReport;
 use plant_base::{Envelope, Items};
 use plant_rules::decide;
 use plant_view::Decision;
-use std::alloc::Global;
+use std::alloc::{AllocError, Global};
 use std::marker::Model;
 
 impl Lists {
@@ -71,7 +71,7 @@ impl ListKeeper {
 }
 
 impl ListKeeper {
-    ghost use Rattle.std.specs.Prelude.{◌≤◌, length, take, IfNone};
+    ghost use Rattle.std.specs.Prelude.{◌≤◌, length, take, IfSome, IfNone};
     ghost use Rattle.plant_trace.specs.Reach.{IsAcyclic};
     ghost use Rattle.plant_view.specs.Conserve.{IsConserved, IsBalanced};
     ghost use Rattle.plant_view.specs.Genealogy.{edges_of};
@@ -84,6 +84,9 @@ impl ListKeeper {
         ensures replies { result.replies ≡ replies self.old (take (length result.replies) list.now) }
         ensures fold { self.new ≡ fold self.old (take (length result.replies) list.now) }
         ensures whole { IfNone result.end (length result.replies ≡ length list.now) }
+
+        // Nothing but want of memory ends it early.
+        ensures end { IfSome result.end (λ fault. fault ≡ DeskFault.Memory) }
 
         // Nothing is lost and nothing made, whatever the commands were: of each definition, and in each lot.
         ensures conserved { IsConserved self.new }
@@ -100,7 +103,7 @@ impl ListKeeper {
             };
         }
         for e in list {
-            match self.execute_one(e) {
+            match self.execute(e) {
                 Ok(reply) => items.push_reserved(reply),
                 Err(fault) => {
                     return RunReport {
@@ -116,13 +119,18 @@ impl ListKeeper {
         }
     }
 
-    // Executes one command.
+    /// Executes one command, as [`Keeper::execute`] says; what a keeper over lists promises beyond it stands here.
+    ///
+    /// `Memory` comes where memory is refused, and nothing has changed then. No other fault comes.
     #[tactic(auto, using(plant_rules::proofs::StepSound::step_sound, plant_view::proofs::Conserved::conserved))]
-    fn execute_one(&mut self, envelope: &Envelope) -> Result<Reply, DeskFault>
+    pub fn execute(&mut self, envelope: &Envelope) -> Result<Reply, DeskFault>
         ensures reply { IfOk result (λ r. r ≡ reply self.old envelope.now) }
         ensures ok { OnOk result (self.new ≡ step self.old envelope.now) }
         ensures err { OnErr result (self.new ≡ self.old) }
         ensures memory { IfErr result (λ f. f ≡ DeskFault.Memory) }
+
+        // Whatever the command was, nothing is lost and nothing made, of each definition and in each lot, and nothing
+        // was made from itself.
         ensures conserved { IsConserved self.new }
         ensures balanced { IsBalanced self.new }
         ensures acyclic { IsAcyclic (edges_of self.new) }
@@ -133,7 +141,10 @@ impl ListKeeper {
 }
 
 impl Keeper for ListKeeper {
+    ghost use Rattle.std.proofs.Common.{◌∙◌, sym};
     ghost use Rattle.plant_base.specs.State.{newest_schema};
+
+    ghost has_store = { false };
 
     ghost honest = { λ _. Unit {0} };
 
@@ -145,20 +156,26 @@ impl Keeper for ListKeeper {
 
     ghost leaves = { λ k P. P k };
 
+    ghost spares = { λ old new. old ≡ new };
+
     ghost Beside = { Unit {0} };
 
     ghost beside = { λ _ _. Unit {0} };
 
     fn execute(&mut self, envelope: &Envelope) -> Result<Reply, DeskFault> {
-        self.execute_one(envelope)
+        ListKeeper::execute(self, envelope)
     }
 
     fn ask(&mut self, question: &Question) -> Result<Answer, DeskFault> {
         match self.lists.answer(question) {
             Ok(answer) => Ok(answer),
-            Err(_) => Err(DeskFault::Memory),
+            Err(AllocError) => Err(DeskFault::Memory),
         }
     }
 
     ghost leaves_state = { λ k s h is_open stood. stood };
+
+    ghost leaves_something = { λ k left. left };
+
+    ghost spares_leaves = { λ a b s h same left. sym same ∙ left };
 }

@@ -1,24 +1,22 @@
 ghost use Rattle.std.specs.Prelude.{◌≡◌};
 
-use sqlite::{Error, ErrorCode};
+use sqlite::Error;
 
 /// Why a call on the store gave no answer.
 #[derive(Clone, Copy, Debug, PartialEq, Eq, thiserror::Error)]
 pub enum Fault {
-    /// The store failed, or what stands in it isn't what was asked for.
+    /// The store failed, be it for want of memory of its own, or what stands in it isn't what was asked for.
     #[error("the store failed")]
     Store,
-    /// There was no memory.
+    /// There was no memory for a growth of the desk's own, as of a list or a copy of a text.
     #[error("out of memory")]
     Memory,
 }
 
-/// The fault that an error of the store is told as.
-pub fn fault_of(error: Error) -> Fault
-    ensures memory { error ≡ Error.SqliteFailure ErrorCode.OutOfMemory → result ≡ Fault.Memory }
+/// The fault that an error of the store is told as, whatever it was: also want of memory that SQLite answers is the
+/// store's.
+pub fn fault_of(_: Error) -> Fault
+    ensures { result ≡ Fault.Store }
 {
-    match error {
-        Error::SqliteFailure(ErrorCode::OutOfMemory) => Fault::Memory,
-        _ => Fault::Store,
-    }
+    Fault::Store
 }

@@ -32,7 +32,7 @@ use Rattle.plant_ledger.specs.Bookings.{movement_order, event_order}
 use Rattle.plant_ledger.specs.Good.{IsGood}
 use Rattle.plant_ledger.proofs.StepGood.{step_good}
 use Rattle.plant_tables.specs.Keyed.{IsFresh, AreFresh}
-use Rattle.plant_fresh.specs.Freshness.{is_batch, puts_one_batch}
+use Rattle.plant_view.specs.OneBatch.{is_batch, puts_one_batch}
 
 -- ---- rows at the end
 
@@ -84,7 +84,6 @@ HaveOwnJobs batches = AllByRecursion (λ a. AllByRecursion (IsOneJob a) batches)
 
 -- where no change is of a batch the batches stay
 batches_stay : (rows : List RowChange) (t : Tables) → length (filter is_batch rows) ≡ 0 → (changed_all rows t).batches ≡ t.batches
-unfolding is_batch
 batches_stay [] t none = refl
 batches_stay (change.Batch r ∷ rows) t none = absurd (omega (arith, none))
 batches_stay (c ∷ rows) t none = batches_stay rows (changed c t) none
@@ -129,7 +128,6 @@ fresh_batch r rows t none own =
 -- ---- changes one after the other
 
 fresh_rows : (rows : List RowChange) (t : Tables) → IsStrictlySortedBy movement_order (changed_all rows t).movements → IsStrictlySortedBy event_order (changed_all rows t).events → HaveOwnJobs (changed_all rows t).batches → length (filter is_batch rows) ≤ 1 → AreFresh rows t
-unfolding is_batch
 fresh_rows [] t movements events batches one = tt
 fresh_rows (change.Movement r ∷ rows) t movements events batches one = (fresh_movement r rows t movements, fresh_rows rows (changed (change.Movement r) t) movements events batches one)
 fresh_rows (change.Event r ∷ rows) t movements events batches one = (fresh_event r rows t events, fresh_rows rows (changed (change.Event r) t) movements events batches one)

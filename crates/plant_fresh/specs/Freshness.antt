@@ -1,23 +1,15 @@
 -- What the tables of good states tell of the rows that commands change: no row that is added has the key of another.
-use Rattle.std.specs.Prelude.{◌≡◌, Bool, true, false, List, nat_le, count_by}
+use Rattle.std.specs.Prelude.{◌≡◌, true, List}
 use Rattle.plant_base.specs.State.{State, newest_schema}
 use Rattle.plant_base.specs.Formed.{HasValues}
 use Rattle.plant_base.specs.declared.command.Envelope.{Envelope}
 use Rattle.plant_view.specs.Sound.{IsSound}
+use Rattle.plant_view.specs.OneBatch.{puts_one_batch}
 use Rattle.plant_view.specs.Tables.{tables_of, changed_all}
 use Rattle.plant_view.specs.declared.change.RowChange.{RowChange}
-use Rattle.plant_view.specs.declared.change.RowChange.TheVariants as change
 use Rattle.plant_rules.specs.Step.{step}
 use Rattle.plant_ledger.specs.Good.{IsGood}
 use Rattle.plant_tables.specs.Keyed.{AreKeyed, AreFresh}
-
-unfoldable pub is_batch : RowChange → Bool
-is_batch (change.Batch r) = true
-is_batch _ = false
-
--- at most one of the changes is of a batch
-abbrev pub puts_one_batch : List RowChange → Bool
-puts_one_batch rows = nat_le (count_by is_batch rows) 1
 
 -- ---- laws
 

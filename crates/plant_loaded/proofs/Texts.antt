@@ -16,7 +16,7 @@ pub definition_selected : Selects definition_form [] (codes "SELECT id, class, n
 unfolding everything
 definition_selected = record { readable = refl; compared = refl; parameters = []; written = refl }
 
-pub recipe_selected : Selects recipe_form [] (codes "SELECT recipe, version, product, base, low, high, title, state FROM recipe ORDER BY recipe, version")
+pub recipe_selected : Selects recipe_form [] (codes "SELECT id, version, product, base, low, high, title, state FROM recipe ORDER BY id, version")
 unfolding everything
 recipe_selected = record { readable = refl; compared = refl; parameters = []; written = refl }
 

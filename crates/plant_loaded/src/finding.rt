@@ -1,13 +1,13 @@
 //! What a store holds of the desk.
 
-ghost use Rattle.std.specs.Prelude.{◌≡◌, ◌↔◌, ◌∷◌, [], false, true, None, ℤ, IfOk, IfSome, is_some};
+ghost use Rattle.std.specs.Prelude.{◌≡◌, ◌≢◌, ◌↔◌, ◌∷◌, [], false, true, All, None, ℤ, IfOk, IfSome, is_some};
 ghost use Rattle.std.specs.List.{list_any};
 ghost use Rattle.sqlite.specs.Does.{lacks_sequence};
 ghost use Rattle.sqlite.specs.Held.{state};
 ghost use Rattle.sqlite.specs.Rows.{sequence};
 ghost use Rattle.sqlite.specs.State.{HasCleanDisk, IsLive, IsUnchanged, Survives};
 ghost use Rattle.plant_forms.specs.Resting.{Keeps};
-ghost use Rattle.plant_forms.specs.Standing.{AreFree};
+ghost use Rattle.plant_forms.specs.Standing.{AreFree, IsFree};
 ghost use Rattle.plant_tables.specs.DeskForms.{desk_forms};
 ghost use Rattle.plant_loaded.specs.Version.{IsGoodMeta, IsVersion};
 
@@ -101,6 +101,7 @@ fn lacks_counts(schema: &Schema) -> bool
 /// where the store fails; Memory where there is none. Nothing is changed.
 pub fn found<S: Alter>(alloc: Global, conn: &mut Connection<S>) -> Result<FoundTables, Fault>
     ensures nothing { IfOk result (λ found. (found ≡ FoundTables.Nothing) ↔ AreFree desk_forms (state S.Store conn.old).now.schema) }
+    ensures taken { IfOk result (λ found. found ≢ FoundTables.Nothing → ¬ All (IsFree (state S.Store conn.old).now.schema) desk_forms) }
     ensures version { HasCleanDisk (state S.Store conn.new) → IfOk result (λ found. (n : ℤ) → (found ≡ FoundTables.Version n) ↔ IsVersion (state S.Store conn.old).now n) }
     ensures live { IsLive (state S.Store conn.old) }
     ensures untouched { IfOk result (λ found. found ≡ FoundTables.Nothing → conn.new ≡ conn.old) }

@@ -111,7 +111,7 @@ impl TableRow for StoredRecipe {
 
     #[tactic(auto, using(crate::proofs::Texts::recipe_selected))]
     fn select() -> &'static str {
-        "SELECT recipe, version, product, base, low, high, title, state FROM recipe ORDER BY recipe, version"
+        "SELECT id, version, product, base, low, high, title, state FROM recipe ORDER BY id, version"
     }
 
     fn from_row(alloc: Global, row: &Row) -> Result<StoredRecipe, Fault> {

@@ -1,15 +1,21 @@
 -- How the rows of a file follow the records of its text.
-use Rattle.std.proofs.Common.{◌≡◌, ℕ, zero, suc, ◌+◌, ◌<◌, ◌≤◌, ◌≢◌, Bool, true, false, ◌==◌, nat_lt, List, [], ◌∷◌, ◌++◌, length, Option, Some, None, Result, Ok, Err, refl, sym, ap, ◌∙◌, arith, rules, append_assoc}
+use Rattle.std.proofs.Common.{◌≡◌, ℕ, zero, suc, ◌+◌, ◌<◌, ◌≤◌, Bool, true, false, cond, ◌==◌, nat_lt, List, [], ◌∷◌, ◌++◌, length, Option, Some, None, Result, Ok, Err, ok_or, option_and_then, refl, sym, subst, ap, ◌∙◌, arith, append_assoc}
 use Rattle.std.proofs.lemmas.List.{append-nil}
 use Rattle.std.proofs.lemmas.Bool.{false≢true}
 use Rattle.std.proofs.lemmas.Bool.Decides.{nat_tests}
+use Rattle.std.specs.Bool.{⊤}
 use Rattle.std.specs.Borrow.{Bor}
 use Rattle.csv.specs.Machine.{Read, next_record}
-use Rattle.csv.specs.Reading.{default_config, records_from, records_next, strip_bom}
+use Rattle.csv.specs.Records.{field_at}
+use Rattle.csv.specs.Reading.{default_config, records_from, strip_bom, is_flexible, stops_reader, ExplainsRead}
+use Rattle.csv.specs.declared.error.ErrorKind.{ErrorKind}
+use Rattle.csv.specs.declared.error.ErrorKind.TheVariants as why
 use Rattle.csv.specs.declared.parser.State.TheVariants as st
 use Rattle.csv.specs.declared.parser.State.{State}
 use Rattle.csv.specs.declared.reader.Reader.{Reader}
-use Rattle.plant_orders.specs.Orders.{◌>>=◌, fault, order_of, rows_of, file_of, is_header, in_row, FailsAs, orders_of}
+use Rattle.plant_orders.specs.Orders.{◌>>=◌, fault, id_of, due_of, order_of, read_fault, Gives, rows_of, file_of, is_header, FailsAs, orders_of}
+use Rattle.plant_base.specs.Values.{greatest_amount, greatest_version, greatest_priority}
+use Rattle.plant_orders.specs.Numbers.{bounded}
 use Rattle.plant_orders.specs.Standing.{Stands, GaveNext}
 use Rattle.plant_base.specs.declared.rows.OrderRow.{OrderRow}
 use Rattle.plant_orders.specs.declared.fault.CsvFault.{CsvFault}
@@ -55,18 +61,72 @@ pub rows-err : (n : ℕ) (fields : List (List ℕ)) (records : List (List (List 
     → rows_of n (fields ∷ records) ≡ Err (fault (n + 1) why)
 rows-err n fields records why h e = let f : (n == 1000) ≡ false = grind (arith, nat_tests) in rw (f, e) refl
 
-pub fails_as : {Y : Type 0} (k : CsvKind) (e : CsvFault) (read : Result Y CsvFault) → read ≡ Err e → FailsAs k e read
-fails_as kind.Memory e read h = tt
-fails_as kind.TooLong e read h = h
-fails_as kind.Header e read h = h
-fails_as kind.Shape e read h = h
-fails_as kind.Order e read h = h
-fails_as kind.Recipe e read h = h
-fails_as kind.Version e read h = h
-fails_as kind.Size e read h = h
-fails_as kind.Due e read h = h
-fails_as kind.Priority e read h = h
-fails_as kind.TooManyRows e read h = h
+pub fails_as : {Y : Type 0} (k : CsvKind) (e : CsvFault) (read : Result Y CsvFault) → (k ≡ kind.Memory → ⊥) → read ≡ Err e → FailsAs k e read
+fails_as kind.Memory e read other h = absurd (other refl)
+fails_as kind.TooLong e read other h = h
+fails_as kind.Header e read other h = h
+fails_as kind.Shape e read other h = h
+fails_as kind.Order e read other h = h
+fails_as kind.Recipe e read other h = h
+fails_as kind.Version e read other h = h
+fails_as kind.Size e read other h = h
+fails_as kind.Due e read other h = h
+fails_as kind.Priority e read other h = h
+fails_as kind.TooManyRows e read other h = h
+
+-- ---- no record is told for want of memory
+
+abbrev NotMemory : {A : Type 0} → Result A CsvKind → Type 0
+NotMemory (Ok x) = ⊤
+NotMemory (Err k) = k ≡ kind.Memory → ⊥
+
+fields_not : (o r : Option (List ℕ)) (v s : Option ℕ) (d : Option (List ℕ)) (p : Option ℕ) → NotMemory (do
+  order ← ok_or o kind.Order
+  recipe ← ok_or r kind.Recipe
+  version ← ok_or v kind.Version
+  size ← ok_or s kind.Size
+  due ← ok_or d kind.Due
+  priority ← ok_or p kind.Priority
+  let row : OrderRow = record { order = order; recipe = recipe; version = version; size = size; due = due; priority = priority } in Ok row)
+fields_not None r v s d p = λ e. cc
+fields_not (Some a) None v s d p = λ e. cc
+fields_not (Some a) (Some b) None s d p = λ e. cc
+fields_not (Some a) (Some b) (Some c) None d p = λ e. cc
+fields_not (Some a) (Some b) (Some c) (Some f) None p = λ e. cc
+fields_not (Some a) (Some b) (Some c) (Some f) (Some g) None = λ e. cc
+fields_not (Some a) (Some b) (Some c) (Some f) (Some g) (Some h) = tt
+
+one_not : {A : Type 0} (b : Bool) (x y : Result A CsvKind) → NotMemory x → NotMemory y → NotMemory (cond b x y)
+one_not true x y g h = g
+one_not false x y g h = h
+
+order_not : (fields : List (List ℕ)) → NotMemory (order_of fields)
+unfolding order_of
+order_not fields =
+    one_not (length fields == 6) _ (Err kind.Shape)
+    (fields_not (option_and_then id_of (field_at fields 0)) (option_and_then id_of (field_at fields 1)) (option_and_then (bounded greatest_version) (field_at fields 2))
+    (option_and_then (bounded greatest_amount) (field_at fields 3)) (option_and_then due_of (field_at fields 4)) (option_and_then (bounded greatest_priority) (field_at fields 5)))
+    (λ e. cc)
+
+pub not_memory : (fields : List (List ℕ)) (k : CsvKind) → order_of fields ≡ Err k → k ≡ kind.Memory → ⊥
+not_memory fields k e m = let told : NotMemory {A = OrderRow} (Err k) = subst NotMemory e (order_not fields) in told m
+
+-- ---- why a read failed
+
+pub stopped : {R : Type 0} (rem : R → Option (List ℕ)) (old new : Reader R) (k : ErrorKind) → is_flexible old ≡ true → ExplainsRead rem old new false k → stops_reader k ≡ true
+stopped rem old new (why.Io e) flexible h = refl
+stopped rem old new why.OutOfMemory flexible h = refl
+stopped rem old new (why.UnequalLengths pos expected len) flexible h = absurd (false≢true (sym h.0 ∙ flexible))
+stopped rem old new (why.Utf8 pos err) flexible h = absurd (false≢true h.0)
+stopped rem old new (why.Serialize text) flexible h = absurd h
+stopped rem old new (why.Deserialize pos err) flexible h = absurd h
+
+pub wants_memory : (k : ErrorKind) (e : CsvFault) → e ≡ read_fault k → stops_reader k ≡ true → e ≡ fault 0 kind.Memory
+wants_memory k e told stops = told ∙ ap (λ b. cond b (fault 0 kind.Memory) (fault 0 kind.Shape)) stops
+
+-- a file's fault for want of memory
+pub gives_memory : {Y : Type 0} (r read : Result Y CsvFault) → r ≡ Err (fault 0 kind.Memory) → Gives r read
+gives_memory r read h = subst (λ x. Gives x read) (sym h) refl
 
 -- the file of a text that isn't too long
 pub short_text : (text : List ℕ) → length text ≤ 262144 → orders_of text ≡ file_of (records_from default_config 1002 st.StartRecord (strip_bom text))

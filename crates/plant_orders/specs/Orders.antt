@@ -1,8 +1,9 @@
 -- What an order file says: the records of its text, the header first.
-use Rattle.std.specs.Prelude.{ℕ, ◌+◌, Bool, false, ◌&&◌, ◌==◌, nat_lt, List, [], ◌∷◌, length, codes, Option, Some, None, option_and_then, ok_or, Result, Ok, Err, if◌then◌else◌, ◌≡◌, ⊤}
+use Rattle.std.specs.Prelude.{ℕ, ◌+◌, Bool, false, ◌&&◌, ◌==◌, nat_lt, List, [], ◌∷◌, length, codes, Option, Some, None, option_and_then, ok_or, Result, Ok, Err, if◌then◌else◌, ◌≡◌}
 use Rattle.std.specs.Str.{bytes_eq}
 use Rattle.csv.specs.Records.{field_at}
-use Rattle.csv.specs.Reading.{default_config, strip_bom, records_from}
+use Rattle.csv.specs.Reading.{default_config, strip_bom, records_from, stops_reader}
+use Rattle.csv.specs.declared.error.ErrorKind.{ErrorKind}
 use Rattle.csv.specs.declared.parser.State.TheVariants as st
 use Rattle.plant_base.specs.Values.{is_id, greatest_amount, greatest_version, greatest_priority}
 use Rattle.plant_base.specs.Dates.{is_due}
@@ -96,9 +97,13 @@ orders_of text =
 
 -- ---- readings
 
--- want of memory tells nothing of the text
+-- the fault that an error of the reader is: of its source or of memory, or else of a record
+abbrev pub read_fault : ErrorKind → CsvFault
+read_fault e = if stops_reader e then fault 0 kind.Memory else fault 0 kind.Shape
+
+-- want of memory tells nothing of the text, and of no row
 abbrev pub FailsAs : {Y : Type 0} → CsvKind → CsvFault → Result Y CsvFault → Type 0
-FailsAs kind.Memory e read = ⊤
+FailsAs kind.Memory e read = e.row ≡ 0
 FailsAs kind.TooLong e read = read ≡ Err e
 FailsAs kind.Header e read = read ≡ Err e
 FailsAs kind.Shape e read = read ≡ Err e

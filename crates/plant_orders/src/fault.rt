@@ -26,7 +26,7 @@ pub enum CsvKind {
     Priority,
     /// There are more than 1,000 rows.
     TooManyRows,
-    /// Memory was refused.
+    /// Memory was refused. It is no row's: the row is 0.
     Memory,
 }
 

@@ -1,13 +1,13 @@
 ghost use Rattle.std.specs.Prelude.{◌≡◌, IfOk, IfErr, ℕ, List};
 ghost use Rattle.csv.specs.Records.{fields_of};
-ghost use Rattle.csv.specs.Reading.{strip_bom};
+ghost use Rattle.csv.specs.Reading.{strip_bom, error_kind};
 ghost use Rattle.csv.specs.declared.parser.State.TheVariants as st;
-ghost use Rattle.plant_orders.specs.Orders.{Gives, orders_of};
+ghost use Rattle.plant_orders.specs.Orders.{Gives, orders_of, read_fault};
 ghost use Rattle.plant_orders.specs.Standing.{Stands, NextOf};
 
 use crate::fault::{CsvFault, CsvKind, HEADER, MEMORY};
 use crate::row::{is_header, order_of};
-use csv::{ByteRecord, Reader, ReaderBuilder};
+use csv::{ByteRecord, Error, ErrorKind, Reader, ReaderBuilder};
 use plant_base::{Items, OrderRow};
 use std::alloc::Global;
 
@@ -22,7 +22,8 @@ pub const LONGEST_FILE: usize = 262_144;
 /// due date `YYYY-MM-DD` and a priority of 1 to 9, each number of 1 to 16 digits. There are at most 1,000 rows.
 ///
 /// A fault is the first in the file, and in a row the first in the order of the fields; `Shape`, of a row with another
-/// number of fields, comes before them. `TooLong` comes before all else. `Memory` comes where memory was refused.
+/// number of fields, comes before them. `TooLong` comes before all else. `Memory`, of row 0, comes where memory was
+/// refused.
 #[tactic(auto, unfolding(crate::specs::Orders::orders_of))]
 pub fn read_orders(alloc: Global, bytes: &[u8]) -> Result<Items<OrderRow>, CsvFault>
     ensures { Gives result (orders_of bytes.now) }
@@ -64,7 +65,8 @@ pub fn read_orders(alloc: Global, bytes: &[u8]) -> Result<Items<OrderRow>, CsvFa
     Ok(Items::new(orders))
 }
 
-// A reader at the start of a text, past a byte order mark. The header is a record like the others.
+// A reader at the start of a text, past a byte order mark. The header is a record like the others, and a record may
+// be of any length.
 fn reader(alloc: Global, bytes: &[u8]) -> Reader<&[u8]>
     ensures { Stands result st.StartRecord (strip_bom bytes.entry.now) }
 {
@@ -74,11 +76,30 @@ fn reader(alloc: Global, bytes: &[u8]) -> Reader<&[u8]>
         .from_reader(alloc, bytes)
 }
 
-// The next record; the one fault is want of memory.
+// The fault of a read that failed. A source in memory fails for want of memory alone.
+fn fault_of(error: &Error) -> CsvFault
+    ensures { result ≡ read_fault (error_kind error.now) }
+{
+    match error.kind() {
+        ErrorKind::Io(_) | ErrorKind::OutOfMemory => MEMORY,
+        ErrorKind::UnequalLengths { .. }
+        | ErrorKind::Utf8 { .. }
+        | ErrorKind::Serialize(_)
+        | ErrorKind::Deserialize { .. } => CsvFault {
+            row: 0,
+            kind: CsvKind::Shape,
+        },
+    }
+}
+
+// The next record. A reader that takes records of all lengths fails for want of memory alone.
 fn next<'t>(reader: &mut Reader<&'t [u8]>, row: &mut ByteRecord) -> Result<bool, CsvFault>
     ensures reads { IfOk result (λ found. (s : _) (text : List ℕ)
         → Stands reader.old s text → NextOf s text found reader.new (fields_of row.new)) }
-    ensures memory { IfErr result (λ e. e ≡ MEMORY) }
+    ensures memory { IfErr result (λ e. (s : _) (text : List ℕ) → Stands reader.old s text → e ≡ MEMORY) }
 {
-    reader.read_byte_record(row).map_err(|_| MEMORY)
+    match reader.read_byte_record(row) {
+        Ok(found) => Ok(found),
+        Err(error) => Err(fault_of(&error)),
+    }
 }

@@ -6,6 +6,7 @@ ghost use Rattle.plant_recipe.specs.Form.{is_well_formed};
 ghost use Rattle.plant_trace.specs.Sources.{Told};
 ghost use Rattle.plant_view.specs.Production.{is_known};
 ghost use Rattle.plant_production.specs.Recipes.{wrong_add_recipe, add_recipe, recipe_rows};
+ghost use Rattle.plant_view.specs.OneBatch.{PutsOneBatch};
 ghost use Rattle.plant_view.specs.Tables.{Decides};
 
 use plant_base::{
@@ -26,8 +27,9 @@ pub fn decide_add_recipe<V: View>(
 ) -> Result<Decision, ViewFault<V::Fault>>
     requires formed { IsTrue (is_well_formed c.now.header c.now.lines) }
     requires seq { V.honest view.old → seq ≡ (V.state view.old).seq }
-    ensures { Told V.honest V.kept V.steady view.old view.new
+    ensures decides { Told V.honest V.kept V.steady view.old view.new
         (IfOk result (Decides (wrong_add_recipe (V.state view.old) c.now) (V.state view.old) (add_recipe (V.state view.old) stamp.now c.now))) }
+    ensures one_batch { IfOk result PutsOneBatch }
 {
     let product = look::definition(view, c.header.product)?;
     let known = are_known(view, c.lines.as_slice())?;
@@ -46,8 +48,9 @@ fn added(
     recipe: Option<Recipe>,
 ) -> Result<Decision, AllocError>
     requires { IsTrue (is_well_formed c.now.header c.now.lines) }
-    ensures { (s : State) → seq ≡ s.seq → product ≡ definition_at s c.now.header.product → known ≡ list_all (is_known s.definitions) c.now.lines → recipe ≡ recipe_at s c.now.header.recipe c.now.header.version
+    ensures decides { (s : State) → seq ≡ s.seq → product ≡ definition_at s c.now.header.product → known ≡ list_all (is_known s.definitions) c.now.lines → recipe ≡ recipe_at s c.now.header.recipe c.now.header.version
         → IfOk result (Decides (wrong_add_recipe s c.now) s (add_recipe s stamp.now c.now)) }
+    ensures one_batch { IfOk result PutsOneBatch }
 {
     if product.is_none() {
         return Ok(Decision::Refused(Refusal::UnknownDefinition));

@@ -2,6 +2,7 @@
 ghost use Rattle.std.specs.Prelude.{◌≡◌, ℕ, List, IfOk};
 ghost use Rattle.plant_base.specs.State.{State, recipe_at};
 ghost use Rattle.plant_production.specs.Recipes.{is_state, wrong_advance, advance};
+ghost use Rattle.plant_view.specs.OneBatch.{PutsOneBatch};
 ghost use Rattle.plant_view.specs.Tables.{Decides};
 
 use plant_base::{GREATEST_SEQ, Recipe, RecipeState, Refusal, Stamp};
@@ -18,8 +19,9 @@ pub(crate) fn advanced(
     refusal: Refusal,
     to: RecipeState,
 ) -> Result<Decision, AllocError>
-    ensures { (s : State) → (id : List ℕ) → (version : ℕ) → seq ≡ s.seq → recipe ≡ recipe_at s id version
+    ensures decides { (s : State) → (id : List ℕ) → (version : ℕ) → seq ≡ s.seq → recipe ≡ recipe_at s id version
         → IfOk result (Decides (wrong_advance s from refusal (recipe_at s id version)) s (advance s stamp.now to (recipe_at s id version))) }
+    ensures one_batch { IfOk result PutsOneBatch }
 {
     let Some(recipe) = recipe else {
         return Ok(Decision::Refused(Refusal::UnknownRecipe));

@@ -2,6 +2,7 @@ ghost use Rattle.std.specs.Prelude.{◌≡◌, IfOk};
 ghost use Rattle.plant_base.specs.State.{State, job_at};
 ghost use Rattle.plant_trace.specs.Sources.{Told};
 ghost use Rattle.plant_production.specs.Orders.{wrong_cancel_order, cancel_order};
+ghost use Rattle.plant_view.specs.OneBatch.{PutsOneBatch};
 ghost use Rattle.plant_view.specs.Tables.{Decides};
 
 use crate::orders::is_open;
@@ -19,8 +20,9 @@ pub fn decide_cancel_order<V: View>(
     c: &CancelOrder,
 ) -> Result<Decision, ViewFault<V::Fault>>
     requires { V.honest view.old → seq ≡ (V.state view.old).seq }
-    ensures { Told V.honest V.kept V.steady view.old view.new
+    ensures decides { Told V.honest V.kept V.steady view.old view.new
         (IfOk result (Decides (wrong_cancel_order (V.state view.old) c.now) (V.state view.old) (cancel_order (V.state view.old) stamp.now c.now))) }
+    ensures one_batch { IfOk result PutsOneBatch }
 {
     let job = look::job(view, c.order)?;
     Ok(cancelled(alloc, seq, stamp, c, job)?)
@@ -34,8 +36,9 @@ fn cancelled(
     c: &CancelOrder,
     job: Option<Job>,
 ) -> Result<Decision, AllocError>
-    ensures { (s : State) → seq ≡ s.seq → job ≡ job_at s c.now.order
+    ensures decides { (s : State) → seq ≡ s.seq → job ≡ job_at s c.now.order
         → IfOk result (Decides (wrong_cancel_order s c.now) s (cancel_order s stamp.now c.now)) }
+    ensures one_batch { IfOk result PutsOneBatch }
 {
     let Some(job) = job else {
         return Ok(Decision::Refused(Refusal::UnknownOrder));

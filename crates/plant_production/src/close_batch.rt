@@ -3,6 +3,7 @@ ghost use Rattle.plant_base.specs.State.{State, job_at, batch_at};
 ghost use Rattle.plant_trace.specs.Sources.{Told};
 ghost use Rattle.plant_production.specs.Batches.{wrong_close_batch, close_batch};
 ghost use Rattle.plant_view.specs.Sound.{IsSound};
+ghost use Rattle.plant_view.specs.OneBatch.{PutsOneBatch};
 ghost use Rattle.plant_view.specs.Tables.{Decides, batch_row};
 
 use crate::events::{event_row, progress_in, row_at};
@@ -26,8 +27,9 @@ pub fn decide_close_batch<V: View>(
 ) -> Result<Decision, ViewFault<V::Fault>>
     requires seq { V.honest view.old → seq ≡ (V.state view.old).seq }
     requires sound { V.honest view.old → IsSound (V.state view.old) }
-    ensures { Told V.honest V.kept V.steady view.old view.new
+    ensures decides { Told V.honest V.kept V.steady view.old view.new
         (IfOk result (Decides (wrong_close_batch (V.state view.old) c.now) (V.state view.old) (close_batch (V.state view.old) stamp.now c.now))) }
+    ensures one_batch { IfOk result PutsOneBatch }
 {
     let Some(row) = look::batch(view, c.batch)? else {
         return Ok(Decision::Refused(Refusal::UnknownBatch));
@@ -47,8 +49,9 @@ fn closed(
     row: BatchRow,
     job: Option<Job>,
 ) -> Result<Decision, AllocError>
-    ensures { (s : State) → IsSound s → seq ≡ s.seq → Some row ≡ option_map (batch_row s.control_lines s.events) (batch_at s c.now.batch) → job ≡ job_at s row.batch.job
+    ensures decides { (s : State) → IsSound s → seq ≡ s.seq → Some row ≡ option_map (batch_row s.control_lines s.events) (batch_at s c.now.batch) → job ≡ job_at s row.batch.job
         → IfOk result (Decides (wrong_close_batch s c.now) s (close_batch s stamp.now c.now)) }
+    ensures one_batch { IfOk result PutsOneBatch }
 {
     if row.closed {
         return Ok(Decision::Refused(Refusal::BatchClosed));

@@ -7,6 +7,7 @@ ghost use Rattle.plant_recipe.specs.Progress.{greatest_phases};
 ghost use Rattle.plant_trace.specs.Sources.{Told};
 ghost use Rattle.plant_production.specs.Batches.{progress_in, wrong_event, event_row, happened};
 ghost use Rattle.plant_view.specs.Sound.{IsSound};
+ghost use Rattle.plant_view.specs.OneBatch.{PutsOneBatch};
 ghost use Rattle.plant_view.specs.Tables.{Decides, batch_row, row_at};
 
 use plant_base::{
@@ -28,8 +29,9 @@ pub(crate) fn decide_event<V: View>(
 ) -> Result<Decision, ViewFault<V::Fault>>
     requires seq { V.honest view.old → seq ≡ (V.state view.old).seq }
     requires sound { V.honest view.old → IsSound (V.state view.old) }
-    ensures { Told V.honest V.kept V.steady view.old view.new
+    ensures decides { Told V.honest V.kept V.steady view.old view.new
         (IfOk result (Decides (wrong_event (V.state view.old) batch event) (V.state view.old) (happened (V.state view.old) stamp.now batch event))) }
+    ensures one_batch { IfOk result PutsOneBatch }
 {
     let row = look::batch(view, batch)?;
     let lines = look::control_lines(view, batch)?;
@@ -46,8 +48,9 @@ fn turned(
     row: Option<BatchRow>,
     lines: &[ControlLine],
 ) -> Result<Decision, AllocError>
-    ensures { (s : State) → IsSound s → seq ≡ s.seq → row ≡ option_map (batch_row s.control_lines s.events) (batch_at s batch) → lines.now ≡ control_lines_of s batch
+    ensures decides { (s : State) → IsSound s → seq ≡ s.seq → row ≡ option_map (batch_row s.control_lines s.events) (batch_at s batch) → lines.now ≡ control_lines_of s batch
         → IfOk result (Decides (wrong_event s batch event) s (happened s stamp.now batch event)) }
+    ensures one_batch { IfOk result PutsOneBatch }
 {
     let Some(row) = row else {
         return Ok(Decision::Refused(Refusal::UnknownBatch));

@@ -4,6 +4,7 @@ ghost use Rattle.plant_base.specs.Values.{greatest_seq};
 ghost use Rattle.plant_base.specs.State.{State, same};
 ghost use Rattle.plant_trace.specs.Sources.{Told};
 ghost use Rattle.plant_production.specs.Orders.{is_same_order, is_unplanned, is_conflict, is_oversize, is_new, is_size_in, order_named, differs, found_order, wrong_found_orders, wrong_import_orders, import_orders, import_rows};
+ghost use Rattle.plant_view.specs.OneBatch.{PutsOneBatch};
 ghost use Rattle.plant_view.specs.Tables.{IsDecided};
 ghost use Rattle.plant_view.specs.Tables.{Decides};
 
@@ -25,8 +26,9 @@ pub fn decide_import_orders<V: View>(
     c: &ImportOrders,
 ) -> Result<Decision, ViewFault<V::Fault>>
     requires { V.honest view.old → seq ≡ (V.state view.old).seq }
-    ensures { Told V.honest V.kept V.steady view.old view.new
+    ensures decides { Told V.honest V.kept V.steady view.old view.new
         (IfOk result (Decides (wrong_import_orders (V.state view.old) c.now) (V.state view.old) (import_orders (V.state view.old) stamp.now c.now))) }
+    ensures one_batch { IfOk result PutsOneBatch }
 {
     let found = found_orders(alloc, view, c.orders.as_slice())?;
     Ok(imported(alloc, seq, stamp, c, found.as_slice())?)
@@ -40,8 +42,9 @@ fn imported(
     c: &ImportOrders,
     found: &[FoundOrder],
 ) -> Result<Decision, AllocError>
-    ensures { (s : State) → seq ≡ s.seq → found.now ≡ map (found_order s) c.now.orders
+    ensures decides { (s : State) → seq ≡ s.seq → found.now ≡ map (found_order s) c.now.orders
         → IfOk result (Decides (wrong_import_orders s c.now) s (import_orders s stamp.now c.now)) }
+    ensures one_batch { IfOk result PutsOneBatch }
 {
     let decision = decided(alloc, seq, stamp, c.orders.as_slice(), found)?;
     Ok(decision)
@@ -54,7 +57,8 @@ fn decided(
     orders: &[OrderRow],
     found: &[FoundOrder],
 ) -> Result<Decision, AllocError>
-    ensures { IfOk result (IsDecided (wrong_found_orders seq orders.now found.now) (import_rows seq stamp.now found.now)) }
+    ensures decides { IfOk result (IsDecided (wrong_found_orders seq orders.now found.now) (import_rows seq stamp.now found.now)) }
+    ensures one_batch { IfOk result PutsOneBatch }
 {
     if is_some_unplanned(found) {
         return Ok(Decision::Refused(Refusal::UnknownRecipe));

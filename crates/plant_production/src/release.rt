@@ -7,6 +7,7 @@ ghost use Rattle.plant_recipe.specs.Progress.{opening_progress};
 ghost use Rattle.plant_trace.specs.Sources.{Told};
 ghost use Rattle.plant_production.specs.Releasing.{wrong_release, release, release_rows, released_batch, IsControl};
 ghost use Rattle.plant_view.specs.Sound.{IsSound};
+ghost use Rattle.plant_view.specs.OneBatch.{PutsOneBatch};
 ghost use Rattle.plant_view.specs.Tables.{Decides, row_at};
 
 use crate::advance::is_state;
@@ -33,8 +34,9 @@ pub fn decide_release<V: View>(
 ) -> Result<Decision, ViewFault<V::Fault>>
     requires seq { V.honest view.old → seq ≡ (V.state view.old).seq }
     requires sound { V.honest view.old → IsSound (V.state view.old) }
-    ensures { Told V.honest V.kept V.steady view.old view.new
+    ensures decides { Told V.honest V.kept V.steady view.old view.new
         (IfOk result (Decides (wrong_release (V.state view.old) c.now) (V.state view.old) (release (V.state view.old) stamp.now c.now))) }
+    ensures one_batch { IfOk result PutsOneBatch }
 {
     let Some(job) = look::job(view, c.order)? else {
         return Ok(Decision::Refused(Refusal::UnknownOrder));
@@ -53,8 +55,9 @@ fn decide_job<V: View>(
     requires seq { V.honest view.old → seq ≡ (V.state view.old).seq }
     requires sound { V.honest view.old → IsSound (V.state view.old) }
     requires job { V.honest view.old → job_at (V.state view.old) c.now.order ≡ Some job }
-    ensures { Told V.honest V.kept V.steady view.old view.new
+    ensures decides { Told V.honest V.kept V.steady view.old view.new
         (IfOk result (Decides (wrong_release (V.state view.old) c.now) (V.state view.old) (release (V.state view.old) stamp.now c.now))) }
+    ensures one_batch { IfOk result PutsOneBatch }
 {
     let order = job.order;
     let taken = look::is_batch(view, c.batch)?;
@@ -74,9 +77,10 @@ fn released(
     recipe: Option<Recipe>,
     lines: &[MasterLine],
 ) -> Result<Decision, AllocError>
-    ensures { (s : State) → IsSound s → seq ≡ s.seq → job_at s c.now.order ≡ Some job → taken ≡ is_some (batch_at s c.now.batch)
+    ensures decides { (s : State) → IsSound s → seq ≡ s.seq → job_at s c.now.order ≡ Some job → taken ≡ is_some (batch_at s c.now.batch)
         → recipe ≡ recipe_at s job.order.recipe job.order.version → lines.now ≡ master_lines_of s job.order.recipe job.order.version
         → IfOk result (Decides (wrong_release s c.now) s (release s stamp.now c.now)) }
+    ensures one_batch { IfOk result PutsOneBatch }
 {
     let order = job.order;
     if taken {

@@ -1,6 +1,7 @@
 ghost use Rattle.std.specs.Prelude.{◌≡◌, IfOk};
 ghost use Rattle.plant_trace.specs.Sources.{Told};
 ghost use Rattle.plant_production.specs.Recipes.{wrong_withdraw, withdraw};
+ghost use Rattle.plant_view.specs.OneBatch.{PutsOneBatch};
 ghost use Rattle.plant_view.specs.Tables.{Decides};
 
 use crate::advance::advanced;
@@ -18,8 +19,9 @@ pub fn decide_withdraw<V: View>(
     c: &Withdraw,
 ) -> Result<Decision, ViewFault<V::Fault>>
     requires { V.honest view.old → seq ≡ (V.state view.old).seq }
-    ensures { Told V.honest V.kept V.steady view.old view.new
+    ensures decides { Told V.honest V.kept V.steady view.old view.new
         (IfOk result (Decides (wrong_withdraw (V.state view.old) c.now) (V.state view.old) (withdraw (V.state view.old) stamp.now c.now))) }
+    ensures one_batch { IfOk result PutsOneBatch }
 {
     let recipe = look::recipe(view, c.recipe, c.version)?;
     let decision = advanced(

@@ -1,2 +1,3 @@
 mod Adopted
 mod OneLine
+mod Told

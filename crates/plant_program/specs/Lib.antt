@@ -1,3 +1,4 @@
 pub mod Faults
 pub mod Performing
+pub mod Running
 pub mod Texts

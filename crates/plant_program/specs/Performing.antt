@@ -1,5 +1,5 @@
 -- What is written as the program does its words, and the exit status.
-use Rattle.std.specs.Prelude.{◌≡◌, ◌⊎◌, ℕ, List, Bool, true, false, Option, Result, Ok, Err, ⊤, string_bytes}
+use Rattle.std.specs.Prelude.{◌≡◌, ◌⊎◌, ℕ, List, Bool, true, false, Option, Result, Ok, Err, string_bytes}
 use Rattle.std.specs.Io.KnownBytes.{Appends}
 use Rattle.plant_text.specs.Writes.{with_lf, AppendsFront}
 use Rattle.plant_program.specs.Faults.{status_of}
@@ -40,11 +40,11 @@ abbrev pub PrintsLine : Lines → Option (List ℕ) → Option (List ℕ) → Re
 PrintsLine lines old new (Ok refused) = (refused ≡ false) × Printed lines old new
 PrintsLine lines old new (Err f) = Unprinted lines old new f
 
--- what stands on standard output, by the words and the outcome; nothing is said of a session's replies here
-abbrev pub Prints : Words → Option (List ℕ) → Option (List ℕ) → Result Bool Fault → Type 0
-Prints (words.Init file) old new outcome = PrintsLine IsReady old new outcome
-Prints (words.Run file) old new outcome = ⊤
-Prints (words.Verify file) old new outcome = PrintsLine IsGoodLine old new outcome
+-- what came of the words, by what stands on standard output; of a run it is this
+abbrev pub Prints : Words → (Result Bool Fault → Type 0) → Option (List ℕ) → Option (List ℕ) → Result Bool Fault → Type 0
+Prints (words.Init file) run_gives old new done = PrintsLine IsReady old new done
+Prints (words.Run file) run_gives old new done = run_gives done
+Prints (words.Verify file) run_gives old new done = PrintsLine IsGoodLine old new done
 
 -- the text was written, or a front of it where the writer failed
 abbrev pub Written : Option (List ℕ) → Option (List ℕ) → List ℕ → Type 0
@@ -59,6 +59,12 @@ abbrev pub Exits : Option (List ℕ) → Option (List ℕ) → ℕ → Result Bo
 Exits old new status (Ok false) = (status ≡ 0) × (new ≡ old)
 Exits old new status (Ok true) = (status ≡ 1) × (new ≡ old)
 Exits old new status (Err f) = TellsFault f old new status
+
+-- what came of words whose store was closed behind them, or couldn't be
+abbrev pub after_closing : Result Bool Fault → Bool → Result Bool Fault
+after_closing outcome true = outcome
+after_closing (Ok refused) false = Err fault.Store
+after_closing (Err f) false = Err f
 
 -- what is written where the words of the command line give nothing to do, and the exit status
 abbrev pub TellsWords : WordsFault → Option (List ℕ) → Option (List ℕ) → Option (List ℕ) → Option (List ℕ) → ℕ → Type 0

@@ -4,27 +4,34 @@ ghost use Rattle.sqlite.specs.Held.{state};
 ghost use Rattle.sqlite.specs.State.{HasCleanDisk};
 ghost use Rattle.plant_store.specs.Adopting.{IsNewlyOpened, AdoptedFrom};
 ghost use Rattle.plant_store.specs.Standing.{IsOpenAt};
+ghost use Rattle.plant_program.specs.Faults.{adopt_fault};
+ghost use Rattle.plant_program.specs.Running.{IsRefused};
 
 use crate::fault::Fault;
-use plant_store::Desk;
+use plant_store::{AdoptRefused, Desk};
 use sqlite::{Alter, Connection};
 use std::alloc::Global;
 
-/// Adopts a store, as [`Desk::adopt`] does. A store in which a transaction is open, as none is that was just opened, is
-/// told as one that failed.
+/// The fault that is told of a store that wasn't adopted.
+fn refusal_of<S: Alter + Drop>(refused: AdoptRefused<S>) -> Fault
+    ensures { result ≡ adopt_fault refused.fault }
+{
+    Fault::from(refused.fault)
+}
+
+/// Adopts a store, as [`Desk::adopt`] does.
 pub(crate) fn adopted<S: Alter + Drop>(
     alloc: Global,
     connection: Connection<S>,
 ) -> Result<Desk<S>, Fault>
+    requires { (state S.Store connection).in_transaction ≡ false }
     ensures adopted { IfOk result (λ desk. HasCleanDisk (state S.Store desk.connection) → IsNewlyOpened (state S.Store connection) → AdoptedFrom (state S.Store connection) (IsOpenAt (state S.Store desk.connection))) }
     ensures open { IfOk result (λ desk. desk.is_shut ≡ false) }
+    ensures refused { IfErr result (IsRefused S.Store connection) }
     ensures unwritten { IfErr result (λ fault. fault ≢ Fault.Write) }
 {
-    if !connection.is_autocommit() {
-        return Err(Fault::Store);
-    }
     match Desk::adopt(alloc, connection) {
         Ok(desk) => Ok(desk),
-        Err(refused) => Err(Fault::from(refused.fault)),
+        Err(refused) => Err(refusal_of(refused)),
     }
 }

@@ -13,7 +13,7 @@ mod telling;
 mod verified;
 
 pub use fault::Fault;
-pub use performing::perform;
+pub use performing::{Performed, after_closing, perform, perform_words, tell_outcome};
 pub use ready::init;
 pub use session::{Session, run};
 pub use telling::{tell_opening, tell_words};

@@ -44,11 +44,14 @@ pub fn init<S: Alter + Drop, W: Write>(
     connection: Connection<S>,
     writer: &mut W,
 ) -> Result<Desk<S>, Fault>
+    requires { (state S.Store connection).in_transaction ≡ false }
     ensures adopted { IfOk result (λ desk. HasCleanDisk (state S.Store desk.connection) → IsNewlyOpened (state S.Store connection) → AdoptedFrom (state S.Store connection) (IsOpenAt (state S.Store desk.connection))) }
     ensures ready { IfOk result (λ desk. HasCleanDisk (state S.Store desk.connection) → IsNewlyOpened (state S.Store connection) → Appends (W.contents writer.old) (W.contents writer.new) (with_lf (ready_text newest_schema))) }
     ensures printed { MatchResult result (λ _. Printed IsReady (W.contents writer.old) (W.contents writer.new)) (Unprinted IsReady (W.contents writer.old) (W.contents writer.new)) }
 {
     let mut desk = adopted(alloc, connection)?;
-    tell_ready(writer, &mut desk)?;
-    Ok(desk)
+    match tell_ready(writer, &mut desk) {
+        Ok(()) => Ok(desk),
+        Err(fault) => Err(fault),
+    }
 }

@@ -1,5 +1,5 @@
 //! The word `run`.
-ghost use Rattle.std.specs.Prelude.{◌≡◌, ◌≢◌, ℕ, List, IfOk, IfErr, OnErr};
+ghost use Rattle.std.specs.Prelude.{◌≡◌, ◌≢◌, false, ℕ, List, IfOk, IfErr, OnErr};
 ghost use Rattle.std.specs.Io.KnownBytes.{Consumes};
 ghost use Rattle.sqlite.specs.Held.{state};
 ghost use Rattle.sqlite.specs.State.{HasCleanDisk};
@@ -7,6 +7,8 @@ ghost use Rattle.plant_base.specs.State.{newest_schema};
 ghost use Rattle.plant_store.specs.Adopting.{IsNewlyOpened, AdoptedFrom};
 ghost use Rattle.plant_store.specs.Standing.{Stands, Leaves};
 ghost use Rattle.plant_text.specs.Session.{Ends};
+ghost use Rattle.plant_text.specs.Leaving.{RunLeaves};
+ghost use Rattle.plant_program.specs.Running.{IsRefused};
 
 use crate::adopting::adopted;
 use crate::fault::Fault;
@@ -34,10 +36,13 @@ pub fn run<S: Alter + Drop, R: Read, W: Write>(
     reader: &mut R,
     writer: &mut W,
 ) -> Result<Session<S>, Fault>
+    requires { (state S.Store connection).in_transaction ≡ false }
     ensures ends { IfOk result (λ session. (bytes : List ℕ) × Consumes (R.remaining reader.old) (R.remaining reader.new) bytes
         × (HasCleanDisk (state S.Store session.desk.connection) → IsNewlyOpened (state S.Store connection)
         → AdoptedFrom (state S.Store connection) (λ s. Ends newest_schema s bytes (R.remaining reader.new) (W.contents writer.old) (W.contents writer.new)
-        (Stands (state S.Store session.desk.connection) session.desk.is_shut) session.desk.is_shut (Leaves (state S.Store session.desk.connection)) session.end))) }
+        (Stands (state S.Store session.desk.connection) session.desk.is_shut) session.desk.is_shut (Leaves (state S.Store session.desk.connection)) session.end
+        × RunLeaves s bytes (R.remaining reader.new) (Stands (state S.Store session.desk.connection) session.desk.is_shut) (Leaves (state S.Store session.desk.connection)) session.end))) }
+    ensures refused { IfErr result (IsRefused S.Store connection) }
     ensures unread { OnErr result (R.remaining reader.new ≡ R.remaining reader.old) }
     ensures unwritten { OnErr result (W.contents writer.new ≡ W.contents writer.old) }
 {

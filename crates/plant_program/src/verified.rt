@@ -49,6 +49,22 @@ fn tell_good<W: Write, K: Keeper>(writer: &mut W, keeper: &mut K) -> Result<(), 
     print_line(writer, &good_line(at.schema, at.seq))
 }
 
+/// Tests all tables of an open desk, and prints the line of good ones.
+fn tell_tested<S: Alter, W: Write>(writer: &mut W, desk: &mut Desk<S>) -> Result<(), Fault>
+    requires { desk.old.is_shut ≡ false }
+    ensures honest { HasCleanDisk (state S.Store desk.new.connection) → HasCleanDisk (state S.Store desk.old.connection) }
+    ensures open { desk.new.is_shut ≡ false }
+    ensures stays { HasCleanDisk (state S.Store desk.new.connection) → (s : State) → Stands (state S.Store desk.old.connection) desk.old.is_shut s → Stands (state S.Store desk.new.connection) desk.new.is_shut s }
+    ensures told { HasCleanDisk (state S.Store desk.new.connection) → (s : State) → Stands (state S.Store desk.old.connection) desk.old.is_shut s
+        → OnOk result (Appends (W.contents writer.old) (W.contents writer.new) (with_lf (good_text newest_schema s.seq))) }
+    ensures printed { MatchResult result (λ _. Printed IsGoodLine (W.contents writer.old) (W.contents writer.new)) (Unprinted IsGoodLine (W.contents writer.old) (W.contents writer.new)) }
+{
+    match check_tables(desk) {
+        Ok(()) => tell_good(writer, desk),
+        Err(fault) => Err(fault),
+    }
+}
+
 /// Does `verify FILE`: adopts the store, tests all its tables anew, and prints `good schema N seq S` and an LF, S being
 /// the number of commands that were accepted.
 ///
@@ -59,12 +75,14 @@ pub fn verify<S: Alter + Drop, W: Write>(
     connection: Connection<S>,
     writer: &mut W,
 ) -> Result<Desk<S>, Fault>
+    requires { (state S.Store connection).in_transaction ≡ false }
     ensures good { IfOk result (λ desk. HasCleanDisk (state S.Store desk.connection) → IsNewlyOpened (state S.Store connection)
         → AdoptedFrom (state S.Store connection) (λ s. IsOpenAt (state S.Store desk.connection) s × Appends (W.contents writer.old) (W.contents writer.new) (with_lf (good_text newest_schema s.seq)))) }
     ensures printed { MatchResult result (λ _. Printed IsGoodLine (W.contents writer.old) (W.contents writer.new)) (Unprinted IsGoodLine (W.contents writer.old) (W.contents writer.new)) }
 {
     let mut desk = adopted(alloc, connection)?;
-    check_tables(&mut desk)?;
-    tell_good(writer, &mut desk)?;
-    Ok(desk)
+    match tell_tested(writer, &mut desk) {
+        Ok(()) => Ok(desk),
+        Err(fault) => Err(fault),
+    }
 }

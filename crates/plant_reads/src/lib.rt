@@ -7,7 +7,7 @@ mod reading;
 mod row;
 mod table;
 
-pub use opening::{open_over, reopen};
+pub use opening::{open_in_memory, open_over, reopen};
 pub use reading::read_rows;
 pub use row::TableRow;
 pub use table::{all_free, all_stand, find_rows, read_table};

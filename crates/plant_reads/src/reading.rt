@@ -1,4 +1,4 @@
-ghost use Rattle.std.specs.Prelude.{◌≡◌, ◌<◌, false, true, map, option_map, IsTrue, length, slice_index_or, ◌-◌, IfOk, OnOk};
+ghost use Rattle.std.specs.Prelude.{◌≡◌, ◌<◌, false, true, map, option_map, IsTrue, length, slice_index_or, ◌-◌, ◌++◌, ◌∷◌, [], IfOk, OnOk, IsOkUnless};
 ghost use Rattle.sqlite.specs.State.{HasCleanDisk, IsUnchanged, Survives, Shown};
 ghost use Rattle.sqlite.specs.Held.{state};
 ghost use Rattle.sqlite.specs.Given.{Advances};
@@ -52,6 +52,17 @@ fn next_value<S: Alter, R: TableRow>(
     }
 }
 
+/// Puts a value at the end of the list. Memory where there is none for the list to grow.
+fn keep<R: TableRow>(list: &mut Vec<R>, value: R) -> Result<(), Fault>
+    ensures fault { IsOkUnless result Fault.Memory }
+    ensures kept { OnOk result (list.new.items ≡ list.old.items ++ value ∷ []) }
+{
+    match list.push(value) {
+        Ok(()) => Ok(()),
+        Err(_) => Err(Fault::Memory),
+    }
+}
+
 /// All rows of the answer to a fixed text that only reads, one at a time and by the table's first key. Store where the
 /// store fails, or answers a row that isn't one of the table's or doesn't come after the one before it; Memory where
 /// there is none. Nothing is changed.
@@ -82,9 +93,7 @@ pub fn read_rows<S: Alter, R: TableRow>(
         if !may_follow(list.as_slice(), &value) {
             return Err(Fault::Store);
         }
-        if list.push(value).is_err() {
-            return Err(Fault::Memory);
-        }
+        keep(&mut list, value)?;
     }
     Err(Fault::Store)
 }

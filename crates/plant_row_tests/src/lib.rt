@@ -2,6 +2,8 @@
 #![tactic(auto)]
 
 #[cfg(test)]
+mod declared;
+#[cfg(test)]
 mod fresh;
 #[cfg(test)]
 mod good_desk;

@@ -178,7 +178,7 @@ const WRITTEN: [&str; 13] = [
     "SELECT count(*) FROM meta WHERE k = 1 AND schema = 1 AND seq = 7 AND at = 120",
     "SELECT count(*) FROM class WHERE id = 'RAW' AND name = 'Raw goods'",
     "SELECT count(*) FROM definition WHERE id = 'FLOUR' AND class = 'RAW' AND name = 'Flour' AND unit = 'kg'",
-    "SELECT count(*) FROM recipe WHERE recipe = 'CAKE' AND version = 2 AND product = 'DOUGH' AND base = 300 AND low = 100 AND high = 900 AND title = 'A cake' AND state = 'approved'",
+    "SELECT count(*) FROM recipe WHERE id = 'CAKE' AND version = 2 AND product = 'DOUGH' AND base = 300 AND low = 100 AND high = 900 AND title = 'A cake' AND state = 'approved'",
     "SELECT count(*) FROM recipe_line WHERE recipe = 'CAKE' AND version = 2 AND no = 3 AND kind = 3 AND def IS NULL AND qty = 0 AND t1 = 'TEMP' AND t2 = '80 C' AND t3 = ''",
     "SELECT count(*) FROM job WHERE id = 'O-1' AND recipe = 'CAKE' AND version = 2 AND size = 500 AND due = '2027-03-01' AND priority = 5 AND state = 'released'",
     "SELECT count(*) FROM batch WHERE id = 'B-1' AND job = 'O-1' AND at = 200 AND by_who = 'anna' AND note = '' AND state = 'running' AND attempt = 1 AND next = 2 AND closed = 0",

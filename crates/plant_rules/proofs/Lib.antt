@@ -10,6 +10,7 @@ pub mod HoldSound
 pub mod MergeDecides
 pub mod MergeSound
 pub mod MergeTables
+pub mod OneBatch
 pub mod Parting
 pub mod SplitSound
 pub mod SplitTables

@@ -7,6 +7,7 @@ ghost use Rattle.plant_rules.specs.Booking.{line_of};
 ghost use Rattle.plant_rules.specs.Consumption.{is_idle};
 ghost use Rattle.plant_view.specs.Sound.{IsSound};
 ghost use Rattle.plant_rules.specs.Step.{step, step_body};
+ghost use Rattle.plant_view.specs.OneBatch.{PutsOneBatch};
 ghost use Rattle.plant_view.specs.Tables.{Decides};
 ghost use Rattle.plant_rules.specs.Wrong.{brings_formed, is_whole, wrong, wrong_body};
 
@@ -56,8 +57,9 @@ pub fn decide<V: View>(
     envelope: &Envelope,
 ) -> Result<Decision, ViewFault<V::Fault>>
     requires { V.honest view.old → IsSound (V.state view.old) }
-    ensures { Told V.honest V.kept V.steady view.old view.new
+    ensures decides { Told V.honest V.kept V.steady view.old view.new
         (IfOk result (Decides (wrong (V.state view.old) envelope.now) (V.state view.old) (step (V.state view.old) envelope.now))) }
+    ensures one_batch { IfOk result PutsOneBatch }
 {
     if !is_whole(&envelope.body) {
         return Ok(Decision::Refused(Refusal::BadForm));
@@ -79,8 +81,9 @@ fn decide_body<V: View>(
     requires formed { IsTrue (is_whole body.now) }
     requires seq { V.honest view.old → seq ≡ (V.state view.old).seq }
     requires sound { V.honest view.old → IsSound (V.state view.old) }
-    ensures { Told V.honest V.kept V.steady view.old view.new
+    ensures decides { Told V.honest V.kept V.steady view.old view.new
         (IfOk result (Decides (wrong_body (V.state view.old) body.now) (V.state view.old) (step_body (V.state view.old) stamp.now body.now))) }
+    ensures one_batch { IfOk result PutsOneBatch }
 {
     match body {
         Command::AddClass(c) => decide_add_class(alloc, view, seq, stamp, c),

@@ -24,7 +24,8 @@ use Rattle.plant_ledger.specs.Good.{IsGood}
 use Rattle.plant_loaded.specs.Version.{IsVersion}
 use Rattle.plant_loaded.proofs.Versions.{one_version, each_free, free_tells_nothing}
 use Rattle.plant_good.proofs.Unbroken.{read_good}
-use Rattle.plant_store.specs.Adopting.{IsRefusedBy, IsDamaged}
+use Rattle.plant_store.specs.Adopting.{IsRefusedBy, IsFirstBroken}
+use Rattle.plant_check.specs.declared.rule.Rule.{Rule}
 use Rattle.plant_store.specs.declared.adopting.AdoptFault.{AdoptFault}
 use Rattle.plant_store.specs.declared.adopting.AdoptFault.TheVariants as fault
 
@@ -69,12 +70,15 @@ module _ (db : Database) (s : State) (good : IsGood s) (holds : HoldsTables db (
   pub not_free : AreFree desk_forms db.schema → ⊥
   not_free free = free_tells_nothing db (pos newest_schema) (each_free db.schema free) version_held
 
+  unbroken_here : (r : Rule) → IsFirstBroken db r → ⊥
+  unbroken_here r (inl (first, inl none)) = absurd (none _ version_held)
+  unbroken_here r (inl (first, inr lacking)) = absurd (lacking tables_held)
+  unbroken_here r (inr (x, loaded, broken)) = let unbroken = (read_good db s x good holds loaded).1 in let both = sym unbroken ∙ broken in absurd (cc)
+
   pub unrefused_here : (f : AdoptFault) → IsRefusedBy db f → (f ≡ fault.Store) ⊎ (f ≡ fault.Memory)
   unrefused_here fault.Store refused = inl refl
   unrefused_here (fault.Newer n) refused = let same = pos_same n newest_schema (one_version db (pos n) (pos newest_schema) refused.0 version_held) in absurd (omega (arith, refused.1, same))
-  unrefused_here (fault.Damaged r) (inl (first, inl none)) = absurd (none _ version_held)
-  unrefused_here (fault.Damaged r) (inl (first, inr lacking)) = absurd (lacking tables_held)
-  unrefused_here (fault.Damaged r) (inr (x, loaded, broken)) = let unbroken = (read_good db s x good holds loaded).1 in let both = sym unbroken ∙ broken in absurd (cc)
+  unrefused_here (fault.Damaged r) refused = absurd (unbroken_here r refused.broken)
   unrefused_here fault.Memory refused = inr refl
 
 pub unrefused : (db : Database) (s : State) → IsGood s → HoldsTables db (tables_of newest_schema s) → (f : AdoptFault) → IsRefusedBy db f → (f ≡ fault.Store) ⊎ (f ≡ fault.Memory)

@@ -1,6 +1,7 @@
 -- What rows that were read and break no rule stand for.
-use Rattle.std.proofs.Common.{◌≡◌, ◌∙◌, Some, Result, Ok, Err, IfOk, sym, ap, Option, None, IsTrue}
+use Rattle.std.proofs.Common.{◌≡◌, ◌∙◌, Some, Result, Ok, Err, IfOk, sym, subst, ap, Option, None, IsTrue}
 use Rattle.sqlite.specs.State as store
+use Rattle.sqlite.specs.Effect.{Database}
 use Rattle.plant_base.specs.State.{State, newest_schema}
 use Rattle.plant_view.specs.Tables.{tables_of}
 use Rattle.plant_ledger.specs.Good.{IsGood}
@@ -13,9 +14,11 @@ use Rattle.plant_rows.proofs.WholeLemmas.{same_tables}
 use Rattle.plant_check.specs.Broken.{first_broken, first_broken_of}
 use Rattle.plant_check.specs.declared.rule.Rule.{Rule}
 use Rattle.plant_desk.specs.declared.reply.DeskFault.{DeskFault}
-use Rattle.plant_desk.proofs.Plain.{plain, plain_tables}
+use Rattle.plant_desk.specs.Lists.{state_without_kept}
+use Rattle.plant_desk.proofs.Plain.{plain_tables}
 use Rattle.plant_state.specs.Restoring.{state_in}
 use Rattle.plant_store.specs.Standing.{StandsAt}
+use Rattle.plant_store.specs.Testing.{IsTested, IsUnfit}
 use Rattle.plant_state.proofs.Restored.{unbroken_good}
 use Rattle.plant_good.proofs.Unbroken.{read_good}
 
@@ -27,7 +30,7 @@ good_of x (Ok rows) rising from unbroken newest = (unbroken_good x (rows_listed 
 
 -- the state of the rows of a state's tables
 state_again : (s : State) → state_in (rows_in (tables_of newest_schema s)) ≡ s
-state_again s = ap plain (same_tables (tables_of newest_schema s)) ∙ plain_tables s
+state_again s = ap state_without_kept (same_tables (tables_of newest_schema s)) ∙ plain_tables newest_schema s
 
 pub found_of : (c : store.State) (s : State) (x : Loaded) (r : Result DeskRows Fault) → IsTrue c.is_open → StandsAt c s → AreLoaded c.now x → IfOk r (λ rows. rows_from x ≡ Some (rows_listed rows))
     → IfOk r (λ rows. state_in (rows_listed rows) ≡ s)
@@ -42,3 +45,14 @@ pub unbroken_of : (c : store.State) (s : State) (x : Loaded) (r : Result (Option
     → IfOk r (λ broken. broken ≡ None)
 unbroken_of c s x (Err f) live stands loaded told = tt
 unbroken_of c s x (Ok broken) live stands loaded told = told ∙ (read_good c.now s x stands.good (stands.shows live).holds loaded).1
+
+-- what is told is the first rule that the loaded rows break
+pub tested_of : (db : Database) (x : Loaded) (r : Result (Option Rule) DeskFault) → AreLoaded db x → IfOk r (λ broken. broken ≡ first_broken x) → IfOk r (IsTested db)
+tested_of db x (Err f) loaded told = tt
+tested_of db x (Ok broken) loaded told = (x, loaded, told)
+
+-- loaded rows that are refused aren't those of a desk of the newest schema
+pub unfit_of : (x : Loaded) (rows : Rows) → rows_from x ≡ Some rows → (first_broken_of rows ≡ None → ¬ (rows.meta.schema ≡ newest_schema)) → IsUnfit x
+unfit_of x rows is fails r told fine schema =
+    let same : rows ≡ r = (let both = sym is ∙ told in cc) in
+    fails (subst (λ (q : Rows). first_broken_of q ≡ None) (sym same) fine) (subst (λ (q : Rows). q.meta.schema ≡ newest_schema) (sym same) schema)

@@ -13,6 +13,7 @@ use Rattle.plant_forms.proofs.Ending.{IsStore}
 use Rattle.plant_tables.specs.DeskStopping.{IsAt, Finds, IsCutShort}
 use Rattle.plant_tables.specs.Keyed.{HoldsTables}
 use Rattle.plant_desk.specs.Keeping.{States}
+use Rattle.plant_store.specs.Left.{spared_leaves}
 use Rattle.plant_store.specs.Standing.{StandsAt, FindsState, Leaves, IsOpenAt}
 
 -- ---- a call that only reads
@@ -35,13 +36,7 @@ still_stands old new s stands kept laws = record {
 }
 
 pub still_leaves : (old new : store.State) (states : States) → Leaves old states → HasCleanDisk new → Survives old new (λ _. ⊥) → IsStore new → Leaves new states
-still_leaves old new states leaves clean survives laws = record {
-  something = laws.something clean;
-  nothing_else = λ db left. elim (survives.crash clean db left) [
-    | inl before ↦ leaves.nothing_else db before
-    | inr none ↦ absurd none
-  ];
-}
+still_leaves old new states leaves clean survives laws = spared_leaves old new states leaves clean survives laws.something
 
 pub still_open : (old new : store.State) (s : State) → IsOpenAt old s → HasCleanDisk new → Keeps old new → Survives old new (λ _. ⊥) → IsStore new → IsOpenAt new s
 still_open old new s at clean kept survives laws = record {

@@ -1,4 +1,6 @@
 pub mod Adopting
 pub mod Laws
+pub mod Left
 pub mod Running
 pub mod Standing
+pub mod Testing

@@ -1,11 +1,12 @@
 //! The adoption of a store.
 
-ghost use Rattle.std.specs.Prelude.{◌≡◌, ◌⊎◌, false, Some, None, IfOk, IfErr, OnOk, MatchResult};
+ghost use Rattle.std.specs.Prelude.{◌≡◌, ◌≢◌, ◌⊎◌, false, Some, None, IfOk, IfErr, OnOk, OnErr, MatchResult};
 ghost use Rattle.sqlite.specs.Held.{state};
 ghost use Rattle.sqlite.specs.State.{HasCleanDisk, Survives};
 ghost use Rattle.sqlite.specs.Effect.{IsDatabase};
 ghost use Rattle.plant_view.specs.Tables.{tables_of};
 ghost use Rattle.plant_ledger.specs.Good.{IsGood};
+ghost use Rattle.plant_forms.specs.Resting.{Keeps};
 ghost use Rattle.plant_forms.specs.Stopping.{IsSettled};
 ghost use Rattle.plant_tables.specs.Keyed.{HoldsTables};
 ghost use Rattle.plant_base.specs.State.{State, opening, newest_schema};
@@ -13,7 +14,7 @@ ghost use Rattle.plant_forms.specs.Standing.{AreFree};
 ghost use Rattle.plant_tables.specs.DeskForms.{desk_forms};
 ghost use Rattle.plant_rows.specs.Collecting.{Rows, rows_from, rows_listed};
 ghost use Rattle.plant_check.specs.Broken.{first_broken, first_broken_of};
-ghost use Rattle.plant_store.specs.Adopting.{IsNewlyOpened, AdoptedFrom, IsRefusedBy, BrokenBy, IsBroken, Opened};
+ghost use Rattle.plant_store.specs.Adopting.{IsNewlyOpened, AdoptedFrom, KeepsGood, IsRefusedBy, NamesFirst, BrokenBy, IsBroken, Opened};
 ghost use Rattle.plant_store.specs.Standing.{IsOpenAt, OthersStand};
 
 use crate::stored::Desk;
@@ -51,7 +52,9 @@ pub struct AdoptRefused<S: Alter> {
 }
 
 fn fault_of(fault: Fault) -> AdoptFault
-    ensures { (result ≡ AdoptFault.Store) ⊎ (result ≡ AdoptFault.Memory) }
+    ensures known { (result ≡ AdoptFault.Store) ⊎ (result ≡ AdoptFault.Memory) }
+    ensures store { fault ≡ Fault.Store → result ≡ AdoptFault.Store }
+    ensures memory { fault ≡ Fault.Memory → result ≡ AdoptFault.Memory }
 {
     match fault {
         Fault::Store => AdoptFault::Store,
@@ -64,22 +67,32 @@ impl<S: Alter> Desk<S> {
     /// opening state, in one transaction; tables of other names aren't read and stay.
     ///
     /// - `Newer`: the tables are of a schema above the newest. Nothing is changed.
-    /// - `Damaged`: the tables break this rule, and none before it. Nothing is changed.
-    /// - `Store`, `Memory`: the tables are as they were, or, where there were none, made with the opening state.
+    /// - `Damaged`: some of the tables are there, of no schema above the newest, and they break this rule, and none before
+    ///   it. Nothing is changed.
+    /// - `Memory`: nothing is changed.
+    /// - `Store`: the tables are as they were, or, where there were none, made with the opening state.
     pub fn adopt(alloc: Global, mut connection: Connection<S>) -> Result<Desk<S>, AdoptRefused<S>>
         requires { (state S.Store connection).in_transaction ≡ false }
         ensures adopted { IfOk result (λ desk. HasCleanDisk (state S.Store desk.connection) → IsNewlyOpened (state S.Store connection) → AdoptedFrom (state S.Store connection) (IsOpenAt (state S.Store desk.connection))) }
         ensures open { IfOk result (λ desk. desk.is_shut ≡ false) }
 
-        // Over the tables of a good state the desk stands at this state; and tables of other names stand as they did.
-        ensures again { IfOk result (λ desk. HasCleanDisk (state S.Store desk.connection) → IsNewlyOpened (state S.Store connection)
-            → (s : State) → IsGood s → HoldsTables (state S.Store connection).now (tables_of newest_schema s) → IsOpenAt (state S.Store desk.connection) s) }
-        ensures others { IfOk result (λ desk. HasCleanDisk (state S.Store desk.connection) → IsNewlyOpened (state S.Store connection) → OthersStand (state S.Store connection).now (state S.Store desk.connection)) }
-        ensures refused { IfErr result (λ refused. HasCleanDisk (state S.Store refused.connection) → IsRefusedBy (state S.Store connection).now refused.fault) }
+        // Over the tables of a good state the desk stands at this state, and at a fault the store still does: at both exits
+        // a stop leaves that state alone.
+        ensures again { IfOk result (λ desk. KeepsGood (state S.Store connection) (state S.Store desk.connection)) }
+        ensures still { IfErr result (λ refused. KeepsGood (state S.Store connection) (state S.Store refused.connection)) }
 
-        // What a stop leaves: where the store has some of the desk's tables, what it left before; else that or the
-        // opening state's tables.
+        // Tables of other names stand as they did.
+        ensures others { IfOk result (λ desk. HasCleanDisk (state S.Store desk.connection) → IsNewlyOpened (state S.Store connection) → OthersStand (state S.Store connection).now (state S.Store desk.connection)) }
+
+        // A fault has its cause; no transaction is open then, and the store, while it is open, shows what it showed.
+        ensures refused { IfErr result (λ refused. HasCleanDisk (state S.Store refused.connection) → IsRefusedBy (state S.Store connection).now refused.fault) }
+        ensures rests { IfErr result (λ refused. (state S.Store refused.connection).in_transaction ≡ false) }
+        ensures shows { IfErr result (λ refused. HasCleanDisk (state S.Store refused.connection) → IsNewlyOpened (state S.Store connection) → Keeps (state S.Store connection) (state S.Store refused.connection)) }
+
+        // What a stop leaves: where the store has some of the desk's tables, and at each fault but Store, what it left before;
+        // else that or the opening state's tables.
         ensures spared { (AreFree desk_forms (state S.Store connection).now.schema → ⊥) → MatchResult result (λ desk. Survives (state S.Store connection) (state S.Store desk.connection) (λ _. ⊥)) (λ refused. Survives (state S.Store connection) (state S.Store refused.connection) (λ _. ⊥)) }
+        ensures unmade { IfErr result (λ refused. refused.fault ≢ AdoptFault.Store → Survives (state S.Store connection) (state S.Store refused.connection) (λ _. ⊥)) }
         ensures crash { MatchResult result (λ desk. Survives (state S.Store connection) (state S.Store desk.connection) (Opened (state S.Store connection).now)) (λ refused. Survives (state S.Store connection) (state S.Store refused.connection) (Opened (state S.Store connection).now)) }
     {
         match opened(alloc, &mut connection) {
@@ -97,9 +110,11 @@ fn opened<S: Alter>(alloc: Global, connection: &mut Connection<S>) -> Result<(),
     requires { (state S.Store connection.old).in_transaction ≡ false }
     ensures mode { (state S.Store connection.new).in_transaction ≡ false }
     ensures adopted { HasCleanDisk (state S.Store connection.new) → IsNewlyOpened (state S.Store connection.old) → OnOk result (AdoptedFrom (state S.Store connection.old) (IsOpenAt (state S.Store connection.new))) }
-    ensures again { HasCleanDisk (state S.Store connection.new) → IsNewlyOpened (state S.Store connection.old) → (s : State) → IsGood s → HoldsTables (state S.Store connection.old).now (tables_of newest_schema s) → OnOk result (IsOpenAt (state S.Store connection.new) s) }
+    ensures again { KeepsGood (state S.Store connection.old) (state S.Store connection.new) }
     ensures others { HasCleanDisk (state S.Store connection.new) → IsNewlyOpened (state S.Store connection.old) → OnOk result (OthersStand (state S.Store connection.old).now (state S.Store connection.new)) }
     ensures refused { HasCleanDisk (state S.Store connection.new) → IfErr result (IsRefusedBy (state S.Store connection.old).now) }
+    ensures shows { HasCleanDisk (state S.Store connection.new) → IsNewlyOpened (state S.Store connection.old) → OnErr result (Keeps (state S.Store connection.old) (state S.Store connection.new)) }
+    ensures unmade { IfErr result (λ fault. fault ≢ AdoptFault.Store → Survives (state S.Store connection.old) (state S.Store connection.new) (λ _. ⊥)) }
     ensures spared { (AreFree desk_forms (state S.Store connection.old).now.schema → ⊥) → Survives (state S.Store connection.old) (state S.Store connection.new) (λ _. ⊥) }
     ensures crash { Survives (state S.Store connection.old) (state S.Store connection.new) (Opened (state S.Store connection.old).now) }
 {
@@ -122,12 +137,13 @@ fn made<S: Alter>(connection: &mut Connection<S>) -> Result<(), AdoptFault>
     ensures clean { HasCleanDisk (state S.Store connection.new) → HasCleanDisk (state S.Store connection.old) }
     ensures opening { HasCleanDisk (state S.Store connection.new) → IsSettled (state S.Store connection.old) → IsDatabase (state S.Store connection.old).now → AreFree desk_forms (state S.Store connection.old).now.schema → OnOk result (IsOpenAt (state S.Store connection.new) opening) }
     ensures others { HasCleanDisk (state S.Store connection.new) → IsSettled (state S.Store connection.old) → IsDatabase (state S.Store connection.old).now → AreFree desk_forms (state S.Store connection.old).now.schema → OnOk result (OthersStand (state S.Store connection.old).now (state S.Store connection.new)) }
-    ensures refused { IfErr result (IsRefusedBy (state S.Store connection.old).now) }
+    ensures shows { HasCleanDisk (state S.Store connection.new) → IsSettled (state S.Store connection.old) → IsDatabase (state S.Store connection.old).now → AreFree desk_forms (state S.Store connection.old).now.schema → OnErr result (Keeps (state S.Store connection.old) (state S.Store connection.new)) }
+    ensures store { IfErr result (λ fault. fault ≡ AdoptFault.Store) }
     ensures crash { Survives (state S.Store connection.old) (state S.Store connection.new) (Opened (state S.Store connection.old).now) }
 {
     match commit_opening(connection) {
         Ok(()) => Ok(()),
-        Err(fault) => Err(fault_of(fault)),
+        Err(_) => Err(AdoptFault::Store),
     }
 }
 
@@ -136,9 +152,10 @@ fn judged<S: Alter>(alloc: Global, connection: &mut Connection<S>) -> Result<(),
     ensures mode { (state S.Store connection.new).in_transaction ≡ false }
     ensures clean { HasCleanDisk (state S.Store connection.new) → HasCleanDisk (state S.Store connection.old) }
     ensures good { HasCleanDisk (state S.Store connection.new) → IsNewlyOpened (state S.Store connection.old) → OnOk result ((s : State) × IsGood s × HoldsTables (state S.Store connection.old).now (tables_of newest_schema s) × IsOpenAt (state S.Store connection.new) s) }
-    ensures again { HasCleanDisk (state S.Store connection.new) → IsNewlyOpened (state S.Store connection.old) → (s : State) → IsGood s → HoldsTables (state S.Store connection.old).now (tables_of newest_schema s) → OnOk result (IsOpenAt (state S.Store connection.new) s) }
+    ensures again { KeepsGood (state S.Store connection.old) (state S.Store connection.new) }
+    ensures kept { HasCleanDisk (state S.Store connection.new) → Keeps (state S.Store connection.old) (state S.Store connection.new) }
     ensures others { HasCleanDisk (state S.Store connection.new) → IsNewlyOpened (state S.Store connection.old) → OnOk result (OthersStand (state S.Store connection.old).now (state S.Store connection.new)) }
-    ensures refused { HasCleanDisk (state S.Store connection.new) → IfErr result (IsRefusedBy (state S.Store connection.old).now) }
+    ensures named { HasCleanDisk (state S.Store connection.new) → IfErr result (NamesFirst (state S.Store connection.old).now) }
     ensures crash { Survives (state S.Store connection.old) (state S.Store connection.new) (λ _. ⊥) }
 {
     match Loaded::read(alloc, connection, NEWEST_SCHEMA as i64) {

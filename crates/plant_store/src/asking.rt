@@ -31,10 +31,11 @@ pub(crate) fn ask_on<S: Alter>(
     answer_in(&lists, question)
 }
 
+// The only error is that memory was refused.
 fn answer_in(lists: &Lists, question: &Question) -> Result<Answer, DeskFault>
     requires { IsGood (state_of lists.now) }
     ensures answer { IfOk result (λ a. a ≡ answer newest_schema (state_of lists.now) question.now) }
-    ensures open { IfErr result (λ fault. fault ≢ DeskFault.Shut) }
+    ensures memory { IfErr result (λ fault. fault ≡ DeskFault.Memory) }
 {
     match lists.answer(question) {
         Ok(answer) => Ok(answer),

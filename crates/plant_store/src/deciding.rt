@@ -7,9 +7,12 @@ ghost use Rattle.plant_base.specs.State.{State};
 ghost use Rattle.plant_forms.specs.Resting.{Keeps};
 ghost use Rattle.plant_rules.specs.Step.{step};
 ghost use Rattle.plant_rules.specs.Wrong.{wrong};
+ghost use Rattle.plant_view.specs.OneBatch.{PutsOneBatch};
 ghost use Rattle.plant_view.specs.Tables.{Decides};
 ghost use Rattle.plant_ledger.specs.Good.{IsGood};
 ghost use Rattle.plant_desk.specs.Lists.{state_of};
+ghost use Rattle.plant_rows.specs.Collecting.{rows_listed};
+ghost use Rattle.plant_state.specs.Restoring.{state_in};
 ghost use Rattle.plant_store.specs.Standing.{StandsAt};
 
 use crate::lists::lists_of;
@@ -17,6 +20,7 @@ use crate::reading::read_rows;
 use plant_base::Envelope;
 use plant_desk::{DeskFault, Lists};
 use plant_forms::Fault;
+use plant_rows::DeskRows;
 use plant_rules::decide;
 use plant_view::Decision;
 use sqlite::{Alter, Connection};
@@ -24,7 +28,9 @@ use std::alloc::Global;
 
 /// The fault of the desk that a fault of its store is.
 pub(crate) fn fault_of(fault: Fault) -> DeskFault
-    ensures { (result ≡ DeskFault.Store) ⊎ (result ≡ DeskFault.Memory) }
+    ensures known { (result ≡ DeskFault.Store) ⊎ (result ≡ DeskFault.Memory) }
+    ensures store { fault ≡ Fault.Store → result ≡ DeskFault.Store }
+    ensures memory { fault ≡ Fault.Memory → result ≡ DeskFault.Memory }
 {
     match fault {
         Fault::Store => DeskFault::Store,
@@ -48,10 +54,18 @@ pub(crate) fn read_lists<S: Alter>(
 {
     match read_rows(alloc, connection) {
         Err(fault) => Err(fault_of(fault)),
-        Ok(rows) => match lists_of(alloc, rows) {
-            Err(_) => Err(DeskFault::Memory),
-            Ok(lists) => Ok(lists),
-        },
+        Ok(rows) => listed(alloc, rows),
+    }
+}
+
+// The lists of the rows of a good state. The only error is that memory was refused.
+fn listed(alloc: Global, rows: DeskRows) -> Result<Lists, DeskFault>
+    ensures state { IfOk result (λ lists. state_of lists ≡ state_in (rows_listed rows)) }
+    ensures memory { IfErr result (λ fault. fault ≡ DeskFault.Memory) }
+{
+    match lists_of(alloc, rows) {
+        Ok(lists) => Ok(lists),
+        Err(_) => Err(DeskFault::Memory),
     }
 }
 
@@ -63,6 +77,7 @@ pub(crate) fn decide_in(
 ) -> Result<Decision, DeskFault>
     requires { IsGood (state_of lists.old) }
     ensures decides { IfOk result (Decides (wrong (state_of lists.old) envelope.now) (state_of lists.old) (step (state_of lists.old) envelope.now)) }
+    ensures one_batch { IfOk result PutsOneBatch }
     ensures same { state_of lists.new ≡ state_of lists.old }
     ensures memory { IfErr result (λ fault. fault ≡ DeskFault.Memory) }
 {

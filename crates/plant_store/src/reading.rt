@@ -1,6 +1,6 @@
 //! What the tables of a store hold.
 
-ghost use Rattle.std.specs.Prelude.{◌≡◌, false, Some, None, IfOk, OnOk, IsTrue};
+ghost use Rattle.std.specs.Prelude.{◌≡◌, ◌≢◌, false, Some, None, Err, IfOk, IfErr, OnOk, IsTrue};
 ghost use Rattle.sqlite.specs.Held.{state};
 ghost use Rattle.sqlite.specs.State.{HasCleanDisk, Survives};
 ghost use Rattle.plant_base.specs.State.{State, newest_schema};
@@ -10,6 +10,7 @@ ghost use Rattle.plant_rows.specs.Collecting.{rows_from, rows_listed};
 ghost use Rattle.plant_check.specs.Broken.{first_broken_of};
 ghost use Rattle.plant_state.specs.Restoring.{state_in};
 ghost use Rattle.plant_store.specs.Standing.{StandsAt};
+ghost use Rattle.plant_store.specs.Testing.{IsUnfit};
 
 use plant_base::NEWEST_SCHEMA;
 use plant_check::check_rows;
@@ -38,11 +39,12 @@ pub(crate) fn read_rows<S: Alter>(
     }
 }
 
-// The rows that were loaded, where they break no rule.
+// The rows that were loaded, where they break no rule. Want of memory is never told as Store.
 fn checked(alloc: Global, loaded: &Loaded) -> Result<DeskRows, Fault>
     ensures rows { IfOk result (λ rows. rows_from loaded.now ≡ Some (rows_listed rows)) }
     ensures unbroken { IfOk result (λ rows. first_broken_of (rows_listed rows) ≡ None) }
     ensures newest { IfOk result (λ rows. rows.meta.schema ≡ newest_schema) }
+    ensures store { result ≡ Err Fault.Store → IsUnfit loaded.now }
 {
     match rows_of(alloc, loaded) {
         Err(_) => Err(Fault::Memory),
@@ -55,6 +57,7 @@ fn unbroken(alloc: Global, rows: DeskRows) -> Result<DeskRows, Fault>
     ensures same { IfOk result (λ r. r ≡ rows) }
     ensures unbroken { IfOk result (λ r. first_broken_of (rows_listed r) ≡ None) }
     ensures newest { IfOk result (λ r. r.meta.schema ≡ newest_schema) }
+    ensures store { result ≡ Err Fault.Store → first_broken_of (rows_listed rows) ≡ None → rows.meta.schema ≢ newest_schema }
 {
     match check_rows(alloc, &rows) {
         Err(_) => Err(Fault::Memory),
@@ -66,6 +69,7 @@ fn unbroken(alloc: Global, rows: DeskRows) -> Result<DeskRows, Fault>
 fn of_newest(rows: DeskRows) -> Result<DeskRows, Fault>
     ensures same { IfOk result (λ r. r ≡ rows) }
     ensures newest { IfOk result (λ r. r.meta.schema ≡ newest_schema) }
+    ensures store { IfErr result (λ fault. (fault ≡ Fault.Store) × (rows.meta.schema ≢ newest_schema)) }
 {
     if rows.meta.schema == NEWEST_SCHEMA {
         Ok(rows)

@@ -34,6 +34,7 @@ impl<S: Alter> Desk<S> {
     ghost use Rattle.plant_view.specs.Genealogy.{edges_of};
     ghost use Rattle.plant_store.specs.Standing.{Leaves, Stands, IsBeside};
     ghost use Rattle.plant_store.specs.Running.{Ran};
+    ghost use Rattle.plant_store.specs.Testing.{IsTested};
 
     /// Executes commands in order, up to the first fault. Room for the replies is taken first; where it is refused,
     /// nothing is executed. A desk that is shut gives no replies, ends `Shut` and stays as it is; no other ends so.
@@ -73,6 +74,8 @@ impl<S: Alter> Desk<S> {
         ensures live { self.old.is_shut ≡ false → IfErr result (λ fault. fault ≢ DeskFault.Shut) }
         ensures shut { self.old.is_shut ≡ true → IsErrOf result DeskFault.Shut }
         ensures still { self.old.is_shut ≡ true → self.new ≡ self.old }
+        // The rule is the first that the rows of the store's tables break.
+        ensures tested { HasCleanDisk (state S.Store self.new.connection) → IfOk result (IsTested (state S.Store self.old.connection).now) }
         ensures unbroken { HasCleanDisk (state S.Store self.new.connection) → self.old.is_shut ≡ false → (s : State) → Stands (state S.Store self.old.connection) self.old.is_shut s
             → IfOk result (λ broken. broken ≡ None) × Stands (state S.Store self.new.connection) self.new.is_shut s }
         ensures crash { Survives (state S.Store self.old.connection) (state S.Store self.new.connection) (λ _. ⊥) }
@@ -100,12 +103,13 @@ fn is_store_fault(answer: &Result<Reply, DeskFault>) -> bool
 }
 
 impl<S: Alter> Keeper for Desk<S> {
-    ghost use Rattle.std.specs.Prelude.{false};
+    ghost use Rattle.std.specs.Prelude.{◌≡◌, true, false};
     ghost use Rattle.sqlite.specs.Held.{state};
-    ghost use Rattle.sqlite.specs.State.{HasCleanDisk};
+    ghost use Rattle.sqlite.specs.State.{HasCleanDisk, Survives};
     ghost use Rattle.plant_base.specs.State.{newest_schema};
     ghost use Rattle.sqlite.specs.Effect.{Database};
     ghost use Rattle.plant_store.specs.Standing.{Stands, Leaves, IsBeside};
+    ghost use Rattle.plant_store.specs.Left.{never_nothing, spared_leaves};
 
     ghost honest = { λ d. HasCleanDisk (state S.Store d.connection) };
 
@@ -116,6 +120,10 @@ impl<S: Alter> Keeper for Desk<S> {
     ghost shut = { λ d. d.is_shut };
 
     ghost leaves = { λ d states. Leaves (state S.Store d.connection) states };
+
+    ghost has_store = { true };
+
+    ghost spares = { λ a b. Survives (state S.Store a.connection) (state S.Store b.connection) (λ _. ⊥) };
 
     // Tables of other names, as they stand in a database.
     ghost Beside = { Database };
@@ -139,4 +147,8 @@ impl<S: Alter> Keeper for Desk<S> {
     }
 
     ghost leaves_state = { λ d s h is_open stood. stood.1 is_open };
+
+    ghost leaves_something = { λ d left. never_nothing _ left };
+
+    ghost spares_leaves = { λ a b s clean spares left. spared_leaves _ _ (λ u. u ≡ s) left clean spares (S.Store.survives b.connection.store) };
 }

@@ -7,6 +7,7 @@ ghost use Rattle.plant_base.specs.State.{State};
 ghost use Rattle.plant_forms.specs.Resting.{Keeps};
 ghost use Rattle.plant_check.specs.Broken.{first_broken};
 ghost use Rattle.plant_store.specs.Standing.{StandsAt};
+ghost use Rattle.plant_store.specs.Testing.{IsTested};
 
 use crate::deciding::fault_of;
 use plant_base::NEWEST_SCHEMA;
@@ -22,6 +23,8 @@ pub(crate) fn verify_on<S: Alter>(
     alloc: Global,
     connection: &mut Connection<S>,
 ) -> Result<Option<Rule>, DeskFault>
+    // The rule is the first that the rows of the store's tables break.
+    ensures tested { HasCleanDisk (state S.Store connection.new) → IfOk result (IsTested (state S.Store connection.old).now) }
     ensures unbroken { HasCleanDisk (state S.Store connection.new) → (s : State) → StandsAt (state S.Store connection.old) s → IfOk result (λ broken. broken ≡ None) }
     ensures open { IfErr result (λ fault. fault ≢ DeskFault.Shut) }
     ensures kept { HasCleanDisk (state S.Store connection.new) → Keeps (state S.Store connection.old) (state S.Store connection.new) }
@@ -35,9 +38,10 @@ pub(crate) fn verify_on<S: Alter>(
     }
 }
 
+// The first rule that loaded rows break. The only error is that memory was refused.
 fn broken_rule(alloc: Global, loaded: &Loaded) -> Result<Option<Rule>, DeskFault>
     ensures broken { IfOk result (λ broken. broken ≡ first_broken loaded.now) }
-    ensures open { IfErr result (λ fault. fault ≢ DeskFault.Shut) }
+    ensures memory { IfErr result (λ fault. fault ≡ DeskFault.Memory) }
 {
     match check(alloc, loaded) {
         Ok(broken) => Ok(broken),

@@ -26,7 +26,7 @@ definition_form = record {
 abbrev pub recipe_form : Form
 recipe_form = record {
   name = codes "recipe";
-  columns = text (codes "recipe") ∷ integer (codes "version") ∷ text (codes "product") ∷ integer (codes "base") ∷ integer (codes "low") ∷ integer (codes "high") ∷ text (codes "title") ∷ text (codes "state") ∷ [];
+  columns = text (codes "id") ∷ integer (codes "version") ∷ text (codes "product") ∷ integer (codes "base") ∷ integer (codes "low") ∷ integer (codes "high") ∷ text (codes "title") ∷ text (codes "state") ∷ [];
   keys = (1 ∷ 2 ∷ []) ∷ [];
 }
 

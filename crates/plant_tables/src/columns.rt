@@ -1,4 +1,4 @@
-ghost use Rattle.std.specs.Prelude.{◌≡◌, ◌≤◌, ◌^◌, IfOk};
+ghost use Rattle.std.specs.Prelude.{◌≡◌, ◌≤◌, ◌^◌, IfOk, IfErr};
 ghost use Rattle.sqlite_value.specs.declared.value.Value.TheVariants.{Int, Text as Bytes};
 ghost use Rattle.sqlite_value.specs.Value.{owned};
 ghost use Rattle.plant_tables.specs.Encoding.{number, flag};
@@ -7,9 +7,11 @@ use plant_base::{Amount, Id, Moment, Text};
 use plant_forms::Fault;
 use sqlite_value::value::ValueRef;
 
-/// A number of any size: [`Fault::Store`] where it is above 2^63 - 1, which no column holds.
+/// A number of any size: [`Fault::Store`] exactly where it is above 2^63 - 1, which no column holds.
 pub fn large(n: u64) -> Result<ValueRef<'static>, Fault>
-    ensures { IfOk result (λ value. owned value ≡ number n) }
+    ensures value { IfOk result (λ value. owned value ≡ number n) }
+    // It is refused for its size alone, and then as the store's.
+    ensures above { IfErr result (λ fault. (2 ^ 63 ≤ n) × (fault ≡ Fault.Store)) }
 {
     match i64::try_from(n) {
         Ok(n) => Ok(ValueRef::Int(n)),

@@ -1,4 +1,4 @@
-ghost use Rattle.std.specs.Prelude.{◌≡◌, false, IsTrue, OnOk, OnErr};
+ghost use Rattle.std.specs.Prelude.{◌≡◌, false, IsTrue, OnOk, OnErr, IsOkUnless};
 ghost use Rattle.sqlite.specs.Effect.{Database, IsDatabase};
 ghost use Rattle.sqlite.specs.State.{HasCleanDisk, Survives, KeepsCommit};
 ghost use Rattle.sqlite.specs.Held.{state};
@@ -29,14 +29,15 @@ impl<'a> Work for Writing<'a> {
     }
 }
 
-/// Makes the changes in one transaction, whose commit is the last call of the store. [`Fault::Store`] comes where
-/// the store refuses one, or where a number is above 2^63 - 1, and [`Fault::Memory`] where there was no memory; then
-/// nothing is changed, but a commit that failed may be found made after a stop.
+/// Makes the changes in one transaction, whose commit is the last call of the store. The one fault is
+/// [`Fault::Store`], where the store refuses one, or where a number is above 2^63 - 1; then nothing is changed, but a
+/// commit that failed may be found made after a stop.
 pub fn commit_changes<S: Alter>(
     conn: &mut Connection<S>,
     changes: &[RowChange],
 ) -> Result<(), Fault>
     requires { conn.old.in_transaction ≡ false }
+    ensures fault { IsOkUnless result Fault.Store }
     ensures mode { conn.new.in_transaction ≡ false }
     ensures accepted { HasCleanDisk (state S.Store conn.new) → (t : Tables) → IsAt (state S.Store conn.old) t → AreKeyed t → AreFresh changes.now t
         → OnOk result (IsAt (state S.Store conn.new) (changed_all changes.now t) × KeepsOthers desk_forms (state S.Store conn.old).now (state S.Store conn.new).now) }
@@ -68,11 +69,12 @@ impl Work for Opening {
     }
 }
 
-/// Makes the tables of a desk that has accepted nothing, in one transaction. [`Fault::Store`] comes where the store
-/// refuses one, as where its name is taken, and [`Fault::Memory`] where there was no memory; then nothing is
-/// changed, but a commit that failed may be found made after a stop.
+/// Makes the tables of a desk that has accepted nothing, in one transaction. The one fault is [`Fault::Store`], where
+/// the store refuses one, as where its name is taken; then nothing is changed, but a commit that failed may be found
+/// made after a stop.
 pub fn commit_opening<S: Alter>(conn: &mut Connection<S>) -> Result<(), Fault>
     requires { conn.old.in_transaction ≡ false }
+    ensures fault { IsOkUnless result Fault.Store }
     ensures mode { conn.new.in_transaction ≡ false }
     ensures made { HasCleanDisk (state S.Store conn.new) → IsSettled (state S.Store conn.old) → IsDatabase (state S.Store conn.old).now → AreFree desk_forms (state S.Store conn.old).now.schema
         → OnOk result (IsAt (state S.Store conn.new) opening_tables × KeepsOthers desk_forms (state S.Store conn.old).now (state S.Store conn.new).now) }

@@ -52,7 +52,7 @@ pub(crate) const PUT_DEFINITION: &str =
 pub const RECIPE: Form<'static> = Form {
     name: b"recipe",
     columns: &[
-        Text(b"recipe"),
+        Text(b"id"),
         Integer(b"version"),
         Text(b"product"),
         Integer(b"base"),
@@ -65,10 +65,10 @@ pub const RECIPE: Form<'static> = Form {
 };
 
 pub(crate) const CREATE_RECIPE: &str =
-    "CREATE TABLE recipe (recipe TEXT NOT NULL, version INTEGER NOT NULL, product TEXT NOT NULL, base INTEGER NOT NULL, low INTEGER NOT NULL, high INTEGER NOT NULL, title TEXT NOT NULL, state TEXT NOT NULL, UNIQUE (recipe, version)) STRICT";
+    "CREATE TABLE recipe (id TEXT NOT NULL, version INTEGER NOT NULL, product TEXT NOT NULL, base INTEGER NOT NULL, low INTEGER NOT NULL, high INTEGER NOT NULL, title TEXT NOT NULL, state TEXT NOT NULL, UNIQUE (id, version)) STRICT";
 
 pub(crate) const PUT_RECIPE: &str =
-    "INSERT OR REPLACE INTO recipe (recipe, version, product, base, low, high, title, state) VALUES (?1, ?2, ?3, ?4, ?5, ?6, ?7, ?8)";
+    "INSERT OR REPLACE INTO recipe (id, version, product, base, low, high, title, state) VALUES (?1, ?2, ?3, ?4, ?5, ?6, ?7, ?8)";
 
 /// The lines of master recipes.
 pub const RECIPE_LINE: Form<'static> = Form {

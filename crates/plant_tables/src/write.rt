@@ -1,4 +1,4 @@
-ghost use Rattle.std.specs.Prelude.{◌≡◌, ◌≤◌, map, IfOk, OnOk};
+ghost use Rattle.std.specs.Prelude.{◌≡◌, ◌≤◌, map, IfOk, OnOk, IsOkUnless};
 ghost use Rattle.sqlite.specs.State.{HasCleanDisk, Survives, KeepsCommit};
 ghost use Rattle.sqlite.specs.Held.{state};
 ghost use Rattle.plant_forms.specs.Moves.{Moves, Founds};
@@ -19,9 +19,10 @@ use plant_forms::{Fault, make_tables, put_row, take_rows};
 use plant_view::RowChange;
 use sqlite::{Alter, Transaction};
 
-/// Makes one change inside the transaction, by one statement. [`Fault::Store`] comes where the store refuses it, or
-/// where a number is above 2^63 - 1, and [`Fault::Memory`] where there was no memory.
+/// Makes one change inside the transaction, by one statement. The one fault is [`Fault::Store`], where the store
+/// refuses it, or where a number is above 2^63 - 1.
 pub fn write_change<S: Alter>(tx: &mut Transaction<'_, S>, change: &RowChange) -> Result<(), Fault>
+    ensures fault { IsOkUnless result Fault.Store }
     ensures same_reference { tx.new.conn.ghost_name ≡ tx.old.conn.ghost_name }
     ensures moved { HasCleanDisk (state S.Store tx.new.conn.now) → OnOk result (Moves desk_forms (state S.Store tx.old.conn.now) (state S.Store tx.new.conn.now) (rows_changed change.now)) }
     ensures kept { HasCleanDisk (state S.Store tx.new.conn.now) → KeepsCommit (state S.Store tx.old.conn.now) (state S.Store tx.new.conn.now) }
@@ -64,12 +65,13 @@ pub fn write_change<S: Alter>(tx: &mut Transaction<'_, S>, change: &RowChange) -
     }
 }
 
-/// Makes the changes in turn inside the transaction, up to the first that the store refuses. The faults are those
-/// of [`write_change`].
+/// Makes the changes in turn inside the transaction, up to the first that the store refuses. The fault is that of
+/// [`write_change`].
 pub fn write_changes<S: Alter>(
     tx: &mut Transaction<'_, S>,
     changes: &[RowChange],
 ) -> Result<(), Fault>
+    ensures fault { IsOkUnless result Fault.Store }
     ensures same_reference { tx.new.conn.ghost_name ≡ tx.old.conn.ghost_name }
     ensures moved { HasCleanDisk (state S.Store tx.new.conn.now) → OnOk result (Moves desk_forms (state S.Store tx.old.conn.now) (state S.Store tx.new.conn.now) (all_rows_changed changes.now)) }
     ensures tables { HasCleanDisk (state S.Store tx.new.conn.now) → OnOk result (MovesTables changes.now (state S.Store tx.old.conn.now).now (state S.Store tx.new.conn.now).now) }
@@ -82,10 +84,11 @@ pub fn write_changes<S: Alter>(
     Ok(())
 }
 
-/// Makes the tables of a schema, and leaves them empty. [`Fault::Store`] comes where the store refuses one, as
-/// where its name is taken, and [`Fault::Memory`] where there was no memory.
+/// Makes the tables of a schema, and leaves them empty. The one fault is [`Fault::Store`], where the store refuses
+/// one, as where its name is taken.
 pub fn create<S: Alter>(tx: &mut Transaction<'_, S>, schema: u64) -> Result<(), Fault>
     requires { schema ≡ newest_schema }
+    ensures fault { IsOkUnless result Fault.Store }
     ensures same_reference { tx.new.conn.ghost_name ≡ tx.old.conn.ghost_name }
     ensures founded { HasCleanDisk (state S.Store tx.new.conn.now) → OnOk result (Founds desk_forms (state S.Store tx.old.conn.now) (state S.Store tx.new.conn.now)) }
     ensures kept { HasCleanDisk (state S.Store tx.new.conn.now) → KeepsCommit (state S.Store tx.old.conn.now) (state S.Store tx.new.conn.now) }

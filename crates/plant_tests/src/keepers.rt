@@ -13,19 +13,19 @@ use std::alloc::Global;
 use std::process::Abort;
 use std::test::Fail;
 
-fn id(bytes: &[u8]) -> Result<Id, Fail> {
+pub(crate) fn id(bytes: &[u8]) -> Result<Id, Fail> {
     Ok(Id::read(bytes).ok_or("no id")?)
 }
 
-fn text(bytes: &[u8]) -> Result<Text, Fail> {
+pub(crate) fn text(bytes: &[u8]) -> Result<Text, Fail> {
     Ok(Text::read(bytes).ok_or("no text")?)
 }
 
-fn amount(number: u64) -> Result<Amount, Fail> {
+pub(crate) fn amount(number: u64) -> Result<Amount, Fail> {
     Ok(Amount::new(number).ok_or("no amount")?)
 }
 
-fn told(body: Command) -> Result<Envelope, Fail> {
+pub(crate) fn told(body: Command) -> Result<Envelope, Fail> {
     Ok(Envelope {
         at: Moment::zero(),
         by: text(b"anna")?,
@@ -34,14 +34,14 @@ fn told(body: Command) -> Result<Envelope, Fail> {
     })
 }
 
-fn class() -> Result<Envelope, Fail> {
+pub(crate) fn class() -> Result<Envelope, Fail> {
     told(Command::AddClass(AddClass {
         class: id(b"RAW")?,
         name: text(b"Raw goods")?,
     }))
 }
 
-fn definition(def: &[u8]) -> Result<Envelope, Fail> {
+pub(crate) fn definition(def: &[u8]) -> Result<Envelope, Fail> {
     told(Command::AddDefinition(AddDefinition {
         def: id(def)?,
         class: id(b"RAW")?,
@@ -50,7 +50,7 @@ fn definition(def: &[u8]) -> Result<Envelope, Fail> {
     }))
 }
 
-fn receipt(lot: &[u8], def: &[u8], number: u64) -> Result<Envelope, Fail> {
+pub(crate) fn receipt(lot: &[u8], def: &[u8], number: u64) -> Result<Envelope, Fail> {
     told(Command::Receive(Receive {
         lot: id(lot)?,
         def: id(def)?,
@@ -77,7 +77,7 @@ fn split(new: &[u8], number: u64) -> Result<Envelope, Fail> {
     }))
 }
 
-fn part(lot: &[u8], sub: u16, number: u64) -> Result<Part, Fail> {
+pub(crate) fn part(lot: &[u8], sub: u16, number: u64) -> Result<Part, Fail> {
     Ok(Part {
         lot: id(lot)?,
         sub,
@@ -267,7 +267,7 @@ fn what_is_not_there_has_no_trace(rt: HostRuntime) -> Result<(), Fail> {
 
 // ---- a batch
 
-fn header() -> Result<Header, Fail> {
+pub(crate) fn header() -> Result<Header, Fail> {
     Ok(Header {
         recipe: id(b"CAKE")?,
         version: 1,
@@ -280,7 +280,7 @@ fn header() -> Result<Header, Fail> {
 }
 
 /// An input, an output, a parameter and a phase.
-fn lines(alloc: Global) -> Result<Vec<RecipeLine>, Fail> {
+pub(crate) fn lines(alloc: Global) -> Result<Vec<RecipeLine>, Fail> {
     let mut lines = Vec::new(alloc);
     lines.push(RecipeLine::In {
         def: id(b"FLOUR")?,
@@ -302,14 +302,14 @@ fn lines(alloc: Global) -> Result<Vec<RecipeLine>, Fail> {
     Ok(lines)
 }
 
-fn recipe(alloc: Global) -> Result<Envelope, Fail> {
+pub(crate) fn recipe(alloc: Global) -> Result<Envelope, Fail> {
     told(Command::AddRecipe(AddRecipe {
         header: header()?,
         lines: Items::new(lines(alloc)?),
     }))
 }
 
-fn approval() -> Result<Envelope, Fail> {
+pub(crate) fn approval() -> Result<Envelope, Fail> {
     told(Command::Approve(Approve {
         recipe: id(b"CAKE")?,
         version: 1,
@@ -331,7 +331,7 @@ fn import(alloc: Global) -> Result<Envelope, Fail> {
     }))
 }
 
-fn release() -> Result<Envelope, Fail> {
+pub(crate) fn release() -> Result<Envelope, Fail> {
     told(Command::Release(Release {
         order: id(b"O-1")?,
         batch: id(b"B-1")?,
@@ -358,7 +358,7 @@ fn production() -> Result<Envelope, Fail> {
 }
 
 /// Two definitions, and a lot of the first.
-fn goods(alloc: Global) -> Result<Vec<Envelope>, Fail> {
+pub(crate) fn goods(alloc: Global) -> Result<Vec<Envelope>, Fail> {
     let mut list = Vec::new(alloc);
     list.push(class()?)?;
     list.push(definition(b"FLOUR")?)?;
@@ -368,7 +368,7 @@ fn goods(alloc: Global) -> Result<Vec<Envelope>, Fail> {
 }
 
 /// A recipe and an order of it, which is released.
-fn plans(alloc: Global) -> Result<Vec<Envelope>, Fail> {
+pub(crate) fn plans(alloc: Global) -> Result<Vec<Envelope>, Fail> {
     let mut list = Vec::new(alloc);
     list.push(recipe(alloc)?)?;
     list.push(approval()?)?;

@@ -1,20 +1,35 @@
-//! A run over a keeper whose store fails.
+//! Runs over a keeper that fails, and runs of so many reads.
 use plant_base::Envelope;
 use plant_desk::{Answer, DeskFault, Keeper, ListKeeper, Question, Reply};
-use plant_text::{RunEnd, run_lines};
+use plant_text::{RunEnd, run_lines, run_lines_within};
+use std::io;
+use std::io::Read;
+use std::process::Abort;
 use std::test::Fail;
 
-/// A keeper over lists that executes so many commands, and whose store fails at the next one.
+/// How a question fails.
+#[derive(Clone, Copy, Debug, PartialEq, Eq)]
+enum AskFault {
+    Store,
+    Memory,
+}
+
+/// A keeper over lists that executes so many commands, and whose store fails at the next one. The first question may
+/// fail too.
 #[derive(Drop)]
 struct FailingKeeper {
     desk: ListKeeper,
     commands: u64,
+    first_question: Option<AskFault>,
     is_shut: bool,
 }
 
 impl Keeper for FailingKeeper {
-    ghost use Rattle.std.specs.Prelude.{◌≡◌};
+    ghost use Rattle.std.specs.Prelude.{◌≡◌, true};
+    ghost use Rattle.std.proofs.Common.{◌∙◌, sym};
     ghost use Rattle.plant_base.specs.State.{newest_schema};
+
+    ghost has_store = { true };
 
     ghost honest = { λ _. Unit {0} };
 
@@ -25,6 +40,8 @@ impl Keeper for FailingKeeper {
     ghost shut = { λ k. k.is_shut };
 
     ghost leaves = { λ k P. P k.desk };
+
+    ghost spares = { λ old new. old.desk ≡ new.desk };
 
     ghost Beside = { Unit {0} };
 
@@ -39,17 +56,25 @@ impl Keeper for FailingKeeper {
             return Err(DeskFault::Store);
         }
         self.commands -= 1;
-        self.desk.execute(envelope)
+        Keeper::execute(&mut self.desk, envelope)
     }
 
     fn ask(&mut self, question: &Question) -> Result<Answer, DeskFault> {
         if self.is_shut {
             return Err(DeskFault::Shut);
         }
-        self.desk.ask(question)
+        match self.first_question.take() {
+            Some(AskFault::Store) => Err(DeskFault::Store),
+            Some(AskFault::Memory) => Err(DeskFault::Memory),
+            None => self.desk.ask(question),
+        }
     }
 
     ghost leaves_state = { λ k s h is_open stood. stood };
+
+    ghost leaves_something = { λ k left. left };
+
+    ghost spares_leaves = { λ a b s h same left. sym same ∙ left };
 }
 
 const CLASS: &[u8] =
@@ -64,6 +89,7 @@ fn a_store_may_fail(rt: HostRuntime) -> Result<(), Fail> {
     let mut keeper = FailingKeeper {
         desk: ListKeeper::new(rt.alloc()),
         commands: 2,
+        first_question: None,
         is_shut: false,
     };
     let mut rest = input.as_slice();
@@ -76,4 +102,75 @@ fn a_store_may_fail(rt: HostRuntime) -> Result<(), Fail> {
     );
     assert!(rt; matches!(keeper.ask(&Question::Desk), Err(DeskFault::Shut)));
     Ok(())
+}
+
+/// How a run over a question and a command ends whose question fails so, and what is written.
+fn ends_at_a_question(rt: &impl AllocGlobal, fault: AskFault) -> (RunEnd, Vec<u8>) {
+    let mut keeper = FailingKeeper {
+        desk: ListKeeper::new(rt.alloc()),
+        commands: 1,
+        first_question: Some(fault),
+        is_shut: false,
+    };
+    let mut rest: &[u8] = b"{\"ask\":\"desk\"}\n{\"ask\":\"desk\"}\n";
+    let mut out = Vec::new(rt.alloc());
+    let end = run_lines(rt.alloc(), &mut rest, &mut out, &mut keeper);
+    (end, out)
+}
+
+#[test]
+fn a_question_may_fail(rt: HostRuntime) {
+    let (end, out) = ends_at_a_question(&rt, AskFault::Store);
+    assert!(rt; end == RunEnd::Fault(DeskFault::Store));
+    assert_eq!(rt; out.as_slice(), b"{\"fault\":1}\n".as_slice());
+    let (end, out) = ends_at_a_question(&rt, AskFault::Memory);
+    assert!(rt; end == RunEnd::Fault(DeskFault::Memory));
+    assert_eq!(rt; out.as_slice(), b"{\"fault\":2}\n".as_slice());
+}
+
+/// Checks how a run of so many reads ends, each of which takes what is there.
+fn ends_after(rt: &(impl Abort + AllocGlobal), most: u64, wanted: RunEnd, text: &[u8]) {
+    let mut keeper = ListKeeper::new(rt.alloc());
+    let mut rest: &[u8] = b"{\"ask\":\"desk\"}\n{\"ask\":\"desk\"}";
+    let mut out = Vec::new(rt.alloc());
+    let end = run_lines_within(rt.alloc(), &mut rest, &mut out, &mut keeper, most);
+    assert!(rt; end == wanted);
+    assert!(rt; out.as_slice() == text);
+}
+
+/// The second read tells the end of the input. Before it the part behind the last LF isn't answered.
+#[test]
+fn reads_may_run_out(rt: HostRuntime) {
+    let first = b"{\"schema\":1,\"seq\":0}\n";
+    let both = b"{\"schema\":1,\"seq\":0}\n{\"schema\":1,\"seq\":0}\n";
+    ends_after(&rt, 0, RunEnd::Endless, b"");
+    ends_after(&rt, 1, RunEnd::Endless, first);
+    ends_after(&rt, 2, RunEnd::Done { refused: false }, both);
+}
+
+/// So many LFs, one a read.
+#[derive(Drop)]
+struct LineFeeds {
+    left: u64,
+}
+
+impl Read for LineFeeds {
+    fn read(&mut self, buf: &mut [u8]) -> io::Result<usize> {
+        if self.left == 0 || buf.is_empty() {
+            return Ok(0);
+        }
+        self.left -= 1;
+        buf[0] = b'\n';
+        Ok(1)
+    }
+}
+
+#[test]
+fn a_million_reads_are_few(rt: HostRuntime) {
+    let mut keeper = ListKeeper::new(rt.alloc());
+    let mut reader = LineFeeds { left: 1_000_000 };
+    let mut out = Vec::new(rt.alloc());
+    let end = run_lines(rt.alloc(), &mut reader, &mut out, &mut keeper);
+    assert!(rt; end == RunEnd::Done { refused: false });
+    assert!(rt; out.is_empty());
 }

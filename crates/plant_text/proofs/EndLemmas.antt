@@ -1,12 +1,12 @@
 -- How a run ends.
-use Rattle.std.proofs.Common.{◌≡◌, ℕ, List, [], ◌∷◌, ◌++◌, Bool, false, Option, sym, ap, ◌∙◌, subst}
+use Rattle.std.proofs.Common.{◌≡◌, ℕ, List, [], ◌∷◌, ◌++◌, Bool, false, Option, sym, ap, ◌∙◌, subst, inl, inr}
 use Rattle.std.proofs.lemmas.List.{map-append}
 use Rattle.std.specs.Io.KnownBytes.{IsAtEnd}
 use Rattle.plant_base.specs.State.{State}
 use Rattle.plant_desk.specs.Keeping.{States}
 use Rattle.plant_text.specs.declared.turns.Stop.{Stop}
 use Rattle.plant_text.specs.declared.turns.Stop.TheVariants as S
-use Rattle.plant_text.specs.Session.{Entry, fold, Told, Stopped, Ends, entry_of, entries, ended_lines, all_lines, part_from}
+use Rattle.plant_text.specs.Session.{Entry, fold, Told, Stopped, EndsWithin, nothing, entry_of, entries, ended_lines, all_lines, part_from}
 use Rattle.plant_text.specs.Turns.{LastEnds, end_of}
 use Rattle.plant_text.specs.declared.run.RunEnd.{RunEnd}
 use Rattle.plant_text.specs.declared.run.RunEnd.TheVariants as E
@@ -32,10 +32,10 @@ last_entry bytes held e = ap entry_of (e ∙ held_after-front [] bytes) ∙ last
 pub read_ends : (k : ℕ) (s : State) (bytes : List ℕ) (a b : Option (List ℕ)) (stands : States) (p q : Bool) → Told k s (entries_after [] bytes) a b stands p q → Told k s (entries (ended_lines bytes)) a b stands p q
 read_ends k s bytes a b stands p q x = subst (λ (es : List Entry). Told k s es a b stands p q) (ended_entries bytes) x
 
-pub stopped_ends : (k : ℕ) (s : State) (bytes : List ℕ) (left a b : Option (List ℕ)) (stands : States) (shut : Bool) (leaves : States → Type 0) (stop : Stop)
-    → ((e : Entry) → Stopped k s (entries_after [] bytes ++ e ∷ []) a b stands shut leaves stop) → Ends k s bytes left a b stands shut leaves (end_of stop)
-stopped_ends k s bytes left a b stands shut leaves S.Write h = subst (λ (es : List Entry). Stopped k s es a b stands shut leaves S.Write) (all_entries bytes) (h (entry_of (part_from [] bytes)))
-stopped_ends k s bytes left a b stands shut leaves (S.Fault f) h = subst (λ (es : List Entry). Stopped k s es a b stands shut leaves (S.Fault f)) (all_entries bytes) (h (entry_of (part_from [] bytes)))
+pub stopped_ends : (most k : ℕ) (s : State) (bytes : List ℕ) (left a b : Option (List ℕ)) (stands : States) (shut : Bool) (leaves : States → Type 0) (stop : Stop)
+    → ((e : Entry) → Stopped k s (entries_after [] bytes ++ e ∷ []) a b stands shut leaves stop) → EndsWithin most k s bytes left a b stands shut leaves (end_of stop)
+stopped_ends most k s bytes left a b stands shut leaves S.Write h = inr (subst (λ (es : List Entry). Stopped k s (es ++ nothing ∷ []) a b stands shut leaves S.Write) (ended_entries bytes) (h nothing))
+stopped_ends most k s bytes left a b stands shut leaves (S.Fault f) h = inr (subst (λ (es : List Entry). Stopped k s (es ++ nothing ∷ []) a b stands shut leaves (S.Fault f)) (ended_entries bytes) (h nothing))
 
 last_entries : (bytes held : List ℕ) → held ≡ held_after [] bytes → entries_after [] bytes ++ entry_of held ∷ [] ≡ entries (all_lines bytes)
 last_entries bytes held e = ap (λ x. entries_after [] bytes ++ x ∷ []) (last_entry bytes held e) ∙ all_entries bytes
@@ -53,15 +53,15 @@ last_stops k j s mid now bytes held a b c p q shut leaves stop x same_k same_hel
     subst (λ (es : List Entry). Stopped k s es a c now shut leaves stop) (last_entries bytes held same_held)
     (told_stops k s mid now (entries_after [] bytes) (entry_of held ∷ []) a b c p q shut leaves stop x (λ t stood. subst (λ (n : ℕ). Stopped n t (entry_of held ∷ []) b c now shut leaves stop) same_k (y t stood)))
 
-pub last_ends : (k j : ℕ) (s : State) (mid now : States) (bytes held : List ℕ) (left a b c : Option (List ℕ)) (q : Bool) (shut : Bool) (leaves : States → Type 0) (end : RunEnd)
+pub last_ends : (most k j : ℕ) (s : State) (mid now : States) (bytes held : List ℕ) (left a b c : Option (List ℕ)) (q : Bool) (shut : Bool) (leaves : States → Type 0) (end : RunEnd)
     → Told k s (entries_after [] bytes) a b mid false q → j ≡ k → held ≡ held_after [] bytes → IsAtEnd left → ((t : State) → mid t → LastEnds j t (entry_of held) b c now shut leaves q end)
-    → Ends k s bytes left a c now shut leaves end
-last_ends k j s mid now bytes held left a b c q shut leaves (E.Done r) x same_k same_held l y =
+    → EndsWithin most k s bytes left a c now shut leaves end
+last_ends most k j s mid now bytes held left a b c q shut leaves (E.Done r) x same_k same_held l y =
     (l, last_told k j s mid now bytes held a b c false q r x same_k same_held (λ t stood. (y t stood).0), (y (fold s (entries_after [] bytes)) x.state).1)
-last_ends k j s mid now bytes held left a b c q shut leaves E.Read x same_k same_held l y = absurd (y (fold s (entries_after [] bytes)) x.state)
-last_ends k j s mid now bytes held left a b c q shut leaves E.Endless x same_k same_held l y = absurd (y (fold s (entries_after [] bytes)) x.state)
-last_ends k j s mid now bytes held left a b c q shut leaves E.Write x same_k same_held l y = last_stops k j s mid now bytes held a b c false q shut leaves S.Write x same_k same_held y
-last_ends k j s mid now bytes held left a b c q shut leaves (E.Fault f) x same_k same_held l y = last_stops k j s mid now bytes held a b c false q shut leaves (S.Fault f) x same_k same_held y
+last_ends most k j s mid now bytes held left a b c q shut leaves E.Read x same_k same_held l y = absurd (y (fold s (entries_after [] bytes)) x.state)
+last_ends most k j s mid now bytes held left a b c q shut leaves E.Endless x same_k same_held l y = absurd (y (fold s (entries_after [] bytes)) x.state)
+last_ends most k j s mid now bytes held left a b c q shut leaves E.Write x same_k same_held l y = inl (l, last_stops k j s mid now bytes held a b c false q shut leaves S.Write x same_k same_held y)
+last_ends most k j s mid now bytes held left a b c q shut leaves (E.Fault f) x same_k same_held l y = inl (l, last_stops k j s mid now bytes held a b c false q shut leaves (S.Fault f) x same_k same_held y)
 
 pub last_stopped : (k : ℕ) (s : State) (e : Entry) (a b : Option (List ℕ)) (stands : States) (shut : Bool) (leaves : States → Type 0) (p : Bool) (stop : Stop)
     → Stopped k s (e ∷ []) a b stands shut leaves stop → LastEnds k s e a b stands shut leaves p (end_of stop)

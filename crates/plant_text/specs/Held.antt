@@ -1,7 +1,8 @@
 -- What a run holds of the line that is coming, and the entries that come out of bytes.
 use Rattle.std.specs.Prelude.{ℕ, ◌+◌, ◌==◌, List, [], ◌∷◌, ◌++◌, length, nat_lt, if◌then◌else◌}
 use Rattle.std.specs.Str.Lines.{strip_carriage_return}
-use Rattle.plant_text.specs.Session.{Entry, entry_of, longest_line}
+use Rattle.plant_text.specs.Lines.{longest_line}
+use Rattle.plant_text.specs.Session.{Entry, entry_of}
 
 -- the most bytes of a line that are held: the longest line, its CR, and one byte by which a longer line is told
 abbrev pub room : ℕ

@@ -4,6 +4,7 @@ pub mod Batches
 pub mod Commands
 pub mod Fields
 pub mod Held
+pub mod Leaving
 pub mod Lines
 pub mod Lists
 pub mod Natural

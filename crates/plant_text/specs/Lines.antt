@@ -1,5 +1,5 @@
 -- What a line says.
-use Rattle.std.specs.Prelude.{ℕ, List, if◌then◌else◌, codes, Option, None, option_map, option_and_then, is_some}
+use Rattle.std.specs.Prelude.{ℕ, List, length, nat_lt, if◌then◌else◌, codes, Option, None, option_map, option_and_then, is_some}
 use Rattle.std.specs.Str.{is_utf8}
 use Rattle.serde_json.specs.Data.{Data}
 use Rattle.serde_json.specs.Find.{get}
@@ -13,6 +13,14 @@ use Rattle.plant_text.specs.Questions.{question_of}
 abbrev pub shape_of : Data → Option Line
 shape_of d = if is_some (get (codes "do") d) then option_map L.Command (envelope_of d) else option_map L.Question (question_of d)
 
+-- the bytes of the longest line that is read, its LF and the one CR before it not counted
+abbrev pub longest_line : ℕ
+longest_line = 262144
+
 -- the shape of the value that serde_json reads from the bytes, which are UTF-8
+abbrev pub read_shape : List ℕ → Option Line
+read_shape bytes = if is_utf8 bytes then option_and_then shape_of (read bytes) else None
+
+-- what a line says; one that is too long says nothing
 unfoldable pub line_of : List ℕ → Option Line
-line_of bytes = if is_utf8 bytes then option_and_then shape_of (read bytes) else None
+line_of bytes = if nat_lt longest_line (length bytes) then None else read_shape bytes

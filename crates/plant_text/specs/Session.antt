@@ -1,5 +1,5 @@
 -- What is written for the lines of an input, and where the keeper stands then.
-use Rattle.std.specs.Prelude.{◌≡◌, ℕ, ◌==◌, ◌||◌, List, [], ◌∷◌, ◌++◌, length, map, Bool, true, false, nat_lt, if◌then◌else◌, Option, Some, None, ◌⊎◌}
+use Rattle.std.specs.Prelude.{◌≡◌, ℕ, ◌≤◌, ◌==◌, ◌||◌, List, [], ◌∷◌, ◌++◌, length, map, Bool, true, false, if◌then◌else◌, Option, Some, None, ◌⊎◌}
 use Rattle.std.specs.Str.Lines.{strip_carriage_return, lines}
 use Rattle.std.specs.Io.KnownBytes.{Appends, IsAtEnd}
 use Rattle.plant_base.specs.State.{State}
@@ -28,10 +28,6 @@ use Rattle.plant_text.specs.declared.turns.Stop.{Stop}
 use Rattle.plant_text.specs.declared.turns.Stop.TheVariants as S
 
 -- ---- lines
-
--- the bytes of the longest line that is read, its LF and the one CR before it not counted
-abbrev pub longest_line : ℕ
-longest_line = 262144
 
 -- the lines that an LF ends, where `part` stands before the bytes; one CR before the LF is dropped
 abbrev pub ended_from : List ℕ → List ℕ → List (List ℕ)
@@ -64,9 +60,9 @@ entry_where None = bad
 entry_where (Some (L.Command c)) = command c
 entry_where (Some (L.Question q)) = question q
 
--- an empty line is nothing, and a line that is too long or says nothing is bad
+-- an empty line is nothing, and any other that says nothing is bad
 unfoldable pub entry_of : List ℕ → Entry
-entry_of line = if length line == 0 then nothing else (if nat_lt longest_line (length line) then bad else entry_where (line_of line))
+entry_of line = if length line == 0 then nothing else entry_where (line_of line)
 
 abbrev pub entries : List (List ℕ) → List Entry
 entries ls = map entry_of ls
@@ -164,10 +160,26 @@ pub record Stopped (k : ℕ) (s : State) (es : List Entry) (old new : Option (Li
   pub told : Appends old between (texts k s answered)
   pub stops : StopsAt k (fold s answered) next between new stands shut leaves stop
 
--- how a run over these bytes ended, where `left` is what the reader has left
+-- the most reads that a run makes
+abbrev pub most_reads : ℕ
+most_reads = 1000000000
+
+-- The run stopped: at the end of the input at any line; else at a line whose LF was read, or behind these for want of
+-- memory. For what stands behind the last LF counts there as an empty line: nothing of it is executed or answered.
+abbrev pub StoppedAmong : ℕ → State → List ℕ → Option (List ℕ) → Option (List ℕ) → Option (List ℕ) → States → Bool → (States → Type 0) → Stop → Type 0
+StoppedAmong k s bytes left old new stands shut leaves stop =
+    (IsAtEnd left × Stopped k s (entries (all_lines bytes)) old new stands shut leaves stop)
+    ⊎ Stopped k s (entries (ended_lines bytes) ++ nothing ∷ []) old new stands shut leaves stop
+
+-- how a run of so many reads at most over these bytes ended, where `left` is what the reader has left; each read took a
+-- byte at least, so that an endless run has read as many bytes
+abbrev pub EndsWithin : ℕ → ℕ → State → List ℕ → Option (List ℕ) → Option (List ℕ) → Option (List ℕ) → States → Bool → (States → Type 0) → RunEnd → Type 0
+EndsWithin most k s bytes left old new stands shut leaves (E.Done refused) = IsAtEnd left × Told k s (entries (lines bytes)) old new stands false refused × (shut ≡ false)
+EndsWithin most k s bytes left old new stands shut leaves E.Read = (refused : Bool) × Told k s (entries (ended_lines bytes)) old new stands false refused × (shut ≡ false)
+EndsWithin most k s bytes left old new stands shut leaves E.Endless = (refused : Bool) × Told k s (entries (ended_lines bytes)) old new stands false refused × (shut ≡ false) × (most ≤ length bytes)
+EndsWithin most k s bytes left old new stands shut leaves E.Write = StoppedAmong k s bytes left old new stands shut leaves S.Write
+EndsWithin most k s bytes left old new stands shut leaves (E.Fault f) = StoppedAmong k s bytes left old new stands shut leaves (S.Fault f)
+
+-- how a run over these bytes ended
 abbrev pub Ends : ℕ → State → List ℕ → Option (List ℕ) → Option (List ℕ) → Option (List ℕ) → States → Bool → (States → Type 0) → RunEnd → Type 0
-Ends k s bytes left old new stands shut leaves (E.Done refused) = IsAtEnd left × Told k s (entries (lines bytes)) old new stands false refused × (shut ≡ false)
-Ends k s bytes left old new stands shut leaves E.Read = (refused : Bool) × Told k s (entries (ended_lines bytes)) old new stands false refused × (shut ≡ false)
-Ends k s bytes left old new stands shut leaves E.Endless = (refused : Bool) × Told k s (entries (ended_lines bytes)) old new stands false refused × (shut ≡ false)
-Ends k s bytes left old new stands shut leaves E.Write = Stopped k s (entries (all_lines bytes)) old new stands shut leaves S.Write
-Ends k s bytes left old new stands shut leaves (E.Fault f) = Stopped k s (entries (all_lines bytes)) old new stands shut leaves (S.Fault f)
+Ends k s bytes left old new stands shut leaves end = EndsWithin most_reads k s bytes left old new stands shut leaves end

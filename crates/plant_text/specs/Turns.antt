@@ -1,14 +1,17 @@
 -- How the parts of a run end.
-use Rattle.std.specs.Prelude.{◌≡◌, ℕ, List, [], ◌∷◌, ◌++◌, Bool, true, false, Option, Result, Ok, Err}
+use Rattle.std.specs.Prelude.{◌≡◌, ℕ, List, [], ◌∷◌, ◌++◌, Bool, true, false, Option, Result, Ok, Err, ◌⊎◌}
 use Rattle.std.specs.Io.KnownBytes.{Appends}
 use Rattle.plant_base.specs.State.{State}
 use Rattle.plant_base.specs.declared.refusal.Refusal.TheVariants.{BadForm}
 use Rattle.plant_desk.specs.Keeping.{States}
 use Rattle.plant_desk.specs.declared.reply.Reply.TheVariants.{Refused}
+use Rattle.plant_desk.specs.declared.question.Answer.{Answer}
 use Rattle.plant_desk.specs.declared.reply.DeskFault.{DeskFault}
+use Rattle.plant_desk.specs.declared.reply.DeskFault.TheVariants.{Memory}
+use Rattle.plant_text.specs.Answers.{text_of_answer}
 use Rattle.plant_text.specs.Replies.{reply_text, fault_text}
 use Rattle.plant_text.specs.Writes.{with_lf, AppendsFront}
-use Rattle.plant_text.specs.Session.{Entry, entry_text, after, is_refused, Told, StopsAt, Stopped}
+use Rattle.plant_text.specs.Session.{Entry, entry_text, after, is_refused, is_unknown, Told, StopsAt, Stopped}
 use Rattle.plant_text.specs.declared.run.RunEnd.{RunEnd}
 use Rattle.plant_text.specs.declared.run.RunEnd.TheVariants as E
 use Rattle.plant_text.specs.declared.turns.Stop.{Stop}
@@ -23,6 +26,12 @@ TurnEnds k s e old new stands shut leaves (Err stop) = StopsAt k s e old new sta
 abbrev pub FaultWritten : DeskFault → Option (List ℕ) → Option (List ℕ) → Stop → Type 0
 FaultWritten f old new S.Write = AppendsFront old new (with_lf (fault_text f))
 FaultWritten f old new (S.Fault g) = (g ≡ f) × Appends old new (with_lf (fault_text f))
+
+-- what was written of an answer: its text, or the line of want of memory where its text couldn't be made
+abbrev pub AnswerWritten : Answer → Option (List ℕ) → Option (List ℕ) → Result Bool Stop → Type 0
+AnswerWritten a old new (Ok refused) = Appends old new (with_lf (text_of_answer a)) × (refused ≡ is_unknown a)
+AnswerWritten a old new (Err S.Write) = AppendsFront old new (with_lf (text_of_answer a)) ⊎ FaultWritten Memory old new S.Write
+AnswerWritten a old new (Err (S.Fault f)) = FaultWritten Memory old new (S.Fault f)
 
 -- what was written of a bad line's reply
 abbrev pub BadWritten : Option (List ℕ) → Option (List ℕ) → Result Bool Stop → Type 0

@@ -20,5 +20,5 @@ mod writes;
 pub use answers::answer_text;
 pub use read::{Line, LineFault, read_line};
 pub use replies::{ReplyText, fault_line, reply_line};
-pub use run::{RunEnd, run_lines};
+pub use run::{RunEnd, run_lines, run_lines_within};
 pub use writes::{Unwritten, write_line, write_text};

@@ -1,8 +1,8 @@
 //! What a line says.
-ghost use Rattle.std.specs.Prelude.{◌≡◌, Some, None, IfOk, IsErrOf};
+ghost use Rattle.std.specs.Prelude.{◌≡◌, ◌<◌, length, Some, None, IfOk, IsErrOf};
 ghost use Rattle.serde_json.specs.Errors.{IsMemory};
 ghost use Rattle.serde_json.specs.View.{view};
-ghost use Rattle.plant_text.specs.Lines.{shape_of, line_of};
+ghost use Rattle.plant_text.specs.Lines.{longest_line, shape_of, line_of};
 ghost use Rattle.plant_text.specs.Lists.{Reads};
 
 use crate::commands::envelope_of;
@@ -25,7 +25,7 @@ pub enum Line {
 /// Why a line says nothing.
 #[derive(Clone, Copy, Debug, PartialEq, Eq, Error)]
 pub enum LineFault {
-    /// The line is no JSON text in UTF-8, or its value has the shape of no command and of no question.
+    /// The line is longer than 262,144 bytes or no JSON text in UTF-8, or its value has the shape of no command and of no question.
     #[error("no command and no question")]
     BadForm,
     /// Memory was refused while the line was read. Nothing is said of the line.
@@ -55,11 +55,14 @@ fn shape_of(alloc: Global, value: &Value) -> Result<Line, LineFault>
     }
 }
 
+/// The bytes of the longest line that is read, its LF and the one CR before it not counted.
+const LONGEST_LINE: usize = 262_144;
+
 /// Reads a line, which is given without its LF.
 ///
-/// The line is a JSON text (RFC 8259) in UTF-8, as serde_json reads it; of members with one name the last counts.
-/// A command is an object with `at` (a moment), `by` (a text), `do` (the word), the fields of the word, a `note` (a
-/// text) or none, and nothing else:
+/// The line is a JSON text (RFC 8259) of 262,144 bytes at most, in UTF-8, as serde_json reads it; of members with one
+/// name the last counts. A command is an object with `at` (a moment), `by` (a text), `do` (the word), the fields of the
+/// word, a `note` (a text) or none, and nothing else:
 ///
 /// - `add_class`: `class` (an id), `name` (a text)
 /// - `add_definition`: `def`, `class` (ids), `name` (a text), `unit` (a unit)
@@ -69,16 +72,33 @@ fn shape_of(alloc: Global, value: &Value) -> Result<Line, LineFault>
 /// - `split`: `lot` (an id), `sub` (0 to 99), `amount` (an amount), `new` (an id), `place` (a text)
 /// - `merge`: `new` (an id), `place` (a text), `parts` (objects with exactly `lot`, `sub` and `amount`)
 /// - `hold`, `unhold`: `lot`, `hold` (ids)
+/// - `add_recipe`: `recipe` (an id), `version` (a version), `product` (an id), `base`, `min`, `max` (amounts), `title` (a
+///   text), `lines` (objects with `kind` and exactly these: `in` and `out` with `def` and `qty`, `par` with `name` and
+///   `value`, `phase` with `unit`, `oper` and `phase`)
+/// - `approve`, `withdraw`: `recipe` (an id), `version` (a version)
+/// - `import_orders`: `orders` (objects with exactly `order`, `recipe`, `version`, `size`, `due` and `priority`)
+/// - `cancel_order`: `order` (an id)
+/// - `release`: `order`, `batch` (ids)
+/// - `batch`: `batch` (an id), `word` (`start`, `hold`, `restart`, `stop`, `abort`, `reset`, `pause` or `resume`)
+/// - `settle`, `close_batch`: `batch` (an id)
+/// - `phase_done`: `batch` (an id), `phase` (a phase's number)
+/// - `consume`: `batch`, `lot` (ids), `sub` (0 to 99), `amount` (an amount)
+/// - `produce`: `batch`, `lot`, `def` (ids), `amount` (an amount), `place` (a text)
 ///
-/// A question is exactly `{"ask":"desk"}`, or `{"ask":"lot","lot":ID}`. Moments, amounts and `sub` are whole numbers
-/// with no sign, fraction or exponent, within the rules of `plant_base`.
+/// A question is exactly `{"ask":"desk"}`; `{"ask":"lot","lot":ID}` and likewise with `order` and `batch`; or
+/// `{"ask":"back","lot":ID}` or `{"ask":"back","batch":ID}` and likewise with `forward`. Moments, amounts, versions and
+/// `sub` are whole numbers with no sign, fraction or exponent, within the rules of `plant_base`.
 ///
-/// `BadForm` comes exactly from a line that has none of these shapes. `Memory` may come for any line, since serde_json
-/// asks for memory first.
+/// `BadForm` comes exactly from a line that is longer or has none of these shapes. `Memory` may come for any line that
+/// isn't longer, since serde_json asks for memory first.
 pub fn read_line(alloc: Global, bytes: &[u8]) -> Result<Line, LineFault>
     ensures ok { IfOk result (λ line. line_of bytes.now ≡ Some line) }
     ensures bad_form { IsErrOf result LineFault.BadForm → line_of bytes.now ≡ None }
+    ensures long { longest_line < length bytes.now → IsErrOf result LineFault.BadForm }
 {
+    if bytes.len() > LONGEST_LINE {
+        return Err(LineFault::BadForm);
+    }
     let value = match Value::from_slice(alloc, bytes) {
         Ok(value) => value,
         Err(error) => return Err(fault_of(&error)),

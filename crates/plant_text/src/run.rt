@@ -3,7 +3,8 @@ ghost use Rattle.std.specs.Prelude.{◌≡◌, ℕ, ◌<◌, List, [], ◌∷◌
 ghost use Rattle.std.specs.Str.Lines.{strip_carriage_return};
 ghost use Rattle.std.specs.Io.KnownBytes.{Consumes};
 ghost use Rattle.plant_base.specs.State.{State};
-ghost use Rattle.plant_text.specs.Session.{Ends, entry_of};
+ghost use Rattle.plant_text.specs.Session.{Ends, EndsWithin, entry_of};
+ghost use Rattle.plant_text.specs.Leaving.{RunLeaves};
 ghost use Rattle.plant_text.specs.Turns.{PieceEnds, LastEnds, FaultWritten, end_of};
 ghost use Rattle.plant_text.specs.Held.{held_with, held_after, entries_after};
 
@@ -22,7 +23,7 @@ pub enum RunEnd {
     Read,
     /// A write failed, or took no byte. Of the line that comes next a front was written, and not all of it.
     Write,
-    /// The run has made 10^9 reads. The lines whose LF was read are answered, and what stands behind the last LF is not.
+    /// The run has made its 10^9 reads, each of which gave a byte at least. The lines whose LF was read are answered, and what stands behind the last LF is not.
     Endless,
     /// The keeper had this fault, or memory was refused outside it. Its line was written as the last one.
     Fault(DeskFault),
@@ -180,13 +181,14 @@ fn end_input<W: Write, K: Keeper>(
     }
 }
 
-/// Reads into `piece` and answers, up to the end of the input.
+/// Reads into `piece` and answers, up to the end of the input or so many reads.
 fn run_pieces<R: Read, W: Write, K: Keeper>(
     alloc: Global,
     reader: &mut R,
     writer: &mut W,
     keeper: &mut K,
     piece: &mut [u8],
+    most: u64,
 ) -> RunEnd
     requires open { K.shut keeper.old ≡ false }
     requires room { 0 < length piece.old }
@@ -195,13 +197,13 @@ fn run_pieces<R: Read, W: Write, K: Keeper>(
     ensures beside { K.honest keeper.new → (b : K.Beside) → K.beside keeper.old b → K.beside keeper.new b }
     ensures ends { (bytes : List ℕ) × Consumes (R.remaining reader.old) (R.remaining reader.new) bytes
         × (K.honest keeper.new → (s : State) → K.stands keeper.old s
-        → Ends (K.schema keeper.old) s bytes (R.remaining reader.new)
+        → EndsWithin most (K.schema keeper.old) s bytes (R.remaining reader.new)
         (W.contents writer.old) (W.contents writer.new)
         (K.stands keeper.new) (K.shut keeper.new) (K.leaves keeper.new) result) }
 {
     let mut held = Vec::new(alloc);
     let mut refused = false;
-    'reads: for _ in 0..MOST_READS {
+    'reads: for _made in 0..most {
         match reader.read(piece) {
             Ok(0) => return end_input(alloc, writer, keeper, &held, refused),
             Ok(n) => {
@@ -234,9 +236,7 @@ fn run_pieces<R: Read, W: Write, K: Keeper>(
 /// read or a write that is interrupted counts as failed.
 ///
 /// In the clause `ends`, `bytes` are those that the reader has lost and `s` is a state that the keeper stood at;
-/// nothing is said of where the keeper stands if it doesn't end honest. What a stop afterwards leaves follows from the
-/// trait's law `leaves_state` where the keeper is open, and stands in the clause where it is shut: the keeper's state,
-/// or that after the line at which the run stopped, and no other (`run_leaves` in `proofs/Leaving.antt`).
+/// nothing is said of where the keeper stands, and of what a stop leaves, if it doesn't end honest.
 pub fn run_lines<R: Read, W: Write, K: Keeper>(
     alloc: Global,
     reader: &mut R,
@@ -247,12 +247,37 @@ pub fn run_lines<R: Read, W: Write, K: Keeper>(
     ensures honest { K.honest keeper.new → K.honest keeper.old }
     ensures schema { K.honest keeper.new → K.schema keeper.new ≡ K.schema keeper.old }
     ensures beside { K.honest keeper.new → (b : K.Beside) → K.beside keeper.old b → K.beside keeper.new b }
+
+    // How the run ended, and what a stop leaves then.
     ensures ends { (bytes : List ℕ) × Consumes (R.remaining reader.old) (R.remaining reader.new) bytes
         × (K.honest keeper.new → (s : State) → K.stands keeper.old s
         → Ends (K.schema keeper.old) s bytes (R.remaining reader.new)
         (W.contents writer.old) (W.contents writer.new)
-        (K.stands keeper.new) (K.shut keeper.new) (K.leaves keeper.new) result) }
+        (K.stands keeper.new) (K.shut keeper.new) (K.leaves keeper.new) result
+        × RunLeaves s bytes (R.remaining reader.new) (K.stands keeper.new) (K.leaves keeper.new) result) }
+{
+    run_lines_within(alloc, reader, writer, keeper, MOST_READS)
+}
+
+/// Does as [`run_lines`] does, in so many reads at most.
+pub fn run_lines_within<R: Read, W: Write, K: Keeper>(
+    alloc: Global,
+    reader: &mut R,
+    writer: &mut W,
+    keeper: &mut K,
+    most: u64,
+) -> RunEnd
+    requires { K.shut keeper.old ≡ false }
+    ensures honest { K.honest keeper.new → K.honest keeper.old }
+    ensures schema { K.honest keeper.new → K.schema keeper.new ≡ K.schema keeper.old }
+    ensures beside { K.honest keeper.new → (b : K.Beside) → K.beside keeper.old b → K.beside keeper.new b }
+    ensures ends { (bytes : List ℕ) × Consumes (R.remaining reader.old) (R.remaining reader.new) bytes
+        × (K.honest keeper.new → (s : State) → K.stands keeper.old s
+        → EndsWithin most (K.schema keeper.old) s bytes (R.remaining reader.new)
+        (W.contents writer.old) (W.contents writer.new)
+        (K.stands keeper.new) (K.shut keeper.new) (K.leaves keeper.new) result
+        × RunLeaves s bytes (R.remaining reader.new) (K.stands keeper.new) (K.leaves keeper.new) result) }
 {
     let mut piece = [0; 4096];
-    run_pieces(alloc, reader, writer, keeper, &mut piece)
+    run_pieces(alloc, reader, writer, keeper, &mut piece, most)
 }

@@ -1,8 +1,8 @@
 //! One line: what it says, what the keeper does, what is written.
-ghost use Rattle.std.specs.Prelude.{◌≡◌, false, OnOk};
+ghost use Rattle.std.specs.Prelude.{◌≡◌, false, IfErr, IfOk, IsErrAnd, OnOk};
 ghost use Rattle.plant_base.specs.State.{State};
 ghost use Rattle.plant_text.specs.Session.{entry_of, is_refusal, is_unknown, command as command_entry, question as question_entry};
-ghost use Rattle.plant_text.specs.Turns.{TurnEnds, FaultWritten, BadWritten};
+ghost use Rattle.plant_text.specs.Turns.{TurnEnds, FaultWritten, AnswerWritten, BadWritten};
 
 use crate::answers::answer_text;
 use crate::read::{Line, LineFault, read_line};
@@ -21,9 +21,6 @@ pub enum Stop {
     /// The fault, whose line was written.
     Fault(DeskFault),
 }
-
-/// The bytes of the longest line that is read, its LF and the one CR before it not counted.
-const LONGEST_LINE: usize = 262_144;
 
 /// Writes a fault's line.
 pub(crate) fn tell_fault<W: Write>(writer: &mut W, fault: DeskFault) -> Stop
@@ -96,6 +93,29 @@ fn take_command<W: Write, K: Keeper>(
     }
 }
 
+/// Writes what came of a question: the answer's text, which may be a refusal, or the line of the fault.
+///
+/// Where memory is refused for the text, that fault's line is written in its place.
+fn tell_answer<W: Write>(
+    alloc: Global,
+    writer: &mut W,
+    asked: Result<Answer, DeskFault>,
+) -> Result<bool, Stop>
+    ensures answered { IfOk asked (λ answer. AnswerWritten answer (W.contents writer.old) (W.contents writer.new) result) }
+    ensures faulted { IfErr asked (λ fault. IsErrAnd result (FaultWritten fault (W.contents writer.old) (W.contents writer.new))) }
+{
+    match asked {
+        Ok(answer) => match answer_text(alloc, &answer) {
+            Ok(text) => match write_line(writer, text.as_bytes()) {
+                Ok(()) => Ok(is_unknown(&answer)),
+                Err(_) => Err(Stop::Write),
+            },
+            Err(_) => Err(tell_fault(writer, DeskFault::Memory)),
+        },
+        Err(cause) => Err(tell_fault(writer, cause)),
+    }
+}
+
 /// Asks a question, and writes the answer.
 fn take_question<W: Write, K: Keeper>(
     alloc: Global,
@@ -113,16 +133,7 @@ fn take_question<W: Write, K: Keeper>(
         (W.contents writer.old) (W.contents writer.new)
         (K.stands keeper.new) (K.shut keeper.new) (K.leaves keeper.new) result }
 {
-    match keeper.ask(question) {
-        Ok(answer) => match answer_text(alloc, &answer) {
-            Ok(text) => match write_line(writer, text.as_bytes()) {
-                Ok(()) => Ok(is_unknown(&answer)),
-                Err(_) => Err(Stop::Write),
-            },
-            Err(_) => Err(tell_fault(writer, DeskFault::Memory)),
-        },
-        Err(fault) => Err(tell_fault(writer, fault)),
-    }
+    tell_answer(alloc, writer, keeper.ask(question))
 }
 
 /// Takes one line. `true` where its reply is a refusal.
@@ -144,9 +155,6 @@ pub(crate) fn take_line<W: Write, K: Keeper>(
 {
     if line.is_empty() {
         return Ok(false);
-    }
-    if line.len() > LONGEST_LINE {
-        return tell_bad_form(writer);
     }
     match read_line(alloc, line) {
         Ok(Line::Command(envelope)) => take_command(writer, keeper, &envelope),

@@ -10,8 +10,7 @@ use Rattle.std.specs.BTreeSet.{BTreeSet, contains}
 use Rattle.std.proofs.lemmas.Bool.{false≢true}
 use Rattle.std.proofs.lemmas.List.Folds.{Any-from_list_any, list_any-from_Any}
 use Rattle.std.proofs.lemmas.Map.Views.{tells_apart}
-use Rattle.plant_trace.specs.contracts.node.NodeOrd.TheImpl.Laws.{matches_eq-law}
-use Rattle.plant_trace.specs.Nodes.{node_cmp, node_eq}
+use Rattle.plant_trace.specs.Nodes.{node_cmp, node_eq, node_ties}
 use Rattle.plant_trace.specs.Turned.{turned}
 use Rattle.plant_trace.specs.Reach.{IsNext, Lists}
 use Rattle.plant_trace.specs.Index.{set_has, index_has, is_pair, pairs_lead, Indexes, Links}
@@ -47,7 +46,7 @@ module _ (old mid new : BTreeMap Node (BTreeSet Node)) (near far : Node) (empty 
       let found : get node_cmp new x ≡ Some set' = put.0 x ∙ ap (λ (c : Bool). cond c (Some set') (get node_cmp mid x)) e in
       ap (λ (o : Option (BTreeSet Node)). set_has o y) found
       ∙ (added.0 y
-      ∙ (ap (λ (c : Bool). cond c true (contains node_cmp set y)) (sym (matches_eq-law far y))
+      ∙ (ap (λ (c : Bool). cond c true (contains node_cmp set y)) (sym (node_ties far y))
       ∙ (or_last (node_eq far y) (contains node_cmp set y)
       ∙ ap (λ (c : Bool). c || node_eq far y) (there x y here))))
   linked_at x y false e =
@@ -56,7 +55,7 @@ module _ (old mid new : BTreeMap Node (BTreeSet Node)) (near far : Node) (empty 
       ap (λ (o : Option (BTreeSet Node)). set_has o y) found ∙ or_false (index_has old x y)
 
   pub linked : Links old new near far
-  linked x y = linked_at x y (is_eq (node_cmp near x)) refl ∙ ap (λ (c : Bool). index_has old x y || (c && node_eq far y)) (sym (matches_eq-law near x))
+  linked x y = linked_at x y (is_eq (node_cmp near x)) refl ∙ ap (λ (c : Bool). index_has old x y || (c && node_eq far y)) (sym (node_ties near x))
 
 -- ---- a look-up
 module _ (index : BTreeMap Node (BTreeSet Node)) (x : Node) where

@@ -1,5 +1,5 @@
 -- Where pairs lead is the least relation.
-use Rattle.std.proofs.Common.{◌≡◌, Bool, true, List, [], ◌∷◌, sym, subst, ap, inl, inr, ◌⊎◌, ⊎_elim, refl, arith}
+use Rattle.std.proofs.Common.{◌≡◌, true, List, [], ◌∷◌, sym, subst, ap, inl, inr, ◌⊎◌, ⊎_elim, refl, arith}
 use Rattle.std.specs.Prelude.{◌&&◌, ◌||◌, Contains}
 use Rattle.std.proofs.lemmas.Bool.{false≢true, or_cases, or_left, or_right, and_from, and_parts}
 use Rattle.std.proofs.lemmas.List.Elements.{Contains-append_cases, Contains-append_left, Contains-append_right, Contains-push, Contains-push_cases}

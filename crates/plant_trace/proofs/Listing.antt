@@ -4,7 +4,8 @@ use Rattle.std.specs.BTreeSet.{BTreeSet}
 use Rattle.std.proofs.lemmas.Map.Lookups.{btree_set_from_contains}
 use Rattle.plant_trace.specs.Reach.{Lists}
 use Rattle.plant_trace.specs.declared.node.Node.{Node}
-use Rattle.plant_trace.proofs.NodeLemmas.{node_total, node_exact}
+use Rattle.plant_trace.specs.Nodes.{node_total}
+use Rattle.plant_trace.proofs.NodeLemmas.{node_exact}
 use Rattle.plant_trace.proofs.Sets.{has_iff}
 
 abbrev set_of : List Node → BTreeSet Node

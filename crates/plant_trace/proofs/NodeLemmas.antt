@@ -5,17 +5,12 @@ use Rattle.std.specs.List.{IsAnyAnswer}
 use Rattle.std.proofs.lemmas.List.Elements.{Decides-contains, contains_decides}
 use Rattle.std.proofs.lemmas.Cmp.{tied_itself}
 use Rattle.std.proofs.lemmas.Bool.{both_ways, not-true, not-false}
-use Rattle.std.specs.Cmp.{IsTotalOrder}
 use Rattle.std.proofs.lemmas.Map.Lookups.{CmpEqualImpliesEq, exact_bytes}
 use Rattle.std.proofs.lemmas.Map.Views.{tells_apart}
 use Rattle.plant_trace.specs.contracts.node.NodePartialEq.TheImpl.{ghosts as equal}
-use Rattle.plant_trace.specs.contracts.node.NodeOrd.TheImpl.Laws.{total-law, matches_eq-law}
 use Rattle.plant_trace.specs.declared.node.Node.{Node}
 use Rattle.plant_trace.specs.declared.node.Node.TheVariants.{Lot, Batch}
-use Rattle.plant_trace.specs.Nodes.{node_cmp}
-
-pub node_total : IsTotalOrder node_cmp
-node_total = total-law
+use Rattle.plant_trace.specs.Nodes.{node_cmp, node_ties, node_total}
 
 -- nodes that compare alike are one
 pub node_exact : CmpEqualImpliesEq node_cmp
@@ -26,10 +21,10 @@ node_exact (Batch a) (Batch b) e = ap Batch (exact_bytes a b e)
 
 -- nodes that `==` calls equal are one
 pub node_eq_exact : (a b : Node) → equal.eq a b ≡ true → a ≡ b
-node_eq_exact a b e = tells_apart node_exact a b (sym (matches_eq-law a b) ∙ e)
+node_eq_exact a b e = tells_apart node_exact a b (sym (node_ties a b) ∙ e)
 
 pub node_eq_itself : (a b : Node) → a ≡ b → equal.eq a b ≡ true
-node_eq_itself a b e = subst (λ c. equal.eq a c ≡ true) e (matches_eq-law a a ∙ ap is_eq (tied_itself node_total a))
+node_eq_itself a b e = subst (λ c. equal.eq a c ≡ true) e (node_ties a a ∙ ap is_eq (tied_itself node_total a))
 
 pub node_eq_decides : (a b : Node) → Decides (equal.eq a b) (a ≡ b)
 node_eq_decides a b = (node_eq_exact a b, node_eq_itself a b)

@@ -6,10 +6,10 @@ use Rattle.std.specs.BTreeSet.{BTreeSet, contains, Updates}
 use Rattle.std.proofs.lemmas.List.{take_more, take-append-le, length-append}
 use Rattle.std.proofs.lemmas.List.Elements.{Contains-append_left, Contains-push_cases, Contains-push}
 use Rattle.std.proofs.lemmas.Map.Views.{btree_set_contains_iff, tells_apart}
-use Rattle.plant_trace.specs.Nodes.{node_cmp}
+use Rattle.plant_trace.specs.Nodes.{node_cmp, node_total}
 use Rattle.plant_trace.specs.Seen.{Adds, Queues}
 use Rattle.plant_trace.specs.declared.node.Node.{Node}
-use Rattle.plant_trace.proofs.NodeLemmas.{node_total, node_exact}
+use Rattle.plant_trace.proofs.NodeLemmas.{node_exact}
 
 -- the set has the node, as a test and as a fact
 pub has_iff : (s : BTreeSet Node) (k : Node) → IsTrue (contains node_cmp s k) ↔ Contains s.keys k

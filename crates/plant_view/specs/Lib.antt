@@ -1,5 +1,6 @@
 pub mod Conserve
 pub mod Genealogy
+pub mod OneBatch
 pub mod Production
 pub mod Refusing
 pub mod Rows

@@ -55,6 +55,10 @@ sublot_order a b = numbered_cmp a.lot a.number b.lot b.number
 abbrev pub sublot_row : List Movement → Place → Sublot
 sublot_row ms p = record { lot = p.lot; number = p.number; place = p.place; stock = entered ms p.lot p.number - left ms p.lot p.number }
 
+-- a sublot without its stock
+abbrev pub place_of_row : Sublot → Place
+place_of_row r = record { lot = r.lot; number = r.number; place = r.place }
+
 -- how many phases the control recipe of a batch has
 abbrev pub phases_among : List ControlLine → List ℕ → ℕ
 phases_among lines batch = length (filter (λ l. same l.batch batch && is_phase l.line) lines)
@@ -80,6 +84,10 @@ batch_row_order a b = batch_order a.batch b.batch
 -- the sublots of a lot with their stock, by number
 abbrev pub sublots_of : State → List ℕ → List Sublot
 sublots_of s lot = map (sublot_row s.movements) (filter (λ p. same p.lot lot) s.places)
+
+-- the sublots of a lot without their stock, by number
+abbrev pub places_of : State → List ℕ → List Place
+places_of s lot = filter (λ p. same p.lot lot) s.places
 
 -- the tables of a state in a schema
 abbrev pub tables_of : ℕ → State → Tables

@@ -102,7 +102,7 @@ pub fn control_lines<V: View>(
 /// Whether a batch has this id.
 pub fn is_batch<V: View>(view: &mut V, id: Id) -> Result<bool, ViewFault<V::Fault>>
     ensures { Told V.honest V.kept V.steady view.old view.new
-        (IsSound (V.state view.old) → IfOk result (λ there. there ≡ is_some (batch_at (V.state view.old) id))) }
+        (IfOk result (λ there. there ≡ is_some (batch_at (V.state view.old) id))) }
 {
     match view.batch(id) {
         Ok(row) => Ok(row.is_some()),

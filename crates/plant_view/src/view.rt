@@ -7,13 +7,14 @@ use plant_trace::Edges;
 /// The rows of a state, each found by its key, however they are kept.
 ///
 /// A view may fail, and one that isn't honest may answer anything. Where it ends a call honest it was honest
-/// before, its answer is that of its state, and neither the state nor what the view keeps has changed.
+/// before, its answer is that of its state, and neither the state nor what the view keeps has changed. So it is in
+/// every state, but for a sublot's stock and a batch's progress: these are those of a sound state.
 pub trait View: Edges {
-    ghost use Rattle.std.specs.Prelude.{◌≡◌, IfOk, option_map};
+    ghost use Rattle.std.specs.Prelude.{◌≡◌, IfOk, map, option_map};
     ghost use Rattle.plant_base.specs.State.{State, class_at, definition_at, recipe_at, master_lines_of, job_at, batch_at, control_lines_of, lot_at, place_at, hold_at};
     ghost use Rattle.plant_trace.specs.Sources.{Told};
     ghost use Rattle.plant_view.specs.Genealogy.{edges_of};
-    ghost use Rattle.plant_view.specs.Tables.{position_of, batch_row, sublot_row, sublots_of};
+    ghost use Rattle.plant_view.specs.Tables.{position_of, batch_row, sublot_row, place_of_row, places_of, sublots_of};
     ghost use Rattle.plant_view.specs.Refusing.{holds_of};
     ghost use Rattle.plant_view.specs.Sound.{IsSound};
 
@@ -53,7 +54,9 @@ pub trait View: Edges {
     /// The batch of this id, with the columns that are the fold of its events. They are right where the state is
     /// sound.
     fn batch(&mut self, id: Id) -> Result<Option<BatchRow>, Self::Fault>
-        ensures { Told Self.honest Self.kept Self.steady self.old self.new
+        ensures row { Told Self.honest Self.kept Self.steady self.old self.new
+            (IfOk result (λ r. option_map (λ row. row.batch) r ≡ batch_at (state self.old) id)) }
+        ensures progress { Told Self.honest Self.kept Self.steady self.old self.new
             (IsSound (state self.old) → IfOk result (λ r.
             r ≡ option_map (batch_row (state self.old).control_lines (state self.old).events) (batch_at (state self.old) id))) };
 
@@ -69,13 +72,17 @@ pub trait View: Edges {
 
     /// The sublot of this lot and number, with its stock. The stock is right where the state is sound.
     fn sublot(&mut self, lot: Id, number: u16) -> Result<Option<Sublot>, Self::Fault>
-        ensures { Told Self.honest Self.kept Self.steady self.old self.new
+        ensures row { Told Self.honest Self.kept Self.steady self.old self.new
+            (IfOk result (λ r. option_map place_of_row r ≡ place_at (state self.old) lot number)) }
+        ensures stock { Told Self.honest Self.kept Self.steady self.old self.new
             (IsSound (state self.old) → IfOk result (λ r.
             r ≡ option_map (sublot_row (state self.old).movements) (place_at (state self.old) lot number))) };
 
     /// The sublots of a lot with their stock, by number. The stocks are right where the state is sound.
     fn sublots(&mut self, lot: Id) -> Result<Vec<Sublot>, Self::Fault>
-        ensures { Told Self.honest Self.kept Self.steady self.old self.new
+        ensures rows { Told Self.honest Self.kept Self.steady self.old self.new
+            (IfOk result (λ rows. map place_of_row rows.items ≡ places_of (state self.old) lot)) }
+        ensures stocks { Told Self.honest Self.kept Self.steady self.old self.new
             (IsSound (state self.old) → IfOk result (λ rows. rows.items ≡ sublots_of (state self.old) lot)) };
 
     /// The hold of this lot and id.

@@ -5,6 +5,7 @@ ghost use Rattle.plant_trace.specs.Sources.{Told};
 ghost use Rattle.plant_rules.specs.Consumption.{is_idle, takes, is_taken, is_own_product, wrong_consume, consume, IsDrawOf, IsLeft, IsDrawn};
 ghost use Rattle.plant_view.specs.Refusing.{refuse, at_limit};
 ghost use Rattle.plant_view.specs.Sound.{IsSound};
+ghost use Rattle.plant_view.specs.OneBatch.{PutsOneBatch};
 ghost use Rattle.plant_view.specs.Tables.{Decides};
 
 use super::{booked, is_idle};
@@ -25,8 +26,9 @@ pub(crate) fn decide_consume<V: View>(
 ) -> Result<Decision, ViewFault<V::Fault>>
     requires seq { V.honest view.old → seq ≡ (V.state view.old).seq }
     requires sound { V.honest view.old → IsSound (V.state view.old) }
-    ensures { Told V.honest V.kept V.steady view.old view.new
+    ensures decides { Told V.honest V.kept V.steady view.old view.new
         (IfOk result (Decides (wrong_consume (V.state view.old) c.now) (V.state view.old) (consume (V.state view.old) stamp.now c.now))) }
+    ensures one_batch { IfOk result PutsOneBatch }
 {
     let left = match found_drawn(view, c)? {
         Ok(left) => left,
@@ -125,9 +127,10 @@ fn consumed(
     left: Sublot,
     own: bool,
 ) -> Result<Decision, AllocError>
-    ensures { (s : State) → IsSound s → seq ≡ s.seq → own ≡ is_own_product s c.now.batch c.now.lot
+    ensures decides { (s : State) → IsSound s → seq ≡ s.seq → own ≡ is_own_product s c.now.batch c.now.lot
         → wrong_consume s c.now ≡ refuse (is_own_product s c.now.batch c.now.lot) OwnProduct (refuse (at_limit s) TooMany None) → IsLeft s c.now left
         → IfOk result (Decides (wrong_consume s c.now) s (consume s stamp.now c.now)) }
+    ensures one_batch { IfOk result PutsOneBatch }
 {
     if own {
         return Ok(Decision::Refused(Refusal::OwnProduct));

@@ -1,6 +1,7 @@
 ghost use Rattle.std.specs.Prelude.{◌≡◌, IfOk};
 ghost use Rattle.plant_trace.specs.Sources.{Told};
 ghost use Rattle.plant_rules.specs.Holding.{wrong_hold, hold};
+ghost use Rattle.plant_view.specs.OneBatch.{PutsOneBatch};
 ghost use Rattle.plant_view.specs.Tables.{Decides};
 
 use plant_base::{GREATEST_SEQ, Hold, HoldLot, Refusal, Stamp};
@@ -15,8 +16,9 @@ pub(crate) fn decide_hold<V: View>(
     c: &HoldLot,
 ) -> Result<Decision, ViewFault<V::Fault>>
     requires { V.honest view.old → seq ≡ (V.state view.old).seq }
-    ensures { Told V.honest V.kept V.steady view.old view.new
+    ensures decides { Told V.honest V.kept V.steady view.old view.new
         (IfOk result (Decides (wrong_hold (V.state view.old) c.now) (V.state view.old) (hold (V.state view.old) stamp.now c.now))) }
+    ensures one_batch { IfOk result PutsOneBatch }
 {
     if look::lot(view, c.lot)?.is_none() {
         return Ok(Decision::Refused(Refusal::UnknownLot));

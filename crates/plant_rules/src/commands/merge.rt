@@ -6,6 +6,7 @@ ghost use Rattle.plant_base.specs.Formed.{are_parts};
 ghost use Rattle.plant_trace.specs.Sources.{Told};
 ghost use Rattle.plant_rules.specs.Merging.{wrong_merge, merge, part_line};
 ghost use Rattle.plant_rules.specs.Parts.{PartsAre, wrong_found, merge_rows, found_rows, total_found, def_found, is_lacking, is_other};
+ghost use Rattle.plant_view.specs.OneBatch.{PutsOneBatch};
 ghost use Rattle.plant_view.specs.Tables.{IsDecided};
 ghost use Rattle.plant_view.specs.Sound.{IsSound};
 ghost use Rattle.plant_view.specs.Tables.{Decides};
@@ -28,8 +29,9 @@ pub(crate) fn decide_merge<V: View>(
     requires formed { IsTrue (are_parts c.now.parts) }
     requires seq { V.honest view.old → seq ≡ (V.state view.old).seq }
     requires sound { V.honest view.old → IsSound (V.state view.old) }
-    ensures { Told V.honest V.kept V.steady view.old view.new
+    ensures decides { Told V.honest V.kept V.steady view.old view.new
         (IfOk result (Decides (wrong_merge (V.state view.old) c.now) (V.state view.old) (merge (V.state view.old) stamp.now c.now))) }
+    ensures one_batch { IfOk result PutsOneBatch }
 {
     let found = found_parts(alloc, view, c.parts.as_slice())?;
     let new = look::lot(view, c.new)?;
@@ -47,8 +49,9 @@ fn merged(
 ) -> Result<Decision, AllocError>
     requires formed { IsTrue (are_parts c.now.parts) }
     requires whole { IfOk found (λ fs. length fs ≡ length c.now.parts) }
-    ensures { (s : State) → IsSound s → seq ≡ s.seq → PartsAre s c.now.parts found → new ≡ lot_at s c.now.new
+    ensures decides { (s : State) → IsSound s → seq ≡ s.seq → PartsAre s c.now.parts found → new ≡ lot_at s c.now.new
         → IfOk result (Decides (wrong_merge s c.now) s (merge s stamp.now c.now)) }
+    ensures one_batch { IfOk result PutsOneBatch }
 {
     let found = match found {
         Ok(found) => found,
@@ -69,7 +72,8 @@ fn put_together(
 ) -> Result<Decision, AllocError>
     requires some { 1 ≤ length found.now }
     requires few { length found.now ≤ 16 }
-    ensures { IfOk result (IsDecided (wrong_found taken seq found.now) (merge_rows seq stamp.now c.now found.now)) }
+    ensures decides { IfOk result (IsDecided (wrong_found taken seq found.now) (merge_rows seq stamp.now c.now found.now)) }
+    ensures one_batch { IfOk result PutsOneBatch }
 {
     if taken {
         return Ok(Decision::Refused(Refusal::Exists));

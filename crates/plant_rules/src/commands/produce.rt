@@ -4,6 +4,7 @@ ghost use Rattle.plant_base.specs.State.{State, definition_at, control_lines_of,
 ghost use Rattle.plant_trace.specs.Sources.{Told};
 ghost use Rattle.plant_rules.specs.Consumption.{makes, is_made, wrong_produce, produce, produced_rows, IsBatchOf};
 ghost use Rattle.plant_view.specs.Sound.{IsSound};
+ghost use Rattle.plant_view.specs.OneBatch.{PutsOneBatch};
 ghost use Rattle.plant_view.specs.Tables.{Decides};
 
 use super::{booked, is_idle};
@@ -24,8 +25,9 @@ pub(crate) fn decide_produce<V: View>(
 ) -> Result<Decision, ViewFault<V::Fault>>
     requires seq { V.honest view.old → seq ≡ (V.state view.old).seq }
     requires sound { V.honest view.old → IsSound (V.state view.old) }
-    ensures { Told V.honest V.kept V.steady view.old view.new
+    ensures decides { Told V.honest V.kept V.steady view.old view.new
         (IfOk result (Decides (wrong_produce (V.state view.old) c.now) (V.state view.old) (produce (V.state view.old) stamp.now c.now))) }
+    ensures one_batch { IfOk result PutsOneBatch }
 {
     let batch = found_batch(view, c.batch)?;
     let definition = look::definition(view, c.def)?;
@@ -54,8 +56,9 @@ fn produced(
     lot: Option<Lot>,
     lines: &[ControlLine],
 ) -> Result<Decision, AllocError>
-    ensures { (s : State) → IsSound s → seq ≡ s.seq → IsBatchOf s c.now.batch batch → definition ≡ definition_at s c.now.def → lot ≡ lot_at s c.now.lot → lines.now ≡ control_lines_of s c.now.batch
+    ensures decides { (s : State) → IsSound s → seq ≡ s.seq → IsBatchOf s c.now.batch batch → definition ≡ definition_at s c.now.def → lot ≡ lot_at s c.now.lot → lines.now ≡ control_lines_of s c.now.batch
         → IfOk result (Decides (wrong_produce s c.now) s (produce s stamp.now c.now)) }
+    ensures one_batch { IfOk result PutsOneBatch }
 {
     let Some(batch) = batch else {
         return Ok(Decision::Refused(Refusal::UnknownBatch));

@@ -3,6 +3,7 @@ ghost use Rattle.plant_base.specs.State.{State, definition_at, lot_at};
 ghost use Rattle.plant_trace.specs.Sources.{Told};
 ghost use Rattle.plant_rules.specs.Receipt.{wrong_receive, receive};
 ghost use Rattle.plant_view.specs.Sound.{IsSound};
+ghost use Rattle.plant_view.specs.OneBatch.{PutsOneBatch};
 ghost use Rattle.plant_view.specs.Tables.{Decides};
 
 use super::booked;
@@ -19,8 +20,9 @@ pub(crate) fn decide_receive<V: View>(
 ) -> Result<Decision, ViewFault<V::Fault>>
     requires seq { V.honest view.old → seq ≡ (V.state view.old).seq }
     requires sound { V.honest view.old → IsSound (V.state view.old) }
-    ensures { Told V.honest V.kept V.steady view.old view.new
+    ensures decides { Told V.honest V.kept V.steady view.old view.new
         (IfOk result (Decides (wrong_receive (V.state view.old) c.now) (V.state view.old) (receive (V.state view.old) stamp.now c.now))) }
+    ensures one_batch { IfOk result PutsOneBatch }
 {
     let definition = look::definition(view, c.def)?;
     let lot = look::lot(view, c.lot)?;
@@ -36,8 +38,9 @@ fn received(
     definition: Option<Definition>,
     lot: Option<Lot>,
 ) -> Result<Decision, AllocError>
-    ensures { (s : State) → IsSound s → seq ≡ s.seq → definition ≡ definition_at s c.now.def → lot ≡ lot_at s c.now.lot
+    ensures decides { (s : State) → IsSound s → seq ≡ s.seq → definition ≡ definition_at s c.now.def → lot ≡ lot_at s c.now.lot
         → IfOk result (Decides (wrong_receive s c.now) s (receive s stamp.now c.now)) }
+    ensures one_batch { IfOk result PutsOneBatch }
 {
     if definition.is_none() {
         return Ok(Decision::Refused(Refusal::UnknownDefinition));

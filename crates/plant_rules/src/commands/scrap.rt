@@ -3,6 +3,7 @@ ghost use Rattle.plant_base.specs.State.{State, lot_at};
 ghost use Rattle.plant_trace.specs.Sources.{Told};
 ghost use Rattle.plant_rules.specs.Scrapping.{wrong_scrap, scrap};
 ghost use Rattle.plant_view.specs.Sound.{IsSound};
+ghost use Rattle.plant_view.specs.OneBatch.{PutsOneBatch};
 ghost use Rattle.plant_view.specs.Tables.{Decides};
 ghost use Rattle.plant_view.specs.Views.{IsSublotOf};
 
@@ -20,8 +21,9 @@ pub(crate) fn decide_scrap<V: View>(
 ) -> Result<Decision, ViewFault<V::Fault>>
     requires seq { V.honest view.old → seq ≡ (V.state view.old).seq }
     requires sound { V.honest view.old → IsSound (V.state view.old) }
-    ensures { Told V.honest V.kept V.steady view.old view.new
+    ensures decides { Told V.honest V.kept V.steady view.old view.new
         (IfOk result (Decides (wrong_scrap (V.state view.old) c.now) (V.state view.old) (scrap (V.state view.old) stamp.now c.now))) }
+    ensures one_batch { IfOk result PutsOneBatch }
 {
     let lot = look::lot(view, c.lot)?;
     let sublot = look::sublot(view, c.lot, c.sub)?;
@@ -37,8 +39,9 @@ fn scrapped(
     lot: Option<Lot>,
     sublot: Option<Sublot>,
 ) -> Result<Decision, AllocError>
-    ensures { (s : State) → IsSound s → seq ≡ s.seq → lot ≡ lot_at s c.now.lot → IsSublotOf s c.now.lot c.now.sub sublot
+    ensures decides { (s : State) → IsSound s → seq ≡ s.seq → lot ≡ lot_at s c.now.lot → IsSublotOf s c.now.lot c.now.sub sublot
         → IfOk result (Decides (wrong_scrap s c.now) s (scrap s stamp.now c.now)) }
+    ensures one_batch { IfOk result PutsOneBatch }
 {
     if lot.is_none() {
         return Ok(Decision::Refused(Refusal::UnknownLot));

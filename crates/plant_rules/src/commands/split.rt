@@ -5,6 +5,7 @@ ghost use Rattle.plant_trace.specs.Sources.{Told};
 ghost use Rattle.plant_view.specs.Refusing.{is_held};
 ghost use Rattle.plant_rules.specs.Splitting.{wrong_split, split, split_rows};
 ghost use Rattle.plant_view.specs.Sound.{IsSound};
+ghost use Rattle.plant_view.specs.OneBatch.{PutsOneBatch};
 ghost use Rattle.plant_view.specs.Tables.{Decides};
 ghost use Rattle.plant_view.specs.Views.{IsSublotOf};
 
@@ -22,8 +23,9 @@ pub(crate) fn decide_split<V: View>(
 ) -> Result<Decision, ViewFault<V::Fault>>
     requires seq { V.honest view.old → seq ≡ (V.state view.old).seq }
     requires sound { V.honest view.old → IsSound (V.state view.old) }
-    ensures { Told V.honest V.kept V.steady view.old view.new
+    ensures decides { Told V.honest V.kept V.steady view.old view.new
         (IfOk result (Decides (wrong_split (V.state view.old) c.now) (V.state view.old) (split (V.state view.old) stamp.now c.now))) }
+    ensures one_batch { IfOk result PutsOneBatch }
 {
     let lot = look::lot(view, c.lot)?;
     let sublot = look::sublot(view, c.lot, c.sub)?;
@@ -43,8 +45,9 @@ fn split_off(
     new: Option<Lot>,
     held: bool,
 ) -> Result<Decision, AllocError>
-    ensures { (s : State) → IsSound s → seq ≡ s.seq → lot ≡ lot_at s c.now.lot → IsSublotOf s c.now.lot c.now.sub sublot → new ≡ lot_at s c.now.new → held ≡ is_held s c.now.lot
+    ensures decides { (s : State) → IsSound s → seq ≡ s.seq → lot ≡ lot_at s c.now.lot → IsSublotOf s c.now.lot c.now.sub sublot → new ≡ lot_at s c.now.new → held ≡ is_held s c.now.lot
         → IfOk result (Decides (wrong_split s c.now) s (split s stamp.now c.now)) }
+    ensures one_batch { IfOk result PutsOneBatch }
 {
     let Some(lot) = lot else {
         return Ok(Decision::Refused(Refusal::UnknownLot));

@@ -1,6 +1,7 @@
 ghost use Rattle.std.specs.Prelude.{◌≡◌, IfOk};
 ghost use Rattle.plant_trace.specs.Sources.{Told};
 ghost use Rattle.plant_rules.specs.Holding.{wrong_unhold, unhold};
+ghost use Rattle.plant_view.specs.OneBatch.{PutsOneBatch};
 ghost use Rattle.plant_view.specs.Tables.{Decides};
 
 use plant_base::{GREATEST_SEQ, Refusal, Stamp, UnholdLot};
@@ -15,8 +16,9 @@ pub(crate) fn decide_unhold<V: View>(
     c: &UnholdLot,
 ) -> Result<Decision, ViewFault<V::Fault>>
     requires { V.honest view.old → seq ≡ (V.state view.old).seq }
-    ensures { Told V.honest V.kept V.steady view.old view.new
+    ensures decides { Told V.honest V.kept V.steady view.old view.new
         (IfOk result (Decides (wrong_unhold (V.state view.old) c.now) (V.state view.old) (unhold (V.state view.old) stamp.now c.now))) }
+    ensures one_batch { IfOk result PutsOneBatch }
 {
     if look::lot(view, c.lot)?.is_none() {
         return Ok(Decision::Refused(Refusal::UnknownLot));

@@ -53,3 +53,18 @@ returns-in-None-clause-nothing g c =
 pub returns-in-None-clause-version : goal.returns-in-None-clause-version
 returns-in-None-clause-version g c clean n =
     (λ e. absurd (unknown_or_version n e), λ v. absurd (c.in_ok-version.ensures.none clean c.in-None.is n v))
+
+pub returns-then-all_free-clause-taken : goal.returns-then-all_free-clause-taken
+returns-then-all_free-clause-taken g c other = absurd (other refl)
+
+pub returns-in-Some-clause-taken : goal.returns-in-Some-clause-taken
+returns-in-Some-clause-taken g c other free =
+    let failed : c.all_free.result ≡ false = search rules in
+    let stood : c.all_free.result ≡ true = c.all_free.ensures.1 (subst₂ (λ schema forms. All (IsFree schema) forms) (sym c.schema.ensures.value) (sym c.desk_forms.ensures) free) in
+    absurd (let both = sym stood ∙ failed in cc)
+
+pub returns-in-None-clause-taken : goal.returns-in-None-clause-taken
+returns-in-None-clause-taken g c other free =
+    let failed : c.all_free.result ≡ false = search rules in
+    let stood : c.all_free.result ≡ true = c.all_free.ensures.1 (subst₂ (λ schema forms. All (IsFree schema) forms) (sym c.schema.ensures.value) (sym c.desk_forms.ensures) free) in
+    absurd (let both = sym stood ∙ failed in cc)

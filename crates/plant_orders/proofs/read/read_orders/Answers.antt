@@ -1,10 +1,9 @@
-use Rattle.std.proofs.Common.{◌≡◌, ℕ, suc, ◌+◌, ◌≤◌, [], ◌∷◌, ◌++◌, Bool, true, false, length, Option, Some, None, Ok, Err, refl, sym, ap, ◌∙◌, arith, rules}
+use Rattle.std.proofs.Common.{◌≡◌, suc, ◌+◌, [], ◌∷◌, ◌++◌, true, false, Ok, Err, refl, sym, ap, ◌∙◌, arith, rules}
 use Rattle.std.specs.Result.{is_ok}
 use Rattle.csv.specs.Records.{fields_of}
 use Rattle.csv.specs.Reading.{default_config, records_from}
 use Rattle.plant_orders.specs.Orders.{fault, rows_of, file_of, is_header, order_of}
-use Rattle.plant_orders.specs.declared.fault.CsvKind.TheVariants as kind
-use Rattle.plant_orders.proofs.OrderLemmas.{with_front, next_found, next_gone, records-none, records-some, front-nil, front-more, rows-ok, rows-err, rows-over, one_less, fails_as, short_text, past_header, bad_header, no_front}
+use Rattle.plant_orders.proofs.OrderLemmas.{with_front, next_found, next_gone, records-none, records-some, front-nil, front-more, rows-ok, rows-err, rows-over, one_less, fails_as, not_memory, short_text, past_header, bad_header, no_front, gives_memory}
 use Rattle.plant_orders.proofs.read.read_orders.Goals as goal
 
 pub returns-then-not-branch : goal.returns-then-not-branch
@@ -41,7 +40,7 @@ returns-in-Err c =
     let (s, text, k, size, stands, told) = c.loop-n.invariant in
     let (p, e, fields, after) = next_found _ _ _ _ (c.in_ok-next-2.ensures.reads _ _ stands) (search rules) in
     let bad : order_of (fields_of c.next-in-loop-n.new.row) ≡ Err c.in-Err.kind = search rules in
-    fails_as c.in-Err.kind (fault (c.loop-n.n + 1) c.in-Err.kind) _ (
+    fails_as c.in-Err.kind (fault (c.loop-n.n + 1) c.in-Err.kind) _ (not_memory _ c.in-Err.kind bad) (
     told ∙ ap (λ r. with_front c.loop-n.orders.items (rows_of c.loop-n.n r)) (records-some k s text p e)
     ∙ ap (with_front c.loop-n.orders.items) (rows-err c.loop-n.n p.0 _ c.in-Err.kind (omega arith) (rw fields at bad)))
 
@@ -77,3 +76,20 @@ returns c =
     let (s, text, k, size, stands, told) = c.loop-n.invariant in
     let gone = next_gone _ _ _ _ (c.in_ok-next-3.ensures.reads _ _ stands) (search rules) in
     told ∙ (rw (records-none k s text gone, c.new-2.ensures) (front-nil c.loop-n.orders.items))
+
+pub returns-in_err-next : goal.returns-in_err-next
+returns-in_err-next c =
+    let told = c.in_err-next.ensures.memory _ _ c.reader-reader.ensures in
+    gives_memory c.from_residual.result _ (search rules)
+
+pub returns-in_err-next-2 : goal.returns-in_err-next-2
+returns-in_err-next-2 c =
+    let (s, text, k, size, stands, told) = c.loop-n.invariant in
+    let wanted = c.in_err-next-2.ensures.memory _ _ stands in
+    gives_memory c.from_residual-in_err-next-2.result _ (search rules)
+
+pub returns-in_err-next-3 : goal.returns-in_err-next-3
+returns-in_err-next-3 c =
+    let (s, text, k, size, stands, told) = c.loop-n.invariant in
+    let wanted = c.in_err-next-3.ensures.memory _ _ stands in
+    gives_memory c.from_residual-in_err-next-3.result _ (search rules)

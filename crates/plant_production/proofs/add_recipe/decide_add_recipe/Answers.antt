@@ -5,8 +5,8 @@ use Rattle.plant_base.specs.State.{definition_at, recipe_at}
 use Rattle.plant_view.specs.Production.{is_known}
 use Rattle.plant_production.proofs.add_recipe.decide_add_recipe.Goals as goal
 
-pub returns : goal.returns
-returns g c =
+pub returns-clause-decides : goal.returns-clause-decides
+returns-clause-decides g c =
     let s = g.V.View.state c.args.view.now in
     let command = c.args.c.now in
     let along = g.met.V.Edges.kept_along in
@@ -20,5 +20,5 @@ returns g c =
       always = looked.always;
       before = looked.before;
       same = looked.same;
-      holds = λ h. let found = looked.holds h in c.in_ok-added.ensures s (c.requires.seq (looked.before h)) found.0 found.1 found.2;
+      holds = λ h. let found = looked.holds h in c.in_ok-added.ensures.decides s (c.requires.seq (looked.before h)) found.0 found.1 found.2;
     }

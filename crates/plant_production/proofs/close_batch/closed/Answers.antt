@@ -5,30 +5,30 @@ use Rattle.plant_production.specs.Batches.{refuse_turn}
 use Rattle.plant_production.proofs.BatchTables.{found_row, progress_found, order_there, closed_already, close_limit, close_decided, close_tables}
 use Rattle.plant_production.proofs.close_batch.closed.Goals as goal
 
-pub returns-then-row : goal.returns-then-row
-returns-then-row c = λ s sound seq row job.
+pub returns-then-row-clause-decides : goal.returns-then-row-clause-decides
+returns-then-row-clause-decides c = λ s sound seq row job.
     let found = found_row _ (batch_at s c.args.c.now.batch) c.args.row row in
     closed_already s c.args.c.now c.args.row found.0 found.1 found.2 c.if-row.true
 
-pub returns-then-seq-ge-GREATEST_SEQ : goal.returns-then-seq-ge-GREATEST_SEQ
-returns-then-seq-ge-GREATEST_SEQ c = λ s sound seq row job.
+pub returns-then-seq-ge-GREATEST_SEQ-clause-decides : goal.returns-then-seq-ge-GREATEST_SEQ-clause-decides
+returns-then-seq-ge-GREATEST_SEQ-clause-decides c = λ s sound seq row job.
     let found = found_row _ (batch_at s c.args.c.now.batch) c.args.row row in
     close_limit s c.args.c.now c.args.row found.0 found.1 found.2 c.if-row.false (omega (arith, seq, c.if-seq-ge-GREATEST_SEQ.true))
 
-pub returns-in-Err : goal.returns-in-Err
-returns-in-Err c = λ s sound seq row job.
+pub returns-in-Err-clause-decides : goal.returns-in-Err-clause-decides
+returns-in-Err-clause-decides c = λ s sound seq row job.
     let found = found_row _ (batch_at s c.args.c.now.batch) c.args.row row in
     let turn = rw c.progress_in.ensures at (sym c.apply.ensures ∙ c.in-Err.is) in
     close_decided s c.args.c.now c.args.row found.0 found.1 found.2 c.if-row.false (omega (arith, seq, c.if-seq-ge-GREATEST_SEQ.false)) ∙ ap (λ r. refuse_turn r None) turn
 
-pub returns-in_default : goal.returns-in_default
-returns-in_default c = λ s sound seq row job.
+pub returns-in_default-clause-decides : goal.returns-in_default-clause-decides
+returns-in_default-clause-decides c = λ s sound seq row job.
     let found = found_row _ (batch_at s c.args.c.now.batch) c.args.row row in
     let there = order_there s sound c.args.c.now.batch found.0 found.1 in
     absurd (false≢true (ap is_some (sym c.in_default.is ∙ job ∙ ap (λ r. job_at s r.batch.job) found.2) ∙ there))
 
-pub returns : goal.returns
-returns c = λ s sound seq row job.
+pub returns-clause-decides : goal.returns-clause-decides
+returns-clause-decides c = λ s sound seq row job.
     let found = found_row _ (batch_at s c.args.c.now.batch) c.args.row row in
     let turn = rw c.progress_in.ensures at (sym c.apply.ensures ∙ c.in-Ok.is) in
     let allowed = rw (progress_found s c.args.c.now.batch c.args.row found.0 found.1 found.2) at turn in

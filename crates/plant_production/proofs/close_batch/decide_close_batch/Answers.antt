@@ -5,8 +5,8 @@ use Rattle.plant_view.specs.Sound.{IsSound}
 use Rattle.plant_view.specs.Tables.{batch_row}
 use Rattle.plant_production.proofs.close_batch.decide_close_batch.Goals as goal
 
-pub returns : goal.returns
-returns g c =
+pub returns-clause-decides : goal.returns-clause-decides
+returns-clause-decides g c =
     let s = g.V.View.state c.args.view.now in
     let IsRow : Type 0 = IsSound s → c.in_ok-row.field-0 ≡ option_map (batch_row s.control_lines s.events) (batch_at s c.args.c.now.batch) in
     let IsJob : Type 0 = c.in_ok-job.job ≡ job_at s c.in-Some.row.batch.job in
@@ -18,5 +18,5 @@ returns g c =
       holds = λ h.
           let found = looked.holds h in
           let sound = c.requires.sound (looked.before h) in
-          c.in_ok-closed.ensures s sound (c.requires.seq (looked.before h)) (sym c.in-Some.is ∙ found.0 sound) found.1;
+          c.in_ok-closed.ensures.decides s sound (c.requires.seq (looked.before h)) (sym c.in-Some.is ∙ found.0 sound) found.1;
     }

@@ -3,6 +3,7 @@ use Rattle.plant_base.specs.State.{opening}
 use Rattle.plant_ledger.proofs.StepGood.{opening_good}
 use Rattle.plant_forms.proofs.Ending.{IsStore}
 use Rattle.plant_tables.specs.DeskStopping.{opening_tables}
+use Rattle.plant_store.proofs.Judging.{unopened_keeps}
 use Rattle.plant_store.proofs.Others.{others_at}
 use Rattle.plant_store.proofs.Resting.{open_at}
 use Rattle.plant_store.proofs.adopting.made.Goals as goal
@@ -17,3 +18,7 @@ pub returns-in-Ok-clause-others : goal.returns-in-Ok-clause-others
 returns-in-Ok-clause-others g c clean settled sound free =
     let done = c.in-Ok.ensures.made clean settled sound free in
     others_at (state g.S.Store c.args.connection.now).now (state g.S.Store c.commit_opening.new.conn) opening_tables done.0 done.1
+
+pub returns-in-Err-clause-shows : goal.returns-in-Err-clause-shows
+returns-in-Err-clause-shows g c clean settled sound free =
+    unopened_keeps (state g.S.Store c.args.connection.now) (state g.S.Store c.commit_opening.new.conn) settled (c.in-Err.ensures.cut_short clean settled sound free)

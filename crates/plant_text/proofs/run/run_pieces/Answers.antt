@@ -1,4 +1,4 @@
-use Rattle.std.proofs.Common.{◌≡◌, ◌<◌, [], ◌++◌, length, false, sym, ap, ◌∙◌, refl, arith}
+use Rattle.std.proofs.Common.{◌≡◌, ◌<◌, [], ◌++◌, length, length-append, false, sym, ap, ◌∙◌, refl, arith}
 use Rattle.std.proofs.lemmas.List.{append-nil}
 use Rattle.std.proofs.lemmas.Bool.Decides.{nat_tests}
 use Rattle.plant_text.proofs.Known.{Consumes-nil, Consumes-append, Consumes-keeps, Consumes-none}
@@ -13,7 +13,7 @@ reads-init g c = record {
   honest = λ h. h;
   schema = λ h. refl;
   beside = λ h b stood. stood;
-  so_far = ([], Consumes-nil _, c.new-held.ensures.items ∙ sym (held_after_none []), λ h s stood. told_same _ _ _ _ _ _ false (entries_after_none []) refl stood);
+  so_far = ([], Consumes-nil _, c.new-held.ensures.items ∙ sym (held_after_none []), omega arith, λ h s stood. told_same _ _ _ _ _ _ false (entries_after_none []) refl stood);
 }
 
 pub returns-in-Ok-eq0-clause-ends : goal.returns-in-Ok-eq0-clause-ends
@@ -27,8 +27,8 @@ returns-in-Ok-eq0-clause-ends g c =
       λ h s stood. let before = c.end_input.ensures.honest h in
           let keeper = g.K.Keeper in
           let now = c.end_input.new.keeper in
-          last_ends (keeper.schema c.args.keeper.now) _ s _ (keeper.stands now) inv.so_far.0 c.reads.held.items _ _ _ _ _ (keeper.shut now) (keeper.leaves now) c.end_input.result
-          (inv.so_far.3 before s stood) (inv.schema before) inv.so_far.2 (read.1 none some) (rw (← c.deref.ensures.value) (c.end_input.ensures.ends h)),
+          last_ends c.args.most (keeper.schema c.args.keeper.now) _ s _ (keeper.stands now) inv.so_far.0 c.reads.held.items _ _ _ _ _ (keeper.shut now) (keeper.leaves now) c.end_input.result
+          (inv.so_far.4 before s stood) (inv.schema before) inv.so_far.2 (read.1 none some) (rw (← c.deref.ensures.value) (c.end_input.ensures.ends h)),
     )
 
 pub returns-in-Err-take_piece-clause-ends : goal.returns-in-Err-take_piece-clause-ends
@@ -42,9 +42,9 @@ returns-in-Err-take_piece-clause-ends g c =
           let keeper = g.K.Keeper in
           let now = c.take_piece.new.keeper in
           rw c.end_of.ensures
-          (stopped_ends (keeper.schema c.args.keeper.now) s (inv.so_far.0 ++ front) _ _ _ (keeper.stands now) (keeper.shut now) (keeper.leaves now) c.in-Err-take_piece.stop
+          (stopped_ends c.args.most (keeper.schema c.args.keeper.now) s (inv.so_far.0 ++ front) _ _ _ (keeper.stands now) (keeper.shut now) (keeper.leaves now) c.in-Err-take_piece.stop
           (piece_stops _ _ _ _ _ [] c.reads.held.items inv.so_far.0 front [] (inv.so_far.0 ++ front) _ _ _ _ _ _ _ c.in-Err-take_piece.stop
-          (inv.so_far.3 before s stood) (inv.schema before) inv.so_far.2 (c.in-Err-take_piece.ensures.ends h) (ap (λ ys. inv.so_far.0 ++ ys) (sym (append-nil front))))),
+          (inv.so_far.4 before s stood) (inv.schema before) inv.so_far.2 (c.in-Err-take_piece.ensures.ends h) (ap (λ ys. inv.so_far.0 ++ ys) (sym (append-nil front))))),
     )
 
 pub returns-in-Err-clause-ends : goal.returns-in-Err-clause-ends
@@ -52,13 +52,14 @@ returns-in-Err-clause-ends g c =
     let inv = c.reads.invariant in (
       inv.so_far.0,
       Consumes-keeps _ _ _ inv.so_far.0 inv.so_far.1 c.in-Err.ensures.bytes,
-      λ h s stood. (c.reads.refused, read_ends _ _ inv.so_far.0 _ _ _ _ _ (inv.so_far.3 h s stood), inv.not_shut),
+      λ h s stood. (c.reads.refused, read_ends _ _ inv.so_far.0 _ _ _ _ _ (inv.so_far.4 h s stood), inv.not_shut),
     )
 
 pub reads-preserved : goal.reads-preserved
 reads-preserved g c =
     let inv = c.reads.invariant in
     let front = c.split_at.result.0.now in
+    let some : 0 < c.in-Ok.n = grind (arith, nat_tests) in
     let read = rw (← c.split_at.ensures.front) at c.in-Ok.ensures.bytes.0 in
     record {
       not_shut = c.in-Ok-take_piece.ensures.open;
@@ -69,13 +70,14 @@ reads-preserved g c =
         inv.so_far.0 ++ front,
         Consumes-append _ _ _ inv.so_far.0 front inv.so_far.1 read,
         held_more [] c.reads.held.items _ inv.so_far.0 front (inv.so_far.0 ++ front) inv.so_far.2 c.in-Ok-take_piece.ensures.held refl,
+        omega (arith, some, inv.so_far.3, c.split_at.ensures.front_len, length-append inv.so_far.0 front),
         λ h s stood. let before = c.take_piece.ensures.honest h in
             piece_told _ _ _ _ _ [] c.reads.held.items inv.so_far.0 front (inv.so_far.0 ++ front) _ _ _ _ _ _
-            (inv.so_far.3 before s stood) (inv.schema before) inv.so_far.2 (c.in-Ok-take_piece.ensures.ends h) refl,
+            (inv.so_far.4 before s stood) (inv.schema before) inv.so_far.2 (c.in-Ok-take_piece.ensures.ends h) refl,
       );
     }
 
 pub returns-clause-ends : goal.returns-clause-ends
 returns-clause-ends g c =
     let inv = c.reads.invariant in
-    (inv.so_far.0, inv.so_far.1, λ h s stood. (c.reads.refused, read_ends _ _ inv.so_far.0 _ _ _ _ _ (inv.so_far.3 h s stood), inv.not_shut))
+    (inv.so_far.0, inv.so_far.1, λ h s stood. (c.reads.refused, read_ends _ _ inv.so_far.0 _ _ _ _ _ (inv.so_far.4 h s stood), inv.not_shut, omega (arith, inv.so_far.3)))

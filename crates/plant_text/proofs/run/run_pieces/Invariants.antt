@@ -1,4 +1,4 @@
-use Rattle.std.proofs.Common.{◌≡◌, ℕ, List, [], false}
+use Rattle.std.proofs.Common.{◌≡◌, ℕ, ◌≤◌, List, [], length, false}
 use Rattle.std.specs.Io.KnownBytes.{Consumes}
 use Rattle.plant_base.specs.State.{State}
 use Rattle.plant_text.specs.Session.{Told}
@@ -15,6 +15,7 @@ invariant-reads g l =
       beside : keeper.honest l.keeper → (b : keeper.Beside) → keeper.beside l.fn.keeper b → keeper.beside l.keeper b;
       so_far : (bytes : List ℕ) × Consumes (g.R.Read.remaining l.fn.reader) (g.R.Read.remaining l.reader) bytes
           × (l.held.items ≡ held_after [] bytes)
+          × (l._made ≤ length bytes)
           × (keeper.honest l.keeper → (s : State) → keeper.stands l.fn.keeper s → Told (keeper.schema l.fn.keeper) s (entries_after [] bytes)
           (g.W.Write.contents l.fn.writer) (g.W.Write.contents l.writer) (keeper.stands l.keeper) false l.refused);
     }

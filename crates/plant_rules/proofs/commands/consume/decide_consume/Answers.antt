@@ -4,8 +4,8 @@ use Rattle.plant_view.specs.Sound.{IsSound}
 use Rattle.plant_rules.specs.Consumption.{is_own_product, IsDrawn}
 use Rattle.plant_rules.proofs.commands.consume.decide_consume.Goals as goal
 
-pub returns : goal.returns
-returns g c =
+pub returns-clause-decides : goal.returns-clause-decides
+returns-clause-decides g c =
     let s = g.V.View.state c.args.view.now in
     let command = c.args.c.now in
     let Own : Type 0 = c.in_ok-own.own ≡ is_own_product s command.batch command.lot in
@@ -19,5 +19,5 @@ returns g c =
           let found = looked.holds h in
           let before = looked.before h in
           let drawn = rw c.in-Ok.is at found.0 in
-          c.in_ok-consumed.ensures s (c.requires.sound before) (c.requires.seq before) found.1 drawn.0 drawn.1;
+          c.in_ok-consumed.ensures.decides s (c.requires.sound before) (c.requires.seq before) found.1 drawn.0 drawn.1;
     }

@@ -6,8 +6,8 @@ use Rattle.plant_rules.specs.Consumption.{wrong_produce}
 use Rattle.plant_rules.proofs.BirthTables.{production_brings, born_tables}
 use Rattle.plant_rules.proofs.commands.produce.produced.Goals as goal
 
-pub returns : goal.returns
-returns c = λ s sound seq batch definition lot lines.
+pub returns-clause-decides : goal.returns-clause-decides
+returns-clause-decides c = λ s sound seq batch definition lot lines.
     let found = rw c.in-Some.is at batch in
     let p = c.args.c.now in
     let none = ap is_some (sym lot) ∙ sym c.is_some.ensures ∙ c.if-is_some.false in

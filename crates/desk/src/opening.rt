@@ -65,14 +65,6 @@ fn in_order<S: Alter + Drop>(
     }
 }
 
-/// Closes a file, where it is at hand. Whether none is left open for want of a close that succeeds.
-fn is_closed<S: Start>(connection: Option<Connection<FileStore<FileFrom<S>>>>) -> bool {
-    match connection {
-        Some(connection) => connection.close().is_ok(),
-        None => true,
-    }
-}
-
 /// Does what the words tell over the opened file and the standard streams, and closes it: what stands in its log is copied
 /// into it, so that the file alone holds the desk. Gives the exit status.
 fn perform_closing<S: Start>(
@@ -92,7 +84,7 @@ fn perform_closing<S: Start>(
         &mut rt.reader(),
         &mut io::writer(rt),
     );
-    let is_closed = is_closed(connection);
+    let is_closed = connection.close().is_ok();
     tell_outcome(after_closing(outcome, is_closed), &mut rt.stderr())
 }
 

@@ -7,11 +7,14 @@ use sqlite::{Alter, Connection};
 use std::process::Abort;
 use std::test::Fail;
 
-/// A desk over the store, after the five lines of the session.
+/// A desk over the store, in which no transaction may be open, after the five lines of the session.
 pub fn after_session<S: Alter + Drop>(
     rt: &(impl Abort + AllocGlobal),
     connection: Connection<S>,
 ) -> Result<Desk<S>, Fail> {
+    if !connection.is_autocommit() {
+        return Err(Fail::from("a transaction is open"));
+    }
     let mut rest = SESSION;
     let mut output = Vec::new(rt.alloc());
     match run(rt.alloc(), connection, &mut rest, &mut output) {

@@ -1,5 +1,6 @@
-//! Faults before a store is open.
-use plant_program::{tell_opening, tell_words};
+//! Faults before a store is open, and how words end.
+use plant_check::Rule;
+use plant_program::{Fault, after_closing, tell_opening, tell_outcome, tell_words};
 use plant_words::WordsFault;
 use sqlite::{Error, ErrorCode};
 use std::process::Abort;
@@ -46,4 +47,44 @@ fn openings_are_told(rt: HostRuntime) {
     opening_tells(&rt, ErrorCode::CannotOpen, b"fault: store\n", 3);
     opening_tells(&rt, ErrorCode::DatabaseBusy, b"fault: store\n", 3);
     opening_tells(&rt, ErrorCode::NotADatabase, b"fault: store\n", 3);
+}
+
+/// Checks what is told of words that ended so.
+fn outcome_tells(
+    rt: &(impl Abort + AllocGlobal),
+    outcome: Result<bool, Fault>,
+    errors: &str,
+    status: u8,
+) {
+    let mut told = Vec::new(rt.alloc());
+    assert_eq!(rt; tell_outcome(outcome, &mut told), status);
+    assert!(rt; told.as_slice() == errors.as_bytes());
+}
+
+#[test]
+fn outcomes_are_told(rt: HostRuntime) {
+    outcome_tells(&rt, Ok(false), "", 0);
+    outcome_tells(&rt, Ok(true), "", 1);
+    outcome_tells(&rt, Err(Fault::Memory), "fault: memory\n", 4);
+    outcome_tells(&rt, Err(Fault::Store), "fault: store\n", 3);
+    outcome_tells(&rt, Err(Fault::Newer(2)), "fault: newer 2\n", 3);
+    outcome_tells(
+        &rt,
+        Err(Fault::Damaged(Rule::Stocks)),
+        "fault: damaged G7\n",
+        3,
+    );
+    outcome_tells(&rt, Err(Fault::Read), "fault: read\n", 3);
+    outcome_tells(&rt, Err(Fault::Write), "fault: write\n", 3);
+    outcome_tells(&rt, Err(Fault::Endless), "fault: endless\n", 3);
+}
+
+#[test]
+fn a_failed_close_is_a_fault_of_the_store(rt: HostRuntime) {
+    assert_eq!(rt; after_closing(Ok(true), true), Ok(true));
+    assert_eq!(rt; after_closing(Ok(true), false), Err(Fault::Store));
+    assert_eq!(rt;
+        after_closing(Err(Fault::Memory), false),
+        Err(Fault::Memory)
+    );
 }

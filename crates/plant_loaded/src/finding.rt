@@ -1,14 +1,14 @@
 //! What a store holds of the desk.
 
-ghost use Rattle.std.specs.Prelude.{◌≡◌, ◌≢◌, ◌↔◌, ◌∷◌, [], false, true, All, None, ℤ, IfOk, IfSome, is_some};
+ghost use Rattle.std.specs.Prelude.{◌≡◌, ◌≢◌, ◌↔◌, ◌∷◌, [], false, true, All, None, ℤ, IfOk, IfErr, IfSome, is_some};
 ghost use Rattle.std.specs.List.{list_any};
 ghost use Rattle.sqlite.specs.Does.{lacks_sequence};
 ghost use Rattle.sqlite.specs.Held.{state};
 ghost use Rattle.sqlite.specs.Rows.{sequence};
 ghost use Rattle.sqlite.specs.State.{HasCleanDisk, IsLive, IsUnchanged, Survives};
 ghost use Rattle.plant_forms.specs.Resting.{Keeps};
-ghost use Rattle.plant_forms.specs.Standing.{AreFree, IsFree};
-ghost use Rattle.plant_tables.specs.DeskForms.{desk_forms};
+ghost use Rattle.plant_forms.specs.Standing.{AreFree, HasTable, IsFree};
+ghost use Rattle.plant_tables.specs.DeskForms.{desk_forms, meta_form};
 ghost use Rattle.plant_loaded.specs.Version.{IsGoodMeta, IsVersion};
 
 use crate::meta::StoredMeta;
@@ -64,6 +64,8 @@ fn version<S: Alter>(alloc: Global, conn: &mut Connection<S>) -> Result<Option<i
     ensures kept { HasCleanDisk (state S.Store conn.new) → Keeps (state S.Store conn.old) (state S.Store conn.new) }
     ensures mode { (state S.Store conn.old).in_transaction ≡ false → (state S.Store conn.new).in_transaction ≡ false }
     ensures crash { Survives (state S.Store conn.old) (state S.Store conn.new) (λ _. ⊥) }
+    // Memory is wanted for a row of table meta.
+    ensures memory { HasCleanDisk (state S.Store conn.new) → IfErr result (λ fault. fault ≡ Fault.Memory → HasTable (state S.Store conn.old).now.schema meta_form) }
 {
     if !all_stand(conn.schema(), &[META]) {
         return Ok(None);
@@ -109,6 +111,8 @@ pub fn found<S: Alter>(alloc: Global, conn: &mut Connection<S>) -> Result<FoundT
     ensures kept { HasCleanDisk (state S.Store conn.new) → Keeps (state S.Store conn.old) (state S.Store conn.new) }
     ensures mode { (state S.Store conn.old).in_transaction ≡ false → (state S.Store conn.new).in_transaction ≡ false }
     ensures crash { Survives (state S.Store conn.old) (state S.Store conn.new) (λ _. ⊥) }
+    // Memory is wanted for a row of table meta.
+    ensures memory { HasCleanDisk (state S.Store conn.new) → IfErr result (λ fault. fault ≡ Fault.Memory → HasTable (state S.Store conn.old).now.schema meta_form) }
 {
     if all_free(conn.schema(), &desk_forms()) {
         if lacks_counts(conn.schema()) {

@@ -1,4 +1,4 @@
-ghost use Rattle.std.specs.Prelude.{◌≡◌, false, All, None, IfOk, IfSome, OnOk};
+ghost use Rattle.std.specs.Prelude.{◌≡◌, false, pos, All, None, IfOk, IfErr, IfSome, OnOk};
 ghost use Rattle.sqlite.specs.Held.{state};
 ghost use Rattle.sqlite.specs.State.{HasCleanDisk, IsUnchanged, Survives};
 ghost use Rattle.plant_forms.specs.Resting.{Keeps};
@@ -44,6 +44,9 @@ impl Loaded {
         ensures kept { HasCleanDisk (state S.Store conn.new) → Keeps (state S.Store conn.old) (state S.Store conn.new) }
         ensures mode { (state S.Store conn.old).in_transaction ≡ false → (state S.Store conn.new).in_transaction ≡ false }
         ensures crash { Survives (state S.Store conn.old) (state S.Store conn.new) (λ _. ⊥) }
+        // Memory is wanted for the rows of a version that is known, all tables of which stand.
+        ensures known { IfErr result (λ fault. fault ≡ Fault.Memory → version ≡ pos 1) }
+        ensures memory { IfErr result (λ fault. fault ≡ Fault.Memory → All (HasTable (state S.Store conn.old).now.schema) desk_forms) }
     {
         if version != 1 {
             return Err(Fault::Store);

@@ -12,6 +12,7 @@ mod standing;
 mod telling;
 mod verified;
 
+pub use adopting::Stopped;
 pub use fault::Fault;
 pub use performing::{Performed, after_closing, perform, perform_words, tell_outcome};
 pub use ready::init;

@@ -1,10 +1,11 @@
 //! What the program does for its words.
-ghost use Rattle.std.specs.Prelude.{◌≡◌, false, Bool, Result};
+ghost use Rattle.std.specs.Prelude.{◌≡◌, false, Bool, Result, Err};
 ghost use Rattle.sqlite.specs.Held.{state};
 ghost use Rattle.plant_program.specs.Performing.{Prints, Exits, after_closing};
 ghost use Rattle.plant_program.specs.Running.{RunGives};
 ghost use Rattle.plant_program.specs.declared.fault.Fault.{Fault};
 
+use crate::adopting::Stopped;
 use crate::fault::{Fault, outcome_of};
 use crate::ready::init;
 use crate::session::{Session, run};
@@ -20,9 +21,18 @@ use std::io::{Read, Write};
 pub struct Performed<S: Alter> {
     /// Whether something was refused, or the fault.
     pub outcome: Result<bool, Fault>,
-    /// The store, for who opened it to close. There is none where the store wasn't adopted, and where `init` or `verify`
-    /// met a fault: then it was dropped.
-    pub connection: Option<Connection<S>>,
+    /// The store, for who opened it to close.
+    pub connection: Connection<S>,
+}
+
+/// What came of words that stopped at a fault.
+fn broken_off<S: Alter + Drop>(stopped: Stopped<S>) -> Performed<S>
+    ensures { result.outcome ≡ Err stopped.fault }
+{
+    Performed {
+        outcome: Err(stopped.fault),
+        connection: stopped.connection,
+    }
 }
 
 /// Does a run.
@@ -40,13 +50,10 @@ fn perform_run<S: Alter + Drop, R: Read, W: Write>(
             let Session { desk, end } = session;
             Performed {
                 outcome: outcome_of(end),
-                connection: Some(desk.close()),
+                connection: desk.close(),
             }
         }
-        Err(fault) => Performed {
-            outcome: Err(fault),
-            connection: None,
-        },
+        Err(stopped) => broken_off(stopped),
     }
 }
 
@@ -69,23 +76,17 @@ pub fn perform_words<S: Alter + Drop, R: Read, W: Write>(
         Words::Init { .. } => match init(alloc, connection, writer) {
             Ok(desk) => Performed {
                 outcome: Ok(false),
-                connection: Some(desk.close()),
+                connection: desk.close(),
             },
-            Err(fault) => Performed {
-                outcome: Err(fault),
-                connection: None,
-            },
+            Err(stopped) => broken_off(stopped),
         },
         Words::Run { .. } => perform_run(alloc, connection, reader, writer),
         Words::Verify { .. } => match verify(alloc, connection, writer) {
             Ok(desk) => Performed {
                 outcome: Ok(false),
-                connection: Some(desk.close()),
+                connection: desk.close(),
             },
-            Err(fault) => Performed {
-                outcome: Err(fault),
-                connection: None,
-            },
+            Err(stopped) => broken_off(stopped),
         },
     }
 }

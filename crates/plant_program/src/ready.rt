@@ -10,7 +10,7 @@ ghost use Rattle.plant_text.specs.Writes.{with_lf};
 ghost use Rattle.plant_program.specs.Texts.{ready_text};
 ghost use Rattle.plant_program.specs.Performing.{IsReady, Printed, Unprinted};
 
-use crate::adopting::adopted;
+use crate::adopting::{Stopped, adopted};
 use crate::fault::Fault;
 use crate::lines::ready_line;
 use crate::printing::print_line;
@@ -43,15 +43,18 @@ pub fn init<S: Alter + Drop, W: Write>(
     alloc: Global,
     connection: Connection<S>,
     writer: &mut W,
-) -> Result<Desk<S>, Fault>
+) -> Result<Desk<S>, Stopped<S>>
     requires { (state S.Store connection).in_transaction ≡ false }
     ensures adopted { IfOk result (λ desk. HasCleanDisk (state S.Store desk.connection) → IsNewlyOpened (state S.Store connection) → AdoptedFrom (state S.Store connection) (IsOpenAt (state S.Store desk.connection))) }
     ensures ready { IfOk result (λ desk. HasCleanDisk (state S.Store desk.connection) → IsNewlyOpened (state S.Store connection) → Appends (W.contents writer.old) (W.contents writer.new) (with_lf (ready_text newest_schema))) }
-    ensures printed { MatchResult result (λ _. Printed IsReady (W.contents writer.old) (W.contents writer.new)) (Unprinted IsReady (W.contents writer.old) (W.contents writer.new)) }
+    ensures printed { MatchResult result (λ _. Printed IsReady (W.contents writer.old) (W.contents writer.new)) (λ stopped. Unprinted IsReady (W.contents writer.old) (W.contents writer.new) stopped.fault) }
 {
     let mut desk = adopted(alloc, connection)?;
     match tell_ready(writer, &mut desk) {
         Ok(()) => Ok(desk),
-        Err(fault) => Err(fault),
+        Err(fault) => Err(Stopped {
+            fault,
+            connection: desk.close(),
+        }),
     }
 }

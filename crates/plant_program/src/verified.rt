@@ -10,7 +10,7 @@ ghost use Rattle.plant_text.specs.Writes.{with_lf};
 ghost use Rattle.plant_program.specs.Texts.{good_text};
 ghost use Rattle.plant_program.specs.Performing.{IsGoodLine, Printed, Unprinted};
 
-use crate::adopting::adopted;
+use crate::adopting::{Stopped, adopted};
 use crate::fault::Fault;
 use crate::lines::good_line;
 use crate::printing::print_line;
@@ -74,15 +74,18 @@ pub fn verify<S: Alter + Drop, W: Write>(
     alloc: Global,
     connection: Connection<S>,
     writer: &mut W,
-) -> Result<Desk<S>, Fault>
+) -> Result<Desk<S>, Stopped<S>>
     requires { (state S.Store connection).in_transaction ≡ false }
     ensures good { IfOk result (λ desk. HasCleanDisk (state S.Store desk.connection) → IsNewlyOpened (state S.Store connection)
         → AdoptedFrom (state S.Store connection) (λ s. IsOpenAt (state S.Store desk.connection) s × Appends (W.contents writer.old) (W.contents writer.new) (with_lf (good_text newest_schema s.seq)))) }
-    ensures printed { MatchResult result (λ _. Printed IsGoodLine (W.contents writer.old) (W.contents writer.new)) (Unprinted IsGoodLine (W.contents writer.old) (W.contents writer.new)) }
+    ensures printed { MatchResult result (λ _. Printed IsGoodLine (W.contents writer.old) (W.contents writer.new)) (λ stopped. Unprinted IsGoodLine (W.contents writer.old) (W.contents writer.new) stopped.fault) }
 {
     let mut desk = adopted(alloc, connection)?;
     match tell_tested(writer, &mut desk) {
         Ok(()) => Ok(desk),
-        Err(fault) => Err(fault),
+        Err(fault) => Err(Stopped {
+            fault,
+            connection: desk.close(),
+        }),
     }
 }

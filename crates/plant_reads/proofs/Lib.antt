@@ -4,6 +4,7 @@ pub mod Query
 pub mod Answer
 pub mod Shown
 pub mod Entries
+pub mod Errors
 pub mod Tests
 pub mod Stored
 pub mod Selecting

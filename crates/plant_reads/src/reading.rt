@@ -1,10 +1,11 @@
-ghost use Rattle.std.specs.Prelude.{◌≡◌, ◌<◌, false, true, map, option_map, IsTrue, length, slice_index_or, ◌-◌, ◌++◌, ◌∷◌, [], IfOk, OnOk, IsOkUnless};
+ghost use Rattle.std.specs.Prelude.{◌≡◌, ◌<◌, false, true, map, option_map, IsTrue, length, slice_index_or, ◌-◌, ◌++◌, ◌∷◌, [], IfOk, IfErr, OnOk, IsOkUnless, Some};
 ghost use Rattle.sqlite.specs.State.{HasCleanDisk, IsUnchanged, Survives, Shown};
 ghost use Rattle.sqlite.specs.Held.{state};
 ghost use Rattle.sqlite.specs.Given.{Advances};
 ghost use Rattle.sqlite.specs.Values.{bound};
 ghost use Rattle.plant_forms.specs.Resting.{IsAtRest, Keeps};
 ghost use Rattle.plant_reads.specs.Plain.{OnlyReads};
+ghost use Rattle.plant_reads.specs.Given.{HasGivenRow};
 ghost use Rattle.plant_reads.specs.Rises.{Rises};
 
 use crate::row::TableRow;
@@ -30,7 +31,8 @@ fn row_value<R: TableRow>(alloc: Global, row: &Row) -> Result<R, Fault>
     R::from_row(alloc, row)
 }
 
-/// The next row, as a value.
+/// The next row, as a value. Store where the store fails, or the row is none of the table's; Memory where there is
+/// none for a value of that row.
 fn next_value<S: Alter, R: TableRow>(
     alloc: Global,
     rows: &mut Rows<'_, S>,
@@ -41,10 +43,12 @@ fn next_value<S: Alter, R: TableRow>(
     ensures kept { HasCleanDisk (state S.Store rows.new.conn.now) → IsAtRest (state S.Store rows.old.conn.now) → Keeps (state S.Store rows.old.conn.now) (state S.Store rows.new.conn.now) }
     ensures mode { rows.old.conn.now.in_transaction ≡ false → rows.new.conn.now.in_transaction ≡ false }
     ensures survives { Survives (state S.Store rows.old.conn.now) (state S.Store rows.new.conn.now) (λ _. ⊥) }
+    // Memory is wanted for a row that was given.
+    ensures memory { HasCleanDisk (state S.Store rows.new.conn.now) → IfErr result (λ fault. fault ≡ Fault.Memory → (row : _) × Advances S.Store rows.old.conn.now rows.new.conn.now (Some row)) }
 {
     match rows.advance() {
         Ok(()) => (),
-        Err(error) => return Err(fault_of(error)),
+        Err(failure) => return Err(fault_of(failure)),
     }
     match rows.get() {
         Some(row) => Ok(Some(row_value(alloc, row)?)),
@@ -80,6 +84,8 @@ pub fn read_rows<S: Alter, R: TableRow>(
     ensures kept { HasCleanDisk (state S.Store conn.new) → Keeps (state S.Store conn.old) (state S.Store conn.new) }
     ensures mode { (state S.Store conn.new).in_transaction ≡ false }
     ensures crash { Survives (state S.Store conn.old) (state S.Store conn.new) (λ _. ⊥) }
+    // Memory is wanted for a row that was given.
+    ensures memory { HasCleanDisk (state S.Store conn.new) → IfErr result (λ fault. fault ≡ Fault.Memory → HasGivenRow S.Store sql.now (bound params.now) conn.new) }
 {
     let mut list = Vec::new(alloc);
     let mut rows = match conn.query(sql, params) {

@@ -1,4 +1,4 @@
-ghost use Rattle.std.specs.Prelude.{◌≡◌, ◌↔◌, true, false, All, List, ℕ, map, IfOk, OnOk};
+ghost use Rattle.std.specs.Prelude.{◌≡◌, ◌↔◌, true, false, All, List, ℕ, map, IfOk, IfErr, OnOk};
 ghost use Rattle.sqlite.specs.State.{HasCleanDisk, IsUnchanged, Survives};
 ghost use Rattle.sqlite.specs.Held.{state};
 ghost use Rattle.sqlite.specs.Values.{bound};
@@ -6,6 +6,7 @@ ghost use Rattle.plant_forms.specs.Resting.{Keeps};
 ghost use Rattle.plant_forms.specs.Standing.{HasTable, IsFree};
 ghost use Rattle.plant_reads.specs.Found.{AreGiven};
 ghost use Rattle.plant_reads.specs.Reading.{Lists, Finds};
+ghost use Rattle.plant_reads.specs.Given.{HasGivenRow};
 ghost use Rattle.plant_reads.specs.Rises.{Rises};
 ghost use Rattle.plant_reads.specs.Selects.{Selects};
 
@@ -72,6 +73,8 @@ pub fn find_rows<S: Alter, R: TableRow>(
     ensures kept { HasCleanDisk (state S.Store conn.new) → Keeps (state S.Store conn.old) (state S.Store conn.new) }
     ensures mode { (state S.Store conn.old).in_transaction ≡ false → (state S.Store conn.new).in_transaction ≡ false }
     ensures crash { Survives (state S.Store conn.old) (state S.Store conn.new) (λ _. ⊥) }
+    // Memory is wanted for a row that was given, of a table that stands.
+    ensures memory { HasCleanDisk (state S.Store conn.new) → IfErr result (λ fault. fault ≡ Fault.Memory → HasTable conn.old.schema R.FORM × HasGivenRow S.Store sql.now (bound values.now) conn.new) }
 {
     if !conn.is_autocommit() || !stands(conn.schema(), &R::FORM) {
         return Err(Fault::Store);
@@ -91,6 +94,8 @@ pub fn read_table<S: Alter, R: TableRow>(
     ensures kept { HasCleanDisk (state S.Store conn.new) → Keeps (state S.Store conn.old) (state S.Store conn.new) }
     ensures mode { (state S.Store conn.old).in_transaction ≡ false → (state S.Store conn.new).in_transaction ≡ false }
     ensures crash { Survives (state S.Store conn.old) (state S.Store conn.new) (λ _. ⊥) }
+    // Memory is wanted for a row of a table that stands.
+    ensures memory { HasCleanDisk (state S.Store conn.new) → IfErr result (λ fault. fault ≡ Fault.Memory → HasTable conn.old.schema R.FORM) }
 {
     find_rows(alloc, conn, R::select(), &[])
 }

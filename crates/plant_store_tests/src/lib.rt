@@ -27,3 +27,5 @@ mod stops;
 mod store;
 #[cfg(test)]
 mod told;
+#[cfg(test)]
+mod word_stops;

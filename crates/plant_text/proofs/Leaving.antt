@@ -1,5 +1,5 @@
 -- What a stop after a run leaves, by the law of an open keeper that a stop leaves its state and no other.
-use Rattle.std.proofs.Common.{◌≡◌, ℕ, List, ◌∷◌, ◌++◌, Bool, false, Option, inl, inr}
+use Rattle.std.proofs.Common.{◌≡◌, ℕ, List, Bool, false, Option, inl, inr}
 use Rattle.plant_base.specs.State.{State}
 use Rattle.plant_desk.specs.Keeping.{States}
 use Rattle.plant_desk.specs.declared.reply.DeskFault.{DeskFault}

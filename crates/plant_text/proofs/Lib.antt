@@ -8,4 +8,5 @@ pub mod LineLemmas
 pub mod Listed
 pub mod Reading
 pub mod RunLemmas
+pub mod Shapes
 pub mod TurnLemmas

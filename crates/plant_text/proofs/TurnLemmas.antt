@@ -1,5 +1,5 @@
 -- How the turn of one entry ends.
-use Rattle.std.proofs.Common.{◌≡◌, ℕ, ◌<◌, ◌≤◌, List, length, Bool, false, nat_eq, Option, Result, Ok, Err, refl, sym, subst, ap, inl, inr, arith}
+use Rattle.std.proofs.Common.{◌≡◌, ℕ, ◌<◌, List, length, Bool, false, nat_eq, Option, Result, Ok, Err, refl, sym, subst, ap, inl, inr, arith}
 use Rattle.std.proofs.lemmas.Bool.Decides.{nat_tests}
 use Rattle.std.specs.Io.KnownBytes.{Appends}
 use Rattle.plant_text.proofs.Known.{Appends-nil}
@@ -20,7 +20,7 @@ use Rattle.plant_text.specs.Writes.{with_lf, AppendsFront}
 use Rattle.plant_text.specs.Turns.{TurnEnds, FaultWritten, AnswerWritten, BadWritten}
 use Rattle.plant_text.specs.Answers.{text_of_answer}
 use Rattle.plant_desk.specs.declared.question.Answer.{Answer}
-use Rattle.std.specs.Prelude.{IfErr, IfOk, IsErrAnd, Some, None}
+use Rattle.std.specs.Prelude.{IfErr, IfOk, IsErrAnd}
 
 pub stops_by_fault : (k : ℕ) (s : State) (e : Entry) (old new : Option (List ℕ)) (stands : States) (shut : Bool) (leaves : States → Type 0) (f : DeskFault) (stop : Stop)
     → FaultWritten f old new stop → FaultLeaves f s e stands shut leaves → StopsAt k s e old new stands shut leaves stop

@@ -1,12 +1,12 @@
 -- Which JSON values are commands on batches.
-use Rattle.std.specs.Prelude.{ℕ, List, if◌then◌else◌, codes, Option, Some, None, option_map, option_and_then}
+use Rattle.std.specs.Prelude.{ℕ, List, [], ◌∷◌, if◌then◌else◌, codes, Option, Some, None, option_and_then}
 use Rattle.std.specs.Str.{bytes_eq}
 use Rattle.serde_json.specs.Data.{Data}
 use Rattle.plant_base.specs.declared.states.Word.{Word}
 use Rattle.plant_base.specs.declared.states.Word.TheVariants.{Start, Stop, Hold, Restart, Abort, Reset, Pause, Resume}
 use Rattle.plant_base.specs.declared.command.Command.{Command}
 use Rattle.plant_base.specs.declared.command.Command.TheVariants as body
-use Rattle.plant_text.specs.Fields.{when, string_at, id_at, text_at, amount_at, sublot_at, phase_at, has_fields}
+use Rattle.plant_text.specs.Fields.{when, string_at, id_at, text_at, amount_at, sublot_at, phase_at, is_command, ◌>>=◌}
 
 -- the word of command that a text is; the ending of a state is none
 abbrev pub command_word : List ℕ → Option Word
@@ -25,34 +25,43 @@ abbrev pub word_at : List ℕ → Data → Option Word
 word_at name d = option_and_then command_word (string_at name d)
 
 abbrev pub batch_of : Data → Option Command
-batch_of d = when (has_fields 2 d)
-    (option_and_then (λ batch. option_map (λ word. body.BatchCommand (record { batch = batch; word = word }))
-    (word_at (codes "word") d)) (id_at (codes "batch") d))
+batch_of d = when (is_command (codes "batch" ∷ codes "word" ∷ []) d) (do
+  batch ← id_at (codes "batch") d
+  word ← word_at (codes "word") d
+  Some (body.BatchCommand (record { batch = batch; word = word })))
 
 abbrev pub settle_of : Data → Option Command
-settle_of d = when (has_fields 1 d)
-    (option_map (λ batch. body.Settle (record { batch = batch })) (id_at (codes "batch") d))
+settle_of d = when (is_command (codes "batch" ∷ []) d) (do
+  batch ← id_at (codes "batch") d
+  Some (body.Settle (record { batch = batch })))
 
 abbrev pub phase_done_of : Data → Option Command
-phase_done_of d = when (has_fields 2 d)
-    (option_and_then (λ batch. option_map (λ phase. body.PhaseDone (record { batch = batch; phase = phase }))
-    (phase_at (codes "phase") d)) (id_at (codes "batch") d))
+phase_done_of d = when (is_command (codes "batch" ∷ codes "phase" ∷ []) d) (do
+  batch ← id_at (codes "batch") d
+  phase ← phase_at (codes "phase") d
+  Some (body.PhaseDone (record { batch = batch; phase = phase })))
 
 abbrev pub close_batch_of : Data → Option Command
-close_batch_of d = when (has_fields 1 d)
-    (option_map (λ batch. body.CloseBatch (record { batch = batch })) (id_at (codes "batch") d))
+close_batch_of d = when (is_command (codes "batch" ∷ []) d) (do
+  batch ← id_at (codes "batch") d
+  Some (body.CloseBatch (record { batch = batch })))
 
 abbrev pub consume_of : Data → Option Command
-consume_of d = when (has_fields 4 d)
-    (option_and_then (λ batch. option_and_then (λ lot. option_and_then (λ sub. option_map (λ amount.
-    body.Consume (record { batch = batch; lot = lot; sub = sub; amount = amount }))
-    (amount_at (codes "amount") d)) (sublot_at (codes "sub") d)) (id_at (codes "lot") d)) (id_at (codes "batch") d))
+consume_of d = when (is_command (codes "batch" ∷ codes "lot" ∷ codes "sub" ∷ codes "amount" ∷ []) d) (do
+  batch ← id_at (codes "batch") d
+  lot ← id_at (codes "lot") d
+  sub ← sublot_at (codes "sub") d
+  amount ← amount_at (codes "amount") d
+  Some (body.Consume (record { batch = batch; lot = lot; sub = sub; amount = amount })))
 
 abbrev pub produce_of : Data → Option Command
-produce_of d = when (has_fields 5 d)
-    (option_and_then (λ batch. option_and_then (λ lot. option_and_then (λ def. option_and_then (λ amount. option_map (λ place.
-    body.Produce (record { batch = batch; lot = lot; def = def; amount = amount; place = place }))
-    (text_at (codes "place") d)) (amount_at (codes "amount") d)) (id_at (codes "def") d)) (id_at (codes "lot") d)) (id_at (codes "batch") d))
+produce_of d = when (is_command (codes "batch" ∷ codes "lot" ∷ codes "def" ∷ codes "amount" ∷ codes "place" ∷ []) d) (do
+  batch ← id_at (codes "batch") d
+  lot ← id_at (codes "lot") d
+  def ← id_at (codes "def") d
+  amount ← amount_at (codes "amount") d
+  place ← text_at (codes "place") d
+  Some (body.Produce (record { batch = batch; lot = lot; def = def; amount = amount; place = place })))
 
 -- the command on a batch of a word
 abbrev pub body_on_batch : List ℕ → Data → Option Command

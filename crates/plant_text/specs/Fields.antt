@@ -1,5 +1,6 @@
 -- What the members of a JSON object say. An object has a name once: where a text has it twice, the last one counts.
-use Rattle.std.specs.Prelude.{ℕ, ◌+◌, ◌==◌, List, Bool, nat_le, if◌then◌else◌, codes, Option, Some, None, option_and_then, is_some}
+use Rattle.std.specs.Prelude.{ℕ, ◌==◌, ◌&&◌, List, [], ◌∷◌, ◌++◌, length, Bool, nat_le, if◌then◌else◌, codes, Option, Some, None, option_and_then, is_some}
+use Rattle.std.specs.List.{list_all}
 use Rattle.std.specs.Option.{option_map_or}
 use Rattle.serde_json.specs.Data.{Data}
 use Rattle.serde_json.specs.Find.{get, as_number, as_u64, as_str, as_object}
@@ -17,6 +18,10 @@ abbrev pub when : {A : Type 0} → Bool → Option A → Option A
 when holds o = if holds then o else None
 
 -- ---- members by their name
+
+infixl 10 ◌>>=◌
+abbrev pub ◌>>=◌ : {A B : Type 0} → Option A → (A → Option B) → Option B
+o >>= f = option_and_then f o
 
 -- the string that the object has under the name
 abbrev pub string_at : List ℕ → Data → Option (List ℕ)
@@ -64,17 +69,26 @@ text_or_empty (Some d) = option_and_then (only is_text) (as_str d)
 abbrev pub note_at : Data → Option (List ℕ)
 note_at d = text_or_empty (get (codes "note") d)
 
--- ---- no other members
+-- ---- shapes: the members of an object are those of a list of distinct names
 
 -- how many members the object has
 abbrev pub count_of : Data → ℕ
 count_of d = option_map_or members_len (as_object d) 0
 
--- the members that each command has: at, by, do, and a note where there is one
-abbrev pub shared_count : Data → ℕ
-shared_count d = if is_some (get (codes "note") d) then 4 else 3
+-- the object has a member under each of the names
+abbrev pub has_each : List (List ℕ) → Data → Bool
+has_each names d = list_all (λ name. is_some (get name d)) names
 
--- as many members as a command with so many fields of its own: where each of those is there, no other is (`no_other` in
+-- the object has a member under each of the names, and as many members as names: so it has no other (`no_other` in
 -- proofs/Listed.antt)
-abbrev pub has_fields : ℕ → Data → Bool
-has_fields own d = count_of d == own + shared_count d
+abbrev pub is_shape : List (List ℕ) → Data → Bool
+is_shape names d = (count_of d == length names) && has_each names d
+
+-- the members that each command has: at, by, do, and a note where there is one
+abbrev pub shared_names : Data → List (List ℕ)
+shared_names d =
+    if is_some (get (codes "note") d) then codes "at" ∷ codes "by" ∷ codes "do" ∷ codes "note" ∷ [] else codes "at" ∷ codes "by" ∷ codes "do" ∷ []
+
+-- a command with these members of its own
+abbrev pub is_command : List (List ℕ) → Data → Bool
+is_command own d = is_shape (own ++ shared_names d) d

@@ -1,5 +1,5 @@
--- Which JSON values are questions. They have no note, and no other member.
-use Rattle.std.specs.Prelude.{ℕ, ◌==◌, List, if◌then◌else◌, codes, Option, Some, None, option_map, option_and_then}
+-- Which JSON values are questions. They have no note.
+use Rattle.std.specs.Prelude.{ℕ, List, [], ◌∷◌, if◌then◌else◌, codes, Option, Some, None, option_map, option_and_then}
 use Rattle.std.specs.Str.{bytes_eq}
 use Rattle.serde_json.specs.Data.{Data}
 use Rattle.plant_trace.specs.declared.direction.Direction.{Direction}
@@ -8,14 +8,14 @@ use Rattle.plant_trace.specs.declared.node.Node.{Node}
 use Rattle.plant_trace.specs.declared.node.Node.TheVariants.{Lot, Batch}
 use Rattle.plant_desk.specs.declared.question.Question.{Question}
 use Rattle.plant_desk.specs.declared.question.Question.TheVariants as Q
-use Rattle.plant_text.specs.Fields.{when, string_at, id_at, count_of}
+use Rattle.plant_text.specs.Fields.{when, string_at, id_at, is_shape}
 
 abbrev pub desk_of : Data → Option Question
-desk_of d = when (count_of d == 1) (Some Q.Desk)
+desk_of d = when (is_shape (codes "ask" ∷ []) d) (Some Q.Desk)
 
 -- the one id that a question names
 abbrev pub named : List ℕ → Data → Option (List ℕ)
-named name d = when (count_of d == 2) (id_at name d)
+named name d = when (is_shape (codes "ask" ∷ name ∷ []) d) (id_at name d)
 
 abbrev pub lot_of : Data → Option Question
 lot_of d = option_map Q.Lot (named (codes "lot") d)

@@ -3,7 +3,7 @@ ghost use Rattle.std.specs.Prelude.{◌≡◌};
 ghost use Rattle.serde_json.specs.View.{view};
 ghost use Rattle.plant_text.specs.Batches.{command_word, word_at, batch_of, settle_of, phase_done_of, close_batch_of, consume_of, produce_of, body_on_batch};
 
-use crate::fields::{amount_at, has_fields, id_at, phase_at, sublot_at, text_at};
+use crate::fields::{amount_at, id_at, is_command, phase_at, sublot_at, text_at};
 use plant_base::{BatchCommand, CloseBatch, Command, Consume, PhaseDone, Produce, Settle, Word};
 use serde_json::Value;
 
@@ -41,7 +41,7 @@ fn word_at(value: &Value, name: &str) -> Option<Word>
 fn batch_of(value: &Value) -> Option<Command>
     ensures { result ≡ batch_of (view value.now) }
 {
-    if !has_fields(value, 2) {
+    if !is_command(value, &["batch", "word"]) {
         return None;
     }
     let batch = id_at(value, "batch")?;
@@ -52,7 +52,7 @@ fn batch_of(value: &Value) -> Option<Command>
 fn settle_of(value: &Value) -> Option<Command>
     ensures { result ≡ settle_of (view value.now) }
 {
-    if !has_fields(value, 1) {
+    if !is_command(value, &["batch"]) {
         return None;
     }
     let batch = id_at(value, "batch")?;
@@ -62,7 +62,7 @@ fn settle_of(value: &Value) -> Option<Command>
 fn phase_done_of(value: &Value) -> Option<Command>
     ensures { result ≡ phase_done_of (view value.now) }
 {
-    if !has_fields(value, 2) {
+    if !is_command(value, &["batch", "phase"]) {
         return None;
     }
     let batch = id_at(value, "batch")?;
@@ -73,7 +73,7 @@ fn phase_done_of(value: &Value) -> Option<Command>
 fn close_batch_of(value: &Value) -> Option<Command>
     ensures { result ≡ close_batch_of (view value.now) }
 {
-    if !has_fields(value, 1) {
+    if !is_command(value, &["batch"]) {
         return None;
     }
     let batch = id_at(value, "batch")?;
@@ -83,7 +83,7 @@ fn close_batch_of(value: &Value) -> Option<Command>
 fn consume_of(value: &Value) -> Option<Command>
     ensures { result ≡ consume_of (view value.now) }
 {
-    if !has_fields(value, 4) {
+    if !is_command(value, &["batch", "lot", "sub", "amount"]) {
         return None;
     }
     let batch = id_at(value, "batch")?;
@@ -101,7 +101,7 @@ fn consume_of(value: &Value) -> Option<Command>
 fn produce_of(value: &Value) -> Option<Command>
     ensures { result ≡ produce_of (view value.now) }
 {
-    if !has_fields(value, 5) {
+    if !is_command(value, &["batch", "lot", "def", "amount", "place"]) {
         return None;
     }
     let batch = id_at(value, "batch")?;

@@ -7,7 +7,7 @@ ghost use Rattle.plant_text.specs.Lists.{Reads};
 
 use crate::batches::body_on_batch;
 use crate::fields::{
-    amount_at, has_fields, id_at, moment_at, note_at, sublot_at, text_at, unit_at,
+    amount_at, id_at, is_command, moment_at, note_at, sublot_at, text_at, unit_at,
 };
 use crate::lists::items_at;
 use crate::plans::{
@@ -24,7 +24,7 @@ use std::alloc::Global;
 fn add_class_of(value: &Value) -> Option<Command>
     ensures { result ≡ add_class_of (view value.now) }
 {
-    if !has_fields(value, 2) {
+    if !is_command(value, &["class", "name"]) {
         return None;
     }
     let class = id_at(value, "class")?;
@@ -35,7 +35,7 @@ fn add_class_of(value: &Value) -> Option<Command>
 fn add_definition_of(value: &Value) -> Option<Command>
     ensures { result ≡ add_definition_of (view value.now) }
 {
-    if !has_fields(value, 4) {
+    if !is_command(value, &["def", "class", "name", "unit"]) {
         return None;
     }
     let def = id_at(value, "def")?;
@@ -53,7 +53,7 @@ fn add_definition_of(value: &Value) -> Option<Command>
 fn receive_of(value: &Value) -> Option<Command>
     ensures { result ≡ receive_of (view value.now) }
 {
-    if !has_fields(value, 4) {
+    if !is_command(value, &["lot", "def", "amount", "place"]) {
         return None;
     }
     let lot = id_at(value, "lot")?;
@@ -71,7 +71,7 @@ fn receive_of(value: &Value) -> Option<Command>
 fn scrap_of(value: &Value) -> Option<Command>
     ensures { result ≡ scrap_of (view value.now) }
 {
-    if !has_fields(value, 3) {
+    if !is_command(value, &["lot", "sub", "amount"]) {
         return None;
     }
     let lot = id_at(value, "lot")?;
@@ -83,7 +83,7 @@ fn scrap_of(value: &Value) -> Option<Command>
 fn divide_of(value: &Value) -> Option<Command>
     ensures { result ≡ divide_of (view value.now) }
 {
-    if !has_fields(value, 4) {
+    if !is_command(value, &["lot", "sub", "amount", "place"]) {
         return None;
     }
     let lot = id_at(value, "lot")?;
@@ -101,7 +101,7 @@ fn divide_of(value: &Value) -> Option<Command>
 fn split_of(value: &Value) -> Option<Command>
     ensures { result ≡ split_of (view value.now) }
 {
-    if !has_fields(value, 5) {
+    if !is_command(value, &["lot", "sub", "amount", "new", "place"]) {
         return None;
     }
     let lot = id_at(value, "lot")?;
@@ -121,7 +121,7 @@ fn split_of(value: &Value) -> Option<Command>
 fn merge_of(alloc: Global, value: &Value) -> Result<Command, LineFault>
     ensures { Reads result (merge_of (view value.now)) }
 {
-    if !has_fields(value, 3) {
+    if !is_command(value, &["new", "place", "parts"]) {
         return Err(LineFault::BadForm);
     }
     let new = id_at(value, "new").ok_or(LineFault::BadForm)?;
@@ -133,7 +133,7 @@ fn merge_of(alloc: Global, value: &Value) -> Result<Command, LineFault>
 fn hold_of(value: &Value) -> Option<Command>
     ensures { result ≡ hold_of (view value.now) }
 {
-    if !has_fields(value, 2) {
+    if !is_command(value, &["lot", "hold"]) {
         return None;
     }
     let lot = id_at(value, "lot")?;
@@ -144,7 +144,7 @@ fn hold_of(value: &Value) -> Option<Command>
 fn unhold_of(value: &Value) -> Option<Command>
     ensures { result ≡ unhold_of (view value.now) }
 {
-    if !has_fields(value, 2) {
+    if !is_command(value, &["lot", "hold"]) {
         return None;
     }
     let lot = id_at(value, "lot")?;

@@ -1,9 +1,11 @@
 //! Members of an object, by their name.
-ghost use Rattle.std.specs.Prelude.{◌≡◌, ◌<◌, ◌^◌};
+ghost use Rattle.std.specs.Prelude.{◌≡◌, ◌<◌, ◌^◌, is_some, length, map};
+ghost use Rattle.std.specs.List.{list_all};
+ghost use Rattle.serde_json.specs.Find.{get};
 ghost use Rattle.serde_json.specs.View.{view};
 ghost use Rattle.plant_base.specs.Values.{is_id, is_text, is_unit};
 ghost use Rattle.plant_base.specs.Dates.{is_due};
-ghost use Rattle.plant_text.specs.Fields.{only, natural_at, id_at, text_at, unit_at, amount_at, moment_at, sublot_at, version_at, priority_at, phase_at, due_at, note_at, count_of, shared_count, has_fields};
+ghost use Rattle.plant_text.specs.Fields.{only, natural_at, id_at, text_at, unit_at, amount_at, moment_at, sublot_at, version_at, priority_at, phase_at, due_at, note_at, count_of, is_shape, shared_names, is_command};
 
 use plant_base::{
     Amount, Due, GREATEST_PHASE, GREATEST_PRIORITY, GREATEST_SUBLOT, GREATEST_VERSION, Id, Moment,
@@ -132,7 +134,7 @@ pub(crate) fn note_at(value: &Value) -> Option<Text>
 }
 
 /// How many members the object has.
-pub(crate) fn count_of(value: &Value) -> usize
+fn count_of(value: &Value) -> usize
     ensures { result ≡ count_of (view value.now) }
 {
     match value.as_object() {
@@ -141,16 +143,44 @@ pub(crate) fn count_of(value: &Value) -> usize
     }
 }
 
-fn shared_count(value: &Value) -> usize
-    ensures { result ≡ shared_count (view value.now) }
+fn has(value: &Value, name: &str) -> bool
+    ensures { result ≡ is_some (get name.now (view value.now)) }
 {
-    if value.get("note").is_some() { 4 } else { 3 }
+    value.get(name).is_some()
 }
 
-/// Whether the object has as many members as a command with so many fields of its own.
-pub(crate) fn has_fields(value: &Value, own: usize) -> bool
-    requires { own < 100 }
-    ensures { result ≡ has_fields own (view value.now) }
+/// Whether the object has a member under each of the names.
+fn has_each(value: &Value, names: &[&str]) -> bool
+    ensures { result ≡ list_all (λ name. is_some (get name.now (view value.now))) names.now }
 {
-    count_of(value) == own + shared_count(value)
+    names.iter().all(|&name| has(value, name))
+}
+
+/// Whether the object has a member under each of the names, and no other.
+
+pub(crate) fn is_shape(value: &Value, names: &[&str]) -> bool
+    ensures { result ≡ is_shape (map (λ name. name.now) names.now) (view value.now) }
+{
+    count_of(value) == names.len() && has_each(value, names)
+}
+
+/// The members that each command has.
+fn shared_names(value: &Value) -> &'static [&'static str]
+    ensures { map (λ name. name.now) result.now ≡ shared_names (view value.now) }
+{
+    if value.get("note").is_some() {
+        &["at", "by", "do", "note"]
+    } else {
+        &["at", "by", "do"]
+    }
+}
+
+/// Whether the object has the members of a command with these of its own, and no other.
+
+pub(crate) fn is_command(value: &Value, own: &[&str]) -> bool
+    requires { length own.now < 100 }
+    ensures { result ≡ is_command (map (λ name. name.now) own.now) (view value.now) }
+{
+    let shared = shared_names(value);
+    count_of(value) == own.len() + shared.len() && has_each(value, own) && has_each(value, shared)
 }

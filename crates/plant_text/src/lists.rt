@@ -5,7 +5,7 @@ ghost use Rattle.serde_json.specs.Find.{get, as_array};
 ghost use Rattle.plant_text.specs.Lists.{Reads, each_item, input_of, output_of, parameter_of, phase_of, line_for, line_of, part_of, order_of};
 
 use crate::fields::{
-    amount_at, count_of, due_at, id_at, priority_at, sublot_at, text_at, version_at,
+    amount_at, due_at, id_at, is_shape, priority_at, sublot_at, text_at, version_at,
 };
 use crate::read::LineFault;
 use plant_base::{Items, OrderRow, Part, RecipeLine};
@@ -59,7 +59,7 @@ impl Item for Part {
     ghost item = { part_of };
 
     fn item_of(value: &Value) -> Option<Part> {
-        if count_of(value) != 3 {
+        if !is_shape(value, &["lot", "sub", "amount"]) {
             return None;
         }
         let lot = id_at(value, "lot")?;
@@ -73,7 +73,10 @@ impl Item for OrderRow {
     ghost item = { order_of };
 
     fn item_of(value: &Value) -> Option<OrderRow> {
-        if count_of(value) != 6 {
+        if !is_shape(
+            value,
+            &["order", "recipe", "version", "size", "due", "priority"],
+        ) {
             return None;
         }
         let order = id_at(value, "order")?;
@@ -121,7 +124,7 @@ fn line_for(value: &Value, kind: &str) -> Option<RecipeLine>
 fn input_of(value: &Value) -> Option<RecipeLine>
     ensures { result ≡ input_of (view value.now) }
 {
-    if count_of(value) != 3 {
+    if !is_shape(value, &["kind", "def", "qty"]) {
         return None;
     }
     let def = id_at(value, "def")?;
@@ -132,7 +135,7 @@ fn input_of(value: &Value) -> Option<RecipeLine>
 fn output_of(value: &Value) -> Option<RecipeLine>
     ensures { result ≡ output_of (view value.now) }
 {
-    if count_of(value) != 3 {
+    if !is_shape(value, &["kind", "def", "qty"]) {
         return None;
     }
     let def = id_at(value, "def")?;
@@ -143,7 +146,7 @@ fn output_of(value: &Value) -> Option<RecipeLine>
 fn parameter_of(value: &Value) -> Option<RecipeLine>
     ensures { result ≡ parameter_of (view value.now) }
 {
-    if count_of(value) != 3 {
+    if !is_shape(value, &["kind", "name", "value"]) {
         return None;
     }
     let name = id_at(value, "name")?;
@@ -154,7 +157,7 @@ fn parameter_of(value: &Value) -> Option<RecipeLine>
 fn phase_of(value: &Value) -> Option<RecipeLine>
     ensures { result ≡ phase_of (view value.now) }
 {
-    if count_of(value) != 4 {
+    if !is_shape(value, &["kind", "unit", "oper", "phase"]) {
         return None;
     }
     let unit_procedure = id_at(value, "unit")?;

@@ -4,7 +4,7 @@ ghost use Rattle.serde_json.specs.View.{view};
 ghost use Rattle.plant_text.specs.Lists.{Reads};
 ghost use Rattle.plant_text.specs.Plans.{header_of, add_recipe_of, approve_of, withdraw_of, import_orders_of, cancel_order_of, release_of};
 
-use crate::fields::{amount_at, has_fields, id_at, text_at, version_at};
+use crate::fields::{amount_at, id_at, is_command, text_at, version_at};
 use crate::lists::items_at;
 use crate::read::LineFault;
 use plant_base::{
@@ -37,7 +37,12 @@ fn header_of(value: &Value) -> Option<Header>
 pub(crate) fn add_recipe_of(alloc: Global, value: &Value) -> Result<Command, LineFault>
     ensures { Reads result (add_recipe_of (view value.now)) }
 {
-    if !has_fields(value, 8) {
+    if !is_command(
+        value,
+        &[
+            "recipe", "version", "product", "base", "min", "max", "title", "lines",
+        ],
+    ) {
         return Err(LineFault::BadForm);
     }
     let header = header_of(value).ok_or(LineFault::BadForm)?;
@@ -48,7 +53,7 @@ pub(crate) fn add_recipe_of(alloc: Global, value: &Value) -> Result<Command, Lin
 pub(crate) fn approve_of(value: &Value) -> Option<Command>
     ensures { result ≡ approve_of (view value.now) }
 {
-    if !has_fields(value, 2) {
+    if !is_command(value, &["recipe", "version"]) {
         return None;
     }
     let recipe = id_at(value, "recipe")?;
@@ -59,7 +64,7 @@ pub(crate) fn approve_of(value: &Value) -> Option<Command>
 pub(crate) fn withdraw_of(value: &Value) -> Option<Command>
     ensures { result ≡ withdraw_of (view value.now) }
 {
-    if !has_fields(value, 2) {
+    if !is_command(value, &["recipe", "version"]) {
         return None;
     }
     let recipe = id_at(value, "recipe")?;
@@ -70,7 +75,7 @@ pub(crate) fn withdraw_of(value: &Value) -> Option<Command>
 pub(crate) fn import_orders_of(alloc: Global, value: &Value) -> Result<Command, LineFault>
     ensures { Reads result (import_orders_of (view value.now)) }
 {
-    if !has_fields(value, 1) {
+    if !is_command(value, &["orders"]) {
         return Err(LineFault::BadForm);
     }
     let orders = items_at(alloc, value, "orders")?;
@@ -80,7 +85,7 @@ pub(crate) fn import_orders_of(alloc: Global, value: &Value) -> Result<Command, 
 pub(crate) fn cancel_order_of(value: &Value) -> Option<Command>
     ensures { result ≡ cancel_order_of (view value.now) }
 {
-    if !has_fields(value, 1) {
+    if !is_command(value, &["order"]) {
         return None;
     }
     let order = id_at(value, "order")?;
@@ -90,7 +95,7 @@ pub(crate) fn cancel_order_of(value: &Value) -> Option<Command>
 pub(crate) fn release_of(value: &Value) -> Option<Command>
     ensures { result ≡ release_of (view value.now) }
 {
-    if !has_fields(value, 2) {
+    if !is_command(value, &["order", "batch"]) {
         return None;
     }
     let order = id_at(value, "order")?;

@@ -3,7 +3,7 @@ ghost use Rattle.std.specs.Prelude.{◌≡◌};
 ghost use Rattle.serde_json.specs.View.{view};
 ghost use Rattle.plant_text.specs.Questions.{desk_of, named, lot_of, order_of, batch_of, traced, trace_of, question_for, question_of};
 
-use crate::fields::{count_of, id_at};
+use crate::fields::{id_at, is_shape};
 use plant_base::Id;
 use plant_desk::Question;
 use plant_trace::{Direction, Node};
@@ -12,7 +12,7 @@ use serde_json::Value;
 fn desk_of(value: &Value) -> Option<Question>
     ensures { result ≡ desk_of (view value.now) }
 {
-    if count_of(value) == 1 {
+    if is_shape(value, &["ask"]) {
         Some(Question::Desk)
     } else {
         None
@@ -23,7 +23,7 @@ fn desk_of(value: &Value) -> Option<Question>
 fn named(value: &Value, name: &str) -> Option<Id>
     ensures { result ≡ named name.now (view value.now) }
 {
-    if count_of(value) != 2 {
+    if !is_shape(value, &["ask", name]) {
         return None;
     }
     id_at(value, name)

@@ -1,4 +1,4 @@
-use Rattle.std.proofs.Common.{refl, inl, inr}
+use Rattle.std.proofs.Common.{inl, inr}
 use Rattle.plant_program.proofs.Adopted.{adopted_so}
 use Rattle.plant_program.proofs.performing.perform_run.Goals as goal
 
@@ -14,4 +14,4 @@ returns-in-Ok g c = λ clean opened.
     )
 
 pub returns-in-Err : goal.returns-in-Err
-returns-in-Err g c = λ clean opened. inr (c.in-Err.fault, refl, c.in-Err.ensures.refused, c.in-Err.ensures.unread, c.in-Err.ensures.unwritten)
+returns-in-Err g c = λ clean opened. inr (c.in-Err.stopped.fault, c.broken_off.ensures, c.in-Err.ensures.refused, c.in-Err.ensures.unread, c.in-Err.ensures.unwritten)

@@ -1,13 +1,24 @@
-use Rattle.std.proofs.Common.{IsTrue, ◌≡◌, ◌∙◌, ◌++◌, ◌∷◌, [], refl, ap, length, rules, arith}
+use Rattle.std.proofs.Common.{IsTrue, ◌≡◌, ◌∙◌, ◌++◌, ◌∷◌, ◌<◌, [], List, ℕ, Err, refl, ap, subst, length, length-append, rules, arith}
+use Rattle.std.proofs.lemmas.Result.{IfErr-at_err}
+use Rattle.sqlite_value.specs.Order.{Row}
+use Rattle.plant_forms.specs.declared.fault.Fault.TheVariants.{Memory}
 use Rattle.sqlite.specs.State.{HasCleanDisk}
 use Rattle.sqlite.specs.Values.{bound}
-use Rattle.sqlite.specs.Held.{state}
+use Rattle.sqlite.specs.Held.{Held, state}
+use Rattle.sqlite_trees.specs.declared.store.Store.{Ghosts}
 use Rattle.sqlite.proofs.Callers.{unchanged_then}
 use Rattle.sqlite.proofs.StateLemmas.{survives_then}
 use Rattle.std.proofs.lemmas.List.{map-append}
+use Rattle.plant_reads.specs.Given.{HasGivenRow}
 use Rattle.plant_reads.proofs.KeepLemmas.{keeps_refused, commits_nothing, begun, shown_since}
 use Rattle.plant_reads.proofs.RiseLemmas.{rises_more}
 use Rattle.plant_reads.proofs.reading.read_rows.Goals as goal
+
+at_the_end : {S : Type 0} (g : Ghosts S) (sql : List ℕ) (params : Row) (h end : Held S) → h ≡ end → HasGivenRow g sql params h → HasGivenRow g sql params end
+at_the_end g sql params h end same given = subst (HasGivenRow g sql params) same given
+
+longer : (xs : List Row) (x : Row) → 0 < length (xs ++ x ∷ [])
+longer xs x = omega (arith, length-append xs (x ∷ []))
 
 pub returns-in-Err-clause-kept : goal.returns-in-Err-clause-kept
 returns-in-Err-clause-kept g c clean =
@@ -53,3 +64,25 @@ returns-in_default-clause-rows g c clean =
     let shown = (rw c.in_default.is at (c.in_ok-value.ensures.ok late)) c.args.sql.now (bound c.args.params.now) _ before.0 in
     let whole = shown_since c.args.sql.now (bound c.args.params.now) (state g.S.Store c.args.conn.now) _ _ _ c.requires.only_reads before.1 shown in
     search rules
+
+-- a row was given before memory was wanted for its value
+pub returns-in_err-value-clause-memory : goal.returns-in_err-value-clause-memory
+returns-in_err-value-clause-memory g c clean =
+    let late : HasCleanDisk (state g.S.Store c.next_value.new.rows.conn.now) = search rules in
+    let before = c.rows.invariant.4 (omega (arith, c.next_value.ensures.survives.clean)) in
+    let is : c.from_residual.result ≡ Err c.in_err-value.field-0.0 = search rules in
+    let given : c.in_err-value.field-0.0 ≡ Memory → HasGivenRow g.S.Store c.args.sql.now (bound c.args.params.now) c.next_value.new.rows.conn.now =
+    λ memory.
+    let told = IfErr-at_err _ c.in_err-value.was (c.next_value.ensures.memory late) memory in
+    (_, told.1 c.args.sql.now (bound c.args.params.now) _ before.0, longer _ _) in
+    rw is (λ memory. at_the_end g.S.Store c.args.sql.now (bound c.args.params.now) c.next_value.new.rows.conn.now _ (search rules) (given memory))
+
+-- and before it was wanted for the list
+pub returns-in_err-keep-clause-memory : goal.returns-in_err-keep-clause-memory
+returns-in_err-keep-clause-memory g c clean =
+    let late : HasCleanDisk (state g.S.Store c.next_value.new.rows.conn.now) = search rules in
+    let before = c.rows.invariant.4 (omega (arith, c.next_value.ensures.survives.clean)) in
+    let is : c.from_residual-in_err-keep.result ≡ Err c.in_err-keep.field-0.0 = search rules in
+    let given : HasGivenRow g.S.Store c.args.sql.now (bound c.args.params.now) c.next_value.new.rows.conn.now =
+    (_, (rw c.in-Some.is at (c.in_ok-value.ensures.ok late)) c.args.sql.now (bound c.args.params.now) _ before.0, longer _ _) in
+    rw is (λ memory. at_the_end g.S.Store c.args.sql.now (bound c.args.params.now) c.next_value.new.rows.conn.now _ (search rules) given)

@@ -1,6 +1,7 @@
 use Rattle.std.proofs.Common.{rules, ◌≡◌, ◌∙◌, true, false, sym, subst₂, All}
 use Rattle.sqlite.specs.Held.{state}
 use Rattle.plant_forms.specs.Standing.{HasTable}
+use Rattle.plant_reads.proofs.Errors.{if_error}
 use Rattle.plant_loaded.proofs.Joined.{loaded_stands}
 use Rattle.plant_loaded.proofs.loaded.Loaded.read.Goals as goal
 
@@ -15,3 +16,9 @@ returns-then-not-all_stand-clause-missing g c none all =
     let stood : c.all_stand.result ≡ true = c.all_stand.ensures.1 (subst₂ (λ schema forms. All (HasTable schema) forms) (sym c.schema.ensures.value) (sym c.desk_forms.ensures) all) in
     let failed : c.all_stand.result ≡ false = search rules in
     absurd (let both = sym stood ∙ failed in cc)
+
+pub returns-in_err-read_all-clause-memory : goal.returns-in_err-read_all-clause-memory
+returns-in_err-read_all-clause-memory g c =
+    if_error c.from_residual.result _ (λ fault memory.
+    let stood : c.all_stand.result ≡ true = search rules in
+    subst₂ (λ schema forms. All (HasTable schema) forms) c.schema.ensures.value c.desk_forms.ensures (c.all_stand.ensures.0 stood))

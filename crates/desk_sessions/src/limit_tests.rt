@@ -4,7 +4,6 @@ use crate::session::told_to_store;
 use plant_base::{AddClass, Command, Envelope, Id, Moment, Text};
 use plant_store::Desk;
 use plant_text::run_lines;
-use sqlite::{Connection, MemStore};
 use std::alloc::Global;
 use std::process::Abort;
 use std::test::Fail;
@@ -115,15 +114,20 @@ fn a_batch_has_99_attempts(rt: HostRuntime) -> Result<(), Fail> {
     script.run(&rt)
 }
 
-/// A desk over a store in memory whose number of accepted commands was set by hand.
-fn desk_at(rt: &impl AllocGlobal, change: &str) -> Result<Desk<MemStore>, Fail> {
+/// What a desk answers to an input, over a store in memory that was changed by hand.
+fn answered_after(rt: &impl AllocGlobal, change: &str, input: &[u8]) -> Result<Vec<u8>, Fail> {
     let mut connection = told_to_store(rt, b"")?.keeper.close();
     connection.execute_batch(change)?;
     if !connection.is_autocommit() {
         return Err(Fail::from("a transaction is open"));
     }
+    let mut rest = input;
+    let mut text = Vec::new(rt.alloc());
     match Desk::adopt(rt.alloc(), connection) {
-        Ok(desk) => Ok(desk),
+        Ok(mut desk) => {
+            run_lines(rt.alloc(), &mut rest, &mut text, &mut desk);
+            Ok(text)
+        }
         Err(_) => Err(Fail::from("the store is refused")),
     }
 }
@@ -136,14 +140,14 @@ const AT_THE_LIMIT: &[u8] = b"{\"ok\":1000000000000000}
 
 #[test]
 fn commands_are_numbered_up_to_their_limit(rt: HostRuntime) -> Result<(), Fail> {
-    let mut desk = desk_at(&rt, "UPDATE meta SET seq = 999999999999999")?;
-    let mut rest: &[u8] =
+    let text = answered_after(
+        &rt,
+        "UPDATE meta SET seq = 999999999999999",
         b"{\"at\":1,\"by\":\"\",\"do\":\"add_class\",\"class\":\"RAW\",\"name\":\"\"}
 {\"at\":1,\"by\":\"\",\"do\":\"add_class\",\"class\":\"WIP\",\"name\":\"\"}
 {\"ask\":\"desk\"}
-";
-    let mut text = Vec::new(rt.alloc());
-    run_lines(rt.alloc(), &mut rest, &mut text, &mut desk);
+",
+    )?;
     assert!(rt; text.as_slice() == AT_THE_LIMIT);
     Ok(())
 }

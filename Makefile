@@ -1,9 +1,13 @@
-# make run   proves and builds the desk, and runs the stored session over a file, build/plant.db, which is made anew
+# make look  shows what the desk answers to the batch in examples/, by a quick run that proves nothing
+# make run   proves and builds the desk, and runs that batch over a file, build/plant.db, which is made anew
 # make desk  leaves the built program at build/desk
 # make order_check  leaves the built check of order files at build/order_check
-# make test  the gate: that order_check is run on the template of an order file as it stands in examples/, and then, from nothing,
-#            every proof, every must-fail edit, every test and the programs
-.PHONY: run desk order_check test
+# make test  the gate: that the programs are run on what stands in examples/, and then, from nothing, every proof, every
+#            must-fail edit, every test and the programs
+.PHONY: look run desk order_check test
+
+look:
+	cd crates/desk && rt try < stdin
 
 run: desk
 	rm -f build/plant.db build/plant.db-wal
@@ -23,4 +27,6 @@ order_check:
 
 test:
 	cmp examples/orders.csv crates/order_check/stdin
+	cmp examples/batch.jsonl crates/desk/stdin
+	cmp examples/batch.out crates/desk/stdout
 	rt ci

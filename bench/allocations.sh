@@ -5,11 +5,11 @@
 # that reads its words before anything else may also end as with wrong words, status 2 and nothing written.
 #
 # Wants gcc and the built program (make desk, make order_check). Usage: bench/allocations.sh [PROGRAM [INPUT [STEP]]], by
-# default build/desk, its stored session, and each allocation; with a STEP only each so many-th is refused.
+# default build/desk, the session beside it, and each allocation; with a STEP only each so many-th is refused.
 set -eu
 cd "$(dirname "$0")/.."
 program=$(realpath "${1:-build/desk}")
-input=$(realpath "${2:-crates/desk/stdin}")
+input=$(realpath "${2:-bench/session.jsonl}")
 step=${3:-1}
 work=$(mktemp -d)
 trap 'rm -rf "$work"' EXIT

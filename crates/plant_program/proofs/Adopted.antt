@@ -1,5 +1,5 @@
 -- What is known of the state at which a store was adopted.
-use Rattle.std.proofs.Common.{◌≡◌, ◌⊎◌, inl, inr, false, Bool, refl, subst}
+use Rattle.std.proofs.Common.{◌≡◌, inl, inr, false, Bool}
 use Rattle.sqlite.specs.State as store
 use Rattle.plant_base.specs.State.{State, opening}
 use Rattle.plant_desk.specs.Keeping.{States}

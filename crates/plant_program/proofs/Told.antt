@@ -1,5 +1,5 @@
 -- Faults by where they come from.
-use Rattle.std.proofs.Common.{◌≡◌, ◌≢◌, ◌∙◌, sym}
+use Rattle.std.proofs.Common.{◌≡◌, ◌≢◌}
 use Rattle.plant_store.specs.declared.adopting.AdoptFault.{AdoptFault}
 use Rattle.plant_store.specs.declared.adopting.AdoptFault.TheVariants as adopt
 use Rattle.plant_program.specs.Faults.{adopt_fault}

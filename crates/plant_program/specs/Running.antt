@@ -18,9 +18,9 @@ use Rattle.plant_program.specs.declared.fault.Fault.{Fault}
 abbrev pub AllClean : {S : Type 0} → Ghosts S → Type 0
 AllClean {S} g = (c : Held S) → HasCleanDisk (state g c)
 
--- the store wasn't adopted: the fault is that of the adoption, and it has its cause
-abbrev pub IsRefused : {S : Type 0} → Ghosts S → Held S → Fault → Type 0
-IsRefused g c fault = (f : AdoptFault) × (fault ≡ adopt_fault f) × (AllClean g → IsRefusedBy (state g c).now f)
+-- the store wasn't adopted, and was given back so: the fault is that of the adoption, and it has its cause
+abbrev pub IsRefused : {S : Type 0} → Ghosts S → Held S → Held S → Fault → Type 0
+IsRefused g old new fault = (f : AdoptFault) × (fault ≡ adopt_fault f) × (HasCleanDisk (state g new) → IsRefusedBy (state g old).now f)
 
 -- a run over these bytes ended from the state s, at some state of the desk, and this came of it
 abbrev pub RunEnds : {S : Type 0} → Ghosts S → State → List ℕ → Option (List ℕ) → Option (List ℕ) → Option (List ℕ) → Result Bool Fault → Type 0
@@ -33,4 +33,4 @@ RunEnds {S} g s bytes left old new done = (end : RunEnd) × (done ≡ outcome_of
 abbrev pub RunGives : {S : Type 0} → Ghosts S → Held S → Option (List ℕ) → Option (List ℕ) → Option (List ℕ) → Option (List ℕ) → Result Bool Fault → Type 0
 RunGives g c unread left old new done = AllClean g → IsNewlyOpened (state g c)
     → ((bytes : List ℕ) × Consumes unread left bytes × AdoptedFrom (state g c) (λ s. RunEnds g s bytes left old new done))
-    ⊎ ((fault : Fault) × (done ≡ Err fault) × IsRefused g c fault × (left ≡ unread) × (new ≡ old))
+    ⊎ ((f : AdoptFault) × (done ≡ Err (adopt_fault f)) × IsRefusedBy (state g c).now f × (left ≡ unread) × (new ≡ old))

@@ -23,7 +23,8 @@ pub struct Stopped<S: Alter> {
 
 /// What is told of a store that wasn't adopted.
 fn stopped_by<S: Alter + Drop>(refused: AdoptRefused<S>) -> Stopped<S>
-    ensures { result.fault ≡ adopt_fault refused.fault }
+    ensures fault { result.fault ≡ adopt_fault refused.fault }
+    ensures store { result.connection ≡ refused.connection }
 {
     Stopped {
         fault: Fault::from(refused.fault),
@@ -39,7 +40,7 @@ pub(crate) fn adopted<S: Alter + Drop>(
     requires { (state S.Store connection).in_transaction ≡ false }
     ensures adopted { IfOk result (λ desk. HasCleanDisk (state S.Store desk.connection) → IsNewlyOpened (state S.Store connection) → AdoptedFrom (state S.Store connection) (IsOpenAt (state S.Store desk.connection))) }
     ensures open { IfOk result (λ desk. desk.is_shut ≡ false) }
-    ensures refused { IfErr result (λ stopped. IsRefused S.Store connection stopped.fault) }
+    ensures refused { IfErr result (λ stopped. IsRefused S.Store connection stopped.connection stopped.fault) }
     ensures unwritten { IfErr result (λ stopped. stopped.fault ≢ Fault.Write) }
 {
     match Desk::adopt(alloc, connection) {

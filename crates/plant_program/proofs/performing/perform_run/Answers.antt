@@ -1,4 +1,4 @@
-use Rattle.std.proofs.Common.{inl, inr}
+use Rattle.std.proofs.Common.{◌∙◌, Err, ap, inl, inr}
 use Rattle.plant_program.proofs.Adopted.{adopted_so}
 use Rattle.plant_program.proofs.performing.perform_run.Goals as goal
 
@@ -14,4 +14,6 @@ returns-in-Ok g c = λ clean opened.
     )
 
 pub returns-in-Err : goal.returns-in-Err
-returns-in-Err g c = λ clean opened. inr (c.in-Err.stopped.fault, c.broken_off.ensures, c.in-Err.ensures.refused, c.in-Err.ensures.unread, c.in-Err.ensures.unwritten)
+returns-in-Err g c = λ clean opened.
+    let why = c.in-Err.ensures.refused in
+    inr (why.0, c.broken_off.ensures ∙ ap Err why.1, why.2 (clean c.in-Err.stopped.connection), c.in-Err.ensures.unread, c.in-Err.ensures.unwritten)

@@ -55,7 +55,7 @@ fn end_after(rt: &(impl Abort + AllocGlobal), calls: u64) -> Result<End, Fail> {
         return Ok(End::NotAdopted);
     };
     if !connection.is_autocommit() {
-        Err("a transaction is open")?;
+        return Err(Fail::from("a transaction is open"));
     }
     let mut rest = LINES;
     let mut output = Vec::new(rt.alloc());

@@ -1,12 +1,12 @@
 #!/usr/bin/env bash
 # Writes the tables of a desk with so many movements to a file, twelve rows for ten movements, reads them back, and prints
 # movements a second and the peak memory of both. With sqlite3 at hand it also shows what sqlite3 finds in our file, and what we find in a file that sqlite3 wrote
-# with our declarations. Wants the built program (`rt run` in crates/store_bench). Usage: bench/tables.sh [N], by default
+# with our declarations. Wants the built program (`rt run` in crates/bench_store). Usage: bench/tables.sh [N], by default
 # 100000.
 set -eu
 cd "$(dirname "$0")/.."
 count=${1:-100000}
-program=$PWD/crates/store_bench/out/store_bench
+program=$PWD/crates/bench_store/out/bench_store
 work=$(mktemp -d)
 trap 'rm -rf "$work"' EXIT
 timed() { # name, words..

@@ -1,10 +1,10 @@
 #!/usr/bin/env bash
 # The seconds and the peak memory of adopting a file with so many movements and testing all its tables once more, and how
 # many times those of the file before; of its adoption alone; and of one question to a file that was empty. Wants the
-# built program (`rt run` in crates/store_bench). Usage: bench/verify.sh [N ..], by default 1000 10000 100000.
+# built program (`rt run` in crates/bench_store). Usage: bench/verify.sh [N ..], by default 1000 10000 100000.
 set -eu
 cd "$(dirname "$0")/.."
-program=$PWD/crates/store_bench/out/store_bench
+program=$PWD/crates/bench_store/out/bench_store
 work=$(mktemp -d)
 trap 'rm -rf "$work"' EXIT
 timed() { # words..

@@ -1,7 +1,7 @@
 //! The words of the command line as they come from the system.
 ghost use Rattle.std.specs.Prelude.{◌≡◌, IfOk, map, string_bytes};
 
-use plant_words::WordsFault;
+use desk_words::WordsFault;
 use std::alloc::Global;
 use std::env;
 use std::io::{Error, ErrorKind};

@@ -6,9 +6,9 @@ mod arguments;
 mod opening;
 
 use arguments::{read_arguments, texts_of};
+use desk_program::tell_words;
+use desk_words::{WordsFault, read_words};
 use opening::perform_over;
-use plant_program::tell_words;
-use plant_words::{WordsFault, read_words};
 use sqlite::Wary;
 use std::io;
 use std::process::ExitCode;

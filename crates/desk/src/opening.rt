@@ -3,14 +3,14 @@ ghost use Rattle.std.specs.Prelude.{◌≡◌, false, IfOk};
 ghost use Rattle.sqlite.specs.State.{HasCleanDisk};
 ghost use Rattle.sqlite.specs.Held.{state};
 ghost use Rattle.sqlite.specs.Files.{file_state};
-ghost use Rattle.plant_reads.specs.Opened.{IsNewlyOpened};
+ghost use Rattle.table_reads.specs.Opened.{IsNewlyOpened};
 
-use plant_program::{Performed, after_closing, perform, perform_words, tell_opening, tell_outcome};
-use plant_reads::{open_in_memory, reopen};
-use plant_words::Words;
+use desk_program::{Performed, after_closing, perform, perform_words, tell_opening, tell_outcome};
+use desk_words::Words;
 use sqlite::{Alter, Connection, Error, ErrorCode, FileFrom, FileStore, Start};
 use std::alloc::Global;
 use std::io;
+use table_reads::{open_in_memory, reopen};
 
 /// The name of the file that stands for memory.
 const IN_MEMORY: &str = ":memory:";

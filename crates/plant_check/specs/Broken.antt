@@ -5,19 +5,19 @@ use Rattle.plant_base.specs.declared.rows.Movement.{Movement}
 use Rattle.plant_trace.specs.Reach.{leads}
 use Rattle.plant_trace.specs.declared.node.Node.{Node}
 use Rattle.plant_view.specs.Genealogy.{edges_among}
-use Rattle.plant_plan_rules.specs.Catalogue.{are_classified}
-use Rattle.plant_plan_rules.specs.Recipes.{are_recipes}
-use Rattle.plant_plan_rules.specs.Orders.{are_orders}
-use Rattle.plant_plan_rules.specs.Batches.{are_batches}
-use Rattle.plant_plan_rules.specs.Events.{are_events}
-use Rattle.plant_stock_rules.specs.Movements.{are_movements}
-use Rattle.plant_stock_rules.specs.Numbering.{are_numbers}
-use Rattle.plant_stock_rules.specs.Times.{are_times}
-use Rattle.plant_loaded.specs.declared.loaded.Loaded.{Loaded}
-use Rattle.plant_rows.specs.Booked.{movement_from}
-use Rattle.plant_rows.specs.Collecting.{Rows, rows_from}
-use Rattle.plant_rows.specs.Judging.{only_meta}
-use Rattle.plant_rows.specs.declared.booked.BookedRow.{BookedRow}
+use Rattle.plant_check_plans.specs.Catalogue.{are_classified}
+use Rattle.plant_check_plans.specs.Recipes.{are_recipes}
+use Rattle.plant_check_plans.specs.Orders.{are_orders}
+use Rattle.plant_check_plans.specs.Batches.{are_batches}
+use Rattle.plant_check_plans.specs.Events.{are_events}
+use Rattle.plant_check_stock.specs.Movements.{are_movements}
+use Rattle.plant_check_stock.specs.Numbering.{are_numbers}
+use Rattle.plant_check_stock.specs.Times.{are_times}
+use Rattle.plant_tables_stored.specs.declared.loaded.Loaded.{Loaded}
+use Rattle.plant_tables_judged.specs.Booked.{movement_from}
+use Rattle.plant_tables_judged.specs.Collecting.{Rows, rows_from}
+use Rattle.plant_tables_judged.specs.Judging.{only_meta}
+use Rattle.plant_tables_judged.specs.declared.booked.BookedRow.{BookedRow}
 use Rattle.plant_check.specs.Ends.{are_stocks}
 use Rattle.plant_check.specs.Lots.{are_lots}
 use Rattle.plant_check.specs.declared.rule.Rule.{Rule}

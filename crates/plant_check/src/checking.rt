@@ -1,5 +1,5 @@
 ghost use Rattle.std.specs.Prelude.{◌≡◌, IfOk};
-ghost use Rattle.plant_rows.specs.Collecting.{rows_listed};
+ghost use Rattle.plant_tables_judged.specs.Collecting.{rows_listed};
 ghost use Rattle.plant_check.specs.Broken.{broken_plan, broken_lot, broken_history, are_right_movements, are_right_numbers, first_broken, first_broken_of};
 
 use crate::ends::are_stocks;
@@ -7,10 +7,10 @@ use crate::history::{are_acyclic, are_whole, movements_in};
 use crate::lots::are_lots;
 use crate::rule::Rule;
 use plant_base::Movement;
-use plant_loaded::Loaded;
-use plant_plan_rules::{are_batches, are_classified, are_events, are_orders, are_recipes};
-use plant_rows::{DeskRows, has_meta, rows_of};
-use plant_stock_rules::{are_movements, are_numbers, are_times};
+use plant_check_plans::{are_batches, are_classified, are_events, are_orders, are_recipes};
+use plant_check_stock::{are_movements, are_numbers, are_times};
+use plant_tables_judged::{DeskRows, has_meta, rows_of};
+use plant_tables_stored::Loaded;
 use std::alloc::{AllocError, Global};
 
 /// The first of the rules of good tables that the loaded rows break, if they break one. The only error is that memory
@@ -42,7 +42,7 @@ pub fn check_rows(alloc: Global, rows: &DeskRows) -> Result<Option<Rule>, AllocE
     broken_history(alloc, rows)
 }
 
-#[tactic(auto, unfolding(plant_rows::specs::Collecting::rows_listed, crate::specs::Broken::broken_plan))]
+#[tactic(auto, unfolding(plant_tables_judged::specs::Collecting::rows_listed, crate::specs::Broken::broken_plan))]
 fn broken_plan(alloc: Global, rows: &DeskRows) -> Result<Option<Rule>, AllocError>
     ensures { IfOk result (λ broken. broken ≡ broken_plan (rows_listed rows.now)) }
 {
@@ -72,7 +72,7 @@ fn broken_plan(alloc: Global, rows: &DeskRows) -> Result<Option<Rule>, AllocErro
     Ok(None)
 }
 
-#[tactic(auto, unfolding(plant_rows::specs::Collecting::rows_listed, crate::specs::Broken::broken_lot))]
+#[tactic(auto, unfolding(plant_tables_judged::specs::Collecting::rows_listed, crate::specs::Broken::broken_lot))]
 fn broken_lot(alloc: Global, rows: &DeskRows) -> Result<Option<Rule>, AllocError>
     ensures { IfOk result (λ broken. broken ≡ broken_lot (rows_listed rows.now)) }
 {
@@ -94,7 +94,7 @@ fn broken_lot(alloc: Global, rows: &DeskRows) -> Result<Option<Rule>, AllocError
     Ok(None)
 }
 
-#[tactic(auto, unfolding(plant_rows::specs::Collecting::rows_listed, crate::specs::Broken::broken_history))]
+#[tactic(auto, unfolding(plant_tables_judged::specs::Collecting::rows_listed, crate::specs::Broken::broken_history))]
 fn broken_history(alloc: Global, rows: &DeskRows) -> Result<Option<Rule>, AllocError>
     ensures { IfOk result (λ broken. broken ≡ broken_history (rows_listed rows.now)) }
 {
@@ -121,7 +121,7 @@ fn broken_history(alloc: Global, rows: &DeskRows) -> Result<Option<Rule>, AllocE
     Ok(None)
 }
 
-#[tactic(auto, unfolding(plant_rows::specs::Collecting::rows_listed))]
+#[tactic(auto, unfolding(plant_tables_judged::specs::Collecting::rows_listed))]
 fn are_movements_of(
     alloc: Global,
     rows: &DeskRows,
@@ -142,7 +142,7 @@ fn are_movements_of(
     )
 }
 
-#[tactic(auto, unfolding(plant_rows::specs::Collecting::rows_listed))]
+#[tactic(auto, unfolding(plant_tables_judged::specs::Collecting::rows_listed))]
 fn are_numbers_of(
     alloc: Global,
     rows: &DeskRows,

@@ -4,8 +4,8 @@ ghost use Rattle.std.specs.Prelude.{◌≡◌, ◌<◌, ◌^◌, IfOk};
 ghost use Rattle.plant_check.specs.Ends.{other_end, entered_by, left_by, entries, exits, total_of, has_right_stock, are_stocks};
 
 use plant_base::{Id, Sublot};
-use plant_groups::{Grouped, Grouping};
-use plant_rows::{BookedRow, MovementSort};
+use plant_check_groups::{Grouped, Grouping};
+use plant_tables_judged::{BookedRow, MovementSort};
 use std::alloc::{AllocError, Global};
 
 /// Rows by the sublot that they bring their amount to.

@@ -6,7 +6,7 @@ ghost use Rattle.plant_view.specs.Genealogy.{edge_of, edges_among};
 ghost use Rattle.plant_check.specs.Broken.{are_whole, movements_in, are_acyclic};
 
 use plant_base::{Movement, MovementKind};
-use plant_rows::BookedRow;
+use plant_tables_judged::BookedRow;
 use plant_trace::{Node, acyclic};
 use std::alloc::{AllocError, Global};
 

@@ -6,11 +6,11 @@ ghost use Rattle.plant_check.specs.Lots.{are_from_zero, sublots_among, is_right_
 
 use crate::ends::{EnteredPlaces, entries, total_of};
 use plant_base::{Definition, GREATEST_AMOUNT, Hold, Id, Lot, Sublot};
-use plant_groups::{Grouped, Grouping};
-use plant_plan_rules::keys::{Definitions, has_definition};
-use plant_plan_rules::numbered::are_numbered;
-use plant_rows::{BookedRow, MovementSort};
-use plant_stock_rules::keys::Lots;
+use plant_check_groups::{Grouped, Grouping};
+use plant_check_plans::keys::{Definitions, has_definition};
+use plant_check_plans::numbered::are_numbered;
+use plant_check_stock::keys::Lots;
+use plant_tables_judged::{BookedRow, MovementSort};
 use std::alloc::{AllocError, Global};
 
 /// Sublots by their lot.

@@ -1,13 +1,11 @@
-mod Batches
-mod Descent
-mod Events
-mod Lots
-mod Movements
-mod Numbers
-mod Orders
-mod Recipes
-mod Stocks
-mod Testing
-mod Times
-pub mod Unbroken
-mod Values
+pub mod Asking
+pub mod Entering
+pub mod Growing
+pub mod KeptColumns
+pub mod Limits
+pub mod LineValues
+pub mod Listing
+pub mod Numbering
+pub mod PartLines
+pub mod StepGood
+pub mod Timing

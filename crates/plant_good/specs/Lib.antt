@@ -1,1 +1,7 @@
-pub mod Laws
+pub mod Births
+pub mod Bookings
+pub mod Columns
+pub mod Good
+pub mod Keeping
+pub mod Timed
+pub mod Valued

@@ -34,7 +34,7 @@ use Rattle.plant_rules.proofs.BirthSound.{sound_receive, sound_produce}
 use Rattle.plant_rules.proofs.TakingSound.{sound_scrap, sound_consume}
 use Rattle.plant_rules.proofs.DivideSound.{sound_divide}
 use Rattle.plant_rules.proofs.SplitSound.{sound_split}
-use Rattle.plant_production.proofs.ProductionSound.{sound_add_recipe, sound_moved, import_sized, sound_import, sound_cancel, sound_release, sound_event, sound_close}
+use Rattle.plant_rules_production.proofs.ProductionSound.{sound_add_recipe, sound_moved, import_sized, sound_import, sound_cancel, sound_release, sound_event, sound_close}
 use Rattle.plant_view.proofs.Tests.{and_left, and_right, each_fails, not_false}
 use Rattle.plant_rules.proofs.Parting.{formed_apart, formed_some, parts_there, parts_ready, parts_pass}
 use Rattle.plant_rules.proofs.MergeSound.{sound_merge}

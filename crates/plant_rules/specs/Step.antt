@@ -16,10 +16,10 @@ use Rattle.plant_rules.specs.Splitting.{split}
 use Rattle.plant_rules.specs.Merging.{merge}
 use Rattle.plant_rules.specs.Consumption.{consume, produce}
 use Rattle.plant_rules.specs.Holding.{hold, unhold}
-use Rattle.plant_production.specs.Recipes.{add_recipe, approve, withdraw}
-use Rattle.plant_production.specs.Orders.{import_orders, cancel_order}
-use Rattle.plant_production.specs.Releasing.{release}
-use Rattle.plant_production.specs.Batches.{command_batch, settle, phase_done, close_batch}
+use Rattle.plant_rules_production.specs.Recipes.{add_recipe, approve, withdraw}
+use Rattle.plant_rules_production.specs.Orders.{import_orders, cancel_order}
+use Rattle.plant_rules_production.specs.Releasing.{release}
+use Rattle.plant_rules_production.specs.Batches.{command_batch, settle, phase_done, close_batch}
 
 -- what an accepted command makes of the state
 abbrev pub step_body : State → Stamp → Command → State

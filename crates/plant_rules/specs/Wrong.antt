@@ -17,10 +17,10 @@ use Rattle.plant_rules.specs.Splitting.{wrong_split}
 use Rattle.plant_rules.specs.Merging.{wrong_merge}
 use Rattle.plant_rules.specs.Consumption.{wrong_consume, wrong_produce}
 use Rattle.plant_rules.specs.Holding.{wrong_hold, wrong_unhold}
-use Rattle.plant_production.specs.Recipes.{wrong_add_recipe, wrong_approve, wrong_withdraw}
-use Rattle.plant_production.specs.Orders.{wrong_import_orders, wrong_cancel_order}
-use Rattle.plant_production.specs.Releasing.{wrong_release}
-use Rattle.plant_production.specs.Batches.{wrong_batch, wrong_settle, wrong_phase_done, wrong_close_batch}
+use Rattle.plant_rules_production.specs.Recipes.{wrong_add_recipe, wrong_approve, wrong_withdraw}
+use Rattle.plant_rules_production.specs.Orders.{wrong_import_orders, wrong_cancel_order}
+use Rattle.plant_rules_production.specs.Releasing.{wrong_release}
+use Rattle.plant_rules_production.specs.Batches.{wrong_batch, wrong_settle, wrong_phase_done, wrong_close_batch}
 
 -- the recipe that the command brings, if it brings one, is well formed
 abbrev pub brings_formed : Command → Bool

@@ -32,11 +32,11 @@ use merge::decide_merge;
 use plant_base::{
     Amount, BatchState, Command, Envelope, Id, Movement, MovementKind, Refusal, Stamp,
 };
-use plant_production::{
+use plant_recipe::is_well_formed;
+use plant_rules_production::{
     decide_add_recipe, decide_approve, decide_batch, decide_cancel_order, decide_close_batch,
     decide_import_orders, decide_phase_done, decide_release, decide_settle, decide_withdraw,
 };
-use plant_recipe::is_well_formed;
 use plant_view::{Decision, RowChange, View, ViewFault, look};
 use produce::decide_produce;
 use receive::decide_receive;

@@ -35,11 +35,11 @@ use Rattle.plant_base.specs.declared.rows.Hold.{Hold}
 use Rattle.plant_view.specs.Tables.{Tables, batch_row_order, sublot_order, changed, changed_all, without_hold}
 use Rattle.plant_view.specs.declared.change.RowChange.{RowChange}
 use Rattle.plant_view.specs.declared.change.RowChange.TheVariants as change
-use Rattle.plant_forms.specs.Forms.{Form}
-use Rattle.plant_forms.specs.Rows.{meets, has_values, take_away, same_key}
-use Rattle.plant_forms.specs.Rows as rows
-use Rattle.plant_forms.specs.Standing.{Contents, StandIn}
-use Rattle.plant_forms.specs.Moves.{changed_at, taken_at}
+use Rattle.table_forms.specs.Forms.{Form}
+use Rattle.table_forms.specs.Rows.{meets, has_values, take_away, same_key}
+use Rattle.table_forms.specs.Rows as rows
+use Rattle.table_forms.specs.Standing.{Contents, StandIn}
+use Rattle.table_forms.specs.Moves.{changed_at, taken_at}
 use Rattle.plant_tables.specs.DeskForms.{class_form, definition_form, recipe_form, recipe_line_form, job_form, batch_form, control_line_form, batch_event_form, lot_form, sublot_form, movement_form, hold_form, meta_form}
 use Rattle.plant_tables.specs.DeskTables.{rows_of, contents_of, rows_changed, all_rows_changed}
 use Rattle.plant_tables.specs.Encoding.{row_of_meta, row_of_class, row_of_definition, row_of_recipe, row_of_master_line, row_of_job, row_of_batch, row_of_control_line, row_of_event, row_of_lot, row_of_sublot, row_of_movement, row_of_hold}

@@ -11,12 +11,12 @@ use Rattle.plant_base.specs.declared.rows.ControlLine.{ControlLine}
 use Rattle.plant_base.specs.declared.rows.MovementKind.{MovementKind}
 use Rattle.plant_base.specs.declared.rows.MovementKind.TheVariants as kind
 use Rattle.plant_base.specs.declared.rows.Movement.{Movement}
-use Rattle.plant_forms.specs.declared.fault.Fault.{Fault}
-use Rattle.plant_forms.specs.Forms.{Form}
-use Rattle.plant_forms.specs.Rows.{fits_columns}
-use Rattle.plant_forms.specs.Texts.{IsPutText, IsTakeText}
-use Rattle.plant_forms.specs.Moves.{Moves, PutsRow, TakesRows, MakesTables, Founds, changed_at, taken_at}
-use Rattle.plant_forms.specs.Standing.{Contents}
+use Rattle.table_forms.specs.declared.fault.Fault.{Fault}
+use Rattle.table_forms.specs.Forms.{Form}
+use Rattle.table_forms.specs.Rows.{fits_columns}
+use Rattle.table_forms.specs.Texts.{IsPutText, IsTakeText}
+use Rattle.table_forms.specs.Moves.{Moves, PutsRow, TakesRows, MakesTables, Founds, changed_at, taken_at}
+use Rattle.table_forms.specs.Standing.{Contents}
 use Rattle.plant_view.specs.declared.change.RowChange.{RowChange}
 use Rattle.plant_tables.specs.DeskTables.{rows_changed, all_rows_changed}
 use Rattle.plant_tables.specs.DeskForms.{desk_forms, recipe_line_form, batch_form, control_line_form, movement_form}

@@ -3,9 +3,9 @@ use Rattle.std.proofs.Common.{refl, ℕ, List, [], ◌∷◌}
 use Rattle.sqlite_value.specs.Keys.{first_key}
 use Rattle.sqlite_tied.specs.Compute.{everything}
 use Rattle.sqlite_resolve.specs.Compile.{first}
-use Rattle.plant_forms.specs.Texts.{IsMakeText, IsPutText, IsTakeText, parse_or, rows_in, names_in, definition_in}
-use Rattle.plant_forms.specs.Moves.{AreApart, AreMakeTexts}
-use Rattle.plant_forms.proofs.Computed.{takes_two}
+use Rattle.table_forms.specs.Texts.{IsMakeText, IsPutText, IsTakeText, parse_or, rows_in, names_in, definition_in}
+use Rattle.table_forms.specs.Moves.{AreApart, AreMakeTexts}
+use Rattle.table_forms.proofs.Computed.{takes_two}
 use Rattle.plant_tables.specs.DeskForms.{desk_forms, meta_form, class_form, definition_form, recipe_form, recipe_line_form, job_form, batch_form, control_line_form, batch_event_form, lot_form, sublot_form, movement_form, hold_form}
 use Rattle.plant_tables.specs.declared.forms.TheConstants.{CREATE_META, PUT_META, CREATE_CLASS, PUT_CLASS, CREATE_DEFINITION, PUT_DEFINITION, CREATE_RECIPE, PUT_RECIPE, CREATE_RECIPE_LINE, PUT_RECIPE_LINE, CREATE_JOB, PUT_JOB, CREATE_BATCH, PUT_BATCH, CREATE_CONTROL_LINE, PUT_CONTROL_LINE, CREATE_BATCH_EVENT, PUT_BATCH_EVENT, CREATE_LOT, PUT_LOT, CREATE_SUBLOT, PUT_SUBLOT, CREATE_MOVEMENT, PUT_MOVEMENT, CREATE_HOLD, PUT_HOLD, TAKE_HOLD}
 

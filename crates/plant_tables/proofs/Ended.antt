@@ -5,9 +5,9 @@ use Rattle.sqlite.specs.Effect.{Database}
 use Rattle.sqlite.specs.State.{State}
 use Rattle.plant_view.specs.Tables.{Tables, changed_all}
 use Rattle.plant_view.specs.declared.change.RowChange.{RowChange}
-use Rattle.plant_forms.specs.Standing.{KeepsOthers}
-use Rattle.plant_forms.specs.Stopping.{IsSettled, IsUndone}
-use Rattle.plant_forms.specs.Moves.{Moves}
+use Rattle.table_forms.specs.Standing.{KeepsOthers}
+use Rattle.table_forms.specs.Stopping.{IsSettled, IsUndone}
+use Rattle.table_forms.specs.Moves.{Moves}
 use Rattle.plant_tables.specs.DeskForms.{desk_forms}
 use Rattle.plant_tables.specs.DeskTables.{contents_of, all_rows_changed}
 use Rattle.plant_tables.specs.Keyed.{HoldsTables, AreKeyed, AreFresh, MovesTables}

@@ -11,10 +11,10 @@ use Rattle.sqlite.specs.State.{State}
 use Rattle.plant_base.specs.State.{newest_schema}
 use Rattle.plant_base.specs.declared.rows.Meta.{Meta}
 use Rattle.plant_view.specs.declared.change.RowChange.TheVariants as change
-use Rattle.plant_forms.specs.Standing.{AreFree, KeepsOthers}
-use Rattle.plant_forms.specs.Stopping.{IsSettled, IsUndone}
-use Rattle.plant_forms.specs.Moves.{Moves, Founds}
-use Rattle.plant_forms.proofs.Moving.{others_then}
+use Rattle.table_forms.specs.Standing.{AreFree, KeepsOthers}
+use Rattle.table_forms.specs.Stopping.{IsSettled, IsUndone}
+use Rattle.table_forms.specs.Moves.{Moves, Founds}
+use Rattle.table_forms.proofs.Moving.{others_then}
 use Rattle.plant_tables.specs.DeskForms.{desk_forms}
 use Rattle.plant_tables.specs.DeskTables.{contents_of, rows_changed}
 use Rattle.plant_tables.specs.Keyed.{HoldsTables}

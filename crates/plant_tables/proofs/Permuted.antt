@@ -10,9 +10,9 @@ use Rattle.std.proofs.lemmas.List.Sorted.{IsPermutation-refl, IsPermutation-tran
 use Rattle.sqlite_value.specs.Order.{Row}
 use Rattle.plant_base.specs.State.{put}
 use Rattle.plant_base.proofs.Put.{all_weaker}
-use Rattle.plant_forms.specs.Forms.{Form}
-use Rattle.plant_forms.specs.Rows.{meets}
-use Rattle.plant_forms.specs.Rows as rows
+use Rattle.table_forms.specs.Forms.{Form}
+use Rattle.table_forms.specs.Rows.{meets}
+use Rattle.table_forms.specs.Rows as rows
 
 module _ {R : Type 0} (enc : R → Row) (form : Form) (r : R) where
   abbrev apart : Row → Bool

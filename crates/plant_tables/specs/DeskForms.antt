@@ -1,6 +1,6 @@
 -- How each table of schema 1 is declared, and all of them in their order.
 use Rattle.std.specs.Prelude.{List, [], ◌∷◌, codes}
-use Rattle.plant_forms.specs.Forms.{Form, integer, text, integer_or_null, text_or_null}
+use Rattle.table_forms.specs.Forms.{Form, integer, text, integer_or_null, text_or_null}
 
 abbrev pub meta_form : Form
 meta_form = record {

@@ -6,8 +6,8 @@ use Rattle.sqlite.specs.Effect.{Database, IsDatabase}
 use Rattle.sqlite.specs.State.{State}
 use Rattle.plant_base.specs.State.{newest_schema, opening}
 use Rattle.plant_view.specs.Tables.{Tables, tables_of}
-use Rattle.plant_forms.specs.Standing.{KeepsOthers, AreFree}
-use Rattle.plant_forms.specs.Stopping.{IsSettled}
+use Rattle.table_forms.specs.Standing.{KeepsOthers, AreFree}
+use Rattle.table_forms.specs.Stopping.{IsSettled}
 use Rattle.plant_tables.specs.DeskForms.{desk_forms}
 use Rattle.plant_tables.specs.Keyed.{HoldsTables}
 

@@ -2,8 +2,8 @@
 use Rattle.std.specs.Prelude.{List, [], ◌∷◌, map, slice_index_or as get_or}
 use Rattle.sqlite.specs.Order.{Row}
 use Rattle.sqlite.specs.declared.types.Value.TheVariants.{Text}
-use Rattle.plant_forms.specs.Standing.{Contents}
-use Rattle.plant_forms.specs.Moves.{changed_at, taken_at}
+use Rattle.table_forms.specs.Standing.{Contents}
+use Rattle.table_forms.specs.Moves.{changed_at, taken_at}
 use Rattle.plant_view.specs.Tables.{Tables}
 use Rattle.plant_view.specs.declared.change.RowChange.{RowChange}
 use Rattle.plant_view.specs.declared.change.RowChange.TheVariants as change

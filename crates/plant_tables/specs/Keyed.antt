@@ -7,7 +7,7 @@ use Rattle.plant_base.specs.State.{same, class_order, definition_order, recipe_o
 use Rattle.plant_view.specs.Tables.{Tables, batch_row_order, sublot_order, changed, changed_all}
 use Rattle.plant_view.specs.declared.change.RowChange.{RowChange}
 use Rattle.plant_view.specs.declared.change.RowChange.TheVariants as change
-use Rattle.plant_forms.specs.Standing.{StandIn, KeepsOthers}
+use Rattle.table_forms.specs.Standing.{StandIn, KeepsOthers}
 use Rattle.plant_tables.specs.DeskForms.{desk_forms}
 use Rattle.plant_tables.specs.DeskTables.{contents_of}
 

@@ -4,8 +4,8 @@ ghost use Rattle.sqlite_value.specs.Value.{owned};
 ghost use Rattle.plant_tables.specs.Encoding.{number, flag};
 
 use plant_base::{Amount, Id, Moment, Text};
-use plant_forms::Fault;
 use sqlite_value::value::ValueRef;
+use table_forms::Fault;
 
 /// A number of any size: [`Fault::Store`] exactly where it is above 2^63 - 1, which no column holds.
 pub fn large(n: u64) -> Result<ValueRef<'static>, Fault>

@@ -3,17 +3,17 @@ ghost use Rattle.sqlite.specs.Effect.{Database, IsDatabase};
 ghost use Rattle.sqlite.specs.State.{HasCleanDisk, Survives, KeepsCommit};
 ghost use Rattle.sqlite.specs.Held.{state};
 ghost use Rattle.plant_view.specs.Tables.{Tables, changed_all};
-ghost use Rattle.plant_forms.specs.Standing.{KeepsOthers, AreFree};
-ghost use Rattle.plant_forms.specs.Stopping.{IsSettled};
+ghost use Rattle.table_forms.specs.Standing.{KeepsOthers, AreFree};
+ghost use Rattle.table_forms.specs.Stopping.{IsSettled};
 ghost use Rattle.plant_tables.specs.DeskForms.{desk_forms};
 ghost use Rattle.plant_tables.specs.Keyed.{AreKeyed, AreFresh, MovesTables};
 ghost use Rattle.plant_tables.specs.DeskStopping.{IsAt, IsCutShort, opening_tables, MakesDesk, IsUnopened};
 
 use crate::write::{create, write_change, write_changes};
 use plant_base::{Meta, Moment, NEWEST_SCHEMA, Position};
-use plant_forms::{Fault, Work, in_one};
 use plant_view::RowChange;
 use sqlite::{Alter, Connection, Transaction};
+use table_forms::{Fault, Work, in_one};
 
 /// The writing of some changes.
 #[derive(Clone, Copy)]

@@ -2,8 +2,8 @@
 ghost use Rattle.std.specs.Prelude.{◌≡◌};
 ghost use Rattle.plant_tables.specs.DeskForms.{desk_forms};
 
-use plant_forms::ColumnForm::{Integer, IntegerOrNull, Text, TextOrNull};
-use plant_forms::Form;
+use table_forms::ColumnForm::{Integer, IntegerOrNull, Text, TextOrNull};
+use table_forms::Form;
 
 /// The one row that tells the schema of the tables and where the desk stands.
 pub const META: Form<'static> = Form {

@@ -1,7 +1,7 @@
 ghost use Rattle.std.specs.Prelude.{◌≡◌, ◌≤◌, map, IfOk, OnOk, IsOkUnless};
 ghost use Rattle.sqlite.specs.State.{HasCleanDisk, Survives, KeepsCommit};
 ghost use Rattle.sqlite.specs.Held.{state};
-ghost use Rattle.plant_forms.specs.Moves.{Moves, Founds};
+ghost use Rattle.table_forms.specs.Moves.{Moves, Founds};
 ghost use Rattle.plant_tables.specs.DeskForms.{desk_forms};
 ghost use Rattle.plant_tables.specs.DeskTables.{rows_changed, all_rows_changed};
 ghost use Rattle.plant_tables.specs.Keyed.{MovesTables};
@@ -15,9 +15,9 @@ use crate::encode::{
 };
 use crate::forms;
 use plant_base::{ControlLine, MasterLine, RecipeLine};
-use plant_forms::{Fault, make_tables, put_row, take_rows};
 use plant_view::RowChange;
 use sqlite::{Alter, Transaction};
+use table_forms::{Fault, make_tables, put_row, take_rows};
 
 /// Makes one change inside the transaction, by one statement. The one fault is [`Fault::Store`], where the store
 /// refuses it, or where a number is above 2^63 - 1.

@@ -1,6 +1,6 @@
 use Rattle.std.proofs.Common.{◌∙◌}
 use Rattle.std.specs.Prelude.{filter}
-use Rattle.plant_stock_rules.proofs.Placing.{placed}
+use Rattle.plant_check_stock.proofs.Placing.{placed}
 use Rattle.plant_check.specs.Ends.{entered_by}
 use Rattle.plant_check.proofs.ends.entries.Goals as goal
 

@@ -1,7 +1,7 @@
 use Rattle.std.proofs.Common.{refl, sym, subst, OnOk, [], ◌∷◌}
 use Rattle.sqlite.specs.Held.{state}
 use Rattle.sqlite.specs.declared.types.Value.TheVariants.{Text}
-use Rattle.plant_forms.specs.Moves.{Moves}
+use Rattle.table_forms.specs.Moves.{Moves}
 use Rattle.plant_tables.specs.DeskForms.{desk_forms, meta_form, class_form, definition_form, recipe_form, recipe_line_form, job_form, batch_form, control_line_form, batch_event_form, lot_form, sublot_form, movement_form, hold_form}
 use Rattle.plant_tables.specs.DeskTables.{rows_changed}
 use Rattle.plant_tables.specs.Encoding.{row_of_meta, row_of_class, row_of_definition, row_of_recipe, row_of_master_line, row_of_job, row_of_batch, row_of_control_line, row_of_event, row_of_lot, row_of_sublot, row_of_movement, row_of_hold}

@@ -2,8 +2,8 @@ use Rattle.std.proofs.lemmas.List.{take_more, take_all}
 use Rattle.std.proofs.Common.{◌+◌, ◌≡◌, ◌∷◌, [], ◌++◌, take, sym, ap, subst, ◌∙◌, arith, rules}
 use Rattle.sqlite.specs.Held.{state}
 use Rattle.sqlite.specs.State.{HasCleanDisk}
-use Rattle.plant_forms.specs.Standing.{Contents}
-use Rattle.plant_forms.proofs.Moving.{survives_on, kept_then, moves_then, moves_as}
+use Rattle.table_forms.specs.Standing.{Contents}
+use Rattle.table_forms.proofs.Moving.{survives_on, kept_then, moves_then, moves_as}
 use Rattle.plant_tables.specs.DeskForms.{desk_forms}
 use Rattle.plant_tables.specs.DeskTables.{rows_changed, all_rows_changed}
 use Rattle.plant_tables.specs.Keyed.{MovesTables}

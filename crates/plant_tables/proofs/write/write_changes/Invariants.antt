@@ -1,7 +1,7 @@
 use Rattle.std.proofs.Common.{◌≡◌, take}
 use Rattle.sqlite.specs.State.{HasCleanDisk, Survives, KeepsCommit}
 use Rattle.sqlite.specs.Held.{state}
-use Rattle.plant_forms.specs.Moves.{Moves}
+use Rattle.table_forms.specs.Moves.{Moves}
 use Rattle.plant_tables.specs.DeskForms.{desk_forms}
 use Rattle.plant_tables.specs.DeskTables.{all_rows_changed}
 use Rattle.plant_tables.proofs.write.write_changes.Given as goal

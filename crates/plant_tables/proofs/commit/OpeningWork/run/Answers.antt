@@ -1,7 +1,7 @@
 use Rattle.std.proofs.Common.{arith}
 use Rattle.sqlite.specs.Held.{state}
 use Rattle.sqlite.specs.State.{HasCleanDisk}
-use Rattle.plant_forms.proofs.Moving.{kept_then}
+use Rattle.table_forms.proofs.Moving.{kept_then}
 use Rattle.plant_tables.proofs.Opened.{desk_made_so}
 use Rattle.plant_tables.proofs.commit.OpeningWork.run.Goals as goal
 

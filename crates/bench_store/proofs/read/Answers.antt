@@ -1,0 +1,7 @@
+use Rattle.std.proofs.Common.{rules, ◌≡◌, length}
+use Rattle.bench_store.proofs.read.Goals as goal
+
+pub returns-in-Some : goal.returns-in-Some
+returns-in-Some g c clean =
+    let counted : c.len.result ≡ length c.in-Some.loaded.stocks.movements.items = search rules in
+    (c.in-Some.loaded, rw c.in-Some.is at (c.in_ok-loaded.ensures.rows clean), counted)

@@ -1,0 +1,40 @@
+-- The faults that the program ends with: where they come from, and the exit status of each.
+use Rattle.std.specs.Prelude.{ℕ, Bool, Result, Ok, Err}
+use Rattle.plant_desk.specs.declared.reply.DeskFault.{DeskFault}
+use Rattle.plant_desk.specs.declared.reply.DeskFault.TheVariants as desk
+use Rattle.plant_desk_store.specs.declared.adopting.AdoptFault.{AdoptFault}
+use Rattle.plant_desk_store.specs.declared.adopting.AdoptFault.TheVariants as adopt
+use Rattle.plant_text.specs.declared.run.RunEnd.{RunEnd}
+use Rattle.plant_text.specs.declared.run.RunEnd.TheVariants as end
+use Rattle.desk_program.specs.declared.fault.Fault.{Fault}
+use Rattle.desk_program.specs.declared.fault.Fault.TheVariants as fault
+
+abbrev pub status_of : Fault → ℕ
+status_of fault.Store = 3
+status_of (fault.Newer schema) = 3
+status_of (fault.Damaged rule) = 3
+status_of fault.Memory = 4
+status_of fault.Read = 3
+status_of fault.Write = 3
+status_of fault.Endless = 3
+
+-- the fault that one of an adoption is told as
+abbrev pub adopt_fault : AdoptFault → Fault
+adopt_fault adopt.Store = fault.Store
+adopt_fault (adopt.Newer schema) = fault.Newer schema
+adopt_fault (adopt.Damaged rule) = fault.Damaged rule
+adopt_fault adopt.Memory = fault.Memory
+
+-- the fault that one of a keeper is told as
+abbrev pub desk_fault : DeskFault → Fault
+desk_fault desk.Store = fault.Store
+desk_fault desk.Memory = fault.Memory
+desk_fault desk.Shut = fault.Store
+
+-- whether something was refused, or the fault
+abbrev pub outcome_of : RunEnd → Result Bool Fault
+outcome_of (end.Done refused) = Ok refused
+outcome_of end.Read = Err fault.Read
+outcome_of end.Write = Err fault.Write
+outcome_of end.Endless = Err fault.Endless
+outcome_of (end.Fault f) = Err (desk_fault f)

@@ -1,0 +1,74 @@
+-- What is written as the program does its words, and the exit status.
+use Rattle.std.specs.Prelude.{◌≡◌, ◌⊎◌, ℕ, List, Bool, true, false, Option, Result, Ok, Err, string_bytes}
+use Rattle.std.specs.Io.KnownBytes.{Appends}
+use Rattle.plant_text.specs.Writes.{with_lf, AppendsFront}
+use Rattle.desk_program.specs.Faults.{status_of}
+use Rattle.desk_program.specs.Texts.{ready_text, good_text, fault_text}
+use Rattle.desk_program.specs.declared.fault.Fault.{Fault}
+use Rattle.desk_program.specs.declared.fault.Fault.TheVariants as fault
+use Rattle.desk_words.specs.declared.meaning.Words.{Words}
+use Rattle.desk_words.specs.declared.meaning.Words.TheVariants as words
+use Rattle.desk_words.specs.declared.meaning.WordsFault.{WordsFault}
+use Rattle.desk_words.specs.declared.meaning.WordsFault.TheVariants as unmeant
+
+-- some lines, of which one is written
+abbrev pub Lines : Type 1
+Lines = List ℕ → Type 0
+
+abbrev pub IsReady : Lines
+IsReady line = (schema : ℕ) × (line ≡ ready_text schema)
+
+abbrev pub IsGoodLine : Lines
+IsGoodLine line = (schema : ℕ) × (seq : ℕ) × (line ≡ good_text schema seq)
+
+-- one of the lines was written
+abbrev pub Printed : Lines → Option (List ℕ) → Option (List ℕ) → Type 0
+Printed lines old new = (line : List ℕ) × lines line × Appends old new (with_lf line)
+
+-- at this fault nothing was written, or, where the writer failed, a front of one of the lines
+abbrev pub Unprinted : Lines → Option (List ℕ) → Option (List ℕ) → Fault → Type 0
+Unprinted lines old new fault.Store = new ≡ old
+Unprinted lines old new (fault.Newer schema) = new ≡ old
+Unprinted lines old new (fault.Damaged rule) = new ≡ old
+Unprinted lines old new fault.Memory = new ≡ old
+Unprinted lines old new fault.Read = new ≡ old
+Unprinted lines old new fault.Write = (line : List ℕ) × lines line × AppendsFront old new (with_lf line)
+Unprinted lines old new fault.Endless = new ≡ old
+
+-- what one line makes of an outcome, in which nothing is refused
+abbrev pub PrintsLine : Lines → Option (List ℕ) → Option (List ℕ) → Result Bool Fault → Type 0
+PrintsLine lines old new (Ok refused) = (refused ≡ false) × Printed lines old new
+PrintsLine lines old new (Err f) = Unprinted lines old new f
+
+-- what came of the words, by what stands on standard output; of a run it is this
+abbrev pub Prints : Words → (Result Bool Fault → Type 0) → Option (List ℕ) → Option (List ℕ) → Result Bool Fault → Type 0
+Prints (words.Init file) run_gives old new done = PrintsLine IsReady old new done
+Prints (words.Run file) run_gives old new done = run_gives done
+Prints (words.Verify file) run_gives old new done = PrintsLine IsGoodLine old new done
+
+-- the text was written, or a front of it where the writer failed
+abbrev pub Written : Option (List ℕ) → Option (List ℕ) → List ℕ → Type 0
+Written old new text = Appends old new text ⊎ AppendsFront old new text
+
+-- the fault's line is written, and the status is the fault's
+abbrev pub TellsFault : Fault → Option (List ℕ) → Option (List ℕ) → ℕ → Type 0
+TellsFault f old new status = (status ≡ status_of f) × Written old new (with_lf (fault_text f))
+
+-- what stands on standard error, and the exit status
+abbrev pub Exits : Option (List ℕ) → Option (List ℕ) → ℕ → Result Bool Fault → Type 0
+Exits old new status (Ok false) = (status ≡ 0) × (new ≡ old)
+Exits old new status (Ok true) = (status ≡ 1) × (new ≡ old)
+Exits old new status (Err f) = TellsFault f old new status
+
+-- what came of words whose store was closed behind them, or couldn't be
+abbrev pub after_closing : Result Bool Fault → Bool → Result Bool Fault
+after_closing outcome true = outcome
+after_closing (Ok refused) false = Err fault.Store
+after_closing (Err f) false = Err f
+
+-- what is written where the words of the command line give nothing to do, and the exit status
+abbrev pub TellsWords : WordsFault → Option (List ℕ) → Option (List ℕ) → Option (List ℕ) → Option (List ℕ) → ℕ → Type 0
+TellsWords (unmeant.Usage text) old new old_errors new_errors status = (status ≡ 2) × (new ≡ old) × Written old_errors new_errors (string_bytes text)
+TellsWords (unmeant.Help text) old new old_errors new_errors status = ((status ≡ 0) × Appends old new (string_bytes text) × (new_errors ≡ old_errors))
+    ⊎ (AppendsFront old new (string_bytes text) × TellsFault fault.Write old_errors new_errors status)
+TellsWords unmeant.Memory old new old_errors new_errors status = (new ≡ old) × TellsFault fault.Memory old_errors new_errors status

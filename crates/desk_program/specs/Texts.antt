@@ -1,0 +1,24 @@
+-- The lines that the program writes, each without its LF.
+use Rattle.std.specs.Prelude.{ℕ, List, ◌++◌, codes, decimal}
+use Rattle.plant_check.specs.Numbered.{rule_number}
+use Rattle.desk_program.specs.declared.fault.Fault.{Fault}
+use Rattle.desk_program.specs.declared.fault.Fault.TheVariants as fault
+
+abbrev pub ready_text : ℕ → List ℕ
+ready_text schema = codes "ready schema " ++ decimal schema
+
+abbrev pub good_text : ℕ → ℕ → List ℕ
+good_text schema seq = codes "good schema " ++ decimal schema ++ codes " seq " ++ decimal seq
+
+-- what stands behind `fault: `
+unfoldable pub fault_word : Fault → List ℕ
+fault_word fault.Store = codes "store"
+fault_word (fault.Newer schema) = codes "newer " ++ decimal schema
+fault_word (fault.Damaged rule) = codes "damaged G" ++ decimal (rule_number rule)
+fault_word fault.Memory = codes "memory"
+fault_word fault.Read = codes "read"
+fault_word fault.Write = codes "write"
+fault_word fault.Endless = codes "endless"
+
+abbrev pub fault_text : Fault → List ℕ
+fault_text f = codes "fault: " ++ fault_word f

@@ -1,0 +1,50 @@
+//! The adoption of the program's store, and a store that a word stopped at.
+ghost use Rattle.std.specs.Prelude.{◌≡◌, ◌≢◌, false, IfOk, IfErr};
+ghost use Rattle.sqlite.specs.Held.{state};
+ghost use Rattle.sqlite.specs.State.{HasCleanDisk};
+ghost use Rattle.plant_desk_store.specs.Adopting.{IsNewlyOpened, AdoptedFrom};
+ghost use Rattle.plant_desk_store.specs.Standing.{IsOpenAt};
+ghost use Rattle.desk_program.specs.Faults.{adopt_fault};
+ghost use Rattle.desk_program.specs.Running.{IsRefused};
+
+use crate::fault::Fault;
+use plant_desk_store::{AdoptRefused, Desk};
+use sqlite::{Alter, Connection};
+use std::alloc::Global;
+
+/// A store that a word of the program stopped at a fault, for who opened it to close.
+#[derive(Drop)]
+pub struct Stopped<S: Alter> {
+    /// Why the word isn't done.
+    pub fault: Fault,
+    /// The store.
+    pub connection: Connection<S>,
+}
+
+/// What is told of a store that wasn't adopted.
+fn stopped_by<S: Alter + Drop>(refused: AdoptRefused<S>) -> Stopped<S>
+    ensures fault { result.fault ≡ adopt_fault refused.fault }
+    ensures store { result.connection ≡ refused.connection }
+{
+    Stopped {
+        fault: Fault::from(refused.fault),
+        connection: refused.connection,
+    }
+}
+
+/// Adopts a store, as [`Desk::adopt`] does.
+pub(crate) fn adopted<S: Alter + Drop>(
+    alloc: Global,
+    connection: Connection<S>,
+) -> Result<Desk<S>, Stopped<S>>
+    requires { (state S.Store connection).in_transaction ≡ false }
+    ensures adopted { IfOk result (λ desk. HasCleanDisk (state S.Store desk.connection) → IsNewlyOpened (state S.Store connection) → AdoptedFrom (state S.Store connection) (IsOpenAt (state S.Store desk.connection))) }
+    ensures open { IfOk result (λ desk. desk.is_shut ≡ false) }
+    ensures refused { IfErr result (λ stopped. IsRefused S.Store connection stopped.connection stopped.fault) }
+    ensures unwritten { IfErr result (λ stopped. stopped.fault ≢ Fault.Write) }
+{
+    match Desk::adopt(alloc, connection) {
+        Ok(desk) => Ok(desk),
+        Err(refused) => Err(stopped_by(refused)),
+    }
+}

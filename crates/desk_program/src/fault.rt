@@ -1,0 +1,100 @@
+//! Why the program doesn't do what it is told.
+
+ghost use Rattle.std.specs.Prelude.{◌≡◌, ◌≢◌};
+ghost use Rattle.desk_program.specs.Faults as spec;
+
+use plant_check::Rule;
+use plant_desk::DeskFault;
+use plant_desk_store::AdoptFault;
+use plant_text::RunEnd;
+use sqlite::{Error, ErrorCode};
+
+/// Why the program doesn't do what it is told.
+#[derive(Clone, Copy, Debug, PartialEq, Eq)]
+pub enum Fault {
+    /// The store failed.
+    Store,
+    /// The tables are of this schema, which is above the newest.
+    Newer(u64),
+    /// The tables break this rule, and none before it.
+    Damaged(Rule),
+    /// Memory was refused.
+    Memory,
+    /// Standard input failed.
+    Read,
+    /// Standard output failed, or took no byte.
+    Write,
+    /// After 10^9 reads standard input had not ended.
+    Endless,
+}
+
+impl Fault {
+    /// The exit status: 4 for want of memory, else 3.
+    pub fn status(self) -> u8
+        ensures { result ≡ spec.status_of self }
+    {
+        match self {
+            Fault::Memory => 4,
+            Fault::Store
+            | Fault::Newer(_)
+            | Fault::Damaged(_)
+            | Fault::Read
+            | Fault::Write
+            | Fault::Endless => 3,
+        }
+    }
+}
+
+impl From<AdoptFault> for Fault {
+    ghost use Rattle.std.specs.Prelude.{◌≡◌};
+    ghost use Rattle.desk_program.specs.Faults.{adopt_fault};
+
+    ghost from_gives = { λ fault told. told ≡ adopt_fault fault };
+
+    fn from(fault: AdoptFault) -> Fault {
+        match fault {
+            AdoptFault::Store => Fault::Store,
+            AdoptFault::Newer(schema) => Fault::Newer(schema),
+            AdoptFault::Damaged(rule) => Fault::Damaged(rule),
+            AdoptFault::Memory => Fault::Memory,
+        }
+    }
+}
+
+impl From<DeskFault> for Fault {
+    ghost use Rattle.std.specs.Prelude.{◌≡◌};
+    ghost use Rattle.desk_program.specs.Faults.{desk_fault};
+
+    ghost from_gives = { λ fault told. told ≡ desk_fault fault };
+
+    fn from(fault: DeskFault) -> Fault {
+        match fault {
+            DeskFault::Store | DeskFault::Shut => Fault::Store,
+            DeskFault::Memory => Fault::Memory,
+        }
+    }
+}
+
+/// Whether a run refused something, or the fault that ended it.
+pub(crate) fn outcome_of(end: RunEnd) -> Result<bool, Fault>
+    ensures { result ≡ spec.outcome_of end }
+{
+    match end {
+        RunEnd::Done { refused } => Ok(refused),
+        RunEnd::Read => Err(Fault::Read),
+        RunEnd::Write => Err(Fault::Write),
+        RunEnd::Endless => Err(Fault::Endless),
+        RunEnd::Fault(fault) => Err(Fault::from(fault)),
+    }
+}
+
+/// The fault of a store that doesn't open.
+pub(crate) fn opening_fault(error: &Error) -> Fault
+    ensures memory { error.now ≡ Error.SqliteFailure ErrorCode.OutOfMemory → result ≡ Fault.Memory }
+    ensures store { error.now ≢ Error.SqliteFailure ErrorCode.OutOfMemory → result ≡ Fault.Store }
+{
+    match error {
+        Error::SqliteFailure(ErrorCode::OutOfMemory) => Fault::Memory,
+        _ => Fault::Store,
+    }
+}

@@ -1,0 +1,91 @@
+//! The lines that the program writes, in a room of fixed size: they take no memory.
+ghost use Rattle.std.specs.Prelude.{◌≡◌, ◌+◌, ◌≤◌, ◌++◌, length, decimal};
+ghost use Rattle.desk_program.specs.Texts as spec;
+
+use crate::fault::Fault;
+use arrayvec::ArrayString;
+use itoa::Buffer;
+
+/// A line without its LF.
+pub(crate) type ShortLine = ArrayString<64>;
+
+/// Appends the digits of a number, of which there are 20 at most.
+fn push_number(line: &mut ShortLine, number: u64)
+    requires { length line.old.bytes + 20 ≤ 64 }
+    ensures text { line.new.bytes ≡ line.old.bytes ++ decimal number }
+    ensures short { length line.new.bytes ≤ length line.old.bytes + 20 }
+{
+    let mut buffer = Buffer::new();
+    line.push_str(buffer.format(number));
+}
+
+/// `ready schema N`
+pub(crate) fn ready_line(schema: u64) -> ShortLine
+    ensures { result.bytes ≡ spec.ready_text schema }
+{
+    let mut line = ArrayString::new();
+    line.push_str("ready schema ");
+    push_number(&mut line, schema);
+    line
+}
+
+/// `good schema N seq S`
+pub(crate) fn good_line(schema: u64, seq: u64) -> ShortLine
+    ensures { result.bytes ≡ spec.good_text schema seq }
+{
+    let mut line = ArrayString::new();
+    line.push_str("good schema ");
+    push_number(&mut line, schema);
+    line.push_str(" seq ");
+    push_number(&mut line, seq);
+    line
+}
+
+/// A word and a number.
+fn numbered(word: &str, number: u64) -> ShortLine
+    requires { length word.now ≤ 20 }
+    ensures text { result.bytes ≡ word.now ++ decimal number }
+    ensures short { length result.bytes ≤ 40 }
+{
+    let mut line = ArrayString::new();
+    line.push_str(word);
+    push_number(&mut line, number);
+    line
+}
+
+/// One word.
+fn one_word(word: &str) -> ShortLine
+    requires { length word.now ≤ 20 }
+    ensures { result.bytes ≡ word.now }
+{
+    let mut line = ArrayString::new();
+    line.push_str(word);
+    line
+}
+
+/// What stands behind `fault: `.
+#[tactic(auto, unfolding(crate::specs::Texts::fault_word))]
+pub(crate) fn fault_word(fault: Fault) -> ShortLine
+    ensures text { result.bytes ≡ spec.fault_word fault }
+    ensures short { length result.bytes ≤ 40 }
+{
+    match fault {
+        Fault::Store => one_word("store"),
+        Fault::Newer(schema) => numbered("newer ", schema),
+        Fault::Damaged(rule) => numbered("damaged G", u64::from(rule.number())),
+        Fault::Memory => one_word("memory"),
+        Fault::Read => one_word("read"),
+        Fault::Write => one_word("write"),
+        Fault::Endless => one_word("endless"),
+    }
+}
+
+/// `fault: ` and the fault's word.
+pub(crate) fn fault_line(fault: Fault) -> ShortLine
+    ensures { result.bytes ≡ spec.fault_text fault }
+{
+    let mut line = ArrayString::new();
+    line.push_str("fault: ");
+    line.push_str(fault_word(fault).as_str());
+    line
+}

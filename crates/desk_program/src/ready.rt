@@ -1,0 +1,60 @@
+//! The word `init`.
+ghost use Rattle.std.specs.Prelude.{◌≡◌, false, IfOk, OnOk, MatchResult};
+ghost use Rattle.std.specs.Io.KnownBytes.{Appends};
+ghost use Rattle.sqlite.specs.Held.{state};
+ghost use Rattle.sqlite.specs.State.{HasCleanDisk};
+ghost use Rattle.plant_base.specs.State.{State, newest_schema};
+ghost use Rattle.plant_desk_store.specs.Adopting.{IsNewlyOpened, AdoptedFrom};
+ghost use Rattle.plant_desk_store.specs.Standing.{IsOpenAt};
+ghost use Rattle.plant_text.specs.Writes.{with_lf};
+ghost use Rattle.desk_program.specs.Texts.{ready_text};
+ghost use Rattle.desk_program.specs.Performing.{IsReady, Printed, Unprinted};
+
+use crate::adopting::{Stopped, adopted};
+use crate::fault::Fault;
+use crate::lines::ready_line;
+use crate::printing::print_line;
+use crate::standing::ask_standing;
+use plant_desk::Keeper;
+use plant_desk_store::Desk;
+use sqlite::{Alter, Connection};
+use std::alloc::Global;
+use std::io::Write;
+
+/// Prints `ready schema N`, N being the schema of the keeper's tables.
+fn tell_ready<W: Write, K: Keeper>(writer: &mut W, keeper: &mut K) -> Result<(), Fault>
+    requires { K.shut keeper.old ≡ false }
+    ensures honest { K.honest keeper.new → K.honest keeper.old }
+    ensures open { K.shut keeper.new ≡ false }
+    ensures stays { K.honest keeper.new → (s : State) → K.stands keeper.old s → K.stands keeper.new s }
+    ensures told { K.honest keeper.new → (s : State) → K.stands keeper.old s → OnOk result (Appends (W.contents writer.old) (W.contents writer.new) (with_lf (ready_text (K.schema keeper.old)))) }
+    ensures printed { MatchResult result (λ _. Printed IsReady (W.contents writer.old) (W.contents writer.new)) (Unprinted IsReady (W.contents writer.old) (W.contents writer.new)) }
+{
+    let at = ask_standing(keeper)?;
+    print_line(writer, &ready_line(at.schema))
+}
+
+/// Does `init FILE`: adopts the store, which gets the desk's tables where it has none of them, and prints
+/// `ready schema N` and an LF.
+///
+/// Nothing is printed before the store is adopted. At `Write` a front of the line may stand there; at every other fault
+/// nothing does.
+pub fn init<S: Alter + Drop, W: Write>(
+    alloc: Global,
+    connection: Connection<S>,
+    writer: &mut W,
+) -> Result<Desk<S>, Stopped<S>>
+    requires { (state S.Store connection).in_transaction ≡ false }
+    ensures adopted { IfOk result (λ desk. HasCleanDisk (state S.Store desk.connection) → IsNewlyOpened (state S.Store connection) → AdoptedFrom (state S.Store connection) (IsOpenAt (state S.Store desk.connection))) }
+    ensures ready { IfOk result (λ desk. HasCleanDisk (state S.Store desk.connection) → IsNewlyOpened (state S.Store connection) → Appends (W.contents writer.old) (W.contents writer.new) (with_lf (ready_text newest_schema))) }
+    ensures printed { MatchResult result (λ _. Printed IsReady (W.contents writer.old) (W.contents writer.new)) (λ stopped. Unprinted IsReady (W.contents writer.old) (W.contents writer.new) stopped.fault) }
+{
+    let mut desk = adopted(alloc, connection)?;
+    match tell_ready(writer, &mut desk) {
+        Ok(()) => Ok(desk),
+        Err(fault) => Err(Stopped {
+            fault,
+            connection: desk.close(),
+        }),
+    }
+}

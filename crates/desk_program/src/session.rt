@@ -1,0 +1,51 @@
+//! The word `run`.
+ghost use Rattle.std.specs.Prelude.{◌≡◌, ◌≢◌, false, ℕ, List, IfOk, IfErr, OnErr};
+ghost use Rattle.std.specs.Io.KnownBytes.{Consumes};
+ghost use Rattle.sqlite.specs.Held.{state};
+ghost use Rattle.sqlite.specs.State.{HasCleanDisk};
+ghost use Rattle.plant_base.specs.State.{newest_schema};
+ghost use Rattle.plant_desk_store.specs.Adopting.{IsNewlyOpened, AdoptedFrom};
+ghost use Rattle.plant_desk_store.specs.Standing.{Stands, Leaves};
+ghost use Rattle.plant_text.specs.Session.{Ends};
+ghost use Rattle.plant_text.specs.Leaving.{RunLeaves};
+ghost use Rattle.desk_program.specs.Running.{IsRefused};
+
+use crate::adopting::{Stopped, adopted};
+use plant_desk_store::Desk;
+use plant_text::{RunEnd, run_lines};
+use sqlite::{Alter, Connection};
+use std::alloc::Global;
+use std::io::{Read, Write};
+
+/// A run over the lines of an input that has ended.
+#[derive(Drop)]
+pub struct Session<S: Alter> {
+    /// The desk as the run left it.
+    pub desk: Desk<S>,
+    /// How the run ended.
+    pub end: RunEnd,
+}
+
+/// Does `run FILE`: adopts the store, and answers the lines of the input as [`run_lines`] does.
+///
+/// At a fault of the adoption nothing was read and nothing written.
+pub fn run<S: Alter + Drop, R: Read, W: Write>(
+    alloc: Global,
+    connection: Connection<S>,
+    reader: &mut R,
+    writer: &mut W,
+) -> Result<Session<S>, Stopped<S>>
+    requires { (state S.Store connection).in_transaction ≡ false }
+    ensures ends { IfOk result (λ session. (bytes : List ℕ) × Consumes (R.remaining reader.old) (R.remaining reader.new) bytes
+        × (HasCleanDisk (state S.Store session.desk.connection) → IsNewlyOpened (state S.Store connection)
+        → AdoptedFrom (state S.Store connection) (λ s. Ends newest_schema s bytes (R.remaining reader.new) (W.contents writer.old) (W.contents writer.new)
+        (Stands (state S.Store session.desk.connection) session.desk.is_shut) session.desk.is_shut (Leaves (state S.Store session.desk.connection)) session.end
+        × RunLeaves s bytes (R.remaining reader.new) (Stands (state S.Store session.desk.connection) session.desk.is_shut) (Leaves (state S.Store session.desk.connection)) session.end))) }
+    ensures refused { IfErr result (λ stopped. IsRefused S.Store connection stopped.connection stopped.fault) }
+    ensures unread { OnErr result (R.remaining reader.new ≡ R.remaining reader.old) }
+    ensures unwritten { OnErr result (W.contents writer.new ≡ W.contents writer.old) }
+{
+    let mut desk = adopted(alloc, connection)?;
+    let end = run_lines(alloc, reader, writer, &mut desk);
+    Ok(Session { desk, end })
+}

@@ -1,0 +1,32 @@
+-- Which refusals clap's kinds lead to.
+use Rattle.std.proofs.Common.{◌≡◌, Bool, true, false, List, [], ◌∷◌, inl, inr, None, ap, sym, ◌∙◌, rules}
+use Rattle.std.specs.List.{list_any}
+use Rattle.clap.specs.Kinds.{HasKind, IsAmong, Kinds}
+use Rattle.clap.specs.Words.{Text, fault_of, kind_of, subcommand_of}
+use Rattle.clap.specs.declared.error.Error.{Error}
+use Rattle.clap.specs.declared.error.kind.ErrorKind.{ErrorKind}
+use Rattle.desk_words.specs.CommandLine.{the_program}
+use Rattle.desk_words.specs.Meaning.{IsFaultOf, IsNotHelp, IsRefusedBy, asks_help, is_mistake, meant_in}
+use Rattle.desk_words.specs.declared.meaning.WordsFault.{WordsFault}
+use Rattle.desk_words.specs.declared.meaning.WordsFault.TheVariants.{Usage, Help, Memory}
+
+-- a kind among these passes a test: so does one of them
+any_among : (p : ErrorKind → Bool) (k : ErrorKind) (ks : Kinds) → IsAmong k ks → p k ≡ true → list_any p ks ≡ true
+any_among p k [] h e = absurd h
+any_among p k (x ∷ xs) (inl same) e = let first : p x ≡ true = sym (ap p same) ∙ e in search (rules, first)
+any_among p k (x ∷ xs) (inr later) e = let rest = any_among p k xs later e in search (rules, rest)
+
+pub refused_by : (words : List Text) (fault : WordsFault) (e : Error) → HasKind (fault_of the_program words) e
+    → IsFaultOf (kind_of e) fault → IsRefusedBy words fault
+refused_by words (Usage text) e (inl memory) h = let bad : false ≡ true = sym (ap is_mistake memory) ∙ h in cc bad
+refused_by words (Usage text) e (inr among) h = inl (any_among is_mistake (kind_of e) (fault_of the_program words) among h)
+refused_by words (Help text) e (inl memory) h = let bad : false ≡ true = sym (ap asks_help memory) ∙ h in cc bad
+refused_by words (Help text) e (inr among) h = any_among asks_help (kind_of e) (fault_of the_program words) among h
+refused_by words Memory e k h = tt
+
+-- words that mean nothing are refused by no help
+pub meaningless : (words : List Text) (fault : WordsFault) → meant_in (subcommand_of the_program words) ≡ None
+    → IsNotHelp fault → IsRefusedBy words fault
+meaningless words (Usage text) none h = inr none
+meaningless words (Help text) none h = absurd h
+meaningless words Memory none h = tt

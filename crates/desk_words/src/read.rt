@@ -1,0 +1,58 @@
+//! The reading of the words.
+ghost use Rattle.std.specs.Prelude.{◌≡◌, IfErr, IfOk, Some, [], map};
+ghost use Rattle.clap.specs.Words.{fault_of, kind_of, subcommand_of};
+ghost use Rattle.desk_words.specs.CommandLine.{the_program};
+ghost use Rattle.desk_words.specs.Meaning.{IsFaultOf, IsNotHelp, IsRefusedBy, meant_in, words_meant};
+
+use crate::command_line::command_line;
+use crate::meaning::{Words, WordsFault, words_in};
+use clap::Error;
+use clap::error::ErrorKind;
+use std::alloc::Global;
+
+/// clap's refusal of the words, with its text.
+fn refusal_of(alloc: Global, error: Error) -> WordsFault
+    ensures { IsFaultOf (kind_of error) result }
+{
+    let kind = error.kind();
+    let Ok(text) = error.to_string(alloc) else {
+        return WordsFault::Memory;
+    };
+    match kind {
+        ErrorKind::OutOfMemory => WordsFault::Memory,
+        ErrorKind::DisplayHelp => WordsFault::Help(text),
+        _ => WordsFault::Usage(text),
+    }
+}
+
+/// Reads the words of a command line, the program's name first.
+///
+/// `Usage` comes where they aren't understood, `Help` where they ask for help, and `Memory` for want
+/// of memory.
+pub fn read_words<'a>(alloc: Global, words: &'a [&'a str]) -> Result<Words<'a>, WordsFault>
+    ensures meant { IfOk result (λ w. meant_in (subcommand_of the_program
+        (map (λ s. s.now) words.entry.now)) ≡ Some (words_meant w)) }
+    ensures taken { IfOk result (λ _. fault_of the_program (map (λ s. s.now) words.entry.now) ≡ []) }
+    ensures refused { IfErr result (λ fault. IsRefusedBy (map (λ s. s.now) words.entry.now) fault) }
+{
+    let Ok(command) = command_line(alloc) else {
+        return Err(WordsFault::Memory);
+    };
+    match command.try_get_matches_from(words) {
+        Ok(matches) => match words_in(&matches) {
+            Some(found) => Ok(found),
+            None => Err(no_meaning(alloc)),
+        },
+        Err(error) => Err(refusal_of(alloc, error)),
+    }
+}
+
+/// The refusal of words that clap takes and that mean nothing.
+fn no_meaning(alloc: Global) -> WordsFault
+    ensures { IsNotHelp result }
+{
+    match String::from_str(alloc, "error: the words name no file\n") {
+        Ok(text) => WordsFault::Usage(text),
+        Err(_) => WordsFault::Memory,
+    }
+}

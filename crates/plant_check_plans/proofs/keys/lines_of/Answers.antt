@@ -1,0 +1,7 @@
+use Rattle.std.proofs.Common.{◌∙◌}
+use Rattle.std.specs.Prelude.{filter}
+use Rattle.plant_check_plans.proofs.Keying.{pairs_tie}
+use Rattle.plant_check_plans.proofs.keys.lines_of.Goals as goal
+
+pub returns : goal.returns
+returns c = c.at.ensures ∙ (λ i. filter (λ r. pairs_tie r.recipe c.args.id r.version c.args.version i) c.args.lines.now.rows.now)

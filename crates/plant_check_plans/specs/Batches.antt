@@ -1,0 +1,59 @@
+-- Batches and their control recipes.
+use Rattle.std.specs.Prelude.{ℕ, Bool, false, ◌&&◌, ◌==◌, if◌then◌else◌, List, Option, Some, None, find, filter, map, length}
+use Rattle.std.specs.List.{list_any, list_all}
+use Rattle.std.specs.Cmp.Lexicographic.{pointwise}
+use Rattle.plant_base.specs.State.{same}
+use Rattle.plant_base.specs.contracts.rows.RecipeLinePartialEq.TheImpl.{ghosts as equal}
+use Rattle.plant_base.specs.declared.rows.BatchRow.{BatchRow}
+use Rattle.plant_base.specs.declared.rows.ControlLine.{ControlLine}
+use Rattle.plant_base.specs.declared.rows.Header.{Header}
+use Rattle.plant_base.specs.declared.rows.Job.{Job}
+use Rattle.plant_base.specs.declared.rows.MasterLine.{MasterLine}
+use Rattle.plant_base.specs.declared.rows.Recipe.{Recipe}
+use Rattle.plant_base.specs.declared.rows.RecipeLine.{RecipeLine}
+use Rattle.plant_recipe.specs.Form.{is_well_formed}
+use Rattle.plant_recipe.specs.Control.{is_size_of, control_of}
+use Rattle.plant_view.specs.Production.{lines_among, control_among}
+use Rattle.plant_check_plans.specs.Orders.{recipe_among}
+use Rattle.plant_check_plans.specs.Recipes.{are_numbered}
+
+abbrev pub job_among : List Job → List ℕ → Option Job
+job_among jobs id = find (λ j. same j.order.order id) jobs
+
+-- the control recipe for one of the recipe's sizes, where nothing becomes 0
+abbrev pub control_sized : Header → List RecipeLine → ℕ → Option (List RecipeLine)
+control_sized header lines size = if is_size_of header size then control_of header lines size else None
+
+-- the same of a recipe that is well formed
+abbrev pub control_for : Header → List RecipeLine → ℕ → Option (List RecipeLine)
+control_for header lines size = if is_well_formed header lines then control_sized header lines size else None
+
+abbrev pub control_from : List MasterLine → ℕ → Option Recipe → Option (List RecipeLine)
+control_from rows size None = None
+control_from rows size (Some r) = control_for r.header (lines_among rows r.header.recipe r.header.version) size
+
+-- the control recipe that an order asks for, where the order and its recipe are there
+abbrev pub control_by : List Recipe → List MasterLine → Option Job → Option (List RecipeLine)
+control_by recipes rows None = None
+control_by recipes rows (Some j) = control_from rows j.order.size (recipe_among recipes j.order.recipe j.order.version)
+
+-- the lines are those of the control recipe
+abbrev pub is_control : Option (List RecipeLine) → List RecipeLine → Bool
+is_control None lines = false
+is_control (Some control) lines = pointwise equal.eq control lines
+
+abbrev pub is_batch_among : List BatchRow → List ℕ → Bool
+is_batch_among batches id = list_any (λ b. same b.batch.id id) batches
+
+-- the batch is the only one of its order, and its lines, numbered from 1 on, are the control recipe that it asks for
+unfoldable pub is_right_batch : List Recipe → List MasterLine → List Job → List BatchRow → List ControlLine → BatchRow → Bool
+is_right_batch recipes rows jobs batches control b =
+    length (filter (λ x. same x.batch.job b.batch.job) batches) == 1
+    && are_numbered 1 (map (λ l. l.number) (control_among control b.batch.id))
+    && is_control (control_by recipes rows (job_among jobs b.batch.job)) (map (λ l. l.line) (control_among control b.batch.id))
+
+-- and no control line is without its batch
+abbrev pub are_batches : List Recipe → List MasterLine → List Job → List BatchRow → List ControlLine → Bool
+are_batches recipes rows jobs batches control =
+    list_all (is_right_batch recipes rows jobs batches control) batches
+    && list_all (λ l. is_batch_among batches l.batch) control

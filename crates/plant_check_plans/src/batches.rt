@@ -1,0 +1,200 @@
+//! Batches and their control recipes.
+
+ghost use Rattle.std.specs.Prelude.{◌≡◌, IfOk, ◌&&◌, ◌==◌, map, length, filter, option_map};
+ghost use Rattle.std.specs.List.{list_all};
+ghost use Rattle.plant_base.specs.State.{same};
+ghost use Rattle.plant_view.specs.Production.{lines_among};
+ghost use Rattle.plant_check_plans.specs.Batches.{control_sized, control_for, control_from, control_by, is_control, is_batch_among, is_right_batch, are_batches};
+
+use crate::keys::{
+    Batches, BatchesOfOrders, ControlLines, Orders, RecipeLines, Recipes, control_of, has_batch,
+    has_one_batch, job_at, lines_of, recipe_at,
+};
+use crate::numbered::are_numbered;
+use crate::orders::is_size_by;
+use crate::recipes::lines_in;
+use plant_base::{
+    Amount, BatchRow, ControlLine, Header, Items, Job, MasterLine, Recipe, RecipeLine,
+};
+use plant_check_groups::Grouped;
+use plant_recipe::{Master, RecipeFault, control};
+use std::alloc::{AllocError, Global};
+
+/// What the control recipes of batches come from.
+#[derive(Drop)]
+struct Plans<'a> {
+    recipes: Grouped<'a, Recipes>,
+    lines: Grouped<'a, RecipeLines>,
+    jobs: Grouped<'a, Orders>,
+}
+
+/// Whether each batch is the only one of its order, that order and its recipe are there, its lines, numbered from 1
+/// on, are the control recipe for the order's size with no input or output of 0, and no line is without its batch.
+/// The only error is that memory was refused.
+pub fn are_batches(
+    alloc: Global,
+    recipes: &[Recipe],
+    rows: &[MasterLine],
+    jobs: &[Job],
+    batches: &[BatchRow],
+    control: &[ControlLine],
+) -> Result<bool, AllocError>
+    ensures { IfOk result (λ b. b ≡ are_batches recipes.now rows.now jobs.now batches.now control.now) }
+{
+    let plans = Plans::new(alloc, recipes, rows, jobs)?;
+    let controls = Grouped::<ControlLines>::new(alloc, control)?;
+    if !are_right(alloc, &plans, batches, &controls)? {
+        return Ok(false);
+    }
+    let known = Grouped::<Batches>::new(alloc, batches)?;
+    Ok(are_of_batches(&known, control))
+}
+
+impl<'a> Plans<'a> {
+    fn new(
+        alloc: Global,
+        recipes: &'a [Recipe],
+        rows: &'a [MasterLine],
+        jobs: &'a [Job],
+    ) -> Result<Self, AllocError>
+        ensures { IfOk result (λ p. (p.recipes.rows.now ≡ recipes.now) × (p.lines.rows.now ≡ rows.now) × (p.jobs.rows.now ≡ jobs.now)) }
+    {
+        let recipes = Grouped::<Recipes>::new(alloc, recipes)?;
+        let lines = Grouped::<RecipeLines>::new(alloc, rows)?;
+        let jobs = Grouped::<Orders>::new(alloc, jobs)?;
+        Ok(Plans {
+            recipes,
+            lines,
+            jobs,
+        })
+    }
+
+    // The control recipe that an order asks for.
+    fn control_by(
+        &self,
+        alloc: Global,
+        job: Option<Job>,
+    ) -> Result<Option<Items<RecipeLine>>, AllocError>
+        ensures { IfOk result (λ c. c ≡ control_by self.now.recipes.rows.now self.now.lines.rows.now job) }
+    {
+        match job {
+            None => Ok(None),
+            Some(job) => {
+                let order = job.order;
+                let recipe = recipe_at(&self.recipes, order.recipe, order.version);
+                self.control_from(alloc, order.size, recipe)
+            }
+        }
+    }
+
+    fn control_from(
+        &self,
+        alloc: Global,
+        size: Amount,
+        recipe: Option<Recipe>,
+    ) -> Result<Option<Items<RecipeLine>>, AllocError>
+        ensures { IfOk result (λ c. c ≡ control_from self.now.lines.rows.now size recipe) }
+    {
+        match recipe {
+            None => Ok(None),
+            Some(recipe) => {
+                let header = recipe.header;
+                let rows = lines_of(&self.lines, header.recipe, header.version);
+                control_for(alloc, header, lines_in(alloc, rows)?, size)
+            }
+        }
+    }
+}
+
+// The control recipe of a well-formed recipe for one of its sizes.
+fn control_for(
+    alloc: Global,
+    header: Header,
+    lines: Vec<RecipeLine>,
+    size: Amount,
+) -> Result<Option<Items<RecipeLine>>, AllocError>
+    ensures { IfOk result (λ c. c ≡ control_for header lines.items size) }
+{
+    match Master::check(header, lines) {
+        Err(_) => Ok(None),
+        Ok(master) => control_of_master(alloc, &master, size),
+    }
+}
+
+fn control_of_master(
+    alloc: Global,
+    master: &Master,
+    size: Amount,
+) -> Result<Option<Items<RecipeLine>>, AllocError>
+    ensures { IfOk result (λ c. c ≡ control_sized master.now.header master.now.lines size) }
+{
+    if !is_size_by(&master.header(), size) {
+        return Ok(None);
+    }
+    match control(alloc, master, size) {
+        Ok(lines) => Ok(Some(lines)),
+        Err(RecipeFault::Nothing) => Ok(None),
+        Err(RecipeFault::Memory) => Err(AllocError),
+    }
+}
+
+// Whether each batch is right.
+fn are_right(
+    alloc: Global,
+    plans: &Plans,
+    batches: &[BatchRow],
+    controls: &Grouped<ControlLines>,
+) -> Result<bool, AllocError>
+    ensures { IfOk result (λ b. b ≡ list_all (is_right_batch plans.now.recipes.rows.now plans.now.lines.rows.now plans.now.jobs.rows.now batches.now controls.now.rows.now) batches.now) }
+{
+    let orders = Grouped::<BatchesOfOrders>::new(alloc, batches)?;
+    for batch in batches {
+        if !is_right(alloc, plans, &orders, controls, batch)? {
+            return Ok(false);
+        }
+    }
+    Ok(true)
+}
+
+#[tactic(auto, unfolding(crate::specs::Batches::is_right_batch))]
+fn is_right(
+    alloc: Global,
+    plans: &Plans,
+    orders: &Grouped<BatchesOfOrders>,
+    controls: &Grouped<ControlLines>,
+    batch: &BatchRow,
+) -> Result<bool, AllocError>
+    ensures { IfOk result (λ b. b ≡ is_right_batch plans.now.recipes.rows.now plans.now.lines.rows.now plans.now.jobs.rows.now orders.now.rows.now controls.now.rows.now batch.now) }
+{
+    let order = batch.batch.job;
+    let lines = control_of(controls, batch.batch.id);
+    let wanted = plans.control_by(alloc, job_at(&plans.jobs, order))?;
+    let found = lines_among(alloc, lines)?;
+    Ok(
+        has_one_batch(orders, order)
+            && are_numbered(1, lines)
+            && is_control(&wanted, found.as_slice()),
+    )
+}
+
+fn lines_among(alloc: Global, rows: &[ControlLine]) -> Result<Vec<RecipeLine>, AllocError>
+    ensures { IfOk result (λ lines. lines.items ≡ map (λ r. r.line) rows.now) }
+{
+    rows.iter().map(|r| r.line).collect(alloc)
+}
+
+fn is_control(wanted: &Option<Items<RecipeLine>>, lines: &[RecipeLine]) -> bool
+    ensures { result ≡ is_control wanted.now lines.now }
+{
+    match wanted {
+        None => false,
+        Some(control) => control.as_slice() == lines,
+    }
+}
+
+// Whether no line is without its batch.
+fn are_of_batches(known: &Grouped<Batches>, control: &[ControlLine]) -> bool
+    ensures { result ≡ list_all (λ l. is_batch_among known.now.rows.now l.batch) control.now }
+{
+    control.iter().all(|l| has_batch(known, l.batch))
+}

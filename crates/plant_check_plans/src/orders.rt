@@ -1,0 +1,78 @@
+//! Orders.
+
+ghost use Rattle.std.specs.Prelude.{◌≡◌, IfOk};
+ghost use Rattle.plant_recipe.specs.Control.{is_size_of};
+ghost use Rattle.plant_check_plans.specs.Orders.{is_size_of_recipe, is_running, is_closed, is_started, is_right_order, are_orders};
+
+use crate::keys::{BatchesOfOrders, Recipes, batch_of, recipe_at};
+use plant_base::{Amount, BatchRow, Header, Job, JobState, Recipe};
+use plant_check_groups::Grouped;
+use std::alloc::{AllocError, Global};
+
+/// Whether each order's recipe is there with the order's size among its sizes, and each order that was released, and
+/// no other, has a batch, which is closed exactly where the order is finished. The only error is that memory was
+/// refused.
+pub fn are_orders(
+    alloc: Global,
+    recipes: &[Recipe],
+    batches: &[BatchRow],
+    jobs: &[Job],
+) -> Result<bool, AllocError>
+    ensures { IfOk result (λ b. b ≡ are_orders recipes.now batches.now jobs.now) }
+{
+    let recipes = Grouped::<Recipes>::new(alloc, recipes)?;
+    let batches = Grouped::<BatchesOfOrders>::new(alloc, batches)?;
+    Ok(jobs.iter().all(|job| is_right(&recipes, &batches, job)))
+}
+
+#[tactic(auto, unfolding(crate::specs::Orders::is_right_order))]
+fn is_right(recipes: &Grouped<Recipes>, batches: &Grouped<BatchesOfOrders>, job: &Job) -> bool
+    ensures { result ≡ is_right_order recipes.now.rows.now batches.now.rows.now job.now }
+{
+    let order = job.order;
+    is_size_of(recipe_at(recipes, order.recipe, order.version), order.size)
+        && is_started(job.state, batch_of(batches, order.order))
+}
+
+fn is_size_of(recipe: Option<Recipe>, size: Amount) -> bool
+    ensures { result ≡ is_size_of_recipe recipe size }
+{
+    match recipe {
+        None => false,
+        Some(recipe) => is_size_by(&recipe.header, size),
+    }
+}
+
+pub(crate) fn is_size_by(header: &Header, size: Amount) -> bool
+    ensures { result ≡ is_size_of header.now size }
+{
+    header.least.get() <= size.get() && size.get() <= header.greatest.get()
+}
+
+fn is_started(state: JobState, batch: Option<BatchRow>) -> bool
+    ensures { result ≡ is_started state batch }
+{
+    match state {
+        JobState::Open | JobState::Cancelled => batch.is_none(),
+        JobState::Released => is_running(batch),
+        JobState::Finished => is_closed(batch),
+    }
+}
+
+fn is_running(batch: Option<BatchRow>) -> bool
+    ensures { result ≡ is_running batch }
+{
+    match batch {
+        None => false,
+        Some(batch) => !batch.closed,
+    }
+}
+
+fn is_closed(batch: Option<BatchRow>) -> bool
+    ensures { result ≡ is_closed batch }
+{
+    match batch {
+        None => false,
+        Some(batch) => batch.closed,
+    }
+}

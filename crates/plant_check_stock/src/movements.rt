@@ -1,0 +1,252 @@
+//! What movements name, and what their definitions are.
+
+ghost use Rattle.std.specs.Prelude.{◌≡◌, IfOk};
+ghost use Rattle.std.specs.List.{list_any, list_all};
+ghost use Rattle.plant_stock.specs.Stock.{goes_to, comes_from};
+ghost use Rattle.plant_view.specs.Genealogy.{batch_by};
+ghost use Rattle.plant_rules.specs.Consumption.{takes, makes, is_taken, is_made};
+ghost use Rattle.plant_good.specs.Bookings.{is_one_source};
+ghost use Rattle.plant_check_stock.specs.Movements.{is_batch_there, names_known, are_of_one, is_asked_for, is_yielded, is_of_right_definition, is_merged, are_distinct, are_parts, is_of_right_merge, is_right_movement, are_movements};
+
+use crate::keys::{Lots, Parts, Sublots, is_there, lot_at, parts_of};
+use plant_base::{BatchRow, ControlLine, Id, Lot, Movement, MovementKind, RecipeLine, Sublot};
+use plant_check_groups::Grouped;
+use plant_check_plans::keys::{Batches, ControlLines, control_of, has_batch};
+use std::alloc::{AllocError, Global};
+
+/// A merge has no more parts.
+const GREATEST_PARTS: usize = 16;
+
+/// What movements name.
+#[derive(Drop)]
+struct Named<'a> {
+    lots: Grouped<'a, Lots>,
+    sublots: Grouped<'a, Sublots>,
+    batches: Grouped<'a, Batches>,
+    controls: Grouped<'a, ControlLines>,
+}
+
+/// Whether the sublots and the batch that each movement names are there, what it splits off or merges is of the
+/// definition of the lot it comes from, an in line of the batch's control recipe asks for what it consumes and an out
+/// line for what it produces, and the parts of its merge are at most 16, of distinct pairs of lot and sublot. The only
+/// error is that memory was refused.
+pub fn are_movements(
+    alloc: Global,
+    lots: &[Lot],
+    sublots: &[Sublot],
+    batches: &[BatchRow],
+    control: &[ControlLine],
+    movements: &[Movement],
+) -> Result<bool, AllocError>
+    ensures { IfOk result (λ b. b ≡ are_movements lots.now sublots.now batches.now control.now movements.now) }
+{
+    let named = Named::new(alloc, lots, sublots, batches, control)?;
+    let parts = Grouped::<Parts>::new(alloc, movements)?;
+    Ok(are_right(&named, &parts, movements))
+}
+
+fn are_right(named: &Named, parts: &Grouped<Parts>, movements: &[Movement]) -> bool
+    ensures { result ≡ list_all (is_right_movement named.now.lots.rows.now named.now.sublots.rows.now named.now.batches.rows.now named.now.controls.rows.now parts.now.rows.now) movements.now }
+{
+    movements.iter().all(|m| is_right(named, parts, m))
+}
+
+impl<'a> Named<'a> {
+    fn new(
+        alloc: Global,
+        lots: &'a [Lot],
+        sublots: &'a [Sublot],
+        batches: &'a [BatchRow],
+        control: &'a [ControlLine],
+    ) -> Result<Self, AllocError>
+        ensures { IfOk result (λ n. (n.lots.rows.now ≡ lots.now) × (n.sublots.rows.now ≡ sublots.now) × (n.batches.rows.now ≡ batches.now) × (n.controls.rows.now ≡ control.now)) }
+    {
+        let lots = Grouped::<Lots>::new(alloc, lots)?;
+        let sublots = Grouped::<Sublots>::new(alloc, sublots)?;
+        let batches = Grouped::<Batches>::new(alloc, batches)?;
+        let controls = Grouped::<ControlLines>::new(alloc, control)?;
+        Ok(Named {
+            lots,
+            sublots,
+            batches,
+            controls,
+        })
+    }
+
+    // Whether the sublots and the batch that the movement names are there.
+    fn knows(&self, movement: &Movement) -> bool
+        ensures { result ≡ names_known self.now.sublots.rows.now self.now.batches.rows.now movement.now }
+    {
+        is_there(&self.sublots, target(movement))
+            && is_there(&self.sublots, source(movement))
+            && self.has_batch(batch_by(movement))
+    }
+
+    fn has_batch(&self, batch: Option<Id>) -> bool
+        ensures { result ≡ is_batch_there self.now.batches.rows.now batch }
+    {
+        match batch {
+            None => true,
+            Some(id) => has_batch(&self.batches, id),
+        }
+    }
+
+    // Whether what goes from lot to lot is of one definition, and a batch takes and makes what its recipe says.
+    fn allows(&self, movement: &Movement) -> bool
+        ensures { result ≡ is_of_right_definition self.now.lots.rows.now self.now.controls.rows.now movement.now.kind movement.now.lot }
+    {
+        let lot = lot_at(&self.lots, movement.lot);
+        match movement.kind {
+            MovementKind::Received | MovementKind::Scrapped | MovementKind::Divided { .. } => true,
+            MovementKind::Consumed { batch } => is_asked_for(
+                control_of(&self.controls, batch),
+                lot,
+            ),
+            MovementKind::Produced { batch } => is_yielded(control_of(&self.controls, batch), lot),
+            MovementKind::Split { to } | MovementKind::Merged { to } => {
+                are_of_one(lot, lot_at(&self.lots, to))
+            }
+        }
+    }
+}
+
+#[tactic(auto, unfolding(crate::specs::Movements::is_right_movement))]
+fn is_right(named: &Named, parts: &Grouped<Parts>, movement: &Movement) -> bool
+    ensures { result ≡ is_right_movement named.now.lots.rows.now named.now.sublots.rows.now named.now.batches.rows.now named.now.controls.rows.now parts.now.rows.now movement.now }
+{
+    named.knows(movement) && named.allows(movement) && is_of_right_merge(parts, movement)
+}
+
+// The sublot that the movement brings its amount to.
+pub(crate) fn target(movement: &Movement) -> Option<(Id, u16)>
+    ensures { result ≡ goes_to movement.now.kind movement.now.lot movement.now.sub }
+{
+    match movement.kind {
+        MovementKind::Received | MovementKind::Produced { .. } => Some((
+            movement.lot,
+            movement.sub,
+        )),
+        MovementKind::Consumed { .. } | MovementKind::Scrapped => None,
+        MovementKind::Divided { to } => Some((movement.lot, to)),
+        MovementKind::Split { to } | MovementKind::Merged { to } => Some((to, 0)),
+    }
+}
+
+// The sublot that the movement takes its amount from.
+pub(crate) fn source(movement: &Movement) -> Option<(Id, u16)>
+    ensures { result ≡ comes_from movement.now.kind movement.now.lot movement.now.sub }
+{
+    match movement.kind {
+        MovementKind::Received | MovementKind::Produced { .. } => None,
+        _ => Some((movement.lot, movement.sub)),
+    }
+}
+
+// The batch that the movement names.
+fn batch_by(movement: &Movement) -> Option<Id>
+    ensures { result ≡ batch_by movement.now.kind }
+{
+    match movement.kind {
+        MovementKind::Consumed { batch } | MovementKind::Produced { batch } => Some(batch),
+        _ => None,
+    }
+}
+
+fn are_of_one(a: Option<Lot>, b: Option<Lot>) -> bool
+    ensures { result ≡ are_of_one a b }
+{
+    match (a, b) {
+        (Some(a), Some(b)) => a.def == b.def,
+        _ => false,
+    }
+}
+
+fn is_asked_for(lines: &[ControlLine], lot: Option<Lot>) -> bool
+    ensures { result ≡ is_asked_for lines.now lot }
+{
+    match lot {
+        None => false,
+        Some(lot) => are_taking(lines, lot.def),
+    }
+}
+
+fn is_yielded(lines: &[ControlLine], lot: Option<Lot>) -> bool
+    ensures { result ≡ is_yielded lines.now lot }
+{
+    match lot {
+        None => false,
+        Some(lot) => are_making(lines, lot.def),
+    }
+}
+
+fn are_taking(lines: &[ControlLine], def: Id) -> bool
+    ensures { result ≡ is_taken lines.now def }
+{
+    lines.iter().any(|l| takes(def, l.line))
+}
+
+fn are_making(lines: &[ControlLine], def: Id) -> bool
+    ensures { result ≡ is_made lines.now def }
+{
+    lines.iter().any(|l| makes(def, l.line))
+}
+
+fn takes(wanted: Id, line: RecipeLine) -> bool
+    ensures { result ≡ takes wanted line }
+{
+    match line {
+        RecipeLine::In { def, .. } => def == wanted,
+        _ => false,
+    }
+}
+
+fn makes(wanted: Id, line: RecipeLine) -> bool
+    ensures { result ≡ makes wanted line }
+{
+    match line {
+        RecipeLine::Out { def, .. } => def == wanted,
+        _ => false,
+    }
+}
+
+fn is_of_right_merge(parts: &Grouped<Parts>, movement: &Movement) -> bool
+    ensures { result ≡ is_of_right_merge parts.now.rows.now movement.now }
+{
+    !is_merged(movement.kind) || are_parts(parts_of(parts, movement.seq))
+}
+
+fn is_merged(kind: MovementKind) -> bool
+    ensures { result ≡ is_merged kind }
+{
+    matches!(kind, MovementKind::Merged { .. })
+}
+
+// Whether they are at most 16, of distinct pairs of lot and sublot.
+fn are_parts(parts: &[Movement]) -> bool
+    ensures { result ≡ are_parts parts.now }
+{
+    parts.len() <= GREATEST_PARTS && are_distinct(parts)
+}
+
+fn are_distinct(parts: &[Movement]) -> bool
+    ensures { result ≡ are_distinct parts.now }
+{
+    for (index, part) in parts.iter().enumerate() {
+        if is_named_again(part, &parts[index + 1..]) {
+            return false;
+        }
+    }
+    true
+}
+
+fn is_named_again(part: &Movement, others: &[Movement]) -> bool
+    ensures { result ≡ list_any (is_one_source part.now) others.now }
+{
+    others.iter().any(|other| is_one_source(part, other))
+}
+
+fn is_one_source(a: &Movement, b: &Movement) -> bool
+    ensures { result ≡ is_one_source a.now b.now }
+{
+    a.lot == b.lot && a.sub == b.sub
+}

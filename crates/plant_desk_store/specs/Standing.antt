@@ -1,0 +1,65 @@
+-- Where the store of a desk stands, and what a stop leaves of it, in states of the desk.
+use Rattle.std.specs.Prelude.{◌≡◌, ◌⊎◌, Bool, false, Result, Ok, Err, IsTrue}
+use Rattle.sqlite.specs.Tree.{Trees}
+use Rattle.sqlite.specs.Schema.{Schema}
+use Rattle.sqlite.specs.Effect.{Database}
+use Rattle.sqlite.specs.State as store
+use Rattle.sqlite_catalog.specs.Listing.{IsSound}
+use Rattle.plant_base.specs.State.{State, newest_schema}
+use Rattle.plant_base.specs.declared.command.Envelope.{Envelope}
+use Rattle.plant_view.specs.Tables.{tables_of}
+use Rattle.plant_rules.specs.Step.{step}
+use Rattle.plant_good.specs.Good.{IsGood}
+use Rattle.table_forms.specs.Standing.{KeepsOthers}
+use Rattle.plant_tables.specs.DeskForms.{desk_forms}
+use Rattle.plant_tables.specs.DeskStopping.{IsAt}
+use Rattle.plant_tables.specs.Keyed.{HoldsTables}
+use Rattle.plant_desk.specs.Keeping.{States}
+use Rattle.plant_desk.specs.Replies.{reply}
+use Rattle.plant_desk.specs.declared.reply.Reply.{Reply}
+use Rattle.plant_desk.specs.declared.reply.DeskFault.{DeskFault}
+use Rattle.plant_desk.specs.declared.reply.DeskFault.TheVariants.{Store, Memory, Shut}
+
+-- The state is good, and the store, where it is open, shows its tables.
+pub record StandsAt (c : store.State) (s : State) : Type 0 where
+  pub good : IsGood s
+  pub shows : IsTrue c.is_open → IsAt c (tables_of newest_schema s)
+
+-- What an opening of these trees finds are the tables of this good state.
+pub record FindsState (trees : Trees) (s : State) : Type 0 where
+  pub good : IsGood s
+  pub schema : Schema
+  pub holds : HoldsTables (record { schema = schema; trees = trees }) (tables_of newest_schema s)
+
+-- A stop leaves something, and whatever it leaves are the tables of one of these states.
+pub record Leaves (c : store.State) (states : States) : Type 0 where
+  pub something : ∥ ((db : Trees) × c.may_leave db) ∥₁
+  pub nothing_else : (db : Trees) → c.may_leave db → (s : State) × states s × FindsState db s
+
+-- The store stands at the state, and a stop leaves that alone.
+pub record IsOpenAt (c : store.State) (s : State) : Type 0 where
+  pub stands : StandsAt c s
+  pub leaves : Leaves c (λ u. u ≡ s)
+
+-- A desk over the store stands at the state: a stop of one that isn't shut leaves that alone.
+abbrev pub Stands : store.State → Bool → States
+Stands c shut s = StandsAt c s × (shut ≡ false → Leaves c (λ u. u ≡ s))
+
+-- The tables of names that aren't the desk's stand as they do in this database: in what the store shows, where it is
+-- open, and in whatever a stop leaves.
+pub record OthersStand (before : Database) (c : store.State) : Type 0 where
+  pub shows : IsTrue c.is_open → KeepsOthers desk_forms before c.now
+  pub leaves : (trees : Trees) (schema : Schema) → c.may_leave trees → IsSound schema trees → KeepsOthers desk_forms before (record { schema = schema; trees = trees })
+
+-- The store of a desk stands at some state, and the tables of other names as in this database.
+pub record IsBeside (c : store.State) (shut : Bool) (before : Database) : Type 0 where
+  pub state : State
+  pub stands : Stands c shut state
+  pub others : OthersStand before c
+
+-- what comes of a command over a store that stood at s
+abbrev pub Executed : State → store.State → Envelope → Result Reply DeskFault → Type 0
+Executed s new e (Ok r) = (r ≡ reply s e) × IsOpenAt new (step s e)
+Executed s new e (Err Store) = StandsAt new s × Leaves new (λ u. (u ≡ s) ⊎ (u ≡ step s e))
+Executed s new e (Err Memory) = IsOpenAt new s
+Executed s new e (Err Shut) = ⊥

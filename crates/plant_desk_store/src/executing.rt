@@ -1,0 +1,102 @@
+//! Commands over a store.
+
+ghost use Rattle.std.specs.Prelude.{◌≡◌, ◌≢◌, ◌⊎◌, ◌+◌, ◌<◌, ◌^◌, false, true, None, Err, IfOk, IfErr, OnOk, OnErr, IsTrue};
+ghost use Rattle.sqlite.specs.Effect.{Database};
+ghost use Rattle.sqlite.specs.Held.{state};
+ghost use Rattle.sqlite.specs.State.{HasCleanDisk, Survives};
+ghost use Rattle.plant_base.specs.State.{State, newest_schema};
+ghost use Rattle.plant_view.specs.Tables.{tables_of, changed_all};
+ghost use Rattle.plant_tables.specs.Keyed.{AreFresh};
+ghost use Rattle.plant_good.specs.Good.{IsGood};
+ghost use Rattle.plant_rules.specs.Wrong.{wrong};
+ghost use Rattle.plant_desk.specs.Keeping.{writes_nothing};
+ghost use Rattle.plant_desk.specs.Lists.{state_of};
+ghost use Rattle.plant_desk_store.specs.Standing.{StandsAt, Leaves, IsOpenAt, Executed, OthersStand};
+
+use crate::deciding::{decide_in, read_lists};
+use plant_base::{ControlLine, Envelope, MasterLine, Movement, MovementKind, RecipeLine};
+use plant_desk::{DeskFault, Lists, Reply};
+use plant_tables::commit_changes;
+use plant_view::{Decision, RowChange};
+use sqlite::{Alter, Connection};
+use std::alloc::Global;
+
+/// Executes a command over a store in which no transaction is open: all tables are read, and what the command changes
+/// is written in one transaction.
+pub(crate) fn execute_on<S: Alter>(
+    alloc: Global,
+    connection: &mut Connection<S>,
+    envelope: &Envelope,
+) -> Result<Reply, DeskFault>
+    requires { (state S.Store connection.old).in_transaction ≡ false }
+    ensures mode { (state S.Store connection.new).in_transaction ≡ false }
+    ensures clean { HasCleanDisk (state S.Store connection.new) → HasCleanDisk (state S.Store connection.old) }
+    ensures executed { HasCleanDisk (state S.Store connection.new) → (s : State) → IsOpenAt (state S.Store connection.old) s → Executed s (state S.Store connection.new) envelope.now result }
+    ensures open { IfErr result (λ fault. fault ≢ DeskFault.Shut) }
+    ensures others { HasCleanDisk (state S.Store connection.new) → (s : State) → IsOpenAt (state S.Store connection.old) s → (before : Database) → OthersStand before (state S.Store connection.old) → OthersStand before (state S.Store connection.new) }
+
+    // Where nothing was to be written, a stop leaves what it left before.
+    ensures spared { writes_nothing result ≡ true → Survives (state S.Store connection.old) (state S.Store connection.new) (λ _. ⊥) }
+{
+    let lists = read_lists(alloc, connection)?;
+    execute_read(alloc, connection, lists, envelope)
+}
+
+/// Decides a command over the lists that were read of a store, and writes what it changes in one transaction.
+fn execute_read<S: Alter>(
+    alloc: Global,
+    connection: &mut Connection<S>,
+    mut lists: Lists,
+    envelope: &Envelope,
+) -> Result<Reply, DeskFault>
+    requires rest { (state S.Store connection.old).in_transaction ≡ false }
+    requires good { IsGood (state_of lists) }
+    ensures mode { (state S.Store connection.new).in_transaction ≡ false }
+    ensures clean { HasCleanDisk (state S.Store connection.new) → HasCleanDisk (state S.Store connection.old) }
+    ensures executed { HasCleanDisk (state S.Store connection.new) → IsOpenAt (state S.Store connection.old) (state_of lists) → IsTrue (state S.Store connection.old).is_open
+        → Executed (state_of lists) (state S.Store connection.new) envelope.now result }
+    ensures open { IfErr result (λ fault. fault ≢ DeskFault.Shut) }
+    ensures others { HasCleanDisk (state S.Store connection.new) → IsOpenAt (state S.Store connection.old) (state_of lists) → IsTrue (state S.Store connection.old).is_open
+        → (before : Database) → OthersStand before (state S.Store connection.old) → OthersStand before (state S.Store connection.new) }
+    ensures untouched { writes_nothing result ≡ true → connection.new ≡ connection.old }
+
+    // Store comes of the commit of a command that is accepted, and never of want of memory.
+    ensures store { result ≡ Err DeskFault.Store → wrong (state_of lists) envelope.now ≡ None }
+{
+    // The checker can't follow row changes, unless the function names these types.
+    let _: Option<(RecipeLine, MasterLine, ControlLine, Movement, MovementKind)> = None;
+    let seq = lists.seq;
+    envelope.show_values();
+    match decide_in(alloc, &mut lists, envelope)? {
+        Decision::Refused(refusal) => Ok(Reply::Refused(refusal)),
+        Decision::Change(changes) => commit_on(connection, seq, changes.as_slice()),
+    }
+}
+
+/// Writes what a command changes, of which this many were accepted before it, in one transaction.
+fn commit_on<S: Alter>(
+    connection: &mut Connection<S>,
+    seq: u64,
+    changes: &[RowChange],
+) -> Result<Reply, DeskFault>
+    requires rest { (state S.Store connection.old).in_transaction ≡ false }
+    requires fits { seq + 1 < 2 ^ 64 }
+    ensures mode { (state S.Store connection.new).in_transaction ≡ false }
+    ensures clean { HasCleanDisk (state S.Store connection.new) → HasCleanDisk (state S.Store connection.old) }
+    ensures reply { IfOk result (λ r. r ≡ Reply.Accepted (seq + 1)) }
+    ensures fault { IfErr result (λ f. f ≡ DeskFault.Store) }
+    ensures accepted { HasCleanDisk (state S.Store connection.new) → (s next : State) → IsOpenAt (state S.Store connection.old) s → IsTrue (state S.Store connection.old).is_open → IsGood next
+        → changed_all changes.now (tables_of newest_schema s) ≡ tables_of newest_schema next → AreFresh changes.now (tables_of newest_schema s)
+        → OnOk result (IsOpenAt (state S.Store connection.new) next) }
+    ensures cut_short { HasCleanDisk (state S.Store connection.new) → (s next : State) → IsOpenAt (state S.Store connection.old) s → IsTrue (state S.Store connection.old).is_open → IsGood next
+        → changed_all changes.now (tables_of newest_schema s) ≡ tables_of newest_schema next → AreFresh changes.now (tables_of newest_schema s)
+        → OnErr result (StandsAt (state S.Store connection.new) s × Leaves (state S.Store connection.new) (λ u. (u ≡ s) ⊎ (u ≡ next))) }
+    ensures others { HasCleanDisk (state S.Store connection.new) → (s next : State) → IsOpenAt (state S.Store connection.old) s → IsTrue (state S.Store connection.old).is_open → IsGood next
+        → changed_all changes.now (tables_of newest_schema s) ≡ tables_of newest_schema next → AreFresh changes.now (tables_of newest_schema s)
+        → (before : Database) → OthersStand before (state S.Store connection.old) → OthersStand before (state S.Store connection.new) }
+{
+    match commit_changes(connection, changes) {
+        Ok(()) => Ok(Reply::Accepted(seq + 1)),
+        Err(_) => Err(DeskFault::Store),
+    }
+}

@@ -1,0 +1,154 @@
+ghost use Rattle.std.specs.Prelude.{◌≡◌, false};
+ghost use Rattle.plant_desk.specs.Keeping.{shuts};
+
+use crate::asking::ask_on;
+use crate::executing::execute_on;
+use crate::running::run_over;
+use crate::verifying::verify_on;
+use plant_base::{Envelope, Items};
+use plant_check::Rule;
+use plant_desk::{Answer, DeskFault, Keeper, Question, Reply, RunReport};
+use sqlite::{Alter, Connection};
+use std::alloc::Global;
+
+/// A desk over its file: its records stand in the tables of one store.
+///
+/// Each call reads all tables anew, and nothing of the state is kept between calls but whether the desk is shut.
+#[derive(Drop)]
+pub struct Desk<S: Alter> {
+    pub(crate) alloc: Global,
+    pub(crate) connection: Connection<S>,
+    pub(crate) is_shut: bool,
+    ghost rests: { connection.in_transaction ≡ false },
+}
+
+impl<S: Alter> Desk<S> {
+    ghost use Rattle.std.specs.Prelude.{◌≡◌, ◌≢◌, ◌≤◌, [], true, false, Some, None, IfOk, IfErr, IsErrOf, length, take};
+    ghost use Rattle.sqlite.specs.Effect.{Database};
+    ghost use Rattle.sqlite.specs.Held.{state};
+    ghost use Rattle.sqlite.specs.State.{HasCleanDisk, Survives};
+    ghost use Rattle.plant_base.specs.State.{State};
+    ghost use Rattle.plant_desk.specs.Runs.{fold};
+    ghost use Rattle.plant_trace.specs.Reach.{IsAcyclic};
+    ghost use Rattle.plant_view.specs.Conserve.{IsConserved, IsBalanced};
+    ghost use Rattle.plant_view.specs.Genealogy.{edges_of};
+    ghost use Rattle.plant_desk_store.specs.Standing.{Leaves, Stands, IsBeside};
+    ghost use Rattle.plant_desk_store.specs.Running.{Ran};
+    ghost use Rattle.plant_desk_store.specs.Testing.{IsTested};
+
+    /// Executes commands in order, up to the first fault. Room for the replies is taken first; where it is refused,
+    /// nothing is executed. A desk that is shut gives no replies, ends `Shut` and stays as it is; no other ends so.
+    pub fn run(&mut self, list: &[Envelope]) -> RunReport
+        ensures honest { HasCleanDisk (state S.Store self.new.connection) → HasCleanDisk (state S.Store self.old.connection) }
+        ensures within { length result.replies ≤ length list.now }
+        ensures ran { HasCleanDisk (state S.Store self.new.connection) → self.old.is_shut ≡ false → (s : State) → Stands (state S.Store self.old.connection) self.old.is_shut s
+            → Ran s list.now result.replies result.end (Stands (state S.Store self.new.connection) self.new.is_shut) (Leaves (state S.Store self.new.connection)) self.new.is_shut }
+        ensures live { self.old.is_shut ≡ false → result.end ≢ Some DeskFault.Shut }
+        ensures shut { self.old.is_shut ≡ true → (result.replies ≡ []) × (result.end ≡ Some DeskFault.Shut) }
+        ensures still { self.old.is_shut ≡ true → self.new ≡ self.old }
+
+        // Nothing is lost and nothing made, of each definition and in each lot, and nothing was made from itself.
+        ensures conserved { HasCleanDisk (state S.Store self.new.connection) → self.old.is_shut ≡ false → (s : State) → Stands (state S.Store self.old.connection) self.old.is_shut s
+            → IsConserved (fold s (take (length result.replies) list.now)) × IsBalanced (fold s (take (length result.replies) list.now)) }
+        ensures acyclic { HasCleanDisk (state S.Store self.new.connection) → self.old.is_shut ≡ false → (s : State) → Stands (state S.Store self.old.connection) self.old.is_shut s
+            → IsAcyclic (edges_of (fold s (take (length result.replies) list.now))) }
+
+        // Tables of other names stand as they did, also in what a stop leaves.
+        ensures others { HasCleanDisk (state S.Store self.new.connection) → (before : Database) → IsBeside (state S.Store self.old.connection) self.old.is_shut before → IsBeside (state S.Store self.new.connection) self.new.is_shut before }
+    {
+        if self.is_shut {
+            return RunReport {
+                replies: Items::new(Vec::new(self.alloc)),
+                end: Some(DeskFault::Shut),
+            };
+        }
+        run_over(self.alloc, self, list)
+    }
+
+    /// Reads and tests all tables: the first rule that they break. A desk whose store has kept its word answers `None`, or a
+    /// fault: `Store` where a table doesn't stand any more as it is declared, and where the store fails; `Memory`; `Shut`
+    /// exactly from a desk that is shut. Nothing is changed, and an open desk stays open.
+    pub fn verify(&mut self) -> Result<Option<Rule>, DeskFault>
+        ensures honest { HasCleanDisk (state S.Store self.new.connection) → HasCleanDisk (state S.Store self.old.connection) }
+        ensures open { self.new.is_shut ≡ self.old.is_shut }
+        ensures live { self.old.is_shut ≡ false → IfErr result (λ fault. fault ≢ DeskFault.Shut) }
+        ensures shut { self.old.is_shut ≡ true → IsErrOf result DeskFault.Shut }
+        ensures still { self.old.is_shut ≡ true → self.new ≡ self.old }
+        // The rule is the first that the rows of the store's tables break.
+        ensures tested { HasCleanDisk (state S.Store self.new.connection) → IfOk result (IsTested (state S.Store self.old.connection).now) }
+        ensures unbroken { HasCleanDisk (state S.Store self.new.connection) → self.old.is_shut ≡ false → (s : State) → Stands (state S.Store self.old.connection) self.old.is_shut s
+            → IfOk result (λ broken. broken ≡ None) × Stands (state S.Store self.new.connection) self.new.is_shut s }
+        ensures crash { Survives (state S.Store self.old.connection) (state S.Store self.new.connection) (λ _. ⊥) }
+    {
+        if self.is_shut {
+            return Err(DeskFault::Shut);
+        }
+        verify_on(self.alloc, &mut self.connection)
+    }
+
+    /// Gives the store back. No memory is taken.
+    pub fn close(self) -> Connection<S>
+        ensures { result ≡ self.connection }
+    {
+        let Desk { connection, .. } = self;
+        connection
+    }
+}
+
+/// Whether a command was answered a fault of the store.
+fn is_store_fault(answer: &Result<Reply, DeskFault>) -> bool
+    ensures { result ≡ shuts answer.now }
+{
+    matches!(answer, Err(DeskFault::Store))
+}
+
+impl<S: Alter> Keeper for Desk<S> {
+    ghost use Rattle.std.specs.Prelude.{◌≡◌, true, false};
+    ghost use Rattle.sqlite.specs.Held.{state};
+    ghost use Rattle.sqlite.specs.State.{HasCleanDisk, Survives};
+    ghost use Rattle.plant_base.specs.State.{newest_schema};
+    ghost use Rattle.sqlite.specs.Effect.{Database};
+    ghost use Rattle.plant_desk_store.specs.Standing.{Stands, Leaves, IsBeside};
+    ghost use Rattle.plant_desk_store.specs.Left.{never_nothing, spared_leaves};
+
+    ghost honest = { λ d. HasCleanDisk (state S.Store d.connection) };
+
+    ghost stands = { λ d. Stands (state S.Store d.connection) d.is_shut };
+
+    ghost schema = { λ _. newest_schema };
+
+    ghost shut = { λ d. d.is_shut };
+
+    ghost leaves = { λ d states. Leaves (state S.Store d.connection) states };
+
+    ghost has_store = { true };
+
+    ghost spares = { λ a b. Survives (state S.Store a.connection) (state S.Store b.connection) (λ _. ⊥) };
+
+    // Tables of other names, as they stand in a database.
+    ghost Beside = { Database };
+
+    ghost beside = { λ d before. IsBeside (state S.Store d.connection) d.is_shut before };
+
+    fn execute(&mut self, envelope: &Envelope) -> Result<Reply, DeskFault> {
+        if self.is_shut {
+            return Err(DeskFault::Shut);
+        }
+        let answer = execute_on(self.alloc, &mut self.connection, envelope);
+        self.is_shut = is_store_fault(&answer);
+        answer
+    }
+
+    fn ask(&mut self, question: &Question) -> Result<Answer, DeskFault> {
+        if self.is_shut {
+            return Err(DeskFault::Shut);
+        }
+        ask_on(self.alloc, &mut self.connection, question)
+    }
+
+    ghost leaves_state = { λ d s h is_open stood. stood.1 is_open };
+
+    ghost leaves_something = { λ d left. never_nothing _ left };
+
+    ghost spares_leaves = { λ a b s clean spares left. spared_leaves _ _ (λ u. u ≡ s) left clean spares (S.Store.survives b.connection.store) };
+}

@@ -1,0 +1,147 @@
+-- Rows that break no rule are those of a good state's tables.
+use Rattle.std.proofs.Common.{◌≡◌, ◌∙◌, ◌≤◌, true, map, Option, Some, None, is_some, refl, sym, ap, subst}
+use Rattle.std.specs.List.{AllByRecursion}
+use Rattle.plant_base.specs.Values.{greatest_sublot}
+use Rattle.plant_base.specs.State.{newest_schema, batch_order, place_order}
+use Rattle.plant_base.specs.declared.rows.Place.{Place}
+use Rattle.plant_base.proofs.Put.{all_weaker}
+use Rattle.plant_view.specs.Genealogy.{edges_among}
+use Rattle.plant_view.specs.Sound.{IsSound}
+use Rattle.plant_view.specs.Tables.{tables_of}
+use Rattle.plant_view.proofs.Rows.{all_mapped, each_passes, sorted_mapped}
+use Rattle.plant_good.specs.Good.{IsGood}
+use Rattle.plant_good.specs.Valued.{HasRowValues, HasPlaceValues, HasMovementValues}
+use Rattle.table_forms.specs.Standing.{Stands}
+use Rattle.plant_tables.specs.DeskTables.{contents_of}
+use Rattle.plant_tables_judged.specs.Booked.{movement_from, booked_of}
+use Rattle.plant_tables_judged.specs.Collecting.{Rows, rows_from, tables_in, AreWhole, AreInOrder}
+use Rattle.plant_tables_judged.specs.Judging.{only_meta}
+use Rattle.plant_tables_judged.specs.declared.booked.BookedRow.{BookedRow}
+use Rattle.plant_tables_judged.proofs.StandLemmas.{stands_for}
+use Rattle.plant_check.specs.Broken.{movements_in, broken_rows, first_broken_of, first_broken}
+use Rattle.plant_check.specs.Ends.{are_stocks}
+use Rattle.plant_check.specs.Lots.{are_lots}
+use Rattle.plant_check.proofs.Cycles.{to_acyclic}
+use Rattle.plant_good_found.specs.Restoring.{state_in, place_of_sublot, batch_without_columns, UnbrokenIsRead, UnbrokenIsGood, UnbrokenHolds}
+use Rattle.plant_good_found.proofs.Batches.{control_numbered, sound_batches}
+use Rattle.plant_good_found.proofs.Booking.{all_booked, movement_values}
+use Rattle.plant_good_found.proofs.Histories.{witnessed, sound_runs, same_batches}
+use Rattle.plant_good_found.proofs.Lots.{classes_found, lots_defined, sublots_housed, holds_placed, sound_births}
+use Rattle.plant_good_found.proofs.Members.{all_gathered}
+use Rattle.plant_good_found.proofs.Moments.{sound_moments}
+use Rattle.plant_good_found.proofs.Movements.{tested_movement, all_named, all_batched, all_one_material, all_kept, all_covered, all_small, same_sublots}
+use Rattle.plant_good_found.proofs.Numbers as numbers
+use Rattle.plant_good_found.proofs.Orders.{sound_orders}
+use Rattle.plant_good_found.proofs.Passing.{PassesAll, obeyed, passes_all}
+use Rattle.plant_good_found.proofs.Recipes.{sound_recipes}
+use Rattle.plant_good_found.proofs.Recipes as recipes
+use Rattle.plant_good_found.proofs.Rising.{in_order}
+use Rattle.plant_good_found.proofs.Values.{HaveValues, HasSublotValues, HasBookedValues, have_values}
+
+module _ (r : Rows) (p : PassesAll r) where
+  whole_movements : AllByRecursion (λ m. is_some (movement_from m) ≡ true) r.movements
+  whole_movements = each_passes (λ m. is_some (movement_from m)) r.movements p.whole
+
+  -- the rows of table movement are those that book the movements
+  booked : r.movements ≡ map booked_of (movements_in r.movements)
+  booked = all_booked r.movements whole_movements
+
+  stocks : are_stocks (map booked_of (movements_in r.movements)) r.sublots ≡ true
+  stocks = subst (λ rows. are_stocks rows r.sublots ≡ true) booked p.stocks
+
+  lots : are_lots r.definitions r.lots r.sublots r.holds (map booked_of (movements_in r.movements)) ≡ true
+  lots = subst (λ rows. are_lots r.definitions r.lots r.sublots r.holds rows ≡ true) booked p.lots
+
+  whole : AreWhole r
+  whole = record {
+    master_lines = recipes.lines_numbered r.definitions r.recipes r.master_lines p.recipes;
+    control_lines = control_numbered r.recipes r.master_lines r.jobs r.batches r.control_lines p.batches;
+    movement_lines = subst (AllByRecursion (λ (m : BookedRow). 1 ≤ m.line)) (sym booked) (all_mapped (λ (m : BookedRow). 1 ≤ m.line) booked_of (movements_in r.movements) (numbers.lines_numbered r.meta.position.seq r.events (movements_in r.movements) p.numbers));
+    movements = whole_movements;
+  }
+
+  module _ (v : HaveValues r) where
+    values_moved : AllByRecursion HasMovementValues (movements_in r.movements)
+    values_moved = all_gathered movement_from HasBookedValues HasMovementValues movement_values r.movements v.movements
+
+    values : HasRowValues (state_in r)
+    values = record {
+      seq = v.meta.seq;
+      at = v.meta.at;
+      classes = v.classes;
+      definitions = v.definitions;
+      master_lines = v.master_lines;
+      control_lines = v.control_lines;
+      events = v.events;
+      lots = v.lots;
+      places = all_mapped HasPlaceValues place_of_sublot r.sublots (all_weaker HasSublotValues (λ s. HasPlaceValues (place_of_sublot s)) (λ s h. record { lot = h.lot; number = h.number; place = h.place }) r.sublots v.sublots);
+      movements = values_moved;
+      holds = v.holds;
+    }
+
+    module _ (o : AreInOrder (tables_in r)) where
+      sound : IsSound (state_in r)
+      sound = record {
+        classes = o.keyed.classes;
+        definitions = o.keyed.definitions;
+        lots = o.keyed.lots;
+        places = sorted_mapped place_order place_of_sublot r.sublots o.keyed.sublots;
+        holds = o.keyed.holds;
+        classified = classes_found r.classes r.definitions p.classes;
+        defined = lots_defined r.definitions r.lots r.sublots r.holds (movements_in r.movements) lots;
+        housed = sublots_housed r.definitions r.lots r.sublots r.holds (movements_in r.movements) lots;
+        placed = holds_placed r.definitions r.lots r.sublots r.holds (movements_in r.movements) lots;
+        numbered = all_mapped (λ (q : Place). q.number ≤ greatest_sublot) place_of_sublot r.sublots (all_weaker HasSublotValues (λ s. s.number ≤ greatest_sublot) (λ s h. h.number) r.sublots v.sublots);
+        named = all_named r p.movements;
+        one_material = all_one_material r p.movements;
+        small = all_small r p.movements stocks lots values_moved;
+        covered = all_covered r p.movements stocks;
+        recipes = sound_recipes r.definitions r.recipes r.master_lines p.recipes v.recipes v.master_lines o.keyed.recipes o.keyed.master_lines;
+        orders = sound_orders r.recipes r.batches r.jobs p.orders o.keyed.jobs v.jobs;
+        batches = sound_batches r.recipes r.master_lines r.jobs r.batches r.control_lines p.batches r.events (sorted_mapped batch_order batch_without_columns r.batches o.keyed.batches) o.keyed.control_lines v.batches
+            (witnessed r.recipes r.master_lines r.jobs r.batches r.control_lines r.events p.batches p.orders p.events);
+        runs = sound_runs r.recipes r.master_lines r.jobs r.batches r.control_lines r.events p.batches p.orders p.events;
+        genealogy = record { batched = all_batched r p.movements; acyclic = to_acyclic (edges_among (movements_in r.movements)) p.descent };
+      }
+
+      good : IsGood (state_in r)
+      good = record {
+        sound = sound;
+        values = values;
+        births = sound_births r.definitions r.lots r.sublots r.holds (movements_in r.movements) lots;
+        kept = all_kept r p.movements;
+        numbers = numbers.sound_numbers r.meta.position.seq r.events (movements_in r.movements) p.numbers o.movements o.events (λ m h. (tested_movement r p.movements m h).merge);
+        moments = sound_moments r.meta.position.at (movements_in r.movements) r.events r.batches r.holds p.times;
+      }
+
+  same_tables : r.meta.schema ≡ newest_schema → tables_in r ≡ tables_of newest_schema (state_in r)
+  same_tables newest =
+      let batches = same_batches r.recipes r.master_lines r.jobs r.batches r.control_lines r.events p.batches p.orders p.events in
+      let sublots = same_sublots r p.movements stocks in
+      λ i. record (tables_in r) { meta = record r.meta { schema = newest i }; batches = sym batches i; sublots = sym sublots i }
+
+pub unbroken_good : UnbrokenIsGood
+unbroken_good x r u =
+    let p = passes_all r u.unbroken in
+    let w = whole r p in
+    record {
+      good = good r p (have_values x r u.read) (in_order x r u.rising u.read w);
+      whole = w;
+      tables = same_tables r p u.newest;
+    }
+
+pub unbroken_holds : UnbrokenHolds
+unbroken_holds db x r u stand =
+    let g = unbroken_good x r u in
+    record {
+      sound = stand.sound;
+      each = λ i form e. subst (Stands db form) (stands_for x r u.read g.whole i ∙ ap (λ t. contents_of t i) g.tables) (stand.each i form e);
+    }
+
+rows_of : (rows : Option Rows) → broken_rows rows ≡ None → (r : Rows) × (rows ≡ Some r) × (first_broken_of r ≡ None)
+rows_of None e = absurd (cc)
+rows_of (Some r) e = (r, refl, e)
+
+pub unbroken_read : UnbrokenIsRead
+unfolding first_broken
+unbroken_read x e = rows_of (rows_from x) (obeyed (is_some (only_meta x.meta.items)) _ _ e).1

@@ -1,0 +1,73 @@
+-- The state whose tables are the rows that were loaded.
+use Rattle.std.specs.Prelude.{◌≡◌, Some, None, map}
+use Rattle.std.specs.List.{filter_map}
+use Rattle.sqlite.specs.Effect.{Database}
+use Rattle.plant_base.specs.State.{State, newest_schema}
+use Rattle.plant_base.specs.declared.rows.Batch.{Batch}
+use Rattle.plant_base.specs.declared.rows.BatchRow.{BatchRow}
+use Rattle.plant_base.specs.declared.rows.Place.{Place}
+use Rattle.plant_base.specs.declared.rows.Sublot.{Sublot}
+use Rattle.plant_view.specs.Tables.{tables_of}
+use Rattle.plant_good.specs.Good.{IsGood}
+use Rattle.table_forms.specs.Standing.{StandIn}
+use Rattle.plant_tables.specs.DeskForms.{desk_forms}
+use Rattle.plant_tables.specs.Keyed.{HoldsTables}
+use Rattle.plant_tables_stored.specs.Loading.{AreRising, contents_loaded}
+use Rattle.plant_tables_stored.specs.declared.loaded.Loaded.{Loaded}
+use Rattle.plant_tables_judged.specs.Booked.{movement_from}
+use Rattle.plant_tables_judged.specs.Collecting.{Rows, rows_from, tables_in, AreWhole}
+use Rattle.plant_check.specs.Broken.{first_broken, first_broken_of}
+
+-- a batch without the columns that its events tell
+abbrev pub batch_without_columns : BatchRow → Batch
+batch_without_columns r = r.batch
+
+-- a sublot without its stock
+abbrev pub place_of_sublot : Sublot → Place
+place_of_sublot s = record { lot = s.lot; number = s.number; place = s.place }
+
+-- the rows without the columns that follow from others
+abbrev pub state_in : Rows → State
+state_in r = record {
+  seq = r.meta.position.seq;
+  at = r.meta.position.at;
+  classes = r.classes;
+  definitions = r.definitions;
+  recipes = r.recipes;
+  master_lines = r.master_lines;
+  jobs = r.jobs;
+  batches = map batch_without_columns r.batches;
+  control_lines = r.control_lines;
+  events = r.events;
+  lots = r.lots;
+  places = map place_of_sublot r.sublots;
+  movements = filter_map movement_from r.movements;
+  holds = r.holds;
+}
+
+-- the rows are those of a good state's tables
+pub record AreOfGood (r : Rows) : Type 0 where
+  pub good : IsGood (state_in r)
+  pub whole : AreWhole r
+  pub tables : tables_in r ≡ tables_of newest_schema (state_in r)
+
+-- these rows of the newest schema were loaded, each table by its key, and break no rule
+pub record AreUnbroken (x : Loaded) (r : Rows) : Type 0 where
+  pub rising : AreRising x
+  pub read : rows_from x ≡ Some r
+  pub unbroken : first_broken_of r ≡ None
+  pub newest : r.meta.schema ≡ newest_schema
+
+-- ---- laws
+
+-- what breaks no rule was read as rows that break none
+abbrev pub UnbrokenIsRead : Type 0
+UnbrokenIsRead = (x : Loaded) → first_broken x ≡ None → (r : Rows) × (rows_from x ≡ Some r) × (first_broken_of r ≡ None)
+
+-- rows that break no rule are those of a good state's tables
+abbrev pub UnbrokenIsGood : Type 0
+UnbrokenIsGood = (x : Loaded) (r : Rows) → AreUnbroken x r → AreOfGood r
+
+-- and the database that they were loaded from holds these tables
+abbrev pub UnbrokenHolds : Type 0
+UnbrokenHolds = (db : Database) (x : Loaded) (r : Rows) → AreUnbroken x r → StandIn desk_forms db (contents_loaded x) → HoldsTables db (tables_of newest_schema (state_in r))

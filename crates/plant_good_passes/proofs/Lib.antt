@@ -1,0 +1,13 @@
+mod Batches
+mod Descent
+mod Events
+mod Lots
+mod Movements
+mod Numbers
+mod Orders
+mod Recipes
+mod Stocks
+mod Testing
+mod Times
+pub mod Unbroken
+mod Values

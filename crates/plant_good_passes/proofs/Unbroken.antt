@@ -1,0 +1,81 @@
+-- The tables of a good state break no rule, and are read again.
+use Rattle.std.proofs.Common.{◌≡◌, ◌∙◌, Bool, true, Option, Some, None, is_some, refl, ap}
+use Rattle.std.proofs.lemmas.Bool.{and_from}
+use Rattle.sqlite.specs.Effect.{Database}
+use Rattle.plant_base.specs.State.{State, newest_schema}
+use Rattle.plant_base.specs.declared.rows.Meta.{Meta}
+use Rattle.plant_view.specs.Genealogy.{edges_among}
+use Rattle.plant_view.specs.Tables.{tables_of}
+use Rattle.plant_good.specs.Good.{IsGood}
+use Rattle.plant_tables.specs.Keyed.{HoldsTables}
+use Rattle.plant_tables_stored.specs.Loading.{AreLoaded}
+use Rattle.plant_tables_stored.specs.declared.loaded.Loaded.{Loaded}
+use Rattle.plant_tables_judged.specs.Collecting.{Rows, rows_from, rows_in}
+use Rattle.plant_tables_judged.specs.Judging.{only_meta}
+use Rattle.plant_tables_judged.proofs.AgainLemmas.{read_again}
+use Rattle.plant_check.specs.Broken.{unless, or_else, are_acyclic, broken_plan, broken_lot, broken_history, first_broken_of, are_right_movements, are_right_numbers, broken_rows, first_broken}
+use Rattle.plant_check.specs.declared.rule.Rule.{Rule}
+use Rattle.plant_check.specs.declared.rule.Rule.TheVariants as rule
+use Rattle.plant_good_passes.proofs.Values.{in_order, good_values}
+use Rattle.plant_good_passes.proofs.Recipes.{classes_pass, recipes_pass}
+use Rattle.plant_good_passes.proofs.Orders.{orders_pass}
+use Rattle.plant_good_passes.proofs.Batches.{batches_pass}
+use Rattle.plant_good_passes.proofs.Events.{events_pass}
+use Rattle.plant_good_passes.proofs.Stocks.{stocks_pass}
+use Rattle.plant_good_passes.proofs.Lots.{lots_pass}
+use Rattle.plant_good_passes.proofs.Movements.{whole_pass, movements_pass}
+use Rattle.plant_good_passes.proofs.Numbers.{numbers_pass}
+use Rattle.plant_good_passes.proofs.Times.{times_pass}
+use Rattle.plant_good_passes.proofs.Descent.{movements_again, descent_passes}
+
+-- a rule that is obeyed is passed over
+obeyed : (b : Bool) (r : Rule) (rest : Option Rule) → b ≡ true → rest ≡ None → unless b r rest ≡ None
+obeyed b r rest e f = ap (λ x. unless x r rest) e ∙ f
+
+module _ (s : State) (good : IsGood s) where
+  abbrev rows : Rows
+  rows = rows_in (tables_of newest_schema s)
+
+  plan_unbroken : broken_plan rows ≡ None
+  unfolding broken_plan
+  plan_unbroken =
+      obeyed _ rule.Classes _ (classes_pass s good.sound)
+      (obeyed _ rule.Recipes _ (recipes_pass s good.sound)
+      (obeyed _ rule.Orders _ (orders_pass s good.sound)
+      (obeyed _ rule.Batches _ (batches_pass s good.sound) refl)))
+
+  lot_unbroken : broken_lot rows ≡ None
+  unfolding broken_lot
+  lot_unbroken = obeyed _ rule.Stocks _ (stocks_pass s good.sound) (obeyed _ rule.Lots _ (lots_pass s good) refl)
+
+  history_unbroken : broken_history rows ≡ None
+  unfolding broken_history
+  history_unbroken =
+      let again = movements_again s in
+      obeyed _ rule.Movements _ (ap (are_right_movements rows) again ∙ and_from _ _ (whole_pass s.movements) (movements_pass s good))
+      (obeyed _ rule.Events _ (events_pass s good.sound)
+      (obeyed _ rule.Numbers _ (ap (are_right_numbers rows) again ∙ and_from _ _ (numbers_pass s good) (times_pass s good))
+      (obeyed _ rule.Descent _ (ap (λ ms. are_acyclic (edges_among ms)) again ∙ descent_passes s good.sound) refl)))
+
+  pub good_unbroken : first_broken_of rows ≡ None
+  unfolding first_broken_of
+  good_unbroken =
+      ap (λ o. or_else o (or_else (broken_lot rows) (broken_history rows))) plan_unbroken
+      ∙ ap (λ o. or_else o (broken_history rows)) lot_unbroken
+      ∙ history_unbroken
+
+-- rows that are read have a meta
+meta_read : (x : Loaded) (r : Rows) → rows_from x ≡ Some r → is_some (only_meta x.meta.items) ≡ true
+unfolding rows_from
+meta_read x r read = by (only_meta x.meta.items) refl
+  where
+    by : (o : Option Meta) → only_meta x.meta.items ≡ o → is_some o ≡ true
+    by (Some meta) e = refl
+    by None e = let none : rows_from x ≡ None = rw e refl in absurd cc
+
+pub read_good : (db : Database) (s : State) (x : Loaded) → IsGood s → HoldsTables db (tables_of newest_schema s) → AreLoaded db x
+    → (rows_from x ≡ Some (rows_in (tables_of newest_schema s))) × (first_broken x ≡ None)
+unfolding first_broken
+read_good db s x good holds loaded =
+    let read = read_again db (tables_of newest_schema s) holds (in_order s good) (good_values s good) x loaded in
+    (read, obeyed _ rule.Tables _ (meta_read x (rows_in (tables_of newest_schema s)) read) (ap broken_rows read ∙ good_unbroken s good))

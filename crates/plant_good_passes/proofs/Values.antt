@@ -1,0 +1,241 @@
+-- The values of a good state's tables, and the order of their rows.
+use Rattle.std.proofs.Common.{◌≡◌, ◌∙◌, ℕ, ◌+◌, ◌≤◌, true, List, [], ◌∷◌, Option, Some, None, is_some, map, length, refl, sym, ap, subst, arith}
+use Rattle.std.specs.Prelude.{◌&&◌, ◌==◌, ◌^◌, nat_le}
+use Rattle.std.specs.List.{AllByRecursion}
+use Rattle.std.proofs.lemmas.Bool.{false≢true, le-leb, leb-true, eq-eqb, and_from}
+use Rattle.std.proofs.lemmas.List.{length-map}
+use Rattle.plant_base.specs.State.{State, same, newest_schema, batch_at}
+use Rattle.plant_base.specs.Values.{greatest_seq}
+use Rattle.plant_base.specs.declared.rows.Header.{Header}
+use Rattle.plant_base.specs.declared.rows.RecipeLine.{RecipeLine}
+use Rattle.plant_base.specs.declared.rows.Recipe.{Recipe}
+use Rattle.plant_base.specs.declared.rows.MasterLine.{MasterLine}
+use Rattle.plant_base.specs.declared.rows.Job.{Job}
+use Rattle.plant_base.specs.declared.rows.Batch.{Batch}
+use Rattle.plant_base.specs.declared.rows.ControlLine.{ControlLine}
+use Rattle.plant_base.specs.declared.rows.BatchEvent.{BatchEvent}
+use Rattle.plant_base.specs.declared.rows.Movement.{Movement}
+use Rattle.plant_base.specs.declared.rows.MovementKind.{MovementKind}
+use Rattle.plant_base.specs.declared.rows.MovementKind.TheVariants as kind
+use Rattle.plant_base.specs.declared.states.Event.{Event}
+use Rattle.plant_base.specs.declared.states.Event.TheVariants as event
+use Rattle.plant_base.specs.declared.rows.Place.{Place}
+use Rattle.plant_base.specs.declared.rows.Sublot.{Sublot}
+use Rattle.plant_base.proofs.Put.{all_weaker}
+use Rattle.plant_base.proofs.Find.{found_passes, found_keeps}
+use Rattle.plant_base.proofs.Keys.{same_id, same_key, same_itself, key_itself}
+use Rattle.plant_recipe.specs.Form.{is_well_formed, greatest_lines}
+use Rattle.plant_recipe.proofs.Lines.{keeps_procedure}
+use Rattle.plant_view.specs.Production.{headers_of, header_among, orders_of, rows_among, lines_among, master_line, control_line, control_among, IsWholeRecipe, HasGoodOrder, IsSoundBatch, is_batch_among}
+use Rattle.plant_view.specs.Rows.{numbered}
+use Rattle.plant_view.specs.Tables.{tables_of, batch_row, sublot_row}
+use Rattle.plant_view.proofs.KeptSound.{all_two}
+use Rattle.plant_view.proofs.Rows.{all_mapped, all_unmapped}
+use Rattle.plant_view.proofs.Tests.{and_left, and_right}
+use Rattle.plant_rules_production.proofs.ControlMade.{control_made}
+use Rattle.plant_good.specs.Valued as kept
+use Rattle.plant_good.specs.Bookings.{AreCounted, booked}
+use Rattle.plant_good.specs.Columns.{HasProgressValues}
+use Rattle.plant_good.specs.Good.{IsGood}
+use Rattle.plant_good.proofs.KeptColumns.{columns}
+use Rattle.plant_good.proofs.Listing.{all_swap, all_passing}
+use Rattle.plant_good_keys.proofs.TableKeys.{keyed}
+use Rattle.plant_tables_judged.specs.Reading.{is_in}
+use Rattle.plant_tables_judged.specs.Collecting.{AreInOrder}
+use Rattle.plant_tables_judged.specs.Obeying.{HasClassValues, HasDefinitionValues, HasRecipeValues, IsLineNumber, HasMasterLineValues, HasBatchRowValues, HasControlLineValues, HasPhase, HasEventValues, HasLotValues, HasSublotValues, HasKindValues, HasMovementValues, HasHoldValues, HasGoodValues}
+
+-- ---- order
+
+pub in_order : (s : State) → IsGood s → AreInOrder (tables_of newest_schema s)
+in_order s good = record { keyed = keyed s good.sound; events = good.numbers.events; movements = good.numbers.movements }
+
+-- ---- numbers of lines
+
+in_range : (low high n : ℕ) → low ≤ n → n ≤ high → is_in low high n ≡ true
+in_range low high n l h = and_from (nat_le low n) (nat_le n high) (le-leb low n l) (le-leb n high h)
+
+few_lines : (h : Header) (lines : List RecipeLine) → is_well_formed h lines ≡ true → length lines ≤ greatest_lines
+few_lines h lines formed = leb-true (length lines) greatest_lines (and_right _ _ (and_left _ _ (and_left _ _ (and_left _ _ (and_left _ _ (and_left _ _ formed))))))
+
+-- rows that are numbered from 1 on have numbers of lines
+module _ {L R : Type 0} (f : ℕ → L → R) (number_of : R → ℕ) (is_numbered : (k : ℕ) (l : L) → number_of (f k l) ≡ k) where
+  numbers_small : (k : ℕ) (ls : List L) → 1 ≤ k → k + length ls ≤ 65536 → AllByRecursion (λ r. IsLineNumber (number_of r)) (numbered f k ls)
+  numbers_small k [] low high = tt
+  numbers_small k (l ∷ ls) low high = (ap (is_in 1 65535) (is_numbered k l) ∙ in_range 1 65535 k low (omega (arith, high)), numbers_small (k + 1) ls (omega (arith, low)) (omega (arith, high)))
+
+-- numbers that count from 1 on
+counted_small : (k : ℕ) (ns : List ℕ) → AreCounted k ns → 1 ≤ k → k + length ns ≤ 65536 → AllByRecursion IsLineNumber ns
+counted_small k [] counted low high = tt
+counted_small k (n ∷ ns) counted low high = (ap (is_in 1 65535) counted.0 ∙ in_range 1 65535 k low (omega (arith, high)), counted_small (k + 1) ns counted.1 (omega (arith, low)) (omega (arith, high)))
+
+-- ---- rows
+
+phase_values : (e : Event) → kept.HasPhaseNumber e → HasPhase e
+phase_values (event.Moved word) h = tt
+phase_values (event.PhaseDone phase) h = h
+phase_values event.Closed h = tt
+
+kind_values : (k : MovementKind) → kept.HasKindValues k → HasKindValues k
+kind_values kind.Received h = tt
+kind_values (kind.Consumed batch) h = h
+kind_values (kind.Produced batch) h = h
+kind_values kind.Scrapped h = tt
+kind_values (kind.Divided to) h = le-leb to 99 h
+kind_values (kind.Split to) h = h
+kind_values (kind.Merged to) h = h
+
+module _ (s : State) (good : IsGood s) where
+  seq_values : (n : ℕ) → n ≤ s.seq → nat_le n greatest_seq ≡ true
+  seq_values n h = let limit : s.seq ≤ greatest_seq = good.values.seq in le-leb n greatest_seq (omega (arith, h, limit))
+
+  -- ---- recipes
+
+  -- a recipe that is whole
+  abbrev Whole : Type 0
+  Whole = (h : Header) × IsWholeRecipe s.definitions s.master_lines h
+
+  recipe_numbers : (r : Whole) → AllByRecursion (λ l. IsLineNumber l.number) (rows_among s.master_lines r.0.recipe r.0.version)
+  recipe_numbers r =
+      let lines = lines_among s.master_lines r.0.recipe r.0.version in
+      let few : length lines ≤ 128 = few_lines r.0 lines r.1.formed in
+      subst (AllByRecursion (λ (l : MasterLine). IsLineNumber l.number)) (sym r.1.numbered) (numbers_small (master_line r.0) (λ l. l.number) (λ k l. refl) 1 lines (omega arith) (omega (arith, few)))
+
+  numbered_by_recipe : AllByRecursion (λ l. (r : Whole) → (same l.recipe r.0.recipe && l.version == r.0.version) ≡ true → IsLineNumber l.number) s.master_lines
+  numbered_by_recipe = all_swap (λ (r : Whole) (l : MasterLine). (same l.recipe r.0.recipe && l.version == r.0.version) ≡ true → IsLineNumber l.number) s.master_lines
+      (λ r. all_passing (λ (l : MasterLine). IsLineNumber l.number) (λ (l : MasterLine). same l.recipe r.0.recipe && l.version == r.0.version) s.master_lines (recipe_numbers r))
+
+  master_number : (l : MasterLine) → is_some (header_among (headers_of s.recipes) l.recipe l.version) ≡ true → ((r : Whole) → (same l.recipe r.0.recipe && l.version == r.0.version) ≡ true → IsLineNumber l.number) → IsLineNumber l.number
+  master_number l listed small = by (header_among (headers_of s.recipes) l.recipe l.version) refl listed
+    where
+      by : (o : Option Header) → header_among (headers_of s.recipes) l.recipe l.version ≡ o → is_some o ≡ true → IsLineNumber l.number
+      by None e there = absurd (false≢true there)
+      by (Some h) e there =
+          let own = λ (x : Header). same x.recipe l.recipe && x.version == l.version in
+          let keys = same_key h.recipe l.recipe h.version l.version (found_passes own (headers_of s.recipes) h e) in
+          let whole = found_keeps (IsWholeRecipe s.definitions s.master_lines) own (headers_of s.recipes) h good.sound.recipes.whole e in
+          small (h, whole) ((λ i. same l.recipe (keys.0 i) && l.version == keys.1 i) ∙ key_itself l.recipe l.version)
+
+  master_lines : AllByRecursion HasMasterLineValues s.master_lines
+  master_lines = all_two _ _ HasMasterLineValues (λ (l : MasterLine) v n. record { recipe = v.recipe; version = v.version; number = n; line = v.line }) s.master_lines good.values.master_lines
+      (all_two _ _ _ master_number s.master_lines good.sound.recipes.listed numbered_by_recipe)
+
+  recipes : AllByRecursion HasRecipeValues s.recipes
+  recipes = all_weaker (λ (r : Recipe). IsWholeRecipe s.definitions s.master_lines r.header) HasRecipeValues (λ r w. record { header = w.values; version = w.version }) s.recipes
+      (all_unmapped (IsWholeRecipe s.definitions s.master_lines) (λ (r : Recipe). r.header) s.recipes good.sound.recipes.whole)
+
+  -- ---- batches
+
+  -- a batch that is found by an id
+  abbrev Released : Type 0
+  Released = (id : List ℕ) × (b : Batch) × (batch_at s id ≡ Some b)
+
+  abbrev SoundBatch : Batch → Type 0
+  SoundBatch = IsSoundBatch (headers_of s.recipes) s.master_lines (orders_of s.jobs) s.batches s.control_lines
+
+  control_numbers : (r : Released) → AllByRecursion (λ l. IsLineNumber l.number) (control_among s.control_lines r.0)
+  control_numbers r =
+      let own = λ (x : Batch). same x.id r.0 in
+      let key : r.1.id ≡ r.0 = same_id r.1.id r.0 (found_passes own s.batches r.1 r.2) in
+      let its = found_keeps SoundBatch own s.batches r.1 good.sound.batches.each r.2 in
+      let lines = map (λ (l : ControlLine). l.line) (control_among s.control_lines r.0) in
+      let made = control_made s good.sound r.0 r.1 r.2 in
+      let copied : length lines ≡ length made.lines = (keeps_procedure made.header made.lines lines made.size made.made).0 in
+      let few : length made.lines ≤ 128 = few_lines made.header made.lines made.formed in
+      let rows : control_among s.control_lines r.0 ≡ numbered (control_line r.0) 1 lines = subst (λ i. control_among s.control_lines i ≡ numbered (control_line i) 1 (map (λ (l : ControlLine). l.line) (control_among s.control_lines i))) key its.numbered in
+      subst (AllByRecursion (λ (l : ControlLine). IsLineNumber l.number)) (sym rows) (numbers_small (control_line r.0) (λ l. l.number) (λ k l. refl) 1 lines (omega arith) (omega (arith, few, copied)))
+
+  numbered_by_batch : AllByRecursion (λ l. (r : Released) → same l.batch r.0 ≡ true → IsLineNumber l.number) s.control_lines
+  numbered_by_batch = all_swap (λ (r : Released) (l : ControlLine). same l.batch r.0 ≡ true → IsLineNumber l.number) s.control_lines
+      (λ r. all_passing (λ (l : ControlLine). IsLineNumber l.number) (λ (l : ControlLine). same l.batch r.0) s.control_lines (control_numbers r))
+
+  control_number : (l : ControlLine) → is_batch_among s.batches l.batch ≡ true → ((r : Released) → same l.batch r.0 ≡ true → IsLineNumber l.number) → IsLineNumber l.number
+  control_number l known small = by (batch_at s l.batch) refl known
+    where
+      by : (o : Option Batch) → batch_at s l.batch ≡ o → is_some o ≡ true → IsLineNumber l.number
+      by None e there = absurd (false≢true there)
+      by (Some b) e there = small (l.batch, b, e) (same_itself l.batch)
+
+  control_lines : AllByRecursion HasControlLineValues s.control_lines
+  control_lines = all_two _ _ HasControlLineValues (λ (l : ControlLine) v n. record { batch = v.batch; number = n; line = v.line }) s.control_lines good.values.control_lines
+      (all_two _ _ _ control_number s.control_lines good.sound.batches.controlled numbered_by_batch)
+
+  batches : AllByRecursion HasBatchRowValues (tables_of newest_schema s).batches
+  batches =
+      let row = batch_row s.control_lines s.events in
+      let progress = all_unmapped HasProgressValues row s.batches (columns s good).progress in
+      all_mapped HasBatchRowValues row s.batches
+      (all_two SoundBatch (λ b. HasProgressValues (row b)) (λ b. HasBatchRowValues (row b)) (λ b w p. record {
+        batch = w.values;
+        attempt = in_range 1 99 (row b).attempt p.first_attempt p.last_attempt;
+        next = in_range 1 128 (row b).next p.first_phase p.last_phase;
+      }) s.batches good.sound.batches.each progress)
+
+  events : AllByRecursion HasEventValues s.events
+  events = all_two _ _ HasEventValues (λ (e : BatchEvent) given v. record {
+    seq = seq_values e.seq given.1;
+    batch = v.batch;
+    phase = phase_values e.event v.phase;
+    at = v.at;
+    by = v.by;
+    note = v.note;
+  }) s.events good.numbers.events_given good.values.events
+
+  -- ---- stocks
+
+  sublots : AllByRecursion HasSublotValues (tables_of newest_schema s).sublots
+  sublots =
+      let row = sublot_row s.movements in
+      let stocks = all_unmapped (λ (r : Sublot). r.stock ≤ 10 ^ 12) row s.places (columns s good).stocks in
+      all_mapped HasSublotValues row s.places
+      (all_two kept.HasPlaceValues _ (λ (p : Place). HasSublotValues (row p)) (λ p v small. record {
+        lot = v.lot;
+        number = le-leb p.number 99 v.number;
+        place = v.place;
+        stock = le-leb (row p).stock (10 ^ 12) small;
+      }) s.places good.values.places stocks)
+
+  line_of_booking : (number : ℕ) → AllByRecursion (λ m. (m.seq == number) ≡ true → IsLineNumber m.line) s.movements
+  line_of_booking number =
+      let booking = good.numbers.bookings number in
+      let lines = booked s.movements number in
+      let few : length lines ≤ 16 = booking.few in
+      let long : length (map (λ (m : Movement). m.line) lines) ≡ length lines = length-map lines (λ (m : Movement). m.line) in
+      all_passing (λ (m : Movement). IsLineNumber m.line) (λ (m : Movement). m.seq == number) s.movements
+      (all_unmapped IsLineNumber (λ (m : Movement). m.line) lines (counted_small 1 (map (λ (m : Movement). m.line) lines) booking.numbered (omega arith) (omega (arith, few, long))))
+
+  movement_lines : AllByRecursion (λ m. IsLineNumber m.line) s.movements
+  movement_lines = all_weaker _ (λ (m : Movement). IsLineNumber m.line) (λ m small. small m.seq (eq-eqb m.seq m.seq refl)) s.movements
+      (all_swap (λ (number : ℕ) (m : Movement). (m.seq == number) ≡ true → IsLineNumber m.line) s.movements line_of_booking)
+
+  abbrev IsGivenLine : Movement → Type 0
+  IsGivenLine m = (m.seq ≤ s.seq) × IsLineNumber m.line
+
+  movements : AllByRecursion HasMovementValues s.movements
+  movements = all_two IsGivenLine _ HasMovementValues (λ (m : Movement) given v. record {
+    seq = seq_values m.seq given.0;
+    line = given.1;
+    kind = kind_values m.kind v.kind;
+    lot = v.lot;
+    sub = le-leb m.sub 99 v.sub;
+    amount = v.amount;
+    at = v.at;
+    by = v.by;
+    note = v.note;
+  }) s.movements (all_two _ _ IsGivenLine (λ (m : Movement) given line. (given.1, line)) s.movements good.numbers.movements_given movement_lines) good.values.movements
+
+  pub good_values : HasGoodValues (tables_of newest_schema s)
+  good_values = record {
+    meta = record { schema = refl; seq = seq_values s.seq (omega arith); at = good.values.at };
+    classes = all_weaker kept.HasClassValues HasClassValues (λ c v. record { id = v.id; name = v.name }) s.classes good.values.classes;
+    definitions = all_weaker kept.HasDefinitionValues HasDefinitionValues (λ d v. record { id = v.id; class = v.class; name = v.name; unit = v.unit }) s.definitions good.values.definitions;
+    recipes = recipes;
+    master_lines = master_lines;
+    jobs = all_unmapped HasGoodOrder (λ (j : Job). j.order) s.jobs good.sound.orders.values;
+    batches = batches;
+    control_lines = control_lines;
+    events = events;
+    lots = all_weaker kept.HasLotValues HasLotValues (λ l v. record { id = v.id; def = v.def }) s.lots good.values.lots;
+    sublots = sublots;
+    movements = movements;
+    holds = all_weaker kept.HasHoldValues HasHoldValues (λ h v. record { lot = v.lot; id = v.id; at = v.at; by = v.by; note = v.note }) s.holds good.values.holds;
+  }

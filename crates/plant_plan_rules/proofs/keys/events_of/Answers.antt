@@ -1,7 +1,0 @@
-use Rattle.std.proofs.Common.{◌∙◌}
-use Rattle.std.specs.Prelude.{filter}
-use Rattle.plant_plan_rules.proofs.Keying.{ids_tie}
-use Rattle.plant_plan_rules.proofs.keys.events_of.Goals as goal
-
-pub returns : goal.returns
-returns c = c.at.ensures ∙ (λ i. filter (λ e. ids_tie e.batch c.args.batch i) c.args.events.now.rows.now)

@@ -1,0 +1,34 @@
+ghost use Rattle.std.specs.Prelude.{◌≡◌, IfOk};
+ghost use Rattle.plant_trace.specs.Sources.{Told};
+ghost use Rattle.plant_rules_production.specs.Batches.{wrong_phase_done, phase_done};
+ghost use Rattle.plant_view.specs.Sound.{IsSound};
+ghost use Rattle.plant_view.specs.OneBatch.{PutsOneBatch};
+ghost use Rattle.plant_view.specs.Tables.{Decides};
+
+use crate::events::decide_event;
+use plant_base::{Event, PhaseDone, Stamp};
+use plant_view::{Decision, View, ViewFault};
+use std::alloc::Global;
+
+/// Decides that a phase of a batch was done.
+///
+/// It is refused as `UnknownBatch`, as `NotNextPhase` where the phase isn't the next one or none is left, as
+/// `BatchClosed`, as `WrongState` where the batch isn't running, and as `TooMany` where 10^15 commands were accepted.
+///
+/// It asks for a view of a sound state, as every state is that commands lead to. `seq` is the number of commands accepted
+/// so far. `ViewFault::View` comes where the view failed, `ViewFault::Memory` where memory was refused.
+pub fn decide_phase_done<V: View>(
+    alloc: Global,
+    view: &mut V,
+    seq: u64,
+    stamp: &Stamp,
+    c: &PhaseDone,
+) -> Result<Decision, ViewFault<V::Fault>>
+    requires seq { V.honest view.old → seq ≡ (V.state view.old).seq }
+    requires sound { V.honest view.old → IsSound (V.state view.old) }
+    ensures decides { Told V.honest V.kept V.steady view.old view.new
+        (IfOk result (Decides (wrong_phase_done (V.state view.old) c.now) (V.state view.old) (phase_done (V.state view.old) stamp.now c.now))) }
+    ensures one_batch { IfOk result PutsOneBatch }
+{
+    decide_event(alloc, view, seq, stamp, c.batch, Event::PhaseDone(c.phase))
+}

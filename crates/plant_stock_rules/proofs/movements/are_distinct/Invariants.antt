@@ -1,7 +1,0 @@
-use Rattle.std.proofs.Common.{◌≡◌, drop}
-use Rattle.plant_stock_rules.specs.Movements.{are_distinct}
-use Rattle.plant_stock_rules.proofs.movements.are_distinct.Given as goal
-
--- the parts so far are apart from all behind them
-abbrev pub invariant-loop-index : goal.invariant-loop-index
-invariant-loop-index l = are_distinct (drop l.index l.parts) ≡ are_distinct l.parts

@@ -1,0 +1,14 @@
+use Rattle.plant_tables_judged.proofs.KindLemmas.{movement_again}
+use Rattle.plant_tables_judged.proofs.StandLemmas.{stands_for}
+use Rattle.plant_tables_judged.proofs.AgainLemmas.{read_again}
+use Rattle.plant_tables_judged.proofs.WholeLemmas.{same_tables, whole_rows}
+use Rattle.plant_tables_judged.proofs.desk_rows.reading_laws.Goals as goal
+
+pub returns : goal.returns
+returns c = record {
+  stand_for = stands_for;
+  read_again = λ db t x holds ordered good are. read_again db t holds ordered good x are;
+  whole = whole_rows;
+  tables = same_tables;
+  booked = movement_again;
+}

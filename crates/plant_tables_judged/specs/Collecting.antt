@@ -1,0 +1,213 @@
+-- The rows of the desk that all stored rows stand for.
+use Rattle.std.specs.Prelude.{◌≡◌, ◌≤◌, true, List, [], ◌∷◌, Option, Some, map, is_some}
+use Rattle.std.specs.List.{AllByRecursion, filter_map}
+use Rattle.std.specs.List.Sorted.{IsStrictlySortedBy}
+use Rattle.std.specs.Ordering.{nat_cmp, ordering_then}
+use Rattle.std.specs.declared.cmp.Ordering.{Ordering}
+use Rattle.plant_base.specs.Dates.{◌>>=◌}
+use Rattle.plant_base.specs.declared.rows.Meta.{Meta}
+use Rattle.plant_base.specs.declared.rows.Class.{Class}
+use Rattle.plant_base.specs.declared.rows.Definition.{Definition}
+use Rattle.plant_base.specs.declared.rows.Recipe.{Recipe}
+use Rattle.plant_base.specs.declared.rows.MasterLine.{MasterLine}
+use Rattle.plant_base.specs.declared.rows.Job.{Job}
+use Rattle.plant_base.specs.declared.rows.BatchRow.{BatchRow}
+use Rattle.plant_base.specs.declared.rows.ControlLine.{ControlLine}
+use Rattle.plant_base.specs.declared.rows.BatchEvent.{BatchEvent}
+use Rattle.plant_base.specs.declared.rows.Lot.{Lot}
+use Rattle.plant_base.specs.declared.rows.Sublot.{Sublot}
+use Rattle.plant_base.specs.declared.rows.Movement.{Movement}
+use Rattle.plant_base.specs.declared.rows.Hold.{Hold}
+use Rattle.plant_view.specs.Tables.{Tables}
+use Rattle.plant_tables.specs.Keyed.{AreKeyed}
+use Rattle.plant_tables_stored.specs.declared.masters.Masters.{Masters}
+use Rattle.plant_tables_stored.specs.declared.orders.Orders.{Orders}
+use Rattle.plant_tables_stored.specs.declared.stocks.Stocks.{Stocks}
+use Rattle.plant_tables_stored.specs.declared.loaded.Loaded.{Loaded}
+use Rattle.plant_tables_judged.specs.Booked.{movement_from, booked_of}
+use Rattle.plant_tables_judged.specs.Judging.{only_meta, class_from, definition_from, recipe_from, master_line_from, job_from, batch_from, control_line_from, batch_event_from, lot_from, sublot_from, booked_from, hold_from}
+use Rattle.plant_tables_judged.specs.declared.booked.BookedRow.{BookedRow}
+use Rattle.plant_tables_judged.specs.declared.desk_rows.DeskRows.{DeskRows}
+use Rattle.plant_tables_judged.specs.declared.desk_rows.MasterRows as held_masters
+use Rattle.plant_tables_judged.specs.declared.desk_rows.OrderRows as held_orders
+use Rattle.plant_tables_judged.specs.declared.desk_rows.StockRows as held_stocks
+
+-- what all rows stand for, in their order: nothing where one stands for nothing
+abbrev pub all_from : {X R : Type 0} → (X → Option R) → List X → Option (List R)
+all_from row_from [] = Some []
+all_from row_from (x ∷ xs) = do
+  row ← row_from x
+  rows ← all_from row_from xs
+  Some (row ∷ rows)
+
+-- the rows of each table; a movement's columns may be those of another kind, and a line's number 0
+pub record Rows : Type 0 where
+  pub meta : Meta
+  pub classes : List Class
+  pub definitions : List Definition
+  pub recipes : List Recipe
+  pub master_lines : List MasterLine
+  pub jobs : List Job
+  pub batches : List BatchRow
+  pub control_lines : List ControlLine
+  pub events : List BatchEvent
+  pub lots : List Lot
+  pub sublots : List Sublot
+  pub movements : List BookedRow
+  pub holds : List Hold
+
+pub record MasterRows : Type 0 where
+  pub classes : List Class
+  pub definitions : List Definition
+  pub recipes : List Recipe
+  pub master_lines : List MasterLine
+
+pub record OrderRows : Type 0 where
+  pub jobs : List Job
+  pub batches : List BatchRow
+  pub control_lines : List ControlLine
+  pub events : List BatchEvent
+
+pub record StockRows : Type 0 where
+  pub lots : List Lot
+  pub sublots : List Sublot
+  pub movements : List BookedRow
+  pub holds : List Hold
+
+unfoldable pub masters_from : Masters → Option MasterRows
+masters_from x = do
+  classes ← all_from class_from x.classes.items
+  definitions ← all_from definition_from x.definitions.items
+  recipes ← all_from recipe_from x.recipes.items
+  master_lines ← all_from master_line_from x.recipe_lines.items
+  Some (record { classes = classes; definitions = definitions; recipes = recipes; master_lines = master_lines })
+
+unfoldable pub orders_from : Orders → Option OrderRows
+orders_from x = do
+  jobs ← all_from job_from x.jobs.items
+  batches ← all_from batch_from x.batches.items
+  control_lines ← all_from control_line_from x.control_lines.items
+  events ← all_from batch_event_from x.events.items
+  Some (record { jobs = jobs; batches = batches; control_lines = control_lines; events = events })
+
+unfoldable pub stocks_from : Stocks → Option StockRows
+stocks_from x = do
+  lots ← all_from lot_from x.lots.items
+  sublots ← all_from sublot_from x.sublots.items
+  movements ← all_from booked_from x.movements.items
+  holds ← all_from hold_from x.holds.items
+  Some (record { lots = lots; sublots = sublots; movements = movements; holds = holds })
+
+-- ---- the rows as lists
+
+abbrev pub masters_listed : held_masters.MasterRows → MasterRows
+masters_listed r = record { classes = r.classes.items; definitions = r.definitions.items; recipes = r.recipes.items; master_lines = r.lines.items }
+
+abbrev pub orders_listed : held_orders.OrderRows → OrderRows
+orders_listed r = record { jobs = r.jobs.items; batches = r.batches.items; control_lines = r.control_lines.items; events = r.events.items }
+
+abbrev pub stocks_listed : held_stocks.StockRows → StockRows
+stocks_listed r = record { lots = r.lots.items; sublots = r.sublots.items; movements = r.movements.items; holds = r.holds.items }
+
+-- ---- all tables
+
+abbrev pub rows_joined : Meta → MasterRows → OrderRows → StockRows → Rows
+rows_joined meta m o s = record {
+  meta = meta;
+  classes = m.classes;
+  definitions = m.definitions;
+  recipes = m.recipes;
+  master_lines = m.master_lines;
+  jobs = o.jobs;
+  batches = o.batches;
+  control_lines = o.control_lines;
+  events = o.events;
+  lots = s.lots;
+  sublots = s.sublots;
+  movements = s.movements;
+  holds = s.holds;
+}
+
+-- every value of every table obeys its rule, and these are the rows
+unfoldable pub rows_from : Loaded → Option Rows
+rows_from x = do
+  meta ← only_meta x.meta.items
+  m ← masters_from x.masters
+  o ← orders_from x.orders
+  s ← stocks_from x.stocks
+  Some (rows_joined meta m o s)
+
+-- the rows as lists
+unfoldable pub rows_listed : DeskRows → Rows
+rows_listed r = record {
+  meta = r.meta;
+  classes = r.classes.items;
+  definitions = r.definitions.items;
+  recipes = r.recipes.items;
+  master_lines = r.master_lines.items;
+  jobs = r.jobs.items;
+  batches = r.batches.items;
+  control_lines = r.control_lines.items;
+  events = r.events.items;
+  lots = r.lots.items;
+  sublots = r.sublots.items;
+  movements = r.movements.items;
+  holds = r.holds.items;
+}
+
+-- ---- rows and tables
+
+-- the tables of rows whose movements have the columns of their kinds
+abbrev pub tables_in : Rows → Tables
+tables_in r = record {
+  meta = r.meta;
+  classes = r.classes;
+  definitions = r.definitions;
+  recipes = r.recipes;
+  master_lines = r.master_lines;
+  jobs = r.jobs;
+  batches = r.batches;
+  control_lines = r.control_lines;
+  events = r.events;
+  lots = r.lots;
+  sublots = r.sublots;
+  movements = filter_map movement_from r.movements;
+  holds = r.holds;
+}
+
+-- each line has a number, and each movement the columns of its kind
+pub record AreWhole (r : Rows) : Type 0 where
+  pub master_lines : AllByRecursion (λ l. 1 ≤ l.number) r.master_lines
+  pub control_lines : AllByRecursion (λ l. 1 ≤ l.number) r.control_lines
+  pub movement_lines : AllByRecursion (λ m. 1 ≤ m.line) r.movements
+  pub movements : AllByRecursion (λ m. is_some (movement_from m) ≡ true) r.movements
+
+-- the rows of the tables
+abbrev pub rows_in : Tables → Rows
+rows_in t = record {
+  meta = t.meta;
+  classes = t.classes;
+  definitions = t.definitions;
+  recipes = t.recipes;
+  master_lines = t.master_lines;
+  jobs = t.jobs;
+  batches = t.batches;
+  control_lines = t.control_lines;
+  events = t.events;
+  lots = t.lots;
+  sublots = t.sublots;
+  movements = map booked_of t.movements;
+  holds = t.holds;
+}
+
+abbrev pub event_order : BatchEvent → BatchEvent → Ordering
+event_order a b = nat_cmp a.seq b.seq
+
+abbrev pub movement_order : Movement → Movement → Ordering
+movement_order a b = ordering_then (nat_cmp a.seq b.seq) (nat_cmp a.line b.line)
+
+-- the rows of each table stand in the order of their keys, none with the key of another
+pub record AreInOrder (t : Tables) : Type 0 where
+  pub keyed : AreKeyed t
+  pub events : IsStrictlySortedBy event_order t.events
+  pub movements : IsStrictlySortedBy movement_order t.movements

@@ -1,0 +1,32 @@
+-- What the reading of rows keeps.
+use Rattle.std.specs.Prelude.{◌≡◌, ℕ, Some}
+use Rattle.sqlite.specs.Effect.{Database}
+use Rattle.plant_base.specs.declared.rows.Movement.{Movement}
+use Rattle.plant_view.specs.Tables.{Tables}
+use Rattle.plant_tables.specs.DeskTables.{contents_of}
+use Rattle.plant_tables.specs.Keyed.{HoldsTables}
+use Rattle.plant_tables_stored.specs.Loading.{AreLoaded, contents_loaded}
+use Rattle.plant_tables_stored.specs.declared.loaded.Loaded.{Loaded}
+use Rattle.plant_tables_judged.specs.Booked.{movement_from, booked_of}
+use Rattle.plant_tables_judged.specs.Collecting.{Rows, rows_from, tables_in, rows_in, AreWhole, AreInOrder}
+use Rattle.plant_tables_judged.specs.Obeying.{HasGoodValues}
+
+-- Rows whose lines have numbers, and whose movements have the columns of their kinds, are the tables that were loaded.
+abbrev pub StandFor : Type 0
+StandFor = (x : Loaded) (r : Rows) → rows_from x ≡ Some r → AreWhole r → (place : ℕ) → contents_loaded x place ≡ contents_of (tables_in r) place
+
+-- What a database holds is read as it was written, where keys rise and each value obeys its rule.
+abbrev pub AreReadAgain : Type 0
+AreReadAgain = (db : Database) (t : Tables) (x : Loaded) → HoldsTables db t → AreInOrder t → HasGoodValues t → AreLoaded db x → rows_from x ≡ Some (rows_in t)
+
+-- The rows of good tables have numbers and the columns of their kinds.
+abbrev pub AreWholeRows : Type 0
+AreWholeRows = (t : Tables) → HasGoodValues t → AreWhole (rows_in t)
+
+-- The tables of the rows of tables are those.
+abbrev pub AreSameTables : Type 0
+AreSameTables = (t : Tables) → tables_in (rows_in t) ≡ t
+
+-- The row that books a movement books that movement.
+abbrev pub IsBookedAgain : Type 0
+IsBookedAgain = (m : Movement) → movement_from (booked_of m) ≡ Some m

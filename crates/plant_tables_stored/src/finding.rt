@@ -1,0 +1,127 @@
+//! What a store holds of the desk.
+
+ghost use Rattle.std.specs.Prelude.{◌≡◌, ◌≢◌, ◌↔◌, ◌∷◌, [], false, true, All, None, ℤ, IfOk, IfErr, IfSome, is_some};
+ghost use Rattle.std.specs.List.{list_any};
+ghost use Rattle.sqlite.specs.Does.{lacks_sequence};
+ghost use Rattle.sqlite.specs.Held.{state};
+ghost use Rattle.sqlite.specs.Rows.{sequence};
+ghost use Rattle.sqlite.specs.State.{HasCleanDisk, IsLive, IsUnchanged, Survives};
+ghost use Rattle.table_forms.specs.Resting.{Keeps};
+ghost use Rattle.table_forms.specs.Standing.{AreFree, HasTable, IsFree};
+ghost use Rattle.plant_tables.specs.DeskForms.{desk_forms, meta_form};
+ghost use Rattle.plant_tables_stored.specs.Version.{IsGoodMeta, IsVersion};
+
+use crate::meta::StoredMeta;
+use plant_base::{GREATEST_MOMENT, GREATEST_SEQ};
+use plant_tables::forms::{META, desk_forms};
+use sqlite::{Alter, Connection};
+use sqlite_schema::schema::{Schema, Table};
+use std::alloc::Global;
+use table_forms::Fault;
+use table_reads::{all_free, all_stand, read_table};
+
+/// What a store holds of the desk's tables.
+#[derive(Clone, Copy, Debug, PartialEq, Eq)]
+pub enum FoundTables {
+    /// None of them: their names are free, and they can be made.
+    Nothing,
+    /// Some, but table meta doesn't stand as it is declared, or hasn't one row, or has a row with a number that it can't
+    /// have.
+    NoMeta,
+    /// Some, of this version, which is at least 1.
+    Version(i64),
+}
+
+/// Whether each number is one that the row of table meta can have.
+fn is_good(meta: &StoredMeta) -> bool
+    ensures { (result ≡ true) ↔ IsGoodMeta meta.now }
+{
+    meta.k == 1
+        && meta.schema >= 1
+        && 0 <= meta.seq
+        && meta.seq <= GREATEST_SEQ as i64
+        && 0 <= meta.at
+        && meta.at <= GREATEST_MOMENT as i64
+}
+
+/// The version that the one row tells, where it is good.
+fn version_in(list: &[StoredMeta]) -> Option<i64>
+    ensures some { IfSome result (λ n. (m : StoredMeta) × (list.now ≡ m ∷ []) × IsGoodMeta m × (m.schema ≡ n)) }
+    ensures none { result ≡ None → (m : StoredMeta) → list.now ≡ m ∷ [] → ¬ IsGoodMeta m }
+{
+    match list {
+        [one] => { if is_good(one) { Some(one.schema) } else { None } }
+        _ => None,
+    }
+}
+
+/// The version that table meta tells. `None` where it doesn't stand as it is declared, hasn't one row, or has a row
+/// that isn't good. The faults are those of [`found`].
+fn version<S: Alter>(alloc: Global, conn: &mut Connection<S>) -> Result<Option<i64>, Fault>
+    ensures some { HasCleanDisk (state S.Store conn.new) → IfOk result (λ found. IfSome found (IsVersion (state S.Store conn.old).now)) }
+    ensures none { HasCleanDisk (state S.Store conn.new) → IfOk result (λ found. found ≡ None → (n : ℤ) → ¬ IsVersion (state S.Store conn.old).now n) }
+    ensures same { HasCleanDisk (state S.Store conn.new) → IfOk result (λ found. IfSome found (λ _. IsUnchanged (state S.Store conn.old) (state S.Store conn.new))) }
+    ensures kept { HasCleanDisk (state S.Store conn.new) → Keeps (state S.Store conn.old) (state S.Store conn.new) }
+    ensures mode { (state S.Store conn.old).in_transaction ≡ false → (state S.Store conn.new).in_transaction ≡ false }
+    ensures crash { Survives (state S.Store conn.old) (state S.Store conn.new) (λ _. ⊥) }
+    // Memory is wanted for a row of table meta.
+    ensures memory { HasCleanDisk (state S.Store conn.new) → IfErr result (λ fault. fault ≡ Fault.Memory → HasTable (state S.Store conn.old).now.schema meta_form) }
+{
+    if !all_stand(conn.schema(), &[META]) {
+        return Ok(None);
+    }
+    let list = read_table(alloc, conn)?;
+    Ok(version_in(list.as_slice()))
+}
+
+/// Whether a table counts its rowids, as AUTOINCREMENT does.
+fn any_counts(tables: &[Table]) -> bool
+    ensures { result ≡ list_any (λ t. t.is_counted) tables.now }
+{
+    tables.iter().any(|table| table.is_counted)
+}
+
+/// Whether SQLite's own table of counts is there.
+fn has_counts(schema: &Schema) -> bool
+    ensures { result ≡ is_some (sequence schema.now) }
+{
+    match schema.table_named(b"sqlite_sequence") {
+        Some(at) => schema.tables.get(at).is_some(),
+        None => false,
+    }
+}
+
+/// Whether the next CREATE TABLE would make SQLite's table of counts as well.
+fn lacks_counts(schema: &Schema) -> bool
+    ensures { result ≡ lacks_sequence schema.now }
+{
+    any_counts(schema.tables.as_slice()) && !has_counts(schema)
+}
+
+/// What the store holds of the desk's tables. Store where a transaction is open while table meta is to be read, where
+/// the names of the tables are free but a table counts its rowids and SQLite's own table of counts isn't there, and
+/// where the store fails; Memory where there is none. Nothing is changed.
+pub fn found<S: Alter>(alloc: Global, conn: &mut Connection<S>) -> Result<FoundTables, Fault>
+    ensures nothing { IfOk result (λ found. (found ≡ FoundTables.Nothing) ↔ AreFree desk_forms (state S.Store conn.old).now.schema) }
+    ensures taken { IfOk result (λ found. found ≢ FoundTables.Nothing → ¬ All (IsFree (state S.Store conn.old).now.schema) desk_forms) }
+    ensures version { HasCleanDisk (state S.Store conn.new) → IfOk result (λ found. (n : ℤ) → (found ≡ FoundTables.Version n) ↔ IsVersion (state S.Store conn.old).now n) }
+    ensures live { IsLive (state S.Store conn.old) }
+    ensures untouched { IfOk result (λ found. found ≡ FoundTables.Nothing → conn.new ≡ conn.old) }
+    ensures same { HasCleanDisk (state S.Store conn.new) → IfOk result (λ found. (n : ℤ) → found ≡ FoundTables.Version n → IsUnchanged (state S.Store conn.old) (state S.Store conn.new)) }
+    ensures kept { HasCleanDisk (state S.Store conn.new) → Keeps (state S.Store conn.old) (state S.Store conn.new) }
+    ensures mode { (state S.Store conn.old).in_transaction ≡ false → (state S.Store conn.new).in_transaction ≡ false }
+    ensures crash { Survives (state S.Store conn.old) (state S.Store conn.new) (λ _. ⊥) }
+    // Memory is wanted for a row of table meta.
+    ensures memory { HasCleanDisk (state S.Store conn.new) → IfErr result (λ fault. fault ≡ Fault.Memory → HasTable (state S.Store conn.old).now.schema meta_form) }
+{
+    if all_free(conn.schema(), &desk_forms()) {
+        if lacks_counts(conn.schema()) {
+            return Err(Fault::Store);
+        }
+        return Ok(FoundTables::Nothing);
+    }
+    match version(alloc, conn)? {
+        Some(version) => Ok(FoundTables::Version(version)),
+        None => Ok(FoundTables::NoMeta),
+    }
+}

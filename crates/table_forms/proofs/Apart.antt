@@ -1,0 +1,55 @@
+-- Forms that are apart.
+use Rattle.std.proofs.Common.{◌≡◌, ◌⊎◌, inl, inr, ℕ, ◌+◌, ◌<◌, zero, suc, List, [], ◌∷◌, true, false, not, Some, refl, sym, ap, subst, slice_get, arith}
+use Rattle.std.proofs.lemmas.Bool.{and_parts, not-true}
+use Rattle.std.specs.List.{list_all}
+use Rattle.sqlite.specs.Change.{automatics}
+use Rattle.sqlite_schema.specs.declared.schema.Index.{Index}
+use Rattle.sqlite_schema.specs.Names.{same_name}
+use Rattle.sqlite_catalog.proofs.StepLemmas.{same_itself}
+use Rattle.table_forms.specs.Forms.{Form, table_of}
+use Rattle.table_forms.specs.Moves.{differs_from, all_differ, AreApart}
+
+-- two forms whose names differ, and the names of the one's indexes from that of the other
+pub record Differ (f g : Form) : Type 0 where
+  pub names : same_name f.name g.name ≡ false
+  pub guards : (tree : ℕ) → list_all (λ (i : Index). not (same_name i.name g.name)) (automatics (table_of f tree) 0 (tree + 1) f.keys) ≡ true
+
+differ_of : (f : Form) (gs : List Form) (i : ℕ) (g : Form) → ((tree : ℕ) → differs_from tree f gs ≡ true) → slice_get gs i ≡ Some g → Differ f g
+differ_of f [] i g d is = absurd cc
+differ_of f (h ∷ gs) zero g d is =
+    let same : h ≡ g = cc in
+    subst (Differ f) same (record { names = not-true _ (and_parts _ _ (d 0)).0; guards = λ tree. (and_parts _ _ (and_parts _ _ (d tree)).1).0 })
+differ_of f (h ∷ gs) (suc i) g d is = differ_of f gs i g (λ tree. (and_parts _ _ (and_parts _ _ (d tree)).1).1) is
+
+pub differ_at : (fs : List Form) → ((tree : ℕ) → all_differ tree fs ≡ true) → (i j : ℕ) (f g : Form) → i < j → slice_get fs i ≡ Some f → slice_get fs j ≡ Some g → Differ f g
+differ_at [] d i j f g before is there = absurd cc
+differ_at (h ∷ fs) d zero zero f g before is there = absurd (omega arith)
+differ_at (h ∷ fs) d zero (suc j) f g before is there =
+    let same : h ≡ f = cc in
+    subst (λ x. Differ x g) same (differ_of h fs j g (λ tree. (and_parts (differs_from tree h fs) (all_differ tree fs) (d tree)).0) there)
+differ_at (h ∷ fs) d (suc i) zero f g before is there = absurd (omega arith)
+differ_at (h ∷ fs) d (suc i) (suc j) f g before is there = differ_at fs (λ tree. (and_parts (differs_from tree h fs) (all_differ tree fs) (d tree)).1) i j f g (omega arith) is there
+
+pub apart_at : (forms : List Form) → AreApart forms → (i j : ℕ) (f g : Form) → i < j → slice_get forms i ≡ Some f → slice_get forms j ≡ Some g → Differ f g
+apart_at forms apart = differ_at forms apart.apart
+
+apart_names : {a b : List ℕ} → same_name a b ≡ false → a ≡ b → ⊥
+apart_names {a} {b} differ same = let equal = same_itself a in let none = rw (sym same) at differ in cc
+
+pub order_of : (i j : ℕ) → (i < j) ⊎ ((i ≡ j) ⊎ (j < i))
+order_of zero zero = inr (inl refl)
+order_of zero (suc j) = inl (omega arith)
+order_of (suc i) zero = inr (inr (omega arith))
+order_of (suc i) (suc j) = elim (order_of i j) [
+  | inl less ↦ inl (omega (arith, less))
+  | inr (inl same) ↦ inr (inl (ap suc same))
+  | inr (inr more) ↦ inr (inr (omega (arith, more)))
+]
+
+-- a name tells the place
+pub same_place : (forms : List Form) → AreApart forms → (i j : ℕ) (f g : Form) → slice_get forms i ≡ Some f → slice_get forms j ≡ Some g → f.name ≡ g.name → i ≡ j
+same_place forms apart i j f g is there same = elim (order_of i j) [
+  | inl before ↦ absurd (apart_names (apart_at forms apart i j f g before is there).names same)
+  | inr (inl at) ↦ at
+  | inr (inr after) ↦ absurd (apart_names (apart_at forms apart j i g f after there is).names (sym same))
+]

@@ -1,0 +1,178 @@
+-- Which rows a row of a form's table meets, and that no foreign key acts.
+use Rattle.std.proofs.Common.{◌≡◌, inl, inr, ℕ, zero, suc, ℤ, List, [], ◌∷◌, filter, drop, Bool, true, false, not, ◌&&◌, Option, Some, None, refl, sym, ap, subst, subst₂, eq-eqb, ◌∙◌, Ordering, Less, Equal, Greater, is_eq, slice_get, get_or, ltb, eqb, arith}
+use Rattle.std.proofs.lemmas.Bool.{false_from_ne_true, and_parts, and_from}
+use Rattle.std.proofs.lemmas.Bool.Decides.{nat_tests}
+use Rattle.std.proofs.lemmas.Cmp.{tied_itself}
+use Rattle.sqlite_value.proofs.OrderLemmas.{value_cmp_total}
+use Rattle.std.specs.List.{list_any, list_all, flat_map, filter_map}
+use Rattle.sqlite.specs.declared.types.Value.{Value}
+use Rattle.sqlite.specs.declared.types.Value.TheVariants.{Null, Int}
+use Rattle.sqlite.specs.Order.{Row, column, value_cmp}
+use Rattle.sqlite.specs.Table.{Table}
+use Rattle.sqlite.specs.Schema.{Schema}
+use Rattle.sqlite_schema.specs.declared.schema.Index.{Index}
+use Rattle.sqlite_schema.specs.declared.schema.Reference.{Reference}
+use Rattle.sqlite_schema.specs.declared.schema.Keys.{Keys}
+use Rattle.sqlite_schema.specs.Names.{same_name}
+use Rattle.sqlite_schema.specs.Rules.{agree, guards, equal, parent_key, ParentKey}
+use Rattle.sqlite_sql.specs.Ops.{binary}
+use Rattle.sqlite_trees.specs.Tree.{rowid, has_rowid}
+use Rattle.sqlite_trees.specs.View.{IsShaped, is_int}
+use Rattle.sqlite_trees.specs.declared.store.Shape.TheVariants as shape
+use Rattle.sqlite_value.specs.Keys.{plain, first_key, later}
+use Rattle.sqlite_value.specs.declared.keys.Order.{Order}
+use Rattle.sqlite_value.proofs.KeyLemmas.{first_key-plain}
+use Rattle.sqlite_rules.specs.Lists.{Has}
+use Rattle.sqlite_rules.specs.Edit.{without_all, is_taken, id_in}
+use Rattle.sqlite_rules.specs.Calls.{ids_of}
+use Rattle.sqlite_rules.specs.Keys.{AreConflicts, conflicts, shares}
+use Rattle.sqlite_rules.specs.Action.{works, work_by}
+use Rattle.sqlite_rules.specs.declared.action.Deed.{Deed}
+use Rattle.sqlite_rules.proofs.ListLemmas.{all_has, some_has, some_from}
+use Rattle.sqlite_rules.proofs.PlaceLemmas.{tied_same, named_parent}
+use Rattle.sqlite_rules.proofs.TableLemmas.{int_is}
+use Rattle.sqlite_rules.proofs.ProbeLemmas.{has_mapped, mapped_has}
+use Rattle.sqlite_catalog.specs.Listing.{IsGuarded, automatic}
+use Rattle.table_forms.specs.Forms.{Form, table_of, plains}
+use Rattle.table_forms.specs.Standing.{IsDeclared}
+use Rattle.table_forms.proofs.RowFacts.{same_bool, filter_on, without_is}
+
+-- ---- foreign keys
+
+flat_none : {X Y : Type 0} (f : X → List Y) (xs : List X) → ((x : X) → Has xs x → f x ≡ []) → flat_map f xs ≡ []
+flat_none f [] h = refl
+flat_none f (x ∷ xs) h = rw (h x (inl refl), flat_none f xs (λ y k. h y (inr k)))
+
+map_none : {X Y : Type 0} (f : X → Option Y) (xs : List X) → ((x : X) → Has xs x → f x ≡ None) → filter_map f xs ≡ []
+map_none f [] h = refl
+map_none f (x ∷ xs) h = rw (h x (inl refl), map_none f xs (λ y k. h y (inr k)))
+
+module _ (schema : Schema) (form : Form) (at tree : ℕ) (declared : IsDeclared schema form at tree) where
+  other_parent : (child : Table) (ref : Reference) (key : ParentKey) → Has schema.tables child → Has child.references ref → parent_key schema.tables ref ≡ Some key → eqb key.0 tree ≡ false
+  other_parent child ref key listed among is =
+      let t = named_parent schema.tables ref key is in
+      false_from_ne_true _ (λ same.
+      let tree_is : t.0.tree ≡ tree = grind (arith, nat_tests) in
+      let own = declared.own t.0 t.1 tree_is in
+      let named : same_name form.name ref.parent ≡ true = (rw own at t.3) in
+      let none : same_name form.name ref.parent ≡ false = all_has _ child.references ref (all_has _ schema.tables child declared.alone listed) among in
+      cc)
+
+  no_work : (keys : Keys) (moves : List (Row × Row)) (child : Table) (ref : Reference) → Has schema.tables child → Has child.references ref
+      → (deed : Option Deed) (key : Option ParentKey) → parent_key schema.tables ref ≡ key → work_by 0 tree moves child ref deed key ≡ None
+  no_work keys moves child ref listed among None key is = refl
+  no_work keys moves child ref listed among (Some deed) None is = refl
+  no_work keys moves child ref listed among (Some deed) (Some key) is = rw (other_parent child ref key listed among is)
+
+  pub no_works : (keys : Keys) (olds news : List Row) → works schema keys 0 tree olds news ≡ []
+  no_works keys olds news =
+      flat_none _ schema.tables (λ child listed. map_none _ child.references (λ ref among. no_work keys _ child ref listed among _ _ refl))
+
+-- ---- keys
+
+none_has : {X : Type 0} (p : X → Bool) (xs : List X) (x : X) → list_any p xs ≡ false → Has xs x → p x ≡ false
+none_has p xs x none there = false_from_ne_true _ (λ yes. let some = some_from p xs x there yes in cc)
+
+pub placed : {X : Type 0} (xs : List X) (x : X) → Has xs x → (at : ℕ) × (slice_get xs at ≡ Some x)
+placed [] x none = absurd none
+placed (y ∷ ys) x (inl same) = (0, ap Some (sym same))
+placed (y ∷ ys) x (inr more) = let at = placed ys x more in (suc at.0, at.1)
+
+pub plains_are : (keys : List (List ℕ)) (at : ℕ) → get_or (plains keys) at plain ≡ plain
+plains_are [] at = refl
+plains_are (key ∷ keys) zero = refl
+plains_are (key ∷ keys) (suc at) = plains_are keys at
+
+pub column_shift : (a : Row) (p : ℕ) → ltb 0 p ≡ true → column a p ≡ column (Null ∷ drop 1 a) p
+column_shift a zero h = absurd cc
+column_shift [] (suc p) h = refl
+column_shift (x ∷ xs) (suc p) h = refl
+
+pub agree_shift : (o : Order) (ps : List ℕ) (a b : Row) → list_all (λ p. ltb 0 p) ps ≡ true → agree o ps a ps b ≡ agree o ps (Null ∷ drop 1 a) ps (Null ∷ drop 1 b)
+agree_shift o [] a b h = refl
+agree_shift o (p ∷ ps) a b h =
+    let each = and_parts _ _ h in
+    rw (column_shift a p each.0, column_shift b p each.0, agree_shift (later o) ps a b each.1)
+
+equal_ints : (m n : ℤ) → is_eq (value_cmp (Int m) (Int n)) ≡ false → equal (first_key plain).collation (Int m) (Int n) ≡ false
+unfolding binary
+equal_ints m n h = rw (first_key-plain, h)
+
+ints_apart : (a b : Value) → is_int a ≡ true → is_int b ≡ true → is_eq (value_cmp a b) ≡ false → equal (first_key plain).collation a b ≡ false
+ints_apart a b i j apart =
+    let p = int_is a i in
+    let q = int_is b j in
+    let apart' : is_eq (value_cmp (Int (id_in a)) (Int (id_in b))) ≡ false = (rw (p, q) at apart) in
+    subst₂ (λ x y. equal (first_key plain).collation x y ≡ false) (sym p) (sym q) (equal_ints (id_in a) (id_in b) apart')
+
+share_parts : (table : Table) (new r : Row) (i : Index) → shares None table new r i ≡ true → (guards i table ≡ true) × (agree i.order i.columns r i.columns new ≡ true)
+share_parts table new r i h =
+    let outer = and_parts (guards i table && true) (agree i.order i.columns r i.columns new) h in
+    ((and_parts (guards i table) true outer.0).0, outer.1)
+
+share_from : (table : Table) (new r : Row) (i : Index) → guards i table ≡ true → agree i.order i.columns r i.columns new ≡ true → shares None table new r i ≡ true
+share_from table new r i g a = and_from (guards i table && true) _ (and_from (guards i table) true g refl) a
+
+is_equal : (o : Ordering) → is_eq o ≡ true → o ≡ Equal
+is_equal Less h = absurd cc
+is_equal Equal h = refl
+is_equal Greater h = absurd cc
+
+pub same_row : (rows : List Row) → IsShaped shape.Table rows → (r source x : Row) (id : ℤ) → Has rows r → Has rows source → has_rowid id r ≡ true → id ≡ id_in (rowid x) → x ≡ rowid source ∷ [] → r ≡ source
+same_row rows shaped r source x id there from has id_is x_is =
+    let int = int_is (rowid source) (all_has _ rows source shaped.1 from) in
+    let id_of : id ≡ id_in (rowid source) = id_is ∙ ap (λ y. id_in (rowid y)) x_is in
+    let tie : is_eq (value_cmp (rowid r) (rowid source)) ≡ true = subst (λ v. is_eq (value_cmp (rowid r) v) ≡ true) (ap Int id_of ∙ sym int) has in
+    tied_same rows r source shaped.0 there from (is_equal _ tie)
+
+pub own_rowid : (r : Row) → is_int (rowid r) ≡ true → has_rowid (id_in (rowid r)) r ≡ true
+own_rowid r int = rw (sym (int_is (rowid r) int), tied_itself value_cmp_total (rowid r))
+
+-- the rows that a row of the form's table meets, and that make way for it
+module _ (schema : Schema) (form : Form) (at tree : ℕ) (declared : IsDeclared schema form at tree) (above : list_all (list_all (λ p. ltb 0 p)) form.keys ≡ true)
+    (guarded : IsGuarded schema.indexes (table_of form tree)) (rows : List Row) (shaped : IsShaped shape.Table rows)
+    (new : Row) (keyed : is_int (rowid new) ≡ true) (free : is_taken rows new ≡ false) where
+  abbrev agreeing : Row → Bool
+  agreeing r = list_any (λ key. agree plain key r key new) form.keys
+
+  sharing : (r : Row) → list_any (shares None (table_of form tree) new r) schema.indexes ≡ agreeing r
+  sharing r =
+      same_bool _ _
+      (λ some.
+      let i = some_has _ schema.indexes some in
+      let parts = share_parts (table_of form tree) new r i.0 i.2 in
+      let is = declared.keyed i.0 i.1 parts.0 in
+      let agrees : agree plain i.0.columns r i.0.columns new ≡ true = subst (λ o. agree o i.0.columns r i.0.columns new ≡ true) is.0 parts.1 in
+      some_from _ form.keys i.0.columns is.1 agrees)
+      (λ some.
+      let key = some_has _ form.keys some in
+      let place = placed form.keys key.0 key.1 in
+      let index = guarded place.0 key.0 place.1 in
+      let order : get_or (plains form.keys) place.0 plain ≡ plain = plains_are form.keys place.0 in
+      some_from _ schema.indexes _ index.1
+      (share_from (table_of form tree) new r (automatic (table_of form tree) place.0 key.0 index.0) (eq-eqb tree tree refl)
+      (subst (λ o. agree o key.0 r key.0 new ≡ true) (sym order) key.2)))
+
+  apart : (r : Row) → Has rows r → agree plain (0 ∷ []) r (0 ∷ []) new ≡ false
+  apart r there =
+      let other : is_eq (value_cmp (rowid r) (rowid new)) ≡ false = none_has (λ x. is_eq (value_cmp (rowid x) (rowid new))) rows r free there in
+      rw (ints_apart (rowid r) (rowid new) (all_has _ rows r shaped.1 there) keyed other)
+
+  conflict_is : (r : Row) → Has rows r → conflicts None schema.indexes (table_of form tree) new r ≡ agreeing r
+  conflict_is r there = rw (apart r there, sharing r)
+
+  gone_is : (found : List Row) → AreConflicts None schema.indexes (table_of form tree) rows new found → (r : Row) → Has rows r → list_any (λ id. has_rowid id r) (ids_of found) ≡ agreeing r
+  gone_is found are r there =
+      same_bool _ _
+      (λ some.
+      let id = some_has (λ id. has_rowid id r) (ids_of found) some in
+      let x = has_mapped (λ x. id_in (rowid x)) found id.0 id.1 in
+      let source = are.sound x.0 x.1 in
+      let same : r ≡ source.0 = same_row rows shaped r source.0 x.0 id.0 there source.1 id.2 x.2 source.3 in
+      sym (conflict_is r there) ∙ subst (λ y. conflicts None schema.indexes (table_of form tree) new y ≡ true) (sym same) source.2)
+      (λ some.
+      let had = are.complete r there (conflict_is r there ∙ some) in
+      some_from (λ id. has_rowid id r) (ids_of found) (id_in (rowid r)) (mapped_has (λ x. id_in (rowid x)) found (rowid r ∷ []) had) (own_rowid r (all_has _ rows r shaped.1 there)))
+
+  pub left_is : (found : List Row) → AreConflicts None schema.indexes (table_of form tree) rows new found → without_all rows (ids_of found) ≡ filter (λ r. not (agreeing r)) rows
+  left_is found are = without_is (ids_of found) rows ∙ filter_on _ _ rows (λ r there. ap not (gone_is found are r there))

@@ -1,0 +1,185 @@
+-- What a text that takes away a row by its key makes of the form's table.
+use Rattle.std.proofs.Common.{◌≡◌, ◌⊎◌, inl, inr, ℕ, suc, ◌+◌, List, [], ◌∷◌, ◌++◌, map, drop, filter, length, Bool, true, false, not, Option, Some, None, Ok, Err, refl, sym, ap, subst, ◌∙◌, slice_get, ltb}
+use Rattle.sqlite.specs.Order.{Row}
+use Rattle.sqlite.specs.Term.{Term}
+use Rattle.sqlite.specs.Schema.{Schema}
+use Rattle.sqlite.specs.Table.{Table}
+use Rattle.sqlite_ast.specs.declared.Expr.{Expr}
+use Rattle.sqlite_ast.specs.declared.Statement.TheVariants as written
+use Rattle.std.proofs.Common.{add-zero, if◌then◌else◌}
+use Rattle.std.specs.List.{list_any, list_all}
+use Rattle.std.specs.List.Sorted.{IsPermutation}
+use Rattle.std.proofs.lemmas.Bool.{and_parts}
+use Rattle.sqlite.specs.declared.types.Value.TheVariants.{Null}
+use Rattle.sqlite.specs.Tree.{Trees}
+use Rattle.sqlite.specs.Rows.{Written, Deletes}
+use Rattle.sqlite.specs.Does.{OnRows, AtPlace}
+use Rattle.sqlite.specs.Edit.{edit_of}
+use Rattle.sqlite.specs.Rowids.TheVariants.{Given}
+use Rattle.sqlite.specs.Effect.{Database, IsDatabase}
+use Rattle.sqlite.specs.State.{State, Executes, ExecutesIn, mode_of}
+use Rattle.sqlite.specs.Listing.{understood}
+use Rattle.sqlite.proofs.Callers.{runs_as, command_of, IsPlain}
+use Rattle.sqlite_sql.specs.Term.{holds}
+use Rattle.sqlite_exec.proofs.RunLemmas.{answer_alone}
+use Rattle.sqlite_schema.specs.declared.schema.Keys.TheVariants.{Enforced}
+use Rattle.sqlite_schema.specs.Rules.{agree}
+use Rattle.sqlite_value.specs.Keys.{plain, later}
+use Rattle.sqlite_value.specs.declared.keys.Order.{Order}
+use Rattle.sqlite_trees.specs.Tree.{rowid, has_rowid}
+use Rattle.sqlite_trees.specs.View.{IsShaped}
+use Rattle.sqlite_trees.specs.declared.store.Shape.TheVariants as shape
+use Rattle.sqlite_trees.proofs.TreeLemmas.{IsShaped-filter}
+use Rattle.sqlite_trees.proofs.ListLemmas.{filter-map, IsPermutation-filter}
+use Rattle.sqlite_rules.specs.Lists.{Has}
+use Rattle.sqlite_rules.specs.Edit.{without_all, id_in}
+use Rattle.sqlite_rules.specs.Calls.{ids_of}
+use Rattle.sqlite_rules.specs.Probe.{AreFound, equalities, other_rowid}
+use Rattle.sqlite_rules.proofs.ProbeLemmas.{found_rowids, passes_pair, has_mapped, mapped_has}
+use Rattle.sqlite_rules.proofs.ListLemmas.{all_has, some_has, some_from}
+use Rattle.table_forms.specs.Rows.{places_from, has_values, take_away}
+use Rattle.table_forms.specs.Texts.{IsTakeText, taking}
+use Rattle.table_forms.specs.Standing.{IsDeclared, Stands}
+use Rattle.table_forms.proofs.RowFacts.{same_bool, filter_on, without_is}
+use Rattle.table_forms.proofs.Conflicts.{same_row, own_rowid, column_shift}
+use Rattle.table_forms.proofs.Putting.{went, same_value, task_of, step_leaves}
+use Rattle.table_forms.proofs.Turning.{understood_as, Turns, Trees_turn, concluded, turns_from}
+use Rattle.std.proofs.lemmas.Bool.{cases_Bool}
+use Rattle.sqlite.specs.Command.TheVariants.{Delete}
+use Rattle.sqlite_schema.specs.declared.program.Program.{Program}
+use Rattle.sqlite_schema.specs.Program.{lets_of}
+use Rattle.sqlite_schema.specs.Names.{table_named}
+use Rattle.sqlite_draft.specs.Query.{query_of}
+use Rattle.sqlite_typing.specs.Types.{accepts_program}
+use Rattle.sqlite_syntax.specs.declared.statement.Parsed.{Parsed}
+use Rattle.sqlite_resolve.specs.declared.compiled.Compiled.{Compiled}
+use Rattle.sqlite_resolve.specs.declared.error.CompileError.TheVariants.{Mismatch}
+use Rattle.sqlite_resolve.specs.Program.{program}
+use Rattle.sqlite_resolve.specs.Compile.{first, compiled, planned, meaning, timed, returning, shows, command, delete, small}
+use Rattle.sqlite_resolve.specs.Write.{deleted}
+use Rattle.table_forms.specs.Forms.{Form, table_of}
+
+abbrev pub program_of : ℕ → List Term → Program
+program_of tree tests = record { lets = []; body = query_of (taking tree tests) }
+
+abbrev pub taken_by_text : Parsed → ℕ → Program → Compiled
+taken_by_text p at q = record { command = Delete at q; returning = None; names = p.names; formats = []; start = p.start; end = p.end; tail = p.tail }
+
+-- the types of the terms are accepted, or the text is refused
+module _ (schema : Schema) (p : Parsed) (name : List ℕ) (test : Option Expr) (at tree : ℕ) (table : Table) (tests : List Term) (statement : p.statement ≡ written.Delete name test []) (untimed : p.formats ≡ [])
+    (named : table_named schema name ≡ Some at) (listed : slice_get schema.tables at ≡ Some table) (takes : deleted schema at table test ≡ Ok (taking tree tests)) where
+  abbrev is_typed : Bool
+  is_typed = accepts_program schema (lets_of (program_of tree tests)) (query_of (taking tree tests)) []
+
+  commands : delete schema name test ≡ (if is_typed then Ok (Delete at (program_of tree tests)) else Err Mismatch)
+  unfolding delete program
+  commands = elim (cases_Bool is_typed) [
+    | inl fine ↦ rw (named, listed, takes, fine) refl
+    | inr wrong ↦ rw (named, listed, takes, wrong) refl
+  ]
+
+  times : timed schema p.formats p.statement ≡ []
+  unfolding timed
+  times = rw (statement, untimed) refl
+
+  means : meaning schema p (small p.names) ≡ (if is_typed then Ok (Delete at (program_of tree tests), None) else Err Mismatch)
+  unfolding meaning returning shows command
+  means = elim (cases_Bool is_typed) [
+    | inl fine ↦ rw (statement, commands, fine) refl
+    | inr wrong ↦ rw (statement, commands, wrong) refl
+  ]
+
+  plans : planned schema p ≡ (if is_typed then Ok ([], (Delete at (program_of tree tests), None)) else Err Mismatch)
+  unfolding planned
+  plans = elim (cases_Bool is_typed) [
+    | inl fine ↦ rw (times, add-zero, means, fine) refl
+    | inr wrong ↦ rw (times, add-zero, means, wrong) refl
+  ]
+
+  pub compiles_delete : (text : List ℕ) → first text ≡ Ok p → (compiled schema text ≡ Ok (taken_by_text p at (program_of tree tests))) ⊎ (compiled schema text ≡ Err Mismatch)
+  unfolding compiled
+  compiles_delete text is = elim (cases_Bool is_typed) [
+    | inl fine ↦ inl (rw (is, plans, fine) refl)
+    | inr wrong ↦ inr (rw (is, plans, wrong) refl)
+  ]
+
+-- ---- the rows
+
+agree_left : (o : Order) (ps qs : List ℕ) (a b : Row) → list_all (λ p. ltb 0 p) ps ≡ true → agree o ps a qs b ≡ agree o ps (Null ∷ drop 1 a) qs b
+agree_left o [] [] a b h = refl
+agree_left o [] (q ∷ qs) a b h = refl
+agree_left o (p ∷ ps) [] a b h = refl
+agree_left o (p ∷ ps) (q ∷ qs) a b h = let each = and_parts _ _ h in rw (column_shift a p each.0, agree_left (later o) ps qs a b each.1) refl
+
+gone_found : (rows : List Row) → IsShaped shape.Table rows → (tests : List Term) (params : Row) (found : List Row) → AreFound tests rows params found
+    → (r : Row) → Has rows r → list_any (λ id. has_rowid id r) (ids_of found) ≡ list_all (holds (params ∷ r ∷ [])) tests
+gone_found rows shaped tests params found are r there =
+    same_bool _ _
+    (λ some.
+    let id = some_has (λ id. has_rowid id r) (ids_of found) some in
+    let x = has_mapped (λ x. id_in (rowid x)) found id.0 id.1 in
+    let source = are.sound x.0 x.1 in
+    let same : r ≡ source.0 = same_row rows shaped r source.0 x.0 id.0 there source.1 id.2 x.2 source.3 in
+    subst (λ y. list_all (holds (params ∷ y ∷ [])) tests ≡ true) (sym same) source.2)
+    (λ passes.
+    let had = are.complete r there passes in
+    some_from (λ id. has_rowid id r) (ids_of found) (id_in (rowid r)) (mapped_has (λ x. id_in (rowid x)) found (rowid r ∷ []) had) (own_rowid r (all_has _ rows r shaped.1 there)))
+
+places_length : (n : ℕ) (key : List ℕ) → length key ≡ length (places_from n key)
+places_length n [] = refl
+places_length n (place ∷ key) = ap suc (places_length (n + 1) key)
+
+module _ (limit : Option ℕ) (schema : Schema) (form : Form) (at tree : ℕ) (declared : IsDeclared schema form at tree) (params : Row) (key : List ℕ) (above : list_all (λ p. ltb 0 p) key ≡ true) where
+  abbrev places : List ℕ
+  places = places_from 0 key
+
+  abbrev tests : List Term
+  tests = equalities plain key places ++ other_rowid false
+
+  rows_taken : (db : Trees) (w : Written) (rows : List Row) → IsShaped shape.Table (db tree) → IsPermutation rows (map (drop 1) (db tree))
+      → Deletes (task_of limit Enforced schema form at tree declared params) (program_of tree tests) db (Ok w) → Trees_turn schema tree db w.trees (take_away key params rows)
+  rows_taken db w rows shaped same h =
+      let queried = went h in
+      let a = answer_alone (query_of (taking tree tests)) db params queried.0 queried.1.answer Null in
+      let found : AreFound tests (db tree) params queried.0 = found_rowids tree tests db params queried.0
+      (record { staged = a.staged; grouped = a.grouped; kept = a.kept; distinct = a.distinct; ordered = a.ordered; same = a.same; sorted = a.sorted; shown = a.shown }) in
+      let edited = went queried.2 in
+      let applies = step_leaves limit Enforced schema form at tree declared params db edited.0 (edit_of db (table_of form tree) (ids_of queried.0) Given 0 []) refl edited.1 in
+      let now : w.trees ≡ edited.0 = ap (λ (it : Written). it.trees) (same_value edited.2) in
+      let P = λ (v : Row). not (has_values key params v) in
+      let test_is = λ (r : Row). passes_pair plain key places r params (places_length 0 key) ∙ agree_left plain key places r params above in
+      let left : without_all (db tree) (ids_of queried.0) ≡ filter (λ r. P (drop 1 r)) (db tree) =
+      without_is (ids_of queried.0) (db tree) ∙ filter_on _ _ (db tree) (λ r there. ap not (gone_found (db tree) shaped tests params queried.0 found r there ∙ test_is r)) in
+      let tree_is : w.trees tree ≡ filter (λ r. P (drop 1 r)) (db tree) = ap (λ (t : Trees). t tree) now ∙ (applies.rows ∙ left) in
+      record {
+        shaped = subst (IsShaped shape.Table) (sym tree_is) (IsShaped-filter shape.Table _ (db tree) shaped);
+        same = subst (λ (r : List Row). IsPermutation (take_away key params rows) (map (drop 1) r)) (sym tree_is) (subst (IsPermutation (filter P rows)) (filter-map P (drop 1) (db tree)) (IsPermutation-filter P rows (map (drop 1) (db tree)) same));
+        others = λ t listed away. ap (λ (d : Trees). d t.tree) now ∙ all_has _ schema.tables t applies.tables listed away;
+      }
+
+not_compiled : (schema : Schema) (text : List ℕ) (c : Compiled) → compiled schema text ≡ Err Mismatch → understood schema text ≡ Ok c → ⊥
+unfolding understood
+not_compiled schema text c wrong is = let e = rw wrong at is in cc
+
+pub take_turns : (text : List ℕ) (form : Form) (key : List ℕ) → IsTakeText text form key → (params : Row)
+    → (old new : State) (count : ℕ) (rows : List Row) → IsDatabase old.now → (stands : Stands old.now form rows) → Executes text params old new (Ok count) → Turns old new form stands.tree (take_away key params rows)
+unfolding ExecutesIn
+take_turns text form key says params old new count rows sound stands h =
+    let schema = old.now.schema in
+    let tree = stands.tree in
+    let declared = stands.declared in
+    let tests = equalities plain key (places_from 0 key) ++ other_rowid false in
+    elim (compiles_delete schema says.parsed form.name says.test stands.at tree (table_of form tree) tests says.statement says.untimed declared.named declared.listed (says.taken schema stands.at tree declared.listed) text says.reads) [
+      | inl fine ↦
+          let is = understood_as schema text _ fine in
+          let w = runs_as text params old new schema refl (Delete stands.at (program_of tree tests)) (ap command_of is) (subst IsPlain (sym is) (refl, refl)) count h in
+          let on : OnRows (task_of old.step_limit Enforced schema form stands.at tree declared params) (mode_of old) None (Delete stands.at (program_of tree tests)) old.now.trees (Ok (w.tally, new.now)) =
+          subst (λ o. AtPlace (λ (table : Table). OnRows (record { limit = old.step_limit; keys = Enforced; schema = schema; table = table; params = params }) (mode_of old) None (Delete stands.at (program_of tree tests)) old.now.trees) o (Ok (w.tally, new.now)))
+          declared.listed w.changed in
+          let made = concluded (task_of old.step_limit Enforced schema form stands.at tree declared params) old (Delete stands.at (program_of tree tests)) old.now.trees w.tally new.now on in
+          let turned = rows_taken old.step_limit schema form stands.at tree declared params key says.above old.now.trees made.0 rows stands.shaped stands.same made.1 in
+          let schema_is : new.now.schema ≡ schema = ap (λ (d : Database). d.schema) made.2 in
+          let trees_are : new.now.trees ≡ made.0.trees = ap (λ (d : Database). d.trees) made.2 in
+          turns_from old new form stands.at tree (take_away key params rows) schema_is w.sound declared (subst (λ (t : Trees). Trees_turn schema tree old.now.trees t (take_away key params rows)) (sym trees_are) turned) w.shown
+      | inr wrong ↦ absurd (not_compiled schema text h.0 wrong h.1.is)
+    ]

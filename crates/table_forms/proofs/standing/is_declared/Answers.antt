@@ -1,0 +1,26 @@
+use Rattle.std.proofs.Common.{refl, sym, ap, rules, ◌∙◌, arith}
+use Rattle.std.proofs.lemmas.Bool.{not-true}
+use Rattle.sqlite_schema.specs.Names.{table_named}
+use Rattle.table_forms.specs.Forms.{Form}
+use Rattle.table_forms.proofs.Listed.{unnamed_as, named_as}
+use Rattle.table_forms.proofs.standing.is_declared.Goals as goal
+
+pub returns : goal.returns
+returns c =
+    let name = ap (λ (f : Form). f.name) c.form.view_is in
+    let table = c.in-Some-get.table.now in
+    let is = c.is_table.ensures.0 c.if-not-is_table.false in (
+      λ clear. record {
+        at = c.in-Some.at;
+        tree = table.tree;
+        declared = record {
+          named = ap (table_named c.args.schema.now) (sym name) ∙ (sym c.table_named.ensures ∙ c.in-Some.is);
+          listed = search rules;
+          own = c.is_own.ensures.0 c.if-not-is_own.false;
+          keyed = c.has_no_other_key.ensures.0 c.if-not-has_no_other_key.false;
+          alone = unnamed_as c.args.schema.now c.args.form.now c.form.inside.name.now name (sym c.is_parent.ensures ∙ not-true c.is_parent.result clear);
+        };
+        low = omega (arith, c.if-table.false);
+      },
+      λ held. rw (c.is_parent.ensures ∙ named_as c.args.schema.now c.args.form.now c.form.inside.name.now name held.declared.alone) refl,
+    )

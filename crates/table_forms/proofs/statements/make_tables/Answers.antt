@@ -1,0 +1,33 @@
+use Rattle.std.proofs.Common.{rules, ◌≤◌, length, arith, ◌∙◌}
+use Rattle.sqlite.specs.Held.{state}
+use Rattle.table_forms.proofs.Founding.{none_made, next_made, all_made}
+use Rattle.table_forms.proofs.Moving.{survives_none, survives_on, kept_none, kept_then}
+use Rattle.table_forms.proofs.statements.make_tables.Goals as goal
+
+pub loop-text-init : goal.loop-text-init
+loop-text-init g c = record {
+  same = search rules;
+  wrote = survives_none (state g.S.Store c.args.tx.now.conn.now);
+  kept = λ clean. kept_none (state g.S.Store c.args.tx.now.conn.now);
+  founding = λ clean forms apart says. none_made forms (state g.S.Store c.args.tx.now.conn.now);
+}
+
+pub loop-text-preserved : goal.loop-text-preserved
+loop-text-preserved g c =
+    let first = state g.S.Store c.args.tx.now.conn.now in
+    let mid = state g.S.Store c.loop-text.tx.conn.now in
+    let last = state g.S.Store c.run_plain.new.tx.conn.now in
+    let before = c.loop-text.invariant in
+    record {
+      same = c.run_plain.ensures.same_reference ∙ before.same;
+      wrote = survives_on first mid last before.wrote c.run_plain.ensures.survives;
+      kept = λ clean. kept_then first mid last (before.kept (omega (arith, c.run_plain.ensures.survives.clean))) (c.run_plain.ensures.kept clean);
+      founding = λ clean forms apart says.
+          next_made _ c.args.texts.now forms apart says c.loop-text.text-index _ c.loop-text-test.true first mid last (c.in_ok-run_plain.ensures.runs clean)
+          (before.founding (omega (arith, c.run_plain.ensures.survives.clean)) forms apart says);
+    }
+
+pub returns-clause-made : goal.returns-clause-made
+returns-clause-made g c clean forms apart says =
+    let whole : length c.args.texts.now ≤ c.loop-text.text-index = omega (arith, c.loop-text-test.false) in
+    all_made _ c.args.texts.now forms says (state g.S.Store c.args.tx.now.conn.now) (state g.S.Store c.loop-text.tx.conn.now) c.loop-text.text-index whole (c.loop-text.invariant.founding clean forms apart says)

@@ -1,0 +1,53 @@
+-- Rows of a form's table, as lists of the values of their columns, without the rowid.
+use Rattle.std.specs.Prelude.{ℕ, ◌+◌, Bool, true, false, not, ◌&&◌, List, [], ◌∷◌, filter}
+use Rattle.std.specs.List.{list_any}
+use Rattle.sqlite.specs.Order.{Row}
+use Rattle.sqlite.specs.declared.types.Value.{Value}
+use Rattle.sqlite.specs.declared.types.Value.TheVariants.{Null, Int, Text}
+use Rattle.sqlite.specs.Kind.{Kind}
+use Rattle.sqlite.specs.Kind.TheVariants as kind
+use Rattle.sqlite_schema.specs.declared.schema.Column.{Column}
+use Rattle.sqlite_schema.specs.Rules.{agree}
+use Rattle.sqlite_sql.specs.Ops.{is_null}
+use Rattle.sqlite_value.specs.Keys.{plain}
+use Rattle.table_forms.specs.Forms.{Form}
+
+-- the value is of the type, or NULL
+abbrev pub fits_kind : Kind → Value → Bool
+fits_kind kind.Integer Null = true
+fits_kind kind.Integer (Int n) = true
+fits_kind kind.Text Null = true
+fits_kind kind.Text (Text t) = true
+fits_kind _ _ = false
+
+-- the values are of the columns' types, as many as there are columns, and NULL only where a column allows it
+abbrev pub fits_columns : List Column → Row → Bool
+fits_columns [] [] = true
+fits_columns [] (v ∷ vs) = false
+fits_columns (c ∷ cs) [] = false
+fits_columns (c ∷ cs) (v ∷ vs) = fits_kind c.kind v && not (c.not_null && is_null v) && fits_columns cs vs
+
+-- two rows are equal in the columns of a key
+abbrev pub same_key : List ℕ → Row → Row → Bool
+same_key key a b = agree plain key (Null ∷ a) key (Null ∷ b)
+
+-- two rows are equal in some key of the form
+abbrev pub meets : Form → Row → Row → Bool
+meets form a b = list_any (λ key. same_key key a b) form.keys
+
+-- the rows with this one, in place of any that it meets
+abbrev pub put : Form → Row → List Row → List Row
+put form row rows = row ∷ filter (λ r. not (meets form r row)) rows
+
+-- the places of as many values, from this one on
+abbrev pub places_from : ℕ → List ℕ → List ℕ
+places_from n [] = []
+places_from n (place ∷ key) = n ∷ places_from (n + 1) key
+
+-- the row has these values in the columns of a key, in their order
+abbrev pub has_values : List ℕ → Row → Row → Bool
+has_values key values row = agree plain key (Null ∷ row) (places_from 0 key) values
+
+-- the rows but for those that have these values in the columns of a key
+abbrev pub take_away : List ℕ → Row → List Row → List Row
+take_away key values rows = filter (λ r. not (has_values key values r)) rows

@@ -1,0 +1,29 @@
+use std::marker::Model;
+
+/// A column of a STRICT table, with no default: its type, its name, and whether it may be NULL.
+#[derive(Clone, Copy, Debug)]
+pub enum ColumnForm<'a> {
+    Integer(&'a [u8]),
+    Text(&'a [u8]),
+    IntegerOrNull(&'a [u8]),
+    TextOrNull(&'a [u8]),
+}
+
+/// How a table is declared: STRICT, with this name, these columns, and a UNIQUE over each of these keys, which
+/// are the places of their columns, the first column being 1.
+#[derive(Debug, Drop)]
+pub struct Form<'a> {
+    pub name: &'a [u8],
+    pub columns: &'a [ColumnForm<'a>],
+    pub keys: &'a [&'a [usize]],
+}
+
+impl<'a> Model for Form<'a> {
+    ghost use Rattle.std.specs.Prelude.{map};
+    ghost use Rattle.table_forms.specs.Forms as form;
+    ghost use Rattle.table_forms.specs.Forms.{column_of};
+
+    ghost Value = { form.Form };
+
+    ghost view = { λ f. record { name = f.name.now; columns = map column_of f.columns.now; keys = map (λ k. k.now) f.keys.now } };
+}

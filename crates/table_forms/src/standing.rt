@@ -1,0 +1,256 @@
+//! Whether a schema declares a table as a form says.
+ghost use Rattle.std.specs.Prelude.{◌≡◌, ◌↔◌, ◌==◌, ◌<◌, ◌^◌, true, false, not, map, List, IsTrue, codes, [], None, length};
+ghost use Rattle.std.specs.List.{list_all, list_any};
+ghost use Rattle.sqlite_schema.specs.Names.{same_name};
+ghost use Rattle.sqlite_schema.specs.Rules.{guards};
+ghost use Rattle.sqlite.specs.Change.{is_used};
+ghost use Rattle.sqlite_rules.specs.Lists.{Has};
+ghost use Rattle.sqlite_value.specs.Keys.{plain};
+ghost use Rattle.table_forms.specs.Forms.{column_of, table_of, plains};
+ghost use Rattle.table_forms.specs.Standing.{IsFree, IsDeclared, IsUnnamed, HasTable};
+
+use crate::form::{ColumnForm, Form};
+use sqlite_items::Items;
+use sqlite_schema::names::same_name;
+use sqlite_schema::schema::{Column, Index, Kind, Reference, Schema, Table};
+use sqlite_value::keys::{Collation, Order};
+use sqlite_value::value::Value;
+
+/// How the table of a form stands in a schema.
+#[derive(Clone, Copy, Debug, PartialEq, Eq)]
+pub enum Stand {
+    /// Nothing bears its name, and no foreign key names it.
+    Absent,
+    /// It is declared by the form, no UNIQUE was added to it, and no foreign key names it.
+    Declared,
+    /// Its name is that of another table, of a view or an index, or is named by a foreign key.
+    Other,
+}
+
+/// The type of a column, and whether it may be NULL.
+fn kind_of(form: &ColumnForm<'_>) -> (Kind, bool)
+    ensures { result ≡ ((column_of form.now).kind, (column_of form.now).not_null) }
+{
+    match form {
+        ColumnForm::Integer(_) => (Kind::Integer, true),
+        ColumnForm::Text(_) => (Kind::Text, true),
+        ColumnForm::IntegerOrNull(_) => (Kind::Integer, false),
+        ColumnForm::TextOrNull(_) => (Kind::Text, false),
+    }
+}
+
+fn name_of<'a>(form: &ColumnForm<'a>) -> &'a [u8]
+    ensures { result.now ≡ (column_of form.now).name }
+{
+    match form {
+        ColumnForm::Integer(name)
+        | ColumnForm::Text(name)
+        | ColumnForm::IntegerOrNull(name)
+        | ColumnForm::TextOrNull(name) => name,
+    }
+}
+
+fn is_column(column: &Column, form: &ColumnForm<'_>) -> bool
+    ensures { (result ≡ true) ↔ (column.now ≡ column_of form.now) }
+{
+    let (kind, not_null) = kind_of(form);
+    column.name.as_slice() == name_of(form)
+        && column.kind == kind
+        && column.is_strict
+        && column.not_null == not_null
+        && matches!(column.default, Value::Null)
+        && column.collation == Collation::Binary
+}
+
+fn are_columns(columns: &[Column], forms: &[ColumnForm<'_>]) -> bool
+    ensures { (result ≡ true) ↔ (columns.now ≡ map column_of forms.now) }
+{
+    if columns.len() != forms.len() {
+        return false;
+    }
+    for at in 0..columns.len() {
+        if !is_column(&columns[at], &forms[at]) {
+            return false;
+        }
+    }
+    true
+}
+
+fn is_key(places: &Items<usize>, key: &[usize]) -> bool
+    ensures { (result ≡ true) ↔ (places.now ≡ key.now) }
+{
+    places.as_slice() == key
+}
+
+fn are_keys(uniques: &[Items<usize>], keys: &[&[usize]]) -> bool
+    ensures { (result ≡ true) ↔ (uniques.now ≡ map (λ key. key.now) keys.now) }
+{
+    if uniques.len() != keys.len() {
+        return false;
+    }
+    for at in 0..uniques.len() {
+        if !is_key(&uniques[at], keys[at]) {
+            return false;
+        }
+    }
+    true
+}
+
+fn are_plain(orders: &[Order], keys: &[&[usize]]) -> bool
+    ensures { (result ≡ true) ↔ (orders.now ≡ plains (map (λ key. key.now) keys.now)) }
+{
+    if orders.len() != keys.len() {
+        return false;
+    }
+    for at in 0..orders.len() {
+        if orders[at].digits != 0 {
+            return false;
+        }
+    }
+    true
+}
+
+/// Whether the table has nothing that CREATE adds beside columns and keys.
+fn is_bare(table: &Table) -> bool
+    ensures { (result ≡ true) ↔ ((table.now.key ≡ None) × (table.now.primary ≡ []) × (table.now.checks ≡ []) × (table.now.references ≡ []) × (table.now.computed ≡ []) × (table.now.stamps ≡ record { places = []; terms = []; formats = [] }) × (table.now.is_counted ≡ false)) }
+{
+    table.key.is_none()
+        && table.primary.as_slice().is_empty()
+        && table.checks.roots.as_slice().is_empty()
+        && table.references.as_slice().is_empty()
+        && table.computed.as_slice().is_empty()
+        && table.stamps.places.as_slice().is_empty()
+        && table.stamps.terms.roots.as_slice().is_empty()
+        && table.stamps.formats.as_slice().is_empty()
+        && !table.is_counted
+}
+
+/// Whether the form declares the table.
+fn is_table(table: &Table, form: &Form<'_>) -> bool
+    ensures { (result ≡ true) ↔ (table.now ≡ table_of form.now table.now.tree) }
+{
+    table.name.as_slice() == form.name
+        && are_columns(table.columns.as_slice(), form.columns)
+        && are_keys(table.uniques.as_slice(), form.keys)
+        && are_plain(table.orders.as_slice(), form.keys)
+        && is_bare(table)
+}
+
+fn is_reference_to(reference: &Reference, name: &[u8]) -> bool
+    ensures { result ≡ same_name name.now reference.now.parent }
+{
+    same_name(name, reference.parent.as_slice())
+}
+
+fn names(table: &Table, name: &[u8]) -> bool
+    ensures { result ≡ list_any (λ ref. same_name name.now ref.parent) table.now.references }
+{
+    table
+        .references
+        .as_slice()
+        .iter()
+        .any(|reference| is_reference_to(reference, name))
+}
+
+/// Whether a foreign key names the table of this name.
+fn is_parent(schema: &Schema, name: &[u8]) -> bool
+    ensures { result ≡ list_any (λ t. list_any (λ ref. same_name name.now ref.parent) t.references) schema.now.tables }
+{
+    schema
+        .tables
+        .as_slice()
+        .iter()
+        .any(|table| names(table, name))
+}
+
+/// Whether a table, an index or a view bears the name.
+fn is_taken(schema: &Schema, name: &[u8]) -> bool
+    ensures { result ≡ is_used schema.now name.now }
+{
+    schema.table_named(name).is_some()
+        || schema.index_named(name).is_some()
+        || schema.view_named(name).is_some()
+}
+
+/// Whether the name is free, and no foreign key names it.
+fn is_free(schema: &Schema, form: &Form<'_>) -> bool
+    ensures { (result ≡ true) ↔ IsFree schema.now form.now }
+{
+    !is_taken(schema, form.name) && !is_parent(schema, form.name)
+}
+
+/// Whether no other table has the tree.
+fn is_own(schema: &Schema, tree: u32, form: &Form<'_>) -> bool
+    ensures { (result ≡ true) ↔ ((t : _) → Has schema.now.tables t → t.tree ≡ tree → t ≡ table_of form.now tree) }
+{
+    for table in schema.tables.as_slice() {
+        if table.tree == tree && !is_table(table, form) {
+            return false;
+        }
+    }
+    true
+}
+
+/// Whether the places are those of one of the keys.
+fn is_some_key(places: &Items<usize>, keys: &[&[usize]]) -> bool
+    ensures { (result ≡ true) ↔ Has (map (λ key. key.now) keys.now) places.now }
+{
+    for key in keys {
+        if is_key(places, key) {
+            return true;
+        }
+    }
+    false
+}
+
+/// Whether the index is on one of the keys.
+fn is_of_a_key(index: &Index, keys: &[&[usize]]) -> bool
+    ensures { (result ≡ true) ↔ ((index.now.order ≡ plain) × Has (map (λ key. key.now) keys.now) index.now.columns) }
+{
+    index.order.digits == 0 && is_some_key(&index.columns, keys)
+}
+
+/// Whether each UNIQUE of the table of this tree is one of the keys.
+fn has_no_other_key(schema: &Schema, tree: u32, form: &Form<'_>) -> bool
+    ensures { (result ≡ true) ↔ ((i : _) → Has schema.now.indexes i → guards i (table_of form.now tree) ≡ true → (i.order ≡ plain) × Has form.now.keys i.columns) }
+{
+    for index in schema.indexes.as_slice() {
+        if index.is_unique && index.table == tree && !is_of_a_key(index, form.keys) {
+            return false;
+        }
+    }
+    true
+}
+
+fn is_declared(schema: &Schema, form: &Form<'_>) -> bool
+    ensures { (result ≡ true) ↔ HasTable schema.now form.now }
+{
+    let Some(at) = schema.table_named(form.name) else {
+        return false;
+    };
+    let Some(table) = schema.tables.get(at) else {
+        return false;
+    };
+    if !is_table(table, form) || table.tree >= 1 << 31 {
+        return false;
+    }
+    if !is_own(schema, table.tree, form) || !has_no_other_key(schema, table.tree, form) {
+        return false;
+    }
+    !is_parent(schema, form.name)
+}
+
+/// How the table of the form stands. It reads the schema alone, and takes no memory.
+pub fn stand_of(schema: &Schema, form: &Form<'_>) -> Stand
+    ensures absent { (result ≡ Stand.Absent) ↔ IsFree schema.now form.now }
+    ensures declared { (result ≡ Stand.Declared) ↔ HasTable schema.now form.now }
+{
+    if is_free(schema, form) {
+        return Stand::Absent;
+    }
+    if is_declared(schema, form) {
+        Stand::Declared
+    } else {
+        Stand::Other
+    }
+}

@@ -1,0 +1,90 @@
+ghost use Rattle.std.specs.Prelude.{◌≡◌, [], map, IfOk, OnOk, IsOkUnless};
+ghost use Rattle.sqlite.specs.State.{HasCleanDisk, Survives, KeepsCommit};
+ghost use Rattle.sqlite.specs.Values.{bound};
+ghost use Rattle.sqlite.specs.Held.{state};
+ghost use Rattle.table_forms.specs.Moves.{RunsInside, PutsRow, TakesRows, MakesTables};
+
+use crate::fault::{Fault, fault_of};
+use sqlite::{Alter, Error, Transaction};
+use sqlite_value::value::ValueRef;
+
+/// Runs a statement inside the transaction. What the store promises of it is put once into the words that the
+/// rest needs.
+fn run<S: Alter>(
+    tx: &mut Transaction<'_, S>,
+    sql: &str,
+    params: &[ValueRef<'_>],
+) -> Result<usize, Error>
+    ensures same_reference { tx.new.conn.ghost_name ≡ tx.old.conn.ghost_name }
+    ensures runs { HasCleanDisk (state S.Store tx.new.conn.now) → IfOk result (RunsInside sql.now (bound params.now) (state S.Store tx.old.conn.now) (state S.Store tx.new.conn.now)) }
+    ensures kept { HasCleanDisk (state S.Store tx.new.conn.now) → KeepsCommit (state S.Store tx.old.conn.now) (state S.Store tx.new.conn.now) }
+    ensures survives { Survives (state S.Store tx.old.conn.now) (state S.Store tx.new.conn.now) (λ _. ⊥) }
+{
+    tx.execute(sql, params)
+}
+
+/// Puts a row, by a text that replaces the rows that are equal to it in some key. The one fault is [`Fault::Store`],
+/// where the store refuses the text, as it may where it isn't one of a table that stands.
+pub fn put_row<S: Alter>(
+    tx: &mut Transaction<'_, S>,
+    sql: &str,
+    values: &[ValueRef<'_>],
+) -> Result<(), Fault>
+    ensures fault { IsOkUnless result Fault.Store }
+    ensures same_reference { tx.new.conn.ghost_name ≡ tx.old.conn.ghost_name }
+    ensures put { HasCleanDisk (state S.Store tx.new.conn.now) → OnOk result (PutsRow sql.now (bound values.now) (state S.Store tx.old.conn.now) (state S.Store tx.new.conn.now)) }
+    ensures kept { HasCleanDisk (state S.Store tx.new.conn.now) → KeepsCommit (state S.Store tx.old.conn.now) (state S.Store tx.new.conn.now) }
+    ensures survives { Survives (state S.Store tx.old.conn.now) (state S.Store tx.new.conn.now) (λ _. ⊥) }
+{
+    match run(tx, sql, values) {
+        Ok(_) => Ok(()),
+        Err(error) => Err(fault_of(error)),
+    }
+}
+
+/// Takes away the rows with these values in the columns of a key, by a text that deletes them. The fault is that of
+/// [`put_row`].
+pub fn take_rows<S: Alter>(
+    tx: &mut Transaction<'_, S>,
+    sql: &str,
+    values: &[ValueRef<'_>],
+) -> Result<(), Fault>
+    ensures fault { IsOkUnless result Fault.Store }
+    ensures same_reference { tx.new.conn.ghost_name ≡ tx.old.conn.ghost_name }
+    ensures taken { HasCleanDisk (state S.Store tx.new.conn.now) → OnOk result (TakesRows sql.now (bound values.now) (state S.Store tx.old.conn.now) (state S.Store tx.new.conn.now)) }
+    ensures kept { HasCleanDisk (state S.Store tx.new.conn.now) → KeepsCommit (state S.Store tx.old.conn.now) (state S.Store tx.new.conn.now) }
+    ensures survives { Survives (state S.Store tx.old.conn.now) (state S.Store tx.new.conn.now) (λ _. ⊥) }
+{
+    match run(tx, sql, values) {
+        Ok(_) => Ok(()),
+        Err(error) => Err(fault_of(error)),
+    }
+}
+
+/// Runs a statement without parameters inside the transaction.
+fn run_plain<S: Alter>(tx: &mut Transaction<'_, S>, sql: &str) -> Result<(), Fault>
+    ensures fault { IsOkUnless result Fault.Store }
+    ensures same_reference { tx.new.conn.ghost_name ≡ tx.old.conn.ghost_name }
+    ensures runs { HasCleanDisk (state S.Store tx.new.conn.now) → OnOk result ((count : _) × RunsInside sql.now [] (state S.Store tx.old.conn.now) (state S.Store tx.new.conn.now) count) }
+    ensures kept { HasCleanDisk (state S.Store tx.new.conn.now) → KeepsCommit (state S.Store tx.old.conn.now) (state S.Store tx.new.conn.now) }
+    ensures survives { Survives (state S.Store tx.old.conn.now) (state S.Store tx.new.conn.now) (λ _. ⊥) }
+{
+    match run(tx, sql, &[]) {
+        Ok(_) => Ok(()),
+        Err(error) => Err(fault_of(error)),
+    }
+}
+
+/// Makes tables, one by each text, up to the first that the store refuses: [`Fault::Store`], the one fault.
+pub fn make_tables<S: Alter>(tx: &mut Transaction<'_, S>, texts: &[&str]) -> Result<(), Fault>
+    ensures fault { IsOkUnless result Fault.Store }
+    ensures same_reference { tx.new.conn.ghost_name ≡ tx.old.conn.ghost_name }
+    ensures made { HasCleanDisk (state S.Store tx.new.conn.now) → OnOk result (MakesTables (map (λ text. text.now) texts.now) (state S.Store tx.old.conn.now) (state S.Store tx.new.conn.now)) }
+    ensures kept { HasCleanDisk (state S.Store tx.new.conn.now) → KeepsCommit (state S.Store tx.old.conn.now) (state S.Store tx.new.conn.now) }
+    ensures survives { Survives (state S.Store tx.old.conn.now) (state S.Store tx.new.conn.now) (λ _. ⊥) }
+{
+    for text in texts {
+        run_plain(tx, text)?;
+    }
+    Ok(())
+}

@@ -1,0 +1,51 @@
+-- A store whose transaction is not broken has its tables in the order of their rowids.
+use Rattle.std.proofs.Common.{◌≡◌, true, false, refl, ap, subst, Bool, IsTrue, Result, Ok, Err, IfOk}
+use Rattle.sqlite_trees.specs.View.{View, IsShaped, IsOrdered}
+use Rattle.sqlite_trees.specs.Objects.{IsListed, catalog_tree}
+use Rattle.sqlite_schema.specs.declared.schema.Schema.{Schema}
+use Rattle.sqlite_catalog.specs.Listing.{IsSound}
+use Rattle.sqlite_catalog.proofs.LayoutLemmas.{objects_rise, table_shape}
+use Rattle.sqlite_trees.specs.declared.memory.MemStore.{MemStore}
+use Rattle.sqlite.specs.Held.{Held, state}
+use Rattle.sqlite.specs.State as store
+use Rattle.sqlite.specs.State.{Opens}
+use Rattle.sqlite.specs.Steps.{over_memory, IsEmpty}
+use Rattle.table_forms.proofs.Ending.{IsStore}
+use Rattle.table_reads.specs.Opened.{IsNewlyOpened}
+use Rattle.table_reads.specs.Ordered.{IsRising}
+
+pub rising_of : (v : View) (schema : Schema) → IsListed (v.trees catalog_tree) v.shape v.reals → IsOrdered v.shape v.trees → IsSound schema v.trees
+    → IsRising (record { schema = schema; trees = v.trees })
+rising_of v schema listed ordered sound = record {
+  rises = λ t h. subst (λ s. IsShaped s (v.trees t.tree)) (table_shape listed (objects_rise v listed ordered).0 sound.lists.listed t h).0 (ordered t.tree);
+}
+
+pub ok_three : {A E : Type 0} (r : Result A E) (P Q R T : A → Type 0) → ((x : A) → P x → Q x → R x → T x) → IfOk r P → IfOk r Q → IfOk r R → IfOk r T
+ok_three (Ok x) P Q R T f p q r = f x p q r
+ok_three (Err e) P Q R T f p q r = tt
+
+pub open_if : (o b : Bool) → (o ≡ false → IsTrue b) → b ≡ false → IsTrue o
+open_if true b h k = refl
+open_if false b h k = absurd (let broken = rw k at (h refl) in cc)
+
+pub ok_two : {A E : Type 0} (r : Result A E) (P Q T : A → Type 0) → ((x : A) → P x → Q x → T x) → IfOk r P → IfOk r Q → IfOk r T
+ok_two (Ok x) P Q T f p q = f x p q
+ok_two (Err e) P Q T f p q = tt
+
+pub ok_one : {A E : Type 0} (r : Result A E) (P T : A → Type 0) → ((x : A) → P x → T x) → IfOk r P → IfOk r T
+ok_one (Ok x) P T f p = f x p
+ok_one (Err e) P T f p = tt
+
+-- a store that was opened is settled
+pub newly_opened : (c : store.State) → Opens c → IsStore c → IsRising c.now → IsNewlyOpened c
+newly_opened c opens laws rising = record {
+  settled = record { is_open = opens.is_open; shows = opens.clean; leaves = laws.stays opens.is_open; nothing_else = λ db left. laws.settled db opens.is_open left };
+  rising = rising;
+}
+
+-- a store in memory, which has no table
+pub memory_opened : (c : Held MemStore) → IsEmpty (state over_memory c) → IsNewlyOpened (state over_memory c)
+memory_opened c empty = record {
+  settled = record { is_open = empty.0.is_open; shows = empty.0.clean; leaves = refl; nothing_else = λ db left. left };
+  rising = record { rises = λ t has. absurd (rw (ap (λ (s : Schema). s.tables) empty.2) at has) };
+}

@@ -1,0 +1,31 @@
+-- A table has one list of rows, but for their order.
+use Rattle.std.proofs.Common.{◌≡◌, ap, subst, List, ℕ, map, drop}
+use Rattle.std.specs.Prelude.{IsPermutation}
+use Rattle.std.proofs.lemmas.List.Sorted.{IsPermutation-sym, IsPermutation-trans}
+use Rattle.sqlite.specs.Effect.{Database}
+use Rattle.sqlite.specs.Order.{Row}
+use Rattle.sqlite.specs.Schema.{Schema}
+use Rattle.sqlite.specs.Table.{Table}
+use Rattle.table_forms.specs.Forms.{Form, table_of}
+use Rattle.table_forms.specs.Standing.{IsDeclared, HasTable}
+use Rattle.table_reads.specs.Reading.{Lists}
+
+one_tree : (schema : Schema) (form : Form) (at tree at' tree' : ℕ) → IsDeclared schema form at tree → IsDeclared schema form at' tree' → tree ≡ tree'
+one_tree schema form at tree at' tree' p q =
+    let named = p.named in
+    let named' = q.named in
+    let place : at ≡ at' = cc in
+    let is = rw place at p.listed in
+    let is' = q.listed in
+    let tables : table_of form tree ≡ table_of form tree' = cc in
+    ap (λ (t : Table). t.tree) tables
+
+-- a table that was read stands as it is declared
+pub has_listed : (db : Database) (form : Form) (rows : List Row) → Lists db form rows → HasTable db.schema form
+has_listed db form rows l = record { at = l.at; tree = l.tree; declared = l.declared; low = l.low }
+
+pub lists_same : (db : Database) (form : Form) (xs ys : List Row) → Lists db form xs → Lists db form ys → IsPermutation xs ys
+lists_same db form xs ys p q =
+    let same = one_tree db.schema form p.at p.tree q.at q.tree p.declared q.declared in
+    let other : IsPermutation xs (map (drop 1) (db.trees q.tree)) = subst (λ t. IsPermutation xs (map (drop 1) (db.trees t))) same p.same in
+    IsPermutation-trans xs _ ys other (IsPermutation-sym ys _ q.same)

@@ -1,0 +1,32 @@
+-- SELECT of columns of one table, with a parameter for each of some columns, in an order, as it is written.
+use Rattle.std.specs.Prelude.{ℕ, List, [], ◌∷◌, map, Option, None, false}
+use Rattle.sqlite_ast.specs.declared.Expr.{Expr}
+use Rattle.sqlite_ast.specs.declared.Shown.{Shown}
+use Rattle.sqlite_ast.specs.declared.Shown.TheVariants.{One}
+use Rattle.sqlite_ast.specs.declared.Origin.TheVariants.{Table}
+use Rattle.sqlite_ast.specs.declared.Source.{Source, roll-Source}
+use Rattle.sqlite_ast.specs.declared.Core.{Core, roll-Core}
+use Rattle.sqlite_ast.specs.declared.Sort.{Sort, roll-Sort}
+use Rattle.sqlite_ast.specs.declared.Select.{Select, roll-Select}
+use Rattle.sqlite_ast.specs.declared.Statement.TheVariants as written
+use Rattle.sqlite_syntax.specs.declared.statement.Parsed.{Parsed}
+use Rattle.table_forms.specs.Written.{Name, column_expr, filter_of}
+
+abbrev pub shown_column : Name → Shown
+shown_column name = One (column_expr name) None name
+
+abbrev pub sort_by : Name → Sort
+sort_by name = roll-Sort (record { key = column_expr name; descending = false; nulls_first = None })
+
+abbrev pub from_table : Name → Source
+from_table table = roll-Source (record { is_left = false; origin = Table table; alias = None; on = None; using = [] })
+
+abbrev pub core_of : Name → List Name → Option Expr → Core
+core_of table columns test = roll-Core (record { distinct = false; shown = map shown_column columns; from = from_table table ∷ []; filter = test; group = []; having = None })
+
+abbrev pub select_of : Name → List Name → List Name → List Name → Select
+select_of table columns given order = roll-Select (record { with = []; first = core_of table columns (filter_of given); others = []; order = map sort_by order; limit = None; offset = None })
+
+-- one statement, which fills a text of this length
+abbrev pub parsed_as : Select → List Name → ℕ → Parsed
+parsed_as select parameters len = record { statement = written.Select select; names = parameters; formats = []; start = 0; end = len; tail = len }

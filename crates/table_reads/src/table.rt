@@ -1,0 +1,101 @@
+ghost use Rattle.std.specs.Prelude.{◌≡◌, ◌↔◌, true, false, All, List, ℕ, map, IfOk, IfErr, OnOk};
+ghost use Rattle.sqlite.specs.State.{HasCleanDisk, IsUnchanged, Survives};
+ghost use Rattle.sqlite.specs.Held.{state};
+ghost use Rattle.sqlite.specs.Values.{bound};
+ghost use Rattle.table_forms.specs.Resting.{Keeps};
+ghost use Rattle.table_forms.specs.Standing.{HasTable, IsFree};
+ghost use Rattle.table_reads.specs.Found.{AreGiven};
+ghost use Rattle.table_reads.specs.Reading.{Lists, Finds};
+ghost use Rattle.table_reads.specs.Given.{HasGivenRow};
+ghost use Rattle.table_reads.specs.Rises.{Rises};
+ghost use Rattle.table_reads.specs.Selects.{Selects};
+
+use crate::reading::read_rows;
+use crate::row::TableRow;
+use sqlite::types::ValueRef;
+use sqlite::{Alter, Connection};
+use sqlite_schema::schema::Schema;
+use std::alloc::Global;
+use table_forms::{Fault, Form, Stand, stand_of};
+
+/// Whether the table stands as it is declared.
+fn stands(schema: &Schema, form: &Form<'_>) -> bool
+    ensures { (result ≡ true) ↔ HasTable schema.now form.now }
+{
+    stand_of(schema, form) == Stand::Declared
+}
+
+/// Whether the table's name is free.
+fn is_free(schema: &Schema, form: &Form<'_>) -> bool
+    ensures { (result ≡ true) ↔ IsFree schema.now form.now }
+{
+    stand_of(schema, form) == Stand::Absent
+}
+
+/// Whether each of the tables stands as it is declared. It reads the schema alone, and takes no memory.
+pub fn all_stand(schema: &Schema, forms: &[Form<'_>]) -> bool
+    ensures { (result ≡ true) ↔ All (HasTable schema.now) forms.now }
+{
+    for form in forms {
+        if !stands(schema, form) {
+            return false;
+        }
+    }
+    true
+}
+
+/// Whether none of the tables stands, and their names are free: no table, index or view bears one, and no foreign key
+/// names one. It reads the schema alone, and takes no memory.
+pub fn all_free(schema: &Schema, forms: &[Form<'_>]) -> bool
+    ensures { (result ≡ true) ↔ All (IsFree schema.now) forms.now }
+{
+    for form in forms {
+        if !is_free(schema, form) {
+            return false;
+        }
+    }
+    true
+}
+
+/// The rows of the table that have the given values, by the first key of the table, from a fixed text that selects
+/// them. Store where the table doesn't stand as it is declared, where a transaction is open, and where the store
+/// fails; Memory where there is none. Nothing is changed.
+pub fn find_rows<S: Alter, R: TableRow>(
+    alloc: Global,
+    conn: &mut Connection<S>,
+    sql: &str,
+    values: &[ValueRef<'_>],
+) -> Result<Vec<R>, Fault>
+    requires { (places : List ℕ) × Selects R.FORM places sql.now }
+    ensures rows { (places : List ℕ) → Selects R.FORM places sql.now → AreGiven places (bound values.now) → HasCleanDisk (state S.Store conn.new) → IfOk result (λ list. Finds (state S.Store conn.old).now R.FORM places (bound values.now) (map R.row_of list.items)) }
+    ensures rising { IfOk result (λ list. Rises R.comes_before list.items) }
+    ensures same { HasCleanDisk (state S.Store conn.new) → OnOk result (IsUnchanged (state S.Store conn.old) (state S.Store conn.new)) }
+    ensures kept { HasCleanDisk (state S.Store conn.new) → Keeps (state S.Store conn.old) (state S.Store conn.new) }
+    ensures mode { (state S.Store conn.old).in_transaction ≡ false → (state S.Store conn.new).in_transaction ≡ false }
+    ensures crash { Survives (state S.Store conn.old) (state S.Store conn.new) (λ _. ⊥) }
+    // Memory is wanted for a row that was given, of a table that stands.
+    ensures memory { HasCleanDisk (state S.Store conn.new) → IfErr result (λ fault. fault ≡ Fault.Memory → HasTable conn.old.schema R.FORM × HasGivenRow S.Store sql.now (bound values.now) conn.new) }
+{
+    if !conn.is_autocommit() || !stands(conn.schema(), &R::FORM) {
+        return Err(Fault::Store);
+    }
+    read_rows(alloc, conn, sql, values)
+}
+
+/// All rows of the table, by its first key. Store where the table doesn't stand as it is declared, where a transaction
+/// is open, and where the store fails; Memory where there is none. Nothing is changed.
+pub fn read_table<S: Alter, R: TableRow>(
+    alloc: Global,
+    conn: &mut Connection<S>,
+) -> Result<Vec<R>, Fault>
+    ensures rows { HasCleanDisk (state S.Store conn.new) → IfOk result (λ list. Lists (state S.Store conn.old).now R.FORM (map R.row_of list.items)) }
+    ensures rising { IfOk result (λ list. Rises R.comes_before list.items) }
+    ensures same { HasCleanDisk (state S.Store conn.new) → OnOk result (IsUnchanged (state S.Store conn.old) (state S.Store conn.new)) }
+    ensures kept { HasCleanDisk (state S.Store conn.new) → Keeps (state S.Store conn.old) (state S.Store conn.new) }
+    ensures mode { (state S.Store conn.old).in_transaction ≡ false → (state S.Store conn.new).in_transaction ≡ false }
+    ensures crash { Survives (state S.Store conn.old) (state S.Store conn.new) (λ _. ⊥) }
+    // Memory is wanted for a row of a table that stands.
+    ensures memory { HasCleanDisk (state S.Store conn.new) → IfErr result (λ fault. fault ≡ Fault.Memory → HasTable conn.old.schema R.FORM) }
+{
+    find_rows(alloc, conn, R::select(), &[])
+}

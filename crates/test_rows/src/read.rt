@@ -1,0 +1,166 @@
+//! What is read of stores in memory.
+
+use crate::stores::{Store, filled};
+use plant_tables_stored::stocks::StoredSublot;
+use plant_tables_stored::{FoundTables, Loaded, found};
+use sqlite::types::ValueRef;
+use sqlite::{Connection, params};
+use std::alloc::Global;
+use std::test::Fail;
+use table_forms::Fault;
+use table_reads::{find_rows, reopen};
+
+/// What is read of it.
+fn loaded(rt: &HostRuntime, conn: &mut Store) -> Result<Option<Loaded>, Fail> {
+    Ok(Loaded::read(rt.alloc(), conn, 1)?)
+}
+
+/// What is found in it.
+fn found_in(rt: &HostRuntime, conn: &mut Store) -> Result<FoundTables, Fail> {
+    Ok(found(rt.alloc(), conn)?)
+}
+
+/// The sublots of a lot.
+fn sublots_of(alloc: Global, conn: &mut Store, lot: &str) -> Result<Vec<StoredSublot>, Fault> {
+    find_rows(
+        alloc,
+        conn,
+        "SELECT lot, no, place, stock FROM sublot WHERE lot = ?1 ORDER BY lot, no",
+        params![lot],
+    )
+}
+
+/// Adds a lot whose definition is these bytes.
+fn add_lot(conn: &mut Store, def: &[u8]) -> Result<(), Fail> {
+    conn.execute("INSERT INTO lot VALUES ('L-0', ?1)", &[ValueRef::Text(def)])?;
+    Ok(())
+}
+
+const STOCKS: &str =
+    "CREATE TABLE other (a INTEGER PRIMARY KEY, b TEXT UNIQUE); INSERT INTO other VALUES (7, 'x'); INSERT INTO lot VALUES ('L-2', 'SUGAR'), ('L-10', 'FLOUR'), ('L-1', 'FLOUR'); INSERT INTO sublot VALUES ('L-2', 0, 'A1', 3), ('L-1', 1, 'B2', 5), ('L-1', -3, '', -7)";
+
+#[test]
+fn rows_come_by_key(rt: HostRuntime) -> Result<(), Fail> {
+    let mut conn = filled(rt.alloc(), STOCKS)?;
+    let found = loaded(&rt, &mut conn)?;
+    match &found {
+        Some(loaded) => {
+            let lots = loaded.stocks.lots.as_slice();
+            assert_eq!(rt; lots.len(), 3);
+            assert!(rt; lots[0].id.as_slice() == b"L-1".as_slice());
+            assert!(rt; lots[1].id.as_slice() == b"L-10".as_slice());
+            assert!(rt; lots[2].id.as_slice() == b"L-2".as_slice());
+            assert!(rt; lots[2].def.as_slice() == b"SUGAR".as_slice());
+            assert!(rt; loaded.meta.is_empty());
+        }
+        None => assert!(rt; false),
+    }
+    Ok(())
+}
+
+#[test]
+fn broken_values_are_kept(rt: HostRuntime) -> Result<(), Fail> {
+    let mut conn = filled(rt.alloc(), STOCKS)?;
+    add_lot(&mut conn, b"\xFF")?;
+    let found = loaded(&rt, &mut conn)?;
+    match &found {
+        Some(loaded) => {
+            let sublots = loaded.stocks.sublots.as_slice();
+            assert_eq!(rt; sublots.len(), 3);
+            assert_eq!(rt; sublots[0].number, -3);
+            assert_eq!(rt; sublots[0].stock, -7);
+            let lots = loaded.stocks.lots.as_slice();
+            assert_eq!(rt; lots.len(), 4);
+            assert!(rt; lots[0].def.as_slice() == b"\xFF".as_slice());
+        }
+        None => assert!(rt; false),
+    }
+    Ok(())
+}
+
+#[test]
+fn nulls_are_kept(rt: HostRuntime) -> Result<(), Fail> {
+    let mut conn = filled(
+        rt.alloc(),
+        "INSERT INTO movement VALUES (2, 1, 5, 'L-1', 0, 'L-1', 1, NULL, 30, 120, 'ben', ''), (1, 1, 1, 'L-1', 0, NULL, NULL, NULL, 500, 110, 'anna', 'first')",
+    )?;
+    let found = loaded(&rt, &mut conn)?;
+    match &found {
+        Some(loaded) => {
+            let movements = loaded.stocks.movements.as_slice();
+            assert_eq!(rt; movements.len(), 2);
+            assert_eq!(rt; movements[0].amount, 500);
+            assert!(rt; movements[0].lot2.is_none());
+            assert!(rt; movements[0].note.as_slice() == b"first".as_slice());
+            assert_eq!(rt; movements[1].sub2, Some(1));
+            assert!(rt; movements[1].batch.is_none());
+        }
+        None => assert!(rt; false),
+    }
+    Ok(())
+}
+
+#[test]
+fn missing_tables_are_told(rt: HostRuntime) -> Result<(), Fail> {
+    let mut conn = filled(rt.alloc(), "DROP TABLE hold")?;
+    let dropped = loaded(&rt, &mut conn)?;
+    assert!(rt; dropped.is_none());
+    let mut conn = filled(rt.alloc(), "CREATE UNIQUE INDEX more ON lot (def)")?;
+    let guarded = loaded(&rt, &mut conn)?;
+    assert!(rt; guarded.is_none());
+    Ok(())
+}
+
+#[test]
+fn open_transactions_are_refused(rt: HostRuntime) -> Result<(), Fail> {
+    let mut conn = filled(rt.alloc(), "BEGIN")?;
+    match &Loaded::read(rt.alloc(), &mut conn, 1) {
+        Ok(_) => assert!(rt; false),
+        Err(fault) => assert!(rt; *fault == Fault::Store),
+    }
+    Ok(())
+}
+
+#[test]
+fn rows_of_a_lot(rt: HostRuntime) -> Result<(), Fail> {
+    let mut conn = filled(rt.alloc(), STOCKS)?;
+    let sublots = sublots_of(rt.alloc(), &mut conn, "L-1")?;
+    assert_eq!(rt; sublots.len(), 2);
+    assert_eq!(rt; sublots[0].number, -3);
+    assert_eq!(rt; sublots[1].stock, 5);
+    Ok(())
+}
+
+#[test]
+fn opened_anew(rt: HostRuntime) -> Result<(), Fail> {
+    let conn = filled(rt.alloc(), STOCKS)?;
+    match reopen(rt.alloc(), conn) {
+        Ok(mut conn) => {
+            let found = loaded(&rt, &mut conn)?;
+            match &found {
+                Some(loaded) => assert_eq!(rt; loaded.stocks.lots.len(), 3),
+                None => assert!(rt; false),
+            }
+        }
+        Err(_) => assert!(rt; false),
+    }
+    Ok(())
+}
+
+#[test]
+fn versions_are_told(rt: HostRuntime) -> Result<(), Fail> {
+    let mut conn = filled(rt.alloc(), "INSERT INTO meta VALUES (1, 1, 5, 100)")?;
+    assert!(rt; found_in(&rt, &mut conn)? == FoundTables::Version(1));
+    let mut conn = filled(rt.alloc(), "INSERT INTO meta VALUES (1, 1, -1, 100)")?;
+    assert!(rt; found_in(&rt, &mut conn)? == FoundTables::NoMeta);
+    let mut conn = filled(rt.alloc(), "DROP TABLE meta")?;
+    assert!(rt; found_in(&rt, &mut conn)? == FoundTables::NoMeta);
+    Ok(())
+}
+
+#[test]
+fn no_tables_are_found(rt: HostRuntime) -> Result<(), Fail> {
+    let mut conn = Connection::open_in_memory(rt.alloc())?;
+    assert!(rt; found_in(&rt, &mut conn)? == FoundTables::Nothing);
+    Ok(())
+}

@@ -1,0 +1,72 @@
+//! Programs that were run to their end.
+use desk_program::perform;
+use desk_words::Words;
+use sqlite::{Alter, Connection};
+use std::process::Abort;
+use std::test::Fail;
+use table_reads::open_in_memory;
+
+/// The words of the program over a store, whose file has no part in them here.
+pub const INIT: Words<'static> = Words::Init { file: "plant.db" };
+
+pub const RUN: Words<'static> = Words::Run { file: "plant.db" };
+
+pub const VERIFY: Words<'static> = Words::Verify { file: "plant.db" };
+
+/// What a program wrote, and its exit status.
+#[derive(Drop)]
+pub struct Outcome {
+    pub output: Vec<u8>,
+    pub errors: Vec<u8>,
+    pub status: u8,
+}
+
+/// Runs the program over a store, in which no transaction may be open.
+pub fn performed<S: Alter + Drop>(
+    rt: &impl AllocGlobal,
+    words: &Words<'_>,
+    connection: Connection<S>,
+    input: &[u8],
+) -> Result<Outcome, Fail> {
+    if !connection.is_autocommit() {
+        return Err(Fail::from("a transaction is open"));
+    }
+    let mut rest = input;
+    let mut output = Vec::new(rt.alloc());
+    let mut errors = Vec::new(rt.alloc());
+    let status = perform(
+        rt.alloc(),
+        words,
+        connection,
+        &mut rest,
+        &mut output,
+        &mut errors,
+    );
+    Ok(Outcome {
+        output,
+        errors,
+        status,
+    })
+}
+
+/// Runs the program over a new store, and checks how it ends.
+pub fn ends_so(
+    rt: &(impl Abort + AllocGlobal),
+    words: &Words<'_>,
+    input: &[u8],
+    output: &[u8],
+    status: u8,
+) -> Result<(), Fail> {
+    let end = performed(rt, words, open_in_memory(rt.alloc())?, input)?;
+    assert_eq!(rt; end.status, status);
+    assert!(rt; end.output.as_slice() == output);
+    assert!(rt; end.errors.is_empty());
+    Ok(())
+}
+
+/// Checks that a program performed by a fault, with nothing on standard output.
+pub fn is_fault(rt: &impl Abort, end: &Outcome, errors: &[u8], status: u8) {
+    assert_eq!(rt; end.status, status);
+    assert!(rt; end.output.is_empty());
+    assert!(rt; end.errors.as_slice() == errors);
+}

@@ -175,7 +175,9 @@ fn write<S: Alter>(alloc: Global, conn: &mut Connection<S>, count: u64) -> Resul
 
 /// The number of movements, after every row of every table was read. Store where a table is missing.
 fn read<S: Alter>(alloc: Global, conn: &mut Connection<S>) -> Result<usize, Fault>
-    ensures { HasCleanDisk (state S.Store conn.new) → IfOk result (λ n. (x : Loaded) × AreLoaded (state S.Store conn.old).now x × (n ≡ length x.stocks.movements.items)) }
+    ensures { HasCleanDisk (state S.Store conn.new)
+        → IfOk result (λ n. (x : Loaded) × AreLoaded (state S.Store conn.old).now x
+            × (n ≡ length x.stocks.movements.items)) }
 {
     match &Loaded::read(alloc, conn, 1)? {
         Some(loaded) => Ok(loaded.stocks.movements.len()),

@@ -68,7 +68,8 @@ fn edges(alloc: Global, shape: Shape, count: u64) -> Result<Vec<(Node, Node)>, A
 
 /// The number of nodes that the pairs lead to from the start.
 fn traced(alloc: Global, pairs: &[(Node, Node)], start: Node) -> Result<usize, AllocError>
-    ensures { IfOk result (λ n. (nodes : List Node) × Lists (IsReached Forward pairs.now start) nodes × (n ≡ length nodes)) }
+    ensures { IfOk result (λ n. (nodes : List Node)
+        × Lists (IsReached Forward pairs.now start) nodes × (n ≡ length nodes)) }
 {
     let mut source = Indexed::new(alloc, pairs)?;
     match closure(alloc, &mut source, start, Direction::Forward) {

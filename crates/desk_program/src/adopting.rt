@@ -38,9 +38,12 @@ pub(crate) fn adopted<S: Alter + Drop>(
     connection: Connection<S>,
 ) -> Result<Desk<S>, Stopped<S>>
     requires { (state S.Store connection).in_transaction ≡ false }
-    ensures adopted { IfOk result (λ desk. HasCleanDisk (state S.Store desk.connection) → IsNewlyOpened (state S.Store connection) → AdoptedFrom (state S.Store connection) (IsOpenAt (state S.Store desk.connection))) }
+    ensures adopted { IfOk result (λ desk. HasCleanDisk (state S.Store desk.connection)
+        → IsNewlyOpened (state S.Store connection)
+        → AdoptedFrom (state S.Store connection) (IsOpenAt (state S.Store desk.connection))) }
     ensures open { IfOk result (λ desk. desk.is_shut ≡ false) }
-    ensures refused { IfErr result (λ stopped. IsRefused S.Store connection stopped.connection stopped.fault) }
+    ensures refused { IfErr result
+        (λ stopped. IsRefused S.Store connection stopped.connection stopped.fault) }
     ensures unwritten { IfErr result (λ stopped. stopped.fault ≢ Fault.Write) }
 {
     match Desk::adopt(alloc, connection) {

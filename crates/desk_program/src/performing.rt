@@ -43,7 +43,8 @@ fn perform_run<S: Alter + Drop, R: Read, W: Write>(
     writer: &mut W,
 ) -> Performed<S>
     requires { (state S.Store connection).in_transaction ≡ false }
-    ensures { RunGives S.Store connection (R.remaining reader.old) (R.remaining reader.new) (W.contents writer.old) (W.contents writer.new) result.outcome }
+    ensures { RunGives S.Store connection (R.remaining reader.old) (R.remaining reader.new)
+        (W.contents writer.old) (W.contents writer.new) result.outcome }
 {
     match run(alloc, connection, reader, writer) {
         Ok(session) => {
@@ -69,7 +70,8 @@ pub fn perform_words<S: Alter + Drop, R: Read, W: Write>(
     writer: &mut W,
 ) -> Performed<S>
     requires { (state S.Store connection).in_transaction ≡ false }
-    ensures { Prints words.now (RunGives S.Store connection (R.remaining reader.old) (R.remaining reader.new) (W.contents writer.old) (W.contents writer.new))
+    ensures { Prints words.now (RunGives S.Store connection (R.remaining reader.old)
+        (R.remaining reader.new) (W.contents writer.old) (W.contents writer.new))
         (W.contents writer.old) (W.contents writer.new) result.outcome }
 {
     match words {
@@ -127,8 +129,10 @@ pub fn perform<S: Alter + Drop, R: Read, W: Write, E: Write>(
     errors: &mut E,
 ) -> u8
     requires { (state S.Store connection).in_transaction ≡ false }
-    ensures { (outcome : Result Bool Fault) × Exits (E.contents errors.old) (E.contents errors.new) result outcome
-        × Prints words.now (RunGives S.Store connection (R.remaining reader.old) (R.remaining reader.new) (W.contents writer.old) (W.contents writer.new))
+    ensures { (outcome : Result Bool Fault) × Exits (E.contents errors.old)
+        (E.contents errors.new) result outcome
+        × Prints words.now (RunGives S.Store connection (R.remaining reader.old)
+        (R.remaining reader.new) (W.contents writer.old) (W.contents writer.new))
         (W.contents writer.old) (W.contents writer.new) outcome }
 {
     let performed = perform_words(alloc, words, connection, reader, writer);

@@ -10,9 +10,11 @@ use std::io::Write;
 
 /// Writes a line and an LF. At the fault `Write` a front of both was written, and not all of it.
 pub(crate) fn print_line<W: Write>(writer: &mut W, line: &ShortLine) -> Result<(), Fault>
-    ensures ok { OnOk result (Appends (W.contents writer.old) (W.contents writer.new) (with_lf line.now.bytes)) }
+    ensures ok { OnOk result (Appends (W.contents writer.old) (W.contents writer.new)
+        (with_lf line.now.bytes)) }
     ensures fault { IfErr result (λ fault. fault ≡ Fault.Write) }
-    ensures front { IfErr result (λ _. AppendsFront (W.contents writer.old) (W.contents writer.new) (with_lf line.now.bytes)) }
+    ensures front { IfErr result (λ _. AppendsFront (W.contents writer.old) (W.contents writer.new)
+        (with_lf line.now.bytes)) }
 {
     match write_line(writer, line.as_bytes()) {
         Ok(()) => Ok(()),

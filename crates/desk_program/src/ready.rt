@@ -27,8 +27,11 @@ fn tell_ready<W: Write, K: Keeper>(writer: &mut W, keeper: &mut K) -> Result<(),
     ensures honest { K.honest keeper.new → K.honest keeper.old }
     ensures open { K.shut keeper.new ≡ false }
     ensures stays { K.honest keeper.new → (s : State) → K.stands keeper.old s → K.stands keeper.new s }
-    ensures told { K.honest keeper.new → (s : State) → K.stands keeper.old s → OnOk result (Appends (W.contents writer.old) (W.contents writer.new) (with_lf (ready_text (K.schema keeper.old)))) }
-    ensures printed { MatchResult result (λ _. Printed IsReady (W.contents writer.old) (W.contents writer.new)) (Unprinted IsReady (W.contents writer.old) (W.contents writer.new)) }
+    ensures told { K.honest keeper.new → (s : State) → K.stands keeper.old s
+        → OnOk result (Appends (W.contents writer.old) (W.contents writer.new)
+        (with_lf (ready_text (K.schema keeper.old)))) }
+    ensures printed { MatchResult result (λ _. Printed IsReady (W.contents writer.old)
+        (W.contents writer.new)) (Unprinted IsReady (W.contents writer.old) (W.contents writer.new)) }
 {
     let at = ask_standing(keeper)?;
     print_line(writer, &ready_line(at.schema))
@@ -45,9 +48,15 @@ pub fn init<S: Alter + Drop, W: Write>(
     writer: &mut W,
 ) -> Result<Desk<S>, Stopped<S>>
     requires { (state S.Store connection).in_transaction ≡ false }
-    ensures adopted { IfOk result (λ desk. HasCleanDisk (state S.Store desk.connection) → IsNewlyOpened (state S.Store connection) → AdoptedFrom (state S.Store connection) (IsOpenAt (state S.Store desk.connection))) }
-    ensures ready { IfOk result (λ desk. HasCleanDisk (state S.Store desk.connection) → IsNewlyOpened (state S.Store connection) → Appends (W.contents writer.old) (W.contents writer.new) (with_lf (ready_text newest_schema))) }
-    ensures printed { MatchResult result (λ _. Printed IsReady (W.contents writer.old) (W.contents writer.new)) (λ stopped. Unprinted IsReady (W.contents writer.old) (W.contents writer.new) stopped.fault) }
+    ensures adopted { IfOk result (λ desk. HasCleanDisk (state S.Store desk.connection)
+        → IsNewlyOpened (state S.Store connection)
+        → AdoptedFrom (state S.Store connection) (IsOpenAt (state S.Store desk.connection))) }
+    ensures ready { IfOk result (λ desk. HasCleanDisk (state S.Store desk.connection)
+        → IsNewlyOpened (state S.Store connection)
+        → Appends (W.contents writer.old) (W.contents writer.new) (with_lf (ready_text newest_schema))) }
+    ensures printed { MatchResult result (λ _. Printed IsReady (W.contents writer.old)
+        (W.contents writer.new)) (λ stopped. Unprinted IsReady (W.contents writer.old)
+        (W.contents writer.new) stopped.fault) }
 {
     let mut desk = adopted(alloc, connection)?;
     match tell_ready(writer, &mut desk) {

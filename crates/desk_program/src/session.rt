@@ -36,12 +36,23 @@ pub fn run<S: Alter + Drop, R: Read, W: Write>(
     writer: &mut W,
 ) -> Result<Session<S>, Stopped<S>>
     requires { (state S.Store connection).in_transaction ≡ false }
-    ensures ends { IfOk result (λ session. (bytes : List ℕ) × Consumes (R.remaining reader.old) (R.remaining reader.new) bytes
-        × (HasCleanDisk (state S.Store session.desk.connection) → IsNewlyOpened (state S.Store connection)
-        → AdoptedFrom (state S.Store connection) (λ s. Ends newest_schema s bytes (R.remaining reader.new) (W.contents writer.old) (W.contents writer.new)
-        (Stands (state S.Store session.desk.connection) session.desk.is_shut) session.desk.is_shut (Leaves (state S.Store session.desk.connection)) session.end
-        × RunLeaves s bytes (R.remaining reader.new) (Stands (state S.Store session.desk.connection) session.desk.is_shut) (Leaves (state S.Store session.desk.connection)) session.end))) }
-    ensures refused { IfErr result (λ stopped. IsRefused S.Store connection stopped.connection stopped.fault) }
+    ensures ends { IfOk result (λ session. (bytes : List ℕ)
+        × Consumes (R.remaining reader.old) (R.remaining reader.new) bytes
+        × (HasCleanDisk (state S.Store session.desk.connection)
+        → IsNewlyOpened (state S.Store connection)
+        → AdoptedFrom (state S.Store connection) (λ s.
+        Ends newest_schema s bytes (R.remaining reader.new)
+        (W.contents writer.old) (W.contents writer.new)
+        (Stands (state S.Store session.desk.connection) session.desk.is_shut)
+        session.desk.is_shut
+        (Leaves (state S.Store session.desk.connection))
+        session.end
+        × RunLeaves s bytes (R.remaining reader.new)
+        (Stands (state S.Store session.desk.connection) session.desk.is_shut)
+        (Leaves (state S.Store session.desk.connection))
+        session.end))) }
+    ensures refused { IfErr result
+        (λ stopped. IsRefused S.Store connection stopped.connection stopped.fault) }
     ensures unread { OnErr result (R.remaining reader.new ≡ R.remaining reader.old) }
     ensures unwritten { OnErr result (W.contents writer.new ≡ W.contents writer.old) }
 {

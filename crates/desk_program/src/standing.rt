@@ -18,7 +18,8 @@ pub(crate) fn ask_standing<K: Keeper>(keeper: &mut K) -> Result<Standing, Fault>
     ensures honest { K.honest keeper.new → K.honest keeper.old }
     ensures open { K.shut keeper.new ≡ false }
     ensures stays { K.honest keeper.new → (s : State) → K.stands keeper.old s → K.stands keeper.new s }
-    ensures asked { K.honest keeper.new → (s : State) → K.stands keeper.old s → IfOk result (λ at. (at.schema ≡ K.schema keeper.old) × (at.seq ≡ s.seq)) }
+    ensures asked { K.honest keeper.new → (s : State) → K.stands keeper.old s
+        → IfOk result (λ at. (at.schema ≡ K.schema keeper.old) × (at.seq ≡ s.seq)) }
     ensures unwritten { IfErr result (λ fault. fault ≢ Fault.Write) }
 {
     match keeper.ask(&Question::Desk) {

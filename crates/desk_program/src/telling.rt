@@ -27,7 +27,8 @@ pub(crate) fn tell_fault<E: Write>(fault: Fault, errors: &mut E) -> u8
 /// - `Usage`: its text goes to standard error, and the status is 2.
 /// - `Memory`: `fault: memory` and 4.
 pub fn tell_words<W: Write, E: Write>(fault: &WordsFault, writer: &mut W, errors: &mut E) -> u8
-    ensures { TellsWords fault.now (W.contents writer.old) (W.contents writer.new) (E.contents errors.old) (E.contents errors.new) result }
+    ensures { TellsWords fault.now (W.contents writer.old) (W.contents writer.new)
+        (E.contents errors.old) (E.contents errors.new) result }
 {
     match fault {
         WordsFault::Help(text) => match write_text(writer, text.as_bytes()) {
@@ -45,8 +46,10 @@ pub fn tell_words<W: Write, E: Write>(fault: &WordsFault, writer: &mut W, errors
 /// Tells on standard error why FILE doesn't open, and gives the exit status: `fault: memory` and 4 for want of memory,
 /// `fault: store` and 3 for every other error of the store.
 pub fn tell_opening<E: Write>(error: &Error, errors: &mut E) -> u8
-    ensures memory { error.now ≡ Error.SqliteFailure code.OutOfMemory → TellsFault Fault.Memory (E.contents errors.old) (E.contents errors.new) result }
-    ensures store { error.now ≢ Error.SqliteFailure code.OutOfMemory → TellsFault Fault.Store (E.contents errors.old) (E.contents errors.new) result }
+    ensures memory { error.now ≡ Error.SqliteFailure code.OutOfMemory
+        → TellsFault Fault.Memory (E.contents errors.old) (E.contents errors.new) result }
+    ensures store { error.now ≢ Error.SqliteFailure code.OutOfMemory
+        → TellsFault Fault.Store (E.contents errors.old) (E.contents errors.new) result }
 {
     tell_fault(opening_fault(error), errors)
 }

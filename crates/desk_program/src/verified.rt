@@ -24,9 +24,12 @@ use std::io::Write;
 /// Tests all tables of an open desk, whose first broken rule is a fault.
 fn check_tables<S: Alter>(desk: &mut Desk<S>) -> Result<(), Fault>
     requires { desk.old.is_shut ≡ false }
-    ensures honest { HasCleanDisk (state S.Store desk.new.connection) → HasCleanDisk (state S.Store desk.old.connection) }
+    ensures honest { HasCleanDisk (state S.Store desk.new.connection)
+        → HasCleanDisk (state S.Store desk.old.connection) }
     ensures open { desk.new.is_shut ≡ false }
-    ensures stays { HasCleanDisk (state S.Store desk.new.connection) → (s : State) → Stands (state S.Store desk.old.connection) desk.old.is_shut s → Stands (state S.Store desk.new.connection) desk.new.is_shut s }
+    ensures stays { HasCleanDisk (state S.Store desk.new.connection) → (s : State)
+        → Stands (state S.Store desk.old.connection) desk.old.is_shut s
+        → Stands (state S.Store desk.new.connection) desk.new.is_shut s }
     ensures unwritten { IfErr result (λ fault. fault ≢ Fault.Write) }
 {
     match desk.verify() {
@@ -42,8 +45,11 @@ fn tell_good<W: Write, K: Keeper>(writer: &mut W, keeper: &mut K) -> Result<(), 
     ensures honest { K.honest keeper.new → K.honest keeper.old }
     ensures open { K.shut keeper.new ≡ false }
     ensures stays { K.honest keeper.new → (s : State) → K.stands keeper.old s → K.stands keeper.new s }
-    ensures told { K.honest keeper.new → (s : State) → K.stands keeper.old s → OnOk result (Appends (W.contents writer.old) (W.contents writer.new) (with_lf (good_text (K.schema keeper.old) s.seq))) }
-    ensures printed { MatchResult result (λ _. Printed IsGoodLine (W.contents writer.old) (W.contents writer.new)) (Unprinted IsGoodLine (W.contents writer.old) (W.contents writer.new)) }
+    ensures told { K.honest keeper.new → (s : State) → K.stands keeper.old s
+        → OnOk result (Appends (W.contents writer.old) (W.contents writer.new)
+        (with_lf (good_text (K.schema keeper.old) s.seq))) }
+    ensures printed { MatchResult result (λ _. Printed IsGoodLine (W.contents writer.old)
+        (W.contents writer.new)) (Unprinted IsGoodLine (W.contents writer.old) (W.contents writer.new)) }
 {
     let at = ask_standing(keeper)?;
     print_line(writer, &good_line(at.schema, at.seq))
@@ -52,12 +58,18 @@ fn tell_good<W: Write, K: Keeper>(writer: &mut W, keeper: &mut K) -> Result<(), 
 /// Tests all tables of an open desk, and prints the line of good ones.
 fn tell_tested<S: Alter, W: Write>(writer: &mut W, desk: &mut Desk<S>) -> Result<(), Fault>
     requires { desk.old.is_shut ≡ false }
-    ensures honest { HasCleanDisk (state S.Store desk.new.connection) → HasCleanDisk (state S.Store desk.old.connection) }
+    ensures honest { HasCleanDisk (state S.Store desk.new.connection)
+        → HasCleanDisk (state S.Store desk.old.connection) }
     ensures open { desk.new.is_shut ≡ false }
-    ensures stays { HasCleanDisk (state S.Store desk.new.connection) → (s : State) → Stands (state S.Store desk.old.connection) desk.old.is_shut s → Stands (state S.Store desk.new.connection) desk.new.is_shut s }
-    ensures told { HasCleanDisk (state S.Store desk.new.connection) → (s : State) → Stands (state S.Store desk.old.connection) desk.old.is_shut s
-        → OnOk result (Appends (W.contents writer.old) (W.contents writer.new) (with_lf (good_text newest_schema s.seq))) }
-    ensures printed { MatchResult result (λ _. Printed IsGoodLine (W.contents writer.old) (W.contents writer.new)) (Unprinted IsGoodLine (W.contents writer.old) (W.contents writer.new)) }
+    ensures stays { HasCleanDisk (state S.Store desk.new.connection) → (s : State)
+        → Stands (state S.Store desk.old.connection) desk.old.is_shut s
+        → Stands (state S.Store desk.new.connection) desk.new.is_shut s }
+    ensures told { HasCleanDisk (state S.Store desk.new.connection) → (s : State)
+        → Stands (state S.Store desk.old.connection) desk.old.is_shut s
+        → OnOk result (Appends (W.contents writer.old) (W.contents writer.new)
+        (with_lf (good_text newest_schema s.seq))) }
+    ensures printed { MatchResult result (λ _. Printed IsGoodLine (W.contents writer.old)
+        (W.contents writer.new)) (Unprinted IsGoodLine (W.contents writer.old) (W.contents writer.new)) }
 {
     match check_tables(desk) {
         Ok(()) => tell_good(writer, desk),
@@ -76,9 +88,14 @@ pub fn verify<S: Alter + Drop, W: Write>(
     writer: &mut W,
 ) -> Result<Desk<S>, Stopped<S>>
     requires { (state S.Store connection).in_transaction ≡ false }
-    ensures good { IfOk result (λ desk. HasCleanDisk (state S.Store desk.connection) → IsNewlyOpened (state S.Store connection)
-        → AdoptedFrom (state S.Store connection) (λ s. IsOpenAt (state S.Store desk.connection) s × Appends (W.contents writer.old) (W.contents writer.new) (with_lf (good_text newest_schema s.seq)))) }
-    ensures printed { MatchResult result (λ _. Printed IsGoodLine (W.contents writer.old) (W.contents writer.new)) (λ stopped. Unprinted IsGoodLine (W.contents writer.old) (W.contents writer.new) stopped.fault) }
+    ensures good { IfOk result (λ desk. HasCleanDisk (state S.Store desk.connection)
+        → IsNewlyOpened (state S.Store connection)
+        → AdoptedFrom (state S.Store connection) (λ s. IsOpenAt (state S.Store desk.connection) s
+        × Appends (W.contents writer.old) (W.contents writer.new)
+        (with_lf (good_text newest_schema s.seq)))) }
+    ensures printed { MatchResult result (λ _. Printed IsGoodLine (W.contents writer.old)
+        (W.contents writer.new)) (λ stopped. Unprinted IsGoodLine (W.contents writer.old)
+        (W.contents writer.new) stopped.fault) }
 {
     let mut desk = adopted(alloc, connection)?;
     match tell_tested(writer, &mut desk) {

@@ -5,8 +5,6 @@ mod command_line;
 mod laws;
 mod meaning;
 mod read;
-#[cfg(test)]
-mod tests;
 
 pub use laws::plain_words_law;
 pub use meaning::{Words, WordsFault};

@@ -57,7 +57,8 @@ pub(crate) enum Unjudged {
 ///
 /// `Read` comes where a read failed, and `Memory` where memory was refused.
 pub(crate) fn judge<R: Read + Drop>(alloc: Global, reader: R) -> Result<Verdict, Unjudged>
-    ensures { IfOk result (λ verdict. IfSome (R.remaining reader) (λ bytes. verdict ≡ verdict_of (orders_of bytes))) }
+    ensures { IfOk result (λ verdict. IfSome (R.remaining reader)
+        (λ bytes. verdict ≡ verdict_of (orders_of bytes))) }
 {
     let mut bytes = Vec::new(alloc);
     let mut front = reader.take(LONGEST_FILE as u64 + 1);

@@ -98,6 +98,12 @@ place_order a b = numbered_cmp a.lot a.number b.lot b.number
 abbrev pub hold_order : Hold → Hold → Ordering
 hold_order a b = ordering_then (id_cmp a.lot b.lot) (id_cmp a.id b.id)
 
+abbrev pub event_order : BatchEvent → BatchEvent → Ordering
+event_order a b = nat_cmp a.seq b.seq
+
+abbrev pub movement_order : Movement → Movement → Ordering
+movement_order a b = ordering_then (nat_cmp a.seq b.seq) (nat_cmp a.line b.line)
+
 -- a row takes the place of the one with its key, and else goes before the first greater one
 abbrev pub put : {R : Type 0} → (R → R → Ordering) → R → List R → List R
 put order row [] = row ∷ []

@@ -35,9 +35,9 @@ makes_a_lot sort.Divided = false
 makes_a_lot sort.Split = true
 makes_a_lot sort.Merged = true
 
-abbrev pub is_division : MovementSort → Bool
-is_division sort.Divided = true
-is_division _ = false
+abbrev pub is_division_sort : MovementSort → Bool
+is_division_sort sort.Divided = true
+is_division_sort _ = false
 
 -- both are of this sort
 abbrev pub are_of_one_sort : MovementSort → MovementSort → Bool
@@ -52,19 +52,19 @@ abbrev pub is_of_one_birth : BookedRow → BookedRow → Bool
 is_of_one_birth first r = r.seq == first.seq && are_of_one_sort first.sort r.sort
 
 -- there are some, all of one number and of one sort that makes a lot, and they bring no more than an amount
-abbrev pub is_birth : List BookedRow → Bool
-is_birth [] = false
-is_birth (r ∷ rows) = list_all (is_of_one_birth r) (r ∷ rows) && nat_le (total_of (r ∷ rows)) greatest_amount
+abbrev pub is_one_birth : List BookedRow → Bool
+is_one_birth [] = false
+is_one_birth (r ∷ rows) = list_all (is_of_one_birth r) (r ∷ rows) && nat_le (total_of (r ∷ rows)) greatest_amount
 
 -- it is one, and a division
 abbrev pub is_one_division : List BookedRow → Bool
 is_one_division [] = false
-is_one_division (r ∷ []) = is_division r.sort
+is_one_division (r ∷ []) = is_division_sort r.sort
 is_one_division (r ∷ s ∷ rows) = false
 
 -- sublot 0 came to be with its lot, each other sublot by one division
 abbrev pub is_born : List BookedRow → Sublot → Bool
-is_born rows s = if s.number == 0 then is_birth (entries rows s.lot s.number) else is_one_division (entries rows s.lot s.number)
+is_born rows s = if s.number == 0 then is_one_birth (entries rows s.lot s.number) else is_one_division (entries rows s.lot s.number)
 
 abbrev pub is_lot_among : List Lot → List ℕ → Bool
 is_lot_among lots id = list_any (λ l. same l.id id) lots

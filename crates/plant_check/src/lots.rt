@@ -2,7 +2,7 @@
 
 ghost use Rattle.std.specs.Prelude.{◌≡◌, IfOk, map};
 ghost use Rattle.std.specs.List.{list_all};
-ghost use Rattle.plant_check.specs.Lots.{are_from_zero, sublots_among, is_right_lot, makes_a_lot, is_division, are_of_one_sort, is_of_one_birth, is_birth, is_one_division, is_born, is_lot_among, is_right_sublot, are_in_lots, are_lots};
+ghost use Rattle.plant_check.specs.Lots.{are_from_zero, sublots_among, is_right_lot, makes_a_lot, is_division_sort, are_of_one_sort, is_of_one_birth, is_one_birth, is_one_division, is_born, is_lot_among, is_right_sublot, are_in_lots, are_lots};
 
 use crate::ends::{EnteredPlaces, entries, total_of};
 use plant_base::{Definition, GREATEST_AMOUNT, Hold, Id, Lot, Sublot};
@@ -137,14 +137,14 @@ fn is_born(entered: &Grouped<EnteredPlaces>, sublot: &Sublot) -> bool
 {
     let rows = entries(entered, sublot.lot, sublot.number);
     if sublot.number == 0 {
-        is_birth(rows)
+        is_one_birth(rows)
     } else {
         is_one_division(rows)
     }
 }
 
-fn is_birth(rows: &[BookedRow]) -> bool
-    ensures { result ≡ is_birth rows.now }
+fn is_one_birth(rows: &[BookedRow]) -> bool
+    ensures { result ≡ is_one_birth rows.now }
 {
     match rows {
         [] => false,

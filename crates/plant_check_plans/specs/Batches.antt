@@ -13,47 +13,44 @@ use Rattle.plant_base.specs.declared.rows.Recipe.{Recipe}
 use Rattle.plant_base.specs.declared.rows.RecipeLine.{RecipeLine}
 use Rattle.plant_recipe.specs.Form.{is_well_formed}
 use Rattle.plant_recipe.specs.Control.{is_size_of, control_of}
-use Rattle.plant_view.specs.Production.{lines_among, control_among}
+use Rattle.plant_view.specs.Production.{lines_among, control_among, job_among}
 use Rattle.plant_check_plans.specs.Orders.{recipe_among}
 use Rattle.plant_check_plans.specs.Recipes.{are_numbered}
-
-abbrev pub job_among : List Job → List ℕ → Option Job
-job_among jobs id = find (λ j. same j.order.order id) jobs
 
 -- the control recipe for one of the recipe's sizes, where nothing becomes 0
 abbrev pub control_sized : Header → List RecipeLine → ℕ → Option (List RecipeLine)
 control_sized header lines size = if is_size_of header size then control_of header lines size else None
 
 -- the same of a recipe that is well formed
-abbrev pub control_for : Header → List RecipeLine → ℕ → Option (List RecipeLine)
-control_for header lines size = if is_well_formed header lines then control_sized header lines size else None
+abbrev pub control_where_formed : Header → List RecipeLine → ℕ → Option (List RecipeLine)
+control_where_formed header lines size = if is_well_formed header lines then control_sized header lines size else None
 
-abbrev pub control_from : List MasterLine → ℕ → Option Recipe → Option (List RecipeLine)
-control_from rows size None = None
-control_from rows size (Some r) = control_for r.header (lines_among rows r.header.recipe r.header.version) size
+abbrev pub control_of_found : List MasterLine → ℕ → Option Recipe → Option (List RecipeLine)
+control_of_found rows size None = None
+control_of_found rows size (Some r) = control_where_formed r.header (lines_among rows r.header.recipe r.header.version) size
 
 -- the control recipe that an order asks for, where the order and its recipe are there
-abbrev pub control_by : List Recipe → List MasterLine → Option Job → Option (List RecipeLine)
-control_by recipes rows None = None
-control_by recipes rows (Some j) = control_from rows j.order.size (recipe_among recipes j.order.recipe j.order.version)
+abbrev pub control_asked_for : List Recipe → List MasterLine → Option Job → Option (List RecipeLine)
+control_asked_for recipes rows None = None
+control_asked_for recipes rows (Some j) = control_of_found rows j.order.size (recipe_among recipes j.order.recipe j.order.version)
 
 -- the lines are those of the control recipe
 abbrev pub is_control : Option (List RecipeLine) → List RecipeLine → Bool
 is_control None lines = false
 is_control (Some control) lines = pointwise equal.eq control lines
 
-abbrev pub is_batch_among : List BatchRow → List ℕ → Bool
-is_batch_among batches id = list_any (λ b. same b.batch.id id) batches
+abbrev pub is_row_among : List BatchRow → List ℕ → Bool
+is_row_among batches id = list_any (λ b. same b.batch.id id) batches
 
 -- the batch is the only one of its order, and its lines, numbered from 1 on, are the control recipe that it asks for
 unfoldable pub is_right_batch : List Recipe → List MasterLine → List Job → List BatchRow → List ControlLine → BatchRow → Bool
 is_right_batch recipes rows jobs batches control b =
     length (filter (λ x. same x.batch.job b.batch.job) batches) == 1
     && are_numbered 1 (map (λ l. l.number) (control_among control b.batch.id))
-    && is_control (control_by recipes rows (job_among jobs b.batch.job)) (map (λ l. l.line) (control_among control b.batch.id))
+    && is_control (control_asked_for recipes rows (job_among jobs b.batch.job)) (map (λ l. l.line) (control_among control b.batch.id))
 
 -- and no control line is without its batch
 abbrev pub are_batches : List Recipe → List MasterLine → List Job → List BatchRow → List ControlLine → Bool
 are_batches recipes rows jobs batches control =
     list_all (is_right_batch recipes rows jobs batches control) batches
-    && list_all (λ l. is_batch_among batches l.batch) control
+    && list_all (λ l. is_row_among batches l.batch) control

@@ -9,7 +9,7 @@ use Rattle.plant_recipe.specs.contracts.progress.ProgressPartialEq.TheImpl.{ghos
 use Rattle.plant_recipe.specs.declared.progress.Progress.{Progress}
 use Rattle.plant_recipe.specs.Progress.{run_of}
 use Rattle.plant_view.specs.Tables.{phases_among, events_among}
-use Rattle.plant_check_plans.specs.Batches.{is_batch_among}
+use Rattle.plant_check_plans.specs.Batches.{is_row_among}
 
 -- the kept columns of a batch
 abbrev pub kept_progress : BatchRow → Progress
@@ -28,4 +28,4 @@ has_right_run control events b = is_run (run_of (phases_among control b.batch.id
 abbrev pub are_events : List ControlLine → List BatchEvent → List BatchRow → Bool
 are_events control events batches =
     list_all (has_right_run control events) batches
-    && list_all (λ e. is_batch_among batches e.batch) events
+    && list_all (λ e. is_row_among batches e.batch) events

@@ -21,9 +21,9 @@ is_size_of_recipe (Some r) size = is_size_of r.header size
 abbrev pub row_of_order : List BatchRow → List ℕ → Option BatchRow
 row_of_order batches order = find (λ b. same b.batch.job order) batches
 
-abbrev pub is_running : Option BatchRow → Bool
-is_running None = false
-is_running (Some b) = not b.closed
+abbrev pub is_left_open : Option BatchRow → Bool
+is_left_open None = false
+is_left_open (Some b) = not b.closed
 
 abbrev pub is_closed : Option BatchRow → Bool
 is_closed None = false
@@ -33,7 +33,7 @@ is_closed (Some b) = b.closed
 abbrev pub is_started : JobState → Option BatchRow → Bool
 is_started Open b = is_none b
 is_started Cancelled b = is_none b
-is_started Released b = is_running b
+is_started Released b = is_left_open b
 is_started Finished b = is_closed b
 
 -- the order's recipe is there with its size, and it has a batch where it was released

@@ -4,7 +4,7 @@ ghost use Rattle.std.specs.Prelude.{◌≡◌, IfOk, ◌&&◌, ◌==◌, map, le
 ghost use Rattle.std.specs.List.{list_all};
 ghost use Rattle.plant_base.specs.State.{same};
 ghost use Rattle.plant_view.specs.Production.{lines_among};
-ghost use Rattle.plant_check_plans.specs.Batches.{control_sized, control_for, control_from, control_by, is_control, is_batch_among, is_right_batch, are_batches};
+ghost use Rattle.plant_check_plans.specs.Batches.{control_sized, control_where_formed, control_of_found, control_asked_for, is_control, is_row_among, is_right_batch, are_batches};
 
 use crate::keys::{
     Batches, BatchesOfOrders, ControlLines, Orders, RecipeLines, Recipes, control_of, has_batch,
@@ -57,7 +57,8 @@ impl<'a> Plans<'a> {
         rows: &'a [MasterLine],
         jobs: &'a [Job],
     ) -> Result<Self, AllocError>
-        ensures { IfOk result (λ p. (p.recipes.rows.now ≡ recipes.now) × (p.lines.rows.now ≡ rows.now) × (p.jobs.rows.now ≡ jobs.now)) }
+        ensures { IfOk result (λ p. (p.recipes.rows.now ≡ recipes.now)
+            × (p.lines.rows.now ≡ rows.now) × (p.jobs.rows.now ≡ jobs.now)) }
     {
         let recipes = Grouped::<Recipes>::new(alloc, recipes)?;
         let lines = Grouped::<RecipeLines>::new(alloc, rows)?;
@@ -70,50 +71,51 @@ impl<'a> Plans<'a> {
     }
 
     // The control recipe that an order asks for.
-    fn control_by(
+    fn control_asked_for(
         &self,
         alloc: Global,
         job: Option<Job>,
     ) -> Result<Option<Items<RecipeLine>>, AllocError>
-        ensures { IfOk result (λ c. c ≡ control_by self.now.recipes.rows.now self.now.lines.rows.now job) }
+        ensures { IfOk result
+            (λ c. c ≡ control_asked_for self.now.recipes.rows.now self.now.lines.rows.now job) }
     {
         match job {
             None => Ok(None),
             Some(job) => {
                 let order = job.order;
                 let recipe = recipe_at(&self.recipes, order.recipe, order.version);
-                self.control_from(alloc, order.size, recipe)
+                self.control_of_found(alloc, order.size, recipe)
             }
         }
     }
 
-    fn control_from(
+    fn control_of_found(
         &self,
         alloc: Global,
         size: Amount,
         recipe: Option<Recipe>,
     ) -> Result<Option<Items<RecipeLine>>, AllocError>
-        ensures { IfOk result (λ c. c ≡ control_from self.now.lines.rows.now size recipe) }
+        ensures { IfOk result (λ c. c ≡ control_of_found self.now.lines.rows.now size recipe) }
     {
         match recipe {
             None => Ok(None),
             Some(recipe) => {
                 let header = recipe.header;
                 let rows = lines_of(&self.lines, header.recipe, header.version);
-                control_for(alloc, header, lines_in(alloc, rows)?, size)
+                control_where_formed(alloc, header, lines_in(alloc, rows)?, size)
             }
         }
     }
 }
 
 // The control recipe of a well-formed recipe for one of its sizes.
-fn control_for(
+fn control_where_formed(
     alloc: Global,
     header: Header,
     lines: Vec<RecipeLine>,
     size: Amount,
 ) -> Result<Option<Items<RecipeLine>>, AllocError>
-    ensures { IfOk result (λ c. c ≡ control_for header lines.items size) }
+    ensures { IfOk result (λ c. c ≡ control_where_formed header lines.items size) }
 {
     match Master::check(header, lines) {
         Err(_) => Ok(None),
@@ -145,7 +147,8 @@ fn are_right(
     batches: &[BatchRow],
     controls: &Grouped<ControlLines>,
 ) -> Result<bool, AllocError>
-    ensures { IfOk result (λ b. b ≡ list_all (is_right_batch plans.now.recipes.rows.now plans.now.lines.rows.now plans.now.jobs.rows.now batches.now controls.now.rows.now) batches.now) }
+    ensures { IfOk result
+        (λ b. b ≡ list_all (is_right_batch plans.now.recipes.rows.now plans.now.lines.rows.now plans.now.jobs.rows.now batches.now controls.now.rows.now) batches.now) }
 {
     let orders = Grouped::<BatchesOfOrders>::new(alloc, batches)?;
     for batch in batches {
@@ -164,11 +167,12 @@ fn is_right(
     controls: &Grouped<ControlLines>,
     batch: &BatchRow,
 ) -> Result<bool, AllocError>
-    ensures { IfOk result (λ b. b ≡ is_right_batch plans.now.recipes.rows.now plans.now.lines.rows.now plans.now.jobs.rows.now orders.now.rows.now controls.now.rows.now batch.now) }
+    ensures { IfOk result
+        (λ b. b ≡ is_right_batch plans.now.recipes.rows.now plans.now.lines.rows.now plans.now.jobs.rows.now orders.now.rows.now controls.now.rows.now batch.now) }
 {
     let order = batch.batch.job;
     let lines = control_of(controls, batch.batch.id);
-    let wanted = plans.control_by(alloc, job_at(&plans.jobs, order))?;
+    let wanted = plans.control_asked_for(alloc, job_at(&plans.jobs, order))?;
     let found = lines_among(alloc, lines)?;
     Ok(
         has_one_batch(orders, order)
@@ -194,7 +198,7 @@ fn is_control(wanted: &Option<Items<RecipeLine>>, lines: &[RecipeLine]) -> bool
 
 // Whether no line is without its batch.
 fn are_of_batches(known: &Grouped<Batches>, control: &[ControlLine]) -> bool
-    ensures { result ≡ list_all (λ l. is_batch_among known.now.rows.now l.batch) control.now }
+    ensures { result ≡ list_all (λ l. is_row_among known.now.rows.now l.batch) control.now }
 {
     control.iter().all(|l| has_batch(known, l.batch))
 }

@@ -5,7 +5,7 @@ ghost use Rattle.std.specs.List.{list_all};
 ghost use Rattle.plant_recipe.specs.Form.{is_phase};
 ghost use Rattle.plant_recipe.specs.Progress.{greatest_phases, run_of};
 ghost use Rattle.plant_view.specs.Tables.{phases_among, events_among};
-ghost use Rattle.plant_check_plans.specs.Batches.{is_batch_among};
+ghost use Rattle.plant_check_plans.specs.Batches.{is_row_among};
 ghost use Rattle.plant_check_plans.specs.Events.{kept_progress, is_run, has_right_run, are_events};
 
 use crate::keys::{Batches, ControlLines, Events, control_of, events_of, has_batch};
@@ -40,7 +40,8 @@ fn are_right(
     events: &Grouped<Events>,
     batches: &[BatchRow],
 ) -> Result<bool, AllocError>
-    ensures { IfOk result (λ b. b ≡ list_all (has_right_run controls.now.rows.now events.now.rows.now) batches.now) }
+    ensures { IfOk result
+        (λ b. b ≡ list_all (has_right_run controls.now.rows.now events.now.rows.now) batches.now) }
 {
     for batch in batches {
         if !is_right(alloc, controls, events, batch)? {
@@ -124,7 +125,7 @@ fn is_phase(line: RecipeLine) -> bool
 
 // Whether no event is without its batch.
 fn are_of_batches(known: &Grouped<Batches>, events: &[BatchEvent]) -> bool
-    ensures { result ≡ list_all (λ e. is_batch_among known.now.rows.now e.batch) events.now }
+    ensures { result ≡ list_all (λ e. is_row_among known.now.rows.now e.batch) events.now }
 {
     events.iter().all(|e| has_batch(known, e.batch))
 }

@@ -2,11 +2,11 @@
 
 ghost use Rattle.std.specs.Prelude.{◌≡◌, ◌==◌, filter, length};
 ghost use Rattle.plant_base.specs.State.{same};
-ghost use Rattle.plant_view.specs.Production.{is_defined, rows_among, control_among};
+ghost use Rattle.plant_view.specs.Production.{is_defined, rows_among, control_among, job_among};
 ghost use Rattle.plant_check_plans.specs.Catalogue.{is_class_among};
 ghost use Rattle.plant_check_plans.specs.Recipes.{is_recipe_among};
 ghost use Rattle.plant_check_plans.specs.Orders.{recipe_among, row_of_order};
-ghost use Rattle.plant_check_plans.specs.Batches.{job_among, is_batch_among};
+ghost use Rattle.plant_check_plans.specs.Batches.{is_row_among};
 
 use plant_base::{
     BatchEvent, BatchRow, Class, ControlLine, Definition, Id, Job, MasterLine, Recipe,
@@ -210,7 +210,7 @@ pub fn job_at(jobs: &Grouped<Orders>, id: Id) -> Option<Job>
 
 /// Whether a batch has the id.
 pub fn has_batch(batches: &Grouped<Batches>, id: Id) -> bool
-    ensures { result ≡ is_batch_among batches.now.rows.now id }
+    ensures { result ≡ is_row_among batches.now.rows.now id }
 {
     batches.has(id)
 }

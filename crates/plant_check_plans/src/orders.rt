@@ -2,7 +2,7 @@
 
 ghost use Rattle.std.specs.Prelude.{◌≡◌, IfOk};
 ghost use Rattle.plant_recipe.specs.Control.{is_size_of};
-ghost use Rattle.plant_check_plans.specs.Orders.{is_size_of_recipe, is_running, is_closed, is_started, is_right_order, are_orders};
+ghost use Rattle.plant_check_plans.specs.Orders.{is_size_of_recipe, is_left_open, is_closed, is_started, is_right_order, are_orders};
 
 use crate::keys::{BatchesOfOrders, Recipes, batch_of, recipe_at};
 use plant_base::{Amount, BatchRow, Header, Job, JobState, Recipe};
@@ -54,13 +54,13 @@ fn is_started(state: JobState, batch: Option<BatchRow>) -> bool
 {
     match state {
         JobState::Open | JobState::Cancelled => batch.is_none(),
-        JobState::Released => is_running(batch),
+        JobState::Released => is_left_open(batch),
         JobState::Finished => is_closed(batch),
     }
 }
 
-fn is_running(batch: Option<BatchRow>) -> bool
-    ensures { result ≡ is_running batch }
+fn is_left_open(batch: Option<BatchRow>) -> bool
+    ensures { result ≡ is_left_open batch }
 {
     match batch {
         None => false,

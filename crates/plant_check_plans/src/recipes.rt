@@ -39,7 +39,8 @@ fn are_whole(
     lines: &Grouped<RecipeLines>,
     recipes: &[Recipe],
 ) -> Result<bool, AllocError>
-    ensures { IfOk result (λ b. b ≡ list_all (is_whole_recipe definitions.now.rows.now lines.now.rows.now) recipes.now) }
+    ensures { IfOk result
+        (λ b. b ≡ list_all (is_whole_recipe definitions.now.rows.now lines.now.rows.now) recipes.now) }
 {
     for recipe in recipes {
         if !is_whole(alloc, definitions, lines, recipe)? {
@@ -63,7 +64,8 @@ fn is_whole(
     lines: &Grouped<RecipeLines>,
     recipe: &Recipe,
 ) -> Result<bool, AllocError>
-    ensures { IfOk result (λ b. b ≡ is_whole_recipe definitions.now.rows.now lines.now.rows.now recipe.now) }
+    ensures { IfOk result
+        (λ b. b ≡ is_whole_recipe definitions.now.rows.now lines.now.rows.now recipe.now) }
 {
     let header = recipe.header;
     let rows = lines_of(lines, header.recipe, header.version);
@@ -78,8 +80,10 @@ fn is_whole_of(
     rows: &[MasterLine],
     lines: &[RecipeLine],
 ) -> bool
-    ensures { result ≡ (is_well_formed header.now lines.now && are_numbered 1 (map (λ l. l.number) rows.now)
-        && is_defined definitions.now.rows.now header.now.product && list_all (is_known definitions.now.rows.now) lines.now) }
+    ensures { result ≡ (is_well_formed header.now lines.now
+        && are_numbered 1 (map (λ l. l.number) rows.now)
+        && is_defined definitions.now.rows.now header.now.product
+        && list_all (is_known definitions.now.rows.now) lines.now) }
 {
     is_well_formed(header, lines)
         && are_numbered(1, rows)

@@ -9,12 +9,11 @@ use Rattle.plant_base.specs.declared.rows.Movement.{Movement}
 use Rattle.plant_base.specs.declared.rows.MovementKind.{MovementKind}
 use Rattle.plant_base.specs.declared.rows.MovementKind.TheVariants as kind
 use Rattle.plant_base.specs.declared.rows.Sublot.{Sublot}
-use Rattle.plant_stock.specs.Stock.{goes_to, comes_from}
+use Rattle.plant_stock.specs.Stock.{goes_to, comes_from, is_one_source, greatest_parts}
 use Rattle.plant_view.specs.Genealogy.{batch_by}
 use Rattle.plant_view.specs.Production.{control_among}
-use Rattle.plant_check_plans.specs.Batches.{is_batch_among}
-use Rattle.plant_rules.specs.Consumption.{is_taken, is_made}
-use Rattle.plant_good.specs.Bookings.{greatest_parts, is_one_source}
+use Rattle.plant_check_plans.specs.Batches.{is_row_among}
+use Rattle.plant_view.specs.Materials.{is_taken, is_made}
 
 -- ---- what is named is there
 
@@ -26,7 +25,7 @@ is_there sublots (Some k) = list_any (λ s. same s.lot k.0 && s.number == k.1) s
 -- the batch, where one is named, is there
 abbrev pub is_batch_there : List BatchRow → Option (List ℕ) → Bool
 is_batch_there batches None = true
-is_batch_there batches (Some id) = is_batch_among batches id
+is_batch_there batches (Some id) = is_row_among batches id
 
 abbrev pub names_known : List Sublot → List BatchRow → Movement → Bool
 names_known sublots batches m =

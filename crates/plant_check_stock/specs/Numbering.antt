@@ -3,9 +3,7 @@ use Rattle.std.specs.Prelude.{ℕ, ◌+◌, Bool, true, not, ◌&&◌, ◌==◌,
 use Rattle.std.specs.List.{list_any, list_all}
 use Rattle.plant_base.specs.declared.rows.BatchEvent.{BatchEvent}
 use Rattle.plant_base.specs.declared.rows.Movement.{Movement}
-use Rattle.plant_stock.specs.Stock.{comes_from}
-use Rattle.plant_good.specs.Bookings.{are_one_merge}
-use Rattle.plant_good.specs.Births.{entries}
+use Rattle.plant_stock.specs.Stock.{comes_from, entries, are_one_merge}
 
 -- the number of an accepted command
 abbrev pub is_given : ℕ → ℕ → Bool

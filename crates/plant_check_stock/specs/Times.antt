@@ -7,14 +7,14 @@ use Rattle.plant_base.specs.declared.rows.Hold.{Hold}
 use Rattle.plant_base.specs.declared.rows.Movement.{Movement}
 
 -- the number and the moment of a row
-abbrev pub mark_of : Movement → ℕ × ℕ
-mark_of m = (m.seq, m.at)
+abbrev pub row_mark_of : Movement → ℕ × ℕ
+row_mark_of m = (m.seq, m.at)
 
-abbrev pub mark_of_event : BatchEvent → ℕ × ℕ
-mark_of_event e = (e.seq, e.at)
+abbrev pub row_mark_of_event : BatchEvent → ℕ × ℕ
+row_mark_of_event e = (e.seq, e.at)
 
-abbrev pub marks : List Movement → List BatchEvent → List (ℕ × ℕ)
-marks ms es = map mark_of ms ++ map mark_of_event es
+abbrev pub row_marks : List Movement → List BatchEvent → List (ℕ × ℕ)
+row_marks ms es = map row_mark_of ms ++ map row_mark_of_event es
 
 -- a row of a higher number isn't earlier
 abbrev pub is_no_later : ℕ × ℕ → ℕ × ℕ → Bool
@@ -33,7 +33,7 @@ are_by at ms es batches holds =
     && list_all (λ h. nat_le h.at at) holds
 
 abbrev pub are_times : ℕ → List Movement → List BatchEvent → List BatchRow → List Hold → Bool
-are_times at ms es batches holds = never_fall (marks ms es) && are_by at ms es batches holds
+are_times at ms es batches holds = never_fall (row_marks ms es) && are_by at ms es batches holds
 
 -- ---- in the order of the numbers
 

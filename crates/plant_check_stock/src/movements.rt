@@ -2,10 +2,9 @@
 
 ghost use Rattle.std.specs.Prelude.{◌≡◌, IfOk};
 ghost use Rattle.std.specs.List.{list_any, list_all};
-ghost use Rattle.plant_stock.specs.Stock.{goes_to, comes_from};
+ghost use Rattle.plant_stock.specs.Stock.{goes_to, comes_from, is_one_source};
 ghost use Rattle.plant_view.specs.Genealogy.{batch_by};
-ghost use Rattle.plant_rules.specs.Consumption.{takes, makes, is_taken, is_made};
-ghost use Rattle.plant_good.specs.Bookings.{is_one_source};
+ghost use Rattle.plant_view.specs.Materials.{takes, makes, is_taken, is_made};
 ghost use Rattle.plant_check_stock.specs.Movements.{is_batch_there, names_known, are_of_one, is_asked_for, is_yielded, is_of_right_definition, is_merged, are_distinct, are_parts, is_of_right_merge, is_right_movement, are_movements};
 
 use crate::keys::{Lots, Parts, Sublots, is_there, lot_at, parts_of};
@@ -38,7 +37,8 @@ pub fn are_movements(
     control: &[ControlLine],
     movements: &[Movement],
 ) -> Result<bool, AllocError>
-    ensures { IfOk result (λ b. b ≡ are_movements lots.now sublots.now batches.now control.now movements.now) }
+    ensures { IfOk result
+        (λ b. b ≡ are_movements lots.now sublots.now batches.now control.now movements.now) }
 {
     let named = Named::new(alloc, lots, sublots, batches, control)?;
     let parts = Grouped::<Parts>::new(alloc, movements)?;
@@ -46,7 +46,8 @@ pub fn are_movements(
 }
 
 fn are_right(named: &Named, parts: &Grouped<Parts>, movements: &[Movement]) -> bool
-    ensures { result ≡ list_all (is_right_movement named.now.lots.rows.now named.now.sublots.rows.now named.now.batches.rows.now named.now.controls.rows.now parts.now.rows.now) movements.now }
+    ensures { result ≡ list_all
+        (is_right_movement named.now.lots.rows.now named.now.sublots.rows.now named.now.batches.rows.now named.now.controls.rows.now parts.now.rows.now) movements.now }
 {
     movements.iter().all(|m| is_right(named, parts, m))
 }
@@ -59,7 +60,9 @@ impl<'a> Named<'a> {
         batches: &'a [BatchRow],
         control: &'a [ControlLine],
     ) -> Result<Self, AllocError>
-        ensures { IfOk result (λ n. (n.lots.rows.now ≡ lots.now) × (n.sublots.rows.now ≡ sublots.now) × (n.batches.rows.now ≡ batches.now) × (n.controls.rows.now ≡ control.now)) }
+        ensures { IfOk result (λ n. (n.lots.rows.now ≡ lots.now)
+            × (n.sublots.rows.now ≡ sublots.now) × (n.batches.rows.now ≡ batches.now)
+            × (n.controls.rows.now ≡ control.now)) }
     {
         let lots = Grouped::<Lots>::new(alloc, lots)?;
         let sublots = Grouped::<Sublots>::new(alloc, sublots)?;

@@ -3,7 +3,7 @@
 ghost use Rattle.std.specs.Prelude.{◌≡◌, IfOk, Some, None, nat_lt};
 ghost use Rattle.std.specs.List.{list_all};
 ghost use Rattle.plant_base.specs.declared.rows.MovementKind.TheVariants as kind;
-ghost use Rattle.plant_good.specs.Bookings.{are_one_merge};
+ghost use Rattle.plant_stock.specs.Stock.{are_one_merge};
 ghost use Rattle.plant_check_stock.specs.Numbering.{is_given, is_next_part, is_line_after, is_next_line, are_lines, is_entered_before, has_right_number, are_numbers};
 
 use crate::keys::{EnteredSublots, EventNumbers, entries, has_event};
@@ -41,7 +41,8 @@ fn are_right(
     entered: &Grouped<EnteredSublots>,
     movements: &[Movement],
 ) -> bool
-    ensures { result ≡ list_all (has_right_number greatest numbers.now.rows.now entered.now.rows.now) movements.now }
+    ensures { result ≡ list_all
+        (has_right_number greatest numbers.now.rows.now entered.now.rows.now) movements.now }
 {
     movements
         .iter()

@@ -2,7 +2,7 @@
 
 ghost use Rattle.std.specs.Prelude.{◌≡◌, IfOk, ◌++◌, map, nat_le};
 ghost use Rattle.std.specs.List.{list_all};
-ghost use Rattle.plant_check_stock.specs.Times.{mark_of, mark_of_event, marks, never_fall, rises, are_by, are_times};
+ghost use Rattle.plant_check_stock.specs.Times.{row_mark_of, row_mark_of_event, row_marks, never_fall, rises, are_by, are_times};
 
 use plant_base::{BatchEvent, BatchRow, Hold, Moment, Movement};
 use std::alloc::{AllocError, Global};
@@ -29,7 +29,7 @@ fn marks_of(
     movements: &[Movement],
     events: &[BatchEvent],
 ) -> Result<Vec<(u64, u64)>, AllocError>
-    ensures { IfOk result (λ list. list.items ≡ marks movements.now events.now) }
+    ensures { IfOk result (λ list. list.items ≡ row_marks movements.now events.now) }
 {
     let mut marks = Vec::new(alloc);
     for movement in movements {

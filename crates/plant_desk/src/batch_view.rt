@@ -17,7 +17,8 @@ use std::alloc::{AllocError, Global};
 impl Lists {
     /// What is known of a batch.
     pub(crate) fn batch_answer(&self, id: Id) -> Result<Answer, AllocError>
-        ensures { IfOk result (λ a. a ≡ answer_batch (state_of self.now) (batch_at (state_of self.now) id)) }
+        ensures { IfOk result (λ a. a ≡ answer_batch (state_of self.now)
+            (batch_at (state_of self.now) id)) }
     {
         match batch_of(&self.batches, id) {
             None => Ok(Answer::Unknown(Refusal::UnknownBatch)),
@@ -26,7 +27,8 @@ impl Lists {
     }
 
     fn planned_answer(&self, batch: Batch) -> Result<Answer, AllocError>
-        ensures { IfOk result (λ a. a ≡ answer_planned (state_of self.now) batch (job_at (state_of self.now) batch.job)) }
+        ensures { IfOk result (λ a. a ≡ answer_planned (state_of self.now) batch
+            (job_at (state_of self.now) batch.job)) }
     {
         match job_of(&self.jobs, batch.job) {
             None => Ok(Answer::Unknown(Refusal::UnknownOrder)),
@@ -85,7 +87,8 @@ fn measured_lines(
     definitions: &[Definition],
     batch: Id,
 ) -> Result<Vec<MeasuredLine>, AllocError>
-    ensures { IfOk result (λ v. v.items ≡ map (measured_line definitions.now) (filter (λ l. same l.batch batch) lines.now)) }
+    ensures { IfOk result (λ v. v.items ≡ map (measured_line definitions.now)
+        (filter (λ l. same l.batch batch) lines.now)) }
 {
     let mut rows = Vec::new(alloc);
     for l in lines {

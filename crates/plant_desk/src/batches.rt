@@ -17,7 +17,8 @@ pub(crate) fn master_lines_of(
     recipe: Id,
     version: u16,
 ) -> Result<Vec<MasterLine>, AllocError>
-    ensures { IfOk result (λ v. v.items ≡ filter (λ l. same l.recipe recipe && l.version == version) lines.now) }
+    ensures { IfOk result
+        (λ v. v.items ≡ filter (λ l. same l.recipe recipe && l.version == version) lines.now) }
 {
     let mut rows = Vec::new(alloc);
     for l in lines {

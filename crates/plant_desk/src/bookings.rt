@@ -15,7 +15,8 @@ use std::alloc::AllocError;
 impl Lists {
     /// What a batch took, in its order.
     pub(crate) fn consumed_by(&self, batch: Id) -> Result<Vec<Booking>, AllocError>
-        ensures { IfOk result (λ v. v.items ≡ filter_map (consumption (state_of self.now) batch) self.now.movements.items) }
+        ensures { IfOk result (λ v. v.items ≡ filter_map
+            (consumption (state_of self.now) batch) self.now.movements.items) }
     {
         self.movements
             .iter()
@@ -25,7 +26,8 @@ impl Lists {
 
     /// What a batch brought, in its order.
     pub(crate) fn produced_by(&self, batch: Id) -> Result<Vec<Booking>, AllocError>
-        ensures { IfOk result (λ v. v.items ≡ filter_map (production (state_of self.now) batch) self.now.movements.items) }
+        ensures { IfOk result (λ v. v.items ≡ filter_map
+            (production (state_of self.now) batch) self.now.movements.items) }
     {
         self.movements
             .iter()

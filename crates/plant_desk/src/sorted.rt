@@ -20,8 +20,10 @@ pub(crate) trait Keyed {
 
 // The place of the row with this key, or the place where it goes.
 fn place_of<R: Keyed>(rows: &[R], row: &R) -> Result<usize, usize>
-    ensures there { IfOk result (λ i. i < length rows.now × (put R.order row.now rows.now ≡ slice_set rows.now i row.now)) }
-    ensures absent { IfErr result (λ i. i ≤ length rows.now × (put R.order row.now rows.now ≡ insert rows.now i row.now)) }
+    ensures there { IfOk result (λ i. i < length rows.now
+        × (put R.order row.now rows.now ≡ slice_set rows.now i row.now)) }
+    ensures absent { IfErr result (λ i. i ≤ length rows.now
+        × (put R.order row.now rows.now ≡ insert rows.now i row.now)) }
 {
     for (i, other) in rows.iter().enumerate() {
         match row.compare(other) {

@@ -19,7 +19,8 @@ impl Lists {
         direction: Direction,
         start: Node,
     ) -> Result<Answer, AllocError>
-        ensures { IfOk result (λ a. a ≡ answer_trace (state_of self.now) direction start (missing (state_of self.now) start)) }
+        ensures { IfOk result (λ a. a ≡ answer_trace (state_of self.now) direction start
+            (missing (state_of self.now) start)) }
     {
         match self.missing(start) {
             Some(refusal) => Ok(Answer::Unknown(refusal)),
@@ -81,7 +82,8 @@ fn reached(
     direction: Direction,
     start: Node,
 ) -> Result<Vec<Node>, AllocError>
-    ensures { IfOk result (λ nodes. ListsNodes (IsReached direction source.old.pairs.now start) nodes.items) }
+    ensures { IfOk result
+        (λ nodes. ListsNodes (IsReached direction source.old.pairs.now start) nodes.items) }
 {
     match closure(alloc, source, start, direction) {
         Ok(nodes) => Ok(nodes),

@@ -157,7 +157,8 @@ pub(crate) fn edges(alloc: Global, movements: &[Movement]) -> Result<Vec<(Node, 
 
 // What stands in a sublot, where that is a stock.
 pub(crate) fn standing_of(movements: &[Movement], lot: Id, number: u16) -> u64
-    ensures value { entered movements.now lot number ≤ greatest_amount → left movements.now lot number ≤ entered movements.now lot number
+    ensures value { entered movements.now lot number ≤ greatest_amount
+        → left movements.now lot number ≤ entered movements.now lot number
         → result ≡ entered movements.now lot number - left movements.now lot number }
     ensures small { result ≤ greatest_amount }
 {

@@ -73,27 +73,44 @@ impl<S: Alter> Desk<S> {
     /// - `Store`: the tables are as they were, or, where there were none, made with the opening state.
     pub fn adopt(alloc: Global, mut connection: Connection<S>) -> Result<Desk<S>, AdoptRefused<S>>
         requires { (state S.Store connection).in_transaction ≡ false }
-        ensures adopted { IfOk result (λ desk. HasCleanDisk (state S.Store desk.connection) → IsNewlyOpened (state S.Store connection) → AdoptedFrom (state S.Store connection) (IsOpenAt (state S.Store desk.connection))) }
+        ensures adopted { IfOk result (λ desk. HasCleanDisk (state S.Store desk.connection)
+            → IsNewlyOpened (state S.Store connection)
+            → AdoptedFrom (state S.Store connection) (IsOpenAt (state S.Store desk.connection))) }
         ensures open { IfOk result (λ desk. desk.is_shut ≡ false) }
 
         // Over the tables of a good state the desk stands at this state, and at a fault the store still does: at both exits
         // a stop leaves that state alone.
-        ensures again { IfOk result (λ desk. KeepsGood (state S.Store connection) (state S.Store desk.connection)) }
-        ensures still { IfErr result (λ refused. KeepsGood (state S.Store connection) (state S.Store refused.connection)) }
+        ensures again { IfOk result (λ desk. KeepsGood (state S.Store connection)
+            (state S.Store desk.connection)) }
+        ensures still { IfErr result (λ refused. KeepsGood (state S.Store connection)
+            (state S.Store refused.connection)) }
 
         // Tables of other names stand as they did.
-        ensures others { IfOk result (λ desk. HasCleanDisk (state S.Store desk.connection) → IsNewlyOpened (state S.Store connection) → OthersStand (state S.Store connection).now (state S.Store desk.connection)) }
+        ensures others { IfOk result (λ desk. HasCleanDisk (state S.Store desk.connection)
+            → IsNewlyOpened (state S.Store connection)
+            → OthersStand (state S.Store connection).now (state S.Store desk.connection)) }
 
         // A fault has its cause; no transaction is open then, and the store, while it is open, shows what it showed.
-        ensures refused { IfErr result (λ refused. HasCleanDisk (state S.Store refused.connection) → IsRefusedBy (state S.Store connection).now refused.fault) }
-        ensures rests { IfErr result (λ refused. (state S.Store refused.connection).in_transaction ≡ false) }
-        ensures shows { IfErr result (λ refused. HasCleanDisk (state S.Store refused.connection) → IsNewlyOpened (state S.Store connection) → Keeps (state S.Store connection) (state S.Store refused.connection)) }
+        ensures refused { IfErr result (λ refused. HasCleanDisk (state S.Store refused.connection)
+            → IsRefusedBy (state S.Store connection).now refused.fault) }
+        ensures rests { IfErr result (λ refused. (state S.Store refused.connection).in_transaction
+            ≡ false) }
+        ensures shows { IfErr result (λ refused. HasCleanDisk (state S.Store refused.connection)
+            → IsNewlyOpened (state S.Store connection)
+            → Keeps (state S.Store connection) (state S.Store refused.connection)) }
 
         // What a stop leaves: where the store has some of the desk's tables, and at each fault but Store, what it left before;
         // else that or the opening state's tables.
-        ensures spared { (AreFree desk_forms (state S.Store connection).now.schema → ⊥) → MatchResult result (λ desk. Survives (state S.Store connection) (state S.Store desk.connection) (λ _. ⊥)) (λ refused. Survives (state S.Store connection) (state S.Store refused.connection) (λ _. ⊥)) }
-        ensures unmade { IfErr result (λ refused. refused.fault ≢ AdoptFault.Store → Survives (state S.Store connection) (state S.Store refused.connection) (λ _. ⊥)) }
-        ensures crash { MatchResult result (λ desk. Survives (state S.Store connection) (state S.Store desk.connection) (Opened (state S.Store connection).now)) (λ refused. Survives (state S.Store connection) (state S.Store refused.connection) (Opened (state S.Store connection).now)) }
+        ensures spared { (AreFree desk_forms (state S.Store connection).now.schema → ⊥)
+            → MatchResult result (λ desk. Survives (state S.Store connection)
+                (state S.Store desk.connection) (λ _. ⊥))
+            (λ refused. Survives (state S.Store connection) (state S.Store refused.connection) (λ _. ⊥)) }
+        ensures unmade { IfErr result (λ refused. refused.fault ≢ AdoptFault.Store
+            → Survives (state S.Store connection) (state S.Store refused.connection) (λ _. ⊥)) }
+        ensures crash { MatchResult result (λ desk. Survives (state S.Store connection)
+            (state S.Store desk.connection) (Opened (state S.Store connection).now))
+            (λ refused. Survives (state S.Store connection) (state S.Store refused.connection)
+            (Opened (state S.Store connection).now)) }
     {
         match opened(alloc, &mut connection) {
             Ok(()) => Ok(Desk {
@@ -109,14 +126,25 @@ impl<S: Alter> Desk<S> {
 fn opened<S: Alter>(alloc: Global, connection: &mut Connection<S>) -> Result<(), AdoptFault>
     requires { (state S.Store connection.old).in_transaction ≡ false }
     ensures mode { (state S.Store connection.new).in_transaction ≡ false }
-    ensures adopted { HasCleanDisk (state S.Store connection.new) → IsNewlyOpened (state S.Store connection.old) → OnOk result (AdoptedFrom (state S.Store connection.old) (IsOpenAt (state S.Store connection.new))) }
+    ensures adopted { HasCleanDisk (state S.Store connection.new)
+        → IsNewlyOpened (state S.Store connection.old)
+        → OnOk result (AdoptedFrom (state S.Store connection.old)
+            (IsOpenAt (state S.Store connection.new))) }
     ensures again { KeepsGood (state S.Store connection.old) (state S.Store connection.new) }
-    ensures others { HasCleanDisk (state S.Store connection.new) → IsNewlyOpened (state S.Store connection.old) → OnOk result (OthersStand (state S.Store connection.old).now (state S.Store connection.new)) }
-    ensures refused { HasCleanDisk (state S.Store connection.new) → IfErr result (IsRefusedBy (state S.Store connection.old).now) }
-    ensures shows { HasCleanDisk (state S.Store connection.new) → IsNewlyOpened (state S.Store connection.old) → OnErr result (Keeps (state S.Store connection.old) (state S.Store connection.new)) }
-    ensures unmade { IfErr result (λ fault. fault ≢ AdoptFault.Store → Survives (state S.Store connection.old) (state S.Store connection.new) (λ _. ⊥)) }
-    ensures spared { (AreFree desk_forms (state S.Store connection.old).now.schema → ⊥) → Survives (state S.Store connection.old) (state S.Store connection.new) (λ _. ⊥) }
-    ensures crash { Survives (state S.Store connection.old) (state S.Store connection.new) (Opened (state S.Store connection.old).now) }
+    ensures others { HasCleanDisk (state S.Store connection.new)
+        → IsNewlyOpened (state S.Store connection.old)
+        → OnOk result (OthersStand (state S.Store connection.old).now (state S.Store connection.new)) }
+    ensures refused { HasCleanDisk (state S.Store connection.new)
+        → IfErr result (IsRefusedBy (state S.Store connection.old).now) }
+    ensures shows { HasCleanDisk (state S.Store connection.new)
+        → IsNewlyOpened (state S.Store connection.old)
+        → OnErr result (Keeps (state S.Store connection.old) (state S.Store connection.new)) }
+    ensures unmade { IfErr result (λ fault. fault ≢ AdoptFault.Store
+        → Survives (state S.Store connection.old) (state S.Store connection.new) (λ _. ⊥)) }
+    ensures spared { (AreFree desk_forms (state S.Store connection.old).now.schema → ⊥)
+        → Survives (state S.Store connection.old) (state S.Store connection.new) (λ _. ⊥) }
+    ensures crash { Survives (state S.Store connection.old) (state S.Store connection.new)
+        (Opened (state S.Store connection.old).now) }
 {
     match found(alloc, connection) {
         Err(fault) => Err(fault_of(fault)),
@@ -134,12 +162,23 @@ fn opened<S: Alter>(alloc: Global, connection: &mut Connection<S>) -> Result<(),
 fn made<S: Alter>(connection: &mut Connection<S>) -> Result<(), AdoptFault>
     requires { (state S.Store connection.old).in_transaction ≡ false }
     ensures mode { (state S.Store connection.new).in_transaction ≡ false }
-    ensures clean { HasCleanDisk (state S.Store connection.new) → HasCleanDisk (state S.Store connection.old) }
-    ensures opening { HasCleanDisk (state S.Store connection.new) → IsSettled (state S.Store connection.old) → IsDatabase (state S.Store connection.old).now → AreFree desk_forms (state S.Store connection.old).now.schema → OnOk result (IsOpenAt (state S.Store connection.new) opening) }
-    ensures others { HasCleanDisk (state S.Store connection.new) → IsSettled (state S.Store connection.old) → IsDatabase (state S.Store connection.old).now → AreFree desk_forms (state S.Store connection.old).now.schema → OnOk result (OthersStand (state S.Store connection.old).now (state S.Store connection.new)) }
-    ensures shows { HasCleanDisk (state S.Store connection.new) → IsSettled (state S.Store connection.old) → IsDatabase (state S.Store connection.old).now → AreFree desk_forms (state S.Store connection.old).now.schema → OnErr result (Keeps (state S.Store connection.old) (state S.Store connection.new)) }
+    ensures clean { HasCleanDisk (state S.Store connection.new)
+        → HasCleanDisk (state S.Store connection.old) }
+    ensures opening { HasCleanDisk (state S.Store connection.new)
+        → IsSettled (state S.Store connection.old) → IsDatabase (state S.Store connection.old).now
+        → AreFree desk_forms (state S.Store connection.old).now.schema
+        → OnOk result (IsOpenAt (state S.Store connection.new) opening) }
+    ensures others { HasCleanDisk (state S.Store connection.new)
+        → IsSettled (state S.Store connection.old) → IsDatabase (state S.Store connection.old).now
+        → AreFree desk_forms (state S.Store connection.old).now.schema
+        → OnOk result (OthersStand (state S.Store connection.old).now (state S.Store connection.new)) }
+    ensures shows { HasCleanDisk (state S.Store connection.new)
+        → IsSettled (state S.Store connection.old) → IsDatabase (state S.Store connection.old).now
+        → AreFree desk_forms (state S.Store connection.old).now.schema
+        → OnErr result (Keeps (state S.Store connection.old) (state S.Store connection.new)) }
     ensures store { IfErr result (λ fault. fault ≡ AdoptFault.Store) }
-    ensures crash { Survives (state S.Store connection.old) (state S.Store connection.new) (Opened (state S.Store connection.old).now) }
+    ensures crash { Survives (state S.Store connection.old) (state S.Store connection.new)
+        (Opened (state S.Store connection.old).now) }
 {
     match commit_opening(connection) {
         Ok(()) => Ok(()),
@@ -150,12 +189,20 @@ fn made<S: Alter>(connection: &mut Connection<S>) -> Result<(), AdoptFault>
 fn judged<S: Alter>(alloc: Global, connection: &mut Connection<S>) -> Result<(), AdoptFault>
     requires { (state S.Store connection.old).in_transaction ≡ false }
     ensures mode { (state S.Store connection.new).in_transaction ≡ false }
-    ensures clean { HasCleanDisk (state S.Store connection.new) → HasCleanDisk (state S.Store connection.old) }
-    ensures good { HasCleanDisk (state S.Store connection.new) → IsNewlyOpened (state S.Store connection.old) → OnOk result ((s : State) × IsGood s × HoldsTables (state S.Store connection.old).now (tables_of newest_schema s) × IsOpenAt (state S.Store connection.new) s) }
+    ensures clean { HasCleanDisk (state S.Store connection.new)
+        → HasCleanDisk (state S.Store connection.old) }
+    ensures good { HasCleanDisk (state S.Store connection.new)
+        → IsNewlyOpened (state S.Store connection.old)
+        → OnOk result ((s : State) × IsGood s × HoldsTables (state S.Store connection.old).now
+            (tables_of newest_schema s) × IsOpenAt (state S.Store connection.new) s) }
     ensures again { KeepsGood (state S.Store connection.old) (state S.Store connection.new) }
-    ensures kept { HasCleanDisk (state S.Store connection.new) → Keeps (state S.Store connection.old) (state S.Store connection.new) }
-    ensures others { HasCleanDisk (state S.Store connection.new) → IsNewlyOpened (state S.Store connection.old) → OnOk result (OthersStand (state S.Store connection.old).now (state S.Store connection.new)) }
-    ensures named { HasCleanDisk (state S.Store connection.new) → IfErr result (NamesFirst (state S.Store connection.old).now) }
+    ensures kept { HasCleanDisk (state S.Store connection.new)
+        → Keeps (state S.Store connection.old) (state S.Store connection.new) }
+    ensures others { HasCleanDisk (state S.Store connection.new)
+        → IsNewlyOpened (state S.Store connection.old)
+        → OnOk result (OthersStand (state S.Store connection.old).now (state S.Store connection.new)) }
+    ensures named { HasCleanDisk (state S.Store connection.new)
+        → IfErr result (NamesFirst (state S.Store connection.old).now) }
     ensures crash { Survives (state S.Store connection.old) (state S.Store connection.new) (λ _. ⊥) }
 {
     match Loaded::read(alloc, connection, NEWEST_SCHEMA as i64) {
@@ -166,7 +213,8 @@ fn judged<S: Alter>(alloc: Global, connection: &mut Connection<S>) -> Result<(),
 }
 
 fn judged_rows(alloc: Global, loaded: &Loaded) -> Result<(), AdoptFault>
-    ensures unbroken { OnOk result ((r : Rows) × (rows_from loaded.now ≡ Some r) × (first_broken_of r ≡ None) × (r.meta.schema ≡ newest_schema)) }
+    ensures unbroken { OnOk result ((r : Rows) × (rows_from loaded.now ≡ Some r)
+        × (first_broken_of r ≡ None) × (r.meta.schema ≡ newest_schema)) }
     ensures broken { IfErr result (BrokenBy loaded.now) }
 {
     if !has_meta(loaded) {
@@ -180,7 +228,8 @@ fn judged_rows(alloc: Global, loaded: &Loaded) -> Result<(), AdoptFault>
 }
 
 fn judged_values(alloc: Global, rows: &DeskRows) -> Result<(), AdoptFault>
-    ensures unbroken { OnOk result ((first_broken_of (rows_listed rows.now) ≡ None) × (rows.now.meta.schema ≡ newest_schema)) }
+    ensures unbroken { OnOk result ((first_broken_of (rows_listed rows.now) ≡ None)
+        × (rows.now.meta.schema ≡ newest_schema)) }
     ensures broken { IfErr result (IsBroken (first_broken_of (rows_listed rows.now))) }
 {
     match check_rows(alloc, rows) {

@@ -21,10 +21,14 @@ pub(crate) fn ask_on<S: Alter>(
     connection: &mut Connection<S>,
     question: &Question,
 ) -> Result<Answer, DeskFault>
-    ensures answers { HasCleanDisk (state S.Store connection.new) → (s : State) → StandsAt (state S.Store connection.old) s → IfOk result (λ a. a ≡ answer newest_schema s question.now) }
+    ensures answers { HasCleanDisk (state S.Store connection.new) → (s : State)
+        → StandsAt (state S.Store connection.old) s
+        → IfOk result (λ a. a ≡ answer newest_schema s question.now) }
     ensures open { IfErr result (λ fault. fault ≢ DeskFault.Shut) }
-    ensures kept { HasCleanDisk (state S.Store connection.new) → Keeps (state S.Store connection.old) (state S.Store connection.new) }
-    ensures mode { (state S.Store connection.old).in_transaction ≡ false → (state S.Store connection.new).in_transaction ≡ false }
+    ensures kept { HasCleanDisk (state S.Store connection.new)
+        → Keeps (state S.Store connection.old) (state S.Store connection.new) }
+    ensures mode { (state S.Store connection.old).in_transaction ≡ false
+        → (state S.Store connection.new).in_transaction ≡ false }
     ensures crash { Survives (state S.Store connection.old) (state S.Store connection.new) (λ _. ⊥) }
 {
     let lists = read_lists(alloc, connection)?;

@@ -45,11 +45,15 @@ pub(crate) fn read_lists<S: Alter>(
     connection: &mut Connection<S>,
 ) -> Result<Lists, DeskFault>
     ensures good { IfOk result (λ lists. IsGood (state_of lists)) }
-    ensures found { HasCleanDisk (state S.Store connection.new) → (s : State) → StandsAt (state S.Store connection.old) s → IfOk result (λ lists. state_of lists ≡ s) }
-    ensures live { HasCleanDisk (state S.Store connection.new) → OnOk result (IsTrue (state S.Store connection.new).is_open) }
+    ensures found { HasCleanDisk (state S.Store connection.new) → (s : State)
+        → StandsAt (state S.Store connection.old) s → IfOk result (λ lists. state_of lists ≡ s) }
+    ensures live { HasCleanDisk (state S.Store connection.new)
+        → OnOk result (IsTrue (state S.Store connection.new).is_open) }
     ensures open { IfErr result (λ fault. fault ≢ DeskFault.Shut) }
-    ensures kept { HasCleanDisk (state S.Store connection.new) → Keeps (state S.Store connection.old) (state S.Store connection.new) }
-    ensures mode { (state S.Store connection.old).in_transaction ≡ false → (state S.Store connection.new).in_transaction ≡ false }
+    ensures kept { HasCleanDisk (state S.Store connection.new)
+        → Keeps (state S.Store connection.old) (state S.Store connection.new) }
+    ensures mode { (state S.Store connection.old).in_transaction ≡ false
+        → (state S.Store connection.new).in_transaction ≡ false }
     ensures crash { Survives (state S.Store connection.old) (state S.Store connection.new) (λ _. ⊥) }
 {
     match read_rows(alloc, connection) {
@@ -76,7 +80,8 @@ pub(crate) fn decide_in(
     envelope: &Envelope,
 ) -> Result<Decision, DeskFault>
     requires { IsGood (state_of lists.old) }
-    ensures decides { IfOk result (Decides (wrong (state_of lists.old) envelope.now) (state_of lists.old) (step (state_of lists.old) envelope.now)) }
+    ensures decides { IfOk result (Decides (wrong (state_of lists.old) envelope.now)
+        (state_of lists.old) (step (state_of lists.old) envelope.now)) }
     ensures one_batch { IfOk result PutsOneBatch }
     ensures same { state_of lists.new ≡ state_of lists.old }
     ensures memory { IfErr result (λ fault. fault ≡ DeskFault.Memory) }

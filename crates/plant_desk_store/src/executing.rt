@@ -30,13 +30,20 @@ pub(crate) fn execute_on<S: Alter>(
 ) -> Result<Reply, DeskFault>
     requires { (state S.Store connection.old).in_transaction ≡ false }
     ensures mode { (state S.Store connection.new).in_transaction ≡ false }
-    ensures clean { HasCleanDisk (state S.Store connection.new) → HasCleanDisk (state S.Store connection.old) }
-    ensures executed { HasCleanDisk (state S.Store connection.new) → (s : State) → IsOpenAt (state S.Store connection.old) s → Executed s (state S.Store connection.new) envelope.now result }
+    ensures clean { HasCleanDisk (state S.Store connection.new)
+        → HasCleanDisk (state S.Store connection.old) }
+    ensures executed { HasCleanDisk (state S.Store connection.new) → (s : State)
+        → IsOpenAt (state S.Store connection.old) s
+        → Executed s (state S.Store connection.new) envelope.now result }
     ensures open { IfErr result (λ fault. fault ≢ DeskFault.Shut) }
-    ensures others { HasCleanDisk (state S.Store connection.new) → (s : State) → IsOpenAt (state S.Store connection.old) s → (before : Database) → OthersStand before (state S.Store connection.old) → OthersStand before (state S.Store connection.new) }
+    ensures others { HasCleanDisk (state S.Store connection.new) → (s : State)
+        → IsOpenAt (state S.Store connection.old) s → (before : Database)
+        → OthersStand before (state S.Store connection.old)
+        → OthersStand before (state S.Store connection.new) }
 
     // Where nothing was to be written, a stop leaves what it left before.
-    ensures spared { writes_nothing result ≡ true → Survives (state S.Store connection.old) (state S.Store connection.new) (λ _. ⊥) }
+    ensures spared { writes_nothing result ≡ true
+        → Survives (state S.Store connection.old) (state S.Store connection.new) (λ _. ⊥) }
 {
     let lists = read_lists(alloc, connection)?;
     execute_read(alloc, connection, lists, envelope)
@@ -52,12 +59,18 @@ fn execute_read<S: Alter>(
     requires rest { (state S.Store connection.old).in_transaction ≡ false }
     requires good { IsGood (state_of lists) }
     ensures mode { (state S.Store connection.new).in_transaction ≡ false }
-    ensures clean { HasCleanDisk (state S.Store connection.new) → HasCleanDisk (state S.Store connection.old) }
-    ensures executed { HasCleanDisk (state S.Store connection.new) → IsOpenAt (state S.Store connection.old) (state_of lists) → IsTrue (state S.Store connection.old).is_open
+    ensures clean { HasCleanDisk (state S.Store connection.new)
+        → HasCleanDisk (state S.Store connection.old) }
+    ensures executed { HasCleanDisk (state S.Store connection.new)
+        → IsOpenAt (state S.Store connection.old) (state_of lists)
+        → IsTrue (state S.Store connection.old).is_open
         → Executed (state_of lists) (state S.Store connection.new) envelope.now result }
     ensures open { IfErr result (λ fault. fault ≢ DeskFault.Shut) }
-    ensures others { HasCleanDisk (state S.Store connection.new) → IsOpenAt (state S.Store connection.old) (state_of lists) → IsTrue (state S.Store connection.old).is_open
-        → (before : Database) → OthersStand before (state S.Store connection.old) → OthersStand before (state S.Store connection.new) }
+    ensures others { HasCleanDisk (state S.Store connection.new)
+        → IsOpenAt (state S.Store connection.old) (state_of lists)
+        → IsTrue (state S.Store connection.old).is_open
+        → (before : Database) → OthersStand before (state S.Store connection.old)
+        → OthersStand before (state S.Store connection.new) }
     ensures untouched { writes_nothing result ≡ true → connection.new ≡ connection.old }
 
     // Store comes of the commit of a command that is accepted, and never of want of memory.
@@ -82,18 +95,30 @@ fn commit_on<S: Alter>(
     requires rest { (state S.Store connection.old).in_transaction ≡ false }
     requires fits { seq + 1 < 2 ^ 64 }
     ensures mode { (state S.Store connection.new).in_transaction ≡ false }
-    ensures clean { HasCleanDisk (state S.Store connection.new) → HasCleanDisk (state S.Store connection.old) }
+    ensures clean { HasCleanDisk (state S.Store connection.new)
+        → HasCleanDisk (state S.Store connection.old) }
     ensures reply { IfOk result (λ r. r ≡ Reply.Accepted (seq + 1)) }
     ensures fault { IfErr result (λ f. f ≡ DeskFault.Store) }
-    ensures accepted { HasCleanDisk (state S.Store connection.new) → (s next : State) → IsOpenAt (state S.Store connection.old) s → IsTrue (state S.Store connection.old).is_open → IsGood next
-        → changed_all changes.now (tables_of newest_schema s) ≡ tables_of newest_schema next → AreFresh changes.now (tables_of newest_schema s)
+    ensures accepted { HasCleanDisk (state S.Store connection.new) → (s next : State)
+        → IsOpenAt (state S.Store connection.old) s → IsTrue (state S.Store connection.old).is_open
+        → IsGood next
+        → changed_all changes.now (tables_of newest_schema s) ≡ tables_of newest_schema next
+        → AreFresh changes.now (tables_of newest_schema s)
         → OnOk result (IsOpenAt (state S.Store connection.new) next) }
-    ensures cut_short { HasCleanDisk (state S.Store connection.new) → (s next : State) → IsOpenAt (state S.Store connection.old) s → IsTrue (state S.Store connection.old).is_open → IsGood next
-        → changed_all changes.now (tables_of newest_schema s) ≡ tables_of newest_schema next → AreFresh changes.now (tables_of newest_schema s)
-        → OnErr result (StandsAt (state S.Store connection.new) s × Leaves (state S.Store connection.new) (λ u. (u ≡ s) ⊎ (u ≡ next))) }
-    ensures others { HasCleanDisk (state S.Store connection.new) → (s next : State) → IsOpenAt (state S.Store connection.old) s → IsTrue (state S.Store connection.old).is_open → IsGood next
-        → changed_all changes.now (tables_of newest_schema s) ≡ tables_of newest_schema next → AreFresh changes.now (tables_of newest_schema s)
-        → (before : Database) → OthersStand before (state S.Store connection.old) → OthersStand before (state S.Store connection.new) }
+    ensures cut_short { HasCleanDisk (state S.Store connection.new) → (s next : State)
+        → IsOpenAt (state S.Store connection.old) s → IsTrue (state S.Store connection.old).is_open
+        → IsGood next
+        → changed_all changes.now (tables_of newest_schema s) ≡ tables_of newest_schema next
+        → AreFresh changes.now (tables_of newest_schema s)
+        → OnErr result (StandsAt (state S.Store connection.new) s
+            × Leaves (state S.Store connection.new) (λ u. (u ≡ s) ⊎ (u ≡ next))) }
+    ensures others { HasCleanDisk (state S.Store connection.new) → (s next : State)
+        → IsOpenAt (state S.Store connection.old) s → IsTrue (state S.Store connection.old).is_open
+        → IsGood next
+        → changed_all changes.now (tables_of newest_schema s) ≡ tables_of newest_schema next
+        → AreFresh changes.now (tables_of newest_schema s)
+        → (before : Database) → OthersStand before (state S.Store connection.old)
+        → OthersStand before (state S.Store connection.new) }
 {
     match commit_changes(connection, changes) {
         Ok(()) => Ok(Reply::Accepted(seq + 1)),

@@ -27,10 +27,15 @@ pub(crate) fn read_rows<S: Alter>(
     connection: &mut Connection<S>,
 ) -> Result<DeskRows, Fault>
     ensures good { IfOk result (λ rows. IsGood (state_in (rows_listed rows))) }
-    ensures found { HasCleanDisk (state S.Store connection.new) → (s : State) → StandsAt (state S.Store connection.old) s → IfOk result (λ rows. state_in (rows_listed rows) ≡ s) }
-    ensures live { HasCleanDisk (state S.Store connection.new) → OnOk result (IsTrue (state S.Store connection.new).is_open) }
-    ensures kept { HasCleanDisk (state S.Store connection.new) → Keeps (state S.Store connection.old) (state S.Store connection.new) }
-    ensures mode { (state S.Store connection.old).in_transaction ≡ false → (state S.Store connection.new).in_transaction ≡ false }
+    ensures found { HasCleanDisk (state S.Store connection.new) → (s : State)
+        → StandsAt (state S.Store connection.old) s
+        → IfOk result (λ rows. state_in (rows_listed rows) ≡ s) }
+    ensures live { HasCleanDisk (state S.Store connection.new)
+        → OnOk result (IsTrue (state S.Store connection.new).is_open) }
+    ensures kept { HasCleanDisk (state S.Store connection.new)
+        → Keeps (state S.Store connection.old) (state S.Store connection.new) }
+    ensures mode { (state S.Store connection.old).in_transaction ≡ false
+        → (state S.Store connection.new).in_transaction ≡ false }
     ensures crash { Survives (state S.Store connection.old) (state S.Store connection.new) (λ _. ⊥) }
 {
     match Loaded::read(alloc, connection, NEWEST_SCHEMA as i64)? {
@@ -57,7 +62,8 @@ fn unbroken(alloc: Global, rows: DeskRows) -> Result<DeskRows, Fault>
     ensures same { IfOk result (λ r. r ≡ rows) }
     ensures unbroken { IfOk result (λ r. first_broken_of (rows_listed r) ≡ None) }
     ensures newest { IfOk result (λ r. r.meta.schema ≡ newest_schema) }
-    ensures store { result ≡ Err Fault.Store → first_broken_of (rows_listed rows) ≡ None → rows.meta.schema ≢ newest_schema }
+    ensures store { result ≡ Err Fault.Store → first_broken_of (rows_listed rows) ≡ None
+        → rows.meta.schema ≢ newest_schema }
 {
     match check_rows(alloc, &rows) {
         Err(_) => Err(Fault::Memory),

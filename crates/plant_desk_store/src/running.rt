@@ -16,8 +16,11 @@ pub(crate) fn run_over<K: Keeper>(alloc: Global, keeper: &mut K, list: &[Envelop
     ensures honest { K.honest keeper.new → K.honest keeper.old }
     ensures within { length result.replies ≤ length list.now }
     ensures live { result.end ≢ Some DeskFault.Shut }
-    ensures beside { K.honest keeper.new → (b : K.Beside) → K.beside keeper.old b → K.beside keeper.new b }
-    ensures ran { K.honest keeper.new → (s : State) → K.stands keeper.old s → Ran s list.now result.replies result.end (K.stands keeper.new) (K.leaves keeper.new) (K.shut keeper.new) }
+    ensures beside { K.honest keeper.new → (b : K.Beside) → K.beside keeper.old b
+        → K.beside keeper.new b }
+    ensures ran { K.honest keeper.new → (s : State) → K.stands keeper.old s
+        → Ran s list.now result.replies result.end (K.stands keeper.new) (K.leaves keeper.new)
+        (K.shut keeper.new) }
 {
     let mut items = Vec::new(alloc);
     if items.reserve(list.len()).is_err() {

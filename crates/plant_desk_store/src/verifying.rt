@@ -24,11 +24,15 @@ pub(crate) fn verify_on<S: Alter>(
     connection: &mut Connection<S>,
 ) -> Result<Option<Rule>, DeskFault>
     // The rule is the first that the rows of the store's tables break.
-    ensures tested { HasCleanDisk (state S.Store connection.new) → IfOk result (IsTested (state S.Store connection.old).now) }
-    ensures unbroken { HasCleanDisk (state S.Store connection.new) → (s : State) → StandsAt (state S.Store connection.old) s → IfOk result (λ broken. broken ≡ None) }
+    ensures tested { HasCleanDisk (state S.Store connection.new)
+        → IfOk result (IsTested (state S.Store connection.old).now) }
+    ensures unbroken { HasCleanDisk (state S.Store connection.new) → (s : State)
+        → StandsAt (state S.Store connection.old) s → IfOk result (λ broken. broken ≡ None) }
     ensures open { IfErr result (λ fault. fault ≢ DeskFault.Shut) }
-    ensures kept { HasCleanDisk (state S.Store connection.new) → Keeps (state S.Store connection.old) (state S.Store connection.new) }
-    ensures mode { (state S.Store connection.old).in_transaction ≡ false → (state S.Store connection.new).in_transaction ≡ false }
+    ensures kept { HasCleanDisk (state S.Store connection.new)
+        → Keeps (state S.Store connection.old) (state S.Store connection.new) }
+    ensures mode { (state S.Store connection.old).in_transaction ≡ false
+        → (state S.Store connection.new).in_transaction ≡ false }
     ensures crash { Survives (state S.Store connection.old) (state S.Store connection.new) (λ _. ⊥) }
 {
     match Loaded::read(alloc, connection, NEWEST_SCHEMA as i64) {

@@ -28,7 +28,8 @@ use Rattle.plant_view.proofs.Sublots.{no_place}
 use Rattle.plant_rules.specs.Booking.{line_of}
 use Rattle.plant_rules.specs.Scrapping.{taken_as}
 use Rattle.plant_rules.proofs.TakingTables.{Takes}
-use Rattle.plant_good.specs.Valued.{HasClassValues, HasDefinitionValues, HasEventValues, HasKindValues, HasMovementValues, HasLotValues, HasPlaceValues, HasHoldValues}
+use Rattle.plant_base.specs.RowValues.{HasClassValues, HasDefinitionValues, HasLotValues, HasHoldValues}
+use Rattle.plant_good.specs.Valued.{HasEventValues, HasKindValues, HasMovementValues, HasPlaceValues}
 use Rattle.plant_good.specs.Bookings.{IsBooking}
 use Rattle.plant_good.specs.Births.{IsBirth, AreBorn}
 use Rattle.plant_good.specs.Keeping.{IsAsked, KeepToRecipes}

@@ -24,7 +24,8 @@ use Rattle.plant_rules_production.specs.Recipes.{is_in}
 use Rattle.plant_rules_production.specs.Releasing.{recipe_of, control_for}
 use Rattle.plant_rules_production.specs.Orders.{conflicts, is_size_in, is_waiting}
 use Rattle.plant_rules_production.specs.Batches.{turn_at, refuse_turn, wrong_event}
-use Rattle.plant_rules.specs.Consumption.{is_idle, is_taken, is_made, is_own_product}
+use Rattle.plant_view.specs.Materials.{is_taken, is_made}
+use Rattle.plant_rules.specs.Consumption.{is_idle, is_own_product}
 use Rattle.plant_rules.specs.Division.{next_number}
 use Rattle.plant_rules.specs.Merging.{def_at, is_short, total_of, is_some_held, is_mixed}
 use Rattle.plant_rules.specs.Wrong.{wrong_body}

@@ -38,7 +38,8 @@ use Rattle.plant_rules_production.specs.Releasing.{control_for, lines_in, releas
 use Rattle.plant_rules_production.specs.Recipes.{add_recipe, approve, withdraw}
 use Rattle.plant_rules_production.specs.Orders.{import_orders, cancel_order}
 use Rattle.plant_rules.specs.Booking.{line_of}
-use Rattle.plant_rules.specs.Consumption.{is_idle, is_taken, is_made, is_own_product}
+use Rattle.plant_view.specs.Materials.{is_taken, is_made}
+use Rattle.plant_rules.specs.Consumption.{is_idle, is_own_product}
 use Rattle.plant_rules.specs.Division.{next_number}
 use Rattle.plant_rules.specs.Splitting.{def_of}
 use Rattle.plant_rules.specs.Merging.{def_at, def_of_parts, part_lines}
@@ -48,7 +49,7 @@ use Rattle.plant_rules.proofs.Division.{next_free}
 use Rattle.plant_rules.proofs.Parting.{formed_some, formed_few, formed_apart, parts_there, parts_ready, parts_pass}
 use Rattle.plant_rules.proofs.StepSound.{step_sound, opening_sound}
 use Rattle.plant_rules.proofs.TakingTables.{scrap_takes, consumption_takes}
-use Rattle.plant_good.specs.Valued.{HasClassValues, HasDefinitionValues, HasHoldValues, HasLotValues}
+use Rattle.plant_base.specs.RowValues.{HasClassValues, HasDefinitionValues, HasLotValues, HasHoldValues}
 use Rattle.plant_good.specs.Good.{IsGood}
 use Rattle.plant_good.proofs.Asking.{kept_with_batch}
 use Rattle.plant_good.proofs.Entering.{births_divided}

@@ -17,11 +17,11 @@ use Rattle.plant_base.proofs.Find.{found_passes}
 use Rattle.plant_base.proofs.Keys.{same_id, same_key, same_itself}
 use Rattle.plant_recipe.specs.Control.{is_size_of, control_of}
 use Rattle.plant_recipe.specs.Form.{is_well_formed}
-use Rattle.plant_view.specs.Production.{headers_of, header_among, lines_among, control_among, orders_of, order_among, batch_among, control_line, control_of_order, is_batch_among, HasBatchValues, IsSoundBatch, AreSoundBatches}
+use Rattle.plant_view.specs.Production.{headers_of, header_among, lines_among, control_among, orders_of, order_among, batch_among, control_line, control_of_order, is_batch_among, HasBatchValues, IsSoundBatch, AreSoundBatches, job_among}
 use Rattle.plant_view.specs.Production as view
 use Rattle.plant_view.proofs.Rows.{all_mapped, filtered_passes, find_mapped}
 use Rattle.plant_view.proofs.Tests.{and_left, and_right}
-use Rattle.plant_check_plans.specs.Batches.{job_among, control_sized, control_for, control_from, control_by, is_control, is_right_batch, are_batches}
+use Rattle.plant_check_plans.specs.Batches.{control_sized, control_where_formed, control_of_found, control_asked_for, is_control, is_right_batch, are_batches}
 use Rattle.plant_check_plans.specs.Batches as rules
 use Rattle.plant_check_plans.specs.Orders.{recipe_among}
 use Rattle.plant_tables_judged.proofs.LineLemmas.{where_true}
@@ -36,25 +36,25 @@ use Rattle.plant_good_found.proofs.Orders.{header_found, batch_found}
 pub record IsTested (recipes : List Recipe) (rows : List MasterLine) (jobs : List Job) (batches : List BatchRow) (control : List ControlLine) (b : BatchRow) : Type 0 where
   pub alone : length (filter (λ x. same x.batch.job b.batch.job) batches) ≡ 1
   pub numbered : are_numbered 1 (map (λ l. l.number) (control_among control b.batch.id)) ≡ true
-  pub scaled : control_by recipes rows (job_among jobs b.batch.job) ≡ Some (map (λ l. l.line) (control_among control b.batch.id))
+  pub scaled : control_asked_for recipes rows (job_among jobs b.batch.job) ≡ Some (map (λ l. l.line) (control_among control b.batch.id))
 
 tested : (recipes : List Recipe) (rows : List MasterLine) (jobs : List Job) (batches : List BatchRow) (control : List ControlLine) (b : BatchRow) → is_right_batch recipes rows jobs batches control b ≡ true → IsTested recipes rows jobs batches control b
 unfolding is_right_batch
 tested recipes rows jobs batches control b e =
     let count = length (filter (λ (x : BatchRow). same x.batch.job b.batch.job) batches) in
     let numbered = are_numbered 1 (map (λ (l : ControlLine). l.number) (control_among control b.batch.id)) in
-    let scaled = is_control (control_by recipes rows (job_among jobs b.batch.job)) (map (λ (l : ControlLine). l.line) (control_among control b.batch.id)) in
+    let scaled = is_control (control_asked_for recipes rows (job_among jobs b.batch.job)) (map (λ (l : ControlLine). l.line) (control_among control b.batch.id)) in
     let two = and_left (count == 1 && numbered) scaled e in
     record {
       alone = eqb-true count 1 (and_left (count == 1) numbered two);
       numbered = and_right (count == 1) numbered two;
-      scaled = control_is (control_by recipes rows (job_among jobs b.batch.job)) _ (and_right (count == 1 && numbered) scaled e);
+      scaled = control_is (control_asked_for recipes rows (job_among jobs b.batch.job)) _ (and_right (count == 1 && numbered) scaled e);
     }
 
 -- ---- the control recipe
 
 -- a control recipe that was found by tests is the one that the order's header scales
-scaled_from : (rows : List MasterLine) (o : OrderRow) (found : Option Recipe) (lines : List RecipeLine) → ((q : Recipe) → found ≡ Some q → (q.header.recipe ≡ o.recipe) × (q.header.version ≡ o.version)) → control_from rows o.size found ≡ Some lines
+scaled_from : (rows : List MasterLine) (o : OrderRow) (found : Option Recipe) (lines : List RecipeLine) → ((q : Recipe) → found ≡ Some q → (q.header.recipe ≡ o.recipe) × (q.header.version ≡ o.version)) → control_of_found rows o.size found ≡ Some lines
     → view.control_from rows o (option_map (λ q. q.header) found) ≡ Some lines
 scaled_from rows o None lines key e = absurd (cc)
 scaled_from rows o (Some q) lines key e =
@@ -63,7 +63,7 @@ scaled_from rows o (Some q) lines key e =
     let scaled = (where_true (is_size_of q.header o.size) (control_of q.header own o.size) lines (where_true (is_well_formed q.header own) (control_sized q.header own o.size) lines e).1).1 in
     (λ i. control_of q.header (lines_among rows (sym k.0 i) (sym k.1 i)) o.size) ∙ scaled
 
-scaled_by : (recipes : List Recipe) (rows : List MasterLine) (j : Option Job) (lines : List RecipeLine) → control_by recipes rows j ≡ Some lines → control_of_order (headers_of recipes) rows (option_map (λ j. j.order) j) ≡ Some lines
+scaled_by : (recipes : List Recipe) (rows : List MasterLine) (j : Option Job) (lines : List RecipeLine) → control_asked_for recipes rows j ≡ Some lines → control_of_order (headers_of recipes) rows (option_map (λ j. j.order) j) ≡ Some lines
 scaled_by recipes rows None lines e = absurd (cc)
 scaled_by recipes rows (Some j) lines e =
     let test = λ (q : Recipe). same q.header.recipe j.order.recipe && q.header.version == j.order.version in
@@ -75,13 +75,13 @@ scaled_by recipes rows (Some j) lines e =
 
 module _ (recipes : List Recipe) (rows : List MasterLine) (jobs : List Job) (batches : List BatchRow) (control : List ControlLine) (tests : are_batches recipes rows jobs batches control ≡ true) where
   pub tested_batch : (b : BatchRow) → IsIn b batches → IsTested recipes rows jobs batches control b
-  tested_batch b h = tested recipes rows jobs batches control b (pass_at (is_right_batch recipes rows jobs batches control) batches b (and_left (list_all (is_right_batch recipes rows jobs batches control) batches) (list_all (λ l. rules.is_batch_among batches l.batch) control) tests) h)
+  tested_batch b h = tested recipes rows jobs batches control b (pass_at (is_right_batch recipes rows jobs batches control) batches b (and_left (list_all (is_right_batch recipes rows jobs batches control) batches) (list_all (λ l. rules.is_row_among batches l.batch) control) tests) h)
 
   -- the batch of a control line
   batch_there : (l : ControlLine) → IsIn l control → (b : BatchRow) × IsIn b batches × (same b.batch.id l.batch ≡ true)
   batch_there l h =
-      let listed : list_all (λ l. rules.is_batch_among batches l.batch) control ≡ true = and_right (list_all (is_right_batch recipes rows jobs batches control) batches) (list_all (λ l. rules.is_batch_among batches l.batch) control) tests in
-      any_in (λ b. same b.batch.id l.batch) batches (pass_at (λ l. rules.is_batch_among batches l.batch) control l listed h)
+      let listed : list_all (λ l. rules.is_row_among batches l.batch) control ≡ true = and_right (list_all (is_right_batch recipes rows jobs batches control) batches) (list_all (λ l. rules.is_row_among batches l.batch) control) tests in
+      any_in (λ b. same b.batch.id l.batch) batches (pass_at (λ l. rules.is_row_among batches l.batch) control l listed h)
 
   -- each control line has a number
   pub control_numbered : AllByRecursion (λ l. 1 ≤ l.number) control
@@ -97,7 +97,7 @@ module _ (recipes : List Recipe) (rows : List MasterLine) (jobs : List Job) (bat
   row_found b h = alone_found (λ (x : BatchRow). same x.batch.job b.batch.job) batches b h (same_itself b.batch.job) (tested_batch b h).alone
 
   -- a batch that is there is found without its columns
-  pub finds_batch : (id : List ℕ) → rules.is_batch_among batches id ≡ true → is_batch_among (map batch_without_columns batches) id ≡ true
+  pub finds_batch : (id : List ℕ) → rules.is_row_among batches id ≡ true → is_batch_among (map batch_without_columns batches) id ≡ true
   finds_batch id there =
       let b = any_in (λ (b : BatchRow). same b.batch.id id) batches there in
       finds (λ (b : Batch). same b.id id) (map batch_without_columns batches) (batch_without_columns b.0) (in_map batch_without_columns batches b.0 b.1) b.2
@@ -115,13 +115,13 @@ module _ (recipes : List Recipe) (rows : List MasterLine) (jobs : List Job) (bat
             1 (filter test control) (filtered_passes test control) (counted 1 _ t.numbered);
       }
 
-  pub sound_batches : (events : List BatchEvent) → IsStrictlySortedBy batch_order (map batch_without_columns batches) → IsStrictlySortedBy control_line_order control → AllByRecursion (λ (b : BatchRow). HasBatchValues b.batch) batches → list_all (λ e. rules.is_batch_among batches e.batch) events ≡ true
+  pub sound_batches : (events : List BatchEvent) → IsStrictlySortedBy batch_order (map batch_without_columns batches) → IsStrictlySortedBy control_line_order control → AllByRecursion (λ (b : BatchRow). HasBatchValues b.batch) batches → list_all (λ e. rules.is_row_among batches e.batch) events ≡ true
       → AreSoundBatches (headers_of recipes) rows (orders_of jobs) (map batch_without_columns batches) control events
   sound_batches events sorted control_sorted values witnessed = record {
     sorted = sorted;
     control_sorted = control_sorted;
     each = all_mapped (IsSoundBatch (headers_of recipes) rows (orders_of jobs) (map batch_without_columns batches) control) batch_without_columns batches (all_in (λ (b : BatchRow). IsSoundBatch (headers_of recipes) rows (orders_of jobs) (map batch_without_columns batches) control b.batch) batches (sound values));
     controlled = all_in (λ (l : ControlLine). is_batch_among (map batch_without_columns batches) l.batch ≡ true) control (λ l h. finds_batch l.batch
-        (pass_at (λ l. rules.is_batch_among batches l.batch) control l (and_right (list_all (is_right_batch recipes rows jobs batches control) batches) (list_all (λ l. rules.is_batch_among batches l.batch) control) tests) h));
-    witnessed = all_in (λ (e : BatchEvent). is_batch_among (map batch_without_columns batches) e.batch ≡ true) events (λ e h. finds_batch e.batch (pass_at (λ e. rules.is_batch_among batches e.batch) events e witnessed h));
+        (pass_at (λ l. rules.is_row_among batches l.batch) control l (and_right (list_all (is_right_batch recipes rows jobs batches control) batches) (list_all (λ l. rules.is_row_among batches l.batch) control) tests) h));
+    witnessed = all_in (λ (e : BatchEvent). is_batch_among (map batch_without_columns batches) e.batch ≡ true) events (λ e h. finds_batch e.batch (pass_at (λ e. rules.is_row_among batches e.batch) events e witnessed h));
   }

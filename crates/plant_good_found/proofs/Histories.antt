@@ -19,11 +19,11 @@ use Rattle.plant_base.proofs.Keys.{same_id}
 use Rattle.plant_recipe.specs.Progress.{run_of, progress_after}
 use Rattle.plant_recipe.specs.declared.progress.Progress.{Progress}
 use Rattle.plant_recipe.proofs.Runs.{goes_along}
-use Rattle.plant_view.specs.Production.{is_finished, has_finished, IsSoundRun, AreSoundRuns}
+use Rattle.plant_view.specs.Production.{is_finished, has_finished, IsSoundRun, AreSoundRuns, job_among}
 use Rattle.plant_view.specs.Tables.{phases_among, events_among, batch_row, row_at}
 use Rattle.plant_view.proofs.Rows.{all_mapped}
 use Rattle.plant_view.proofs.Tests.{and_left, and_right, not_true}
-use Rattle.plant_check_plans.specs.Batches.{job_among, control_by, are_batches, is_batch_among}
+use Rattle.plant_check_plans.specs.Batches.{control_asked_for, are_batches, is_row_among}
 use Rattle.plant_check_plans.specs.Events.{kept_progress, is_run, has_right_run, are_events}
 use Rattle.plant_check_plans.specs.Orders.{row_of_order, is_started, are_orders}
 use Rattle.plant_good_found.specs.Restoring.{batch_without_columns}
@@ -58,7 +58,7 @@ module _ (recipes : List Recipe) (rows : List MasterLine) (jobs : List Job) (bat
   runs : (b : BatchRow) → IsIn b batches → run_of (phases_among control b.batch.id) (events_among events b.batch.id) ≡ Ok (kept_progress b)
   unfolding has_right_run
   runs b h =
-      let each : list_all (has_right_run control events) batches ≡ true = and_left (list_all (has_right_run control events) batches) (list_all (λ e. is_batch_among batches e.batch) events) tests in
+      let each : list_all (has_right_run control events) batches ≡ true = and_left (list_all (has_right_run control events) batches) (list_all (λ e. is_row_among batches e.batch) events) tests in
       runs_to (run_of (phases_among control b.batch.id) (events_among events b.batch.id)) (kept_progress b) (pass_at (has_right_run control events) batches b each h)
 
   comes_to : (b : BatchRow) → IsIn b batches → progress_after (phases_among control b.batch.id) (events_among events b.batch.id) ≡ kept_progress b
@@ -68,11 +68,11 @@ module _ (recipes : List Recipe) (rows : List MasterLine) (jobs : List Job) (bat
       run_is_some run e = ap result_ok e
 
   -- no event is without its batch
-  pub witnessed : list_all (λ e. is_batch_among batches e.batch) events ≡ true
-  witnessed = and_right (list_all (has_right_run control events) batches) (list_all (λ e. is_batch_among batches e.batch) events) tests
+  pub witnessed : list_all (λ e. is_row_among batches e.batch) events ≡ true
+  witnessed = and_right (list_all (has_right_run control events) batches) (list_all (λ e. is_row_among batches e.batch) events) tests
 
   closed_by : (b : BatchRow) → IsIn b batches → (j : Option Job) → job_among jobs b.batch.job ≡ j → b.closed ≡ has_finished j
-  closed_by b h None found = let scaled = (tested_batch recipes rows jobs batches control batch_tests b h).scaled in absurd (none_scaled (ap (control_by recipes rows) (sym found) ∙ scaled))
+  closed_by b h None found = let scaled = (tested_batch recipes rows jobs batches control batch_tests b h).scaled in absurd (none_scaled (ap (control_asked_for recipes rows) (sym found) ∙ scaled))
     where
       none_scaled : {lines : List RecipeLine} → None ≡ Some lines → ⊥
       none_scaled e = cc

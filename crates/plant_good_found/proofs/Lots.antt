@@ -24,10 +24,11 @@ use Rattle.plant_check_plans.proofs.Keying.{found_any}
 use Rattle.plant_check_plans.specs.Catalogue.{is_class_among, are_classified}
 use Rattle.plant_check_plans.specs.Recipes.{are_numbered}
 use Rattle.plant_good.specs.Births.{numbers_among, AreFromZero, are_one_birth, IsBirth, IsDivision, IsBorn, AreBorn}
+use Rattle.plant_stock.specs.Stock as flows
 use Rattle.plant_good.specs.Births as births
 use Rattle.plant_tables_judged.specs.Booked.{sort_of, booked_of}
 use Rattle.plant_check.specs.Ends.{total_of}
-use Rattle.plant_check.specs.Lots.{are_from_zero, sublots_among, is_right_lot, is_division, are_of_one_sort, is_of_one_birth, is_birth, is_one_division, is_born, is_lot_among, is_right_sublot, are_in_lots, are_lots}
+use Rattle.plant_check.specs.Lots.{are_from_zero, sublots_among, is_right_lot, is_division_sort, are_of_one_sort, is_of_one_birth, is_one_birth, is_one_division, is_born, is_lot_among, is_right_sublot, are_in_lots, are_lots}
 use Rattle.plant_good_found.specs.Restoring.{place_of_sublot}
 use Rattle.plant_good_found.proofs.Counted.{counted}
 use Rattle.plant_good_found.proofs.Members.{IsIn, all_in, pass_at}
@@ -74,14 +75,14 @@ all_of_birth first (m ∷ ms) e =
     let rest = list_all (is_of_one_birth (booked_of first)) (map booked_of ms) in
     (of_one_birth first m (and_left here rest e), all_of_birth first ms (and_right here rest e))
 
-birth : (ms : List Movement) → is_birth (map booked_of ms) ≡ true → IsBirth ms × (total_of (map booked_of ms) ≤ greatest_amount)
+birth : (ms : List Movement) → is_one_birth (map booked_of ms) ≡ true → IsBirth ms × (total_of (map booked_of ms) ≤ greatest_amount)
 birth [] e = absurd (false≢true e)
 birth (m ∷ ms) e =
     let of_one = list_all (is_of_one_birth (booked_of m)) (map booked_of (m ∷ ms)) in
     let few = nat_le (total_of (map booked_of (m ∷ ms))) greatest_amount in
     (all_of_birth m (m ∷ ms) (and_left of_one few e), leb-true (total_of (map booked_of (m ∷ ms))) greatest_amount (and_right of_one few e))
 
-division_kind : (k : MovementKind) → is_division (sort_of k) ≡ true → stock.is_division k ≡ true
+division_kind : (k : MovementKind) → is_division_sort (sort_of k) ≡ true → stock.is_division k ≡ true
 division_kind (kind.Divided to) e = refl
 division_kind kind.Received e = absurd (false≢true e)
 division_kind (kind.Consumed batch) e = absurd (false≢true e)
@@ -97,16 +98,16 @@ division (m ∷ n ∷ ms) e = absurd (false≢true e)
 
 -- how a sublot came to be, as its rows tell
 record IsBornBy (ms : List Movement) (s : Sublot) : Type 0 where
-  pub whole : s.number ≡ 0 → is_birth (map booked_of (births.entries ms s.lot s.number)) ≡ true
-  pub divided : 1 ≤ s.number → is_one_division (map booked_of (births.entries ms s.lot s.number)) ≡ true
+  pub whole : s.number ≡ 0 → is_one_birth (map booked_of (flows.entries ms s.lot s.number)) ≡ true
+  pub divided : 1 ≤ s.number → is_one_division (map booked_of (flows.entries ms s.lot s.number)) ≡ true
 
 born_by : (ms : List Movement) (s : Sublot) → is_born (map booked_of ms) s ≡ true → IsBornBy ms s
 born_by ms s e =
-    let own : (if s.number == 0 then is_birth (map booked_of (births.entries ms s.lot s.number)) else is_one_division (map booked_of (births.entries ms s.lot s.number))) ≡ true =
-    (λ i. if s.number == 0 then is_birth (sym (same_entries ms s.lot s.number) i) else is_one_division (sym (same_entries ms s.lot s.number) i)) ∙ e in
+    let own : (if s.number == 0 then is_one_birth (map booked_of (flows.entries ms s.lot s.number)) else is_one_division (map booked_of (flows.entries ms s.lot s.number))) ≡ true =
+    (λ i. if s.number == 0 then is_one_birth (sym (same_entries ms s.lot s.number) i) else is_one_division (sym (same_entries ms s.lot s.number) i)) ∙ e in
     record {
-      whole = λ z. ap (λ b. if b then is_birth (map booked_of (births.entries ms s.lot s.number)) else is_one_division (map booked_of (births.entries ms s.lot s.number))) (sym (eq-eqb s.number 0 z)) ∙ own;
-      divided = λ l. ap (λ b. if b then is_birth (map booked_of (births.entries ms s.lot s.number)) else is_one_division (map booked_of (births.entries ms s.lot s.number))) (sym (not_zero l)) ∙ own;
+      whole = λ z. ap (λ b. if b then is_one_birth (map booked_of (flows.entries ms s.lot s.number)) else is_one_division (map booked_of (flows.entries ms s.lot s.number))) (sym (eq-eqb s.number 0 z)) ∙ own;
+      divided = λ l. ap (λ b. if b then is_one_birth (map booked_of (flows.entries ms s.lot s.number)) else is_one_division (map booked_of (flows.entries ms s.lot s.number))) (sym (not_zero l)) ∙ own;
     }
   where
     not_zero : 1 ≤ s.number → (s.number == 0) ≡ false
@@ -143,8 +144,8 @@ module _ (definitions : List Definition) (lots : List Lot) (sublots : List Sublo
   born s h =
       let by = born_by ms s (right_sublot s h).1 in
       record {
-        whole = λ z. (birth (births.entries ms s.lot s.number) (by.whole z)).0;
-        divided = λ l. division (births.entries ms s.lot s.number) (by.divided l);
+        whole = λ z. (birth (flows.entries ms s.lot s.number) (by.whole z)).0;
+        divided = λ l. division (flows.entries ms s.lot s.number) (by.divided l);
       }
 
   pub sound_births : AreBorn lots (map place_of_sublot sublots) ms
@@ -154,8 +155,8 @@ module _ (definitions : List Definition) (lots : List Lot) (sublots : List Sublo
   }
 
   -- sublot 0 was given no more than an amount, and another came of one division
-  pub small_birth : (s : Sublot) → IsIn s sublots → s.number ≡ 0 → total_of (map booked_of (births.entries ms s.lot s.number)) ≤ greatest_amount
-  small_birth s h z = (birth (births.entries ms s.lot s.number) ((born_by ms s (right_sublot s h).1).whole z)).1
+  pub small_birth : (s : Sublot) → IsIn s sublots → s.number ≡ 0 → total_of (map booked_of (flows.entries ms s.lot s.number)) ≤ greatest_amount
+  small_birth s h z = (birth (flows.entries ms s.lot s.number) ((born_by ms s (right_sublot s h).1).whole z)).1
 
-  pub one_division : (s : Sublot) → IsIn s sublots → 1 ≤ s.number → IsDivision (births.entries ms s.lot s.number)
+  pub one_division : (s : Sublot) → IsIn s sublots → 1 ≤ s.number → IsDivision (flows.entries ms s.lot s.number)
   one_division s h l = (born s h).divided l

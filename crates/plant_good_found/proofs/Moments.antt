@@ -13,7 +13,7 @@ use Rattle.plant_base.specs.declared.rows.Position.{Position}
 use Rattle.plant_base.proofs.Put.{all_weaker}
 use Rattle.plant_view.proofs.Rows.{all_mapped, each_passes}
 use Rattle.plant_view.proofs.Tests.{and_left, and_right}
-use Rattle.plant_check_stock.specs.Times.{mark_of, mark_of_event, is_no_later, never_fall, are_by, are_times}
+use Rattle.plant_check_stock.specs.Times.{row_mark_of, row_mark_of_event, is_no_later, never_fall, are_by, are_times}
 use Rattle.plant_check_stock.specs.Times as times
 use Rattle.plant_good.specs.Timed.{mark_of_movement, marks, IsNoLater, HasMoments}
 use Rattle.plant_good.specs.Timed as timed
@@ -24,11 +24,11 @@ use Rattle.plant_good_found.specs.Restoring.{batch_without_columns}
 abbrev position : ℕ × ℕ → Position
 position mark = record { seq = mark.0; at = mark.1 }
 
-event_marks : (es : List BatchEvent) → map timed.mark_of_event es ≡ map position (map mark_of_event es)
+event_marks : (es : List BatchEvent) → map timed.mark_of_event es ≡ map position (map row_mark_of_event es)
 event_marks [] = refl
 event_marks (e ∷ es) = ap (λ ps. timed.mark_of_event e ∷ ps) (event_marks es)
 
-same_marks : (ms : List Movement) (es : List BatchEvent) → marks ms es ≡ map position (times.marks ms es)
+same_marks : (ms : List Movement) (es : List BatchEvent) → marks ms es ≡ map position (times.row_marks ms es)
 same_marks [] es = event_marks es
 same_marks (m ∷ ms) es = ap (λ ps. mark_of_movement m ∷ ps) (same_marks ms es)
 
@@ -48,7 +48,7 @@ module _ {X : Type 0} (moment : X → ℕ) (at : ℕ) where
 
 pub sound_moments : (at : ℕ) (ms : List Movement) (es : List BatchEvent) (batches : List BatchRow) (holds : List Hold) → are_times at ms es batches holds ≡ true → HasMoments at ms es (map batch_without_columns batches) holds
 sound_moments at ms es batches holds tests =
-    let falls = never_fall (times.marks ms es) in
+    let falls = never_fall (times.row_marks ms es) in
     let moved = list_all (λ (m : Movement). nat_le m.at at) ms in
     let happened = list_all (λ (e : BatchEvent). nat_le e.at at) es in
     let released = list_all (λ (b : BatchRow). nat_le b.batch.at at) batches in
@@ -57,7 +57,7 @@ sound_moments at ms es batches holds tests =
     let three = and_left (moved && happened && released) held by in
     let two = and_left (moved && happened) released three in
     record {
-      rising = subst (λ ps. AllByRecursion (λ a. AllByRecursion (IsNoLater a) ps) ps) (sym (same_marks ms es)) (rising (times.marks ms es) (and_left falls (are_by at ms es batches holds) tests));
+      rising = subst (λ ps. AllByRecursion (λ a. AllByRecursion (IsNoLater a) ps) ps) (sym (same_marks ms es)) (rising (times.row_marks ms es) (and_left falls (are_by at ms es batches holds) tests));
       bookings = all_append (λ (a : Position). a.at ≤ at) (map mark_of_movement ms) (map timed.mark_of_event es)
           (all_mapped (λ (a : Position). a.at ≤ at) mark_of_movement ms (all_by (λ (m : Movement). m.at) at ms (and_left moved happened two)))
           (all_mapped (λ (a : Position). a.at ≤ at) timed.mark_of_event es (all_by (λ (e : BatchEvent). e.at) at es (and_right moved happened two)));

@@ -24,9 +24,10 @@ use Rattle.plant_view.specs.Tables.{sublot_row}
 use Rattle.plant_view.proofs.Rows.{none_left, all_filtered}
 use Rattle.plant_view.proofs.Tests.{and_left, and_right}
 use Rattle.plant_rules.specs.Splitting.{def_of}
-use Rattle.plant_rules.specs.Consumption.{is_taken, is_made}
+use Rattle.plant_view.specs.Materials.{is_taken, is_made}
 use Rattle.plant_check_stock.specs.Movements.{is_there, is_batch_there, names_known, lot_among, are_of_one, is_asked_for, is_yielded, is_of_right_definition, is_of_right_merge, is_right_movement, are_movements}
 use Rattle.plant_good.specs.Births.{IsDivision}
+use Rattle.plant_stock.specs.Stock as flows
 use Rattle.plant_good.specs.Births as births
 use Rattle.plant_good.specs.Keeping.{IsAsked, KeepToRecipes}
 use Rattle.plant_good.specs.Valued.{HasMovementValues}
@@ -140,7 +141,7 @@ module _ (r : Rows) (tests : are_movements r.lots r.sublots r.batches r.control_
 
     never_entered : entered (movements_in r.movements) lot number ≡ 0
     never_entered =
-        let no_entry : births.entries (movements_in r.movements) lot number ≡ [] = none_left (λ (m : Movement). is_place (goes_to m.kind m.lot m.sub) lot number) (movements_in r.movements)
+        let no_entry : flows.entries (movements_in r.movements) lot number ≡ [] = none_left (λ (m : Movement). is_place (goes_to m.kind m.lot m.sub) lot number) (movements_in r.movements)
         (all_in (λ (m : Movement). is_place (goes_to m.kind m.lot m.sub) lot number ≡ false) (movements_in r.movements) (λ m h. not_there (goes_to m.kind m.lot m.sub) (goes m h) (is_place (goes_to m.kind m.lot m.sub) lot number) refl)) in
         sym (entered_of (movements_in r.movements) lot number) ∙ ap (λ es. total_of (map booked_of es)) no_entry
 
@@ -181,10 +182,10 @@ module _ (r : Rows) (tests : are_movements r.lots r.sublots r.batches r.control_
           single (m ∷ []) d v = let small = leb-true m.amount greatest_amount (and_right (nat_le 1 m.amount) (nat_le m.amount greatest_amount) v.0.amount) in omega (arith, small)
           single (m ∷ n ∷ es) d v = absurd d
 
-          divided : (n : ℕ) (s : Sublot) → IsIn s r.sublots → s.number ≡ n → total_of (map booked_of (births.entries (movements_in r.movements) s.lot s.number)) ≤ greatest_amount
+          divided : (n : ℕ) (s : Sublot) → IsIn s r.sublots → s.number ≡ n → total_of (map booked_of (flows.entries (movements_in r.movements) s.lot s.number)) ≤ greatest_amount
           divided zero s h e = small_birth r.definitions r.lots r.sublots r.holds (movements_in r.movements) lots s h e
           divided (suc n) s h e =
-              single (births.entries (movements_in r.movements) s.lot s.number) (one_division r.definitions r.lots r.sublots r.holds (movements_in r.movements) lots s h (omega (arith, e)))
+              single (flows.entries (movements_in r.movements) s.lot s.number) (one_division r.definitions r.lots r.sublots r.holds (movements_in r.movements) lots s h (omega (arith, e)))
               (all_filtered HasMovementValues (λ m. is_place (goes_to m.kind m.lot m.sub) s.lot s.number) (movements_in r.movements) values)
 
           by : (o : Option Sublot) → find (λ (s : Sublot). same s.lot lot && s.number == number) r.sublots ≡ o → entered (movements_in r.movements) lot number ≤ greatest_amount

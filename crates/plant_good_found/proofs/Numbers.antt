@@ -13,13 +13,13 @@ use Rattle.plant_base.specs.declared.rows.MovementKind.{MovementKind}
 use Rattle.plant_base.specs.declared.rows.MovementKind.TheVariants as kind
 use Rattle.plant_base.proofs.Keys.{same_id}
 use Rattle.plant_base.proofs.Put.{all_weaker}
-use Rattle.plant_stock.specs.Stock.{goes_to, comes_from, is_place}
+use Rattle.plant_stock.specs.Stock.{goes_to, comes_from, is_place, entries, are_one_merge, is_one_source, greatest_parts}
 use Rattle.plant_view.proofs.Rows.{none_left, each_passes}
 use Rattle.plant_view.proofs.Tests.{and_left, and_right, not_true, each_fails}
 use Rattle.plant_check_stock.specs.Movements.{is_merged, parts_of, are_distinct, are_parts, is_of_right_merge}
 use Rattle.plant_check_stock.specs.Numbering.{is_given, is_next_part, is_line_after, is_next_line, are_lines, is_apart, is_entered_before, has_right_number, are_numbers}
-use Rattle.plant_good.specs.Births.{entries}
-use Rattle.plant_good.specs.Bookings.{greatest_parts, movement_order, event_order, AreCounted, booked, are_one_merge, is_one_source, AreDistinct, IsBooking, IsEnteredBefore, IsNumbered}
+use Rattle.plant_base.specs.State.{event_order, movement_order}
+use Rattle.plant_good.specs.Bookings.{AreCounted, booked, AreDistinct, IsBooking, IsEnteredBefore, IsNumbered}
 use Rattle.plant_good.proofs.Listing.{all_passing, numbers_differ}
 use Rattle.plant_good_found.proofs.Members.{IsIn, all_in, pass_at, filter_in}
 

@@ -8,14 +8,14 @@ use Rattle.std.specs.declared.cmp.Ordering.{Ordering}
 use Rattle.std.specs.declared.cmp.Ordering.TheVariants.{Less}
 use Rattle.sqlite.specs.Effect.{Database}
 use Rattle.sqlite.specs.Order.{Row}
-use Rattle.plant_base.specs.State.{class_order, definition_order, recipe_order, master_line_order, job_order, control_line_order, lot_order, hold_order}
+use Rattle.plant_base.specs.State.{class_order, definition_order, recipe_order, master_line_order, job_order, control_line_order, lot_order, hold_order, event_order, movement_order}
 use Rattle.plant_view.specs.Tables.{batch_row_order, sublot_order}
 use Rattle.table_reads.specs.Rises.{Rises}
 use Rattle.plant_tables.specs.Encoding.{row_of_class, row_of_definition, row_of_recipe, row_of_master_line, row_of_job, row_of_batch, row_of_control_line, row_of_event, row_of_lot, row_of_sublot, row_of_movement, row_of_hold}
 use Rattle.plant_tables_stored.specs.Stored.{class_row, class_before, definition_row, definition_before, recipe_row, recipe_before, recipe_line_row, recipe_line_before, job_row, job_before, batch_row, batch_before, control_line_row, control_line_before, batch_event_row, batch_event_before, lot_row, lot_before, sublot_row, sublot_before, movement_row, movement_before, hold_row, hold_before}
 use Rattle.plant_tables_stored.specs.Loading.{AreRising}
 use Rattle.plant_tables_stored.specs.declared.loaded.Loaded.{Loaded}
-use Rattle.plant_tables_judged.specs.Collecting.{Rows, rows_from, tables_in, event_order, movement_order, AreWhole, AreInOrder}
+use Rattle.plant_tables_judged.specs.Collecting.{Rows, rows_from, tables_in, AreWhole, AreInOrder}
 use Rattle.plant_tables_judged.proofs.KeyLemmas.{by_text, text_total, by_number, number_total, by_both, both_total}
 use Rattle.plant_tables_judged.proofs.SortedLemmas.{int_cmp_pos, strictly_sorted}
 use Rattle.plant_tables_judged.proofs.StandLemmas.{are_stored}

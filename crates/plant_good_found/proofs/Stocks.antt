@@ -7,6 +7,7 @@ use Rattle.plant_base.specs.declared.rows.MovementKind.{MovementKind}
 use Rattle.plant_base.specs.declared.rows.MovementKind.TheVariants as kind
 use Rattle.plant_base.specs.declared.rows.Sublot.{Sublot}
 use Rattle.plant_stock.specs.Stock.{goes_to, comes_from, is_place, entered, left}
+use Rattle.plant_stock.specs.Stock as flows
 use Rattle.plant_good.specs.Births as births
 use Rattle.plant_tables_judged.specs.Booked.{booked_of}
 use Rattle.plant_tables_judged.specs.declared.booked.BookedRow.{BookedRow}
@@ -49,7 +50,7 @@ filtered_same f p q same (x ∷ xs) = (λ i. cond (same x i) (f x ∷ filtered_s
     taken false = refl
 
 module _ (ms : List Movement) (lot : List ℕ) (number : ℕ) where
-  pub same_entries : entries (map booked_of ms) lot number ≡ map booked_of (births.entries ms lot number)
+  pub same_entries : entries (map booked_of ms) lot number ≡ map booked_of (flows.entries ms lot number)
   same_entries = filtered_same booked_of (λ r. is_place (entered_by r.sort r) lot number) (λ m. is_place (goes_to m.kind m.lot m.sub) lot number) (λ m. ap (λ k. is_place k lot number) (enters_as m.kind m)) ms
 
   same_exits : exits (map booked_of ms) lot number ≡ map booked_of (movement_exits ms lot number)
@@ -69,7 +70,7 @@ passing_total p (m ∷ ms) = by (p m) refl (passing_total p ms)
         let here : (if p m then m.amount else 0) ≡ 0 = ap (λ b. if b then m.amount else 0) e in
         omega (arith, sum_by-cons (λ (m : Movement). if p m then m.amount else 0) m ms, here, more)
 
-pub entered_of : (ms : List Movement) (lot : List ℕ) (number : ℕ) → total_of (map booked_of (births.entries ms lot number)) ≡ entered ms lot number
+pub entered_of : (ms : List Movement) (lot : List ℕ) (number : ℕ) → total_of (map booked_of (flows.entries ms lot number)) ≡ entered ms lot number
 unfolding entered
 entered_of ms lot number = passing_total (λ m. is_place (goes_to m.kind m.lot m.sub) lot number) ms
 

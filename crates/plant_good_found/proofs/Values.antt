@@ -31,7 +31,8 @@ use Rattle.plant_base.specs.declared.rows.Sublot.{Sublot}
 use Rattle.plant_base.specs.declared.rows.Hold.{Hold}
 use Rattle.plant_recipe.specs.Progress.{greatest_attempt}
 use Rattle.plant_view.specs.Production.{HasBatchValues, HasGoodOrder}
-use Rattle.plant_good.specs.Valued.{HasClassValues, HasDefinitionValues, HasMasterValues, HasControlValues, HasLotValues, HasPhaseNumber, HasEventValues, HasHoldValues}
+use Rattle.plant_base.specs.RowValues.{HasClassValues, HasDefinitionValues, HasLotValues, HasHoldValues, HasPhaseNumber}
+use Rattle.plant_good.specs.Valued.{HasMasterValues, HasControlValues, HasEventValues}
 use Rattle.plant_tables_stored.specs.declared.meta.StoredMeta.{StoredMeta}
 use Rattle.plant_tables_stored.specs.declared.masters.StoredClass.{StoredClass}
 use Rattle.plant_tables_stored.specs.declared.masters.StoredDefinition.{StoredDefinition}

@@ -12,7 +12,7 @@ use Rattle.std.proofs.lemmas.Bool.{false≢true}
 use Rattle.std.proofs.lemmas.Bool.Decides.{nat_tests}
 use Rattle.std.proofs.lemmas.List.{append-nil}
 use Rattle.std.proofs.lemmas.List.Sums.{length-filter}
-use Rattle.plant_base.specs.State.{State, newest_schema, same, put}
+use Rattle.plant_base.specs.State.{State, newest_schema, same, put, event_order, movement_order}
 use Rattle.plant_base.specs.Formed.{HasValues}
 use Rattle.plant_base.specs.declared.rows.Batch.{Batch}
 use Rattle.plant_base.specs.declared.rows.BatchRow.{BatchRow}
@@ -28,7 +28,6 @@ use Rattle.plant_view.specs.declared.change.RowChange.{RowChange}
 use Rattle.plant_view.specs.declared.change.RowChange.TheVariants as change
 use Rattle.plant_view.proofs.Rows.{all_mapped}
 use Rattle.plant_rules.specs.Step.{step}
-use Rattle.plant_good.specs.Bookings.{movement_order, event_order}
 use Rattle.plant_good.specs.Good.{IsGood}
 use Rattle.plant_good.proofs.StepGood.{step_good}
 use Rattle.plant_tables.specs.Keyed.{IsFresh, AreFresh}

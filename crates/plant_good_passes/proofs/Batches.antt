@@ -23,12 +23,12 @@ use Rattle.plant_base.proofs.Keys.{same_id, same_key, same_itself}
 use Rattle.plant_recipe.specs.Form.{is_well_formed}
 use Rattle.plant_recipe.specs.Control.{control_of}
 use Rattle.plant_view.specs.Production as known
-use Rattle.plant_view.specs.Production.{headers_of, orders_of, order_among, batch_among, lines_among, control_line, control_among, control_of_order, IsWholeRecipe, IsSoundBatch}
+use Rattle.plant_view.specs.Production.{headers_of, orders_of, order_among, batch_among, lines_among, control_line, control_among, control_of_order, IsWholeRecipe, IsSoundBatch, job_among}
 use Rattle.plant_view.specs.Sound.{IsSound}
 use Rattle.plant_view.specs.Tables.{batch_row}
 use Rattle.plant_view.proofs.KeptSound.{all_two}
 use Rattle.plant_view.proofs.Rows.{all_mapped, all_unmapped, find_mapped}
-use Rattle.plant_check_plans.specs.Batches.{job_among, control_sized, control_for, control_from, control_by, is_control, is_batch_among, is_right_batch, are_batches}
+use Rattle.plant_check_plans.specs.Batches.{control_sized, control_where_formed, control_of_found, control_asked_for, is_control, is_row_among, is_right_batch, are_batches}
 use Rattle.plant_check_plans.specs.Orders.{recipe_among, is_size_of_recipe}
 use Rattle.plant_check_plans.specs.Recipes.{are_numbered}
 use Rattle.plant_good_passes.proofs.Testing.{all_pass, filter_mapped, AreApart, one_left, ids_apart, numbers_pass}
@@ -68,10 +68,10 @@ module _ (s : State) (sound : IsSound s) where
   abbrev SoundBatch : Batch → Type 0
   SoundBatch = IsSoundBatch (headers_of s.recipes) s.master_lines (orders_of s.jobs) s.batches s.control_lines
 
-  control_made : (h : Header) (lines : List RecipeLine) (size : ℕ) (control : List RecipeLine) → is_well_formed h lines ≡ true → known.is_size_of_some (Some h) size ≡ true → control_of h lines size ≡ Some control → control_for h lines size ≡ Some control
+  control_made : (h : Header) (lines : List RecipeLine) (size : ℕ) (control : List RecipeLine) → is_well_formed h lines ≡ true → known.is_size_of_some (Some h) size ≡ true → control_of h lines size ≡ Some control → control_where_formed h lines size ≡ Some control
   control_made h lines size control formed sized e = ap (λ b. cond b (control_sized h lines size) None) formed ∙ ap (λ b. cond b (control_of h lines size) None) sized ∙ e
 
-  by_recipe : (o : OrderRow) (control : List RecipeLine) (r : Option Recipe) → recipe_among s.recipes o.recipe o.version ≡ r → is_size_of_recipe r o.size ≡ true → known.control_from s.master_lines o (option_map (λ x. x.header) r) ≡ Some control → control_from s.master_lines o.size r ≡ Some control
+  by_recipe : (o : OrderRow) (control : List RecipeLine) (r : Option Recipe) → recipe_among s.recipes o.recipe o.version ≡ r → is_size_of_recipe r o.size ≡ true → known.control_from s.master_lines o (option_map (λ x. x.header) r) ≡ Some control → control_of_found s.master_lines o.size r ≡ Some control
   by_recipe o control None found sized e = absurd (false≢true sized)
   by_recipe o control (Some r) found sized e =
       let test = λ (x : Recipe). same x.header.recipe o.recipe && x.header.version == o.version in
@@ -80,14 +80,14 @@ module _ (s : State) (sound : IsSound s) where
       control_made r.header (lines_among s.master_lines r.header.recipe r.header.version) o.size control whole.formed sized
       ((λ i. control_of r.header (lines_among s.master_lines (keys.0 i) (keys.1 i)) o.size) ∙ e)
 
-  by_order : (id : List ℕ) (control : List RecipeLine) (j : Option Job) → job_among s.jobs id ≡ j → control_of_order (headers_of s.recipes) s.master_lines (option_map (λ x. x.order) j) ≡ Some control → control_by s.recipes s.master_lines j ≡ Some control
+  by_order : (id : List ℕ) (control : List RecipeLine) (j : Option Job) → job_among s.jobs id ≡ j → control_of_order (headers_of s.recipes) s.master_lines (option_map (λ x. x.order) j) ≡ Some control → control_asked_for s.recipes s.master_lines j ≡ Some control
   by_order id control None found e = absurd cc
   by_order id control (Some j) found e =
       let sized = found_keeps (λ (x : Job). is_size_of_recipe (recipe_among s.recipes x.order.recipe x.order.version) x.order.size ≡ true) (λ (x : Job). same x.order.order id) s.jobs j (sizes_pass s sound) found in
       by_recipe j.order control (recipe_among s.recipes j.order.recipe j.order.version) refl sized
       (ap (known.control_from s.master_lines j.order) (sym (header_found s.recipes j.order.recipe j.order.version)) ∙ e)
 
-  control_asked : (id : List ℕ) (control : List RecipeLine) → control_of_order (headers_of s.recipes) s.master_lines (order_among (orders_of s.jobs) id) ≡ Some control → control_by s.recipes s.master_lines (job_among s.jobs id) ≡ Some control
+  control_asked : (id : List ℕ) (control : List RecipeLine) → control_of_order (headers_of s.recipes) s.master_lines (order_among (orders_of s.jobs) id) ≡ Some control → control_asked_for s.recipes s.master_lines (job_among s.jobs id) ≡ Some control
   control_asked id control e = by_order id control (job_among s.jobs id) refl (ap (control_of_order (headers_of s.recipes) s.master_lines) (sym (find_mapped (λ (o : OrderRow). same o.order id) (λ (j : Job). j.order) s.jobs)) ∙ e)
 
   batch_passes : (b : Batch) → SoundBatch b → filter (has_order_of b) s.batches ≡ b ∷ [] → is_right_batch s.recipes s.master_lines s.jobs (map row s.batches) s.control_lines (row b) ≡ true
@@ -106,4 +106,4 @@ module _ (s : State) (sound : IsSound s) where
       let alone = one_left has_order_of (λ b. same_itself b.job) s.batches (orders_apart s.batches s.batches sound.batches.sorted (all_weaker SoundBatch _ (λ b its. its.alone) s.batches sound.batches.each)) in
       and_from _ _
       (all_pass passes (map row s.batches) (all_mapped (λ (r : BatchRow). passes r ≡ true) row s.batches (all_two SoundBatch _ _ batch_passes s.batches sound.batches.each alone)))
-      (all_pass (λ (l : ControlLine). is_batch_among (map row s.batches) l.batch) s.control_lines (all_weaker _ _ (λ (l : ControlLine) there. batch_there s sound l.batch there) s.control_lines sound.batches.controlled))
+      (all_pass (λ (l : ControlLine). is_row_among (map row s.batches) l.batch) s.control_lines (all_weaker _ _ (λ (l : ControlLine) there. batch_there s sound l.batch there) s.control_lines sound.batches.controlled))

@@ -19,7 +19,7 @@ use Rattle.plant_view.specs.Sound.{IsSound}
 use Rattle.plant_view.specs.Tables.{phases_among, events_among, batch_row}
 use Rattle.plant_view.proofs.Rows.{all_mapped}
 use Rattle.plant_view.proofs.Tests.{any_map}
-use Rattle.plant_check_plans.specs.Batches.{is_batch_among}
+use Rattle.plant_check_plans.specs.Batches.{is_row_among}
 use Rattle.plant_check_plans.specs.Events.{is_run, has_right_run, are_events}
 use Rattle.plant_good_passes.proofs.Testing.{all_pass, any_found}
 
@@ -36,7 +36,7 @@ module _ (s : State) (sound : IsSound s) where
   row = batch_row s.control_lines s.events
 
   -- a batch that is there has its row
-  pub batch_there : (id : List ℕ) → known.is_batch_among s.batches id ≡ true → is_batch_among (map row s.batches) id ≡ true
+  pub batch_there : (id : List ℕ) → known.is_batch_among s.batches id ≡ true → is_row_among (map row s.batches) id ≡ true
   batch_there id there = any_map (λ (b : BatchRow). same b.batch.id id) row s.batches ∙ any_found (λ (b : Batch). same b.id id) s.batches there
 
   pub events_pass : are_events s.control_lines s.events (map row s.batches) ≡ true
@@ -44,4 +44,4 @@ module _ (s : State) (sound : IsSound s) where
   events_pass = and_from _ _
       (all_pass (has_right_run s.control_lines s.events) (map row s.batches) (all_mapped (λ (r : BatchRow). has_right_run s.control_lines s.events r ≡ true) row s.batches
       (all_weaker _ _ (λ (b : Batch) run. run_passes (phases_among s.control_lines b.id) (events_among s.events b.id) run.allowed) s.batches sound.runs)))
-      (all_pass (λ (e : BatchEvent). is_batch_among (map row s.batches) e.batch) s.events (all_weaker _ _ (λ (e : BatchEvent) there. batch_there e.batch there) s.events sound.batches.witnessed))
+      (all_pass (λ (e : BatchEvent). is_row_among (map row s.batches) e.batch) s.events (all_weaker _ _ (λ (e : BatchEvent) there. batch_there e.batch there) s.events sound.batches.witnessed))

@@ -21,13 +21,14 @@ use Rattle.plant_view.specs.Tables.{sublot_row}
 use Rattle.plant_view.proofs.KeptSound.{all_two}
 use Rattle.plant_view.proofs.Rows.{all_mapped}
 use Rattle.plant_check_plans.specs.Recipes.{are_numbered}
+use Rattle.plant_stock.specs.Stock as flows
 use Rattle.plant_good.specs.Births as kept
 use Rattle.plant_good.specs.Bookings.{AreCounted}
 use Rattle.plant_good.specs.Good.{IsGood}
 use Rattle.plant_tables_judged.specs.Booked.{booked_of, sort_of}
 use Rattle.plant_tables_judged.specs.declared.booked.BookedRow.{BookedRow}
 use Rattle.plant_check.specs.Ends.{entries, total_of}
-use Rattle.plant_check.specs.Lots.{are_from_zero, sublots_among, is_right_lot, is_division, are_of_one_sort, is_of_one_birth, is_birth, is_one_division, is_born, is_lot_among, is_right_sublot, are_lots}
+use Rattle.plant_check.specs.Lots.{are_from_zero, sublots_among, is_right_lot, is_division_sort, are_of_one_sort, is_of_one_birth, is_one_birth, is_one_division, is_born, is_lot_among, is_right_sublot, are_lots}
 use Rattle.plant_good_passes.proofs.Testing.{all_pass, any_found, filter_mapped}
 use Rattle.plant_good_passes.proofs.Stocks.{entries_booked, total_entered}
 
@@ -45,12 +46,12 @@ one_sort (kind.Merged a) (kind.Merged b) e = refl
 one_sort _ _ e = absurd (false≢true e)
 
 -- and a division as one
-division_sort : (k : MovementKind) → stock.is_division k ≡ true → is_division (sort_of k) ≡ true
+division_sort : (k : MovementKind) → stock.is_division k ≡ true → is_division_sort (sort_of k) ≡ true
 division_sort (kind.Divided to) e = refl
 division_sort _ e = absurd (false≢true e)
 
 -- movements of one birth that bring no more than an amount
-birth_passes : (ms : List Movement) → kept.IsBirth ms → total_of (map booked_of ms) ≤ greatest_amount → is_birth (map booked_of ms) ≡ true
+birth_passes : (ms : List Movement) → kept.IsBirth ms → total_of (map booked_of ms) ≤ greatest_amount → is_one_birth (map booked_of ms) ≡ true
 birth_passes [] birth small = absurd birth
 birth_passes (m ∷ ms) birth small =
     let of_one = λ (r : BookedRow). is_of_one_birth (booked_of m) r in
@@ -72,20 +73,20 @@ module _ (s : State) (good : IsGood s) where
   abbrev sublots : List Sublot
   sublots = map (sublot_row s.movements) s.places
 
-  birth_told : (p : Place) → kept.IsBirth (kept.entries s.movements p.lot p.number) → is_birth (entries rows p.lot p.number) ≡ true
+  birth_told : (p : Place) → kept.IsBirth (flows.entries s.movements p.lot p.number) → is_one_birth (entries rows p.lot p.number) ≡ true
   birth_told p birth =
       let booked = entries_booked s.movements p.lot p.number in
-      ap is_birth booked
-      ∙ birth_passes (kept.entries s.movements p.lot p.number) birth (subst (λ n. n ≤ greatest_amount) (sym (total_entered s.movements p.lot p.number) ∙ ap total_of booked) (good.sound.small p.lot p.number))
+      ap is_one_birth booked
+      ∙ birth_passes (flows.entries s.movements p.lot p.number) birth (subst (λ n. n ≤ greatest_amount) (sym (total_entered s.movements p.lot p.number) ∙ ap total_of booked) (good.sound.small p.lot p.number))
 
   born_passes : (p : Place) → kept.IsBorn s.movements p → is_born rows (sublot_row s.movements p) ≡ true
   born_passes p born = by (p.number == 0) refl
     where
-      by : (z : Bool) → (p.number == 0) ≡ z → cond z (is_birth (entries rows p.lot p.number)) (is_one_division (entries rows p.lot p.number)) ≡ true
+      by : (z : Bool) → (p.number == 0) ≡ z → cond z (is_one_birth (entries rows p.lot p.number)) (is_one_division (entries rows p.lot p.number)) ≡ true
       by true e = birth_told p (born.whole (eqb-true p.number 0 e))
       by false e =
           let above : 1 ≤ p.number = grind (arith, nat_tests) in
-          ap is_one_division (entries_booked s.movements p.lot p.number) ∙ division_passes (kept.entries s.movements p.lot p.number) (born.divided above)
+          ap is_one_division (entries_booked s.movements p.lot p.number) ∙ division_passes (flows.entries s.movements p.lot p.number) (born.divided above)
 
   lot_passes : (l : Lot) → is_defined s.definitions l.def ≡ true → kept.AreFromZero (kept.numbers_among s.places l.id) → is_right_lot s.definitions sublots l ≡ true
   unfolding is_right_lot

@@ -15,7 +15,7 @@ use Rattle.plant_base.specs.declared.rows.MovementKind.TheVariants as kind
 use Rattle.plant_base.specs.declared.rows.Place.{Place}
 use Rattle.plant_base.specs.declared.rows.Sublot.{Sublot}
 use Rattle.plant_base.proofs.Keys.{same_itself}
-use Rattle.plant_stock.specs.Stock.{goes_to, comes_from}
+use Rattle.plant_stock.specs.Stock.{goes_to, comes_from, is_one_source, greatest_parts}
 use Rattle.plant_view.specs.Conserve.{is_of_lot}
 use Rattle.plant_view.specs.Genealogy.{IsBatchThere}
 use Rattle.plant_view.specs.Production.{control_among}
@@ -25,9 +25,9 @@ use Rattle.plant_view.proofs.KeptSound.{all_two, lot_known}
 use Rattle.plant_view.proofs.Rows.{all_of, all_mapped, all_filtered}
 use Rattle.plant_view.proofs.Tests.{any_map}
 use Rattle.plant_rules_production.proofs.ReleaseTables.{filter_both}
-use Rattle.plant_rules.specs.Consumption.{is_taken, is_made}
+use Rattle.plant_view.specs.Materials.{is_taken, is_made}
 use Rattle.plant_rules.specs.Splitting.{def_of}
-use Rattle.plant_good.specs.Bookings.{booked, greatest_parts, is_one_source, AreDistinct}
+use Rattle.plant_good.specs.Bookings.{booked, AreDistinct}
 use Rattle.plant_good.specs.Keeping.{IsAsked}
 use Rattle.plant_good.specs.Good.{IsGood}
 use Rattle.plant_check_stock.specs.Movements.{is_there, is_batch_there, names_known, are_of_one, is_asked_for, is_yielded, is_of_right_definition, is_merged, parts_of, are_distinct, are_parts, is_right_movement, are_movements}

@@ -8,18 +8,17 @@ use Rattle.std.specs.declared.cmp.Ordering.{Ordering}
 use Rattle.std.specs.declared.cmp.Ordering.TheVariants.{Less}
 use Rattle.std.proofs.lemmas.Bool.{false≢true, le-leb, lt-ltb, eq-eqb, eqb-true, eqb-false, and_from}
 use Rattle.std.proofs.lemmas.Bool.Decides.{nat_tests}
-use Rattle.plant_base.specs.State.{State, same}
+use Rattle.plant_base.specs.State.{State, same, movement_order}
 use Rattle.plant_base.specs.declared.rows.BatchEvent.{BatchEvent}
 use Rattle.plant_base.specs.declared.rows.Movement.{Movement}
 use Rattle.plant_base.specs.declared.rows.MovementKind.{MovementKind}
 use Rattle.plant_base.specs.declared.rows.MovementKind.TheVariants as kind
 use Rattle.plant_base.proofs.Put.{all_weaker}
 use Rattle.plant_base.proofs.Keys.{same_id}
-use Rattle.plant_stock.specs.Stock.{goes_to, comes_from, is_place}
+use Rattle.plant_stock.specs.Stock.{goes_to, comes_from, is_place, entries, are_one_merge}
 use Rattle.plant_view.proofs.KeptSound.{all_two}
 use Rattle.plant_view.proofs.Rows.{all_filtered, filtered_passes, none_left}
-use Rattle.plant_good.specs.Births.{entries}
-use Rattle.plant_good.specs.Bookings.{movement_order, AreCounted, booked, are_one_merge, AreOfOneMerge, IsBooking, IsEnteredBefore}
+use Rattle.plant_good.specs.Bookings.{AreCounted, booked, AreOfOneMerge, IsBooking, IsEnteredBefore}
 use Rattle.plant_good.specs.Good.{IsGood}
 use Rattle.plant_good.proofs.Listing.{numbers_differ}
 use Rattle.plant_check_stock.specs.Numbering.{is_given, is_next_part, are_lines, is_apart, is_entered_before, has_right_number, are_numbers}

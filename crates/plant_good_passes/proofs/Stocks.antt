@@ -14,6 +14,7 @@ use Rattle.plant_view.specs.Sound.{IsSound}
 use Rattle.plant_view.specs.Tables.{sublot_row}
 use Rattle.plant_view.proofs.Rows.{all_of, all_mapped}
 use Rattle.plant_view.proofs.Tests.{sum_map}
+use Rattle.plant_stock.specs.Stock as flows
 use Rattle.plant_good.specs.Births as kept
 use Rattle.plant_tables_judged.specs.Booked.{booked_of, sort_of}
 use Rattle.plant_tables_judged.specs.declared.booked.BookedRow.{BookedRow}
@@ -54,7 +55,7 @@ module _ (told_by : BookedRow → Option (List ℕ × ℕ)) (end_of : Movement �
       ap total_of rows_at ∙ sum_map (λ (r : BookedRow). r.amount) booked_of (filter own ms) ∙ sum_left own (λ (m : Movement). m.amount) ms
 
 -- the rows of what entered a sublot
-pub entries_booked : (ms : List Movement) (lot : List ℕ) (number : ℕ) → entries (map booked_of ms) lot number ≡ map booked_of (kept.entries ms lot number)
+pub entries_booked : (ms : List Movement) (lot : List ℕ) (number : ℕ) → entries (map booked_of ms) lot number ≡ map booked_of (flows.entries ms lot number)
 entries_booked = rows_at (λ r. entered_by r.sort r) (λ m. goes_to m.kind m.lot m.sub) (λ m. (ends_booked m).0)
 
 pub total_entered : (ms : List Movement) (lot : List ℕ) (number : ℕ) → total_of (entries (map booked_of ms) lot number) ≡ entered ms lot number

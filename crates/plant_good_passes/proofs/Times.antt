@@ -17,14 +17,14 @@ use Rattle.plant_view.specs.Tables.{batch_row}
 use Rattle.plant_view.proofs.Rows.{all_mapped, all_unmapped}
 use Rattle.plant_good.specs.Timed as kept
 use Rattle.plant_good.specs.Good.{IsGood}
-use Rattle.plant_check_stock.specs.Times.{marks, is_no_later, never_fall, are_by, are_times}
+use Rattle.plant_check_stock.specs.Times.{row_marks, is_no_later, never_fall, are_by, are_times}
 use Rattle.plant_good_passes.proofs.Testing.{all_pass}
 
 abbrev mark_at : Position → ℕ × ℕ
 mark_at p = (p.seq, p.at)
 
--- the marks by which the rows are tested are those of the state
-marks_alike : (ms : List Movement) (es : List BatchEvent) → map mark_at (kept.marks ms es) ≡ marks ms es
+-- the row_marks by which the rows are tested are those of the state
+marks_alike : (ms : List Movement) (es : List BatchEvent) → map mark_at (kept.marks ms es) ≡ row_marks ms es
 marks_alike ms es =
     map-append mark_at (map kept.mark_of_movement ms) (map kept.mark_of_event es)
     ∙ (λ i. map-map mark_at kept.mark_of_movement ms i ++ map-map mark_at kept.mark_of_event es i)

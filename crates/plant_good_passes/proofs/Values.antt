@@ -42,7 +42,8 @@ use Rattle.plant_good.proofs.Listing.{all_swap, all_passing}
 use Rattle.plant_good_keys.proofs.TableKeys.{keyed}
 use Rattle.plant_tables_judged.specs.Reading.{is_in}
 use Rattle.plant_tables_judged.specs.Collecting.{AreInOrder}
-use Rattle.plant_tables_judged.specs.Obeying.{HasClassValues, HasDefinitionValues, HasRecipeValues, IsLineNumber, HasMasterLineValues, HasBatchRowValues, HasControlLineValues, HasPhase, HasEventValues, HasLotValues, HasSublotValues, HasKindValues, HasMovementValues, HasHoldValues, HasGoodValues}
+use Rattle.plant_base.specs.RowValues.{HasClassValues, HasDefinitionValues, HasLotValues, HasHoldValues, HasPhaseNumber}
+use Rattle.plant_tables_judged.specs.Obeying.{HasRecipeValues, IsLineNumber, HasMasterLineValues, HasBatchRowValues, HasControlLineValues, HasEventRowValues, HasSublotValues, HasKindRowValues, HasMovementRowValues, HasGoodValues}
 
 -- ---- order
 
@@ -70,12 +71,7 @@ counted_small k (n ∷ ns) counted low high = (ap (is_in 1 65535) counted.0 ∙ 
 
 -- ---- rows
 
-phase_values : (e : Event) → kept.HasPhaseNumber e → HasPhase e
-phase_values (event.Moved word) h = tt
-phase_values (event.PhaseDone phase) h = h
-phase_values event.Closed h = tt
-
-kind_values : (k : MovementKind) → kept.HasKindValues k → HasKindValues k
+kind_values : (k : MovementKind) → kept.HasKindValues k → HasKindRowValues k
 kind_values kind.Received h = tt
 kind_values (kind.Consumed batch) h = h
 kind_values (kind.Produced batch) h = h
@@ -170,11 +166,11 @@ module _ (s : State) (good : IsGood s) where
         next = in_range 1 128 (row b).next p.first_phase p.last_phase;
       }) s.batches good.sound.batches.each progress)
 
-  events : AllByRecursion HasEventValues s.events
-  events = all_two _ _ HasEventValues (λ (e : BatchEvent) given v. record {
+  events : AllByRecursion HasEventRowValues s.events
+  events = all_two _ _ HasEventRowValues (λ (e : BatchEvent) given v. record {
     seq = seq_values e.seq given.1;
     batch = v.batch;
-    phase = phase_values e.event v.phase;
+    phase = v.phase;
     at = v.at;
     by = v.by;
     note = v.note;
@@ -210,8 +206,8 @@ module _ (s : State) (good : IsGood s) where
   abbrev IsGivenLine : Movement → Type 0
   IsGivenLine m = (m.seq ≤ s.seq) × IsLineNumber m.line
 
-  movements : AllByRecursion HasMovementValues s.movements
-  movements = all_two IsGivenLine _ HasMovementValues (λ (m : Movement) given v. record {
+  movements : AllByRecursion HasMovementRowValues s.movements
+  movements = all_two IsGivenLine _ HasMovementRowValues (λ (m : Movement) given v. record {
     seq = seq_values m.seq given.0;
     line = given.1;
     kind = kind_values m.kind v.kind;
@@ -226,16 +222,16 @@ module _ (s : State) (good : IsGood s) where
   pub good_values : HasGoodValues (tables_of newest_schema s)
   good_values = record {
     meta = record { schema = refl; seq = seq_values s.seq (omega arith); at = good.values.at };
-    classes = all_weaker kept.HasClassValues HasClassValues (λ c v. record { id = v.id; name = v.name }) s.classes good.values.classes;
-    definitions = all_weaker kept.HasDefinitionValues HasDefinitionValues (λ d v. record { id = v.id; class = v.class; name = v.name; unit = v.unit }) s.definitions good.values.definitions;
+    classes = good.values.classes;
+    definitions = good.values.definitions;
     recipes = recipes;
     master_lines = master_lines;
     jobs = all_unmapped HasGoodOrder (λ (j : Job). j.order) s.jobs good.sound.orders.values;
     batches = batches;
     control_lines = control_lines;
     events = events;
-    lots = all_weaker kept.HasLotValues HasLotValues (λ l v. record { id = v.id; def = v.def }) s.lots good.values.lots;
+    lots = good.values.lots;
     sublots = sublots;
     movements = movements;
-    holds = all_weaker kept.HasHoldValues HasHoldValues (λ h v. record { lot = v.lot; id = v.id; at = v.at; by = v.by; note = v.note }) s.holds good.values.holds;
+    holds = good.values.holds;
   }

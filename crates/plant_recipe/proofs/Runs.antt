@@ -18,7 +18,7 @@ use Rattle.plant_base.specs.declared.refusal.Refusal.{Refusal}
 use Rattle.plant_base.specs.declared.refusal.Refusal.TheVariants.{PhasesLeft, NotNextPhase, BatchClosed, WrongState, TooMany, NotFinished}
 use Rattle.plant_recipe.specs.declared.progress.Progress.{Progress}
 use Rattle.plant_recipe.specs.StateTable.{next_state_of}
-use Rattle.plant_recipe.specs.Progress.{greatest_attempt, greatest_phases, opening_progress, is_running, is_ended, is_done, is_reset, is_phase_left, refuse, moved_to, leaves_phases, has_no_attempt_left, turn_to, turn_moved, turn_phase_done, turn_closed, turn, then_turn, run_of, progress_of, turn_or_stay, progress_after, IsInRange, EndsForGood, StaysInRange, NeverFalls, GoesAlong}
+use Rattle.plant_recipe.specs.Progress.{greatest_attempt, greatest_phases, opening_progress, is_running, is_ended, is_done, is_reset, is_phase_left, refuse_event, moved_to, leaves_phases, has_no_attempt_left, turn_to, turn_moved, turn_phase_done, turn_closed, turn, then_turn, run_of, progress_of, turn_or_stay, progress_after, IsInRange, EndsForGood, StaysInRange, NeverFalls, GoesAlong}
 
 -- ---- one more event
 
@@ -69,15 +69,15 @@ goes_along phases events p e = sym (if_ok_at (run_of phases events) p _ (run_ok 
 
 -- ---- laws
 
-refused : (P : Progress → Type 0) (test : Bool) (refusal : Refusal) (rest : Result Progress Refusal) → (test ≡ false → IfOk rest P) → IfOk (refuse test refusal rest) P
+refused : (P : Progress → Type 0) (test : Bool) (refusal : Refusal) (rest : Result Progress Refusal) → (test ≡ false → IfOk rest P) → IfOk (refuse_event test refusal rest) P
 refused P true refusal rest h = tt
 refused P false refusal rest h = h refl
 
-fails_here : (test : Bool) (refusal : Refusal) (rest : Result Progress Refusal) → test ≡ true → IsErr (refuse test refusal rest)
+fails_here : (test : Bool) (refusal : Refusal) (rest : Result Progress Refusal) → test ≡ true → IsErr (refuse_event test refusal rest)
 fails_here true refusal rest e = refl
 fails_here false refusal rest e = absurd (false≢true e)
 
-fails_later : (test : Bool) (refusal : Refusal) (rest : Result Progress Refusal) → IsErr rest → IsErr (refuse test refusal rest)
+fails_later : (test : Bool) (refusal : Refusal) (rest : Result Progress Refusal) → IsErr rest → IsErr (refuse_event test refusal rest)
 fails_later true refusal rest e = refl
 fails_later false refusal rest e = e
 
@@ -270,13 +270,13 @@ left_capped phases p = capped phases p.next
 
 to_capped : (phases : ℕ) (p : Progress) (word : Word) (to : Option BatchState) → turn_to (min phases greatest_phases) p word to ≡ turn_to phases p word to
 to_capped phases p word None = refl
-to_capped phases p word (Some to) = ap (λ b. refuse (is_done word && is_running p.state && b) PhasesLeft (refuse p.closed BatchClosed (refuse (has_no_attempt_left p word) TooMany (Ok (moved_to p word to))))) (left_capped phases p)
+to_capped phases p word (Some to) = ap (λ b. refuse_event (is_done word && is_running p.state && b) PhasesLeft (refuse_event p.closed BatchClosed (refuse_event (has_no_attempt_left p word) TooMany (Ok (moved_to p word to))))) (left_capped phases p)
 
 -- a number of phases above the greatest counts as that
 pub turn_capped : (phases : ℕ) (p : Progress) (event : Event) → turn (min phases greatest_phases) p event ≡ turn phases p event
 unfolding turn_moved turn_phase_done
 turn_capped phases p (Moved word) = to_capped phases p word (next_state_of p.state word)
-turn_capped phases p (PhaseDone number) = ap (λ b. refuse (not (number == p.next && b)) NotNextPhase (refuse p.closed BatchClosed (refuse (not (is_running p.state)) WrongState (Ok (record { state = p.state; attempt = p.attempt; next = p.next + 1; closed = p.closed }))))) (left_capped phases p)
+turn_capped phases p (PhaseDone number) = ap (λ b. refuse_event (not (number == p.next && b)) NotNextPhase (refuse_event p.closed BatchClosed (refuse_event (not (is_running p.state)) WrongState (Ok (record { state = p.state; attempt = p.attempt; next = p.next + 1; closed = p.closed }))))) (left_capped phases p)
 turn_capped phases p Closed = refl
 
 then_capped : (phases : ℕ) (r : Result Progress Refusal) (event : Event) → then_turn (min phases greatest_phases) r event ≡ then_turn phases r event

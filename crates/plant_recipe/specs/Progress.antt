@@ -50,8 +50,8 @@ is_phase_left phases p = nat_le p.next phases && nat_le p.next greatest_phases
 -- ---- one turn
 
 -- the refusal where the test passes, and else the rest
-abbrev pub refuse : Bool → Refusal → Result Progress Refusal → Result Progress Refusal
-refuse test refusal rest = if test then Err refusal else rest
+abbrev pub refuse_event : Bool → Refusal → Result Progress Refusal → Result Progress Refusal
+refuse_event test refusal rest = if test then Err refusal else rest
 
 -- a reset also begins another attempt at the first phase
 abbrev pub moved_to : Progress → Word → BatchState → Progress
@@ -67,9 +67,9 @@ has_no_attempt_left p word = is_reset word && nat_le greatest_attempt p.attempt
 abbrev pub turn_to : ℕ → Progress → Word → Option BatchState → Result Progress Refusal
 turn_to phases p word None = Err BadMove
 turn_to phases p word (Some to) =
-    refuse (leaves_phases phases p word) PhasesLeft
-    (refuse p.closed BatchClosed
-    (refuse (has_no_attempt_left p word) TooMany
+    refuse_event (leaves_phases phases p word) PhasesLeft
+    (refuse_event p.closed BatchClosed
+    (refuse_event (has_no_attempt_left p word) TooMany
     (Ok (moved_to p word to))))
 
 -- a word or an ending moves the batch by the state table
@@ -79,16 +79,16 @@ turn_moved phases p word = turn_to phases p word (next_state_of p.state word)
 -- the next phase is done while the batch runs
 unfoldable pub turn_phase_done : ℕ → Progress → ℕ → Result Progress Refusal
 turn_phase_done phases p number =
-    refuse (not (number == p.next && is_phase_left phases p)) NotNextPhase
-    (refuse p.closed BatchClosed
-    (refuse (not (is_running p.state)) WrongState
+    refuse_event (not (number == p.next && is_phase_left phases p)) NotNextPhase
+    (refuse_event p.closed BatchClosed
+    (refuse_event (not (is_running p.state)) WrongState
     (Ok (record { state = p.state; attempt = p.attempt; next = p.next + 1; closed = p.closed }))))
 
 -- an ended batch is closed
 unfoldable pub turn_closed : Progress → Result Progress Refusal
 turn_closed p =
-    refuse p.closed BatchClosed
-    (refuse (not (is_ended p.state)) NotFinished
+    refuse_event p.closed BatchClosed
+    (refuse_event (not (is_ended p.state)) NotFinished
     (Ok (record { state = p.state; attempt = p.attempt; next = p.next; closed = true })))
 
 -- what an event makes of a progress, or the first condition that fails

@@ -85,7 +85,8 @@ fn scale_lines(
 
 fn scale_line(base: Amount, size: Amount, line: RecipeLine) -> Option<RecipeLine>
     requires { IsTrue (fits base size line) }
-    ensures { result ≡ (if scales_to_nothing base size line then None else Some (line_scaled base size line)) }
+    ensures { result ≡ (if scales_to_nothing base size line then None else Some
+        (line_scaled base size line)) }
 {
     match line {
         RecipeLine::In { def, amount } => Some(RecipeLine::In {
@@ -102,7 +103,8 @@ fn scale_line(base: Amount, size: Amount, line: RecipeLine) -> Option<RecipeLine
 
 fn scale_amount(base: Amount, size: Amount, amount: Amount) -> Option<Amount>
     requires { scaled_of amount size base ≤ greatest_amount }
-    ensures { result ≡ (if scaled_of amount size base == 0 then None else Some (scaled_of amount size base)) }
+    ensures { result ≡ (if scaled_of amount size base == 0 then None else Some
+        (scaled_of amount size base)) }
 {
     Amount::new(scaled(amount, size, base) as u64)
 }

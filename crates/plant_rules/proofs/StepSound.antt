@@ -21,7 +21,8 @@ use Rattle.plant_base.proofs.Put.{all_weaker}
 use Rattle.plant_stock.specs.Stock.{entered, left}
 use Rattle.plant_view.specs.Refusing.{refuse, at_limit, standing, is_held}
 use Rattle.plant_view.specs.Tables.{progress_at}
-use Rattle.plant_rules.specs.Consumption.{is_idle, is_taken, is_own_product}
+use Rattle.plant_view.specs.Materials.{is_taken}
+use Rattle.plant_rules.specs.Consumption.{is_idle, is_own_product}
 use Rattle.plant_rules.specs.Merging.{def_at}
 use Rattle.plant_rules.specs.Wrong.{is_whole, wrong, wrong_body}
 use Rattle.plant_rules.specs.Step.{step, step_body, unless_refused}

@@ -34,28 +34,6 @@ abbrev pub is_idle : BatchState → Bool
 is_idle Idle = true
 is_idle _ = false
 
--- an in line of this definition
-abbrev pub takes : List ℕ → RecipeLine → Bool
-takes def (line.In other amount) = same other def
-takes def (line.Out other amount) = false
-takes def (line.Parameter name value) = false
-takes def (line.Phase unit_procedure operation phase) = false
-
--- an out line of this definition
-abbrev pub makes : List ℕ → RecipeLine → Bool
-makes def (line.In other amount) = false
-makes def (line.Out other amount) = same other def
-makes def (line.Parameter name value) = false
-makes def (line.Phase unit_procedure operation phase) = false
-
--- some line of the batch's control recipe takes the definition
-abbrev pub is_taken : List ControlLine → List ℕ → Bool
-is_taken lines def = list_any (λ l. takes def l.line) lines
-
--- some line of the batch's control recipe makes the definition
-abbrev pub is_made : List ControlLine → List ℕ → Bool
-is_made lines def = list_any (λ l. makes def l.line) lines
-
 -- the lot came of the batch, over one or more edges
 abbrev pub is_own_product : State → List ℕ → List ℕ → Bool
 is_own_product s batch lot = leads (edges_of s) (Batch batch) (Lot lot)

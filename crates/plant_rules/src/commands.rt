@@ -58,7 +58,8 @@ pub fn decide<V: View>(
 ) -> Result<Decision, ViewFault<V::Fault>>
     requires { V.honest view.old → IsSound (V.state view.old) }
     ensures decides { Told V.honest V.kept V.steady view.old view.new
-        (IfOk result (Decides (wrong (V.state view.old) envelope.now) (V.state view.old) (step (V.state view.old) envelope.now))) }
+        (IfOk result (Decides (wrong (V.state view.old) envelope.now) (V.state view.old)
+        (step (V.state view.old) envelope.now))) }
     ensures one_batch { IfOk result PutsOneBatch }
 {
     if !is_whole(&envelope.body) {
@@ -82,7 +83,8 @@ fn decide_body<V: View>(
     requires seq { V.honest view.old → seq ≡ (V.state view.old).seq }
     requires sound { V.honest view.old → IsSound (V.state view.old) }
     ensures decides { Told V.honest V.kept V.steady view.old view.new
-        (IfOk result (Decides (wrong_body (V.state view.old) body.now) (V.state view.old) (step_body (V.state view.old) stamp.now body.now))) }
+        (IfOk result (Decides (wrong_body (V.state view.old) body.now) (V.state view.old)
+        (step_body (V.state view.old) stamp.now body.now))) }
     ensures one_batch { IfOk result PutsOneBatch }
 {
     match body {

@@ -70,7 +70,8 @@ fn part_of(
     sublot: Option<Sublot>,
     held: bool,
 ) -> Result<Found, Refusal>
-    ensures { (s : State) → lot ≡ lot_at s part.now.lot → IsSublotOf s part.now.lot part.now.sub sublot → held ≡ is_held s part.now.lot
+    ensures { (s : State) → lot ≡ lot_at s part.now.lot
+        → IsSublotOf s part.now.lot part.now.sub sublot → held ≡ is_held s part.now.lot
         → PartIs s part.now result }
 {
     let Some(lot) = lot else {

@@ -254,7 +254,7 @@ module _ (s : State) (sound : IsSound s) (t : Stamp) (c : CloseBatch) (b : Batch
       let r : Job = record { order = j.order; state = Finished } in
       let headers = headers_of s.recipes in
       let now = progress_at s c.batch in
-      let turn = open_turn now unclosed ∙ ap (λ x. progress.refuse (not x) NotFinished (Ok (closed_at now))) ended in
+      let turn = open_turn now unclosed ∙ ap (λ x. progress.refuse_event (not x) NotFinished (Ok (closed_at now))) ended in
       let key = same_id j.order.order b.job (found_passes _ s.jobs j known) in
       let kept = orders_same s.jobs sound.orders.sorted b.job (Some j) known Finished in
       with_production s sound (s.seq + 1) t.at s.recipes s.master_lines (put job_order r s.jobs) s.batches s.control_lines (happened s t c.batch Closed).events sound.recipes

@@ -28,7 +28,8 @@ pub fn decide_add_recipe<V: View>(
     requires formed { IsTrue (is_well_formed c.now.header c.now.lines) }
     requires seq { V.honest view.old → seq ≡ (V.state view.old).seq }
     ensures decides { Told V.honest V.kept V.steady view.old view.new
-        (IfOk result (Decides (wrong_add_recipe (V.state view.old) c.now) (V.state view.old) (add_recipe (V.state view.old) stamp.now c.now))) }
+        (IfOk result (Decides (wrong_add_recipe (V.state view.old) c.now) (V.state view.old)
+            (add_recipe (V.state view.old) stamp.now c.now))) }
     ensures one_batch { IfOk result PutsOneBatch }
 {
     let product = look::definition(view, c.header.product)?;
@@ -48,7 +49,9 @@ fn added(
     recipe: Option<Recipe>,
 ) -> Result<Decision, AllocError>
     requires { IsTrue (is_well_formed c.now.header c.now.lines) }
-    ensures decides { (s : State) → seq ≡ s.seq → product ≡ definition_at s c.now.header.product → known ≡ list_all (is_known s.definitions) c.now.lines → recipe ≡ recipe_at s c.now.header.recipe c.now.header.version
+    ensures decides { (s : State) → seq ≡ s.seq → product ≡ definition_at s c.now.header.product
+        → known ≡ list_all (is_known s.definitions) c.now.lines
+        → recipe ≡ recipe_at s c.now.header.recipe c.now.header.version
         → IfOk result (Decides (wrong_add_recipe s c.now) s (add_recipe s stamp.now c.now)) }
     ensures one_batch { IfOk result PutsOneBatch }
 {

@@ -19,8 +19,10 @@ pub(crate) fn advanced(
     refusal: Refusal,
     to: RecipeState,
 ) -> Result<Decision, AllocError>
-    ensures decides { (s : State) → (id : List ℕ) → (version : ℕ) → seq ≡ s.seq → recipe ≡ recipe_at s id version
-        → IfOk result (Decides (wrong_advance s from refusal (recipe_at s id version)) s (advance s stamp.now to (recipe_at s id version))) }
+    ensures decides { (s : State) → (id : List ℕ) → (version : ℕ) → seq ≡ s.seq
+        → recipe ≡ recipe_at s id version
+        → IfOk result (Decides (wrong_advance s from refusal (recipe_at s id version)) s
+            (advance s stamp.now to (recipe_at s id version))) }
     ensures one_batch { IfOk result PutsOneBatch }
 {
     let Some(recipe) = recipe else {

@@ -21,7 +21,8 @@ pub fn decide_cancel_order<V: View>(
 ) -> Result<Decision, ViewFault<V::Fault>>
     requires { V.honest view.old → seq ≡ (V.state view.old).seq }
     ensures decides { Told V.honest V.kept V.steady view.old view.new
-        (IfOk result (Decides (wrong_cancel_order (V.state view.old) c.now) (V.state view.old) (cancel_order (V.state view.old) stamp.now c.now))) }
+        (IfOk result (Decides (wrong_cancel_order (V.state view.old) c.now) (V.state view.old)
+            (cancel_order (V.state view.old) stamp.now c.now))) }
     ensures one_batch { IfOk result PutsOneBatch }
 {
     let job = look::job(view, c.order)?;

@@ -28,7 +28,8 @@ pub fn decide_close_batch<V: View>(
     requires seq { V.honest view.old → seq ≡ (V.state view.old).seq }
     requires sound { V.honest view.old → IsSound (V.state view.old) }
     ensures decides { Told V.honest V.kept V.steady view.old view.new
-        (IfOk result (Decides (wrong_close_batch (V.state view.old) c.now) (V.state view.old) (close_batch (V.state view.old) stamp.now c.now))) }
+        (IfOk result (Decides (wrong_close_batch (V.state view.old) c.now) (V.state view.old)
+            (close_batch (V.state view.old) stamp.now c.now))) }
     ensures one_batch { IfOk result PutsOneBatch }
 {
     let Some(row) = look::batch(view, c.batch)? else {
@@ -49,7 +50,9 @@ fn closed(
     row: BatchRow,
     job: Option<Job>,
 ) -> Result<Decision, AllocError>
-    ensures decides { (s : State) → IsSound s → seq ≡ s.seq → Some row ≡ option_map (batch_row s.control_lines s.events) (batch_at s c.now.batch) → job ≡ job_at s row.batch.job
+    ensures decides { (s : State) → IsSound s → seq ≡ s.seq
+        → Some row ≡ option_map (batch_row s.control_lines s.events) (batch_at s c.now.batch)
+        → job ≡ job_at s row.batch.job
         → IfOk result (Decides (wrong_close_batch s c.now) s (close_batch s stamp.now c.now)) }
     ensures one_batch { IfOk result PutsOneBatch }
 {

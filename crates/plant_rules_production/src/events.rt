@@ -30,7 +30,8 @@ pub(crate) fn decide_event<V: View>(
     requires seq { V.honest view.old → seq ≡ (V.state view.old).seq }
     requires sound { V.honest view.old → IsSound (V.state view.old) }
     ensures decides { Told V.honest V.kept V.steady view.old view.new
-        (IfOk result (Decides (wrong_event (V.state view.old) batch event) (V.state view.old) (happened (V.state view.old) stamp.now batch event))) }
+        (IfOk result (Decides (wrong_event (V.state view.old) batch event) (V.state view.old)
+            (happened (V.state view.old) stamp.now batch event))) }
     ensures one_batch { IfOk result PutsOneBatch }
 {
     let row = look::batch(view, batch)?;
@@ -48,7 +49,9 @@ fn turned(
     row: Option<BatchRow>,
     lines: &[ControlLine],
 ) -> Result<Decision, AllocError>
-    ensures decides { (s : State) → IsSound s → seq ≡ s.seq → row ≡ option_map (batch_row s.control_lines s.events) (batch_at s batch) → lines.now ≡ control_lines_of s batch
+    ensures decides { (s : State) → IsSound s → seq ≡ s.seq
+        → row ≡ option_map (batch_row s.control_lines s.events) (batch_at s batch)
+        → lines.now ≡ control_lines_of s batch
         → IfOk result (Decides (wrong_event s batch event) s (happened s stamp.now batch event)) }
     ensures one_batch { IfOk result PutsOneBatch }
 {

@@ -27,7 +27,8 @@ pub fn decide_import_orders<V: View>(
 ) -> Result<Decision, ViewFault<V::Fault>>
     requires { V.honest view.old → seq ≡ (V.state view.old).seq }
     ensures decides { Told V.honest V.kept V.steady view.old view.new
-        (IfOk result (Decides (wrong_import_orders (V.state view.old) c.now) (V.state view.old) (import_orders (V.state view.old) stamp.now c.now))) }
+        (IfOk result (Decides (wrong_import_orders (V.state view.old) c.now) (V.state view.old)
+            (import_orders (V.state view.old) stamp.now c.now))) }
     ensures one_batch { IfOk result PutsOneBatch }
 {
     let found = found_orders(alloc, view, c.orders.as_slice())?;
@@ -57,7 +58,8 @@ fn decided(
     orders: &[OrderRow],
     found: &[FoundOrder],
 ) -> Result<Decision, AllocError>
-    ensures decides { IfOk result (IsDecided (wrong_found_orders seq orders.now found.now) (import_rows seq stamp.now found.now)) }
+    ensures decides { IfOk result (IsDecided (wrong_found_orders seq orders.now found.now)
+        (import_rows seq stamp.now found.now)) }
     ensures one_batch { IfOk result PutsOneBatch }
 {
     if is_some_unplanned(found) {

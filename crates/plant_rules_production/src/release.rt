@@ -35,7 +35,8 @@ pub fn decide_release<V: View>(
     requires seq { V.honest view.old → seq ≡ (V.state view.old).seq }
     requires sound { V.honest view.old → IsSound (V.state view.old) }
     ensures decides { Told V.honest V.kept V.steady view.old view.new
-        (IfOk result (Decides (wrong_release (V.state view.old) c.now) (V.state view.old) (release (V.state view.old) stamp.now c.now))) }
+        (IfOk result (Decides (wrong_release (V.state view.old) c.now) (V.state view.old)
+            (release (V.state view.old) stamp.now c.now))) }
     ensures one_batch { IfOk result PutsOneBatch }
 {
     let Some(job) = look::job(view, c.order)? else {
@@ -56,7 +57,8 @@ fn decide_job<V: View>(
     requires sound { V.honest view.old → IsSound (V.state view.old) }
     requires job { V.honest view.old → job_at (V.state view.old) c.now.order ≡ Some job }
     ensures decides { Told V.honest V.kept V.steady view.old view.new
-        (IfOk result (Decides (wrong_release (V.state view.old) c.now) (V.state view.old) (release (V.state view.old) stamp.now c.now))) }
+        (IfOk result (Decides (wrong_release (V.state view.old) c.now) (V.state view.old)
+            (release (V.state view.old) stamp.now c.now))) }
     ensures one_batch { IfOk result PutsOneBatch }
 {
     let order = job.order;
@@ -77,8 +79,10 @@ fn released(
     recipe: Option<Recipe>,
     lines: &[MasterLine],
 ) -> Result<Decision, AllocError>
-    ensures decides { (s : State) → IsSound s → seq ≡ s.seq → job_at s c.now.order ≡ Some job → taken ≡ is_some (batch_at s c.now.batch)
-        → recipe ≡ recipe_at s job.order.recipe job.order.version → lines.now ≡ master_lines_of s job.order.recipe job.order.version
+    ensures decides { (s : State) → IsSound s → seq ≡ s.seq → job_at s c.now.order ≡ Some job
+        → taken ≡ is_some (batch_at s c.now.batch)
+        → recipe ≡ recipe_at s job.order.recipe job.order.version
+        → lines.now ≡ master_lines_of s job.order.recipe job.order.version
         → IfOk result (Decides (wrong_release s c.now) s (release s stamp.now c.now)) }
     ensures one_batch { IfOk result PutsOneBatch }
 {
@@ -115,7 +119,8 @@ fn control_recipe(
     rows: &[MasterLine],
     size: Amount,
 ) -> Result<Result<Items<RecipeLine>, Refusal>, AllocError>
-    ensures control { IsTrue (is_well_formed header (map (λ r. r.line) rows.now)) → IsTrue (is_size_of header size)
+    ensures control { IsTrue (is_well_formed header (map (λ r. r.line) rows.now))
+        → IsTrue (is_size_of header size)
         → IfOk result (IsControl (control_of header (map (λ r. r.line) rows.now) size)) }
     ensures few { IfOk result (λ control. IfOk control (λ lines. length lines ≤ 128)) }
 {

@@ -27,7 +27,8 @@ pub fn decide_settle<V: View>(
     requires seq { V.honest view.old → seq ≡ (V.state view.old).seq }
     requires sound { V.honest view.old → IsSound (V.state view.old) }
     ensures decides { Told V.honest V.kept V.steady view.old view.new
-        (IfOk result (Decides (wrong_settle (V.state view.old) c.now) (V.state view.old) (settle (V.state view.old) stamp.now c.now))) }
+        (IfOk result (Decides (wrong_settle (V.state view.old) c.now) (V.state view.old)
+            (settle (V.state view.old) stamp.now c.now))) }
     ensures one_batch { IfOk result PutsOneBatch }
 {
     decide_event(alloc, view, seq, stamp, c.batch, Event::Moved(Word::Done))

@@ -20,7 +20,8 @@ pub fn decide_withdraw<V: View>(
 ) -> Result<Decision, ViewFault<V::Fault>>
     requires { V.honest view.old → seq ≡ (V.state view.old).seq }
     ensures decides { Told V.honest V.kept V.steady view.old view.new
-        (IfOk result (Decides (wrong_withdraw (V.state view.old) c.now) (V.state view.old) (withdraw (V.state view.old) stamp.now c.now))) }
+        (IfOk result (Decides (wrong_withdraw (V.state view.old) c.now) (V.state view.old)
+            (withdraw (V.state view.old) stamp.now c.now))) }
     ensures one_batch { IfOk result PutsOneBatch }
 {
     let recipe = look::recipe(view, c.recipe, c.version)?;

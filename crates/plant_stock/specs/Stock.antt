@@ -1,5 +1,5 @@
 -- What movements bring to a sublot and take from it.
-use Rattle.std.specs.Prelude.{ℕ, ◌+◌, ◌-◌, Bool, true, false, not, ◌==◌, ◌&&◌, nat_le, if◌then◌else◌, List, Option, Some, None, Result, Ok, Err, sum_by, ℤ, pos, ◌-ℤ◌}
+use Rattle.std.specs.Prelude.{ℕ, ◌+◌, ◌-◌, Bool, true, false, not, ◌==◌, ◌&&◌, nat_le, if◌then◌else◌, List, filter, Option, Some, None, Result, Ok, Err, sum_by, ℤ, pos, ◌-ℤ◌}
 use Rattle.plant_base.specs.Values.{greatest_amount}
 use Rattle.plant_base.specs.State.{same}
 use Rattle.plant_base.specs.declared.command.Part.{Part}
@@ -38,6 +38,10 @@ entering m lot number = if is_place (goes_to m.kind m.lot m.sub) lot number then
 
 abbrev pub leaving : Movement → List ℕ → ℕ → ℕ
 leaving m lot number = if is_place (comes_from m.kind m.lot m.sub) lot number then m.amount else 0
+
+-- the movements that brought an amount to the sublot
+abbrev pub entries : List Movement → List ℕ → ℕ → List Movement
+entries ms lot number = filter (λ m. is_place (goes_to m.kind m.lot m.sub) lot number) ms
 
 -- what entered the sublot, and what left it
 unfoldable pub entered : List Movement → List ℕ → ℕ → ℕ
@@ -88,3 +92,16 @@ total_of ps = sum_by (λ p. p.amount) ps
 -- too much above the greatest amount
 abbrev pub merged_total_of : List Part → Result ℕ Refusal
 merged_total_of ps = if nat_le (total_of ps) greatest_amount then Ok (total_of ps) else Err TooMuch
+
+-- a merge has no more parts
+abbrev pub greatest_parts : ℕ
+greatest_parts = 16
+
+-- both are parts of a merge into one lot
+abbrev pub are_one_merge : MovementKind → MovementKind → Bool
+are_one_merge (Merged a) (Merged b) = same a b
+are_one_merge _ _ = false
+
+-- both take from one sublot
+abbrev pub is_one_source : Movement → Movement → Bool
+is_one_source a b = same a.lot b.lot && a.sub == b.sub

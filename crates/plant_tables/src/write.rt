@@ -24,8 +24,11 @@ use table_forms::{Fault, make_tables, put_row, take_rows};
 pub fn write_change<S: Alter>(tx: &mut Transaction<'_, S>, change: &RowChange) -> Result<(), Fault>
     ensures fault { IsOkUnless result Fault.Store }
     ensures same_reference { tx.new.conn.ghost_name ≡ tx.old.conn.ghost_name }
-    ensures moved { HasCleanDisk (state S.Store tx.new.conn.now) → OnOk result (Moves desk_forms (state S.Store tx.old.conn.now) (state S.Store tx.new.conn.now) (rows_changed change.now)) }
-    ensures kept { HasCleanDisk (state S.Store tx.new.conn.now) → KeepsCommit (state S.Store tx.old.conn.now) (state S.Store tx.new.conn.now) }
+    ensures moved { HasCleanDisk (state S.Store tx.new.conn.now)
+        → OnOk result (Moves desk_forms (state S.Store tx.old.conn.now)
+            (state S.Store tx.new.conn.now) (rows_changed change.now)) }
+    ensures kept { HasCleanDisk (state S.Store tx.new.conn.now)
+        → KeepsCommit (state S.Store tx.old.conn.now) (state S.Store tx.new.conn.now) }
     ensures survives { Survives (state S.Store tx.old.conn.now) (state S.Store tx.new.conn.now) (λ _. ⊥) }
 {
     // The checker can't follow row changes, unless the function names these types.
@@ -73,9 +76,14 @@ pub fn write_changes<S: Alter>(
 ) -> Result<(), Fault>
     ensures fault { IsOkUnless result Fault.Store }
     ensures same_reference { tx.new.conn.ghost_name ≡ tx.old.conn.ghost_name }
-    ensures moved { HasCleanDisk (state S.Store tx.new.conn.now) → OnOk result (Moves desk_forms (state S.Store tx.old.conn.now) (state S.Store tx.new.conn.now) (all_rows_changed changes.now)) }
-    ensures tables { HasCleanDisk (state S.Store tx.new.conn.now) → OnOk result (MovesTables changes.now (state S.Store tx.old.conn.now).now (state S.Store tx.new.conn.now).now) }
-    ensures kept { HasCleanDisk (state S.Store tx.new.conn.now) → KeepsCommit (state S.Store tx.old.conn.now) (state S.Store tx.new.conn.now) }
+    ensures moved { HasCleanDisk (state S.Store tx.new.conn.now)
+        → OnOk result (Moves desk_forms (state S.Store tx.old.conn.now)
+            (state S.Store tx.new.conn.now) (all_rows_changed changes.now)) }
+    ensures tables { HasCleanDisk (state S.Store tx.new.conn.now)
+        → OnOk result (MovesTables changes.now (state S.Store tx.old.conn.now).now
+            (state S.Store tx.new.conn.now).now) }
+    ensures kept { HasCleanDisk (state S.Store tx.new.conn.now)
+        → KeepsCommit (state S.Store tx.old.conn.now) (state S.Store tx.new.conn.now) }
     ensures survives { Survives (state S.Store tx.old.conn.now) (state S.Store tx.new.conn.now) (λ _. ⊥) }
 {
     for change in changes {
@@ -90,8 +98,11 @@ pub fn create<S: Alter>(tx: &mut Transaction<'_, S>, schema: u64) -> Result<(), 
     requires { schema ≡ newest_schema }
     ensures fault { IsOkUnless result Fault.Store }
     ensures same_reference { tx.new.conn.ghost_name ≡ tx.old.conn.ghost_name }
-    ensures founded { HasCleanDisk (state S.Store tx.new.conn.now) → OnOk result (Founds desk_forms (state S.Store tx.old.conn.now) (state S.Store tx.new.conn.now)) }
-    ensures kept { HasCleanDisk (state S.Store tx.new.conn.now) → KeepsCommit (state S.Store tx.old.conn.now) (state S.Store tx.new.conn.now) }
+    ensures founded { HasCleanDisk (state S.Store tx.new.conn.now)
+        → OnOk result (Founds desk_forms (state S.Store tx.old.conn.now)
+            (state S.Store tx.new.conn.now)) }
+    ensures kept { HasCleanDisk (state S.Store tx.new.conn.now)
+        → KeepsCommit (state S.Store tx.old.conn.now) (state S.Store tx.new.conn.now) }
     ensures survives { Survives (state S.Store tx.old.conn.now) (state S.Store tx.new.conn.now) (λ _. ⊥) }
 {
     make_tables(

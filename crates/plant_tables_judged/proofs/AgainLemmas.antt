@@ -7,7 +7,7 @@ use Rattle.std.specs.List.{AllByRecursion}
 use Rattle.std.specs.List.Sorted.{IsStrictlySortedBy}
 use Rattle.sqlite.specs.Effect.{Database}
 use Rattle.sqlite.specs.Order.{Row}
-use Rattle.plant_base.specs.State.{id_cmp, numbered_cmp, class_order, definition_order, recipe_order, master_line_order, job_order, control_line_order, lot_order, hold_order}
+use Rattle.plant_base.specs.State.{id_cmp, numbered_cmp, class_order, definition_order, recipe_order, master_line_order, job_order, control_line_order, lot_order, hold_order, event_order, movement_order}
 use Rattle.plant_base.specs.declared.rows.MasterLine.{MasterLine}
 use Rattle.plant_view.specs.Tables.{Tables, batch_row_order, sublot_order}
 use Rattle.table_forms.specs.Forms.{Form}
@@ -23,8 +23,9 @@ use Rattle.plant_tables_stored.specs.declared.stocks.Stocks.{Stocks}
 use Rattle.plant_tables_stored.specs.declared.loaded.Loaded.{Loaded}
 use Rattle.plant_tables_judged.specs.Booked.{booked_of}
 use Rattle.plant_tables_judged.specs.Judging.{class_from, definition_from, recipe_from, master_line_from, job_from, batch_from, control_line_from, batch_event_from, lot_from, sublot_from, booked_from, hold_from}
-use Rattle.plant_tables_judged.specs.Obeying.{HasClassValues, HasDefinitionValues, HasRecipeValues, HasMasterLineValues, HasJobValues, HasBatchRowValues, HasControlLineValues, HasEventValues, HasLotValues, HasSublotValues, HasMovementValues, HasHoldValues, HasGoodValues}
-use Rattle.plant_tables_judged.specs.Collecting.{all_from, masters_from, orders_from, stocks_from, rows_from, rows_in, event_order, movement_order, AreInOrder}
+use Rattle.plant_base.specs.RowValues.{HasClassValues, HasDefinitionValues, HasLotValues, HasHoldValues}
+use Rattle.plant_tables_judged.specs.Obeying.{HasRecipeValues, HasMasterLineValues, HasJobValues, HasBatchRowValues, HasControlLineValues, HasEventRowValues, HasSublotValues, HasMovementRowValues, HasGoodValues}
+use Rattle.plant_tables_judged.specs.Collecting.{all_from, masters_from, orders_from, stocks_from, rows_from, rows_in, AreInOrder}
 use Rattle.plant_tables_judged.proofs.KeyLemmas.{by_text, text_total, by_number, number_total, by_both, both_total, then_same}
 use Rattle.plant_tables_judged.proofs.SortedLemmas.{int_cmp_pos, sorted_keys}
 use Rattle.plant_tables_judged.proofs.TableLemmas.{map_same, all_again, loaded_rows}
@@ -63,7 +64,7 @@ module _ (db : Database) (t : Tables) (holds : HoldsTables db t) (ordered : AreI
       let jobs = table_again job_row job_before (by_text 0) (text_total 0) (λ a b. refl) row_of_job job_order (λ a b. refl) job_from (λ r. r) HasJobValues job_again db job_form _ t.jobs are.jobs (holds.each 5 job_form refl) ordered.keyed.jobs good.jobs in
       let batches = table_again batch_row batch_before (by_text 0) (text_total 0) (λ a b. refl) row_of_batch batch_row_order (λ a b. refl) batch_from (λ r. r) HasBatchRowValues batch_again db batch_form _ t.batches are.batches (holds.each 6 batch_form refl) ordered.keyed.batches good.batches in
       let lines = table_again control_line_row control_line_before (by_both (by_text 0) (by_number 1)) (both_total _ _ (text_total 0) (number_total 1)) (λ a b. refl) row_of_control_line control_line_order (λ a b. numbered_by a.batch b.batch a.number b.number) control_line_from (λ r. r) HasControlLineValues control_line_again db control_line_form _ t.control_lines are.control_lines (holds.each 7 control_line_form refl) ordered.keyed.control_lines good.control_lines in
-      let events = table_again batch_event_row batch_event_before (by_number 0) (number_total 0) (λ a b. refl) row_of_event event_order (λ a b. sym (int_cmp_pos a.seq b.seq)) batch_event_from (λ r. r) HasEventValues event_row_again db batch_event_form _ t.events are.events (holds.each 8 batch_event_form refl) ordered.events good.events in
+      let events = table_again batch_event_row batch_event_before (by_number 0) (number_total 0) (λ a b. refl) row_of_event event_order (λ a b. sym (int_cmp_pos a.seq b.seq)) batch_event_from (λ r. r) HasEventRowValues event_row_again db batch_event_form _ t.events are.events (holds.each 8 batch_event_form refl) ordered.events good.events in
       rw (jobs, map_same t.jobs, batches, map_same t.batches, lines, map_same t.control_lines, events, map_same t.events) refl
 
   stocks_again : (x : Stocks) → AreStocks db x → stocks_from x ≡ Some (record { lots = t.lots; sublots = t.sublots; movements = map booked_of t.movements; holds = t.holds })
@@ -71,7 +72,7 @@ module _ (db : Database) (t : Tables) (holds : HoldsTables db t) (ordered : AreI
   stocks_again x are =
       let lots = table_again lot_row lot_before (by_text 0) (text_total 0) (λ a b. refl) row_of_lot lot_order (λ a b. refl) lot_from (λ r. r) HasLotValues lot_again db lot_form _ t.lots are.lots (holds.each 9 lot_form refl) ordered.keyed.lots good.lots in
       let sublots = table_again sublot_row sublot_before (by_both (by_text 0) (by_number 1)) (both_total _ _ (text_total 0) (number_total 1)) (λ a b. refl) row_of_sublot sublot_order (λ a b. numbered_by a.lot b.lot a.number b.number) sublot_from (λ r. r) HasSublotValues sublot_again db sublot_form _ t.sublots are.sublots (holds.each 10 sublot_form refl) ordered.keyed.sublots good.sublots in
-      let movements = table_again movement_row movement_before (by_both (by_number 0) (by_number 1)) (both_total _ _ (number_total 0) (number_total 1)) (λ a b. refl) row_of_movement movement_order (λ a b. λ i. ordering_then (sym (int_cmp_pos a.seq b.seq) i) (sym (int_cmp_pos a.line b.line) i)) booked_from booked_of HasMovementValues movement_row_again db movement_form _ t.movements are.movements (holds.each 11 movement_form refl) ordered.movements good.movements in
+      let movements = table_again movement_row movement_before (by_both (by_number 0) (by_number 1)) (both_total _ _ (number_total 0) (number_total 1)) (λ a b. refl) row_of_movement movement_order (λ a b. λ i. ordering_then (sym (int_cmp_pos a.seq b.seq) i) (sym (int_cmp_pos a.line b.line) i)) booked_from booked_of HasMovementRowValues movement_row_again db movement_form _ t.movements are.movements (holds.each 11 movement_form refl) ordered.movements good.movements in
       let stops = table_again hold_row hold_before (by_both (by_text 0) (by_text 1)) (both_total _ _ (text_total 0) (text_total 1)) (λ a b. refl) row_of_hold hold_order (λ a b. refl) hold_from (λ r. r) HasHoldValues hold_again db hold_form _ t.holds are.holds (holds.each 12 hold_form refl) ordered.keyed.holds good.holds in
       rw (lots, map_same t.lots, sublots, map_same t.sublots, movements, stops, map_same t.holds) refl
 

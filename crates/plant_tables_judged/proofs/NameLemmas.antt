@@ -21,7 +21,7 @@ use Rattle.plant_base.proofs.Keys.{same_id}
 use Rattle.plant_tables.specs.Encoding.{event_name, event_phase}
 use Rattle.plant_tables_judged.specs.Reading.{number_in}
 use Rattle.plant_tables_judged.specs.Naming.{all_recipe_states, recipe_state_from, all_job_states, job_state_from, all_batch_states, batch_state_from, all_words, word_from, plain_event, event_from, line_sort_number, all_line_sorts, line_sort_from, movement_sort_number, all_movement_sorts, movement_sort_from}
-use Rattle.plant_tables_judged.specs.Obeying.{HasPhase}
+use Rattle.plant_base.specs.RowValues.{HasPhaseNumber}
 use Rattle.plant_tables_judged.specs.declared.line.LineSort.{LineSort}
 use Rattle.plant_tables_judged.specs.declared.line.LineSort.TheVariants as line_sort
 use Rattle.plant_tables_judged.specs.declared.booked.MovementSort.{MovementSort}
@@ -138,13 +138,13 @@ moved_own word.Pause = refl
 moved_own word.Resume = refl
 moved_own word.Done = refl
 
-event_own : (e : Event) → HasPhase e → event_from (event_name e) (pos (event_phase e)) ≡ Some e
+event_own : (e : Event) → HasPhaseNumber e → event_from (event_name e) (pos (event_phase e)) ≡ Some e
 unfolding event_from plain_event number_in
 event_own (event.Moved w) good = moved_own w
 event_own (event.PhaseDone k) good = ap (option_map event.PhaseDone) (number_again 1 greatest_phase (pos k) k refl good)
 event_own event.Closed good = refl
 
-pub event_again : (name : List ℕ) (phase : ℤ) (e : Event) → IsEventOf name phase e → HasPhase e → event_from name phase ≡ Some e
+pub event_again : (name : List ℕ) (phase : ℤ) (e : Event) → IsEventOf name phase e → HasPhaseNumber e → event_from name phase ≡ Some e
 event_again name phase e is good = rw (is.is_named, is.has_phase) (event_own e good)
 
 -- ---- kinds

@@ -46,7 +46,8 @@ use Rattle.plant_tables_judged.specs.Reading.{greatest_number, id_from, text_fro
 use Rattle.plant_tables_judged.specs.Naming.{recipe_state_from, job_state_from, batch_state_from, event_from, movement_sort_from}
 use Rattle.plant_tables_judged.specs.Booked.{movement_from, sort_of, other_lot, other_sublot, batch_of, booked_of}
 use Rattle.plant_tables_judged.specs.Judging.{meta_from, only_meta, class_from, definition_from, header_from, recipe_from, line_from, master_line_from, order_from, job_from, released_from, batch_from, control_line_from, batch_event_from, lot_from, sublot_from, other_end_from, booked_from, hold_from}
-use Rattle.plant_tables_judged.specs.Obeying.{HasMetaValues, HasClassValues, HasDefinitionValues, HasRecipeValues, HasMasterLineValues, HasJobValues, HasBatchRowValues, HasControlLineValues, HasEventValues, HasLotValues, HasSublotValues, HasKindValues, HasMovementValues, HasHoldValues}
+use Rattle.plant_base.specs.RowValues.{HasClassValues, HasDefinitionValues, HasLotValues, HasHoldValues}
+use Rattle.plant_tables_judged.specs.Obeying.{HasMetaValues, HasRecipeValues, HasMasterLineValues, HasJobValues, HasBatchRowValues, HasControlLineValues, HasEventRowValues, HasSublotValues, HasKindRowValues, HasMovementRowValues}
 use Rattle.plant_tables_judged.specs.declared.booked.BookedRow.{BookedRow}
 use Rattle.plant_tables_judged.specs.declared.booked.OtherEnd.{OtherEnd}
 use Rattle.plant_tables_judged.proofs.ValueLemmas.{bound, some_same, up_to, id_back, id_again, text_back, text_again, unit_back, unit_again, due_back, due_again, id_column, IsIdOrNone, null_back, null_again, number_back, number_is, number_again, number_column, IsSublotOrNone, sub_back, sub_again, line_back as number_line_back, line_again as number_line_again, flag_back, flag_again, IsStampOf, stamp_back, stamp_again, value_head, text_head, int_head}
@@ -317,7 +318,7 @@ event_row_back x r h =
     let same : record { seq = p1.0; batch = p2.0; event = p3.0; at = p4.0.at; by = p4.0.by; note = p4.0.note } ≡ r = some_same _ _ p4.2 in
     (λ i. Int (seq i) ∷ Text (batch i) ∷ Text (event.is_named i) ∷ Int (event.has_phase i) ∷ Int (stamp.was_at i) ∷ Text (stamp.was_by i) ∷ Text (stamp.has_note i) ∷ []) ∙ ap row_of_event same
 
-pub event_row_again : (x : StoredBatchEvent) (r : BatchEvent) → batch_event_row x ≡ row_of_event r → HasEventValues r → batch_event_from x ≡ Some r
+pub event_row_again : (x : StoredBatchEvent) (r : BatchEvent) → batch_event_row x ≡ row_of_event r → HasEventRowValues r → batch_event_from x ≡ Some r
 unfolding batch_event_from
 event_row_again x r h good =
     let c1 = int_head h in
@@ -454,7 +455,7 @@ record HasOtherValues (k : MovementKind) (lot : List ℕ) : Type 0 where
   pub its_sub : IsSublotOrNone (other_sublot k)
   pub its_batch : IsIdOrNone (batch_of k)
 
-other_values : (k : MovementKind) (lot : List ℕ) → HasKindValues k → is_id lot ≡ true → HasOtherValues k lot
+other_values : (k : MovementKind) (lot : List ℕ) → HasKindRowValues k → is_id lot ≡ true → HasOtherValues k lot
 other_values kind.Received lot good is = record { its_lot = tt; its_sub = tt; its_batch = tt }
 other_values (kind.Consumed batch) lot good is = record { its_lot = tt; its_sub = tt; its_batch = good }
 other_values (kind.Produced batch) lot good is = record { its_lot = tt; its_sub = tt; its_batch = good }
@@ -463,7 +464,7 @@ other_values (kind.Divided to) lot good is = record { its_lot = is; its_sub = up
 other_values (kind.Split to) lot good is = record { its_lot = good; its_sub = refl; its_batch = tt }
 other_values (kind.Merged to) lot good is = record { its_lot = good; its_sub = refl; its_batch = tt }
 
-pub movement_row_again : (x : StoredMovement) (m : Movement) → movement_row x ≡ row_of_movement m → HasMovementValues m → booked_from x ≡ Some (booked_of m)
+pub movement_row_again : (x : StoredMovement) (m : Movement) → movement_row x ≡ row_of_movement m → HasMovementRowValues m → booked_from x ≡ Some (booked_of m)
 unfolding booked_from
 movement_row_again x m h good =
     let r : BookedRow = booked_of m in

@@ -7,12 +7,12 @@ use Rattle.std.specs.declared.alloc.Global.{Global}
 use Rattle.sqlite.specs.declared.types.Value.{Value}
 use Rattle.sqlite.specs.declared.types.Value.TheVariants.{Null, Int, Text}
 use Rattle.sqlite.specs.Order.{Row}
-use Rattle.plant_base.specs.Values.{is_id, is_text, is_unit, greatest_sublot, greatest_moment}
+use Rattle.plant_base.specs.Values.{is_id, is_text, is_unit, greatest_sublot, greatest_moment, only}
 use Rattle.plant_base.specs.declared.command.Stamp.{Stamp}
 use Rattle.plant_base.specs.Dates.{is_due}
 use Rattle.table_reads.specs.Cells.{number_or_null, text_or_null}
 use Rattle.plant_tables.specs.Encoding.{number, flag}
-use Rattle.plant_tables_judged.specs.Reading.{only, is_in, id_from, text_from, unit_from, due_from, id_there, id_or_null, number_in, sublot_or_null, line_number, flag_from, stamp_from}
+use Rattle.plant_tables_judged.specs.Reading.{is_in, id_from, text_from, unit_from, due_from, id_there, id_or_null, number_in, sublot_or_null, line_number, flag_from, stamp_from}
 
 -- ---- options
 

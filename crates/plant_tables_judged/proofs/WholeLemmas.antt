@@ -9,7 +9,7 @@ use Rattle.plant_view.specs.Tables.{Tables}
 use Rattle.plant_tables_judged.specs.Reading.{is_in}
 use Rattle.plant_tables_judged.specs.Booked.{movement_from, booked_of}
 use Rattle.plant_tables_judged.specs.Collecting.{tables_in, rows_in, AreWhole}
-use Rattle.plant_tables_judged.specs.Obeying.{HasMasterLineValues, HasControlLineValues, HasMovementValues, HasGoodValues}
+use Rattle.plant_tables_judged.specs.Obeying.{HasMasterLineValues, HasControlLineValues, HasMovementRowValues, HasGoodValues}
 use Rattle.plant_tables_judged.specs.declared.booked.BookedRow.{BookedRow}
 use Rattle.plant_tables_judged.proofs.KindLemmas.{movement_again}
 
@@ -33,6 +33,6 @@ pub whole_rows : (t : Tables) → HasGoodValues t → AreWhole (rows_in t)
 whole_rows t good = record {
   master_lines = all_weaker HasMasterLineValues (λ l. 1 ≤ l.number) (λ l h. line_low l.number h.number) t.master_lines good.master_lines;
   control_lines = all_weaker HasControlLineValues (λ l. 1 ≤ l.number) (λ l h. line_low l.number h.number) t.control_lines good.control_lines;
-  movement_lines = all_booked (λ r. 1 ≤ r.line) t.movements (all_weaker HasMovementValues (λ m. 1 ≤ m.line) (λ m h. line_low m.line h.line) t.movements good.movements);
-  movements = all_booked (λ r. is_some (movement_from r) ≡ true) t.movements (all_weaker HasMovementValues (λ m. is_some (movement_from (booked_of m)) ≡ true) (λ m h. ap is_some (movement_again m)) t.movements good.movements);
+  movement_lines = all_booked (λ r. 1 ≤ r.line) t.movements (all_weaker HasMovementRowValues (λ m. 1 ≤ m.line) (λ m h. line_low m.line h.line) t.movements good.movements);
+  movements = all_booked (λ r. is_some (movement_from r) ≡ true) t.movements (all_weaker HasMovementRowValues (λ m. is_some (movement_from (booked_of m)) ≡ true) (λ m h. ap is_some (movement_again m)) t.movements good.movements);
 }

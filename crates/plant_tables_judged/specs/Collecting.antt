@@ -2,9 +2,8 @@
 use Rattle.std.specs.Prelude.{◌≡◌, ◌≤◌, true, List, [], ◌∷◌, Option, Some, map, is_some}
 use Rattle.std.specs.List.{AllByRecursion, filter_map}
 use Rattle.std.specs.List.Sorted.{IsStrictlySortedBy}
-use Rattle.std.specs.Ordering.{nat_cmp, ordering_then}
-use Rattle.std.specs.declared.cmp.Ordering.{Ordering}
 use Rattle.plant_base.specs.Dates.{◌>>=◌}
+use Rattle.plant_base.specs.State.{movement_order, event_order}
 use Rattle.plant_base.specs.declared.rows.Meta.{Meta}
 use Rattle.plant_base.specs.declared.rows.Class.{Class}
 use Rattle.plant_base.specs.declared.rows.Definition.{Definition}
@@ -199,12 +198,6 @@ rows_in t = record {
   movements = map booked_of t.movements;
   holds = t.holds;
 }
-
-abbrev pub event_order : BatchEvent → BatchEvent → Ordering
-event_order a b = nat_cmp a.seq b.seq
-
-abbrev pub movement_order : Movement → Movement → Ordering
-movement_order a b = ordering_then (nat_cmp a.seq b.seq) (nat_cmp a.line b.line)
 
 -- the rows of each table stand in the order of their keys, none with the key of another
 pub record AreInOrder (t : Tables) : Type 0 where

@@ -1,10 +1,9 @@
 -- Rows whose values obey their rules.
 use Rattle.std.specs.Prelude.{◌≡◌, ℕ, true, nat_le, ⊤}
 use Rattle.std.specs.List.{AllByRecursion}
-use Rattle.plant_base.specs.Values.{is_id, is_text, is_unit, is_amount, is_moment, greatest_amount, greatest_seq, greatest_sublot}
+use Rattle.plant_base.specs.Values.{is_id, is_text, is_amount, is_moment, greatest_amount, greatest_seq, greatest_sublot}
 use Rattle.plant_base.specs.Formed.{is_version, is_phase_number, HasHeaderValues, HasLineValues}
-use Rattle.plant_base.specs.declared.states.Event.{Event}
-use Rattle.plant_base.specs.declared.states.Event.TheVariants as event
+use Rattle.plant_base.specs.RowValues.{HasClassValues, HasDefinitionValues, HasPhaseNumber, HasLotValues, HasHoldValues}
 use Rattle.plant_base.specs.declared.rows.Meta.{Meta}
 use Rattle.plant_base.specs.declared.rows.Class.{Class}
 use Rattle.plant_base.specs.declared.rows.Definition.{Definition}
@@ -29,16 +28,6 @@ pub record HasMetaValues (m : Meta) : Type 0 where
   pub schema : is_in 1 greatest_number m.schema ≡ true
   pub seq : nat_le m.position.seq greatest_seq ≡ true
   pub at : is_moment m.position.at ≡ true
-
-pub record HasClassValues (c : Class) : Type 0 where
-  pub id : is_id c.id ≡ true
-  pub name : is_text c.name ≡ true
-
-pub record HasDefinitionValues (d : Definition) : Type 0 where
-  pub id : is_id d.id ≡ true
-  pub class : is_id d.class ≡ true
-  pub name : is_text d.name ≡ true
-  pub unit : is_unit d.unit ≡ true
 
 pub record HasRecipeValues (r : Recipe) : Type 0 where
   pub header : HasHeaderValues r.header
@@ -67,23 +56,13 @@ pub record HasControlLineValues (l : ControlLine) : Type 0 where
   pub number : IsLineNumber l.number
   pub line : HasLineValues l.line
 
--- the phase of a phase that was done
-abbrev pub HasPhase : Event → Type 0
-HasPhase (event.Moved word) = ⊤
-HasPhase (event.PhaseDone phase) = is_phase_number phase ≡ true
-HasPhase event.Closed = ⊤
-
-pub record HasEventValues (e : BatchEvent) : Type 0 where
+pub record HasEventRowValues (e : BatchEvent) : Type 0 where
   pub seq : nat_le e.seq greatest_seq ≡ true
   pub batch : is_id e.batch ≡ true
-  pub phase : HasPhase e.event
+  pub phase : HasPhaseNumber e.event
   pub at : is_moment e.at ≡ true
   pub by : is_text e.by ≡ true
   pub note : is_text e.note ≡ true
-
-pub record HasLotValues (l : Lot) : Type 0 where
-  pub id : is_id l.id ≡ true
-  pub def : is_id l.def ≡ true
 
 pub record HasSublotValues (s : Sublot) : Type 0 where
   pub lot : is_id s.lot ≡ true
@@ -92,32 +71,25 @@ pub record HasSublotValues (s : Sublot) : Type 0 where
   pub stock : nat_le s.stock greatest_amount ≡ true
 
 -- what the kind names
-abbrev pub HasKindValues : MovementKind → Type 0
-HasKindValues kind.Received = ⊤
-HasKindValues (kind.Consumed batch) = is_id batch ≡ true
-HasKindValues (kind.Produced batch) = is_id batch ≡ true
-HasKindValues kind.Scrapped = ⊤
-HasKindValues (kind.Divided to) = nat_le to greatest_sublot ≡ true
-HasKindValues (kind.Split to) = is_id to ≡ true
-HasKindValues (kind.Merged to) = is_id to ≡ true
+abbrev pub HasKindRowValues : MovementKind → Type 0
+HasKindRowValues kind.Received = ⊤
+HasKindRowValues (kind.Consumed batch) = is_id batch ≡ true
+HasKindRowValues (kind.Produced batch) = is_id batch ≡ true
+HasKindRowValues kind.Scrapped = ⊤
+HasKindRowValues (kind.Divided to) = nat_le to greatest_sublot ≡ true
+HasKindRowValues (kind.Split to) = is_id to ≡ true
+HasKindRowValues (kind.Merged to) = is_id to ≡ true
 
-pub record HasMovementValues (m : Movement) : Type 0 where
+pub record HasMovementRowValues (m : Movement) : Type 0 where
   pub seq : nat_le m.seq greatest_seq ≡ true
   pub line : IsLineNumber m.line
-  pub kind : HasKindValues m.kind
+  pub kind : HasKindRowValues m.kind
   pub lot : is_id m.lot ≡ true
   pub sub : nat_le m.sub greatest_sublot ≡ true
   pub amount : is_amount m.amount ≡ true
   pub at : is_moment m.at ≡ true
   pub by : is_text m.by ≡ true
   pub note : is_text m.note ≡ true
-
-pub record HasHoldValues (h : Hold) : Type 0 where
-  pub lot : is_id h.lot ≡ true
-  pub id : is_id h.id ≡ true
-  pub at : is_moment h.at ≡ true
-  pub by : is_text h.by ≡ true
-  pub note : is_text h.note ≡ true
 
 -- each value of each row
 pub record HasGoodValues (t : Tables) : Type 0 where
@@ -129,8 +101,8 @@ pub record HasGoodValues (t : Tables) : Type 0 where
   pub jobs : AllByRecursion HasJobValues t.jobs
   pub batches : AllByRecursion HasBatchRowValues t.batches
   pub control_lines : AllByRecursion HasControlLineValues t.control_lines
-  pub events : AllByRecursion HasEventValues t.events
+  pub events : AllByRecursion HasEventRowValues t.events
   pub lots : AllByRecursion HasLotValues t.lots
   pub sublots : AllByRecursion HasSublotValues t.sublots
-  pub movements : AllByRecursion HasMovementValues t.movements
+  pub movements : AllByRecursion HasMovementRowValues t.movements
   pub holds : AllByRecursion HasHoldValues t.holds

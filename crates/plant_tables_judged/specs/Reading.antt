@@ -1,13 +1,9 @@
 -- One value of a stored row, read by its rule: nothing where it breaks the rule.
 use Rattle.std.specs.Prelude.{ℕ, ◌-◌, ◌^◌, ℤ, pos, negsuc, Bool, ◌&&◌, nat_le, List, Vec, Option, Some, None, option_map, unwrap_or, if◌then◌else◌}
 use Rattle.std.specs.declared.alloc.Global.{Global}
-use Rattle.plant_base.specs.Values.{is_id, is_text, is_unit, greatest_amount, greatest_moment, greatest_sublot, greatest_seq}
+use Rattle.plant_base.specs.Values.{only, is_id, is_text, is_unit, greatest_amount, greatest_moment, greatest_sublot, greatest_seq}
 use Rattle.plant_base.specs.Dates.{is_due, ◌>>=◌}
 use Rattle.plant_base.specs.declared.command.Stamp.{Stamp}
-
--- the value, where it obeys the rule
-abbrev pub only : {A : Type 0} → (A → Bool) → A → Option A
-only obeys x = if obeys x then Some x else None
 
 -- ---- texts
 

@@ -19,7 +19,8 @@ pub trait Judged {
 /// The rows of the desk that all stored rows stand for, in their order. `None` where a value of one breaks its rule;
 /// an error where there is no memory.
 pub fn judge_all<X: Judged>(alloc: Global, stored: &[X]) -> Result<Option<Vec<X::Row>>, AllocError>
-    ensures { IfOk result (λ rows. option_map (λ list. list.items) rows ≡ all_from X.row_from stored.now) }
+    ensures { IfOk result (λ rows. option_map (λ list. list.items) rows
+        ≡ all_from X.row_from stored.now) }
 {
     let mut rows = Vec::with_capacity(alloc, stored.len())?;
     for row in stored {

@@ -46,7 +46,8 @@ fn is_good(meta: &StoredMeta) -> bool
 
 /// The version that the one row tells, where it is good.
 fn version_in(list: &[StoredMeta]) -> Option<i64>
-    ensures some { IfSome result (λ n. (m : StoredMeta) × (list.now ≡ m ∷ []) × IsGoodMeta m × (m.schema ≡ n)) }
+    ensures some { IfSome result (λ n. (m : StoredMeta) × (list.now ≡ m ∷ []) × IsGoodMeta m
+        × (m.schema ≡ n)) }
     ensures none { result ≡ None → (m : StoredMeta) → list.now ≡ m ∷ [] → ¬ IsGoodMeta m }
 {
     match list {
@@ -58,14 +59,22 @@ fn version_in(list: &[StoredMeta]) -> Option<i64>
 /// The version that table meta tells. `None` where it doesn't stand as it is declared, hasn't one row, or has a row
 /// that isn't good. The faults are those of [`found`].
 fn version<S: Alter>(alloc: Global, conn: &mut Connection<S>) -> Result<Option<i64>, Fault>
-    ensures some { HasCleanDisk (state S.Store conn.new) → IfOk result (λ found. IfSome found (IsVersion (state S.Store conn.old).now)) }
-    ensures none { HasCleanDisk (state S.Store conn.new) → IfOk result (λ found. found ≡ None → (n : ℤ) → ¬ IsVersion (state S.Store conn.old).now n) }
-    ensures same { HasCleanDisk (state S.Store conn.new) → IfOk result (λ found. IfSome found (λ _. IsUnchanged (state S.Store conn.old) (state S.Store conn.new))) }
-    ensures kept { HasCleanDisk (state S.Store conn.new) → Keeps (state S.Store conn.old) (state S.Store conn.new) }
-    ensures mode { (state S.Store conn.old).in_transaction ≡ false → (state S.Store conn.new).in_transaction ≡ false }
+    ensures some { HasCleanDisk (state S.Store conn.new)
+        → IfOk result (λ found. IfSome found (IsVersion (state S.Store conn.old).now)) }
+    ensures none { HasCleanDisk (state S.Store conn.new)
+        → IfOk result (λ found. found ≡ None → (n : ℤ) → ¬ IsVersion (state S.Store conn.old).now n) }
+    ensures same { HasCleanDisk (state S.Store conn.new)
+        → IfOk result (λ found. IfSome found (λ _. IsUnchanged (state S.Store conn.old)
+                (state S.Store conn.new))) }
+    ensures kept { HasCleanDisk (state S.Store conn.new)
+        → Keeps (state S.Store conn.old) (state S.Store conn.new) }
+    ensures mode { (state S.Store conn.old).in_transaction ≡ false
+        → (state S.Store conn.new).in_transaction ≡ false }
     ensures crash { Survives (state S.Store conn.old) (state S.Store conn.new) (λ _. ⊥) }
     // Memory is wanted for a row of table meta.
-    ensures memory { HasCleanDisk (state S.Store conn.new) → IfErr result (λ fault. fault ≡ Fault.Memory → HasTable (state S.Store conn.old).now.schema meta_form) }
+    ensures memory { HasCleanDisk (state S.Store conn.new)
+        → IfErr result (λ fault. fault ≡ Fault.Memory
+            → HasTable (state S.Store conn.old).now.schema meta_form) }
 {
     if !all_stand(conn.schema(), &[META]) {
         return Ok(None);
@@ -102,17 +111,27 @@ fn lacks_counts(schema: &Schema) -> bool
 /// the names of the tables are free but a table counts its rowids and SQLite's own table of counts isn't there, and
 /// where the store fails; Memory where there is none. Nothing is changed.
 pub fn found<S: Alter>(alloc: Global, conn: &mut Connection<S>) -> Result<FoundTables, Fault>
-    ensures nothing { IfOk result (λ found. (found ≡ FoundTables.Nothing) ↔ AreFree desk_forms (state S.Store conn.old).now.schema) }
-    ensures taken { IfOk result (λ found. found ≢ FoundTables.Nothing → ¬ All (IsFree (state S.Store conn.old).now.schema) desk_forms) }
-    ensures version { HasCleanDisk (state S.Store conn.new) → IfOk result (λ found. (n : ℤ) → (found ≡ FoundTables.Version n) ↔ IsVersion (state S.Store conn.old).now n) }
+    ensures nothing { IfOk result (λ found. (found ≡ FoundTables.Nothing)
+        ↔ AreFree desk_forms (state S.Store conn.old).now.schema) }
+    ensures taken { IfOk result (λ found. found ≢ FoundTables.Nothing
+        → ¬ All (IsFree (state S.Store conn.old).now.schema) desk_forms) }
+    ensures version { HasCleanDisk (state S.Store conn.new)
+        → IfOk result (λ found. (n : ℤ)
+            → (found ≡ FoundTables.Version n) ↔ IsVersion (state S.Store conn.old).now n) }
     ensures live { IsLive (state S.Store conn.old) }
     ensures untouched { IfOk result (λ found. found ≡ FoundTables.Nothing → conn.new ≡ conn.old) }
-    ensures same { HasCleanDisk (state S.Store conn.new) → IfOk result (λ found. (n : ℤ) → found ≡ FoundTables.Version n → IsUnchanged (state S.Store conn.old) (state S.Store conn.new)) }
-    ensures kept { HasCleanDisk (state S.Store conn.new) → Keeps (state S.Store conn.old) (state S.Store conn.new) }
-    ensures mode { (state S.Store conn.old).in_transaction ≡ false → (state S.Store conn.new).in_transaction ≡ false }
+    ensures same { HasCleanDisk (state S.Store conn.new)
+        → IfOk result (λ found. (n : ℤ) → found ≡ FoundTables.Version n
+            → IsUnchanged (state S.Store conn.old) (state S.Store conn.new)) }
+    ensures kept { HasCleanDisk (state S.Store conn.new)
+        → Keeps (state S.Store conn.old) (state S.Store conn.new) }
+    ensures mode { (state S.Store conn.old).in_transaction ≡ false
+        → (state S.Store conn.new).in_transaction ≡ false }
     ensures crash { Survives (state S.Store conn.old) (state S.Store conn.new) (λ _. ⊥) }
     // Memory is wanted for a row of table meta.
-    ensures memory { HasCleanDisk (state S.Store conn.new) → IfErr result (λ fault. fault ≡ Fault.Memory → HasTable (state S.Store conn.old).now.schema meta_form) }
+    ensures memory { HasCleanDisk (state S.Store conn.new)
+        → IfErr result (λ fault. fault ≡ Fault.Memory
+            → HasTable (state S.Store conn.old).now.schema meta_form) }
 {
     if all_free(conn.schema(), &desk_forms()) {
         if lacks_counts(conn.schema()) {

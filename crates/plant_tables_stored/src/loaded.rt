@@ -36,17 +36,27 @@ impl Loaded {
         conn: &mut Connection<S>,
         version: i64,
     ) -> Result<Option<Loaded>, Fault>
-        ensures rows { HasCleanDisk (state S.Store conn.new) → IfOk result (λ found. IfSome found (AreLoaded (state S.Store conn.old).now)) }
+        ensures rows { HasCleanDisk (state S.Store conn.new)
+            → IfOk result (λ found. IfSome found (AreLoaded (state S.Store conn.old).now)) }
         ensures ordered { IfOk result (λ found. IfSome found AreRising) }
-        ensures stands { HasCleanDisk (state S.Store conn.new) → IsRising (state S.Store conn.old).now → IfOk result (λ found. IfSome found (λ loaded. StandIn desk_forms (state S.Store conn.old).now (contents_loaded loaded))) }
-        ensures missing { IfOk result (λ found. found ≡ None → ¬ All (HasTable (state S.Store conn.old).now.schema) desk_forms) }
-        ensures same { HasCleanDisk (state S.Store conn.new) → IfOk result (λ found. IfSome found (λ _. IsUnchanged (state S.Store conn.old) (state S.Store conn.new))) }
-        ensures kept { HasCleanDisk (state S.Store conn.new) → Keeps (state S.Store conn.old) (state S.Store conn.new) }
-        ensures mode { (state S.Store conn.old).in_transaction ≡ false → (state S.Store conn.new).in_transaction ≡ false }
+        ensures stands { HasCleanDisk (state S.Store conn.new)
+            → IsRising (state S.Store conn.old).now
+            → IfOk result (λ found. IfSome found (λ loaded. StandIn desk_forms
+                    (state S.Store conn.old).now (contents_loaded loaded))) }
+        ensures missing { IfOk result (λ found. found ≡ None
+            → ¬ All (HasTable (state S.Store conn.old).now.schema) desk_forms) }
+        ensures same { HasCleanDisk (state S.Store conn.new)
+            → IfOk result (λ found. IfSome found (λ _. IsUnchanged (state S.Store conn.old)
+                    (state S.Store conn.new))) }
+        ensures kept { HasCleanDisk (state S.Store conn.new)
+            → Keeps (state S.Store conn.old) (state S.Store conn.new) }
+        ensures mode { (state S.Store conn.old).in_transaction ≡ false
+            → (state S.Store conn.new).in_transaction ≡ false }
         ensures crash { Survives (state S.Store conn.old) (state S.Store conn.new) (λ _. ⊥) }
         // Memory is wanted for the rows of a version that is known, all tables of which stand.
         ensures known { IfErr result (λ fault. fault ≡ Fault.Memory → version ≡ pos 1) }
-        ensures memory { IfErr result (λ fault. fault ≡ Fault.Memory → All (HasTable (state S.Store conn.old).now.schema) desk_forms) }
+        ensures memory { IfErr result (λ fault. fault ≡ Fault.Memory
+            → All (HasTable (state S.Store conn.old).now.schema) desk_forms) }
     {
         if version != 1 {
             return Err(Fault::Store);
@@ -58,11 +68,15 @@ impl Loaded {
     }
 
     fn read_all<S: Alter>(alloc: Global, conn: &mut Connection<S>) -> Result<Loaded, Fault>
-        ensures rows { HasCleanDisk (state S.Store conn.new) → IfOk result (AreLoaded (state S.Store conn.old).now) }
+        ensures rows { HasCleanDisk (state S.Store conn.new)
+            → IfOk result (AreLoaded (state S.Store conn.old).now) }
         ensures rising { IfOk result AreRising }
-        ensures same { HasCleanDisk (state S.Store conn.new) → OnOk result (IsUnchanged (state S.Store conn.old) (state S.Store conn.new)) }
-        ensures kept { HasCleanDisk (state S.Store conn.new) → Keeps (state S.Store conn.old) (state S.Store conn.new) }
-        ensures mode { (state S.Store conn.old).in_transaction ≡ false → (state S.Store conn.new).in_transaction ≡ false }
+        ensures same { HasCleanDisk (state S.Store conn.new)
+            → OnOk result (IsUnchanged (state S.Store conn.old) (state S.Store conn.new)) }
+        ensures kept { HasCleanDisk (state S.Store conn.new)
+            → Keeps (state S.Store conn.old) (state S.Store conn.new) }
+        ensures mode { (state S.Store conn.old).in_transaction ≡ false
+            → (state S.Store conn.new).in_transaction ≡ false }
         ensures crash { Survives (state S.Store conn.old) (state S.Store conn.new) (λ _. ⊥) }
     {
         let meta = read_table(alloc, conn)?;

@@ -205,11 +205,15 @@ impl Stocks {
     /// All rows of these tables, from one query a table. Store where a table does not stand as it is declared, where
     /// a transaction is open, and where the store fails; Memory where there is none. Nothing is changed.
     pub(crate) fn read<S: Alter>(alloc: Global, conn: &mut Connection<S>) -> Result<Stocks, Fault>
-        ensures rows { HasCleanDisk (state S.Store conn.new) → IfOk result (AreStocks (state S.Store conn.old).now) }
+        ensures rows { HasCleanDisk (state S.Store conn.new)
+            → IfOk result (AreStocks (state S.Store conn.old).now) }
         ensures rising { IfOk result AreRisingStocks }
-        ensures same { HasCleanDisk (state S.Store conn.new) → OnOk result (IsUnchanged (state S.Store conn.old) (state S.Store conn.new)) }
-        ensures kept { HasCleanDisk (state S.Store conn.new) → Keeps (state S.Store conn.old) (state S.Store conn.new) }
-        ensures mode { (state S.Store conn.old).in_transaction ≡ false → (state S.Store conn.new).in_transaction ≡ false }
+        ensures same { HasCleanDisk (state S.Store conn.new)
+            → OnOk result (IsUnchanged (state S.Store conn.old) (state S.Store conn.new)) }
+        ensures kept { HasCleanDisk (state S.Store conn.new)
+            → Keeps (state S.Store conn.old) (state S.Store conn.new) }
+        ensures mode { (state S.Store conn.old).in_transaction ≡ false
+            → (state S.Store conn.new).in_transaction ≡ false }
         ensures crash { Survives (state S.Store conn.old) (state S.Store conn.new) (λ _. ⊥) }
     {
         let lots = read_table(alloc, conn)?;

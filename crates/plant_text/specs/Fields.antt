@@ -7,11 +7,7 @@ use Rattle.serde_json.specs.Find.{get, as_number, as_u64, as_str, as_object}
 use Rattle.serde_json.specs.Events.{members_len}
 use Rattle.plant_base.specs.Dates.{is_due}
 use Rattle.plant_base.specs.Formed.{is_version, is_priority, is_phase_number}
-use Rattle.plant_base.specs.Values.{is_id, is_text, is_unit, is_amount, is_moment, greatest_sublot}
-
--- the value, where it obeys the rule
-abbrev pub only : {A : Type 0} → (A → Bool) → A → Option A
-only obeys x = if obeys x then Some x else None
+use Rattle.plant_base.specs.Values.{only, is_id, is_text, is_unit, is_amount, is_moment, greatest_sublot}
 
 -- the option, where the test holds
 abbrev pub when : {A : Type 0} → Bool → Option A → Option A

@@ -47,7 +47,8 @@ pub(crate) fn items_at<T: Item>(
     value: &Value,
     name: &str,
 ) -> Result<Items<T>, LineFault>
-    ensures { Reads result (option_and_then (each_item T.item) (option_and_then as_array (get name.now (view value.now)))) }
+    ensures { Reads result (option_and_then (each_item T.item)
+        (option_and_then as_array (get name.now (view value.now)))) }
 {
     match value.get(name).and_then(Value::as_array) {
         Some(values) => items_of(alloc, values),

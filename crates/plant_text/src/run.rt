@@ -67,7 +67,8 @@ fn end_line<W: Write, K: Keeper>(
     requires { K.shut keeper.old ≡ false }
     ensures honest { K.honest keeper.new → K.honest keeper.old }
     ensures schema { K.honest keeper.new → K.schema keeper.new ≡ K.schema keeper.old }
-    ensures beside { K.honest keeper.new → (b : K.Beside) → K.beside keeper.old b → K.beside keeper.new b }
+    ensures beside { K.honest keeper.new → (b : K.Beside) → K.beside keeper.old b
+        → K.beside keeper.new b }
     ensures open { OnOk result (K.shut keeper.new ≡ false) }
     ensures held { OnOk result (held.new.items ≡ []) }
     ensures ends { K.honest keeper.new → (s : State) → K.stands keeper.old s
@@ -89,7 +90,8 @@ fn end_line<W: Write, K: Keeper>(
 fn hold_byte<W: Write>(writer: &mut W, held: &mut Vec<u8>, b: u8) -> Result<(), Stop>
     ensures held { OnOk result (held.new.items ≡ held_with held.old.items b) }
     ensures same { OnOk result (W.contents writer.new ≡ W.contents writer.old) }
-    ensures stops { IfErr result (FaultWritten DeskFault.Memory (W.contents writer.old) (W.contents writer.new)) }
+    ensures stops { IfErr result (FaultWritten DeskFault.Memory (W.contents writer.old)
+        (W.contents writer.new)) }
 {
     if held.len() < ROOM && held.push(b).is_err() {
         return Err(tell_fault(writer, DeskFault::Memory));
@@ -109,7 +111,8 @@ fn take_byte<W: Write, K: Keeper>(
     requires { K.shut keeper.old ≡ false }
     ensures honest { K.honest keeper.new → K.honest keeper.old }
     ensures schema { K.honest keeper.new → K.schema keeper.new ≡ K.schema keeper.old }
-    ensures beside { K.honest keeper.new → (b : K.Beside) → K.beside keeper.old b → K.beside keeper.new b }
+    ensures beside { K.honest keeper.new → (b : K.Beside) → K.beside keeper.old b
+        → K.beside keeper.new b }
     ensures open { OnOk result (K.shut keeper.new ≡ false) }
     ensures held { OnOk result (held.new.items ≡ held_after held.old.items (b ∷ [])) }
     ensures ends { K.honest keeper.new → (s : State) → K.stands keeper.old s
@@ -138,7 +141,8 @@ fn take_piece<W: Write, K: Keeper>(
     requires { K.shut keeper.old ≡ false }
     ensures honest { K.honest keeper.new → K.honest keeper.old }
     ensures schema { K.honest keeper.new → K.schema keeper.new ≡ K.schema keeper.old }
-    ensures beside { K.honest keeper.new → (b : K.Beside) → K.beside keeper.old b → K.beside keeper.new b }
+    ensures beside { K.honest keeper.new → (b : K.Beside) → K.beside keeper.old b
+        → K.beside keeper.new b }
     ensures open { OnOk result (K.shut keeper.new ≡ false) }
     ensures held { OnOk result (held.new.items ≡ held_after held.old.items piece.now) }
     ensures ends { K.honest keeper.new → (s : State) → K.stands keeper.old s
@@ -167,7 +171,8 @@ fn end_input<W: Write, K: Keeper>(
     requires { K.shut keeper.old ≡ false }
     ensures honest { K.honest keeper.new → K.honest keeper.old }
     ensures schema { K.honest keeper.new → K.schema keeper.new ≡ K.schema keeper.old }
-    ensures beside { K.honest keeper.new → (b : K.Beside) → K.beside keeper.old b → K.beside keeper.new b }
+    ensures beside { K.honest keeper.new → (b : K.Beside) → K.beside keeper.old b
+        → K.beside keeper.new b }
     ensures ends { K.honest keeper.new → (s : State) → K.stands keeper.old s
         → LastEnds (K.schema keeper.old) s (entry_of held.now)
         (W.contents writer.old) (W.contents writer.new)
@@ -194,7 +199,8 @@ fn run_pieces<R: Read, W: Write, K: Keeper>(
     requires room { 0 < length piece.old }
     ensures honest { K.honest keeper.new → K.honest keeper.old }
     ensures schema { K.honest keeper.new → K.schema keeper.new ≡ K.schema keeper.old }
-    ensures beside { K.honest keeper.new → (b : K.Beside) → K.beside keeper.old b → K.beside keeper.new b }
+    ensures beside { K.honest keeper.new → (b : K.Beside) → K.beside keeper.old b
+        → K.beside keeper.new b }
     ensures ends { (bytes : List ℕ) × Consumes (R.remaining reader.old) (R.remaining reader.new) bytes
         × (K.honest keeper.new → (s : State) → K.stands keeper.old s
         → EndsWithin most (K.schema keeper.old) s bytes (R.remaining reader.new)
@@ -246,7 +252,8 @@ pub fn run_lines<R: Read, W: Write, K: Keeper>(
     requires { K.shut keeper.old ≡ false }
     ensures honest { K.honest keeper.new → K.honest keeper.old }
     ensures schema { K.honest keeper.new → K.schema keeper.new ≡ K.schema keeper.old }
-    ensures beside { K.honest keeper.new → (b : K.Beside) → K.beside keeper.old b → K.beside keeper.new b }
+    ensures beside { K.honest keeper.new → (b : K.Beside) → K.beside keeper.old b
+        → K.beside keeper.new b }
 
     // How the run ended, and what a stop leaves then.
     ensures ends { (bytes : List ℕ) × Consumes (R.remaining reader.old) (R.remaining reader.new) bytes
@@ -270,7 +277,8 @@ pub fn run_lines_within<R: Read, W: Write, K: Keeper>(
     requires { K.shut keeper.old ≡ false }
     ensures honest { K.honest keeper.new → K.honest keeper.old }
     ensures schema { K.honest keeper.new → K.schema keeper.new ≡ K.schema keeper.old }
-    ensures beside { K.honest keeper.new → (b : K.Beside) → K.beside keeper.old b → K.beside keeper.new b }
+    ensures beside { K.honest keeper.new → (b : K.Beside) → K.beside keeper.old b
+        → K.beside keeper.new b }
     ensures ends { (bytes : List ℕ) × Consumes (R.remaining reader.old) (R.remaining reader.new) bytes
         × (K.honest keeper.new → (s : State) → K.stands keeper.old s
         → EndsWithin most (K.schema keeper.old) s bytes (R.remaining reader.new)

@@ -77,7 +77,8 @@ fn take_command<W: Write, K: Keeper>(
     requires { K.shut keeper.old ≡ false }
     ensures honest { K.honest keeper.new → K.honest keeper.old }
     ensures schema { K.honest keeper.new → K.schema keeper.new ≡ K.schema keeper.old }
-    ensures beside { K.honest keeper.new → (b : K.Beside) → K.beside keeper.old b → K.beside keeper.new b }
+    ensures beside { K.honest keeper.new → (b : K.Beside) → K.beside keeper.old b
+        → K.beside keeper.new b }
     ensures open { OnOk result (K.shut keeper.new ≡ false) }
     ensures ends { K.honest keeper.new → (s : State) → K.stands keeper.old s
         → TurnEnds (K.schema keeper.old) s (command_entry envelope.now)
@@ -101,8 +102,10 @@ fn tell_answer<W: Write>(
     writer: &mut W,
     asked: Result<Answer, DeskFault>,
 ) -> Result<bool, Stop>
-    ensures answered { IfOk asked (λ answer. AnswerWritten answer (W.contents writer.old) (W.contents writer.new) result) }
-    ensures faulted { IfErr asked (λ fault. IsErrAnd result (FaultWritten fault (W.contents writer.old) (W.contents writer.new))) }
+    ensures answered { IfOk asked (λ answer. AnswerWritten answer (W.contents writer.old)
+        (W.contents writer.new) result) }
+    ensures faulted { IfErr asked (λ fault. IsErrAnd result
+        (FaultWritten fault (W.contents writer.old) (W.contents writer.new))) }
 {
     match asked {
         Ok(answer) => match answer_text(alloc, &answer) {
@@ -126,7 +129,8 @@ fn take_question<W: Write, K: Keeper>(
     requires { K.shut keeper.old ≡ false }
     ensures honest { K.honest keeper.new → K.honest keeper.old }
     ensures schema { K.honest keeper.new → K.schema keeper.new ≡ K.schema keeper.old }
-    ensures beside { K.honest keeper.new → (b : K.Beside) → K.beside keeper.old b → K.beside keeper.new b }
+    ensures beside { K.honest keeper.new → (b : K.Beside) → K.beside keeper.old b
+        → K.beside keeper.new b }
     ensures open { OnOk result (K.shut keeper.new ≡ false) }
     ensures ends { K.honest keeper.new → (s : State) → K.stands keeper.old s
         → TurnEnds (K.schema keeper.old) s (question_entry question.now)
@@ -146,7 +150,8 @@ pub(crate) fn take_line<W: Write, K: Keeper>(
     requires { K.shut keeper.old ≡ false }
     ensures honest { K.honest keeper.new → K.honest keeper.old }
     ensures schema { K.honest keeper.new → K.schema keeper.new ≡ K.schema keeper.old }
-    ensures beside { K.honest keeper.new → (b : K.Beside) → K.beside keeper.old b → K.beside keeper.new b }
+    ensures beside { K.honest keeper.new → (b : K.Beside) → K.beside keeper.old b
+        → K.beside keeper.new b }
     ensures open { OnOk result (K.shut keeper.new ≡ false) }
     ensures ends { K.honest keeper.new → (s : State) → K.stands keeper.old s
         → TurnEnds (K.schema keeper.old) s (entry_of line.now)

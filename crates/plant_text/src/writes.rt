@@ -35,8 +35,10 @@ pub fn write_text<W: Write>(writer: &mut W, text: &[u8]) -> Result<(), Unwritten
 ///
 /// `Unwritten`: a front of both was written, perhaps none of them but never all, and nothing else.
 pub fn write_line<W: Write>(writer: &mut W, text: &[u8]) -> Result<(), Unwritten>
-    ensures ok { OnOk result (Appends (W.contents writer.old) (W.contents writer.new) (with_lf text.now)) }
-    ensures err { OnErr result (AppendsFront (W.contents writer.old) (W.contents writer.new) (with_lf text.now)) }
+    ensures ok { OnOk result (Appends (W.contents writer.old) (W.contents writer.new)
+        (with_lf text.now)) }
+    ensures err { OnErr result (AppendsFront (W.contents writer.old) (W.contents writer.new)
+        (with_lf text.now)) }
 {
     match write_text(writer, text) {
         Ok(()) => write_text(writer, b"\n"),

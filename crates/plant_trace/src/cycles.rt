@@ -72,7 +72,8 @@ pub fn acyclic_by_closures(alloc: Global, pairs: &[(Node, Node)]) -> Result<bool
 /// The nodes that one or more pairs lead to from a node.
 fn forward_from(alloc: Global, source: &mut Indexed, start: Node) -> Result<Vec<Node>, AllocError>
     ensures same { source.new.pairs.now ≡ source.old.pairs.now }
-    ensures lists { IfOk result (λ nodes. Lists (IsReached Forward source.old.pairs.now start) nodes.items) }
+    ensures lists { IfOk result
+        (λ nodes. Lists (IsReached Forward source.old.pairs.now start) nodes.items) }
 {
     match closure(alloc, source, start, Direction::Forward) {
         Ok(nodes) => Ok(nodes),

@@ -25,6 +25,3 @@ pub use listed::{Listed, neighbours};
 pub use node::Node;
 pub use rounds::closure_in_rounds;
 pub use worklist::closure;
-
-#[cfg(test)]
-mod tests;

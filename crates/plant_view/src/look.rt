@@ -77,7 +77,8 @@ pub fn job<V: View>(view: &mut V, order: Id) -> Result<Option<Job>, ViewFault<V:
 pub fn batch<V: View>(view: &mut V, id: Id) -> Result<Option<BatchRow>, ViewFault<V::Fault>>
     ensures { Told V.honest V.kept V.steady view.old view.new
         (IsSound (V.state view.old) → IfOk result (λ r.
-        r ≡ option_map (batch_row (V.state view.old).control_lines (V.state view.old).events) (batch_at (V.state view.old) id))) }
+        r ≡ option_map (batch_row (V.state view.old).control_lines (V.state view.old).events)
+        (batch_at (V.state view.old) id))) }
 {
     match view.batch(id) {
         Ok(row) => Ok(row),

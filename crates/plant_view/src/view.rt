@@ -58,7 +58,8 @@ pub trait View: Edges {
             (IfOk result (λ r. option_map (λ row. row.batch) r ≡ batch_at (state self.old) id)) }
         ensures progress { Told Self.honest Self.kept Self.steady self.old self.new
             (IsSound (state self.old) → IfOk result (λ r.
-            r ≡ option_map (batch_row (state self.old).control_lines (state self.old).events) (batch_at (state self.old) id))) };
+            r ≡ option_map (batch_row (state self.old).control_lines (state self.old).events)
+            (batch_at (state self.old) id))) };
 
     /// The lines of the control recipe of a batch, by number.
     fn control_lines(&mut self, batch: Id) -> Result<Vec<ControlLine>, Self::Fault>
@@ -76,14 +77,16 @@ pub trait View: Edges {
             (IfOk result (λ r. option_map place_of_row r ≡ place_at (state self.old) lot number)) }
         ensures stock { Told Self.honest Self.kept Self.steady self.old self.new
             (IsSound (state self.old) → IfOk result (λ r.
-            r ≡ option_map (sublot_row (state self.old).movements) (place_at (state self.old) lot number))) };
+            r ≡ option_map (sublot_row (state self.old).movements)
+            (place_at (state self.old) lot number))) };
 
     /// The sublots of a lot with their stock, by number. The stocks are right where the state is sound.
     fn sublots(&mut self, lot: Id) -> Result<Vec<Sublot>, Self::Fault>
         ensures rows { Told Self.honest Self.kept Self.steady self.old self.new
             (IfOk result (λ rows. map place_of_row rows.items ≡ places_of (state self.old) lot)) }
         ensures stocks { Told Self.honest Self.kept Self.steady self.old self.new
-            (IsSound (state self.old) → IfOk result (λ rows. rows.items ≡ sublots_of (state self.old) lot)) };
+            (IsSound (state self.old)
+                → IfOk result (λ rows. rows.items ≡ sublots_of (state self.old) lot)) };
 
     /// The hold of this lot and id.
     fn hold(&mut self, lot: Id, id: Id) -> Result<Option<Hold>, Self::Fault>

@@ -16,10 +16,17 @@ pub trait Work {
     fn run<S: Alter>(&self, tx: &mut Transaction<'_, S>) -> Result<(), Fault>
         ensures fault { IsOkUnless result Fault.Store }
         ensures same_reference { tx.new.conn.ghost_name ≡ tx.old.conn.ghost_name }
-        ensures made { HasCleanDisk (state S.Store tx.new.conn.now) → OnOk result (makes self.now (state S.Store tx.old.conn.now).now (state S.Store tx.new.conn.now).now) }
-        ensures inside { HasCleanDisk (state S.Store tx.new.conn.now) → IsTrue (state S.Store tx.old.conn.now).is_open → IsTrue (state S.Store tx.old.conn.now).in_transaction → OnOk result (IsTrue (state S.Store tx.new.conn.now).in_transaction) }
-        ensures kept { HasCleanDisk (state S.Store tx.new.conn.now) → KeepsCommit (state S.Store tx.old.conn.now) (state S.Store tx.new.conn.now) }
-        ensures survives { Survives (state S.Store tx.old.conn.now) (state S.Store tx.new.conn.now) (λ _. ⊥) };
+        ensures made { HasCleanDisk (state S.Store tx.new.conn.now)
+            → OnOk result (makes self.now (state S.Store tx.old.conn.now).now
+                (state S.Store tx.new.conn.now).now) }
+        ensures inside { HasCleanDisk (state S.Store tx.new.conn.now)
+            → IsTrue (state S.Store tx.old.conn.now).is_open
+            → IsTrue (state S.Store tx.old.conn.now).in_transaction
+            → OnOk result (IsTrue (state S.Store tx.new.conn.now).in_transaction) }
+        ensures kept { HasCleanDisk (state S.Store tx.new.conn.now)
+            → KeepsCommit (state S.Store tx.old.conn.now) (state S.Store tx.new.conn.now) }
+        ensures survives { Survives (state S.Store tx.old.conn.now) (state S.Store tx.new.conn.now)
+            (λ _. ⊥) };
 }
 
 /// Does the work in one transaction, whose commit is the last call of the store: after `Ok` all of it is done and
@@ -28,9 +35,14 @@ pub fn in_one<S: Alter, W: Work>(conn: &mut Connection<S>, work: &W) -> Result<(
     requires { conn.old.in_transaction ≡ false }
     ensures fault { IsOkUnless result Fault.Store }
     ensures mode { conn.new.in_transaction ≡ false }
-    ensures done { HasCleanDisk (state S.Store conn.new) → IsSettled (state S.Store conn.old) → OnOk result (IsSettled (state S.Store conn.new) × W.makes work.now (state S.Store conn.old).now (state S.Store conn.new).now) }
-    ensures undone { HasCleanDisk (state S.Store conn.new) → IsSettled (state S.Store conn.old) → OnErr result (IsUndone (W.makes work.now) (state S.Store conn.old) (state S.Store conn.new)) }
-    ensures crash { Survives (state S.Store conn.old) (state S.Store conn.new) (λ trees. (db : Database) × W.makes work.now (state S.Store conn.old).now db × (trees ≡ db.trees)) }
+    ensures done { HasCleanDisk (state S.Store conn.new) → IsSettled (state S.Store conn.old)
+        → OnOk result (IsSettled (state S.Store conn.new)
+            × W.makes work.now (state S.Store conn.old).now (state S.Store conn.new).now) }
+    ensures undone { HasCleanDisk (state S.Store conn.new) → IsSettled (state S.Store conn.old)
+        → OnErr result (IsUndone (W.makes work.now) (state S.Store conn.old) (state S.Store conn.new)) }
+    ensures crash { Survives (state S.Store conn.old) (state S.Store conn.new)
+        (λ trees. (db : Database) × W.makes work.now (state S.Store conn.old).now db
+            × (trees ≡ db.trees)) }
 {
     let mut tx = conn.transaction();
     work.run(&mut tx)?;

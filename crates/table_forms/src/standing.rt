@@ -112,7 +112,10 @@ fn are_plain(orders: &[Order], keys: &[&[usize]]) -> bool
 
 /// Whether the table has nothing that CREATE adds beside columns and keys.
 fn is_bare(table: &Table) -> bool
-    ensures { (result ≡ true) ↔ ((table.now.key ≡ None) × (table.now.primary ≡ []) × (table.now.checks ≡ []) × (table.now.references ≡ []) × (table.now.computed ≡ []) × (table.now.stamps ≡ record { places = []; terms = []; formats = [] }) × (table.now.is_counted ≡ false)) }
+    ensures { (result ≡ true) ↔ ((table.now.key ≡ None) × (table.now.primary ≡ [])
+        × (table.now.checks ≡ []) × (table.now.references ≡ []) × (table.now.computed ≡ [])
+        × (table.now.stamps ≡ record { places = []; terms = []; formats = [] })
+        × (table.now.is_counted ≡ false)) }
 {
     table.key.is_none()
         && table.primary.as_slice().is_empty()
@@ -154,7 +157,8 @@ fn names(table: &Table, name: &[u8]) -> bool
 
 /// Whether a foreign key names the table of this name.
 fn is_parent(schema: &Schema, name: &[u8]) -> bool
-    ensures { result ≡ list_any (λ t. list_any (λ ref. same_name name.now ref.parent) t.references) schema.now.tables }
+    ensures { result ≡ list_any
+        (λ t. list_any (λ ref. same_name name.now ref.parent) t.references) schema.now.tables }
 {
     schema
         .tables
@@ -181,7 +185,8 @@ fn is_free(schema: &Schema, form: &Form<'_>) -> bool
 
 /// Whether no other table has the tree.
 fn is_own(schema: &Schema, tree: u32, form: &Form<'_>) -> bool
-    ensures { (result ≡ true) ↔ ((t : _) → Has schema.now.tables t → t.tree ≡ tree → t ≡ table_of form.now tree) }
+    ensures { (result ≡ true) ↔ ((t : _) → Has schema.now.tables t → t.tree ≡ tree
+        → t ≡ table_of form.now tree) }
 {
     for table in schema.tables.as_slice() {
         if table.tree == tree && !is_table(table, form) {
@@ -205,14 +210,16 @@ fn is_some_key(places: &Items<usize>, keys: &[&[usize]]) -> bool
 
 /// Whether the index is on one of the keys.
 fn is_of_a_key(index: &Index, keys: &[&[usize]]) -> bool
-    ensures { (result ≡ true) ↔ ((index.now.order ≡ plain) × Has (map (λ key. key.now) keys.now) index.now.columns) }
+    ensures { (result ≡ true) ↔ ((index.now.order ≡ plain)
+        × Has (map (λ key. key.now) keys.now) index.now.columns) }
 {
     index.order.digits == 0 && is_some_key(&index.columns, keys)
 }
 
 /// Whether each UNIQUE of the table of this tree is one of the keys.
 fn has_no_other_key(schema: &Schema, tree: u32, form: &Form<'_>) -> bool
-    ensures { (result ≡ true) ↔ ((i : _) → Has schema.now.indexes i → guards i (table_of form.now tree) ≡ true → (i.order ≡ plain) × Has form.now.keys i.columns) }
+    ensures { (result ≡ true) ↔ ((i : _) → Has schema.now.indexes i
+        → guards i (table_of form.now tree) ≡ true → (i.order ≡ plain) × Has form.now.keys i.columns) }
 {
     for index in schema.indexes.as_slice() {
         if index.is_unique && index.table == tree && !is_of_a_key(index, form.keys) {

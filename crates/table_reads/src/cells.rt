@@ -49,7 +49,8 @@ pub fn number(row: &Row, at: usize) -> Result<i64, Fault>
 pub fn text(alloc: Global, row: &Row, at: usize) -> Result<Vec<u8>, Fault>
     ensures text { IfOk result (λ t. column row.now at ≡ Text t.items) }
     // Memory is wanted for the copy of a text alone.
-    ensures memory { IfErr result (λ fault. fault ≡ Fault.Memory → (t : _) × (column row.now at ≡ Text t)) }
+    ensures memory { IfErr result (λ fault. fault ≡ Fault.Memory
+        → (t : _) × (column row.now at ≡ Text t)) }
 {
     match value(row, at)? {
         ValueRef::Text(bytes) => copied(alloc, bytes),
@@ -74,7 +75,8 @@ pub fn number_or_null(row: &Row, at: usize) -> Result<Option<i64>, Fault>
 pub fn text_or_null(alloc: Global, row: &Row, at: usize) -> Result<Option<Vec<u8>>, Fault>
     ensures text { IfOk result (λ t. column row.now at ≡ cell.text_or_null t) }
     // Memory is wanted for the copy of a text alone.
-    ensures memory { IfErr result (λ fault. fault ≡ Fault.Memory → (t : _) × (column row.now at ≡ Text t)) }
+    ensures memory { IfErr result (λ fault. fault ≡ Fault.Memory
+        → (t : _) × (column row.now at ≡ Text t)) }
 {
     match value(row, at)? {
         ValueRef::Text(bytes) => Ok(Some(copied(alloc, bytes)?)),

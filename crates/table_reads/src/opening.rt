@@ -14,13 +14,17 @@ use std::alloc::{AllocError, Global};
 /// and the store.
 pub fn open_over<S: Alter + Drop>(alloc: Global, store: S) -> Result<Connection<S>, (Error, S)>
     requires { IsClean (S.Store.view store) → IsFresh (S.Store.view store) }
-    ensures opens { IfOk result (λ c. HasCleanDisk (state S.Store c) → Opens (state S.Store c) × IsLive (state S.Store c)) }
+    ensures opens { IfOk result (λ c. HasCleanDisk (state S.Store c)
+        → Opens (state S.Store c) × IsLive (state S.Store c)) }
     ensures rising { IfOk result (λ c. HasCleanDisk (state S.Store c) → IsRising (state S.Store c).now) }
     ensures newly { IfOk result (λ c. HasCleanDisk (state S.Store c) → IsNewlyOpened (state S.Store c)) }
     ensures rests { IfOk result (λ c. (state S.Store c).in_transaction ≡ false) }
-    ensures trees { IfOk result (λ c. HasCleanDisk (state S.Store c) → (state S.Store c).now.trees ≡ (S.Store.view store).trees) }
-    ensures clean { IfOk result (λ c. doubt (S.Store.view store).is_clean ≤ doubt (state S.Store c).is_clean) }
-    ensures unharmed { IfErr result (λ e. IsQuiet S.Store.view S.Store.faults S.Store.recovers S.Store.is_shielded store e.1) }
+    ensures trees { IfOk result (λ c. HasCleanDisk (state S.Store c)
+        → (state S.Store c).now.trees ≡ (S.Store.view store).trees) }
+    ensures clean { IfOk result (λ c. doubt (S.Store.view store).is_clean ≤ doubt
+        (state S.Store c).is_clean) }
+    ensures unharmed { IfErr result
+        (λ e. IsQuiet S.Store.view S.Store.faults S.Store.recovers S.Store.is_shielded store e.1) }
 {
     Connection::over(alloc, store)
 }
@@ -31,11 +35,13 @@ pub fn reopen<S: Alter + Drop>(
     alloc: Global,
     conn: Connection<S>,
 ) -> Result<Connection<S>, (Error, S)>
-    ensures opens { IfOk result (λ c. HasCleanDisk (state S.Store c) → Opens (state S.Store c) × IsLive (state S.Store c)) }
+    ensures opens { IfOk result (λ c. HasCleanDisk (state S.Store c)
+        → Opens (state S.Store c) × IsLive (state S.Store c)) }
     ensures rising { IfOk result (λ c. HasCleanDisk (state S.Store c) → IsRising (state S.Store c).now) }
     ensures newly { IfOk result (λ c. HasCleanDisk (state S.Store c) → IsNewlyOpened (state S.Store c)) }
     ensures rests { IfOk result (λ c. (state S.Store c).in_transaction ≡ false) }
-    ensures trees { IfOk result (λ c. HasCleanDisk (state S.Store c) → (state S.Store c).now.trees ≡ (state S.Store conn).committed.trees) }
+    ensures trees { IfOk result (λ c. HasCleanDisk (state S.Store c)
+        → (state S.Store c).now.trees ≡ (state S.Store conn).committed.trees) }
 {
     let store = conn.into_store();
     if store.is_broken() {

@@ -16,7 +16,8 @@ use table_forms::{Fault, fault_of};
 
 /// Whether the value may follow the list.
 fn may_follow<R: TableRow>(list: &[R], value: &R) -> bool
-    ensures { IsTrue result → (d : R) → 0 < length list.now → R.comes_before (slice_index_or list.now (length list.now - 1) d) value.now ≡ true }
+    ensures { IsTrue result → (d : R) → 0 < length list.now
+        → R.comes_before (slice_index_or list.now (length list.now - 1) d) value.now ≡ true }
 {
     match list.last() {
         Some(last) => last.comes_before(value),
@@ -38,13 +39,21 @@ fn next_value<S: Alter, R: TableRow>(
     rows: &mut Rows<'_, S>,
 ) -> Result<Option<R>, Fault>
     ensures same_reference { rows.new.conn.ghost_name ≡ rows.old.conn.ghost_name }
-    ensures ok { HasCleanDisk (state S.Store rows.new.conn.now) → IfOk result (λ x. Advances S.Store rows.old.conn.now rows.new.conn.now (option_map R.row_of x)) }
-    ensures same { HasCleanDisk (state S.Store rows.new.conn.now) → OnOk result (IsUnchanged (state S.Store rows.old.conn.now) (state S.Store rows.new.conn.now)) }
-    ensures kept { HasCleanDisk (state S.Store rows.new.conn.now) → IsAtRest (state S.Store rows.old.conn.now) → Keeps (state S.Store rows.old.conn.now) (state S.Store rows.new.conn.now) }
+    ensures ok { HasCleanDisk (state S.Store rows.new.conn.now)
+        → IfOk result (λ x. Advances S.Store rows.old.conn.now rows.new.conn.now
+            (option_map R.row_of x)) }
+    ensures same { HasCleanDisk (state S.Store rows.new.conn.now)
+        → OnOk result (IsUnchanged (state S.Store rows.old.conn.now) (state S.Store rows.new.conn.now)) }
+    ensures kept { HasCleanDisk (state S.Store rows.new.conn.now)
+        → IsAtRest (state S.Store rows.old.conn.now)
+        → Keeps (state S.Store rows.old.conn.now) (state S.Store rows.new.conn.now) }
     ensures mode { rows.old.conn.now.in_transaction ≡ false → rows.new.conn.now.in_transaction ≡ false }
-    ensures survives { Survives (state S.Store rows.old.conn.now) (state S.Store rows.new.conn.now) (λ _. ⊥) }
+    ensures survives { Survives (state S.Store rows.old.conn.now) (state S.Store rows.new.conn.now)
+        (λ _. ⊥) }
     // Memory is wanted for a row that was given.
-    ensures memory { HasCleanDisk (state S.Store rows.new.conn.now) → IfErr result (λ fault. fault ≡ Fault.Memory → (row : _) × Advances S.Store rows.old.conn.now rows.new.conn.now (Some row)) }
+    ensures memory { HasCleanDisk (state S.Store rows.new.conn.now)
+        → IfErr result (λ fault. fault ≡ Fault.Memory
+            → (row : _) × Advances S.Store rows.old.conn.now rows.new.conn.now (Some row)) }
 {
     match rows.advance() {
         Ok(()) => (),
@@ -78,14 +87,20 @@ pub fn read_rows<S: Alter, R: TableRow>(
 ) -> Result<Vec<R>, Fault>
     requires only_reads { OnlyReads conn.old.schema sql.now }
     requires rest { IsAtRest (state S.Store conn.old) }
-    ensures rows { HasCleanDisk (state S.Store conn.new) → IfOk result (λ list. Shown sql.now (bound params.now) (state S.Store conn.old) (state S.Store conn.new) (map R.row_of list.items)) }
+    ensures rows { HasCleanDisk (state S.Store conn.new)
+        → IfOk result (λ list. Shown sql.now (bound params.now) (state S.Store conn.old)
+            (state S.Store conn.new) (map R.row_of list.items)) }
     ensures rising { IfOk result (λ list. Rises R.comes_before list.items) }
-    ensures same { HasCleanDisk (state S.Store conn.new) → OnOk result (IsUnchanged (state S.Store conn.old) (state S.Store conn.new)) }
-    ensures kept { HasCleanDisk (state S.Store conn.new) → Keeps (state S.Store conn.old) (state S.Store conn.new) }
+    ensures same { HasCleanDisk (state S.Store conn.new)
+        → OnOk result (IsUnchanged (state S.Store conn.old) (state S.Store conn.new)) }
+    ensures kept { HasCleanDisk (state S.Store conn.new)
+        → Keeps (state S.Store conn.old) (state S.Store conn.new) }
     ensures mode { (state S.Store conn.new).in_transaction ≡ false }
     ensures crash { Survives (state S.Store conn.old) (state S.Store conn.new) (λ _. ⊥) }
     // Memory is wanted for a row that was given.
-    ensures memory { HasCleanDisk (state S.Store conn.new) → IfErr result (λ fault. fault ≡ Fault.Memory → HasGivenRow S.Store sql.now (bound params.now) conn.new) }
+    ensures memory { HasCleanDisk (state S.Store conn.new)
+        → IfErr result (λ fault. fault ≡ Fault.Memory
+            → HasGivenRow S.Store sql.now (bound params.now) conn.new) }
 {
     let mut list = Vec::new(alloc);
     let mut rows = match conn.query(sql, params) {

@@ -67,14 +67,22 @@ pub fn find_rows<S: Alter, R: TableRow>(
     values: &[ValueRef<'_>],
 ) -> Result<Vec<R>, Fault>
     requires { (places : List ℕ) × Selects R.FORM places sql.now }
-    ensures rows { (places : List ℕ) → Selects R.FORM places sql.now → AreGiven places (bound values.now) → HasCleanDisk (state S.Store conn.new) → IfOk result (λ list. Finds (state S.Store conn.old).now R.FORM places (bound values.now) (map R.row_of list.items)) }
+    ensures rows { (places : List ℕ) → Selects R.FORM places sql.now
+        → AreGiven places (bound values.now) → HasCleanDisk (state S.Store conn.new)
+        → IfOk result (λ list. Finds (state S.Store conn.old).now R.FORM places (bound values.now)
+            (map R.row_of list.items)) }
     ensures rising { IfOk result (λ list. Rises R.comes_before list.items) }
-    ensures same { HasCleanDisk (state S.Store conn.new) → OnOk result (IsUnchanged (state S.Store conn.old) (state S.Store conn.new)) }
-    ensures kept { HasCleanDisk (state S.Store conn.new) → Keeps (state S.Store conn.old) (state S.Store conn.new) }
-    ensures mode { (state S.Store conn.old).in_transaction ≡ false → (state S.Store conn.new).in_transaction ≡ false }
+    ensures same { HasCleanDisk (state S.Store conn.new)
+        → OnOk result (IsUnchanged (state S.Store conn.old) (state S.Store conn.new)) }
+    ensures kept { HasCleanDisk (state S.Store conn.new)
+        → Keeps (state S.Store conn.old) (state S.Store conn.new) }
+    ensures mode { (state S.Store conn.old).in_transaction ≡ false
+        → (state S.Store conn.new).in_transaction ≡ false }
     ensures crash { Survives (state S.Store conn.old) (state S.Store conn.new) (λ _. ⊥) }
     // Memory is wanted for a row that was given, of a table that stands.
-    ensures memory { HasCleanDisk (state S.Store conn.new) → IfErr result (λ fault. fault ≡ Fault.Memory → HasTable conn.old.schema R.FORM × HasGivenRow S.Store sql.now (bound values.now) conn.new) }
+    ensures memory { HasCleanDisk (state S.Store conn.new)
+        → IfErr result (λ fault. fault ≡ Fault.Memory
+            → HasTable conn.old.schema R.FORM × HasGivenRow S.Store sql.now (bound values.now) conn.new) }
 {
     if !conn.is_autocommit() || !stands(conn.schema(), &R::FORM) {
         return Err(Fault::Store);
@@ -88,14 +96,19 @@ pub fn read_table<S: Alter, R: TableRow>(
     alloc: Global,
     conn: &mut Connection<S>,
 ) -> Result<Vec<R>, Fault>
-    ensures rows { HasCleanDisk (state S.Store conn.new) → IfOk result (λ list. Lists (state S.Store conn.old).now R.FORM (map R.row_of list.items)) }
+    ensures rows { HasCleanDisk (state S.Store conn.new)
+        → IfOk result (λ list. Lists (state S.Store conn.old).now R.FORM (map R.row_of list.items)) }
     ensures rising { IfOk result (λ list. Rises R.comes_before list.items) }
-    ensures same { HasCleanDisk (state S.Store conn.new) → OnOk result (IsUnchanged (state S.Store conn.old) (state S.Store conn.new)) }
-    ensures kept { HasCleanDisk (state S.Store conn.new) → Keeps (state S.Store conn.old) (state S.Store conn.new) }
-    ensures mode { (state S.Store conn.old).in_transaction ≡ false → (state S.Store conn.new).in_transaction ≡ false }
+    ensures same { HasCleanDisk (state S.Store conn.new)
+        → OnOk result (IsUnchanged (state S.Store conn.old) (state S.Store conn.new)) }
+    ensures kept { HasCleanDisk (state S.Store conn.new)
+        → Keeps (state S.Store conn.old) (state S.Store conn.new) }
+    ensures mode { (state S.Store conn.old).in_transaction ≡ false
+        → (state S.Store conn.new).in_transaction ≡ false }
     ensures crash { Survives (state S.Store conn.old) (state S.Store conn.new) (λ _. ⊥) }
     // Memory is wanted for a row of a table that stands.
-    ensures memory { HasCleanDisk (state S.Store conn.new) → IfErr result (λ fault. fault ≡ Fault.Memory → HasTable conn.old.schema R.FORM) }
+    ensures memory { HasCleanDisk (state S.Store conn.new)
+        → IfErr result (λ fault. fault ≡ Fault.Memory → HasTable conn.old.schema R.FORM) }
 {
     find_rows(alloc, conn, R::select(), &[])
 }

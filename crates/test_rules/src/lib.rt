@@ -1,4 +1,4 @@
-//! Tests of recipes, stock, orders, keepers over lists, lines and runs, by the public functions of their crates.
+//! Tests of recipes, stock, traces, orders, keepers over lists, lines and runs, by the public functions of their crates.
 #![tactic(auto)]
 
 #[cfg(test)]
@@ -15,3 +15,5 @@ mod order_files;
 mod recipes;
 #[cfg(test)]
 mod runs;
+#[cfg(test)]
+mod traces;

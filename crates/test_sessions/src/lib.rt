@@ -1,5 +1,5 @@
 //! Sessions of the desk in lines, each over a keeper of lists and over a desk on a store in memory: both write the same. And
-//! the program's words over stores in memory: what is written, and the exit status.
+//! the program's words: how they are read, what each writes over a store in memory, and the exit status.
 #![tactic(auto)]
 
 #[cfg(test)]
@@ -30,5 +30,7 @@ mod streams;
 mod trace_tests;
 #[cfg(test)]
 mod word_sessions;
+#[cfg(test)]
+mod word_tests;
 #[cfg(test)]
 mod words_told;

@@ -2,7 +2,8 @@ ghost use Rattle.std.specs.Prelude.{◌≡◌, IfOk, None};
 ghost use Rattle.plant_base.specs.declared.refusal.Refusal.TheVariants.{OwnProduct, TooMany};
 ghost use Rattle.plant_base.specs.State.{State, control_lines_of};
 ghost use Rattle.plant_trace.specs.Sources.{Told};
-ghost use Rattle.plant_rules.specs.Consumption.{is_idle, takes, is_taken, is_own_product, wrong_consume, consume, IsDrawOf, IsLeft, IsDrawn};
+ghost use Rattle.plant_view.specs.Materials.{takes, is_taken};
+ghost use Rattle.plant_rules.specs.Consumption.{is_idle, is_own_product, wrong_consume, consume, IsDrawOf, IsLeft, IsDrawn};
 ghost use Rattle.plant_view.specs.Refusing.{refuse, at_limit};
 ghost use Rattle.plant_view.specs.Sound.{IsSound};
 ghost use Rattle.plant_view.specs.OneBatch.{PutsOneBatch};
@@ -27,7 +28,8 @@ pub(crate) fn decide_consume<V: View>(
     requires seq { V.honest view.old → seq ≡ (V.state view.old).seq }
     requires sound { V.honest view.old → IsSound (V.state view.old) }
     ensures decides { Told V.honest V.kept V.steady view.old view.new
-        (IfOk result (Decides (wrong_consume (V.state view.old) c.now) (V.state view.old) (consume (V.state view.old) stamp.now c.now))) }
+        (IfOk result (Decides (wrong_consume (V.state view.old) c.now) (V.state view.old)
+        (consume (V.state view.old) stamp.now c.now))) }
     ensures one_batch { IfOk result PutsOneBatch }
 {
     let left = match found_drawn(view, c)? {
@@ -54,7 +56,8 @@ fn found_drawn<V: View>(
 
 // Decides from the rows that were found, but for where the lot came from.
 fn drawn(c: &Consume, draw: &Draw, lines: &[ControlLine]) -> Result<Sublot, Refusal>
-    ensures { (s : State) → IsDrawOf s c.now draw.now → lines.now ≡ control_lines_of s c.now.batch → IsDrawn s c.now result }
+    ensures { (s : State) → IsDrawOf s c.now draw.now → lines.now ≡ control_lines_of s c.now.batch
+        → IsDrawn s c.now result }
 {
     let Some(batch) = draw.batch else {
         return Err(Refusal::UnknownBatch);
@@ -128,7 +131,8 @@ fn consumed(
     own: bool,
 ) -> Result<Decision, AllocError>
     ensures decides { (s : State) → IsSound s → seq ≡ s.seq → own ≡ is_own_product s c.now.batch c.now.lot
-        → wrong_consume s c.now ≡ refuse (is_own_product s c.now.batch c.now.lot) OwnProduct (refuse (at_limit s) TooMany None) → IsLeft s c.now left
+        → wrong_consume s c.now ≡ refuse (is_own_product s c.now.batch c.now.lot) OwnProduct
+        (refuse (at_limit s) TooMany None) → IsLeft s c.now left
         → IfOk result (Decides (wrong_consume s c.now) s (consume s stamp.now c.now)) }
     ensures one_batch { IfOk result PutsOneBatch }
 {

@@ -26,7 +26,8 @@ pub(crate) fn decide_divide<V: View>(
     requires seq { V.honest view.old → seq ≡ (V.state view.old).seq }
     requires sound { V.honest view.old → IsSound (V.state view.old) }
     ensures decides { Told V.honest V.kept V.steady view.old view.new
-        (IfOk result (Decides (wrong_divide (V.state view.old) c.now) (V.state view.old) (divide (V.state view.old) stamp.now c.now))) }
+        (IfOk result (Decides (wrong_divide (V.state view.old) c.now) (V.state view.old)
+        (divide (V.state view.old) stamp.now c.now))) }
     ensures one_batch { IfOk result PutsOneBatch }
 {
     let lot = look::lot(view, c.lot)?;
@@ -45,7 +46,8 @@ fn divided(
     sublot: Option<Sublot>,
     last: u16,
 ) -> Result<Decision, AllocError>
-    ensures decides { (s : State) → IsSound s → seq ≡ s.seq → lot ≡ lot_at s c.now.lot → IsSublotOf s c.now.lot c.now.sub sublot → last ≡ greatest (numbers_of s c.now.lot)
+    ensures decides { (s : State) → IsSound s → seq ≡ s.seq → lot ≡ lot_at s c.now.lot
+        → IsSublotOf s c.now.lot c.now.sub sublot → last ≡ greatest (numbers_of s c.now.lot)
         → IfOk result (Decides (wrong_divide s c.now) s (divide s stamp.now c.now)) }
     ensures one_batch { IfOk result PutsOneBatch }
 {

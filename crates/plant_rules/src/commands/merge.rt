@@ -30,7 +30,8 @@ pub(crate) fn decide_merge<V: View>(
     requires seq { V.honest view.old → seq ≡ (V.state view.old).seq }
     requires sound { V.honest view.old → IsSound (V.state view.old) }
     ensures decides { Told V.honest V.kept V.steady view.old view.new
-        (IfOk result (Decides (wrong_merge (V.state view.old) c.now) (V.state view.old) (merge (V.state view.old) stamp.now c.now))) }
+        (IfOk result (Decides (wrong_merge (V.state view.old) c.now) (V.state view.old)
+        (merge (V.state view.old) stamp.now c.now))) }
     ensures one_batch { IfOk result PutsOneBatch }
 {
     let found = found_parts(alloc, view, c.parts.as_slice())?;
@@ -49,7 +50,8 @@ fn merged(
 ) -> Result<Decision, AllocError>
     requires formed { IsTrue (are_parts c.now.parts) }
     requires whole { IfOk found (λ fs. length fs ≡ length c.now.parts) }
-    ensures decides { (s : State) → IsSound s → seq ≡ s.seq → PartsAre s c.now.parts found → new ≡ lot_at s c.now.new
+    ensures decides { (s : State) → IsSound s → seq ≡ s.seq → PartsAre s c.now.parts found
+        → new ≡ lot_at s c.now.new
         → IfOk result (Decides (wrong_merge s c.now) s (merge s stamp.now c.now)) }
     ensures one_batch { IfOk result PutsOneBatch }
 {
@@ -72,7 +74,8 @@ fn put_together(
 ) -> Result<Decision, AllocError>
     requires some { 1 ≤ length found.now }
     requires few { length found.now ≤ 16 }
-    ensures decides { IfOk result (IsDecided (wrong_found taken seq found.now) (merge_rows seq stamp.now c.now found.now)) }
+    ensures decides { IfOk result (IsDecided (wrong_found taken seq found.now)
+        (merge_rows seq stamp.now c.now found.now)) }
     ensures one_batch { IfOk result PutsOneBatch }
 {
     if taken {

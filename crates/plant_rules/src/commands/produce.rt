@@ -2,7 +2,8 @@ ghost use Rattle.std.specs.Prelude.{◌≡◌, ◌<◌, IfOk};
 ghost use Rattle.plant_base.specs.Values.{greatest_seq};
 ghost use Rattle.plant_base.specs.State.{State, definition_at, control_lines_of, lot_at};
 ghost use Rattle.plant_trace.specs.Sources.{Told};
-ghost use Rattle.plant_rules.specs.Consumption.{makes, is_made, wrong_produce, produce, produced_rows, IsBatchOf};
+ghost use Rattle.plant_view.specs.Materials.{makes, is_made};
+ghost use Rattle.plant_rules.specs.Consumption.{wrong_produce, produce, produced_rows, IsBatchOf};
 ghost use Rattle.plant_view.specs.Sound.{IsSound};
 ghost use Rattle.plant_view.specs.OneBatch.{PutsOneBatch};
 ghost use Rattle.plant_view.specs.Tables.{Decides};
@@ -26,7 +27,8 @@ pub(crate) fn decide_produce<V: View>(
     requires seq { V.honest view.old → seq ≡ (V.state view.old).seq }
     requires sound { V.honest view.old → IsSound (V.state view.old) }
     ensures decides { Told V.honest V.kept V.steady view.old view.new
-        (IfOk result (Decides (wrong_produce (V.state view.old) c.now) (V.state view.old) (produce (V.state view.old) stamp.now c.now))) }
+        (IfOk result (Decides (wrong_produce (V.state view.old) c.now) (V.state view.old)
+        (produce (V.state view.old) stamp.now c.now))) }
     ensures one_batch { IfOk result PutsOneBatch }
 {
     let batch = found_batch(view, c.batch)?;
@@ -56,7 +58,9 @@ fn produced(
     lot: Option<Lot>,
     lines: &[ControlLine],
 ) -> Result<Decision, AllocError>
-    ensures decides { (s : State) → IsSound s → seq ≡ s.seq → IsBatchOf s c.now.batch batch → definition ≡ definition_at s c.now.def → lot ≡ lot_at s c.now.lot → lines.now ≡ control_lines_of s c.now.batch
+    ensures decides { (s : State) → IsSound s → seq ≡ s.seq → IsBatchOf s c.now.batch batch
+        → definition ≡ definition_at s c.now.def → lot ≡ lot_at s c.now.lot
+        → lines.now ≡ control_lines_of s c.now.batch
         → IfOk result (Decides (wrong_produce s c.now) s (produce s stamp.now c.now)) }
     ensures one_batch { IfOk result PutsOneBatch }
 {

@@ -21,7 +21,8 @@ pub(crate) fn decide_receive<V: View>(
     requires seq { V.honest view.old → seq ≡ (V.state view.old).seq }
     requires sound { V.honest view.old → IsSound (V.state view.old) }
     ensures decides { Told V.honest V.kept V.steady view.old view.new
-        (IfOk result (Decides (wrong_receive (V.state view.old) c.now) (V.state view.old) (receive (V.state view.old) stamp.now c.now))) }
+        (IfOk result (Decides (wrong_receive (V.state view.old) c.now) (V.state view.old)
+        (receive (V.state view.old) stamp.now c.now))) }
     ensures one_batch { IfOk result PutsOneBatch }
 {
     let definition = look::definition(view, c.def)?;
@@ -38,7 +39,8 @@ fn received(
     definition: Option<Definition>,
     lot: Option<Lot>,
 ) -> Result<Decision, AllocError>
-    ensures decides { (s : State) → IsSound s → seq ≡ s.seq → definition ≡ definition_at s c.now.def → lot ≡ lot_at s c.now.lot
+    ensures decides { (s : State) → IsSound s → seq ≡ s.seq → definition ≡ definition_at s c.now.def
+        → lot ≡ lot_at s c.now.lot
         → IfOk result (Decides (wrong_receive s c.now) s (receive s stamp.now c.now)) }
     ensures one_batch { IfOk result PutsOneBatch }
 {

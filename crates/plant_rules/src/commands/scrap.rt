@@ -22,7 +22,8 @@ pub(crate) fn decide_scrap<V: View>(
     requires seq { V.honest view.old → seq ≡ (V.state view.old).seq }
     requires sound { V.honest view.old → IsSound (V.state view.old) }
     ensures decides { Told V.honest V.kept V.steady view.old view.new
-        (IfOk result (Decides (wrong_scrap (V.state view.old) c.now) (V.state view.old) (scrap (V.state view.old) stamp.now c.now))) }
+        (IfOk result (Decides (wrong_scrap (V.state view.old) c.now) (V.state view.old)
+        (scrap (V.state view.old) stamp.now c.now))) }
     ensures one_batch { IfOk result PutsOneBatch }
 {
     let lot = look::lot(view, c.lot)?;
@@ -39,7 +40,8 @@ fn scrapped(
     lot: Option<Lot>,
     sublot: Option<Sublot>,
 ) -> Result<Decision, AllocError>
-    ensures decides { (s : State) → IsSound s → seq ≡ s.seq → lot ≡ lot_at s c.now.lot → IsSublotOf s c.now.lot c.now.sub sublot
+    ensures decides { (s : State) → IsSound s → seq ≡ s.seq → lot ≡ lot_at s c.now.lot
+        → IsSublotOf s c.now.lot c.now.sub sublot
         → IfOk result (Decides (wrong_scrap s c.now) s (scrap s stamp.now c.now)) }
     ensures one_batch { IfOk result PutsOneBatch }
 {

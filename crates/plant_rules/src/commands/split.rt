@@ -24,7 +24,8 @@ pub(crate) fn decide_split<V: View>(
     requires seq { V.honest view.old → seq ≡ (V.state view.old).seq }
     requires sound { V.honest view.old → IsSound (V.state view.old) }
     ensures decides { Told V.honest V.kept V.steady view.old view.new
-        (IfOk result (Decides (wrong_split (V.state view.old) c.now) (V.state view.old) (split (V.state view.old) stamp.now c.now))) }
+        (IfOk result (Decides (wrong_split (V.state view.old) c.now) (V.state view.old)
+        (split (V.state view.old) stamp.now c.now))) }
     ensures one_batch { IfOk result PutsOneBatch }
 {
     let lot = look::lot(view, c.lot)?;
@@ -45,7 +46,8 @@ fn split_off(
     new: Option<Lot>,
     held: bool,
 ) -> Result<Decision, AllocError>
-    ensures decides { (s : State) → IsSound s → seq ≡ s.seq → lot ≡ lot_at s c.now.lot → IsSublotOf s c.now.lot c.now.sub sublot → new ≡ lot_at s c.now.new → held ≡ is_held s c.now.lot
+    ensures decides { (s : State) → IsSound s → seq ≡ s.seq → lot ≡ lot_at s c.now.lot
+        → IsSublotOf s c.now.lot c.now.sub sublot → new ≡ lot_at s c.now.new → held ≡ is_held s c.now.lot
         → IfOk result (Decides (wrong_split s c.now) s (split s stamp.now c.now)) }
     ensures one_batch { IfOk result PutsOneBatch }
 {

@@ -1,5 +1,5 @@
 //! Words with a file, words that aren't understood, and help.
-use crate::{Words, WordsFault, plain_words_law, read_words};
+use desk_words::{Words, WordsFault, plain_words_law, read_words};
 use std::process::Abort;
 
 const HELP: &str = "The manufacturing desk of a batch plant; alone it does run :memory:

@@ -1,4 +1,5 @@
 pub mod Dates
+pub mod Digits
 pub mod Formed
 pub mod Refusals
 pub mod RowValues

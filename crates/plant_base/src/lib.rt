@@ -2,6 +2,7 @@
 #![tactic(auto)]
 
 mod command;
+mod digits;
 mod due;
 mod items;
 mod refusal;
@@ -15,6 +16,7 @@ pub use command::{
     Consume, Divide, Envelope, GREATEST_ORDERS, GREATEST_PARTS, HoldLot, ImportOrders, Merge, Part,
     PhaseDone, Produce, Receive, Release, Scrap, Settle, Split, Stamp, UnholdLot, Withdraw,
 };
+pub use digits::read_digits;
 pub use due::{Due, DueFault};
 pub use items::Items;
 pub use refusal::Refusal;

@@ -6,12 +6,16 @@ ghost use Rattle.plant_orders.specs.Numbers.{bounded};
 ghost use Rattle.plant_orders.specs.Orders.{id_of, due_of, field_is, is_header, order_of};
 
 use crate::fault::CsvKind;
-use crate::number::number_of;
 use csv::ByteRecord;
-use plant_base::{Amount, Due, GREATEST_AMOUNT, GREATEST_PRIORITY, GREATEST_VERSION, Id, OrderRow};
+use plant_base::{
+    Amount, Due, GREATEST_AMOUNT, GREATEST_PRIORITY, GREATEST_VERSION, Id, OrderRow, read_digits,
+};
 
 /// How many fields a record has.
 const FIELDS: usize = 6;
+
+/// The most digits of a number.
+const MOST_DIGITS: usize = 16;
 
 /// Whether the record is the header.
 pub(crate) fn is_header(row: &ByteRecord) -> bool
@@ -77,7 +81,7 @@ fn number_at(row: &ByteRecord, index: usize, greatest: u64) -> Option<u64>
 {
     match row.get(index) {
         Some(field) => {
-            let number = number_of(field)?;
+            let number = read_digits(field, MOST_DIGITS)?;
             if 1 <= number && number <= greatest {
                 Some(number)
             } else {

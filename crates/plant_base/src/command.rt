@@ -1,6 +1,7 @@
 //! What the desk is told.
-ghost use Rattle.std.specs.Prelude.{◌≡◌, All};
+ghost use Rattle.std.specs.Prelude.{◌≡◌, All, IsTrue};
 ghost use Rattle.std.specs.List.{list_all, list_any};
+ghost use Rattle.plant_base.specs.Values.{is_id, is_text, is_amount};
 ghost use Rattle.plant_base.specs.Formed.{HasValues, HasPartValues, HasHeaderValues, HasLineValues, HasOrderValues, is_version, is_priority, has_numbers, are_orders, is_command_word, is_phase_number, is_formed, stamp_of, are_parts, has_sublot, are_apart, is_same_sublot};
 
 use crate::items::Items;
@@ -299,93 +300,96 @@ impl Command {
     {
         match self {
             Command::AddClass(c) => {
-                let _class = c.class.as_bytes();
-                let _name = c.name.as_bytes();
+                show_id(&c.class);
+                show_text(&c.name);
             }
             Command::AddDefinition(c) => {
-                let _def = c.def.as_bytes();
-                let _class = c.class.as_bytes();
-                let _name = c.name.as_bytes();
+                show_id(&c.def);
+                show_id(&c.class);
+                show_text(&c.name);
                 let _unit = c.unit.as_bytes();
             }
-            Command::Receive(c) => {
-                let _lot = c.lot.as_bytes();
-                let _def = c.def.as_bytes();
-                let _amount = c.amount.get();
-                let _place = c.place.as_bytes();
-            }
-            Command::Scrap(c) => {
-                let _lot = c.lot.as_bytes();
-                let _amount = c.amount.get();
-            }
+            Command::Receive(c) => show_goods(&c.lot, &c.def, &c.amount, &c.place),
+            Command::Scrap(c) => show_amount(&c.lot, &c.amount),
             Command::Divide(c) => {
-                let _lot = c.lot.as_bytes();
-                let _amount = c.amount.get();
-                let _place = c.place.as_bytes();
+                show_amount(&c.lot, &c.amount);
+                show_text(&c.place);
             }
             Command::Split(c) => {
-                let _lot = c.lot.as_bytes();
-                let _amount = c.amount.get();
-                let _new = c.new.as_bytes();
-                let _place = c.place.as_bytes();
+                show_amount(&c.lot, &c.amount);
+                show_id(&c.new);
+                show_text(&c.place);
             }
             Command::Merge(c) => {
-                let _new = c.new.as_bytes();
-                let _place = c.place.as_bytes();
+                show_id(&c.new);
+                show_text(&c.place);
                 show_all(c.parts.as_slice());
             }
-            Command::Hold(c) => {
-                let _lot = c.lot.as_bytes();
-                let _hold = c.hold.as_bytes();
-            }
-            Command::Unhold(c) => {
-                let _lot = c.lot.as_bytes();
-                let _hold = c.hold.as_bytes();
-            }
+            Command::Hold(c) => show_ids(&c.lot, &c.hold),
+            Command::Unhold(c) => show_ids(&c.lot, &c.hold),
             Command::AddRecipe(c) => {
                 c.header.show();
                 show_all(c.lines.as_slice());
             }
-            Command::Approve(c) => {
-                let _recipe = c.recipe.as_bytes();
-            }
-            Command::Withdraw(c) => {
-                let _recipe = c.recipe.as_bytes();
-            }
+            Command::Approve(c) => show_id(&c.recipe),
+            Command::Withdraw(c) => show_id(&c.recipe),
             Command::ImportOrders(c) => show_all(c.orders.as_slice()),
-            Command::CancelOrder(c) => {
-                let _order = c.order.as_bytes();
-            }
-            Command::Release(c) => {
-                let _order = c.order.as_bytes();
-                let _batch = c.batch.as_bytes();
-            }
-            Command::BatchCommand(c) => {
-                let _batch = c.batch.as_bytes();
-            }
-            Command::Settle(c) => {
-                let _batch = c.batch.as_bytes();
-            }
-            Command::PhaseDone(c) => {
-                let _batch = c.batch.as_bytes();
-            }
-            Command::CloseBatch(c) => {
-                let _batch = c.batch.as_bytes();
-            }
+            Command::CancelOrder(c) => show_id(&c.order),
+            Command::Release(c) => show_ids(&c.order, &c.batch),
+            Command::BatchCommand(c) => show_id(&c.batch),
+            Command::Settle(c) => show_id(&c.batch),
+            Command::PhaseDone(c) => show_id(&c.batch),
+            Command::CloseBatch(c) => show_id(&c.batch),
             Command::Consume(c) => {
-                let _batch = c.batch.as_bytes();
-                let _lot = c.lot.as_bytes();
-                let _amount = c.amount.get();
+                show_id(&c.batch);
+                show_amount(&c.lot, &c.amount);
             }
             Command::Produce(c) => {
-                let _batch = c.batch.as_bytes();
-                let _lot = c.lot.as_bytes();
-                let _def = c.def.as_bytes();
-                let _amount = c.amount.get();
-                let _place = c.place.as_bytes();
+                show_id(&c.batch);
+                show_goods(&c.lot, &c.def, &c.amount, &c.place);
             }
         }
     }
+}
+
+// A proof may be shown that these values obey their rules.
+fn show_id(id: &Id)
+    ensures { IsTrue (is_id id.now) }
+{
+    let _bytes = id.as_bytes();
+}
+
+fn show_text(text: &Text)
+    ensures { IsTrue (is_text text.now) }
+{
+    let _bytes = text.as_bytes();
+}
+
+fn show_ids(first: &Id, second: &Id)
+    ensures first { IsTrue (is_id first.now) }
+    ensures second { IsTrue (is_id second.now) }
+{
+    show_id(first);
+    show_id(second);
+}
+
+fn show_amount(lot: &Id, amount: &Amount)
+    ensures lot { IsTrue (is_id lot.now) }
+    ensures amount { IsTrue (is_amount amount.now) }
+{
+    show_id(lot);
+    let _amount = amount.get();
+}
+
+fn show_goods(lot: &Id, def: &Id, amount: &Amount, place: &Text)
+    ensures lot { IsTrue (is_id lot.now) }
+    ensures def { IsTrue (is_id def.now) }
+    ensures amount { IsTrue (is_amount amount.now) }
+    ensures place { IsTrue (is_text place.now) }
+{
+    show_amount(lot, amount);
+    show_id(def);
+    show_text(place);
 }
 
 // What a command holds a list or a group of: a proof may be shown that its values obey their rules.

@@ -11,70 +11,44 @@ use plant_base::{BatchState, Word};
 pub fn next_state(state: BatchState, word: Word) -> Option<BatchState>
     ensures { result ≡ next_state_of state word }
 {
-    match state {
-        BatchState::Idle => match word {
-            Word::Start => Some(BatchState::Running),
-            _ => None,
-        },
-        BatchState::Running => match word {
-            Word::Done => Some(BatchState::Complete),
-            Word::Pause => Some(BatchState::Pausing),
-            Word::Hold => Some(BatchState::Holding),
-            Word::Stop => Some(BatchState::Stopping),
-            Word::Abort => Some(BatchState::Aborting),
-            _ => None,
-        },
-        BatchState::Pausing => match word {
-            Word::Done => Some(BatchState::Paused),
-            Word::Hold => Some(BatchState::Holding),
-            Word::Stop => Some(BatchState::Stopping),
-            Word::Abort => Some(BatchState::Aborting),
-            _ => None,
-        },
-        BatchState::Paused => match word {
-            Word::Resume => Some(BatchState::Running),
-            Word::Hold => Some(BatchState::Holding),
-            Word::Stop => Some(BatchState::Stopping),
-            Word::Abort => Some(BatchState::Aborting),
-            _ => None,
-        },
-        BatchState::Holding => match word {
-            Word::Done => Some(BatchState::Held),
-            Word::Stop => Some(BatchState::Stopping),
-            Word::Abort => Some(BatchState::Aborting),
-            _ => None,
-        },
-        BatchState::Held => match word {
-            Word::Restart => Some(BatchState::Restarting),
-            Word::Stop => Some(BatchState::Stopping),
-            Word::Abort => Some(BatchState::Aborting),
-            _ => None,
-        },
-        BatchState::Restarting => match word {
-            Word::Done => Some(BatchState::Running),
-            Word::Hold => Some(BatchState::Holding),
-            Word::Stop => Some(BatchState::Stopping),
-            Word::Abort => Some(BatchState::Aborting),
-            _ => None,
-        },
-        BatchState::Stopping => match word {
-            Word::Done => Some(BatchState::Stopped),
-            Word::Abort => Some(BatchState::Aborting),
-            _ => None,
-        },
-        BatchState::Stopped => match word {
-            Word::Reset => Some(BatchState::Idle),
-            Word::Abort => Some(BatchState::Aborting),
-            _ => None,
-        },
-        BatchState::Aborting => match word {
-            Word::Done => Some(BatchState::Aborted),
-            _ => None,
-        },
-        BatchState::Aborted | BatchState::Complete => match word {
-            Word::Reset => Some(BatchState::Idle),
-            _ => None,
-        },
+    match (state, word) {
+        (BatchState::Idle, Word::Start) => Some(BatchState::Running),
+        (BatchState::Running, Word::Done) => Some(BatchState::Complete),
+        (BatchState::Running, Word::Pause) => Some(BatchState::Pausing),
+        (BatchState::Pausing, Word::Done) => Some(BatchState::Paused),
+        (BatchState::Paused, Word::Resume) => Some(BatchState::Running),
+        (BatchState::Holding, Word::Done) => Some(BatchState::Held),
+        (BatchState::Held, Word::Restart) => Some(BatchState::Restarting),
+        (BatchState::Restarting, Word::Done) => Some(BatchState::Running),
+        (BatchState::Stopping, Word::Done) => Some(BatchState::Stopped),
+        (BatchState::Stopped, Word::Reset) => Some(BatchState::Idle),
+        (BatchState::Aborting, Word::Done) => Some(BatchState::Aborted),
+        (BatchState::Aborted | BatchState::Complete, Word::Reset) => Some(BatchState::Idle),
+        (
+            BatchState::Running | BatchState::Pausing | BatchState::Paused | BatchState::Restarting,
+            Word::Hold,
+        ) => Some(BatchState::Holding),
+        (
+            BatchState::Running
+            | BatchState::Pausing
+            | BatchState::Paused
+            | BatchState::Holding
+            | BatchState::Held
+            | BatchState::Restarting,
+            Word::Stop,
+        ) => Some(BatchState::Stopping),
+        (
+            BatchState::Running
+            | BatchState::Pausing
+            | BatchState::Paused
+            | BatchState::Holding
+            | BatchState::Held
+            | BatchState::Restarting
+            | BatchState::Stopping
+            | BatchState::Stopped,
+            Word::Abort,
+        ) => Some(BatchState::Aborting),
+        _ => None,
     }
 }
 

@@ -62,11 +62,8 @@ fn a_batch_runs_to_its_close(rt: HostRuntime) -> Result<(), Fail> {
     )
 }
 
-#[test]
-fn a_batch_moves_by_its_table_alone(rt: HostRuntime) -> Result<(), Fail> {
-    batches(
-        &rt,
-        b"{\"at\":200,\"by\":\"\",\"do\":\"batch\",\"batch\":\"B-1\",\"word\":\"stop\"}
+/// Moves of the batch that is released, allowed and not.
+const MOVES: &[u8] = b"{\"at\":200,\"by\":\"\",\"do\":\"batch\",\"batch\":\"B-1\",\"word\":\"stop\"}
 {\"at\":200,\"by\":\"\",\"do\":\"batch\",\"batch\":\"B-1\",\"word\":\"start\"}
 {\"at\":200,\"by\":\"\",\"do\":\"settle\",\"batch\":\"B-1\"}
 {\"at\":200,\"by\":\"\",\"do\":\"phase_done\",\"batch\":\"B-1\",\"phase\":2}
@@ -96,8 +93,9 @@ fn a_batch_moves_by_its_table_alone(rt: HostRuntime) -> Result<(), Fail> {
 {\"at\":200,\"by\":\"\",\"do\":\"batch\",\"batch\":\"B-1\",\"word\":\"done\"}
 {\"at\":200,\"by\":\"\",\"do\":\"phase_done\",\"batch\":\"B-1\",\"phase\":0}
 {\"at\":200,\"by\":\"\",\"do\":\"phase_done\",\"batch\":\"B-1\",\"phase\":129}
-",
-        b"{\"name\":\"BadMove\",\"refused\":20}
+";
+
+const MOVES_ANSWERED: &[u8] = b"{\"name\":\"BadMove\",\"refused\":20}
 {\"ok\":9}
 {\"name\":\"PhasesLeft\",\"refused\":21}
 {\"name\":\"NotNextPhase\",\"refused\":22}
@@ -127,8 +125,11 @@ fn a_batch_moves_by_its_table_alone(rt: HostRuntime) -> Result<(), Fail> {
 {\"name\":\"BadForm\",\"refused\":1}
 {\"name\":\"BadForm\",\"refused\":1}
 {\"name\":\"BadForm\",\"refused\":1}
-",
-    )
+";
+
+#[test]
+fn a_batch_moves_by_its_table_alone(rt: HostRuntime) -> Result<(), Fail> {
+    batches(&rt, MOVES, MOVES_ANSWERED)
 }
 
 #[test]

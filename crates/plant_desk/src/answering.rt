@@ -1,0 +1,73 @@
+// What a question is answered, over any view of the state.
+ghost use Rattle.std.specs.Prelude.{◌≡◌, ℕ, List, IfOk};
+ghost use Rattle.plant_base.specs.State.{State, newest_schema, lot_at, job_at, batch_at, batch_of};
+ghost use Rattle.plant_trace.specs.Sources.{Told};
+ghost use Rattle.plant_view.specs.Sound.{IsSound};
+ghost use Rattle.plant_desk.specs.Answers.{answer, answer_order};
+ghost use Rattle.plant_desk.specs.declared.question.Answer.TheVariants as A;
+
+use crate::batch_answers::batch_answer;
+use crate::lot_answers::lot_answer;
+use crate::question::{Answer, OrderAnswer, Question};
+use crate::traces::trace_answer;
+use plant_base::{Batch, Id, Job, NEWEST_SCHEMA, Refusal};
+use plant_view::{View, ViewFault, look};
+use std::alloc::Global;
+
+/// Answers a question over a view, as a desk of the newest schema. Nothing is written.
+///
+/// The answer is that of the view's state where that is sound, as every state is that commands lead to.
+/// `ViewFault::View` comes where the view failed, `ViewFault::Memory` where memory was refused.
+#[tactic(auto, unfolding(crate::specs::Answers::answer))]
+pub fn answer<V: View>(
+    alloc: Global,
+    view: &mut V,
+    question: &Question,
+) -> Result<Answer, ViewFault<V::Fault>>
+    ensures { Told V.honest V.kept V.steady view.old view.new
+        (IsSound (V.state view.old)
+            → IfOk result (λ a. a ≡ answer newest_schema (V.state view.old) question.now)) }
+{
+    match question {
+        Question::Desk => desk_answer(view),
+        Question::Lot(lot) => lot_answer(view, *lot),
+        Question::Order(order) => order_answer(view, *order),
+        Question::Batch(batch) => batch_answer(alloc, view, *batch),
+        Question::Trace(direction, start) => trace_answer(alloc, view, *direction, *start),
+    }
+}
+
+fn desk_answer<V: View>(view: &mut V) -> Result<Answer, ViewFault<V::Fault>>
+    ensures { Told V.honest V.kept V.steady view.old view.new
+        (IfOk result (λ a. a ≡ A.Desk newest_schema (V.state view.old).seq)) }
+{
+    let position = look::position(view)?;
+    Ok(Answer::Desk {
+        schema: NEWEST_SCHEMA,
+        seq: position.seq,
+    })
+}
+
+fn order_answer<V: View>(view: &mut V, order: Id) -> Result<Answer, ViewFault<V::Fault>>
+    ensures { Told V.honest V.kept V.steady view.old view.new
+        (IfOk result (λ a. a ≡ answer_order (V.state view.old) order
+            (job_at (V.state view.old) order))) }
+{
+    let job = look::job(view, order)?;
+    let batch = look::batch_for(view, order)?;
+    Ok(answer_of_order(job, batch))
+}
+
+// The answer by the rows that were found.
+fn answer_of_order(job: Option<Job>, batch: Option<Batch>) -> Answer
+    ensures { (s : State) → (order : List ℕ) → batch ≡ batch_of s order
+        → result ≡ answer_order s order job }
+{
+    match job {
+        None => Answer::Unknown(Refusal::UnknownOrder),
+        Some(job) => {
+            let batch = batch.map(|b| b.id);
+            Answer::Order(OrderAnswer { job, batch })
+        }
+    }
+}

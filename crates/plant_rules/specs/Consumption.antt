@@ -21,6 +21,7 @@ use Rattle.plant_trace.specs.declared.node.Node.TheVariants.{Lot, Batch}
 use Rattle.plant_view.specs.declared.change.RowChange.{RowChange}
 use Rattle.plant_view.specs.declared.change.RowChange.TheVariants as row
 use Rattle.plant_view.specs.Genealogy.{edges_of}
+use Rattle.plant_view.specs.Materials.{is_taken, is_made}
 use Rattle.plant_view.specs.Refusing.{refuse, at_limit, standing, is_held}
 use Rattle.plant_view.specs.Tables.{progress_at}
 use Rattle.plant_view.specs.Views.{IsSublotOf}

@@ -2,6 +2,7 @@
 
 ghost use Rattle.std.specs.Prelude.{◌≡◌, ◌==◌, filter};
 ghost use Rattle.std.specs.List.{list_any};
+ghost use Rattle.plant_stock.specs.Stock.{entries};
 ghost use Rattle.plant_check_stock.specs.Movements.{lot_among, is_there, parts_of};
 
 use plant_base::{BatchEvent, Id, Lot, Movement, MovementKind, Sublot};
@@ -83,7 +84,7 @@ impl Grouping for EventNumbers {
 pub struct EnteredSublots;
 
 impl Grouping for EnteredSublots {
-    ghost use Rattle.plant_stock.specs.Stock.{goes_to, entries};
+    ghost use Rattle.plant_stock.specs.Stock.{goes_to};
 
     type Row = Movement;
 

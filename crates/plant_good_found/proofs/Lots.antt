@@ -24,7 +24,6 @@ use Rattle.plant_check_plans.proofs.Keying.{found_any}
 use Rattle.plant_check_plans.specs.Catalogue.{is_class_among, are_classified}
 use Rattle.plant_check_plans.specs.Recipes.{are_numbered}
 use Rattle.plant_good.specs.Births.{numbers_among, AreFromZero, are_one_birth, IsBirth, IsDivision, IsBorn, AreBorn}
-use Rattle.plant_stock.specs.Stock as flows
 use Rattle.plant_good.specs.Births as births
 use Rattle.plant_tables_judged.specs.Booked.{sort_of, booked_of}
 use Rattle.plant_check.specs.Ends.{total_of}
@@ -98,16 +97,16 @@ division (m ∷ n ∷ ms) e = absurd (false≢true e)
 
 -- how a sublot came to be, as its rows tell
 record IsBornBy (ms : List Movement) (s : Sublot) : Type 0 where
-  pub whole : s.number ≡ 0 → is_one_birth (map booked_of (flows.entries ms s.lot s.number)) ≡ true
-  pub divided : 1 ≤ s.number → is_one_division (map booked_of (flows.entries ms s.lot s.number)) ≡ true
+  pub whole : s.number ≡ 0 → is_one_birth (map booked_of (stock.entries ms s.lot s.number)) ≡ true
+  pub divided : 1 ≤ s.number → is_one_division (map booked_of (stock.entries ms s.lot s.number)) ≡ true
 
 born_by : (ms : List Movement) (s : Sublot) → is_born (map booked_of ms) s ≡ true → IsBornBy ms s
 born_by ms s e =
-    let own : (if s.number == 0 then is_one_birth (map booked_of (flows.entries ms s.lot s.number)) else is_one_division (map booked_of (flows.entries ms s.lot s.number))) ≡ true =
+    let own : (if s.number == 0 then is_one_birth (map booked_of (stock.entries ms s.lot s.number)) else is_one_division (map booked_of (stock.entries ms s.lot s.number))) ≡ true =
     (λ i. if s.number == 0 then is_one_birth (sym (same_entries ms s.lot s.number) i) else is_one_division (sym (same_entries ms s.lot s.number) i)) ∙ e in
     record {
-      whole = λ z. ap (λ b. if b then is_one_birth (map booked_of (flows.entries ms s.lot s.number)) else is_one_division (map booked_of (flows.entries ms s.lot s.number))) (sym (eq-eqb s.number 0 z)) ∙ own;
-      divided = λ l. ap (λ b. if b then is_one_birth (map booked_of (flows.entries ms s.lot s.number)) else is_one_division (map booked_of (flows.entries ms s.lot s.number))) (sym (not_zero l)) ∙ own;
+      whole = λ z. ap (λ b. if b then is_one_birth (map booked_of (stock.entries ms s.lot s.number)) else is_one_division (map booked_of (stock.entries ms s.lot s.number))) (sym (eq-eqb s.number 0 z)) ∙ own;
+      divided = λ l. ap (λ b. if b then is_one_birth (map booked_of (stock.entries ms s.lot s.number)) else is_one_division (map booked_of (stock.entries ms s.lot s.number))) (sym (not_zero l)) ∙ own;
     }
   where
     not_zero : 1 ≤ s.number → (s.number == 0) ≡ false
@@ -144,8 +143,8 @@ module _ (definitions : List Definition) (lots : List Lot) (sublots : List Sublo
   born s h =
       let by = born_by ms s (right_sublot s h).1 in
       record {
-        whole = λ z. (birth (flows.entries ms s.lot s.number) (by.whole z)).0;
-        divided = λ l. division (flows.entries ms s.lot s.number) (by.divided l);
+        whole = λ z. (birth (stock.entries ms s.lot s.number) (by.whole z)).0;
+        divided = λ l. division (stock.entries ms s.lot s.number) (by.divided l);
       }
 
   pub sound_births : AreBorn lots (map place_of_sublot sublots) ms
@@ -155,8 +154,8 @@ module _ (definitions : List Definition) (lots : List Lot) (sublots : List Sublo
   }
 
   -- sublot 0 was given no more than an amount, and another came of one division
-  pub small_birth : (s : Sublot) → IsIn s sublots → s.number ≡ 0 → total_of (map booked_of (flows.entries ms s.lot s.number)) ≤ greatest_amount
-  small_birth s h z = (birth (flows.entries ms s.lot s.number) ((born_by ms s (right_sublot s h).1).whole z)).1
+  pub small_birth : (s : Sublot) → IsIn s sublots → s.number ≡ 0 → total_of (map booked_of (stock.entries ms s.lot s.number)) ≤ greatest_amount
+  small_birth s h z = (birth (stock.entries ms s.lot s.number) ((born_by ms s (right_sublot s h).1).whole z)).1
 
-  pub one_division : (s : Sublot) → IsIn s sublots → 1 ≤ s.number → IsDivision (flows.entries ms s.lot s.number)
+  pub one_division : (s : Sublot) → IsIn s sublots → 1 ≤ s.number → IsDivision (stock.entries ms s.lot s.number)
   one_division s h l = (born s h).divided l

@@ -21,7 +21,6 @@ use Rattle.plant_view.specs.Tables.{sublot_row}
 use Rattle.plant_view.proofs.KeptSound.{all_two}
 use Rattle.plant_view.proofs.Rows.{all_mapped}
 use Rattle.plant_check_plans.specs.Recipes.{are_numbered}
-use Rattle.plant_stock.specs.Stock as flows
 use Rattle.plant_good.specs.Births as kept
 use Rattle.plant_good.specs.Bookings.{AreCounted}
 use Rattle.plant_good.specs.Good.{IsGood}
@@ -73,11 +72,11 @@ module _ (s : State) (good : IsGood s) where
   abbrev sublots : List Sublot
   sublots = map (sublot_row s.movements) s.places
 
-  birth_told : (p : Place) → kept.IsBirth (flows.entries s.movements p.lot p.number) → is_one_birth (entries rows p.lot p.number) ≡ true
+  birth_told : (p : Place) → kept.IsBirth (stock.entries s.movements p.lot p.number) → is_one_birth (entries rows p.lot p.number) ≡ true
   birth_told p birth =
       let booked = entries_booked s.movements p.lot p.number in
       ap is_one_birth booked
-      ∙ birth_passes (flows.entries s.movements p.lot p.number) birth (subst (λ n. n ≤ greatest_amount) (sym (total_entered s.movements p.lot p.number) ∙ ap total_of booked) (good.sound.small p.lot p.number))
+      ∙ birth_passes (stock.entries s.movements p.lot p.number) birth (subst (λ n. n ≤ greatest_amount) (sym (total_entered s.movements p.lot p.number) ∙ ap total_of booked) (good.sound.small p.lot p.number))
 
   born_passes : (p : Place) → kept.IsBorn s.movements p → is_born rows (sublot_row s.movements p) ≡ true
   born_passes p born = by (p.number == 0) refl
@@ -86,7 +85,7 @@ module _ (s : State) (good : IsGood s) where
       by true e = birth_told p (born.whole (eqb-true p.number 0 e))
       by false e =
           let above : 1 ≤ p.number = grind (arith, nat_tests) in
-          ap is_one_division (entries_booked s.movements p.lot p.number) ∙ division_passes (flows.entries s.movements p.lot p.number) (born.divided above)
+          ap is_one_division (entries_booked s.movements p.lot p.number) ∙ division_passes (stock.entries s.movements p.lot p.number) (born.divided above)
 
   lot_passes : (l : Lot) → is_defined s.definitions l.def ≡ true → kept.AreFromZero (kept.numbers_among s.places l.id) → is_right_lot s.definitions sublots l ≡ true
   unfolding is_right_lot

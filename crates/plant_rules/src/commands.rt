@@ -140,7 +140,7 @@ fn is_idle(state: BatchState) -> bool
 // ---- rows
 
 // The one line of a movement that a command books.
-fn booked(
+fn movement_of(
     seq: u64,
     stamp: &Stamp,
     kind: MovementKind,

@@ -28,15 +28,15 @@ pub fn decide_import_orders<V: View>(
     requires { V.honest view.old → seq ≡ (V.state view.old).seq }
     ensures decides { Told V.honest V.kept V.steady view.old view.new
         (IfOk result (Decides (wrong_import_orders (V.state view.old) c.now) (V.state view.old)
-            (import_orders (V.state view.old) stamp.now c.now))) }
+        (import_orders (V.state view.old) stamp.now c.now))) }
     ensures one_batch { IfOk result PutsOneBatch }
 {
     let found = found_orders(alloc, view, c.orders.as_slice())?;
-    Ok(imported(alloc, seq, stamp, c, found.as_slice())?)
+    Ok(decide_found(alloc, seq, stamp, c, found.as_slice())?)
 }
 
 // Decides from what was found of the orders.
-fn imported(
+fn decide_found(
     alloc: Global,
     seq: u64,
     stamp: &Stamp,
@@ -47,11 +47,11 @@ fn imported(
         → IfOk result (Decides (wrong_import_orders s c.now) s (import_orders s stamp.now c.now)) }
     ensures one_batch { IfOk result PutsOneBatch }
 {
-    let decision = decided(alloc, seq, stamp, c.orders.as_slice(), found)?;
+    let decision = decide_orders(alloc, seq, stamp, c.orders.as_slice(), found)?;
     Ok(decision)
 }
 
-fn decided(
+fn decide_orders(
     alloc: Global,
     seq: u64,
     stamp: &Stamp,

@@ -36,7 +36,7 @@ pub fn decide_release<V: View>(
     requires sound { V.honest view.old → IsSound (V.state view.old) }
     ensures decides { Told V.honest V.kept V.steady view.old view.new
         (IfOk result (Decides (wrong_release (V.state view.old) c.now) (V.state view.old)
-            (release (V.state view.old) stamp.now c.now))) }
+        (release (V.state view.old) stamp.now c.now))) }
     ensures one_batch { IfOk result PutsOneBatch }
 {
     let Some(job) = look::job(view, c.order)? else {
@@ -58,18 +58,18 @@ fn decide_job<V: View>(
     requires job { V.honest view.old → job_at (V.state view.old) c.now.order ≡ Some job }
     ensures decides { Told V.honest V.kept V.steady view.old view.new
         (IfOk result (Decides (wrong_release (V.state view.old) c.now) (V.state view.old)
-            (release (V.state view.old) stamp.now c.now))) }
+        (release (V.state view.old) stamp.now c.now))) }
     ensures one_batch { IfOk result PutsOneBatch }
 {
     let order = job.order;
     let taken = look::is_batch(view, c.batch)?;
     let recipe = look::recipe(view, order.recipe, order.version)?;
     let lines = look::master_lines(view, order.recipe, order.version)?;
-    Ok(released(alloc, seq, stamp, c, job, taken, recipe, lines.as_slice())?)
+    Ok(decide_found(alloc, seq, stamp, c, job, taken, recipe, lines.as_slice())?)
 }
 
 // Decides from the rows that were found; `taken` says that the batch is there already.
-fn released(
+fn decide_found(
     alloc: Global,
     seq: u64,
     stamp: &Stamp,
@@ -170,7 +170,7 @@ fn release_rows(
         state: JobState::Released,
     };
     rows.push(RowChange::Job(job))?;
-    rows.push(RowChange::Batch(opened(stamp, c)))?;
+    rows.push(RowChange::Batch(row_of_batch(stamp, c)))?;
     let mut number = 1;
     for line in lines {
         let row = ControlLine {
@@ -185,7 +185,7 @@ fn release_rows(
 }
 
 // The row of a batch that was just released.
-fn opened(stamp: &Stamp, c: &Release) -> BatchRow
+fn row_of_batch(stamp: &Stamp, c: &Release) -> BatchRow
     ensures { result ≡ row_at (released_batch stamp.now c.now) opening_progress }
 {
     let batch = Batch {

@@ -9,7 +9,7 @@ ghost use Rattle.plant_view.specs.Sound.{IsSound};
 ghost use Rattle.plant_view.specs.OneBatch.{PutsOneBatch};
 ghost use Rattle.plant_view.specs.Tables.{Decides};
 
-use super::{booked, is_idle};
+use super::{is_idle, movement_of};
 use crate::draw::{Draw, found_draw};
 use plant_base::{
     Consume, ControlLine, GREATEST_SEQ, Id, MovementKind, RecipeLine, Refusal, Stamp, Sublot,
@@ -37,7 +37,7 @@ pub(crate) fn decide_consume<V: View>(
         Err(refusal) => return Ok(Decision::Refused(refusal)),
     };
     let own = is_own_product(alloc, view, c.batch, c.lot)?;
-    Ok(consumed(alloc, seq, stamp, c, left, own)?)
+    Ok(decide_left(alloc, seq, stamp, c, left, own)?)
 }
 
 // What is left in the sublot that is drawn from, or the first condition that fails, but for where the lot came from.
@@ -51,11 +51,11 @@ fn found_drawn<V: View>(
 {
     let draw = found_draw(view, c)?;
     let lines = look::control_lines(view, c.batch)?;
-    Ok(drawn(c, &draw, lines.as_slice()))
+    Ok(sublot_to_draw(c, &draw, lines.as_slice()))
 }
 
 // Decides from the rows that were found, but for where the lot came from.
-fn drawn(c: &Consume, draw: &Draw, lines: &[ControlLine]) -> Result<Sublot, Refusal>
+fn sublot_to_draw(c: &Consume, draw: &Draw, lines: &[ControlLine]) -> Result<Sublot, Refusal>
     ensures { (s : State) → IsDrawOf s c.now draw.now → lines.now ≡ control_lines_of s c.now.batch
         → IsDrawn s c.now result }
 {
@@ -122,7 +122,7 @@ fn is_own_product<V: View>(
 }
 
 // Decides from what is left in the sublot, and from whether its lot came of the batch.
-fn consumed(
+fn decide_left(
     alloc: Global,
     seq: u64,
     stamp: &Stamp,
@@ -143,7 +143,7 @@ fn consumed(
         return Ok(Decision::Refused(Refusal::TooMany));
     }
     let kind = MovementKind::Consumed { batch: c.batch };
-    let movement = booked(seq, stamp, kind, c.lot, c.sub, c.amount);
+    let movement = movement_of(seq, stamp, kind, c.lot, c.sub, c.amount);
     let rows = changes(
         alloc,
         [

@@ -36,11 +36,11 @@ pub(crate) fn decide_merge<V: View>(
 {
     let found = found_parts(alloc, view, c.parts.as_slice())?;
     let new = look::lot(view, c.new)?;
-    Ok(merged(alloc, seq, stamp, c, found, new)?)
+    Ok(decide_found(alloc, seq, stamp, c, found, new)?)
 }
 
 // Decides from the rows that were found.
-fn merged(
+fn decide_found(
     alloc: Global,
     seq: u64,
     stamp: &Stamp,

@@ -8,7 +8,7 @@ ghost use Rattle.plant_view.specs.Sound.{IsSound};
 ghost use Rattle.plant_view.specs.OneBatch.{PutsOneBatch};
 ghost use Rattle.plant_view.specs.Tables.{Decides};
 
-use super::{booked, is_idle};
+use super::{is_idle, movement_of};
 use crate::draw::found_batch;
 use plant_base::{
     BatchRow, ControlLine, Definition, GREATEST_SEQ, Id, Items, Lot, MovementKind, Produce,
@@ -35,7 +35,7 @@ pub(crate) fn decide_produce<V: View>(
     let definition = look::definition(view, c.def)?;
     let lot = look::lot(view, c.lot)?;
     let lines = look::control_lines(view, c.batch)?;
-    Ok(produced(
+    Ok(decide_found(
         alloc,
         seq,
         stamp,
@@ -48,7 +48,7 @@ pub(crate) fn decide_produce<V: View>(
 }
 
 // Decides from the rows that were found.
-fn produced(
+fn decide_found(
     alloc: Global,
     seq: u64,
     stamp: &Stamp,
@@ -109,7 +109,7 @@ fn produced_rows(
         stock: c.amount.get(),
     };
     let kind = MovementKind::Produced { batch: c.batch };
-    let movement = booked(seq, stamp, kind, c.lot, 0, c.amount);
+    let movement = movement_of(seq, stamp, kind, c.lot, 0, c.amount);
     changes(
         alloc,
         [

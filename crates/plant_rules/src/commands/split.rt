@@ -9,7 +9,7 @@ ghost use Rattle.plant_view.specs.OneBatch.{PutsOneBatch};
 ghost use Rattle.plant_view.specs.Tables.{Decides};
 ghost use Rattle.plant_view.specs.Views.{IsSublotOf};
 
-use super::booked;
+use super::movement_of;
 use plant_base::{GREATEST_SEQ, Items, Lot, MovementKind, Refusal, Split, Stamp, Sublot};
 use plant_view::{Decision, RowChange, View, ViewFault, changes, look, meta_after};
 use std::alloc::{AllocError, Global};
@@ -104,7 +104,7 @@ fn split_rows(
         stock: amount,
     };
     let kind = MovementKind::Split { to: c.new };
-    let movement = booked(seq, stamp, kind, c.lot, c.sub, c.amount);
+    let movement = movement_of(seq, stamp, kind, c.lot, c.sub, c.amount);
     let rows = changes(
         alloc,
         [

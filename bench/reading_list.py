@@ -1,0 +1,91 @@
+#!/usr/bin/env python3
+"""Prints docs/READING.md: the definitions that the headline rests on, file by file in the order of crates.txt.
+
+It begins at the words that the headline's clauses name, and follows each definition to those that it names, through the
+files of definitions of this repository. Usage: bench/reading_list.py > docs/READING.md, at the root of the repository."""
+
+import glob
+import re
+
+# The words of the headline's clauses, by the file of definitions in which they stand.
+WORDS = {
+    "plant_desk.Keeping": ["States", "Executes", "Asks", "shuts", "writes_nothing"],
+    "plant_desk_store.Standing": ["Leaves", "Stands", "IsOpenAt", "FindsState", "OthersStand", "IsBeside"],
+    "plant_desk_store.Adopting": ["AdoptedFrom"],
+    "plant_desk_store.Laws": ["StopsAreReopened"],
+    "plant_trace.Reach": ["IsReached", "Lists"],
+}
+
+HEAD = """# What to read to believe the headline
+
+The headline's contracts ([PROMISES](PROMISES.md)) say what they say in the words of definitions. Whoever agrees with the
+definitions below and with the premises in [ASSUMPTIONS](ASSUMPTIONS.md) needs to read neither code nor proofs. The files stand
+in the order in which each builds on those before it; lines are those of the definitions with their comments, without imports.
+A file's other definitions are those of other contracts. Made by bench/reading_list.py.
+"""
+
+
+class File:
+    """A file of definitions: what it takes from others, and its own definitions as (text, lines)."""
+
+    def __init__(self, path):
+        with open(path, encoding="utf-8") as it:
+            text = it.read()
+        self.imports, self.aliases, self.defined = {}, {}, {}
+        for module, names in re.findall(r"^(?:pub )?use Rattle\.(\S+?)\.\{([^}]*)\}", text, re.M):
+            self.imports.update({name.strip(): module for name in names.split(",")})
+        self.aliases.update({name: module for module, name in re.findall(r"^use Rattle\.(\S+) as (\w+)", text, re.M)})
+        for block in re.split(r"\n\n+", text):
+            found = re.search(r"^(?:pub )?(?:abbrev|record|unfoldable)(?: pub)? (\S+)", block, re.M)
+            if found:
+                lines = [it for it in block.split("\n") if not it.startswith(("use ", "-- ----", "infix"))]
+                self.defined[found[1]] = ("\n".join(lines), len(lines))
+
+
+def read_files():
+    files = {}
+    for path in glob.glob("crates/*/specs/**/*.antt", recursive=True):
+        if "/declared/" not in path and not path.endswith("/Lib.antt"):
+            files[path[len("crates/") : -len(".antt")].replace("/", ".")] = File(path)
+    return files
+
+
+def named_in(files, module, name):
+    """The definitions that one names."""
+    file = files[module]
+    text, _ = file.defined[name]
+    for word in set(re.findall(r"[^\s(){}\[\],;]+", text)) | set(re.findall(r"\w+", text)):
+        first, _, rest = word.partition(".")
+        for module_of, it in ((module, first), (file.imports.get(first), first), (file.aliases.get(first), rest)):
+            if module_of in files and it in files[module_of].defined:
+                yield module_of, it
+
+
+def main():
+    files = read_files()
+    todo = [(f"{crate}.specs.{file}", name) for key, names in WORDS.items() for crate, file in [key.split(".")] for name in names]
+    lost = [it for it in todo if it[1] not in files[it[0]].defined]
+    if lost:
+        raise SystemExit(f"no definition: {lost}")
+    found = set()
+    while todo:
+        it = todo.pop()
+        if it not in found:
+            found.add(it)
+            todo += named_in(files, *it)
+    with open("crates.txt", encoding="utf-8") as it:
+        order = [line.split(":")[0] for line in it if ":" in line and not line.startswith("#")]
+    rows = []
+    for module in sorted({module for module, _ in found}, key=lambda it: (order.index(it.split(".")[0]), it)):
+        names = [name for of, name in found if of == module]
+        lines = sum(files[module].defined[name][1] for name in names)
+        crate, _, file = module.split(".", 2)
+        rows.append((f"{crate}/specs/{file.replace('.', '/')}", len(names), len(files[module].defined), lines))
+    print(HEAD)
+    print(f"In all {len(found)} definitions in {len(rows)} files, {sum(it[3] for it in rows)} lines.\n")
+    print("| file | definitions | of | lines |\n|---|---|---|---|")
+    for file, names, of, lines in rows:
+        print(f"| {file} | {names} | {of} | {lines} |")
+
+
+main()

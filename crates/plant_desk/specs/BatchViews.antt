@@ -1,5 +1,5 @@
 -- What is known of a batch.
-use Rattle.std.specs.Prelude.{ℕ, Bool, true, false, ◌&&◌, if◌then◌else◌, List, Option, Some, None, option_map, find, map, filter, sum_by}
+use Rattle.std.specs.Prelude.{ℕ, Bool, false, ◌&&◌, if◌then◌else◌, List, Option, Some, None, option_map, find, map, filter, sum_by}
 use Rattle.std.specs.List.{filter_map}
 use Rattle.plant_base.specs.State.{State, same, definition_at, recipe_at, job_at, lot_at, control_lines_of}
 use Rattle.plant_base.specs.declared.refusal.Refusal.TheVariants.{UnknownRecipe, UnknownOrder, UnknownBatch}

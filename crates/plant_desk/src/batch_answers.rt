@@ -25,7 +25,7 @@ pub(crate) fn batch_answer<V: View>(
 ) -> Result<Answer, ViewFault<V::Fault>>
     ensures { Told V.honest V.kept V.steady view.old view.new
         (IsSound (V.state view.old)
-            → IfOk result (λ a. a ≡ answer_batch (V.state view.old) (batch_at (V.state view.old) id))) }
+        → IfOk result (λ a. a ≡ answer_batch (V.state view.old) (batch_at (V.state view.old) id))) }
 {
     let Some(row) = look::batch(view, id)? else {
         return Ok(Answer::Unknown(Refusal::UnknownBatch));
@@ -40,8 +40,8 @@ fn planned_answer<V: View>(
 ) -> Result<Answer, ViewFault<V::Fault>>
     ensures { Told V.honest V.kept V.steady view.old view.new
         (IsRowOf (V.state view.old) row.now → IfOk result (λ a. a
-            ≡ answer_planned (V.state view.old) row.now.batch
-            (job_at (V.state view.old) row.now.batch.job))) }
+        ≡ answer_planned (V.state view.old) row.now.batch
+        (job_at (V.state view.old) row.now.batch.job))) }
 {
     let Some(job) = look::job(view, row.batch.job)? else {
         return Ok(Answer::Unknown(Refusal::UnknownOrder));
@@ -57,8 +57,8 @@ fn headed_answer<V: View>(
 ) -> Result<Answer, ViewFault<V::Fault>>
     ensures { Told V.honest V.kept V.steady view.old view.new
         (IsRowOf (V.state view.old) row.now → IfOk result (λ a. a
-            ≡ answer_headed (V.state view.old) row.now.batch job
-            (recipe_at (V.state view.old) job.order.recipe job.order.version))) }
+        ≡ answer_headed (V.state view.old) row.now.batch job
+        (recipe_at (V.state view.old) job.order.recipe job.order.version))) }
 {
     let order = job.order;
     let Some(recipe) = look::recipe(view, order.recipe, order.version)? else {
@@ -76,7 +76,7 @@ fn viewed_answer<V: View>(
 ) -> Result<Answer, ViewFault<V::Fault>>
     ensures { Told V.honest V.kept V.steady view.old view.new
         (IsRowOf (V.state view.old) row.now → IfOk result (λ a. a
-            ≡ A.Batch (batch_view (V.state view.old) row.now.batch job header))) }
+        ≡ A.Batch (batch_view (V.state view.old) row.now.batch job header))) }
 {
     match batch_view(alloc, view, row, job, header) {
         Ok(found) => Ok(Answer::Batch(found)),
@@ -93,7 +93,7 @@ fn batch_view<V: View>(
 ) -> Result<BatchView, ViewFault<V::Fault>>
     ensures { Told V.honest V.kept V.steady view.old view.new
         (IsRowOf (V.state view.old) row.now
-            → IfOk result (λ v. v ≡ batch_view (V.state view.old) row.now.batch job header)) }
+        → IfOk result (λ v. v ≡ batch_view (V.state view.old) row.now.batch job header)) }
 {
     let found = found_batch(alloc, view, row.batch.id)?;
     Ok(view_of(row, job, header, found))
@@ -163,7 +163,7 @@ fn measured_lines<V: View>(
 ) -> Result<Vec<MeasuredLine>, ViewFault<V::Fault>>
     ensures { Told V.honest V.kept V.steady view.old view.new
         (IfOk result (λ v. v.items ≡ map (measured_line (V.state view.old).definitions)
-            (control_lines_of (V.state view.old) batch))) }
+        (control_lines_of (V.state view.old) batch))) }
 {
     let lines = look::control_lines(view, batch)?;
     measured(alloc, view, lines.as_slice())
@@ -198,10 +198,7 @@ fn measured_line<V: View>(
     Ok(MeasuredLine { line: *line, unit })
 }
 
-fn unit_among<V: View>(
-    view: &mut V,
-    def: Option<Id>,
-) -> Result<Option<Unit>, ViewFault<V::Fault>>
+fn unit_among<V: View>(view: &mut V, def: Option<Id>) -> Result<Option<Unit>, ViewFault<V::Fault>>
     ensures { Told V.honest V.kept V.steady view.old view.new
         (IfOk result (λ unit. unit ≡ unit_among (V.state view.old).definitions def)) }
 {

@@ -41,7 +41,7 @@ fn consumed_by<V: View>(
 ) -> Result<Vec<Booking>, ViewFault<V::Fault>>
     ensures { Told V.honest V.kept V.steady view.old view.new
         (IfOk result (λ v. v.items
-            ≡ filter_map (consumption (V.state view.old) batch) movements.now)) }
+        ≡ filter_map (consumption (V.state view.old) batch) movements.now)) }
 {
     let mut rows = Vec::new(alloc);
     for movement in movements {
@@ -62,7 +62,7 @@ fn produced_by<V: View>(
 ) -> Result<Vec<Booking>, ViewFault<V::Fault>>
     ensures { Told V.honest V.kept V.steady view.old view.new
         (IfOk result (λ v. v.items
-            ≡ filter_map (production (V.state view.old) batch) movements.now)) }
+        ≡ filter_map (production (V.state view.old) batch) movements.now)) }
 {
     let mut rows = Vec::new(alloc);
     for movement in movements {

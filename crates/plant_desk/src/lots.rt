@@ -26,7 +26,7 @@ pub(crate) fn stocked_sublots(
     ensures rows { IfOk result (λ v. map place_of_row v.items ≡ filter (λ p. same p.lot lot) places.now) }
     ensures stocks { IsStocked movements.now
         → IfOk result (λ v. v.items ≡ map (sublot_row movements.now)
-            (filter (λ p. same p.lot lot) places.now)) }
+        (filter (λ p. same p.lot lot) places.now)) }
 {
     let mut rows = Vec::new(alloc);
     for p in places {

@@ -37,10 +37,7 @@ impl<'a> ListsView<'a> {
     }
 
     // With an index of the edges, which are these. The only error is that memory was refused.
-    pub(crate) fn indexed(
-        lists: &'a Lists,
-        pairs: &'a [(Node, Node)],
-    ) -> Result<Self, AllocError>
+    pub(crate) fn indexed(lists: &'a Lists, pairs: &'a [(Node, Node)]) -> Result<Self, AllocError>
         requires { pairs.now ≡ edges_of (state_of lists.now) }
         ensures { IfOk result (λ view. view.lists.now ≡ lists.now) }
     {
@@ -170,7 +167,12 @@ impl<'a> View for ListsView<'a> {
     }
 
     fn sublots(&mut self, lot: Id) -> Result<Vec<Sublot>, AllocError> {
-        stocked_sublots(self.lists.alloc, &self.lists.places, &self.lists.movements, lot)
+        stocked_sublots(
+            self.lists.alloc,
+            &self.lists.places,
+            &self.lists.movements,
+            lot,
+        )
     }
 
     fn scraps(&mut self, lot: Id) -> Result<Vec<Movement>, AllocError> {

@@ -103,7 +103,7 @@ impl<S: Alter> Desk<S> {
         // else that or the opening state's tables.
         ensures spared { (AreFree desk_forms (state S.Store connection).now.schema → ⊥)
             → MatchResult result (λ desk. Survives (state S.Store connection)
-                (state S.Store desk.connection) (λ _. ⊥))
+            (state S.Store desk.connection) (λ _. ⊥))
             (λ refused. Survives (state S.Store connection) (state S.Store refused.connection) (λ _. ⊥)) }
         ensures unmade { IfErr result (λ refused. refused.fault ≢ AdoptFault.Store
             → Survives (state S.Store connection) (state S.Store refused.connection) (λ _. ⊥)) }
@@ -129,7 +129,7 @@ fn opened<S: Alter>(alloc: Global, connection: &mut Connection<S>) -> Result<(),
     ensures adopted { HasCleanDisk (state S.Store connection.new)
         → IsNewlyOpened (state S.Store connection.old)
         → OnOk result (AdoptedFrom (state S.Store connection.old)
-            (IsOpenAt (state S.Store connection.new))) }
+        (IsOpenAt (state S.Store connection.new))) }
     ensures again { KeepsGood (state S.Store connection.old) (state S.Store connection.new) }
     ensures others { HasCleanDisk (state S.Store connection.new)
         → IsNewlyOpened (state S.Store connection.old)
@@ -194,7 +194,7 @@ fn judged<S: Alter>(alloc: Global, connection: &mut Connection<S>) -> Result<(),
     ensures good { HasCleanDisk (state S.Store connection.new)
         → IsNewlyOpened (state S.Store connection.old)
         → OnOk result ((s : State) × IsGood s × HoldsTables (state S.Store connection.old).now
-            (tables_of newest_schema s) × IsOpenAt (state S.Store connection.new) s) }
+        (tables_of newest_schema s) × IsOpenAt (state S.Store connection.new) s) }
     ensures again { KeepsGood (state S.Store connection.old) (state S.Store connection.new) }
     ensures kept { HasCleanDisk (state S.Store connection.new)
         → Keeps (state S.Store connection.old) (state S.Store connection.new) }

@@ -110,7 +110,7 @@ fn commit_on<S: Alter>(
         → changed_all changes.now (tables_of newest_schema s) ≡ tables_of newest_schema next
         → AreFresh changes.now (tables_of newest_schema s)
         → OnErr result (StandsAt (state S.Store connection.new) s
-            × Leaves (state S.Store connection.new) (λ u. (u ≡ s) ⊎ (u ≡ next))) }
+        × Leaves (state S.Store connection.new) (λ u. (u ≡ s) ⊎ (u ≡ next))) }
     ensures others { HasCleanDisk (state S.Store connection.new) → (s next : State)
         → IsOpenAt (state S.Store connection.old) s → IsTrue (state S.Store connection.old).is_open
         → IsGood next

@@ -1,4 +1,3 @@
-use Rattle.std.proofs.Common.{◌≡◌}
 use Rattle.plant_desk.specs.Lists.{state_of}
 use Rattle.plant_desk.proofs.Kept.{refused_step}
 use Rattle.plant_desk.proofs.lists.Lists.execute.Goals as goal

@@ -1,6 +1,7 @@
 pub mod Asked
 pub mod Events
 pub mod Kept
+pub mod Narrowed
 pub mod Plain
 pub mod Reaching
 pub mod Split

@@ -16,6 +16,7 @@ use Rattle.plant_base.specs.declared.rows.Recipe.{Recipe}
 use Rattle.plant_base.specs.declared.rows.RecipeLine.{RecipeLine}
 use Rattle.plant_base.specs.declared.rows.RecipeLine.TheVariants.{In, Out, Parameter, Phase}
 use Rattle.plant_view.specs.Tables.{progress_at}
+use Rattle.plant_view.specs.Views.{is_scrap}
 use Rattle.plant_desk.specs.declared.question.Answer.{Answer}
 use Rattle.plant_desk.specs.declared.question.Answer.TheVariants as A
 use Rattle.plant_desk.specs.declared.question.BatchView.{BatchView}
@@ -60,15 +61,6 @@ is_produced_by batch Scrapped = false
 is_produced_by batch (Divided to) = false
 is_produced_by batch (Split to) = false
 is_produced_by batch (Merged to) = false
-
-abbrev pub is_scrap : MovementKind → Bool
-is_scrap Received = false
-is_scrap (Consumed by) = false
-is_scrap (Produced by) = false
-is_scrap Scrapped = true
-is_scrap (Divided to) = false
-is_scrap (Split to) = false
-is_scrap (Merged to) = false
 
 -- what was scrapped of a lot, of all its sublots
 abbrev pub scrapping : Movement → List ℕ → ℕ

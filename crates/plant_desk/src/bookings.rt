@@ -1,69 +1,161 @@
-// What the lists tell of what batches took and brought.
-ghost use Rattle.std.specs.Prelude.{◌≡◌, ◌≤◌, IfOk};
+// What a batch took and brought.
+ghost use Rattle.std.specs.Prelude.{◌≡◌, ◌++◌, IfOk, OnOk, option_to_list, sum_by};
 ghost use Rattle.std.specs.List.{filter_map};
-ghost use Rattle.plant_base.specs.Values.{greatest_amount};
-ghost use Rattle.plant_base.specs.State.{lot_at};
-ghost use Rattle.plant_desk.specs.BatchViews.{is_consumed_by, is_produced_by, is_scrap, scrapping, scrapped_of, booking, definition_of, booked, consumption, production};
-ghost use Rattle.plant_desk.specs.Lists.{state_of};
+ghost use Rattle.plant_trace.specs.Sources.{Told};
+ghost use Rattle.plant_desk.specs.Answering.{AreBookingsOf};
+ghost use Rattle.plant_desk.specs.BatchViews.{is_consumed_by, is_produced_by, scrapped_of, booking, definition_of, booked, consumption, production};
 
-use crate::keys::{definition_of, lot_of};
-use crate::lists::Lists;
 use crate::question::Booking;
 use plant_base::{Definition, Id, Lot, Movement, MovementKind};
-use std::alloc::AllocError;
+use plant_view::{View, ViewFault, look};
+use std::alloc::{AllocError, Global};
 
-impl Lists {
-    /// What a batch took, in its order.
-    pub(crate) fn consumed_by(&self, batch: Id) -> Result<Vec<Booking>, AllocError>
-        ensures { IfOk result (λ v. v.items ≡ filter_map
-            (consumption (state_of self.now) batch) self.now.movements.items) }
-    {
-        self.movements
-            .iter()
-            .filter_map(|m| self.consumption(batch, m))
-            .collect(self.alloc)
-    }
+// What a batch took and what it brought, each in its order.
+#[derive(Drop)]
+pub(crate) struct BatchBookings {
+    pub(crate) consumed: Vec<Booking>,
+    pub(crate) produced: Vec<Booking>,
+}
 
-    /// What a batch brought, in its order.
-    pub(crate) fn produced_by(&self, batch: Id) -> Result<Vec<Booking>, AllocError>
-        ensures { IfOk result (λ v. v.items ≡ filter_map
-            (production (state_of self.now) batch) self.now.movements.items) }
-    {
-        self.movements
-            .iter()
-            .filter_map(|m| self.production(batch, m))
-            .collect(self.alloc)
-    }
+/// What a batch took and brought.
+pub(crate) fn bookings_of<V: View>(
+    alloc: Global,
+    view: &mut V,
+    batch: Id,
+) -> Result<BatchBookings, ViewFault<V::Fault>>
+    ensures { Told V.honest V.kept V.steady view.old view.new
+        (IfOk result (AreBookingsOf (V.state view.old) batch)) }
+{
+    let movements = look::batch_movements(view, batch)?;
+    let consumed = consumed_by(alloc, view, batch, movements.as_slice())?;
+    let produced = produced_by(alloc, view, batch, movements.as_slice())?;
+    Ok(BatchBookings { consumed, produced })
+}
 
-    fn consumption(&self, batch: Id, movement: &Movement) -> Option<Booking>
-        ensures { result ≡ consumption (state_of self.now) batch movement.now }
-    {
-        if !is_consumed_by(batch, movement.kind) {
-            return None;
+// What the batch took by these movements, in their order.
+fn consumed_by<V: View>(
+    alloc: Global,
+    view: &mut V,
+    batch: Id,
+    movements: &[Movement],
+) -> Result<Vec<Booking>, ViewFault<V::Fault>>
+    ensures { Told V.honest V.kept V.steady view.old view.new
+        (IfOk result (λ v. v.items
+            ≡ filter_map (consumption (V.state view.old) batch) movements.now)) }
+{
+    let mut rows = Vec::new(alloc);
+    for movement in movements {
+        let found = consumption(view, batch, movement)?;
+        if push_found(&mut rows, found).is_err() {
+            return Err(ViewFault::Memory);
         }
-        self.booked(0, movement)
     }
+    Ok(rows)
+}
 
-    fn production(&self, batch: Id, movement: &Movement) -> Option<Booking>
-        ensures { result ≡ production (state_of self.now) batch movement.now }
-    {
-        if !is_produced_by(batch, movement.kind) {
-            return None;
+// What the batch brought by these movements, in their order.
+fn produced_by<V: View>(
+    alloc: Global,
+    view: &mut V,
+    batch: Id,
+    movements: &[Movement],
+) -> Result<Vec<Booking>, ViewFault<V::Fault>>
+    ensures { Told V.honest V.kept V.steady view.old view.new
+        (IfOk result (λ v. v.items
+            ≡ filter_map (production (V.state view.old) batch) movements.now)) }
+{
+    let mut rows = Vec::new(alloc);
+    for movement in movements {
+        let found = production(view, batch, movement)?;
+        if push_found(&mut rows, found).is_err() {
+            return Err(ViewFault::Memory);
         }
-        self.booked(scrapped_of(&self.movements, movement.lot), movement)
     }
+    Ok(rows)
+}
 
-    fn booked(&self, scrapped: u128, movement: &Movement) -> Option<Booking>
-        ensures { result ≡ booked (state_of self.now) scrapped movement.now }
-    {
-        let definition = self.definition_of(lot_of(&self.lots, movement.lot))?;
-        Some(booking(movement, scrapped, &definition))
+// One more booking at the end, where there is one.
+fn push_found(rows: &mut Vec<Booking>, found: Option<Booking>) -> Result<(), AllocError>
+    ensures { OnOk result (rows.new.items ≡ rows.old.items ++ option_to_list found) }
+{
+    if let Some(booking) = found {
+        rows.push(booking)?;
     }
+    Ok(())
+}
 
-    fn definition_of(&self, lot: Option<Lot>) -> Option<Definition>
-        ensures { result ≡ definition_of (state_of self.now) lot }
-    {
-        definition_of(&self.definitions, lot?.def)
+fn consumption<V: View>(
+    view: &mut V,
+    batch: Id,
+    movement: &Movement,
+) -> Result<Option<Booking>, ViewFault<V::Fault>>
+    ensures { Told V.honest V.kept V.steady view.old view.new
+        (IfOk result (λ b. b ≡ consumption (V.state view.old) batch movement.now)) }
+{
+    if !is_consumed_by(batch, movement.kind) {
+        return Ok(None);
+    }
+    booked(view, 0, movement)
+}
+
+fn production<V: View>(
+    view: &mut V,
+    batch: Id,
+    movement: &Movement,
+) -> Result<Option<Booking>, ViewFault<V::Fault>>
+    ensures { Told V.honest V.kept V.steady view.old view.new
+        (IfOk result (λ b. b ≡ production (V.state view.old) batch movement.now)) }
+{
+    if !is_produced_by(batch, movement.kind) {
+        return Ok(None);
+    }
+    let scrapped = scrapped_of(view, movement.lot)?;
+    booked(view, scrapped, movement)
+}
+
+// What was scrapped of a lot, of all its sublots.
+fn scrapped_of<V: View>(view: &mut V, lot: Id) -> Result<u128, ViewFault<V::Fault>>
+    ensures { Told V.honest V.kept V.steady view.old view.new
+        (IfOk result (λ n. n ≡ scrapped_of (V.state view.old).movements lot)) }
+{
+    let scraps = look::scraps(view, lot)?;
+    Ok(total_of(scraps.as_slice()))
+}
+
+fn total_of(movements: &[Movement]) -> u128
+    ensures { result ≡ sum_by (λ m. m.amount) movements.now }
+{
+    let mut total: u128 = 0;
+    for movement in movements {
+        total += u128::from(movement.amount.get());
+    }
+    total
+}
+
+// A movement with the definition of its lot.
+fn booked<V: View>(
+    view: &mut V,
+    scrapped: u128,
+    movement: &Movement,
+) -> Result<Option<Booking>, ViewFault<V::Fault>>
+    ensures { Told V.honest V.kept V.steady view.old view.new
+        (IfOk result (λ b. b ≡ booked (V.state view.old) scrapped movement.now)) }
+{
+    let lot = look::lot(view, movement.lot)?;
+    let definition = definition_of(view, lot)?;
+    Ok(definition.map(|d| booking(movement, scrapped, &d)))
+}
+
+fn definition_of<V: View>(
+    view: &mut V,
+    lot: Option<Lot>,
+) -> Result<Option<Definition>, ViewFault<V::Fault>>
+    ensures { Told V.honest V.kept V.steady view.old view.new
+        (IfOk result (λ d. d ≡ definition_of (V.state view.old) lot)) }
+{
+    match lot {
+        None => Ok(None),
+        Some(lot) => look::definition(view, lot.def),
     }
 }
 
@@ -99,37 +191,5 @@ fn is_produced_by(batch: Id, kind: MovementKind) -> bool
     match kind {
         MovementKind::Produced { batch: by } => by == batch,
         _ => false,
-    }
-}
-
-fn is_scrap(kind: MovementKind) -> bool
-    ensures { result ≡ is_scrap kind }
-{
-    match kind {
-        MovementKind::Scrapped => true,
-        _ => false,
-    }
-}
-
-// What was scrapped of a lot, of all its sublots.
-#[tactic(auto, unfolding(crate::specs::BatchViews::scrapped_of))]
-fn scrapped_of(movements: &[Movement], lot: Id) -> u128
-    ensures { result ≡ scrapped_of movements.now lot }
-{
-    let mut scrapped: u128 = 0;
-    for movement in movements {
-        scrapped += u128::from(scrapping(movement, lot));
-    }
-    scrapped
-}
-
-fn scrapping(movement: &Movement, lot: Id) -> u64
-    ensures value { result ≡ scrapping movement.now lot }
-    ensures small { result ≤ greatest_amount }
-{
-    if is_scrap(movement.kind) && movement.lot == lot {
-        movement.amount.get()
-    } else {
-        0
     }
 }

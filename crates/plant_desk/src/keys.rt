@@ -1,5 +1,5 @@
 // The keys of the rows, and look-ups by them.
-ghost use Rattle.std.specs.Prelude.{◌≡◌, ◌==◌, ◌&&◌, find, option_map};
+ghost use Rattle.std.specs.Prelude.{◌≡◌, ◌==◌, ◌&&◌, find};
 ghost use Rattle.plant_base.specs.State.{same};
 
 use crate::sorted::Keyed;
@@ -151,13 +151,7 @@ pub(crate) fn batch_of(rows: &[Batch], id: Id) -> Option<Batch>
 }
 
 // The batch that an order was released as.
-pub(crate) fn batch_id_of(rows: &[Batch], order: Id) -> Option<Id>
-    ensures { result ≡ option_map (λ r. r.id) (find (λ r. same r.job order) rows.now) }
-{
-    batch_for(rows, order).map(|r| r.id)
-}
-
-fn batch_for(rows: &[Batch], order: Id) -> Option<Batch>
+pub(crate) fn batch_for(rows: &[Batch], order: Id) -> Option<Batch>
     ensures { result ≡ find (λ r. same r.job order) rows.now }
 {
     rows.iter().copied().find(|r| r.job == order)

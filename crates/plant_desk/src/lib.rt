@@ -1,8 +1,8 @@
 //! Keepers of the desk's state: what executes commands and answers questions.
 #![tactic(auto)]
 
-mod ask;
-mod batch_view;
+mod answering;
+mod batch_answers;
 mod batches;
 mod bookings;
 mod keeper;
@@ -10,6 +10,9 @@ mod keys;
 mod laws;
 mod list_keeper;
 mod lists;
+mod lot_answers;
+mod lots;
+mod over_lists;
 mod question;
 mod reply;
 mod report;
@@ -17,6 +20,7 @@ mod sorted;
 mod traces;
 mod view;
 
+pub use answering::answer;
 pub use keeper::Keeper;
 pub use laws::{stock_law, tables_law, trace_law};
 pub use list_keeper::ListKeeper;

@@ -11,7 +11,6 @@ use crate::question::{Answer, Question};
 use crate::reply::{DeskFault, Reply};
 use crate::report::RunReport;
 use plant_base::{Envelope, Items};
-use plant_rules::decide;
 use plant_view::Decision;
 use std::alloc::{AllocError, Global};
 use std::marker::Model;
@@ -28,7 +27,7 @@ impl Lists {
         ensures err { OnErr result (state_of self.new ≡ state_of self.old) }
         ensures memory { IfErr result (λ f. f ≡ DeskFault.Memory) }
     {
-        match decide(self.alloc, self, envelope) {
+        match self.decide(envelope) {
             Ok(Decision::Refused(refusal)) => Ok(Reply::Refused(refusal)),
             Ok(Decision::Change(rows)) => match self.apply(rows.as_slice()) {
                 Ok(()) => Ok(Reply::Accepted(self.seq)),

@@ -19,7 +19,6 @@ use crate::lists::lists_of;
 use crate::reading::read_rows;
 use plant_base::Envelope;
 use plant_desk::{DeskFault, Lists};
-use plant_rules::decide;
 use plant_tables_judged::DeskRows;
 use plant_view::Decision;
 use sqlite::{Alter, Connection};
@@ -74,19 +73,14 @@ fn listed(alloc: Global, rows: DeskRows) -> Result<Lists, DeskFault>
 }
 
 /// Decides a command over lists of a good state. The only error is that memory was refused.
-pub(crate) fn decide_in(
-    alloc: Global,
-    lists: &mut Lists,
-    envelope: &Envelope,
-) -> Result<Decision, DeskFault>
-    requires { IsGood (state_of lists.old) }
-    ensures decides { IfOk result (Decides (wrong (state_of lists.old) envelope.now)
-        (state_of lists.old) (step (state_of lists.old) envelope.now)) }
+pub(crate) fn decide_in(lists: &Lists, envelope: &Envelope) -> Result<Decision, DeskFault>
+    requires { IsGood (state_of lists.now) }
+    ensures decides { IfOk result (Decides (wrong (state_of lists.now) envelope.now)
+        (state_of lists.now) (step (state_of lists.now) envelope.now)) }
     ensures one_batch { IfOk result PutsOneBatch }
-    ensures same { state_of lists.new ≡ state_of lists.old }
     ensures memory { IfErr result (λ fault. fault ≡ DeskFault.Memory) }
 {
-    match decide(alloc, lists, envelope) {
+    match lists.decide(envelope) {
         Ok(decision) => Ok(decision),
         Err(_) => Err(DeskFault::Memory),
     }

@@ -46,14 +46,13 @@ pub(crate) fn execute_on<S: Alter>(
         → Survives (state S.Store connection.old) (state S.Store connection.new) (λ _. ⊥) }
 {
     let lists = read_lists(alloc, connection)?;
-    execute_read(alloc, connection, lists, envelope)
+    execute_read(connection, lists, envelope)
 }
 
 /// Decides a command over the lists that were read of a store, and writes what it changes in one transaction.
 fn execute_read<S: Alter>(
-    alloc: Global,
     connection: &mut Connection<S>,
-    mut lists: Lists,
+    lists: Lists,
     envelope: &Envelope,
 ) -> Result<Reply, DeskFault>
     requires rest { (state S.Store connection.old).in_transaction ≡ false }
@@ -80,7 +79,7 @@ fn execute_read<S: Alter>(
     let _: Option<(RecipeLine, MasterLine, ControlLine, Movement, MovementKind)> = None;
     let seq = lists.seq;
     envelope.show_values();
-    match decide_in(alloc, &mut lists, envelope)? {
+    match decide_in(&lists, envelope)? {
         Decision::Refused(refusal) => Ok(Reply::Refused(refusal)),
         Decision::Change(changes) => commit_on(connection, seq, changes.as_slice()),
     }

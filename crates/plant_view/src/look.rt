@@ -1,17 +1,17 @@
 //! The look-ups of a view, each with the fault of a decision: `ViewFault::View` where the view failed.
 ghost use Rattle.std.specs.Prelude.{◌≡◌, IfOk, is_some, option_map};
-ghost use Rattle.plant_base.specs.State.{class_at, definition_at, recipe_at, master_lines_of, job_at, batch_at, control_lines_of, lot_at, hold_at};
+ghost use Rattle.plant_base.specs.State.{class_at, definition_at, recipe_at, master_lines_of, job_at, batch_at, batch_of, control_lines_of, lot_at, hold_at};
 ghost use Rattle.plant_trace.specs.Sources.{Told};
 ghost use Rattle.plant_view.specs.Refusing.{is_held};
 ghost use Rattle.plant_view.specs.Sound.{IsSound};
-ghost use Rattle.plant_view.specs.Tables.{position_of, batch_row};
-ghost use Rattle.plant_view.specs.Views.{IsSublotOf};
+ghost use Rattle.plant_view.specs.Tables.{position_of, batch_row, sublots_of};
+ghost use Rattle.plant_view.specs.Views.{IsSublotOf, events_of, movements_of, scraps_of};
 
 use crate::fault::ViewFault;
 use crate::view::View;
 use plant_base::{
-    BatchRow, Class, ControlLine, Definition, Hold, Id, Job, Lot, MasterLine, Position, Recipe,
-    Sublot,
+    Batch, BatchEvent, BatchRow, Class, ControlLine, Definition, Hold, Id, Job, Lot, MasterLine,
+    Movement, Position, Recipe, Sublot,
 };
 
 /// How many commands were accepted, and the moment of the last.
@@ -86,6 +86,39 @@ pub fn batch<V: View>(view: &mut V, id: Id) -> Result<Option<BatchRow>, ViewFaul
     }
 }
 
+/// The batch that the order of this id was released as, if it was.
+pub fn batch_for<V: View>(view: &mut V, order: Id) -> Result<Option<Batch>, ViewFault<V::Fault>>
+    ensures { Told V.honest V.kept V.steady view.old view.new
+        (IfOk result (λ r. r ≡ batch_of (V.state view.old) order)) }
+{
+    view.batch_for(order).map_err(ViewFault::View)
+}
+
+/// What happened to a batch, in its order.
+pub fn events<V: View>(view: &mut V, batch: Id) -> Result<Vec<BatchEvent>, ViewFault<V::Fault>>
+    ensures { Told V.honest V.kept V.steady view.old view.new
+        (IfOk result (λ rows. rows.items ≡ events_of (V.state view.old) batch)) }
+{
+    match view.events(batch) {
+        Ok(rows) => Ok(rows),
+        Err(fault) => Err(ViewFault::View(fault)),
+    }
+}
+
+/// The movements of a batch, what it took and what it brought, in their order.
+pub fn batch_movements<V: View>(
+    view: &mut V,
+    batch: Id,
+) -> Result<Vec<Movement>, ViewFault<V::Fault>>
+    ensures { Told V.honest V.kept V.steady view.old view.new
+        (IfOk result (λ rows. rows.items ≡ movements_of (V.state view.old) batch)) }
+{
+    match view.batch_movements(batch) {
+        Ok(rows) => Ok(rows),
+        Err(fault) => Err(ViewFault::View(fault)),
+    }
+}
+
 /// The lines of the control recipe of a batch, by number.
 pub fn control_lines<V: View>(
     view: &mut V,
@@ -130,6 +163,29 @@ pub fn sublot<V: View>(
 {
     match view.sublot(lot, number) {
         Ok(row) => Ok(row),
+        Err(fault) => Err(ViewFault::View(fault)),
+    }
+}
+
+/// The sublots of a lot with their stock, by number.
+pub fn sublots<V: View>(view: &mut V, lot: Id) -> Result<Vec<Sublot>, ViewFault<V::Fault>>
+    ensures { Told V.honest V.kept V.steady view.old view.new
+        (IsSound (V.state view.old)
+            → IfOk result (λ rows. rows.items ≡ sublots_of (V.state view.old) lot)) }
+{
+    match view.sublots(lot) {
+        Ok(rows) => Ok(rows),
+        Err(fault) => Err(ViewFault::View(fault)),
+    }
+}
+
+/// The movements that scrapped something of a lot, of all its sublots, in their order.
+pub fn scraps<V: View>(view: &mut V, lot: Id) -> Result<Vec<Movement>, ViewFault<V::Fault>>
+    ensures { Told V.honest V.kept V.steady view.old view.new
+        (IfOk result (λ rows. rows.items ≡ scraps_of (V.state view.old) lot)) }
+{
+    match view.scraps(lot) {
+        Ok(rows) => Ok(rows),
         Err(fault) => Err(ViewFault::View(fault)),
     }
 }

@@ -1,6 +1,6 @@
 use plant_base::{
-    BatchRow, Class, ControlLine, Definition, Hold, Id, Job, Lot, MasterLine, Position, Recipe,
-    Sublot,
+    Batch, BatchEvent, BatchRow, Class, ControlLine, Definition, Hold, Id, Job, Lot, MasterLine,
+    Movement, Position, Recipe, Sublot,
 };
 use plant_trace::Edges;
 
@@ -11,12 +11,13 @@ use plant_trace::Edges;
 /// every state, but for a sublot's stock and a batch's progress: these are those of a sound state.
 pub trait View: Edges {
     ghost use Rattle.std.specs.Prelude.{◌≡◌, IfOk, map, option_map};
-    ghost use Rattle.plant_base.specs.State.{State, class_at, definition_at, recipe_at, master_lines_of, job_at, batch_at, control_lines_of, lot_at, place_at, hold_at};
+    ghost use Rattle.plant_base.specs.State.{State, class_at, definition_at, recipe_at, master_lines_of, job_at, batch_at, batch_of, control_lines_of, lot_at, place_at, hold_at};
     ghost use Rattle.plant_trace.specs.Sources.{Told};
     ghost use Rattle.plant_view.specs.Genealogy.{edges_of};
     ghost use Rattle.plant_view.specs.Tables.{position_of, batch_row, sublot_row, place_of_row, places_of, sublots_of};
     ghost use Rattle.plant_view.specs.Refusing.{holds_of};
     ghost use Rattle.plant_view.specs.Sound.{IsSound};
+    ghost use Rattle.plant_view.specs.Views.{events_of, movements_of, scraps_of};
 
     /// The state that the rows stand for.
     ghost state: { Self → State };
@@ -61,6 +62,21 @@ pub trait View: Edges {
             r ≡ option_map (batch_row (state self.old).control_lines (state self.old).events)
             (batch_at (state self.old) id))) };
 
+    /// The batch that the order of this id was released as, if it was.
+    fn batch_for(&mut self, order: Id) -> Result<Option<Batch>, Self::Fault>
+        ensures { Told Self.honest Self.kept Self.steady self.old self.new
+            (IfOk result (λ r. r ≡ batch_of (state self.old) order)) };
+
+    /// What happened to a batch, in its order.
+    fn events(&mut self, batch: Id) -> Result<Vec<BatchEvent>, Self::Fault>
+        ensures { Told Self.honest Self.kept Self.steady self.old self.new
+            (IfOk result (λ rows. rows.items ≡ events_of (state self.old) batch)) };
+
+    /// The movements of a batch, what it took and what it brought, in their order.
+    fn batch_movements(&mut self, batch: Id) -> Result<Vec<Movement>, Self::Fault>
+        ensures { Told Self.honest Self.kept Self.steady self.old self.new
+            (IfOk result (λ rows. rows.items ≡ movements_of (state self.old) batch)) };
+
     /// The lines of the control recipe of a batch, by number.
     fn control_lines(&mut self, batch: Id) -> Result<Vec<ControlLine>, Self::Fault>
         ensures { Told Self.honest Self.kept Self.steady self.old self.new
@@ -87,6 +103,11 @@ pub trait View: Edges {
         ensures stocks { Told Self.honest Self.kept Self.steady self.old self.new
             (IsSound (state self.old)
                 → IfOk result (λ rows. rows.items ≡ sublots_of (state self.old) lot)) };
+
+    /// The movements that scrapped something of a lot, of all its sublots, in their order.
+    fn scraps(&mut self, lot: Id) -> Result<Vec<Movement>, Self::Fault>
+        ensures { Told Self.honest Self.kept Self.steady self.old self.new
+            (IfOk result (λ rows. rows.items ≡ scraps_of (state self.old) lot)) };
 
     /// The hold of this lot and id.
     fn hold(&mut self, lot: Id, id: Id) -> Result<Option<Hold>, Self::Fault>

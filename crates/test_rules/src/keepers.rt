@@ -6,7 +6,6 @@ use plant_base::{
     Split, Text, Unit, Word,
 };
 use plant_desk::{Answer, BatchView, Booking, Keeper, ListKeeper, Lists, Question, Reply};
-use plant_rules::decide;
 use plant_trace::{Direction, Node};
 use plant_view::{Decision, RowChange};
 use std::alloc::Global;
@@ -178,9 +177,8 @@ fn a_clone_is_answered_alike(rt: HostRuntime) -> Result<(), Fail> {
 /// What is decided of a command that is the first of all.
 #[tactic(auto, using(plant_rules::proofs::StepSound::opening_sound))]
 fn decided_first(alloc: Global, envelope: &Envelope) -> Result<Decision, Fail> {
-    let mut lists = Lists::new(alloc);
-    envelope.show_values();
-    Ok(decide(alloc, &mut lists, envelope).map_err(|_| "no decision")?)
+    let lists = Lists::new(alloc);
+    Ok(lists.decide(envelope).map_err(|_| "no decision")?)
 }
 
 #[test]

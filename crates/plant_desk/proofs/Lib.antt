@@ -3,6 +3,7 @@ pub mod Events
 pub mod Kept
 pub mod Plain
 pub mod Reaching
+pub mod Same
 pub mod Split
 pub mod Taking
 pub mod Totals

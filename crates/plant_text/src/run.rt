@@ -3,6 +3,7 @@ ghost use Rattle.std.specs.Prelude.{◌≡◌, ℕ, ◌<◌, List, [], ◌∷◌
 ghost use Rattle.std.specs.Str.Lines.{strip_carriage_return};
 ghost use Rattle.std.specs.Io.KnownBytes.{Consumes};
 ghost use Rattle.plant_base.specs.State.{State};
+ghost use Rattle.plant_desk.specs.Keeping.{IsSameDesk};
 ghost use Rattle.plant_text.specs.Session.{Ends, EndsWithin, entry_of};
 ghost use Rattle.plant_text.specs.Leaving.{RunLeaves};
 ghost use Rattle.plant_text.specs.Turns.{PieceEnds, LastEnds, FaultWritten, end_of};
@@ -65,10 +66,7 @@ fn end_line<W: Write, K: Keeper>(
     refused: bool,
 ) -> Result<bool, Stop>
     requires { K.shut keeper.old ≡ false }
-    ensures honest { K.honest keeper.new → K.honest keeper.old }
-    ensures schema { K.honest keeper.new → K.schema keeper.new ≡ K.schema keeper.old }
-    ensures beside { K.honest keeper.new → (b : K.Beside) → K.beside keeper.old b
-        → K.beside keeper.new b }
+    ensures same { IsSameDesk K.honest K.schema K.beside keeper.old keeper.new }
     ensures open { OnOk result (K.shut keeper.new ≡ false) }
     ensures held { OnOk result (held.new.items ≡ []) }
     ensures ends { K.honest keeper.new → (s : State) → K.stands keeper.old s
@@ -109,10 +107,7 @@ fn take_byte<W: Write, K: Keeper>(
     b: u8,
 ) -> Result<bool, Stop>
     requires { K.shut keeper.old ≡ false }
-    ensures honest { K.honest keeper.new → K.honest keeper.old }
-    ensures schema { K.honest keeper.new → K.schema keeper.new ≡ K.schema keeper.old }
-    ensures beside { K.honest keeper.new → (b : K.Beside) → K.beside keeper.old b
-        → K.beside keeper.new b }
+    ensures same { IsSameDesk K.honest K.schema K.beside keeper.old keeper.new }
     ensures open { OnOk result (K.shut keeper.new ≡ false) }
     ensures held { OnOk result (held.new.items ≡ held_after held.old.items (b ∷ [])) }
     ensures ends { K.honest keeper.new → (s : State) → K.stands keeper.old s
@@ -139,10 +134,7 @@ fn take_piece<W: Write, K: Keeper>(
     piece: &[u8],
 ) -> Result<bool, Stop>
     requires { K.shut keeper.old ≡ false }
-    ensures honest { K.honest keeper.new → K.honest keeper.old }
-    ensures schema { K.honest keeper.new → K.schema keeper.new ≡ K.schema keeper.old }
-    ensures beside { K.honest keeper.new → (b : K.Beside) → K.beside keeper.old b
-        → K.beside keeper.new b }
+    ensures same { IsSameDesk K.honest K.schema K.beside keeper.old keeper.new }
     ensures open { OnOk result (K.shut keeper.new ≡ false) }
     ensures held { OnOk result (held.new.items ≡ held_after held.old.items piece.now) }
     ensures ends { K.honest keeper.new → (s : State) → K.stands keeper.old s
@@ -169,10 +161,7 @@ fn end_input<W: Write, K: Keeper>(
     refused: bool,
 ) -> RunEnd
     requires { K.shut keeper.old ≡ false }
-    ensures honest { K.honest keeper.new → K.honest keeper.old }
-    ensures schema { K.honest keeper.new → K.schema keeper.new ≡ K.schema keeper.old }
-    ensures beside { K.honest keeper.new → (b : K.Beside) → K.beside keeper.old b
-        → K.beside keeper.new b }
+    ensures same { IsSameDesk K.honest K.schema K.beside keeper.old keeper.new }
     ensures ends { K.honest keeper.new → (s : State) → K.stands keeper.old s
         → LastEnds (K.schema keeper.old) s (entry_of held.now)
         (W.contents writer.old) (W.contents writer.new)
@@ -197,10 +186,7 @@ fn run_pieces<R: Read, W: Write, K: Keeper>(
 ) -> RunEnd
     requires open { K.shut keeper.old ≡ false }
     requires room { 0 < length piece.old }
-    ensures honest { K.honest keeper.new → K.honest keeper.old }
-    ensures schema { K.honest keeper.new → K.schema keeper.new ≡ K.schema keeper.old }
-    ensures beside { K.honest keeper.new → (b : K.Beside) → K.beside keeper.old b
-        → K.beside keeper.new b }
+    ensures same { IsSameDesk K.honest K.schema K.beside keeper.old keeper.new }
     ensures ends { (bytes : List ℕ) × Consumes (R.remaining reader.old) (R.remaining reader.new) bytes
         × (K.honest keeper.new → (s : State) → K.stands keeper.old s
         → EndsWithin most (K.schema keeper.old) s bytes (R.remaining reader.new)
@@ -250,10 +236,7 @@ pub fn run_lines<R: Read, W: Write, K: Keeper>(
     keeper: &mut K,
 ) -> RunEnd
     requires { K.shut keeper.old ≡ false }
-    ensures honest { K.honest keeper.new → K.honest keeper.old }
-    ensures schema { K.honest keeper.new → K.schema keeper.new ≡ K.schema keeper.old }
-    ensures beside { K.honest keeper.new → (b : K.Beside) → K.beside keeper.old b
-        → K.beside keeper.new b }
+    ensures same { IsSameDesk K.honest K.schema K.beside keeper.old keeper.new }
 
     // How the run ended, and what a stop leaves then.
     ensures ends { (bytes : List ℕ) × Consumes (R.remaining reader.old) (R.remaining reader.new) bytes
@@ -275,10 +258,7 @@ pub fn run_lines_within<R: Read, W: Write, K: Keeper>(
     most: u64,
 ) -> RunEnd
     requires { K.shut keeper.old ≡ false }
-    ensures honest { K.honest keeper.new → K.honest keeper.old }
-    ensures schema { K.honest keeper.new → K.schema keeper.new ≡ K.schema keeper.old }
-    ensures beside { K.honest keeper.new → (b : K.Beside) → K.beside keeper.old b
-        → K.beside keeper.new b }
+    ensures same { IsSameDesk K.honest K.schema K.beside keeper.old keeper.new }
     ensures ends { (bytes : List ℕ) × Consumes (R.remaining reader.old) (R.remaining reader.new) bytes
         × (K.honest keeper.new → (s : State) → K.stands keeper.old s
         → EndsWithin most (K.schema keeper.old) s bytes (R.remaining reader.new)

@@ -1,6 +1,7 @@
 //! One line: what it says, what the keeper does, what is written.
 ghost use Rattle.std.specs.Prelude.{◌≡◌, false, IfErr, IfOk, IsErrAnd, OnOk};
 ghost use Rattle.plant_base.specs.State.{State};
+ghost use Rattle.plant_desk.specs.Keeping.{IsSameDesk};
 ghost use Rattle.plant_text.specs.Session.{entry_of, is_refusal, is_unknown, command as command_entry, question as question_entry};
 ghost use Rattle.plant_text.specs.Turns.{TurnEnds, FaultWritten, AnswerWritten, BadWritten};
 
@@ -75,10 +76,7 @@ fn take_command<W: Write, K: Keeper>(
     envelope: &Envelope,
 ) -> Result<bool, Stop>
     requires { K.shut keeper.old ≡ false }
-    ensures honest { K.honest keeper.new → K.honest keeper.old }
-    ensures schema { K.honest keeper.new → K.schema keeper.new ≡ K.schema keeper.old }
-    ensures beside { K.honest keeper.new → (b : K.Beside) → K.beside keeper.old b
-        → K.beside keeper.new b }
+    ensures same { IsSameDesk K.honest K.schema K.beside keeper.old keeper.new }
     ensures open { OnOk result (K.shut keeper.new ≡ false) }
     ensures ends { K.honest keeper.new → (s : State) → K.stands keeper.old s
         → TurnEnds (K.schema keeper.old) s (command_entry envelope.now)
@@ -127,10 +125,7 @@ fn take_question<W: Write, K: Keeper>(
     question: &Question,
 ) -> Result<bool, Stop>
     requires { K.shut keeper.old ≡ false }
-    ensures honest { K.honest keeper.new → K.honest keeper.old }
-    ensures schema { K.honest keeper.new → K.schema keeper.new ≡ K.schema keeper.old }
-    ensures beside { K.honest keeper.new → (b : K.Beside) → K.beside keeper.old b
-        → K.beside keeper.new b }
+    ensures same { IsSameDesk K.honest K.schema K.beside keeper.old keeper.new }
     ensures open { OnOk result (K.shut keeper.new ≡ false) }
     ensures ends { K.honest keeper.new → (s : State) → K.stands keeper.old s
         → TurnEnds (K.schema keeper.old) s (question_entry question.now)
@@ -148,10 +143,7 @@ pub(crate) fn take_line<W: Write, K: Keeper>(
     line: &[u8],
 ) -> Result<bool, Stop>
     requires { K.shut keeper.old ≡ false }
-    ensures honest { K.honest keeper.new → K.honest keeper.old }
-    ensures schema { K.honest keeper.new → K.schema keeper.new ≡ K.schema keeper.old }
-    ensures beside { K.honest keeper.new → (b : K.Beside) → K.beside keeper.old b
-        → K.beside keeper.new b }
+    ensures same { IsSameDesk K.honest K.schema K.beside keeper.old keeper.new }
     ensures open { OnOk result (K.shut keeper.new ≡ false) }
     ensures ends { K.honest keeper.new → (s : State) → K.stands keeper.old s
         → TurnEnds (K.schema keeper.old) s (entry_of line.now)

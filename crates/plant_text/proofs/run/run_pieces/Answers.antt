@@ -3,6 +3,7 @@ use Rattle.std.proofs.lemmas.List.{append-nil}
 use Rattle.std.proofs.lemmas.Bool.Decides.{nat_tests}
 use Rattle.plant_text.proofs.Known.{Consumes-nil, Consumes-append, Consumes-keeps, Consumes-none}
 use Rattle.plant_text.proofs.HeldLemmas.{held_more, held_after_none, entries_after_none}
+use Rattle.plant_desk.proofs.Same.{same_itself, same_after}
 use Rattle.plant_text.proofs.RunLemmas.{told_same, piece_told, piece_stops}
 use Rattle.plant_text.proofs.EndLemmas.{last_ends, read_ends, stopped_ends}
 use Rattle.plant_text.proofs.run.run_pieces.Goals as goal
@@ -10,9 +11,7 @@ use Rattle.plant_text.proofs.run.run_pieces.Goals as goal
 pub reads-init : goal.reads-init
 reads-init g c = record {
   not_shut = c.requires.open;
-  honest = λ h. h;
-  schema = λ h. refl;
-  beside = λ h b stood. stood;
+  same = same_itself _ _ _ _;
   so_far = ([], Consumes-nil _, c.new-held.ensures.items ∙ sym (held_after_none []), omega arith, λ h s stood. told_same _ _ _ _ _ _ false (entries_after_none []) refl stood);
 }
 
@@ -24,11 +23,11 @@ returns-in-Ok-eq0-clause-ends g c =
     let none : c.in-Ok-eq0.field-0 ≡ 0 = grind (arith, nat_tests) in (
       inv.so_far.0,
       Consumes-none _ _ _ inv.so_far.0 c.read.new.buf _ none inv.so_far.1 read.0,
-      λ h s stood. let before = c.end_input.ensures.honest h in
+      λ h s stood. let before = c.end_input.ensures.same.honest h in
           let keeper = g.K.Keeper in
           let now = c.end_input.new.keeper in
           last_ends c.args.most (keeper.schema c.args.keeper.now) _ s _ (keeper.stands now) inv.so_far.0 c.reads.held.items _ _ _ _ _ (keeper.shut now) (keeper.leaves now) c.end_input.result
-          (inv.so_far.4 before s stood) (inv.schema before) inv.so_far.2 (read.1 none some) (rw (← c.deref.ensures.value) (c.end_input.ensures.ends h)),
+          (inv.so_far.4 before s stood) (inv.same.schema before) inv.so_far.2 (read.1 none some) (rw (← c.deref.ensures.value) (c.end_input.ensures.ends h)),
     )
 
 pub returns-in-Err-take_piece-clause-ends : goal.returns-in-Err-take_piece-clause-ends
@@ -38,13 +37,13 @@ returns-in-Err-take_piece-clause-ends g c =
     let read = rw (← c.split_at.ensures.front) at c.in-Ok.ensures.bytes.0 in (
       inv.so_far.0 ++ front,
       Consumes-append _ _ _ inv.so_far.0 front inv.so_far.1 read,
-      λ h s stood. let before = c.take_piece.ensures.honest h in
+      λ h s stood. let before = c.take_piece.ensures.same.honest h in
           let keeper = g.K.Keeper in
           let now = c.take_piece.new.keeper in
           rw c.end_of.ensures
           (stopped_ends c.args.most (keeper.schema c.args.keeper.now) s (inv.so_far.0 ++ front) _ _ _ (keeper.stands now) (keeper.shut now) (keeper.leaves now) c.in-Err-take_piece.stop
           (piece_stops _ _ _ _ _ [] c.reads.held.items inv.so_far.0 front [] (inv.so_far.0 ++ front) _ _ _ _ _ _ _ c.in-Err-take_piece.stop
-          (inv.so_far.4 before s stood) (inv.schema before) inv.so_far.2 (c.in-Err-take_piece.ensures.ends h) (ap (λ ys. inv.so_far.0 ++ ys) (sym (append-nil front))))),
+          (inv.so_far.4 before s stood) (inv.same.schema before) inv.so_far.2 (c.in-Err-take_piece.ensures.ends h) (ap (λ ys. inv.so_far.0 ++ ys) (sym (append-nil front))))),
     )
 
 pub returns-in-Err-clause-ends : goal.returns-in-Err-clause-ends
@@ -63,17 +62,15 @@ reads-preserved g c =
     let read = rw (← c.split_at.ensures.front) at c.in-Ok.ensures.bytes.0 in
     record {
       not_shut = c.in-Ok-take_piece.ensures.open;
-      honest = λ h. inv.honest (c.take_piece.ensures.honest h);
-      schema = λ h. c.take_piece.ensures.schema h ∙ inv.schema (c.take_piece.ensures.honest h);
-      beside = λ h b stood. c.take_piece.ensures.beside h b (inv.beside (c.take_piece.ensures.honest h) b stood);
+      same = same_after _ _ _ _ _ _ inv.same c.take_piece.ensures.same;
       so_far = (
         inv.so_far.0 ++ front,
         Consumes-append _ _ _ inv.so_far.0 front inv.so_far.1 read,
         held_more [] c.reads.held.items _ inv.so_far.0 front (inv.so_far.0 ++ front) inv.so_far.2 c.in-Ok-take_piece.ensures.held refl,
         omega (arith, some, inv.so_far.3, c.split_at.ensures.front_len, length-append inv.so_far.0 front),
-        λ h s stood. let before = c.take_piece.ensures.honest h in
+        λ h s stood. let before = c.take_piece.ensures.same.honest h in
             piece_told _ _ _ _ _ [] c.reads.held.items inv.so_far.0 front (inv.so_far.0 ++ front) _ _ _ _ _ _
-            (inv.so_far.4 before s stood) (inv.schema before) inv.so_far.2 (c.in-Ok-take_piece.ensures.ends h) refl,
+            (inv.so_far.4 before s stood) (inv.same.schema before) inv.so_far.2 (c.in-Ok-take_piece.ensures.ends h) refl,
       );
     }
 

@@ -1,6 +1,7 @@
 use Rattle.std.proofs.Common.{◌≡◌, ℕ, ◌≤◌, List, [], length, false}
 use Rattle.std.specs.Io.KnownBytes.{Consumes}
 use Rattle.plant_base.specs.State.{State}
+use Rattle.plant_desk.specs.Keeping.{IsSameDesk}
 use Rattle.plant_text.specs.Session.{Told}
 use Rattle.plant_text.specs.Held.{held_after, entries_after}
 use Rattle.plant_text.proofs.run.run_pieces.Given as goal
@@ -10,9 +11,7 @@ invariant-reads g l =
     let keeper = g.K.Keeper in
     record {
       not_shut : keeper.shut l.keeper ≡ false;
-      honest : keeper.honest l.keeper → keeper.honest l.fn.keeper;
-      schema : keeper.honest l.keeper → keeper.schema l.keeper ≡ keeper.schema l.fn.keeper;
-      beside : keeper.honest l.keeper → (b : keeper.Beside) → keeper.beside l.fn.keeper b → keeper.beside l.keeper b;
+      same : IsSameDesk keeper.honest keeper.schema keeper.beside l.fn.keeper l.keeper;
       so_far : (bytes : List ℕ) × Consumes (g.R.Read.remaining l.fn.reader) (g.R.Read.remaining l.reader) bytes
           × (l.held.items ≡ held_after [] bytes)
           × (l._made ≤ length bytes)

@@ -1,15 +1,14 @@
 use Rattle.std.proofs.Common.{◌≡◌, ◌+◌, ◌<◌, [], ◌∷◌, ◌++◌, get_or, take, drop, length, sym, ap, add-one, drop-cons, take-append-drop, ◌∙◌, refl, arith}
 use Rattle.std.proofs.lemmas.List.{take_more}
 use Rattle.plant_text.proofs.HeldLemmas.{held_more, held_after_none, entries_after_none}
+use Rattle.plant_desk.proofs.Same.{same_itself, same_after}
 use Rattle.plant_text.proofs.RunLemmas.{told_same, piece_told, piece_stops}
 use Rattle.plant_text.proofs.run.take_piece.Goals as goal
 
 pub loop-b-init : goal.loop-b-init
 loop-b-init g c = record {
   not_shut = c.requires;
-  honest = λ h. h;
-  schema = λ h. refl;
-  beside = λ h b stood. stood;
+  same = same_itself _ _ _ _;
   held = sym (held_after_none c.args.held.now.items);
   told = λ h s stood. told_same _ _ _ _ _ _ c.args.refused (entries_after_none c.args.held.now.items) refl stood;
 }
@@ -21,9 +20,9 @@ returns-in-Err-clause-ends g c = λ honest s stood e.
     let within : i < length xs = omega arith in
     let cut : xs ≡ take i xs ++ (get_or xs i 0 ∷ drop (i + 1) xs) = sym (take-append-drop i xs) ∙ ap (λ ys. take i xs ++ ys) (rw (add-one, drop-cons xs i 0) refl) in
     let inv = c.loop-b.invariant in
-    let before = c.take_byte.ensures.honest honest in
+    let before = c.take_byte.ensures.same.honest honest in
     piece_stops _ _ _ _ _ c.args.held.now.items c.loop-b.held.items (take i xs) (get_or xs i 0 ∷ []) (drop (i + 1) xs) xs _ _ _ _ _ _ _ c.in-Err.stop
-    (inv.told before s stood) (inv.schema before) inv.held (c.in-Err.ensures.ends honest) cut e
+    (inv.told before s stood) (inv.same.schema before) inv.held (c.in-Err.ensures.ends honest) cut e
 
 pub loop-b-preserved : goal.loop-b-preserved
 loop-b-preserved g c =
@@ -34,11 +33,9 @@ loop-b-preserved g c =
     let inv = c.loop-b.invariant in
     record {
       not_shut = c.in-Ok.ensures.open;
-      honest = λ h. inv.honest (c.take_byte.ensures.honest h);
-      schema = λ h. c.take_byte.ensures.schema h ∙ inv.schema (c.take_byte.ensures.honest h);
-      beside = λ h b stood. c.take_byte.ensures.beside h b (inv.beside (c.take_byte.ensures.honest h) b stood);
+      same = same_after _ _ _ _ _ _ inv.same c.take_byte.ensures.same;
       held = held_more c.args.held.now.items c.loop-b.held.items _ (take i xs) (get_or xs i 0 ∷ []) (take (i + 1) xs) inv.held c.in-Ok.ensures.held more;
-      told = λ h s stood. let before = c.take_byte.ensures.honest h in
+      told = λ h s stood. let before = c.take_byte.ensures.same.honest h in
           piece_told _ _ _ _ _ c.args.held.now.items c.loop-b.held.items (take i xs) (get_or xs i 0 ∷ []) (take (i + 1) xs) _ _ _ _ _ _
-          (inv.told before s stood) (inv.schema before) inv.held (c.in-Ok.ensures.ends h) more;
+          (inv.told before s stood) (inv.same.schema before) inv.held (c.in-Ok.ensures.ends h) more;
     }

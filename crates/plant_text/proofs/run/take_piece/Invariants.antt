@@ -1,5 +1,6 @@
 use Rattle.std.proofs.Common.{◌≡◌, false, take}
 use Rattle.plant_base.specs.State.{State}
+use Rattle.plant_desk.specs.Keeping.{IsSameDesk}
 use Rattle.plant_text.specs.Session.{Told}
 use Rattle.plant_text.specs.Held.{held_after, entries_after}
 use Rattle.plant_text.proofs.run.take_piece.Given as goal
@@ -9,9 +10,7 @@ invariant-loop-b g l =
     let keeper = g.K.Keeper in
     record {
       not_shut : keeper.shut l.keeper ≡ false;
-      honest : keeper.honest l.keeper → keeper.honest l.fn.keeper;
-      schema : keeper.honest l.keeper → keeper.schema l.keeper ≡ keeper.schema l.fn.keeper;
-      beside : keeper.honest l.keeper → (b : keeper.Beside) → keeper.beside l.fn.keeper b → keeper.beside l.keeper b;
+      same : IsSameDesk keeper.honest keeper.schema keeper.beside l.fn.keeper l.keeper;
       held : l.held.items ≡ held_after l.fn.held.items (take l.b-index l.piece);
       told : keeper.honest l.keeper → (s : State) → keeper.stands l.fn.keeper s
           → Told (keeper.schema l.fn.keeper) s (entries_after l.fn.held.items (take l.b-index l.piece))

@@ -2,7 +2,7 @@
 use Rattle.std.specs.Prelude.{ℕ, List, length, ◌++◌, codes, decimal, Result, Ok, Err}
 use Rattle.plant_base.specs.declared.rows.OrderRow.{OrderRow}
 use Rattle.plant_orders.specs.declared.fault.CsvFault.{CsvFault}
-use Rattle.plant_orders.specs.Orders.{kind_name}
+use Rattle.plant_orders.specs.Telling.{csv_text}
 use Rattle.order_check.specs.declared.verdict.Verdict.{Verdict}
 use Rattle.order_check.specs.declared.verdict.Verdict.TheVariants as verdict
 
@@ -13,7 +13,7 @@ verdict_of (Err fault) = verdict.Fault fault
 
 abbrev pub verdict_text : Verdict → List ℕ
 verdict_text (verdict.Orders count) = decimal count ++ codes " orders"
-verdict_text (verdict.Fault fault) = codes "csv row " ++ (decimal fault.row ++ (codes " " ++ kind_name fault.kind))
+verdict_text (verdict.Fault fault) = csv_text fault
 
 abbrev pub status_of : Verdict → ℕ
 status_of (verdict.Orders count) = 0

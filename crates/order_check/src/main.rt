@@ -27,7 +27,7 @@ fn main(rt: HostRuntime) -> ExitCode {
         let _ = eprintln!(rt; "usage: order_check < FILE");
         return ExitCode::from(USAGE);
     }
-    match judge(rt.alloc(), rt.reader()) {
+    match judge(rt.alloc(), &mut rt.reader()) {
         Ok(verdict) => match println!(rt; "{verdict}") {
             Ok(()) => ExitCode::from(verdict.status()),
             Err(_) => fails(&rt, "write", UNREAD),

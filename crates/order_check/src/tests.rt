@@ -19,12 +19,12 @@ impl Read for Broken {
 
 #[test]
 fn a_fault_is_told_in_words(rt: HostRuntime) -> Result<(), Fail> {
-    let file = b"order,recipe,version,size,due,priority
+    let mut file = b"order,recipe,version,size,due,priority
 O-1,CAKE,1,500,2027-03-01,5
 O-2,CAKE,1,500,2027-02-29,5
 "
         .as_slice();
-    match judge(rt.alloc(), file) {
+    match judge(rt.alloc(), &mut file) {
         Ok(verdict) => {
             assert!(rt; verdict.to_string(rt.alloc())?.as_str() == "csv row 2 Due");
             assert!(rt; verdict.status() == 1);
@@ -40,7 +40,7 @@ fn a_file_without_end_is_too_long(rt: HostRuntime) {
         row: 0,
         kind: CsvKind::TooLong,
     });
-    assert!(rt; judge(rt.alloc(), io::repeat(b'\n')) == Ok(fault));
+    assert!(rt; judge(rt.alloc(), &mut io::repeat(b'\n')) == Ok(fault));
 }
 
 #[test]
@@ -49,17 +49,17 @@ fn a_longest_file_is_judged(rt: HostRuntime) {
         row: 0,
         kind: CsvKind::Header,
     });
-    assert!(rt; judge(rt.alloc(), io::repeat(b'\n').take(LONGEST_FILE as u64)) == Ok(fault));
+    assert!(rt; judge(rt.alloc(), &mut io::repeat(b'\n').take(LONGEST_FILE as u64)) == Ok(fault));
 }
 
 #[test]
 fn a_failed_read_is_no_verdict(rt: HostRuntime) {
-    let broken = Broken {
+    let mut broken = Broken {
         kind: ErrorKind::Other,
     };
-    assert!(rt; judge(rt.alloc(), broken) == Err(Unjudged::Read));
-    let full = Broken {
+    assert!(rt; judge(rt.alloc(), &mut broken) == Err(Unjudged::Read));
+    let mut full = Broken {
         kind: ErrorKind::OutOfMemory,
     };
-    assert!(rt; judge(rt.alloc(), full) == Err(Unjudged::Memory));
+    assert!(rt; judge(rt.alloc(), &mut full) == Err(Unjudged::Memory));
 }

@@ -3,10 +3,10 @@ ghost use Rattle.std.specs.Prelude.{◌≡◌, IfOk, IfSome, Some};
 ghost use Rattle.plant_orders.specs.Orders.{orders_of};
 ghost use Rattle.order_check.specs.Verdicts.{verdict_of, verdict_text, status_of};
 
-use plant_orders::{CsvFault, CsvKind, LONGEST_FILE, read_orders};
+use plant_orders::{CsvFault, OrdersFault, orders_from};
 use std::alloc::Global;
 use std::fmt;
-use std::io::{ErrorKind, Read};
+use std::io::Read;
 
 /// What is told of an order file.
 #[derive(Clone, Copy, Debug, PartialEq, Eq)]
@@ -35,11 +35,7 @@ impl fmt::Display for Verdict {
     fn fmt<W: fmt::Write>(&self, f: &mut fmt::Formatter<W>) -> fmt::Result {
         match self {
             Verdict::Orders(count) => write!(f, "{count} orders"),
-            Verdict::Fault(fault) => {
-                let row = fault.row;
-                let kind = fault.kind.name();
-                write!(f, "csv row {row} {kind}")
-            }
+            Verdict::Fault(fault) => write!(f, "{fault}"),
         }
     }
 }
@@ -56,29 +52,14 @@ pub(crate) enum Unjudged {
 /// The verdict on the order file that a reader gives to its end. No more is read of it than shows that it is too long.
 ///
 /// `Read` comes where a read failed, and `Memory` where memory was refused.
-pub(crate) fn judge<R: Read + Drop>(alloc: Global, reader: R) -> Result<Verdict, Unjudged>
-    ensures { IfOk result (λ verdict. IfSome (R.remaining reader)
+pub(crate) fn judge<R: Read>(alloc: Global, reader: &mut R) -> Result<Verdict, Unjudged>
+    ensures { IfOk result (λ verdict. IfSome (R.remaining reader.old)
         (λ bytes. verdict ≡ verdict_of (orders_of bytes))) }
 {
-    let mut bytes = Vec::new(alloc);
-    let mut front = reader.take(LONGEST_FILE as u64 + 1);
-    match front.read_to_end(&mut bytes) {
-        Ok(_) => verdict_on(alloc, &bytes),
-        Err(error) => match error.kind() {
-            ErrorKind::OutOfMemory => Err(Unjudged::Memory),
-            _ => Err(Unjudged::Read),
-        },
-    }
-}
-
-fn verdict_on(alloc: Global, bytes: &[u8]) -> Result<Verdict, Unjudged>
-    ensures { IfOk result (λ verdict. verdict ≡ verdict_of (orders_of bytes.now)) }
-{
-    match read_orders(alloc, bytes) {
+    match orders_from(alloc, reader) {
         Ok(orders) => Ok(Verdict::Orders(orders.as_slice().len())),
-        Err(fault) => match fault.kind {
-            CsvKind::Memory => Err(Unjudged::Memory),
-            _ => Ok(Verdict::Fault(fault)),
-        },
+        Err(OrdersFault::Csv(fault)) => Ok(Verdict::Fault(fault)),
+        Err(OrdersFault::Read) => Err(Unjudged::Read),
+        Err(OrdersFault::Memory) => Err(Unjudged::Memory),
     }
 }

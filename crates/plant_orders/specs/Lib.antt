@@ -1,3 +1,4 @@
 pub mod Numbers
 pub mod Orders
 pub mod Standing
+pub mod Telling

@@ -1,7 +1,9 @@
-ghost use Rattle.std.specs.Prelude.{◌≡◌};
+ghost use Rattle.std.specs.Prelude.{◌≡◌, Some};
 ghost use Rattle.plant_orders.specs.Orders.{kind_name};
+ghost use Rattle.plant_orders.specs.Telling.{csv_text};
 
-use thiserror::Error;
+use std::error::Error;
+use std::fmt;
 
 /// What is wrong with an order file or one of its rows.
 #[derive(Clone, Copy, Debug, PartialEq, Eq)]
@@ -51,14 +53,25 @@ impl CsvKind {
     }
 }
 
-/// The first fault of an order file.
-#[derive(Clone, Copy, Debug, PartialEq, Eq, Error)]
-#[error("a fault in an order file")]
+/// The first fault of an order file. As a text it is `csv row R KIND`.
+#[derive(Clone, Copy, Debug, PartialEq, Eq)]
 pub struct CsvFault {
     /// The row among the records behind the header, from 1 on; 0 for the header and the file as a whole.
     pub row: u16,
     pub kind: CsvKind,
 }
+
+impl fmt::Display for CsvFault {
+    ghost output = { λ fault. Some (csv_text fault) };
+
+    fn fmt<W: fmt::Write>(&self, f: &mut fmt::Formatter<W>) -> fmt::Result {
+        let row = self.row;
+        let kind = self.kind.name();
+        write!(f, "csv row {row} {kind}")
+    }
+}
+
+impl Error for CsvFault {}
 
 /// Memory was refused.
 pub(crate) const MEMORY: CsvFault = CsvFault {

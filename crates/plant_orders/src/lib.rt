@@ -4,6 +4,8 @@
 mod fault;
 mod read;
 mod row;
+mod source;
 
 pub use fault::{CsvFault, CsvKind};
 pub use read::{LONGEST_FILE, read_orders};
+pub use source::{OrdersFault, orders_from};

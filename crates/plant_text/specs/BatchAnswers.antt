@@ -1,12 +1,11 @@
 -- The JSON trees of answers about batches.
-use Rattle.std.specs.Prelude.{ℕ, Bool, true, false, if◌then◌else◌, List, map, codes, count_by}
+use Rattle.std.specs.Prelude.{ℕ, Bool, true, false, if◌then◌else◌, List, map, codes}
 use Rattle.serde_json.specs.Data.{Data, Items, boolean, string, array, object, member, no_members}
 use Rattle.serde_json.specs.View.{items_of}
 use Rattle.plant_base.specs.Words.{batch_state_name}
-use Rattle.plant_recipe.specs.Form.{is_phase}
 use Rattle.plant_desk.specs.declared.question.BatchView.{BatchView}
 use Rattle.plant_desk.specs.declared.question.Booking.{Booking}
-use Rattle.plant_desk.specs.declared.question.MeasuredLine.{MeasuredLine}
+use Rattle.plant_record.specs.Record.{phases_in}
 use Rattle.plant_text.specs.Natural.{natural}
 
 -- what a batch took, with the sublot
@@ -24,10 +23,6 @@ booking_data taken b = if taken then consumed_data b else produced_data b
 
 abbrev pub bookings_data : Bool → List Booking → Items
 bookings_data taken bookings = items_of (map (booking_data taken) bookings)
-
--- how many phases the control recipe has
-abbrev pub phases_in : List MeasuredLine → ℕ
-phases_in lines = count_by (λ l. is_phase l.line.line) lines
 
 abbrev pub batch_data : BatchView → Data
 batch_data v = object (member (codes "attempt") (natural v.progress.attempt) (member (codes "batch") (string v.batch.id) (member (codes "closed") (boolean v.progress.closed)

@@ -3,11 +3,10 @@ ghost use Rattle.std.specs.Prelude.{◌≡◌, IfOk, string_bytes};
 ghost use Rattle.serde_json.specs.Data.{array};
 ghost use Rattle.serde_json.specs.View.{view};
 ghost use Rattle.serde_json.specs.Written.{compact_text};
-ghost use Rattle.plant_recipe.specs.Form.{is_phase};
-ghost use Rattle.plant_text.specs.BatchAnswers.{consumed_data, produced_data, booking_data, bookings_data, phases_in, batch_data};
+ghost use Rattle.plant_text.specs.BatchAnswers.{consumed_data, produced_data, booking_data, bookings_data, batch_data};
 
-use plant_base::RecipeLine;
-use plant_desk::{BatchView, Booking, MeasuredLine};
+use plant_desk::{BatchView, Booking};
+use plant_record::phases_in;
 use serde_json::{Value, json};
 use std::alloc::{AllocError, Global};
 
@@ -49,19 +48,6 @@ fn bookings_value(alloc: Global, bookings: &[Booking], taken: bool) -> Result<Va
         list.push(value)?;
     }
     Ok(Value::Array(list))
-}
-
-// How many phases the control recipe has.
-fn phases_in(lines: &[MeasuredLine]) -> usize
-    ensures { result ≡ phases_in lines.now }
-{
-    lines.iter().filter(|l| is_phase(l.line.line)).count()
-}
-
-fn is_phase(line: RecipeLine) -> bool
-    ensures { result ≡ is_phase line }
-{
-    matches!(line, RecipeLine::Phase { .. })
 }
 
 fn batch_value(alloc: Global, batch: &BatchView) -> Result<Value, AllocError>

@@ -1,5 +1,5 @@
 //! The desk in lines of JSON (RFC 8259): what a line says, the texts of replies and answers, and the run over the
-//! lines of an input.
+//! lines of an input; and the batch record, which is no JSON.
 #![tactic(auto)]
 
 mod answers;
@@ -18,6 +18,7 @@ mod turns;
 mod writes;
 
 pub use answers::answer_text;
+pub use plant_record::record;
 pub use read::{Line, LineFault, read_line};
 pub use replies::{ReplyText, fault_line, reply_line};
 pub use run::{RunEnd, run_lines, run_lines_within};

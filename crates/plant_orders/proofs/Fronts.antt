@@ -1,0 +1,40 @@
+-- What the front of a text tells of the text.
+use Rattle.std.proofs.Common.{◌≡◌, ℕ, ◌<◌, true, nat_lt, List, [], ◌++◌, length, take, Option, Some, None, Result, Ok, Err, IfOk, IfErr, IfSome, refl, sym, ap, ◌∙◌, ⊎_elim, arith, subst}
+use Rattle.std.specs.Option.{option_map}
+use Rattle.std.proofs.lemmas.Bool.Decides.{nat_tests}
+use Rattle.std.proofs.lemmas.Bool.{cases_lt}
+use Rattle.std.proofs.lemmas.List.{length-take-le, take_all}
+use Rattle.plant_base.specs.declared.rows.OrderRow.{OrderRow}
+use Rattle.plant_orders.specs.Orders.{fault, orders_of}
+use Rattle.plant_orders.specs.Telling.{TellsOf}
+use Rattle.plant_orders.specs.declared.fault.CsvFault.{CsvFault}
+use Rattle.plant_orders.specs.declared.source.OrdersFault.{OrdersFault}
+use Rattle.plant_orders.specs.declared.fault.CsvKind.TheVariants as kind
+
+too_long : (text : List ℕ) → 262144 < length text → orders_of text ≡ Err (fault 0 kind.TooLong)
+unfolding orders_of
+too_long text above = let is : nat_lt 262144 (length text) ≡ true = grind (arith, nat_tests) in rw is refl
+
+-- a file is judged by its first 262,145 bytes
+front_says : (text : List ℕ) → orders_of (take 262145 text) ≡ orders_of text
+front_says text =
+    ⊎_elim (λ above. too_long (take 262145 text) (rw (length-take-le 262145 text above) (omega arith)) ∙ sym (too_long text above))
+    (λ below. ap orders_of (take_all 262145 text (omega (arith, below)))) (cases_lt 262144 (length text))
+
+-- so what is said of the front of a text is said of the text
+said_of_text : (says : Result (List OrderRow) CsvFault → Type 0) (n : ℕ) → n ≡ 262145 → (known : Option (List ℕ)) (front : List ℕ)
+    → says (orders_of front) → IfSome (option_map (take n) known) (λ read. front ≡ read) → IfSome known (λ text. says (orders_of text))
+said_of_text says n limit (Some text) front said is = subst says (ap orders_of (is ∙ ap (λ m. take m text) limit) ∙ front_says text) said
+said_of_text says n limit None front said is = tt
+
+-- the orders, or the fault, that a front tells
+pub told_of_front : (n : ℕ) → n ≡ 262145 → (r : Result (List OrderRow) OrdersFault) (known : Option (List ℕ)) (front : List ℕ)
+    → IfOk r (λ orders. orders_of front ≡ Ok orders) → IfErr r (λ e. TellsOf e (orders_of front)) → IfSome (option_map (take n) known) (λ read. front ≡ read)
+    → IfOk r (λ orders. IfSome known (λ text. orders_of text ≡ Ok orders)) × IfErr r (λ e. IfSome known (λ text. TellsOf e (orders_of text)))
+told_of_front n limit (Ok orders) known front gives fails is = (said_of_text (λ says. says ≡ Ok orders) n limit known front gives is, tt)
+told_of_front n limit (Err e) known front gives fails is = (tt, said_of_text (λ says. TellsOf e says) n limit known front fails is)
+
+-- what was read into an empty room
+pub read_into_nothing : (known : Option (List ℕ)) (old new front : List ℕ) → old ≡ [] → front ≡ new → IfSome known (λ text. new ≡ old ++ text) → IfSome known (λ text. front ≡ text)
+read_into_nothing None old new front empty is says = tt
+read_into_nothing (Some text) old new front empty is says = is ∙ says ∙ ap (λ room. room ++ text) empty

@@ -1,0 +1,9 @@
+use Rattle.plant_orders.proofs.Fronts.{read_into_nothing, told_of_front}
+use Rattle.plant_orders.proofs.source.orders_from.Goals as goal
+
+pub returns-in-Ok : goal.returns-in-Ok
+returns-in-Ok g c =
+    let read = read_into_nothing _ _ _ c.deref.result.now c.new-bytes.ensures.items c.deref.ensures.value c.in-Ok.ensures.bytes in
+    let told = told_of_front c.take-front.result.limit c.take-front.ensures.limit c.orders_in.result (g.R.Read.remaining c.args.reader.now) c.deref.result.now
+    c.orders_in.ensures.orders c.orders_in.ensures.fault (rw c.take-front.ensures.inner at read) in
+    record { orders = told.0; fault = told.1 }

@@ -1,0 +1,79 @@
+//! The reading of an order file from a source, of which no more is read than has to be.
+ghost use Rattle.std.specs.Prelude.{◌≡◌, ◌≢◌, IfOk, IfErr, IfSome, Ok};
+ghost use Rattle.std.specs.IoError.{error_kind};
+ghost use Rattle.plant_orders.specs.Orders.{orders_of};
+ghost use Rattle.plant_orders.specs.Telling.{TellsOf};
+
+use crate::fault::{CsvFault, CsvKind};
+use crate::read::{LONGEST_FILE, read_orders};
+use plant_base::{Items, OrderRow};
+use std::alloc::Global;
+use std::io;
+use std::io::{ErrorKind, Read};
+use thiserror::Error;
+
+/// Why a source gives no orders.
+#[derive(Clone, Copy, Debug, PartialEq, Eq, Error)]
+pub enum OrdersFault {
+    /// The first fault of the file, whose kind isn't [`CsvKind::Memory`].
+    #[error("{0}")]
+    Csv(CsvFault),
+    /// A read failed.
+    #[error("a read failed")]
+    Read,
+    /// Memory was refused.
+    #[error("out of memory")]
+    Memory,
+}
+
+/// What a fault of [`read_orders`] is told as: want of memory is no fault of the file.
+fn fault_of(fault: CsvFault) -> OrdersFault
+    ensures csv { fault.kind ≢ CsvKind.Memory → result ≡ OrdersFault.Csv fault }
+    ensures memory { fault.kind ≡ CsvKind.Memory → result ≡ OrdersFault.Memory }
+{
+    match fault.kind {
+        CsvKind::Memory => OrdersFault::Memory,
+        _ => OrdersFault::Csv(fault),
+    }
+}
+
+/// What a failed reading to the end is told as.
+fn read_fault(error: &io::Error) -> OrdersFault
+    ensures memory { error_kind error.now ≡ ErrorKind.OutOfMemory → result ≡ OrdersFault.Memory }
+    ensures read { error_kind error.now ≢ ErrorKind.OutOfMemory → result ≡ OrdersFault.Read }
+{
+    match error.kind() {
+        ErrorKind::OutOfMemory => OrdersFault::Memory,
+        _ => OrdersFault::Read,
+    }
+}
+
+/// The orders of the order file that a reader gives to its end, as [`read_orders`] reads it. No more is read of it than
+/// shows that it is too long: one byte more than the longest file.
+///
+/// `Csv` tells the first fault of the file, `Read` comes where a read failed, and `Memory` where memory was refused.
+pub fn orders_from<R: Read>(alloc: Global, reader: &mut R) -> Result<Items<OrderRow>, OrdersFault>
+    ensures orders { IfOk result (λ orders. IfSome (R.remaining reader.old)
+        (λ bytes. orders_of bytes ≡ Ok orders)) }
+    ensures fault { IfErr result (λ fault. IfSome (R.remaining reader.old)
+        (λ bytes. TellsOf fault (orders_of bytes))) }
+{
+    let mut bytes = Vec::new(alloc);
+    let mut front = reader.take(LONGEST_FILE as u64 + 1);
+    match front.read_to_end(&mut bytes) {
+        Ok(_) => orders_in(alloc, &bytes),
+        Err(error) => Err(read_fault(&error)),
+    }
+}
+
+/// The orders of a file that was read.
+fn orders_in(alloc: Global, bytes: &[u8]) -> Result<Items<OrderRow>, OrdersFault>
+    ensures orders { IfOk result (λ orders. orders_of bytes.now ≡ Ok orders) }
+    ensures fault { IfErr result (λ fault. TellsOf fault (orders_of bytes.now)) }
+    ensures judged { IfErr result (λ fault. fault ≢ OrdersFault.Read) }
+{
+    match read_orders(alloc, bytes) {
+        Ok(orders) => Ok(orders),
+        Err(fault) => Err(fault_of(fault)),
+    }
+}

@@ -1,0 +1,12 @@
+//! The batch record as a text: what was asked for, what happened, and what was consumed and produced.
+#![tactic(auto)]
+
+mod head;
+mod items;
+mod lines;
+mod sections;
+mod totals;
+mod whole;
+
+pub use head::phases_in;
+pub use whole::record;

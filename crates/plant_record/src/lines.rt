@@ -1,0 +1,172 @@
+//! The lines of the sections.
+ghost use Rattle.std.specs.Prelude.{◌≡◌, Some};
+ghost use Rattle.plant_record.specs.Record.{consumed_text, control_text, event_text, event_word, produced_text, recipe_line_text, sublot_text};
+
+use crate::items::{AtBy, InSix, InThree, Measured};
+use plant_base::{BatchEvent, Event, Id, RecipeLine, Unit};
+use plant_desk::{Booking, MeasuredLine};
+use std::fmt;
+
+/// A line of a recipe, with the unit of its amount.
+#[derive(Clone, Copy)]
+struct RecipeWords {
+    line: RecipeLine,
+    unit: Option<Unit>,
+}
+
+impl fmt::Display for RecipeWords {
+    ghost output = { λ l. Some (recipe_line_text l.line l.unit) };
+
+    fn fmt<W: fmt::Write>(&self, f: &mut fmt::Formatter<W>) -> fmt::Result {
+        let unit = self.unit;
+        match self.line {
+            RecipeLine::In { def, amount } => {
+                let what = Measured { def, amount, unit };
+                write!(f, "in {what}")
+            }
+            RecipeLine::Out { def, amount } => {
+                let what = Measured { def, amount, unit };
+                write!(f, "out {what}")
+            }
+            RecipeLine::Parameter { name, value } => {
+                let name = name.as_str();
+                let value = value.as_str();
+                write!(f, "par {name} {value}")
+            }
+            RecipeLine::Phase {
+                unit_procedure,
+                operation,
+                phase,
+            } => {
+                let procedure = unit_procedure.as_str();
+                let operation = operation.as_str();
+                let phase = phase.as_str();
+                write!(f, "phase {procedure} {operation} {phase}")
+            }
+        }
+    }
+}
+
+/// A line of the control recipe.
+#[derive(Clone, Copy)]
+pub(crate) struct ControlText(pub(crate) MeasuredLine);
+
+impl fmt::Display for ControlText {
+    ghost output = { λ l. Some (control_text l.0) };
+
+    fn fmt<W: fmt::Write>(&self, f: &mut fmt::Formatter<W>) -> fmt::Result {
+        let number = InThree(self.0.line.number);
+        let words = RecipeWords {
+            line: self.0.line.line,
+            unit: self.0.unit,
+        };
+        write!(f, "{number} {words}")
+    }
+}
+
+/// What an event is called.
+#[derive(Clone, Copy)]
+struct EventWord(Event);
+
+impl fmt::Display for EventWord {
+    ghost output = { λ e. Some (event_word e.0) };
+
+    fn fmt<W: fmt::Write>(&self, f: &mut fmt::Formatter<W>) -> fmt::Result {
+        match self.0 {
+            Event::Moved(word) => f.write_str(word.name()),
+            Event::PhaseDone(phase) => write!(f, "phase {phase}"),
+            Event::Closed => f.write_str("close"),
+        }
+    }
+}
+
+/// The line of an event.
+#[derive(Clone, Copy)]
+pub(crate) struct EventText(pub(crate) BatchEvent);
+
+impl fmt::Display for EventText {
+    ghost output = { λ e. Some (event_text e.0) };
+
+    fn fmt<W: fmt::Write>(&self, f: &mut fmt::Formatter<W>) -> fmt::Result {
+        let event = self.0;
+        let seq = InSix(event.seq);
+        let word = EventWord(event.event);
+        let told = AtBy {
+            at: event.at,
+            by: event.by,
+            note: event.note,
+        };
+        write!(f, "{seq} {word} {told}")
+    }
+}
+
+/// A sublot by its lot and its number.
+#[derive(Clone, Copy)]
+struct SublotWord {
+    lot: Id,
+    sub: u16,
+}
+
+impl fmt::Display for SublotWord {
+    ghost output = { λ s. Some (sublot_text s.lot s.sub) };
+
+    fn fmt<W: fmt::Write>(&self, f: &mut fmt::Formatter<W>) -> fmt::Result {
+        let lot = self.lot.as_str();
+        let sub = self.sub;
+        write!(f, "{lot}/{sub}")
+    }
+}
+
+/// The line of what was consumed.
+#[derive(Clone, Copy)]
+pub(crate) struct ConsumedText(pub(crate) Booking);
+
+impl fmt::Display for ConsumedText {
+    ghost output = { λ b. Some (consumed_text b.0) };
+
+    fn fmt<W: fmt::Write>(&self, f: &mut fmt::Formatter<W>) -> fmt::Result {
+        let booking = self.0;
+        let seq = InSix(booking.seq);
+        let sublot = SublotWord {
+            lot: booking.lot,
+            sub: booking.sub,
+        };
+        let what = Measured {
+            def: booking.def,
+            amount: booking.amount,
+            unit: Some(booking.unit),
+        };
+        let told = AtBy {
+            at: booking.at,
+            by: booking.by,
+            note: booking.note,
+        };
+        write!(f, "{seq} {sublot} {what} {told}")
+    }
+}
+
+/// The line of what was produced.
+#[derive(Clone, Copy)]
+pub(crate) struct ProducedText(pub(crate) Booking);
+
+impl fmt::Display for ProducedText {
+    ghost output = { λ b. Some (produced_text b.0) };
+
+    fn fmt<W: fmt::Write>(&self, f: &mut fmt::Formatter<W>) -> fmt::Result {
+        let booking = self.0;
+        let seq = InSix(booking.seq);
+        let lot = booking.lot.as_str();
+        let what = Measured {
+            def: booking.def,
+            amount: booking.amount,
+            unit: Some(booking.unit),
+        };
+        let scrapped = booking.scrapped;
+        let told = AtBy {
+            at: booking.at,
+            by: booking.by,
+            note: booking.note,
+        };
+        write!(f, "{seq} {lot} {what} scrapped {scrapped} {told}")
+    }
+}

@@ -1,0 +1,172 @@
+//! The totals of the record: what was asked for, and what was booked.
+ghost use Rattle.std.specs.Prelude.{◌≡◌, ◌≤◌, Some};
+ghost use Rattle.std.specs.List.{flat_map};
+ghost use Rattle.plant_base.specs.State.{same};
+ghost use Rattle.plant_base.specs.Values.{greatest_amount};
+ghost use Rattle.plant_record.specs.Record.{amount_of, asked_and_booked, booked_of, input_total, output_total, totals_text};
+
+use plant_base::{Amount, Id, RecipeLine};
+use plant_desk::{BatchView, Booking, MeasuredLine};
+use std::fmt;
+
+/// The amount of a booking, if it is one of the definition.
+fn amount_of(def: Id, booking: &Booking) -> u64
+    ensures value { result ≡ amount_of def booking.now }
+    ensures small { result ≤ greatest_amount }
+{
+    if booking.def == def {
+        booking.amount.get()
+    } else {
+        0
+    }
+}
+
+/// How much of a definition was booked.
+#[tactic(auto, unfolding(crate::specs::Record::booked_of))]
+fn booked_of(def: Id, bookings: &[Booking]) -> u128
+    ensures { result ≡ booked_of def bookings.now }
+{
+    let mut booked: u128 = 0;
+    for booking in bookings {
+        booked += u128::from(amount_of(def, booking));
+    }
+    booked
+}
+
+/// What was asked for of a definition, and what was booked of it.
+#[derive(Clone, Copy)]
+struct AskedAndBooked<'a> {
+    def: Id,
+    asked: Amount,
+    bookings: &'a [Booking],
+}
+
+impl fmt::Display for AskedAndBooked<'_> {
+    ghost output = { λ t. Some (asked_and_booked t.def t.asked t.bookings.now) };
+
+    fn fmt<W: fmt::Write>(&self, f: &mut fmt::Formatter<W>) -> fmt::Result {
+        let def = self.def.as_str();
+        let asked = self.asked.get();
+        let booked = booked_of(self.def, self.bookings);
+        write!(f, "{def} asked {asked} booked {booked}")
+    }
+}
+
+/// The line of an input; nothing of another line.
+#[derive(Clone, Copy)]
+struct InputTotal<'a> {
+    line: RecipeLine,
+    consumed: &'a [Booking],
+}
+
+impl fmt::Display for InputTotal<'_> {
+    ghost output = { λ t. Some (input_total t.consumed.now t.line) };
+
+    fn fmt<W: fmt::Write>(&self, f: &mut fmt::Formatter<W>) -> fmt::Result {
+        match self.line {
+            RecipeLine::In { def, amount } => {
+                let total = AskedAndBooked {
+                    def,
+                    asked: amount,
+                    bookings: self.consumed,
+                };
+                writeln!(f, "in {total}")
+            }
+            RecipeLine::Out { .. } | RecipeLine::Parameter { .. } | RecipeLine::Phase { .. } => {
+                Ok(())
+            }
+        }
+    }
+}
+
+/// The line of an output; nothing of another line.
+#[derive(Clone, Copy)]
+struct OutputTotal<'a> {
+    line: RecipeLine,
+    produced: &'a [Booking],
+}
+
+impl fmt::Display for OutputTotal<'_> {
+    ghost output = { λ t. Some (output_total t.produced.now t.line) };
+
+    fn fmt<W: fmt::Write>(&self, f: &mut fmt::Formatter<W>) -> fmt::Result {
+        match self.line {
+            RecipeLine::Out { def, amount } => {
+                let total = AskedAndBooked {
+                    def,
+                    asked: amount,
+                    bookings: self.produced,
+                };
+                writeln!(f, "out {total}")
+            }
+            RecipeLine::In { .. } | RecipeLine::Parameter { .. } | RecipeLine::Phase { .. } => {
+                Ok(())
+            }
+        }
+    }
+}
+
+/// The last section: the totals of the inputs, then those of the outputs.
+#[derive(Clone, Copy)]
+pub(crate) struct Totals<'a>(pub(crate) &'a BatchView);
+
+impl fmt::Display for Totals<'_> {
+    ghost output = { λ t. Some (totals_text t.0.now) };
+
+    fn fmt<W: fmt::Write>(&self, f: &mut fmt::Formatter<W>) -> fmt::Result {
+        let view = self.0;
+        let inputs = InputTotals {
+            lines: view.lines.as_slice(),
+            consumed: view.consumed.as_slice(),
+        };
+        let outputs = OutputTotals {
+            lines: view.lines.as_slice(),
+            produced: view.produced.as_slice(),
+        };
+        write!(f, "TOTALS\n{inputs}{outputs}")
+    }
+}
+
+/// The totals of the inputs, in the order of the control recipe.
+#[derive(Clone, Copy)]
+struct InputTotals<'a> {
+    lines: &'a [MeasuredLine],
+    consumed: &'a [Booking],
+}
+
+impl fmt::Display for InputTotals<'_> {
+    ghost output = { λ t. Some (flat_map (λ l. input_total t.consumed.now l.line.line) t.lines.now) };
+
+    fn fmt<W: fmt::Write>(&self, f: &mut fmt::Formatter<W>) -> fmt::Result {
+        for measured in self.lines {
+            let total = InputTotal {
+                line: measured.line.line,
+                consumed: self.consumed,
+            };
+            write!(f, "{total}")?;
+        }
+        Ok(())
+    }
+}
+
+/// The totals of the outputs, in the order of the control recipe.
+#[derive(Clone, Copy)]
+struct OutputTotals<'a> {
+    lines: &'a [MeasuredLine],
+    produced: &'a [Booking],
+}
+
+impl fmt::Display for OutputTotals<'_> {
+    ghost output = { λ t. Some (flat_map (λ l. output_total t.produced.now l.line.line) t.lines.now) };
+
+    fn fmt<W: fmt::Write>(&self, f: &mut fmt::Formatter<W>) -> fmt::Result {
+        for measured in self.lines {
+            let total = OutputTotal {
+                line: measured.line.line,
+                produced: self.produced,
+            };
+            write!(f, "{total}")?;
+        }
+        Ok(())
+    }
+}

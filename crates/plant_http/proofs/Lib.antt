@@ -1,0 +1,3 @@
+pub mod Short
+pub mod Performing
+pub mod Serving

@@ -1,0 +1,121 @@
+-- From a job that was read to the request of the whole input.
+use Rattle.std.proofs.Common.{◌≡◌, ℕ, ◌+◌, ◌≤◌, ◌==◌, Bool, true, false, List, [], ◌∷◌, ◌++◌, length, take, Option, Some, None, Result, Ok, Err, refl, sym, ap, ◌∙◌, arith}
+use Rattle.std.specs.Prelude.{IfSome, nat_le, if◌then◌else◌}
+use Rattle.std.specs.Io.KnownBytes.{Consumes, Keeps}
+use Rattle.std.proofs.lemmas.Bool.Decides.{nat_tests}
+use Rattle.std.proofs.lemmas.List.{length-append}
+use Rattle.plant_base.specs.State.{State}
+use Rattle.plant_desk.specs.Keeping.{States}
+use Rattle.plant_http_input.specs.Head.{end_of_head, end_where, head_length}
+use Rattle.plant_http_input.specs.Reading.{SpentAll}
+use Rattle.plant_http_input.specs.declared.reading.HeadEnd.{HeadEnd}
+use Rattle.plant_http_input.specs.declared.reading.HeadEnd.TheVariants as head
+use Rattle.plant_http_requests.specs.Jobs.{AsksFor, EndJob, JobOf, most_reads}
+use Rattle.plant_http_requests.specs.declared.job.Job.{Job}
+use Rattle.plant_http.specs.Answers.{answer_bytes, shut_out}
+use Rattle.plant_http.specs.Serving.{Serves, ServesShut, Answers, AnswersJobShut, Untouched, end_of}
+use Rattle.plant_text.specs.Leaving.{LeavesAlone}
+use Rattle.plant_http_input.specs.declared.reading.InputFault.{InputFault}
+use Rattle.plant_http_input.specs.declared.reading.InputFault.TheVariants as input
+use Rattle.plant_http.specs.declared.serve.Served.{Served}
+use Rattle.plant_http.specs.declared.serve.Served.TheVariants.{Answered, Nothing}
+use Rattle.plant_http.specs.declared.serve.ServeFault.{ServeFault}
+use Rattle.plant_http.specs.declared.serve.ServeFault.TheVariants as end
+use Rattle.plant_http.proofs.Performing.{reads_performs, reads_silent, reads_shut}
+
+pub known_kept : (a : Option (List ℕ)) → Keeps a a
+known_kept None = tt
+known_kept (Some x) = refl
+
+-- ---- an input without a byte
+
+nothing_at_end : (e : HeadEnd) (whole : List ℕ) → EndJob e whole None → e ≡ head.Nothing
+nothing_at_end head.Nothing whole h = refl
+nothing_at_end head.Early whole h = absurd (cc)
+nothing_at_end head.TooLong whole h = absurd (cc)
+nothing_at_end (head.Found n) whole (j, h, is) = absurd (cc)
+
+empty_end : (o : Option ℕ) (whole : List ℕ) → end_where o whole ≡ head.Nothing → whole ≡ []
+empty_end (Some n) whole h = absurd (cc)
+empty_end None [] h = refl
+empty_end None (b ∷ whole) h = by (nat_le 8192 (length (b ∷ whole))) (length (b ∷ whole) == 0) (grind (arith, nat_tests)) h
+  where
+    by : (long zero : Bool) → zero ≡ false → (if long then head.TooLong else (if zero then head.Nothing else head.Early)) ≡ head.Nothing → b ∷ whole ≡ []
+    by true zero e h = absurd (cc)
+    by false true e h = absurd (cc)
+    by false false e h = absurd (cc)
+
+pub none_is_empty : (whole : List ℕ) → AsksFor whole None → whole ≡ []
+unfolding end_of_head
+none_is_empty whole (None, is, reads) = empty_end _ whole (nothing_at_end (end_of_head whole) whole is)
+none_is_empty whole (Some j, is, reads) = absurd (cc)
+
+-- ---- all reads of a request
+
+pub many_bytes : (left left' : Option (List ℕ)) → SpentAll most_reads left left' → IfSome left (λ whole. 4096 ≤ length whole)
+many_bytes None left' h = tt
+many_bytes (Some whole) None (taken, is, many) = absurd is
+many_bytes (Some whole) (Some rest) (taken, is, many) = let size : length whole ≡ length taken + length rest = ap length is ∙ length-append taken rest in omega (arith, size, many)
+
+-- ---- a job that is there
+
+pub serves_by_job : (k : ℕ) (s : State) (whole : List ℕ) (job : Job) (old new : Option (List ℕ)) (stands : States) (shut : Bool) (leaves : States → Type 0) (r : Result Served ServeFault)
+    → AsksFor whole (Some job) → Answers k s job old new stands shut leaves r → Serves k s whole old new stands shut leaves r
+serves_by_job k s whole job old new stands shut leaves (Ok Nothing) a h = absurd h
+serves_by_job k s whole job old new stands shut leaves (Err end.Read) a h = absurd h
+serves_by_job k s whole job old new stands shut leaves (Err end.Endless) a h = absurd h
+serves_by_job k s whole job old new stands shut leaves (Err end.Memory) a h = absurd h
+serves_by_job k s whole job old new stands shut leaves (Ok (Answered code)) (None, is, reads) h = absurd reads
+serves_by_job k s whole job old new stands shut leaves (Err end.Write) (None, is, reads) h = absurd reads
+serves_by_job k s whole job old new stands shut leaves (Ok (Answered code)) (Some j, is, reads) (out, did, is_code, wrote) =
+    (j, is, out, reads_performs k s job j out stands shut leaves reads did, (is_code, rw (sym (reads_silent job j reads)) wrote))
+serves_by_job k s whole job old new stands shut leaves (Err end.Write) (Some j, is, reads) (out, did, wrote) =
+    (j, is, out, reads_performs k s job j out stands shut leaves reads did, rw (sym (reads_silent job j reads)) wrote)
+
+pub shut_by_job : (whole : List ℕ) (job : Job) (old new : Option (List ℕ)) (r : Result Served ServeFault)
+    → AsksFor whole (Some job) → AnswersJobShut job old new r → ServesShut whole old new r
+shut_by_job whole job old new (Ok Nothing) a h = absurd h
+shut_by_job whole job old new (Err end.Read) a h = absurd h
+shut_by_job whole job old new (Err end.Endless) a h = absurd h
+shut_by_job whole job old new (Err end.Memory) a h = absurd h
+shut_by_job whole job old new (Ok (Answered code)) (None, is, reads) h = absurd reads
+shut_by_job whole job old new (Err end.Write) (None, is, reads) h = absurd reads
+shut_by_job whole job old new (Ok (Answered code)) (Some j, is, reads) (is_code, wrote) =
+    (j, is, shut_out job, reads_shut job j reads, (is_code, rw (sym (reads_silent job j reads)) wrote))
+shut_by_job whole job old new (Err end.Write) (Some j, is, reads) wrote =
+    (j, is, shut_out job, reads_shut job j reads, rw (sym (reads_silent job j reads)) wrote)
+
+-- ---- inputs that may not be known
+
+pub serves_known : (k : ℕ) (s : State) (start : Option (List ℕ)) (job : Job) (old new : Option (List ℕ)) (stands : States) (shut : Bool) (leaves : States → Type 0) (r : Result Served ServeFault)
+    → IfSome start (λ whole. AsksFor whole (Some job)) → Answers k s job old new stands shut leaves r → IfSome start (λ whole. Serves k s whole old new stands shut leaves r)
+serves_known k s None job old new stands shut leaves r a h = tt
+serves_known k s (Some whole) job old new stands shut leaves r a h = serves_by_job k s whole job old new stands shut leaves r a h
+
+pub shut_known : (start : Option (List ℕ)) (job : Job) (old new : Option (List ℕ)) (r : Result Served ServeFault)
+    → IfSome start (λ whole. AsksFor whole (Some job)) → AnswersJobShut job old new r → IfSome start (λ whole. ServesShut whole old new r)
+shut_known None job old new r a h = tt
+shut_known (Some whole) job old new r a h = shut_by_job whole job old new r a h
+
+pub serves_nothing : (k : ℕ) (s : State) (start text : Option (List ℕ)) (stands : States) (shut : Bool) (leaves : States → Type 0)
+    → LeavesAlone stands leaves s → shut ≡ false → IfSome start (λ whole. AsksFor whole None) → IfSome start (λ whole. Serves k s whole text text stands shut leaves (Ok Nothing))
+serves_nothing k s None text stands shut leaves alone live a = tt
+serves_nothing k s (Some whole) text stands shut leaves alone live a = (none_is_empty whole a, record { state = alone; live = live; text = known_kept text })
+
+pub shut_nothing : (start text : Option (List ℕ)) → IfSome start (λ whole. AsksFor whole None) → IfSome start (λ whole. ServesShut whole text text (Ok Nothing))
+shut_nothing None text a = tt
+shut_nothing (Some whole) text a = (none_is_empty whole a, known_kept text)
+
+pub serves_fault : (k : ℕ) (s : State) (start left text : Option (List ℕ)) (stands : States) (shut : Bool) (leaves : States → Type 0) (fault : InputFault)
+    → LeavesAlone stands leaves s → shut ≡ false → (fault ≡ input.Endless → SpentAll most_reads start left) → IfSome start (λ whole. Serves k s whole text text stands shut leaves (Err (end_of fault)))
+serves_fault k s None left text stands shut leaves fault alone live spent = tt
+serves_fault k s (Some whole) left text stands shut leaves input.Read alone live spent = record { state = alone; live = live; text = known_kept text }
+serves_fault k s (Some whole) left text stands shut leaves input.Endless alone live spent = (record { state = alone; live = live; text = known_kept text }, many_bytes (Some whole) left (spent refl))
+serves_fault k s (Some whole) left text stands shut leaves input.Memory alone live spent = record { state = alone; live = live; text = known_kept text }
+
+pub shut_fault : (start left text : Option (List ℕ)) (fault : InputFault) → (fault ≡ input.Endless → SpentAll most_reads start left)
+    → IfSome start (λ whole. ServesShut whole text text (Err (end_of fault)))
+shut_fault None left text fault spent = tt
+shut_fault (Some whole) left text input.Read spent = known_kept text
+shut_fault (Some whole) left text input.Endless spent = (known_kept text, many_bytes (Some whole) left (spent refl))
+shut_fault (Some whole) left text input.Memory spent = known_kept text

@@ -1,0 +1,195 @@
+-- What is answered to a job.
+use Rattle.std.specs.Prelude.{◌≡◌, ℕ, Bool, true, false, List, [], ◌++◌, length, codes, decimal, string_bytes, if◌then◌else◌, ◌==◌, ◌⊎◌, Result, Ok, Err}
+use Rattle.plant_base.specs.State.{State}
+use Rattle.plant_base.specs.declared.refusal.Refusal.{Refusal}
+use Rattle.plant_base.specs.Refusals.{number_of}
+use Rattle.plant_base.specs.declared.refusal.Refusal.TheVariants.{BadForm}
+use Rattle.plant_orders.specs.Orders.{kind_name}
+use Rattle.plant_orders.specs.declared.fault.CsvFault.{CsvFault}
+use Rattle.plant_desk.specs.Answers.{answer}
+use Rattle.plant_desk.specs.Replies.{reply}
+use Rattle.plant_desk.specs.declared.question.Answer.{Answer as DeskAnswer}
+use Rattle.plant_desk.specs.declared.question.Answer.TheVariants as A
+use Rattle.plant_desk.specs.declared.reply.Reply.{Reply}
+use Rattle.plant_desk.specs.declared.reply.Reply.TheVariants.{Accepted, Refused}
+use Rattle.plant_desk.specs.declared.reply.DeskFault.{DeskFault}
+use Rattle.plant_desk.specs.declared.reply.DeskFault.TheVariants as fault
+use Rattle.plant_text.specs.Answers.{text_of_answer}
+use Rattle.plant_text.specs.Replies.{reply_text, fault_text}
+use Rattle.plant_http_requests.specs.declared.job.Job.{Job}
+use Rattle.plant_http_requests.specs.declared.job.Job.TheVariants as J
+use Rattle.plant_http_requests.specs.declared.job.Form.{Form}
+use Rattle.plant_http_requests.specs.declared.job.Form.TheVariants.{Json, Record}
+use Rattle.plant_http_requests.specs.declared.status.Status.{Status}
+use Rattle.plant_http_requests.specs.declared.status.Status.TheVariants as st
+use Rattle.plant_http_requests.specs.declared.status.Allow.{Allow}
+use Rattle.plant_http_requests.specs.declared.status.Allow.TheVariants.{Unsaid, Get, Post}
+use Rattle.plant_http.specs.declared.answer.Answer.{Answer}
+use Rattle.plant_http.specs.declared.answer.Body.{Body}
+use Rattle.plant_http.specs.declared.answer.Body.TheVariants as B
+
+-- ---- statuses
+
+abbrev pub code_of : Status → ℕ
+code_of st.Success = 200
+code_of st.BadRequest = 400
+code_of st.NotFound = 404
+code_of st.MethodNotAllowed = 405
+code_of st.Conflict = 409
+code_of st.LengthRequired = 411
+code_of st.PayloadTooLarge = 413
+code_of st.HeadTooLarge = 431
+code_of st.NotImplemented = 501
+code_of st.Unavailable = 503
+
+abbrev pub phrase_of : Status → List ℕ
+phrase_of st.Success = codes "OK"
+phrase_of st.BadRequest = codes "Bad Request"
+phrase_of st.NotFound = codes "Not Found"
+phrase_of st.MethodNotAllowed = codes "Method Not Allowed"
+phrase_of st.Conflict = codes "Conflict"
+phrase_of st.LengthRequired = codes "Length Required"
+phrase_of st.PayloadTooLarge = codes "Payload Too Large"
+phrase_of st.HeadTooLarge = codes "Request Header Fields Too Large"
+phrase_of st.NotImplemented = codes "Not Implemented"
+phrase_of st.Unavailable = codes "Service Unavailable"
+
+abbrev pub allow_line : Allow → List ℕ
+allow_line Unsaid = []
+allow_line Get = codes "Allow: GET, HEAD\r\n"
+allow_line Post = codes "Allow: POST\r\n"
+
+abbrev pub type_of : Form → List ℕ
+type_of Json = codes "application/json"
+type_of Record = codes "text/plain"
+
+-- ---- the text of an answer
+
+-- the lines before a body of so many bytes
+unfoldable pub head_text : Status → Allow → Form → ℕ → List ℕ
+head_text status allow form size =
+    codes "HTTP/1.1 " ++ decimal (code_of status) ++ codes " " ++ phrase_of status
+    ++ codes "\r\nContent-Type: " ++ type_of form
+    ++ codes "\r\nContent-Length: " ++ decimal size
+    ++ codes "\r\nConnection: close\r\n" ++ allow_line allow ++ codes "\r\n"
+
+-- an answer's parts
+pub record Out : Type 0 where
+  pub status : Status
+  pub allow : Allow
+  pub form : Form
+  pub body : List ℕ
+
+-- the bytes of an answer, whose body may be left out
+unfoldable pub answer_bytes : Bool → Out → List ℕ
+answer_bytes silent out = head_text out.status out.allow out.form (length out.body) ++ (if silent then [] else out.body)
+
+-- ---- bodies
+
+abbrev pub status_text : Status → List ℕ
+status_text status = codes "{\"status\":" ++ decimal (code_of status) ++ codes "}"
+
+abbrev pub csv_text : CsvFault → List ℕ
+csv_text f = codes "{\"csv\":\"" ++ kind_name f.kind ++ codes "\",\"row\":" ++ decimal f.row ++ codes "}"
+
+abbrev pub json_out : Status → List ℕ → Out
+json_out status body = record { status = status; allow = Unsaid; form = Json; body = body }
+
+-- a status alone
+abbrev pub error_out : Status → Allow → Out
+error_out status allow = record { status = status; allow = allow; form = Json; body = status_text status }
+
+-- a fault of the keeper, or want of memory
+abbrev pub fault_out : DeskFault → Out
+fault_out f = json_out st.Unavailable (fault_text f)
+
+abbrev pub csv_out : CsvFault → Out
+csv_out f = json_out st.BadRequest (csv_text f)
+
+abbrev pub refused_status : ℕ → Status
+refused_status number = if number == 1 then st.BadRequest else st.Conflict
+
+abbrev pub reply_status : Reply → Status
+reply_status (Accepted seq) = st.Success
+reply_status (Refused r) = refused_status (number_of r)
+
+abbrev pub reply_out : Reply → Out
+reply_out r = json_out (reply_status r) (reply_text r)
+
+-- an unknown id is answered as a refusal
+abbrev pub answer_status : DeskAnswer → Status
+answer_status (A.Desk schema seq) = st.Success
+answer_status (A.Lot lot) = st.Success
+answer_status (A.Order order) = st.Success
+answer_status (A.Batch v) = st.Success
+answer_status (A.Trace nodes) = st.Success
+answer_status (A.Unknown r) = st.NotFound
+
+-- only a batch has a record
+abbrev pub form_for : Form → DeskAnswer → Form
+form_for form (A.Desk schema seq) = Json
+form_for form (A.Lot lot) = Json
+form_for form (A.Order order) = Json
+form_for form (A.Batch v) = form
+form_for form (A.Trace nodes) = Json
+form_for form (A.Unknown r) = Json
+
+abbrev pub text_in : Form → DeskAnswer → List ℕ
+text_in form a = text_of_answer a
+
+abbrev pub answer_out : Form → DeskAnswer → Out
+answer_out form a = record { status = answer_status a; allow = Unsaid; form = form_for form a; body = text_in form a }
+
+-- ---- jobs
+
+-- what is answered to a job by a keeper of schema k that stands at s
+abbrev pub out_of : ℕ → State → Job → Out
+out_of k s (J.Refuse status allow silent) = error_out status allow
+out_of k s (J.Ask question form silent) = answer_out form (answer k s question)
+out_of k s (J.Command e) = reply_out (reply s e)
+out_of k s J.BadForm = reply_out (Refused BadForm)
+out_of k s (J.BadFile f) = csv_out f
+out_of k s J.NoMemory = fault_out fault.Memory
+
+-- what is answered to it by a keeper that is shut: the fault 3 where it is asked
+abbrev pub shut_out : Job → Out
+shut_out (J.Refuse status allow silent) = error_out status allow
+shut_out (J.Ask question form silent) = fault_out fault.Shut
+shut_out (J.Command e) = fault_out fault.Shut
+shut_out J.BadForm = reply_out (Refused BadForm)
+shut_out (J.BadFile f) = csv_out f
+shut_out J.NoMemory = fault_out fault.Memory
+
+-- whether the answer's body is left out
+abbrev pub is_silent : Job → Bool
+is_silent (J.Refuse status allow silent) = silent
+is_silent (J.Ask question form silent) = silent
+is_silent (J.Command e) = false
+is_silent J.BadForm = false
+is_silent (J.BadFile f) = false
+is_silent J.NoMemory = false
+
+-- ---- answers in the code
+
+abbrev pub body_bytes : Body → List ℕ
+body_bytes (B.Reply text) = text
+body_bytes (B.Short text) = text
+body_bytes (B.Long text) = string_bytes text
+
+abbrev pub shown : Answer → Out
+shown a = record { status = a.status; allow = a.allow; form = a.form; body = body_bytes a.body }
+
+-- the answer has these parts
+pub record Is (out : Out) (silent : Bool) (a : Answer) : Type 0 where
+  pub parts : shown a ≡ out
+  pub silence : a.silent ≡ silent
+
+-- the answer to what came of a command
+abbrev pub Executed : Result Reply DeskFault → Answer → Type 0
+Executed (Ok r) a = Is (reply_out r) false a
+Executed (Err f) a = Is (fault_out f) false a
+
+-- the answer to what came of a question; memory may be refused for its text
+abbrev pub Asked : Form → Result DeskAnswer DeskFault → Out → Type 0
+Asked form (Ok x) out = (out ≡ answer_out form x) ⊎ (out ≡ fault_out fault.Memory)
+Asked form (Err f) out = out ≡ fault_out f

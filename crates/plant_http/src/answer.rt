@@ -1,0 +1,165 @@
+//! Answers, before they are written.
+ghost use Rattle.std.specs.Prelude.{◌≡◌, ◌⊎◌, false, IfOk, string_bytes};
+ghost use Rattle.plant_base.specs.Refusals.{number_of};
+ghost use Rattle.plant_http.specs.Answers.{body_bytes, Is, error_out, fault_out, csv_out, reply_out, answer_out, text_in, refused_status, reply_status, answer_status, form_for};
+
+use crate::room::{Room, csv_text, status_text};
+use plant_base::Refusal;
+use plant_desk::{Answer as DeskAnswer, DeskFault, Reply};
+use plant_http_requests::{Allow, Form, Status};
+use plant_orders::CsvFault;
+use plant_text::{ReplyText, answer_text, fault_line, reply_line};
+use std::alloc::{AllocError, Global};
+
+/// The body of an answer. Only a long one takes memory, which is taken before anything is written.
+#[derive(Debug, Drop)]
+pub(crate) enum Body {
+    /// The text of a reply or of a fault.
+    Reply(ReplyText),
+    /// A text of the server's own.
+    Short(Room),
+    /// The text of an answer.
+    Long(String),
+}
+
+/// An answer, before it is written. `silent` where its body is left out.
+#[derive(Debug, Drop)]
+pub(crate) struct Answer {
+    pub(crate) status: Status,
+    pub(crate) allow: Allow,
+    pub(crate) form: Form,
+    pub(crate) body: Body,
+    pub(crate) silent: bool,
+}
+
+impl Body {
+    pub(crate) fn as_bytes(&self) -> &[u8]
+        ensures { result.now ≡ body_bytes self.now }
+    {
+        match self {
+            Body::Reply(text) => text.as_bytes(),
+            Body::Short(text) => text.as_bytes(),
+            Body::Long(text) => text.as_bytes(),
+        }
+    }
+}
+
+fn json(status: Status, body: Body, silent: bool) -> Answer
+    ensures { (result.status ≡ status) × (result.allow ≡ Allow.Unsaid) × (result.form ≡ Form.Json)
+        × (body_bytes result.body ≡ body_bytes body) × (result.silent ≡ silent) }
+{
+    Answer {
+        status,
+        allow: Allow::Unsaid,
+        form: Form::Json,
+        body,
+        silent,
+    }
+}
+
+/// An answer that is a status alone.
+pub(crate) fn error_answer(status: Status, allow: Allow, silent: bool) -> Answer
+    ensures { Is (error_out status allow) silent result }
+{
+    Answer {
+        status,
+        allow,
+        form: Form::Json,
+        body: Body::Short(status_text(status)),
+        silent,
+    }
+}
+
+/// A fault of the keeper, or want of memory.
+pub(crate) fn fault_answer(fault: DeskFault, silent: bool) -> Answer
+    ensures { Is (fault_out fault) silent result }
+{
+    json(Status::Unavailable, Body::Reply(fault_line(fault)), silent)
+}
+
+/// The fault of an order file.
+pub(crate) fn csv_answer(fault: CsvFault) -> Answer
+    ensures { Is (csv_out fault) false result }
+{
+    json(Status::BadRequest, Body::Short(csv_text(fault)), false)
+}
+
+/// A command of no form is a bad request; one that the desk's state refuses is a conflict.
+fn refused_status(refusal: Refusal) -> Status
+    ensures { result ≡ refused_status (number_of refusal) }
+{
+    if refusal.number() == 1 {
+        Status::BadRequest
+    } else {
+        Status::Conflict
+    }
+}
+
+fn reply_status(reply: &Reply) -> Status
+    ensures { result ≡ reply_status reply.now }
+{
+    match reply {
+        Reply::Accepted(_) => Status::Success,
+        Reply::Refused(refusal) => refused_status(*refusal),
+    }
+}
+
+/// The reply to a command. It takes no memory.
+pub(crate) fn reply_answer(reply: &Reply) -> Answer
+    ensures { Is (reply_out reply.now) false result }
+{
+    json(reply_status(reply), Body::Reply(reply_line(reply)), false)
+}
+
+fn answer_status(answer: &DeskAnswer) -> Status
+    ensures { result ≡ answer_status answer.now }
+{
+    match answer {
+        DeskAnswer::Unknown(_) => Status::NotFound,
+        DeskAnswer::Desk { .. }
+        | DeskAnswer::Lot(_)
+        | DeskAnswer::Order(_)
+        | DeskAnswer::Batch(_)
+        | DeskAnswer::Trace(_) => Status::Success,
+    }
+}
+
+/// The form in which an answer is written: only a batch has a record.
+fn form_for(form: Form, answer: &DeskAnswer) -> Form
+    ensures { result ≡ form_for form answer.now }
+{
+    match answer {
+        DeskAnswer::Batch(_) => form,
+        DeskAnswer::Unknown(_)
+        | DeskAnswer::Desk { .. }
+        | DeskAnswer::Lot(_)
+        | DeskAnswer::Order(_)
+        | DeskAnswer::Trace(_) => Form::Json,
+    }
+}
+
+/// The text of an answer in a form.
+fn text_in(alloc: Global, form: Form, answer: &DeskAnswer) -> Result<String, AllocError>
+    ensures { IfOk result (λ text. string_bytes text ≡ text_in form answer.now) }
+{
+    match form {
+        Form::Json => answer_text(alloc, answer),
+        Form::Record => answer_text(alloc, answer),
+    }
+}
+
+/// The answer to a question. Its text is made before anything is written; where memory is refused for it, the answer tells that fault.
+pub(crate) fn asked_answer(alloc: Global, form: Form, answer: &DeskAnswer, silent: bool) -> Answer
+    ensures { Is (answer_out form answer.now) silent result ⊎ Is (fault_out DeskFault.Memory) silent result }
+{
+    match text_in(alloc, form, answer) {
+        Ok(text) => Answer {
+            status: answer_status(answer),
+            allow: Allow::Unsaid,
+            form: form_for(form, answer),
+            body: Body::Long(text),
+            silent,
+        },
+        Err(_) => fault_answer(DeskFault::Memory, silent),
+    }
+}

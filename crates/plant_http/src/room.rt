@@ -1,0 +1,110 @@
+//! Short texts in a room of fixed size.
+ghost use Rattle.std.specs.Prelude.{◌≡◌, ◌+◌, ◌≤◌, ◌++◌, [], length, decimal};
+ghost use Rattle.plant_orders.specs.Orders.{kind_name};
+ghost use Rattle.plant_http.specs.Answers.{head_text, status_text, csv_text};
+
+use crate::status::{allow_line, code_of, phrase_of, type_of};
+use arrayvec::ArrayString;
+use itoa::Buffer;
+use plant_http_requests::{Allow, Form, Status};
+use plant_orders::{CsvFault, CsvKind};
+use std::marker::Model;
+
+/// A text of at most 288 bytes, which takes no memory.
+#[derive(Debug, Drop)]
+pub(crate) struct Room {
+    room: ArrayString<288>,
+}
+
+impl Model for Room {
+    ghost use Rattle.std.specs.Prelude.{ℕ, List};
+
+    ghost Value = { List ℕ };
+
+    ghost view = { λ s. s.room.bytes };
+}
+
+impl Room {
+    fn new() -> Self
+        ensures { result ≡ [] }
+    {
+        Room {
+            room: ArrayString::new(),
+        }
+    }
+
+    fn push(&mut self, text: &str)
+        requires { length self.old + length text.now ≤ 288 }
+        ensures text { self.new ≡ self.old ++ text.now }
+        ensures grown { length self.new ≡ length self.old + length text.now }
+    {
+        self.room.push_str(text);
+    }
+
+    fn push_number(&mut self, number: u64)
+        requires { length self.old + 20 ≤ 288 }
+        ensures text { self.new ≡ self.old ++ decimal number }
+        ensures short { length self.new ≤ length self.old + 20 }
+    {
+        let mut buffer = Buffer::new();
+        self.room.push_str(buffer.format(number));
+    }
+
+    pub(crate) fn as_bytes(&self) -> &[u8]
+        ensures { result.now ≡ self.now }
+    {
+        self.room.as_bytes()
+    }
+}
+
+/// The lines before a body of so many bytes.
+#[tactic(auto, unfolding(crate::specs::Answers::head_text))]
+pub(crate) fn head_text(status: Status, allow: Allow, form: Form, length: usize) -> Room
+    ensures { result ≡ head_text status allow form length }
+{
+    let mut text = Room::new();
+    text.push("HTTP/1.1 ");
+    text.push_number(u64::from(code_of(status)));
+    text.push(" ");
+    text.push(phrase_of(status));
+    text.push("\r\nContent-Type: ");
+    text.push(type_of(form));
+    text.push("\r\nContent-Length: ");
+    text.push_number(length as u64);
+    text.push("\r\nConnection: close\r\n");
+    text.push(allow_line(allow));
+    text.push("\r\n");
+    text
+}
+
+/// `{"status":CODE}`
+pub(crate) fn status_text(status: Status) -> Room
+    ensures { result ≡ status_text status }
+{
+    let mut text = Room::new();
+    text.push("{\"status\":");
+    text.push_number(u64::from(code_of(status)));
+    text.push("}");
+    text
+}
+
+#[tactic(auto, using(crate::proofs::Short::kind_name_short))]
+fn kind_name(kind: CsvKind) -> &'static str
+    ensures value { result.now ≡ kind_name kind }
+    ensures short { length result.now ≤ 12 }
+{
+    kind.name()
+}
+
+/// `{"csv":KIND,"row":ROW}`
+pub(crate) fn csv_text(fault: CsvFault) -> Room
+    ensures { result ≡ csv_text fault }
+{
+    let mut text = Room::new();
+    text.push("{\"csv\":\"");
+    text.push(kind_name(fault.kind));
+    text.push("\",\"row\":");
+    text.push_number(u64::from(fault.row));
+    text.push("}");
+    text
+}

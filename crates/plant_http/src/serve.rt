@@ -1,0 +1,114 @@
+//! One request, served.
+ghost use Rattle.std.specs.Prelude.{◌≡◌, true, false, IfSome};
+ghost use Rattle.plant_base.specs.State.{State};
+ghost use Rattle.plant_http.specs.Serving.{Serves, ServesShut, Answers, AnswersJobShut, end_of};
+
+use crate::perform::perform;
+use crate::send::send;
+use crate::status::code_of;
+use plant_desk::Keeper;
+use plant_http_input::InputFault;
+use plant_http_requests::{Job, read_job};
+use plant_http_routes::Routes;
+use std::alloc::Global;
+use std::io::{Read, Write};
+use thiserror::Error;
+
+/// What became of a request.
+#[derive(Clone, Copy, Debug, PartialEq, Eq)]
+pub enum Served {
+    /// It was answered by this status, and the answer was written whole.
+    Answered(u16),
+    /// The input ended without a byte. Nothing was written.
+    Nothing,
+}
+
+/// Why a request wasn't answered.
+#[derive(Clone, Copy, Debug, PartialEq, Eq, Error)]
+pub enum ServeFault {
+    /// A read failed, or was interrupted. Nothing was executed and nothing written.
+    #[error("the reader failed")]
+    Read,
+    /// The request has taken its 4,096 reads. Nothing was executed and nothing written.
+    #[error("too many reads")]
+    Endless,
+    /// A write failed, was interrupted, or took no byte. A front of the answer was written, and not all of it; what was executed stays.
+    #[error("the writer takes no more")]
+    Write,
+    /// Memory was refused for the request's bytes. Nothing was executed and nothing written.
+    #[error("out of memory")]
+    Memory,
+}
+
+fn end_of(fault: InputFault) -> ServeFault
+    ensures { result ≡ end_of fault }
+{
+    match fault {
+        InputFault::Read => ServeFault::Read,
+        InputFault::Endless => ServeFault::Endless,
+        InputFault::Memory => ServeFault::Memory,
+    }
+}
+
+/// Does a job, and writes its answer.
+fn answer_job<W: Write, K: Keeper>(
+    alloc: Global,
+    writer: &mut W,
+    keeper: &mut K,
+    job: &Job,
+) -> Result<Served, ServeFault>
+    ensures honest { K.honest keeper.new → K.honest keeper.old }
+    ensures schema { K.honest keeper.new → K.schema keeper.new ≡ K.schema keeper.old }
+    ensures beside { K.honest keeper.new → (b : K.Beside) → K.beside keeper.old b
+        → K.beside keeper.new b }
+    ensures answers { K.honest keeper.new → K.shut keeper.old ≡ false → (s : State) → K.stands keeper.old s
+        → Answers (K.schema keeper.old) s job.now (W.contents writer.old) (W.contents writer.new)
+        (K.stands keeper.new) (K.shut keeper.new) (K.leaves keeper.new) result }
+    ensures still { K.shut keeper.old ≡ true → keeper.new ≡ keeper.old }
+    ensures shut { K.shut keeper.old ≡ true → AnswersJobShut job.now
+        (W.contents writer.old) (W.contents writer.new) result }
+{
+    let answer = perform(alloc, keeper, job);
+    match send(writer, &answer) {
+        Ok(()) => Ok(Served::Answered(code_of(answer.status))),
+        Err(_) => Err(ServeFault::Write),
+    }
+}
+
+/// Serves one request: reads it, has the keeper execute or answer what it asks for, and writes the answer.
+///
+/// The request is read and judged whole before the keeper is asked, and where the head alone decides the answer no read follows the one that ended it. A
+/// command whose body ended early isn't executed. The answer is written after the keeper's reply, and between an executed command and the end of its answer no memory is
+/// taken. Only a keeper's fault and want of memory for what a body says or for an answer's text are answered 503.
+///
+/// What is written depends on the bytes of the input and not on the pieces in which they come, but for `Endless`.
+///
+/// In the clauses, `s` is a state that the keeper stood at; nothing is said of where the keeper stands, and of what a stop
+/// leaves, if it doesn't end honest. A keeper that is shut stays as it is, and each answer that it would be asked for is its fault 3.
+pub fn serve_one<R: Read, W: Write, K: Keeper>(
+    alloc: Global,
+    routes: &Routes,
+    reader: &mut R,
+    writer: &mut W,
+    keeper: &mut K,
+) -> Result<Served, ServeFault>
+    ensures honest { K.honest keeper.new → K.honest keeper.old }
+    ensures schema { K.honest keeper.new → K.schema keeper.new ≡ K.schema keeper.old }
+    ensures beside { K.honest keeper.new → (b : K.Beside) → K.beside keeper.old b
+        → K.beside keeper.new b }
+
+    // How the request ended, where the keeper stands then, and what a stop leaves.
+    ensures serves { K.honest keeper.new → K.shut keeper.old ≡ false → (s : State) → K.stands keeper.old s
+        → IfSome (R.remaining reader.old) (λ whole. Serves (K.schema keeper.old) s whole
+        (W.contents writer.old) (W.contents writer.new)
+        (K.stands keeper.new) (K.shut keeper.new) (K.leaves keeper.new) result) }
+    ensures still { K.shut keeper.old ≡ true → keeper.new ≡ keeper.old }
+    ensures shut { K.shut keeper.old ≡ true → IfSome (R.remaining reader.old) (λ whole. ServesShut whole
+        (W.contents writer.old) (W.contents writer.new) result) }
+{
+    match read_job(alloc, routes, reader) {
+        Ok(None) => Ok(Served::Nothing),
+        Ok(Some(job)) => answer_job(alloc, writer, keeper, &job),
+        Err(fault) => Err(end_of(fault)),
+    }
+}

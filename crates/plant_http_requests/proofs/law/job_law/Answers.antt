@@ -1,0 +1,5 @@
+use Rattle.plant_http_requests.proofs.JobLemmas.{one_job}
+use Rattle.plant_http_requests.proofs.law.job_law.Goals as goal
+
+pub returns : goal.returns
+returns c = one_job

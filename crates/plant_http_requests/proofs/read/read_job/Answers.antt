@@ -1,0 +1,30 @@
+use Rattle.std.proofs.Common.{◌≡◌, Some, Err, false, refl, sym, ap, ◌∙◌}
+use Rattle.plant_http_input.specs.declared.reading.HeadEnd.TheVariants as end
+use Rattle.plant_http_input.specs.declared.reading.InputFault.TheVariants as fault
+use Rattle.plant_http_requests.specs.Jobs.{most_reads}
+use Rattle.plant_http_requests.specs.Steps.{refuse}
+use Rattle.plant_http_requests.specs.declared.status.Status.TheVariants as status
+use Rattle.plant_http_requests.proofs.InputLemmas.{from_end, from_head, spent_more}
+use Rattle.plant_http_requests.proofs.read.read_job.Goals as goal
+
+pub returns-in-Ok-Early-clause-asks : goal.returns-in-Ok-Early-clause-asks
+returns-in-Ok-Early-clause-asks g c =
+    from_end _ end.Early (Some c.refuse.result) (rw c.in-Ok-Early.field-0-is at c.in-Ok-Early.ensures.end)
+    (λ whole. (Some (refuse status.BadRequest false), refl, rw c.refuse.ensures refl))
+
+pub returns-in-Ok-TooLong-clause-asks : goal.returns-in-Ok-TooLong-clause-asks
+returns-in-Ok-TooLong-clause-asks g c =
+    from_end _ end.TooLong (Some c.refuse-in-Ok-TooLong.result) (rw c.in-Ok-TooLong.field-0-is at c.in-Ok-TooLong.ensures.end)
+    (λ whole. (Some (refuse status.HeadTooLarge false), refl, rw c.refuse-in-Ok-TooLong.ensures refl))
+
+pub returns-in-Ok-clause-asks : goal.returns-in-Ok-clause-asks
+returns-in-Ok-clause-asks g c =
+    let found = c.in-Ok-Found.field-0-is in
+    let within = rw found at c.in-Ok-Found.ensures.within in
+    from_head _ _ _ c.in-Ok-Found.n c.in-Ok.job within.0 c.in-Ok-Found.ensures.known (rw found at c.in-Ok-Found.ensures.end) c.in-Ok.ensures.asks
+
+pub returns-in-Ok-Found-clause-endless : goal.returns-in-Ok-Found-clause-endless
+returns-in-Ok-Found-clause-endless g c = λ h.
+    let spent = rw c.in-Ok-Found.field-0-is at c.in-Ok-Found.ensures.spent in
+    let endless : c.in-Err-head_job.fault ≡ fault.Endless = cc in
+    spent_more _ _ _ c.read_head.new.bytes.items most_reads c.read_head.new.reads c.in-Ok-Found.ensures.known spent (c.in-Err-head_job.ensures.endless (ap Err endless))

@@ -1,0 +1,138 @@
+-- What an input asks for.
+use Rattle.std.specs.Prelude.{◌≡◌, ℕ, ◌+◌, Bool, true, false, nat_lt, nat_le, List, length, take, drop, map, Option, Some, None, Result, Ok, Err, if◌then◌else◌}
+use Rattle.std.specs.Bool.{MatchBool}
+use Rattle.httparse.specs.Grammar.{RequestHead}
+use Rattle.httparse.specs.Spans.{name_and_value}
+use Rattle.plant_base.specs.declared.command.Command.TheVariants.{ImportOrders}
+use Rattle.plant_base.specs.declared.command.Envelope.{Envelope}
+use Rattle.plant_base.specs.declared.command.Stamp.{Stamp}
+use Rattle.plant_base.specs.declared.rows.OrderRow.{OrderRow}
+use Rattle.plant_orders.specs.Orders.{orders_of}
+use Rattle.plant_orders.specs.declared.fault.CsvFault.{CsvFault}
+use Rattle.plant_orders.specs.declared.fault.CsvKind.{CsvKind}
+use Rattle.plant_orders.specs.declared.fault.CsvKind.TheVariants as csv
+use Rattle.plant_text.specs.Lines.{line_of}
+use Rattle.plant_text.specs.declared.read.Line.{Line}
+use Rattle.plant_text.specs.declared.read.Line.TheVariants as L
+use Rattle.plant_http_input.specs.Head.{end_of_head}
+use Rattle.plant_http_input.specs.declared.reading.HeadEnd.{HeadEnd}
+use Rattle.plant_http_input.specs.declared.reading.HeadEnd.TheVariants as end
+use Rattle.plant_http_requests.specs.Heads.{field_lines, Parsed}
+use Rattle.plant_http_requests.specs.Steps.{refuse, fails, request_step}
+use Rattle.plant_http_requests.specs.declared.job.Job.{Job}
+use Rattle.plant_http_requests.specs.declared.job.Job.TheVariants.{Refuse, Ask, Command, BadForm, BadFile, NoMemory}
+use Rattle.plant_http_requests.specs.declared.job.Content.{Content}
+use Rattle.plant_http_requests.specs.declared.job.Content.TheVariants as content
+use Rattle.plant_http_requests.specs.declared.job.HeadStep.{HeadStep}
+use Rattle.plant_http_requests.specs.declared.job.HeadStep.TheVariants as S
+use Rattle.plant_http_requests.specs.declared.status.Status.TheVariants.{BadRequest, HeadTooLarge}
+
+-- the most reads that a request takes
+abbrev pub most_reads : ℕ
+most_reads = 4096
+
+-- ---- bodies
+
+-- a question is no command
+abbrev pub command_job : Option Line → Job
+command_job None = BadForm
+command_job (Some (L.Command e)) = Command e
+command_job (Some (L.Question q)) = BadForm
+
+-- one command that takes all orders of a file
+abbrev pub import : Stamp → List OrderRow → Envelope
+import stamp orders = record { at = stamp.at; by = stamp.by; note = stamp.note; body = ImportOrders (record { orders = orders }) }
+
+abbrev pub file_job : Stamp → Result (List OrderRow) CsvFault → Job
+file_job stamp (Ok orders) = Command (import stamp orders)
+file_job stamp (Err fault) = BadFile fault
+
+-- what the reader of order files tells as a fault: the file's, or want of memory
+abbrev pub fault_job_of : CsvKind → CsvFault → Job
+fault_job_of csv.Memory fault = NoMemory
+fault_job_of csv.TooLong fault = BadFile fault
+fault_job_of csv.Header fault = BadFile fault
+fault_job_of csv.Shape fault = BadFile fault
+fault_job_of csv.Order fault = BadFile fault
+fault_job_of csv.Recipe fault = BadFile fault
+fault_job_of csv.Version fault = BadFile fault
+fault_job_of csv.Size fault = BadFile fault
+fault_job_of csv.Due fault = BadFile fault
+fault_job_of csv.Priority fault = BadFile fault
+fault_job_of csv.TooManyRows fault = BadFile fault
+
+abbrev pub fault_job : CsvFault → Job
+fault_job fault = fault_job_of fault.kind fault
+
+-- what a whole body asks for; the fields of an order file come before its text
+abbrev pub body_job : Content → List ℕ → Job
+body_job content.Command body = command_job (line_of body)
+body_job (content.Orders None) body = refuse BadRequest false
+body_job (content.Orders (Some stamp)) body = file_job stamp (orders_of body)
+
+-- ---- heads
+
+-- what a head and the bytes behind it ask for
+abbrev pub finish : HeadStep → List ℕ → Job
+finish (S.Refuse status allow silent) rest = Refuse status allow silent
+finish (S.Ask question form silent) rest = Ask question form silent
+finish (S.Body n c) rest = if nat_le n (length rest) then body_job c (take n rest) else refuse BadRequest false
+
+abbrev pub parsed_step : Option RequestHead → HeadStep
+parsed_step None = fails BadRequest false
+parsed_step (Some h) = request_step h.method h.target h.minor (map name_and_value h.fields)
+
+-- what a head decides: its lines are counted before they are parsed
+abbrev pub StepOf : List ℕ → HeadStep → Type 0
+StepOf head step =
+    MatchBool (nat_lt 32 (field_lines head)) (step ≡ fails HeadTooLarge false)
+    ((p : Option RequestHead) × Parsed head p × (step ≡ parsed_step p))
+
+abbrev pub HeadJob : List ℕ → List ℕ → Job → Type 0
+HeadJob head rest job = (step : HeadStep) × StepOf head step × (job ≡ finish step rest)
+
+-- ---- inputs
+
+abbrev pub EndJob : HeadEnd → List ℕ → Option Job → Type 0
+EndJob end.Nothing whole job = job ≡ None
+EndJob end.Early whole job = job ≡ Some (refuse BadRequest false)
+EndJob end.TooLong whole job = job ≡ Some (refuse HeadTooLarge false)
+EndJob (end.Found n) whole job = (j : Job) × (job ≡ Some j) × HeadJob (take n whole) (drop n whole) j
+
+-- what an input asks for: none where it has no byte
+abbrev pub JobOf : List ℕ → Option Job → Type 0
+JobOf whole job = EndJob (end_of_head whole) whole job
+
+-- ---- want of memory
+
+-- the job comes of what a body says
+abbrev pub is_of_body : Job → Bool
+is_of_body (Refuse status allow silent) = false
+is_of_body (Ask question form silent) = false
+is_of_body (Command e) = true
+is_of_body BadForm = true
+is_of_body (BadFile fault) = true
+is_of_body NoMemory = false
+
+-- a body was read for what it says; want of memory comes only where it says something
+abbrev pub Reads : Job → Job → Type 0
+Reads NoMemory job = is_of_body job ≡ true
+Reads (Refuse status allow silent) job = Refuse status allow silent ≡ job
+Reads (Ask question form silent) job = Ask question form silent ≡ job
+Reads (Command e) job = Command e ≡ job
+Reads BadForm job = BadForm ≡ job
+Reads (BadFile fault) job = BadFile fault ≡ job
+
+-- a head and the bytes behind it ask for this, want of memory aside
+abbrev pub HeadAsksFor : List ℕ → List ℕ → Job → Type 0
+HeadAsksFor head rest job = (j : Job) × HeadJob head rest j × Reads job j
+
+-- the same of an option of jobs
+abbrev pub ReadsSome : Option Job → Option Job → Type 0
+ReadsSome None job = job ≡ None
+ReadsSome (Some j) None = ⊥
+ReadsSome (Some j) (Some job) = Reads j job
+
+-- the input asks for this, want of memory aside
+abbrev pub AsksFor : List ℕ → Option Job → Type 0
+AsksFor whole job = (j : Option Job) × JobOf whole j × ReadsSome job j

@@ -1,0 +1,87 @@
+-- What the head of a request decides.
+use Rattle.std.specs.Prelude.{ℕ, Bool, true, false, ◌||◌, List, [], codes, bytes_eq, Option, Some, None, Result, Ok, Err, if◌then◌else◌}
+use Rattle.plant_desk.specs.declared.question.Question.{Question}
+use Rattle.plant_desk.specs.declared.question.Question.TheVariants as Q
+use Rattle.plant_trace.specs.declared.direction.Direction.TheVariants.{Back, Forward}
+use Rattle.plant_trace.specs.declared.node.Node.TheVariants as node
+use Rattle.plant_http_routes.specs.Routes.{target_of}
+use Rattle.plant_http_routes.specs.declared.routes.Kind.{Kind}
+use Rattle.plant_http_routes.specs.declared.routes.Kind.TheVariants as kind
+use Rattle.plant_http_routes.specs.declared.routes.Target.{Target}
+use Rattle.plant_http_routes.specs.declared.routes.Target.TheVariants as target
+use Rattle.plant_http_requests.specs.Fields.{Fields, framing, stamp_in}
+use Rattle.plant_http_requests.specs.declared.job.Job.{Job}
+use Rattle.plant_http_requests.specs.declared.job.Job.TheVariants.{Refuse}
+use Rattle.plant_http_requests.specs.declared.job.Form.{Form}
+use Rattle.plant_http_requests.specs.declared.job.Form.TheVariants.{Json, Record}
+use Rattle.plant_http_requests.specs.declared.job.Content.{Content}
+use Rattle.plant_http_requests.specs.declared.job.Content.TheVariants as content
+use Rattle.plant_http_requests.specs.declared.job.HeadStep.{HeadStep}
+use Rattle.plant_http_requests.specs.declared.job.HeadStep.TheVariants as S
+use Rattle.plant_http_requests.specs.declared.status.Status.{Status}
+use Rattle.plant_http_requests.specs.declared.status.Status.TheVariants.{NotFound, MethodNotAllowed, LengthRequired}
+use Rattle.plant_http_requests.specs.declared.status.Allow.TheVariants.{Unsaid, Get, Post}
+
+abbrev pub refuse : Status → Bool → Job
+refuse status silent = Refuse status Unsaid silent
+
+abbrev pub fails : Status → Bool → HeadStep
+fails status silent = S.Refuse status Unsaid silent
+
+abbrev pub is_head : List ℕ → Bool
+is_head method = bytes_eq method (codes "HEAD")
+
+-- what is asked of the thing of an id
+abbrev pub question_of : Kind → List ℕ → Question
+question_of kind.Order id = Q.Order id
+question_of kind.Lot id = Q.Lot id
+question_of kind.LotBack id = Q.Trace Back (node.Lot id)
+question_of kind.LotForward id = Q.Trace Forward (node.Lot id)
+question_of kind.Batch id = Q.Batch id
+question_of kind.BatchBack id = Q.Trace Back (node.Batch id)
+question_of kind.BatchForward id = Q.Trace Forward (node.Batch id)
+question_of kind.Record id = Q.Batch id
+
+abbrev pub form_of : Kind → Form
+form_of kind.Order = Json
+form_of kind.Lot = Json
+form_of kind.LotBack = Json
+form_of kind.LotForward = Json
+form_of kind.Batch = Json
+form_of kind.BatchBack = Json
+form_of kind.BatchForward = Json
+form_of kind.Record = Record
+
+-- a POST has a length
+abbrev pub post_step : Content → Option ℕ → HeadStep
+post_step c None = fails LengthRequired false
+post_step c (Some n) = S.Body n c
+
+-- a path that takes a body
+abbrev pub posted_step : Content → List ℕ → Option ℕ → HeadStep
+posted_step c method length =
+    if bytes_eq method (codes "POST") then post_step c length else S.Refuse MethodNotAllowed Post (is_head method)
+
+-- a path that is asked; a HEAD is answered as a GET, the body left out
+abbrev pub asked_step : Question → Form → List ℕ → HeadStep
+asked_step question form method =
+    if bytes_eq method (codes "GET") || is_head method then S.Ask question form (is_head method)
+    else S.Refuse MethodNotAllowed Get false
+
+abbrev pub target_step : Target → List ℕ → Option ℕ → Fields → HeadStep
+target_step target.Desk method length fs = asked_step Q.Desk Json method
+target_step target.Commands method length fs = posted_step content.Command method length
+target_step target.Orders method length fs = posted_step (content.Orders (stamp_in fs)) method length
+target_step (target.Named k id) method length fs = asked_step (question_of k id) (form_of k) method
+
+abbrev pub routed_step : Option Target → List ℕ → Option ℕ → Fields → HeadStep
+routed_step None method length fs = fails NotFound (is_head method)
+routed_step (Some t) method length fs = target_step t method length fs
+
+abbrev pub framed_step : Result (Option ℕ) Status → List ℕ → List ℕ → Fields → HeadStep
+framed_step (Err status) method path fs = fails status (is_head method)
+framed_step (Ok length) method path fs = routed_step (target_of path) method length fs
+
+-- what the parts of a head decide: first by its fields, then by its path, then by its method
+unfoldable pub request_step : List ℕ → List ℕ → ℕ → Fields → HeadStep
+request_step method path minor fs = framed_step (framing minor fs) method path fs

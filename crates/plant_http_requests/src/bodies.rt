@@ -1,0 +1,73 @@
+//! What a body asks for.
+ghost use Rattle.std.specs.Prelude.{◌≡◌, Some, None, IfSome};
+ghost use Rattle.plant_orders.specs.Orders.{orders_of};
+ghost use Rattle.plant_text.specs.Lines.{line_of};
+ghost use Rattle.plant_http_requests.specs.Jobs.{command_job, file_job, fault_job, body_job, import, Reads};
+
+use crate::job::{Content, Job};
+use crate::status::Status;
+use crate::steps::refuse;
+use plant_base::{Command, Envelope, ImportOrders, Items, OrderRow, Stamp};
+use plant_orders::{CsvFault, CsvKind, read_orders};
+use plant_text::{Line, LineFault, read_line};
+use std::alloc::Global;
+
+fn command_job(alloc: Global, body: &[u8]) -> Job
+    ensures { Reads result (command_job (line_of body.now)) }
+{
+    match read_line(alloc, body) {
+        Ok(Line::Command(envelope)) => Job::Command(envelope),
+        Ok(Line::Question(_)) => Job::BadForm,
+        Err(LineFault::BadForm) => Job::BadForm,
+        Err(LineFault::Memory) => Job::NoMemory,
+    }
+}
+
+fn import(stamp: Stamp, orders: Items<OrderRow>) -> Envelope
+    ensures { result ≡ import stamp orders }
+{
+    Envelope {
+        at: stamp.at,
+        by: stamp.by,
+        note: stamp.note,
+        body: Command::ImportOrders(ImportOrders { orders }),
+    }
+}
+
+fn fault_job(fault: CsvFault) -> Job
+    ensures { result ≡ fault_job fault }
+{
+    match fault.kind {
+        CsvKind::Memory => Job::NoMemory,
+        CsvKind::TooLong
+        | CsvKind::Header
+        | CsvKind::Shape
+        | CsvKind::Order
+        | CsvKind::Recipe
+        | CsvKind::Version
+        | CsvKind::Size
+        | CsvKind::Due
+        | CsvKind::Priority
+        | CsvKind::TooManyRows => Job::BadFile(fault),
+    }
+}
+
+fn file_job(alloc: Global, stamp: Stamp, body: &[u8]) -> Job
+    ensures { Reads result (file_job stamp (orders_of body.now)) }
+{
+    match read_orders(alloc, body) {
+        Ok(orders) => Job::Command(import(stamp, orders)),
+        Err(fault) => fault_job(fault),
+    }
+}
+
+/// What a body asks for that is there whole.
+pub(crate) fn body_job(alloc: Global, content: Content, body: &[u8]) -> Job
+    ensures { Reads result (body_job content body.now) }
+{
+    match content {
+        Content::Command => command_job(alloc, body),
+        Content::Orders(Some(stamp)) => file_job(alloc, stamp, body),
+        Content::Orders(None) => refuse(Status::BadRequest, false),
+    }
+}

@@ -1,0 +1,144 @@
+//! The fields of a request: what they say of its body.
+ghost use Rattle.std.specs.Prelude.{◌≡◌, ◌≤◌, map, length, All, option_map, IfOk, IfSome};
+ghost use Rattle.httparse.specs.Spans.{IsHeaderWithin, header_bytes};
+ghost use Rattle.plant_base.specs.Values.{is_moment, is_text, only};
+ghost use Rattle.plant_http_requests.specs.Fields.{is_name, count_named, value_named, body_length, framing, moment_in, only_moment, operator_in, stamp_in};
+
+use crate::status::Status;
+use httparse::spans::HeaderSpan;
+use plant_base::{Moment, Stamp, Text, read_digits};
+
+fn has_name(head: &[u8], field: &HeaderSpan, name: &[u8]) -> bool
+    requires { IsHeaderWithin (length head.now) field.now }
+    ensures { result ≡ is_name name.now (header_bytes head.now field.now).0 }
+{
+    field.name.of(head).eq_ignore_ascii_case(name)
+}
+
+fn count_named(head: &[u8], fields: &[HeaderSpan], name: &[u8]) -> usize
+    requires { All (IsHeaderWithin (length head.now)) fields.now }
+    ensures { result ≡ count_named name.now (map (header_bytes head.now) fields.now) }
+{
+    let mut count = 0usize;
+    for field in fields {
+        if has_name(head, field, name) {
+            count += 1;
+        }
+    }
+    count
+}
+
+fn value_named<'h>(head: &'h [u8], fields: &[HeaderSpan], name: &[u8]) -> Option<&'h [u8]>
+    requires { All (IsHeaderWithin (length head.now)) fields.now }
+    ensures { option_map (λ s. s.now) result ≡ value_named name.now
+        (map (header_bytes head.now) fields.now) }
+{
+    for field in fields {
+        if has_name(head, field, name) {
+            return Some(field.value.of(head));
+        }
+    }
+    None
+}
+
+/// The most bytes of a body.
+const LONGEST_BODY: u64 = 262_144;
+
+#[tactic(auto, unfolding(crate::specs::Fields::body_length))]
+fn body_length(head: &[u8], fields: &[HeaderSpan]) -> Result<Option<u32>, Status>
+    requires { All (IsHeaderWithin (length head.now)) fields.now }
+    ensures { result ≡ body_length (map (header_bytes head.now) fields.now) }
+{
+    let count = count_named(head, fields, b"content-length");
+    if count == 0 {
+        return Ok(None);
+    }
+    if count != 1 {
+        return Err(Status::BadRequest);
+    }
+    let Some(text) = value_named(head, fields, b"content-length") else {
+        return Err(Status::BadRequest);
+    };
+    let Some(number) = read_digits(text, 18) else {
+        return Err(Status::BadRequest);
+    };
+    if number > LONGEST_BODY {
+        return Err(Status::PayloadTooLarge);
+    }
+    Ok(Some(number as u32))
+}
+
+/// The body's length where one is named, or the status of the first rule on fields that is broken: 400 for a number of
+/// Host fields that the version doesn't have, 501 for a Transfer-Encoding, 400 for Content-Length more than once or not
+/// in 1 to 18 digits, 413 for one above 262,144.
+#[tactic(auto, unfolding(crate::specs::Fields::framing))]
+pub(crate) fn framing(head: &[u8], fields: &[HeaderSpan], minor: u8) -> Result<Option<u32>, Status>
+    requires { All (IsHeaderWithin (length head.now)) fields.now }
+    ensures { result ≡ framing minor (map (header_bytes head.now) fields.now) }
+{
+    let hosts = count_named(head, fields, b"host");
+    let has_host = if minor == 1 { hosts == 1 } else { hosts <= 1 };
+    if !has_host {
+        return Err(Status::BadRequest);
+    }
+    if count_named(head, fields, b"transfer-encoding") != 0 {
+        return Err(Status::NotImplemented);
+    }
+    body_length(head, fields)
+}
+
+fn read_moment(text: &[u8]) -> Option<Moment>
+    ensures { result ≡ moment_in text.now }
+{
+    Moment::new(read_digits(text, 12)?)
+}
+
+fn read_text(text: &[u8]) -> Option<Text>
+    ensures { result ≡ only is_text text.now }
+{
+    Text::read(text)
+}
+
+/// The operator that the fields name: the empty text where none is named.
+#[tactic(auto, unfolding(crate::specs::Fields::operator_in))]
+fn operator_in(head: &[u8], fields: &[HeaderSpan]) -> Option<Text>
+    requires { All (IsHeaderWithin (length head.now)) fields.now }
+    ensures { result ≡ operator_in (map (header_bytes head.now) fields.now) }
+{
+    let count = count_named(head, fields, b"desk-by");
+    if count == 0 {
+        return read_text(b"");
+    }
+    if count != 1 {
+        return None;
+    }
+    match value_named(head, fields, b"desk-by") {
+        Some(text) => read_text(text),
+        None => None,
+    }
+}
+
+fn only_moment(head: &[u8], fields: &[HeaderSpan]) -> Option<Moment>
+    requires { All (IsHeaderWithin (length head.now)) fields.now }
+    ensures { result ≡ only_moment (map (header_bytes head.now) fields.now) }
+{
+    if count_named(head, fields, b"desk-at") != 1 {
+        return None;
+    }
+    match value_named(head, fields, b"desk-at") {
+        Some(text) => read_moment(text),
+        None => None,
+    }
+}
+
+/// The moment and the operator that an order file is taken with, and an empty note. `None` where there isn't one field
+/// Desk-At with a moment in 1 to 12 digits, or there are several fields Desk-By or one with no text.
+pub(crate) fn stamp_in(head: &[u8], fields: &[HeaderSpan]) -> Option<Stamp>
+    requires { All (IsHeaderWithin (length head.now)) fields.now }
+    ensures { result ≡ stamp_in (map (header_bytes head.now) fields.now) }
+{
+    let at = only_moment(head, fields)?;
+    let by = operator_in(head, fields)?;
+    let note = read_text(b"")?;
+    Some(Stamp { at, by, note })
+}

@@ -1,0 +1,24 @@
+//! From the bytes of a head to what it decides.
+ghost use Rattle.plant_http_requests.specs.Jobs.{StepOf};
+
+use crate::job::HeadStep;
+use crate::parse::{MOST_FIELDS, has_too_many_fields, parse_head};
+use crate::status::Status;
+use crate::steps::{fails, request_step};
+use httparse::spans::EMPTY_HEADER_SPAN;
+use plant_http_routes::Routes;
+
+/// What a head decides: 431 for more than 32 lines of fields, 400 where it isn't one head of HTTP/1.1, else what its parts ask
+/// for.
+pub(crate) fn step_of_head(routes: &Routes, head: &[u8]) -> HeadStep
+    ensures { StepOf head.now result }
+{
+    if has_too_many_fields(head) {
+        return fails(Status::HeadTooLarge, false);
+    }
+    let mut fields = [EMPTY_HEADER_SPAN; MOST_FIELDS];
+    let Some(request) = parse_head(head, &mut fields) else {
+        return fails(Status::BadRequest, false);
+    };
+    request_step(head, &fields[..request.headers], &request, routes)
+}

@@ -1,0 +1,69 @@
+use crate::status::{Allow, Status};
+use plant_base::{Envelope, Stamp};
+use plant_desk::Question;
+use plant_orders::CsvFault;
+
+/// As what an answer is written.
+#[derive(Clone, Copy, Debug, PartialEq, Eq)]
+pub enum Form {
+    /// JSON.
+    Json,
+    /// The batch record, a plain text.
+    Record,
+}
+
+/// What a request asks for. `silent` where the answer's body is left out, as to a HEAD.
+#[derive(Debug, Drop)]
+pub enum Job {
+    /// The request is answered by this status alone.
+    Refuse {
+        status: Status,
+        allow: Allow,
+        silent: bool,
+    },
+    /// A question to the desk, and the form of its answer.
+    Ask {
+        question: Question,
+        form: Form,
+        silent: bool,
+    },
+    /// A command for the desk to execute, be it the body itself or the import of an order file.
+    Command(Envelope),
+    /// A body that is to be a command and is none.
+    BadForm,
+    /// An order file with this fault.
+    BadFile(CsvFault),
+    /// Memory was refused while a body was read as a command or an order file. Nothing is said of the body.
+    NoMemory,
+}
+
+/// What a body is to be.
+#[derive(Clone, Copy, Debug, PartialEq, Eq)]
+pub(crate) enum Content {
+    /// One command.
+    Command,
+    /// An order file, to be taken with this moment and operator; `None` where the fields of the head name none.
+    Orders(Option<Stamp>),
+}
+
+/// What the head alone decides.
+#[derive(Clone, Copy, Debug, PartialEq, Eq)]
+pub(crate) enum HeadStep {
+    /// The request is answered by this status alone.
+    Refuse {
+        status: Status,
+        allow: Allow,
+        silent: bool,
+    },
+    /// A question to the desk.
+    Ask {
+        question: Question,
+        form: Form,
+        silent: bool,
+    },
+    /// A body of so many bytes, at most 262,144, is to be read.
+    Body {
+        size: u32,
+        content: Content,
+    },
+}

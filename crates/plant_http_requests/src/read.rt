@@ -1,0 +1,100 @@
+//! From the input to what it asks for.
+ghost use Rattle.std.specs.Prelude.{◌≡◌, ◌≤◌, ◌+◌, ◌++◌, [], Some, None, length, take, drop, IfOk, IfSome, IsErrOf};
+ghost use Rattle.plant_http_input.specs.Reading.{SpentAll};
+ghost use Rattle.plant_http_requests.specs.Jobs.{AsksFor, HeadAsksFor, most_reads};
+
+use crate::bodies::body_job;
+use crate::head::step_of_head;
+use crate::job::{HeadStep, Job};
+use crate::status::Status;
+use crate::steps::refuse;
+use plant_http_input::{HeadEnd, InputFault, read_head, read_to};
+use plant_http_routes::Routes;
+use std::alloc::Global;
+use std::io::Read;
+
+/// The most reads that a request takes.
+pub const MOST_READS: u32 = 4096;
+
+/// What the first `n` bytes ask for, which are a head, with the body behind them.
+fn head_job<R: Read>(
+    alloc: Global,
+    routes: &Routes,
+    reader: &mut R,
+    bytes: &mut Vec<u8>,
+    reads: &mut u32,
+    n: usize,
+) -> Result<Job, InputFault>
+    requires within { n ≤ length bytes.old.items }
+    requires small { length bytes.old.items ≤ 8192 }
+    ensures asks { IfOk result (λ job. IfSome (R.remaining reader.old) (λ left.
+        HeadAsksFor (take n bytes.old.items) (drop n (bytes.old.items ++ left)) job)) }
+    ensures endless { IsErrOf result InputFault.Endless → SpentAll reads.old
+        (R.remaining reader.old) (R.remaining reader.new) }
+{
+    let step = {
+        let (head, _) = bytes.as_slice().split_at(n);
+        step_of_head(routes, head)
+    };
+    match step {
+        HeadStep::Refuse {
+            status,
+            allow,
+            silent,
+        } => Ok(Job::Refuse {
+            status,
+            allow,
+            silent,
+        }),
+        HeadStep::Ask {
+            question,
+            form,
+            silent,
+        } => Ok(Job::Ask {
+            question,
+            form,
+            silent,
+        }),
+        HeadStep::Body { size, content } => {
+            let want = n + size as usize;
+            match read_to(reader, bytes, reads, want) {
+                Ok(true) => Ok(body_job(alloc, content, &bytes.as_slice()[n..want])),
+                Ok(false) => Ok(refuse(Status::BadRequest, false)),
+                Err(fault) => Err(fault),
+            }
+        }
+    }
+}
+
+/// What the input asks for. `None` where it ended without a byte.
+///
+/// The head ends at its first empty line, within 8,192 bytes. A body is read where the head asks for one, and not beyond its length;
+/// where the head alone decides, no read follows the one that ended it. The result depends on the bytes of the input and not on the pieces
+/// in which they come.
+///
+/// `Read`: a read failed, or was interrupted. `Endless`: the request has taken its 4,096 reads, each of which gave a byte at least. `Memory`: memory was
+/// refused for the bytes. Want of memory in reading a body as a command or an order file is `Job::NoMemory`.
+pub fn read_job<R: Read>(
+    alloc: Global,
+    routes: &Routes,
+    reader: &mut R,
+) -> Result<Option<Job>, InputFault>
+    ensures asks { IfOk result (λ job. IfSome (R.remaining reader.old) (λ whole. AsksFor whole job)) }
+    ensures endless { IsErrOf result InputFault.Endless → SpentAll most_reads
+        (R.remaining reader.old) (R.remaining reader.new) }
+{
+    let mut bytes = Vec::new(alloc);
+    let mut reads = MOST_READS;
+    match read_head(reader, &mut bytes, &mut reads) {
+        Ok(HeadEnd::Nothing) => Ok(None),
+        Ok(HeadEnd::Early) => Ok(Some(refuse(Status::BadRequest, false))),
+        Ok(HeadEnd::TooLong) => Ok(Some(refuse(Status::HeadTooLarge, false))),
+        Ok(HeadEnd::Found(n)) => {
+            match head_job(alloc, routes, reader, &mut bytes, &mut reads, n) {
+                Ok(job) => Ok(Some(job)),
+                Err(fault) => Err(fault),
+            }
+        }
+        Err(fault) => Err(fault),
+    }
+}

@@ -1,0 +1,147 @@
+//! What the head of a request decides.
+ghost use Rattle.std.specs.Prelude.{◌≡◌, length, map, All};
+ghost use Rattle.httparse.specs.Spans.{IsHeaderWithin, IsWithin, header_bytes, span_bytes};
+ghost use Rattle.plant_http_requests.specs.Steps.{refuse, fails, is_head, question_of, form_of, post_step, posted_step, asked_step, target_step, request_step};
+
+use crate::fields::{framing, stamp_in};
+use crate::job::{Content, Form, HeadStep, Job};
+use crate::status::{Allow, Status};
+use httparse::spans::{HeaderSpan, RequestSpans};
+use plant_base::Id;
+use plant_desk::Question;
+use plant_http_routes::{Kind, Routes, Target};
+use plant_trace::{Direction, Node};
+
+pub(crate) fn refuse(status: Status, silent: bool) -> Job
+    ensures { result ≡ refuse status silent }
+{
+    Job::Refuse {
+        status,
+        allow: Allow::Unsaid,
+        silent,
+    }
+}
+
+pub(crate) fn fails(status: Status, silent: bool) -> HeadStep
+    ensures { result ≡ fails status silent }
+{
+    HeadStep::Refuse {
+        status,
+        allow: Allow::Unsaid,
+        silent,
+    }
+}
+
+fn is_head(method: &[u8]) -> bool
+    ensures { result ≡ is_head method.now }
+{
+    method == b"HEAD".as_slice()
+}
+
+fn question_of(kind: Kind, id: Id) -> Question
+    ensures { result ≡ question_of kind id }
+{
+    match kind {
+        Kind::Order => Question::Order(id),
+        Kind::Lot => Question::Lot(id),
+        Kind::LotBack => Question::Trace(Direction::Back, Node::Lot(id)),
+        Kind::LotForward => Question::Trace(Direction::Forward, Node::Lot(id)),
+        Kind::Batch | Kind::Record => Question::Batch(id),
+        Kind::BatchBack => Question::Trace(Direction::Back, Node::Batch(id)),
+        Kind::BatchForward => Question::Trace(Direction::Forward, Node::Batch(id)),
+    }
+}
+
+fn form_of(kind: Kind) -> Form
+    ensures { result ≡ form_of kind }
+{
+    match kind {
+        Kind::Record => Form::Record,
+        Kind::Order
+        | Kind::Lot
+        | Kind::LotBack
+        | Kind::LotForward
+        | Kind::Batch
+        | Kind::BatchBack
+        | Kind::BatchForward => Form::Json,
+    }
+}
+
+/// A path that takes a body by POST.
+fn posted_step(content: Content, method: &[u8], size: Option<u32>) -> HeadStep
+    ensures { result ≡ posted_step content method.now size }
+{
+    if method == b"POST".as_slice() {
+        return match size {
+            Some(size) => HeadStep::Body { size, content },
+            None => fails(Status::LengthRequired, false),
+        };
+    }
+    HeadStep::Refuse {
+        status: Status::MethodNotAllowed,
+        allow: Allow::Post,
+        silent: is_head(method),
+    }
+}
+
+/// A path that is asked by GET, or by HEAD.
+fn asked_step(question: Question, form: Form, method: &[u8]) -> HeadStep
+    ensures { result ≡ asked_step question form method.now }
+{
+    let silent = is_head(method);
+    if method == b"GET".as_slice() || silent {
+        return HeadStep::Ask {
+            question,
+            form,
+            silent,
+        };
+    }
+    HeadStep::Refuse {
+        status: Status::MethodNotAllowed,
+        allow: Allow::Get,
+        silent: false,
+    }
+}
+
+fn target_step(
+    head: &[u8],
+    fields: &[HeaderSpan],
+    target: Target,
+    method: &[u8],
+    size: Option<u32>,
+) -> HeadStep
+    requires { All (IsHeaderWithin (length head.now)) fields.now }
+    ensures { result ≡ target_step target method.now size (map (header_bytes head.now) fields.now) }
+{
+    match target {
+        Target::Desk => asked_step(Question::Desk, Form::Json, method),
+        Target::Commands => posted_step(Content::Command, method, size),
+        Target::Orders => posted_step(Content::Orders(stamp_in(head, fields)), method, size),
+        Target::Named(kind, id) => asked_step(question_of(kind, id), form_of(kind), method),
+    }
+}
+
+/// What a parsed head decides.
+#[tactic(auto, unfolding(crate::specs::Steps::request_step))]
+pub(crate) fn request_step(
+    head: &[u8],
+    fields: &[HeaderSpan],
+    request: &RequestSpans,
+    routes: &Routes,
+) -> HeadStep
+    requires fields { All (IsHeaderWithin (length head.now)) fields.now }
+    requires method { IsWithin (length head.now) request.now.method }
+    requires path { IsWithin (length head.now) request.now.path }
+    ensures { result ≡ request_step (span_bytes head.now request.now.method)
+        (span_bytes head.now request.now.path) request.now.version (map (header_bytes head.now) fields.now) }
+{
+    let method = request.method.of(head);
+    let path = request.path.of(head);
+    match framing(head, fields, request.version) {
+        Err(status) => fails(status, is_head(method)),
+        Ok(size) => match routes.find(path) {
+            Some(target) => target_step(head, fields, target, method, size),
+            None => fails(Status::NotFound, is_head(method)),
+        },
+    }
+}

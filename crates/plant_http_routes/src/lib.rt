@@ -1,0 +1,7 @@
+//! The routes of the desk's HTTP server: which path asks for what.
+#![tactic(auto)]
+
+mod path;
+mod routes;
+
+pub use routes::{Kind, Routes, RoutesFault, Target};

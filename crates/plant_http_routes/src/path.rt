@@ -1,0 +1,62 @@
+//! Paths of ASCII, and the id in a path.
+ghost use Rattle.std.specs.Prelude.{◌≡◌, IfSome, is_some, option_and_then};
+ghost use Rattle.std.specs.Bool.{OnTrue};
+ghost use Rattle.std.specs.Char.{is_ascii};
+ghost use Rattle.std.specs.List.{list_all};
+ghost use Rattle.std.specs.Str.{IsAscii};
+ghost use Rattle.matchit.specs.Params.{walk};
+ghost use Rattle.plant_base.specs.Values.{is_id, only};
+ghost use Rattle.plant_http_routes.specs.Routes.{first_part};
+
+use matchit::Params;
+use plant_base::Id;
+use std::str;
+
+fn is_all_ascii(path: &[u8]) -> bool
+    ensures value { result ≡ list_all is_ascii path.now }
+    ensures ascii { OnTrue result (IsAscii path.now) }
+{
+    path.iter().all(|b| b.is_ascii())
+}
+
+/// Bytes of ASCII as a text.
+fn ascii_str(path: &[u8]) -> &str
+    requires { IsAscii path.now }
+    ensures { result.now ≡ path.now }
+{
+    match str::from_utf8(path) {
+        Ok(text) => text,
+        Err(_) => unreachable!(),
+    }
+}
+
+/// The path as a text, where it is ASCII.
+pub(crate) fn ascii_text(path: &[u8]) -> Option<&str>
+    ensures value { IfSome result (λ text. text.now ≡ path.now) }
+    ensures ascii { IfSome result (λ text. IsAscii path.now) }
+    ensures some { is_some result ≡ list_all is_ascii path.now }
+{
+    if !is_all_ascii(path) {
+        return None;
+    }
+    Some(ascii_str(path))
+}
+
+fn read_id(bytes: &[u8]) -> Option<Id>
+    ensures { result ≡ only is_id bytes.now }
+{
+    Id::read(bytes)
+}
+
+/// The id that stands in a path, in the place of the route's parameter.
+pub(crate) fn id_in(params: &Params<'_, '_>) -> Option<Id>
+    requires { IsAscii params.now.path.now }
+    ensures { result ≡ option_and_then (only is_id) (first_part (walk params.now.pattern.now
+        params.now.text.now params.now.path.now params.now.names.now 0 0)) }
+{
+    let mut parts = params.iter();
+    match parts.next() {
+        Some((_, part)) => read_id(part.as_bytes()),
+        None => None,
+    }
+}

@@ -1,0 +1,146 @@
+//! The routes, and what a path asks for by them.
+ghost use Rattle.std.specs.Prelude.{◌≡◌, IfOk, option_and_then};
+ghost use Rattle.std.specs.Str.{IsAscii};
+ghost use Rattle.matchit.specs.Seek.{first};
+ghost use Rattle.plant_http_routes.specs.Routes.{the_routes, target_by, found_in, target_of};
+
+use crate::path::{ascii_text, id_in};
+use matchit::{InsertError, Router};
+use plant_base::Id;
+use std::alloc::Global;
+use std::marker::Model;
+use thiserror::Error;
+
+/// What is asked of the thing that a path names.
+#[derive(Clone, Copy, Debug, PartialEq, Eq)]
+pub enum Kind {
+    /// `/v1/orders/{order}`
+    Order,
+    /// `/v1/lots/{lot}`
+    Lot,
+    /// `/v1/lots/{lot}/back`: what the lot was made from.
+    LotBack,
+    /// `/v1/lots/{lot}/forward`: what was made from the lot.
+    LotForward,
+    /// `/v1/batches/{batch}`
+    Batch,
+    /// `/v1/batches/{batch}/back`: what the batch was made from.
+    BatchBack,
+    /// `/v1/batches/{batch}/forward`: what was made from the batch.
+    BatchForward,
+    /// `/v1/batches/{batch}/record`: the batch record.
+    Record,
+}
+
+/// A route, without the id that a path gives it.
+#[derive(Clone, Copy, Debug, PartialEq, Eq)]
+pub enum Route {
+    Desk,
+    Commands,
+    Orders,
+    Named(Kind),
+}
+
+/// What a path asks for.
+#[derive(Clone, Copy, Debug, PartialEq, Eq)]
+pub enum Target {
+    /// `/v1/desk`: where the desk stands.
+    Desk,
+    /// `/v1/commands`: the desk is to execute a command.
+    Commands,
+    /// `/v1/orders`: the desk is to take an order file.
+    Orders,
+    /// The thing of this id.
+    Named(Kind, Id),
+}
+
+/// Memory was refused for the routes.
+#[derive(Clone, Copy, Debug, PartialEq, Eq, Error)]
+#[error("out of memory")]
+pub struct RoutesFault;
+
+/// All routes of the server, built once.
+#[derive(Drop)]
+pub struct Routes {
+    router: Router<Route>,
+}
+
+impl Model for Routes {
+    ghost use Rattle.std.specs.Prelude.{◌≡◌};
+    ghost use Rattle.matchit.specs.Rows.{RowsOf};
+    ghost use Rattle.matchit.specs.Router.{RouteOf};
+    ghost use Rattle.plant_http_routes.specs.Routes.{the_routes};
+    ghost use Rattle.plant_http_routes.specs.declared.routes.Route.{Route};
+
+    ghost Value = { RowsOf (RouteOf Route) };
+
+    ghost view = { λ s. s.router };
+
+    ghost invariant = { λ s. s.router ≡ the_routes };
+
+    ghost inverse = { λ v. record { router = v } };
+}
+
+fn built(alloc: Global) -> Result<Router<Route>, InsertError>
+    ensures { IfOk result (λ r. r ≡ the_routes) }
+{
+    let mut router = Router::new(alloc);
+    router.insert("/v1/desk", Route::Desk)?;
+    router.insert("/v1/commands", Route::Commands)?;
+    router.insert("/v1/orders", Route::Orders)?;
+    router.insert("/v1/orders/{order}", Route::Named(Kind::Order))?;
+    router.insert("/v1/lots/{lot}", Route::Named(Kind::Lot))?;
+    router.insert("/v1/lots/{lot}/back", Route::Named(Kind::LotBack))?;
+    router.insert("/v1/lots/{lot}/forward", Route::Named(Kind::LotForward))?;
+    router.insert("/v1/batches/{batch}", Route::Named(Kind::Batch))?;
+    router.insert("/v1/batches/{batch}/back", Route::Named(Kind::BatchBack))?;
+    router.insert(
+        "/v1/batches/{batch}/forward",
+        Route::Named(Kind::BatchForward),
+    )?;
+    router.insert("/v1/batches/{batch}/record", Route::Named(Kind::Record))?;
+    Ok(router)
+}
+
+fn find_text(router: &Router<Route>, text: &str) -> Option<Target>
+    requires { IsAscii text.now }
+    ensures { result ≡ option_and_then (target_by text.now) (first router.now text.now) }
+{
+    let Ok(found) = router.at(text) else {
+        return None;
+    };
+    match *found.value {
+        Route::Desk => Some(Target::Desk),
+        Route::Commands => Some(Target::Commands),
+        Route::Orders => Some(Target::Orders),
+        Route::Named(kind) => match id_in(&found.params) {
+            Some(id) => Some(Target::Named(kind, id)),
+            None => None,
+        },
+    }
+}
+
+impl Routes {
+    /// Builds the routes.
+    ///
+    /// `RoutesFault`: memory was refused.
+    pub fn new(alloc: Global) -> Result<Self, RoutesFault>
+        ensures { IfOk result (λ r. r ≡ the_routes) }
+    {
+        match built(alloc) {
+            Ok(router) => Ok(Routes { router }),
+            Err(_) => Err(RoutesFault),
+        }
+    }
+
+    /// What a path asks for. `None` where no route has this form, and where what stands in the place of an id isn't one.
+    #[tactic(auto, unfolding(crate::specs::Routes::found_in))]
+    pub fn find(&self, path: &[u8]) -> Option<Target>
+        ensures { result ≡ target_of path.now }
+    {
+        match ascii_text(path) {
+            Some(text) => find_text(&self.router, text),
+            None => None,
+        }
+    }
+}

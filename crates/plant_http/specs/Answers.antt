@@ -14,6 +14,8 @@ use Rattle.plant_desk.specs.declared.reply.Reply.{Reply}
 use Rattle.plant_desk.specs.declared.reply.Reply.TheVariants.{Accepted, Refused}
 use Rattle.plant_desk.specs.declared.reply.DeskFault.{DeskFault}
 use Rattle.plant_desk.specs.declared.reply.DeskFault.TheVariants as fault
+use Rattle.plant_desk.specs.declared.question.BatchView.{BatchView}
+use Rattle.plant_record.specs.Record.{record_text}
 use Rattle.plant_text.specs.Answers.{text_of_answer}
 use Rattle.plant_text.specs.Replies.{reply_text, fault_text}
 use Rattle.plant_http_requests.specs.declared.job.Job.{Job}
@@ -134,8 +136,18 @@ form_for form (A.Batch v) = form
 form_for form (A.Trace nodes) = Json
 form_for form (A.Unknown r) = Json
 
+-- what is known of a batch, in JSON or as its record
+abbrev pub batch_in : Form → BatchView → List ℕ
+batch_in Json v = text_of_answer (A.Batch v)
+batch_in Record v = record_text v
+
 abbrev pub text_in : Form → DeskAnswer → List ℕ
-text_in form a = text_of_answer a
+text_in form (A.Desk schema seq) = text_of_answer (A.Desk schema seq)
+text_in form (A.Lot lot) = text_of_answer (A.Lot lot)
+text_in form (A.Order order) = text_of_answer (A.Order order)
+text_in form (A.Batch v) = batch_in form v
+text_in form (A.Trace nodes) = text_of_answer (A.Trace nodes)
+text_in form (A.Unknown r) = text_of_answer (A.Unknown r)
 
 abbrev pub answer_out : Form → DeskAnswer → Out
 answer_out form a = record { status = answer_status a; allow = Unsaid; form = form_for form a; body = text_in form a }

@@ -8,6 +8,7 @@ use plant_base::Refusal;
 use plant_desk::{Answer as DeskAnswer, DeskFault, Reply};
 use plant_http_requests::{Allow, Form, Status};
 use plant_orders::CsvFault;
+use plant_record::record;
 use plant_text::{ReplyText, answer_text, fault_line, reply_line};
 use std::alloc::{AllocError, Global};
 
@@ -142,9 +143,16 @@ fn form_for(form: Form, answer: &DeskAnswer) -> Form
 fn text_in(alloc: Global, form: Form, answer: &DeskAnswer) -> Result<String, AllocError>
     ensures { IfOk result (λ text. string_bytes text ≡ text_in form answer.now) }
 {
-    match form {
-        Form::Json => answer_text(alloc, answer),
-        Form::Record => answer_text(alloc, answer),
+    match answer {
+        DeskAnswer::Batch(view) => match form {
+            Form::Json => answer_text(alloc, answer),
+            Form::Record => record(alloc, view),
+        },
+        DeskAnswer::Unknown(_)
+        | DeskAnswer::Desk { .. }
+        | DeskAnswer::Lot(_)
+        | DeskAnswer::Order(_)
+        | DeskAnswer::Trace(_) => answer_text(alloc, answer),
     }
 }
 

@@ -26,8 +26,8 @@ impl Lists {
     /// The error is want of memory.
     pub fn decide(&self, envelope: &Envelope) -> Result<Decision, AllocError>
         requires { IsSound (state_of self.now) }
-        ensures decides { IfOk result (Decides (wrong (state_of self.now) envelope.now) (state_of self.now)
-            (step (state_of self.now) envelope.now)) }
+        ensures decides { IfOk result (Decides (wrong (state_of self.now) envelope.now)
+            (state_of self.now) (step (state_of self.now) envelope.now)) }
         ensures one_batch { IfOk result PutsOneBatch }
     {
         if let Command::Consume(_) = &envelope.body {

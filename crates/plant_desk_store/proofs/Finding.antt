@@ -1,5 +1,5 @@
 -- What rows that were read and break no rule stand for.
-use Rattle.std.proofs.Common.{◌≡◌, ◌∙◌, Some, Result, Ok, Err, IfOk, sym, subst, ap, Option, None, IsTrue}
+use Rattle.std.proofs.Common.{◌≡◌, ◌∙◌, Some, Result, Ok, Err, IfOk, sym, ap, Option, None, IsTrue}
 use Rattle.sqlite.specs.State as store
 use Rattle.sqlite.specs.Effect.{Database}
 use Rattle.plant_base.specs.State.{State, newest_schema}
@@ -8,7 +8,7 @@ use Rattle.plant_good.specs.Good.{IsGood}
 use Rattle.plant_tables_stored.specs.Loading.{AreLoaded, AreRising}
 use Rattle.plant_tables_stored.specs.declared.loaded.Loaded.{Loaded}
 use Rattle.table_forms.specs.declared.fault.Fault.{Fault}
-use Rattle.plant_tables_judged.specs.Collecting.{Rows, rows_from, rows_in, rows_listed}
+use Rattle.plant_tables_judged.specs.Collecting.{rows_from, rows_in, rows_listed}
 use Rattle.plant_tables_judged.specs.declared.desk_rows.DeskRows.{DeskRows}
 use Rattle.plant_tables_judged.proofs.WholeLemmas.{same_tables}
 use Rattle.plant_check.specs.Broken.{first_broken, first_broken_of}
@@ -18,7 +18,7 @@ use Rattle.plant_desk.specs.Lists.{state_without_kept}
 use Rattle.plant_desk.proofs.Plain.{plain_tables}
 use Rattle.plant_good_found.specs.Restoring.{state_in}
 use Rattle.plant_desk_store.specs.Standing.{StandsAt}
-use Rattle.plant_desk_store.specs.Testing.{IsTested, IsUnfit}
+use Rattle.plant_desk_store.specs.Testing.{IsTested}
 use Rattle.plant_good_found.proofs.Restored.{unbroken_good}
 use Rattle.plant_good_passes.proofs.Unbroken.{read_good}
 
@@ -50,9 +50,3 @@ unbroken_of c s x (Ok broken) live stands loaded told = told ∙ (read_good c.no
 pub tested_of : (db : Database) (x : Loaded) (r : Result (Option Rule) DeskFault) → AreLoaded db x → IfOk r (λ broken. broken ≡ first_broken x) → IfOk r (IsTested db)
 tested_of db x (Err f) loaded told = tt
 tested_of db x (Ok broken) loaded told = (x, loaded, told)
-
--- loaded rows that are refused aren't those of a desk of the newest schema
-pub unfit_of : (x : Loaded) (rows : Rows) → rows_from x ≡ Some rows → (first_broken_of rows ≡ None → ¬ (rows.meta.schema ≡ newest_schema)) → IsUnfit x
-unfit_of x rows is fails r told fine schema =
-    let same : rows ≡ r = (let both = sym is ∙ told in cc) in
-    fails (subst (λ (q : Rows). first_broken_of q ≡ None) (sym same) fine) (subst (λ (q : Rows). q.meta.schema ≡ newest_schema) (sym same) schema)

@@ -1,6 +1,6 @@
 -- What is judged of loaded rows, and of the store that they were loaded of.
-use Rattle.std.proofs.Common.{◌≡◌, ◌∙◌, Bool, true, false, Option, None, Some, is_some, Result, Ok, Err, IfErr, OnOk, refl, sym, ap, subst, inl, inr, ℕ, ◌<◌, ℤ, pos, arith}
-use Rattle.std.specs.Prelude.{◌⊎◌, ◌≢◌, All}
+use Rattle.std.proofs.Common.{◌≡◌, ◌∙◌, None, Some, Result, Ok, Err, IfErr, OnOk, sym, subst, inl, inr, ℕ, ◌<◌, ℤ, pos, arith}
+use Rattle.std.specs.Prelude.{◌≢◌, All}
 use Rattle.std.specs.Int.Signed.{◌≤ℤ◌}
 use lib.Dec.{leb→le}
 use Rattle.sqlite.specs.Effect.{Database, IsDatabase}
@@ -22,10 +22,8 @@ use Rattle.plant_tables_stored.specs.Version.{IsVersion}
 use Rattle.plant_tables_stored.specs.declared.loaded.Loaded.{Loaded}
 use Rattle.plant_tables_stored.proofs.Versions.{one_version}
 use Rattle.plant_tables_judged.specs.Collecting.{Rows, rows_from}
-use Rattle.plant_tables_judged.specs.Judging.{only_meta}
-use Rattle.plant_check.specs.Broken.{first_broken, first_broken_of, broken_rows, unless}
-use Rattle.plant_check.specs.declared.rule.Rule.TheVariants as rule
-use Rattle.plant_desk_store.specs.Adopting.{IsNewlyOpened, AdoptedFrom, KeepsGood, IsBroken, NamesFirst, BrokenBy, IsRefusedBy}
+use Rattle.plant_check.specs.Broken.{first_broken_of}
+use Rattle.plant_desk_store.specs.Adopting.{IsNewlyOpened, AdoptedFrom, KeepsGood, NamesFirst, BrokenBy, IsRefusedBy}
 use Rattle.plant_good_found.specs.Restoring.{state_in, AreUnbroken}
 use Rattle.plant_desk_store.specs.Standing.{IsOpenAt, OthersStand}
 use Rattle.plant_desk_store.specs.declared.adopting.AdoptFault.{AdoptFault}
@@ -33,29 +31,6 @@ use Rattle.plant_desk_store.specs.declared.adopting.AdoptFault.TheVariants as fa
 use Rattle.plant_good_found.proofs.Restored.{unbroken_good, unbroken_holds}
 use Rattle.plant_desk_store.proofs.Others.{others_settled, keeps_itself}
 use Rattle.plant_desk_store.proofs.Resting.{still_at, still_open, open_at}
-
--- ---- rules
-
-pub no_meta : (x : Loaded) → is_some (only_meta x.meta.items) ≡ false → first_broken x ≡ Some rule.Tables
-unfolding first_broken
-no_meta x e = ap (λ b. unless b rule.Tables (broken_rows (rows_from x))) e
-
-pub no_rows : (x : Loaded) → is_some (only_meta x.meta.items) ≡ true → rows_from x ≡ None → first_broken x ≡ Some rule.Values
-unfolding first_broken
-no_rows x e f = ap (λ b. unless b rule.Tables (broken_rows (rows_from x))) e ∙ ap broken_rows f
-
-same_broken : (x : Loaded) (r : Rows) → is_some (only_meta x.meta.items) ≡ true → rows_from x ≡ Some r → first_broken x ≡ first_broken_of r
-unfolding first_broken
-same_broken x r e f = ap (λ b. unless b rule.Tables (broken_rows (rows_from x))) e ∙ ap broken_rows f
-
-pub rows_broken : (x : Loaded) (r : Rows) (judged : Result (Unit {0}) AdoptFault) → is_some (only_meta x.meta.items) ≡ true → rows_from x ≡ Some r → IfErr judged (IsBroken (first_broken_of r)) → IfErr judged (BrokenBy x)
-rows_broken x r (Ok u) e f h = tt
-rows_broken x r (Err g) e f h = subst (λ o. IsBroken o g) (sym (same_broken x r e f)) h
-
-pub rows_unbroken : (x : Loaded) (r : Rows) (judged : Result (Unit {0}) AdoptFault) → rows_from x ≡ Some r → OnOk judged ((first_broken_of r ≡ None) × (r.meta.schema ≡ newest_schema))
-    → OnOk judged ((r : Rows) × (rows_from x ≡ Some r) × (first_broken_of r ≡ None) × (r.meta.schema ≡ newest_schema))
-rows_unbroken x r (Err g) f h = tt
-rows_unbroken x r (Ok u) f h = (r, f, h.0, h.1)
 
 -- ---- the store
 

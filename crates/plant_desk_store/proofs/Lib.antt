@@ -1,5 +1,6 @@
 pub mod Again
 pub mod Finding
+pub mod Fitting
 pub mod Judging
 pub mod Lasting
 pub mod OneSchema

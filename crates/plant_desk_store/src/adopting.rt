@@ -12,16 +12,16 @@ ghost use Rattle.plant_tables.specs.Keyed.{HoldsTables};
 ghost use Rattle.plant_base.specs.State.{State, opening, newest_schema};
 ghost use Rattle.table_forms.specs.Standing.{AreFree};
 ghost use Rattle.plant_tables.specs.DeskForms.{desk_forms};
-ghost use Rattle.plant_tables_judged.specs.Collecting.{Rows, rows_from, rows_listed};
-ghost use Rattle.plant_check.specs.Broken.{first_broken, first_broken_of};
-ghost use Rattle.plant_desk_store.specs.Adopting.{IsNewlyOpened, AdoptedFrom, KeepsGood, IsRefusedBy, NamesFirst, BrokenBy, IsBroken, Opened};
+ghost use Rattle.plant_tables_judged.specs.Collecting.{Rows, rows_from};
+ghost use Rattle.plant_check.specs.Broken.{first_broken_of};
+ghost use Rattle.plant_desk_store.specs.Adopting.{IsNewlyOpened, AdoptedFrom, KeepsGood, IsRefusedBy, NamesFirst, BrokenBy, Opened};
 ghost use Rattle.plant_desk_store.specs.Standing.{IsOpenAt, OthersStand};
 
+use crate::fitness::{Unfit, judge};
 use crate::stored::Desk;
 use plant_base::NEWEST_SCHEMA;
-use plant_check::{Rule, check_rows};
+use plant_check::Rule;
 use plant_tables::commit_opening;
-use plant_tables_judged::{DeskRows, has_meta, rows_of};
 use plant_tables_stored::{FoundTables, Loaded, found};
 use sqlite::{Alter, Connection};
 use std::alloc::Global;
@@ -217,30 +217,12 @@ fn judged_rows(alloc: Global, loaded: &Loaded) -> Result<(), AdoptFault>
         × (first_broken_of r ≡ None) × (r.meta.schema ≡ newest_schema)) }
     ensures broken { IfErr result (BrokenBy loaded.now) }
 {
-    if !has_meta(loaded) {
-        return Err(AdoptFault::Damaged(Rule::Tables));
-    }
-    match rows_of(alloc, loaded) {
-        Err(_) => Err(AdoptFault::Memory),
-        Ok(None) => Err(AdoptFault::Damaged(Rule::Values)),
-        Ok(Some(rows)) => judged_values(alloc, &rows),
-    }
-}
-
-fn judged_values(alloc: Global, rows: &DeskRows) -> Result<(), AdoptFault>
-    ensures unbroken { OnOk result ((first_broken_of (rows_listed rows.now) ≡ None)
-        × (rows.now.meta.schema ≡ newest_schema)) }
-    ensures broken { IfErr result (IsBroken (first_broken_of (rows_listed rows.now))) }
-{
-    match check_rows(alloc, rows) {
-        Err(_) => Err(AdoptFault::Memory),
-        Ok(Some(rule)) => Err(AdoptFault::Damaged(rule)),
-        Ok(None) => {
-            // The version was found to be the newest.
-            if rows.meta.schema != NEWEST_SCHEMA {
-                return Err(AdoptFault::Store);
-            }
-            Ok(())
-        }
-    }
+    let _rows = match judge(alloc, loaded) {
+        Ok(rows) => rows,
+        Err(Unfit::Broken(rule)) => return Err(AdoptFault::Damaged(rule)),
+        // The version was found to be the newest.
+        Err(Unfit::Schema) => return Err(AdoptFault::Store),
+        Err(Unfit::Memory) => return Err(AdoptFault::Memory),
+    };
+    Ok(())
 }

@@ -5,6 +5,7 @@ mod adopting;
 mod asking;
 mod deciding;
 mod executing;
+mod fitness;
 mod laws;
 mod lists;
 mod reading;

@@ -1,6 +1,6 @@
 //! What the tables of a store hold.
 
-ghost use Rattle.std.specs.Prelude.{◌≡◌, ◌≢◌, false, Some, None, Err, IfOk, IfErr, OnOk, IsTrue};
+ghost use Rattle.std.specs.Prelude.{◌≡◌, false, Some, None, Err, IfOk, OnOk, IsTrue};
 ghost use Rattle.sqlite.specs.Held.{state};
 ghost use Rattle.sqlite.specs.State.{HasCleanDisk, Survives};
 ghost use Rattle.plant_base.specs.State.{State, newest_schema};
@@ -12,9 +12,9 @@ ghost use Rattle.plant_good_found.specs.Restoring.{state_in};
 ghost use Rattle.plant_desk_store.specs.Standing.{StandsAt};
 ghost use Rattle.plant_desk_store.specs.Testing.{IsUnfit};
 
+use crate::fitness::{Unfit, judge};
 use plant_base::NEWEST_SCHEMA;
-use plant_check::check_rows;
-use plant_tables_judged::{DeskRows, rows_of};
+use plant_tables_judged::DeskRows;
 use plant_tables_stored::Loaded;
 use sqlite::{Alter, Connection};
 use std::alloc::Global;
@@ -51,35 +51,10 @@ fn checked(alloc: Global, loaded: &Loaded) -> Result<DeskRows, Fault>
     ensures newest { IfOk result (λ rows. rows.meta.schema ≡ newest_schema) }
     ensures store { result ≡ Err Fault.Store → IsUnfit loaded.now }
 {
-    match rows_of(alloc, loaded) {
-        Err(_) => Err(Fault::Memory),
-        Ok(None) => Err(Fault::Store),
-        Ok(Some(rows)) => unbroken(alloc, rows),
-    }
-}
-
-fn unbroken(alloc: Global, rows: DeskRows) -> Result<DeskRows, Fault>
-    ensures same { IfOk result (λ r. r ≡ rows) }
-    ensures unbroken { IfOk result (λ r. first_broken_of (rows_listed r) ≡ None) }
-    ensures newest { IfOk result (λ r. r.meta.schema ≡ newest_schema) }
-    ensures store { result ≡ Err Fault.Store → first_broken_of (rows_listed rows) ≡ None
-        → rows.meta.schema ≢ newest_schema }
-{
-    match check_rows(alloc, &rows) {
-        Err(_) => Err(Fault::Memory),
-        Ok(Some(_)) => Err(Fault::Store),
-        Ok(None) => of_newest(rows),
-    }
-}
-
-fn of_newest(rows: DeskRows) -> Result<DeskRows, Fault>
-    ensures same { IfOk result (λ r. r ≡ rows) }
-    ensures newest { IfOk result (λ r. r.meta.schema ≡ newest_schema) }
-    ensures store { IfErr result (λ fault. (fault ≡ Fault.Store) × (rows.meta.schema ≢ newest_schema)) }
-{
-    if rows.meta.schema == NEWEST_SCHEMA {
-        Ok(rows)
-    } else {
-        Err(Fault::Store)
+    match judge(alloc, loaded) {
+        Ok(rows) => Ok(rows),
+        Err(Unfit::Broken(_)) => Err(Fault::Store),
+        Err(Unfit::Schema) => Err(Fault::Store),
+        Err(Unfit::Memory) => Err(Fault::Memory),
     }
 }

@@ -10,8 +10,9 @@ ghost use Rattle.plant_desk_store.specs.Standing.{StandsAt};
 ghost use Rattle.plant_desk_store.specs.Testing.{IsTested};
 
 use crate::deciding::fault_of;
+use crate::fitness::{Unfit, judge};
 use plant_base::NEWEST_SCHEMA;
-use plant_check::{Rule, check};
+use plant_check::Rule;
 use plant_desk::DeskFault;
 use plant_tables_stored::Loaded;
 use sqlite::{Alter, Connection};
@@ -47,8 +48,10 @@ fn broken_rule(alloc: Global, loaded: &Loaded) -> Result<Option<Rule>, DeskFault
     ensures broken { IfOk result (λ broken. broken ≡ first_broken loaded.now) }
     ensures memory { IfErr result (λ fault. fault ≡ DeskFault.Memory) }
 {
-    match check(alloc, loaded) {
-        Ok(broken) => Ok(broken),
-        Err(_) => Err(DeskFault::Memory),
+    match judge(alloc, loaded) {
+        Ok(_) => Ok(None),
+        Err(Unfit::Broken(rule)) => Ok(Some(rule)),
+        Err(Unfit::Schema) => Ok(None),
+        Err(Unfit::Memory) => Err(DeskFault::Memory),
     }
 }

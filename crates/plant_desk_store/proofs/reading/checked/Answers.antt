@@ -1,9 +1,8 @@
-use Rattle.std.proofs.Common.{sym}
-use Rattle.plant_tables_judged.specs.Collecting.{rows_listed}
-use Rattle.plant_desk_store.proofs.Finding.{unfit_of}
+use Rattle.plant_desk_store.proofs.Fitting.{broken_unfit}
 use Rattle.plant_desk_store.proofs.reading.checked.Goals as goal
 
-pub returns-in-Ok-Some-clause-store : goal.returns-in-Ok-Some-clause-store
-unfolding rows_listed
-returns-in-Ok-Some-clause-store c told =
-    unfit_of c.args.loaded.now (rows_listed c.in-Ok-Some.rows) (sym (rw c.in-Ok-Some.field-0-is at c.in-Ok-Some.ensures)) (c.unbroken.ensures.store told)
+pub returns-in-Err-Broken-clause-store : goal.returns-in-Err-Broken-clause-store
+returns-in-Err-Broken-clause-store c told = broken_unfit c.args.loaded.now _ (rw c.in-Err-Broken.field-0-is at c.in-Err-Broken.ensures.unfit)
+
+pub returns-in-Err-Schema-clause-store : goal.returns-in-Err-Schema-clause-store
+returns-in-Err-Schema-clause-store c told = let unfit = rw c.in-Err-Schema.field-0-is at c.in-Err-Schema.ensures.unfit in unfit.1

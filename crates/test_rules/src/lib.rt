@@ -1,4 +1,4 @@
-//! Tests of recipes, stock, traces, orders, keepers over lists, lines and runs, by the public functions of their crates.
+//! Tests of recipes, stock, traces, orders, keepers over lists, batch records, lines and runs, by the public functions of their crates.
 #![tactic(auto)]
 
 #[cfg(test)]
@@ -13,6 +13,8 @@ mod movements;
 mod order_files;
 #[cfg(test)]
 mod recipes;
+#[cfg(test)]
+mod records;
 #[cfg(test)]
 mod runs;
 #[cfg(test)]

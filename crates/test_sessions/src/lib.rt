@@ -1,5 +1,6 @@
 //! Sessions of the desk in lines, each over a keeper of lists and over a desk on a store in memory: both write the same. And
-//! the program's words: how they are read, what each writes over a store in memory, and the exit status.
+//! the program's words: how they are read, what each writes over a store in memory, and the exit status; and
+//! requests over HTTP.
 #![tactic(auto)]
 
 #[cfg(test)]
@@ -8,6 +9,8 @@ mod batch_tests;
 mod ended;
 #[cfg(test)]
 mod faults;
+#[cfg(test)]
+mod http_tests;
 #[cfg(test)]
 mod limit_tests;
 #[cfg(test)]

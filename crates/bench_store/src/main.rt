@@ -177,7 +177,7 @@ fn write<S: Alter>(alloc: Global, conn: &mut Connection<S>, count: u64) -> Resul
 fn read<S: Alter>(alloc: Global, conn: &mut Connection<S>) -> Result<usize, Fault>
     ensures { HasCleanDisk (state S.Store conn.new)
         → IfOk result (λ n. (x : Loaded) × AreLoaded (state S.Store conn.old).now x
-            × (n ≡ length x.stocks.movements.items)) }
+        × (n ≡ length x.stocks.movements.items)) }
 {
     match &Loaded::read(alloc, conn, 1)? {
         Some(loaded) => Ok(loaded.stocks.movements.len()),

@@ -42,14 +42,14 @@ pub fn commit_changes<S: Alter>(
     ensures accepted { HasCleanDisk (state S.Store conn.new) → (t : Tables)
         → IsAt (state S.Store conn.old) t → AreKeyed t → AreFresh changes.now t
         → OnOk result (IsAt (state S.Store conn.new) (changed_all changes.now t)
-            × KeepsOthers desk_forms (state S.Store conn.old).now (state S.Store conn.new).now) }
+        × KeepsOthers desk_forms (state S.Store conn.old).now (state S.Store conn.new).now) }
     ensures cut_short { HasCleanDisk (state S.Store conn.new) → (t : Tables)
         → IsAt (state S.Store conn.old) t → AreKeyed t → AreFresh changes.now t
         → OnErr result (IsCutShort (state S.Store conn.old) (state S.Store conn.new) t
-            (changed_all changes.now t)) }
+        (changed_all changes.now t)) }
     ensures survives { Survives (state S.Store conn.old) (state S.Store conn.new)
         (λ trees. (db : Database) × MovesTables changes.now (state S.Store conn.old).now db
-            × (trees ≡ db.trees)) }
+        × (trees ≡ db.trees)) }
 {
     in_one(conn, &Writing { changes })
 }
@@ -85,7 +85,7 @@ pub fn commit_opening<S: Alter>(conn: &mut Connection<S>) -> Result<(), Fault>
     ensures made { HasCleanDisk (state S.Store conn.new) → IsSettled (state S.Store conn.old)
         → IsDatabase (state S.Store conn.old).now → AreFree desk_forms (state S.Store conn.old).now.schema
         → OnOk result (IsAt (state S.Store conn.new) opening_tables
-            × KeepsOthers desk_forms (state S.Store conn.old).now (state S.Store conn.new).now) }
+        × KeepsOthers desk_forms (state S.Store conn.old).now (state S.Store conn.new).now) }
     ensures cut_short { HasCleanDisk (state S.Store conn.new) → IsSettled (state S.Store conn.old)
         → IsDatabase (state S.Store conn.old).now → AreFree desk_forms (state S.Store conn.old).now.schema
         → OnErr result (IsUnopened (state S.Store conn.old) (state S.Store conn.new)) }

@@ -26,7 +26,7 @@ pub fn write_change<S: Alter>(tx: &mut Transaction<'_, S>, change: &RowChange) -
     ensures same_reference { tx.new.conn.ghost_name ≡ tx.old.conn.ghost_name }
     ensures moved { HasCleanDisk (state S.Store tx.new.conn.now)
         → OnOk result (Moves desk_forms (state S.Store tx.old.conn.now)
-            (state S.Store tx.new.conn.now) (rows_changed change.now)) }
+        (state S.Store tx.new.conn.now) (rows_changed change.now)) }
     ensures kept { HasCleanDisk (state S.Store tx.new.conn.now)
         → KeepsCommit (state S.Store tx.old.conn.now) (state S.Store tx.new.conn.now) }
     ensures survives { Survives (state S.Store tx.old.conn.now) (state S.Store tx.new.conn.now) (λ _. ⊥) }
@@ -78,10 +78,10 @@ pub fn write_changes<S: Alter>(
     ensures same_reference { tx.new.conn.ghost_name ≡ tx.old.conn.ghost_name }
     ensures moved { HasCleanDisk (state S.Store tx.new.conn.now)
         → OnOk result (Moves desk_forms (state S.Store tx.old.conn.now)
-            (state S.Store tx.new.conn.now) (all_rows_changed changes.now)) }
+        (state S.Store tx.new.conn.now) (all_rows_changed changes.now)) }
     ensures tables { HasCleanDisk (state S.Store tx.new.conn.now)
         → OnOk result (MovesTables changes.now (state S.Store tx.old.conn.now).now
-            (state S.Store tx.new.conn.now).now) }
+        (state S.Store tx.new.conn.now).now) }
     ensures kept { HasCleanDisk (state S.Store tx.new.conn.now)
         → KeepsCommit (state S.Store tx.old.conn.now) (state S.Store tx.new.conn.now) }
     ensures survives { Survives (state S.Store tx.old.conn.now) (state S.Store tx.new.conn.now) (λ _. ⊥) }
@@ -100,7 +100,7 @@ pub fn create<S: Alter>(tx: &mut Transaction<'_, S>, schema: u64) -> Result<(), 
     ensures same_reference { tx.new.conn.ghost_name ≡ tx.old.conn.ghost_name }
     ensures founded { HasCleanDisk (state S.Store tx.new.conn.now)
         → OnOk result (Founds desk_forms (state S.Store tx.old.conn.now)
-            (state S.Store tx.new.conn.now)) }
+        (state S.Store tx.new.conn.now)) }
     ensures kept { HasCleanDisk (state S.Store tx.new.conn.now)
         → KeepsCommit (state S.Store tx.old.conn.now) (state S.Store tx.new.conn.now) }
     ensures survives { Survives (state S.Store tx.old.conn.now) (state S.Store tx.new.conn.now) (λ _. ⊥) }

@@ -65,7 +65,7 @@ fn version<S: Alter>(alloc: Global, conn: &mut Connection<S>) -> Result<Option<i
         → IfOk result (λ found. found ≡ None → (n : ℤ) → ¬ IsVersion (state S.Store conn.old).now n) }
     ensures same { HasCleanDisk (state S.Store conn.new)
         → IfOk result (λ found. IfSome found (λ _. IsUnchanged (state S.Store conn.old)
-                (state S.Store conn.new))) }
+        (state S.Store conn.new))) }
     ensures kept { HasCleanDisk (state S.Store conn.new)
         → Keeps (state S.Store conn.old) (state S.Store conn.new) }
     ensures mode { (state S.Store conn.old).in_transaction ≡ false
@@ -74,7 +74,7 @@ fn version<S: Alter>(alloc: Global, conn: &mut Connection<S>) -> Result<Option<i
     // Memory is wanted for a row of table meta.
     ensures memory { HasCleanDisk (state S.Store conn.new)
         → IfErr result (λ fault. fault ≡ Fault.Memory
-            → HasTable (state S.Store conn.old).now.schema meta_form) }
+        → HasTable (state S.Store conn.old).now.schema meta_form) }
 {
     if !all_stand(conn.schema(), &[META]) {
         return Ok(None);
@@ -117,12 +117,12 @@ pub fn found<S: Alter>(alloc: Global, conn: &mut Connection<S>) -> Result<FoundT
         → ¬ All (IsFree (state S.Store conn.old).now.schema) desk_forms) }
     ensures version { HasCleanDisk (state S.Store conn.new)
         → IfOk result (λ found. (n : ℤ)
-            → (found ≡ FoundTables.Version n) ↔ IsVersion (state S.Store conn.old).now n) }
+        → (found ≡ FoundTables.Version n) ↔ IsVersion (state S.Store conn.old).now n) }
     ensures live { IsLive (state S.Store conn.old) }
     ensures untouched { IfOk result (λ found. found ≡ FoundTables.Nothing → conn.new ≡ conn.old) }
     ensures same { HasCleanDisk (state S.Store conn.new)
         → IfOk result (λ found. (n : ℤ) → found ≡ FoundTables.Version n
-            → IsUnchanged (state S.Store conn.old) (state S.Store conn.new)) }
+        → IsUnchanged (state S.Store conn.old) (state S.Store conn.new)) }
     ensures kept { HasCleanDisk (state S.Store conn.new)
         → Keeps (state S.Store conn.old) (state S.Store conn.new) }
     ensures mode { (state S.Store conn.old).in_transaction ≡ false
@@ -131,7 +131,7 @@ pub fn found<S: Alter>(alloc: Global, conn: &mut Connection<S>) -> Result<FoundT
     // Memory is wanted for a row of table meta.
     ensures memory { HasCleanDisk (state S.Store conn.new)
         → IfErr result (λ fault. fault ≡ Fault.Memory
-            → HasTable (state S.Store conn.old).now.schema meta_form) }
+        → HasTable (state S.Store conn.old).now.schema meta_form) }
 {
     if all_free(conn.schema(), &desk_forms()) {
         if lacks_counts(conn.schema()) {

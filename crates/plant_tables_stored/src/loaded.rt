@@ -42,12 +42,12 @@ impl Loaded {
         ensures stands { HasCleanDisk (state S.Store conn.new)
             → IsRising (state S.Store conn.old).now
             → IfOk result (λ found. IfSome found (λ loaded. StandIn desk_forms
-                    (state S.Store conn.old).now (contents_loaded loaded))) }
+            (state S.Store conn.old).now (contents_loaded loaded))) }
         ensures missing { IfOk result (λ found. found ≡ None
             → ¬ All (HasTable (state S.Store conn.old).now.schema) desk_forms) }
         ensures same { HasCleanDisk (state S.Store conn.new)
             → IfOk result (λ found. IfSome found (λ _. IsUnchanged (state S.Store conn.old)
-                    (state S.Store conn.new))) }
+            (state S.Store conn.new))) }
         ensures kept { HasCleanDisk (state S.Store conn.new)
             → Keeps (state S.Store conn.old) (state S.Store conn.new) }
         ensures mode { (state S.Store conn.old).in_transaction ≡ false

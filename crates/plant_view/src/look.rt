@@ -171,7 +171,7 @@ pub fn sublot<V: View>(
 pub fn sublots<V: View>(view: &mut V, lot: Id) -> Result<Vec<Sublot>, ViewFault<V::Fault>>
     ensures { Told V.honest V.kept V.steady view.old view.new
         (IsSound (V.state view.old)
-            → IfOk result (λ rows. rows.items ≡ sublots_of (V.state view.old) lot)) }
+        → IfOk result (λ rows. rows.items ≡ sublots_of (V.state view.old) lot)) }
 {
     match view.sublots(lot) {
         Ok(rows) => Ok(rows),

@@ -102,7 +102,7 @@ pub trait View: Edges {
             (IfOk result (λ rows. map place_of_row rows.items ≡ places_of (state self.old) lot)) }
         ensures stocks { Told Self.honest Self.kept Self.steady self.old self.new
             (IsSound (state self.old)
-                → IfOk result (λ rows. rows.items ≡ sublots_of (state self.old) lot)) };
+            → IfOk result (λ rows. rows.items ≡ sublots_of (state self.old) lot)) };
 
     /// The movements that scrapped something of a lot, of all its sublots, in their order.
     fn scraps(&mut self, lot: Id) -> Result<Vec<Movement>, Self::Fault>

@@ -18,7 +18,7 @@ pub trait Work {
         ensures same_reference { tx.new.conn.ghost_name ≡ tx.old.conn.ghost_name }
         ensures made { HasCleanDisk (state S.Store tx.new.conn.now)
             → OnOk result (makes self.now (state S.Store tx.old.conn.now).now
-                (state S.Store tx.new.conn.now).now) }
+            (state S.Store tx.new.conn.now).now) }
         ensures inside { HasCleanDisk (state S.Store tx.new.conn.now)
             → IsTrue (state S.Store tx.old.conn.now).is_open
             → IsTrue (state S.Store tx.old.conn.now).in_transaction
@@ -37,12 +37,12 @@ pub fn in_one<S: Alter, W: Work>(conn: &mut Connection<S>, work: &W) -> Result<(
     ensures mode { conn.new.in_transaction ≡ false }
     ensures done { HasCleanDisk (state S.Store conn.new) → IsSettled (state S.Store conn.old)
         → OnOk result (IsSettled (state S.Store conn.new)
-            × W.makes work.now (state S.Store conn.old).now (state S.Store conn.new).now) }
+        × W.makes work.now (state S.Store conn.old).now (state S.Store conn.new).now) }
     ensures undone { HasCleanDisk (state S.Store conn.new) → IsSettled (state S.Store conn.old)
         → OnErr result (IsUndone (W.makes work.now) (state S.Store conn.old) (state S.Store conn.new)) }
     ensures crash { Survives (state S.Store conn.old) (state S.Store conn.new)
         (λ trees. (db : Database) × W.makes work.now (state S.Store conn.old).now db
-            × (trees ≡ db.trees)) }
+        × (trees ≡ db.trees)) }
 {
     let mut tx = conn.transaction();
     work.run(&mut tx)?;

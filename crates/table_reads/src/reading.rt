@@ -41,7 +41,7 @@ fn next_value<S: Alter, R: TableRow>(
     ensures same_reference { rows.new.conn.ghost_name ≡ rows.old.conn.ghost_name }
     ensures ok { HasCleanDisk (state S.Store rows.new.conn.now)
         → IfOk result (λ x. Advances S.Store rows.old.conn.now rows.new.conn.now
-            (option_map R.row_of x)) }
+        (option_map R.row_of x)) }
     ensures same { HasCleanDisk (state S.Store rows.new.conn.now)
         → OnOk result (IsUnchanged (state S.Store rows.old.conn.now) (state S.Store rows.new.conn.now)) }
     ensures kept { HasCleanDisk (state S.Store rows.new.conn.now)
@@ -53,7 +53,7 @@ fn next_value<S: Alter, R: TableRow>(
     // Memory is wanted for a row that was given.
     ensures memory { HasCleanDisk (state S.Store rows.new.conn.now)
         → IfErr result (λ fault. fault ≡ Fault.Memory
-            → (row : _) × Advances S.Store rows.old.conn.now rows.new.conn.now (Some row)) }
+        → (row : _) × Advances S.Store rows.old.conn.now rows.new.conn.now (Some row)) }
 {
     match rows.advance() {
         Ok(()) => (),
@@ -89,7 +89,7 @@ pub fn read_rows<S: Alter, R: TableRow>(
     requires rest { IsAtRest (state S.Store conn.old) }
     ensures rows { HasCleanDisk (state S.Store conn.new)
         → IfOk result (λ list. Shown sql.now (bound params.now) (state S.Store conn.old)
-            (state S.Store conn.new) (map R.row_of list.items)) }
+        (state S.Store conn.new) (map R.row_of list.items)) }
     ensures rising { IfOk result (λ list. Rises R.comes_before list.items) }
     ensures same { HasCleanDisk (state S.Store conn.new)
         → OnOk result (IsUnchanged (state S.Store conn.old) (state S.Store conn.new)) }
@@ -100,7 +100,7 @@ pub fn read_rows<S: Alter, R: TableRow>(
     // Memory is wanted for a row that was given.
     ensures memory { HasCleanDisk (state S.Store conn.new)
         → IfErr result (λ fault. fault ≡ Fault.Memory
-            → HasGivenRow S.Store sql.now (bound params.now) conn.new) }
+        → HasGivenRow S.Store sql.now (bound params.now) conn.new) }
 {
     let mut list = Vec::new(alloc);
     let mut rows = match conn.query(sql, params) {

@@ -70,7 +70,7 @@ pub fn find_rows<S: Alter, R: TableRow>(
     ensures rows { (places : List ℕ) → Selects R.FORM places sql.now
         → AreGiven places (bound values.now) → HasCleanDisk (state S.Store conn.new)
         → IfOk result (λ list. Finds (state S.Store conn.old).now R.FORM places (bound values.now)
-            (map R.row_of list.items)) }
+        (map R.row_of list.items)) }
     ensures rising { IfOk result (λ list. Rises R.comes_before list.items) }
     ensures same { HasCleanDisk (state S.Store conn.new)
         → OnOk result (IsUnchanged (state S.Store conn.old) (state S.Store conn.new)) }
@@ -82,7 +82,7 @@ pub fn find_rows<S: Alter, R: TableRow>(
     // Memory is wanted for a row that was given, of a table that stands.
     ensures memory { HasCleanDisk (state S.Store conn.new)
         → IfErr result (λ fault. fault ≡ Fault.Memory
-            → HasTable conn.old.schema R.FORM × HasGivenRow S.Store sql.now (bound values.now) conn.new) }
+        → HasTable conn.old.schema R.FORM × HasGivenRow S.Store sql.now (bound values.now) conn.new) }
 {
     if !conn.is_autocommit() || !stands(conn.schema(), &R::FORM) {
         return Err(Fault::Store);

@@ -1,9 +1,10 @@
-//! The desk: its words tell what to do with which file, lines of JSON come in on standard input, replies go out on
-//! standard output.
+//! The desk: its words tell what to do with which file. Lines of JSON or an order file come in on standard input, replies and
+//! records go out on standard output; requests of HTTP come in on a port of 127.0.0.1.
 #![tactic(auto)]
 
 mod arguments;
 mod opening;
+mod working;
 
 use arguments::{read_arguments, texts_of};
 use desk_program::tell_words;

@@ -5,11 +5,11 @@ ghost use Rattle.sqlite.specs.Held.{state};
 ghost use Rattle.sqlite.specs.Files.{file_state};
 ghost use Rattle.table_reads.specs.Opened.{IsNewlyOpened};
 
-use desk_program::{Performed, after_closing, perform, perform_words, tell_opening, tell_outcome};
+use crate::working::do_work;
+use desk_program::{Performed, after_closing, tell_opening, tell_outcome};
 use desk_words::Words;
 use sqlite::{Alter, Connection, Error, ErrorCode, FileFrom, FileStore, Start};
 use std::alloc::Global;
-use std::io;
 use table_reads::{open_in_memory, reopen};
 
 /// The name of the file that stands for memory.
@@ -19,7 +19,7 @@ const IN_MEMORY: &str = ":memory:";
 ///
 /// `start` stands for what the file holds before it is opened, whatever that is.
 pub(crate) fn perform_over<S: Start>(rt: &HostRuntime, words: &Words<'_>, start: S) -> u8 {
-    if words.file() == IN_MEMORY {
+    if words.file == IN_MEMORY {
         return match open_in_memory(rt.alloc()) {
             Ok(connection) => perform_with(rt, words, connection),
             Err(_) => tell_opening(
@@ -28,7 +28,7 @@ pub(crate) fn perform_over<S: Start>(rt: &HostRuntime, words: &Words<'_>, start:
             ),
         };
     }
-    match open_file(rt, words.file(), start) {
+    match open_file(rt, words.file, start) {
         Ok(connection) => perform_closing(rt, words, connection),
         Err(error) => tell_opening(&error, &mut rt.stderr()),
     }
@@ -65,8 +65,8 @@ fn in_order<S: Alter + Drop>(
     }
 }
 
-/// Does what the words tell over the opened file and the standard streams, and closes it: what stands in its log is copied
-/// into it, so that the file alone holds the desk. Gives the exit status.
+/// Does what the words tell over the opened file, and closes it: what stands in its log is copied into it, so that the
+/// file alone holds the desk. Gives the exit status.
 fn perform_closing<S: Start>(
     rt: &HostRuntime,
     words: &Words<'_>,
@@ -77,18 +77,12 @@ fn perform_closing<S: Start>(
     let Performed {
         outcome,
         connection,
-    } = perform_words(
-        rt.alloc(),
-        words,
-        connection,
-        &mut rt.reader(),
-        &mut io::writer(rt),
-    );
+    } = do_work(rt, words.work, connection);
     let is_closed = connection.close().is_ok();
     tell_outcome(after_closing(outcome, is_closed), &mut rt.stderr())
 }
 
-/// Does what the words tell over the opened store and the standard streams. Gives the exit status.
+/// Does what the words tell over the opened store. Gives the exit status.
 fn perform_with<S: Alter + Drop>(
     rt: &HostRuntime,
     words: &Words<'_>,
@@ -96,12 +90,6 @@ fn perform_with<S: Alter + Drop>(
 ) -> u8
     requires { (state S.Store connection).in_transaction ≡ false }
 {
-    perform(
-        rt.alloc(),
-        words,
-        connection,
-        &mut rt.reader(),
-        &mut io::writer(rt),
-        &mut rt.stderr(),
-    )
+    let performed = do_work(rt, words.work, connection);
+    tell_outcome(performed.outcome, &mut rt.stderr())
 }

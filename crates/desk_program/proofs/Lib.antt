@@ -1,3 +1,4 @@
 mod Adopted
+mod Imports
 mod OneLine
 mod Told

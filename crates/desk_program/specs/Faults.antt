@@ -1,11 +1,13 @@
 -- The faults that the program ends with: where they come from, and the exit status of each.
-use Rattle.std.specs.Prelude.{ℕ, Bool, Result, Ok, Err}
+use Rattle.std.specs.Prelude.{◌≡◌, ℕ, List, Bool, Option, Result, Ok, Err}
 use Rattle.plant_desk.specs.declared.reply.DeskFault.{DeskFault}
 use Rattle.plant_desk.specs.declared.reply.DeskFault.TheVariants as desk
 use Rattle.plant_desk_store.specs.declared.adopting.AdoptFault.{AdoptFault}
 use Rattle.plant_desk_store.specs.declared.adopting.AdoptFault.TheVariants as adopt
 use Rattle.plant_text.specs.declared.run.RunEnd.{RunEnd}
 use Rattle.plant_text.specs.declared.run.RunEnd.TheVariants as end
+use Rattle.plant_text.specs.declared.turns.Stop.{Stop}
+use Rattle.plant_text.specs.declared.turns.Stop.TheVariants as stop
 use Rattle.desk_program.specs.declared.fault.Fault.{Fault}
 use Rattle.desk_program.specs.declared.fault.Fault.TheVariants as fault
 
@@ -17,6 +19,7 @@ status_of fault.Memory = 4
 status_of fault.Read = 3
 status_of fault.Write = 3
 status_of fault.Endless = 3
+status_of fault.Net = 3
 
 -- the fault that one of an adoption is told as
 abbrev pub adopt_fault : AdoptFault → Fault
@@ -38,3 +41,20 @@ outcome_of end.Read = Err fault.Read
 outcome_of end.Write = Err fault.Write
 outcome_of end.Endless = Err fault.Endless
 outcome_of (end.Fault f) = Err (desk_fault f)
+
+-- whether a command was refused, or the fault
+abbrev pub outcome_of_turn : Result Bool Stop → Result Bool Fault
+outcome_of_turn (Ok refused) = Ok refused
+outcome_of_turn (Err stop.Write) = Err fault.Write
+outcome_of_turn (Err (stop.Fault f)) = Err (desk_fault f)
+
+-- at this fault nothing was written, or, where the writer failed, what is said of it
+abbrev pub NothingBut : Type 0 → Option (List ℕ) → Option (List ℕ) → Fault → Type 0
+NothingBut front old new fault.Store = new ≡ old
+NothingBut front old new (fault.Newer schema) = new ≡ old
+NothingBut front old new (fault.Damaged rule) = new ≡ old
+NothingBut front old new fault.Memory = new ≡ old
+NothingBut front old new fault.Read = new ≡ old
+NothingBut front old new fault.Write = front
+NothingBut front old new fault.Endless = new ≡ old
+NothingBut front old new fault.Net = new ≡ old

@@ -2,12 +2,10 @@
 use Rattle.std.specs.Prelude.{◌≡◌, ◌⊎◌, ℕ, List, Bool, true, false, Option, Result, Ok, Err, string_bytes}
 use Rattle.std.specs.Io.KnownBytes.{Appends}
 use Rattle.plant_text.specs.Writes.{with_lf, AppendsFront}
-use Rattle.desk_program.specs.Faults.{status_of}
+use Rattle.desk_program.specs.Faults.{status_of, NothingBut}
 use Rattle.desk_program.specs.Texts.{ready_text, good_text, fault_text}
 use Rattle.desk_program.specs.declared.fault.Fault.{Fault}
 use Rattle.desk_program.specs.declared.fault.Fault.TheVariants as fault
-use Rattle.desk_words.specs.declared.meaning.Words.{Words}
-use Rattle.desk_words.specs.declared.meaning.Words.TheVariants as words
 use Rattle.desk_words.specs.declared.meaning.WordsFault.{WordsFault}
 use Rattle.desk_words.specs.declared.meaning.WordsFault.TheVariants as unmeant
 
@@ -27,24 +25,12 @@ Printed lines old new = (line : List ℕ) × lines line × Appends old new (with
 
 -- at this fault nothing was written, or, where the writer failed, a front of one of the lines
 abbrev pub Unprinted : Lines → Option (List ℕ) → Option (List ℕ) → Fault → Type 0
-Unprinted lines old new fault.Store = new ≡ old
-Unprinted lines old new (fault.Newer schema) = new ≡ old
-Unprinted lines old new (fault.Damaged rule) = new ≡ old
-Unprinted lines old new fault.Memory = new ≡ old
-Unprinted lines old new fault.Read = new ≡ old
-Unprinted lines old new fault.Write = (line : List ℕ) × lines line × AppendsFront old new (with_lf line)
-Unprinted lines old new fault.Endless = new ≡ old
+Unprinted lines old new f = NothingBut ((line : List ℕ) × lines line × AppendsFront old new (with_lf line)) old new f
 
 -- what one line makes of an outcome, in which nothing is refused
 abbrev pub PrintsLine : Lines → Option (List ℕ) → Option (List ℕ) → Result Bool Fault → Type 0
 PrintsLine lines old new (Ok refused) = (refused ≡ false) × Printed lines old new
 PrintsLine lines old new (Err f) = Unprinted lines old new f
-
--- what came of the words, by what stands on standard output; of a run it is this
-abbrev pub Prints : Words → (Result Bool Fault → Type 0) → Option (List ℕ) → Option (List ℕ) → Result Bool Fault → Type 0
-Prints (words.Init file) run_gives old new done = PrintsLine IsReady old new done
-Prints (words.Run file) run_gives old new done = run_gives done
-Prints (words.Verify file) run_gives old new done = PrintsLine IsGoodLine old new done
 
 -- the text was written, or a front of it where the writer failed
 abbrev pub Written : Option (List ℕ) → Option (List ℕ) → List ℕ → Type 0

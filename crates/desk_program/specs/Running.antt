@@ -22,6 +22,10 @@ AllClean {S} g = (c : Held S) → HasCleanDisk (state g c)
 abbrev pub IsRefused : {S : Type 0} → Ghosts S → Held S → Held S → Fault → Type 0
 IsRefused g old new fault = (f : AdoptFault) × (fault ≡ adopt_fault f) × (HasCleanDisk (state g new) → IsRefusedBy (state g old).now f)
 
+-- nothing was done, for the store wasn't adopted
+abbrev pub WasRefused : {S : Type 0} → Ghosts S → Held S → Result Bool Fault → Type 0
+WasRefused g c done = (f : AdoptFault) × (done ≡ Err (adopt_fault f)) × IsRefusedBy (state g c).now f
+
 -- a run over these bytes ended from the state s, at some state of the desk, and this came of it
 abbrev pub RunEnds : {S : Type 0} → Ghosts S → State → List ℕ → Option (List ℕ) → Option (List ℕ) → Option (List ℕ) → Result Bool Fault → Type 0
 RunEnds {S} g s bytes left old new done = (end : RunEnd) × (done ≡ outcome_of end) × (last : Held S) × (shut : Bool)
@@ -33,4 +37,4 @@ RunEnds {S} g s bytes left old new done = (end : RunEnd) × (done ≡ outcome_of
 abbrev pub RunGives : {S : Type 0} → Ghosts S → Held S → Option (List ℕ) → Option (List ℕ) → Option (List ℕ) → Option (List ℕ) → Result Bool Fault → Type 0
 RunGives g c unread left old new done = AllClean g → IsNewlyOpened (state g c)
     → ((bytes : List ℕ) × Consumes unread left bytes × AdoptedFrom (state g c) (λ s. RunEnds g s bytes left old new done))
-    ⊎ ((f : AdoptFault) × (done ≡ Err (adopt_fault f)) × IsRefusedBy (state g c).now f × (left ≡ unread) × (new ≡ old))
+    ⊎ (WasRefused g c done × (left ≡ unread) × (new ≡ old))

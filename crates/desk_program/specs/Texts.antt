@@ -19,6 +19,7 @@ fault_word fault.Memory = codes "memory"
 fault_word fault.Read = codes "read"
 fault_word fault.Write = codes "write"
 fault_word fault.Endless = codes "endless"
+fault_word fault.Net = codes "net"
 
 abbrev pub fault_text : Fault → List ℕ
 fault_text f = codes "fault: " ++ fault_word f

@@ -1,5 +1,5 @@
 //! The adoption of the program's store, and a store that a word stopped at.
-ghost use Rattle.std.specs.Prelude.{◌≡◌, ◌≢◌, false, IfOk, IfErr};
+ghost use Rattle.std.specs.Prelude.{◌≡◌, ◌≢◌, false, Err, IfOk, IfErr};
 ghost use Rattle.sqlite.specs.Held.{state};
 ghost use Rattle.sqlite.specs.State.{HasCleanDisk};
 ghost use Rattle.plant_desk_store.specs.Adopting.{IsNewlyOpened, AdoptedFrom};
@@ -21,6 +21,26 @@ pub struct Stopped<S: Alter> {
     pub connection: Connection<S>,
 }
 
+/// What came of a task over a store.
+#[derive(Drop)]
+pub struct Performed<S: Alter> {
+    /// Whether something was refused, or the fault.
+    pub outcome: Result<bool, Fault>,
+    /// The store, for who opened it to close.
+    pub connection: Connection<S>,
+}
+
+/// What came of a task that stopped at a fault.
+pub fn broken_off<S: Alter + Drop>(stopped: Stopped<S>) -> Performed<S>
+    ensures outcome { result.outcome ≡ Err stopped.fault }
+    ensures store { result.connection ≡ stopped.connection }
+{
+    Performed {
+        outcome: Err(stopped.fault),
+        connection: stopped.connection,
+    }
+}
+
 /// What is told of a store that wasn't adopted.
 fn stopped_by<S: Alter + Drop>(refused: AdoptRefused<S>) -> Stopped<S>
     ensures fault { result.fault ≡ adopt_fault refused.fault }
@@ -33,7 +53,7 @@ fn stopped_by<S: Alter + Drop>(refused: AdoptRefused<S>) -> Stopped<S>
 }
 
 /// Adopts a store, as [`Desk::adopt`] does.
-pub(crate) fn adopted<S: Alter + Drop>(
+pub fn adopt<S: Alter + Drop>(
     alloc: Global,
     connection: Connection<S>,
 ) -> Result<Desk<S>, Stopped<S>>

@@ -6,7 +6,7 @@ ghost use Rattle.desk_program.specs.Faults as spec;
 use plant_check::Rule;
 use plant_desk::DeskFault;
 use plant_desk_store::AdoptFault;
-use plant_text::RunEnd;
+use plant_text::{RunEnd, Stop};
 use sqlite::{Error, ErrorCode};
 
 /// Why the program doesn't do what it is told.
@@ -26,6 +26,8 @@ pub enum Fault {
     Write,
     /// After 10^9 reads standard input had not ended.
     Endless,
+    /// The port couldn't be listened on, or no connection be taken.
+    Net,
 }
 
 impl Fault {
@@ -40,7 +42,8 @@ impl Fault {
             | Fault::Damaged(_)
             | Fault::Read
             | Fault::Write
-            | Fault::Endless => 3,
+            | Fault::Endless
+            | Fault::Net => 3,
         }
     }
 }
@@ -85,6 +88,17 @@ pub(crate) fn outcome_of(end: RunEnd) -> Result<bool, Fault>
         RunEnd::Write => Err(Fault::Write),
         RunEnd::Endless => Err(Fault::Endless),
         RunEnd::Fault(fault) => Err(Fault::from(fault)),
+    }
+}
+
+/// Whether a command was refused, or the fault that stopped its reply.
+pub(crate) fn outcome_of_turn(turn: Result<bool, Stop>) -> Result<bool, Fault>
+    ensures { result ≡ spec.outcome_of_turn turn }
+{
+    match turn {
+        Ok(refused) => Ok(refused),
+        Err(Stop::Write) => Err(Fault::Write),
+        Err(Stop::Fault(fault)) => Err(Fault::from(fault)),
     }
 }
 

@@ -2,7 +2,9 @@
 #![tactic(auto)]
 
 mod adopting;
+mod answered;
 mod fault;
+mod imported;
 mod lines;
 mod performing;
 mod printing;
@@ -12,9 +14,11 @@ mod standing;
 mod telling;
 mod verified;
 
-pub use adopting::Stopped;
+pub use adopting::{Performed, Stopped, adopt, broken_off};
+pub use answered::tell_answer;
 pub use fault::Fault;
-pub use performing::{Performed, after_closing, perform, perform_words, tell_outcome};
+pub use imported::take_file;
+pub use performing::{after_closing, perform, perform_task, tell_outcome};
 pub use ready::init;
 pub use session::{Session, run};
 pub use telling::{tell_opening, tell_words};

@@ -77,6 +77,7 @@ pub(crate) fn fault_word(fault: Fault) -> ShortLine
         Fault::Read => one_word("read"),
         Fault::Write => one_word("write"),
         Fault::Endless => one_word("endless"),
+        Fault::Net => one_word("net"),
     }
 }
 

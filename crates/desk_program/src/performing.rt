@@ -1,39 +1,27 @@
 //! What the program does for its words.
-ghost use Rattle.std.specs.Prelude.{◌≡◌, false, Bool, Result, Err};
+ghost use Rattle.std.specs.Prelude.{◌≡◌, false, Bool, Result};
 ghost use Rattle.sqlite.specs.Held.{state};
-ghost use Rattle.desk_program.specs.Performing.{Prints, Exits, after_closing};
+ghost use Rattle.desk_program.specs.Imported.{ImportGives};
+ghost use Rattle.desk_program.specs.Performing.{Exits, IsGoodLine, IsReady, PrintsLine, after_closing};
 ghost use Rattle.desk_program.specs.Running.{RunGives};
+ghost use Rattle.desk_program.specs.Tasks.{Asked, TaskGives, import_stamp};
 ghost use Rattle.desk_program.specs.declared.fault.Fault.{Fault};
 
-use crate::adopting::Stopped;
+use crate::adopting::{Performed, broken_off};
+use crate::answered::ask_store;
 use crate::fault::{Fault, outcome_of};
+use crate::imported::import_store;
 use crate::ready::init;
 use crate::session::{Session, run};
 use crate::telling::tell_fault;
 use crate::verified::verify;
-use desk_words::Words;
+use desk_words::Task;
+use plant_base::{Moment, Stamp, Text};
+use plant_desk::Question;
+use plant_trace::Node;
 use sqlite::{Alter, Connection};
 use std::alloc::Global;
 use std::io::{Read, Write};
-
-/// What came of the words over a store.
-#[derive(Drop)]
-pub struct Performed<S: Alter> {
-    /// Whether something was refused, or the fault.
-    pub outcome: Result<bool, Fault>,
-    /// The store, for who opened it to close.
-    pub connection: Connection<S>,
-}
-
-/// What came of words that stopped at a fault.
-fn broken_off<S: Alter + Drop>(stopped: Stopped<S>) -> Performed<S>
-    ensures { result.outcome ≡ Err stopped.fault }
-{
-    Performed {
-        outcome: Err(stopped.fault),
-        connection: stopped.connection,
-    }
-}
 
 /// Does a run.
 fn perform_run<S: Alter + Drop, R: Read, W: Write>(
@@ -58,42 +46,116 @@ fn perform_run<S: Alter + Drop, R: Read, W: Write>(
     }
 }
 
-/// Does what the words tell over a store that was just opened, and gives it back to be closed.
-///
-/// The clause says of a run what [`run`] does, where every connection of the store keeps its word; what the store holds
-/// after the other words is said by the clauses of [`init`] and [`verify`], which hand the desk back.
-pub fn perform_words<S: Alter + Drop, R: Read, W: Write>(
+/// Makes a desk.
+fn perform_init<S: Alter + Drop, W: Write>(
     alloc: Global,
-    words: &Words<'_>,
+    connection: Connection<S>,
+    writer: &mut W,
+) -> Performed<S>
+    requires { (state S.Store connection).in_transaction ≡ false }
+    ensures { PrintsLine IsReady (W.contents writer.old) (W.contents writer.new) result.outcome }
+{
+    match init(alloc, connection, writer) {
+        Ok(desk) => Performed {
+            outcome: Ok(false),
+            connection: desk.close(),
+        },
+        Err(stopped) => broken_off(stopped),
+    }
+}
+
+/// Checks a desk.
+fn perform_verify<S: Alter + Drop, W: Write>(
+    alloc: Global,
+    connection: Connection<S>,
+    writer: &mut W,
+) -> Performed<S>
+    requires { (state S.Store connection).in_transaction ≡ false }
+    ensures { PrintsLine IsGoodLine (W.contents writer.old) (W.contents writer.new) result.outcome }
+{
+    match verify(alloc, connection, writer) {
+        Ok(desk) => Performed {
+            outcome: Ok(false),
+            connection: desk.close(),
+        },
+        Err(stopped) => broken_off(stopped),
+    }
+}
+
+/// When and by whom orders came; they are noted with nothing.
+fn import_stamp(at: Moment, by: Text) -> Stamp
+    ensures { result ≡ import_stamp at by }
+{
+    match Text::read(b"") {
+        Some(note) => Stamp { at, by, note },
+        None => unreachable!(),
+    }
+}
+
+/// Takes in an order file.
+fn perform_import<S: Alter + Drop, R: Read, W: Write>(
+    alloc: Global,
+    connection: Connection<S>,
+    reader: &mut R,
+    writer: &mut W,
+    stamp: Stamp,
+) -> Performed<S>
+    requires { (state S.Store connection).in_transaction ≡ false }
+    ensures { ImportGives S.Store connection stamp (R.remaining reader.old)
+        (W.contents writer.old) (W.contents writer.new) result.outcome }
+{
+    import_store(alloc, connection, reader, writer, stamp)
+}
+
+/// Asks a question.
+fn perform_question<S: Alter + Drop, W: Write>(
+    alloc: Global,
+    connection: Connection<S>,
+    writer: &mut W,
+    question: &Question,
+) -> Performed<S>
+    requires { (state S.Store connection).in_transaction ≡ false }
+    ensures { Asked S.Store connection question.now
+        (W.contents writer.old) (W.contents writer.new) result.outcome }
+{
+    ask_store(alloc, connection, writer, question)
+}
+
+/// Does a task over a store that was just opened, and gives it back to be closed.
+///
+/// The clause says what came of the task where every connection of the store keeps its word: of a run what [`run`] does, of
+/// an import what [`take_file`] does, of a trace and a record what [`tell_answer`] does; what the store holds after the other
+/// words is said by the clauses of [`init`] and [`verify`], which hand the desk back.
+pub fn perform_task<S: Alter + Drop, R: Read, W: Write>(
+    alloc: Global,
+    task: &Task,
     connection: Connection<S>,
     reader: &mut R,
     writer: &mut W,
 ) -> Performed<S>
     requires { (state S.Store connection).in_transaction ≡ false }
-    ensures { Prints words.now (RunGives S.Store connection (R.remaining reader.old)
-        (R.remaining reader.new) (W.contents writer.old) (W.contents writer.new))
+    ensures { TaskGives S.Store connection task.now (R.remaining reader.old) (R.remaining reader.new)
         (W.contents writer.old) (W.contents writer.new) result.outcome }
 {
-    match words {
-        Words::Init { .. } => match init(alloc, connection, writer) {
-            Ok(desk) => Performed {
-                outcome: Ok(false),
-                connection: desk.close(),
-            },
-            Err(stopped) => broken_off(stopped),
-        },
-        Words::Run { .. } => perform_run(alloc, connection, reader, writer),
-        Words::Verify { .. } => match verify(alloc, connection, writer) {
-            Ok(desk) => Performed {
-                outcome: Ok(false),
-                connection: desk.close(),
-            },
-            Err(stopped) => broken_off(stopped),
-        },
+    match *task {
+        Task::Init => perform_init(alloc, connection, writer),
+        Task::Run => perform_run(alloc, connection, reader, writer),
+        Task::Import { at, by } => {
+            perform_import(alloc, connection, reader, writer, import_stamp(at, by))
+        }
+        Task::Trace { direction, lot } => {
+            let question = Question::Trace(direction, Node::Lot(lot));
+            perform_question(alloc, connection, writer, &question)
+        }
+        Task::Record { batch } => {
+            let question = Question::Batch(batch);
+            perform_question(alloc, connection, writer, &question)
+        }
+        Task::Verify => perform_verify(alloc, connection, writer),
     }
 }
 
-/// What came of words whose store was closed behind them, or couldn't be: a close that fails is a fault of the store, unless
+/// What came of a task whose store was closed behind it, or couldn't be: a close that fails is a fault of the store, unless
 /// another fault came before it.
 pub fn after_closing(outcome: Result<bool, Fault>, is_closed: bool) -> Result<bool, Fault>
     ensures { result ≡ after_closing outcome is_closed }
@@ -107,7 +169,7 @@ pub fn after_closing(outcome: Result<bool, Fault>, is_closed: bool) -> Result<bo
     }
 }
 
-/// Tells how the words ended, and gives the exit status: 0; 1 where something was refused; 3 or 4 at a fault, whose line is
+/// Tells how a task ended, and gives the exit status: 0; 1 where something was refused; 3 or 4 at a fault, whose line is
 /// then the one line on standard error.
 pub fn tell_outcome<E: Write>(outcome: Result<bool, Fault>, errors: &mut E) -> u8
     ensures { Exits (E.contents errors.old) (E.contents errors.new) result outcome }
@@ -118,11 +180,11 @@ pub fn tell_outcome<E: Write>(outcome: Result<bool, Fault>, errors: &mut E) -> u
     }
 }
 
-/// Does what the words tell over a store that was just opened and the three standard streams, and gives the exit status, as
-/// [`tell_outcome`] does. The store is dropped at the end; [`perform_words`] gives it back instead.
+/// Does a task over a store that was just opened and the three standard streams, and gives the exit status, as
+/// [`tell_outcome`] does. The store is dropped at the end; [`perform_task`] gives it back instead.
 pub fn perform<S: Alter + Drop, R: Read, W: Write, E: Write>(
     alloc: Global,
-    words: &Words<'_>,
+    task: &Task,
     connection: Connection<S>,
     reader: &mut R,
     writer: &mut W,
@@ -131,10 +193,9 @@ pub fn perform<S: Alter + Drop, R: Read, W: Write, E: Write>(
     requires { (state S.Store connection).in_transaction ≡ false }
     ensures { (outcome : Result Bool Fault) × Exits (E.contents errors.old)
         (E.contents errors.new) result outcome
-        × Prints words.now (RunGives S.Store connection (R.remaining reader.old)
-        (R.remaining reader.new) (W.contents writer.old) (W.contents writer.new))
+        × TaskGives S.Store connection task.now (R.remaining reader.old) (R.remaining reader.new)
         (W.contents writer.old) (W.contents writer.new) outcome }
 {
-    let performed = perform_words(alloc, words, connection, reader, writer);
+    let performed = perform_task(alloc, task, connection, reader, writer);
     tell_outcome(performed.outcome, errors)
 }

@@ -10,7 +10,7 @@ ghost use Rattle.plant_text.specs.Writes.{with_lf};
 ghost use Rattle.desk_program.specs.Texts.{ready_text};
 ghost use Rattle.desk_program.specs.Performing.{IsReady, Printed, Unprinted};
 
-use crate::adopting::{Stopped, adopted};
+use crate::adopting::{Stopped, adopt};
 use crate::fault::Fault;
 use crate::lines::ready_line;
 use crate::printing::print_line;
@@ -58,7 +58,7 @@ pub fn init<S: Alter + Drop, W: Write>(
         (W.contents writer.new)) (λ stopped. Unprinted IsReady (W.contents writer.old)
         (W.contents writer.new) stopped.fault) }
 {
-    let mut desk = adopted(alloc, connection)?;
+    let mut desk = adopt(alloc, connection)?;
     match tell_ready(writer, &mut desk) {
         Ok(()) => Ok(desk),
         Err(fault) => Err(Stopped {

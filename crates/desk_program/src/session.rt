@@ -10,7 +10,7 @@ ghost use Rattle.plant_text.specs.Session.{Ends};
 ghost use Rattle.plant_text.specs.Leaving.{RunLeaves};
 ghost use Rattle.desk_program.specs.Running.{IsRefused};
 
-use crate::adopting::{Stopped, adopted};
+use crate::adopting::{Stopped, adopt};
 use plant_desk_store::Desk;
 use plant_text::{RunEnd, run_lines};
 use sqlite::{Alter, Connection};
@@ -56,7 +56,7 @@ pub fn run<S: Alter + Drop, R: Read, W: Write>(
     ensures unread { OnErr result (R.remaining reader.new ≡ R.remaining reader.old) }
     ensures unwritten { OnErr result (W.contents writer.new ≡ W.contents writer.old) }
 {
-    let mut desk = adopted(alloc, connection)?;
+    let mut desk = adopt(alloc, connection)?;
     let end = run_lines(alloc, reader, writer, &mut desk);
     Ok(Session { desk, end })
 }

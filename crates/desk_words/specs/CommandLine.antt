@@ -1,28 +1,84 @@
 -- The command line of the program, as a value.
-use Rattle.std.specs.Prelude.{◌≡◌, Bool, true, false, codes}
+use Rattle.std.specs.Prelude.{◌≡◌, ℕ, Bool, true, false, List, [], ◌∷◌, Some, codes, pos}
 use Rattle.clap.specs.declared.builder.command.Command.{Command}
 use Rattle.clap.specs.declared.builder.command.Command.TheViews.{out-Command}
+use Rattle.clap.specs.declared.builder.value_parser.ValueParser.{ValueParser}
+use Rattle.clap.specs.declared.builder.value_parser.ValueParser.TheVariants as parser
 use Rattle.clap.specs.Words.{App, Rule, Text, new_app, new_rule, with_rule, with_subcommand}
+use Rattle.plant_base.specs.Values.{greatest_moment}
 
--- the name of a file, which has to be there
+abbrev pub greatest_port : ℕ
+greatest_port = 65535
+
+-- the most connections that are served
+abbrev pub most_connections : ℕ
+most_connections = 1000000
+
+-- ---- arguments
+
+-- an argument that has to be there
+abbrev pub wanted_rule : Text → Rule
+wanted_rule id = record (new_rule id) { required = true; value_names = 1 }
+
+-- a number that has to be there
+abbrev pub number_rule : Text → ValueParser → Rule
+number_rule id p = record (wanted_rule id) { parser = Some p }
+
+-- the name of a file
 abbrev pub file_rule : Rule
-file_rule = record (new_rule (codes "file")) { required = true; value_names = 1 }
+file_rule = wanted_rule (codes "file")
+
+-- when the orders came
+abbrev pub at_rule : Rule
+at_rule = record (number_rule (codes "at") (parser.Unsigned 0 greatest_moment)) { long = Some (codes "at") }
+
+-- who brought them: the desk, where nobody is named
+abbrev pub by_rule : Rule
+by_rule = record (new_rule (codes "by")) {
+  long = Some (codes "by");
+  value_names = 1;
+  defaults = codes "desk" ∷ [];
+}
+
+abbrev pub port_rule : Rule
+port_rule = number_rule (codes "port") (parser.Signed (pos 1) (pos greatest_port))
+
+abbrev pub count_rule : Rule
+count_rule = number_rule (codes "count") (parser.Signed (pos 1) (pos most_connections))
+
+-- ---- words
 
 -- a word that takes a file
 abbrev pub word_app : Text → App
 word_app name = with_rule (new_app name) file_rule
 
+abbrev pub import_app : App
+import_app = with_rule (with_rule (word_app (codes "import")) at_rule) by_rule
+
+abbrev pub trace_app : App
+trace_app = with_rule (with_rule (word_app (codes "trace")) (wanted_rule (codes "direction"))) (wanted_rule (codes "lot"))
+
+abbrev pub record_app : App
+record_app = with_rule (word_app (codes "record")) (wanted_rule (codes "batch"))
+
+abbrev pub serve_app : App
+serve_app = with_rule (with_rule (word_app (codes "serve")) port_rule) count_rule
+
 -- the program's name alone: the word `help` has no meaning of its own
 abbrev pub bare_program : App
 bare_program =
     let plain = new_app (codes "desk") in
-    record plain { top = record plain.top { disable_help_subcommand = true } }
+    record plain { top = record plain.top { disable_help_subcommand = true; has_version = true } }
 
 abbrev pub the_program : App
-the_program = with_subcommand (with_subcommand (with_subcommand bare_program
-    (word_app (codes "init")).top)
+the_program = with_subcommand (with_subcommand (with_subcommand (with_subcommand (with_subcommand (with_subcommand
+    (with_subcommand bare_program (word_app (codes "init")).top)
     (word_app (codes "run")).top)
-    (word_app (codes "verify")).top
+    import_app.top)
+    trace_app.top)
+    record_app.top)
+    (word_app (codes "verify")).top)
+    serve_app.top
 
 -- no argument of the command is global
 abbrev pub IsLocal : Command → Type 0

@@ -1,19 +1,27 @@
--- What plain words tell, whatever the program and the file are called.
-use Rattle.std.specs.Prelude.{◌≡◌, ◌==◌, ◌||◌, ℕ, Bool, true, false, List, [], ◌∷◌, codes, Some}
+-- What plain words tell, whatever the program, the file and the batch are called.
+use Rattle.std.specs.Prelude.{◌≡◌, ◌==◌, ◌||◌, ℕ, Bool, true, false, List, [], ◌∷◌, codes, Some, None}
 use Rattle.std.specs.Str.{bytes_eq}
 use Rattle.clap.specs.Words.{Text, fault_of, subcommand_of}
 use Rattle.clap.specs.declared.error.kind.ErrorKind.TheVariants as kind
+use Rattle.plant_base.specs.Values.{is_id}
+use Rattle.plant_trace.specs.declared.direction.Direction.{Direction}
+use Rattle.plant_trace.specs.declared.direction.Direction.TheVariants.{Back, Forward}
 use Rattle.desk_words.specs.CommandLine.{the_program}
-use Rattle.desk_words.specs.Meaning.{Meant, init, run, verify, has_mistake, meant_in}
+use Rattle.desk_words.specs.Meaning.{Meant, has_mistake, meant_in}
+use Rattle.desk_words.specs.declared.meaning.Work.{Work}
+use Rattle.desk_words.specs.declared.meaning.Work.TheVariants as work
+use Rattle.desk_words.specs.declared.meaning.Task.TheVariants as task
 
 -- the word may be an option
 abbrev pub begins_with_dash : Text → Bool
 begins_with_dash [] = false
 begins_with_dash (x ∷ xs) = x == 45
 
--- the word is one of the three
+-- the word is one of the seven
 abbrev pub is_word : Text → Bool
-is_word word = bytes_eq (codes "init") word || (bytes_eq (codes "run") word || bytes_eq (codes "verify") word)
+is_word word = bytes_eq (codes "init") word || (bytes_eq (codes "run") word || (bytes_eq (codes "import") word
+    || (bytes_eq (codes "trace") word || (bytes_eq (codes "record") word || (bytes_eq (codes "verify") word
+    || bytes_eq (codes "serve") word)))))
 
 -- the words are taken, and tell this
 abbrev pub Tell : List Text → Meant → Type 0
@@ -28,8 +36,8 @@ abbrev pub AreWrong : List Text → Type 0
 AreWrong words = has_mistake (fault_of the_program words) ≡ true
 
 -- a word with a file
-abbrev pub TellsFile : Text → (Text → Meant) → Type 0
-TellsFile word meant = (name file : Text) → begins_with_dash file ≡ false → Tell (name ∷ word ∷ file ∷ []) (meant file)
+abbrev pub TellsFile : Text → Work → Type 0
+TellsFile word w = (name file : Text) → begins_with_dash file ≡ false → Tell (name ∷ word ∷ file ∷ []) (file, w)
 
 -- a word wants one file, and no further word
 abbrev pub WantsFile : Text → Type 0
@@ -37,16 +45,45 @@ WantsFile word = ((name : Text) → AreWrong (name ∷ word ∷ []))
     × ((name file more : Text) → begins_with_dash file ≡ false → begins_with_dash more ≡ false
     → AreWrong (name ∷ word ∷ file ∷ more ∷ []))
 
+-- a direction behind a file, for one lot
+abbrev pub TellsTrace : Text → Direction → Type 0
+TellsTrace word direction = (name file : Text) → begins_with_dash file ≡ false
+    → Tell (name ∷ codes "trace" ∷ file ∷ word ∷ codes "L-1" ∷ []) (file, work.Task (task.Trace direction (codes "L-1")))
+
 pub record PlainWords : Type 0 where
   -- no word is a run over memory
-  pub alone : (name : Text) → Tell (name ∷ []) (run (codes ":memory:"))
-  pub init_file : TellsFile (codes "init") init
-  pub run_file : TellsFile (codes "run") run
-  pub verify_file : TellsFile (codes "verify") verify
+  pub alone : (name : Text) → Tell (name ∷ []) (codes ":memory:", work.Task task.Run)
+  pub init_file : TellsFile (codes "init") (work.Task task.Init)
+  pub run_file : TellsFile (codes "run") (work.Task task.Run)
+  pub verify_file : TellsFile (codes "verify") (work.Task task.Verify)
   pub init_wants : WantsFile (codes "init")
   pub run_wants : WantsFile (codes "run")
   pub verify_wants : WantsFile (codes "verify")
+  pub trace_back : TellsTrace (codes "back") Back
+  pub trace_forward : TellsTrace (codes "forward") Forward
+  pub record_batch : (name file batch : Text) → begins_with_dash file ≡ false → is_id batch ≡ true
+      → Tell (name ∷ codes "record" ∷ file ∷ batch ∷ []) (file, work.Task (task.Record batch))
+  -- where nobody is named, the desk brings the orders
+  pub import_at : (name file : Text) → begins_with_dash file ≡ false
+      → Tell (name ∷ codes "import" ∷ file ∷ codes "--at" ∷ codes "100" ∷ []) (file, work.Task (task.Import 100 (codes "desk")))
+  pub import_by : (name file : Text) → begins_with_dash file ≡ false
+      → Tell (name ∷ codes "import" ∷ file ∷ codes "--at" ∷ codes "100" ∷ codes "--by" ∷ codes "anna" ∷ [])
+      (file, work.Task (task.Import 100 (codes "anna")))
+  pub import_wants : (name file : Text) → begins_with_dash file ≡ false → AreWrong (name ∷ codes "import" ∷ file ∷ [])
+  pub serve_port : (name file : Text) → begins_with_dash file ≡ false
+      → Tell (name ∷ codes "serve" ∷ file ∷ codes "8080" ∷ codes "1000" ∷ [])
+      (file, work.Serve (record { port = 8080; count = 1000 }))
+  -- ports are 1 to 65535, and connections 1 to 1000000
+  pub no_port : (name file : Text) → begins_with_dash file ≡ false
+      → AreWrong (name ∷ codes "serve" ∷ file ∷ codes "0" ∷ codes "1" ∷ [])
+  pub high_port : (name file : Text) → begins_with_dash file ≡ false
+      → AreWrong (name ∷ codes "serve" ∷ file ∷ codes "65536" ∷ codes "1" ∷ [])
+  pub no_connection : (name file : Text) → begins_with_dash file ≡ false
+      → AreWrong (name ∷ codes "serve" ∷ file ∷ codes "80" ∷ codes "0" ∷ [])
+  pub many_connections : (name file : Text) → begins_with_dash file ≡ false
+      → AreWrong (name ∷ codes "serve" ∷ file ∷ codes "80" ∷ codes "1000001" ∷ [])
   pub unknown : (name word : Text) (rest : List Text) → begins_with_dash word ≡ false → is_word word ≡ false
       → AreWrong (name ∷ word ∷ rest)
   pub help : (name : Text) → AskHelp (name ∷ codes "--help" ∷ [])
   pub short_help : (name : Text) → AskHelp (name ∷ codes "-h" ∷ [])
+  pub version : (name : Text) → fault_of the_program (name ∷ codes "--version" ∷ []) ≡ kind.DisplayVersion ∷ []

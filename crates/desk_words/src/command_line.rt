@@ -1,21 +1,175 @@
 //! The command line, as clap is told it.
-ghost use Rattle.std.specs.Prelude.{◌≡◌, IfOk, codes};
-ghost use Rattle.clap.specs.Words.{app_of};
-ghost use Rattle.desk_words.specs.CommandLine.{bare_program, the_program, word_app, IsLocal};
+ghost use Rattle.std.specs.Prelude.{◌≡◌, IfOk, codes, false};
+ghost use Rattle.clap.specs.Words.{app_of, rule_of};
+ghost use Rattle.desk_words.specs.CommandLine.{bare_program, import_app, number_rule, record_app, serve_app, the_program, trace_app, wanted_rule, word_app, at_rule, by_rule, IsLocal};
 
-use clap::{Arg, Command};
+use clap::builder::ValueParser;
+use clap::{Arg, Command, value_parser};
+use plant_base::GREATEST_MOMENT;
 use std::alloc::{AllocError, Global};
 
-/// The word `name`, which takes the name of a file.
-fn word_command<'a>(alloc: Global, name: &'a str, about: &'a str) -> Result<Command<'a>, AllocError>
+/// The version of the program. The schema of a desk's tables has a number of its own, which `init` prints.
+const VERSION: &str = "1.0.0";
+
+/// An argument that has to be there.
+fn wanted<'a>(alloc: Global, id: &'a str, name: &'a str, help: &'a str) -> Arg<'a>
+    ensures rule { rule_of result ≡ wanted_rule id.entry.now }
+    ensures local { result.global ≡ false }
+{
+    let wanted = Arg::new(alloc, id).required(true);
+    wanted.value_name(name).help(help)
+}
+
+/// The name of the file, which has to be there.
+fn file_argument<'a>(alloc: Global) -> Arg<'a>
+    ensures rule { rule_of result ≡ wanted_rule (codes "file") }
+    ensures local { result.global ≡ false }
+{
+    wanted(
+        alloc,
+        "file",
+        "FILE",
+        "The file of the desk's records; :memory: keeps them in memory",
+    )
+}
+
+/// A number that has to be there.
+fn number_argument<'a>(
+    alloc: Global,
+    id: &'a str,
+    name: &'a str,
+    help: &'a str,
+    parser: ValueParser<'a>,
+) -> Arg<'a>
+    ensures rule { rule_of result ≡ number_rule id.entry.now parser.entry }
+    ensures local { result.global ≡ false }
+{
+    Arg::new(alloc, id)
+        .required(true)
+        .value_name(name)
+        .help(help)
+        .value_parser(parser)
+}
+
+/// The word `name`, which takes the name of a file alone.
+fn word_command<'a>(
+    alloc: Global,
+    name: &'a str,
+    about: &'a str,
+    example: &'a str,
+) -> Result<Command<'a>, AllocError>
     ensures app { IfOk result (λ c. app_of c ≡ word_app name.entry.now) }
     ensures local { IfOk result (λ c. IsLocal c) }
 {
-    let file = Arg::new(alloc, "file")
+    Command::new(alloc, name)
+        .about(about)
+        .after_help(example)
+        .arg(file_argument(alloc))
+}
+
+/// `--at N`, when the orders came.
+fn at_argument<'a>(alloc: Global) -> Arg<'a>
+    ensures rule { rule_of result ≡ at_rule }
+    ensures local { result.global ≡ false }
+{
+    Arg::new(alloc, "at")
+        .long("at")
         .required(true)
-        .value_name("FILE")
-        .help("The file of the desk's records; :memory: keeps them in memory");
-    Command::new(alloc, name).about(about).arg(file)
+        .value_name("N")
+        .help("When the orders came, in seconds since 1970-01-01T00:00:00Z")
+        .value_parser(value_parser!(u64).range(..=GREATEST_MOMENT as i64))
+}
+
+/// `--by TEXT`, who brought them.
+fn by_argument<'a>(alloc: Global) -> Arg<'a>
+    ensures rule { rule_of result ≡ by_rule }
+    ensures local { result.global ≡ false }
+{
+    Arg::new(alloc, "by")
+        .long("by")
+        .value_name("TEXT")
+        .default_value("desk")
+        .help("Who brought them: at most 60 characters of ASCII")
+}
+
+/// The word `import`.
+fn import_command<'a>(alloc: Global) -> Result<Command<'a>, AllocError>
+    ensures app { IfOk result (λ c. app_of c ≡ import_app) }
+    ensures local { IfOk result (λ c. IsLocal c) }
+{
+    Command::new(alloc, "import")
+        .about("Take in the order file on standard input, all of its orders or none")
+        .after_help(
+            "Example: desk import plant.db --at 1798761600 --by anna < orders.csv\n\
+Prints {\"ok\":N}, or the refusal, or the first fault of the file, as in csv row 2 Due.",
+        )
+        .arg(file_argument(alloc))?
+        .arg(at_argument(alloc))?
+        .arg(by_argument(alloc))
+}
+
+/// The word `trace`.
+fn trace_command<'a>(alloc: Global) -> Result<Command<'a>, AllocError>
+    ensures app { IfOk result (λ c. app_of c ≡ trace_app) }
+    ensures local { IfOk result (λ c. IsLocal c) }
+{
+    let direction = wanted(
+        alloc,
+        "direction",
+        "DIRECTION",
+        "back: what the lot was made from; forward: where it went",
+    );
+    let lot = wanted(alloc, "lot", "LOT", "The id of the lot");
+    Command::new(alloc, "trace")
+        .about("Tell every lot and batch that a lot was made from, or that it went into")
+        .after_help(
+            "Example: desk trace plant.db forward L-1\nPrints a line for each: lot ID or batch ID.",
+        )
+        .arg(file_argument(alloc))?
+        .arg(direction)?
+        .arg(lot)
+}
+
+/// The word `record`.
+fn record_command<'a>(alloc: Global) -> Result<Command<'a>, AllocError>
+    ensures app { IfOk result (λ c. app_of c ≡ record_app) }
+    ensures local { IfOk result (λ c. IsLocal c) }
+{
+    let batch = wanted(alloc, "batch", "BATCH", "The id of the batch");
+    Command::new(alloc, "record")
+        .about("Print the record of a batch")
+        .after_help("Example: desk record plant.db B-1")
+        .arg(file_argument(alloc))?
+        .arg(batch)
+}
+
+/// The word `serve`.
+fn serve_command<'a>(alloc: Global) -> Result<Command<'a>, AllocError>
+    ensures app { IfOk result (λ c. app_of c ≡ serve_app) }
+    ensures local { IfOk result (λ c. IsLocal c) }
+{
+    let port = number_argument(
+        alloc,
+        "port",
+        "PORT",
+        "The port of 127.0.0.1, 1 to 65535",
+        value_parser!(u16).range(1..),
+    );
+    let count = number_argument(
+        alloc,
+        "count",
+        "COUNT",
+        "How many connections are served, 1 to 1000000, one after the other",
+        value_parser!(u32).range(1..=1_000_000),
+    );
+    Command::new(alloc, "serve")
+        .about("Answer requests of HTTP/1.1 on 127.0.0.1")
+        .after_help(
+            "Example: desk serve plant.db 8080 1000\nThen: curl http://127.0.0.1:8080/v1/desk",
+        )
+        .arg(file_argument(alloc))?
+        .arg(port)?
+        .arg(count)
 }
 
 /// The program with no word.
@@ -24,6 +178,7 @@ fn bare_command<'a>(alloc: Global) -> Command<'a>
 {
     Command::new(alloc, "desk")
         .about("The manufacturing desk of a batch plant; alone it does run :memory:")
+        .version(VERSION)
         .disable_help_subcommand(true)
 }
 
@@ -35,14 +190,27 @@ pub(crate) fn command_line<'a>(alloc: Global) -> Result<Command<'a>, AllocError>
         alloc,
         "init",
         "Make a desk, or take up the one that is there",
+        "Example: desk init plant.db\nPrints ready schema N, N being the schema of its tables.",
     )?;
     let run = word_command(
         alloc,
         "run",
-        "Answer commands and questions, a line of standard input each",
+        "Answer commands and questions, a line of JSON each, from standard input",
+        "Example: desk run plant.db < shift.jsonl\n\
+Prints a line for each. The exit status is 1 where one was refused.",
     )?;
-    let verify = word_command(alloc, "verify", "Check every record of a desk")?;
-    let one = bare_command(alloc).subcommand(init)?;
-    let two = one.subcommand(run)?;
-    two.subcommand(verify)
+    let verify = word_command(
+        alloc,
+        "verify",
+        "Check every record of a desk",
+        "Example: desk verify plant.db\n\
+Prints good schema N seq S, S being how many commands were accepted.",
+    )?;
+    let with_init = bare_command(alloc).subcommand(init)?;
+    let with_run = with_init.subcommand(run)?;
+    let with_import = with_run.subcommand(import_command(alloc)?)?;
+    let with_trace = with_import.subcommand(trace_command(alloc)?)?;
+    let with_record = with_trace.subcommand(record_command(alloc)?)?;
+    let with_verify = with_record.subcommand(verify)?;
+    with_verify.subcommand(serve_command(alloc)?)
 }

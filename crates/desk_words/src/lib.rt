@@ -3,9 +3,11 @@
 
 mod command_line;
 mod laws;
+mod matched;
 mod meaning;
 mod read;
+mod values;
 
 pub use laws::plain_words_law;
-pub use meaning::{Words, WordsFault};
+pub use meaning::{Serving, Task, Words, WordsFault, Work};
 pub use read::read_words;

@@ -5,10 +5,20 @@ ghost use Rattle.desk_words.specs.CommandLine.{the_program};
 ghost use Rattle.desk_words.specs.Meaning.{IsFaultOf, IsNotHelp, IsRefusedBy, meant_in, words_meant};
 
 use crate::command_line::command_line;
-use crate::meaning::{Words, WordsFault, words_in};
+use crate::matched::words_in;
+use crate::meaning::{Words, WordsFault};
 use clap::Error;
 use clap::error::ErrorKind;
 use std::alloc::Global;
+
+/// What is told where clap takes the words and a value breaks a rule of the desk.
+const BROKEN_RULE: &str = "error: a value breaks its rule
+DIRECTION is back or forward
+LOT and BATCH are 1 to 24 of A to Z, 0 to 9 and -, the first a letter
+TEXT is at most 60 characters from the space to ~
+
+For more information, try '--help'.
+";
 
 /// clap's refusal of the words, with its text.
 fn refusal_of(alloc: Global, error: Error) -> WordsFault
@@ -20,15 +30,15 @@ fn refusal_of(alloc: Global, error: Error) -> WordsFault
     };
     match kind {
         ErrorKind::OutOfMemory => WordsFault::Memory,
-        ErrorKind::DisplayHelp => WordsFault::Help(text),
+        ErrorKind::DisplayHelp | ErrorKind::DisplayVersion => WordsFault::Help(text),
         _ => WordsFault::Usage(text),
     }
 }
 
 /// Reads the words of a command line, the program's name first.
 ///
-/// `Usage` comes where they aren't understood, `Help` where they ask for help, and `Memory` for want
-/// of memory.
+/// `Usage` comes where they aren't understood or a value breaks its rule, `Help` where they ask for help or for the
+/// version, and `Memory` for want of memory.
 pub fn read_words<'a>(alloc: Global, words: &'a [&'a str]) -> Result<Words<'a>, WordsFault>
     ensures meant { IfOk result (λ w. meant_in (subcommand_of the_program
         (map (λ s. s.now) words.entry.now)) ≡ Some (words_meant w)) }
@@ -51,7 +61,7 @@ pub fn read_words<'a>(alloc: Global, words: &'a [&'a str]) -> Result<Words<'a>, 
 fn no_meaning(alloc: Global) -> WordsFault
     ensures { IsNotHelp result }
 {
-    match String::from_str(alloc, "error: the words name no file\n") {
+    match String::from_str(alloc, BROKEN_RULE) {
         Ok(text) => WordsFault::Usage(text),
         Err(_) => WordsFault::Memory,
     }

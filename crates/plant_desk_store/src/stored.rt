@@ -104,6 +104,13 @@ impl<S: Alter> Desk<S> {
         verify_on(self.alloc, &mut self.connection)
     }
 
+    /// Whether a fault of the store has shut the desk: then each command and question is answered `Shut`.
+    pub fn is_shut(&self) -> bool
+        ensures { result ≡ self.now.is_shut }
+    {
+        self.is_shut
+    }
+
     /// Gives the store back. No memory is taken.
     pub fn close(self) -> Connection<S>
         ensures { result ≡ self.connection }

@@ -3,10 +3,10 @@ use Rattle.std.specs.Prelude.{◌≡◌, ℕ, ◌+◌, Bool, true, false, nat_lt
 use Rattle.std.specs.Bool.{MatchBool}
 use Rattle.httparse.specs.Grammar.{RequestHead}
 use Rattle.httparse.specs.Spans.{name_and_value}
-use Rattle.plant_base.specs.declared.command.Command.TheVariants.{ImportOrders}
 use Rattle.plant_base.specs.declared.command.Envelope.{Envelope}
 use Rattle.plant_base.specs.declared.command.Stamp.{Stamp}
 use Rattle.plant_base.specs.declared.rows.OrderRow.{OrderRow}
+use Rattle.plant_orders.specs.Importing.{import}
 use Rattle.plant_orders.specs.Orders.{orders_of}
 use Rattle.plant_orders.specs.declared.fault.CsvFault.{CsvFault}
 use Rattle.plant_orders.specs.declared.fault.CsvKind.{CsvKind}
@@ -38,10 +38,6 @@ abbrev pub command_job : Option Line → Job
 command_job None = BadForm
 command_job (Some (L.Command e)) = Command e
 command_job (Some (L.Question q)) = BadForm
-
--- one command that takes all orders of a file
-abbrev pub import : Stamp → List OrderRow → Envelope
-import stamp orders = record { at = stamp.at; by = stamp.by; note = stamp.note; body = ImportOrders (record { orders = orders }) }
 
 abbrev pub file_job : Stamp → Result (List OrderRow) CsvFault → Job
 file_job stamp (Ok orders) = Command (import stamp orders)

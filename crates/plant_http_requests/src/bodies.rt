@@ -2,13 +2,13 @@
 ghost use Rattle.std.specs.Prelude.{◌≡◌, Some, None, IfSome};
 ghost use Rattle.plant_orders.specs.Orders.{orders_of};
 ghost use Rattle.plant_text.specs.Lines.{line_of};
-ghost use Rattle.plant_http_requests.specs.Jobs.{command_job, file_job, fault_job, body_job, import, Reads};
+ghost use Rattle.plant_http_requests.specs.Jobs.{command_job, file_job, fault_job, body_job, Reads};
 
 use crate::job::{Content, Job};
 use crate::status::Status;
 use crate::steps::refuse;
-use plant_base::{Command, Envelope, ImportOrders, Items, OrderRow, Stamp};
-use plant_orders::{CsvFault, CsvKind, read_orders};
+use plant_base::Stamp;
+use plant_orders::{CsvFault, CsvKind, import, read_orders};
 use plant_text::{Line, LineFault, read_line};
 use std::alloc::Global;
 
@@ -20,17 +20,6 @@ fn command_job(alloc: Global, body: &[u8]) -> Job
         Ok(Line::Question(_)) => Job::BadForm,
         Err(LineFault::BadForm) => Job::BadForm,
         Err(LineFault::Memory) => Job::NoMemory,
-    }
-}
-
-fn import(stamp: Stamp, orders: Items<OrderRow>) -> Envelope
-    ensures { result ≡ import stamp orders }
-{
-    Envelope {
-        at: stamp.at,
-        by: stamp.by,
-        note: stamp.note,
-        body: Command::ImportOrders(ImportOrders { orders }),
     }
 }
 

@@ -1,3 +1,4 @@
+pub mod Importing
 pub mod Numbers
 pub mod Orders
 pub mod Standing

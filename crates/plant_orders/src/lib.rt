@@ -2,10 +2,12 @@
 #![tactic(auto)]
 
 mod fault;
+mod importing;
 mod read;
 mod row;
 mod source;
 
 pub use fault::{CsvFault, CsvKind};
+pub use importing::import;
 pub use read::{LONGEST_FILE, read_orders};
 pub use source::{OrdersFault, orders_from};

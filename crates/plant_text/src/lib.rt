@@ -22,4 +22,5 @@ pub use plant_record::record;
 pub use read::{Line, LineFault, read_line};
 pub use replies::{ReplyText, fault_line, reply_line};
 pub use run::{RunEnd, run_lines, run_lines_within};
+pub use turns::{Stop, is_unknown, take_command, tell_fault};
 pub use writes::{Unwritten, write_line, write_text};

@@ -23,8 +23,10 @@ pub enum Stop {
     Fault(DeskFault),
 }
 
-/// Writes a fault's line.
-pub(crate) fn tell_fault<W: Write>(writer: &mut W, fault: DeskFault) -> Stop
+/// Writes a fault's line and an LF.
+///
+/// `Fault` gives the fault back; `Write` comes where the line couldn't be written whole.
+pub fn tell_fault<W: Write>(writer: &mut W, fault: DeskFault) -> Stop
     ensures { FaultWritten fault (W.contents writer.old) (W.contents writer.new) result }
 {
     match write_line(writer, fault_line(fault).as_bytes()) {
@@ -42,7 +44,8 @@ fn is_refusal(reply: &Reply) -> bool
     }
 }
 
-fn is_unknown(answer: &Answer) -> bool
+/// Whether an answer tells that the question names something that isn't there.
+pub fn is_unknown(answer: &Answer) -> bool
     ensures { result ≡ is_unknown answer.now }
 {
     match answer {
@@ -66,11 +69,13 @@ fn tell_bad_form<W: Write>(writer: &mut W) -> Result<bool, Stop>
     }
 }
 
-/// Has a command executed, and writes the reply.
+/// Has a command executed by an open keeper, and writes the reply and an LF. `true` where the reply is a refusal.
 ///
 /// It is handed no allocator, and the reply's text stands in a room of fixed size: between the keeper's reply and the
 /// end of its line no memory is taken, so that only the writer can keep the line back.
-fn take_command<W: Write, K: Keeper>(
+///
+/// `Fault` comes where the keeper's fault does, whose line was written; `Write` where a line couldn't be written whole.
+pub fn take_command<W: Write, K: Keeper>(
     writer: &mut W,
     keeper: &mut K,
     envelope: &Envelope,

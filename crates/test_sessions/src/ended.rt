@@ -1,17 +1,17 @@
 //! Programs that were run to their end.
 use desk_program::perform;
-use desk_words::Words;
+use desk_words::Task;
 use sqlite::{Alter, Connection};
 use std::process::Abort;
 use std::test::Fail;
 use table_reads::open_in_memory;
 
-/// The words of the program over a store, whose file has no part in them here.
-pub const INIT: Words<'static> = Words::Init { file: "plant.db" };
+/// The tasks that take no values.
+pub const INIT: Task = Task::Init;
 
-pub const RUN: Words<'static> = Words::Run { file: "plant.db" };
+pub const RUN: Task = Task::Run;
 
-pub const VERIFY: Words<'static> = Words::Verify { file: "plant.db" };
+pub const VERIFY: Task = Task::Verify;
 
 /// What a program wrote, and its exit status.
 #[derive(Drop)]
@@ -24,7 +24,7 @@ pub struct Outcome {
 /// Runs the program over a store, in which no transaction may be open.
 pub fn performed<S: Alter + Drop>(
     rt: &impl AllocGlobal,
-    words: &Words<'_>,
+    task: &Task,
     connection: Connection<S>,
     input: &[u8],
 ) -> Result<Outcome, Fail> {
@@ -36,7 +36,7 @@ pub fn performed<S: Alter + Drop>(
     let mut errors = Vec::new(rt.alloc());
     let status = perform(
         rt.alloc(),
-        words,
+        task,
         connection,
         &mut rest,
         &mut output,
@@ -52,12 +52,12 @@ pub fn performed<S: Alter + Drop>(
 /// Runs the program over a new store, and checks how it ends.
 pub fn ends_so(
     rt: &(impl Abort + AllocGlobal),
-    words: &Words<'_>,
+    task: &Task,
     input: &[u8],
     output: &[u8],
     status: u8,
 ) -> Result<(), Fail> {
-    let end = performed(rt, words, open_in_memory(rt.alloc())?, input)?;
+    let end = performed(rt, task, open_in_memory(rt.alloc())?, input)?;
     assert_eq!(rt; end.status, status);
     assert!(rt; end.output.as_slice() == output);
     assert!(rt; end.errors.is_empty());

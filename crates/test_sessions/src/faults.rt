@@ -2,21 +2,17 @@
 use crate::ended::{Outcome, RUN, VERIFY, is_fault, performed};
 use crate::session::SESSION;
 use crate::word_sessions::after_session;
-use desk_words::Words;
+use desk_words::Task;
 use sqlite::Connection;
 use std::process::Abort;
 use std::test::Fail;
 
 /// Runs the program over a store that was changed by hand after the session.
-fn ended_over(
-    rt: &(impl Abort + AllocGlobal),
-    words: &Words<'_>,
-    change: &str,
-) -> Result<Outcome, Fail> {
+fn ended_over(rt: &(impl Abort + AllocGlobal), task: &Task, change: &str) -> Result<Outcome, Fail> {
     let desk = after_session(rt, Connection::open_in_memory(rt.alloc())?)?;
     let mut connection = desk.close();
     connection.execute_batch(change)?;
-    performed(rt, words, connection, SESSION)
+    performed(rt, task, connection, SESSION)
 }
 
 #[test]

@@ -30,6 +30,8 @@ mod slow_tests;
 #[cfg(test)]
 mod streams;
 #[cfg(test)]
+mod told_tests;
+#[cfg(test)]
 mod trace_tests;
 #[cfg(test)]
 mod word_sessions;

@@ -2,7 +2,7 @@
 use crate::ended::{INIT, RUN, VERIFY};
 use crate::session::SESSION;
 use desk_program::perform;
-use desk_words::Words;
+use desk_words::Task;
 use std::io;
 use std::io::{Read, Write};
 use std::process::Abort;
@@ -36,14 +36,14 @@ impl Write for Full {
 /// Checks how the program ends over a new store and these streams.
 fn tells<R: Read, W: Write>(
     rt: &(impl Abort + AllocGlobal),
-    words: &Words<'_>,
+    task: &Task,
     reader: &mut R,
     writer: &mut W,
     wanted: &[u8],
 ) -> Result<(), Fail> {
     let connection = open_in_memory(rt.alloc())?;
     let mut errors = Vec::new(rt.alloc());
-    let status = perform(rt.alloc(), words, connection, reader, writer, &mut errors);
+    let status = perform(rt.alloc(), task, connection, reader, writer, &mut errors);
     assert_eq!(rt; status, 3);
     assert!(rt; errors.as_slice() == wanted);
     Ok(())

@@ -77,6 +77,7 @@ fn outcomes_are_told(rt: HostRuntime) {
     outcome_tells(&rt, Err(Fault::Read), "fault: read\n", 3);
     outcome_tells(&rt, Err(Fault::Write), "fault: write\n", 3);
     outcome_tells(&rt, Err(Fault::Endless), "fault: endless\n", 3);
+    outcome_tells(&rt, Err(Fault::Net), "fault: net\n", 3);
 }
 
 #[test]

@@ -2,7 +2,7 @@
 //! has its line on standard output, behind the replies of what was kept before it, and its line on standard error.
 use crate::files::{Image, Stopped, opened};
 use desk_program::perform;
-use desk_words::Words;
+use desk_words::Task;
 use std::process::Abort;
 use std::test::Fail;
 
@@ -62,7 +62,7 @@ fn end_after(rt: &(impl Abort + AllocGlobal), calls: u64) -> Result<End, Fail> {
     let mut errors = Vec::new(rt.alloc());
     let status = perform(
         rt.alloc(),
-        &Words::Run { file: "plant.db" },
+        &Task::Run,
         connection,
         &mut rest,
         &mut output,

@@ -1,4 +1,4 @@
-use Rattle.std.proofs.Common.{◌≡◌, ◌∙◌, List, true, None, Some, map, subst, sym, ap, rules, refl, option_map}
+use Rattle.std.proofs.Common.{◌≡◌, ◌∙◌, List, [], true, None, Some, map, subst, sym, ap, rules, refl, option_map}
 use Rattle.clap.specs.Kinds.{HasKind}
 use Rattle.clap.specs.Words.{App, HasMatchesOf, Text, app_of, fault_of, is_simple_and_free, subcommand_of, subcommand_rows_of}
 use Rattle.desk_words.specs.CommandLine.{the_program}
@@ -23,3 +23,22 @@ returns-in-Ok-try_get_matches_from-clause-refused c =
     = (subst Has app c.in-Ok-try_get_matches_from.ensures.matches refl).1 in
     let meant : None ≡ meant_in (subcommand_rows_of m) = ap (λ r. option_map words_meant r) (sym c.in-None.is) ∙ c.words_in.ensures in
     meaningless words c.no_meaning.result (sym (meant ∙ ap meant_in same)) c.no_meaning.ensures
+
+pub returns-in-Some-clause-meant : goal.returns-in-Some-clause-meant
+returns-in-Some-clause-meant c =
+    let words : List Text = map (λ s. s.now) c.args.words.now in
+    let app : app_of c.in-Ok.command ≡ the_program = c.in-Ok.ensures in
+    let m = c.in-Ok-try_get_matches_from.matches in
+    let Has : App → Type 0 = λ a. HasMatchesOf a words m in
+    let same : subcommand_rows_of m ≡ subcommand_of the_program words
+    = (subst Has app c.in-Ok-try_get_matches_from.ensures.matches refl).1 in
+    let meant : Some (words_meant c.in-Some.found) ≡ meant_in (subcommand_rows_of m)
+    = ap (λ r. option_map words_meant r) (sym c.in-Some.is) ∙ c.words_in.ensures in
+    sym (meant ∙ ap meant_in same)
+
+pub returns-in-Some-clause-taken : goal.returns-in-Some-clause-taken
+returns-in-Some-clause-taken c =
+    let words : List Text = map (λ s. s.now) c.args.words.now in
+    let app : app_of c.in-Ok.command ≡ the_program = c.in-Ok.ensures in
+    let Fails : App → Type 0 = λ a. is_simple_and_free a ≡ true → fault_of a words ≡ [] in
+    subst Fails app c.in-Ok-try_get_matches_from.ensures.kinds refl

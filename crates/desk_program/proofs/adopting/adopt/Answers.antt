@@ -1,5 +1,5 @@
 use Rattle.desk_program.proofs.Told.{told_unwritten}
-use Rattle.desk_program.proofs.adopting.adopted.Goals as goal
+use Rattle.desk_program.proofs.adopting.adopt.Goals as goal
 
 pub returns-in-Err-clause-refused : goal.returns-in-Err-clause-refused
 returns-in-Err-clause-refused g c =

@@ -1,0 +1,74 @@
+//! What is done over an opened store.
+ghost use Rattle.std.specs.Prelude.{◌≡◌, false};
+ghost use Rattle.sqlite.specs.Held.{state};
+
+use desk_program::{Fault, Performed, adopt, broken_off, perform_task};
+use desk_server::serve_listener;
+use desk_words::{Serving, Work};
+use plant_desk_store::Desk;
+use sqlite::{Alter, Connection};
+use std::io;
+use std::net::{Ipv4Addr, TcpListener};
+
+/// Does the work over the opened store: a task over the standard streams, or the serving of requests.
+pub(crate) fn do_work<S: Alter + Drop>(
+    rt: &HostRuntime,
+    work: Work,
+    connection: Connection<S>,
+) -> Performed<S>
+    requires { (state S.Store connection).in_transaction ≡ false }
+{
+    match work {
+        Work::Task(task) => perform_task(
+            rt.alloc(),
+            &task,
+            connection,
+            &mut rt.reader(),
+            &mut io::writer(rt),
+        ),
+        Work::Serve(serving) => serve_store(rt, serving, connection),
+    }
+}
+
+/// Adopts the store, and serves requests by its desk.
+fn serve_store<S: Alter + Drop>(
+    rt: &HostRuntime,
+    serving: Serving,
+    connection: Connection<S>,
+) -> Performed<S>
+    requires { (state S.Store connection).in_transaction ≡ false }
+{
+    match adopt(rt.alloc(), connection) {
+        Ok(desk) => serve_desk(rt, serving, desk),
+        Err(stopped) => broken_off(stopped),
+    }
+}
+
+/// Serves requests by an open desk, and gives its store back.
+fn serve_desk<S: Alter + Drop>(
+    rt: &HostRuntime,
+    serving: Serving,
+    mut desk: Desk<S>,
+) -> Performed<S>
+    requires { desk.is_shut ≡ false }
+{
+    let outcome = serve_at(rt, serving, &mut desk);
+    Performed {
+        outcome,
+        connection: desk.close(),
+    }
+}
+
+/// Listens on the port of 127.0.0.1, and serves the connections that come in.
+fn serve_at<S: Alter + Drop>(
+    rt: &HostRuntime,
+    serving: Serving,
+    desk: &mut Desk<S>,
+) -> Result<bool, Fault>
+    requires { desk.old.is_shut ≡ false }
+{
+    match TcpListener::bind(rt, (Ipv4Addr::LOCALHOST, serving.port)) {
+        Ok(listener) => serve_listener(rt.alloc(), &listener, serving.count, desk),
+        Err(_) => Err(Fault::Net),
+    }
+}

@@ -1,0 +1,16 @@
+use Rattle.desk_program.proofs.performing.perform_task.Goals as goal
+
+pub returns-in-Run : goal.returns-in-Run
+returns-in-Run g c = rw c.in-Run.is c.perform_run.ensures
+
+pub returns-in-Import : goal.returns-in-Import
+returns-in-Import g c =
+    let told = c.perform_import.ensures in
+    let stamp = c.import_stamp.ensures in
+    rw c.in-Import.is (rw stamp at told)
+
+pub returns-in-Trace : goal.returns-in-Trace
+returns-in-Trace g c = rw c.in-Trace.is c.perform_question.ensures
+
+pub returns-in-Record : goal.returns-in-Record
+returns-in-Record g c = rw c.in-Record.is c.perform_question-in-Record.ensures

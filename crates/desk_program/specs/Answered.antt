@@ -1,0 +1,51 @@
+-- What the words `trace` and `record` print of an answer.
+use Rattle.std.specs.Prelude.{◌≡◌, ◌⊎◌, ℕ, List, ◌++◌, Bool, Option, Result, Ok, Err, codes, flat_map}
+use Rattle.std.specs.Io.KnownBytes.{Appends}
+use Rattle.sqlite.specs.Held.{Held, state}
+use Rattle.sqlite_trees.specs.declared.store.Store.{Ghosts}
+use Rattle.plant_base.specs.State.{newest_schema}
+use Rattle.plant_trace.specs.declared.node.Node.{Node}
+use Rattle.plant_trace.specs.declared.node.Node.TheVariants as node
+use Rattle.plant_record.specs.Record.{record_text}
+use Rattle.plant_desk.specs.Answers.{answer}
+use Rattle.plant_desk.specs.declared.question.Question.{Question}
+use Rattle.plant_desk.specs.declared.question.Answer.{Answer}
+use Rattle.plant_desk.specs.declared.question.Answer.TheVariants as A
+use Rattle.plant_desk_store.specs.Adopting.{AdoptedFrom}
+use Rattle.plant_desk_store.specs.Standing.{IsOpenAt}
+use Rattle.plant_text.specs.Answers.{text_of_answer}
+use Rattle.plant_text.specs.Session.{is_unknown}
+use Rattle.plant_text.specs.Writes.{with_lf, AppendsFront}
+use Rattle.desk_program.specs.Faults.{NothingBut}
+use Rattle.desk_program.specs.Running.{WasRefused}
+use Rattle.desk_program.specs.declared.fault.Fault.{Fault}
+
+-- a node in words
+abbrev pub node_text : Node → List ℕ
+node_text (node.Lot id) = codes "lot " ++ id
+node_text (node.Batch id) = codes "batch " ++ id
+
+-- a line for each node
+abbrev pub trace_text : List Node → List ℕ
+trace_text nodes = flat_map (λ n. with_lf (node_text n)) nodes
+
+-- the nodes of a trace, the record of a batch, else the answer's line: a refusal where the id isn't known
+abbrev pub told_text : Answer → List ℕ
+told_text (A.Desk schema seq) = with_lf (text_of_answer (A.Desk schema seq))
+told_text (A.Lot lot) = with_lf (text_of_answer (A.Lot lot))
+told_text (A.Order order) = with_lf (text_of_answer (A.Order order))
+told_text (A.Batch view) = record_text view
+told_text (A.Trace nodes) = trace_text nodes
+told_text (A.Unknown r) = with_lf (text_of_answer (A.Unknown r))
+
+-- how the printing of an answer ended
+abbrev pub AnswerTold : Answer → Option (List ℕ) → Option (List ℕ) → Result Bool Fault → Type 0
+AnswerTold a old new (Ok refused) = Appends old new (told_text a) × (refused ≡ is_unknown a)
+AnswerTold a old new (Err f) = NothingBut (AppendsFront old new (told_text a)) old new f
+
+-- what came of a question to the desk of a store that was just opened: the store was adopted, the answer of its state
+-- printed, and it stands there still; or it wasn't adopted, and nothing was printed
+abbrev pub AskGives : {S : Type 0} → Ghosts S → Held S → Held S → Question → Option (List ℕ) → Option (List ℕ) → Result Bool Fault → Type 0
+AskGives g c after q old new done =
+    AdoptedFrom (state g c) (λ s. IsOpenAt (state g after) s × AnswerTold (answer newest_schema s q) old new done)
+    ⊎ (WasRefused g c done × (new ≡ old))

@@ -1,0 +1,160 @@
+//! The words `trace` and `record`: a question, and its answer in lines.
+ghost use Rattle.std.specs.Prelude.{◌≡◌, false, IfOk, Some, string_bytes};
+ghost use Rattle.std.specs.List.{flat_map};
+ghost use Rattle.sqlite.specs.Held.{state};
+ghost use Rattle.sqlite.specs.State.{HasCleanDisk};
+ghost use Rattle.plant_base.specs.State.{State, newest_schema};
+ghost use Rattle.plant_desk.specs.Answers.{answer};
+ghost use Rattle.plant_desk_store.specs.Adopting.{IsNewlyOpened};
+ghost use Rattle.plant_desk_store.specs.Standing.{IsOpenAt};
+ghost use Rattle.plant_text.specs.Answers.{text_of_answer};
+ghost use Rattle.plant_text.specs.Writes.{with_lf};
+ghost use Rattle.desk_program.specs.Answered.{node_text, told_text, trace_text, AnswerTold, AskGives};
+
+use crate::adopting::{Performed, adopt, broken_off};
+use crate::fault::Fault;
+use plant_desk::{Answer, Keeper, Question};
+use plant_desk_store::Desk;
+use plant_text::{answer_text, is_unknown, record, write_text};
+use plant_trace::Node;
+use sqlite::{Alter, Connection};
+use std::alloc::{AllocError, Global};
+use std::fmt;
+use std::io::Write;
+
+/// A node in words.
+#[derive(Clone, Copy)]
+struct NodeText(Node);
+
+impl fmt::Display for NodeText {
+    ghost output = { λ n. Some (node_text n.0) };
+
+    fn fmt<W: fmt::Write>(&self, f: &mut fmt::Formatter<W>) -> fmt::Result {
+        match self.0 {
+            Node::Lot(id) => {
+                let id = id.as_str();
+                write!(f, "lot {id}")
+            }
+            Node::Batch(id) => {
+                let id = id.as_str();
+                write!(f, "batch {id}")
+            }
+        }
+    }
+}
+
+/// A line for each node.
+#[derive(Clone, Copy)]
+struct TraceText<'a>(&'a [Node]);
+
+impl fmt::Display for TraceText<'_> {
+    ghost output = { λ t. Some (trace_text t.0.now) };
+
+    fn fmt<W: fmt::Write>(&self, f: &mut fmt::Formatter<W>) -> fmt::Result {
+        for node in self.0 {
+            let text = NodeText(*node);
+            writeln!(f, "{text}")?;
+        }
+        Ok(())
+    }
+}
+
+/// The text of an answer in a line of JSON.
+fn line_of(alloc: Global, answer: &Answer) -> Result<String, AllocError>
+    ensures { IfOk result (λ text. string_bytes text ≡ with_lf (text_of_answer answer.now)) }
+{
+    let mut text = answer_text(alloc, answer)?;
+    text.push_str("\n")?;
+    Ok(text)
+}
+
+/// What is printed of an answer: the nodes of a trace, the record of a batch, else the answer's line.
+fn told_text(alloc: Global, answer: &Answer) -> Result<String, AllocError>
+    ensures { IfOk result (λ text. string_bytes text ≡ told_text answer.now) }
+{
+    match answer {
+        Answer::Trace(nodes) => TraceText(nodes.as_slice()).to_string(alloc),
+        Answer::Batch(view) => record(alloc, view),
+        Answer::Desk { .. } | Answer::Lot(_) | Answer::Order(_) | Answer::Unknown(_) => {
+            line_of(alloc, answer)
+        }
+    }
+}
+
+/// Prints an answer. `true` where it tells that the id isn't known.
+fn print_answer<W: Write>(alloc: Global, writer: &mut W, answer: &Answer) -> Result<bool, Fault>
+    ensures { AnswerTold answer.now (W.contents writer.old) (W.contents writer.new) result }
+{
+    match told_text(alloc, answer) {
+        Ok(text) => match write_text(writer, text.as_bytes()) {
+            Ok(()) => Ok(is_unknown(answer)),
+            Err(_) => Err(Fault::Write),
+        },
+        Err(_) => Err(Fault::Memory),
+    }
+}
+
+/// Asks an open keeper a question, and prints the answer. `true` where it tells that the id isn't known.
+///
+/// The keeper stays open, and where it was. At `Write` a front of the answer may stand there; at every other fault nothing
+/// does.
+pub fn tell_answer<W: Write, K: Keeper>(
+    alloc: Global,
+    writer: &mut W,
+    keeper: &mut K,
+    question: &Question,
+) -> Result<bool, Fault>
+    requires { K.shut keeper.old ≡ false }
+    ensures honest { K.honest keeper.new → K.honest keeper.old }
+    ensures open { K.shut keeper.new ≡ false }
+    ensures stays { K.honest keeper.new → (s : State) → K.stands keeper.old s → K.stands keeper.new s }
+    ensures told { K.honest keeper.new → (s : State) → K.stands keeper.old s
+        → AnswerTold (answer (K.schema keeper.old) s question.now)
+        (W.contents writer.old) (W.contents writer.new) result }
+{
+    match keeper.ask(question) {
+        Ok(answer) => print_answer(alloc, writer, &answer),
+        Err(fault) => Err(Fault::from(fault)),
+    }
+}
+
+/// Asks an open desk, and gives its store back.
+fn ask_desk<S: Alter + Drop, W: Write>(
+    alloc: Global,
+    mut desk: Desk<S>,
+    writer: &mut W,
+    question: &Question,
+) -> Performed<S>
+    requires { desk.is_shut ≡ false }
+    ensures honest { HasCleanDisk (state S.Store result.connection)
+        → HasCleanDisk (state S.Store desk.connection) }
+    ensures told { HasCleanDisk (state S.Store result.connection)
+        → (s : State) → IsOpenAt (state S.Store desk.connection) s
+        → IsOpenAt (state S.Store result.connection) s
+        × AnswerTold (answer newest_schema s question.now)
+        (W.contents writer.old) (W.contents writer.new) result.outcome }
+{
+    let outcome = tell_answer(alloc, writer, &mut desk, question);
+    Performed {
+        outcome,
+        connection: desk.close(),
+    }
+}
+
+/// Adopts the store, asks the desk a question, and prints the answer, as [`tell_answer`] does.
+pub(crate) fn ask_store<S: Alter + Drop, W: Write>(
+    alloc: Global,
+    connection: Connection<S>,
+    writer: &mut W,
+    question: &Question,
+) -> Performed<S>
+    requires { (state S.Store connection).in_transaction ≡ false }
+    ensures { HasCleanDisk (state S.Store result.connection) → IsNewlyOpened (state S.Store connection)
+        → AskGives S.Store connection result.connection question.now
+        (W.contents writer.old) (W.contents writer.new) result.outcome }
+{
+    match adopt(alloc, connection) {
+        Ok(desk) => ask_desk(alloc, desk, writer, question),
+        Err(stopped) => broken_off(stopped),
+    }
+}

@@ -1,0 +1,59 @@
+//! One connection.
+ghost use Rattle.std.specs.Prelude.{◌≡◌, false};
+ghost use Rattle.plant_desk.specs.Keeping.{IsSameDesk};
+
+use plant_desk::Keeper;
+use plant_http::serve_one;
+use plant_http_routes::Routes;
+use std::alloc::Global;
+use std::io::Read;
+use std::net::{Shutdown, TcpStream};
+use std::time::Duration;
+
+/// How many seconds a read or a write of a connection waits at most.
+const MOST_SECONDS: u64 = 10;
+
+/// How many pieces are read at most of what a client sends behind its answer.
+const MOST_PIECES: u32 = 256;
+
+/// Bounds the time that a read and a write of the connection wait.
+///
+/// Where the system doesn't take a bound, a client that sends nothing holds the server for as long as it likes.
+fn bound_waits(stream: &TcpStream) {
+    let most = Some(Duration::from_secs(MOST_SECONDS));
+    let _ = stream.set_read_timeout(most);
+    let _ = stream.set_write_timeout(most);
+}
+
+/// Ends a connection behind its answer: tells the client that no more comes, and reads on for a while.
+///
+/// A socket that is closed with unread bytes in it resets the connection, and a reset can destroy an answer on its way.
+fn finish(stream: &TcpStream) {
+    if stream.shutdown(Shutdown::Write).is_err() {
+        return;
+    }
+    let mut input = stream;
+    let mut piece = [0u8; 1024];
+    for _ in 0..MOST_PIECES {
+        match input.read(&mut piece) {
+            Ok(0) | Err(_) => return,
+            Ok(_) => {}
+        }
+    }
+}
+
+/// Serves the request of one connection. What becomes of it is the connection's affair: the keeper is what it is told of.
+pub(crate) fn serve_stream<K: Keeper>(
+    alloc: Global,
+    routes: &Routes,
+    stream: &TcpStream,
+    keeper: &mut K,
+)
+    ensures { IsSameDesk K.honest K.schema K.beside keeper.old keeper.new }
+{
+    bound_waits(stream);
+    let mut input = stream;
+    let mut output = stream;
+    let _ = serve_one(alloc, routes, &mut input, &mut output, keeper);
+    finish(stream);
+}

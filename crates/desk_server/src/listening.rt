@@ -1,0 +1,43 @@
+//! Connections, one after the other.
+ghost use Rattle.std.specs.Prelude.{◌≡◌, ◌≢◌, false, true, IfErr, IfOk};
+ghost use Rattle.sqlite.specs.Held.{state};
+ghost use Rattle.sqlite.specs.State.{HasCleanDisk};
+ghost use Rattle.desk_server.specs.Serving.{EndsServing, IsSameStore};
+
+use crate::connection::serve_stream;
+use desk_program::Fault;
+use plant_desk_store::Desk;
+use plant_http_routes::Routes;
+use sqlite::Alter;
+use std::alloc::Global;
+use std::net::TcpListener;
+
+/// Serves so many connections of a listener, one after the other, by an open desk. What is answered to a request ends nothing,
+/// and neither does a fault of a connection; one without a byte counts too.
+///
+/// `Store`: a fault of the store has shut the desk; no further connection is taken. `Net`: no connection could be taken.
+/// `Memory`: memory was refused for the routes, before the first connection. No other fault comes.
+pub fn serve_listener<S: Alter + Drop>(
+    alloc: Global,
+    listener: &TcpListener,
+    count: u32,
+    desk: &mut Desk<S>,
+) -> Result<bool, Fault>
+    requires { desk.old.is_shut ≡ false }
+    ensures same { IsSameStore S.Store desk.old desk.new }
+    ensures ends { EndsServing desk.new.is_shut result }
+{
+    let Ok(routes) = Routes::new(alloc) else {
+        return Err(Fault::Memory);
+    };
+    for _ in 0..count {
+        let Ok((stream, _)) = listener.accept() else {
+            return Err(Fault::Net);
+        };
+        serve_stream(alloc, &routes, &stream, desk);
+        if desk.is_shut() {
+            return Err(Fault::Store);
+        }
+    }
+    Ok(false)
+}

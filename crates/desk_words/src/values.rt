@@ -1,0 +1,104 @@
+//! The values of the words' arguments, each by its rule.
+ghost use Rattle.std.specs.Prelude.{◌≡◌, ◌<◌, ◌^◌, ◌≤◌, IfSome, option_and_then, option_map};
+ghost use Rattle.clap.specs.Words.{first_of, found_of, rows_of};
+ghost use Rattle.plant_base.specs.Values.{greatest_moment, is_id, is_text, only};
+ghost use Rattle.desk_words.specs.Meaning.{direction_of, number_in};
+
+use clap::ArgMatches;
+use plant_base::{GREATEST_MOMENT, Id, Moment, Text};
+use plant_trace::Direction;
+
+/// The value of an argument.
+pub(crate) fn value_of<'a>(matches: &ArgMatches<'a>, id: &str) -> Option<&'a str>
+    ensures { option_map (λ s. s.now) result ≡ first_of id.now (rows_of (found_of matches.now)) }
+{
+    matches.get_str(id)
+}
+
+/// The id that an argument is.
+pub(crate) fn id_at(matches: &ArgMatches<'_>, id: &str) -> Option<Id>
+    ensures { result ≡ option_and_then (only is_id) (first_of id.now (rows_of (found_of matches.now))) }
+{
+    match value_of(matches, id) {
+        Some(text) => Id::read(text.as_bytes()),
+        None => None,
+    }
+}
+
+/// The text that an argument is.
+pub(crate) fn text_at(matches: &ArgMatches<'_>, id: &str) -> Option<Text>
+    ensures { result ≡ option_and_then (only is_text) (first_of id.now (rows_of (found_of matches.now))) }
+{
+    match value_of(matches, id) {
+        Some(text) => Text::read(text.as_bytes()),
+        None => None,
+    }
+}
+
+/// The number that a text spells, with or without a plus before it, where it is one of these.
+#[tactic(auto, unfolding(crate::specs::Meaning::number_in))]
+fn number_in(text: &str, least: u64, greatest: u64) -> Option<u64>
+    ensures { result ≡ number_in least greatest text.now }
+{
+    match text.parse::<u64>() {
+        Ok(number) => {
+            if least <= number && number <= greatest {
+                Some(number)
+            } else {
+                None
+            }
+        }
+        Err(_) => None,
+    }
+}
+
+/// The number that an argument is, where it is one of these.
+pub(crate) fn number_at(
+    matches: &ArgMatches<'_>,
+    id: &str,
+    least: u64,
+    greatest: u64,
+) -> Option<u64>
+    ensures value { result ≡ option_and_then (number_in least greatest)
+        (first_of id.now (rows_of (found_of matches.now))) }
+    ensures greatest { IfSome result (λ number. number ≤ greatest) }
+{
+    match value_of(matches, id) {
+        Some(text) => number_in(text, least, greatest),
+        None => None,
+    }
+}
+
+/// The moment that an argument is.
+pub(crate) fn moment_at(matches: &ArgMatches<'_>, id: &str) -> Option<Moment>
+    ensures { result ≡ option_and_then (number_in 0 greatest_moment)
+        (first_of id.now (rows_of (found_of matches.now))) }
+{
+    match number_at(matches, id, 0, GREATEST_MOMENT) {
+        Some(seconds) => Moment::new(seconds),
+        None => None,
+    }
+}
+
+/// The direction that a text names.
+fn direction_of(text: &str) -> Option<Direction>
+    ensures { result ≡ direction_of text.now }
+{
+    if text == "back" {
+        return Some(Direction::Back);
+    }
+    if text == "forward" {
+        return Some(Direction::Forward);
+    }
+    None
+}
+
+/// The direction that an argument names.
+pub(crate) fn direction_at(matches: &ArgMatches<'_>, id: &str) -> Option<Direction>
+    ensures { result ≡ option_and_then direction_of (first_of id.now (rows_of (found_of matches.now))) }
+{
+    match value_of(matches, id) {
+        Some(text) => direction_of(text),
+        None => None,
+    }
+}

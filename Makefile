@@ -2,8 +2,9 @@
 # make run   proves and builds the desk, and runs that batch over a file, build/plant.db, which is made anew
 # make desk  leaves the built program at build/desk
 # make order_check  leaves the built check of order files at build/order_check
-# make test  the gate: that the programs are run on what stands in examples/, and then, from nothing, every proof, every
-#            must-fail edit, every test and the programs
+# make test  the gate: that the programs are run on what stands in examples/, then, from nothing, every proof, every
+#            must-fail edit, every test and the programs, and then sessions of the built desk and the
+#            examples of the documents
 .PHONY: look run desk order_check test
 
 look:
@@ -30,3 +31,5 @@ test:
 	cmp examples/batch.jsonl crates/desk/stdin
 	cmp examples/batch.out crates/desk/stdout
 	rt ci
+	examples/sessions.py crates/desk/out/desk
+	examples/run.py crates/desk/out/desk README.md docs/EXAMPLES.md

@@ -3,18 +3,24 @@ ghost use Rattle.std.specs.Prelude.{◌≡◌, false};
 ghost use Rattle.plant_desk.specs.Keeping.{IsSameDesk};
 
 use plant_desk::Keeper;
-use plant_http::serve_one;
+use plant_http::{Served, serve_one};
 use plant_http_routes::Routes;
 use std::alloc::Global;
 use std::io::Read;
 use std::net::{Shutdown, TcpStream};
 use std::time::Duration;
 
-/// How many seconds a read or a write of a connection waits at most.
+/// How many seconds a read of a request or a write of its answer waits at most.
 const MOST_SECONDS: u64 = 10;
 
+/// How many seconds a read behind an answer waits at most.
+const MOST_SECONDS_BEHIND: u64 = 1;
+
 /// How many pieces are read at most of what a client sends behind its answer.
-const MOST_PIECES: u32 = 256;
+const MOST_PIECES: u32 = 64;
+
+/// How many bytes a piece has at most.
+const PIECE_BYTES: usize = 8192;
 
 /// Bounds the time that a read and a write of the connection wait.
 ///
@@ -29,11 +35,12 @@ fn bound_waits(stream: &TcpStream) {
 ///
 /// A socket that is closed with unread bytes in it resets the connection, and a reset can destroy an answer on its way.
 fn finish(stream: &TcpStream) {
-    if stream.shutdown(Shutdown::Write).is_err() {
+    let most = Some(Duration::from_secs(MOST_SECONDS_BEHIND));
+    if stream.shutdown(Shutdown::Write).is_err() || stream.set_read_timeout(most).is_err() {
         return;
     }
     let mut input = stream;
-    let mut piece = [0u8; 1024];
+    let mut piece = [0u8; PIECE_BYTES];
     for _ in 0..MOST_PIECES {
         match input.read(&mut piece) {
             Ok(0) | Err(_) => return,
@@ -43,6 +50,9 @@ fn finish(stream: &TcpStream) {
 }
 
 /// Serves the request of one connection. What becomes of it is the connection's affair: the keeper is what it is told of.
+///
+/// Where nothing was answered, for a fault of the connection or for want of memory, nothing has to reach the client, and the
+/// connection is dropped at once.
 pub(crate) fn serve_stream<K: Keeper>(
     alloc: Global,
     routes: &Routes,
@@ -54,6 +64,7 @@ pub(crate) fn serve_stream<K: Keeper>(
     bound_waits(stream);
     let mut input = stream;
     let mut output = stream;
-    let _ = serve_one(alloc, routes, &mut input, &mut output, keeper);
-    finish(stream);
+    if let Ok(Served::Answered(_)) = serve_one(alloc, routes, &mut input, &mut output, keeper) {
+        finish(stream);
+    }
 }

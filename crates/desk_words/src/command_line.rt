@@ -1,9 +1,8 @@
 //! The command line, as clap is told it.
 ghost use Rattle.std.specs.Prelude.{◌≡◌, IfOk, codes, false};
 ghost use Rattle.clap.specs.Words.{app_of, rule_of};
-ghost use Rattle.desk_words.specs.CommandLine.{bare_program, import_app, number_rule, record_app, serve_app, the_program, trace_app, wanted_rule, word_app, at_rule, by_rule, IsLocal};
+ghost use Rattle.desk_words.specs.CommandLine.{bare_program, import_app, count_rule, port_rule, record_app, serve_app, the_program, trace_app, wanted_rule, word_app, at_rule, by_rule, IsLocal};
 
-use clap::builder::ValueParser;
 use clap::{Arg, Command, value_parser};
 use plant_base::GREATEST_MOMENT;
 use std::alloc::{AllocError, Global};
@@ -16,8 +15,10 @@ fn wanted<'a>(alloc: Global, id: &'a str, name: &'a str, help: &'a str) -> Arg<'
     ensures rule { rule_of result ≡ wanted_rule id.entry.now }
     ensures local { result.global ≡ false }
 {
-    let wanted = Arg::new(alloc, id).required(true);
-    wanted.value_name(name).help(help)
+    Arg::new(alloc, id)
+        .required(true)
+        .value_name(name)
+        .help(help)
 }
 
 /// The name of the file, which has to be there.
@@ -33,22 +34,28 @@ fn file_argument<'a>(alloc: Global) -> Arg<'a>
     )
 }
 
-/// A number that has to be there.
-fn number_argument<'a>(
-    alloc: Global,
-    id: &'a str,
-    name: &'a str,
-    help: &'a str,
-    parser: ValueParser<'a>,
-) -> Arg<'a>
-    ensures rule { rule_of result ≡ number_rule id.entry.now parser.entry }
+/// The port of `serve`, which has to be there.
+fn port_argument<'a>(alloc: Global) -> Arg<'a>
+    ensures rule { rule_of result ≡ port_rule }
     ensures local { result.global ≡ false }
 {
-    Arg::new(alloc, id)
+    Arg::new(alloc, "port")
         .required(true)
-        .value_name(name)
-        .help(help)
-        .value_parser(parser)
+        .value_name("PORT")
+        .help("The port of 127.0.0.1, 1 to 65535")
+        .value_parser(value_parser!(u16).range(1..))
+}
+
+/// How many connections `serve` takes, which has to be there.
+fn count_argument<'a>(alloc: Global) -> Arg<'a>
+    ensures rule { rule_of result ≡ count_rule }
+    ensures local { result.global ≡ false }
+{
+    Arg::new(alloc, "count")
+        .required(true)
+        .value_name("COUNT")
+        .help("How many connections are served, 1 to 1000000, one after the other")
+        .value_parser(value_parser!(u32).range(1..=1_000_000))
 }
 
 /// The word `name`, which takes the name of a file alone.
@@ -97,15 +104,15 @@ fn import_command<'a>(alloc: Global) -> Result<Command<'a>, AllocError>
     ensures app { IfOk result (λ c. app_of c ≡ import_app) }
     ensures local { IfOk result (λ c. IsLocal c) }
 {
-    Command::new(alloc, "import")
-        .about("Take in the order file on standard input, all of its orders or none")
-        .after_help(
-            "Example: desk import plant.db --at 1798761600 --by anna < orders.csv\n\
+    word_command(
+        alloc,
+        "import",
+        "Take in the order file on standard input, all of its orders or none",
+        "Example: desk import plant.db --at 1798761600 --by anna < orders.csv\n\
 Prints {\"ok\":N}, or the refusal, or the first fault of the file, as in csv row 2 Due.",
-        )
-        .arg(file_argument(alloc))?
-        .arg(at_argument(alloc))?
-        .arg(by_argument(alloc))
+    )?
+    .arg(at_argument(alloc))?
+    .arg(by_argument(alloc))
 }
 
 /// The word `trace`.
@@ -120,14 +127,14 @@ fn trace_command<'a>(alloc: Global) -> Result<Command<'a>, AllocError>
         "back: what the lot was made from; forward: where it went",
     );
     let lot = wanted(alloc, "lot", "LOT", "The id of the lot");
-    Command::new(alloc, "trace")
-        .about("Tell every lot and batch that a lot was made from, or that it went into")
-        .after_help(
-            "Example: desk trace plant.db forward L-1\nPrints a line for each: lot ID or batch ID.",
-        )
-        .arg(file_argument(alloc))?
-        .arg(direction)?
-        .arg(lot)
+    word_command(
+        alloc,
+        "trace",
+        "Tell every lot and batch that a lot was made from, or that it went into",
+        "Example: desk trace plant.db forward L-1\nPrints a line for each: lot ID or batch ID.",
+    )?
+    .arg(direction)?
+    .arg(lot)
 }
 
 /// The word `record`.
@@ -136,11 +143,13 @@ fn record_command<'a>(alloc: Global) -> Result<Command<'a>, AllocError>
     ensures local { IfOk result (λ c. IsLocal c) }
 {
     let batch = wanted(alloc, "batch", "BATCH", "The id of the batch");
-    Command::new(alloc, "record")
-        .about("Print the record of a batch")
-        .after_help("Example: desk record plant.db B-1")
-        .arg(file_argument(alloc))?
-        .arg(batch)
+    word_command(
+        alloc,
+        "record",
+        "Print the record of a batch",
+        "Example: desk record plant.db B-1",
+    )?
+    .arg(batch)
 }
 
 /// The word `serve`.
@@ -148,28 +157,14 @@ fn serve_command<'a>(alloc: Global) -> Result<Command<'a>, AllocError>
     ensures app { IfOk result (λ c. app_of c ≡ serve_app) }
     ensures local { IfOk result (λ c. IsLocal c) }
 {
-    let port = number_argument(
+    word_command(
         alloc,
-        "port",
-        "PORT",
-        "The port of 127.0.0.1, 1 to 65535",
-        value_parser!(u16).range(1..),
-    );
-    let count = number_argument(
-        alloc,
-        "count",
-        "COUNT",
-        "How many connections are served, 1 to 1000000, one after the other",
-        value_parser!(u32).range(1..=1_000_000),
-    );
-    Command::new(alloc, "serve")
-        .about("Answer requests of HTTP/1.1 on 127.0.0.1")
-        .after_help(
-            "Example: desk serve plant.db 8080 1000\nThen: curl http://127.0.0.1:8080/v1/desk",
-        )
-        .arg(file_argument(alloc))?
-        .arg(port)?
-        .arg(count)
+        "serve",
+        "Answer requests of HTTP/1.1 on 127.0.0.1",
+        "Example: desk serve plant.db 8080 1000\nThen: curl http://127.0.0.1:8080/v1/desk",
+    )?
+    .arg(port_argument(alloc))?
+    .arg(count_argument(alloc))
 }
 
 /// The program with no word.

@@ -2,8 +2,6 @@
 #![tactic(auto)]
 
 #[cfg(test)]
-mod declared;
-#[cfg(test)]
 mod fresh;
 #[cfg(test)]
 mod good_desk;

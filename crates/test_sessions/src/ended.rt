@@ -4,7 +4,6 @@ use desk_words::Task;
 use sqlite::{Alter, Connection};
 use std::process::Abort;
 use std::test::Fail;
-use table_reads::open_in_memory;
 
 /// The tasks that take no values.
 pub const INIT: Task = Task::Init;
@@ -47,21 +46,6 @@ pub fn performed<S: Alter + Drop>(
         errors,
         status,
     })
-}
-
-/// Runs the program over a new store, and checks how it ends.
-pub fn ends_so(
-    rt: &(impl Abort + AllocGlobal),
-    task: &Task,
-    input: &[u8],
-    output: &[u8],
-    status: u8,
-) -> Result<(), Fail> {
-    let end = performed(rt, task, open_in_memory(rt.alloc())?, input)?;
-    assert_eq!(rt; end.status, status);
-    assert!(rt; end.output.as_slice() == output);
-    assert!(rt; end.errors.is_empty());
-    Ok(())
 }
 
 /// Checks that a program performed by a fault, with nothing on standard output.

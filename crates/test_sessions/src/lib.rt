@@ -1,10 +1,8 @@
-//! Sessions of the desk in lines, each over a keeper of lists and over a desk on a store in memory: both write the same. And
-//! the program's words: how they are read, what each writes over a store in memory, and the exit status; and
-//! requests over HTTP.
+//! Runs of lines in pieces and over streams that fail, runs of commands, requests over HTTP, and the program's words: how they are
+//! read, what each writes over a store in memory where something fails, and the exit status. What a desk answers to sessions that
+//! go well or are refused is tested on the built program, by examples/sessions.py.
 #![tactic(auto)]
 
-#[cfg(test)]
-mod batch_tests;
 #[cfg(test)]
 mod ended;
 #[cfg(test)]
@@ -12,27 +10,15 @@ mod faults;
 #[cfg(test)]
 mod http_tests;
 #[cfg(test)]
-mod limit_tests;
+mod list_tests;
 #[cfg(test)]
-mod line_tests;
-#[cfg(test)]
-mod move_tests;
-#[cfg(test)]
-mod movement_tests;
-#[cfg(test)]
-mod order_tests;
-#[cfg(test)]
-mod script;
+mod run_tests;
 #[cfg(test)]
 mod session;
 #[cfg(test)]
 mod slow_tests;
 #[cfg(test)]
 mod streams;
-#[cfg(test)]
-mod told_tests;
-#[cfg(test)]
-mod trace_tests;
 #[cfg(test)]
 mod word_sessions;
 #[cfg(test)]

@@ -1,9 +1,6 @@
-//! What a new desk writes for an input: over lists, and over a store in memory.
-use plant_desk::ListKeeper;
+//! A session of five lines, and a new desk.
 use plant_desk_store::Desk;
-use plant_text::{RunEnd, run_lines};
 use sqlite::{Connection, MemStore};
-use std::process::Abort;
 use std::test::Fail;
 
 /// A class, a definition, a receipt of 500, a scrap of 20 and a question.
@@ -23,72 +20,14 @@ pub const REPLIES: &[u8] = b"{\"ok\":1}
 {\"def\":\"SUGAR\",\"held\":false,\"lot\":\"L-1\",\"stock\":480,\"sublots\":[{\"no\":0,\"place\":\"A1\",\"stock\":480}]}
 ";
 
-/// A keeper that was told an input, how the run ended, and what was written.
-#[derive(Drop)]
-pub struct Told<K: Drop> {
-    pub keeper: K,
-    pub end: RunEnd,
-    pub text: Vec<u8>,
-}
-
-/// A new keeper of lists that is told the input.
-pub fn told_to_lists(rt: &impl AllocGlobal, input: &[u8]) -> Result<Told<ListKeeper>, Fail> {
-    let mut rest = input;
-    let mut text = Vec::new(rt.alloc());
-    let mut keeper = ListKeeper::new(rt.alloc());
-    let end = run_lines(rt.alloc(), &mut rest, &mut text, &mut keeper);
-    Ok(Told { keeper, end, text })
-}
-
-/// A new desk over a store in memory that is told the input.
-pub fn told_to_store(rt: &impl AllocGlobal, input: &[u8]) -> Result<Told<Desk<MemStore>>, Fail> {
-    let mut rest = input;
-    let mut text = Vec::new(rt.alloc());
+/// A new desk over a store in memory.
+pub fn new_desk(rt: &impl AllocGlobal) -> Result<Desk<MemStore>, Fail> {
     let connection = Connection::open_in_memory(rt.alloc())?;
     if !connection.is_autocommit() {
         return Err(Fail::from("a transaction is open"));
     }
     match Desk::adopt(rt.alloc(), connection) {
-        Ok(mut keeper) => {
-            let end = run_lines(rt.alloc(), &mut rest, &mut text, &mut keeper);
-            Ok(Told { keeper, end, text })
-        }
+        Ok(desk) => Ok(desk),
         Err(_) => Err(Fail::from("the store is refused")),
     }
-}
-
-/// Appends each piece of text.
-pub fn joined(rt: &impl AllocGlobal, pieces: &[&[u8]]) -> Result<Vec<u8>, Fail> {
-    let mut text = Vec::new(rt.alloc());
-    for piece in pieces {
-        text.extend_from_slice(piece)?;
-    }
-    Ok(text)
-}
-
-/// Checks what a new desk writes for an input, over lists and over a store.
-pub fn answers(
-    rt: &(impl Abort + AllocGlobal),
-    input: &[u8],
-    wanted: &[u8],
-    refused: bool,
-) -> Result<(), Fail> {
-    let listed = told_to_lists(rt, input)?;
-    assert!(rt; listed.end == RunEnd::Done { refused });
-    assert!(rt; listed.text.as_slice() == wanted);
-    let stored = told_to_store(rt, input)?;
-    assert!(rt; stored.end == RunEnd::Done { refused });
-    assert!(rt; stored.text.as_slice() == wanted);
-    Ok(())
-}
-
-/// The same behind the five lines of the session, where some of the further lines are refused.
-pub fn answers_then(
-    rt: &(impl Abort + AllocGlobal),
-    more: &[u8],
-    wanted: &[u8],
-) -> Result<(), Fail> {
-    let input = joined(rt, &[SESSION, more])?;
-    let text = joined(rt, &[REPLIES, wanted])?;
-    answers(rt, &input, &text, true)
 }

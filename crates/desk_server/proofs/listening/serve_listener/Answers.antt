@@ -1,0 +1,23 @@
+use Rattle.plant_desk.proofs.Same.{same_itself, same_after}
+use Rattle.desk_server.proofs.listening.serve_listener.Goals as goal
+
+pub loop-init : goal.loop-init
+loop-init g c = (same_itself _ _ _ _ , c.requires)
+
+pub returns-in_default-accept-clause-same : goal.returns-in_default-accept-clause-same
+returns-in_default-accept-clause-same g c = c.loop.invariant.0
+
+pub returns-in_default-accept-clause-ends : goal.returns-in_default-accept-clause-ends
+returns-in_default-accept-clause-ends g c = c.loop.invariant.1
+
+pub returns-then-is_shut-clause-same : goal.returns-then-is_shut-clause-same
+returns-then-is_shut-clause-same g c = same_after _ _ _ _ _ _ c.loop.invariant.0 c.serve_stream.ensures
+
+pub loop-preserved : goal.loop-preserved
+loop-preserved g c = (same_after _ _ _ _ _ _ c.loop.invariant.0 c.serve_stream.ensures , ?)
+
+pub returns-clause-same : goal.returns-clause-same
+returns-clause-same g c = c.loop.invariant.0
+
+pub returns-clause-ends : goal.returns-clause-ends
+returns-clause-ends g c = (c.loop.invariant.1 , ?)

@@ -1,0 +1,407 @@
+#!/usr/bin/env python3
+"""Runs the built desk on sessions whose answers are written out, and reads its file with another SQLite.
+
+    examples/sessions.py PROGRAM
+
+Each file of examples/sessions is a session: a line behind "> " is told to the desk, and the line after it is what the desk has to
+answer. Sessions that are long or no text stand below. Each is run over memory, and over a file in two runs, the second of which
+reopens what the first left; the file must then be found good, with as many commands as were accepted.
+"""
+import pathlib
+import sqlite3
+import subprocess
+import sys
+import tempfile
+
+SECONDS = 300
+BAD_FORM = b'{"name":"BadForm","refused":1}\n'
+DESK = b'{"ask":"desk"}'
+NEW_DESK = b'{"schema":1,"seq":0}\n'
+LINE_LIMIT = 262_144
+
+# A class, and a definition of it in grams.
+GOODS = [
+    '"do":"add_class","class":"RAW","name":""',
+    '"do":"add_definition","def":"SUGAR","class":"RAW","name":"","unit":"g"',
+]
+
+# The tables of a desk as they are published: each with its columns and the sets of columns that are unique. A column holds text, or whole
+# numbers where # stands behind its name; it may be null where ? stands behind it.
+TABLES = {
+    "meta": ("k# schema# seq# at#", ["k"]),
+    "class": ("id name", ["id"]),
+    "definition": ("id class name unit", ["id"]),
+    "recipe": ("id version# product base# low# high# title state", ["id version"]),
+    "recipe_line": ("recipe version# no# kind# def? qty# t1 t2 t3", ["recipe version no"]),
+    "job": ("id recipe version# size# due priority# state", ["id"]),
+    "batch": ("id job at# by_who note state attempt# next# closed#", ["id", "job"]),
+    "control_line": ("batch no# kind# def? qty# t1 t2 t3", ["batch no"]),
+    "batch_event": ("seq# batch word phase# at# by_who note", ["seq"]),
+    "lot": ("id def", ["id"]),
+    "sublot": ("lot no# place stock#", ["lot no"]),
+    "movement": ("seq# line# kind# lot sub# lot2? sub2#? batch? amount# at# by_who note", ["seq line"]),
+    "hold": ("lot id at# by_who note", ["lot id"]),
+}
+
+# The record of the batch of the session a_batch_runs_to_its_close.
+RECORD = b"""BATCH RECORD B-1
+order O-1 due 2027-03-01 priority 5 state finished
+recipe CAKE 1 product DOUGH size 500 base 300
+released at 200 by anna
+state complete attempt 1 phases 1 of 1 closed
+CONTROL RECIPE
+  1 in FLOUR 167 kg
+  2 out DOUGH 500 kg
+  3 par TEMP 80 C
+  4 phase MIX BLEND STIR
+EVENTS
+     9 start at 210 by ben
+    11 phase 1 at 230 by ben
+    14 done at 260 by ben
+    15 close at 300 by anna
+CONSUMED
+    10 F-1/0 FLOUR 167 kg at 220 by ben
+PRODUCED
+    12 D-1 DOUGH 490 kg scrapped 10 at 240 by ben
+TOTALS
+in FLOUR asked 167 booked 167
+out DOUGH asked 500 booked 490
+END
+"""
+
+
+class Session:
+    """Lines that are told to a desk, and what it answers them."""
+
+    def __init__(self, name, told=b"", wanted=b""):
+        self.name, self.told, self.wanted = name, told, wanted
+
+    def accepted(self, *bodies):
+        for body in bodies:
+            self.told += b'{"at":100,"by":"",%s}\n' % body.encode()
+            self.wanted += b'{"ok":%d}\n' % (self.count() + 1)
+        return self
+
+    def refused(self, name, number, body):
+        self.told += b'{"at":100,"by":"",%s}\n' % body.encode()
+        self.wanted += b'{"name":"%s","refused":%d}\n' % (name.encode(), number)
+        return self
+
+    def asked(self, question, answer):
+        self.told += question.encode() + b"\n"
+        self.wanted += answer.encode() + b"\n"
+        return self
+
+    def count(self):
+        """Returns how many commands are accepted."""
+        return sum(it.startswith(b'{"ok":') for it in self.wanted.split(b"\n"))
+
+    def is_refused(self):
+        """Returns whether a line is refused."""
+        return any(b'"refused":' in it for it in self.wanted.split(b"\n"))
+
+
+def written(path):
+    """Returns the session that a file holds."""
+    session = Session(path.stem)
+    for line in path.read_bytes().splitlines(keepends=True):
+        if line.startswith(b"> "):
+            session.told += line[2:]
+        elif not line.startswith(b"#"):
+            session.wanted += line
+    return session
+
+
+def moved(word):
+    return f'"do":"batch","batch":"B-1","word":"{word}"'
+
+
+def received(lot, amount):
+    return f'"do":"receive","lot":"{lot}","def":"SUGAR","amount":{amount},"place":""'
+
+
+def recipe(phases):
+    """Returns a recipe of one output and so many phases."""
+    phase = ',{"kind":"phase","unit":"U","oper":"O","phase":"P"}'
+    return (
+        '"do":"add_recipe","recipe":"R","version":1,"product":"SUGAR","base":1,"min":1,"max":900,"title":"",'
+        f'"lines":[{{"kind":"out","def":"SUGAR","qty":1}}{phase * phases}]'
+    )
+
+
+def imported(orders):
+    """Returns an import of so many orders."""
+    rest = '"recipe":"R","version":1,"size":1,"due":"2027-03-01","priority":5'
+    rows = ",".join(f'{{"order":"O-{it}",{rest}}}' for it in range(orders))
+    return f'"do":"import_orders","orders":[{rows}]'
+
+
+def merged(parts):
+    """Returns a merge of these parts, each a lot, a sublot and an amount."""
+    listed = ",".join(f'{{"lot":"{lot}","sub":{sub},"amount":{amount}}}' for lot, sub, amount in parts)
+    return f'"do":"merge","new":"M-1","place":"","parts":[{listed}]'
+
+
+def limits():
+    """Returns the sessions in which a limit is reached, and passed by one."""
+    recipes = Session("a recipe has 128 lines and an import 1000 orders").accepted(*GOODS)
+    recipes.refused("BadForm", 1, recipe(128)).accepted(recipe(127))
+    recipes.refused("BadForm", 1, imported(1001)).accepted(imported(1000)).asked(
+        '{"ask":"order","order":"O-999"}',
+        '{"batch":null,"due":"2027-03-01","order":"O-999","priority":5,"recipe":"R","size":1,"state":"open","version":1}',
+    )
+
+    sixteen = Session("sixteen lots become one of the greatest amount").accepted(*GOODS)
+    sixteen.accepted(*[received(f"P-{it}", 62_500_000_000) for it in range(16)])
+    sixteen.accepted(merged([(f"P-{it}", 0, 62_500_000_000) for it in range(16)])).asked(
+        '{"ask":"lot","lot":"M-1"}',
+        '{"def":"SUGAR","held":false,"lot":"M-1","stock":1000000000000,'
+        '"sublots":[{"no":0,"place":"","stock":1000000000000}]}',
+    )
+    sixteen.accepted(received("L-1", 10**12), f'"do":"scrap","lot":"L-1","sub":0,"amount":{10**12}')
+    sixteen.refused("TooLittle", 13, '"do":"scrap","lot":"L-1","sub":0,"amount":1')
+
+    parts = Session("a merge has sixteen parts at most").accepted(*GOODS, received("L-1", 480))
+    parts.refused("UnknownSublot", 10, merged([("L-1", it, 1) for it in range(16)]))
+    parts.refused("BadForm", 1, merged([("L-1", it, 1) for it in range(17)]))
+
+    attempts = Session("a batch has 99 attempts").accepted(*GOODS, recipe(1))
+    attempts.accepted('"do":"approve","recipe":"R","version":1', imported(1))
+    attempts.accepted('"do":"release","order":"O-0","batch":"B-1"')
+    again = [moved("start"), moved("abort"), '"do":"settle","batch":"B-1"']
+    for _ in range(98):
+        attempts.accepted(*again, moved("reset"))
+    attempts.accepted(*again).refused("TooMany", 28, moved("reset"))
+
+    divided = '"do":"divide","lot":"L-1","sub":0,"amount":1,"place":""'
+    sublots = Session("a lot has a hundred sublots at most").accepted(*GOODS, received("L-1", 480))
+    sublots.accepted(*[divided] * 99).refused("TooMany", 28, divided)
+    return [recipes, sixteen, parts, attempts, sublots]
+
+
+def lines():
+    """Returns the sessions of bytes that are a line, a bad one, or none."""
+    nested = b"[" * 200 + b"]" * 200 + b"\n"
+    longest = DESK + b" " * (LINE_LIMIT - len(DESK))
+    arne = b'{"at":1,"by":"\\u00e4","do":"add_class","class":"A","name":""}\n'
+    floating = b'{"at":1.0,"by":"","do":"add_class","class":"A","name":""}\n'
+    return [
+        Session("an empty input has no reply"),
+        Session("line ends may vary", b"\n\r\n" + DESK + b"\r\n\n" + DESK, NEW_DESK * 2),
+        Session("a line of a carriage return and another", b"\r\r\n", BAD_FORM),
+        Session("a last line of a carriage return", b"\r", BAD_FORM),
+        Session("a blank is no line", b" \n", BAD_FORM),
+        Session("text is UTF-8", b'{"ask":"de\xffsk"}\n', BAD_FORM),
+        Session("a question has no other member", b'{"ask":"desk","x":1}\n', BAD_FORM),
+        Session("an id is in capitals", b'{"ask":"lot","lot":"l-1"}\n', BAD_FORM),
+        Session("a line is JSON", b"nonsense\n", BAD_FORM),
+        Session("a moment is a whole number", floating, BAD_FORM),
+        Session("nesting has a limit", nested + DESK + b"\n", BAD_FORM + NEW_DESK),
+        Session("a line of the greatest length is read", longest + b"\r\n", NEW_DESK),
+        Session("a byte order mark is no part of a line", b"\xef\xbb\xbf" + DESK + b"\n", BAD_FORM),
+        Session("a line is one value", DESK + b" {}\n", BAD_FORM),
+        Session("a line is whole", DESK[:-1] + b"\n", BAD_FORM),
+        Session("a text is ASCII", arne, BAD_FORM),
+        Session("a longer line is passed over", longest + b" \n" + DESK + b"\n", BAD_FORM + NEW_DESK),
+        Session("a carriage return at the end of the input counts", longest + b"\r", BAD_FORM),
+    ]
+
+
+def scraps():
+    """Returns a session of lines that scrap, of which each is read or bad by its numbers and members."""
+    session = Session("numbers and members of a line").accepted(*GOODS, received("L-1", 480))
+    nested = [f',"note":{"[" * depth}{"]" * depth},"note":""' for depth in (126, 127)]
+    for sub, amount, more, is_read in [
+        ("0", "1", "", True),
+        ("-0", "1", "", False),
+        ("00", "1", "", False),
+        ("100", "1", "", False),
+        ("0", "0", "", False),
+        ("0", "1000000000001", "", False),
+        ("0", "18446744073709551616", "", False),
+        ("0", "1.0", "", False),
+        ("0", "1e2", "", False),
+        ("0", '"1"', "", False),
+        ("0", "1", ',"note":""', True),
+        ("0", "1", ',"note":null', False),
+        ("0", "1", ',"note":7', False),
+        ("0", "1", ',"x":1', False),
+        ("0", "1", ',"ask":"desk"', False),
+        ("0", "1", ',"note":"a","x":1', False),
+        # the last of two members of one name counts
+        ("0", "1", ',"amount":30', True),
+        ("0", "1", ',"amount":0', False),
+        ("0", "1", ',"note":null,"note":"a"', True),
+        # what the earlier one has must be JSON all the same, and its lists are nested 127 deep at most, with the line itself
+        ("0", "1", ',"note":1e999,"note":"a"', False),
+        ("0", "1", nested[0], True),
+        ("0", "1", nested[1], False),
+    ]:
+        body = f'"do":"scrap","lot":"L-1","sub":{sub},"amount":{amount}{more}'
+        session = session.accepted(body) if is_read else session.refused("BadForm", 1, body)
+    stock = 480 - 4 - 30
+    return session.asked(
+        '{"ask":"lot","lot":"L-1"}',
+        f'{{"def":"SUGAR","held":false,"lot":"L-1","stock":{stock},"sublots":[{{"no":0,"place":"","stock":{stock}}}]}}',
+    )
+
+
+class Check:
+    """The built desk, in a directory of its own."""
+
+    def __init__(self, program, room):
+        self.program, self.room, self.failed, self.passed = program, room, 0, 0
+
+    def run(self, *words, told=b""):
+        ran = subprocess.run([self.program, *words], input=told, capture_output=True, cwd=self.room, timeout=SECONDS)
+        return ran.returncode, ran.stdout, ran.stderr
+
+    def expect(self, name, found, wanted):
+        self.passed += found == wanted
+        if found != wanted:
+            self.failed += 1
+            print(f"{name}: found {shown(found)}, wanted {shown(wanted)}", file=sys.stderr)
+
+    def over_memory(self, session):
+        wanted = (int(session.is_refused()), session.wanted, b"")
+        self.expect(session.name, self.run(told=session.told), wanted)
+
+    def over_a_file(self, session, file):
+        """Tells the session in two runs, and has the file verified."""
+        told = session.told.splitlines(keepends=True)
+        half = len(told) // 2
+        first = self.run("run", file, told=b"".join(told[:half]))
+        second = self.run("run", file, told=b"".join(told[half:]))
+        found = (first[0] | second[0], first[1] + second[1], first[2] + second[2])
+        self.expect(f"{session.name}, over a file", found, (int(session.is_refused()), session.wanted, b""))
+        good = b"good schema 1 seq %d\n" % session.count()
+        self.expect(f"{session.name}, verified", self.run("verify", file), (0, good, b""))
+
+    def orders_are_imported(self):
+        """Imports an order file twice, one that gives an order another size, one without orders, and faulty ones."""
+        file, head = "orders.db", b"order,recipe,version,size,due,priority\r\n"
+        planned = Session("").accepted(*GOODS, recipe(1), '"do":"approve","recipe":"R","version":1')
+        self.run("run", file, told=planned.told)
+        row = b"O-1,R,1,500,2027-03-01,5\r\n"
+        other_size = b"O-2,R,1,500,2027-03-01,5\r\nO-1,R,1,501,2027-03-01,5\r\n"
+        for name, told, status, wanted in [
+            ("orders are imported", b"\xef\xbb\xbf" + head + row, 0, b'{"ok":5}\n'),
+            ("orders are imported again", head + row, 0, b'{"ok":6}\n'),
+            ("an order in quotes", head + b'"O-3","R",1,0000000000000500,2027-03-08,1\n', 0, b'{"ok":7}\n'),
+            ("an order of another size is refused", head + other_size, 1, b'{"name":"OrderConflict","refused":16}\n'),
+            ("a recipe has to be there", head + row.replace(b"R", b"S"), 1, b'{"name":"UnknownRecipe","refused":6}\n'),
+            ("an order file has a header", b"", 1, b"csv row 0 Header\n"),
+            ("a day is in the calendar", head + row.replace(b"03-01", b"02-29"), 1, b"csv row 1 Due\n"),
+            ("a file without orders is imported", head, 0, b'{"ok":8}\n'),
+        ]:
+            found = self.run("import", file, "--at", "100", "--by", "anna", told=told)
+            self.expect(name, found, (status, wanted, b""))
+
+    def faults_of_order_files_are_told(self):
+        """Imports files that have no orders or a fault, into new desks, and tells the first fault of each."""
+        head, row = b"order,recipe,version,size,due,priority\n", b"O-1,CAKE,1,500,2027-03-01,5\r\n"
+        mark, longest = b"\xef\xbb\xbf", 262_144
+        for told, wanted in [
+            (head, '{"ok":1}'),
+            (b'\n\r\n"order",recipe,version,size,due,priority', '{"ok":1}'),
+            (head + b"\n" * (longest - len(head)), '{"ok":1}'),
+            (head + b"\n" * (longest - len(head) + 1), "csv row 0 TooLong"),
+            (mark * 2 + head + row, "csv row 0 Header"),
+            (head.replace(b",priority", b""), "csv row 0 Header"),
+            (head.replace(b"priority", b" priority"), "csv row 0 Header"),
+            (row, "csv row 0 Header"),
+            (head + row + b"O-2,CAKE,1,500,2027-03-01\n", "csv row 2 Shape"),
+            (head + b"o-2,CAKE,1,500,2027-03-01,5,6\n", "csv row 1 Shape"),
+            (head + b"o-1,cake,0,0,2027-02-29,0\n", "csv row 1 Order"),
+            (head + b"O-1,cake,0,0,2027-02-29,0\n", "csv row 1 Recipe"),
+            (head + b"O-1,CAKE,0,0,2027-02-29,0\n", "csv row 1 Version"),
+            (head + b"O-1,CAKE,1,1000000000001,2027-02-29,0\n", "csv row 1 Size"),
+            (head + b"O-1,CAKE,1,00000000000000500,2027-02-29,0\n", "csv row 1 Size"),
+            (head + b"O-1,CAKE,1,+5,2027-02-29,0\n", "csv row 1 Size"),
+            (head + b"O-1,CAKE,1,500,2027-03-01,10\n", "csv row 1 Priority"),
+            (mark + head + row + b"O-2,CAKE,1,500,2027-02-29,0\n", "csv row 2 Due"),
+            (head + row + b"O-2,CAKE,1,500,2100-01-01,5\n", "csv row 2 Due"),
+            (head + row * 1000 + b"O-2\n", "csv row 1001 TooManyRows"),
+        ]:
+            found = self.run("import", ":memory:", "--at", "100", told=told)
+            self.expect(f"an order file with {wanted}", found, (int("ok" not in wanted), wanted.encode() + b"\n", b""))
+
+    def words_tell(self, session):
+        """Asks for traces and a record, over the file that the session leaves."""
+        file = "words.db"
+        for words, status, wanted in [
+            (["verify", file], 0, b"good schema 1 seq 0\n"),
+            (["init", file], 0, b"ready schema 1\n"),
+            (["run", file], int(session.is_refused()), session.wanted),
+            (["init", file], 0, b"ready schema 1\n"),
+            (["trace", file, "forward", "F-1"], 0, b"lot D-1\nbatch B-1\n"),
+            (["trace", file, "back", "D-1"], 0, b"lot F-1\nbatch B-1\n"),
+            (["trace", file, "forward", "F-9"], 1, b'{"name":"UnknownLot","refused":9}\n'),
+            (["record", file, "B-1"], 0, RECORD),
+            (["record", file, "B-9"], 1, b'{"name":"UnknownBatch","refused":8}\n'),
+        ]:
+            self.expect(" ".join(words), self.run(*words, told=session.told), (status, wanted, b""))
+
+    def commands_are_numbered_up_to_their_limit(self):
+        """Tells a desk whose commands have all their numbers but one."""
+        file = self.room / "numbers.db"
+        self.run("init", file.name)
+        store = sqlite3.connect(file)
+        store.execute("UPDATE meta SET seq = 999999999999999")
+        store.commit()
+        store.close()
+        told = Session("", wanted=b'{"ok":1000000000000000}\n')
+        told.told = b'{"at":1,"by":"","do":"add_class","class":"RAW","name":""}\n'
+        told.refused("TooMany", 28, '"do":"add_class","class":"WIP","name":""')
+        told.asked(DESK.decode(), '{"schema":1,"seq":1000000000000000}')
+        found = self.run("run", file.name, told=told.told)
+        self.expect("commands are numbered up to their limit", found, (1, told.wanted, b""))
+
+    def tables_are_as_published(self):
+        """Compares the tables of a new file with those that are published, as another SQLite finds them."""
+        file = self.room / "tables.db"
+        self.run("init", file.name)
+        store = sqlite3.connect(file)
+        names = [it for it, in store.execute("SELECT name FROM sqlite_master WHERE type = 'table'")]
+        self.expect("tables", sorted(names), sorted(TABLES))
+        for name, (columns, keys) in TABLES.items():
+            found = [column_of(it) for it in store.execute(f'PRAGMA table_info("{name}")')]
+            self.expect(f"columns of {name}", found, columns.split())
+            unique = [it for _, it, is_unique, *_ in store.execute(f'PRAGMA index_list("{name}")') if is_unique]
+            members = [store.execute(f'PRAGMA index_info("{it}")').fetchall() for it in unique]
+            found = sorted(" ".join(column for *_, column in it) for it in members)
+            self.expect(f"keys of {name}", found, sorted(keys))
+        self.expect("integrity", store.execute("PRAGMA integrity_check").fetchall(), [("ok",)])
+        store.close()
+
+
+def column_of(row):
+    """Returns a column as TABLES tells it."""
+    _, name, kind, is_never_null, *_ = row
+    return name + {"TEXT": "", "INTEGER": "#"}.get(kind, kind) + ("" if is_never_null else "?")
+
+
+def shown(value):
+    text = repr(value)
+    return text if len(text) < 2000 else f"{text[:1000]} .. {text[-1000:]}"
+
+
+def main(program):
+    folder = pathlib.Path(__file__).resolve().parent / "sessions"
+    sessions = [written(it) for it in sorted(folder.glob("*.txt"))] + limits() + lines() + [scraps()]
+    with tempfile.TemporaryDirectory() as room:
+        check = Check(pathlib.Path(program).resolve(), pathlib.Path(room))
+        for number, session in enumerate(sessions):
+            check.over_memory(session)
+            check.over_a_file(session, f"{number}.db")
+        check.orders_are_imported()
+        check.faults_of_order_files_are_told()
+        check.words_tell(next(it for it in sessions if it.name == "a_batch_runs_to_its_close"))
+        check.commands_are_numbered_up_to_their_limit()
+        check.tables_are_as_published()
+    print(f"sessions: {check.passed} passed, {check.failed} failed")
+    return 1 if check.failed else 0
+
+
+if __name__ == "__main__":
+    sys.exit(main(*sys.argv[1:]))

@@ -1,6 +1,6 @@
-//! Runs of lines in pieces and over streams that fail, runs of commands, requests over HTTP, and the program's words: how they are
-//! read, what each writes over a store in memory where something fails, and the exit status. What a desk answers to sessions that
-//! go well or are refused is tested on the built program, by examples/sessions.py.
+//! Runs of lines in pieces and over streams that fail, runs of commands, requests over HTTP, and the program's words: what each
+//! writes over a store in memory where something fails, and the exit status. How words are read, and what a desk answers to
+//! sessions that go well or are refused, is tested on the built program, by examples/sessions.py and examples/run.py.
 #![tactic(auto)]
 
 #[cfg(test)]
@@ -21,7 +21,5 @@ mod slow_tests;
 mod streams;
 #[cfg(test)]
 mod word_sessions;
-#[cfg(test)]
-mod word_tests;
 #[cfg(test)]
 mod words_told;

@@ -8,6 +8,7 @@ answer. Sessions that are long or no text stand below. Each is run over memory, 
 reopens what the first left; the file must then be found good, with as many commands as were accepted.
 """
 import pathlib
+import re
 import sqlite3
 import subprocess
 import sys
@@ -101,10 +102,15 @@ class Session:
         return any(b'"refused":' in it for it in self.wanted.split(b"\n"))
 
 
+def lines_of(text):
+    """Returns the lines of a text, each with the LF that ends it."""
+    return re.findall(rb"[^\n]*\n|[^\n]+", text)
+
+
 def written(path):
     """Returns the session that a file holds."""
     session = Session(path.stem)
-    for line in path.read_bytes().splitlines(keepends=True):
+    for line in lines_of(path.read_bytes()):
         if line.startswith(b"> "):
             session.told += line[2:]
         elif not line.startswith(b"#"):
@@ -268,7 +274,7 @@ class Check:
 
     def over_a_file(self, session, file):
         """Tells the session in two runs, and has the file verified."""
-        told = session.told.splitlines(keepends=True)
+        told = lines_of(session.told)
         half = len(told) // 2
         first = self.run("run", file, told=b"".join(told[:half]))
         second = self.run("run", file, told=b"".join(told[half:]))

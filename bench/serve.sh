@@ -11,7 +11,7 @@ commands=${3:-200}
 [ "$questions" -ge 1 ] && [ "$commands" -ge 1 ] || { echo "at least one question and one command" >&2; exit 2; }
 unset http_proxy all_proxy ALL_PROXY
 mkdir -p build
-work=$(mktemp -d build/serve.XXXXXX)
+work=$(mktemp -d -p build)
 server=
 trap '[ -z "$server" ] || kill "$server" 2> /dev/null || true; rm -rf "$work"' EXIT
 

@@ -152,7 +152,7 @@ def started(room, program, port):
         os.mkdir(f"{room}/{name}")
     os.symlink(program, f"{room}/bin/desk")
     here = os.path.dirname(os.path.realpath(__file__))
-    shutil.copytree(here, f"{room}/work/examples", ignore=shutil.ignore_patterns("__pycache__"))
+    shutil.copytree(here, f"{room}/here/examples", ignore=shutil.ignore_patterns("__pycache__"))
     kept = {k: v for k, v in os.environ.items() if not k.lower().endswith("_proxy") and k != "BASH_ENV"}
     path = f"{room}/bin:{os.environ.get('PATH', os.defpath)}"
     given = {"PATH": path, "HOME": f"{room}/home", "LC_ALL": "C", "PORT": str(port), "_room": room}
@@ -160,7 +160,7 @@ def started(room, program, port):
     from_ends, ends = os.pipe()
     driver = DRIVER % {"orders": orders, "ends": ends}
     words = ["bash", "--noprofile", "--norc", "-c", driver]
-    how = {"cwd": f"{room}/work", "env": {**kept, **given}, "stdin": subprocess.DEVNULL}
+    how = {"cwd": f"{room}/here", "env": {**kept, **given}, "stdin": subprocess.DEVNULL}
     bash = subprocess.Popen(words, pass_fds=(orders, ends), start_new_session=True, **how)
     os.close(orders)
     os.close(ends)

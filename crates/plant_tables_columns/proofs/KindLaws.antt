@@ -1,0 +1,225 @@
+-- What one value was read from, and what is read of a value that obeys its rule.
+use Rattle.std.proofs.Common.{◌≡◌, refl, sym, ap, ◌∙◌, subst, ℕ, zero, suc, ◌≤◌, ℤ, pos, negsuc, List, Bool, true, false, ◌&&◌, ◌==◌, length, [], Option, Some, None, option_map, nat_le, eqb-true, arith}
+use Rattle.std.proofs.lemmas.Bool.{and_parts}
+use Rattle.std.proofs.lemmas.Bool.Decides.{nat_tests}
+use Rattle.std.specs.Prelude.{if◌then◌else◌, option_and_then, unwrap_or}
+use Rattle.std.specs.Bool.{⊤}
+use Rattle.sqlite.specs.declared.types.Value.{Value}
+use Rattle.sqlite.specs.declared.types.Value.TheVariants.{Null, Int, Real, Text, Blob}
+use Rattle.plant_base.specs.Values.{only, is_id, is_text, is_unit, greatest_sublot}
+use Rattle.plant_base.specs.Dates.{is_due}
+use Rattle.plant_tables.specs.Encoding.{number, flag}
+use Rattle.plant_tables_columns.specs.Reading.{text_in, integer_in, is_null, by_text, by_number, id_from, text_from, unit_from, due_from, is_in, number_in, number_from, one_from, sublot_number_from, line_number, line_number_from, flag_from, or_null, id_or_null, sublot_or_null}
+use Rattle.plant_tables_columns.proofs.Options.{bound, mapped, some_same, only_back, only_again}
+
+-- How a kind of value is read of a column and stored in it: what was read is what was stored, but for one that isn't
+-- whole; a good one that is whole is read again; and each that was read is good.
+pub record IsKind {A : Type 0} (read : Value → Option A) (stored : A → Value) (good whole : A → Type 0) : Type 0 where
+  pub back : (v : Value) (a : A) → read v ≡ Some a → whole a → v ≡ stored a
+  pub again : (a : A) → good a → whole a → read (stored a) ≡ Some a
+  pub keeps : (v : Value) (a : A) → read v ≡ Some a → good a
+
+-- nothing more is asked
+abbrev pub Any : {A : Type 0} → A → Type 0
+Any a = ⊤
+
+-- ---- texts
+
+pub text_is : (v : Value) (bytes : List ℕ) → text_in v ≡ Some bytes → v ≡ Text bytes
+text_is Null bytes h = absurd (cc)
+text_is (Int n) bytes h = absurd (cc)
+text_is (Real x) bytes h = absurd (cc)
+text_is (Text other) bytes h = ap Text (some_same other bytes h)
+text_is (Blob other) bytes h = absurd (cc)
+
+pub text_kind : {A : Type 0} (read : List ℕ → Option A) (stored : A → List ℕ) (good : A → Type 0)
+    → ((bytes : List ℕ) (a : A) → read bytes ≡ Some a → bytes ≡ stored a)
+    → ((a : A) → good a → read (stored a) ≡ Some a)
+    → ((bytes : List ℕ) (a : A) → read bytes ≡ Some a → good a)
+    → IsKind (by_text read) (λ a. Text (stored a)) good Any
+text_kind read stored good back again keeps = record {
+  back = λ v a h _. let p = bound (text_in v) read a h in text_is v p.0 p.1 ∙ ap Text (back p.0 a p.2);
+  again = λ a is _. again a is;
+  keeps = λ v a h. let p = bound (text_in v) read a h in keeps p.0 a p.2;
+}
+
+only_kind : (obeys : List ℕ → Bool) → IsKind (by_text (only obeys)) Text (λ a. obeys a ≡ true) Any
+only_kind obeys = text_kind (only obeys) (λ a. a) (λ a. obeys a ≡ true) (λ bytes a h. (only_back obeys bytes a h).0) (only_again obeys) (λ bytes a h. (only_back obeys bytes a h).1)
+
+pub id_kind : IsKind id_from Text (λ a. is_id a ≡ true) Any
+unfolding id_from
+id_kind = only_kind is_id
+
+pub text_like : IsKind text_from Text (λ a. is_text a ≡ true) Any
+unfolding text_from
+text_like = only_kind is_text
+
+pub unit_kind : IsKind unit_from Text (λ a. is_unit a ≡ true) Any
+unfolding unit_from
+unit_kind = only_kind is_unit
+
+pub due_kind : IsKind due_from Text (λ a. is_due a ≡ true) Any
+unfolding due_from
+due_kind = only_kind is_due
+
+-- ---- numbers
+
+pub integer_is : (v : Value) (n : ℤ) → integer_in v ≡ Some n → v ≡ Int n
+integer_is Null n h = absurd (cc)
+integer_is (Int m) n h = ap Int (some_same m n h)
+integer_is (Real x) n h = absurd (cc)
+integer_is (Text bytes) n h = absurd (cc)
+integer_is (Blob bytes) n h = absurd (cc)
+
+pub integer_kind : {A : Type 0} (read : ℤ → Option A) (stored : A → ℤ) (good whole : A → Type 0)
+    → ((n : ℤ) (a : A) → read n ≡ Some a → whole a → n ≡ stored a)
+    → ((a : A) → good a → whole a → read (stored a) ≡ Some a)
+    → ((n : ℤ) (a : A) → read n ≡ Some a → good a)
+    → IsKind (by_number read) (λ a. Int (stored a)) good whole
+integer_kind read stored good whole back again keeps = record {
+  back = λ v a h is. let p = bound (integer_in v) read a h in integer_is v p.0 p.1 ∙ ap Int (back p.0 a p.2 is);
+  again = again;
+  keeps = λ v a h. let p = bound (integer_in v) read a h in keeps p.0 a p.2;
+}
+
+pub number_back : (low high : ℕ) (z : ℤ) (n : ℕ) → number_in low high z ≡ Some n → z ≡ pos n
+unfolding number_in
+number_back low high (pos m) n h = ap pos (only_back (is_in low high) m n h).0
+number_back low high (negsuc m) n h = absurd (cc)
+
+pub number_again : (low high n : ℕ) → is_in low high n ≡ true → number_in low high (pos n) ≡ Some n
+unfolding number_in
+number_again low high n good = only_again (is_in low high) n good
+
+pub number_keeps : (low high : ℕ) (z : ℤ) (n : ℕ) → number_in low high z ≡ Some n → is_in low high n ≡ true
+unfolding number_in
+number_keeps low high (pos m) n h = (only_back (is_in low high) m n h).1
+number_keeps low high (negsuc m) n h = absurd (cc)
+
+-- every number is at least 0
+up_to : (high n : ℕ) → nat_le n high ≡ true → is_in 0 high n ≡ true
+up_to high n h =
+    let least : nat_le 0 n ≡ true = grind (arith, nat_tests) in
+    rw (least, h) refl
+
+pub number_kind : (low high : ℕ) → IsKind (number_from low high) number (λ n. is_in low high n ≡ true) Any
+unfolding number_from
+number_kind low high = integer_kind (number_in low high) pos (λ n. is_in low high n ≡ true) Any (λ z n h _. number_back low high z n h) (λ n good _. number_again low high n good) (number_keeps low high)
+
+-- the same in the words of a greatest number
+pub below_kind : (high : ℕ) → IsKind (number_from 0 high) number (λ n. nat_le n high ≡ true) Any
+below_kind high = record {
+  back = (number_kind 0 high).back;
+  again = λ n most _. (number_kind 0 high).again n (up_to high n most) tt;
+  keeps = λ v n h. (and_parts (nat_le 0 n) (nat_le n high) ((number_kind 0 high).keeps v n h)).1;
+}
+
+-- the number 1
+pub one_kind : IsKind one_from (λ _. number 1) Any Any
+one_kind = record {
+  back = λ v a h _.
+      let p = mapped (λ n. tt) (number_from 1 1 v) a h in
+      let parts = and_parts (nat_le 1 p.0) (nat_le p.0 1) ((number_kind 1 1).keeps v p.0 p.1) in
+      let least : nat_le 1 p.0 ≡ true = parts.0 in
+      let most : nat_le p.0 1 ≡ true = parts.1 in
+      let same : p.0 ≡ 1 = grind (arith, nat_tests) in
+      (number_kind 1 1).back v p.0 p.1 tt ∙ ap number same;
+  again = λ a _ _. ap (option_map (λ n. tt)) ((number_kind 1 1).again 1 refl tt);
+  keeps = λ v a h. tt;
+}
+
+-- the number of a line that can have it
+abbrev pub IsNumbered : ℕ → Type 0
+IsNumbered n = 1 ≤ n
+
+numbered_back : (z : ℤ) (n : ℕ) → line_number z ≡ n → 1 ≤ n → z ≡ pos n
+numbered_back z n h low = go (number_in 1 65535 z) refl h
+  where
+    go : (o : Option ℕ) → number_in 1 65535 z ≡ o → unwrap_or o 0 ≡ n → z ≡ pos n
+    go None e f = let zero_is : 0 ≡ n = f in absurd (omega arith)
+    go (Some m) e f = number_back 1 65535 z m e ∙ ap pos f
+
+numbered_keeps : (z : ℤ) (n : ℕ) → line_number z ≡ n → n ≤ 65535
+numbered_keeps z n h = go (number_in 1 65535 z) refl h
+  where
+    go : (o : Option ℕ) → number_in 1 65535 z ≡ o → unwrap_or o 0 ≡ n → n ≤ 65535
+    go None e f = let zero_is : 0 ≡ n = f in omega arith
+    go (Some m) e f =
+        let most : nat_le m 65535 ≡ true = (and_parts (nat_le 1 m) (nat_le m 65535) (number_keeps 1 65535 z m e)).1 in
+        let same : m ≡ n = f in
+        grind (arith, nat_tests)
+
+numbered_again : (n : ℕ) → n ≤ 65535 → 1 ≤ n → line_number (pos n) ≡ n
+numbered_again n most least =
+    let low : nat_le 1 n ≡ true = grind (arith, nat_tests) in
+    let high : nat_le n 65535 ≡ true = grind (arith, nat_tests) in
+    let good : is_in 1 65535 n ≡ true = rw (low, high) refl in
+    rw (number_again 1 65535 n good) refl
+
+pub line_number_kind : IsKind line_number_from number (λ n. n ≤ 65535) IsNumbered
+unfolding line_number_from
+line_number_kind = integer_kind (λ n. Some (line_number n)) pos (λ n. n ≤ 65535) IsNumbered (λ z n h low. numbered_back z n (some_same _ _ h) low) (λ n most least. ap Some (numbered_again n most least)) (λ z n h. numbered_keeps z n (some_same _ _ h))
+
+flag_at : (k : ℕ) → is_in 0 1 k ≡ true → number k ≡ flag (nat_le 1 k)
+flag_at zero h = refl
+flag_at (suc zero) h = refl
+flag_at (suc (suc k)) h = absurd (grind (arith, nat_tests, and_parts (nat_le 0 (suc (suc k))) (nat_le (suc (suc k)) 1) h))
+
+flag_back : (v : Value) (b : Bool) → flag_from v ≡ Some b → v ≡ flag b
+unfolding flag_from
+flag_back v b h =
+    let read = mapped (λ k. nat_le 1 k) (number_from 0 1 v) b h in
+    (number_kind 0 1).back v read.0 read.1 tt ∙ flag_at read.0 ((number_kind 0 1).keeps v read.0 read.1) ∙ ap flag read.2
+
+flag_again : (b : Bool) → flag_from (flag b) ≡ Some b
+unfolding flag_from
+flag_again true = ap (option_map (λ k. nat_le 1 k)) ((number_kind 0 1).again 1 refl tt)
+flag_again false = ap (option_map (λ k. nat_le 1 k)) ((number_kind 0 1).again 0 refl tt)
+
+pub flag_kind : IsKind flag_from flag Any Any
+flag_kind = record { back = λ v b h _. flag_back v b h; again = λ b _ _. flag_again b; keeps = λ v b h. tt }
+
+-- ---- what may be left out
+
+-- the column of a value or none
+abbrev pub null_or : {A : Type 0} → (A → Value) → Option A → Value
+null_or stored None = Null
+null_or stored (Some a) = stored a
+
+abbrev pub GoodOrNone : {A : Type 0} → (A → Type 0) → Option A → Type 0
+GoodOrNone good None = ⊤
+GoodOrNone good (Some a) = good a
+
+pub null_is : (v : Value) → is_null v ≡ true → v ≡ Null
+null_is Null h = refl
+null_is (Int n) h = absurd (cc)
+null_is (Real x) h = absurd (cc)
+null_is (Text bytes) h = absurd (cc)
+null_is (Blob bytes) h = absurd (cc)
+
+pub or_null_kind : {A : Type 0} (read : Value → Option A) (stored : A → Value) (good : A → Type 0) → IsKind read stored good Any → ((a : A) → is_null (stored a) ≡ false) → IsKind (or_null read) (null_or stored) (GoodOrNone good) Any
+or_null_kind {A} read stored good kind there = record { back = λ v o h _. back v o h; again = λ o is _. again o is; keeps = keeps }
+  where
+    back : (v : Value) (o : Option A) → or_null read v ≡ Some o → v ≡ null_or stored o
+    back v o h = elim (is_null v) as (λ b. is_null v ≡ b → (if b then Some None else option_map Some (read v)) ≡ Some o → v ≡ null_or stored o) [
+      | true ↦ λ e f. null_is v e ∙ ap (null_or stored) (some_same None o f)
+      | false ↦ λ e f. let p = mapped Some (read v) o f in kind.back v p.0 p.1 tt ∙ ap (null_or stored) p.2
+    ] refl h
+
+    again : (o : Option A) → GoodOrNone good o → or_null read (null_or stored o) ≡ Some o
+    again None is = refl
+    again (Some a) is = rw (there a, kind.again a is tt) refl
+
+    keeps : (v : Value) (o : Option A) → or_null read v ≡ Some o → GoodOrNone good o
+    keeps v o h = elim (is_null v) as (λ b. (if b then Some None else option_map Some (read v)) ≡ Some o → GoodOrNone good o) [
+      | true ↦ λ f. subst (GoodOrNone good) (some_same None o f) tt
+      | false ↦ λ f. let p = mapped Some (read v) o f in subst (GoodOrNone good) p.2 (kind.keeps v p.0 p.1)
+    ] h
+
+pub optional_id_kind : IsKind id_or_null (null_or Text) (GoodOrNone (λ a. is_id a ≡ true)) Any
+unfolding id_or_null
+optional_id_kind = or_null_kind id_from Text (λ a. is_id a ≡ true) id_kind (λ a. refl)
+
+pub optional_sublot_kind : IsKind sublot_or_null (null_or number) (GoodOrNone (λ n. nat_le n greatest_sublot ≡ true)) Any
+unfolding sublot_or_null
+optional_sublot_kind = or_null_kind sublot_number_from number (λ n. nat_le n greatest_sublot ≡ true) (below_kind greatest_sublot) (λ a. refl)

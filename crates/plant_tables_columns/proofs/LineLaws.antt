@@ -1,0 +1,178 @@
+-- What the columns of a line keep.
+use Rattle.std.proofs.Common.{◌≡◌, refl, sym, ap, ◌∙◌, subst, ℕ, suc, ◌+◌, pos, List, [], ◌∷◌, length, Bool, true, false, ◌==◌, ◌&&◌, Option, Some, None, eqb-true, arith}
+use Rattle.std.specs.Prelude.{if◌then◌else◌}
+use Rattle.std.proofs.lemmas.Bool.{and_parts}
+use Rattle.sqlite.specs.declared.types.Value.{Value}
+use Rattle.sqlite.specs.declared.types.Value.TheVariants.{Null, Int, Real, Text, Blob}
+use Rattle.sqlite.specs.Order.{Row, column}
+use Rattle.plant_base.specs.Values.{is_id, is_amount, greatest_amount}
+use Rattle.plant_base.specs.Formed.{HasLineValues}
+use Rattle.plant_base.specs.declared.rows.RecipeLine.{RecipeLine}
+use Rattle.plant_base.specs.declared.rows.RecipeLine.TheVariants as line
+use Rattle.plant_tables.specs.Encoding.{number, columns_of_line}
+use Rattle.plant_tables_columns.specs.Reading.{is_null, is_empty, is_zero, id_from, text_from, amount_from}
+use Rattle.plant_tables_columns.specs.Naming.{line_sort_from, line_sort_number, line_sort_numbered}
+use Rattle.plant_tables_columns.specs.Judging.{material_from, has_no_material, parameter_from, phase_from, line_of_sort, line_from, line_columns}
+use Rattle.plant_tables_columns.specs.declared.line.LineSort.{LineSort}
+use Rattle.plant_tables_columns.specs.declared.line.LineSort.TheVariants as line_sort
+use Rattle.plant_tables_columns.specs.declared.line.Material.{Material}
+use Rattle.plant_tables_columns.proofs.Options.{bound, mapped, some_same, where_true}
+use Rattle.plant_tables_columns.proofs.KindLaws.{IsKind, Any, integer_kind, id_kind, text_like, number_kind, null_is}
+use Rattle.plant_tables_columns.proofs.NameLemmas.{int_same, line_sort_back, line_sort_own}
+use Rattle.plant_tables_columns.proofs.ColumnLaws.{StandFrom, AreLawful}
+
+line_sort_kind : IsKind line_sort_from (λ s. number (line_sort_number s)) Any Any
+unfolding line_sort_from
+line_sort_kind = integer_kind line_sort_numbered (λ s. pos (line_sort_number s)) Any Any (λ n s h _. line_sort_back n s h) (λ s _ _. line_sort_own s) (λ n s h. tt)
+
+no_bytes : (xs : List ℕ) → (length xs == 0) ≡ true → xs ≡ []
+no_bytes [] h = refl
+no_bytes (x ∷ xs) h = let none : length (x ∷ xs) ≡ 0 = eqb-true (length (x ∷ xs)) 0 h in absurd (omega arith)
+
+empty_is : (v : Value) → is_empty v ≡ true → v ≡ Text []
+unfolding is_empty
+empty_is Null h = absurd (cc)
+empty_is (Int n) h = absurd (cc)
+empty_is (Real x) h = absurd (cc)
+empty_is (Text bytes) h = ap Text (no_bytes bytes h)
+empty_is (Blob bytes) h = absurd (cc)
+
+zero_is : (v : Value) → is_zero v ≡ true → v ≡ number 0
+unfolding is_zero
+zero_is Null h = absurd (cc)
+zero_is (Int n) h = ap Int (int_same n (pos 0) h)
+zero_is (Real x) h = absurd (cc)
+zero_is (Text bytes) h = absurd (cc)
+zero_is (Blob bytes) h = absurd (cc)
+
+columns : {v1 w1 v2 w2 v3 w3 v4 w4 v5 w5 v6 w6 : Value} → v1 ≡ w1 → v2 ≡ w2 → v3 ≡ w3 → v4 ≡ w4 → v5 ≡ w5 → v6 ≡ w6
+    → ◌≡◌ {A = Row} (v1 ∷ v2 ∷ v3 ∷ v4 ∷ v5 ∷ v6 ∷ []) (w1 ∷ w2 ∷ w3 ∷ w4 ∷ w5 ∷ w6 ∷ [])
+columns e1 e2 e3 e4 e5 e6 = λ i. e1 i ∷ e2 i ∷ e3 i ∷ e4 i ∷ e5 i ∷ e6 i ∷ []
+
+module _ (def qty t1 t2 t3 : Value) where
+  record IsMaterialOf (m : Material) : Type 0 where
+    pub is_def : def ≡ Text m.def
+    pub is_qty : qty ≡ number m.amount
+    pub no_first : t1 ≡ Text []
+    pub no_second : t2 ≡ Text []
+    pub no_third : t3 ≡ Text []
+    pub good_def : is_id m.def ≡ true
+    pub good_amount : is_amount m.amount ≡ true
+
+  material_back : (m : Material) → material_from def qty t1 t2 t3 ≡ Some m → IsMaterialOf m
+  unfolding material_from
+  material_back m h =
+      let parts = where_true (is_empty t1 && is_empty t2 && is_empty t3) _ m h in
+      let tests = and_parts (is_empty t1 && is_empty t2) (is_empty t3) parts.0 in
+      let pair = and_parts (is_empty t1) (is_empty t2) tests.0 in
+      let p1 = bound (id_from def) _ m parts.1 in
+      let p2 = bound (amount_from qty) _ m p1.2 in
+      let same : record { def = p1.0; amount = p2.0 } ≡ m = some_same _ _ p2.2 in
+      subst IsMaterialOf same (record {
+        is_def = id_kind.back def p1.0 p1.1 tt;
+        is_qty = (number_kind 1 greatest_amount).back qty p2.0 p2.1 tt;
+        no_first = empty_is t1 pair.0;
+        no_second = empty_is t2 pair.1;
+        no_third = empty_is t3 tests.1;
+        good_def = id_kind.keeps def p1.0 p1.1;
+        good_amount = (number_kind 1 greatest_amount).keeps qty p2.0 p2.1;
+      })
+
+  no_material_back : has_no_material def qty ≡ true → (def ≡ Null) × (qty ≡ number 0)
+  unfolding has_no_material
+  no_material_back h = let parts = and_parts (is_null def) (is_zero qty) h in (null_is def parts.0, zero_is qty parts.1)
+
+  sort_back : (kind : Value) (s : LineSort) (l : RecipeLine) → kind ≡ number (line_sort_number s) → line_of_sort s def qty t1 t2 t3 ≡ Some l
+      → ◌≡◌ {A = Row} (kind ∷ def ∷ qty ∷ t1 ∷ t2 ∷ t3 ∷ []) (columns_of_line l) × HasLineValues l
+  unfolding parameter_from phase_from
+  sort_back kind line_sort.In l is h =
+      let p = mapped (λ (m : Material). line.In m.def m.amount) (material_from def qty t1 t2 t3) l h in
+      let m = material_back p.0 p.1 in
+      (columns is m.is_def m.is_qty m.no_first m.no_second m.no_third ∙ ap columns_of_line p.2, subst HasLineValues p.2 (m.good_def, m.good_amount))
+  sort_back kind line_sort.Out l is h =
+      let p = mapped (λ (m : Material). line.Out m.def m.amount) (material_from def qty t1 t2 t3) l h in
+      let m = material_back p.0 p.1 in
+      (columns is m.is_def m.is_qty m.no_first m.no_second m.no_third ∙ ap columns_of_line p.2, subst HasLineValues p.2 (m.good_def, m.good_amount))
+  sort_back kind line_sort.Parameter l is h =
+      let parts = where_true (has_no_material def qty && is_empty t3) _ l h in
+      let tests = and_parts (has_no_material def qty) (is_empty t3) parts.0 in
+      let none = no_material_back tests.0 in
+      let p1 = bound (id_from t1) _ l parts.1 in
+      let p2 = bound (text_from t2) _ l p1.2 in
+      let same = some_same _ l p2.2 in
+      (columns is none.0 none.1 (id_kind.back t1 p1.0 p1.1 tt) (text_like.back t2 p2.0 p2.1 tt) (empty_is t3 tests.1) ∙ ap columns_of_line same, subst HasLineValues same (id_kind.keeps t1 p1.0 p1.1, text_like.keeps t2 p2.0 p2.1))
+  sort_back kind line_sort.Phase l is h =
+      let parts = where_true (has_no_material def qty) _ l h in
+      let none = no_material_back parts.0 in
+      let p1 = bound (id_from t1) _ l parts.1 in
+      let p2 = bound (id_from t2) _ l p1.2 in
+      let p3 = bound (id_from t3) _ l p2.2 in
+      let same = some_same _ l p3.2 in
+      (columns is none.0 none.1 (id_kind.back t1 p1.0 p1.1 tt) (id_kind.back t2 p2.0 p2.1 tt) (id_kind.back t3 p3.0 p3.1 tt) ∙ ap columns_of_line same, subst HasLineValues same (id_kind.keeps t1 p1.0 p1.1, id_kind.keeps t2 p2.0 p2.1, id_kind.keeps t3 p3.0 p3.1))
+
+  line_back : (kind : Value) (l : RecipeLine) → line_from kind def qty t1 t2 t3 ≡ Some l → ◌≡◌ {A = Row} (kind ∷ def ∷ qty ∷ t1 ∷ t2 ∷ t3 ∷ []) (columns_of_line l) × HasLineValues l
+  unfolding line_from
+  line_back kind l h =
+      let p = bound (line_sort_from kind) _ l h in
+      sort_back kind p.0 l (line_sort_kind.back kind p.0 p.1 tt) p.2
+
+sort_again : (s : LineSort) (def qty t1 t2 t3 : Value) (l : RecipeLine) → line_of_sort s def qty t1 t2 t3 ≡ Some l → line_from (number (line_sort_number s)) def qty t1 t2 t3 ≡ Some l
+unfolding line_from
+sort_again s def qty t1 t2 t3 l h = rw (line_sort_kind.again s tt tt) h
+
+material_again : (def : List ℕ) (n : ℕ) → is_id def ≡ true → is_amount n ≡ true → material_from (Text def) (number n) (Text []) (Text []) (Text []) ≡ Some (record { def = def; amount = n })
+unfolding material_from is_empty
+material_again def n good_def good_amount = rw (id_kind.again def good_def tt, (number_kind 1 greatest_amount).again n good_amount tt) refl
+
+parameter_again : (name value : List ℕ) → HasLineValues (line.Parameter name value) → parameter_from Null (number 0) (Text name) (Text value) (Text []) ≡ Some (line.Parameter name value)
+unfolding parameter_from has_no_material is_empty is_zero
+parameter_again name value good = rw (id_kind.again name good.0 tt, text_like.again value good.1 tt) refl
+
+phase_again : (unit_procedure operation phase : List ℕ) → HasLineValues (line.Phase unit_procedure operation phase) → phase_from Null (number 0) (Text unit_procedure) (Text operation) (Text phase) ≡ Some (line.Phase unit_procedure operation phase)
+unfolding phase_from has_no_material is_zero
+phase_again unit_procedure operation phase good = rw (id_kind.again unit_procedure good.0 tt, id_kind.again operation good.1 tt, id_kind.again phase good.2 tt) refl
+
+-- where six values stand, they are the line's columns
+six : (row : Row) (at : ℕ) (a b c d e f : Value) (o : Option RecipeLine) → StandFrom row at (a ∷ b ∷ c ∷ d ∷ e ∷ f ∷ []) → line_from a b c d e f ≡ o → line_columns.read row at ≡ o
+six row at a b c d e f o h is =
+    let n1 : suc at ≡ at + 1 = omega arith in
+    let n2 : suc (suc at) ≡ at + 2 = omega arith in
+    let n3 : suc (suc (suc at)) ≡ at + 3 = omega arith in
+    let n4 : suc (suc (suc (suc at))) ≡ at + 4 = omega arith in
+    let n5 : suc (suc (suc (suc (suc at)))) ≡ at + 5 = omega arith in
+    let c1 : column row (at + 1) ≡ b = subst (λ k. column row k ≡ b) n1 h.1.0 in
+    let c2 : column row (at + 2) ≡ c = subst (λ k. column row k ≡ c) n2 h.1.1.0 in
+    let c3 : column row (at + 3) ≡ d = subst (λ k. column row k ≡ d) n3 h.1.1.1.0 in
+    let c4 : column row (at + 4) ≡ e = subst (λ k. column row k ≡ e) n4 h.1.1.1.1.0 in
+    let c5 : column row (at + 5) ≡ f = subst (λ k. column row k ≡ f) n5 h.1.1.1.1.1.0 in
+    (λ i. line_from (h.0 i) (c1 i) (c2 i) (c3 i) (c4 i) (c5 i)) ∙ is
+
+-- six columns stand where they are
+six_stand : (row : Row) (at : ℕ) → StandFrom row at (column row at ∷ column row (at + 1) ∷ column row (at + 2) ∷ column row (at + 3) ∷ column row (at + 4) ∷ column row (at + 5) ∷ [])
+six_stand row at =
+    let n1 : suc at ≡ at + 1 = omega arith in
+    let n2 : suc (suc at) ≡ at + 2 = omega arith in
+    let n3 : suc (suc (suc at)) ≡ at + 3 = omega arith in
+    let n4 : suc (suc (suc (suc at))) ≡ at + 4 = omega arith in
+    let n5 : suc (suc (suc (suc (suc at)))) ≡ at + 5 = omega arith in
+    (refl, (ap (column row) n1, (ap (column row) n2, (ap (column row) n3, (ap (column row) n4, (ap (column row) n5, tt))))))
+
+line_wide : (l : RecipeLine) → length (columns_of_line l) ≡ 6
+line_wide (line.In d n) = refl
+line_wide (line.Out d n) = refl
+line_wide (line.Parameter name value) = refl
+line_wide (line.Phase unit_procedure operation phase) = refl
+
+line_again : (row : Row) (at : ℕ) (l : RecipeLine) → StandFrom row at (columns_of_line l) → HasLineValues l → line_columns.read row at ≡ Some l
+line_again row at (line.In d n) h good = six row at _ _ _ _ _ _ _ h (sort_again line_sort.In _ _ _ _ _ (line.In d n) (rw (material_again d n good.0 good.1) refl))
+line_again row at (line.Out d n) h good = six row at _ _ _ _ _ _ _ h (sort_again line_sort.Out _ _ _ _ _ (line.Out d n) (rw (material_again d n good.0 good.1) refl))
+line_again row at (line.Parameter name value) h good = six row at _ _ _ _ _ _ _ h (sort_again line_sort.Parameter _ _ _ _ _ (line.Parameter name value) (parameter_again name value good))
+line_again row at (line.Phase unit_procedure operation phase) h good = six row at _ _ _ _ _ _ _ h (sort_again line_sort.Phase _ _ _ _ _ (line.Phase unit_procedure operation phase) (phase_again unit_procedure operation phase good))
+
+pub line_lawful : AreLawful line_columns columns_of_line HasLineValues Any
+line_lawful = record {
+  wide = line_wide;
+  back = λ row at l h _. subst (StandFrom row at) (line_back _ _ _ _ _ _ l h).0 (six_stand row at);
+  again = λ row at l h good _. line_again row at l h good;
+  keeps = λ row at l h. (line_back _ _ _ _ _ _ l h).1;
+}

@@ -1,0 +1,181 @@
+-- The words and numbers that states, events and kinds were read from, and what is read from theirs.
+use Rattle.std.proofs.Common.{◌≡◌, refl, sym, ap, ◌∙◌, subst, ℕ, ◌≤◌, ℤ, pos, arith, List, Bool, true, false, Some, option_map, find, codes, nat_le}
+use Rattle.std.proofs.lemmas.Bool.{and_parts}
+use Rattle.std.proofs.lemmas.Bool.Decides.{nat_tests}
+use Rattle.std.specs.Prelude.{if◌then◌else◌, option_and_then}
+use Rattle.std.specs.Ordering.{int_eq}
+use Rattle.std.proofs.lemmas.Bool.Decides.{Decides-int_eq}
+use Rattle.plant_base.specs.State.{same}
+use Rattle.plant_base.specs.Values.{greatest_phase}
+use Rattle.plant_base.specs.Words.{recipe_state_name, job_state_name, batch_state_name, word_name}
+use Rattle.plant_base.specs.declared.states.RecipeState.{RecipeState}
+use Rattle.plant_base.specs.declared.states.RecipeState.TheVariants as recipe_state
+use Rattle.plant_base.specs.declared.states.JobState.{JobState}
+use Rattle.plant_base.specs.declared.states.JobState.TheVariants as job_state
+use Rattle.plant_base.specs.declared.states.BatchState.{BatchState}
+use Rattle.plant_base.specs.declared.states.BatchState.TheVariants as batch_state
+use Rattle.plant_base.specs.declared.states.Word.{Word}
+use Rattle.plant_base.specs.declared.states.Word.TheVariants as word
+use Rattle.plant_base.specs.declared.states.Event.{Event}
+use Rattle.plant_base.specs.declared.states.Event.TheVariants as event
+use Rattle.plant_base.proofs.Find.{found_passes}
+use Rattle.plant_base.proofs.Keys.{same_id}
+use Rattle.plant_tables.specs.Encoding.{event_name, event_phase}
+use Rattle.plant_tables_columns.specs.Reading.{number_in}
+use Rattle.plant_tables_columns.specs.Naming.{all_recipe_states, recipe_state_named, all_job_states, job_state_named, all_batch_states, batch_state_named, all_words, word_named, plain_event, event_named, line_sort_number, all_line_sorts, line_sort_numbered, movement_sort_number, all_movement_sorts, movement_sort_numbered}
+use Rattle.plant_base.specs.RowValues.{HasPhaseNumber}
+use Rattle.plant_tables_columns.specs.declared.line.LineSort.{LineSort}
+use Rattle.plant_tables_columns.specs.declared.line.LineSort.TheVariants as line_sort
+use Rattle.plant_tables_columns.specs.declared.booked.MovementSort.{MovementSort}
+use Rattle.plant_tables_columns.specs.declared.booked.MovementSort.TheVariants as movement_sort
+use Rattle.plant_tables_columns.proofs.Options.{bound, mapped, some_same}
+use Rattle.plant_tables_columns.proofs.KindLaws.{number_back, number_keeps, number_again}
+
+-- what was found by its name has it
+named_back : {A : Type 0} (name : A → List ℕ) (all : List A) (bytes : List ℕ) (a : A) → find (λ x. same (name x) bytes) all ≡ Some a → bytes ≡ name a
+named_back name all bytes a h = sym (same_id (name a) bytes (found_passes (λ x. same (name x) bytes) all a h))
+
+pub int_same : (x y : ℤ) → int_eq x y ≡ true → x ≡ y
+int_same x y h = (Decides-int_eq x y).0 h
+
+numbered_back : {A : Type 0} (number : A → ℕ) (all : List A) (z : ℤ) (a : A) → find (λ x. int_eq (pos (number x)) z) all ≡ Some a → z ≡ pos (number a)
+numbered_back number all z a h = sym (int_same (pos (number a)) z (found_passes (λ x. int_eq (pos (number x)) z) all a h))
+
+-- ---- states
+
+pub recipe_state_back : (bytes : List ℕ) (s : RecipeState) → recipe_state_named bytes ≡ Some s → bytes ≡ recipe_state_name s
+unfolding recipe_state_named
+recipe_state_back bytes s h = named_back recipe_state_name all_recipe_states bytes s h
+
+pub recipe_state_own : (s : RecipeState) → recipe_state_named (recipe_state_name s) ≡ Some s
+unfolding recipe_state_named
+recipe_state_own recipe_state.Draft = refl
+recipe_state_own recipe_state.Approved = refl
+recipe_state_own recipe_state.Withdrawn = refl
+
+pub job_state_back : (bytes : List ℕ) (s : JobState) → job_state_named bytes ≡ Some s → bytes ≡ job_state_name s
+unfolding job_state_named
+job_state_back bytes s h = named_back job_state_name all_job_states bytes s h
+
+pub job_state_own : (s : JobState) → job_state_named (job_state_name s) ≡ Some s
+unfolding job_state_named
+job_state_own job_state.Open = refl
+job_state_own job_state.Cancelled = refl
+job_state_own job_state.Released = refl
+job_state_own job_state.Finished = refl
+
+pub batch_state_back : (bytes : List ℕ) (s : BatchState) → batch_state_named bytes ≡ Some s → bytes ≡ batch_state_name s
+unfolding batch_state_named
+batch_state_back bytes s h = named_back batch_state_name all_batch_states bytes s h
+
+pub batch_state_own : (s : BatchState) → batch_state_named (batch_state_name s) ≡ Some s
+unfolding batch_state_named
+batch_state_own batch_state.Idle = refl
+batch_state_own batch_state.Running = refl
+batch_state_own batch_state.Complete = refl
+batch_state_own batch_state.Pausing = refl
+batch_state_own batch_state.Paused = refl
+batch_state_own batch_state.Holding = refl
+batch_state_own batch_state.Held = refl
+batch_state_own batch_state.Restarting = refl
+batch_state_own batch_state.Stopping = refl
+batch_state_own batch_state.Stopped = refl
+batch_state_own batch_state.Aborting = refl
+batch_state_own batch_state.Aborted = refl
+
+-- ---- events
+
+word_back : (bytes : List ℕ) (w : Word) → word_named bytes ≡ Some w → bytes ≡ word_name w
+unfolding word_named
+word_back bytes w h = named_back word_name all_words bytes w h
+
+pub record IsEventOf (name : List ℕ) (phase : ℤ) (e : Event) : Type 0 where
+  pub is_named : name ≡ event_name e
+  pub has_phase : phase ≡ pos (event_phase e)
+
+no_phase : (z : ℤ) (n : ℕ) → number_in 0 0 z ≡ Some n → z ≡ pos 0
+no_phase z n h =
+    let most : nat_le n 0 ≡ true = (and_parts (nat_le 0 n) (nat_le n 0) (number_keeps 0 0 z n h)).1 in
+    let none : n ≡ 0 = grind (arith, nat_tests) in
+    number_back 0 0 z n h ∙ ap pos none
+
+plain_back : (name : List ℕ) (phase : ℤ) (e : Event) → phase ≡ pos 0 → plain_event name ≡ Some e → IsEventOf name phase e
+unfolding plain_event
+plain_back name phase e zero h = elim (same name (codes "close")) as (λ b. same name (codes "close") ≡ b → (if b then Some event.Closed else option_map event.Moved (word_named name)) ≡ Some e → IsEventOf name phase e) [
+  | true ↦ λ t f. subst (IsEventOf name phase) (some_same _ _ f) (record { is_named = same_id name (codes "close") t; has_phase = zero })
+  | false ↦ λ t f.
+      let read = mapped event.Moved (word_named name) e f in
+      subst (IsEventOf name phase) read.2 (record { is_named = word_back name read.0 read.1; has_phase = zero })
+] refl h
+
+pub event_back : (name : List ℕ) (phase : ℤ) (e : Event) → event_named name phase ≡ Some e → IsEventOf name phase e
+unfolding event_named
+event_back name phase e h = go (same name (codes "phase")) refl h
+  where
+    go : (b : Bool) → same name (codes "phase") ≡ b → (if b then option_map event.PhaseDone (number_in 1 greatest_phase phase) else option_and_then (λ none. plain_event name) (number_in 0 0 phase)) ≡ Some e → IsEventOf name phase e
+    go true t f =
+        let read = mapped event.PhaseDone (number_in 1 greatest_phase phase) e f in
+        subst (IsEventOf name phase) read.2 (record { is_named = same_id name (codes "phase") t; has_phase = number_back 1 greatest_phase phase read.0 read.1 })
+    go false t f =
+        let read = bound (number_in 0 0 phase) _ e f in
+        plain_back name phase e (no_phase phase read.0 read.1) read.2
+
+plain_keeps : (name : List ℕ) (e : Event) → plain_event name ≡ Some e → HasPhaseNumber e
+unfolding plain_event
+plain_keeps name e h = elim (same name (codes "close")) as (λ b. (if b then Some event.Closed else option_map event.Moved (word_named name)) ≡ Some e → HasPhaseNumber e) [
+  | true ↦ λ f. subst HasPhaseNumber (some_same event.Closed e f) tt
+  | false ↦ λ f. let read = mapped event.Moved (word_named name) e f in subst HasPhaseNumber read.2 tt
+] h
+
+pub event_keeps : (name : List ℕ) (phase : ℤ) (e : Event) → event_named name phase ≡ Some e → HasPhaseNumber e
+unfolding event_named
+event_keeps name phase e h = elim (same name (codes "phase")) as (λ b. (if b then option_map event.PhaseDone (number_in 1 greatest_phase phase) else option_and_then (λ none. plain_event name) (number_in 0 0 phase)) ≡ Some e → HasPhaseNumber e) [
+  | true ↦ λ f. let read = mapped event.PhaseDone (number_in 1 greatest_phase phase) e f in subst HasPhaseNumber read.2 (number_keeps 1 greatest_phase phase read.0 read.1)
+  | false ↦ λ f. let read = bound (number_in 0 0 phase) (λ none. plain_event name) e f in plain_keeps name e read.2
+] h
+
+moved_own : (w : Word) → event_named (word_name w) (pos 0) ≡ Some (event.Moved w)
+unfolding event_named plain_event word_named number_in
+moved_own word.Start = refl
+moved_own word.Stop = refl
+moved_own word.Hold = refl
+moved_own word.Restart = refl
+moved_own word.Abort = refl
+moved_own word.Reset = refl
+moved_own word.Pause = refl
+moved_own word.Resume = refl
+moved_own word.Done = refl
+
+pub event_own : (e : Event) → HasPhaseNumber e → event_named (event_name e) (pos (event_phase e)) ≡ Some e
+unfolding event_named plain_event number_in
+event_own (event.Moved w) good = moved_own w
+event_own (event.PhaseDone k) good = ap (option_map event.PhaseDone) (number_again 1 greatest_phase k good)
+event_own event.Closed good = refl
+
+-- ---- kinds
+
+pub line_sort_back : (kind : ℤ) (s : LineSort) → line_sort_numbered kind ≡ Some s → kind ≡ pos (line_sort_number s)
+unfolding line_sort_numbered
+line_sort_back kind s h = numbered_back line_sort_number all_line_sorts kind s h
+
+pub line_sort_own : (s : LineSort) → line_sort_numbered (pos (line_sort_number s)) ≡ Some s
+unfolding line_sort_numbered
+line_sort_own line_sort.In = refl
+line_sort_own line_sort.Out = refl
+line_sort_own line_sort.Parameter = refl
+line_sort_own line_sort.Phase = refl
+
+pub movement_sort_back : (kind : ℤ) (s : MovementSort) → movement_sort_numbered kind ≡ Some s → kind ≡ pos (movement_sort_number s)
+unfolding movement_sort_numbered
+movement_sort_back kind s h = numbered_back movement_sort_number all_movement_sorts kind s h
+
+pub movement_sort_own : (s : MovementSort) → movement_sort_numbered (pos (movement_sort_number s)) ≡ Some s
+unfolding movement_sort_numbered
+movement_sort_own movement_sort.Received = refl
+movement_sort_own movement_sort.Consumed = refl
+movement_sort_own movement_sort.Produced = refl
+movement_sort_own movement_sort.Scrapped = refl
+movement_sort_own movement_sort.Divided = refl
+movement_sort_own movement_sort.Split = refl
+movement_sort_own movement_sort.Merged = refl
+

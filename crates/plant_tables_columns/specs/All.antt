@@ -1,0 +1,11 @@
+-- What all stored rows of a table stand for.
+use Rattle.std.specs.Prelude.{List, [], ◌∷◌, Option, Some}
+use Rattle.plant_base.specs.Dates.{◌>>=◌}
+
+-- the rows in their order: nothing where one stands for nothing
+abbrev pub all_from : {X R : Type 0} → (X → Option R) → List X → Option (List R)
+all_from row_from [] = Some []
+all_from row_from (x ∷ xs) = do
+  row ← row_from x
+  rows ← all_from row_from xs
+  Some (row ∷ rows)

@@ -1,0 +1,119 @@
+-- The words and numbers that stand for states, events and kinds.
+use Rattle.std.specs.Prelude.{ℕ, ℤ, pos, List, [], ◌∷◌, Option, Some, option_map, find, codes, if◌then◌else◌}
+use Rattle.std.specs.Ordering.{int_eq}
+use Rattle.sqlite.specs.declared.types.Value.{Value}
+use Rattle.plant_base.specs.Dates.{◌>>=◌}
+use Rattle.plant_base.specs.State.{same}
+use Rattle.plant_base.specs.Values.{greatest_phase}
+use Rattle.plant_base.specs.Words.{recipe_state_name, job_state_name, batch_state_name, word_name}
+use Rattle.plant_base.specs.declared.states.RecipeState.{RecipeState}
+use Rattle.plant_base.specs.declared.states.RecipeState.TheVariants as recipe_state
+use Rattle.plant_base.specs.declared.states.JobState.{JobState}
+use Rattle.plant_base.specs.declared.states.JobState.TheVariants as job_state
+use Rattle.plant_base.specs.declared.states.BatchState.{BatchState}
+use Rattle.plant_base.specs.declared.states.BatchState.TheVariants as batch_state
+use Rattle.plant_base.specs.declared.states.Word.{Word}
+use Rattle.plant_base.specs.declared.states.Word.TheVariants as word
+use Rattle.plant_base.specs.declared.states.Event.{Event}
+use Rattle.plant_base.specs.declared.states.Event.TheVariants as event
+use Rattle.plant_tables_columns.specs.Reading.{text_in, integer_in, by_text, by_number, number_in}
+use Rattle.plant_tables_columns.specs.declared.line.LineSort.{LineSort}
+use Rattle.plant_tables_columns.specs.declared.line.LineSort.TheVariants as line_sort
+use Rattle.plant_tables_columns.specs.declared.booked.MovementSort.{MovementSort}
+use Rattle.plant_tables_columns.specs.declared.booked.MovementSort.TheVariants as movement_sort
+
+-- ---- words
+
+abbrev pub all_recipe_states : List RecipeState
+all_recipe_states = recipe_state.Draft ∷ recipe_state.Approved ∷ recipe_state.Withdrawn ∷ []
+
+-- the state of this name
+unfoldable pub recipe_state_named : List ℕ → Option RecipeState
+recipe_state_named name = find (λ s. same (recipe_state_name s) name) all_recipe_states
+
+unfoldable pub recipe_state_from : Value → Option RecipeState
+recipe_state_from = by_text recipe_state_named
+
+abbrev pub all_job_states : List JobState
+all_job_states = job_state.Open ∷ job_state.Cancelled ∷ job_state.Released ∷ job_state.Finished ∷ []
+
+unfoldable pub job_state_named : List ℕ → Option JobState
+job_state_named name = find (λ s. same (job_state_name s) name) all_job_states
+
+unfoldable pub job_state_from : Value → Option JobState
+job_state_from = by_text job_state_named
+
+abbrev pub all_batch_states : List BatchState
+all_batch_states =
+    batch_state.Idle ∷ batch_state.Running ∷ batch_state.Complete ∷ batch_state.Pausing ∷ batch_state.Paused ∷ batch_state.Holding ∷ batch_state.Held
+    ∷ batch_state.Restarting ∷ batch_state.Stopping ∷ batch_state.Stopped ∷ batch_state.Aborting ∷ batch_state.Aborted ∷ []
+
+unfoldable pub batch_state_named : List ℕ → Option BatchState
+batch_state_named name = find (λ s. same (batch_state_name s) name) all_batch_states
+
+unfoldable pub batch_state_from : Value → Option BatchState
+batch_state_from = by_text batch_state_named
+
+abbrev pub all_words : List Word
+all_words = word.Start ∷ word.Stop ∷ word.Hold ∷ word.Restart ∷ word.Abort ∷ word.Reset ∷ word.Pause ∷ word.Resume ∷ word.Done ∷ []
+
+unfoldable pub word_named : List ℕ → Option Word
+word_named name = find (λ w. same (word_name w) name) all_words
+
+-- ---- events
+
+-- an event that has no phase
+unfoldable pub plain_event : List ℕ → Option Event
+plain_event name = if same name (codes "close") then Some event.Closed else option_map event.Moved (word_named name)
+
+-- a phase has its number, and every other event the number 0
+unfoldable pub event_named : List ℕ → ℤ → Option Event
+event_named name phase =
+    if same name (codes "phase") then option_map event.PhaseDone (number_in 1 greatest_phase phase) else (do
+      none ← number_in 0 0 phase
+      plain_event name)
+
+-- the event of a word and the number of a phase
+unfoldable pub event_from : Value → Value → Option Event
+event_from word phase = do
+  name ← text_in word
+  number ← integer_in phase
+  event_named name number
+
+-- ---- kinds
+
+abbrev pub line_sort_number : LineSort → ℕ
+line_sort_number line_sort.In = 1
+line_sort_number line_sort.Out = 2
+line_sort_number line_sort.Parameter = 3
+line_sort_number line_sort.Phase = 4
+
+abbrev pub all_line_sorts : List LineSort
+all_line_sorts = line_sort.In ∷ line_sort.Out ∷ line_sort.Parameter ∷ line_sort.Phase ∷ []
+
+-- the kind of line of this number
+unfoldable pub line_sort_numbered : ℤ → Option LineSort
+line_sort_numbered number = find (λ s. int_eq (pos (line_sort_number s)) number) all_line_sorts
+
+unfoldable pub line_sort_from : Value → Option LineSort
+line_sort_from = by_number line_sort_numbered
+
+abbrev pub movement_sort_number : MovementSort → ℕ
+movement_sort_number movement_sort.Received = 1
+movement_sort_number movement_sort.Consumed = 2
+movement_sort_number movement_sort.Produced = 3
+movement_sort_number movement_sort.Scrapped = 4
+movement_sort_number movement_sort.Divided = 5
+movement_sort_number movement_sort.Split = 6
+movement_sort_number movement_sort.Merged = 7
+
+abbrev pub all_movement_sorts : List MovementSort
+all_movement_sorts =
+    movement_sort.Received ∷ movement_sort.Consumed ∷ movement_sort.Produced ∷ movement_sort.Scrapped ∷ movement_sort.Divided ∷ movement_sort.Split ∷ movement_sort.Merged ∷ []
+
+-- the kind of movement of this number
+unfoldable pub movement_sort_numbered : ℤ → Option MovementSort
+movement_sort_numbered number = find (λ s. int_eq (pos (movement_sort_number s)) number) all_movement_sorts
+
+unfoldable pub movement_sort_from : Value → Option MovementSort
+movement_sort_from = by_number movement_sort_numbered

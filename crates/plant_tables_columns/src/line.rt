@@ -1,0 +1,149 @@
+//! Lines of recipes, from the columns that master and control recipes share.
+
+ghost use Rattle.std.specs.Prelude.{◌≡◌, ◌<◌, ◌+◌, pos};
+ghost use Rattle.sqlite.specs.Order.{column};
+ghost use Rattle.plant_tables_columns.specs.Naming.{line_sort_number, all_line_sorts, line_sort_numbered, line_sort_from};
+ghost use Rattle.plant_tables_columns.specs.Judging.{material_from, has_no_material, parameter_from, phase_from, line_from};
+
+use crate::reading::{amount, id, integer, is_empty, is_null, is_zero, text};
+use plant_base::{Amount, Id, RecipeLine};
+use sqlite::Row;
+
+/// What a line of a recipe is.
+#[derive(Clone, Copy, Debug, PartialEq, Eq)]
+pub enum LineSort {
+    In,
+    Out,
+    Parameter,
+    Phase,
+}
+
+impl LineSort {
+    /// The number that stands for it in a table.
+    fn number(self) -> i64
+        ensures { result ≡ pos (line_sort_number self) }
+    {
+        match self {
+            LineSort::In => 1,
+            LineSort::Out => 2,
+            LineSort::Parameter => 3,
+            LineSort::Phase => 4,
+        }
+    }
+}
+
+fn line_sorts() -> [LineSort; 4]
+    ensures { result ≡ all_line_sorts }
+{
+    [
+        LineSort::In,
+        LineSort::Out,
+        LineSort::Parameter,
+        LineSort::Phase,
+    ]
+}
+
+#[tactic(auto, unfolding(crate::specs::Naming::line_sort_numbered))]
+fn line_sort_numbered(number: &i64) -> Option<LineSort>
+    ensures { result ≡ line_sort_numbered number.now }
+{
+    line_sorts()
+        .iter()
+        .copied()
+        .find(|sort| sort.number() == *number)
+}
+
+#[tactic(auto, unfolding(crate::specs::Naming::line_sort_from))]
+fn line_sort(row: &Row, at: usize) -> Option<LineSort>
+    ensures { result ≡ line_sort_from (column row.now at) }
+{
+    let number = integer(row, at)?;
+    line_sort_numbered(&number)
+}
+
+/// What an in or out line asks for.
+#[derive(Clone, Copy, Debug, PartialEq, Eq)]
+pub struct Material {
+    pub def: Id,
+    pub amount: Amount,
+}
+
+/// The material of an in or out line, from the columns def, qty, t1, t2 and t3. It uses no text.
+#[tactic(auto, unfolding(crate::specs::Judging::material_from))]
+fn material_named(row: &Row, def: usize) -> Option<Material>
+    requires { def < 1000 }
+    ensures { result ≡ material_from (column row.now def) (column row.now (def + 1))
+        (column row.now (def + 2)) (column row.now (def + 3)) (column row.now (def + 4)) }
+{
+    if !(is_empty(row, def + 2) && is_empty(row, def + 3) && is_empty(row, def + 4)) {
+        return None;
+    }
+    Some(Material {
+        def: id(row, def)?,
+        amount: amount(row, def + 1)?,
+    })
+}
+
+/// Whether the columns def and qty are unused.
+#[tactic(auto, unfolding(crate::specs::Judging::has_no_material))]
+fn names_no_material(row: &Row, def: usize) -> bool
+    requires { def < 1000 }
+    ensures { result ≡ has_no_material (column row.now def) (column row.now (def + 1)) }
+{
+    is_null(row, def) && is_zero(row, def + 1)
+}
+
+/// A parameter, from the columns def, qty, t1, t2 and t3.
+#[tactic(auto, unfolding(crate::specs::Judging::parameter_from))]
+fn parameter(row: &Row, def: usize) -> Option<RecipeLine>
+    requires { def < 1000 }
+    ensures { result ≡ parameter_from (column row.now def) (column row.now (def + 1))
+        (column row.now (def + 2)) (column row.now (def + 3)) (column row.now (def + 4)) }
+{
+    if !(names_no_material(row, def) && is_empty(row, def + 4)) {
+        return None;
+    }
+    Some(RecipeLine::Parameter {
+        name: id(row, def + 2)?,
+        value: text(row, def + 3)?,
+    })
+}
+
+/// A phase, from the columns def, qty, t1, t2 and t3.
+#[tactic(auto, unfolding(crate::specs::Judging::phase_from))]
+fn phase(row: &Row, def: usize) -> Option<RecipeLine>
+    requires { def < 1000 }
+    ensures { result ≡ phase_from (column row.now def) (column row.now (def + 1))
+        (column row.now (def + 2)) (column row.now (def + 3)) (column row.now (def + 4)) }
+{
+    if !names_no_material(row, def) {
+        return None;
+    }
+    Some(RecipeLine::Phase {
+        unit_procedure: id(row, def + 2)?,
+        operation: id(row, def + 3)?,
+        phase: id(row, def + 4)?,
+    })
+}
+
+/// The line that has these columns: kind, and then def, qty, t1, t2 and t3. `None` where a value breaks its rule, or a
+/// column that its kind uses is unused or the other way round.
+#[tactic(auto, unfolding(crate::specs::Judging::line_from))]
+pub(crate) fn line(row: &Row, kind: usize, def: usize) -> Option<RecipeLine>
+    requires { def < 1000 }
+    ensures { result ≡ line_from (column row.now kind) (column row.now def) (column row.now (def + 1))
+        (column row.now (def + 2)) (column row.now (def + 3)) (column row.now (def + 4)) }
+{
+    match line_sort(row, kind)? {
+        LineSort::In => {
+            let Material { def, amount } = material_named(row, def)?;
+            Some(RecipeLine::In { def, amount })
+        }
+        LineSort::Out => {
+            let Material { def, amount } = material_named(row, def)?;
+            Some(RecipeLine::Out { def, amount })
+        }
+        LineSort::Parameter => parameter(row, def),
+        LineSort::Phase => phase(row, def),
+    }
+}

@@ -1,0 +1,162 @@
+//! The words that stand for states and events.
+
+ghost use Rattle.std.specs.Prelude.{◌≡◌};
+ghost use Rattle.sqlite.specs.Order.{column};
+ghost use Rattle.plant_tables_columns.specs.Naming.{all_recipe_states, recipe_state_named, recipe_state_from, all_job_states, job_state_named, job_state_from, all_batch_states, batch_state_named, batch_state_from, all_words, word_named, plain_event, event_named, event_from};
+
+use crate::reading::{bytes, integer, tiny_within};
+use plant_base::{BatchState, Event, GREATEST_PHASE, JobState, RecipeState, Word};
+use sqlite::Row;
+
+fn recipe_states() -> [RecipeState; 3]
+    ensures { result ≡ all_recipe_states }
+{
+    [
+        RecipeState::Draft,
+        RecipeState::Approved,
+        RecipeState::Withdrawn,
+    ]
+}
+
+#[tactic(auto, unfolding(crate::specs::Naming::recipe_state_named))]
+fn recipe_state_named(name: &[u8]) -> Option<RecipeState>
+    ensures { result ≡ recipe_state_named name.now }
+{
+    recipe_states()
+        .iter()
+        .copied()
+        .find(|state| state.name().as_bytes() == name)
+}
+
+/// The state of a recipe of this name.
+#[tactic(auto, unfolding(crate::specs::Naming::recipe_state_from))]
+pub(crate) fn recipe_state(row: &Row, at: usize) -> Option<RecipeState>
+    ensures { result ≡ recipe_state_from (column row.now at) }
+{
+    recipe_state_named(bytes(row, at)?)
+}
+
+fn job_states() -> [JobState; 4]
+    ensures { result ≡ all_job_states }
+{
+    [
+        JobState::Open,
+        JobState::Cancelled,
+        JobState::Released,
+        JobState::Finished,
+    ]
+}
+
+#[tactic(auto, unfolding(crate::specs::Naming::job_state_named))]
+fn job_state_named(name: &[u8]) -> Option<JobState>
+    ensures { result ≡ job_state_named name.now }
+{
+    job_states()
+        .iter()
+        .copied()
+        .find(|state| state.name().as_bytes() == name)
+}
+
+/// The state of an order of this name.
+#[tactic(auto, unfolding(crate::specs::Naming::job_state_from))]
+pub(crate) fn job_state(row: &Row, at: usize) -> Option<JobState>
+    ensures { result ≡ job_state_from (column row.now at) }
+{
+    job_state_named(bytes(row, at)?)
+}
+
+fn batch_states() -> [BatchState; 12]
+    ensures { result ≡ all_batch_states }
+{
+    [
+        BatchState::Idle,
+        BatchState::Running,
+        BatchState::Complete,
+        BatchState::Pausing,
+        BatchState::Paused,
+        BatchState::Holding,
+        BatchState::Held,
+        BatchState::Restarting,
+        BatchState::Stopping,
+        BatchState::Stopped,
+        BatchState::Aborting,
+        BatchState::Aborted,
+    ]
+}
+
+#[tactic(auto, unfolding(crate::specs::Naming::batch_state_named))]
+fn batch_state_named(name: &[u8]) -> Option<BatchState>
+    ensures { result ≡ batch_state_named name.now }
+{
+    batch_states()
+        .iter()
+        .copied()
+        .find(|state| state.name().as_bytes() == name)
+}
+
+/// The state of a batch of this name.
+#[tactic(auto, unfolding(crate::specs::Naming::batch_state_from))]
+pub(crate) fn batch_state(row: &Row, at: usize) -> Option<BatchState>
+    ensures { result ≡ batch_state_from (column row.now at) }
+{
+    batch_state_named(bytes(row, at)?)
+}
+
+fn words() -> [Word; 9]
+    ensures { result ≡ all_words }
+{
+    [
+        Word::Start,
+        Word::Stop,
+        Word::Hold,
+        Word::Restart,
+        Word::Abort,
+        Word::Reset,
+        Word::Pause,
+        Word::Resume,
+        Word::Done,
+    ]
+}
+
+#[tactic(auto, unfolding(crate::specs::Naming::word_named))]
+fn word_named(name: &[u8]) -> Option<Word>
+    ensures { result ≡ word_named name.now }
+{
+    words()
+        .iter()
+        .copied()
+        .find(|word| word.name().as_bytes() == name)
+}
+
+/// The event of this name that has no phase.
+#[tactic(auto, unfolding(crate::specs::Naming::plain_event))]
+fn plain_event(name: &[u8]) -> Option<Event>
+    ensures { result ≡ plain_event name.now }
+{
+    if name == b"close".as_slice() {
+        return Some(Event::Closed);
+    }
+    Some(Event::Moved(word_named(name)?))
+}
+
+/// The event of this name: a phase with its number, and every other event with the number 0.
+#[tactic(auto, unfolding(crate::specs::Naming::event_named))]
+fn event_named(name: &[u8], phase: &i64) -> Option<Event>
+    ensures { result ≡ event_named name.now phase.now }
+{
+    if name == b"phase".as_slice() {
+        return Some(Event::PhaseDone(tiny_within(phase, 1, GREATEST_PHASE)?));
+    }
+    tiny_within(phase, 0, 0)?;
+    plain_event(name)
+}
+
+/// The event of the word in the one column and the number of a phase in the other.
+#[tactic(auto, unfolding(crate::specs::Naming::event_from))]
+pub(crate) fn event(row: &Row, word: usize, phase: usize) -> Option<Event>
+    ensures { result ≡ event_from (column row.now word) (column row.now phase) }
+{
+    let name = bytes(row, word)?;
+    let number = integer(row, phase)?;
+    event_named(name, &number)
+}

@@ -10,7 +10,7 @@ pub mod Stored
 pub mod Selecting
 pub mod KeepLemmas
 pub mod RiseLemmas
-pub mod Whole
+pub mod KeyOrder
 pub mod Laws
 pub mod Rising
 pub mod Same

@@ -1,6 +1,6 @@
-pub mod Cells
 pub mod Found
 pub mod Given
+pub mod Keys
 pub mod Opened
 pub mod Ordered
 pub mod Plain

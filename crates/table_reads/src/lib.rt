@@ -1,13 +1,11 @@
 //! Reading the rows of described tables: what a fixed SELECT of one table means, and reading its answer row by row.
 #![tactic(auto)]
 
-pub mod cells;
+mod keys;
 mod opening;
 mod reading;
-mod row;
 mod table;
 
 pub use opening::{open_in_memory, open_over, reopen};
 pub use reading::read_rows;
-pub use row::TableRow;
 pub use table::{all_free, all_stand, find_rows, read_table};

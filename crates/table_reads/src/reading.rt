@@ -1,4 +1,5 @@
-ghost use Rattle.std.specs.Prelude.{◌≡◌, ◌<◌, false, true, map, option_map, IsTrue, length, slice_index_or, ◌-◌, ◌++◌, ◌∷◌, [], IfOk, IfErr, OnOk, IsOkUnless, Some};
+ghost use Rattle.std.specs.Prelude.{◌≡◌, ◌<◌, false, true, IsTrue, length, slice_index_or, ◌-◌, ◌++◌, ◌∷◌, [], IfOk, IfErr, OnOk, IsOkUnless, Some};
+ghost use Rattle.sqlite.specs.Order.{Row as Values};
 ghost use Rattle.sqlite.specs.State.{HasCleanDisk, IsUnchanged, Survives, Shown};
 ghost use Rattle.sqlite.specs.Held.{state};
 ghost use Rattle.sqlite.specs.Given.{Advances};
@@ -6,42 +7,42 @@ ghost use Rattle.sqlite.specs.Values.{bound};
 ghost use Rattle.table_forms.specs.Resting.{IsAtRest, Keeps};
 ghost use Rattle.table_reads.specs.Plain.{OnlyReads};
 ghost use Rattle.table_reads.specs.Given.{HasGivenRow};
+ghost use Rattle.table_reads.specs.Keys as key;
 ghost use Rattle.table_reads.specs.Rises.{Rises};
 
-use crate::row::TableRow;
+use crate::keys::comes_before;
 use sqlite::types::ValueRef;
 use sqlite::{Alter, Connection, Row, Rows};
 use std::alloc::Global;
-use table_forms::{Fault, fault_of};
+use table_forms::{Fault, Form, fault_of};
 
-/// Whether the value may follow the list.
-fn may_follow<R: TableRow>(list: &[R], value: &R) -> bool
-    ensures { IsTrue result → (d : R) → 0 < length list.now
-        → R.comes_before (slice_index_or list.now (length list.now - 1) d) value.now ≡ true }
+/// Whether the row may follow the list.
+fn may_follow(form: &Form<'_>, list: &[Row], row: &Row) -> bool
+    ensures { IsTrue result → (d : Values) → 0 < length list.now
+        → key.comes_before form.now (slice_index_or list.now (length list.now - 1) d) row.now ≡ true }
 {
     match list.last() {
-        Some(last) => last.comes_before(value),
+        Some(last) => comes_before(form, last, row),
         None => true,
     }
 }
 
-/// The value of a row.
-fn row_value<R: TableRow>(alloc: Global, row: &Row) -> Result<R, Fault>
-    ensures { IfOk result (λ x. R.row_of x ≡ row.now) }
+/// A copy of a row. Memory where there is none for it.
+fn copied(row: &Row) -> Result<Row, Fault>
+    ensures fault { IsOkUnless result Fault.Memory }
+    ensures copy { IfOk result (λ copy. copy ≡ row.now) }
 {
-    R::from_row(alloc, row)
+    match row.copy() {
+        Ok(copy) => Ok(copy),
+        Err(_) => Err(Fault::Memory),
+    }
 }
 
-/// The next row, as a value. Store where the store fails, or the row is none of the table's; Memory where there is
-/// none for a value of that row.
-fn next_value<S: Alter, R: TableRow>(
-    alloc: Global,
-    rows: &mut Rows<'_, S>,
-) -> Result<Option<R>, Fault>
+/// The next row. Store where the store fails, Memory where there is none for a copy of the row.
+fn next_row<S: Alter>(rows: &mut Rows<'_, S>) -> Result<Option<Row>, Fault>
     ensures same_reference { rows.new.conn.ghost_name ≡ rows.old.conn.ghost_name }
     ensures ok { HasCleanDisk (state S.Store rows.new.conn.now)
-        → IfOk result (λ x. Advances S.Store rows.old.conn.now rows.new.conn.now
-        (option_map R.row_of x)) }
+        → IfOk result (λ row. Advances S.Store rows.old.conn.now rows.new.conn.now row) }
     ensures same { HasCleanDisk (state S.Store rows.new.conn.now)
         → OnOk result (IsUnchanged (state S.Store rows.old.conn.now) (state S.Store rows.new.conn.now)) }
     ensures kept { HasCleanDisk (state S.Store rows.new.conn.now)
@@ -60,37 +61,38 @@ fn next_value<S: Alter, R: TableRow>(
         Err(failure) => return Err(fault_of(failure)),
     }
     match rows.get() {
-        Some(row) => Ok(Some(row_value(alloc, row)?)),
+        Some(row) => Ok(Some(copied(row)?)),
         None => Ok(None),
     }
 }
 
-/// Puts a value at the end of the list. Memory where there is none for the list to grow.
-fn keep<R: TableRow>(list: &mut Vec<R>, value: R) -> Result<(), Fault>
+/// Puts a row at the end of the list. Memory where there is none for the list to grow.
+fn keep(list: &mut Vec<Row>, row: Row) -> Result<(), Fault>
     ensures fault { IsOkUnless result Fault.Memory }
-    ensures kept { OnOk result (list.new.items ≡ list.old.items ++ value ∷ []) }
+    ensures kept { OnOk result (list.new.items ≡ list.old.items ++ row ∷ []) }
 {
-    match list.push(value) {
+    match list.push(row) {
         Ok(()) => Ok(()),
         Err(_) => Err(Fault::Memory),
     }
 }
 
-/// All rows of the answer to a fixed text that only reads, one at a time and by the table's first key. Store where the
-/// store fails, or answers a row that isn't one of the table's or doesn't come after the one before it; Memory where
-/// there is none. Nothing is changed.
-pub fn read_rows<S: Alter, R: TableRow>(
+/// All rows of the answer to a fixed text that only reads, one at a time and by the form's first key. Store where the
+/// store fails, or answers a row that doesn't come after the one before it; Memory where there is none. Nothing is
+/// changed.
+pub fn read_rows<S: Alter>(
     alloc: Global,
     conn: &mut Connection<S>,
+    form: &Form<'_>,
     sql: &str,
     params: &[ValueRef<'_>],
-) -> Result<Vec<R>, Fault>
+) -> Result<Vec<Row>, Fault>
     requires only_reads { OnlyReads conn.old.schema sql.now }
     requires rest { IsAtRest (state S.Store conn.old) }
     ensures rows { HasCleanDisk (state S.Store conn.new)
         → IfOk result (λ list. Shown sql.now (bound params.now) (state S.Store conn.old)
-        (state S.Store conn.new) (map R.row_of list.items)) }
-    ensures rising { IfOk result (λ list. Rises R.comes_before list.items) }
+        (state S.Store conn.new) list.items) }
+    ensures rising { IfOk result (λ list. Rises (key.comes_before form.now) list.items) }
     ensures same { HasCleanDisk (state S.Store conn.new)
         → OnOk result (IsUnchanged (state S.Store conn.old) (state S.Store conn.new)) }
     ensures kept { HasCleanDisk (state S.Store conn.new)
@@ -108,13 +110,13 @@ pub fn read_rows<S: Alter, R: TableRow>(
         Err(error) => return Err(fault_of(error)),
     };
     'rows: for _ in 0..u64::MAX {
-        let Some(value) = next_value(alloc, &mut rows)? else {
+        let Some(row) = next_row(&mut rows)? else {
             return Ok(list);
         };
-        if !may_follow(list.as_slice(), &value) {
+        if !may_follow(form, list.as_slice(), &row) {
             return Err(Fault::Store);
         }
-        keep(&mut list, value)?;
+        keep(&mut list, row)?;
     }
     Err(Fault::Store)
 }

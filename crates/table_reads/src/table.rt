@@ -1,4 +1,4 @@
-ghost use Rattle.std.specs.Prelude.{◌≡◌, ◌↔◌, true, false, All, List, ℕ, map, IfOk, IfErr, OnOk};
+ghost use Rattle.std.specs.Prelude.{◌≡◌, ◌↔◌, [], true, false, All, List, ℕ, IfOk, IfErr, OnOk};
 ghost use Rattle.sqlite.specs.State.{HasCleanDisk, IsUnchanged, Survives};
 ghost use Rattle.sqlite.specs.Held.{state};
 ghost use Rattle.sqlite.specs.Values.{bound};
@@ -7,13 +7,13 @@ ghost use Rattle.table_forms.specs.Standing.{HasTable, IsFree};
 ghost use Rattle.table_reads.specs.Found.{AreGiven};
 ghost use Rattle.table_reads.specs.Reading.{Lists, Finds};
 ghost use Rattle.table_reads.specs.Given.{HasGivenRow};
+ghost use Rattle.table_reads.specs.Keys.{comes_before};
 ghost use Rattle.table_reads.specs.Rises.{Rises};
 ghost use Rattle.table_reads.specs.Selects.{Selects};
 
 use crate::reading::read_rows;
-use crate::row::TableRow;
 use sqlite::types::ValueRef;
-use sqlite::{Alter, Connection};
+use sqlite::{Alter, Connection, Row};
 use sqlite_schema::schema::Schema;
 use std::alloc::Global;
 use table_forms::{Fault, Form, Stand, stand_of};
@@ -60,18 +60,19 @@ pub fn all_free(schema: &Schema, forms: &[Form<'_>]) -> bool
 /// The rows of the table that have the given values, by the first key of the table, from a fixed text that selects
 /// them. Store where the table doesn't stand as it is declared, where a transaction is open, and where the store
 /// fails; Memory where there is none. Nothing is changed.
-pub fn find_rows<S: Alter, R: TableRow>(
+pub fn find_rows<S: Alter>(
     alloc: Global,
     conn: &mut Connection<S>,
+    form: &Form<'_>,
     sql: &str,
     values: &[ValueRef<'_>],
-) -> Result<Vec<R>, Fault>
-    requires { (places : List ℕ) × Selects R.FORM places sql.now }
-    ensures rows { (places : List ℕ) → Selects R.FORM places sql.now
+) -> Result<Vec<Row>, Fault>
+    requires { (places : List ℕ) × Selects form.now places sql.now }
+    ensures rows { (places : List ℕ) → Selects form.now places sql.now
         → AreGiven places (bound values.now) → HasCleanDisk (state S.Store conn.new)
-        → IfOk result (λ list. Finds (state S.Store conn.old).now R.FORM places (bound values.now)
-        (map R.row_of list.items)) }
-    ensures rising { IfOk result (λ list. Rises R.comes_before list.items) }
+        → IfOk result (λ list. Finds (state S.Store conn.old).now form.now places (bound values.now)
+        list.items) }
+    ensures rising { IfOk result (λ list. Rises (comes_before form.now) list.items) }
     ensures same { HasCleanDisk (state S.Store conn.new)
         → OnOk result (IsUnchanged (state S.Store conn.old) (state S.Store conn.new)) }
     ensures kept { HasCleanDisk (state S.Store conn.new)
@@ -82,23 +83,27 @@ pub fn find_rows<S: Alter, R: TableRow>(
     // Memory is wanted for a row that was given, of a table that stands.
     ensures memory { HasCleanDisk (state S.Store conn.new)
         → IfErr result (λ fault. fault ≡ Fault.Memory
-        → HasTable conn.old.schema R.FORM × HasGivenRow S.Store sql.now (bound values.now) conn.new) }
+        → HasTable conn.old.schema form.now × HasGivenRow S.Store sql.now (bound values.now) conn.new) }
 {
-    if !conn.is_autocommit() || !stands(conn.schema(), &R::FORM) {
+    if !conn.is_autocommit() || !stands(conn.schema(), form) {
         return Err(Fault::Store);
     }
-    read_rows(alloc, conn, sql, values)
+    read_rows(alloc, conn, form, sql, values)
 }
 
-/// All rows of the table, by its first key. Store where the table doesn't stand as it is declared, where a transaction
-/// is open, and where the store fails; Memory where there is none. Nothing is changed.
-pub fn read_table<S: Alter, R: TableRow>(
+/// All rows of the table, by its first key, from the fixed text that selects them. Store where the table doesn't stand
+/// as it is declared, where a transaction is open, and where the store fails; Memory where there is none. Nothing is
+/// changed.
+pub fn read_table<S: Alter>(
     alloc: Global,
     conn: &mut Connection<S>,
-) -> Result<Vec<R>, Fault>
+    form: &Form<'_>,
+    sql: &str,
+) -> Result<Vec<Row>, Fault>
+    requires { Selects form.now [] sql.now }
     ensures rows { HasCleanDisk (state S.Store conn.new)
-        → IfOk result (λ list. Lists (state S.Store conn.old).now R.FORM (map R.row_of list.items)) }
-    ensures rising { IfOk result (λ list. Rises R.comes_before list.items) }
+        → IfOk result (λ list. Lists (state S.Store conn.old).now form.now list.items) }
+    ensures rising { IfOk result (λ list. Rises (comes_before form.now) list.items) }
     ensures same { HasCleanDisk (state S.Store conn.new)
         → OnOk result (IsUnchanged (state S.Store conn.old) (state S.Store conn.new)) }
     ensures kept { HasCleanDisk (state S.Store conn.new)
@@ -108,7 +113,7 @@ pub fn read_table<S: Alter, R: TableRow>(
     ensures crash { Survives (state S.Store conn.old) (state S.Store conn.new) (λ _. ⊥) }
     // Memory is wanted for a row of a table that stands.
     ensures memory { HasCleanDisk (state S.Store conn.new)
-        → IfErr result (λ fault. fault ≡ Fault.Memory → HasTable conn.old.schema R.FORM) }
+        → IfErr result (λ fault. fault ≡ Fault.Memory → HasTable conn.old.schema form.now) }
 {
-    find_rows(alloc, conn, R::select(), &[])
+    find_rows(alloc, conn, form, sql, &[])
 }

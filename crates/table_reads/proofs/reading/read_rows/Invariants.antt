@@ -1,9 +1,9 @@
 use Rattle.std.proofs.Common.{◌≡◌, false}
-use Rattle.std.specs.Prelude.{map}
 use Rattle.sqlite.specs.State.{HasCleanDisk, IsUnchanged, Survives}
 use Rattle.sqlite.specs.Values.{bound}
 use Rattle.sqlite.specs.Held.{state}
 use Rattle.sqlite.specs.Given.{HasGiven}
+use Rattle.table_reads.specs.Keys.{comes_before}
 use Rattle.table_reads.specs.Rises.{Rises}
 use Rattle.table_reads.proofs.reading.read_rows.Given as goal
 
@@ -11,4 +11,4 @@ abbrev pub invariant-rows : goal.invariant-rows
 invariant-rows g l =
     let old = state g.S.Store l.fn.conn in
     let now = state g.S.Store l.rows.conn.now in
-    Rises g.R.TableRow.comes_before l.list.items × (l.rows.conn.ghost_name ≡ l.initial.rows.conn.ghost_name) × (l.rows.conn.now.in_transaction ≡ false) × Survives old now (λ _. ⊥) × (HasCleanDisk now → HasGiven g.S.Store l.sql (bound l.params) l.rows.conn.now (map g.R.TableRow.row_of l.list.items) × IsUnchanged old now)
+    Rises (comes_before l.form) l.list.items × (l.rows.conn.ghost_name ≡ l.initial.rows.conn.ghost_name) × (l.rows.conn.now.in_transaction ≡ false) × Survives old now (λ _. ⊥) × (HasCleanDisk now → HasGiven g.S.Store l.sql (bound l.params) l.rows.conn.now l.list.items × IsUnchanged old now)

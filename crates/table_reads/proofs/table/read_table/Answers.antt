@@ -5,8 +5,8 @@ use Rattle.table_reads.proofs.Selecting.{all_listed}
 use Rattle.table_reads.proofs.table.read_table.Goals as goal
 
 pub find_rows-requires : goal.find_rows-requires
-find_rows-requires g c = ([], c.select.ensures)
+find_rows-requires g c = ([], c.requires)
 
 pub returns-clause-rows : goal.returns-clause-rows
 returns-clause-rows g c clean =
-    IfOk-weaker c.find_rows.result _ _ (λ list. all_listed (state g.S.Store c.args.conn.now).now g.R.TableRow.FORM _) (c.find_rows.ensures.rows [] c.select.ensures (refl, refl) clean)
+    IfOk-weaker c.find_rows.result _ _ (λ list. all_listed (state g.S.Store c.args.conn.now).now c.args.form.now _) (c.find_rows.ensures.rows [] c.requires (refl, refl) clean)

@@ -5,4 +5,5 @@ pub mod NameLemmas
 pub mod LineLaws
 pub mod KindLemmas
 pub mod TableLaws
+pub mod RowLaws
 pub mod ListLemmas

@@ -1,52 +1,49 @@
--- The orders of the keys of stored rows.
-use Rattle.std.proofs.Common.{◌≡◌, refl, ℕ, ℤ, pos, List, []}
-use Rattle.std.specs.Ordering.{int_cmp, ordering_then}
+-- The order of the rows of each table by its key is that of their columns.
+use Rattle.std.proofs.Common.{◌≡◌, refl, sym, ap, ◌∙◌, ℕ, pos, List, []}
+use Rattle.std.specs.Ordering.{nat_cmp, int_cmp, ordering_then}
 use Rattle.std.specs.declared.cmp.Ordering.{Ordering}
 use Rattle.std.specs.declared.cmp.Ordering.TheVariants.{Less, Equal, Greater}
-use Rattle.std.specs.Cmp.{IsTotalOrder}
-use Rattle.std.proofs.lemmas.Cmp.{then_total, on_total, nat_list_cmp_total, int_cmp_total}
-use Rattle.sqlite.specs.declared.types.Value.{Value}
-use Rattle.sqlite.specs.declared.types.Value.TheVariants.{Null, Int, Real, Text, Blob}
-use Rattle.sqlite.specs.Order.{Row, column}
-use Rattle.plant_base.specs.State.{id_cmp}
+use Rattle.sqlite.specs.declared.types.Value.TheVariants.{Text}
+use Rattle.plant_base.specs.State.{id_cmp, numbered_cmp}
+use Rattle.plant_tables.specs.Encoding.{number}
+use Rattle.table_reads.specs.Keys.{value_order}
+use Rattle.plant_tables_judged.proofs.SortedLemmas.{int_cmp_pos}
 
-abbrev text_in : Value → List ℕ
-text_in Null = []
-text_in (Int n) = []
-text_in (Real x) = []
-text_in (Text bytes) = bytes
-text_in (Blob bytes) = []
+then_equal : (o : Ordering) → ordering_then o Equal ≡ o
+then_equal Less = refl
+then_equal Equal = refl
+then_equal Greater = refl
 
-abbrev number_of : Value → ℤ
-number_of Null = pos 0
-number_of (Int n) = n
-number_of (Real x) = pos 0
-number_of (Text bytes) = pos 0
-number_of (Blob bytes) = pos 0
-
--- ---- by one column
-
-abbrev pub by_text : ℕ → Row → Row → Ordering
-by_text k a b = id_cmp (text_in (column a k)) (text_in (column b k))
-
-pub text_total : (k : ℕ) → IsTotalOrder (by_text k)
-text_total k = on_total (λ r. text_in (column r k)) nat_list_cmp_total
-
-abbrev pub by_number : ℕ → Row → Row → Ordering
-by_number k a b = int_cmp (number_of (column a k)) (number_of (column b k))
-
-pub number_total : (k : ℕ) → IsTotalOrder (by_number k)
-number_total k = on_total (λ r. number_of (column r k)) int_cmp_total
-
--- ---- by two or three
-
-abbrev pub by_both : (Row → Row → Ordering) → (Row → Row → Ordering) → Row → Row → Ordering
-by_both first second a b = ordering_then (first a b) (second a b)
-
-pub both_total : (first second : Row → Row → Ordering) → IsTotalOrder first → IsTotalOrder second → IsTotalOrder (by_both first second)
-both_total first second f s = then_total f s
-
-pub then_same : (a b c : Ordering) → ordering_then (ordering_then a b) c ≡ ordering_then a (ordering_then b c)
+then_same : (a b c : Ordering) → ordering_then (ordering_then a b) c ≡ ordering_then a (ordering_then b c)
 then_same Less b c = refl
 then_same Equal b c = refl
 then_same Greater b c = refl
+
+-- the order of two numbers as columns
+number_order : (m n : ℕ) → nat_cmp m n ≡ value_order (number m) (number n)
+number_order m n = sym (then_equal (int_cmp (pos m) (pos n)) ∙ int_cmp_pos m n)
+
+-- a key that ends with a number
+last_number : (m n : ℕ) → nat_cmp m n ≡ ordering_then (value_order (number m) (number n)) Equal
+last_number m n = number_order m n ∙ sym (then_equal (value_order (number m) (number n)))
+
+-- ---- keys
+
+pub by_text : (a b : List ℕ) → id_cmp a b ≡ ordering_then (value_order (Text a) (Text b)) Equal
+by_text a b = sym (then_equal (id_cmp a b))
+
+pub by_number : (m n : ℕ) → nat_cmp m n ≡ ordering_then (value_order (number m) (number n)) Equal
+by_number m n = last_number m n
+
+pub by_text_number : (a b : List ℕ) (m n : ℕ) → numbered_cmp a m b n ≡ ordering_then (value_order (Text a) (Text b)) (ordering_then (value_order (number m) (number n)) Equal)
+by_text_number a b m n = ap (ordering_then (id_cmp a b)) (last_number m n)
+
+pub by_two_texts : (a b c d : List ℕ) → ordering_then (id_cmp a b) (id_cmp c d) ≡ ordering_then (value_order (Text a) (Text b)) (ordering_then (value_order (Text c) (Text d)) Equal)
+by_two_texts a b c d = ap (ordering_then (id_cmp a b)) (by_text c d)
+
+pub by_two_numbers : (m n k l : ℕ) → ordering_then (nat_cmp m n) (nat_cmp k l) ≡ ordering_then (value_order (number m) (number n)) (ordering_then (value_order (number k) (number l)) Equal)
+by_two_numbers m n k l = λ i. ordering_then (number_order m n i) (last_number k l i)
+
+pub by_text_numbers : (a b : List ℕ) (m n k l : ℕ) → ordering_then (ordering_then (id_cmp a b) (nat_cmp m n)) (nat_cmp k l)
+    ≡ ordering_then (value_order (Text a) (Text b)) (ordering_then (value_order (number m) (number n)) (ordering_then (value_order (number k) (number l)) Equal))
+by_text_numbers a b m n k l = then_same (id_cmp a b) (nat_cmp m n) (nat_cmp k l) ∙ ap (ordering_then (id_cmp a b)) (by_two_numbers m n k l)

@@ -1,12 +1,6 @@
-pub mod ListLemmas
-pub mod ValueLemmas
-pub mod NameLemmas
-pub mod LineLemmas
-pub mod KindLemmas
-pub mod RowLemmas
 pub mod SortedLemmas
-pub mod TableLemmas
-pub mod StandLemmas
 pub mod KeyLemmas
+pub mod TableLemmas
 pub mod AgainLemmas
+pub mod StandLemmas
 pub mod WholeLemmas

@@ -12,9 +12,12 @@ use Rattle.sqlite.specs.Table.{Table}
 use Rattle.table_forms.specs.Forms.{Form, table_of}
 use Rattle.table_forms.specs.Standing.{Stands}
 use Rattle.table_reads.specs.Reading.{Lists}
+use Rattle.table_reads.specs.Keys.{key_order, comes_before}
+use Rattle.table_reads.specs.Selects.{first_of}
+use Rattle.table_reads.proofs.KeyOrder.{key_total}
 use Rattle.plant_tables_stored.specs.Loading.{Loads}
-use Rattle.plant_tables_judged.specs.Collecting.{all_from}
-use Rattle.plant_tables_judged.proofs.ValueLemmas.{bound, some_same}
+use Rattle.plant_tables_columns.specs.All.{all_from}
+use Rattle.plant_tables_columns.proofs.Options.{bound, some_same}
 use Rattle.plant_tables_judged.proofs.SortedLemmas.{same_sorted, strictly_sorted}
 
 pub every : {R : Type 0} (rs : List R) → AllByRecursion (λ _. ⊤) rs
@@ -25,13 +28,10 @@ pub map_same : {R : Type 0} (rs : List R) → map (λ r. r) rs ≡ rs
 map_same [] = refl
 map_same (r ∷ rs) = ap (λ l. r ∷ l) (map_same rs)
 
-heads_same : {A : Type 0} (a b : A) (xs ys : List A) → a ∷ xs ≡ b ∷ ys → (a ≡ b) × (xs ≡ ys)
-heads_same a b xs ys h = (cc, cc)
+-- ---- rows that were read have their columns
 
--- ---- rows that were read have the columns of the stored ones
-
-module _ {X R : Type 0} (row_from : X → Option R) (stored : X → Row) (written : R → Row) (P : R → Type 0) (back : (x : X) (r : R) → row_from x ≡ Some r → P r → stored x ≡ written r) where
-  pub all_back : (xs : List X) (rs : List R) → all_from row_from xs ≡ Some rs → AllByRecursion P rs → map stored xs ≡ map written rs
+module _ {R : Type 0} (row_from : Row → Option R) (written : R → Row) (P : R → Type 0) (back : (row : Row) (r : R) → row_from row ≡ Some r → P r → row ≡ written r) where
+  pub all_back : (rows : List Row) (rs : List R) → all_from row_from rows ≡ Some rs → AllByRecursion P rs → rows ≡ map written rs
   all_back [] rs h all = ap (map written) (some_same [] rs h)
   all_back (x ∷ xs) rs h all =
       let p1 = bound (row_from x) _ rs h in
@@ -42,14 +42,10 @@ module _ {X R : Type 0} (row_from : X → Option R) (stored : X → Row) (writte
 
 -- ---- what stands in a row's own columns is read as the row
 
-module _ {X R T : Type 0} (row_from : X → Option T) (stored : X → Row) (written : R → Row) (made : R → T) (P : R → Type 0) (again : (x : X) (r : R) → stored x ≡ written r → P r → row_from x ≡ Some (made r)) where
-  pub all_again : (xs : List X) (rs : List R) → map stored xs ≡ map written rs → AllByRecursion P rs → all_from row_from xs ≡ Some (map made rs)
-  all_again [] [] h all = refl
-  all_again [] (r ∷ rs) h all = absurd (cc)
-  all_again (x ∷ xs) [] h all = absurd (cc)
-  all_again (x ∷ xs) (r ∷ rs) h all =
-      let parts = heads_same (stored x) (written r) (map stored xs) (map written rs) h in
-      rw (again x r parts.0 all.0, all_again xs rs parts.1 all.1) refl
+module _ {R T : Type 0} (row_from : Row → Option T) (written : R → Row) (made : R → T) (P : R → Type 0) (again : (r : R) → P r → row_from (written r) ≡ Some (made r)) where
+  pub all_again : (rs : List R) → AllByRecursion P rs → all_from row_from (map written rs) ≡ Some (map made rs)
+  all_again [] all = refl
+  all_again (r ∷ rs) all = rw (again r all.0, all_again rs all.1) refl
 
 -- ---- the rows of a table that were loaded are those that stand in it
 
@@ -64,8 +60,10 @@ same_rows db form loaded rows a b =
     let there : IsPermutation loaded (map (drop 1) (db.trees b.tree)) = subst (λ tree. IsPermutation loaded (map (drop 1) (db.trees tree))) (one_tree db form loaded rows a b) a.same in
     IsPermutation-trans loaded (map (drop 1) (db.trees b.tree)) rows there (IsPermutation-sym rows (map (drop 1) (db.trees b.tree)) b.same)
 
-module _ {X : Type 0} (stored : X → Row) (before : X → X → Bool) (order : Row → Row → Ordering) (total : IsTotalOrder order) (agrees : (a b : X) → before a b ≡ is_lt (order (stored a) (stored b))) where
-  -- in the same order
-  pub loaded_rows : (db : Database) (form : Form) (xs : List X) (rows : List Row) → Loads db form stored before xs → Stands db form rows → IsStrictlySortedBy order rows → map stored xs ≡ rows
-  loaded_rows db form xs rows loads stands sorted =
-      same_sorted order total (map stored xs) rows (strictly_sorted stored before order total agrees xs loads.rising) sorted (same_rows db form (map stored xs) rows loads.rows stands)
+-- in the same order
+pub loaded_rows : (db : Database) (form : Form) (loaded rows : List Row) → Loads db form loaded → Stands db form rows → IsStrictlySortedBy (key_order (first_of form.keys)) rows → loaded ≡ rows
+loaded_rows db form loaded rows loads stands sorted =
+    let order = key_order (first_of form.keys) in
+    let total = key_total (first_of form.keys) in
+    let rising : IsStrictlySortedBy order loaded = subst (IsStrictlySortedBy order) (map_same loaded) (strictly_sorted (λ row. row) (comes_before form) order total (λ a b. refl) loaded loads.rising) in
+    same_sorted order total loaded rows rising sorted (same_rows db form loaded rows loads.rows stands)

@@ -19,25 +19,16 @@ use Rattle.plant_base.specs.declared.rows.Movement.{Movement}
 use Rattle.plant_base.specs.declared.rows.Hold.{Hold}
 use Rattle.plant_view.specs.Tables.{Tables}
 use Rattle.plant_tables.specs.Keyed.{AreKeyed}
-use Rattle.plant_tables_stored.specs.declared.masters.Masters.{Masters}
-use Rattle.plant_tables_stored.specs.declared.orders.Orders.{Orders}
-use Rattle.plant_tables_stored.specs.declared.stocks.Stocks.{Stocks}
+use Rattle.plant_tables_columns.specs.All.{all_from}
+use Rattle.plant_tables_stored.specs.Loading.{contents_loaded}
 use Rattle.plant_tables_stored.specs.declared.loaded.Loaded.{Loaded}
-use Rattle.plant_tables_judged.specs.Booked.{movement_from, booked_of}
-use Rattle.plant_tables_judged.specs.Judging.{only_meta, class_from, definition_from, recipe_from, master_line_from, job_from, batch_from, control_line_from, batch_event_from, lot_from, sublot_from, booked_from, hold_from}
-use Rattle.plant_tables_judged.specs.declared.booked.BookedRow.{BookedRow}
+use Rattle.plant_tables_columns.specs.Booked.{movement_from, booked_of}
+use Rattle.plant_tables_columns.specs.Judging.{only_meta, class_from, definition_from, recipe_from, master_line_from, job_from, batch_from, control_line_from, batch_event_from, lot_from, sublot_from, booked_from, hold_from}
+use Rattle.plant_tables_columns.specs.declared.booked.BookedRow.{BookedRow}
 use Rattle.plant_tables_judged.specs.declared.desk_rows.DeskRows.{DeskRows}
 use Rattle.plant_tables_judged.specs.declared.desk_rows.MasterRows as held_masters
 use Rattle.plant_tables_judged.specs.declared.desk_rows.OrderRows as held_orders
 use Rattle.plant_tables_judged.specs.declared.desk_rows.StockRows as held_stocks
-
--- what all rows stand for, in their order: nothing where one stands for nothing
-abbrev pub all_from : {X R : Type 0} → (X → Option R) → List X → Option (List R)
-all_from row_from [] = Some []
-all_from row_from (x ∷ xs) = do
-  row ← row_from x
-  rows ← all_from row_from xs
-  Some (row ∷ rows)
 
 -- the rows of each table; a movement's columns may be those of another kind, and a line's number 0
 pub record Rows : Type 0 where
@@ -73,28 +64,28 @@ pub record StockRows : Type 0 where
   pub movements : List BookedRow
   pub holds : List Hold
 
-unfoldable pub masters_from : Masters → Option MasterRows
+unfoldable pub masters_from : Loaded → Option MasterRows
 masters_from x = do
-  classes ← all_from class_from x.classes.items
-  definitions ← all_from definition_from x.definitions.items
-  recipes ← all_from recipe_from x.recipes.items
-  master_lines ← all_from master_line_from x.recipe_lines.items
+  classes ← all_from class_from (contents_loaded x 1)
+  definitions ← all_from definition_from (contents_loaded x 2)
+  recipes ← all_from recipe_from (contents_loaded x 3)
+  master_lines ← all_from master_line_from (contents_loaded x 4)
   Some (record { classes = classes; definitions = definitions; recipes = recipes; master_lines = master_lines })
 
-unfoldable pub orders_from : Orders → Option OrderRows
+unfoldable pub orders_from : Loaded → Option OrderRows
 orders_from x = do
-  jobs ← all_from job_from x.jobs.items
-  batches ← all_from batch_from x.batches.items
-  control_lines ← all_from control_line_from x.control_lines.items
-  events ← all_from batch_event_from x.events.items
+  jobs ← all_from job_from (contents_loaded x 5)
+  batches ← all_from batch_from (contents_loaded x 6)
+  control_lines ← all_from control_line_from (contents_loaded x 7)
+  events ← all_from batch_event_from (contents_loaded x 8)
   Some (record { jobs = jobs; batches = batches; control_lines = control_lines; events = events })
 
-unfoldable pub stocks_from : Stocks → Option StockRows
+unfoldable pub stocks_from : Loaded → Option StockRows
 stocks_from x = do
-  lots ← all_from lot_from x.lots.items
-  sublots ← all_from sublot_from x.sublots.items
-  movements ← all_from booked_from x.movements.items
-  holds ← all_from hold_from x.holds.items
+  lots ← all_from lot_from (contents_loaded x 9)
+  sublots ← all_from sublot_from (contents_loaded x 10)
+  movements ← all_from booked_from (contents_loaded x 11)
+  holds ← all_from hold_from (contents_loaded x 12)
   Some (record { lots = lots; sublots = sublots; movements = movements; holds = holds })
 
 -- ---- the rows as lists
@@ -130,10 +121,10 @@ rows_joined meta m o s = record {
 -- every value of every table obeys its rule, and these are the rows
 unfoldable pub rows_from : Loaded → Option Rows
 rows_from x = do
-  meta ← only_meta x.meta.items
-  m ← masters_from x.masters
-  o ← orders_from x.orders
-  s ← stocks_from x.stocks
+  meta ← only_meta (contents_loaded x 0)
+  m ← masters_from x
+  o ← orders_from x
+  s ← stocks_from x
   Some (rows_joined meta m o s)
 
 -- the rows as lists

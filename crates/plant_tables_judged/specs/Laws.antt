@@ -1,19 +1,21 @@
 -- What the reading of rows keeps.
-use Rattle.std.specs.Prelude.{◌≡◌, ℕ, Some}
+use Rattle.std.specs.Prelude.{◌≡◌, ℕ, Some, slice_get}
 use Rattle.sqlite.specs.Effect.{Database}
 use Rattle.plant_base.specs.declared.rows.Movement.{Movement}
 use Rattle.plant_view.specs.Tables.{Tables}
+use Rattle.table_forms.specs.Forms.{Form}
+use Rattle.plant_tables.specs.DeskForms.{desk_forms}
 use Rattle.plant_tables.specs.DeskTables.{contents_of}
 use Rattle.plant_tables.specs.Keyed.{HoldsTables}
 use Rattle.plant_tables_stored.specs.Loading.{AreLoaded, contents_loaded}
 use Rattle.plant_tables_stored.specs.declared.loaded.Loaded.{Loaded}
-use Rattle.plant_tables_judged.specs.Booked.{movement_from, booked_of}
+use Rattle.plant_tables_columns.specs.Booked.{movement_from, booked_of}
 use Rattle.plant_tables_judged.specs.Collecting.{Rows, rows_from, tables_in, rows_in, AreWhole, AreInOrder}
-use Rattle.plant_tables_judged.specs.Obeying.{HasGoodValues}
+use Rattle.plant_tables_columns.specs.Obeying.{HasGoodValues}
 
 -- Rows whose lines have numbers, and whose movements have the columns of their kinds, are the tables that were loaded.
 abbrev pub StandFor : Type 0
-StandFor = (x : Loaded) (r : Rows) → rows_from x ≡ Some r → AreWhole r → (place : ℕ) → contents_loaded x place ≡ contents_of (tables_in r) place
+StandFor = (x : Loaded) (r : Rows) → rows_from x ≡ Some r → AreWhole r → (place : ℕ) (form : Form) → slice_get desk_forms place ≡ Some form → contents_loaded x place ≡ contents_of (tables_in r) place
 
 -- What a database holds is read as it was written, where keys rise and each value obeys its rule.
 abbrev pub AreReadAgain : Type 0

@@ -1,7 +1,2 @@
-pub mod Reading
-pub mod Naming
-pub mod Judging
-pub mod Booked
 pub mod Collecting
-pub mod Obeying
 pub mod Laws

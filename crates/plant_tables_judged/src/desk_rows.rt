@@ -1,20 +1,16 @@
 ghost use Rattle.std.specs.Prelude.{◌≡◌, IfOk, is_some, option_map};
-ghost use Rattle.plant_tables_judged.specs.Judging.{meta_from, only_meta};
+ghost use Rattle.plant_tables_stored.specs.Loading.{contents_loaded};
+ghost use Rattle.plant_tables_columns.specs.Judging.{only_meta};
 ghost use Rattle.plant_tables_judged.specs.Collecting.{masters_listed, masters_from, orders_listed, orders_from, stocks_listed, stocks_from, rows_listed, rows_from};
 ghost use Rattle.plant_tables_judged.specs.Laws.{StandFor, AreReadAgain, AreWholeRows, AreSameTables, IsBookedAgain};
 
-use crate::booked::BookedRow;
-use crate::judged::judge_all;
-use crate::reading::{moment, number};
 use plant_base::{
-    BatchEvent, BatchRow, Class, ControlLine, Definition, GREATEST_SEQ, Hold, Job, Lot, MasterLine,
-    Meta, Position, Recipe, Sublot,
+    BatchEvent, BatchRow, Class, ControlLine, Definition, Hold, Job, Lot, MasterLine, Meta, Recipe,
+    Sublot,
 };
+use plant_tables_columns::{BookedRow, Judged, judge_all};
 use plant_tables_stored::Loaded;
-use plant_tables_stored::masters::Masters;
-use plant_tables_stored::meta::StoredMeta;
-use plant_tables_stored::orders::Orders;
-use plant_tables_stored::stocks::Stocks;
+use sqlite::Row;
 use std::alloc::{AllocError, Global};
 
 /// The rows of the desk's tables, each table in the order in which it was read.
@@ -62,28 +58,13 @@ pub struct StockRows {
     pub holds: Vec<Hold>,
 }
 
-/// The row of meta. `None` where a value breaks its rule.
-#[tactic(auto, unfolding(crate::specs::Judging::meta_from))]
-fn meta_row(row: &StoredMeta) -> Option<Meta>
-    ensures { result ≡ meta_from row.now }
-{
-    number(&row.k, 1, 1)?;
-    let schema = number(&row.schema, 1, i64::MAX as u64)?;
-    let seq = number(&row.seq, 0, GREATEST_SEQ)?;
-    let at = moment(&row.at)?;
-    Some(Meta {
-        schema,
-        position: Position { seq, at },
-    })
-}
-
 /// The one row of meta. `None` where there isn't one, or a value of it breaks its rule.
-#[tactic(auto, unfolding(crate::specs::Judging::only_meta))]
-fn only_meta(rows: &[StoredMeta]) -> Option<Meta>
+#[tactic(auto, unfolding(plant_tables_columns::specs::Judging::only_meta))]
+fn only_meta(rows: &[Row]) -> Option<Meta>
     ensures { result ≡ only_meta rows.now }
 {
     match rows {
-        [row] => meta_row(row),
+        [row] => Meta::judge(row),
         _ => None,
     }
 }
@@ -91,25 +72,25 @@ fn only_meta(rows: &[StoredMeta]) -> Option<Meta>
 /// Whether meta has one row, whose values obey their rules: k is 1, the schema at least 1, seq 0 to 10^15, `at` a
 /// moment.
 pub fn has_meta(loaded: &Loaded) -> bool
-    ensures { result ≡ is_some (only_meta loaded.now.meta.items) }
+    ensures { result ≡ is_some (only_meta (contents_loaded loaded.now 0)) }
 {
-    only_meta(loaded.meta.as_slice()).is_some()
+    only_meta(loaded.rows(0)).is_some()
 }
 
 #[tactic(auto, unfolding(crate::specs::Collecting::masters_from))]
-fn masters_of(alloc: Global, masters: &Masters) -> Result<Option<MasterRows>, AllocError>
-    ensures { IfOk result (λ rows. option_map masters_listed rows ≡ masters_from masters.now) }
+fn masters_of(alloc: Global, loaded: &Loaded) -> Result<Option<MasterRows>, AllocError>
+    ensures { IfOk result (λ rows. option_map masters_listed rows ≡ masters_from loaded.now) }
 {
-    let Some(classes) = judge_all(alloc, masters.classes.as_slice())? else {
+    let Some(classes) = judge_all(alloc, loaded.rows(1))? else {
         return Ok(None);
     };
-    let Some(definitions) = judge_all(alloc, masters.definitions.as_slice())? else {
+    let Some(definitions) = judge_all(alloc, loaded.rows(2))? else {
         return Ok(None);
     };
-    let Some(recipes) = judge_all(alloc, masters.recipes.as_slice())? else {
+    let Some(recipes) = judge_all(alloc, loaded.rows(3))? else {
         return Ok(None);
     };
-    let Some(lines) = judge_all(alloc, masters.recipe_lines.as_slice())? else {
+    let Some(lines) = judge_all(alloc, loaded.rows(4))? else {
         return Ok(None);
     };
     Ok(Some(MasterRows {
@@ -121,19 +102,19 @@ fn masters_of(alloc: Global, masters: &Masters) -> Result<Option<MasterRows>, Al
 }
 
 #[tactic(auto, unfolding(crate::specs::Collecting::orders_from))]
-fn orders_of(alloc: Global, orders: &Orders) -> Result<Option<OrderRows>, AllocError>
-    ensures { IfOk result (λ rows. option_map orders_listed rows ≡ orders_from orders.now) }
+fn orders_of(alloc: Global, loaded: &Loaded) -> Result<Option<OrderRows>, AllocError>
+    ensures { IfOk result (λ rows. option_map orders_listed rows ≡ orders_from loaded.now) }
 {
-    let Some(jobs) = judge_all(alloc, orders.jobs.as_slice())? else {
+    let Some(jobs) = judge_all(alloc, loaded.rows(5))? else {
         return Ok(None);
     };
-    let Some(batches) = judge_all(alloc, orders.batches.as_slice())? else {
+    let Some(batches) = judge_all(alloc, loaded.rows(6))? else {
         return Ok(None);
     };
-    let Some(control_lines) = judge_all(alloc, orders.control_lines.as_slice())? else {
+    let Some(control_lines) = judge_all(alloc, loaded.rows(7))? else {
         return Ok(None);
     };
-    let Some(events) = judge_all(alloc, orders.events.as_slice())? else {
+    let Some(events) = judge_all(alloc, loaded.rows(8))? else {
         return Ok(None);
     };
     Ok(Some(OrderRows {
@@ -145,19 +126,19 @@ fn orders_of(alloc: Global, orders: &Orders) -> Result<Option<OrderRows>, AllocE
 }
 
 #[tactic(auto, unfolding(crate::specs::Collecting::stocks_from))]
-fn stocks_of(alloc: Global, stocks: &Stocks) -> Result<Option<StockRows>, AllocError>
-    ensures { IfOk result (λ rows. option_map stocks_listed rows ≡ stocks_from stocks.now) }
+fn stocks_of(alloc: Global, loaded: &Loaded) -> Result<Option<StockRows>, AllocError>
+    ensures { IfOk result (λ rows. option_map stocks_listed rows ≡ stocks_from loaded.now) }
 {
-    let Some(lots) = judge_all(alloc, stocks.lots.as_slice())? else {
+    let Some(lots) = judge_all(alloc, loaded.rows(9))? else {
         return Ok(None);
     };
-    let Some(sublots) = judge_all(alloc, stocks.sublots.as_slice())? else {
+    let Some(sublots) = judge_all(alloc, loaded.rows(10))? else {
         return Ok(None);
     };
-    let Some(movements) = judge_all(alloc, stocks.movements.as_slice())? else {
+    let Some(movements) = judge_all(alloc, loaded.rows(11))? else {
         return Ok(None);
     };
-    let Some(holds) = judge_all(alloc, stocks.holds.as_slice())? else {
+    let Some(holds) = judge_all(alloc, loaded.rows(12))? else {
         return Ok(None);
     };
     Ok(Some(StockRows {
@@ -174,16 +155,16 @@ fn stocks_of(alloc: Global, stocks: &Stocks) -> Result<Option<StockRows>, AllocE
 pub fn rows_of(alloc: Global, loaded: &Loaded) -> Result<Option<DeskRows>, AllocError>
     ensures { IfOk result (λ rows. option_map rows_listed rows ≡ rows_from loaded.now) }
 {
-    let Some(meta) = only_meta(loaded.meta.as_slice()) else {
+    let Some(meta) = only_meta(loaded.rows(0)) else {
         return Ok(None);
     };
-    let Some(masters) = masters_of(alloc, &loaded.masters)? else {
+    let Some(masters) = masters_of(alloc, loaded)? else {
         return Ok(None);
     };
-    let Some(orders) = orders_of(alloc, &loaded.orders)? else {
+    let Some(orders) = orders_of(alloc, loaded)? else {
         return Ok(None);
     };
-    let Some(stocks) = stocks_of(alloc, &loaded.stocks)? else {
+    let Some(stocks) = stocks_of(alloc, loaded)? else {
         return Ok(None);
     };
     Ok(Some(DeskRows {

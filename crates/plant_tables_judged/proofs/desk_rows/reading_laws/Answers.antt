@@ -1,4 +1,4 @@
-use Rattle.plant_tables_judged.proofs.KindLemmas.{movement_again}
+use Rattle.plant_tables_columns.proofs.KindLemmas.{movement_again}
 use Rattle.plant_tables_judged.proofs.StandLemmas.{stands_for}
 use Rattle.plant_tables_judged.proofs.AgainLemmas.{read_again}
 use Rattle.plant_tables_judged.proofs.WholeLemmas.{same_tables, whole_rows}

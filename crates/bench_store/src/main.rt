@@ -7,7 +7,7 @@
 ghost use Rattle.std.specs.Prelude.{◌≡◌, ◌+◌, ◌*◌, length, IfOk};
 ghost use Rattle.sqlite.specs.Held.{state};
 ghost use Rattle.sqlite.specs.State.{HasCleanDisk};
-ghost use Rattle.plant_tables_stored.specs.Loading.{AreLoaded};
+ghost use Rattle.plant_tables_stored.specs.Loading.{AreLoaded, contents_loaded};
 ghost use Rattle.plant_tables_stored.specs.declared.loaded.Loaded.{Loaded};
 
 use plant_base::{
@@ -27,6 +27,9 @@ use table_forms::Fault;
 
 /// Each lot is received once and scrapped nine times.
 const MOVEMENTS_OF_A_LOT: u64 = 10;
+
+/// The place of table movement.
+const MOVEMENTS: usize = 11;
 
 /// How many movements are written in memory.
 const FEW: u64 = 100;
@@ -177,10 +180,10 @@ fn write<S: Alter>(alloc: Global, conn: &mut Connection<S>, count: u64) -> Resul
 fn read<S: Alter>(alloc: Global, conn: &mut Connection<S>) -> Result<usize, Fault>
     ensures { HasCleanDisk (state S.Store conn.new)
         → IfOk result (λ n. (x : Loaded) × AreLoaded (state S.Store conn.old).now x
-        × (n ≡ length x.stocks.movements.items)) }
+        × (n ≡ length (contents_loaded x 11))) }
 {
     match &Loaded::read(alloc, conn, 1)? {
-        Some(loaded) => Ok(loaded.stocks.movements.len()),
+        Some(loaded) => Ok(loaded.rows(MOVEMENTS).len()),
         None => Err(Fault::Store),
     }
 }

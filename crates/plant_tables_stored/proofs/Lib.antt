@@ -1,3 +1,4 @@
+pub mod Fronts
 pub mod Joined
 pub mod Texts
 pub mod Versions

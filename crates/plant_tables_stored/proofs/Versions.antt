@@ -1,48 +1,68 @@
 -- A store tells one version at most, and none where the names are free.
-use Rattle.std.proofs.Common.{◌≡◌, refl, sym, ap, subst, ◌∙◌, false, ℤ, List, [], ◌∷◌, map, All, arith}
+use Rattle.std.proofs.Common.{◌≡◌, sym, ap, subst, ◌∙◌, ◌≤◌, ◌<◌, length, get_or, false, ℤ, pos, List, [], ◌∷◌, Option, Some, None, All, arith}
+use Rattle.std.specs.Prelude.{IfSome}
 use Rattle.std.proofs.lemmas.Option.{get_or_from_slice_get, slice_get-get_or, slice_get_within}
 use Rattle.sqlite.proofs.Callers.{one_permutation}
 use Rattle.sqlite.specs.Does.{lacks_sequence}
 use Rattle.sqlite.specs.Effect.{Database}
+use Rattle.sqlite.specs.Order.{Row}
 use Rattle.sqlite.specs.Schema.{Schema}
+use Rattle.sqlite.specs.declared.types.Value.TheVariants.{Int}
 use Rattle.table_forms.specs.Standing.{HasTable, IsFree, AreFree}
 use Rattle.table_reads.specs.Reading.{Lists}
 use Rattle.table_reads.proofs.Same.{lists_same, has_listed}
 use Rattle.plant_tables.specs.DeskForms.{desk_forms, meta_form}
 use Rattle.plant_tables_stored.specs.declared.finding.FoundTables.TheVariants as answer
-use Rattle.plant_tables_stored.specs.declared.meta.StoredMeta.{StoredMeta}
-use Rattle.plant_tables_stored.specs.Stored.{meta_row}
-use Rattle.plant_tables_stored.specs.Version.{IsGoodMeta, IsVersion}
-
-same_meta : (a b : StoredMeta) → meta_row a ≡ meta_row b → a ≡ b
-same_meta a b h =
-    let k : a.k ≡ b.k = cc in
-    let schema : a.schema ≡ b.schema = cc in
-    let seq : a.seq ≡ b.seq = cc in
-    let at : a.at ≡ b.at = cc in
-    made a.k b.k a.schema b.schema a.seq b.seq a.at b.at k schema seq at
-  where
-    made : (k k' schema schema' seq seq' at at' : ℤ) → k ≡ k' → schema ≡ schema' → seq ≡ seq' → at ≡ at'
-        → ◌≡◌ {A = StoredMeta} (record { k = k; schema = schema; seq = seq; at = at }) (record { k = k'; schema = schema'; seq = seq'; at = at' })
-    made k k' schema schema' seq seq' at at' p q r s = rw (p, q, r, s) refl
-
-one_meta : (list : List StoredMeta) (m : StoredMeta) → map meta_row list ≡ meta_row m ∷ [] → list ≡ m ∷ []
-one_meta [] m h = absurd (cc)
-one_meta (a ∷ []) m h = let row : meta_row a ≡ meta_row m = cc in ap (λ x. x ∷ []) (same_meta a m row)
-one_meta (a ∷ b ∷ more) m h = absurd (cc)
+use Rattle.plant_tables_stored.specs.Version.{row_of, IsGoodMeta, IsVersion}
+use Rattle.plant_tables_stored.specs.declared.finding.MetaNumbers.{MetaNumbers}
 
 -- the rows that were read are the one row of a version
-pub version_row : (db : Database) (list : List StoredMeta) (n : ℤ) → Lists db meta_form (map meta_row list) → (v : IsVersion db n) → list ≡ v.row ∷ []
-version_row db list n lists v = one_meta list v.row (one_permutation (meta_row v.row) _ (lists_same db meta_form _ _ v.alone lists))
+pub version_row : (db : Database) (list : List Row) (n : ℤ) → Lists db meta_form list → (v : IsVersion db n) → list ≡ v.row ∷ []
+version_row db list n lists v = one_permutation v.row list (lists_same db meta_form _ _ v.alone lists)
 
-pub no_version : (db : Database) (list : List StoredMeta) → Lists db meta_form (map meta_row list) → ((m : StoredMeta) → list ≡ m ∷ [] → ¬ IsGoodMeta m) → (n : ℤ) → ¬ IsVersion db n
+pub no_version : (db : Database) (list : List Row) → Lists db meta_form list → ((row : Row) → list ≡ row ∷ [] → ¬ IsGoodMeta row) → (n : ℤ) → ¬ IsVersion db n
 no_version db list lists none n v = none v.row (version_row db list n lists v) v.good
+
+-- equal rows tell one version
+schema_kept : (row row' : Row) → row ≡ row' → (a : IsGoodMeta row) (b : IsGoodMeta row') → a.schema ≡ b.schema
+schema_kept row row' same a b =
+    let both : Int (pos 1) ∷ Int a.schema ∷ Int a.seq ∷ Int a.at ∷ [] ≡ Int (pos 1) ∷ Int b.schema ∷ Int b.seq ∷ Int b.at ∷ [] = sym a.is ∙ same ∙ b.is in
+    cc
+
+-- a row of good numbers is a good row
+pub told_good : (row : Row) (meta : MetaNumbers) → row ≡ row_of meta → IsGoodMeta (row_of meta) → (good : IsGoodMeta row) × (good.schema ≡ meta.schema)
+told_good row meta is good =
+    let numbers : Int meta.k ∷ Int meta.schema ∷ Int meta.seq ∷ Int meta.at ∷ [] ≡ Int (pos 1) ∷ Int good.schema ∷ Int good.seq ∷ Int good.at ∷ [] = good.is in
+    let same : good.schema ≡ meta.schema = cc in (
+      record {
+        schema = good.schema;
+        seq = good.seq;
+        at = good.at;
+        is = is ∙ good.is;
+        schema_low = good.schema_low;
+        seq_low = good.seq_low;
+        seq_high = good.seq_high;
+        at_low = good.at_low;
+        at_high = good.at_high;
+      },
+      same,
+    )
+
+pub if_some : {A : Type 0} (o : Option A) (P Q : A → Type 0) → ((x : A) → P x → Q x) → IfSome o P → IfSome o Q
+if_some None P Q f h = h
+if_some (Some x) P Q f h = f x h
+
+-- a list of one row
+pub only_one : (list : List Row) (row : Row) → 1 ≤ length list → length list < 2 → row ≡ get_or list 0 row → list ≡ row ∷ []
+only_one [] row least most is = absurd (omega (arith, least))
+only_one (a ∷ []) row least most is = ap (λ r. r ∷ []) (sym is)
+only_one (a ∷ b ∷ more) row least most is = absurd (omega (arith, most))
 
 pub one_version : (db : Database) (n k : ℤ) → IsVersion db n → IsVersion db k → n ≡ k
 one_version db n k v w =
     let rows : v.row ∷ [] ≡ w.row ∷ [] = version_row db (v.row ∷ []) k v.alone w in
     let row : v.row ≡ w.row = cc in
-    sym v.tells ∙ ap (λ (m : StoredMeta). m.schema) row ∙ w.tells
+    sym v.tells ∙ schema_kept v.row w.row row v.good w.good ∙ w.tells
 
 -- names that are free one by one are those of tables that can be made, where no table still wants SQLite's table of counts
 pub are_free : (schema : Schema) → All (IsFree schema) desk_forms → lacks_sequence schema ≡ false → AreFree desk_forms schema

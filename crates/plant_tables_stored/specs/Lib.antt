@@ -1,3 +1,3 @@
 pub mod Loading
-pub mod Stored
+pub mod Readings
 pub mod Version

@@ -1,23 +1,31 @@
 -- What table meta tells of the version of the tables.
 use Rattle.std.specs.Prelude.{◌≡◌, ◌≤ℤ◌, ◌∷◌, [], ℤ, pos}
 use Rattle.sqlite.specs.Effect.{Database}
+use Rattle.sqlite.specs.Order.{Row}
+use Rattle.sqlite.specs.declared.types.Value.TheVariants.{Int}
 use Rattle.table_reads.specs.Reading.{Lists}
 use Rattle.plant_tables.specs.DeskForms.{meta_form}
-use Rattle.plant_tables_stored.specs.Stored.{meta_row}
-use Rattle.plant_tables_stored.specs.declared.meta.StoredMeta.{StoredMeta}
+use Rattle.plant_tables_stored.specs.declared.finding.MetaNumbers.{MetaNumbers}
 
--- k is 1, the schema is at least 1, seq is 0 to 10^15, and at is a moment
-pub record IsGoodMeta (m : StoredMeta) : Type 0 where
-  pub k : m.k ≡ pos 1
-  pub schema : pos 1 ≤ℤ m.schema
-  pub seq_low : pos 0 ≤ℤ m.seq
-  pub seq : m.seq ≤ℤ pos 1000000000000000
-  pub at_low : pos 0 ≤ℤ m.at
-  pub at : m.at ≤ℤ pos 253402300799
+-- the row of these numbers
+abbrev pub row_of : MetaNumbers → Row
+row_of meta = Int meta.k ∷ Int meta.schema ∷ Int meta.seq ∷ Int meta.at ∷ []
+
+-- four numbers: k is 1, the schema is at least 1, seq is 0 to 10^15, and at is a moment
+pub record IsGoodMeta (row : Row) : Type 0 where
+  pub schema : ℤ
+  pub seq : ℤ
+  pub at : ℤ
+  pub is : row ≡ Int (pos 1) ∷ Int schema ∷ Int seq ∷ Int at ∷ []
+  pub schema_low : pos 1 ≤ℤ schema
+  pub seq_low : pos 0 ≤ℤ seq
+  pub seq_high : seq ≤ℤ pos 1000000000000000
+  pub at_low : pos 0 ≤ℤ at
+  pub at_high : at ≤ℤ pos 253402300799
 
 -- table meta has one row, which is good and tells this version
 pub record IsVersion (db : Database) (n : ℤ) : Type 0 where
-  pub row : StoredMeta
-  pub alone : Lists db meta_form (meta_row row ∷ [])
+  pub row : Row
+  pub alone : Lists db meta_form (row ∷ [])
   pub good : IsGoodMeta row
-  pub tells : row.schema ≡ n
+  pub tells : good.schema ≡ n

@@ -4,17 +4,20 @@ ghost use Rattle.std.specs.Prelude.{◌≡◌, ◌≢◌, ◌↔◌, ◌∷◌, 
 ghost use Rattle.std.specs.List.{list_any};
 ghost use Rattle.sqlite.specs.Does.{lacks_sequence};
 ghost use Rattle.sqlite.specs.Held.{state};
+ghost use Rattle.sqlite.specs.Order.{Row as Values, column};
 ghost use Rattle.sqlite.specs.Rows.{sequence};
 ghost use Rattle.sqlite.specs.State.{HasCleanDisk, IsLive, IsUnchanged, Survives};
+ghost use Rattle.sqlite.specs.declared.types.Value.TheVariants.{Int};
 ghost use Rattle.table_forms.specs.Resting.{Keeps};
 ghost use Rattle.table_forms.specs.Standing.{AreFree, HasTable, IsFree};
 ghost use Rattle.plant_tables.specs.DeskForms.{desk_forms, meta_form};
-ghost use Rattle.plant_tables_stored.specs.Version.{IsGoodMeta, IsVersion};
+ghost use Rattle.plant_tables_stored.specs.Version.{row_of, IsGoodMeta, IsVersion};
 
-use crate::meta::StoredMeta;
+use crate::readings::SELECT_META;
 use plant_base::{GREATEST_MOMENT, GREATEST_SEQ};
 use plant_tables::forms::{META, desk_forms};
-use sqlite::{Alter, Connection};
+use sqlite::types::ValueRef;
+use sqlite::{Alter, Connection, Row};
 use sqlite_schema::schema::{Schema, Table};
 use std::alloc::Global;
 use table_forms::Fault;
@@ -32,9 +35,45 @@ pub enum FoundTables {
     Version(i64),
 }
 
+/// The numbers of a row of table meta.
+#[derive(Clone, Copy, Debug)]
+struct MetaNumbers {
+    k: i64,
+    schema: i64,
+    seq: i64,
+    at: i64,
+}
+
+/// The number in a column, where one stands there.
+fn number(row: &Row, at: usize) -> Option<i64>
+    ensures some { IfSome result (λ n. column row.now at ≡ Int n) }
+    ensures none { result ≡ None → (n : ℤ) → column row.now at ≢ Int n }
+{
+    match row.get_ref(at) {
+        Ok(ValueRef::Int(number)) => Some(number),
+        _ => None,
+    }
+}
+
+/// The numbers of a row, where it has four columns and a number in each.
+fn numbers_of(row: &Row) -> Option<MetaNumbers>
+    ensures some { IfSome result (λ meta. row.now ≡ row_of meta) }
+    ensures none { result ≡ None → (meta : MetaNumbers) → row.now ≢ row_of meta }
+{
+    if row.column_count() != 4 {
+        return None;
+    }
+    Some(MetaNumbers {
+        k: number(row, 0)?,
+        schema: number(row, 1)?,
+        seq: number(row, 2)?,
+        at: number(row, 3)?,
+    })
+}
+
 /// Whether each number is one that the row of table meta can have.
-fn is_good(meta: &StoredMeta) -> bool
-    ensures { (result ≡ true) ↔ IsGoodMeta meta.now }
+fn is_good(meta: &MetaNumbers) -> bool
+    ensures { (result ≡ true) ↔ IsGoodMeta (row_of meta.now) }
 {
     meta.k == 1
         && meta.schema >= 1
@@ -44,14 +83,27 @@ fn is_good(meta: &StoredMeta) -> bool
         && meta.at <= GREATEST_MOMENT as i64
 }
 
+/// The version that a row of table meta tells, where it is good.
+fn version_of(row: &Row) -> Option<i64>
+    ensures some { IfSome result (λ n. (good : IsGoodMeta row.now) × (good.schema ≡ n)) }
+    ensures none { result ≡ None → ¬ IsGoodMeta row.now }
+{
+    let meta = numbers_of(row)?;
+    if is_good(&meta) {
+        Some(meta.schema)
+    } else {
+        None
+    }
+}
+
 /// The version that the one row tells, where it is good.
-fn version_in(list: &[StoredMeta]) -> Option<i64>
-    ensures some { IfSome result (λ n. (m : StoredMeta) × (list.now ≡ m ∷ []) × IsGoodMeta m
-        × (m.schema ≡ n)) }
-    ensures none { result ≡ None → (m : StoredMeta) → list.now ≡ m ∷ [] → ¬ IsGoodMeta m }
+fn version_in(list: &[Row]) -> Option<i64>
+    ensures some { IfSome result (λ n. (row : Values) × (list.now ≡ row ∷ [])
+        × (good : IsGoodMeta row) × (good.schema ≡ n)) }
+    ensures none { result ≡ None → (row : Values) → list.now ≡ row ∷ [] → ¬ IsGoodMeta row }
 {
     match list {
-        [one] => { if is_good(one) { Some(one.schema) } else { None } }
+        [one] => version_of(one),
         _ => None,
     }
 }
@@ -79,7 +131,7 @@ fn version<S: Alter>(alloc: Global, conn: &mut Connection<S>) -> Result<Option<i
     if !all_stand(conn.schema(), &[META]) {
         return Ok(None);
     }
-    let list = read_table(alloc, conn)?;
+    let list = read_table(alloc, conn, &META, SELECT_META)?;
     Ok(version_in(list.as_slice()))
 }
 

@@ -3,10 +3,7 @@
 
 mod finding;
 mod loaded;
-pub mod masters;
-pub mod meta;
-pub mod orders;
-pub mod stocks;
+mod readings;
 
 pub use finding::{FoundTables, found};
 pub use loaded::Loaded;

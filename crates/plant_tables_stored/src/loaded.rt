@@ -1,4 +1,4 @@
-ghost use Rattle.std.specs.Prelude.{◌≡◌, false, pos, All, None, IfOk, IfErr, IfSome, OnOk};
+ghost use Rattle.std.specs.Prelude.{◌≡◌, ◌++◌, ◌∷◌, [], false, pos, All, None, IfOk, IfErr, IfSome, OnOk, IsOkUnless};
 ghost use Rattle.sqlite.specs.Held.{state};
 ghost use Rattle.sqlite.specs.State.{HasCleanDisk, IsUnchanged, Survives};
 ghost use Rattle.table_forms.specs.Resting.{Keeps};
@@ -7,27 +7,42 @@ ghost use Rattle.table_reads.specs.Ordered.{IsRising};
 ghost use Rattle.plant_tables.specs.DeskForms.{desk_forms};
 ghost use Rattle.plant_tables_stored.specs.Loading.{AreLoaded, AreRising, contents_loaded};
 
-use crate::masters::Masters;
-use crate::meta::StoredMeta;
-use crate::orders::Orders;
-use crate::stocks::Stocks;
+use crate::readings::desk_readings;
 use plant_tables::forms::desk_forms;
-use sqlite::{Alter, Connection};
+use sqlite::{Alter, Connection, Row};
 use std::alloc::Global;
 use table_forms::Fault;
 use table_reads::{all_stand, read_table};
 
-/// Every row of the desk's tables as it is stored, each table by its key. Values that break a rule are kept as they
-/// are.
+/// Every row of the desk's tables as it is stored: the rows of each table by its key, the tables in the order of their
+/// forms. Values that break a rule are kept as they are.
 #[derive(Debug, Drop)]
 pub struct Loaded {
-    pub meta: Vec<StoredMeta>,
-    pub masters: Masters,
-    pub orders: Orders,
-    pub stocks: Stocks,
+    pub tables: Vec<Vec<Row>>,
+}
+
+/// Puts the rows of a table after those of the others. Memory where there is none for the list to grow.
+fn keep(tables: &mut Vec<Vec<Row>>, rows: Vec<Row>) -> Result<(), Fault>
+    ensures fault { IsOkUnless result Fault.Memory }
+    ensures kept { OnOk result (tables.new.items ≡ tables.old.items ++ rows ∷ []) }
+{
+    match tables.push(rows) {
+        Ok(()) => Ok(()),
+        Err(_) => Err(Fault::Memory),
+    }
 }
 
 impl Loaded {
+    /// The rows of the table at this place, the first being 0; none where there is no such table.
+    pub fn rows(&self, place: usize) -> &[Row]
+        ensures { result.now ≡ contents_loaded self.now place }
+    {
+        match self.tables.get(place) {
+            Some(rows) => rows.as_slice(),
+            None => &[],
+        }
+    }
+
     /// Reads every row of the tables of a version, one query a table. `None` where a table of the version doesn't stand
     /// as it is declared. Store where the version isn't 1, the only one that is known, where a transaction is open, and
     /// where the store fails; Memory where there is none. Nothing is changed.
@@ -79,15 +94,12 @@ impl Loaded {
             → (state S.Store conn.new).in_transaction ≡ false }
         ensures crash { Survives (state S.Store conn.old) (state S.Store conn.new) (λ _. ⊥) }
     {
-        let meta = read_table(alloc, conn)?;
-        let masters = Masters::read(alloc, conn)?;
-        let orders = Orders::read(alloc, conn)?;
-        let stocks = Stocks::read(alloc, conn)?;
-        Ok(Loaded {
-            meta,
-            masters,
-            orders,
-            stocks,
-        })
+        let readings = desk_readings();
+        let mut tables = Vec::new(alloc);
+        for reading in &readings {
+            let rows = read_table(alloc, conn, &reading.form, reading.select)?;
+            keep(&mut tables, rows)?;
+        }
+        Ok(Loaded { tables })
     }
 }

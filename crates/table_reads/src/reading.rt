@@ -13,7 +13,7 @@ ghost use Rattle.table_reads.specs.Rises.{Rises};
 use crate::keys::comes_before;
 use sqlite::types::ValueRef;
 use sqlite::{Alter, Connection, Row, Rows};
-use std::alloc::Global;
+use std::alloc::{AllocError, Global};
 use table_forms::{Fault, Form, fault_of};
 
 /// Whether the row may follow the list.
@@ -34,7 +34,7 @@ fn copied(row: &Row) -> Result<Row, Fault>
 {
     match row.copy() {
         Ok(copy) => Ok(copy),
-        Err(_) => Err(Fault::Memory),
+        Err(AllocError) => Err(Fault::Memory),
     }
 }
 

@@ -1,14 +1,41 @@
 //! What is read of stores in memory.
 
 use crate::stores::{Store, filled};
-use plant_tables_stored::stocks::StoredSublot;
+use plant_tables::forms::SUBLOT;
 use plant_tables_stored::{FoundTables, Loaded, found};
 use sqlite::types::ValueRef;
-use sqlite::{Connection, params};
+use sqlite::{Connection, Row, params};
 use std::alloc::Global;
 use std::test::Fail;
 use table_forms::Fault;
 use table_reads::{find_rows, reopen};
+
+/// The places of tables meta, lot, sublot and movement.
+const METAS: usize = 0;
+const LOTS: usize = 9;
+const SUBLOTS: usize = 10;
+const MOVEMENTS: usize = 11;
+
+/// The number in a column, where one stands there.
+fn number(row: &Row, at: usize) -> Option<i64> {
+    match row.get_ref(at) {
+        Ok(ValueRef::Int(number)) => Some(number),
+        _ => None,
+    }
+}
+
+/// Whether this text stands in a column.
+fn is_text(row: &Row, at: usize, text: &[u8]) -> bool {
+    match row.get_ref(at) {
+        Ok(ValueRef::Text(bytes)) => bytes == text,
+        _ => false,
+    }
+}
+
+/// Whether NULL stands in a column.
+fn is_null(row: &Row, at: usize) -> bool {
+    matches!(row.get_ref(at), Ok(ValueRef::Null))
+}
 
 /// What is read of it.
 fn loaded(rt: &HostRuntime, conn: &mut Store) -> Result<Option<Loaded>, Fail> {
@@ -21,10 +48,11 @@ fn found_in(rt: &HostRuntime, conn: &mut Store) -> Result<FoundTables, Fail> {
 }
 
 /// The sublots of a lot.
-fn sublots_of(alloc: Global, conn: &mut Store, lot: &str) -> Result<Vec<StoredSublot>, Fault> {
+fn sublots_of(alloc: Global, conn: &mut Store, lot: &str) -> Result<Vec<Row>, Fault> {
     find_rows(
         alloc,
         conn,
+        &SUBLOT,
         "SELECT lot, no, place, stock FROM sublot WHERE lot = ?1 ORDER BY lot, no",
         params![lot],
     )
@@ -45,13 +73,13 @@ fn rows_come_by_key(rt: HostRuntime) -> Result<(), Fail> {
     let found = loaded(&rt, &mut conn)?;
     match &found {
         Some(loaded) => {
-            let lots = loaded.stocks.lots.as_slice();
+            let lots = loaded.rows(LOTS);
             assert_eq!(rt; lots.len(), 3);
-            assert!(rt; lots[0].id.as_slice() == b"L-1".as_slice());
-            assert!(rt; lots[1].id.as_slice() == b"L-10".as_slice());
-            assert!(rt; lots[2].id.as_slice() == b"L-2".as_slice());
-            assert!(rt; lots[2].def.as_slice() == b"SUGAR".as_slice());
-            assert!(rt; loaded.meta.is_empty());
+            assert!(rt; is_text(&lots[0], 0, b"L-1"));
+            assert!(rt; is_text(&lots[1], 0, b"L-10"));
+            assert!(rt; is_text(&lots[2], 0, b"L-2"));
+            assert!(rt; is_text(&lots[2], 1, b"SUGAR"));
+            assert!(rt; loaded.rows(METAS).is_empty());
         }
         None => assert!(rt; false),
     }
@@ -65,13 +93,13 @@ fn broken_values_are_kept(rt: HostRuntime) -> Result<(), Fail> {
     let found = loaded(&rt, &mut conn)?;
     match &found {
         Some(loaded) => {
-            let sublots = loaded.stocks.sublots.as_slice();
+            let sublots = loaded.rows(SUBLOTS);
             assert_eq!(rt; sublots.len(), 3);
-            assert_eq!(rt; sublots[0].number, -3);
-            assert_eq!(rt; sublots[0].stock, -7);
-            let lots = loaded.stocks.lots.as_slice();
+            assert_eq!(rt; number(&sublots[0], 1), Some(-3));
+            assert_eq!(rt; number(&sublots[0], 3), Some(-7));
+            let lots = loaded.rows(LOTS);
             assert_eq!(rt; lots.len(), 4);
-            assert!(rt; lots[0].def.as_slice() == b"\xFF".as_slice());
+            assert!(rt; is_text(&lots[0], 1, b"\xFF"));
         }
         None => assert!(rt; false),
     }
@@ -87,13 +115,13 @@ fn nulls_are_kept(rt: HostRuntime) -> Result<(), Fail> {
     let found = loaded(&rt, &mut conn)?;
     match &found {
         Some(loaded) => {
-            let movements = loaded.stocks.movements.as_slice();
+            let movements = loaded.rows(MOVEMENTS);
             assert_eq!(rt; movements.len(), 2);
-            assert_eq!(rt; movements[0].amount, 500);
-            assert!(rt; movements[0].lot2.is_none());
-            assert!(rt; movements[0].note.as_slice() == b"first".as_slice());
-            assert_eq!(rt; movements[1].sub2, Some(1));
-            assert!(rt; movements[1].batch.is_none());
+            assert_eq!(rt; number(&movements[0], 8), Some(500));
+            assert!(rt; is_null(&movements[0], 5));
+            assert!(rt; is_text(&movements[0], 11, b"first"));
+            assert_eq!(rt; number(&movements[1], 6), Some(1));
+            assert!(rt; is_null(&movements[1], 7));
         }
         None => assert!(rt; false),
     }
@@ -126,8 +154,8 @@ fn rows_of_a_lot(rt: HostRuntime) -> Result<(), Fail> {
     let mut conn = filled(rt.alloc(), STOCKS)?;
     let sublots = sublots_of(rt.alloc(), &mut conn, "L-1")?;
     assert_eq!(rt; sublots.len(), 2);
-    assert_eq!(rt; sublots[0].number, -3);
-    assert_eq!(rt; sublots[1].stock, 5);
+    assert_eq!(rt; number(&sublots[0], 1), Some(-3));
+    assert_eq!(rt; number(&sublots[1], 3), Some(5));
     Ok(())
 }
 
@@ -138,7 +166,7 @@ fn opened_anew(rt: HostRuntime) -> Result<(), Fail> {
         Ok(mut conn) => {
             let found = loaded(&rt, &mut conn)?;
             match &found {
-                Some(loaded) => assert_eq!(rt; loaded.stocks.lots.len(), 3),
+                Some(loaded) => assert_eq!(rt; loaded.rows(LOTS).len(), 3),
                 None => assert!(rt; false),
             }
         }

@@ -4,7 +4,6 @@ use crate::rows::{FIRST, SECOND, rows, rows_and_unhold};
 use crate::told::{push_row, tables_told};
 use plant_tables::{commit_changes, commit_opening};
 use plant_view::RowChange;
-use sqlite::types::ValueRef::{Int, Null, Text};
 use sqlite::{Alter, Connection};
 use std::alloc::Global;
 use std::process::Abort;
@@ -65,13 +64,7 @@ fn push_other<S: Alter>(
     conn: &mut Connection<S>,
 ) -> Result<(), Fail> {
     for row in conn.query_all("SELECT a, b FROM other ORDER BY a", &[])? {
-        let number = row.get::<i64>(0)?;
-        let name = row.get::<Option<String>>(1)?;
-        let name = match &name {
-            Some(name) => Text(name.as_bytes()),
-            None => Null,
-        };
-        push_row(text, alloc, "other", &[Int(number), name])?;
+        push_row(text, alloc, b"other", &row)?;
     }
     Ok(())
 }

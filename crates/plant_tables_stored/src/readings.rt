@@ -1,0 +1,83 @@
+//! The fixed texts that read the desk's tables.
+
+ghost use Rattle.std.specs.Prelude.{◌≡◌, map};
+ghost use Rattle.std.specs.List.{AllByRecursion};
+ghost use Rattle.plant_tables.specs.DeskForms.{desk_forms};
+ghost use Rattle.plant_tables_stored.specs.Readings.{SelectsAll};
+
+use plant_tables::forms::{
+    BATCH, BATCH_EVENT, CLASS, CONTROL_LINE, DEFINITION, HOLD, JOB, LOT, META, MOVEMENT, RECIPE,
+    RECIPE_LINE, SUBLOT,
+};
+use table_forms::Form;
+
+/// The text that reads table meta.
+pub(crate) const SELECT_META: &str = "SELECT k, schema, seq, at FROM meta ORDER BY k";
+
+/// A table, and the text that reads all its rows: the columns in their order, by the first key.
+#[derive(Debug, Drop)]
+pub(crate) struct Reading {
+    pub form: Form<'static>,
+    pub select: &'static str,
+}
+
+/// The reading of each of the desk's tables, in the order of their forms.
+pub(crate) fn desk_readings() -> [Reading; 13]
+    ensures forms { map (λ reading. reading.form) result ≡ desk_forms }
+    ensures texts { AllByRecursion SelectsAll result }
+{
+    [
+        Reading {
+            form: META,
+            select: SELECT_META,
+        },
+        Reading {
+            form: CLASS,
+            select: "SELECT id, name FROM class ORDER BY id",
+        },
+        Reading {
+            form: DEFINITION,
+            select: "SELECT id, class, name, unit FROM definition ORDER BY id",
+        },
+        Reading {
+            form: RECIPE,
+            select: "SELECT id, version, product, base, low, high, title, state FROM recipe ORDER BY id, version",
+        },
+        Reading {
+            form: RECIPE_LINE,
+            select: "SELECT recipe, version, no, kind, def, qty, t1, t2, t3 FROM recipe_line ORDER BY recipe, version, no",
+        },
+        Reading {
+            form: JOB,
+            select: "SELECT id, recipe, version, size, due, priority, state FROM job ORDER BY id",
+        },
+        Reading {
+            form: BATCH,
+            select: "SELECT id, job, at, by_who, note, state, attempt, next, closed FROM batch ORDER BY id",
+        },
+        Reading {
+            form: CONTROL_LINE,
+            select: "SELECT batch, no, kind, def, qty, t1, t2, t3 FROM control_line ORDER BY batch, no",
+        },
+        Reading {
+            form: BATCH_EVENT,
+            select: "SELECT seq, batch, word, phase, at, by_who, note FROM batch_event ORDER BY seq",
+        },
+        Reading {
+            form: LOT,
+            select: "SELECT id, def FROM lot ORDER BY id",
+        },
+        Reading {
+            form: SUBLOT,
+            select: "SELECT lot, no, place, stock FROM sublot ORDER BY lot, no",
+        },
+        Reading {
+            form: MOVEMENT,
+            select: "SELECT seq, line, kind, lot, sub, lot2, sub2, batch, amount, at, by_who, note FROM movement ORDER BY seq, line",
+        },
+        Reading {
+            form: HOLD,
+            select: "SELECT lot, id, at, by_who, note FROM hold ORDER BY lot, id",
+        },
+    ]
+}

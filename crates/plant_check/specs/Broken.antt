@@ -13,11 +13,12 @@ use Rattle.plant_check_plans.specs.Events.{are_events}
 use Rattle.plant_check_stock.specs.Movements.{are_movements}
 use Rattle.plant_check_stock.specs.Numbering.{are_numbers}
 use Rattle.plant_check_stock.specs.Times.{are_times}
+use Rattle.plant_tables_stored.specs.Loading.{contents_loaded}
 use Rattle.plant_tables_stored.specs.declared.loaded.Loaded.{Loaded}
-use Rattle.plant_tables_judged.specs.Booked.{movement_from}
+use Rattle.plant_tables_columns.specs.Booked.{movement_from}
 use Rattle.plant_tables_judged.specs.Collecting.{Rows, rows_from}
-use Rattle.plant_tables_judged.specs.Judging.{only_meta}
-use Rattle.plant_tables_judged.specs.declared.booked.BookedRow.{BookedRow}
+use Rattle.plant_tables_columns.specs.Judging.{only_meta}
+use Rattle.plant_tables_columns.specs.declared.booked.BookedRow.{BookedRow}
 use Rattle.plant_check.specs.Ends.{are_stocks}
 use Rattle.plant_check.specs.Lots.{are_lots}
 use Rattle.plant_check.specs.declared.rule.Rule.{Rule}
@@ -81,4 +82,4 @@ broken_rows (Some r) = first_broken_of r
 
 -- the first rule that is broken
 unfoldable pub first_broken : Loaded → Option Rule
-first_broken x = unless (is_some (only_meta x.meta.items)) rule.Tables (broken_rows (rows_from x))
+first_broken x = unless (is_some (only_meta (contents_loaded x 0))) rule.Tables (broken_rows (rows_from x))

@@ -3,9 +3,9 @@ use Rattle.std.specs.Prelude.{ℕ, ◌+◌, Bool, ◌==◌, List, Option, Some, 
 use Rattle.std.specs.List.{list_all}
 use Rattle.plant_base.specs.declared.rows.Sublot.{Sublot}
 use Rattle.plant_stock.specs.Stock.{is_place}
-use Rattle.plant_tables_judged.specs.declared.booked.BookedRow.{BookedRow}
-use Rattle.plant_tables_judged.specs.declared.booked.MovementSort.{MovementSort}
-use Rattle.plant_tables_judged.specs.declared.booked.MovementSort.TheVariants as sort
+use Rattle.plant_tables_columns.specs.declared.booked.BookedRow.{BookedRow}
+use Rattle.plant_tables_columns.specs.declared.booked.MovementSort.{MovementSort}
+use Rattle.plant_tables_columns.specs.declared.booked.MovementSort.TheVariants as sort
 
 -- the sublot that the columns name besides the row's own
 abbrev pub other_end : Option (List ℕ) → Option ℕ → Option (List ℕ × ℕ)

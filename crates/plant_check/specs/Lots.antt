@@ -9,9 +9,9 @@ use Rattle.plant_base.specs.declared.rows.Lot.{Lot}
 use Rattle.plant_base.specs.declared.rows.Sublot.{Sublot}
 use Rattle.plant_check_plans.specs.Recipes.{are_numbered}
 use Rattle.plant_view.specs.Production.{is_defined}
-use Rattle.plant_tables_judged.specs.declared.booked.BookedRow.{BookedRow}
-use Rattle.plant_tables_judged.specs.declared.booked.MovementSort.{MovementSort}
-use Rattle.plant_tables_judged.specs.declared.booked.MovementSort.TheVariants as sort
+use Rattle.plant_tables_columns.specs.declared.booked.BookedRow.{BookedRow}
+use Rattle.plant_tables_columns.specs.declared.booked.MovementSort.{MovementSort}
+use Rattle.plant_tables_columns.specs.declared.booked.MovementSort.TheVariants as sort
 use Rattle.plant_check.specs.Ends.{entries, total_of}
 
 -- 0, or 0 and 1, and so on

@@ -6,6 +6,7 @@ use Rattle.std.proofs.lemmas.Bool.Decides.{nat_tests}
 use Rattle.std.proofs.lemmas.Option.{slice_get-get_or}
 use lib.Dec.{le→leb}
 use Rattle.sqlite.specs.Order.{Row}
+use Rattle.sqlite.specs.declared.types.Value.TheVariants.{Int}
 use Rattle.sqlite.specs.Table.{Table}
 use Rattle.sqlite.specs.Schema.{Schema}
 use Rattle.sqlite.specs.Tree.{Trees}
@@ -54,15 +55,18 @@ module _ (db : Database) (s : State) (good : IsGood s) (holds : HoldsTables db (
       let meta = holds.each 0 meta_form refl in
       let known : s.at ≤ 253402300799 = grind (arith, nat_tests, good.values.at) in
       record {
-        row = record { k = pos 1; schema = pos newest_schema; seq = pos s.seq; at = pos s.at };
+        row = Int (pos 1) ∷ Int (pos newest_schema) ∷ Int (pos s.seq) ∷ Int (pos s.at) ∷ [];
         alone = record { at = meta.at; tree = meta.tree; declared = meta.declared; low = low_held db meta_form _ holds.sound meta; same = meta.same };
         good = record {
-          k = refl;
-          schema = pos_le 1 1 (omega arith);
+          schema = pos newest_schema;
+          seq = pos s.seq;
+          at = pos s.at;
+          is = refl;
+          schema_low = pos_le 1 1 (omega arith);
           seq_low = pos_le 0 s.seq (omega arith);
-          seq = pos_le s.seq 1000000000000000 good.values.seq;
+          seq_high = pos_le s.seq 1000000000000000 good.values.seq;
           at_low = pos_le 0 s.at (omega arith);
-          at = pos_le s.at 253402300799 known;
+          at_high = pos_le s.at 253402300799 known;
         };
         tells = refl;
       }

@@ -1,9 +1,10 @@
 -- What is judged of loaded rows.
 use Rattle.std.proofs.Common.{◌≡◌, ◌∙◌, true, false, Option, None, Some, is_some, Result, Ok, Err, IfOk, IfErr, refl, sym, ap, subst}
 use Rattle.plant_base.specs.State.{newest_schema}
+use Rattle.plant_tables_stored.specs.Loading.{contents_loaded}
 use Rattle.plant_tables_stored.specs.declared.loaded.Loaded.{Loaded}
 use Rattle.plant_tables_judged.specs.Collecting.{Rows, rows_from, rows_listed}
-use Rattle.plant_tables_judged.specs.Judging.{only_meta}
+use Rattle.plant_tables_columns.specs.Judging.{only_meta}
 use Rattle.plant_tables_judged.specs.declared.desk_rows.DeskRows.{DeskRows}
 use Rattle.plant_check.specs.Broken.{first_broken, first_broken_of, broken_rows, unless}
 use Rattle.plant_check.specs.declared.rule.Rule.{Rule}
@@ -12,19 +13,19 @@ use Rattle.plant_desk_store.specs.Testing.{IsUnfit, IsFit, IsUnfitBy, IsFitOf, I
 use Rattle.plant_desk_store.specs.declared.fitness.Unfit.{Unfit}
 use Rattle.plant_desk_store.specs.declared.fitness.Unfit.TheVariants as unfit
 
-pub no_meta : (x : Loaded) → is_some (only_meta x.meta.items) ≡ false → first_broken x ≡ Some rule.Tables
+pub no_meta : (x : Loaded) → is_some (only_meta (contents_loaded x 0)) ≡ false → first_broken x ≡ Some rule.Tables
 unfolding first_broken
 no_meta x e = ap (λ b. unless b rule.Tables (broken_rows (rows_from x))) e
 
-pub no_rows : (x : Loaded) → is_some (only_meta x.meta.items) ≡ true → rows_from x ≡ None → first_broken x ≡ Some rule.Values
+pub no_rows : (x : Loaded) → is_some (only_meta (contents_loaded x 0)) ≡ true → rows_from x ≡ None → first_broken x ≡ Some rule.Values
 unfolding first_broken
 no_rows x e f = ap (λ b. unless b rule.Tables (broken_rows (rows_from x))) e ∙ ap broken_rows f
 
-same_broken : (x : Loaded) (r : Rows) → is_some (only_meta x.meta.items) ≡ true → rows_from x ≡ Some r → first_broken x ≡ first_broken_of r
+same_broken : (x : Loaded) (r : Rows) → is_some (only_meta (contents_loaded x 0)) ≡ true → rows_from x ≡ Some r → first_broken x ≡ first_broken_of r
 unfolding first_broken
 same_broken x r e f = ap (λ b. unless b rule.Tables (broken_rows (rows_from x))) e ∙ ap broken_rows f
 
-pub fit_of : (x : Loaded) (rows : DeskRows) (judged : Result DeskRows Unfit) → is_some (only_meta x.meta.items) ≡ true → rows_from x ≡ Some (rows_listed rows)
+pub fit_of : (x : Loaded) (rows : DeskRows) (judged : Result DeskRows Unfit) → is_some (only_meta (contents_loaded x 0)) ≡ true → rows_from x ≡ Some (rows_listed rows)
     → IfOk judged (IsFitOf rows) → IfOk judged (IsFit x)
 fit_of x rows (Err u) e f h = tt
 fit_of x rows (Ok found) e f h = subst (IsFit x) (sym h.same) (record {
@@ -41,12 +42,12 @@ other_schema x rows is other = λ r told fine schema.
     let same : rows_listed rows ≡ r = (let both = sym is ∙ told in cc) in
     other (subst (λ (q : Rows). q.meta.schema ≡ newest_schema) (sym same) schema)
 
-unfit_by : (x : Loaded) (rows : DeskRows) (u : Unfit) → is_some (only_meta x.meta.items) ≡ true → rows_from x ≡ Some (rows_listed rows) → IsUnfitOf rows u → IsUnfitBy x u
+unfit_by : (x : Loaded) (rows : DeskRows) (u : Unfit) → is_some (only_meta (contents_loaded x 0)) ≡ true → rows_from x ≡ Some (rows_listed rows) → IsUnfitOf rows u → IsUnfitBy x u
 unfit_by x rows (unfit.Broken r) e f h = same_broken x (rows_listed rows) e f ∙ h
 unfit_by x rows unfit.Schema e f h = (same_broken x (rows_listed rows) e f ∙ h.0, other_schema x rows f h.1)
 unfit_by x rows unfit.Memory e f h = tt
 
-pub unfit_of : (x : Loaded) (rows : DeskRows) (judged : Result DeskRows Unfit) → is_some (only_meta x.meta.items) ≡ true → rows_from x ≡ Some (rows_listed rows)
+pub unfit_of : (x : Loaded) (rows : DeskRows) (judged : Result DeskRows Unfit) → is_some (only_meta (contents_loaded x 0)) ≡ true → rows_from x ≡ Some (rows_listed rows)
     → IfErr judged (IsUnfitOf rows) → IfErr judged (IsUnfitBy x)
 unfit_of x rows (Ok found) e f h = tt
 unfit_of x rows (Err u) e f h = unfit_by x rows u e f h
@@ -57,12 +58,12 @@ none_of : {X : Type 0} (o : Option X) → is_some o ≡ false → o ≡ None
 none_of None e = refl
 none_of (Some x) e = absurd (cc)
 
-nothing_read : (x : Loaded) → is_some (only_meta x.meta.items) ≡ false → rows_from x ≡ None
+nothing_read : (x : Loaded) → is_some (only_meta (contents_loaded x 0)) ≡ false → rows_from x ≡ None
 unfolding rows_from
-nothing_read x e = let none : only_meta x.meta.items ≡ None = none_of (only_meta x.meta.items) e in rw none refl
+nothing_read x e = let none : only_meta (contents_loaded x 0) ≡ None = none_of (only_meta (contents_loaded x 0)) e in rw none refl
 
 pub broken_unfit : (x : Loaded) (b : Rule) → first_broken x ≡ Some b → IsUnfit x
-broken_unfit x b broken r told fine schema = elim (is_some (only_meta x.meta.items)) as (λ there. is_some (only_meta x.meta.items) ≡ there → ⊥) [
+broken_unfit x b broken r told fine schema = elim (is_some (only_meta (contents_loaded x 0))) as (λ there. is_some (only_meta (contents_loaded x 0)) ≡ there → ⊥) [
   | true ↦ λ e. (let both : Some b ≡ None = sym broken ∙ same_broken x r e told ∙ fine in absurd (cc))
   | false ↦ λ e. (let both : Some r ≡ None = sym told ∙ nothing_read x e in absurd (cc))
 ] refl

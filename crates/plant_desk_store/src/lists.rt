@@ -3,7 +3,7 @@
 ghost use Rattle.std.specs.Prelude.{◌≡◌, IfOk, map};
 ghost use Rattle.std.specs.List.{filter_map};
 ghost use Rattle.plant_desk.specs.Lists.{state_of, without_stock, without_progress};
-ghost use Rattle.plant_tables_judged.specs.Booked.{movement_from};
+ghost use Rattle.plant_tables_columns.specs.Booked.{movement_from};
 ghost use Rattle.plant_tables_judged.specs.Collecting.{rows_listed};
 ghost use Rattle.plant_good_found.specs.Restoring.{state_in};
 

@@ -24,7 +24,7 @@ use Rattle.plant_view.proofs.Tests.{and_left, and_right}
 use Rattle.plant_check_plans.specs.Batches.{control_sized, control_where_formed, control_of_found, control_asked_for, is_control, is_right_batch, are_batches}
 use Rattle.plant_check_plans.specs.Batches as rules
 use Rattle.plant_check_plans.specs.Orders.{recipe_among}
-use Rattle.plant_tables_judged.proofs.LineLemmas.{where_true}
+use Rattle.plant_tables_columns.proofs.Options.{where_true}
 use Rattle.plant_check_plans.specs.Recipes.{are_numbered}
 use Rattle.plant_good_found.specs.Restoring.{batch_without_columns}
 use Rattle.plant_good_found.proofs.Counted.{counted, counted_least, numbered_rows, id_of, alone_found}

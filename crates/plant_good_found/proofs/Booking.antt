@@ -7,15 +7,15 @@ use Rattle.plant_base.specs.declared.rows.MovementKind.{MovementKind}
 use Rattle.plant_base.specs.declared.rows.MovementKind.TheVariants as kind
 use Rattle.plant_base.specs.declared.rows.Movement.{Movement}
 use Rattle.plant_good.specs.Valued.{HasMovementValues, HasKindValues}
-use Rattle.plant_tables_judged.specs.Reading.{is_in}
-use Rattle.plant_tables_judged.specs.Booked.{names_nothing, batch_named, lot_named, sublot_named, kind_of_sort, kind_from, moved_as, movement_from, sort_of, other_lot, other_sublot, batch_of, booked_of}
-use Rattle.plant_tables_judged.specs.declared.booked.MovementSort.{MovementSort}
-use Rattle.plant_tables_judged.specs.declared.booked.MovementSort.TheVariants as sort
-use Rattle.plant_tables_judged.specs.declared.booked.BookedRow.{BookedRow}
-use Rattle.plant_tables_judged.proofs.ValueLemmas.{mapped, some_same, IsIdOrNone, IsSublotOrNone}
-use Rattle.plant_tables_judged.proofs.LineLemmas.{where_true}
-use Rattle.plant_tables_judged.proofs.KindLemmas.{Names, nothing_named, one_batch, one_lot, one_sublot}
-use Rattle.plant_good_found.proofs.Values.{HasBookedValues}
+use Rattle.plant_tables_columns.specs.Reading.{is_in}
+use Rattle.plant_tables_columns.specs.Booked.{names_nothing, batch_named, lot_named, sublot_named, kind_of_sort, kind_from, moved_as, movement_from, sort_of, other_lot, other_sublot, batch_of, booked_of}
+use Rattle.plant_tables_columns.specs.declared.booked.MovementSort.{MovementSort}
+use Rattle.plant_tables_columns.specs.declared.booked.MovementSort.TheVariants as sort
+use Rattle.plant_tables_columns.specs.declared.booked.BookedRow.{BookedRow}
+use Rattle.plant_tables_columns.proofs.KindLaws.{GoodOrNone}
+use Rattle.plant_tables_columns.proofs.Options.{mapped, some_same, where_true}
+use Rattle.plant_tables_columns.proofs.KindLemmas.{Names, nothing_named, one_batch, one_lot, one_sublot}
+use Rattle.plant_tables_columns.proofs.TableLaws.{HasBookedColumns}
 
 -- the row's columns are those that a movement of this kind is booked with
 record Books (s : MovementSort) (r : BookedRow) (k : MovementKind) : Type 0 where
@@ -64,19 +64,16 @@ all_booked (r ∷ rows) all = go (movement_from r) refl all.0 (all_booked rows a
 
 -- ---- the values of a movement are those of its row
 
-sublot_most : (n : ℕ) → is_in 0 greatest_sublot n ≡ true → n ≤ greatest_sublot
-sublot_most n h = leb-true n greatest_sublot (and_parts (nat_le 0 n) (nat_le n greatest_sublot) h).1
-
-kind_values : (k : MovementKind) (lot : List ℕ) → IsIdOrNone (other_lot k lot) → IsSublotOrNone (other_sublot k) → IsIdOrNone (batch_of k) → HasKindValues k
+kind_values : (k : MovementKind) (lot : List ℕ) → GoodOrNone (λ id. is_id id ≡ true) (other_lot k lot) → GoodOrNone (λ n. nat_le n greatest_sublot ≡ true) (other_sublot k) → GoodOrNone (λ id. is_id id ≡ true) (batch_of k) → HasKindValues k
 kind_values kind.Received lot a b c = tt
 kind_values (kind.Consumed batch) lot a b c = c
 kind_values (kind.Produced batch) lot a b c = c
 kind_values kind.Scrapped lot a b c = tt
-kind_values (kind.Divided to) lot a b c = sublot_most to b
+kind_values (kind.Divided to) lot a b c = leb-true to greatest_sublot b
 kind_values (kind.Split to) lot a b c = a
 kind_values (kind.Merged to) lot a b c = a
 
-pub movement_values : (r : BookedRow) (m : Movement) → movement_from r ≡ Some m → HasBookedValues r → HasMovementValues m
+pub movement_values : (r : BookedRow) (m : Movement) → movement_from r ≡ Some m → HasBookedColumns r → HasMovementValues m
 movement_values r m h good =
-    let v : HasBookedValues (booked_of m) = subst HasBookedValues (booked_is r m h) good in
-    record { kind = kind_values m.kind m.lot v.lot2 v.sub2 v.batch; lot = v.lot; sub = v.sub; amount = v.amount; at = v.at; by = v.by; note = v.note }
+    let v : HasBookedColumns (booked_of m) = subst HasBookedColumns (booked_is r m h) good in
+    record { kind = kind_values m.kind m.lot v.lot2 v.sub2 v.batch; lot = v.lot; sub = leb-true m.sub greatest_sublot v.sub; amount = v.amount; at = v.at; by = v.by; note = v.note }

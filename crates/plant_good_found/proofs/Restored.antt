@@ -13,10 +13,11 @@ use Rattle.plant_good.specs.Good.{IsGood}
 use Rattle.plant_good.specs.Valued.{HasRowValues, HasPlaceValues, HasMovementValues}
 use Rattle.table_forms.specs.Standing.{Stands}
 use Rattle.plant_tables.specs.DeskTables.{contents_of}
-use Rattle.plant_tables_judged.specs.Booked.{movement_from, booked_of}
+use Rattle.plant_tables_stored.specs.Loading.{contents_loaded}
+use Rattle.plant_tables_columns.specs.Booked.{movement_from, booked_of}
 use Rattle.plant_tables_judged.specs.Collecting.{Rows, rows_from, tables_in, AreWhole, AreInOrder}
-use Rattle.plant_tables_judged.specs.Judging.{only_meta}
-use Rattle.plant_tables_judged.specs.declared.booked.BookedRow.{BookedRow}
+use Rattle.plant_tables_columns.specs.Judging.{only_meta}
+use Rattle.plant_tables_columns.specs.declared.booked.BookedRow.{BookedRow}
 use Rattle.plant_tables_judged.proofs.StandLemmas.{stands_for}
 use Rattle.plant_check.specs.Broken.{movements_in, broken_rows, first_broken_of, first_broken}
 use Rattle.plant_check.specs.Ends.{are_stocks}
@@ -36,7 +37,8 @@ use Rattle.plant_good_found.proofs.Passing.{PassesAll, obeyed, passes_all}
 use Rattle.plant_good_found.proofs.Recipes.{sound_recipes}
 use Rattle.plant_good_found.proofs.Recipes as recipes
 use Rattle.plant_good_found.proofs.Rising.{in_order}
-use Rattle.plant_good_found.proofs.Values.{HaveValues, HasSublotValues, HasBookedValues, have_values}
+use Rattle.plant_tables_columns.proofs.TableLaws.{HasBookedColumns}
+use Rattle.plant_good_found.proofs.Values.{HaveValues, HasSublotValues, have_values}
 
 module _ (r : Rows) (p : PassesAll r) where
   whole_movements : AllByRecursion (λ m. is_some (movement_from m) ≡ true) r.movements
@@ -62,7 +64,7 @@ module _ (r : Rows) (p : PassesAll r) where
 
   module _ (v : HaveValues r) where
     values_moved : AllByRecursion HasMovementValues (movements_in r.movements)
-    values_moved = all_gathered movement_from HasBookedValues HasMovementValues movement_values r.movements v.movements
+    values_moved = all_gathered movement_from HasBookedColumns HasMovementValues movement_values r.movements v.movements
 
     values : HasRowValues (state_in r)
     values = record {
@@ -135,7 +137,7 @@ unbroken_holds db x r u stand =
     let g = unbroken_good x r u in
     record {
       sound = stand.sound;
-      each = λ i form e. subst (Stands db form) (stands_for x r u.read g.whole i ∙ ap (λ t. contents_of t i) g.tables) (stand.each i form e);
+      each = λ i form e. subst (Stands db form) (stands_for x r u.read g.whole i form e ∙ ap (λ t. contents_of t i) g.tables) (stand.each i form e);
     }
 
 rows_of : (rows : Option Rows) → broken_rows rows ≡ None → (r : Rows) × (rows ≡ Some r) × (first_broken_of r ≡ None)
@@ -144,4 +146,4 @@ rows_of (Some r) e = (r, refl, e)
 
 pub unbroken_read : UnbrokenIsRead
 unfolding first_broken
-unbroken_read x e = rows_of (rows_from x) (obeyed (is_some (only_meta x.meta.items)) _ _ e).1
+unbroken_read x e = rows_of (rows_from x) (obeyed (is_some (only_meta (contents_loaded x 0))) _ _ e).1

@@ -9,8 +9,8 @@ use Rattle.plant_base.specs.declared.rows.Sublot.{Sublot}
 use Rattle.plant_stock.specs.Stock.{goes_to, comes_from, is_place, entered, left}
 use Rattle.plant_stock.specs.Stock as flows
 use Rattle.plant_good.specs.Births as births
-use Rattle.plant_tables_judged.specs.Booked.{booked_of}
-use Rattle.plant_tables_judged.specs.declared.booked.BookedRow.{BookedRow}
+use Rattle.plant_tables_columns.specs.Booked.{booked_of}
+use Rattle.plant_tables_columns.specs.declared.booked.BookedRow.{BookedRow}
 use Rattle.plant_check.specs.Ends.{entered_by, left_by, entries, exits, total_of, has_right_stock, are_stocks}
 use Rattle.plant_good_found.proofs.Members.{IsIn, pass_at}
 

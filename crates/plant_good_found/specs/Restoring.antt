@@ -14,7 +14,7 @@ use Rattle.plant_tables.specs.DeskForms.{desk_forms}
 use Rattle.plant_tables.specs.Keyed.{HoldsTables}
 use Rattle.plant_tables_stored.specs.Loading.{AreRising, contents_loaded}
 use Rattle.plant_tables_stored.specs.declared.loaded.Loaded.{Loaded}
-use Rattle.plant_tables_judged.specs.Booked.{movement_from}
+use Rattle.plant_tables_columns.specs.Booked.{movement_from}
 use Rattle.plant_tables_judged.specs.Collecting.{Rows, rows_from, tables_in, AreWhole}
 use Rattle.plant_check.specs.Broken.{first_broken, first_broken_of}
 

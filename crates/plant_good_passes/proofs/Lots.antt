@@ -24,8 +24,8 @@ use Rattle.plant_check_plans.specs.Recipes.{are_numbered}
 use Rattle.plant_good.specs.Births as kept
 use Rattle.plant_good.specs.Bookings.{AreCounted}
 use Rattle.plant_good.specs.Good.{IsGood}
-use Rattle.plant_tables_judged.specs.Booked.{booked_of, sort_of}
-use Rattle.plant_tables_judged.specs.declared.booked.BookedRow.{BookedRow}
+use Rattle.plant_tables_columns.specs.Booked.{booked_of, sort_of}
+use Rattle.plant_tables_columns.specs.declared.booked.BookedRow.{BookedRow}
 use Rattle.plant_check.specs.Ends.{entries, total_of}
 use Rattle.plant_check.specs.Lots.{are_from_zero, sublots_among, is_right_lot, is_division_sort, are_of_one_sort, is_of_one_birth, is_one_birth, is_one_division, is_born, is_lot_among, is_right_sublot, are_lots}
 use Rattle.plant_good_passes.proofs.Testing.{all_pass, any_found, filter_mapped}

@@ -31,9 +31,9 @@ use Rattle.plant_good.specs.Bookings.{booked, AreDistinct}
 use Rattle.plant_good.specs.Keeping.{IsAsked}
 use Rattle.plant_good.specs.Good.{IsGood}
 use Rattle.plant_check_stock.specs.Movements.{is_there, is_batch_there, names_known, are_of_one, is_asked_for, is_yielded, is_of_right_definition, is_merged, parts_of, are_distinct, are_parts, is_right_movement, are_movements}
-use Rattle.plant_tables_judged.specs.Booked.{movement_from, booked_of}
-use Rattle.plant_tables_judged.specs.declared.booked.BookedRow.{BookedRow}
-use Rattle.plant_tables_judged.proofs.KindLemmas.{movement_again}
+use Rattle.plant_tables_columns.specs.Booked.{movement_from, booked_of}
+use Rattle.plant_tables_columns.specs.declared.booked.BookedRow.{BookedRow}
+use Rattle.plant_tables_columns.proofs.KindLemmas.{movement_again}
 use Rattle.plant_check.specs.Broken.{are_whole}
 use Rattle.plant_good_passes.proofs.Testing.{all_pass, none_any, any_found}
 use Rattle.plant_good_passes.proofs.Events.{batch_there}

@@ -8,10 +8,10 @@ use Rattle.plant_view.specs.Genealogy.{edges_among}
 use Rattle.plant_view.specs.Tables.{tables_of}
 use Rattle.plant_good.specs.Good.{IsGood}
 use Rattle.plant_tables.specs.Keyed.{HoldsTables}
-use Rattle.plant_tables_stored.specs.Loading.{AreLoaded}
+use Rattle.plant_tables_stored.specs.Loading.{AreLoaded, contents_loaded}
 use Rattle.plant_tables_stored.specs.declared.loaded.Loaded.{Loaded}
 use Rattle.plant_tables_judged.specs.Collecting.{Rows, rows_from, rows_in}
-use Rattle.plant_tables_judged.specs.Judging.{only_meta}
+use Rattle.plant_tables_columns.specs.Judging.{only_meta}
 use Rattle.plant_tables_judged.proofs.AgainLemmas.{read_again}
 use Rattle.plant_check.specs.Broken.{unless, or_else, are_acyclic, broken_plan, broken_lot, broken_history, first_broken_of, are_right_movements, are_right_numbers, broken_rows, first_broken}
 use Rattle.plant_check.specs.declared.rule.Rule.{Rule}
@@ -65,11 +65,11 @@ module _ (s : State) (good : IsGood s) where
       ∙ history_unbroken
 
 -- rows that are read have a meta
-meta_read : (x : Loaded) (r : Rows) → rows_from x ≡ Some r → is_some (only_meta x.meta.items) ≡ true
+meta_read : (x : Loaded) (r : Rows) → rows_from x ≡ Some r → is_some (only_meta (contents_loaded x 0)) ≡ true
 unfolding rows_from
-meta_read x r read = by (only_meta x.meta.items) refl
+meta_read x r read = by (only_meta (contents_loaded x 0)) refl
   where
-    by : (o : Option Meta) → only_meta x.meta.items ≡ o → is_some o ≡ true
+    by : (o : Option Meta) → only_meta (contents_loaded x 0) ≡ o → is_some o ≡ true
     by (Some meta) e = refl
     by None e = let none : rows_from x ≡ None = rw e refl in absurd cc
 

@@ -40,10 +40,10 @@ use Rattle.plant_good.specs.Good.{IsGood}
 use Rattle.plant_good.proofs.KeptColumns.{columns}
 use Rattle.plant_good.proofs.Listing.{all_swap, all_passing}
 use Rattle.plant_good_keys.proofs.TableKeys.{keyed}
-use Rattle.plant_tables_judged.specs.Reading.{is_in}
+use Rattle.plant_tables_columns.specs.Reading.{is_in}
 use Rattle.plant_tables_judged.specs.Collecting.{AreInOrder}
 use Rattle.plant_base.specs.RowValues.{HasClassValues, HasDefinitionValues, HasLotValues, HasHoldValues, HasPhaseNumber}
-use Rattle.plant_tables_judged.specs.Obeying.{HasRecipeValues, IsLineNumber, HasMasterLineValues, HasBatchRowValues, HasControlLineValues, HasEventRowValues, HasSublotValues, HasKindRowValues, HasMovementRowValues, HasGoodValues}
+use Rattle.plant_tables_columns.specs.Obeying.{HasRecipeValues, IsLineNumber, HasMasterLineValues, HasBatchRowValues, HasControlLineValues, HasEventRowValues, HasSublotValues, HasKindRowValues, HasMovementRowValues, HasGoodValues}
 
 -- ---- order
 

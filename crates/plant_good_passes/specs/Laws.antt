@@ -8,7 +8,7 @@ use Rattle.plant_tables.specs.Keyed.{HoldsTables}
 use Rattle.plant_tables_stored.specs.Loading.{AreLoaded}
 use Rattle.plant_tables_stored.specs.declared.loaded.Loaded.{Loaded}
 use Rattle.plant_tables_judged.specs.Collecting.{rows_from, rows_in, AreInOrder}
-use Rattle.plant_tables_judged.specs.Obeying.{HasGoodValues}
+use Rattle.plant_tables_columns.specs.Obeying.{HasGoodValues}
 use Rattle.plant_check.specs.Broken.{first_broken_of, first_broken}
 
 -- the rows of each table of a good state stand in the order of their keys, none with the key of another

@@ -1,6 +1,6 @@
 use Rattle.std.proofs.Common.{◌≡◌, true, false, None, Some, is_some, sym, rules}
 use Rattle.plant_tables_judged.specs.Collecting.{rows_from, rows_listed}
-use Rattle.plant_tables_judged.specs.Judging.{only_meta}
+use Rattle.plant_tables_columns.specs.Judging.{only_meta}
 use Rattle.plant_desk_store.proofs.Fitting.{no_meta, no_rows, fit_of, unfit_of}
 use Rattle.plant_desk_store.proofs.fitness.judge.Goals as goal
 

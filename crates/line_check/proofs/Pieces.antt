@@ -1,9 +1,9 @@
 -- What is held of the coming line gives the same verdicts as the whole line.
-use Rattle.std.proofs.Common.{◌≡◌, ℕ, ◌<◌, ◌≤◌, ◌+◌, ◌-◌, List, [], ◌∷◌, ◌++◌, length, take, get_or, Bool, true, false, nat_lt, nat_eq, cond, refl, sym, ap, ◌∙◌, ⊎_elim, arith, length-append}
-use Rattle.std.proofs.lemmas.List.{take-append-le, take_all, length-take, length-take-le, map-append}
+use Rattle.std.proofs.Common.{◌≡◌, ℕ, ◌<◌, ◌≤◌, ◌+◌, ◌-◌, List, [], ◌∷◌, ◌++◌, length, take, get_or, true, false, nat_lt, nat_eq, cond, refl, sym, ap, ◌∙◌, ⊎_elim, arith, length-append}
+use Rattle.std.proofs.lemmas.List.{take-append-le, take_all, length-take, length-take-le}
 use Rattle.std.proofs.lemmas.Bool.{cases_lt}
 use Rattle.std.proofs.lemmas.Bool.Decides.{nat_tests}
-use Rattle.std.specs.Str.Lines.{strip_carriage_return, lines}
+use Rattle.std.specs.Str.Lines.{strip_carriage_return}
 use Rattle.plant_text.specs.Session.{ended_from, part_from, ended_lines}
 use Rattle.plant_text.specs.Held.{room, held_with, held_after}
 use Rattle.plant_text.proofs.HeldLemmas.{by_bool, held_after-front}

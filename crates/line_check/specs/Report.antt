@@ -1,5 +1,5 @@
 -- What is told of the lines of an input.
-use Rattle.std.specs.Prelude.{◌≡◌, ℕ, ◌+◌, ◌==◌, List, [], ◌∷◌, ◌++◌, length, map, Bool, true, false, nat_lt, if◌then◌else◌, codes, decimal, Option}
+use Rattle.std.specs.Prelude.{◌≡◌, ℕ, ◌+◌, ◌==◌, List, [], ◌∷◌, ◌++◌, map, Bool, true, false, if◌then◌else◌, codes, decimal, Option}
 use Rattle.std.specs.Str.Lines.{strip_carriage_return, lines}
 use Rattle.std.specs.Io.KnownBytes.{Appends}
 use Rattle.plant_text.specs.Held.{held_with}
@@ -61,6 +61,10 @@ report bytes = texts 0 (verdicts (lines bytes)) ++ end_text (tally_after no_line
 -- some line of the input is bad
 abbrev pub some_bad : List ℕ → Bool
 some_bad bytes = (tally_after no_lines (verdicts (lines bytes))).bad
+
+-- the exit status of a check that told all
+abbrev pub status_of : Bool → ℕ
+status_of bad = if bad then 1 else 0
 
 -- ---- over bytes that come in pieces
 

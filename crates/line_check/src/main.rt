@@ -1,6 +1,9 @@
 //! Checks lines on standard input before they are sent: what is wrong with each that is no command and no question.
 #![tactic(auto)]
 
+ghost use Rattle.std.specs.Prelude.{◌≡◌};
+ghost use Rattle.line_check.specs.Report.{status_of};
+
 mod judge;
 mod lines;
 mod members;
@@ -44,7 +47,9 @@ fn main(rt: HostRuntime) -> ExitCode {
 }
 
 /// The exit status of a check that told all.
-fn status(bad: bool) -> u8 {
+fn status(bad: bool) -> u8
+    ensures { result ≡ status_of bad }
+{
     if bad { BAD } else { 0 }
 }
 

@@ -33,7 +33,7 @@ fn good_lines_are_counted(rt: HostRuntime) -> Result<(), Fail> {
         .as_slice();
     let mut told = Vec::new(rt.alloc());
     assert!(rt; check_lines(rt.alloc(), &mut lines, &mut told) == Ok(false));
-    assert!(rt; told.as_slice() == b"1 commands, 2 questions\n");
+    assert!(rt; told.as_slice() == b"1 commands, 2 questions\n".as_slice());
     Ok(())
 }
 
@@ -42,7 +42,7 @@ fn a_longer_line_is_told(rt: HostRuntime) -> Result<(), Fail> {
     let mut told = Vec::new(rt.alloc());
     let mut blanks = io::repeat(b' ').take(262_145);
     assert!(rt; check_lines(rt.alloc(), &mut blanks, &mut told) == Ok(true));
-    assert!(rt; told.as_slice() == b"line 1: longer than 262144 bytes\n");
+    assert!(rt; told.as_slice() == b"line 1: longer than 262144 bytes\n".as_slice());
     Ok(())
 }
 
@@ -51,7 +51,7 @@ fn a_longest_line_is_read(rt: HostRuntime) -> Result<(), Fail> {
     let mut told = Vec::new(rt.alloc());
     let mut blanks = io::repeat(b' ').take(262_144);
     assert!(rt; check_lines(rt.alloc(), &mut blanks, &mut told) == Ok(true));
-    assert!(rt; told.as_slice() == b"line 1: not a JSON text\n");
+    assert!(rt; told.as_slice() == b"line 1: not a JSON text\n".as_slice());
     Ok(())
 }
 

@@ -1,4 +1,4 @@
-use Rattle.std.proofs.Common.{◌≡◌, ◌≤◌, length, sym, ◌∙◌, arith}
+use Rattle.std.proofs.Common.{◌≤◌, length, sym, ◌∙◌, arith}
 use Rattle.plant_text.specs.Lines.{longest_line}
 use Rattle.line_check.proofs.Judging.{problem_at_value, problem_at_refusal, problem_long}
 use Rattle.line_check.proofs.judge.problem_of_line.Goals as goal

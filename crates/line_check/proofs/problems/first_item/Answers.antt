@@ -1,7 +1,5 @@
-use Rattle.std.proofs.Common.{◌≡◌, ◌+◌, sym, ap, ◌∙◌, subst, drop, ℕ}
-use Rattle.serde_json.specs.View.{items_view}
-use Rattle.line_check.specs.Problems.{first_item}
-use Rattle.line_check.proofs.Flaws.{item_later, item_there, item_nowhere}
+use Rattle.std.proofs.Common.{sym, ◌∙◌}
+use Rattle.line_check.proofs.Flaws.{item_there, item_nowhere}
 use Rattle.line_check.proofs.problems.first_item.Goals as goal
 
 pub returns-in-Some : goal.returns-in-Some

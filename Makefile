@@ -2,10 +2,11 @@
 # make run   proves and builds the desk, and runs that batch over a file, build/plant.db, which is made anew
 # make desk  leaves the built program at build/desk
 # make order_check  leaves the built check of order files at build/order_check
+# make line_check  leaves the built check of lines at build/line_check
 # make test  the gate: that the programs are run on what stands in examples/, then, from nothing, every proof, every
 #            must-fail edit, every test and the programs, and then sessions of the built desk and the
 #            examples of the documents
-.PHONY: look run desk order_check test
+.PHONY: look run desk order_check line_check test
 
 look:
 	cd crates/desk && rt try < stdin
@@ -25,6 +26,11 @@ order_check:
 	cd crates/order_check && rt run < stdin
 	mkdir -p build
 	cp crates/order_check/out/order_check build/order_check
+
+line_check:
+	cd crates/line_check && rt run < /dev/null
+	mkdir -p build
+	cp crates/line_check/out/line_check build/line_check
 
 test:
 	cmp examples/orders.csv crates/order_check/stdin

@@ -1,0 +1,4 @@
+pub mod Flaws
+pub mod Judging
+pub mod Pieces
+pub mod Reports

@@ -1,0 +1,6 @@
+pub mod Members
+pub mod Problems
+pub mod Report
+pub mod Rules
+pub mod Shapes
+pub mod Verdicts

@@ -1,0 +1,79 @@
+-- What is told of the lines of an input.
+use Rattle.std.specs.Prelude.{◌≡◌, ℕ, ◌+◌, ◌==◌, List, [], ◌∷◌, ◌++◌, map, Bool, true, false, if◌then◌else◌, codes, decimal, Option}
+use Rattle.std.specs.Str.Lines.{strip_carriage_return, lines}
+use Rattle.std.specs.Io.KnownBytes.{Appends}
+use Rattle.plant_text.specs.Held.{held_with}
+use Rattle.plant_text.specs.Writes.{with_lf}
+use Rattle.line_check.specs.declared.judge.Verdict.{Verdict}
+use Rattle.line_check.specs.declared.judge.Verdict.TheVariants as verdict
+use Rattle.line_check.specs.declared.problems.Problem.{Problem}
+use Rattle.line_check.specs.declared.lines.Tally.{Tally}
+use Rattle.line_check.specs.Problems.{problem_text}
+use Rattle.line_check.specs.Verdicts.{verdict_of}
+
+-- ---- the report on an input
+
+abbrev pub verdicts : List (List ℕ) → List Verdict
+verdicts ls = map verdict_of ls
+
+-- what is told of the line of a number, without its LF
+abbrev pub told_text : ℕ → Problem → List ℕ
+told_text number p = codes "line " ++ decimal number ++ codes ": " ++ problem_text p
+
+-- a bad line is told, and no other
+abbrev pub line_text : ℕ → Verdict → List ℕ
+line_text number verdict.Nothing = []
+line_text number verdict.Command = []
+line_text number verdict.Question = []
+line_text number (verdict.Bad p) = with_lf (told_text number p)
+
+-- what is told of the lines behind so many
+abbrev pub texts : ℕ → List Verdict → List ℕ
+texts before [] = []
+texts before (v ∷ vs) = line_text (before + 1) v ++ texts (before + 1) vs
+
+-- a line more
+abbrev pub counted : Tally → Verdict → Tally
+counted t verdict.Nothing = record { lines = t.lines + 1; commands = t.commands; questions = t.questions; bad = t.bad }
+counted t verdict.Command = record { lines = t.lines + 1; commands = t.commands + 1; questions = t.questions; bad = t.bad }
+counted t verdict.Question = record { lines = t.lines + 1; commands = t.commands; questions = t.questions + 1; bad = t.bad }
+counted t (verdict.Bad p) = record { lines = t.lines + 1; commands = t.commands; questions = t.questions; bad = true }
+
+abbrev pub tally_after : Tally → List Verdict → Tally
+tally_after t [] = t
+tally_after t (v ∷ vs) = tally_after (counted t v) vs
+
+abbrev pub counts_text : Tally → List ℕ
+counts_text t = decimal t.commands ++ codes " commands, " ++ decimal t.questions ++ codes " questions"
+
+-- the counts are told where no line is bad
+abbrev pub end_text : Tally → List ℕ
+end_text t = if t.bad then [] else with_lf (counts_text t)
+
+-- the tally before the first line
+abbrev pub no_lines : Tally
+no_lines = record { lines = 0; commands = 0; questions = 0; bad = false }
+
+-- the report on an input, whose lines are std's
+abbrev pub report : List ℕ → List ℕ
+report bytes = texts 0 (verdicts (lines bytes)) ++ end_text (tally_after no_lines (verdicts (lines bytes)))
+
+-- some line of the input is bad
+abbrev pub some_bad : List ℕ → Bool
+some_bad bytes = (tally_after no_lines (verdicts (lines bytes))).bad
+
+-- the exit status of a check that told all
+abbrev pub status_of : Bool → ℕ
+status_of bad = if bad then 1 else 0
+
+-- ---- over bytes that come in pieces
+
+-- the verdicts on the lines that end in the bytes, where so much is held of the first
+unfoldable pub verdicts_after : List ℕ → List ℕ → List Verdict
+verdicts_after held [] = []
+verdicts_after held (b ∷ bs) = if b == 10 then verdict_of (strip_carriage_return held) ∷ verdicts_after [] bs else verdicts_after (held_with held b) bs
+
+-- these verdicts were told and counted
+pub record Told (start : Tally) (vs : List Verdict) (old new : Option (List ℕ)) (now : Tally) : Type 0 where
+  pub text : Appends old new (texts start.lines vs)
+  pub tally : now ≡ tally_after start vs

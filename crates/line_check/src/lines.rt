@@ -1,0 +1,349 @@
+//! The verdicts on the lines of an input.
+ghost use Rattle.std.specs.Prelude.{◌≡◌, ℕ, ◌+◌, ◌<◌, List, [], ◌∷◌, ◌++◌, length, Option, Some, OnOk, IfOk};
+ghost use Rattle.std.specs.Str.Lines.{strip_carriage_return};
+ghost use Rattle.std.specs.Io.KnownBytes.{Appends, Consumes, IsAtEnd};
+ghost use Rattle.plant_text.specs.Held.{held_with, held_after};
+ghost use Rattle.plant_text.specs.Writes.{with_lf};
+ghost use Rattle.line_check.specs.Verdicts.{verdict_of};
+ghost use Rattle.line_check.specs.Report.{told_text, line_text, counted, counts_text, end_text, no_lines, report, some_bad, verdicts_after, Told};
+
+use crate::judge::{NoMemory, Verdict, judge_line};
+use crate::problems::Problem;
+use plant_text::{Unwritten, write_line};
+use std::alloc::Global;
+use std::fmt;
+use std::io::{Read, Write};
+
+/// How many lines there were, and what they were.
+#[derive(Clone, Copy, Debug, PartialEq, Eq)]
+pub(crate) struct Tally {
+    /// All lines, also empty ones.
+    lines: u64,
+    commands: u64,
+    questions: u64,
+    /// Whether some line was bad.
+    bad: bool,
+}
+
+/// Why a check ends before it has told all.
+#[derive(Clone, Copy, Debug, PartialEq, Eq)]
+pub(crate) enum Fault {
+    /// A read failed, or the input had not ended after 10^9 reads.
+    Read,
+    /// A text couldn't be written whole.
+    Write,
+    /// Memory was refused.
+    Memory,
+}
+
+/// The bytes of a line that are held. A longer line than may be read is told by these.
+const ROOM: usize = 262_146;
+
+/// After so many reads a check ends.
+const MOST_READS: u64 = 1_000_000_000;
+
+/// What is told of a bad line.
+#[derive(Clone, Copy)]
+struct ToldLine {
+    number: u64,
+    problem: Problem,
+}
+
+impl fmt::Display for ToldLine {
+    ghost output = { λ told. Some (told_text told.number told.problem) };
+
+    fn fmt<W: fmt::Write>(&self, f: &mut fmt::Formatter<W>) -> fmt::Result {
+        let number = self.number;
+        let problem = self.problem;
+        write!(f, "line {number}: {problem}")
+    }
+}
+
+impl fmt::Display for Tally {
+    ghost output = { λ tally. Some (counts_text tally) };
+
+    fn fmt<W: fmt::Write>(&self, f: &mut fmt::Formatter<W>) -> fmt::Result {
+        let commands = self.commands;
+        let questions = self.questions;
+        write!(f, "{commands} commands, {questions} questions")
+    }
+}
+
+/// Writes a text and an LF.
+fn tell<W: Write>(writer: &mut W, text: &[u8]) -> Result<(), Fault>
+    ensures { OnOk result (Appends (W.contents writer.old) (W.contents writer.new)
+        (with_lf text.now)) }
+{
+    match write_line(writer, text) {
+        Ok(()) => Ok(()),
+        Err(Unwritten) => Err(Fault::Write),
+    }
+}
+
+/// Tells the problem of the line of a number.
+fn tell_line<W: Write>(
+    alloc: Global,
+    writer: &mut W,
+    number: u64,
+    problem: Problem,
+) -> Result<(), Fault>
+    ensures { OnOk result (Appends (W.contents writer.old) (W.contents writer.new)
+        (with_lf (told_text number problem))) }
+{
+    let told = ToldLine { number, problem };
+    match told.to_string(alloc) {
+        Ok(text) => tell(writer, text.as_bytes()),
+        Err(_) => Err(Fault::Memory),
+    }
+}
+
+/// Tells the counts.
+fn tell_counts<W: Write>(alloc: Global, writer: &mut W, tally: Tally) -> Result<(), Fault>
+    ensures { OnOk result (Appends (W.contents writer.old) (W.contents writer.new)
+        (with_lf (counts_text tally))) }
+{
+    match tally.to_string(alloc) {
+        Ok(text) => tell(writer, text.as_bytes()),
+        Err(_) => Err(Fault::Memory),
+    }
+}
+
+/// The number after this one. An input has fewer lines than would need another.
+fn next(number: u64) -> Result<u64, Fault>
+    ensures { IfOk result (λ n. n ≡ number + 1) }
+{
+    match number.checked_add(1) {
+        Some(n) => Ok(n),
+        None => Err(Fault::Read),
+    }
+}
+
+/// Counts a line more.
+fn counted(tally: Tally, verdict: Verdict) -> Result<Tally, Fault>
+    ensures { IfOk result (λ now. now ≡ counted tally verdict) }
+{
+    let mut now = tally;
+    now.lines = next(tally.lines)?;
+    match verdict {
+        Verdict::Nothing => {}
+        Verdict::Command => now.commands = next(tally.commands)?,
+        Verdict::Question => now.questions = next(tally.questions)?,
+        Verdict::Bad(_) => now.bad = true,
+    }
+    Ok(now)
+}
+
+/// Tells a line of this verdict where it is bad, and counts it.
+fn take_verdict<W: Write>(
+    alloc: Global,
+    writer: &mut W,
+    tally: Tally,
+    verdict: Verdict,
+) -> Result<Tally, Fault>
+    ensures tally { IfOk result (λ now. now ≡ counted tally verdict) }
+    ensures text { OnOk result (Appends (W.contents writer.old) (W.contents writer.new)
+        (line_text (tally.lines + 1) verdict)) }
+{
+    let now = counted(tally, verdict)?;
+    match &verdict {
+        Verdict::Bad(problem) => match tell_line(alloc, writer, now.lines, *problem) {
+            Ok(()) => Ok(now),
+            Err(fault) => Err(fault),
+        },
+        Verdict::Nothing | Verdict::Command | Verdict::Question => Ok(now),
+    }
+}
+
+/// Takes one line.
+fn take_line<W: Write>(
+    alloc: Global,
+    writer: &mut W,
+    tally: Tally,
+    line: &[u8],
+) -> Result<Tally, Fault>
+    ensures { IfOk result (λ now. Told tally (verdict_of line.now ∷ [])
+        (W.contents writer.old) (W.contents writer.new) now) }
+{
+    match judge_line(alloc, line) {
+        Ok(verdict) => take_verdict(alloc, writer, tally, verdict),
+        Err(NoMemory) => Err(Fault::Memory),
+    }
+}
+
+/// The line less one CR at its end.
+fn stripped(line: &[u8]) -> &[u8]
+    ensures { result.now ≡ strip_carriage_return line.now }
+{
+    let n = line.len();
+    if n > 0 && line[n - 1] == b'\r' {
+        &line[..n - 1]
+    } else {
+        line
+    }
+}
+
+/// Takes the line that is held, and forgets it.
+fn end_line<W: Write>(
+    alloc: Global,
+    writer: &mut W,
+    held: &mut Vec<u8>,
+    tally: Tally,
+) -> Result<Tally, Fault>
+    ensures held { OnOk result (held.new.items ≡ []) }
+    ensures told { IfOk result (λ now. Told tally
+        (verdict_of (strip_carriage_return held.old.items) ∷ [])
+        (W.contents writer.old) (W.contents writer.new) now) }
+{
+    match take_line(alloc, writer, tally, stripped(held)) {
+        Ok(now) => {
+            held.clear();
+            Ok(now)
+        }
+        Err(fault) => Err(fault),
+    }
+}
+
+/// Holds a byte more of the line, while there is room.
+fn hold_byte(held: &mut Vec<u8>, b: u8) -> Result<(), Fault>
+    ensures { OnOk result (held.new.items ≡ held_with held.old.items b) }
+{
+    if held.len() < ROOM && held.push(b).is_err() {
+        return Err(Fault::Memory);
+    }
+    Ok(())
+}
+
+/// Takes one byte.
+fn take_byte<W: Write>(
+    alloc: Global,
+    writer: &mut W,
+    held: &mut Vec<u8>,
+    tally: Tally,
+    b: u8,
+) -> Result<Tally, Fault>
+    ensures held { OnOk result (held.new.items ≡ held_after held.old.items (b ∷ [])) }
+    ensures told { IfOk result (λ now. Told tally (verdicts_after held.old.items (b ∷ []))
+        (W.contents writer.old) (W.contents writer.new) now) }
+{
+    if b == b'\n' {
+        return end_line(alloc, writer, held, tally);
+    }
+    match hold_byte(held, b) {
+        Ok(()) => Ok(tally),
+        Err(fault) => Err(fault),
+    }
+}
+
+/// Takes the bytes of one read: each line that ends in them is judged.
+fn take_piece<W: Write>(
+    alloc: Global,
+    writer: &mut W,
+    held: &mut Vec<u8>,
+    tally: Tally,
+    piece: &[u8],
+) -> Result<Tally, Fault>
+    ensures held { OnOk result (held.new.items ≡ held_after held.old.items piece.now) }
+    ensures told { IfOk result (λ now. Told tally (verdicts_after held.old.items piece.now)
+        (W.contents writer.old) (W.contents writer.new) now) }
+{
+    let mut tally = tally;
+    for b in piece {
+        match take_byte(alloc, writer, held, tally, *b) {
+            Ok(now) => tally = now,
+            Err(fault) => return Err(fault),
+        }
+    }
+    Ok(tally)
+}
+
+/// Tells the end: the counts, where no line was bad.
+fn tell_end<W: Write>(alloc: Global, writer: &mut W, tally: Tally) -> Result<bool, Fault>
+    ensures good { IfOk result (λ bad. bad ≡ tally.bad) }
+    ensures text { OnOk result (Appends (W.contents writer.old) (W.contents writer.new)
+        (end_text tally)) }
+{
+    if tally.bad {
+        return Ok(true);
+    }
+    match tell_counts(alloc, writer, tally) {
+        Ok(()) => Ok(false),
+        Err(fault) => Err(fault),
+    }
+}
+
+/// Takes the last line, which no LF ended, and tells the end.
+fn end_input<W: Write>(
+    alloc: Global,
+    writer: &mut W,
+    held: &[u8],
+    tally: Tally,
+) -> Result<bool, Fault>
+    ensures { IfOk result (λ bad. (now : Tally) × (between : Option (List ℕ))
+        × Told tally (verdict_of held.now ∷ []) (W.contents writer.old) between now
+        × Appends between (W.contents writer.new) (end_text now) × (bad ≡ now.bad)) }
+{
+    match take_line(alloc, writer, tally, held) {
+        Ok(now) => tell_end(alloc, writer, now),
+        Err(fault) => Err(fault),
+    }
+}
+
+/// Reads into `piece` and judges, up to the end of the input or so many reads.
+fn check_pieces<R: Read, W: Write>(
+    alloc: Global,
+    reader: &mut R,
+    writer: &mut W,
+    piece: &mut [u8],
+    most: u64,
+) -> Result<bool, Fault>
+    requires { 0 < length piece.old }
+    ensures { IfOk result (λ bad. (bytes : List ℕ)
+        × Consumes (R.remaining reader.old) (R.remaining reader.new) bytes
+        × IsAtEnd (R.remaining reader.new)
+        × Appends (W.contents writer.old) (W.contents writer.new) (report bytes)
+        × (bad ≡ some_bad bytes)) }
+{
+    let mut held = Vec::new(alloc);
+    let mut tally = Tally {
+        lines: 0,
+        commands: 0,
+        questions: 0,
+        bad: false,
+    };
+    'reads: for _made in 0..most {
+        match reader.read(piece) {
+            Ok(0) => return end_input(alloc, writer, &held, tally),
+            Ok(n) => {
+                let (front, _) = piece.split_at(n);
+                match take_piece(alloc, writer, &mut held, tally, front) {
+                    Ok(now) => tally = now,
+                    Err(fault) => return Err(fault),
+                }
+            }
+            Err(_) => return Err(Fault::Read),
+        }
+    }
+    Err(Fault::Read)
+}
+
+/// Judges the lines of an input one after the other, and executes none: writes a line for each that is bad, with its number and its
+/// problem, and where there was none, how many commands and questions there were. `true` where some line is bad.
+///
+/// A line ends with LF, and one CR before it is dropped; what stands behind the last LF counts as it stands. An empty line is passed
+/// over. Of a line at most 262,146 bytes are held.
+///
+/// In the clause, `bytes` are those that the reader has lost, to its end. After a fault some of the lines may have been told.
+pub(crate) fn check_lines<R: Read, W: Write>(
+    alloc: Global,
+    reader: &mut R,
+    writer: &mut W,
+) -> Result<bool, Fault>
+    ensures { IfOk result (λ bad. (bytes : List ℕ)
+        × Consumes (R.remaining reader.old) (R.remaining reader.new) bytes
+        × IsAtEnd (R.remaining reader.new)
+        × Appends (W.contents writer.old) (W.contents writer.new) (report bytes)
+        × (bad ≡ some_bad bytes)) }
+{
+    let mut piece = [0; 4096];
+    check_pieces(alloc, reader, writer, &mut piece, MOST_READS)
+}

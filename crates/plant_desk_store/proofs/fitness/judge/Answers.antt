@@ -1,4 +1,5 @@
 use Rattle.std.proofs.Common.{◌≡◌, true, false, None, Some, is_some, sym, rules}
+use Rattle.plant_tables_stored.specs.Loading.{contents_loaded}
 use Rattle.plant_tables_judged.specs.Collecting.{rows_from, rows_listed}
 use Rattle.plant_tables_columns.specs.Judging.{only_meta}
 use Rattle.plant_desk_store.proofs.Fitting.{no_meta, no_rows, fit_of, unfit_of}
@@ -6,23 +7,23 @@ use Rattle.plant_desk_store.proofs.fitness.judge.Goals as goal
 
 pub returns-then-not-has_meta-clause-unfit : goal.returns-then-not-has_meta-clause-unfit
 returns-then-not-has_meta-clause-unfit c =
-    let none : is_some (only_meta c.args.loaded.now.meta.items) ≡ false = search rules in
+    let none : is_some (only_meta (contents_loaded c.args.loaded.now 0)) ≡ false = search rules in
     no_meta c.args.loaded.now none
 
 pub returns-in-Ok-None-clause-unfit : goal.returns-in-Ok-None-clause-unfit
 returns-in-Ok-None-clause-unfit c =
-    let there : is_some (only_meta c.args.loaded.now.meta.items) ≡ true = search rules in
+    let there : is_some (only_meta (contents_loaded c.args.loaded.now 0)) ≡ true = search rules in
     let nothing : rows_from c.args.loaded.now ≡ None = search rules in
     no_rows c.args.loaded.now there nothing
 
 pub returns-in-Ok-Some-clause-fit : goal.returns-in-Ok-Some-clause-fit
 returns-in-Ok-Some-clause-fit c =
-    let there : is_some (only_meta c.args.loaded.now.meta.items) ≡ true = search rules in
+    let there : is_some (only_meta (contents_loaded c.args.loaded.now 0)) ≡ true = search rules in
     let from : rows_from c.args.loaded.now ≡ Some (rows_listed c.in-Ok-Some.rows) = search rules in
     fit_of c.args.loaded.now c.in-Ok-Some.rows c.check_all.result there from c.check_all.ensures.fit
 
 pub returns-in-Ok-Some-clause-unfit : goal.returns-in-Ok-Some-clause-unfit
 returns-in-Ok-Some-clause-unfit c =
-    let there : is_some (only_meta c.args.loaded.now.meta.items) ≡ true = search rules in
+    let there : is_some (only_meta (contents_loaded c.args.loaded.now 0)) ≡ true = search rules in
     let from : rows_from c.args.loaded.now ≡ Some (rows_listed c.in-Ok-Some.rows) = search rules in
     unfit_of c.args.loaded.now c.in-Ok-Some.rows c.check_all.result there from c.check_all.ensures.unfit

@@ -9,16 +9,32 @@ reopens what the first left; the file must then be found good, with as many comm
 """
 import pathlib
 import re
+import socket
 import sqlite3
+import struct
 import subprocess
 import sys
 import tempfile
+import time
 
 SECONDS = 300
 BAD_FORM = b'{"name":"BadForm","refused":1}\n'
 DESK = b'{"ask":"desk"}'
 NEW_DESK = b'{"schema":1,"seq":0}\n'
 LINE_LIMIT = 262_144
+
+# How often a server is started at most where another program has taken its port.
+ATTEMPTS = 3
+
+# A question over HTTP, and what a desk answers that has no command, and that has one.
+ASK = b"GET /v1/desk HTTP/1.0\n\n"
+NEW = b"HTTP/1.1 200 OK\r\nContent-Type: application/json\r\nContent-Length: 20\r\nConnection: close\r\n\r\n"
+NEW += b'{"schema":1,"seq":0}'
+ONE = NEW.replace(b'"seq":0', b'"seq":1')
+
+# A command over HTTP.
+POST = b"POST /v1/commands HTTP/1.1\r\nHost: a\r\nContent-Length: 59\r\n\r\n"
+POST += b'{"at":100,"by":"","do":"add_class","class":"RAW","name":""}'
 
 # A class, and a definition of it in grams.
 GOODS = [
@@ -363,6 +379,57 @@ class Check:
         found = self.run("run", file.name, told=told.told)
         self.expect("commands are numbered up to their limit", found, (1, told.wanted, b""))
 
+    def serving(self, file, count):
+        """Starts a server of so many connections, and returns it with its port and what it answers to a first question."""
+        for _ in range(ATTEMPTS):
+            port = free_port()
+            words = [self.program, "serve", file, str(port), str(count)]
+            server = subprocess.Popen(words, cwd=self.room, stdout=subprocess.PIPE, stderr=subprocess.PIPE)
+            while server.poll() is None:
+                try:
+                    return server, port, answered(port, ASK)
+                except ConnectionRefusedError:
+                    time.sleep(0.02)
+        raise RuntimeError(f"no server: {server.stderr.read()}")
+
+    def connections_may_break(self):
+        """Breaks off connections in each way, and asks after each where the desk stands, which no such request has changed."""
+        broken = [
+            ("without a byte", b""),
+            ("within its head", ASK[:9]),
+            ("within its body", POST[:-9]),
+            ("within its body, which is none", POST[:-59]),
+        ]
+        server, port, first = self.serving("breaks.db", 1 + 4 * len(broken) + 3)
+        try:
+            self.expect("a server answers", first, NEW)
+            for name, sent in broken:
+                for is_reset in (False, True):
+                    with connected(port) as it:
+                        it.sendall(sent)
+                        closed(it, is_reset)
+                    how = "reset" if is_reset else "closed"
+                    self.expect(f"a connection {how} {name}", answered(port, ASK), NEW)
+            self.answers_may_be_lost(port)
+            found = server.communicate(timeout=SECONDS)
+            self.expect("a server of broken connections ends", (server.returncode, *found), (0, b"", b""))
+        finally:
+            server.kill()
+            server.communicate()
+
+    def answers_may_be_lost(self, port):
+        """Resets a connection whose whole command has come, while the server waits for the request of another. The command may be
+        kept or not, by what the system keeps of such a connection; the next client is answered."""
+        with connected(port) as slow:
+            slow.sendall(ASK[:-1])
+            with connected(port) as it:
+                it.sendall(POST)
+                closed(it, True)
+            slow.sendall(ASK[-1:])
+            self.expect("a slow client", rest_of(slow), NEW)
+        found = answered(port, ASK)
+        self.expect("a client behind a lost answer", found, ONE if found == ONE else NEW)
+
     def tables_are_as_published(self):
         """Compares the tables of a new file with those that are published, as another SQLite finds them."""
         file = self.room / "tables.db"
@@ -379,6 +446,39 @@ class Check:
             self.expect(f"keys of {name}", found, sorted(keys))
         self.expect("integrity", store.execute("PRAGMA integrity_check").fetchall(), [("ok",)])
         store.close()
+
+
+def free_port():
+    """Returns a port of 127.0.0.1 that is free at this moment."""
+    with socket.socket() as it:
+        it.bind(("127.0.0.1", 0))
+        return it.getsockname()[1]
+
+
+def connected(port):
+    return socket.create_connection(("127.0.0.1", port), SECONDS)
+
+
+def closed(connection, is_reset):
+    """Closes a connection, or resets it."""
+    if is_reset:
+        connection.setsockopt(socket.SOL_SOCKET, socket.SO_LINGER, struct.pack("ii", 1, 0))
+    connection.close()
+
+
+def rest_of(connection):
+    """Returns what comes on a connection to its end."""
+    text = b""
+    while piece := connection.recv(65536):
+        text += piece
+    return text
+
+
+def answered(port, request):
+    """Returns the answer to a request on a connection of its own."""
+    with connected(port) as it:
+        it.sendall(request)
+        return rest_of(it)
 
 
 def column_of(row):
@@ -405,6 +505,7 @@ def main(program):
         check.words_tell(next(it for it in sessions if it.name == "a_batch_runs_to_its_close"))
         check.commands_are_numbered_up_to_their_limit()
         check.tables_are_as_published()
+        check.connections_may_break()
     print(f"sessions: {check.passed} passed, {check.failed} failed")
     return 1 if check.failed else 0
 

@@ -1,58 +1,9 @@
 //! Sessions over readers that give a byte a read and writers that take three bytes a write, and fail.
+use crate::pieces::{ENOUGH, Narrow, Trickle};
 use crate::session::{REPLIES, SESSION};
 use plant_desk::ListKeeper;
 use plant_text::{RunEnd, run_lines};
-use std::io;
-use std::io::{Error, ErrorKind, Read, Write};
 use std::test::Fail;
-
-/// A byte a read, and a failure after so many reads.
-#[derive(Drop)]
-struct Trickle<'a> {
-    rest: &'a [u8],
-    reads: u64,
-}
-
-impl Read for Trickle<'_> {
-    fn read(&mut self, buf: &mut [u8]) -> io::Result<usize> {
-        if self.reads == 0 {
-            return Err(Error::from(ErrorKind::Other));
-        }
-        self.reads -= 1;
-        let rest = self.rest;
-        match rest {
-            [first, later @ ..] if !buf.is_empty() => {
-                buf[0] = *first;
-                self.rest = later;
-                Ok(1)
-            }
-            _ => Ok(0),
-        }
-    }
-}
-
-/// Takes three bytes a write, and none after so many writes.
-#[derive(Drop)]
-struct Narrow {
-    held: Vec<u8>,
-    writes: u64,
-}
-
-impl Write for Narrow {
-    fn write(&mut self, buf: &[u8]) -> io::Result<usize> {
-        if self.writes == 0 {
-            return Ok(0);
-        }
-        self.writes -= 1;
-        let n = buf.len().min(3);
-        self.held.extend_from_slice(&buf[..n])?;
-        Ok(n)
-    }
-
-    fn flush(&mut self) -> io::Result<()> {
-        Ok(())
-    }
-}
 
 /// What a new desk over lists writes for an input, a byte a read and three bytes a write, up to so many of each.
 fn slow_session(
@@ -61,7 +12,11 @@ fn slow_session(
     reads: u64,
     writes: u64,
 ) -> Result<(RunEnd, Vec<u8>), Fail> {
-    let mut reader = Trickle { rest: input, reads };
+    let mut reader = Trickle {
+        rest: input,
+        most: 1,
+        reads,
+    };
     let mut writer = Narrow {
         held: Vec::new(rt.alloc()),
         writes,
@@ -73,7 +28,7 @@ fn slow_session(
 
 #[test]
 fn pieces_make_no_difference(rt: HostRuntime) -> Result<(), Fail> {
-    let (end, out) = slow_session(&rt, SESSION, 1_000_000, 1_000_000)?;
+    let (end, out) = slow_session(&rt, SESSION, ENOUGH, ENOUGH)?;
     assert!(rt; end == RunEnd::Done { refused: false });
     assert!(rt; out.as_slice() == REPLIES);
     Ok(())
@@ -88,7 +43,7 @@ fn line_ends(bytes: &[u8]) -> usize {
 #[test]
 fn a_reader_may_fail(rt: HostRuntime) -> Result<(), Fail> {
     for n in 0..SESSION.len() {
-        let (end, out) = slow_session(&rt, SESSION, n as u64, 1_000_000)?;
+        let (end, out) = slow_session(&rt, SESSION, n as u64, ENOUGH)?;
         assert!(rt; end == RunEnd::Read);
         assert!(rt; REPLIES.starts_with(&out));
         assert!(rt; line_ends(&out) == line_ends(&SESSION[..n]));
@@ -100,7 +55,7 @@ fn a_reader_may_fail(rt: HostRuntime) -> Result<(), Fail> {
 #[test]
 fn a_writer_may_fail(rt: HostRuntime) -> Result<(), Fail> {
     for writes in 0..REPLIES.len() {
-        let (end, out) = slow_session(&rt, SESSION, 1_000_000, writes as u64)?;
+        let (end, out) = slow_session(&rt, SESSION, ENOUGH, writes as u64)?;
         assert!(rt; REPLIES.starts_with(&out));
         if end == (RunEnd::Done { refused: false }) {
             assert!(rt; out.as_slice() == REPLIES);

@@ -12,8 +12,11 @@ use table_reads::{find_rows, reopen};
 
 /// The places of tables meta, lot, sublot and movement.
 const METAS: usize = 0;
+
 const LOTS: usize = 9;
+
 const SUBLOTS: usize = 10;
+
 const MOVEMENTS: usize = 11;
 
 /// The number in a column, where one stands there.

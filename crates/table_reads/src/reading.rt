@@ -19,7 +19,8 @@ use table_forms::{Fault, Form, fault_of};
 /// Whether the row may follow the list.
 fn may_follow(form: &Form<'_>, list: &[Row], row: &Row) -> bool
     ensures { IsTrue result → (d : Values) → 0 < length list.now
-        → key.comes_before form.now (slice_index_or list.now (length list.now - 1) d) row.now ≡ true }
+        → key.comes_before form.now (slice_index_or list.now (length list.now - 1) d) row.now
+        ≡ true }
 {
     match list.last() {
         Some(last) => comes_before(form, last, row),

@@ -70,8 +70,8 @@ pub fn find_rows<S: Alter>(
     requires { (places : List ℕ) × Selects form.now places sql.now }
     ensures rows { (places : List ℕ) → Selects form.now places sql.now
         → AreGiven places (bound values.now) → HasCleanDisk (state S.Store conn.new)
-        → IfOk result (λ list. Finds (state S.Store conn.old).now form.now places (bound values.now)
-        list.items) }
+        → IfOk result (λ list. Finds (state S.Store conn.old).now form.now places
+        (bound values.now) list.items) }
     ensures rising { IfOk result (λ list. Rises (comes_before form.now) list.items) }
     ensures same { HasCleanDisk (state S.Store conn.new)
         → OnOk result (IsUnchanged (state S.Store conn.old) (state S.Store conn.new)) }
@@ -83,7 +83,8 @@ pub fn find_rows<S: Alter>(
     // Memory is wanted for a row that was given, of a table that stands.
     ensures memory { HasCleanDisk (state S.Store conn.new)
         → IfErr result (λ fault. fault ≡ Fault.Memory
-        → HasTable conn.old.schema form.now × HasGivenRow S.Store sql.now (bound values.now) conn.new) }
+        → HasTable conn.old.schema form.now
+        × HasGivenRow S.Store sql.now (bound values.now) conn.new) }
 {
     if !conn.is_autocommit() || !stands(conn.schema(), form) {
         return Err(Fault::Store);

@@ -10,10 +10,16 @@ use std::test::Fail;
 use table_forms::Fault;
 use table_reads::{find_rows, reopen};
 
-/// The places of tables meta, lot, sublot and movement.
+/// The place of table meta.
 const METAS: usize = 0;
+
+/// The place of table lot.
 const LOTS: usize = 9;
+
+/// The place of table sublot.
 const SUBLOTS: usize = 10;
+
+/// The place of table movement.
 const MOVEMENTS: usize = 11;
 
 /// The number in a column, where one stands there.

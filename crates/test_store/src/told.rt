@@ -43,8 +43,9 @@ pub fn push_row(
 pub fn push_loaded(text: &mut String, alloc: Global, loaded: &Loaded) -> Result<(), AllocError> {
     let forms = desk_forms();
     for place in 0..forms.len() {
+        let form = &forms[place];
         for row in loaded.rows(place) {
-            push_row(text, alloc, forms[place].name, row)?;
+            push_row(text, alloc, form.name, row)?;
         }
     }
     Ok(())

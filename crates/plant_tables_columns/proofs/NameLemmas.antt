@@ -178,4 +178,3 @@ movement_sort_own movement_sort.Scrapped = refl
 movement_sort_own movement_sort.Divided = refl
 movement_sort_own movement_sort.Split = refl
 movement_sort_own movement_sort.Merged = refl
-

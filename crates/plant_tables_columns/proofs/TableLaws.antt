@@ -107,9 +107,9 @@ record HasHeaderColumns (h : Header) : Type 0 where
 header_lawful : AreLawful header_columns header_row HasHeaderColumns Any
 header_lawful = in_words HasHeaderColumns Any
     (λ h g. record {
-    values = record { recipe = g.0; product = g.1.1.0; base = g.1.1.1.0; least = g.1.1.1.1.0; greatest = g.1.1.1.1.1.0; title = g.1.1.1.1.1.1 };
-    version = g.1.0;
-  })
+      values = record { recipe = g.0; product = g.1.1.0; base = g.1.1.1.0; least = g.1.1.1.1.0; greatest = g.1.1.1.1.1.0; title = g.1.1.1.1.1.1 };
+      version = g.1.0;
+    })
     (λ h is. (is.values.recipe, (is.version, (is.values.product, (is.values.base, (is.values.least, (is.values.greatest, is.values.title)))))))
     (λ h _. (tt, (tt, (tt, (tt, (tt, (tt, tt)))))))
     (made_lawful _ (λ h. (h.recipe, (h.version, (h.product, (h.base, (h.least, (h.greatest, h.title))))))) (λ h. refl) (λ p. refl)
@@ -204,18 +204,18 @@ pub record HasBookedColumns (r : BookedRow) : Type 0 where
 pub booked_lawful : AreLawful booked_columns row_of_booked HasBookedColumns (λ r. IsNumbered r.line)
 booked_lawful = in_words HasBookedColumns (λ r. IsNumbered r.line)
     (λ r g. record {
-    seq = g.0;
-    line = g.1.0;
-    lot = g.1.1.1.0;
-    sub = g.1.1.1.1.0;
-    lot2 = g.1.1.1.1.1.0;
-    sub2 = g.1.1.1.1.1.1.0;
-    batch = g.1.1.1.1.1.1.1.0;
-    amount = g.1.1.1.1.1.1.1.1.0;
-    at = g.1.1.1.1.1.1.1.1.1.0;
-    by = g.1.1.1.1.1.1.1.1.1.1.0;
-    note = g.1.1.1.1.1.1.1.1.1.1.1;
-  })
+      seq = g.0;
+      line = g.1.0;
+      lot = g.1.1.1.0;
+      sub = g.1.1.1.1.0;
+      lot2 = g.1.1.1.1.1.0;
+      sub2 = g.1.1.1.1.1.1.0;
+      batch = g.1.1.1.1.1.1.1.0;
+      amount = g.1.1.1.1.1.1.1.1.0;
+      at = g.1.1.1.1.1.1.1.1.1.0;
+      by = g.1.1.1.1.1.1.1.1.1.1.0;
+      note = g.1.1.1.1.1.1.1.1.1.1.1;
+    })
     (λ r h. (h.seq, (h.line, (tt, (h.lot, (h.sub, (h.lot2, (h.sub2, (h.batch, (h.amount, (h.at, (h.by, h.note))))))))))))
     (λ r low. (tt, (low, (tt, (tt, (tt, (tt, (tt, (tt, (tt, (tt, (tt, tt))))))))))))
     (made_lawful _ (λ r. (r.seq, (r.line, (r.sort, (r.lot, (r.sub, (r.lot2, (r.sub2, (r.batch, (r.amount, (r.at, (r.by, r.note)))))))))))) (λ r. refl) (λ p. refl)

@@ -20,10 +20,13 @@ two read = record { width = 2; read = λ row at. read (column row at) (column ro
 infixr 11 ◌⊗◌
 -- these, and those that stand behind them
 abbrev pub ◌⊗◌ : {A B : Type 0} → Columns A → Columns B → Columns (A × B)
-a ⊗ b = record { width = a.width + b.width; read = λ row at. (do
-  x ← a.read row at
-  y ← b.read row (at + a.width)
-  Some (x, y)) }
+a ⊗ b = record {
+  width = a.width + b.width;
+  read = λ row at. (do
+    x ← a.read row at
+    y ← b.read row (at + a.width)
+    Some (x, y));
+}
 
 -- the same columns, and what is made of what they say
 abbrev pub made : {A B : Type 0} → (A → B) → Columns A → Columns B

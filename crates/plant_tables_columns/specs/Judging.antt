@@ -174,19 +174,19 @@ sublot_from = read_row sublot_columns
 
 abbrev pub booked_columns : Columns BookedRow
 booked_columns = made (λ (seq, (line, (sort, (lot, (sub, (lot2, (sub2, (batch, (amount, (at, (by, note))))))))))). record {
-    seq = seq;
-    line = line;
-    sort = sort;
-    lot = lot;
-    sub = sub;
-    lot2 = lot2;
-    sub2 = sub2;
-    batch = batch;
-    amount = amount;
-    at = at;
-    by = by;
-    note = note;
-  })
+  seq = seq;
+  line = line;
+  sort = sort;
+  lot = lot;
+  sub = sub;
+  lot2 = lot2;
+  sub2 = sub2;
+  batch = batch;
+  amount = amount;
+  at = at;
+  by = by;
+  note = note;
+})
     (one seq_from ⊗ one line_number_from ⊗ one movement_sort_from ⊗ one id_from ⊗ one sublot_number_from ⊗ one id_or_null ⊗ one sublot_or_null ⊗ one id_or_null ⊗ one amount_from ⊗ one moment_from ⊗ one text_from ⊗ one text_from)
 
 unfoldable pub booked_from : Row → Option BookedRow

@@ -4,7 +4,6 @@
 
 mod booked;
 mod judged;
-
 mod line;
 mod masters;
 mod meta;
@@ -15,4 +14,3 @@ mod stocks;
 
 pub use booked::{BookedRow, MovementSort};
 pub use judged::{Judged, judge_all};
-

@@ -119,6 +119,11 @@ first_problem d = if is_some (as_object d) then object_problem d else Some probl
 unfoldable pub problem_of : Data → Problem
 problem_of d = unwrap_or (first_problem d) problem.NoForm
 
+-- the problem has a text of its own
+abbrev pub is_named : Problem → Bool
+is_named problem.NoForm = false
+is_named _ = true
+
 -- ---- texts
 
 abbrev pub other_text : Option (List ℕ) → List ℕ

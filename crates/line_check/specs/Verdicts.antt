@@ -1,5 +1,5 @@
 -- The verdict on a line.
-use Rattle.std.specs.Prelude.{ℕ, ◌==◌, List, length, nat_lt, if◌then◌else◌, Option, Some, None}
+use Rattle.std.specs.Prelude.{ℕ, ◌==◌, List, Bool, true, length, nat_lt, if◌then◌else◌, Option, Some, None}
 use Rattle.std.specs.Str.{is_utf8}
 use Rattle.serde_json.specs.Data.{Data}
 use Rattle.serde_json.specs.Read.{read}
@@ -10,7 +10,7 @@ use Rattle.line_check.specs.declared.judge.Verdict.{Verdict}
 use Rattle.line_check.specs.declared.judge.Verdict.TheVariants as verdict
 use Rattle.line_check.specs.declared.problems.Problem.{Problem}
 use Rattle.line_check.specs.declared.problems.Problem.TheVariants as problem
-use Rattle.line_check.specs.Problems.{problem_of}
+use Rattle.line_check.specs.Problems.{problem_of, is_named}
 
 -- the problem of what a text reads as
 abbrev pub problem_read : Option Data → Problem
@@ -29,3 +29,8 @@ verdict_where line (Some (L.Question q)) = verdict.Question
 -- an empty line is nothing, and any other that says nothing is bad
 unfoldable pub verdict_of : List ℕ → Verdict
 verdict_of line = if length line == 0 then verdict.Nothing else verdict_where line (line_of line)
+
+-- of a bad line the verdict tells what is wrong with it, and not only that it is bad
+abbrev pub tells_why : Verdict → Bool
+tells_why (verdict.Bad p) = is_named p
+tells_why _ = true

@@ -1,7 +1,7 @@
 //! The verdict on a line.
 ghost use Rattle.std.specs.Prelude.{◌≡◌, true, IfOk};
 ghost use Rattle.serde_json.specs.Errors.{IsMemory};
-ghost use Rattle.line_check.specs.Verdicts.{problem_of_line, verdict_of};
+ghost use Rattle.line_check.specs.Verdicts.{problem_of_line, verdict_of, tells_why};
 
 use crate::problems::{Problem, problem_of};
 use plant_text::{Line, LineFault, read_line};
@@ -55,7 +55,7 @@ fn problem_of_line(alloc: Global, line: &[u8]) -> Result<Problem, NoMemory>
 }
 
 /// The verdict on a line, which is given without its LF and the CR before it.
-pub(crate) fn judge_line(alloc: Global, line: &[u8]) -> Result<Verdict, NoMemory>
+fn judge_line(alloc: Global, line: &[u8]) -> Result<Verdict, NoMemory>
     ensures { IfOk result (λ verdict. verdict ≡ verdict_of line.now) }
 {
     if line.is_empty() {
@@ -70,4 +70,12 @@ pub(crate) fn judge_line(alloc: Global, line: &[u8]) -> Result<Verdict, NoMemory
         },
         Err(LineFault::Memory) => Err(NoMemory),
     }
+}
+
+/// The verdict on a line. Of a bad one it tells what is wrong with it, and not only that it is bad.
+pub(crate) fn judge(alloc: Global, line: &[u8]) -> Result<Verdict, NoMemory>
+    ensures verdict { IfOk result (λ verdict. verdict ≡ verdict_of line.now) }
+    ensures told { IfOk result (λ verdict. tells_why verdict ≡ true) }
+{
+    judge_line(alloc, line)
 }

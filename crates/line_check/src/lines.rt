@@ -7,7 +7,7 @@ ghost use Rattle.plant_text.specs.Writes.{with_lf};
 ghost use Rattle.line_check.specs.Verdicts.{verdict_of};
 ghost use Rattle.line_check.specs.Report.{told_text, line_text, counted, counts_text, end_text, no_lines, report, some_bad, verdicts_after, Told};
 
-use crate::judge::{NoMemory, Verdict, judge_line};
+use crate::judge::{NoMemory, Verdict, judge};
 use crate::problems::Problem;
 use plant_text::{Unwritten, write_line};
 use std::alloc::Global;
@@ -164,7 +164,7 @@ fn take_line<W: Write>(
     ensures { IfOk result (λ now. Told tally (verdict_of line.now ∷ [])
         (W.contents writer.old) (W.contents writer.new) now) }
 {
-    match judge_line(alloc, line) {
+    match judge(alloc, line) {
         Ok(verdict) => take_verdict(alloc, writer, tally, verdict),
         Err(NoMemory) => Err(Fault::Memory),
     }

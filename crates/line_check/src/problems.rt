@@ -178,6 +178,7 @@ fn other_name(value: &Value, some: &[Member], more: &[Member]) -> Option<Text>
     }
 }
 
+/// The text that the bytes are.
 fn read_text(bytes: &[u8]) -> Option<Text>
     ensures { result ≡ only is_text bytes.now }
 {
@@ -240,6 +241,7 @@ fn first_item(values: &[Value], list: Member) -> Option<Problem>
     None
 }
 
+/// The problem of the list that stands under a member.
 fn problem_in_list(value: &Value, list: Member) -> Option<Problem>
     ensures { result ≡ problem_in_list list (view value.now) }
 {
@@ -296,6 +298,7 @@ fn names_nothing(value: &Value) -> bool
     }
 }
 
+/// Whether a word asks for a trace.
 fn is_trace_word(word: &str) -> bool
     ensures { result ≡ is_trace_word word.now }
 {
@@ -313,6 +316,7 @@ fn question_problem(value: &Value) -> Option<Problem>
     Some(Problem::Object(flaw))
 }
 
+/// The first problem of an object.
 fn object_problem(value: &Value) -> Option<Problem>
     ensures { result ≡ object_problem (view value.now) }
 {
@@ -325,6 +329,7 @@ fn object_problem(value: &Value) -> Option<Problem>
     }
 }
 
+/// The first problem of a value, if it has one.
 fn first_problem(value: &Value) -> Option<Problem>
     ensures { result ≡ first_problem (view value.now) }
 {

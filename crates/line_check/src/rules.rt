@@ -83,6 +83,7 @@ impl fmt::Display for Rule {
     }
 }
 
+/// Whether the value is a string that says an id.
 fn says_id(value: &Value) -> bool
     ensures { result ≡ text_passes is_id (view value.now) }
 {
@@ -92,6 +93,7 @@ fn says_id(value: &Value) -> bool
     }
 }
 
+/// Whether the value is a string that says a text.
 fn says_text(value: &Value) -> bool
     ensures { result ≡ text_passes is_text (view value.now) }
 {
@@ -101,6 +103,7 @@ fn says_text(value: &Value) -> bool
     }
 }
 
+/// Whether the value is a string that says a unit.
 fn says_unit(value: &Value) -> bool
     ensures { result ≡ text_passes is_unit (view value.now) }
 {
@@ -110,6 +113,7 @@ fn says_unit(value: &Value) -> bool
     }
 }
 
+/// Whether the value is a string that says a due date.
 fn says_due(value: &Value) -> bool
     ensures { result ≡ text_passes is_due (view value.now) }
 {
@@ -119,6 +123,7 @@ fn says_due(value: &Value) -> bool
     }
 }
 
+/// Whether the value is a string that says a word for a batch.
 fn says_batch_word(value: &Value) -> bool
     ensures { result ≡ text_passes is_batch_word (view value.now) }
 {
@@ -128,6 +133,7 @@ fn says_batch_word(value: &Value) -> bool
     }
 }
 
+/// Whether the value is a string that says the word of a command.
 fn says_command(value: &Value) -> bool
     ensures { result ≡ text_passes is_command_word (view value.now) }
 {
@@ -137,6 +143,7 @@ fn says_command(value: &Value) -> bool
     }
 }
 
+/// Whether the value is a string that says the word of a question.
 fn says_question(value: &Value) -> bool
     ensures { result ≡ text_passes is_question_word (view value.now) }
 {
@@ -146,6 +153,7 @@ fn says_question(value: &Value) -> bool
     }
 }
 
+/// Whether the value is a string that says the kind of a recipe's line.
 fn says_kind(value: &Value) -> bool
     ensures { result ≡ text_passes is_kind (view value.now) }
 {
@@ -166,6 +174,7 @@ fn is_batch_word(text: &str) -> bool
     }
 }
 
+/// Whether the value is a whole number that says an amount.
 fn says_amount(value: &Value) -> bool
     ensures { result ≡ number_passes is_amount (view value.now) }
 {
@@ -175,6 +184,7 @@ fn says_amount(value: &Value) -> bool
     }
 }
 
+/// Whether the value is a whole number that says a moment.
 fn says_moment(value: &Value) -> bool
     ensures { result ≡ number_passes is_moment (view value.now) }
 {
@@ -184,6 +194,7 @@ fn says_moment(value: &Value) -> bool
     }
 }
 
+/// Whether the value is a whole number that says the number of a sublot.
 fn says_sublot(value: &Value) -> bool
     ensures { result ≡ number_passes is_sublot (view value.now) }
 {
@@ -193,6 +204,7 @@ fn says_sublot(value: &Value) -> bool
     }
 }
 
+/// Whether the value is a whole number that says a version.
 fn says_version(value: &Value) -> bool
     ensures { result ≡ number_passes is_version (view value.now) }
 {
@@ -202,6 +214,7 @@ fn says_version(value: &Value) -> bool
     }
 }
 
+/// Whether the value is a whole number that says a priority.
 fn says_priority(value: &Value) -> bool
     ensures { result ≡ number_passes is_priority (view value.now) }
 {
@@ -211,6 +224,7 @@ fn says_priority(value: &Value) -> bool
     }
 }
 
+/// Whether the value is a whole number that says the number of a phase.
 fn says_phase(value: &Value) -> bool
     ensures { result ≡ number_passes is_phase_number (view value.now) }
 {
@@ -220,6 +234,7 @@ fn says_phase(value: &Value) -> bool
     }
 }
 
+/// Whether the value is a list.
 fn says_list(value: &Value) -> bool
     ensures { result ≡ is_list (view value.now) }
 {

@@ -1,0 +1,178 @@
+"""Measures what the built desk serves in a second. bench/serve.sh calls it.
+
+    serving.py PROGRAM FOLDER QUESTIONS COMMANDS
+
+Each request is a connection of its own, made when the one before it has been answered, by a client over plain sockets in this process:
+its own time is in every figure of a server. How much that is shows the last server, which does nothing but accept, read once,
+write a text that it holds and close. The file is in FOLDER. Commands are receipts of one definition, each of a lot of its own; then
+questions ask about those lots in turn. What `run` does is measured from its start to its end.
+"""
+import http.server
+import pathlib
+import socket
+import subprocess
+import sys
+import time
+
+SECONDS = 60
+
+PREPARED = [
+    b'{"at":1,"by":"","do":"add_class","class":"RAW","name":""}',
+    b'{"at":1,"by":"","do":"add_definition","def":"SUGAR","class":"RAW","name":"","unit":"g"}',
+]
+
+
+def receipt(number):
+    return b'{"at":2,"by":"","do":"receive","lot":"L-%d","def":"SUGAR","amount":500,"place":"A1"}' % number
+
+
+def told(body):
+    """Returns the request that gives a command."""
+    return b"POST /v1/commands HTTP/1.1\r\nHost: a\r\nContent-Length: %d\r\n\r\n%s" % (len(body), body)
+
+
+def asked(path):
+    """Returns the request that asks a question."""
+    return b"GET /v1/%s HTTP/1.1\r\nHost: a\r\n\r\n" % path
+
+
+def free_port():
+    with socket.socket() as it:
+        it.bind(("127.0.0.1", 0))
+        return it.getsockname()[1]
+
+
+def answer(port, request):
+    """Sends a request on a connection of its own, and returns all that comes back."""
+    with socket.create_connection(("127.0.0.1", port), SECONDS) as it:
+        it.sendall(request)
+        text = b""
+        while piece := it.recv(65536):
+            text += piece
+        return text
+
+
+def await_answer(port, request, server):
+    """Returns the first answer of a server that may be about to listen."""
+    end = time.monotonic() + SECONDS
+    while True:
+        try:
+            return answer(port, request)
+        except ConnectionRefusedError:
+            if server.poll() is not None or time.monotonic() > end:
+                raise
+            time.sleep(0.02)
+
+
+def told_of(name, count, seconds):
+    print(f"{name}: {count} in {seconds:.2f} s, {count / seconds:.0f} a second", flush=True)
+
+
+def timed(name, port, requests, wanted):
+    """Sends requests, each of whose answers has to have a text in it."""
+    start = time.monotonic()
+    for request in requests:
+        text = answer(port, request)
+        if wanted not in text:
+            sys.exit(f"{name}: {request} was answered {text}")
+    told_of(name, len(requests), time.monotonic() - start)
+
+
+def serve(program, file, name, questions, commands):
+    """Measures a server over a file, and returns an answer about a lot."""
+    port = free_port()
+    about_desk = [asked(b"desk")] * questions
+    about_lots = [asked(b"lots/L-%d" % (it % commands + 1)) for it in range(questions)]
+    count = 1 + len(about_desk) + len(PREPARED) + commands + len(about_lots) + 1
+    server = subprocess.Popen([program, "serve", file, str(port), str(count)])
+    try:
+        await_answer(port, asked(b"desk"), server)
+        timed(f"{name}, questions about an empty desk", port, about_desk, b'"seq":0}')
+        for it in PREPARED:
+            answer(port, told(it))
+        timed(f"{name}, commands", port, [told(receipt(it + 1)) for it in range(commands)], b'"ok":')
+        timed(f"{name}, questions about {commands} lots", port, about_lots, b'"stock":500,')
+        last = answer(port, about_lots[0])
+        if server.wait(SECONDS) != 0:
+            sys.exit(f"{name} ended with status {server.returncode}")
+        return last
+    finally:
+        server.kill()
+
+
+def run(program, file, questions, commands):
+    """Measures the same lines by `run` over a file."""
+    subprocess.run([program, "run", file], input=b"\n".join(PREPARED), check=True, stdout=subprocess.DEVNULL)
+    lots = [b'{"ask":"lot","lot":"L-%d"}' % (it % commands + 1) for it in range(questions)]
+    for name, lines in [
+        ("run over a file, commands", [receipt(it + 1) for it in range(commands)]),
+        (f"run over a file, questions about {commands} lots", lots),
+    ]:
+        start = time.monotonic()
+        subprocess.run([program, "run", file], input=b"\n".join(lines), check=True, stdout=subprocess.DEVNULL)
+        told_of(name, len(lines), time.monotonic() - start)
+
+
+class Fixed(http.server.BaseHTTPRequestHandler):
+    """Answers a text that stands from the start, with the fields of the desk's answers beside its own two, and closes."""
+
+    protocol_version = "HTTP/1.1"
+    body = b""
+
+    def do_GET(self):
+        self.send_response(200)
+        self.send_header("Content-Type", "application/json")
+        self.send_header("Content-Length", str(len(self.body)))
+        self.send_header("Connection", "close")
+        self.end_headers()
+        self.wfile.write(self.body)
+
+    def log_message(self, *_):
+        pass
+
+
+def serve_fixed(port, body):
+    Fixed.body = body
+    http.server.HTTPServer(("127.0.0.1", port), Fixed).serve_forever()
+
+
+def serve_bare(port, text):
+    with socket.create_server(("127.0.0.1", port)) as listener:
+        while True:
+            stream, _ = listener.accept()
+            with stream:
+                stream.recv(65536)
+                stream.sendall(text)
+
+
+def other(name, word, text, questions):
+    """Measures a server of this file."""
+    port = free_port()
+    server = subprocess.Popen([sys.executable, __file__, word, str(port)], stdin=subprocess.PIPE)
+    try:
+        server.stdin.write(text)
+        server.stdin.close()
+        await_answer(port, asked(b"desk"), server)
+        timed(name, port, [asked(b"desk")] * questions, text.rpartition(b"\r\n\r\n")[2])
+    finally:
+        server.kill()
+
+
+def main(program, folder, questions, commands):
+    folder, questions, commands = pathlib.Path(folder), int(questions), int(commands)
+    program = pathlib.Path(program).resolve()
+    serve(program, ":memory:", "serve in memory", questions, commands)
+    text = serve(program, folder / "served.db", "serve over a file", questions, commands)
+    run(program, folder / "run.db", questions, commands)
+    body = text.rpartition(b"\r\n\r\n")[2]
+    other(f"Python's http.server, {len(body)} bytes that it holds", "fixed", body, questions)
+    other("bare sockets in Python, the same", "bare", text, questions)
+
+
+if __name__ == "__main__":
+    if sys.argv[1] == "fixed":
+        serve_fixed(int(sys.argv[2]), sys.stdin.buffer.read())
+    elif sys.argv[1] == "bare":
+        serve_bare(int(sys.argv[2]), sys.stdin.buffer.read())
+    else:
+        main(*sys.argv[1:])

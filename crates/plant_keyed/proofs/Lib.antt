@@ -1,0 +1,8 @@
+mod Answering
+mod EdgesAt
+mod Judging
+mod Keeping
+mod Selected
+pub mod Shown
+mod Sorting
+mod Tests

@@ -1,0 +1,81 @@
+-- The texts of the look-ups, by computing what the parser reads.
+use Rattle.std.proofs.Common.{refl, [], ◌∷◌, codes}
+use Rattle.sqlite_tied.specs.Compute.{everything}
+use Rattle.table_reads.specs.Selects.{Selects}
+use Rattle.plant_tables.specs.DeskForms.{meta_form, class_form, definition_form, recipe_form, recipe_line_form, job_form, batch_form, control_line_form, batch_event_form, lot_form, sublot_form, movement_form, hold_form}
+
+pub meta : Selects meta_form [] (codes "SELECT k, schema, seq, at FROM meta ORDER BY k")
+unfolding everything
+meta = record { readable = refl; compared = refl; parameters = []; written = refl }
+
+pub class_by_id : Selects class_form (1 ∷ []) (codes "SELECT id, name FROM class WHERE id = ?1 ORDER BY id")
+unfolding everything
+class_by_id = record { readable = refl; compared = refl; parameters = codes "?1" ∷ []; written = refl }
+
+pub definition_by_id : Selects definition_form (1 ∷ []) (codes "SELECT id, class, name, unit FROM definition WHERE id = ?1 ORDER BY id")
+unfolding everything
+definition_by_id = record { readable = refl; compared = refl; parameters = codes "?1" ∷ []; written = refl }
+
+pub recipe_by_key : Selects recipe_form (1 ∷ 2 ∷ []) (codes "SELECT id, version, product, base, low, high, title, state FROM recipe WHERE id = ?1 AND version = ?2 ORDER BY id, version")
+unfolding everything
+recipe_by_key = record { readable = refl; compared = refl; parameters = codes "?1" ∷ codes "?2" ∷ []; written = refl }
+
+pub lines_of_recipe : Selects recipe_line_form (1 ∷ 2 ∷ []) (codes "SELECT recipe, version, no, kind, def, qty, t1, t2, t3 FROM recipe_line WHERE recipe = ?1 AND version = ?2 ORDER BY recipe, version, no")
+unfolding everything
+lines_of_recipe = record { readable = refl; compared = refl; parameters = codes "?1" ∷ codes "?2" ∷ []; written = refl }
+
+pub job_by_id : Selects job_form (1 ∷ []) (codes "SELECT id, recipe, version, size, due, priority, state FROM job WHERE id = ?1 ORDER BY id")
+unfolding everything
+job_by_id = record { readable = refl; compared = refl; parameters = codes "?1" ∷ []; written = refl }
+
+pub batch_by_id : Selects batch_form (1 ∷ []) (codes "SELECT id, job, at, by_who, note, state, attempt, next, closed FROM batch WHERE id = ?1 ORDER BY id")
+unfolding everything
+batch_by_id = record { readable = refl; compared = refl; parameters = codes "?1" ∷ []; written = refl }
+
+pub batch_by_job : Selects batch_form (2 ∷ []) (codes "SELECT id, job, at, by_who, note, state, attempt, next, closed FROM batch WHERE job = ?1 ORDER BY id")
+unfolding everything
+batch_by_job = record { readable = refl; compared = refl; parameters = codes "?1" ∷ []; written = refl }
+
+pub lines_of_batch : Selects control_line_form (1 ∷ []) (codes "SELECT batch, no, kind, def, qty, t1, t2, t3 FROM control_line WHERE batch = ?1 ORDER BY batch, no")
+unfolding everything
+lines_of_batch = record { readable = refl; compared = refl; parameters = codes "?1" ∷ []; written = refl }
+
+pub events_of_batch : Selects batch_event_form (2 ∷ []) (codes "SELECT seq, batch, word, phase, at, by_who, note FROM batch_event WHERE batch = ?1 ORDER BY seq")
+unfolding everything
+events_of_batch = record { readable = refl; compared = refl; parameters = codes "?1" ∷ []; written = refl }
+
+pub lot_by_id : Selects lot_form (1 ∷ []) (codes "SELECT id, def FROM lot WHERE id = ?1 ORDER BY id")
+unfolding everything
+lot_by_id = record { readable = refl; compared = refl; parameters = codes "?1" ∷ []; written = refl }
+
+pub sublot_by_key : Selects sublot_form (1 ∷ 2 ∷ []) (codes "SELECT lot, no, place, stock FROM sublot WHERE lot = ?1 AND no = ?2 ORDER BY lot, no")
+unfolding everything
+sublot_by_key = record { readable = refl; compared = refl; parameters = codes "?1" ∷ codes "?2" ∷ []; written = refl }
+
+pub sublots_of_lot : Selects sublot_form (1 ∷ []) (codes "SELECT lot, no, place, stock FROM sublot WHERE lot = ?1 ORDER BY lot, no")
+unfolding everything
+sublots_of_lot = record { readable = refl; compared = refl; parameters = codes "?1" ∷ []; written = refl }
+
+pub movements_of_lot : Selects movement_form (4 ∷ []) (codes "SELECT seq, line, kind, lot, sub, lot2, sub2, batch, amount, at, by_who, note FROM movement WHERE lot = ?1 ORDER BY seq, line")
+unfolding everything
+movements_of_lot = record { readable = refl; compared = refl; parameters = codes "?1" ∷ []; written = refl }
+
+pub movements_to_lot : Selects movement_form (6 ∷ []) (codes "SELECT seq, line, kind, lot, sub, lot2, sub2, batch, amount, at, by_who, note FROM movement WHERE lot2 = ?1 ORDER BY seq, line")
+unfolding everything
+movements_to_lot = record { readable = refl; compared = refl; parameters = codes "?1" ∷ []; written = refl }
+
+pub movements_of_batch : Selects movement_form (8 ∷ []) (codes "SELECT seq, line, kind, lot, sub, lot2, sub2, batch, amount, at, by_who, note FROM movement WHERE batch = ?1 ORDER BY seq, line")
+unfolding everything
+movements_of_batch = record { readable = refl; compared = refl; parameters = codes "?1" ∷ []; written = refl }
+
+pub movements_of_lot_and_kind : Selects movement_form (4 ∷ 3 ∷ []) (codes "SELECT seq, line, kind, lot, sub, lot2, sub2, batch, amount, at, by_who, note FROM movement WHERE lot = ?1 AND kind = ?2 ORDER BY seq, line")
+unfolding everything
+movements_of_lot_and_kind = record { readable = refl; compared = refl; parameters = codes "?1" ∷ codes "?2" ∷ []; written = refl }
+
+pub hold_by_key : Selects hold_form (1 ∷ 2 ∷ []) (codes "SELECT lot, id, at, by_who, note FROM hold WHERE lot = ?1 AND id = ?2 ORDER BY lot, id")
+unfolding everything
+hold_by_key = record { readable = refl; compared = refl; parameters = codes "?1" ∷ codes "?2" ∷ []; written = refl }
+
+pub holds_of_lot : Selects hold_form (1 ∷ []) (codes "SELECT lot, id, at, by_who, note FROM hold WHERE lot = ?1 ORDER BY lot, id")
+unfolding everything
+holds_of_lot = record { readable = refl; compared = refl; parameters = codes "?1" ∷ []; written = refl }

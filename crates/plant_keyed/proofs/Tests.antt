@@ -1,0 +1,90 @@
+-- The comparison of columns with parameters, as a test of the row.
+use Rattle.std.proofs.Common.{◌≡◌, ◌∙◌, ℕ, pos, Bool, true, false, ◌&&◌, ◌==◌, List, [], ◌∷◌, refl, sym, ap, ap₂}
+use Rattle.std.specs.Cmp.{unsigned_ties}
+use Rattle.std.specs.Cmp.Lexicographic.{texts_ties}
+use Rattle.std.specs.Ordering.{is_eq, nat_cmp, int_cmp}
+use Rattle.sqlite_value.specs.declared.value.Value.TheVariants.{Null, Int, Text}
+use Rattle.sqlite_value.specs.Order.{Row, value_cmp}
+use Rattle.sqlite_value.proofs.OrderLemmas.{value_cmp-Text, value_cmp-Int}
+use Rattle.plant_base.specs.State.{same}
+use Rattle.plant_base.specs.declared.rows.Movement.{Movement}
+use Rattle.plant_base.specs.declared.rows.MovementKind.{MovementKind}
+use Rattle.plant_base.specs.declared.rows.MovementKind.TheVariants as kind
+use Rattle.plant_view.specs.Genealogy.{batch_by}
+use Rattle.plant_view.specs.Views.{is_named, is_scrap}
+use Rattle.table_reads.specs.Found.{has_values}
+use Rattle.plant_tables.specs.Encoding.{number, row_of_movement}
+use Rattle.plant_tables.proofs.KeyTests.{and_true}
+use Rattle.plant_tables_judged.proofs.SortedLemmas.{int_cmp_pos}
+use Rattle.plant_keyed.specs.Edges.{names_other_lot}
+
+pub text_is : (a b : List ℕ) → is_eq (value_cmp (Text a) (Text b)) ≡ same a b
+text_is a b = ap is_eq (value_cmp-Text a b) ∙ sym (texts_ties a b)
+
+pub number_is : (m n : ℕ) → is_eq (value_cmp (number m) (number n)) ≡ (m == n)
+number_is m n = ap is_eq (value_cmp-Int (pos m) (pos n) ∙ int_cmp_pos m n) ∙ sym (unsigned_ties m n)
+
+-- one text
+pub one_text : (a b : List ℕ) → (is_eq (value_cmp (Text a) (Text b)) && true) ≡ same a b
+one_text a b = and_true _ ∙ text_is a b
+
+-- a text, and then a number
+pub text_number : (a b : List ℕ) (m n : ℕ) → (is_eq (value_cmp (Text a) (Text b)) && (is_eq (value_cmp (number m) (number n)) && true)) ≡ (same a b && m == n)
+text_number a b m n = ap₂ (λ x y. x && y) (text_is a b) (and_true _ ∙ number_is m n)
+
+-- two texts
+pub two_texts : (a b c d : List ℕ) → (is_eq (value_cmp (Text a) (Text b)) && (is_eq (value_cmp (Text c) (Text d)) && true)) ≡ (same a b && same c d)
+two_texts a b c d = ap₂ (λ x y. x && y) (text_is a b) (one_text c d)
+
+-- ---- movements
+
+pub lot_is : (m : Movement) (lot : List ℕ) → has_values (4 ∷ []) (Text lot ∷ []) (row_of_movement m) ≡ same m.lot lot
+lot_is m lot = one_text m.lot lot
+
+pub other_lot_is : (m : Movement) (lot : List ℕ) → has_values (6 ∷ []) (Text lot ∷ []) (row_of_movement m) ≡ names_other_lot lot m
+unfolding value_cmp
+other_lot_is m lot = by m.kind
+  where
+    by : (k : MovementKind) → has_values (6 ∷ []) (Text lot ∷ []) (row_of_movement (record m { kind = k })) ≡ names_other_lot lot (record m { kind = k })
+    by kind.Received = refl
+    by (kind.Consumed batch) = refl
+    by (kind.Produced batch) = refl
+    by kind.Scrapped = refl
+    by (kind.Divided to) = one_text m.lot lot
+    by (kind.Split to) = one_text to lot
+    by (kind.Merged to) = one_text to lot
+
+pub batch_is : (m : Movement) (batch : List ℕ) → has_values (8 ∷ []) (Text batch ∷ []) (row_of_movement m) ≡ is_named batch (batch_by m.kind)
+unfolding value_cmp
+batch_is m batch = by m.kind
+  where
+    by : (k : MovementKind) → has_values (8 ∷ []) (Text batch ∷ []) (row_of_movement (record m { kind = k })) ≡ is_named batch (batch_by k)
+    by kind.Received = refl
+    by (kind.Consumed b) = one_text b batch
+    by (kind.Produced b) = one_text b batch
+    by kind.Scrapped = refl
+    by (kind.Divided to) = refl
+    by (kind.Split to) = refl
+    by (kind.Merged to) = refl
+
+both : (a b : Bool) → (a && (b && true)) ≡ (b && a)
+both true true = refl
+both true false = refl
+both false true = refl
+both false false = refl
+
+-- a movement of a lot that scraps
+pub scrap_is : (m : Movement) (lot : List ℕ) → has_values (4 ∷ 3 ∷ []) (Text lot ∷ number 4 ∷ []) (row_of_movement m) ≡ (is_scrap m.kind && same m.lot lot)
+scrap_is m lot = by m.kind
+  where
+    kind_is : (k : ℕ) (b : Bool) → (k == 4) ≡ b → (is_eq (value_cmp (Text m.lot) (Text lot)) && (is_eq (value_cmp (number k) (number 4)) && true)) ≡ (b && same m.lot lot)
+    kind_is k b is = ap₂ (λ x y. x && (y && true)) (text_is m.lot lot) (number_is k 4 ∙ is) ∙ both (same m.lot lot) b
+
+    by : (k : MovementKind) → has_values (4 ∷ 3 ∷ []) (Text lot ∷ number 4 ∷ []) (row_of_movement (record m { kind = k })) ≡ (is_scrap k && same m.lot lot)
+    by kind.Received = kind_is 1 false refl
+    by (kind.Consumed batch) = kind_is 2 false refl
+    by (kind.Produced batch) = kind_is 3 false refl
+    by kind.Scrapped = kind_is 4 true refl
+    by (kind.Divided to) = kind_is 5 false refl
+    by (kind.Split to) = kind_is 6 false refl
+    by (kind.Merged to) = kind_is 7 false refl

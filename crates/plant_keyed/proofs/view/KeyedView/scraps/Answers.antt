@@ -1,0 +1,19 @@
+use Rattle.std.proofs.Common.{refl, [], ◌∷◌}
+use Rattle.sqlite.specs.Held.{state}
+use Rattle.plant_keyed.proofs.Answering.{movements_are}
+use Rattle.plant_keyed.proofs.Keeping.{told_found}
+use Rattle.plant_keyed.proofs.Selected.{movements_of_lot_and_kind}
+use Rattle.plant_keyed.proofs.Tests.{scrap_is}
+use Rattle.plant_keyed.proofs.view.KeyedView.scraps.Goals as goal
+
+pub found-requires : goal.found-requires
+found-requires g c = (4 ∷ 3 ∷ [], movements_of_lot_and_kind)
+
+pub returns : goal.returns
+returns g c =
+    let old = state g.S.Store c.args.self.now.conn.now in
+    let new = state g.S.Store c.found.new.self.conn.now in
+    let told = told_found old new c.args.self.now.has_failed c.found.new.self.has_failed c.found.result _ _ c.found.ensures.steady
+        (λ clean. rw (c.id.ensures, c.small.ensures) at (c.found.ensures.rows (4 ∷ 3 ∷ []) movements_of_lot_and_kind (refl, rw (c.id.ensures, c.small.ensures) refl) clean))
+        (λ good holds rows found. movements_are old.now _ good holds (4 ∷ 3 ∷ []) _ _ (λ m. scrap_is m c.args.lot) rows.items found) in
+    record { always = (c.found.ensures.same_reference, told.always); before = told.before; same = λ h. told.always.shows h.clean h.unfailed; holds = told.holds }

@@ -1,0 +1,7 @@
+pub mod Edges
+pub mod Finding
+pub mod Keeping
+pub mod Laws
+pub mod Shown
+pub mod Sorting
+pub mod Steadily

@@ -1,0 +1,49 @@
+//! Rows that a query finds, judged by the rules of their values.
+
+ghost use Rattle.std.specs.Prelude.{◌≡◌, false, ℕ, List, IfOk, OnOk};
+ghost use Rattle.sqlite.specs.State.{HasCleanDisk, IsUnchanged, Survives};
+ghost use Rattle.sqlite.specs.Held.{state};
+ghost use Rattle.sqlite.specs.Values.{bound};
+ghost use Rattle.table_forms.specs.Resting.{Keeps};
+ghost use Rattle.table_reads.specs.Found.{AreGiven};
+ghost use Rattle.table_reads.specs.Selects.{Selects};
+ghost use Rattle.plant_keyed.specs.Finding.{AreFound, AreJudged};
+
+use plant_tables_columns::{Judged, judge_all};
+use sqlite::types::ValueRef;
+use sqlite::{Alter, Connection};
+use std::alloc::Global;
+use table_forms::{Fault, Form};
+use table_reads::find_rows;
+
+/// The rows of a table that have the given values, by the first key of the table. Store where the table doesn't stand
+/// as it is declared, where a transaction is open, where a value of a row breaks its rule, and where the store fails;
+/// Memory where there is none. Nothing is changed.
+pub(crate) fn found_rows<S: Alter, R: Judged>(
+    alloc: Global,
+    conn: &mut Connection<S>,
+    form: &Form<'_>,
+    sql: &str,
+    values: &[ValueRef<'_>],
+) -> Result<Vec<R>, Fault>
+    requires { (places : List ℕ) × Selects form.now places sql.now }
+    ensures rows { (places : List ℕ) → Selects form.now places sql.now
+        → AreGiven places (bound values.now) → HasCleanDisk (state S.Store conn.new)
+        → IfOk result (λ rows. AreFound (state S.Store conn.old).now form.now R.row_from places
+        (bound values.now) rows.items) }
+    ensures judged { IfOk result (λ rows. AreJudged R.row_from rows.items) }
+    ensures same { HasCleanDisk (state S.Store conn.new)
+        → OnOk result (IsUnchanged (state S.Store conn.old) (state S.Store conn.new)) }
+    ensures kept { HasCleanDisk (state S.Store conn.new)
+        → Keeps (state S.Store conn.old) (state S.Store conn.new) }
+    ensures mode { (state S.Store conn.old).in_transaction ≡ false
+        → (state S.Store conn.new).in_transaction ≡ false }
+    ensures crash { Survives (state S.Store conn.old) (state S.Store conn.new) (λ _. ⊥) }
+{
+    let stored = find_rows(alloc, conn, form, sql, values)?;
+    match judge_all(alloc, stored.as_slice()) {
+        Ok(Some(rows)) => Ok(rows),
+        Ok(None) => Err(Fault::Store),
+        Err(_) => Err(Fault::Memory),
+    }
+}

@@ -1,0 +1,116 @@
+ghost use Rattle.std.specs.Prelude.{◌≡◌, ◌≤◌, false, ℕ, List, IfOk, IfSome, OnOk, IsTrue};
+ghost use Rattle.sqlite.specs.State.{HasCleanDisk};
+ghost use Rattle.sqlite.specs.Held.{state};
+ghost use Rattle.sqlite.specs.Values.{bound};
+ghost use Rattle.table_reads.specs.Found.{AreGiven};
+ghost use Rattle.table_reads.specs.Selects.{Selects};
+ghost use Rattle.plant_base.specs.Values.{greatest_seq};
+ghost use Rattle.plant_view.specs.Tables.{position_of};
+ghost use Rattle.plant_keyed.specs.Finding.{AreFound, IsFirstFound, AreJudged, IsJudged};
+ghost use Rattle.plant_keyed.specs.Keeping.{IsSteady, IsTold};
+ghost use Rattle.plant_keyed.specs.Shown.{shown};
+
+use crate::found::found_rows;
+use crate::texts;
+use plant_base::{Meta, Position};
+use plant_tables::forms::META;
+use plant_tables_columns::Judged;
+use sqlite::types::ValueRef;
+use sqlite::{Alter, Connection};
+use std::alloc::Global;
+use table_forms::{Fault, Form};
+
+/// The rows of a desk's tables, each found by its key by a query over a connection that is lent. Nothing is written.
+///
+/// It keeps no row. It keeps whether a look-up failed: from then on the connection may be closed.
+#[derive(Drop)]
+pub struct Keyed<'a, S: Alter> {
+    pub(crate) alloc: Global,
+    pub conn: &'a mut Connection<S>,
+    pub has_failed: bool,
+}
+
+impl<'a, S: Alter> Keyed<'a, S> {
+    /// Over a connection. No memory is taken.
+    pub fn new(alloc: Global, conn: &'a mut Connection<S>) -> Keyed<'a, S>
+        ensures same_reference { result.conn.ghost_name ≡ conn.entry.ghost_name }
+        ensures same { result.conn.now ≡ conn.old }
+        ensures unfailed { result.has_failed ≡ false }
+    {
+        Keyed {
+            alloc,
+            conn,
+            has_failed: false,
+        }
+    }
+
+    /// The rows of a table that have the given values, by the first key of the table.
+    pub(crate) fn found<R: Judged>(
+        &mut self,
+        form: &Form<'_>,
+        sql: &str,
+        values: &[ValueRef<'_>],
+    ) -> Result<Vec<R>, Fault>
+        requires { (places : List ℕ) × Selects form.now places sql.now }
+        ensures same_reference { self.new.conn.ghost_name ≡ self.old.conn.ghost_name }
+        ensures rows { (places : List ℕ) → Selects form.now places sql.now
+            → AreGiven places (bound values.now)
+            → HasCleanDisk (state S.Store self.new.conn.now)
+            → IfOk result (λ rows. AreFound (state S.Store self.old.conn.now).now form.now
+            R.row_from places (bound values.now) rows.items) }
+        ensures judged { IfOk result (λ rows. AreJudged R.row_from rows.items) }
+        ensures live { HasCleanDisk (state S.Store self.new.conn.now)
+            → OnOk result (IsTrue (state S.Store self.new.conn.now).is_open) }
+        ensures steady { IsSteady (state S.Store self.old.conn.now) (state S.Store self.new.conn.now)
+            self.old.has_failed self.new.has_failed }
+    {
+        match found_rows(self.alloc, self.conn, form, sql, values) {
+            Ok(rows) => Ok(rows),
+            Err(fault) => {
+                self.has_failed = true;
+                Err(fault)
+            }
+        }
+    }
+
+    /// The first of these rows, where there is one: the only one, where the values are those of a key.
+    pub(crate) fn first_found<R: Judged + Copy>(
+        &mut self,
+        form: &Form<'_>,
+        sql: &str,
+        values: &[ValueRef<'_>],
+    ) -> Result<Option<R>, Fault>
+        requires { (places : List ℕ) × Selects form.now places sql.now }
+        ensures same_reference { self.new.conn.ghost_name ≡ self.old.conn.ghost_name }
+        ensures row { (places : List ℕ) → Selects form.now places sql.now
+            → AreGiven places (bound values.now)
+            → HasCleanDisk (state S.Store self.new.conn.now)
+            → IfOk result (IsFirstFound (state S.Store self.old.conn.now).now form.now
+            R.row_from places (bound values.now)) }
+        ensures judged { IfOk result (λ row. IfSome row (IsJudged R.row_from)) }
+        ensures live { HasCleanDisk (state S.Store self.new.conn.now)
+            → OnOk result (IsTrue (state S.Store self.new.conn.now).is_open) }
+        ensures steady { IsSteady (state S.Store self.old.conn.now) (state S.Store self.new.conn.now)
+            self.old.has_failed self.new.has_failed }
+    {
+        let rows = self.found::<R>(form, sql, values)?;
+        Ok(rows.as_slice().first().copied())
+    }
+
+    /// How many commands were accepted, and the moment of the last. Store where table meta has no row, and as each
+    /// look-up; an Ok comes of a connection that is open.
+    pub fn read_position(&mut self) -> Result<Position, Fault>
+        ensures same_reference { self.new.conn.ghost_name ≡ self.old.conn.ghost_name }
+        ensures told { IsTold (state S.Store self.old.conn.now) (state S.Store self.new.conn.now)
+            self.old.has_failed self.new.has_failed
+            (IfOk result (λ p. p ≡ position_of (shown (state S.Store self.old.conn.now).now))) }
+        ensures small { IfOk result (λ p. p.seq ≤ greatest_seq) }
+        ensures live { HasCleanDisk (state S.Store self.new.conn.now)
+            → OnOk result (IsTrue (state S.Store self.new.conn.now).is_open) }
+    {
+        match self.first_found::<Meta>(&META, texts::META, &[])? {
+            Some(meta) => Ok(meta.position),
+            None => Err(Fault::Store),
+        }
+    }
+}

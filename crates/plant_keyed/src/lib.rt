@@ -1,0 +1,12 @@
+//! The desk's rows, each found by its key by a query over a connection.
+#![tactic(auto)]
+
+mod found;
+mod keyed;
+mod laws;
+mod movements;
+mod texts;
+mod view;
+
+pub use keyed::Keyed;
+pub use laws::shown_law;

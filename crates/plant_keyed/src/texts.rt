@@ -1,0 +1,56 @@
+//! The fixed text of each look-up: all columns of a table in their order, with a parameter for each column that is given,
+//! by the table's first key.
+
+pub(crate) const META: &str = "SELECT k, schema, seq, at FROM meta ORDER BY k";
+
+pub(crate) const CLASS_BY_ID: &str = "SELECT id, name FROM class WHERE id = ?1 ORDER BY id";
+
+pub(crate) const DEFINITION_BY_ID: &str =
+    "SELECT id, class, name, unit FROM definition WHERE id = ?1 ORDER BY id";
+
+pub(crate) const RECIPE_BY_KEY: &str =
+    "SELECT id, version, product, base, low, high, title, state FROM recipe WHERE id = ?1 AND version = ?2 ORDER BY id, version";
+
+pub(crate) const LINES_OF_RECIPE: &str =
+    "SELECT recipe, version, no, kind, def, qty, t1, t2, t3 FROM recipe_line WHERE recipe = ?1 AND version = ?2 ORDER BY recipe, version, no";
+
+pub(crate) const JOB_BY_ID: &str =
+    "SELECT id, recipe, version, size, due, priority, state FROM job WHERE id = ?1 ORDER BY id";
+
+pub(crate) const BATCH_BY_ID: &str =
+    "SELECT id, job, at, by_who, note, state, attempt, next, closed FROM batch WHERE id = ?1 ORDER BY id";
+
+pub(crate) const BATCH_BY_JOB: &str =
+    "SELECT id, job, at, by_who, note, state, attempt, next, closed FROM batch WHERE job = ?1 ORDER BY id";
+
+pub(crate) const LINES_OF_BATCH: &str =
+    "SELECT batch, no, kind, def, qty, t1, t2, t3 FROM control_line WHERE batch = ?1 ORDER BY batch, no";
+
+pub(crate) const EVENTS_OF_BATCH: &str =
+    "SELECT seq, batch, word, phase, at, by_who, note FROM batch_event WHERE batch = ?1 ORDER BY seq";
+
+pub(crate) const LOT_BY_ID: &str = "SELECT id, def FROM lot WHERE id = ?1 ORDER BY id";
+
+pub(crate) const SUBLOT_BY_KEY: &str =
+    "SELECT lot, no, place, stock FROM sublot WHERE lot = ?1 AND no = ?2 ORDER BY lot, no";
+
+pub(crate) const SUBLOTS_OF_LOT: &str =
+    "SELECT lot, no, place, stock FROM sublot WHERE lot = ?1 ORDER BY lot, no";
+
+pub(crate) const MOVEMENTS_OF_LOT: &str =
+    "SELECT seq, line, kind, lot, sub, lot2, sub2, batch, amount, at, by_who, note FROM movement WHERE lot = ?1 ORDER BY seq, line";
+
+pub(crate) const MOVEMENTS_TO_LOT: &str =
+    "SELECT seq, line, kind, lot, sub, lot2, sub2, batch, amount, at, by_who, note FROM movement WHERE lot2 = ?1 ORDER BY seq, line";
+
+pub(crate) const MOVEMENTS_OF_BATCH: &str =
+    "SELECT seq, line, kind, lot, sub, lot2, sub2, batch, amount, at, by_who, note FROM movement WHERE batch = ?1 ORDER BY seq, line";
+
+pub(crate) const MOVEMENTS_OF_LOT_AND_KIND: &str =
+    "SELECT seq, line, kind, lot, sub, lot2, sub2, batch, amount, at, by_who, note FROM movement WHERE lot = ?1 AND kind = ?2 ORDER BY seq, line";
+
+pub(crate) const HOLD_BY_KEY: &str =
+    "SELECT lot, id, at, by_who, note FROM hold WHERE lot = ?1 AND id = ?2 ORDER BY lot, id";
+
+pub(crate) const HOLDS_OF_LOT: &str =
+    "SELECT lot, id, at, by_who, note FROM hold WHERE lot = ?1 ORDER BY lot, id";

@@ -1,0 +1,144 @@
+// Look-ups over a connection as a view: honest while the store keeps its word and no look-up fails, over the tables of a
+// good state.
+ghost use Rattle.std.specs.Prelude.{◌≡◌, refl};
+ghost use Rattle.std.proofs.Common.{ap};
+ghost use Rattle.sqlite.specs.Held.{state};
+ghost use Rattle.plant_trace.specs.Sources.{same_along};
+ghost use Rattle.plant_view.specs.Genealogy.{edges_of};
+ghost use Rattle.plant_keyed.specs.Keeping.{IsHonest, IsSteady};
+ghost use Rattle.plant_keyed.specs.Shown.{shown};
+ghost use Rattle.plant_keyed.specs.Steadily.{steady_itself, steady_along};
+
+use crate::keyed::Keyed;
+use crate::texts;
+use plant_base::{
+    Batch, BatchEvent, BatchRow, Class, ControlLine, Definition, Hold, Id, Job, Lot, MasterLine,
+    Movement, Position, Recipe, Sublot,
+};
+use plant_tables::columns::{id as text_of, small};
+use plant_tables::forms::{
+    BATCH, BATCH_EVENT, CLASS, CONTROL_LINE, DEFINITION, HOLD, JOB, LOT, MOVEMENT, RECIPE,
+    RECIPE_LINE, SUBLOT,
+};
+use plant_trace::{Direction, Edges, Node};
+use plant_view::View;
+use sqlite::Alter;
+use table_forms::Fault;
+
+impl<'a, S: Alter> Edges for Keyed<'a, S> {
+    type Fault = Fault;
+
+    ghost honest = { λ k. IsHonest (state S.Store k.conn.now) k.has_failed };
+
+    ghost pairs = { λ k. edges_of (shown (state S.Store k.conn.now).now) };
+
+    ghost kept = { λ k l. (state S.Store l.conn.now).now ≡ (state S.Store k.conn.now).now };
+
+    ghost steady = { λ k l. (l.conn.ghost_name ≡ k.conn.ghost_name) × IsSteady (state S.Store k.conn.now)
+        (state S.Store l.conn.now) k.has_failed l.has_failed };
+
+    fn succ(&mut self, node: Node) -> Result<Vec<Node>, Fault> {
+        self.next_nodes(node, Direction::Forward)
+    }
+
+    fn pred(&mut self, node: Node) -> Result<Vec<Node>, Fault> {
+        self.next_nodes(node, Direction::Back)
+    }
+
+    ghost kept_itself = { λ k. refl };
+
+    ghost kept_along = { λ k l m a b. same_along a b };
+
+    ghost steady_itself = { λ k. (refl, steady_itself _ k.has_failed) };
+
+    ghost steady_along = { λ k l m a b. (same_along a.0 b.0, steady_along _ _ _ _ _ _ a.1 b.1) };
+
+    ghost kept_pairs = { λ k l a. ap (λ db. edges_of (shown db)) a };
+}
+
+impl<'a, S: Alter> View for Keyed<'a, S> {
+    ghost state = { λ k. shown (state S.Store k.conn.now).now };
+
+    fn position(&mut self) -> Result<Position, Fault> {
+        self.read_position()
+    }
+
+    fn class(&mut self, id: Id) -> Result<Option<Class>, Fault> {
+        self.first_found(&CLASS, texts::CLASS_BY_ID, &[text_of(&id)])
+    }
+
+    fn definition(&mut self, id: Id) -> Result<Option<Definition>, Fault> {
+        self.first_found(&DEFINITION, texts::DEFINITION_BY_ID, &[text_of(&id)])
+    }
+
+    fn recipe(&mut self, id: Id, version: u16) -> Result<Option<Recipe>, Fault> {
+        let key = [text_of(&id), small(version)];
+        self.first_found(&RECIPE, texts::RECIPE_BY_KEY, &key)
+    }
+
+    fn master_lines(&mut self, id: Id, version: u16) -> Result<Vec<MasterLine>, Fault> {
+        let key = [text_of(&id), small(version)];
+        self.found(&RECIPE_LINE, texts::LINES_OF_RECIPE, &key)
+    }
+
+    fn job(&mut self, order: Id) -> Result<Option<Job>, Fault> {
+        self.first_found(&JOB, texts::JOB_BY_ID, &[text_of(&order)])
+    }
+
+    fn batch(&mut self, id: Id) -> Result<Option<BatchRow>, Fault> {
+        self.first_found(&BATCH, texts::BATCH_BY_ID, &[text_of(&id)])
+    }
+
+    fn batch_for(&mut self, order: Id) -> Result<Option<Batch>, Fault> {
+        match self.first_found::<BatchRow>(&BATCH, texts::BATCH_BY_JOB, &[text_of(&order)])? {
+            Some(row) => Ok(Some(row.batch)),
+            None => Ok(None),
+        }
+    }
+
+    fn events(&mut self, batch: Id) -> Result<Vec<BatchEvent>, Fault> {
+        self.found(&BATCH_EVENT, texts::EVENTS_OF_BATCH, &[text_of(&batch)])
+    }
+
+    fn batch_movements(&mut self, batch: Id) -> Result<Vec<Movement>, Fault> {
+        self.movements_of_batch(&batch)
+    }
+
+    fn control_lines(&mut self, batch: Id) -> Result<Vec<ControlLine>, Fault> {
+        self.found(&CONTROL_LINE, texts::LINES_OF_BATCH, &[text_of(&batch)])
+    }
+
+    fn lot(&mut self, id: Id) -> Result<Option<Lot>, Fault> {
+        self.first_found(&LOT, texts::LOT_BY_ID, &[text_of(&id)])
+    }
+
+    fn sublot(&mut self, lot: Id, number: u16) -> Result<Option<Sublot>, Fault> {
+        let key = [text_of(&lot), small(number)];
+        self.first_found(&SUBLOT, texts::SUBLOT_BY_KEY, &key)
+    }
+
+    fn sublots(&mut self, lot: Id) -> Result<Vec<Sublot>, Fault> {
+        self.found(&SUBLOT, texts::SUBLOTS_OF_LOT, &[text_of(&lot)])
+    }
+
+    fn scraps(&mut self, lot: Id) -> Result<Vec<Movement>, Fault> {
+        let key = [text_of(&lot), small(SCRAPPED)];
+        self.found(&MOVEMENT, texts::MOVEMENTS_OF_LOT_AND_KIND, &key)
+    }
+
+    fn hold(&mut self, lot: Id, id: Id) -> Result<Option<Hold>, Fault> {
+        let key = [text_of(&lot), text_of(&id)];
+        self.first_found(&HOLD, texts::HOLD_BY_KEY, &key)
+    }
+
+    fn holds(&mut self, lot: Id) -> Result<Vec<Hold>, Fault> {
+        self.found(&HOLD, texts::HOLDS_OF_LOT, &[text_of(&lot)])
+    }
+
+    ghost kept_state = { λ k l a. ap shown a };
+
+    ghost pairs_of_state = { λ k. refl };
+}
+
+/// The number of the kind of movements that scrap.
+const SCRAPPED: u16 = 4;

@@ -127,8 +127,8 @@ fn is_scrap(kind: MovementKind) -> bool
     }
 }
 
-// The edges that movements make.
-pub(crate) fn edges(alloc: Global, movements: &[Movement]) -> Result<Vec<(Node, Node)>, AllocError>
+/// The edges that movements make, in their order. The only error is that memory was refused.
+pub fn edges(alloc: Global, movements: &[Movement]) -> Result<Vec<(Node, Node)>, AllocError>
     ensures { IfOk result (λ pairs. pairs.items ≡ filter_map edge_of movements.now) }
 {
     movements.iter().filter_map(|m| edge(m)).collect(alloc)

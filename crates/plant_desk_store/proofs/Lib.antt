@@ -7,4 +7,5 @@ pub mod OneSchema
 pub mod Others
 pub mod Reopening
 pub mod Resting
+pub mod Showing
 pub mod Stepping

@@ -5,17 +5,17 @@ ghost use Rattle.sqlite.specs.Held.{state};
 ghost use Rattle.sqlite.specs.State.{HasCleanDisk, Survives};
 ghost use Rattle.plant_base.specs.State.{State, newest_schema};
 ghost use Rattle.table_forms.specs.Resting.{Keeps};
-ghost use Rattle.plant_good.specs.Good.{IsGood};
 ghost use Rattle.plant_desk.specs.Answers.{answer};
-ghost use Rattle.plant_desk.specs.Lists.{state_of};
 ghost use Rattle.plant_desk_store.specs.Standing.{StandsAt};
 
-use crate::deciding::read_lists;
-use plant_desk::{Answer, DeskFault, Lists, Question};
+use crate::looking::answer_on;
+use crate::tracing::trace_on;
+use plant_desk::{Answer, DeskFault, Question};
 use sqlite::{Alter, Connection};
 use std::alloc::Global;
 
-/// Answers a question over a store: all tables are read. Nothing is changed.
+/// Answers a question over a store. A trace reads all tables, every other question the rows that it names. Nothing is
+/// changed.
 pub(crate) fn ask_on<S: Alter>(
     alloc: Global,
     connection: &mut Connection<S>,
@@ -31,18 +31,8 @@ pub(crate) fn ask_on<S: Alter>(
         → (state S.Store connection.new).in_transaction ≡ false }
     ensures crash { Survives (state S.Store connection.old) (state S.Store connection.new) (λ _. ⊥) }
 {
-    let lists = read_lists(alloc, connection)?;
-    answer_in(&lists, question)
-}
-
-// The only error is that memory was refused.
-fn answer_in(lists: &Lists, question: &Question) -> Result<Answer, DeskFault>
-    requires { IsGood (state_of lists.now) }
-    ensures answer { IfOk result (λ a. a ≡ answer newest_schema (state_of lists.now) question.now) }
-    ensures memory { IfErr result (λ fault. fault ≡ DeskFault.Memory) }
-{
-    match lists.answer(question) {
-        Ok(answer) => Ok(answer),
-        Err(_) => Err(DeskFault::Memory),
+    match question {
+        Question::Trace(_, _) => trace_on(alloc, connection, question),
+        _ => answer_on(alloc, connection, question),
     }
 }

@@ -1,6 +1,6 @@
 //! Commands over a store.
 
-ghost use Rattle.std.specs.Prelude.{◌≡◌, ◌≢◌, ◌⊎◌, ◌+◌, ◌<◌, ◌^◌, false, true, None, Err, IfOk, IfErr, OnOk, OnErr, IsTrue};
+ghost use Rattle.std.specs.Prelude.{◌≡◌, ◌≢◌, ◌⊎◌, ◌+◌, ◌<◌, ◌≤◌, ◌^◌, false, true, IfOk, IfErr, OnOk, OnErr, IsTrue};
 ghost use Rattle.sqlite.specs.Effect.{Database};
 ghost use Rattle.sqlite.specs.Held.{state};
 ghost use Rattle.sqlite.specs.State.{HasCleanDisk, Survives};
@@ -8,21 +8,22 @@ ghost use Rattle.plant_base.specs.State.{State, newest_schema};
 ghost use Rattle.plant_view.specs.Tables.{tables_of, changed_all};
 ghost use Rattle.plant_tables.specs.Keyed.{AreFresh};
 ghost use Rattle.plant_good.specs.Good.{IsGood};
-ghost use Rattle.plant_rules.specs.Wrong.{wrong};
+ghost use Rattle.plant_base.specs.Values.{greatest_seq};
+ghost use Rattle.plant_view.specs.OneBatch.{PutsOneBatch};
 ghost use Rattle.plant_desk.specs.Keeping.{writes_nothing};
-ghost use Rattle.plant_desk.specs.Lists.{state_of};
+ghost use Rattle.plant_desk_store.specs.Looking.{IsDecidedAt};
 ghost use Rattle.plant_desk_store.specs.Standing.{StandsAt, Leaves, IsOpenAt, Executed, OthersStand};
 
-use crate::deciding::{decide_in, read_lists};
+use crate::looking::{Decided, decide_on};
 use plant_base::{ControlLine, Envelope, MasterLine, Movement, MovementKind, RecipeLine};
-use plant_desk::{DeskFault, Lists, Reply};
+use plant_desk::{DeskFault, Reply};
 use plant_tables::commit_changes;
 use plant_view::{Decision, RowChange};
 use sqlite::{Alter, Connection};
 use std::alloc::Global;
 
-/// Executes a command over a store in which no transaction is open: all tables are read, and what the command changes
-/// is written in one transaction.
+/// Executes a command over a store in which no transaction is open: it is decided by look-ups, and what it changes is
+/// written in one transaction.
 pub(crate) fn execute_on<S: Alter>(
     alloc: Global,
     connection: &mut Connection<S>,
@@ -45,43 +46,43 @@ pub(crate) fn execute_on<S: Alter>(
     ensures spared { writes_nothing result ≡ true
         → Survives (state S.Store connection.old) (state S.Store connection.new) (λ _. ⊥) }
 {
-    let lists = read_lists(alloc, connection)?;
-    execute_read(connection, lists, envelope)
+    let decided = decide_on(alloc, connection, envelope)?;
+    execute_decided(connection, decided, envelope)
 }
 
-/// Decides a command over the lists that were read of a store, and writes what it changes in one transaction.
-fn execute_read<S: Alter>(
+/// Writes what a command changes that was decided over the store, in one transaction.
+fn execute_decided<S: Alter>(
     connection: &mut Connection<S>,
-    lists: Lists,
+    decided: Decided,
     envelope: &Envelope,
 ) -> Result<Reply, DeskFault>
     requires rest { (state S.Store connection.old).in_transaction ≡ false }
-    requires good { IsGood (state_of lists) }
+    requires one_batch { PutsOneBatch decided.decision }
+    requires small { decided.seq ≤ greatest_seq }
     ensures mode { (state S.Store connection.new).in_transaction ≡ false }
     ensures clean { HasCleanDisk (state S.Store connection.new)
         → HasCleanDisk (state S.Store connection.old) }
-    ensures executed { HasCleanDisk (state S.Store connection.new)
-        → IsOpenAt (state S.Store connection.old) (state_of lists)
-        → IsTrue (state S.Store connection.old).is_open
-        → Executed (state_of lists) (state S.Store connection.new) envelope.now result }
+    ensures executed { HasCleanDisk (state S.Store connection.new) → (s : State)
+        → IsOpenAt (state S.Store connection.old) s → IsTrue (state S.Store connection.old).is_open
+        → IsDecidedAt s envelope.now decided
+        → Executed s (state S.Store connection.new) envelope.now result }
     ensures open { IfErr result (λ fault. fault ≢ DeskFault.Shut) }
-    ensures others { HasCleanDisk (state S.Store connection.new)
-        → IsOpenAt (state S.Store connection.old) (state_of lists)
-        → IsTrue (state S.Store connection.old).is_open
+    ensures others { HasCleanDisk (state S.Store connection.new) → (s : State)
+        → IsOpenAt (state S.Store connection.old) s → IsTrue (state S.Store connection.old).is_open
+        → IsDecidedAt s envelope.now decided
         → (before : Database) → OthersStand before (state S.Store connection.old)
         → OthersStand before (state S.Store connection.new) }
     ensures untouched { writes_nothing result ≡ true → connection.new ≡ connection.old }
 
-    // Store comes of the commit of a command that is accepted, and never of want of memory.
-    ensures store { result ≡ Err DeskFault.Store → wrong (state_of lists) envelope.now ≡ None }
+    // Store comes of the commit of a command that is accepted.
+    ensures fault { IfErr result (λ fault. fault ≡ DeskFault.Store) }
 {
     // The checker can't follow row changes, unless the function names these types.
     let _: Option<(RecipeLine, MasterLine, ControlLine, Movement, MovementKind)> = None;
-    let seq = lists.seq;
     envelope.show_values();
-    match decide_in(&lists, envelope)? {
+    match decided.decision {
         Decision::Refused(refusal) => Ok(Reply::Refused(refusal)),
-        Decision::Change(changes) => commit_on(connection, seq, changes.as_slice()),
+        Decision::Change(changes) => commit_on(connection, decided.seq, changes.as_slice()),
     }
 }
 

@@ -3,14 +3,16 @@
 
 mod adopting;
 mod asking;
-mod deciding;
 mod executing;
+mod faults;
 mod fitness;
 mod laws;
 mod lists;
+mod looking;
 mod reading;
 mod running;
 mod stored;
+mod tracing;
 mod verifying;
 
 pub use adopting::{AdoptFault, AdoptRefused};

@@ -9,7 +9,7 @@ ghost use Rattle.plant_check.specs.Broken.{first_broken};
 ghost use Rattle.plant_desk_store.specs.Standing.{StandsAt};
 ghost use Rattle.plant_desk_store.specs.Testing.{IsTested};
 
-use crate::deciding::fault_of;
+use crate::faults::fault_of;
 use crate::fitness::{Unfit, judge};
 use plant_base::NEWEST_SCHEMA;
 use plant_check::Rule;

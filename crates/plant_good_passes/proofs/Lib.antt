@@ -10,4 +10,4 @@ mod Stocks
 mod Testing
 mod Times
 pub mod Unbroken
-mod Values
+pub mod Values

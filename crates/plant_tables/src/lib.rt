@@ -1,7 +1,7 @@
 //! The tables of the desk in a SQLite store: how each is declared, and how its rows are written.
 #![tactic(auto)]
 
-mod columns;
+pub mod columns;
 mod commit;
 mod encode;
 pub mod forms;

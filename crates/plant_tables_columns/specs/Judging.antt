@@ -23,6 +23,7 @@ use Rattle.plant_base.specs.declared.rows.BatchEvent.{BatchEvent}
 use Rattle.plant_base.specs.declared.rows.Lot.{Lot}
 use Rattle.plant_base.specs.declared.rows.Sublot.{Sublot}
 use Rattle.plant_base.specs.declared.rows.Hold.{Hold}
+use Rattle.plant_base.specs.declared.rows.Movement.{Movement}
 use Rattle.plant_tables_columns.specs.Reading.{id_from, text_from, unit_from, due_from, number_from, one_from, greatest_number, amount_from, moment_from, seq_from, sublot_number_from, line_number_from, flag_from, id_or_null, sublot_or_null, is_null, is_empty, is_zero}
 use Rattle.plant_tables_columns.specs.Columns.{Columns, one, two, ◌⊗◌, made, read_row}
 use Rattle.plant_tables_columns.specs.Naming.{recipe_state_from, job_state_from, batch_state_from, event_from, line_sort_from, movement_sort_from}
@@ -30,6 +31,7 @@ use Rattle.plant_tables_columns.specs.declared.line.LineSort.{LineSort}
 use Rattle.plant_tables_columns.specs.declared.line.LineSort.TheVariants as line_sort
 use Rattle.plant_tables_columns.specs.declared.line.Material.{Material}
 use Rattle.plant_tables_columns.specs.declared.booked.BookedRow.{BookedRow}
+use Rattle.plant_tables_columns.specs.Booked.{movement_from}
 
 -- ---- meta
 
@@ -191,6 +193,12 @@ booked_columns = made (λ (seq, (line, (sort, (lot, (sub, (lot2, (sub2, (batch, 
 
 unfoldable pub booked_from : Row → Option BookedRow
 booked_from = read_row booked_columns
+
+-- the movement that the row books, where its columns are those of its kind
+unfoldable pub movement_read : Row → Option Movement
+movement_read row = do
+  booked ← booked_from row
+  movement_from booked
 
 abbrev pub hold_columns : Columns Hold
 hold_columns = made (λ (lot, (id, (at, (by, note)))). record { lot = lot; id = id; at = at; by = by; note = note })

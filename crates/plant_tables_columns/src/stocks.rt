@@ -1,13 +1,16 @@
 //! Rows of lots, sublots, movements and holds.
 
-ghost use Rattle.plant_tables_columns.specs.Judging.{lot_from, sublot_from, booked_from, hold_from};
+ghost use Rattle.plant_tables_columns.specs.Judging.{lot_from, sublot_from, booked_from, movement_read, hold_from};
 
 use crate::booked::{BookedRow, movement_sort};
 use crate::judged::Judged;
 use crate::reading::{
     amount, id, line_number, moment, number, optional_id, optional_sublot, sublot_number, text,
 };
-use plant_base::{GREATEST_AMOUNT, GREATEST_SEQ, Hold, Lot, Sublot};
+use plant_base::{
+    Amount, GREATEST_AMOUNT, GREATEST_SEQ, Hold, Id, Lot, Moment, Movement, MovementKind, Sublot,
+    Text,
+};
 use sqlite::Row;
 
 impl Judged for Lot {
@@ -64,6 +67,18 @@ impl Judged for BookedRow {
             by: text(row, 10)?,
             note: text(row, 11)?,
         })
+    }
+}
+
+impl Judged for Movement {
+    ghost row_from = { movement_read };
+
+    #[tactic(auto, unfolding(crate::specs::Judging::movement_read))]
+    fn judge(row: &Row) -> Option<Movement> {
+        // The checker can't follow movements, unless the function names these types.
+        let _: Option<(Id, MovementKind, Amount, Moment, Text)> = None;
+        let booked = BookedRow::judge(row)?;
+        booked.movement()
     }
 }
 

@@ -1,0 +1,22 @@
+use Rattle.std.proofs.Common.{◌∙◌, ap, subst}
+use Rattle.sqlite.specs.Held.{state}
+use Rattle.plant_base.specs.State.{State}
+use Rattle.plant_rules.specs.Step.{step}
+use Rattle.plant_rules.specs.Wrong.{wrong}
+use Rattle.plant_view.specs.Tables.{Decides}
+use Rattle.plant_desk_store.proofs.Showing.{honest_at}
+use Rattle.plant_desk_store.proofs.looking.decide_over.Goals as goal
+
+pub returns-clause-decided : goal.returns-clause-decided
+returns-clause-decided g c clean s at =
+    let old = state g.S.Store c.args.view.now.conn.now in
+    let mid = state g.S.Store c.read_position.new.self.conn.now in
+    let new = state g.S.Store c.decide.new.view.conn.now in
+    let first = c.in-Ok.ensures.told in
+    let second = c.in-Ok-decide.ensures.decides in
+    let honest = honest_at old mid new c.args.view.now.has_failed c.read_position.new.self.has_failed c.decide.new.view.has_failed s first.always second.always.1 clean c.if-view.false c.in-Ok.ensures.live at in
+    let e = c.args.envelope.now in
+    record {
+      seq = ap (λ p. p.seq) (first.holds (second.before honest.ends)) ∙ ap (λ (u : State). u.seq) honest.showed;
+      decides = subst (λ (u : State). Decides (wrong u e) u (step u e) c.in-Ok-decide.decision) honest.shows (second.holds honest.ends);
+    }

@@ -1,0 +1,136 @@
+//! Decisions and answers by look-ups: of a store only the rows are read that a command or a question names.
+
+ghost use Rattle.std.specs.Prelude.{◌≡◌, ◌≢◌, ◌≤◌, false, IfOk, IfErr, OnOk, IsTrue};
+ghost use Rattle.sqlite.specs.Held.{state};
+ghost use Rattle.sqlite.specs.State.{HasCleanDisk, Survives};
+ghost use Rattle.plant_base.specs.State.{State, newest_schema};
+ghost use Rattle.plant_base.specs.Values.{greatest_seq};
+ghost use Rattle.table_forms.specs.Resting.{Keeps};
+ghost use Rattle.plant_view.specs.OneBatch.{PutsOneBatch};
+ghost use Rattle.plant_desk.specs.Answers.{answer};
+ghost use Rattle.plant_keyed.specs.Keeping.{IsSteady};
+ghost use Rattle.plant_desk_store.specs.Looking.{IsDecidedAt};
+ghost use Rattle.plant_desk_store.specs.Standing.{StandsAt};
+
+use crate::faults::{fault_in, fault_of};
+use plant_base::Envelope;
+use plant_desk::{Answer, DeskFault, Question, answer};
+use plant_keyed::Keyed;
+use plant_rules::decide;
+use plant_view::Decision;
+use sqlite::{Alter, Connection};
+use std::alloc::Global;
+
+/// A decision, and how many commands were accepted before it.
+#[derive(Drop)]
+pub(crate) struct Decided {
+    pub seq: u64,
+    pub decision: Decision,
+}
+
+/// Decides a command over the tables of a store. Store where a look-up fails, Memory where there is none. Nothing is
+/// changed.
+pub(crate) fn decide_on<S: Alter>(
+    alloc: Global,
+    connection: &mut Connection<S>,
+    envelope: &Envelope,
+) -> Result<Decided, DeskFault>
+    ensures decided { HasCleanDisk (state S.Store connection.new) → (s : State)
+        → StandsAt (state S.Store connection.old) s
+        → IfOk result (IsDecidedAt s envelope.now) }
+    ensures one_batch { IfOk result (λ d. PutsOneBatch d.decision) }
+    ensures small { IfOk result (λ d. d.seq ≤ greatest_seq) }
+    ensures live { HasCleanDisk (state S.Store connection.new)
+        → OnOk result (IsTrue (state S.Store connection.new).is_open) }
+    ensures open { IfErr result (λ fault. fault ≢ DeskFault.Shut) }
+    ensures kept { HasCleanDisk (state S.Store connection.new)
+        → Keeps (state S.Store connection.old) (state S.Store connection.new) }
+    ensures mode { (state S.Store connection.old).in_transaction ≡ false
+        → (state S.Store connection.new).in_transaction ≡ false }
+    ensures crash { Survives (state S.Store connection.old) (state S.Store connection.new) (λ _. ⊥) }
+{
+    let mut view = Keyed::new(alloc, connection);
+    decide_over(alloc, &mut view, envelope)
+}
+
+fn decide_over<S: Alter>(
+    alloc: Global,
+    view: &mut Keyed<'_, S>,
+    envelope: &Envelope,
+) -> Result<Decided, DeskFault>
+    ensures same_reference { view.new.conn.ghost_name ≡ view.old.conn.ghost_name }
+    ensures steady { IsSteady (state S.Store view.old.conn.now) (state S.Store view.new.conn.now)
+        view.old.has_failed view.new.has_failed }
+    ensures decided { HasCleanDisk (state S.Store view.new.conn.now) → (s : State)
+        → StandsAt (state S.Store view.old.conn.now) s
+        → IfOk result (IsDecidedAt s envelope.now) }
+    ensures one_batch { IfOk result (λ d. PutsOneBatch d.decision) }
+    ensures small { IfOk result (λ d. d.seq ≤ greatest_seq) }
+    ensures live { HasCleanDisk (state S.Store view.new.conn.now)
+        → OnOk result (IsTrue (state S.Store view.new.conn.now).is_open) }
+    ensures open { IfErr result (λ fault. fault ≢ DeskFault.Shut) }
+{
+    // A position that was read shows that the connection is open.
+    let seq = match view.read_position() {
+        Ok(position) => position.seq,
+        Err(fault) => return Err(fault_of(fault)),
+    };
+    let decision = match decide(alloc, view, envelope) {
+        Ok(decision) => decision,
+        Err(fault) => return Err(fault_in(fault)),
+    };
+    // That no decision is made after a look-up failed isn't a clause of `decide`.
+    if view.has_failed {
+        return Err(DeskFault::Store);
+    }
+    Ok(Decided { seq, decision })
+}
+
+/// Answers a question over the tables of a store. Store where a look-up fails, Memory where there is none. Nothing is
+/// changed.
+pub(crate) fn answer_on<S: Alter>(
+    alloc: Global,
+    connection: &mut Connection<S>,
+    question: &Question,
+) -> Result<Answer, DeskFault>
+    ensures answers { HasCleanDisk (state S.Store connection.new) → (s : State)
+        → StandsAt (state S.Store connection.old) s
+        → IfOk result (λ a. a ≡ answer newest_schema s question.now) }
+    ensures open { IfErr result (λ fault. fault ≢ DeskFault.Shut) }
+    ensures kept { HasCleanDisk (state S.Store connection.new)
+        → Keeps (state S.Store connection.old) (state S.Store connection.new) }
+    ensures mode { (state S.Store connection.old).in_transaction ≡ false
+        → (state S.Store connection.new).in_transaction ≡ false }
+    ensures crash { Survives (state S.Store connection.old) (state S.Store connection.new) (λ _. ⊥) }
+{
+    let mut view = Keyed::new(alloc, connection);
+    answer_over(alloc, &mut view, question)
+}
+
+fn answer_over<S: Alter>(
+    alloc: Global,
+    view: &mut Keyed<'_, S>,
+    question: &Question,
+) -> Result<Answer, DeskFault>
+    ensures same_reference { view.new.conn.ghost_name ≡ view.old.conn.ghost_name }
+    ensures steady { IsSteady (state S.Store view.old.conn.now) (state S.Store view.new.conn.now)
+        view.old.has_failed view.new.has_failed }
+    ensures answers { HasCleanDisk (state S.Store view.new.conn.now) → (s : State)
+        → StandsAt (state S.Store view.old.conn.now) s
+        → IfOk result (λ a. a ≡ answer newest_schema s question.now) }
+    ensures open { IfErr result (λ fault. fault ≢ DeskFault.Shut) }
+{
+    // A position that was read shows that the connection is open.
+    if let Err(fault) = view.read_position() {
+        return Err(fault_of(fault));
+    }
+    let answer = match answer(alloc, view, question) {
+        Ok(answer) => answer,
+        Err(fault) => return Err(fault_in(fault)),
+    };
+    // That nothing is answered after a look-up failed isn't a clause of `answer`.
+    if view.has_failed {
+        return Err(DeskFault::Store);
+    }
+    Ok(answer)
+}

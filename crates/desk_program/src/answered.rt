@@ -5,6 +5,7 @@ ghost use Rattle.sqlite.specs.Held.{state};
 ghost use Rattle.sqlite.specs.State.{HasCleanDisk};
 ghost use Rattle.plant_base.specs.State.{State, newest_schema};
 ghost use Rattle.plant_desk.specs.Answers.{answer};
+ghost use Rattle.plant_desk.specs.Keeping.{IsSameDesk};
 ghost use Rattle.plant_desk_store.specs.Adopting.{IsNewlyOpened};
 ghost use Rattle.plant_desk_store.specs.Standing.{IsOpenAt};
 ghost use Rattle.plant_text.specs.Answers.{text_of_answer};
@@ -105,7 +106,7 @@ pub fn tell_answer<W: Write, K: Keeper>(
     question: &Question,
 ) -> Result<bool, Fault>
     requires { K.shut keeper.old ≡ false }
-    ensures honest { K.honest keeper.new → K.honest keeper.old }
+    ensures same { IsSameDesk K.honest K.schema K.beside keeper.old keeper.new }
     ensures open { K.shut keeper.new ≡ false }
     ensures stays { K.honest keeper.new → (s : State) → K.stands keeper.old s → K.stands keeper.new s }
     ensures told { K.honest keeper.new → (s : State) → K.stands keeper.old s

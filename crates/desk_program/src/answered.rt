@@ -12,7 +12,7 @@ ghost use Rattle.plant_text.specs.Answers.{text_of_answer};
 ghost use Rattle.plant_text.specs.Writes.{with_lf};
 ghost use Rattle.desk_program.specs.Answered.{node_text, told_text, trace_text, AnswerTold, AskGives};
 
-use crate::adopting::{Performed, adopt, broken_off};
+use crate::adopting::{Performed, adopt, performed_of};
 use crate::fault::Fault;
 use plant_desk::{Answer, Keeper, Question};
 use plant_desk_store::Desk;
@@ -156,6 +156,6 @@ pub(crate) fn ask_store<S: Alter + Drop, W: Write>(
 {
     match adopt(alloc, connection) {
         Ok(desk) => ask_desk(alloc, desk, writer, question),
-        Err(stopped) => broken_off(stopped),
+        Err(stopped) => performed_of(stopped),
     }
 }

@@ -9,7 +9,7 @@ import re
 
 # The words of the headline's clauses, by the file of definitions in which they stand.
 WORDS = {
-    "plant_desk.Keeping": ["States", "Executes", "Asks", "shuts", "writes_nothing"],
+    "plant_desk.Keeping": ["IsSameDesk", "States", "Executes", "Asks", "shuts", "writes_nothing"],
     "plant_desk_store.Standing": ["Leaves", "Stands", "IsOpenAt", "FindsState", "OthersStand", "IsBeside"],
     "plant_desk_store.Adopting": ["AdoptedFrom"],
     "plant_desk_store.Laws": ["StopsAreReopened"],

@@ -2,7 +2,7 @@
 ghost use Rattle.std.specs.Prelude.{◌≡◌, false};
 ghost use Rattle.sqlite.specs.Held.{state};
 
-use desk_program::{Fault, Performed, adopt, broken_off, perform_task};
+use desk_program::{Fault, Performed, adopt, perform_task, performed_of};
 use desk_server::serve_listener;
 use desk_words::{Serving, Work};
 use plant_desk_store::Desk;
@@ -40,7 +40,7 @@ fn serve_store<S: Alter + Drop>(
 {
     match adopt(rt.alloc(), connection) {
         Ok(desk) => serve_desk(rt, serving, desk),
-        Err(stopped) => broken_off(stopped),
+        Err(stopped) => performed_of(stopped),
     }
 }
 

@@ -31,7 +31,7 @@ pub struct Performed<S: Alter> {
 }
 
 /// What came of a task that stopped at a fault.
-pub fn broken_off<S: Alter + Drop>(stopped: Stopped<S>) -> Performed<S>
+pub fn performed_of<S: Alter + Drop>(stopped: Stopped<S>) -> Performed<S>
     ensures outcome { result.outcome ≡ Err stopped.fault }
     ensures store { result.connection ≡ stopped.connection }
 {

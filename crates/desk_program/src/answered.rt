@@ -5,13 +5,14 @@ ghost use Rattle.sqlite.specs.Held.{state};
 ghost use Rattle.sqlite.specs.State.{HasCleanDisk};
 ghost use Rattle.plant_base.specs.State.{State, newest_schema};
 ghost use Rattle.plant_desk.specs.Answers.{answer};
+ghost use Rattle.plant_desk.specs.Keeping.{IsSameDesk};
 ghost use Rattle.plant_desk_store.specs.Adopting.{IsNewlyOpened};
 ghost use Rattle.plant_desk_store.specs.Standing.{IsOpenAt};
 ghost use Rattle.plant_text.specs.Answers.{text_of_answer};
 ghost use Rattle.plant_text.specs.Writes.{with_lf};
 ghost use Rattle.desk_program.specs.Answered.{node_text, told_text, trace_text, AnswerTold, AskGives};
 
-use crate::adopting::{Performed, adopt, broken_off};
+use crate::adopting::{Performed, adopt, performed_of};
 use crate::fault::Fault;
 use plant_desk::{Answer, Keeper, Question};
 use plant_desk_store::Desk;
@@ -105,7 +106,7 @@ pub fn tell_answer<W: Write, K: Keeper>(
     question: &Question,
 ) -> Result<bool, Fault>
     requires { K.shut keeper.old ≡ false }
-    ensures honest { K.honest keeper.new → K.honest keeper.old }
+    ensures same { IsSameDesk K.honest K.schema K.beside keeper.old keeper.new }
     ensures open { K.shut keeper.new ≡ false }
     ensures stays { K.honest keeper.new → (s : State) → K.stands keeper.old s → K.stands keeper.new s }
     ensures told { K.honest keeper.new → (s : State) → K.stands keeper.old s
@@ -155,6 +156,6 @@ pub(crate) fn ask_store<S: Alter + Drop, W: Write>(
 {
     match adopt(alloc, connection) {
         Ok(desk) => ask_desk(alloc, desk, writer, question),
-        Err(stopped) => broken_off(stopped),
+        Err(stopped) => performed_of(stopped),
     }
 }

@@ -10,7 +10,7 @@ ghost use Rattle.plant_base.specs.State.{newest_schema};
 ghost use Rattle.plant_orders.specs.Orders.{orders_of};
 ghost use Rattle.desk_program.specs.Imported.{CsvTold, FileUnread, ImportEnds, ImportLeft};
 
-use crate::adopting::{Performed, adopt, broken_off};
+use crate::adopting::{Performed, adopt, performed_of};
 use crate::fault::{Fault, outcome_of_turn};
 use plant_base::Stamp;
 use plant_desk::{DeskFault, Keeper};
@@ -113,6 +113,6 @@ pub(crate) fn import_store<S: Alter + Drop, R: Read, W: Write>(
 {
     match adopt(alloc, connection) {
         Ok(desk) => import_into(alloc, desk, reader, writer, stamp),
-        Err(stopped) => broken_off(stopped),
+        Err(stopped) => performed_of(stopped),
     }
 }

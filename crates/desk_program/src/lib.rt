@@ -14,7 +14,7 @@ mod standing;
 mod telling;
 mod verified;
 
-pub use adopting::{Performed, Stopped, adopt, broken_off};
+pub use adopting::{Performed, Stopped, adopt, performed_of};
 pub use answered::tell_answer;
 pub use fault::Fault;
 pub use imported::take_file;

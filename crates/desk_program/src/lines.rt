@@ -42,7 +42,7 @@ pub(crate) fn good_line(schema: u64, seq: u64) -> ShortLine
 }
 
 /// A word and a number.
-fn numbered(word: &str, number: u64) -> ShortLine
+fn word_and_number(word: &str, number: u64) -> ShortLine
     requires { length word.now ≤ 20 }
     ensures text { result.bytes ≡ word.now ++ decimal number }
     ensures short { length result.bytes ≤ 40 }
@@ -71,8 +71,8 @@ pub(crate) fn fault_word(fault: Fault) -> ShortLine
 {
     match fault {
         Fault::Store => one_word("store"),
-        Fault::Newer(schema) => numbered("newer ", schema),
-        Fault::Damaged(rule) => numbered("damaged G", u64::from(rule.number())),
+        Fault::Newer(schema) => word_and_number("newer ", schema),
+        Fault::Damaged(rule) => word_and_number("damaged G", u64::from(rule.number())),
         Fault::Memory => one_word("memory"),
         Fault::Read => one_word("read"),
         Fault::Write => one_word("write"),

@@ -7,7 +7,7 @@ ghost use Rattle.desk_program.specs.Running.{RunGives};
 ghost use Rattle.desk_program.specs.Tasks.{Asked, TaskGives, import_stamp};
 ghost use Rattle.desk_program.specs.declared.fault.Fault.{Fault};
 
-use crate::adopting::{Performed, broken_off};
+use crate::adopting::{Performed, performed_of};
 use crate::answered::ask_store;
 use crate::fault::{Fault, outcome_of};
 use crate::imported::import_store;
@@ -42,7 +42,7 @@ fn perform_run<S: Alter + Drop, R: Read, W: Write>(
                 connection: desk.close(),
             }
         }
-        Err(stopped) => broken_off(stopped),
+        Err(stopped) => performed_of(stopped),
     }
 }
 
@@ -60,7 +60,7 @@ fn perform_init<S: Alter + Drop, W: Write>(
             outcome: Ok(false),
             connection: desk.close(),
         },
-        Err(stopped) => broken_off(stopped),
+        Err(stopped) => performed_of(stopped),
     }
 }
 
@@ -78,7 +78,7 @@ fn perform_verify<S: Alter + Drop, W: Write>(
             outcome: Ok(false),
             connection: desk.close(),
         },
-        Err(stopped) => broken_off(stopped),
+        Err(stopped) => performed_of(stopped),
     }
 }
 

@@ -4,6 +4,7 @@ ghost use Rattle.std.specs.Io.KnownBytes.{Appends};
 ghost use Rattle.sqlite.specs.Held.{state};
 ghost use Rattle.sqlite.specs.State.{HasCleanDisk};
 ghost use Rattle.plant_base.specs.State.{State, newest_schema};
+ghost use Rattle.plant_desk.specs.Keeping.{IsSameDesk};
 ghost use Rattle.plant_desk_store.specs.Adopting.{IsNewlyOpened, AdoptedFrom};
 ghost use Rattle.plant_desk_store.specs.Standing.{IsOpenAt};
 ghost use Rattle.plant_text.specs.Writes.{with_lf};
@@ -24,7 +25,7 @@ use std::io::Write;
 /// Prints `ready schema N`, N being the schema of the keeper's tables.
 fn tell_ready<W: Write, K: Keeper>(writer: &mut W, keeper: &mut K) -> Result<(), Fault>
     requires { K.shut keeper.old ≡ false }
-    ensures honest { K.honest keeper.new → K.honest keeper.old }
+    ensures same { IsSameDesk K.honest K.schema K.beside keeper.old keeper.new }
     ensures open { K.shut keeper.new ≡ false }
     ensures stays { K.honest keeper.new → (s : State) → K.stands keeper.old s → K.stands keeper.new s }
     ensures told { K.honest keeper.new → (s : State) → K.stands keeper.old s

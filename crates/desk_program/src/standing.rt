@@ -1,6 +1,7 @@
 //! Where a keeper stands.
 ghost use Rattle.std.specs.Prelude.{◌≡◌, ◌≢◌, false, IfOk, IfErr};
 ghost use Rattle.plant_base.specs.State.{State};
+ghost use Rattle.plant_desk.specs.Keeping.{IsSameDesk};
 
 use crate::fault::Fault;
 use plant_desk::{Answer, Keeper, Question};
@@ -15,7 +16,7 @@ pub(crate) struct Standing {
 /// Asks an open keeper where it stands. It stays open, and where it was.
 pub(crate) fn ask_standing<K: Keeper>(keeper: &mut K) -> Result<Standing, Fault>
     requires { K.shut keeper.old ≡ false }
-    ensures honest { K.honest keeper.new → K.honest keeper.old }
+    ensures same { IsSameDesk K.honest K.schema K.beside keeper.old keeper.new }
     ensures open { K.shut keeper.new ≡ false }
     ensures stays { K.honest keeper.new → (s : State) → K.stands keeper.old s → K.stands keeper.new s }
     ensures asked { K.honest keeper.new → (s : State) → K.stands keeper.old s

@@ -98,10 +98,10 @@ fn kept_progress(batch: &BatchRow) -> Progress
 fn phases_of(controls: &Grouped<ControlLines>, batch: Id) -> u8
     ensures { result ≡ min (phases_among controls.now.rows.now batch) greatest_phases }
 {
-    capped(phases_in(control_of(controls, batch)))
+    cap_phases(phases_in(control_of(controls, batch)))
 }
 
-fn capped(phases: usize) -> u8
+fn cap_phases(phases: usize) -> u8
     ensures { result ≡ min phases greatest_phases }
 {
     if phases < usize::from(GREATEST_PHASES) {

@@ -90,14 +90,14 @@ definition_of s None = None
 definition_of s (Some l) = definition_at s l.def
 
 -- the lot of a movement and its definition are there in a sound state
-abbrev pub booked : State → ℕ → Movement → Option Booking
-booked s scrapped m = option_map (booking m scrapped) (definition_of s (lot_at s m.lot))
+abbrev pub booking_in : State → ℕ → Movement → Option Booking
+booking_in s scrapped m = option_map (booking m scrapped) (definition_of s (lot_at s m.lot))
 
 abbrev pub consumption : State → List ℕ → Movement → Option Booking
-consumption s batch m = if is_consumed_by batch m.kind then booked s 0 m else None
+consumption s batch m = if is_consumed_by batch m.kind then booking_in s 0 m else None
 
 abbrev pub production : State → List ℕ → Movement → Option Booking
-production s batch m = if is_produced_by batch m.kind then booked s (scrapped_of s.movements m.lot) m else None
+production s batch m = if is_produced_by batch m.kind then booking_in s (scrapped_of s.movements m.lot) m else None
 
 -- ---- the batch
 

@@ -166,10 +166,11 @@ fn measured_lines<V: View>(
         (control_lines_of (V.state view.old) batch))) }
 {
     let lines = look::control_lines(view, batch)?;
-    measured(alloc, view, lines.as_slice())
+    lines_with_units(alloc, view, lines.as_slice())
 }
 
-fn measured<V: View>(
+// These lines, each with its unit.
+fn lines_with_units<V: View>(
     alloc: Global,
     view: &mut V,
     lines: &[ControlLine],

@@ -3,7 +3,7 @@ ghost use Rattle.std.specs.Prelude.{◌≡◌, IfOk, filter, min, ◌==◌, ◌&
 ghost use Rattle.plant_base.specs.State.{same};
 ghost use Rattle.plant_recipe.specs.Form.{is_phase};
 ghost use Rattle.plant_recipe.specs.Progress.{greatest_phases, progress_after};
-ghost use Rattle.plant_desk.specs.Batches.{turned};
+ghost use Rattle.plant_desk.specs.Batches.{next_progress};
 ghost use Rattle.plant_view.specs.Tables.{batch_row, events_among, phases_among};
 
 use plant_base::{Batch, BatchEvent, BatchRow, ControlLine, Id, MasterLine, RecipeLine};
@@ -110,14 +110,14 @@ fn progress_of(phases: u8, events: &[BatchEvent], batch: Id) -> Progress
 {
     let mut progress = Progress::opening();
     for e in events {
-        progress = turned(phases, batch, progress, e);
+        progress = next_progress(phases, batch, progress, e);
     }
     progress
 }
 
 // What an event makes of the progress of a batch, where it is the batch's.
-fn turned(phases: u8, batch: Id, progress: Progress, event: &BatchEvent) -> Progress
-    ensures { result ≡ turned phases batch progress event.now }
+fn next_progress(phases: u8, batch: Id, progress: Progress, event: &BatchEvent) -> Progress
+    ensures { result ≡ next_progress phases batch progress event.now }
 {
     if event.batch == batch {
         progress.apply(event.event, phases).unwrap_or(progress)

@@ -3,7 +3,7 @@ ghost use Rattle.std.specs.Prelude.{◌≡◌, ◌++◌, IfOk, OnOk, option_to_l
 ghost use Rattle.std.specs.List.{filter_map};
 ghost use Rattle.plant_trace.specs.Sources.{Told};
 ghost use Rattle.plant_desk.specs.Answering.{AreBookingsOf};
-ghost use Rattle.plant_desk.specs.BatchViews.{is_consumed_by, is_produced_by, scrapped_of, booking, definition_of, booked, consumption, production};
+ghost use Rattle.plant_desk.specs.BatchViews.{is_consumed_by, is_produced_by, scrapped_of, booking, definition_of, booking_in, consumption, production};
 
 use crate::question::Booking;
 use plant_base::{Definition, Id, Lot, Movement, MovementKind};
@@ -95,7 +95,7 @@ fn consumption<V: View>(
     if !is_consumed_by(batch, movement.kind) {
         return Ok(None);
     }
-    booked(view, 0, movement)
+    booking_in(view, 0, movement)
 }
 
 fn production<V: View>(
@@ -110,7 +110,7 @@ fn production<V: View>(
         return Ok(None);
     }
     let scrapped = scrapped_of(view, movement.lot)?;
-    booked(view, scrapped, movement)
+    booking_in(view, scrapped, movement)
 }
 
 // What was scrapped of a lot, of all its sublots.
@@ -133,13 +133,13 @@ fn total_of(movements: &[Movement]) -> u128
 }
 
 // A movement with the definition of its lot.
-fn booked<V: View>(
+fn booking_in<V: View>(
     view: &mut V,
     scrapped: u128,
     movement: &Movement,
 ) -> Result<Option<Booking>, ViewFault<V::Fault>>
     ensures { Told V.honest V.kept V.steady view.old view.new
-        (IfOk result (λ b. b ≡ booked (V.state view.old) scrapped movement.now)) }
+        (IfOk result (λ b. b ≡ booking_in (V.state view.old) scrapped movement.now)) }
 {
     let lot = look::lot(view, movement.lot)?;
     let definition = definition_of(view, lot)?;

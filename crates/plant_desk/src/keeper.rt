@@ -12,7 +12,7 @@ use plant_base::Envelope;
 pub trait Keeper {
     ghost use Rattle.std.specs.Prelude.{◌≡◌, ◌≢◌, ℕ, Bool, true, false, IfErr, IsErrOf};
     ghost use Rattle.plant_base.specs.State.{State};
-    ghost use Rattle.plant_desk.specs.Keeping.{States, Executes, Asks, shuts, writes_nothing};
+    ghost use Rattle.plant_desk.specs.Keeping.{IsSameDesk, States, Executes, Asks, shuts, writes_nothing};
 
     /// Whether the keeper stands on a store, which may fail.
     ghost has_store: { Bool };
@@ -49,11 +49,9 @@ pub trait Keeper {
     /// Whatever comes, what stood beside the state stands there still. Where the command is refused, and where memory is,
     /// a stop leaves no more than it left before. A keeper without a store never answers `Store`.
     fn execute(&mut self, envelope: &Envelope) -> Result<Reply, DeskFault>
-        ensures honest { honest self.new → honest self.old }
-        ensures schema { honest self.new → schema self.new ≡ schema self.old }
+        ensures same { IsSameDesk honest schema beside self.old self.new }
         ensures executes { honest self.new → shut self.old ≡ false → (s : State) → stands self.old s
             → Executes s (stands self.new) (leaves self.new) envelope.now result }
-        ensures beside { honest self.new → (b : Beside) → beside self.old b → beside self.new b }
         ensures spared { writes_nothing result ≡ true → spares self.old self.new }
         ensures store { has_store ≡ false → IfErr result (λ fault. fault ≢ DeskFault.Store) }
         ensures open { shut self.old ≡ false → shut self.new ≡ shuts result }
@@ -67,11 +65,9 @@ pub trait Keeper {
     /// stood beside the state stands there still, and a stop leaves no more than it left before. A keeper without a store
     /// never answers `Store`.
     fn ask(&mut self, question: &Question) -> Result<Answer, DeskFault>
-        ensures honest { honest self.new → honest self.old }
-        ensures schema { honest self.new → schema self.new ≡ schema self.old }
+        ensures same { IsSameDesk honest schema beside self.old self.new }
         ensures asks { honest self.new → shut self.old ≡ false → (s : State) → stands self.old s
             → Asks (schema self.old) s (stands self.new) question.now result }
-        ensures beside { honest self.new → (b : Beside) → beside self.old b → beside self.new b }
         ensures spared { spares self.old self.new }
         ensures store { has_store ≡ false → IfErr result (λ fault. fault ≢ DeskFault.Store) }
         ensures open { shut self.new ≡ shut self.old }

@@ -32,10 +32,10 @@ impl Lists {
     {
         if let Command::Consume(_) = &envelope.body {
             let pairs = edges(self.alloc, &self.movements)?;
-            let mut view = ListsView::indexed(self, &pairs)?;
-            return decided(&mut view, envelope);
+            let mut view = ListsView::with_index(self, &pairs)?;
+            return decide_over(&mut view, envelope);
         }
-        decided(&mut ListsView::plain(self), envelope)
+        decide_over(&mut ListsView::plain(self), envelope)
     }
 
     /// Answers a question in the state of the lists, which is sound, as a desk of the newest schema. Nothing is changed.
@@ -47,14 +47,14 @@ impl Lists {
     {
         if let Question::Trace(_, _) = question {
             let pairs = edges(self.alloc, &self.movements)?;
-            let mut view = ListsView::indexed(self, &pairs)?;
-            return answered(&mut view, question);
+            let mut view = ListsView::with_index(self, &pairs)?;
+            return answer_over(&mut view, question);
         }
-        answered(&mut ListsView::plain(self), question)
+        answer_over(&mut ListsView::plain(self), question)
     }
 }
 
-fn decided(view: &mut ListsView, envelope: &Envelope) -> Result<Decision, AllocError>
+fn decide_over(view: &mut ListsView, envelope: &Envelope) -> Result<Decision, AllocError>
     requires { IsSound (state_of view.old.lists.now) }
     ensures decides { IfOk result (Decides (wrong (state_of view.old.lists.now) envelope.now)
         (state_of view.old.lists.now) (step (state_of view.old.lists.now) envelope.now)) }
@@ -66,7 +66,7 @@ fn decided(view: &mut ListsView, envelope: &Envelope) -> Result<Decision, AllocE
     }
 }
 
-fn answered(view: &mut ListsView, question: &Question) -> Result<Answer, AllocError>
+fn answer_over(view: &mut ListsView, question: &Question) -> Result<Answer, AllocError>
     requires { IsSound (state_of view.old.lists.now) }
     ensures { IfOk result (λ a. a ≡ answer newest_schema (state_of view.old.lists.now) question.now) }
 {

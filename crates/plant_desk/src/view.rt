@@ -37,7 +37,10 @@ impl<'a> ListsView<'a> {
     }
 
     // With an index of the edges, which are these. The only error is that memory was refused.
-    pub(crate) fn indexed(lists: &'a Lists, pairs: &'a [(Node, Node)]) -> Result<Self, AllocError>
+    pub(crate) fn with_index(
+        lists: &'a Lists,
+        pairs: &'a [(Node, Node)],
+    ) -> Result<Self, AllocError>
         requires { pairs.now ≡ edges_of (state_of lists.now) }
         ensures { IfOk result (λ view. view.lists.now ≡ lists.now) }
     {

@@ -112,7 +112,7 @@ impl<S: Alter> Desk<S> {
             (λ refused. Survives (state S.Store connection) (state S.Store refused.connection)
             (Opened (state S.Store connection).now)) }
     {
-        match opened(alloc, &mut connection) {
+        match adopt_on(alloc, &mut connection) {
             Ok(()) => Ok(Desk {
                 alloc,
                 connection,
@@ -123,7 +123,8 @@ impl<S: Alter> Desk<S> {
     }
 }
 
-fn opened<S: Alter>(alloc: Global, connection: &mut Connection<S>) -> Result<(), AdoptFault>
+/// Makes the desk's tables where the store has none of them, else tests those that are there.
+fn adopt_on<S: Alter>(alloc: Global, connection: &mut Connection<S>) -> Result<(), AdoptFault>
     requires { (state S.Store connection.old).in_transaction ≡ false }
     ensures mode { (state S.Store connection.new).in_transaction ≡ false }
     ensures adopted { HasCleanDisk (state S.Store connection.new)
@@ -148,18 +149,19 @@ fn opened<S: Alter>(alloc: Global, connection: &mut Connection<S>) -> Result<(),
 {
     match found(alloc, connection) {
         Err(fault) => Err(fault_of(fault)),
-        Ok(FoundTables::Nothing) => made(connection),
+        Ok(FoundTables::Nothing) => make_opening(connection),
         Ok(FoundTables::NoMeta) => Err(AdoptFault::Damaged(Rule::Tables)),
         Ok(FoundTables::Version(version)) => {
             if version > NEWEST_SCHEMA as i64 {
                 return Err(AdoptFault::Newer(version as u64));
             }
-            judged(alloc, connection)
+            judge_tables(alloc, connection)
         }
     }
 }
 
-fn made<S: Alter>(connection: &mut Connection<S>) -> Result<(), AdoptFault>
+/// Makes the desk's tables, with the opening state.
+fn make_opening<S: Alter>(connection: &mut Connection<S>) -> Result<(), AdoptFault>
     requires { (state S.Store connection.old).in_transaction ≡ false }
     ensures mode { (state S.Store connection.new).in_transaction ≡ false }
     ensures clean { HasCleanDisk (state S.Store connection.new)
@@ -186,7 +188,8 @@ fn made<S: Alter>(connection: &mut Connection<S>) -> Result<(), AdoptFault>
     }
 }
 
-fn judged<S: Alter>(alloc: Global, connection: &mut Connection<S>) -> Result<(), AdoptFault>
+/// Reads all tables, and tests whether they are those of a good state. Nothing is changed.
+fn judge_tables<S: Alter>(alloc: Global, connection: &mut Connection<S>) -> Result<(), AdoptFault>
     requires { (state S.Store connection.old).in_transaction ≡ false }
     ensures mode { (state S.Store connection.new).in_transaction ≡ false }
     ensures clean { HasCleanDisk (state S.Store connection.new)
@@ -208,11 +211,12 @@ fn judged<S: Alter>(alloc: Global, connection: &mut Connection<S>) -> Result<(),
     match Loaded::read(alloc, connection, NEWEST_SCHEMA as i64) {
         Err(fault) => Err(fault_of(fault)),
         Ok(None) => Err(AdoptFault::Damaged(Rule::Tables)),
-        Ok(Some(loaded)) => judged_rows(alloc, &loaded),
+        Ok(Some(loaded)) => judge_rows(alloc, &loaded),
     }
 }
 
-fn judged_rows(alloc: Global, loaded: &Loaded) -> Result<(), AdoptFault>
+/// Tests whether the rows that were loaded are those of a good state.
+fn judge_rows(alloc: Global, loaded: &Loaded) -> Result<(), AdoptFault>
     ensures unbroken { OnOk result ((r : Rows) × (rows_from loaded.now ≡ Some r)
         × (first_broken_of r ≡ None) × (r.meta.schema ≡ newest_schema)) }
     ensures broken { IfErr result (BrokenBy loaded.now) }

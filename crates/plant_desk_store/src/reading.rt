@@ -40,12 +40,12 @@ pub(crate) fn read_rows<S: Alter>(
 {
     match Loaded::read(alloc, connection, NEWEST_SCHEMA as i64)? {
         None => Err(Fault::Store),
-        Some(loaded) => checked(alloc, &loaded),
+        Some(loaded) => fit_rows(alloc, &loaded),
     }
 }
 
 // The rows that were loaded, where they break no rule. Want of memory is never told as Store.
-fn checked(alloc: Global, loaded: &Loaded) -> Result<DeskRows, Fault>
+fn fit_rows(alloc: Global, loaded: &Loaded) -> Result<DeskRows, Fault>
     ensures rows { IfOk result (λ rows. rows_from loaded.now ≡ Some (rows_listed rows)) }
     ensures unbroken { IfOk result (λ rows. first_broken_of (rows_listed rows) ≡ None) }
     ensures newest { IfOk result (λ rows. rows.meta.schema ≡ newest_schema) }

@@ -2,6 +2,7 @@
 
 ghost use Rattle.std.specs.Prelude.{◌≡◌, ◌≢◌, ◌≤◌, [], false, true, Some, length};
 ghost use Rattle.plant_base.specs.State.{State};
+ghost use Rattle.plant_desk.specs.Keeping.{IsSameDesk};
 ghost use Rattle.plant_desk.specs.declared.reply.DeskFault.TheVariants as fault;
 ghost use Rattle.plant_desk_store.specs.Running.{Ran};
 
@@ -13,11 +14,9 @@ use std::alloc::Global;
 /// is refused, nothing is executed.
 pub(crate) fn run_over<K: Keeper>(alloc: Global, keeper: &mut K, list: &[Envelope]) -> RunReport
     requires { K.shut keeper.old ≡ false }
-    ensures honest { K.honest keeper.new → K.honest keeper.old }
+    ensures same { IsSameDesk K.honest K.schema K.beside keeper.old keeper.new }
     ensures within { length result.replies ≤ length list.now }
     ensures live { result.end ≢ Some DeskFault.Shut }
-    ensures beside { K.honest keeper.new → (b : K.Beside) → K.beside keeper.old b
-        → K.beside keeper.new b }
     ensures ran { K.honest keeper.new → (s : State) → K.stands keeper.old s
         → Ran s list.now result.replies result.end (K.stands keeper.new) (K.leaves keeper.new)
         (K.shut keeper.new) }

@@ -1,6 +1,7 @@
 //! A job, done by a keeper.
 ghost use Rattle.std.specs.Prelude.{◌≡◌, true, false};
 ghost use Rattle.plant_base.specs.State.{State};
+ghost use Rattle.plant_desk.specs.Keeping.{IsSameDesk};
 ghost use Rattle.plant_http.specs.Answers.{is_silent, shown, shut_out, Executed, Asked};
 ghost use Rattle.plant_http.specs.Serving.{Performs};
 ghost use Rattle.plant_http_requests.specs.declared.job.Job.TheVariants as J;
@@ -23,10 +24,7 @@ fn executed_answer(executed: &Result<Reply, DeskFault>) -> Answer
 /// Has a command executed. It is handed no allocator, and a reply's text stands in a room of fixed size: from here to the end of the answer
 /// no memory is taken.
 fn execute<K: Keeper>(keeper: &mut K, envelope: &Envelope) -> Answer
-    ensures honest { K.honest keeper.new → K.honest keeper.old }
-    ensures schema { K.honest keeper.new → K.schema keeper.new ≡ K.schema keeper.old }
-    ensures beside { K.honest keeper.new → (b : K.Beside) → K.beside keeper.old b
-        → K.beside keeper.new b }
+    ensures same { IsSameDesk K.honest K.schema K.beside keeper.old keeper.new }
     ensures performs { K.honest keeper.new → K.shut keeper.old ≡ false → (s : State) → K.stands keeper.old s
         → Performs (K.schema keeper.old) s (J.Command envelope.now) (shown result)
         (K.stands keeper.new) (K.shut keeper.new) (K.leaves keeper.new) }
@@ -61,10 +59,7 @@ fn ask<K: Keeper>(
     form: Form,
     silent: bool,
 ) -> Answer
-    ensures honest { K.honest keeper.new → K.honest keeper.old }
-    ensures schema { K.honest keeper.new → K.schema keeper.new ≡ K.schema keeper.old }
-    ensures beside { K.honest keeper.new → (b : K.Beside) → K.beside keeper.old b
-        → K.beside keeper.new b }
+    ensures same { IsSameDesk K.honest K.schema K.beside keeper.old keeper.new }
     ensures performs { K.honest keeper.new → K.shut keeper.old ≡ false → (s : State) → K.stands keeper.old s
         → Performs (K.schema keeper.old) s (J.Ask question.now form silent) (shown result)
         (K.stands keeper.new) (K.shut keeper.new) (K.leaves keeper.new) }
@@ -78,10 +73,7 @@ fn ask<K: Keeper>(
 
 /// Does a job, and gives its answer.
 pub(crate) fn perform<K: Keeper>(alloc: Global, keeper: &mut K, job: &Job) -> Answer
-    ensures honest { K.honest keeper.new → K.honest keeper.old }
-    ensures schema { K.honest keeper.new → K.schema keeper.new ≡ K.schema keeper.old }
-    ensures beside { K.honest keeper.new → (b : K.Beside) → K.beside keeper.old b
-        → K.beside keeper.new b }
+    ensures same { IsSameDesk K.honest K.schema K.beside keeper.old keeper.new }
     ensures performs { K.honest keeper.new → K.shut keeper.old ≡ false → (s : State) → K.stands keeper.old s
         → Performs (K.schema keeper.old) s job.now (shown result)
         (K.stands keeper.new) (K.shut keeper.new) (K.leaves keeper.new) }

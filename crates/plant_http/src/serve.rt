@@ -1,6 +1,7 @@
 //! One request, served.
 ghost use Rattle.std.specs.Prelude.{◌≡◌, true, false, IfSome};
 ghost use Rattle.plant_base.specs.State.{State};
+ghost use Rattle.plant_desk.specs.Keeping.{IsSameDesk};
 ghost use Rattle.plant_http.specs.Serving.{Serves, ServesShut, Answers, AnswersJobShut, end_of};
 
 use crate::perform::perform;
@@ -57,10 +58,7 @@ fn answer_job<W: Write, K: Keeper>(
     keeper: &mut K,
     job: &Job,
 ) -> Result<Served, ServeFault>
-    ensures honest { K.honest keeper.new → K.honest keeper.old }
-    ensures schema { K.honest keeper.new → K.schema keeper.new ≡ K.schema keeper.old }
-    ensures beside { K.honest keeper.new → (b : K.Beside) → K.beside keeper.old b
-        → K.beside keeper.new b }
+    ensures same { IsSameDesk K.honest K.schema K.beside keeper.old keeper.new }
     ensures answers { K.honest keeper.new → K.shut keeper.old ≡ false → (s : State) → K.stands keeper.old s
         → Answers (K.schema keeper.old) s job.now (W.contents writer.old) (W.contents writer.new)
         (K.stands keeper.new) (K.shut keeper.new) (K.leaves keeper.new) result }
@@ -92,10 +90,7 @@ pub fn serve_one<R: Read, W: Write, K: Keeper>(
     writer: &mut W,
     keeper: &mut K,
 ) -> Result<Served, ServeFault>
-    ensures honest { K.honest keeper.new → K.honest keeper.old }
-    ensures schema { K.honest keeper.new → K.schema keeper.new ≡ K.schema keeper.old }
-    ensures beside { K.honest keeper.new → (b : K.Beside) → K.beside keeper.old b
-        → K.beside keeper.new b }
+    ensures same { IsSameDesk K.honest K.schema K.beside keeper.old keeper.new }
 
     // How the request ended, where the keeper stands then, and what a stop leaves.
     ensures serves { K.honest keeper.new → K.shut keeper.old ≡ false → (s : State) → K.stands keeper.old s

@@ -44,7 +44,7 @@ impl Judged for Job {
 }
 
 /// The batch in the first columns, as it was released.
-fn released(row: &Row) -> Option<Batch>
+fn released_batch(row: &Row) -> Option<Batch>
     ensures { result ≡ released_columns.read row.now 0 }
 {
     Some(Batch {
@@ -65,7 +65,7 @@ impl Judged for BatchRow {
             return None;
         }
         Some(BatchRow {
-            batch: released(row)?,
+            batch: released_batch(row)?,
             state: batch_state(row, 5)?,
             attempt: tiny(row, 6, 1, GREATEST_ATTEMPT)?,
             next: tiny(row, 7, 1, GREATEST_PHASE)?,

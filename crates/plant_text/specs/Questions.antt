@@ -14,17 +14,17 @@ abbrev pub desk_of : Data → Option Question
 desk_of d = when (is_shape (codes "ask" ∷ []) d) (Some Q.Desk)
 
 -- the one id that a question names
-abbrev pub named : List ℕ → Data → Option (List ℕ)
-named name d = when (is_shape (codes "ask" ∷ name ∷ []) d) (id_at name d)
+abbrev pub named_id : List ℕ → Data → Option (List ℕ)
+named_id name d = when (is_shape (codes "ask" ∷ name ∷ []) d) (id_at name d)
 
 abbrev pub lot_of : Data → Option Question
-lot_of d = option_map Q.Lot (named (codes "lot") d)
+lot_of d = option_map Q.Lot (named_id (codes "lot") d)
 
 abbrev pub order_of : Data → Option Question
-order_of d = option_map Q.Order (named (codes "order") d)
+order_of d = option_map Q.Order (named_id (codes "order") d)
 
 abbrev pub batch_of : Data → Option Question
-batch_of d = option_map Q.Batch (named (codes "batch") d)
+batch_of d = option_map Q.Batch (named_id (codes "batch") d)
 
 -- the lot, or else the batch
 abbrev pub lot_or_batch : Option (List ℕ) → Option (List ℕ) → Option Node
@@ -32,11 +32,11 @@ lot_or_batch (Some lot) batch = Some (Lot lot)
 lot_or_batch None batch = option_map Batch batch
 
 -- the lot or the batch that a question names, exactly one of them
-abbrev pub traced : Data → Option Node
-traced d = lot_or_batch (named (codes "lot") d) (named (codes "batch") d)
+abbrev pub traced_node : Data → Option Node
+traced_node d = lot_or_batch (named_id (codes "lot") d) (named_id (codes "batch") d)
 
 abbrev pub trace_of : Direction → Data → Option Question
-trace_of direction d = option_map (Q.Trace direction) (traced d)
+trace_of direction d = option_map (Q.Trace direction) (traced_node d)
 
 -- the question of a word
 abbrev pub question_for : List ℕ → Data → Option Question

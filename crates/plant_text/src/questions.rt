@@ -1,7 +1,7 @@
 //! Questions as JSON: one function a word.
 ghost use Rattle.std.specs.Prelude.{◌≡◌};
 ghost use Rattle.serde_json.specs.View.{view};
-ghost use Rattle.plant_text.specs.Questions.{desk_of, named, lot_of, order_of, batch_of, traced, trace_of, question_for, question_of};
+ghost use Rattle.plant_text.specs.Questions.{desk_of, named_id, lot_of, order_of, batch_of, traced_node, trace_of, question_for, question_of};
 
 use crate::fields::{id_at, is_shape};
 use plant_base::Id;
@@ -20,8 +20,8 @@ fn desk_of(value: &Value) -> Option<Question>
 }
 
 // The one id that a question names.
-fn named(value: &Value, name: &str) -> Option<Id>
-    ensures { result ≡ named name.now (view value.now) }
+fn named_id(value: &Value, name: &str) -> Option<Id>
+    ensures { result ≡ named_id name.now (view value.now) }
 {
     if !is_shape(value, &["ask", name]) {
         return None;
@@ -32,35 +32,35 @@ fn named(value: &Value, name: &str) -> Option<Id>
 fn lot_of(value: &Value) -> Option<Question>
     ensures { result ≡ lot_of (view value.now) }
 {
-    Some(Question::Lot(named(value, "lot")?))
+    Some(Question::Lot(named_id(value, "lot")?))
 }
 
 fn order_of(value: &Value) -> Option<Question>
     ensures { result ≡ order_of (view value.now) }
 {
-    Some(Question::Order(named(value, "order")?))
+    Some(Question::Order(named_id(value, "order")?))
 }
 
 fn batch_of(value: &Value) -> Option<Question>
     ensures { result ≡ batch_of (view value.now) }
 {
-    Some(Question::Batch(named(value, "batch")?))
+    Some(Question::Batch(named_id(value, "batch")?))
 }
 
 // The lot or the batch that a question names, exactly one of them.
-fn traced(value: &Value) -> Option<Node>
-    ensures { result ≡ traced (view value.now) }
+fn traced_node(value: &Value) -> Option<Node>
+    ensures { result ≡ traced_node (view value.now) }
 {
-    match named(value, "lot") {
+    match named_id(value, "lot") {
         Some(lot) => Some(Node::Lot(lot)),
-        None => Some(Node::Batch(named(value, "batch")?)),
+        None => Some(Node::Batch(named_id(value, "batch")?)),
     }
 }
 
 fn trace_of(value: &Value, direction: Direction) -> Option<Question>
     ensures { result ≡ trace_of direction (view value.now) }
 {
-    Some(Question::Trace(direction, traced(value)?))
+    Some(Question::Trace(direction, traced_node(value)?))
 }
 
 fn question_for(value: &Value, word: &str) -> Option<Question>

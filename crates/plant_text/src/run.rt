@@ -37,7 +37,7 @@ const ROOM: usize = 262_146;
 const MOST_READS: u64 = 1_000_000_000;
 
 /// The line less one CR at its end.
-fn stripped(line: &[u8]) -> &[u8]
+fn strip_carriage_return(line: &[u8]) -> &[u8]
     ensures { result.now ≡ strip_carriage_return line.now }
 {
     let n = line.len();
@@ -75,7 +75,7 @@ fn end_line<W: Write, K: Keeper>(
         (W.contents writer.old) (W.contents writer.new)
         (K.stands keeper.new) (K.shut keeper.new) (K.leaves keeper.new) refused result }
 {
-    match take_line(alloc, writer, keeper, stripped(held)) {
+    match take_line(alloc, writer, keeper, strip_carriage_return(held)) {
         Ok(line_refused) => {
             held.clear();
             Ok(refused || line_refused)

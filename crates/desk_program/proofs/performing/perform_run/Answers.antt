@@ -16,4 +16,4 @@ returns-in-Ok g c = λ clean opened.
 pub returns-in-Err : goal.returns-in-Err
 returns-in-Err g c = λ clean opened.
     let why = c.in-Err.ensures.refused in
-    inr ((why.0, c.broken_off.ensures.outcome ∙ ap Err why.1, why.2 (clean c.in-Err.stopped.connection)), c.in-Err.ensures.unread, c.in-Err.ensures.unwritten)
+    inr ((why.0, c.performed_of.ensures.outcome ∙ ap Err why.1, why.2 (clean c.in-Err.stopped.connection)), c.in-Err.ensures.unread, c.in-Err.ensures.unwritten)

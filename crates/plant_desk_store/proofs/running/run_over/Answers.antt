@@ -3,6 +3,7 @@ use Rattle.std.proofs.lemmas.Grind.{common_steps}
 use Rattle.plant_base.specs.State.{State}
 use Rattle.plant_desk.specs.Replies.{reply}
 use Rattle.plant_desk.specs.Runs.{fold, replies}
+use Rattle.plant_desk.proofs.Same.{same_after}
 use Rattle.plant_desk.proofs.Turns.{fold_more, replies_more}
 use Rattle.plant_desk_store.proofs.running.run_over.Goals as goal
 
@@ -17,16 +18,15 @@ loop-envelope-preserved g c =
       count = grind (arith, common_steps);
       room = grind (arith, common_steps);
       is_open = c.in-Ok.ensures.open live;
-      before = λ h. c.loop-envelope.invariant.before (c.in-Ok.ensures.honest h);
-      beside = λ h b stood. c.in-Ok.ensures.beside h b (c.loop-envelope.invariant.beside (c.in-Ok.ensures.honest h) b stood);
+      same = same_after _ _ _ _ _ _ c.loop-envelope.invariant.same c.execute.ensures.same;
       told = λ h s stood.
-          let was = c.in-Ok.ensures.honest h in
+          let was = c.execute.ensures.same.honest h in
           let ran = c.in-Ok.ensures.executes h live (fold s (take i list)) (c.loop-envelope.invariant.stands was s stood) in
           c.push_reserved.ensures.items
           ∙ (λ k. c.loop-envelope.invariant.told was s stood k ++ ran.0 k ∷ [])
           ∙ sym (replies_more s list i e within c.envelope-item.is);
       stands = λ h s stood.
-          let was = c.in-Ok.ensures.honest h in
+          let was = c.execute.ensures.same.honest h in
           let ran = c.in-Ok.ensures.executes h live (fold s (take i list)) (c.loop-envelope.invariant.stands was s stood) in
           subst (g.K.Keeper.stands c.execute.new.self) (sym (fold_more s list i e within c.envelope-item.is)) ran.1;
     }

@@ -1,5 +1,5 @@
 use Rattle.plant_tables_judged.specs.Collecting.{rows_listed}
-use Rattle.plant_desk_store.proofs.adopting.judged_rows.Goals as goal
+use Rattle.plant_desk_store.proofs.adopting.judge_rows.Goals as goal
 
 pub returns-clause-unbroken : goal.returns-clause-unbroken
 unfolding rows_listed

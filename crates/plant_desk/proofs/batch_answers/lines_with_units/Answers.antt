@@ -2,7 +2,7 @@ use Rattle.std.proofs.Common.{rules, ◌≡◌, ◌++◌, ◌∷◌, []}
 use Rattle.plant_trace.proofs.Sources.{Told-then}
 use Rattle.plant_view.proofs.Rows.{map_more}
 use Rattle.plant_desk.specs.BatchViews.{measured_line}
-use Rattle.plant_desk.proofs.batch_answers.measured.Goals as goal
+use Rattle.plant_desk.proofs.batch_answers.lines_with_units.Goals as goal
 
 pub loop-line-preserved : goal.loop-line-preserved
 loop-line-preserved g c =

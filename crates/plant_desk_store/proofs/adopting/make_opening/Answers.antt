@@ -6,7 +6,7 @@ use Rattle.plant_tables.specs.DeskStopping.{opening_tables}
 use Rattle.plant_desk_store.proofs.Judging.{unopened_keeps}
 use Rattle.plant_desk_store.proofs.Others.{others_at}
 use Rattle.plant_desk_store.proofs.Resting.{open_at}
-use Rattle.plant_desk_store.proofs.adopting.made.Goals as goal
+use Rattle.plant_desk_store.proofs.adopting.make_opening.Goals as goal
 
 pub returns-in-Ok-clause-opening : goal.returns-in-Ok-clause-opening
 returns-in-Ok-clause-opening g c clean settled sound free =

@@ -1,5 +1,5 @@
 use Rattle.plant_desk_store.proofs.Fitting.{broken_unfit}
-use Rattle.plant_desk_store.proofs.reading.checked.Goals as goal
+use Rattle.plant_desk_store.proofs.reading.fit_rows.Goals as goal
 
 pub returns-in-Err-Broken-clause-store : goal.returns-in-Err-Broken-clause-store
 returns-in-Err-Broken-clause-store c told = broken_unfit c.args.loaded.now _ (rw c.in-Err-Broken.field-0-is at c.in-Err-Broken.ensures.unfit)

@@ -2,7 +2,7 @@ use Rattle.std.proofs.Common.{arith}
 use Rattle.sqlite.specs.Held.{state}
 use Rattle.table_forms.proofs.Ending.{IsStore}
 use Rattle.plant_desk_store.proofs.Judging.{rows_good, opens_new, all_broken, judged_others, still_new, stays_good}
-use Rattle.plant_desk_store.proofs.adopting.judged.Goals as goal
+use Rattle.plant_desk_store.proofs.adopting.judge_tables.Goals as goal
 
 pub returns-in-Ok-Some-clause-good : goal.returns-in-Ok-Some-clause-good
 returns-in-Ok-Some-clause-good g c clean newly =
@@ -11,12 +11,12 @@ returns-in-Ok-Some-clause-good g c clean newly =
     let new = state g.S.Store end in
     let store : IsStore new = record { settled = g.met.S.Store.settled end.store; stays = g.met.S.Store.stays end.store; something = g.met.S.Store.survives end.store } in
     let same = rw c.in-Ok-Some.field-0-is at (c.in-Ok-Some.ensures.same clean) in
-    rows_good old new c.in-Ok-Some.loaded c.judged_rows.result (rw c.in-Ok-Some.field-0-is at c.in-Ok-Some.ensures.ordered) (rw c.in-Ok-Some.field-0-is at (c.in-Ok-Some.ensures.stands clean newly.rising))
-    (opens_new old new newly clean same (c.read.ensures.kept clean) store) c.judged_rows.ensures.unbroken
+    rows_good old new c.in-Ok-Some.loaded c.judge_rows.result (rw c.in-Ok-Some.field-0-is at c.in-Ok-Some.ensures.ordered) (rw c.in-Ok-Some.field-0-is at (c.in-Ok-Some.ensures.stands clean newly.rising))
+    (opens_new old new newly clean same (c.read.ensures.kept clean) store) c.judge_rows.ensures.unbroken
 
 pub returns-in-Ok-Some-clause-named : goal.returns-in-Ok-Some-clause-named
 returns-in-Ok-Some-clause-named g c clean =
-    all_broken (state g.S.Store c.args.connection.now).now c.in-Ok-Some.loaded c.judged_rows.result (rw c.in-Ok-Some.field-0-is at (c.in-Ok-Some.ensures.rows clean)) c.judged_rows.ensures.broken
+    all_broken (state g.S.Store c.args.connection.now).now c.in-Ok-Some.loaded c.judge_rows.result (rw c.in-Ok-Some.field-0-is at (c.in-Ok-Some.ensures.rows clean)) c.judge_rows.ensures.broken
 
 pub returns-in-Err-clause-again : goal.returns-in-Err-clause-again
 returns-in-Err-clause-again g c =
@@ -49,6 +49,6 @@ returns-in-Ok-Some-clause-others g c clean newly =
     let new = state g.S.Store end in
     let store : IsStore new = record { settled = g.met.S.Store.settled end.store; stays = g.met.S.Store.stays end.store; something = g.met.S.Store.survives end.store } in
     let same = rw c.in-Ok-Some.field-0-is at (c.in-Ok-Some.ensures.same clean) in
-    judged_others old new c.judged_rows.result (still_new old new newly same store) same.0.now_is
-    (rows_good old new c.in-Ok-Some.loaded c.judged_rows.result (rw c.in-Ok-Some.field-0-is at c.in-Ok-Some.ensures.ordered) (rw c.in-Ok-Some.field-0-is at (c.in-Ok-Some.ensures.stands clean newly.rising))
-    (opens_new old new newly clean same (c.read.ensures.kept clean) store) c.judged_rows.ensures.unbroken)
+    judged_others old new c.judge_rows.result (still_new old new newly same store) same.0.now_is
+    (rows_good old new c.in-Ok-Some.loaded c.judge_rows.result (rw c.in-Ok-Some.field-0-is at c.in-Ok-Some.ensures.ordered) (rw c.in-Ok-Some.field-0-is at (c.in-Ok-Some.ensures.stands clean newly.rising))
+    (opens_new old new newly clean same (c.read.ensures.kept clean) store) c.judge_rows.ensures.unbroken)

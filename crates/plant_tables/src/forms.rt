@@ -33,7 +33,8 @@ pub const CLASS: Form<'static> = Form {
 pub(crate) const CREATE_CLASS: &str =
     "CREATE TABLE class (id TEXT NOT NULL, name TEXT NOT NULL, UNIQUE (id)) STRICT";
 
-pub(crate) const PUT_CLASS: &str = "INSERT INTO class (id, name) VALUES (?1, ?2) ON CONFLICT (id) DO UPDATE SET id = excluded.id, name = excluded.name";
+pub(crate) const PUT_CLASS: &str =
+    "INSERT INTO class (id, name) VALUES (?1, ?2) ON CONFLICT (id) DO UPDATE SET id = excluded.id, name = excluded.name";
 
 /// Material definitions.
 pub const DEFINITION: Form<'static> = Form {
@@ -190,7 +191,8 @@ pub const LOT: Form<'static> = Form {
 pub(crate) const CREATE_LOT: &str =
     "CREATE TABLE lot (id TEXT NOT NULL, def TEXT NOT NULL, UNIQUE (id)) STRICT";
 
-pub(crate) const PUT_LOT: &str = "INSERT INTO lot (id, def) VALUES (?1, ?2) ON CONFLICT (id) DO UPDATE SET id = excluded.id, def = excluded.def";
+pub(crate) const PUT_LOT: &str =
+    "INSERT INTO lot (id, def) VALUES (?1, ?2) ON CONFLICT (id) DO UPDATE SET id = excluded.id, def = excluded.def";
 
 /// Material sublots, with their stock.
 pub const SUBLOT: Form<'static> = Form {

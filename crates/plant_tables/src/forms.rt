@@ -1,4 +1,5 @@
-//! How each table of schema 1 is declared, and the fixed texts that make it and put a row into it.
+//! How each table of schema 1 is declared, and the fixed texts that make it and put a row into it. Such a text adds the
+//! row, or updates each column of the one with its key; those of events of batches and of bookings only add.
 ghost use Rattle.std.specs.Prelude.{◌≡◌};
 ghost use Rattle.plant_tables.specs.DeskForms.{desk_forms};
 

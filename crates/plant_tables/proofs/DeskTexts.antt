@@ -1,11 +1,11 @@
 -- What the fixed texts say, by computing them.
-use Rattle.std.proofs.Common.{refl, ℕ, List, [], ◌∷◌}
+use Rattle.std.proofs.Common.{refl, inl, inr, ℕ, List, [], ◌∷◌}
 use Rattle.sqlite_value.specs.Keys.{first_key}
 use Rattle.sqlite_tied.specs.Compute.{everything}
 use Rattle.sqlite_resolve.specs.Compile.{first}
 use Rattle.table_forms.specs.Texts.{IsMakeText, IsPutText, IsTakeText, parse_or, rows_in, names_in, definition_in}
 use Rattle.table_forms.specs.Moves.{AreApart, AreMakeTexts}
-use Rattle.table_forms.proofs.Computed.{takes_two}
+use Rattle.table_forms.proofs.Computed.{takes_two, upserts_row}
 use Rattle.plant_tables.specs.DeskForms.{desk_forms, meta_form, class_form, definition_form, recipe_form, recipe_line_form, job_form, batch_form, control_line_form, batch_event_form, lot_form, sublot_form, movement_form, hold_form}
 use Rattle.plant_tables.specs.declared.forms.TheConstants.{CREATE_META, PUT_META, CREATE_CLASS, PUT_CLASS, CREATE_DEFINITION, PUT_DEFINITION, CREATE_RECIPE, PUT_RECIPE, CREATE_RECIPE_LINE, PUT_RECIPE_LINE, CREATE_JOB, PUT_JOB, CREATE_BATCH, PUT_BATCH, CREATE_CONTROL_LINE, PUT_CONTROL_LINE, CREATE_BATCH_EVENT, PUT_BATCH_EVENT, CREATE_LOT, PUT_LOT, CREATE_SUBLOT, PUT_SUBLOT, CREATE_MOVEMENT, PUT_MOVEMENT, CREATE_HOLD, PUT_HOLD, TAKE_HOLD}
 
@@ -15,7 +15,10 @@ makes_meta = record { parsed = parse_or (first CREATE_META.now); reads = refl; d
 
 pub puts_meta : IsPutText PUT_META.now meta_form
 unfolding everything
-puts_meta = record { parsed = parse_or (first PUT_META.now); reads = refl; columns = names_in (parse_or (first PUT_META.now)).statement; rows = rows_in (parse_or (first PUT_META.now)).statement; statement = refl; untimed = refl; made = λ schema tree. refl; above = refl }
+puts_meta =
+    inr (upserts_row PUT_META.now meta_form (1 ∷ [])
+    (record { parsed = parse_or (first PUT_META.now); reads = refl; columns = names_in (parse_or (first PUT_META.now)).statement; rows = rows_in (parse_or (first PUT_META.now)).statement; statement = refl; untimed = refl; made = λ schema tree. refl; above = refl })
+    refl (record { aims = λ tree. refl; apart = refl; few = refl; some = refl; found = λ tree. refl; set = λ tree. refl; made = λ tree. refl }))
 
 makes_class : IsMakeText CREATE_CLASS.now class_form
 unfolding everything
@@ -23,7 +26,10 @@ makes_class = record { parsed = parse_or (first CREATE_CLASS.now); reads = refl;
 
 pub puts_class : IsPutText PUT_CLASS.now class_form
 unfolding everything
-puts_class = record { parsed = parse_or (first PUT_CLASS.now); reads = refl; columns = names_in (parse_or (first PUT_CLASS.now)).statement; rows = rows_in (parse_or (first PUT_CLASS.now)).statement; statement = refl; untimed = refl; made = λ schema tree. refl; above = refl }
+puts_class =
+    inr (upserts_row PUT_CLASS.now class_form (1 ∷ [])
+    (record { parsed = parse_or (first PUT_CLASS.now); reads = refl; columns = names_in (parse_or (first PUT_CLASS.now)).statement; rows = rows_in (parse_or (first PUT_CLASS.now)).statement; statement = refl; untimed = refl; made = λ schema tree. refl; above = refl })
+    refl (record { aims = λ tree. refl; apart = refl; few = refl; some = refl; found = λ tree. refl; set = λ tree. refl; made = λ tree. refl }))
 
 makes_definition : IsMakeText CREATE_DEFINITION.now definition_form
 unfolding everything
@@ -31,7 +37,10 @@ makes_definition = record { parsed = parse_or (first CREATE_DEFINITION.now); rea
 
 pub puts_definition : IsPutText PUT_DEFINITION.now definition_form
 unfolding everything
-puts_definition = record { parsed = parse_or (first PUT_DEFINITION.now); reads = refl; columns = names_in (parse_or (first PUT_DEFINITION.now)).statement; rows = rows_in (parse_or (first PUT_DEFINITION.now)).statement; statement = refl; untimed = refl; made = λ schema tree. refl; above = refl }
+puts_definition =
+    inr (upserts_row PUT_DEFINITION.now definition_form (1 ∷ [])
+    (record { parsed = parse_or (first PUT_DEFINITION.now); reads = refl; columns = names_in (parse_or (first PUT_DEFINITION.now)).statement; rows = rows_in (parse_or (first PUT_DEFINITION.now)).statement; statement = refl; untimed = refl; made = λ schema tree. refl; above = refl })
+    refl (record { aims = λ tree. refl; apart = refl; few = refl; some = refl; found = λ tree. refl; set = λ tree. refl; made = λ tree. refl }))
 
 makes_recipe : IsMakeText CREATE_RECIPE.now recipe_form
 unfolding everything
@@ -39,7 +48,10 @@ makes_recipe = record { parsed = parse_or (first CREATE_RECIPE.now); reads = ref
 
 pub puts_recipe : IsPutText PUT_RECIPE.now recipe_form
 unfolding everything
-puts_recipe = record { parsed = parse_or (first PUT_RECIPE.now); reads = refl; columns = names_in (parse_or (first PUT_RECIPE.now)).statement; rows = rows_in (parse_or (first PUT_RECIPE.now)).statement; statement = refl; untimed = refl; made = λ schema tree. refl; above = refl }
+puts_recipe =
+    inr (upserts_row PUT_RECIPE.now recipe_form (1 ∷ 2 ∷ [])
+    (record { parsed = parse_or (first PUT_RECIPE.now); reads = refl; columns = names_in (parse_or (first PUT_RECIPE.now)).statement; rows = rows_in (parse_or (first PUT_RECIPE.now)).statement; statement = refl; untimed = refl; made = λ schema tree. refl; above = refl })
+    refl (record { aims = λ tree. refl; apart = refl; few = refl; some = refl; found = λ tree. refl; set = λ tree. refl; made = λ tree. refl }))
 
 makes_recipe_line : IsMakeText CREATE_RECIPE_LINE.now recipe_line_form
 unfolding everything
@@ -47,7 +59,10 @@ makes_recipe_line = record { parsed = parse_or (first CREATE_RECIPE_LINE.now); r
 
 pub puts_recipe_line : IsPutText PUT_RECIPE_LINE.now recipe_line_form
 unfolding everything
-puts_recipe_line = record { parsed = parse_or (first PUT_RECIPE_LINE.now); reads = refl; columns = names_in (parse_or (first PUT_RECIPE_LINE.now)).statement; rows = rows_in (parse_or (first PUT_RECIPE_LINE.now)).statement; statement = refl; untimed = refl; made = λ schema tree. refl; above = refl }
+puts_recipe_line =
+    inr (upserts_row PUT_RECIPE_LINE.now recipe_line_form (1 ∷ 2 ∷ 3 ∷ [])
+    (record { parsed = parse_or (first PUT_RECIPE_LINE.now); reads = refl; columns = names_in (parse_or (first PUT_RECIPE_LINE.now)).statement; rows = rows_in (parse_or (first PUT_RECIPE_LINE.now)).statement; statement = refl; untimed = refl; made = λ schema tree. refl; above = refl })
+    refl (record { aims = λ tree. refl; apart = refl; few = refl; some = refl; found = λ tree. refl; set = λ tree. refl; made = λ tree. refl }))
 
 makes_job : IsMakeText CREATE_JOB.now job_form
 unfolding everything
@@ -55,7 +70,10 @@ makes_job = record { parsed = parse_or (first CREATE_JOB.now); reads = refl; def
 
 pub puts_job : IsPutText PUT_JOB.now job_form
 unfolding everything
-puts_job = record { parsed = parse_or (first PUT_JOB.now); reads = refl; columns = names_in (parse_or (first PUT_JOB.now)).statement; rows = rows_in (parse_or (first PUT_JOB.now)).statement; statement = refl; untimed = refl; made = λ schema tree. refl; above = refl }
+puts_job =
+    inr (upserts_row PUT_JOB.now job_form (1 ∷ [])
+    (record { parsed = parse_or (first PUT_JOB.now); reads = refl; columns = names_in (parse_or (first PUT_JOB.now)).statement; rows = rows_in (parse_or (first PUT_JOB.now)).statement; statement = refl; untimed = refl; made = λ schema tree. refl; above = refl })
+    refl (record { aims = λ tree. refl; apart = refl; few = refl; some = refl; found = λ tree. refl; set = λ tree. refl; made = λ tree. refl }))
 
 makes_batch : IsMakeText CREATE_BATCH.now batch_form
 unfolding everything
@@ -63,7 +81,10 @@ makes_batch = record { parsed = parse_or (first CREATE_BATCH.now); reads = refl;
 
 pub puts_batch : IsPutText PUT_BATCH.now batch_form
 unfolding everything
-puts_batch = record { parsed = parse_or (first PUT_BATCH.now); reads = refl; columns = names_in (parse_or (first PUT_BATCH.now)).statement; rows = rows_in (parse_or (first PUT_BATCH.now)).statement; statement = refl; untimed = refl; made = λ schema tree. refl; above = refl }
+puts_batch =
+    inr (upserts_row PUT_BATCH.now batch_form (1 ∷ [])
+    (record { parsed = parse_or (first PUT_BATCH.now); reads = refl; columns = names_in (parse_or (first PUT_BATCH.now)).statement; rows = rows_in (parse_or (first PUT_BATCH.now)).statement; statement = refl; untimed = refl; made = λ schema tree. refl; above = refl })
+    refl (record { aims = λ tree. refl; apart = refl; few = refl; some = refl; found = λ tree. refl; set = λ tree. refl; made = λ tree. refl }))
 
 makes_control_line : IsMakeText CREATE_CONTROL_LINE.now control_line_form
 unfolding everything
@@ -71,7 +92,10 @@ makes_control_line = record { parsed = parse_or (first CREATE_CONTROL_LINE.now);
 
 pub puts_control_line : IsPutText PUT_CONTROL_LINE.now control_line_form
 unfolding everything
-puts_control_line = record { parsed = parse_or (first PUT_CONTROL_LINE.now); reads = refl; columns = names_in (parse_or (first PUT_CONTROL_LINE.now)).statement; rows = rows_in (parse_or (first PUT_CONTROL_LINE.now)).statement; statement = refl; untimed = refl; made = λ schema tree. refl; above = refl }
+puts_control_line =
+    inr (upserts_row PUT_CONTROL_LINE.now control_line_form (1 ∷ 2 ∷ [])
+    (record { parsed = parse_or (first PUT_CONTROL_LINE.now); reads = refl; columns = names_in (parse_or (first PUT_CONTROL_LINE.now)).statement; rows = rows_in (parse_or (first PUT_CONTROL_LINE.now)).statement; statement = refl; untimed = refl; made = λ schema tree. refl; above = refl })
+    refl (record { aims = λ tree. refl; apart = refl; few = refl; some = refl; found = λ tree. refl; set = λ tree. refl; made = λ tree. refl }))
 
 makes_batch_event : IsMakeText CREATE_BATCH_EVENT.now batch_event_form
 unfolding everything
@@ -79,7 +103,7 @@ makes_batch_event = record { parsed = parse_or (first CREATE_BATCH_EVENT.now); r
 
 pub puts_batch_event : IsPutText PUT_BATCH_EVENT.now batch_event_form
 unfolding everything
-puts_batch_event = record { parsed = parse_or (first PUT_BATCH_EVENT.now); reads = refl; columns = names_in (parse_or (first PUT_BATCH_EVENT.now)).statement; rows = rows_in (parse_or (first PUT_BATCH_EVENT.now)).statement; statement = refl; untimed = refl; made = λ schema tree. refl; above = refl }
+puts_batch_event = inl (record { parsed = parse_or (first PUT_BATCH_EVENT.now); reads = refl; columns = names_in (parse_or (first PUT_BATCH_EVENT.now)).statement; rows = rows_in (parse_or (first PUT_BATCH_EVENT.now)).statement; statement = refl; untimed = refl; made = λ schema tree. refl; above = refl })
 
 makes_lot : IsMakeText CREATE_LOT.now lot_form
 unfolding everything
@@ -87,7 +111,10 @@ makes_lot = record { parsed = parse_or (first CREATE_LOT.now); reads = refl; def
 
 pub puts_lot : IsPutText PUT_LOT.now lot_form
 unfolding everything
-puts_lot = record { parsed = parse_or (first PUT_LOT.now); reads = refl; columns = names_in (parse_or (first PUT_LOT.now)).statement; rows = rows_in (parse_or (first PUT_LOT.now)).statement; statement = refl; untimed = refl; made = λ schema tree. refl; above = refl }
+puts_lot =
+    inr (upserts_row PUT_LOT.now lot_form (1 ∷ [])
+    (record { parsed = parse_or (first PUT_LOT.now); reads = refl; columns = names_in (parse_or (first PUT_LOT.now)).statement; rows = rows_in (parse_or (first PUT_LOT.now)).statement; statement = refl; untimed = refl; made = λ schema tree. refl; above = refl })
+    refl (record { aims = λ tree. refl; apart = refl; few = refl; some = refl; found = λ tree. refl; set = λ tree. refl; made = λ tree. refl }))
 
 makes_sublot : IsMakeText CREATE_SUBLOT.now sublot_form
 unfolding everything
@@ -95,7 +122,10 @@ makes_sublot = record { parsed = parse_or (first CREATE_SUBLOT.now); reads = ref
 
 pub puts_sublot : IsPutText PUT_SUBLOT.now sublot_form
 unfolding everything
-puts_sublot = record { parsed = parse_or (first PUT_SUBLOT.now); reads = refl; columns = names_in (parse_or (first PUT_SUBLOT.now)).statement; rows = rows_in (parse_or (first PUT_SUBLOT.now)).statement; statement = refl; untimed = refl; made = λ schema tree. refl; above = refl }
+puts_sublot =
+    inr (upserts_row PUT_SUBLOT.now sublot_form (1 ∷ 2 ∷ [])
+    (record { parsed = parse_or (first PUT_SUBLOT.now); reads = refl; columns = names_in (parse_or (first PUT_SUBLOT.now)).statement; rows = rows_in (parse_or (first PUT_SUBLOT.now)).statement; statement = refl; untimed = refl; made = λ schema tree. refl; above = refl })
+    refl (record { aims = λ tree. refl; apart = refl; few = refl; some = refl; found = λ tree. refl; set = λ tree. refl; made = λ tree. refl }))
 
 makes_movement : IsMakeText CREATE_MOVEMENT.now movement_form
 unfolding everything
@@ -103,7 +133,7 @@ makes_movement = record { parsed = parse_or (first CREATE_MOVEMENT.now); reads =
 
 pub puts_movement : IsPutText PUT_MOVEMENT.now movement_form
 unfolding everything
-puts_movement = record { parsed = parse_or (first PUT_MOVEMENT.now); reads = refl; columns = names_in (parse_or (first PUT_MOVEMENT.now)).statement; rows = rows_in (parse_or (first PUT_MOVEMENT.now)).statement; statement = refl; untimed = refl; made = λ schema tree. refl; above = refl }
+puts_movement = inl (record { parsed = parse_or (first PUT_MOVEMENT.now); reads = refl; columns = names_in (parse_or (first PUT_MOVEMENT.now)).statement; rows = rows_in (parse_or (first PUT_MOVEMENT.now)).statement; statement = refl; untimed = refl; made = λ schema tree. refl; above = refl })
 
 makes_hold : IsMakeText CREATE_HOLD.now hold_form
 unfolding everything
@@ -111,7 +141,10 @@ makes_hold = record { parsed = parse_or (first CREATE_HOLD.now); reads = refl; d
 
 pub puts_hold : IsPutText PUT_HOLD.now hold_form
 unfolding everything
-puts_hold = record { parsed = parse_or (first PUT_HOLD.now); reads = refl; columns = names_in (parse_or (first PUT_HOLD.now)).statement; rows = rows_in (parse_or (first PUT_HOLD.now)).statement; statement = refl; untimed = refl; made = λ schema tree. refl; above = refl }
+puts_hold =
+    inr (upserts_row PUT_HOLD.now hold_form (1 ∷ 2 ∷ [])
+    (record { parsed = parse_or (first PUT_HOLD.now); reads = refl; columns = names_in (parse_or (first PUT_HOLD.now)).statement; rows = rows_in (parse_or (first PUT_HOLD.now)).statement; statement = refl; untimed = refl; made = λ schema tree. refl; above = refl })
+    refl (record { aims = λ tree. refl; apart = refl; few = refl; some = refl; found = λ tree. refl; set = λ tree. refl; made = λ tree. refl }))
 
 pub takes_hold : IsTakeText TAKE_HOLD.now hold_form (1 ∷ 2 ∷ [])
 unfolding everything first_key

@@ -1,4 +1,5 @@
-//! How each table of schema 1 is declared, and the fixed texts that make it and put a row into it.
+//! How each table of schema 1 is declared, and the fixed texts that make it and put a row into it. Such a text adds the
+//! row, or updates each column of the one with its key; those of events of batches and of bookings only add.
 ghost use Rattle.std.specs.Prelude.{◌≡◌};
 ghost use Rattle.plant_tables.specs.DeskForms.{desk_forms};
 
@@ -21,7 +22,7 @@ pub(crate) const CREATE_META: &str =
     "CREATE TABLE meta (k INTEGER NOT NULL, schema INTEGER NOT NULL, seq INTEGER NOT NULL, at INTEGER NOT NULL, UNIQUE (k)) STRICT";
 
 pub(crate) const PUT_META: &str =
-    "INSERT OR REPLACE INTO meta (k, schema, seq, at) VALUES (?1, ?2, ?3, ?4)";
+    "INSERT INTO meta (k, schema, seq, at) VALUES (?1, ?2, ?3, ?4) ON CONFLICT (k) DO UPDATE SET k = excluded.k, schema = excluded.schema, seq = excluded.seq, at = excluded.at";
 
 /// Material classes.
 pub const CLASS: Form<'static> = Form {
@@ -33,7 +34,8 @@ pub const CLASS: Form<'static> = Form {
 pub(crate) const CREATE_CLASS: &str =
     "CREATE TABLE class (id TEXT NOT NULL, name TEXT NOT NULL, UNIQUE (id)) STRICT";
 
-pub(crate) const PUT_CLASS: &str = "INSERT OR REPLACE INTO class (id, name) VALUES (?1, ?2)";
+pub(crate) const PUT_CLASS: &str =
+    "INSERT INTO class (id, name) VALUES (?1, ?2) ON CONFLICT (id) DO UPDATE SET id = excluded.id, name = excluded.name";
 
 /// Material definitions.
 pub const DEFINITION: Form<'static> = Form {
@@ -46,7 +48,7 @@ pub(crate) const CREATE_DEFINITION: &str =
     "CREATE TABLE definition (id TEXT NOT NULL, class TEXT NOT NULL, name TEXT NOT NULL, unit TEXT NOT NULL, UNIQUE (id)) STRICT";
 
 pub(crate) const PUT_DEFINITION: &str =
-    "INSERT OR REPLACE INTO definition (id, class, name, unit) VALUES (?1, ?2, ?3, ?4)";
+    "INSERT INTO definition (id, class, name, unit) VALUES (?1, ?2, ?3, ?4) ON CONFLICT (id) DO UPDATE SET id = excluded.id, class = excluded.class, name = excluded.name, unit = excluded.unit";
 
 /// Versions of master recipes, without their lines.
 pub const RECIPE: Form<'static> = Form {
@@ -68,7 +70,7 @@ pub(crate) const CREATE_RECIPE: &str =
     "CREATE TABLE recipe (id TEXT NOT NULL, version INTEGER NOT NULL, product TEXT NOT NULL, base INTEGER NOT NULL, low INTEGER NOT NULL, high INTEGER NOT NULL, title TEXT NOT NULL, state TEXT NOT NULL, UNIQUE (id, version)) STRICT";
 
 pub(crate) const PUT_RECIPE: &str =
-    "INSERT OR REPLACE INTO recipe (id, version, product, base, low, high, title, state) VALUES (?1, ?2, ?3, ?4, ?5, ?6, ?7, ?8)";
+    "INSERT INTO recipe (id, version, product, base, low, high, title, state) VALUES (?1, ?2, ?3, ?4, ?5, ?6, ?7, ?8) ON CONFLICT (id, version) DO UPDATE SET id = excluded.id, version = excluded.version, product = excluded.product, base = excluded.base, low = excluded.low, high = excluded.high, title = excluded.title, state = excluded.state";
 
 /// The lines of master recipes.
 pub const RECIPE_LINE: Form<'static> = Form {
@@ -91,7 +93,7 @@ pub(crate) const CREATE_RECIPE_LINE: &str =
     "CREATE TABLE recipe_line (recipe TEXT NOT NULL, version INTEGER NOT NULL, no INTEGER NOT NULL, kind INTEGER NOT NULL, def TEXT, qty INTEGER NOT NULL, t1 TEXT NOT NULL, t2 TEXT NOT NULL, t3 TEXT NOT NULL, UNIQUE (recipe, version, no)) STRICT";
 
 pub(crate) const PUT_RECIPE_LINE: &str =
-    "INSERT OR REPLACE INTO recipe_line (recipe, version, no, kind, def, qty, t1, t2, t3) VALUES (?1, ?2, ?3, ?4, ?5, ?6, ?7, ?8, ?9)";
+    "INSERT INTO recipe_line (recipe, version, no, kind, def, qty, t1, t2, t3) VALUES (?1, ?2, ?3, ?4, ?5, ?6, ?7, ?8, ?9) ON CONFLICT (recipe, version, no) DO UPDATE SET recipe = excluded.recipe, version = excluded.version, no = excluded.no, kind = excluded.kind, def = excluded.def, qty = excluded.qty, t1 = excluded.t1, t2 = excluded.t2, t3 = excluded.t3";
 
 /// Orders.
 pub const JOB: Form<'static> = Form {
@@ -112,7 +114,7 @@ pub(crate) const CREATE_JOB: &str =
     "CREATE TABLE job (id TEXT NOT NULL, recipe TEXT NOT NULL, version INTEGER NOT NULL, size INTEGER NOT NULL, due TEXT NOT NULL, priority INTEGER NOT NULL, state TEXT NOT NULL, UNIQUE (id)) STRICT";
 
 pub(crate) const PUT_JOB: &str =
-    "INSERT OR REPLACE INTO job (id, recipe, version, size, due, priority, state) VALUES (?1, ?2, ?3, ?4, ?5, ?6, ?7)";
+    "INSERT INTO job (id, recipe, version, size, due, priority, state) VALUES (?1, ?2, ?3, ?4, ?5, ?6, ?7) ON CONFLICT (id) DO UPDATE SET id = excluded.id, recipe = excluded.recipe, version = excluded.version, size = excluded.size, due = excluded.due, priority = excluded.priority, state = excluded.state";
 
 /// Batches, with the columns that are the fold of their events. No two are of one order.
 pub const BATCH: Form<'static> = Form {
@@ -135,7 +137,7 @@ pub(crate) const CREATE_BATCH: &str =
     "CREATE TABLE batch (id TEXT NOT NULL, job TEXT NOT NULL, at INTEGER NOT NULL, by_who TEXT NOT NULL, note TEXT NOT NULL, state TEXT NOT NULL, attempt INTEGER NOT NULL, next INTEGER NOT NULL, closed INTEGER NOT NULL, UNIQUE (id), UNIQUE (job)) STRICT";
 
 pub(crate) const PUT_BATCH: &str =
-    "INSERT OR REPLACE INTO batch (id, job, at, by_who, note, state, attempt, next, closed) VALUES (?1, ?2, ?3, ?4, ?5, ?6, ?7, ?8, ?9)";
+    "INSERT INTO batch (id, job, at, by_who, note, state, attempt, next, closed) VALUES (?1, ?2, ?3, ?4, ?5, ?6, ?7, ?8, ?9) ON CONFLICT (id) DO UPDATE SET id = excluded.id, job = excluded.job, at = excluded.at, by_who = excluded.by_who, note = excluded.note, state = excluded.state, attempt = excluded.attempt, next = excluded.next, closed = excluded.closed";
 
 /// The lines of control recipes.
 pub const CONTROL_LINE: Form<'static> = Form {
@@ -157,7 +159,7 @@ pub(crate) const CREATE_CONTROL_LINE: &str =
     "CREATE TABLE control_line (batch TEXT NOT NULL, no INTEGER NOT NULL, kind INTEGER NOT NULL, def TEXT, qty INTEGER NOT NULL, t1 TEXT NOT NULL, t2 TEXT NOT NULL, t3 TEXT NOT NULL, UNIQUE (batch, no)) STRICT";
 
 pub(crate) const PUT_CONTROL_LINE: &str =
-    "INSERT OR REPLACE INTO control_line (batch, no, kind, def, qty, t1, t2, t3) VALUES (?1, ?2, ?3, ?4, ?5, ?6, ?7, ?8)";
+    "INSERT INTO control_line (batch, no, kind, def, qty, t1, t2, t3) VALUES (?1, ?2, ?3, ?4, ?5, ?6, ?7, ?8) ON CONFLICT (batch, no) DO UPDATE SET batch = excluded.batch, no = excluded.no, kind = excluded.kind, def = excluded.def, qty = excluded.qty, t1 = excluded.t1, t2 = excluded.t2, t3 = excluded.t3";
 
 /// What happened to batches.
 pub const BATCH_EVENT: Form<'static> = Form {
@@ -178,7 +180,7 @@ pub(crate) const CREATE_BATCH_EVENT: &str =
     "CREATE TABLE batch_event (seq INTEGER NOT NULL, batch TEXT NOT NULL, word TEXT NOT NULL, phase INTEGER NOT NULL, at INTEGER NOT NULL, by_who TEXT NOT NULL, note TEXT NOT NULL, UNIQUE (seq)) STRICT";
 
 pub(crate) const PUT_BATCH_EVENT: &str =
-    "INSERT OR REPLACE INTO batch_event (seq, batch, word, phase, at, by_who, note) VALUES (?1, ?2, ?3, ?4, ?5, ?6, ?7)";
+    "INSERT INTO batch_event (seq, batch, word, phase, at, by_who, note) VALUES (?1, ?2, ?3, ?4, ?5, ?6, ?7)";
 
 /// Material lots.
 pub const LOT: Form<'static> = Form {
@@ -190,7 +192,8 @@ pub const LOT: Form<'static> = Form {
 pub(crate) const CREATE_LOT: &str =
     "CREATE TABLE lot (id TEXT NOT NULL, def TEXT NOT NULL, UNIQUE (id)) STRICT";
 
-pub(crate) const PUT_LOT: &str = "INSERT OR REPLACE INTO lot (id, def) VALUES (?1, ?2)";
+pub(crate) const PUT_LOT: &str =
+    "INSERT INTO lot (id, def) VALUES (?1, ?2) ON CONFLICT (id) DO UPDATE SET id = excluded.id, def = excluded.def";
 
 /// Material sublots, with their stock.
 pub const SUBLOT: Form<'static> = Form {
@@ -208,7 +211,7 @@ pub(crate) const CREATE_SUBLOT: &str =
     "CREATE TABLE sublot (lot TEXT NOT NULL, no INTEGER NOT NULL, place TEXT NOT NULL, stock INTEGER NOT NULL, UNIQUE (lot, no)) STRICT";
 
 pub(crate) const PUT_SUBLOT: &str =
-    "INSERT OR REPLACE INTO sublot (lot, no, place, stock) VALUES (?1, ?2, ?3, ?4)";
+    "INSERT INTO sublot (lot, no, place, stock) VALUES (?1, ?2, ?3, ?4) ON CONFLICT (lot, no) DO UPDATE SET lot = excluded.lot, no = excluded.no, place = excluded.place, stock = excluded.stock";
 
 /// Bookings.
 pub const MOVEMENT: Form<'static> = Form {
@@ -234,7 +237,7 @@ pub(crate) const CREATE_MOVEMENT: &str =
     "CREATE TABLE movement (seq INTEGER NOT NULL, line INTEGER NOT NULL, kind INTEGER NOT NULL, lot TEXT NOT NULL, sub INTEGER NOT NULL, lot2 TEXT, sub2 INTEGER, batch TEXT, amount INTEGER NOT NULL, at INTEGER NOT NULL, by_who TEXT NOT NULL, note TEXT NOT NULL, UNIQUE (seq, line)) STRICT";
 
 pub(crate) const PUT_MOVEMENT: &str =
-    "INSERT OR REPLACE INTO movement (seq, line, kind, lot, sub, lot2, sub2, batch, amount, at, by_who, note) VALUES (?1, ?2, ?3, ?4, ?5, ?6, ?7, ?8, ?9, ?10, ?11, ?12)";
+    "INSERT INTO movement (seq, line, kind, lot, sub, lot2, sub2, batch, amount, at, by_who, note) VALUES (?1, ?2, ?3, ?4, ?5, ?6, ?7, ?8, ?9, ?10, ?11, ?12)";
 
 /// The holds of lots.
 pub const HOLD: Form<'static> = Form {
@@ -253,7 +256,7 @@ pub(crate) const CREATE_HOLD: &str =
     "CREATE TABLE hold (lot TEXT NOT NULL, id TEXT NOT NULL, at INTEGER NOT NULL, by_who TEXT NOT NULL, note TEXT NOT NULL, UNIQUE (lot, id)) STRICT";
 
 pub(crate) const PUT_HOLD: &str =
-    "INSERT OR REPLACE INTO hold (lot, id, at, by_who, note) VALUES (?1, ?2, ?3, ?4, ?5)";
+    "INSERT INTO hold (lot, id, at, by_who, note) VALUES (?1, ?2, ?3, ?4, ?5) ON CONFLICT (lot, id) DO UPDATE SET lot = excluded.lot, id = excluded.id, at = excluded.at, by_who = excluded.by_who, note = excluded.note";
 
 pub(crate) const TAKE_HOLD: &str = "DELETE FROM hold WHERE lot = ?1 AND id = ?2";
 

@@ -1,10 +1,11 @@
 -- Which rows a row of a form's table meets, and that no foreign key acts.
 use Rattle.std.proofs.Common.{◌≡◌, inl, inr, ℕ, zero, suc, ℤ, List, [], ◌∷◌, filter, drop, Bool, true, false, not, ◌&&◌, Option, Some, None, refl, sym, ap, subst, subst₂, eq-eqb, ◌∙◌, Ordering, Less, Equal, Greater, is_eq, slice_get, get_or, ltb, eqb, arith}
-use Rattle.std.proofs.lemmas.Bool.{false_from_ne_true, and_parts, and_from}
+use Rattle.std.proofs.lemmas.Bool.{cases_Bool, false_from_ne_true, and_parts, and_from, or_cases}
 use Rattle.std.proofs.lemmas.Bool.Decides.{nat_tests}
 use Rattle.std.proofs.lemmas.Cmp.{tied_itself}
 use Rattle.sqlite_value.proofs.OrderLemmas.{value_cmp_total}
 use Rattle.std.specs.List.{list_any, list_all, flat_map, filter_map}
+use Rattle.std.specs.Ordering.{is_ne}
 use Rattle.sqlite.specs.declared.types.Value.{Value}
 use Rattle.sqlite.specs.declared.types.Value.TheVariants.{Null, Int}
 use Rattle.sqlite.specs.Order.{Row, column, value_cmp}
@@ -14,9 +15,10 @@ use Rattle.sqlite_schema.specs.declared.schema.Index.{Index}
 use Rattle.sqlite_schema.specs.declared.schema.Reference.{Reference}
 use Rattle.sqlite_schema.specs.declared.schema.Keys.{Keys}
 use Rattle.sqlite_schema.specs.Names.{same_name}
-use Rattle.sqlite_schema.specs.Rules.{agree, guards, equal, parent_key, ParentKey}
+use Rattle.sqlite_schema.specs.Rules.{agree, guards, equal, differ, parent_key, ParentKey, Fits}
+use Rattle.sqlite_schema.specs.declared.schema.Constraint.TheVariants.{Unique}
 use Rattle.sqlite_sql.specs.Ops.{binary}
-use Rattle.sqlite_trees.specs.Tree.{rowid, has_rowid}
+use Rattle.sqlite_trees.specs.Tree.{Trees, rowid, has_rowid, put_row}
 use Rattle.sqlite_trees.specs.View.{IsShaped, is_int}
 use Rattle.sqlite_trees.specs.declared.store.Shape.TheVariants as shape
 use Rattle.sqlite_value.specs.Keys.{plain, first_key, later}
@@ -24,14 +26,12 @@ use Rattle.sqlite_value.specs.declared.keys.Order.{Order}
 use Rattle.sqlite_value.proofs.KeyLemmas.{first_key-plain}
 use Rattle.sqlite_rules.specs.Lists.{Has}
 use Rattle.sqlite_rules.specs.Edit.{without_all, is_taken, id_in}
-use Rattle.sqlite_rules.specs.Calls.{ids_of}
-use Rattle.sqlite_rules.specs.Keys.{AreConflicts, conflicts, shares}
+use Rattle.sqlite_rules.specs.Keys.{aims, conflicts, shares}
 use Rattle.sqlite_rules.specs.Action.{works, work_by}
 use Rattle.sqlite_rules.specs.declared.action.Deed.{Deed}
-use Rattle.sqlite_rules.proofs.ListLemmas.{all_has, some_has, some_from}
+use Rattle.sqlite_rules.proofs.ListLemmas.{all_has, test_has, some_has, some_from, has_got, has_kept}
 use Rattle.sqlite_rules.proofs.PlaceLemmas.{tied_same, named_parent}
-use Rattle.sqlite_rules.proofs.TableLemmas.{int_is}
-use Rattle.sqlite_rules.proofs.ProbeLemmas.{has_mapped, mapped_has}
+use Rattle.sqlite_rules.proofs.TableLemmas.{int_is, has_put, put_all_keeps, without_all_has}
 use Rattle.sqlite_catalog.specs.Listing.{IsGuarded, automatic}
 use Rattle.table_forms.specs.Forms.{Form, table_of, plains}
 use Rattle.table_forms.specs.Standing.{IsDeclared}
@@ -98,12 +98,28 @@ equal_ints : (m n : ℤ) → is_eq (value_cmp (Int m) (Int n)) ≡ false → equ
 unfolding binary
 equal_ints m n h = rw (first_key-plain, h)
 
-ints_apart : (a b : Value) → is_int a ≡ true → is_int b ≡ true → is_eq (value_cmp a b) ≡ false → equal (first_key plain).collation a b ≡ false
+pub ints_apart : (a b : Value) → is_int a ≡ true → is_int b ≡ true → is_eq (value_cmp a b) ≡ false → equal (first_key plain).collation a b ≡ false
 ints_apart a b i j apart =
     let p = int_is a i in
     let q = int_is b j in
     let apart' : is_eq (value_cmp (Int (id_in a)) (Int (id_in b))) ≡ false = (rw (p, q) at apart) in
     subst₂ (λ x y. equal (first_key plain).collation x y ≡ false) (sym p) (sym q) (equal_ints (id_in a) (id_in b) apart')
+
+not_equal : (o : Ordering) → is_eq o ≡ false → is_ne o ≡ true
+not_equal Less h = refl
+not_equal Equal h = absurd cc
+not_equal Greater h = refl
+
+differ_ints : (m n : ℤ) → is_eq (value_cmp (Int m) (Int n)) ≡ false → differ (Int m) (Int n) ≡ true
+unfolding binary
+differ_ints m n h = rw (not_equal (value_cmp (Int m) (Int n)) h) refl
+
+ints_differ : (a b : Value) → is_int a ≡ true → is_int b ≡ true → is_eq (value_cmp a b) ≡ false → differ a b ≡ true
+ints_differ a b i j apart =
+    let p = int_is a i in
+    let q = int_is b j in
+    let apart' : is_eq (value_cmp (Int (id_in a)) (Int (id_in b))) ≡ false = (rw (p, q) at apart) in
+    subst₂ (λ x y. differ x y ≡ true) (sym p) (sym q) (differ_ints (id_in a) (id_in b) apart')
 
 share_parts : (table : Table) (new r : Row) (i : Index) → shares None table new r i ≡ true → (guards i table ≡ true) × (agree i.order i.columns r i.columns new ≡ true)
 share_parts table new r i h =
@@ -113,7 +129,7 @@ share_parts table new r i h =
 share_from : (table : Table) (new r : Row) (i : Index) → guards i table ≡ true → agree i.order i.columns r i.columns new ≡ true → shares None table new r i ≡ true
 share_from table new r i g a = and_from (guards i table && true) _ (and_from (guards i table) true g refl) a
 
-is_equal : (o : Ordering) → is_eq o ≡ true → o ≡ Equal
+pub is_equal : (o : Ordering) → is_eq o ≡ true → o ≡ Equal
 is_equal Less h = absurd cc
 is_equal Equal h = refl
 is_equal Greater h = absurd cc
@@ -128,14 +144,13 @@ same_row rows shaped r source x id there from has id_is x_is =
 pub own_rowid : (r : Row) → is_int (rowid r) ≡ true → has_rowid (id_in (rowid r)) r ≡ true
 own_rowid r int = rw (sym (int_is (rowid r) int), tied_itself value_cmp_total (rowid r))
 
--- the rows that a row of the form's table meets, and that make way for it
-module _ (schema : Schema) (form : Form) (at tree : ℕ) (declared : IsDeclared schema form at tree) (above : list_all (list_all (λ p. ltb 0 p)) form.keys ≡ true)
-    (guarded : IsGuarded schema.indexes (table_of form tree)) (rows : List Row) (shaped : IsShaped shape.Table rows)
-    (new : Row) (keyed : is_int (rowid new) ≡ true) (free : is_taken rows new ≡ false) where
-  abbrev agreeing : Row → Bool
-  agreeing r = list_any (λ key. agree plain key r key new) form.keys
+-- the row is equal to the new one in some key
+abbrev pub agreeing : Form → Row → Row → Bool
+agreeing form new r = list_any (λ key. agree plain key r key new) form.keys
 
-  sharing : (r : Row) → list_any (shares None (table_of form tree) new r) schema.indexes ≡ agreeing r
+-- so it is where an index finds both
+module _ (schema : Schema) (form : Form) (at tree : ℕ) (declared : IsDeclared schema form at tree) (guarded : IsGuarded schema.indexes (table_of form tree)) (new : Row) where
+  sharing : (r : Row) → list_any (shares None (table_of form tree) new r) schema.indexes ≡ agreeing form new r
   sharing r =
       same_bool _ _
       (λ some.
@@ -153,26 +168,47 @@ module _ (schema : Schema) (form : Form) (at tree : ℕ) (declared : IsDeclared 
       (share_from (table_of form tree) new r (automatic (table_of form tree) place.0 key.0 index.0) (eq-eqb tree tree refl)
       (subst (λ o. agree o key.0 r key.0 new ≡ true) (sym order) key.2)))
 
-  apart : (r : Row) → Has rows r → agree plain (0 ∷ []) r (0 ∷ []) new ≡ false
-  apart r there =
+-- what ON CONFLICT finds, and what a step leaves
+module _ (schema : Schema) (form : Form) (at tree : ℕ) (declared : IsDeclared schema form at tree) (guarded : IsGuarded schema.indexes (table_of form tree))
+    (rows : List Row) (shaped : IsShaped shape.Table rows) (new : Row) (keyed : is_int (rowid new) ≡ true) where
+  apart : is_taken rows new ≡ false → (r : Row) → Has rows r → agree plain (0 ∷ []) r (0 ∷ []) new ≡ false
+  apart free r there =
       let other : is_eq (value_cmp (rowid r) (rowid new)) ≡ false = none_has (λ x. is_eq (value_cmp (rowid x) (rowid new))) rows r free there in
       rw (ints_apart (rowid r) (rowid new) (all_has _ rows r shaped.1 there) keyed other)
 
-  conflict_is : (r : Row) → Has rows r → conflicts None schema.indexes (table_of form tree) new r ≡ agreeing r
-  conflict_is r there = rw (apart r there, sharing r)
+  pub conflict_meets : is_taken rows new ≡ false → (target : Option (List ℕ)) (r : Row) → Has rows r → conflicts target schema.indexes (table_of form tree) new r ≡ true → agreeing form new r ≡ true
+  conflict_meets free target r there found = elim (or_cases _ _ found) [
+    | inl same ↦ absurd (let one : agree plain (0 ∷ []) r (0 ∷ []) new ≡ true = (and_parts (aims target (0 ∷ [])) (agree plain (0 ∷ []) r (0 ∷ []) new) same).1 in let other = apart free r there in cc)
+    | inr some ↦
+        let i = some_has (shares target (table_of form tree) new r) schema.indexes some in
+        let outer = and_parts (guards i.0 (table_of form tree) && aims target i.0.columns) _ i.2 in
+        let guarding = (and_parts (guards i.0 (table_of form tree)) _ outer.0).0 in
+        sym (sharing schema form at tree declared guarded new r) ∙ some_from (shares None (table_of form tree) new r) schema.indexes i.0 i.1 (share_from (table_of form tree) new r i.0 guarding outer.1)
+  ]
 
-  gone_is : (found : List Row) → AreConflicts None schema.indexes (table_of form tree) rows new found → (r : Row) → Has rows r → list_any (λ id. has_rowid id r) (ids_of found) ≡ agreeing r
-  gone_is found are r there =
-      same_bool _ _
-      (λ some.
-      let id = some_has (λ id. has_rowid id r) (ids_of found) some in
-      let x = has_mapped (λ x. id_in (rowid x)) found id.0 id.1 in
-      let source = are.sound x.0 x.1 in
-      let same : r ≡ source.0 = same_row rows shaped r source.0 x.0 id.0 there source.1 id.2 x.2 source.3 in
-      sym (conflict_is r there) ∙ subst (λ y. conflicts None schema.indexes (table_of form tree) new y ≡ true) (sym same) source.2)
-      (λ some.
-      let had = are.complete r there (conflict_is r there ∙ some) in
-      some_from (λ id. has_rowid id r) (ids_of found) (id_in (rowid r)) (mapped_has (λ x. id_in (rowid x)) found (rowid r ∷ []) had) (own_rowid r (all_has _ rows r shaped.1 there)))
+  -- Where a step takes out only rows that the new row meets, the UNIQUE of each key says that it takes out each of them.
+  module _ (ids : List ℤ) (free : is_taken (without_all rows ids) new ≡ false) (next : Trees) (fits : Fits schema next) (next_is : next tree ≡ put_row new (without_all rows ids)) where
+    abbrev kept : List Row
+    kept = without_all rows ids
 
-  pub left_is : (found : List Row) → AreConflicts None schema.indexes (table_of form tree) rows new found → without_all rows (ids_of found) ≡ filter (λ r. not (agreeing r)) rows
-  left_is found are = without_is (ids_of found) rows ∙ filter_on _ _ rows (λ r there. ap not (gone_is found are r there))
+    unmet : (r : Row) → Has kept r → agreeing form new r ≡ false
+    unmet r there = false_from_ne_true _ (λ some.
+        let table = table_of form tree in
+        let i = some_has (shares None table new r) schema.indexes (sharing schema form at tree declared guarded new r ∙ some) in
+        let parts = share_parts table new r i.0 i.2 in
+        let stays : Has (next tree) r = subst (λ l. Has l r) (sym next_is) (put_all_keeps (new ∷ []) kept r (rw free refl) there) in
+        let added : Has (next tree) new = subst (λ l. Has l new) (sym next_is) (has_put new kept) in
+        let other : is_eq (value_cmp (rowid r) (rowid new)) ≡ false = none_has (λ x. is_eq (value_cmp (rowid x) (rowid new))) kept r free there in
+        let differs = ints_differ (rowid r) (rowid new) (all_has _ rows r shaped.1 (without_all_has ids rows r there)) keyed other in
+        let clash = some_from (λ x. agree i.0.order i.0.columns x i.0.columns new && differ (rowid x) (rowid new)) (next tree) r stays (and_from _ _ parts.1 differs) in
+        let holds = all_has _ (next tree) new (all_has _ schema.tables table (fits.rules Unique (λ e. cc)) (has_got schema.tables at table declared.listed)) added in
+        let quiet = rw (parts.0, clash) at (test_has _ schema.indexes i.0 holds i.1) in
+        cc)
+
+    pub left_is : ((r : Row) → Has rows r → list_any (λ id. has_rowid id r) ids ≡ true → agreeing form new r ≡ true) → kept ≡ filter (λ r. not (agreeing form new r)) rows
+    left_is gone = without_is ids rows ∙ filter_on _ _ rows (λ r there. ap not (same_bool _ _ (gone r there) (λ meets. elim (cases_Bool (list_any (λ id. has_rowid id r) ids)) [
+      | inl is ↦ is
+      | inr isnt ↦
+          let still : Has kept r = subst (λ l. Has l r) (sym (without_is ids rows)) (has_kept (λ x. not (list_any (λ id. has_rowid id x) ids)) rows r there (rw isnt refl)) in
+          absurd (let none = unmet r still in cc)
+    ])))

@@ -1,9 +1,11 @@
 pub mod Column
 pub mod Given
+pub mod Excluded
 pub mod Texts
 pub mod Values
 pub mod RowFacts
 pub mod Conflicts
+pub mod Updating
 pub mod Putting
 pub mod Turning
 pub mod Taking

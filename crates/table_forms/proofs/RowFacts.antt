@@ -1,6 +1,6 @@
 -- Facts on lists of rows.
-use Rattle.std.proofs.Common.{◌≡◌, inl, inr, ℕ, ◌+◌, ℤ, List, [], ◌∷◌, filter, Bool, true, false, not, ◌&&◌, ◌||◌, cond, None, refl, sym, ap, ◌∙◌, Ordering, Less, Equal, Greater, is_eq}
-use Rattle.std.proofs.lemmas.Bool.{cases_Bool, not-true}
+use Rattle.std.proofs.Common.{◌≡◌, inl, inr, ℤ, List, [], ◌∷◌, filter, Bool, true, false, not, ◌&&◌, ◌||◌, cond, refl, sym, ap, ◌∙◌, Ordering, Less, Equal, Greater, is_eq}
+use Rattle.std.proofs.lemmas.Bool.{cases_Bool}
 use Rattle.std.specs.Ordering.{match_ordering}
 use Rattle.std.specs.List.{list_any}
 use Rattle.std.specs.List.Sorted.{IsPermutation}
@@ -11,9 +11,8 @@ use Rattle.sqlite.specs.Order.{Row, value_cmp}
 use Rattle.sqlite.specs.Cast.{cast, cast_all}
 use Rattle.sqlite.specs.Kind.{Kind}
 use Rattle.sqlite.specs.Kind.TheVariants as kind
-use Rattle.sqlite.specs.Rows.{mended_from}
 use Rattle.sqlite_schema.specs.declared.schema.Column.{Column}
-use Rattle.sqlite_sql.specs.Ops.{unary, is_null}
+use Rattle.sqlite_sql.specs.Ops.{unary}
 use Rattle.sqlite_trees.specs.Tree.{rowid, has_rowid, put_row, without_rowid}
 use Rattle.sqlite_rules.specs.Lists.{Has}
 use Rattle.sqlite_rules.specs.Edit.{without_all, is_taken}
@@ -99,13 +98,3 @@ cast_columns (c ∷ cs) [] h = absurd cc
 cast_columns (c ∷ cs) (v ∷ vs) h =
     let each = both _ _ _ h in
     rw (cast_fits c.kind v each.0, cast_columns cs vs each.2)
-
--- REPLACE finds nothing to mend
-pub mended_columns : (cs : List Column) (vs : Row) (at : ℕ) → fits_columns cs vs ≡ true → mended_from None at cs vs ≡ vs
-mended_columns [] [] at h = refl
-mended_columns [] (v ∷ vs) at h = absurd cc
-mended_columns (c ∷ cs) [] at h = absurd cc
-mended_columns (c ∷ cs) (v ∷ vs) at h =
-    let each = both _ _ _ h in
-    let there : (c.not_null && is_null v) ≡ false = not-true _ each.1 in
-    rw (there, mended_columns cs vs (at + 1) each.2)

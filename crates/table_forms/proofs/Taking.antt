@@ -13,12 +13,10 @@ use Rattle.std.proofs.lemmas.Bool.{and_parts}
 use Rattle.sqlite.specs.declared.types.Value.TheVariants.{Null}
 use Rattle.sqlite.specs.Tree.{Trees}
 use Rattle.sqlite.specs.Rows.{Written, Deletes}
-use Rattle.sqlite.specs.Does.{OnRows, AtPlace}
 use Rattle.sqlite.specs.Edit.{edit_of}
 use Rattle.sqlite.specs.Rowids.TheVariants.{Given}
-use Rattle.sqlite.specs.Effect.{Database, IsDatabase}
-use Rattle.sqlite.specs.State.{State, Executes, ExecutesIn, mode_of}
-use Rattle.sqlite.specs.Listing.{understood}
+use Rattle.sqlite.specs.Effect.{IsDatabase}
+use Rattle.sqlite.specs.State.{State, Executes}
 use Rattle.sqlite.proofs.Callers.{runs_as, command_of, IsPlain}
 use Rattle.sqlite_sql.specs.Term.{holds}
 use Rattle.sqlite_exec.proofs.RunLemmas.{answer_alone}
@@ -42,36 +40,29 @@ use Rattle.table_forms.specs.Texts.{IsTakeText, taking}
 use Rattle.table_forms.specs.Standing.{IsDeclared, Stands}
 use Rattle.table_forms.proofs.RowFacts.{same_bool, filter_on, without_is}
 use Rattle.table_forms.proofs.Conflicts.{same_row, own_rowid, column_shift}
-use Rattle.table_forms.proofs.Putting.{went, same_value, task_of, step_leaves}
-use Rattle.table_forms.proofs.Turning.{understood_as, Turns, Trees_turn, concluded, turns_from}
+use Rattle.table_forms.proofs.Texts.{plain_command, program_of}
+use Rattle.table_forms.proofs.Putting.{went, same_value, Trees_turn, task_of, step_leaves}
+use Rattle.table_forms.proofs.Turning.{understood_as, not_run, Turns, turned_by}
 use Rattle.std.proofs.lemmas.Bool.{cases_Bool}
 use Rattle.sqlite.specs.Command.TheVariants.{Delete}
-use Rattle.sqlite_schema.specs.declared.program.Program.{Program}
 use Rattle.sqlite_schema.specs.Program.{lets_of}
 use Rattle.sqlite_schema.specs.Names.{table_named}
 use Rattle.sqlite_draft.specs.Query.{query_of}
 use Rattle.sqlite_typing.specs.Types.{accepts_program}
 use Rattle.sqlite_syntax.specs.declared.statement.Parsed.{Parsed}
-use Rattle.sqlite_resolve.specs.declared.compiled.Compiled.{Compiled}
 use Rattle.sqlite_resolve.specs.declared.error.CompileError.TheVariants.{Mismatch}
 use Rattle.sqlite_resolve.specs.Program.{program}
 use Rattle.sqlite_resolve.specs.Compile.{first, compiled, planned, meaning, timed, returning, shows, command, delete, small}
 use Rattle.sqlite_resolve.specs.Write.{deleted}
 use Rattle.table_forms.specs.Forms.{Form, table_of}
 
-abbrev pub program_of : ℕ → List Term → Program
-program_of tree tests = record { lets = []; body = query_of (taking tree tests) }
-
-abbrev pub taken_by_text : Parsed → ℕ → Program → Compiled
-taken_by_text p at q = record { command = Delete at q; returning = None; names = p.names; formats = []; start = p.start; end = p.end; tail = p.tail }
-
 -- the types of the terms are accepted, or the text is refused
 module _ (schema : Schema) (p : Parsed) (name : List ℕ) (test : Option Expr) (at tree : ℕ) (table : Table) (tests : List Term) (statement : p.statement ≡ written.Delete name test []) (untimed : p.formats ≡ [])
     (named : table_named schema name ≡ Some at) (listed : slice_get schema.tables at ≡ Some table) (takes : deleted schema at table test ≡ Ok (taking tree tests)) where
   abbrev is_typed : Bool
-  is_typed = accepts_program schema (lets_of (program_of tree tests)) (query_of (taking tree tests)) []
+  is_typed = accepts_program schema (lets_of (program_of (taking tree tests))) (query_of (taking tree tests)) []
 
-  commands : delete schema name test ≡ (if is_typed then Ok (Delete at (program_of tree tests)) else Err Mismatch)
+  commands : delete schema name test ≡ (if is_typed then Ok (Delete at (program_of (taking tree tests))) else Err Mismatch)
   unfolding delete program
   commands = elim (cases_Bool is_typed) [
     | inl fine ↦ rw (named, listed, takes, fine) refl
@@ -82,21 +73,21 @@ module _ (schema : Schema) (p : Parsed) (name : List ℕ) (test : Option Expr) (
   unfolding timed
   times = rw (statement, untimed) refl
 
-  means : meaning schema p (small p.names) ≡ (if is_typed then Ok (Delete at (program_of tree tests), None) else Err Mismatch)
+  means : meaning schema p (small p.names) ≡ (if is_typed then Ok (Delete at (program_of (taking tree tests)), None) else Err Mismatch)
   unfolding meaning returning shows command
   means = elim (cases_Bool is_typed) [
     | inl fine ↦ rw (statement, commands, fine) refl
     | inr wrong ↦ rw (statement, commands, wrong) refl
   ]
 
-  plans : planned schema p ≡ (if is_typed then Ok ([], (Delete at (program_of tree tests), None)) else Err Mismatch)
+  plans : planned schema p ≡ (if is_typed then Ok ([], (Delete at (program_of (taking tree tests)), None)) else Err Mismatch)
   unfolding planned
   plans = elim (cases_Bool is_typed) [
     | inl fine ↦ rw (times, add-zero, means, fine) refl
     | inr wrong ↦ rw (times, add-zero, means, wrong) refl
   ]
 
-  pub compiles_delete : (text : List ℕ) → first text ≡ Ok p → (compiled schema text ≡ Ok (taken_by_text p at (program_of tree tests))) ⊎ (compiled schema text ≡ Err Mismatch)
+  pub compiles_delete : (text : List ℕ) → first text ≡ Ok p → (compiled schema text ≡ Ok (plain_command p (Delete at (program_of (taking tree tests))))) ⊎ (compiled schema text ≡ Err Mismatch)
   unfolding compiled
   compiles_delete text is = elim (cases_Bool is_typed) [
     | inl fine ↦ inl (rw (is, plans, fine) refl)
@@ -137,7 +128,7 @@ module _ (limit : Option ℕ) (schema : Schema) (form : Form) (at tree : ℕ) (d
   tests = equalities plain key places ++ other_rowid false
 
   rows_taken : (db : Trees) (w : Written) (rows : List Row) → IsShaped shape.Table (db tree) → IsPermutation rows (map (drop 1) (db tree))
-      → Deletes (task_of limit Enforced schema form at tree declared params) (program_of tree tests) db (Ok w) → Trees_turn schema tree db w.trees (take_away key params rows)
+      → Deletes (task_of limit Enforced schema form at tree declared params) (program_of (taking tree tests)) db (Ok w) → Trees_turn schema tree db w.trees (take_away key params rows)
   rows_taken db w rows shaped same h =
       let queried = went h in
       let a = answer_alone (query_of (taking tree tests)) db params queried.0 queried.1.answer Null in
@@ -157,29 +148,19 @@ module _ (limit : Option ℕ) (schema : Schema) (form : Form) (at tree : ℕ) (d
         others = λ t listed away. ap (λ (d : Trees). d t.tree) now ∙ all_has _ schema.tables t applies.tables listed away;
       }
 
-not_compiled : (schema : Schema) (text : List ℕ) (c : Compiled) → compiled schema text ≡ Err Mismatch → understood schema text ≡ Ok c → ⊥
-unfolding understood
-not_compiled schema text c wrong is = let e = rw wrong at is in cc
-
 pub take_turns : (text : List ℕ) (form : Form) (key : List ℕ) → IsTakeText text form key → (params : Row)
     → (old new : State) (count : ℕ) (rows : List Row) → IsDatabase old.now → (stands : Stands old.now form rows) → Executes text params old new (Ok count) → Turns old new form stands.tree (take_away key params rows)
-unfolding ExecutesIn
 take_turns text form key says params old new count rows sound stands h =
     let schema = old.now.schema in
     let tree = stands.tree in
     let declared = stands.declared in
     let tests = equalities plain key (places_from 0 key) ++ other_rowid false in
+    let c = Delete stands.at (program_of (taking tree tests)) in
     elim (compiles_delete schema says.parsed form.name says.test stands.at tree (table_of form tree) tests says.statement says.untimed declared.named declared.listed (says.taken schema stands.at tree declared.listed) text says.reads) [
       | inl fine ↦
           let is = understood_as schema text _ fine in
-          let w = runs_as text params old new schema refl (Delete stands.at (program_of tree tests)) (ap command_of is) (subst IsPlain (sym is) (refl, refl)) count h in
-          let on : OnRows (task_of old.step_limit Enforced schema form stands.at tree declared params) (mode_of old) None (Delete stands.at (program_of tree tests)) old.now.trees (Ok (w.tally, new.now)) =
-          subst (λ o. AtPlace (λ (table : Table). OnRows (record { limit = old.step_limit; keys = Enforced; schema = schema; table = table; params = params }) (mode_of old) None (Delete stands.at (program_of tree tests)) old.now.trees) o (Ok (w.tally, new.now)))
-          declared.listed w.changed in
-          let made = concluded (task_of old.step_limit Enforced schema form stands.at tree declared params) old (Delete stands.at (program_of tree tests)) old.now.trees w.tally new.now on in
-          let turned = rows_taken old.step_limit schema form stands.at tree declared params key says.above old.now.trees made.0 rows stands.shaped stands.same made.1 in
-          let schema_is : new.now.schema ≡ schema = ap (λ (d : Database). d.schema) made.2 in
-          let trees_are : new.now.trees ≡ made.0.trees = ap (λ (d : Database). d.trees) made.2 in
-          turns_from old new form stands.at tree (take_away key params rows) schema_is w.sound declared (subst (λ (t : Trees). Trees_turn schema tree old.now.trees t (take_away key params rows)) (sym trees_are) turned) w.shown
-      | inr wrong ↦ absurd (not_compiled schema text h.0 wrong h.1.is)
+          let w = runs_as text params old new schema refl c (ap command_of is) (subst IsPlain (sym is) (refl, refl)) count h in
+          turned_by old new form params rows (take_away key params rows) stands c _ count w w.changed
+          (λ it. rows_taken old.step_limit schema form stands.at tree declared params key says.above old.now.trees it rows stands.shaped stands.same)
+      | inr wrong ↦ absurd (not_run text params old new count Mismatch wrong refl h)
     ]

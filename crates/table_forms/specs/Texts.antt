@@ -1,5 +1,5 @@
 -- What a fixed text says of a form's table, whatever else the schema has. Each is shown of a text by computing it.
-use Rattle.std.specs.Prelude.{◌≡◌, ℕ, ◌+◌, Bool, true, false, List, [], ◌∷◌, ◌++◌, length, Option, Ok, Err, slice_get, slice_range, Some, ltb}
+use Rattle.std.specs.Prelude.{◌≡◌, ◌⊎◌, ℕ, ◌+◌, ◌==◌, Bool, true, false, List, [], ◌∷◌, ◌++◌, length, Option, Ok, Err, slice_get, slice_range, Some, ltb}
 use Rattle.std.specs.List.{list_all}
 use Rattle.sqlite.specs.declared.types.Value.TheVariants.{Null}
 use Rattle.sqlite.specs.Term.{Term, lit, col}
@@ -9,6 +9,7 @@ use Rattle.sqlite_schema.specs.declared.schema.Column.{Column}
 use Rattle.sqlite_ast.specs.declared.Rows.{Rows}
 use Rattle.sqlite_ast.specs.declared.Rows.TheVariants as rows
 use Rattle.sqlite_ast.specs.declared.Conflict.TheVariants as conflict
+use Rattle.sqlite_ast.specs.declared.Upsert.{Upsert}
 use Rattle.sqlite_ast.specs.declared.CreateTable as ast
 use Rattle.sqlite_ast.specs.declared.Expr.{Expr}
 use Rattle.sqlite_ast.specs.declared.Statement.{Statement}
@@ -19,7 +20,10 @@ use Rattle.sqlite_syntax.specs.declared.statement.Parsed.{Parsed}
 use Rattle.sqlite_resolve.specs.Lowering.{Checked}
 use Rattle.sqlite_resolve.specs.Define as define
 use Rattle.sqlite_resolve.specs.Compile.{table_defined_by, first, is_reserved, new_rows, small}
-use Rattle.sqlite_resolve.specs.Write.{deleted, simple}
+use Rattle.sqlite_resolve.specs.Write.{places, deleted, simple}
+use Rattle.sqlite_resolve.specs.Terms.{equal}
+use Rattle.sqlite_resolve.specs.Given.{do_update}
+use Rattle.sqlite_value.specs.declared.keys.Collation.TheVariants.{Binary}
 use Rattle.sqlite_rules.specs.Probe.{equalities, other_rowid}
 use Rattle.sqlite_value.specs.Keys.{plain}
 use Rattle.table_forms.specs.Forms.{Form, table_of}
@@ -55,15 +59,37 @@ terms_of form = lit Null ∷ parameters_from 0 form.columns
 abbrev pub are_above : List (List ℕ) → Bool
 are_above keys = list_all (list_all (λ p. ltb 0 p)) keys
 
-pub record IsPutText (text : List ℕ) (form : Form) : Type 0 where
+-- INSERT INTO t (..) VALUES (..), with these clauses of ON CONFLICT
+pub record IsInsertText (text : List ℕ) (form : Form) (clauses : List Upsert) : Type 0 where
   pub parsed : Parsed
   pub reads : first text ≡ Ok parsed
   pub columns : List (List ℕ)
   pub rows : Rows
-  pub statement : parsed.statement ≡ written.Insert conflict.Replace form.name columns rows [] []
+  pub statement : parsed.statement ≡ written.Insert conflict.Abort form.name columns rows clauses []
   pub untimed : parsed.formats ≡ []
   pub made : (schema : Schema) (tree : ℕ) → new_rows schema (table_of form tree) (small parsed.names) columns rows ≡ Ok (Values (terms_of form) (length form.columns + 1))
   pub above : are_above form.keys ≡ true
+
+-- The row with the rowid that is given after the parameters gets each column of the row that is given after that.
+abbrev pub updating : Form → ℕ → Draft
+updating form tree =
+    let count = length form.columns in
+    simple (Inner tree ∷ []) (equal Binary (col 1 0) (col 0 count) ∷ []) (col 1 0 ∷ col 1 0 ∷ parameters_from (count + 2) form.columns)
+
+-- the same, ON CONFLICT over the columns at these places DO UPDATE of each column
+pub record IsUpsertText (text : List ℕ) (form : Form) : Type 0 where
+  pub clause : Upsert
+  pub inserts : IsInsertText text form (clause ∷ [])
+  pub counted : small inserts.parsed.names ≡ length form.columns
+  pub key : List ℕ
+  pub aims : (tree : ℕ) → places (table_of form tree) clause.target ≡ Ok key
+  pub sets : (length clause.sets == 0) ≡ false
+  pub updates : (schema : Schema) (at tree : ℕ) → slice_get schema.tables at ≡ Some (table_of form tree) → do_update schema at (table_of form tree) (length form.columns) clause ≡ Ok (updating form tree)
+
+-- It adds a row that meets none, or updates the one that it meets by a key. Where the row meets another in some other key, the
+-- store refuses it.
+abbrev pub IsPutText : List ℕ → Form → Type 0
+IsPutText text form = IsInsertText text form [] ⊎ IsUpsertText text form
 
 -- ---- a text that takes away the rows with the values of the parameters in the columns of a key
 

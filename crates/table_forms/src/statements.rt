@@ -26,8 +26,9 @@ fn run<S: Alter>(
     tx.execute(sql, params)
 }
 
-/// Puts a row, by a text that replaces the rows that are equal to it in some key. The one fault is [`Fault::Store`],
-/// where the store refuses the text, as it may where it isn't one of a table that stands.
+/// Puts a row, in place of those that are equal to it in some key, by a text that adds it, or that updates the row with
+/// its key. The one fault is [`Fault::Store`], where the store refuses the text, as it does where a row would have to go
+/// that the text doesn't update, and may where it isn't one of a table that stands.
 pub fn put_row<S: Alter>(
     tx: &mut Transaction<'_, S>,
     sql: &str,

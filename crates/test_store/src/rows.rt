@@ -1,5 +1,5 @@
 //! Changes of every kind of row. The columns that are no key are made of a text and a number, so that other ones
-//! overwrite them.
+//! overwrite them. Events and movements are only ever added, so the number counts in their keys.
 use plant_base::{
     Amount, Batch, BatchEvent, BatchRow, BatchState, Class, ControlLine, Definition, Due, Event,
     Header, Hold, Id, Job, JobState, Lot, MasterLine, Meta, Moment, Movement, MovementKind,
@@ -9,7 +9,7 @@ use plant_view::RowChange;
 use std::alloc::AllocError;
 use std::process::Abort;
 
-/// What the columns that are no key are made of: a text, and a number from 1 on.
+/// What the columns that are no key are made of: a text, and a number from 1 on, from which events and movements count.
 #[derive(Clone, Copy)]
 pub struct Content<'a> {
     pub text: &'a [u8],
@@ -141,9 +141,9 @@ fn batch(rt: &(impl Abort + AllocGlobal), of: Content<'_>) -> Batch {
     }
 }
 
-fn event(rt: &(impl Abort + AllocGlobal), seq: u64, event: Event, of: Content<'_>) -> RowChange {
+fn event(rt: &(impl Abort + AllocGlobal), number: u16, event: Event, of: Content<'_>) -> RowChange {
     RowChange::Event(BatchEvent {
-        seq,
+        seq: u64::from(of.number) + u64::from(number),
         batch: id(rt, b"B-1"),
         event,
         at: moment(rt, of.number),
@@ -180,12 +180,12 @@ fn orders(rt: &(impl Abort + AllocGlobal), of: Content<'_>) -> [RowChange; 6] {
 /// A movement of lot L-1.
 fn movement(
     rt: &(impl Abort + AllocGlobal),
-    seq: u64,
+    number: u16,
     kind: MovementKind,
     of: Content<'_>,
 ) -> RowChange {
     RowChange::Movement(Movement {
-        seq,
+        seq: u64::from(of.number) + u64::from(number),
         line: 1,
         kind,
         lot: id(rt, b"L-1"),
@@ -247,7 +247,8 @@ fn unhold(rt: &(impl Abort + AllocGlobal)) -> RowChange {
     }
 }
 
-/// A change of every kind: each row is added, or put in the place of the one with its key.
+/// A change of every kind: each row is added, or put in the place of the one with its key; an event or a movement of
+/// another number is added.
 pub fn rows(
     rt: &(impl Abort + AllocGlobal),
     of: Content<'_>,

@@ -229,50 +229,77 @@ fn laws(_: HostRuntime) {
 
 // ---- values that break their rules
 
-/// After this change the values are still good.
-fn is_taken(rt: &(impl Abort + AllocGlobal), change: &str) -> Result<(), Fail> {
-    assert!(rt; rows_after(rt.alloc(), change)?.is_some());
-    Ok(())
-}
+/// After each of these changes the values are still good.
+const TAKEN: [&str; 5] = [
+    "UPDATE recipe SET version = 999, base = 1000000000000, title = '', state = 'draft'",
+    "UPDATE batch SET at = 253402300799, state = 'held', attempt = 99, next = 128, closed = 1",
+    "UPDATE batch_event SET seq = 0, word = 'done' WHERE seq = 9",
+    "UPDATE sublot SET no = 99, place = '', stock = 1000000000000",
+    "UPDATE movement SET line = 0",
+];
 
 /// After each of these changes a value breaks its rule.
-fn are_refused(rt: &(impl Abort + AllocGlobal), changes: &[&str]) -> Result<(), Fail> {
-    for change in changes {
-        assert!(rt; rows_after(rt.alloc(), change)?.is_none());
+const REFUSED: [&str; 49] = [
+    "UPDATE meta SET seq = -1",
+    "DELETE FROM meta",
+    "UPDATE class SET id = 'raw'",
+    "UPDATE class SET name = 'a\tb'",
+    "INSERT INTO class VALUES ('wet', '')",
+    "UPDATE definition SET class = ''",
+    "UPDATE definition SET unit = ''",
+    "UPDATE definition SET unit = 'k/g'",
+    "UPDATE recipe SET version = 0",
+    "UPDATE recipe SET version = 1000",
+    "UPDATE recipe SET base = 0",
+    "UPDATE recipe SET base = 1000000000001",
+    "UPDATE recipe SET title = '\u{7f}'",
+    "UPDATE recipe SET state = 'Draft'",
+    "UPDATE job SET due = '2027-02-29'",
+    "UPDATE job SET priority = 0",
+    "UPDATE job SET priority = 10",
+    "UPDATE job SET state = 'idle'",
+    "UPDATE batch SET at = -1",
+    "UPDATE batch SET at = 253402300800",
+    "UPDATE batch SET state = 'open'",
+    "UPDATE batch SET attempt = 0",
+    "UPDATE batch SET attempt = 100",
+    "UPDATE batch SET next = 0",
+    "UPDATE batch SET next = 129",
+    "UPDATE batch SET closed = 2",
+    "UPDATE batch SET closed = -1",
+    "UPDATE batch_event SET seq = -1 WHERE seq = 9",
+    "UPDATE batch_event SET seq = 1000000000000001 WHERE seq = 15",
+    "UPDATE batch_event SET word = 'ended' WHERE seq = 9",
+    "UPDATE batch_event SET phase = 1 WHERE seq = 9",
+    "UPDATE batch_event SET phase = 1 WHERE seq = 15",
+    "UPDATE batch_event SET phase = 0 WHERE seq = 11",
+    "UPDATE batch_event SET phase = 129 WHERE seq = 11",
+    "INSERT INTO batch_event VALUES (16, 'B-1', 'begin', 0, 230, 'ben', '')",
+    "UPDATE lot SET def = '1A'",
+    "UPDATE sublot SET no = 100",
+    "UPDATE sublot SET place = '\n'",
+    "UPDATE sublot SET stock = -1",
+    "UPDATE sublot SET stock = 1000000000001",
+    "UPDATE hold SET note = '\u{1}'",
+    "UPDATE movement SET kind = 0",
+    "UPDATE movement SET kind = 8",
+    "UPDATE movement SET sub = -1",
+    "UPDATE movement SET sub = 100",
+    "UPDATE movement SET lot2 = 'f-2'",
+    "UPDATE movement SET sub2 = 100",
+    "UPDATE movement SET batch = 'b-1'",
+    "UPDATE movement SET amount = 0",
+];
+
+#[test]
+fn values_obey_their_rules(rt: HostRuntime) -> Result<(), Fail> {
+    for change in &TAKEN {
+        assert!(rt; rows_after(rt.alloc(), change)?.is_some(), "{change}");
+    }
+    for change in &REFUSED {
+        assert!(rt; rows_after(rt.alloc(), change)?.is_none(), "{change}");
     }
     Ok(())
-}
-
-#[test]
-fn values_of_masters(rt: HostRuntime) -> Result<(), Fail> {
-    let changes = [
-        "UPDATE meta SET seq = -1",
-        "DELETE FROM meta",
-        "UPDATE class SET id = 'raw'",
-        "UPDATE class SET name = 'a\tb'",
-        "INSERT INTO class VALUES ('wet', '')",
-        "UPDATE definition SET class = ''",
-        "UPDATE definition SET unit = ''",
-        "UPDATE definition SET unit = 'k/g'",
-    ];
-    are_refused(&rt, changes.as_slice())
-}
-
-#[test]
-fn values_of_recipes(rt: HostRuntime) -> Result<(), Fail> {
-    is_taken(
-        &rt,
-        "UPDATE recipe SET version = 999, base = 1000000000000, title = '', state = 'draft'",
-    )?;
-    let changes = [
-        "UPDATE recipe SET version = 0",
-        "UPDATE recipe SET version = 1000",
-        "UPDATE recipe SET base = 0",
-        "UPDATE recipe SET base = 1000000000001",
-        "UPDATE recipe SET title = '\u{7f}'",
-        "UPDATE recipe SET state = 'Draft'",
-    ];
-    are_refused(&rt, changes.as_slice())
 }
 
 /// The rows after this statement with these values; none where a value breaks its rule.
@@ -308,28 +335,31 @@ fn is_line(alloc: Global, line: &str, columns: Columns) -> Result<bool, Fail> {
     Ok(rows_with(alloc, line, params![kind, def, qty, t1, t2, t3])?.is_some())
 }
 
+/// Columns of which one breaks its rule.
+const BAD_COLUMNS: [Columns; 15] = [
+    (0, "FLOUR", 100, "", "", ""),
+    (5, "FLOUR", 100, "", "", ""),
+    (1, "", 100, "", "", ""),
+    (1, "FLOUR", 0, "", "", ""),
+    (1, "FLOUR", 100, "A", "", ""),
+    (2, "FLOUR", 100, "", "A", ""),
+    (2, "FLOUR", 100, "", "", "A"),
+    (2, "flour", 100, "", "", ""),
+    (3, "", 1, "TEMP", "80 C", ""),
+    (3, "FLOUR", 0, "TEMP", "80 C", ""),
+    (3, "", 0, "", "80 C", ""),
+    (3, "", 0, "TEMP", "80 C", "A"),
+    (4, "", 1, "MIX", "BLEND", "STIR"),
+    (4, "FLOUR", 0, "MIX", "BLEND", "STIR"),
+    (4, "", 0, "MIX", "BLEND", ""),
+];
+
 #[test]
 fn columns_of_lines(rt: HostRuntime) -> Result<(), Fail> {
     let alloc = rt.alloc();
-    for columns in [
-        (0, "FLOUR", 100, "", "", ""),
-        (5, "FLOUR", 100, "", "", ""),
-        (1, "", 100, "", "", ""),
-        (1, "FLOUR", 0, "", "", ""),
-        (1, "FLOUR", 100, "A", "", ""),
-        (2, "FLOUR", 100, "", "A", ""),
-        (2, "FLOUR", 100, "", "", "A"),
-        (2, "flour", 100, "", "", ""),
-        (3, "", 1, "TEMP", "80 C", ""),
-        (3, "FLOUR", 0, "TEMP", "80 C", ""),
-        (3, "", 0, "", "80 C", ""),
-        (3, "", 0, "TEMP", "80 C", "A"),
-        (4, "", 1, "MIX", "BLEND", "STIR"),
-        (4, "FLOUR", 0, "MIX", "BLEND", "STIR"),
-        (4, "", 0, "MIX", "BLEND", ""),
-    ] {
-        assert!(rt; !is_line(alloc, MASTER_LINE, columns)?);
-        assert!(rt; !is_line(alloc, CONTROL_LINE, columns)?);
+    for columns in &BAD_COLUMNS {
+        assert!(rt; !is_line(alloc, MASTER_LINE, *columns)?);
+        assert!(rt; !is_line(alloc, CONTROL_LINE, *columns)?);
     }
     let unnamed = (3, "", 0, "TEMP", "", "");
     assert!(rt; is_line(alloc, MASTER_LINE, unnamed)?);
@@ -357,89 +387,6 @@ fn numbers_of_lines(rt: HostRuntime) -> Result<(), Fail> {
     assert!(rt; number_of_line(alloc, 0)? == Some(0));
     assert!(rt; number_of_line(alloc, -1)? == Some(0));
     Ok(())
-}
-
-#[test]
-fn values_of_orders(rt: HostRuntime) -> Result<(), Fail> {
-    is_taken(
-        &rt,
-        "UPDATE batch SET at = 253402300799, state = 'held', attempt = 99, next = 128, closed = 1",
-    )?;
-    let changes = [
-        "UPDATE job SET due = '2027-02-29'",
-        "UPDATE job SET priority = 0",
-        "UPDATE job SET priority = 10",
-        "UPDATE job SET state = 'idle'",
-        "UPDATE batch SET at = -1",
-        "UPDATE batch SET at = 253402300800",
-        "UPDATE batch SET state = 'open'",
-    ];
-    are_refused(&rt, changes.as_slice())
-}
-
-#[test]
-fn progress_of_batches(rt: HostRuntime) -> Result<(), Fail> {
-    let changes = [
-        "UPDATE batch SET attempt = 0",
-        "UPDATE batch SET attempt = 100",
-        "UPDATE batch SET next = 0",
-        "UPDATE batch SET next = 129",
-        "UPDATE batch SET closed = 2",
-        "UPDATE batch SET closed = -1",
-    ];
-    are_refused(&rt, changes.as_slice())
-}
-
-#[test]
-fn values_of_events(rt: HostRuntime) -> Result<(), Fail> {
-    is_taken(
-        &rt,
-        "UPDATE batch_event SET seq = 0, word = 'done' WHERE seq = 9",
-    )?;
-    let changes = [
-        "UPDATE batch_event SET seq = -1 WHERE seq = 9",
-        "UPDATE batch_event SET seq = 1000000000000001 WHERE seq = 15",
-        "UPDATE batch_event SET word = 'ended' WHERE seq = 9",
-        "UPDATE batch_event SET phase = 1 WHERE seq = 9",
-        "UPDATE batch_event SET phase = 1 WHERE seq = 15",
-        "UPDATE batch_event SET phase = 0 WHERE seq = 11",
-        "UPDATE batch_event SET phase = 129 WHERE seq = 11",
-        "INSERT INTO batch_event VALUES (16, 'B-1', 'begin', 0, 230, 'ben', '')",
-    ];
-    are_refused(&rt, changes.as_slice())
-}
-
-#[test]
-fn values_of_stocks(rt: HostRuntime) -> Result<(), Fail> {
-    is_taken(
-        &rt,
-        "UPDATE sublot SET no = 99, place = '', stock = 1000000000000",
-    )?;
-    let changes = [
-        "UPDATE lot SET def = '1A'",
-        "UPDATE sublot SET no = 100",
-        "UPDATE sublot SET place = '\n'",
-        "UPDATE sublot SET stock = -1",
-        "UPDATE sublot SET stock = 1000000000001",
-        "UPDATE hold SET note = '\u{1}'",
-    ];
-    are_refused(&rt, changes.as_slice())
-}
-
-#[test]
-fn values_of_movements(rt: HostRuntime) -> Result<(), Fail> {
-    is_taken(&rt, "UPDATE movement SET line = 0")?;
-    let changes = [
-        "UPDATE movement SET kind = 0",
-        "UPDATE movement SET kind = 8",
-        "UPDATE movement SET sub = -1",
-        "UPDATE movement SET sub = 100",
-        "UPDATE movement SET lot2 = 'f-2'",
-        "UPDATE movement SET sub2 = 100",
-        "UPDATE movement SET batch = 'b-1'",
-        "UPDATE movement SET amount = 0",
-    ];
-    are_refused(&rt, changes.as_slice())
 }
 
 // ---- movements and their columns
@@ -479,23 +426,26 @@ fn movements_of_every_kind(rt: HostRuntime) -> Result<(), Fail> {
     Ok(())
 }
 
+/// Columns that no movement of their kind has.
+const OTHER_COLUMNS: [Booking; 10] = [
+    (1, "", None, "B-1"),
+    (2, "", None, ""),
+    (3, "F-2", None, "B-1"),
+    (4, "", Some(0), ""),
+    (5, "F-2", Some(4), ""),
+    (5, "F-1", None, ""),
+    (6, "F-2", None, ""),
+    (6, "F-2", Some(1), ""),
+    (7, "", Some(0), ""),
+    (7, "F-2", Some(0), "B-1"),
+];
+
 #[test]
 fn columns_of_another_kind(rt: HostRuntime) -> Result<(), Fail> {
     // The checker can't follow a booked row, unless the function names this type.
     let _: Option<Id> = None;
-    for booking in [
-        (1, "", None, "B-1"),
-        (2, "", None, ""),
-        (3, "F-2", None, "B-1"),
-        (4, "", Some(0), ""),
-        (5, "F-2", Some(4), ""),
-        (5, "F-1", None, ""),
-        (6, "F-2", None, ""),
-        (6, "F-2", Some(1), ""),
-        (7, "", Some(0), ""),
-        (7, "F-2", Some(0), "B-1"),
-    ] {
-        match booked(rt.alloc(), booking)? {
+    for booking in &OTHER_COLUMNS {
+        match booked(rt.alloc(), *booking)? {
             Some(row) => assert!(rt; row.movement().is_none()),
             None => assert!(rt; false),
         }

@@ -93,7 +93,11 @@ fn every_state_and_word(rt: HostRuntime) {
     table_law();
 }
 
-fn stands(state: BatchState, attempt: u8, next: u8, closed: bool) -> Progress {
+/// A state, an attempt, the next phase, and whether the batch is closed.
+type Standing = (BatchState, u8, u8, bool);
+
+fn stands(at: Standing) -> Progress {
+    let (state, attempt, next, closed) = at;
     Progress {
         state,
         attempt,
@@ -102,71 +106,130 @@ fn stands(state: BatchState, attempt: u8, next: u8, closed: bool) -> Progress {
     }
 }
 
-#[test]
-fn moves_of_a_batch(rt: HostRuntime) {
-    let held = stands(BatchState::Held, 1, 1, false);
-    assert_eq!(rt;
-        held.apply(Event::Moved(Word::Resume), 1),
-        Err(Refusal::BadMove)
-    );
-    let stopped = stands(BatchState::Stopped, 99, 1, false);
-    let aborting = stands(BatchState::Aborting, 99, 1, false);
-    assert_eq!(rt; stopped.apply(Event::Moved(Word::Abort), 1), Ok(aborting));
-    assert_eq!(rt;
-        stopped.apply(Event::Moved(Word::Reset), 1),
-        Err(Refusal::TooMany)
-    );
-    let running = stands(BatchState::Running, 1, 1, false);
-    assert_eq!(rt;
-        running.apply(Event::Moved(Word::Done), 1),
-        Err(Refusal::PhasesLeft)
-    );
-    let complete = stands(BatchState::Complete, 1, 2, false);
-    let again = stands(BatchState::Idle, 2, 1, false);
-    assert_eq!(rt; complete.apply(Event::Moved(Word::Reset), 1), Ok(again));
-    let closed = stands(BatchState::Complete, 1, 2, true);
-    assert_eq!(rt; complete.apply(Event::Closed, 1), Ok(closed));
-    assert_eq!(rt;
-        closed.apply(Event::Moved(Word::Reset), 1),
-        Err(Refusal::BatchClosed)
-    );
+/// Where a batch stands, what happens to it, how many phases its recipe has, and where it stands then.
+type Turn = (Standing, Event, u8, Result<Standing, Refusal>);
+
+const TURNS: [Turn; 17] = [
+    (
+        (BatchState::Held, 1, 1, false),
+        Event::Moved(Word::Resume),
+        1,
+        Err(Refusal::BadMove),
+    ),
+    (
+        (BatchState::Stopped, 99, 1, false),
+        Event::Moved(Word::Abort),
+        1,
+        Ok((BatchState::Aborting, 99, 1, false)),
+    ),
+    (
+        (BatchState::Stopped, 99, 1, false),
+        Event::Moved(Word::Reset),
+        1,
+        Err(Refusal::TooMany),
+    ),
+    (
+        (BatchState::Running, 1, 1, false),
+        Event::Moved(Word::Done),
+        1,
+        Err(Refusal::PhasesLeft),
+    ),
+    (
+        (BatchState::Complete, 1, 2, false),
+        Event::Moved(Word::Reset),
+        1,
+        Ok((BatchState::Idle, 2, 1, false)),
+    ),
+    (
+        (BatchState::Complete, 1, 2, false),
+        Event::Closed,
+        1,
+        Ok((BatchState::Complete, 1, 2, true)),
+    ),
+    (
+        (BatchState::Complete, 1, 2, true),
+        Event::Moved(Word::Reset),
+        1,
+        Err(Refusal::BatchClosed),
+    ),
+    (
+        (BatchState::Running, 1, 1, false),
+        Event::PhaseDone(1),
+        1,
+        Ok((BatchState::Running, 1, 2, false)),
+    ),
+    (
+        (BatchState::Running, 1, 1, false),
+        Event::PhaseDone(2),
+        2,
+        Err(Refusal::NotNextPhase),
+    ),
+    (
+        (BatchState::Running, 1, 2, false),
+        Event::PhaseDone(2),
+        1,
+        Err(Refusal::NotNextPhase),
+    ),
+    (
+        (BatchState::Idle, 1, 1, false),
+        Event::PhaseDone(1),
+        1,
+        Err(Refusal::WrongState),
+    ),
+    (
+        (BatchState::Stopped, 1, 1, true),
+        Event::PhaseDone(2),
+        1,
+        Err(Refusal::NotNextPhase),
+    ),
+    (
+        (BatchState::Stopped, 1, 1, true),
+        Event::PhaseDone(1),
+        1,
+        Err(Refusal::BatchClosed),
+    ),
+    (
+        (BatchState::Stopped, 1, 1, true),
+        Event::Closed,
+        1,
+        Err(Refusal::BatchClosed),
+    ),
+    (
+        (BatchState::Idle, 1, 1, false),
+        Event::Closed,
+        1,
+        Err(Refusal::NotFinished),
+    ),
+    (
+        (BatchState::Running, 1, 127, false),
+        Event::PhaseDone(127),
+        127,
+        Ok((BatchState::Running, 1, 128, false)),
+    ),
+    (
+        (BatchState::Running, 1, 128, false),
+        Event::PhaseDone(128),
+        255,
+        Err(Refusal::NotNextPhase),
+    ),
+];
+
+/// Where a batch stands after a turn.
+fn wanted(turn: &Turn) -> Result<Progress, Refusal> {
+    match turn.3 {
+        Ok(at) => Ok(stands(at)),
+        Err(refusal) => Err(refusal),
+    }
 }
 
 #[test]
-fn phases_of_a_batch(rt: HostRuntime) {
-    let running = stands(BatchState::Running, 1, 1, false);
-    let done = stands(BatchState::Running, 1, 2, false);
-    assert_eq!(rt; running.apply(Event::PhaseDone(1), 1), Ok(done));
+fn turns_of_a_batch(rt: HostRuntime) {
+    for turn in &TURNS {
+        assert_eq!(rt; stands(turn.0).apply(turn.1, turn.2), wanted(turn));
+    }
     assert_eq!(rt;
-        running.apply(Event::PhaseDone(2), 2),
-        Err(Refusal::NotNextPhase)
-    );
-    assert_eq!(rt;
-        done.apply(Event::PhaseDone(2), 1),
-        Err(Refusal::NotNextPhase)
-    );
-    let idle = Progress::opening();
-    assert_eq!(rt;
-        idle.apply(Event::PhaseDone(1), 1),
-        Err(Refusal::WrongState)
-    );
-    let closed = stands(BatchState::Stopped, 1, 1, true);
-    assert_eq!(rt;
-        closed.apply(Event::PhaseDone(2), 1),
-        Err(Refusal::NotNextPhase)
-    );
-    assert_eq!(rt;
-        closed.apply(Event::PhaseDone(1), 1),
-        Err(Refusal::BatchClosed)
-    );
-    assert_eq!(rt; closed.apply(Event::Closed, 1), Err(Refusal::BatchClosed));
-    assert_eq!(rt; idle.apply(Event::Closed, 1), Err(Refusal::NotFinished));
-    let last = stands(BatchState::Running, 1, 127, false);
-    let all = stands(BatchState::Running, 1, 128, false);
-    assert_eq!(rt; last.apply(Event::PhaseDone(127), 127), Ok(all));
-    assert_eq!(rt;
-        all.apply(Event::PhaseDone(128), 255),
-        Err(Refusal::NotNextPhase)
+        Progress::opening(),
+        stands((BatchState::Idle, 1, 1, false))
     );
 }
 
@@ -178,7 +241,7 @@ fn events_of_a_batch(rt: HostRuntime) {
         Event::Moved(Word::Done),
         Event::Closed,
     ];
-    let whole = stands(BatchState::Complete, 1, 2, true);
+    let whole = stands((BatchState::Complete, 1, 2, true));
     assert_eq!(rt; Progress::of_events(&events, 1), Ok(whole));
     assert_eq!(rt; Progress::of_events(&events, 2), Err(Refusal::PhasesLeft));
     assert_eq!(rt; Progress::of_events(&[], 1), Ok(Progress::opening()));
@@ -258,46 +321,46 @@ fn master(alloc: Global, header: Header, lines: &[RecipeLine]) -> Result<Master,
     Ok(master.ok().ok_or("not well formed")?)
 }
 
-fn control_at(
+// The lines of a recipe that takes and makes so much.
+fn lines_of(taken: u64, made: u64) -> Result<[RecipeLine; 4], Fail> {
+    Ok([
+        input(b"FLOUR", taken)?,
+        output(b"DOUGH", made)?,
+        parameter(b"TEMP")?,
+        phase()?,
+    ])
+}
+
+// Whether these are the lines of the control recipe for a batch of this size; `None`: an amount becomes nothing.
+fn is_control(
     alloc: Global,
     master: &Master,
     size: u64,
-) -> Result<Result<Vec<RecipeLine>, RecipeFault>, Fail> {
+    wanted: Option<&[RecipeLine]>,
+) -> Result<bool, Fail> {
     let size = amount(size)?;
     let header = master.header();
     if size.get() < header.least.get() || size.get() > header.greatest.get() {
         return Err(Fail::from("out of the sizes"));
     }
-    match control(alloc, master, size) {
-        Ok(lines) => Ok(Ok(lines.into_vec())),
-        Err(fault) => Ok(Err(fault)),
+    match (control(alloc, master, size), wanted) {
+        (Ok(lines), Some(wanted)) => Ok(lines.as_slice() == wanted),
+        (Err(RecipeFault::Nothing), None) => Ok(true),
+        _ => Ok(false),
     }
 }
 
 #[test]
 fn control_recipes(rt: HostRuntime) -> Result<(), Fail> {
-    let lines = [
-        input(b"FLOUR", 1)?,
-        output(b"DOUGH", 500)?,
-        parameter(b"TEMP")?,
-        phase()?,
-    ];
+    let lines = lines_of(1, 500)?;
     let master = master(rt.alloc(), header(500, 100, 900)?, &lines)?;
     assert_eq!(rt; master.lines(), lines.as_slice());
     assert_eq!(rt; master.header(), header(500, 100, 900)?);
-    let nothing = control_at(rt.alloc(), &master, 100)?;
-    assert!(rt; matches!(nothing, Err(RecipeFault::Nothing)));
-    let control = control_at(rt.alloc(), &master, 250)?;
-    let scaled = [
-        input(b"FLOUR", 1)?,
-        output(b"DOUGH", 250)?,
-        parameter(b"TEMP")?,
-        phase()?,
-    ];
-    assert!(rt; matches!(&control, Ok(lines) if lines.as_slice() == scaled.as_slice()));
+    assert!(rt; is_control(rt.alloc(), &master, 100, None)?);
+    let scaled = lines_of(1, 250)?;
+    assert!(rt; is_control(rt.alloc(), &master, 250, Some(scaled.as_slice()))?);
     control_law();
-    let kept = master.into_lines();
-    assert_eq!(rt; kept.as_slice(), lines.as_slice());
+    assert_eq!(rt; master.into_lines().as_slice(), lines.as_slice());
     Ok(())
 }
 

@@ -266,18 +266,32 @@ fn a_diamond_is_traced_both_ways(rt: HostRuntime) -> Result<(), Fail> {
     Ok(())
 }
 
+/// Whether the neighbours of a lot are these, over both sources.
+fn neighbours_are(
+    alloc: Global,
+    pairs: &[(Node, Node)],
+    near: &str,
+    direction: Direction,
+    wanted: &[&str],
+) -> Result<bool, Fail> {
+    let wanted = lots(alloc, wanted)?;
+    let listed = neighbours(alloc, pairs, lot(near)?, direction)?;
+    let mut indexed = Indexed::new(alloc, pairs)?;
+    let found = match direction {
+        Direction::Forward => indexed.succ(lot(near)?)?,
+        Direction::Back => indexed.pred(lot(near)?)?,
+    };
+    Ok(listed == wanted && found == wanted)
+}
+
 #[test]
 fn neighbours_stand_once_each(rt: HostRuntime) -> Result<(), Fail> {
     let alloc = rt.alloc();
     let [a, b, c, d] = diamond()?;
     let pairs = [b, d, a, b, c, a];
-    let after = neighbours(alloc, &pairs, lot("L-1")?, Direction::Forward)?;
-    assert_eq!(rt; after, lots(alloc, &["L-2", "L-3"])?);
-    let before = neighbours(alloc, &pairs, lot("L-4")?, Direction::Back)?;
-    assert_eq!(rt; before, lots(alloc, &["L-2", "L-3"])?);
-    let mut indexed = Indexed::new(alloc, &pairs)?;
-    assert_eq!(rt; indexed.succ(lot("L-1")?)?, after);
-    assert_eq!(rt; indexed.pred(lot("L-4")?)?, before);
+    let between = ["L-2", "L-3"];
+    assert!(rt; neighbours_are(alloc, &pairs, "L-1", Direction::Forward, &between)?);
+    assert!(rt; neighbours_are(alloc, &pairs, "L-4", Direction::Back, &between)?);
     Ok(())
 }
 
@@ -316,21 +330,25 @@ fn a_cycle_is_found(rt: HostRuntime) -> Result<(), Fail> {
     Ok(())
 }
 
+/// Whether a trace has these nodes.
+fn is_traced(
+    alloc: Global,
+    pairs: &[(Node, Node)],
+    start: Node,
+    direction: Direction,
+    wanted: &[Node],
+) -> Result<bool, Fail> {
+    Ok(trace(alloc, pairs, start, direction)?.as_slice() == wanted)
+}
+
 #[test]
 fn kinds_are_told_apart(rt: HostRuntime) -> Result<(), Fail> {
     let alloc = rt.alloc();
-    let pairs = [(lot("X-1")?, batch("X-1")?), (batch("X-1")?, lot("A-1")?)];
-    let mut wanted = lots(alloc, &["A-1"])?;
-    wanted.push(batch("X-1")?)?;
-    assert_eq!(rt;
-        trace(alloc, &pairs, lot("X-1")?, Direction::Forward)?,
-        wanted
-    );
-    assert_eq!(rt;
-        trace(alloc, &pairs, batch("X-1")?, Direction::Back)?,
-        lots(alloc, &["X-1"])?
-    );
-    assert!(rt; trace(alloc, &pairs, batch("A-1")?, Direction::Back)?.is_empty());
+    let (taken, maker, made) = (lot("X-1")?, batch("X-1")?, lot("A-1")?);
+    let pairs = [(taken, maker), (maker, made)];
+    assert!(rt; is_traced(alloc, &pairs, taken, Direction::Forward, &[made, maker])?);
+    assert!(rt; is_traced(alloc, &pairs, maker, Direction::Back, &[taken])?);
+    assert!(rt; is_traced(alloc, &pairs, batch("A-1")?, Direction::Back, &[])?);
     assert!(rt; has_no_cycle(alloc, &pairs)?);
     Ok(())
 }

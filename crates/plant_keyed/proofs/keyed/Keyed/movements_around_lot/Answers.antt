@@ -15,7 +15,7 @@ returns-in-Ok-clause-told g c =
     let first = c.in_ok-rows.ensures.told in
     let second = c.in_ok-more.ensures.told in
     let both = told_then old mid new c.args.self.now.has_failed c.movements_of_lot.new.self.has_failed c.movements_to_lot.new.self.has_failed
-        (λ (db : Database). c.in_ok-more.more.items ≡ filter (names_other_lot c.args.lot.now) (shown db).movements) first.always second in
+    (λ (db : Database). c.in_ok-more.more.items ≡ filter (names_other_lot c.args.lot.now) (shown db).movements) first.always second in
     record {
       always = both.always;
       before = both.before;

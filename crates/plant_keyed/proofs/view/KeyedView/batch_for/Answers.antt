@@ -18,10 +18,10 @@ returns-in-Some g c =
     let old = state g.S.Store c.args.self.now.conn.now in
     let new = state g.S.Store c.first_found.new.self.conn.now in
     let told = told_by old new c.args.self.now.has_failed c.first_found.new.self.has_failed _ c.first_found.ensures.steady
-        (λ clean good holds.
-        let found = rw c.id.ensures at (c.in_ok-row.ensures.row (2 ∷ []) batch_by_job (refl, rw c.id.ensures refl) clean) in
-        let is = batch_for_is old.now _ good holds c.args.order _ found in
-        ap (option_map (λ (r : BatchRow). r.batch)) (sym c.in-Some.is ∙ is) ∙ batch_unread _ _ (batch_of (shown old.now) c.args.order)) in
+    (λ clean good holds.
+    let found = rw c.id.ensures at (c.in_ok-row.ensures.row (2 ∷ []) batch_by_job (refl, rw c.id.ensures refl) clean) in
+    let is = batch_for_is old.now _ good holds c.args.order _ found in
+    ap (option_map (λ (r : BatchRow). r.batch)) (sym c.in-Some.is ∙ is) ∙ batch_unread _ _ (batch_of (shown old.now) c.args.order)) in
     record { always = (c.first_found.ensures.same_reference, told.always); before = told.before; same = λ h. told.always.shows h.clean h.unfailed; holds = told.holds }
 
 pub returns-in-None : goal.returns-in-None
@@ -29,8 +29,8 @@ returns-in-None g c =
     let old = state g.S.Store c.args.self.now.conn.now in
     let new = state g.S.Store c.first_found.new.self.conn.now in
     let told = told_by old new c.args.self.now.has_failed c.first_found.new.self.has_failed _ c.first_found.ensures.steady
-        (λ clean good holds.
-        let found = rw c.id.ensures at (c.in_ok-row.ensures.row (2 ∷ []) batch_by_job (refl, rw c.id.ensures refl) clean) in
-        let is = batch_for_is old.now _ good holds c.args.order _ found in
-        ap (option_map (λ (r : BatchRow). r.batch)) (sym c.in-None.is ∙ is) ∙ batch_unread _ _ (batch_of (shown old.now) c.args.order)) in
+    (λ clean good holds.
+    let found = rw c.id.ensures at (c.in_ok-row.ensures.row (2 ∷ []) batch_by_job (refl, rw c.id.ensures refl) clean) in
+    let is = batch_for_is old.now _ good holds c.args.order _ found in
+    ap (option_map (λ (r : BatchRow). r.batch)) (sym c.in-None.is ∙ is) ∙ batch_unread _ _ (batch_of (shown old.now) c.args.order)) in
     record { always = (c.first_found.ensures.same_reference, told.always); before = told.before; same = λ h. told.always.shows h.clean h.unfailed; holds = told.holds }

@@ -13,6 +13,6 @@ returns g c =
     let old = state g.S.Store c.args.self.now.conn.now in
     let new = state g.S.Store c.found.new.self.conn.now in
     let told = told_found old new c.args.self.now.has_failed c.found.new.self.has_failed c.found.result _ _ c.found.ensures.steady
-        (λ clean. rw c.id.ensures at (c.found.ensures.rows (1 ∷ []) holds_of_lot (refl, rw c.id.ensures refl) clean))
-        (λ good holds rows found. holds_are old.now _ good holds c.args.lot rows.items found) in
+    (λ clean. rw c.id.ensures at (c.found.ensures.rows (1 ∷ []) holds_of_lot (refl, rw c.id.ensures refl) clean))
+    (λ good holds rows found. holds_are old.now _ good holds c.args.lot rows.items found) in
     record { always = (c.found.ensures.same_reference, told.always); before = told.before; same = λ h. told.always.shows h.clean h.unfailed; holds = told.holds }

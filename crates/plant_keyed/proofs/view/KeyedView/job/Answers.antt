@@ -13,6 +13,6 @@ returns g c =
     let old = state g.S.Store c.args.self.now.conn.now in
     let new = state g.S.Store c.first_found.new.self.conn.now in
     let told = told_found old new c.args.self.now.has_failed c.first_found.new.self.has_failed c.first_found.result _ _ c.first_found.ensures.steady
-        (λ clean. rw c.id.ensures at (c.first_found.ensures.row (1 ∷ []) job_by_id (refl, rw c.id.ensures refl) clean))
-        (λ good holds row found. job_is old.now _ good holds c.args.order row found) in
+    (λ clean. rw c.id.ensures at (c.first_found.ensures.row (1 ∷ []) job_by_id (refl, rw c.id.ensures refl) clean))
+    (λ good holds row found. job_is old.now _ good holds c.args.order row found) in
     record { always = (c.first_found.ensures.same_reference, told.always); before = told.before; same = λ h. told.always.shows h.clean h.unfailed; holds = told.holds }

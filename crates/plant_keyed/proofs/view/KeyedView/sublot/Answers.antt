@@ -18,8 +18,8 @@ returns-clause-row g c =
     let old = state g.S.Store c.args.self.now.conn.now in
     let new = state g.S.Store c.first_found.new.self.conn.now in
     let told = told_found old new c.args.self.now.has_failed c.first_found.new.self.has_failed c.first_found.result _ _ c.first_found.ensures.steady
-        (λ clean. rw (c.id.ensures, c.small.ensures) at (c.first_found.ensures.row (1 ∷ 2 ∷ []) sublot_by_key (refl, rw (c.id.ensures, c.small.ensures) refl) clean))
-        (λ good holds row found. ap (option_map place_of_row) (sublot_is old.now _ good holds c.args.lot c.args.number row found) ∙ place_unread _ (place_at (shown old.now) c.args.lot c.args.number)) in
+    (λ clean. rw (c.id.ensures, c.small.ensures) at (c.first_found.ensures.row (1 ∷ 2 ∷ []) sublot_by_key (refl, rw (c.id.ensures, c.small.ensures) refl) clean))
+    (λ good holds row found. ap (option_map place_of_row) (sublot_is old.now _ good holds c.args.lot c.args.number row found) ∙ place_unread _ (place_at (shown old.now) c.args.lot c.args.number)) in
     record { always = (c.first_found.ensures.same_reference, told.always); before = told.before; same = λ h. told.always.shows h.clean h.unfailed; holds = told.holds }
 
 pub returns-clause-stock : goal.returns-clause-stock
@@ -27,6 +27,6 @@ returns-clause-stock g c =
     let old = state g.S.Store c.args.self.now.conn.now in
     let new = state g.S.Store c.first_found.new.self.conn.now in
     let told = told_found old new c.args.self.now.has_failed c.first_found.new.self.has_failed c.first_found.result _ _ c.first_found.ensures.steady
-        (λ clean. rw (c.id.ensures, c.small.ensures) at (c.first_found.ensures.row (1 ∷ 2 ∷ []) sublot_by_key (refl, rw (c.id.ensures, c.small.ensures) refl) clean))
-        (λ good holds row found. sublot_is old.now _ good holds c.args.lot c.args.number row found) in
+    (λ clean. rw (c.id.ensures, c.small.ensures) at (c.first_found.ensures.row (1 ∷ 2 ∷ []) sublot_by_key (refl, rw (c.id.ensures, c.small.ensures) refl) clean))
+    (λ good holds row found. sublot_is old.now _ good holds c.args.lot c.args.number row found) in
     record { always = (c.first_found.ensures.same_reference, told.always); before = told.before; same = λ h. told.always.shows h.clean h.unfailed; holds = λ h sound. told.holds h }

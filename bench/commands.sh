@@ -1,0 +1,16 @@
+#!/usr/bin/env bash
+# Commands a second of one run over a file, each given after the reply to the one before it, at some sizes of the desk, beside a Python
+# program over sqlite3 that does the same look-ups and writes. Wants the built program (make desk), or another one as PROGRAM. Usage:
+# bench/commands.sh [PROGRAM [FOLDER [COMMANDS [SIZE ..]]]], by default build/desk build 500 1000 10000. The files are in FOLDER: over a
+# disk its syncs are most of a command's time; in /dev/shm there are none. bench/commands.py measures, and says what each kind does.
+set -eu
+cd "$(dirname "$0")/.."
+program=${1:-build/desk}
+folder=${2:-build}
+commands=${3:-500}
+[ $# -ge 3 ] && shift 3 || set --
+[ -x "$program" ] || { echo "run make desk first" >&2; exit 1; }
+mkdir -p "$folder"
+work=$(mktemp -d -p "$folder")
+trap 'rm -rf "$work"' EXIT
+python3 bench/commands.py "$program" "$work" "$commands" ${@:-1000 10000}

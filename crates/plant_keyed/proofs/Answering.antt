@@ -1,5 +1,5 @@
 -- What a look-up finds among the tables of a good state.
-use Rattle.std.proofs.Common.{◌≡◌, ◌∙◌, ℕ, Bool, true, false, cond, ◌&&◌, ◌==◌, List, [], ◌∷◌, map, filter, drop, find, Option, Some, None, refl, sym, ap, subst, slice_get, option_map}
+use Rattle.std.proofs.Common.{◌≡◌, ◌∙◌, ℕ, Bool, true, false, cond, ◌&&◌, ◌==◌, List, [], ◌∷◌, map, filter, drop, find, Option, Some, refl, sym, ap, subst, slice_get, option_map}
 use Rattle.std.specs.List.{AllByRecursion}
 use Rattle.std.specs.List.Sorted.{IsStrictlySortedBy, IsPermutation}
 use Rattle.std.specs.declared.cmp.Ordering.{Ordering}
@@ -18,17 +18,15 @@ use Rattle.plant_base.specs.declared.rows.Definition.{Definition}
 use Rattle.plant_base.specs.declared.rows.Recipe.{Recipe}
 use Rattle.plant_base.specs.declared.rows.MasterLine.{MasterLine}
 use Rattle.plant_base.specs.declared.rows.Job.{Job}
-use Rattle.plant_base.specs.declared.rows.Batch.{Batch}
 use Rattle.plant_base.specs.declared.rows.BatchRow.{BatchRow}
 use Rattle.plant_base.specs.declared.rows.ControlLine.{ControlLine}
 use Rattle.plant_base.specs.declared.rows.BatchEvent.{BatchEvent}
 use Rattle.plant_base.specs.declared.rows.Lot.{Lot}
-use Rattle.plant_base.specs.declared.rows.Place.{Place}
 use Rattle.plant_base.specs.declared.rows.Sublot.{Sublot}
 use Rattle.plant_base.specs.declared.rows.Movement.{Movement}
 use Rattle.plant_base.specs.declared.rows.Hold.{Hold}
 use Rattle.plant_view.specs.Refusing.{holds_of}
-use Rattle.plant_view.specs.Tables.{Tables, tables_of, position_of, batch_row, batch_row_order, sublot_order, sublot_row, sublots_of}
+use Rattle.plant_view.specs.Tables.{Tables, tables_of, batch_row, batch_row_order, sublot_order, sublot_row, sublots_of}
 use Rattle.plant_view.specs.Views.{events_of}
 use Rattle.plant_good.specs.Good.{IsGood}
 use Rattle.table_forms.specs.Forms.{Form, table_of}

@@ -1,14 +1,12 @@
 -- What look-ups keep, and what they tell.
-use Rattle.std.proofs.Common.{◌≡◌, ◌∙◌, Bool, false, Result, IfOk, OnOk, Option, List, ℕ, refl, sym, ap, subst, inl, arith}
+use Rattle.std.proofs.Common.{◌≡◌, Bool, Result, IfOk, subst, arith}
 use Rattle.std.proofs.lemmas.Result.{IfOk-weaker}
 use Rattle.sqlite.specs.Effect.{Database}
-use Rattle.sqlite.specs.Order.{Row}
 use Rattle.sqlite.specs.State as store
 use Rattle.sqlite.specs.State.{HasCleanDisk, Survives}
 use Rattle.plant_base.specs.State.{newest_schema}
 use Rattle.plant_view.specs.Tables.{tables_of}
 use Rattle.plant_good.specs.Good.{IsGood}
-use Rattle.table_forms.specs.Forms.{Form}
 use Rattle.plant_tables.specs.Keyed.{HoldsTables}
 use Rattle.plant_keyed.specs.Keeping.{IsHonest, IsSteady, IsTold}
 use Rattle.plant_keyed.specs.Steadily.{steady_along}

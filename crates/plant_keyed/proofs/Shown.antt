@@ -1,7 +1,7 @@
 -- A database that holds the tables of a good state shows that state.
-use Rattle.std.proofs.Common.{◌≡◌, refl, sym, ap, ◌∙◌, subst, ℕ, List, [], ◌∷◌, map, drop, Option, Some, None, arith}
+use Rattle.std.proofs.Common.{◌≡◌, refl, sym, ap, ◌∙◌, subst, List, [], ◌∷◌, map, drop, Option, Some, None, arith}
 use Rattle.std.specs.List.{AllByRecursion, filter_map, cons_option}
-use Rattle.std.specs.Prelude.{unwrap_or, option_map}
+use Rattle.std.specs.Prelude.{option_map}
 use Rattle.std.specs.List.Sorted.{IsStrictlySortedBy, IsPermutation}
 use Rattle.std.specs.Cmp.{IsTotalOrder}
 use Rattle.std.specs.declared.cmp.Ordering.{Ordering}
@@ -17,7 +17,6 @@ use Rattle.plant_base.specs.declared.rows.ControlLine.{ControlLine}
 use Rattle.plant_base.specs.declared.rows.BatchEvent.{BatchEvent}
 use Rattle.plant_base.specs.declared.rows.Movement.{Movement}
 use Rattle.plant_base.specs.declared.rows.Place.{Place}
-use Rattle.plant_base.specs.declared.rows.Meta.{Meta}
 use Rattle.plant_base.specs.RowValues.{HasClassValues, HasDefinitionValues, HasLotValues, HasHoldValues}
 use Rattle.plant_view.specs.Tables.{Tables, tables_of, position_of, batch_row, sublot_row, place_of_row, batch_row_order, sublot_order}
 use Rattle.plant_good.specs.Good.{IsGood}
@@ -27,7 +26,6 @@ use Rattle.plant_tables.specs.Encoding.{row_of_meta, row_of_class, row_of_defini
 use Rattle.plant_tables.specs.DeskForms.{meta_form, class_form, definition_form, recipe_form, recipe_line_form, job_form, batch_form, control_line_form, batch_event_form, lot_form, sublot_form, movement_form, hold_form}
 use Rattle.plant_tables.specs.Keyed.{HoldsTables}
 use Rattle.plant_tables_columns.specs.Judging.{only_meta, class_from, definition_from, recipe_from, master_line_from, job_from, batch_from, control_line_from, batch_event_from, lot_from, sublot_from, movement_read, hold_from}
-use Rattle.plant_tables_columns.specs.Booked.{movement_from}
 use Rattle.plant_tables_columns.specs.Obeying.{HasRecipeValues, HasMasterLineValues, HasJobValues, HasBatchRowValues, HasControlLineValues, HasEventRowValues, HasSublotValues, HasMovementRowValues, HasGoodValues}
 use Rattle.plant_tables_columns.proofs.KindLemmas as kinds
 use Rattle.plant_tables_columns.proofs.RowLaws.{meta_reads, class_reads, definition_reads, recipe_reads, job_reads, batch_reads, event_reads, lot_reads, sublot_reads, hold_reads, master_line_again, control_line_again, movement_row_again}

@@ -1,5 +1,5 @@
 -- The movements that name a node, and their edges.
-use Rattle.std.specs.Prelude.{◌≡◌, ℕ, Bool, List, Option, None, Some, Contains}
+use Rattle.std.specs.Prelude.{◌≡◌, ℕ, Bool, List, Contains}
 use Rattle.plant_base.specs.declared.rows.Movement.{Movement}
 use Rattle.plant_tables_columns.specs.Booked.{other_lot}
 use Rattle.plant_trace.specs.Turned.{turned}

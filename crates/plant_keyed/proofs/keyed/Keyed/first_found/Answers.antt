@@ -1,4 +1,4 @@
-use Rattle.std.proofs.Common.{◌∙◌, Option, IfSome, ap, slice_get, subst, sym}
+use Rattle.std.proofs.Common.{◌∙◌, IfSome, ap, slice_get, subst, sym}
 use Rattle.plant_keyed.specs.Finding.{IsJudged}
 use Rattle.plant_keyed.proofs.Judging.{first_judged}
 use Rattle.plant_keyed.proofs.keyed.Keyed.first_found.Goals as goal

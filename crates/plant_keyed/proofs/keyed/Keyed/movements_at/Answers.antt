@@ -1,4 +1,4 @@
-use Rattle.std.proofs.Common.{List, IfOk, sym, subst}
+use Rattle.std.proofs.Common.{List, sym, subst}
 use Rattle.std.proofs.lemmas.Result.{IfOk-weaker}
 use Rattle.sqlite.specs.Held.{state}
 use Rattle.plant_base.specs.declared.rows.Movement.{Movement}

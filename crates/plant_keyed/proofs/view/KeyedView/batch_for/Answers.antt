@@ -1,4 +1,4 @@
-use Rattle.std.proofs.Common.{◌≡◌, ◌∙◌, refl, [], ◌∷◌, Option, ap, sym}
+use Rattle.std.proofs.Common.{◌∙◌, refl, [], ◌∷◌, ap, sym}
 use Rattle.std.specs.Prelude.{option_map}
 use Rattle.sqlite.specs.Held.{state}
 use Rattle.plant_base.specs.State.{batch_of}

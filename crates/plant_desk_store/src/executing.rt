@@ -80,9 +80,10 @@ fn execute_decided<S: Alter>(
     // The checker can't follow row changes, unless the function names these types.
     let _: Option<(RecipeLine, MasterLine, ControlLine, Movement, MovementKind)> = None;
     envelope.show_values();
-    match decided.decision {
+    let Decided { seq, decision } = decided;
+    match decision {
         Decision::Refused(refusal) => Ok(Reply::Refused(refusal)),
-        Decision::Change(changes) => commit_on(connection, decided.seq, changes.as_slice()),
+        Decision::Change(changes) => commit_on(connection, seq, changes.as_slice()),
     }
 }
 

@@ -121,9 +121,10 @@ fn answer_over<S: Alter>(
     ensures open { IfErr result (λ fault. fault ≢ DeskFault.Shut) }
 {
     // A position that was read shows that the connection is open.
-    if let Err(fault) = view.read_position() {
-        return Err(fault_of(fault));
-    }
+    let _position = match view.read_position() {
+        Ok(position) => position,
+        Err(fault) => return Err(fault_of(fault)),
+    };
     let answer = match answer(alloc, view, question) {
         Ok(answer) => answer,
         Err(fault) => return Err(fault_in(fault)),

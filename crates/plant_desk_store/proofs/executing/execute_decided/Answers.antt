@@ -15,8 +15,8 @@ pub returns-in-Refused-clause-executed : goal.returns-in-Refused-clause-executed
 returns-in-Refused-clause-executed g c clean s at live is =
     refused s (state g.S.Store c.args.connection.now) c.args.envelope.now c.in-Refused.refusal (rw c.in-Refused.is at is.decides) at
 
-pub returns-clause-executed : goal.returns-clause-executed
-returns-clause-executed g c clean s at live is =
+pub returns-in-Change-clause-executed : goal.returns-in-Change-clause-executed
+returns-in-Change-clause-executed g c clean s at live is =
     let e = c.args.envelope.now in
     let decided = rw c.in-Change.is at is.decides in
     let rows : c.in-Change.changes ≡ c.as_slice.result.now = search rules in
@@ -29,8 +29,8 @@ returns-clause-executed g c clean s at live is =
     committed s (state g.S.Store c.commit_on.new.connection) e c.commit_on.result decided.0 reply c.commit_on.ensures.fault
     (c.commit_on.ensures.accepted clean s (step s e) at live good leads added) (c.commit_on.ensures.cut_short clean s (step s e) at live good leads added)
 
-pub returns-clause-others : goal.returns-clause-others
-returns-clause-others g c clean s at live is before others =
+pub returns-in-Change-clause-others : goal.returns-in-Change-clause-others
+returns-in-Change-clause-others g c clean s at live is before others =
     let e = c.args.envelope.now in
     let decided = rw c.in-Change.is at is.decides in
     let rows : c.in-Change.changes ≡ c.as_slice.result.now = search rules in

@@ -13,4 +13,4 @@ returns-clause-answers g c clean s at =
     let first = c.in-Ok.ensures.told in
     let second = c.in-Ok-answer.ensures in
     let honest = honest_at old mid new c.args.view.now.has_failed c.read_position.new.self.has_failed c.answer.new.view.has_failed s first.always second.always.1 clean c.if-view.false c.in-Ok.ensures.live at in
-    subst (λ (u : State). c.in-Ok-answer.answer ≡ answer newest_schema u c.args.question.now) honest.shows (second.holds honest.ends honest.ends.good.sound)
+    subst (λ (u : State). c.in-Ok-answer.answer ≡ answer newest_schema u c.args.question.now) honest.shows (second.holds honest.ends (second.before honest.ends).good.sound)

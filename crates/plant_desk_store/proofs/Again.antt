@@ -1,5 +1,5 @@
 -- The tables of a good state are adopted again.
-use Rattle.std.proofs.Common.{◌≡◌, ◌∙◌, ◌<◌, ◌≤◌, ◌||◌, ℕ, ◌^◌, ℤ, pos, List, [], ◌∷◌, Bool, true, false, Option, Some, None, is_some, slice_get, inl, inr, refl, sym, ap, subst, arith}
+use Rattle.std.proofs.Common.{◌≡◌, ◌∙◌, ◌<◌, ◌≤◌, ℕ, ◌^◌, pos, List, [], ◌∷◌, inl, inr, refl, sym, arith}
 use Rattle.std.specs.Prelude.{◌⊎◌, All}
 use Rattle.std.specs.Int.Signed.{◌≤ℤ◌, le_z_yes}
 use Rattle.std.proofs.lemmas.Bool.Decides.{nat_tests}

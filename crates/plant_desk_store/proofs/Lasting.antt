@@ -9,7 +9,7 @@ use Rattle.plant_desk.specs.Runs.{fold}
 use Rattle.plant_desk.specs.declared.reply.Reply.{Reply}
 use Rattle.plant_desk.specs.declared.reply.DeskFault.{DeskFault}
 use Rattle.plant_desk.specs.declared.reply.DeskFault.TheVariants.{Store, Memory, Shut}
-use Rattle.plant_desk_store.specs.Running.{Ran, RunEnds}
+use Rattle.plant_desk_store.specs.Running.{Ran}
 use Rattle.plant_desk_store.specs.Standing.{Stands}
 
 pub ends_good : (c : store.State) (s : State) (list : List Envelope) (answered : List Reply) (end : Option DeskFault) (leaves : States → Type 0) (shut : Bool) → Ran s list answered end (Stands c shut) leaves shut

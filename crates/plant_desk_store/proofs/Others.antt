@@ -1,6 +1,5 @@
 -- Tables of other names, as a store shows them and as a stop leaves them.
-use Rattle.std.proofs.Common.{◌≡◌, ◌∙◌, Bool, true, false, Result, Ok, Err, inl, inr, refl, sym, ap, subst, IsTrue}
-use Rattle.std.specs.Prelude.{◌⊎◌}
+use Rattle.std.proofs.Common.{◌≡◌, ◌∙◌, Bool, false, Result, Ok, Err, inl, inr, refl, sym, ap, subst, IsTrue}
 use Rattle.sqlite.specs.Tree.{Trees}
 use Rattle.sqlite.specs.Schema.{Schema}
 use Rattle.sqlite.specs.Effect.{Database, IsDatabase}
@@ -8,7 +7,6 @@ use Rattle.sqlite.specs.State as store
 use Rattle.sqlite.specs.State.{HasCleanDisk, Survives}
 use Rattle.sqlite_catalog.specs.Listing.{IsSound}
 use Rattle.plant_view.specs.Tables.{Tables}
-use Rattle.table_forms.specs.Forms.{Form}
 use Rattle.table_forms.specs.Standing.{KeepsOthers}
 use Rattle.table_forms.specs.Resting.{Keeps}
 use Rattle.table_forms.specs.Stopping.{IsSettled}

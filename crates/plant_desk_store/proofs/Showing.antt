@@ -1,5 +1,5 @@
 -- Look-ups over a store that stands at a state are honest, and show that state.
-use Rattle.std.proofs.Common.{◌≡◌, ◌∙◌, Bool, false, IsTrue, refl, sym, subst, arith}
+use Rattle.std.proofs.Common.{◌≡◌, ◌∙◌, Bool, false, IsTrue, sym, subst, arith}
 use Rattle.sqlite.specs.Effect.{Database}
 use Rattle.sqlite.specs.State as store
 use Rattle.sqlite.specs.State.{HasCleanDisk}

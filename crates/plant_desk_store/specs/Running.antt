@@ -2,9 +2,6 @@
 use Rattle.std.specs.Prelude.{◌≡◌, ◌⊎◌, ℕ, Bool, true, false, List, take, slice_get, length, Option, Some, None}
 use Rattle.plant_base.specs.State.{State}
 use Rattle.plant_base.specs.declared.command.Envelope.{Envelope}
-use Rattle.plant_trace.specs.Reach.{IsAcyclic}
-use Rattle.plant_view.specs.Conserve.{IsConserved, IsBalanced}
-use Rattle.plant_view.specs.Genealogy.{edges_of}
 use Rattle.plant_rules.specs.Step.{step}
 use Rattle.plant_desk.specs.Keeping.{States}
 use Rattle.plant_desk.specs.Runs.{fold, replies}

@@ -1,10 +1,9 @@
-use Rattle.std.proofs.Common.{◌≡◌, ◌∙◌, sym, subst, refl, inl, pos, ℤ, IfErr, OnOk, rules, arith}
+use Rattle.std.proofs.Common.{◌∙◌, sym, subst, refl, inl, pos, ℤ, IfErr, OnOk, rules, arith}
 use Rattle.sqlite.specs.Effect.{Database}
 use Rattle.sqlite.specs.Held.{state}
 use Rattle.sqlite.specs.State.{HasCleanDisk, Survives}
 use Rattle.sqlite.proofs.StateLemmas.{survives_then}
 use Rattle.table_forms.proofs.Ending.{IsStore}
-use Rattle.table_forms.specs.Stopping.{IsSettled}
 use Rattle.plant_base.specs.State.{newest_schema}
 use Rattle.plant_view.specs.Tables.{tables_of}
 use Rattle.plant_tables.specs.Keyed.{HoldsTables}

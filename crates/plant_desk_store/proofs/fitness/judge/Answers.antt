@@ -1,4 +1,4 @@
-use Rattle.std.proofs.Common.{◌≡◌, true, false, None, Some, is_some, sym, rules}
+use Rattle.std.proofs.Common.{◌≡◌, true, false, None, Some, is_some, rules}
 use Rattle.plant_tables_stored.specs.Loading.{contents_loaded}
 use Rattle.plant_tables_judged.specs.Collecting.{rows_from, rows_listed}
 use Rattle.plant_tables_columns.specs.Judging.{only_meta}

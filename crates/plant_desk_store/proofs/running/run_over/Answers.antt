@@ -1,8 +1,6 @@
-use Rattle.std.proofs.Common.{◌≡◌, ◌∙◌, ◌++◌, ◌∷◌, [], sym, subst, take, arith}
+use Rattle.std.proofs.Common.{◌∙◌, ◌++◌, ◌∷◌, [], sym, subst, take, arith}
 use Rattle.std.proofs.lemmas.Grind.{common_steps}
-use Rattle.plant_base.specs.State.{State}
-use Rattle.plant_desk.specs.Replies.{reply}
-use Rattle.plant_desk.specs.Runs.{fold, replies}
+use Rattle.plant_desk.specs.Runs.{fold}
 use Rattle.plant_desk.proofs.Same.{same_after}
 use Rattle.plant_desk.proofs.Turns.{fold_more, replies_more}
 use Rattle.plant_desk_store.proofs.running.run_over.Goals as goal

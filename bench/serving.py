@@ -3,8 +3,9 @@
     serving.py PROGRAM FOLDER QUESTIONS COMMANDS
 
 Each request is a connection of its own, made when the one before it has been answered, by a client over plain sockets in this process:
-its own time is in every figure of a server. How much that is shows the last server, which does nothing but accept, read once,
-write a text that it holds and close. The file is in FOLDER. Commands are receipts of one definition, each of a lot of its own; then
+its own time is in every figure of a server, but in that of the server's own processor, which tells how many requests a second one core
+would serve that did nothing else. How much the client takes shows the last server, which does nothing but accept, read once, write a
+text that it holds and close. The file is in FOLDER. Commands are receipts of one definition, each of a lot of its own; then
 questions ask about those lots in turn. What `run` does is measured from its start to its end.
 """
 import http.server
@@ -64,18 +65,24 @@ def await_answer(port, request, server):
             time.sleep(0.02)
 
 
-def told_of(name, count, seconds):
-    print(f"{name}: {count} in {seconds:.2f} s, {count / seconds:.0f} a second", flush=True)
+def told_of(name, count, seconds, of_processor=None):
+    own = f"; its own processor would do {count / of_processor:.0f}" if of_processor else ""
+    print(f"{name}: {count} in {seconds:.2f} s, {count / seconds:.0f} a second{own}", flush=True)
 
 
-def timed(name, port, requests, wanted):
+def processor_seconds(process):
+    """Returns how long a process has had a processor."""
+    return int(pathlib.Path(f"/proc/{process.pid}/schedstat").read_text().split()[0]) / 1e9
+
+
+def timed(name, port, requests, wanted, server):
     """Sends requests, each of whose answers has to have a text in it."""
-    start = time.monotonic()
+    start, had = time.monotonic(), processor_seconds(server)
     for request in requests:
         text = answer(port, request)
         if wanted not in text:
             sys.exit(f"{name}: {request} was answered {text}")
-    told_of(name, len(requests), time.monotonic() - start)
+    told_of(name, len(requests), time.monotonic() - start, processor_seconds(server) - had)
 
 
 def serve(program, file, name, questions, commands):
@@ -87,11 +94,11 @@ def serve(program, file, name, questions, commands):
     server = subprocess.Popen([program, "serve", file, str(port), str(count)])
     try:
         await_answer(port, asked(b"desk"), server)
-        timed(f"{name}, questions about an empty desk", port, about_desk, b'"seq":0}')
+        timed(f"{name}, questions about an empty desk", port, about_desk, b'"seq":0}', server)
         for it in PREPARED:
             answer(port, told(it))
-        timed(f"{name}, commands", port, [told(receipt(it + 1)) for it in range(commands)], b'"ok":')
-        timed(f"{name}, questions about {commands} lots", port, about_lots, b'"stock":500,')
+        timed(f"{name}, commands", port, [told(receipt(it + 1)) for it in range(commands)], b'"ok":', server)
+        timed(f"{name}, questions about {commands} lots", port, about_lots, b'"stock":500,', server)
         last = answer(port, about_lots[0])
         if server.wait(SECONDS) != 0:
             sys.exit(f"{name} ended with status {server.returncode}")
@@ -153,7 +160,7 @@ def other(name, word, text, questions):
         server.stdin.write(text)
         server.stdin.close()
         await_answer(port, asked(b"desk"), server)
-        timed(name, port, [asked(b"desk")] * questions, text.rpartition(b"\r\n\r\n")[2])
+        timed(name, port, [asked(b"desk")] * questions, text.rpartition(b"\r\n\r\n")[2], server)
     finally:
         server.kill()
 

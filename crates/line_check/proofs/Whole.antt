@@ -19,7 +19,7 @@ use Rattle.plant_text.specs.Batches.{command_word, batch_of, settle_of, phase_do
 use Rattle.plant_text.specs.Lists.{each_item, items_at, part_of, order_of, input_of, output_of, parameter_of, phase_of, line_for, line_of}
 use Rattle.plant_text.specs.Plans.{header_of, add_recipe_of, approve_of, withdraw_of, import_orders_of, cancel_order_of, release_of}
 use Rattle.plant_text.specs.Commands.{add_class_of, add_definition_of, receive_of, scrap_of, divide_of, split_of, merge_of, hold_of, unhold_of, body_of, envelope_of}
-use Rattle.plant_text.specs.Questions.{named, lot_or_batch, traced, question_for, question_of}
+use Rattle.plant_text.specs.Questions.{named_id, lot_or_batch, traced_node, question_for, question_of}
 use Rattle.plant_text.specs.Lines.{shape_of, longest_line, line_of as line_of_text}
 use Rattle.plant_text.specs.declared.read.Line.{Line}
 use Rattle.plant_text.specs.declared.read.Line.TheVariants as L
@@ -640,7 +640,7 @@ TellsAsk d ms known o = shape_flaw (unwrap_or ms (m.Ask ∷ [])) d ≡ None → 
 ask_first : (d : Data) → shape_flaw (m.Ask ∷ []) d ≡ None → flaw_at m.Ask d ≡ None
 ask_first d e = (none_both (flaw_at m.Ask d) _ (none_both (first_flaw (m.Ask ∷ []) d) _ e).0).0
 
-named-here : (which : Member) (d : Data) → rule_of which ≡ rule.Id → may_lack which ≡ false → shape_flaw (m.Ask ∷ which ∷ []) d ≡ None → Here (named (name_of which) d)
+named-here : (which : Member) (d : Data) → rule_of which ≡ rule.Id → may_lack which ≡ false → shape_flaw (m.Ask ∷ which ∷ []) d ≡ None → Here (named_id (name_of which) d)
 named-here which d same need e =
     let f = none_both (flaw_at m.Ask d) _ (none_both (first_flaw (m.Ask ∷ which ∷ []) d) _ e).0 in
     let g = none_both (flaw_at which d) _ f.1 in
@@ -654,9 +654,9 @@ batch_there : (a b : Option (List ℕ)) → Here b → Here (lot_or_batch a b)
 batch_there None b h = here_map _ b h
 batch_there (Some x) b h = tt
 
-traced_by : (d : Data) (b : Bool) → shape_flaw (cond b (m.Ask ∷ m.Lot ∷ []) (m.Ask ∷ m.Batch ∷ [])) d ≡ None → Here (traced d)
-traced_by d true e = lot_there (named (codes "lot") d) (named (codes "batch") d) (named-here m.Lot d refl refl e)
-traced_by d false e = batch_there (named (codes "lot") d) (named (codes "batch") d) (named-here m.Batch d refl refl e)
+traced_by : (d : Data) (b : Bool) → shape_flaw (cond b (m.Ask ∷ m.Lot ∷ []) (m.Ask ∷ m.Batch ∷ [])) d ≡ None → Here (traced_node d)
+traced_by d true e = lot_there (named_id (codes "lot") d) (named_id (codes "batch") d) (named-here m.Lot d refl refl e)
+traced_by d false e = batch_there (named_id (codes "lot") d) (named_id (codes "batch") d) (named-here m.Batch d refl refl e)
 
 question_by : (word : List ℕ) (d : Data) → TellsAsk d (members_of_question word d) (members_of_question word null) (question_for word d)
 question_by word d =

@@ -1,5 +1,5 @@
 #!/usr/bin/env python3
-"""Prints docs/READING.md: the definitions that the headline rests on, file by file in the order of crates.txt.
+"""Prints docs/READING.md: the definitions that the headline rests on, file by file, each behind those that it builds on.
 
 It begins at the words that the headline's clauses name, and follows each definition to those that it names, through the
 files of definitions of this repository. Usage: bench/reading_list.py > docs/READING.md, at the root of the repository."""
@@ -61,6 +61,22 @@ def named_in(files, module, name):
                 yield module_of, it
 
 
+def in_order(modules, files, crates):
+    """The files crate by crate, and in a crate each behind those that it imports."""
+    rows = []
+
+    def add(module):
+        if module not in rows:
+            for below in sorted(set(files[module].imports.values()) | set(files[module].aliases.values())):
+                if below in modules and below.split(".")[0] == module.split(".")[0]:
+                    add(below)
+            rows.append(module)
+
+    for module in sorted(modules, key=lambda it: (crates.index(it.split(".")[0]), it)):
+        add(module)
+    return rows
+
+
 def main():
     files = read_files()
     todo = [(f"{crate}.specs.{file}", name) for key, names in WORDS.items() for crate, file in [key.split(".")] for name in names]
@@ -74,9 +90,9 @@ def main():
             found.add(it)
             todo += named_in(files, *it)
     with open("crates.txt", encoding="utf-8") as it:
-        order = [line.split(":")[0] for line in it if ":" in line and not line.startswith("#")]
+        crates = [line.split(":")[0] for line in it if ":" in line and not line.startswith("#")]
     rows = []
-    for module in sorted({module for module, _ in found}, key=lambda it: (order.index(it.split(".")[0]), it)):
+    for module in in_order({module for module, _ in found}, files, crates):
         names = [name for of, name in found if of == module]
         lines = sum(files[module].defined[name][1] for name in names)
         crate, _, file = module.split(".", 2)

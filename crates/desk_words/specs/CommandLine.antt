@@ -1,5 +1,5 @@
 -- The command line of the program, as a value.
-use Rattle.std.specs.Prelude.{◌≡◌, ℕ, Bool, true, false, List, [], ◌∷◌, Some, codes, pos}
+use Rattle.std.specs.Prelude.{◌≡◌, ℕ, true, false, [], ◌∷◌, Some, codes, pos}
 use Rattle.clap.specs.declared.builder.command.Command.{Command}
 use Rattle.clap.specs.declared.builder.command.Command.TheViews.{out-Command}
 use Rattle.clap.specs.declared.builder.value_parser.ValueParser.{ValueParser}
@@ -17,16 +17,16 @@ most_connections = 1000000
 -- ---- arguments
 
 -- an argument that has to be there
-abbrev pub wanted_rule : Text → Rule
-wanted_rule id = record (new_rule id) { required = true; value_names = 1 }
+abbrev pub required_rule : Text → Rule
+required_rule id = record (new_rule id) { required = true; value_names = 1 }
 
 -- a number that has to be there
 abbrev pub number_rule : Text → ValueParser → Rule
-number_rule id p = record (wanted_rule id) { parser = Some p }
+number_rule id p = record (required_rule id) { parser = Some p }
 
 -- the name of a file
 abbrev pub file_rule : Rule
-file_rule = wanted_rule (codes "file")
+file_rule = required_rule (codes "file")
 
 -- when the orders came
 abbrev pub at_rule : Rule
@@ -56,10 +56,10 @@ abbrev pub import_app : App
 import_app = with_rule (with_rule (word_app (codes "import")) at_rule) by_rule
 
 abbrev pub trace_app : App
-trace_app = with_rule (with_rule (word_app (codes "trace")) (wanted_rule (codes "direction"))) (wanted_rule (codes "lot"))
+trace_app = with_rule (with_rule (word_app (codes "trace")) (required_rule (codes "direction"))) (required_rule (codes "lot"))
 
 abbrev pub record_app : App
-record_app = with_rule (word_app (codes "record")) (wanted_rule (codes "batch"))
+record_app = with_rule (word_app (codes "record")) (required_rule (codes "batch"))
 
 abbrev pub serve_app : App
 serve_app = with_rule (with_rule (word_app (codes "serve")) port_rule) count_rule

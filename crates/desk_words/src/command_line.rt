@@ -1,7 +1,10 @@
 //! The command line, as clap is told it.
 ghost use Rattle.std.specs.Prelude.{◌≡◌, IfOk, codes, false};
 ghost use Rattle.clap.specs.Words.{app_of, rule_of};
-ghost use Rattle.desk_words.specs.CommandLine.{bare_program, import_app, count_rule, port_rule, record_app, serve_app, the_program, trace_app, wanted_rule, word_app, at_rule, by_rule, IsLocal};
+ghost use Rattle.desk_words.specs.CommandLine.{bare_program, import_app, count_rule, port_rule, record_app};
+ghost use Rattle.desk_words.specs.CommandLine.{serve_app, the_program, trace_app, required_rule, word_app};
+ghost use Rattle.desk_words.specs.CommandLine.{at_rule};
+ghost use Rattle.desk_words.specs.CommandLine.{by_rule, IsLocal};
 
 use clap::{Arg, Command, value_parser};
 use plant_base::GREATEST_MOMENT;
@@ -11,8 +14,8 @@ use std::alloc::{AllocError, Global};
 const VERSION: &str = "1.0.0";
 
 /// An argument that has to be there.
-fn wanted<'a>(alloc: Global, id: &'a str, name: &'a str, help: &'a str) -> Arg<'a>
-    ensures rule { rule_of result ≡ wanted_rule id.entry.now }
+fn required_argument<'a>(alloc: Global, id: &'a str, name: &'a str, help: &'a str) -> Arg<'a>
+    ensures rule { rule_of result ≡ required_rule id.entry.now }
     ensures local { result.global ≡ false }
 {
     Arg::new(alloc, id)
@@ -23,10 +26,10 @@ fn wanted<'a>(alloc: Global, id: &'a str, name: &'a str, help: &'a str) -> Arg<'
 
 /// The name of the file, which has to be there.
 fn file_argument<'a>(alloc: Global) -> Arg<'a>
-    ensures rule { rule_of result ≡ wanted_rule (codes "file") }
+    ensures rule { rule_of result ≡ required_rule (codes "file") }
     ensures local { result.global ≡ false }
 {
-    wanted(
+    required_argument(
         alloc,
         "file",
         "FILE",
@@ -120,13 +123,13 @@ fn trace_command<'a>(alloc: Global) -> Result<Command<'a>, AllocError>
     ensures app { IfOk result (λ c. app_of c ≡ trace_app) }
     ensures local { IfOk result (λ c. IsLocal c) }
 {
-    let direction = wanted(
+    let direction = required_argument(
         alloc,
         "direction",
         "DIRECTION",
         "back: what the lot was made from; forward: where it went",
     );
-    let lot = wanted(alloc, "lot", "LOT", "The id of the lot");
+    let lot = required_argument(alloc, "lot", "LOT", "The id of the lot");
     word_command(
         alloc,
         "trace",
@@ -142,7 +145,7 @@ fn record_command<'a>(alloc: Global) -> Result<Command<'a>, AllocError>
     ensures app { IfOk result (λ c. app_of c ≡ record_app) }
     ensures local { IfOk result (λ c. IsLocal c) }
 {
-    let batch = wanted(alloc, "batch", "BATCH", "The id of the batch");
+    let batch = required_argument(alloc, "batch", "BATCH", "The id of the batch");
     word_command(
         alloc,
         "record",

@@ -1,7 +1,8 @@
 //! What the words of the command line mean, as clap matched them.
 ghost use Rattle.std.specs.Prelude.{◌≡◌, option_map};
 ghost use Rattle.clap.specs.Words.{found_of, rows_of, subcommand_rows_of};
-ghost use Rattle.desk_words.specs.Meaning.{import_in, meant_by, meant_in, record_in, serving_in, trace_in, words_meant, work_in};
+ghost use Rattle.desk_words.specs.Meaning.{import_in, meant_by, meant_in, record_in, serving_in, trace_in};
+ghost use Rattle.desk_words.specs.Meaning.{words_meant, work_in};
 
 use crate::meaning::{Serving, Task, Words, Work};
 use crate::values::{direction_at, id_at, moment_at, number_at, text_at, value_of};

@@ -14,33 +14,33 @@ use Rattle.line_check.specs.declared.judge.Verdict.TheVariants as verdict
 use Rattle.line_check.specs.declared.lines.Tally.{Tally}
 use Rattle.line_check.specs.declared.lines.Fault.{Fault}
 use Rattle.line_check.specs.Verdicts.{verdict_of}
-use Rattle.line_check.specs.Report.{verdicts, line_text, texts, counted, tally_after, end_text, no_lines, report, some_bad, verdicts_after, Told}
+use Rattle.line_check.specs.Report.{verdicts, line_text, texts, tally_with, tally_after, end_text, no_lines, report, some_bad, verdicts_after, Told}
 use Rattle.line_check.proofs.Judging.{verdict_empty}
 use Rattle.line_check.proofs.Pieces.{verdicts_after-append, ended_verdicts, last_verdict}
 
 -- one verdict counts one line
-lines_counted : (t : Tally) (v : Verdict) → (counted t v).lines ≡ t.lines + 1
-lines_counted t verdict.Nothing = refl
-lines_counted t verdict.Command = refl
-lines_counted t verdict.Question = refl
-lines_counted t (verdict.Bad p) = refl
+tally_with_lines : (t : Tally) (v : Verdict) → (tally_with t v).lines ≡ t.lines + 1
+tally_with_lines t verdict.Nothing = refl
+tally_with_lines t verdict.Command = refl
+tally_with_lines t verdict.Question = refl
+tally_with_lines t (verdict.Bad p) = refl
 
 tally_after-append : (t : Tally) (xs ys : List Verdict) → tally_after t (xs ++ ys) ≡ tally_after (tally_after t xs) ys
 tally_after-append t [] ys = refl
-tally_after-append t (v ∷ xs) ys = tally_after-append (counted t v) xs ys
+tally_after-append t (v ∷ xs) ys = tally_after-append (tally_with t v) xs ys
 
 texts-append : (t : Tally) (xs ys : List Verdict) → texts t.lines (xs ++ ys) ≡ texts t.lines xs ++ texts (tally_after t xs).lines ys
 texts-append t [] ys = refl
 texts-append t (v ∷ xs) ys =
     ap (λ zs. line_text (t.lines + 1) v ++ zs)
-    (ap (λ n. texts n (xs ++ ys)) (sym (lines_counted t v)) ∙ texts-append (counted t v) xs ys
-    ∙ ap (λ n. texts n xs ++ texts (tally_after (counted t v) xs).lines ys) (lines_counted t v))
-    ∙ sym (append_assoc (line_text (t.lines + 1) v) (texts (t.lines + 1) xs) (texts (tally_after (counted t v) xs).lines ys))
+    (ap (λ n. texts n (xs ++ ys)) (sym (tally_with_lines t v)) ∙ texts-append (tally_with t v) xs ys
+    ∙ ap (λ n. texts n xs ++ texts (tally_after (tally_with t v) xs).lines ys) (tally_with_lines t v))
+    ∙ sym (append_assoc (line_text (t.lines + 1) v) (texts (t.lines + 1) xs) (texts (tally_after (tally_with t v) xs).lines ys))
 
 pub told_nothing : (t : Tally) (a : Option (List ℕ)) → Told t [] a a t
 told_nothing t a = record { text = Appends-nil a; tally = refl }
 
-pub told_one : (t now : Tally) (v : Verdict) (a b : Option (List ℕ)) → now ≡ counted t v → Appends a b (line_text (t.lines + 1) v) → Told t (v ∷ []) a b now
+pub told_one : (t now : Tally) (v : Verdict) (a b : Option (List ℕ)) → now ≡ tally_with t v → Appends a b (line_text (t.lines + 1) v) → Told t (v ∷ []) a b now
 told_one t now v a b e h = record { text = rw (append-nil (line_text (t.lines + 1) v)) h; tally = e }
 
 pub told_more : (t mid now : Tally) (xs ys : List Verdict) (a b c : Option (List ℕ)) → Told t xs a b mid → Told mid ys b c now → Told t (xs ++ ys) a c now
@@ -72,7 +72,7 @@ record Ended (ls : List (List ℕ)) (a b : Option (List ℕ)) (now : Tally) : Ty
 
 ended_trim : (ls : List (List ℕ)) (a b : Option (List ℕ)) (now : Tally) → Told no_lines (verdicts ls ++ verdict.Nothing ∷ []) a b now → Ended ls a b now
 ended_trim ls a b now x =
-    let tally : now ≡ counted (tally_after no_lines (verdicts ls)) verdict.Nothing = x.tally ∙ tally_after-append no_lines (verdicts ls) (verdict.Nothing ∷ []) in
+    let tally : now ≡ tally_with (tally_after no_lines (verdicts ls)) verdict.Nothing = x.tally ∙ tally_after-append no_lines (verdicts ls) (verdict.Nothing ∷ []) in
     record {
       text = subst (λ (text : List ℕ). Appends a b text) (texts-append no_lines (verdicts ls) (verdict.Nothing ∷ []) ∙ append-nil (texts 0 (verdicts ls))) x.text;
       end = ap end_text tally;

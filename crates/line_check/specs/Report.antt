@@ -33,15 +33,15 @@ texts before [] = []
 texts before (v ∷ vs) = line_text (before + 1) v ++ texts (before + 1) vs
 
 -- a line more
-abbrev pub counted : Tally → Verdict → Tally
-counted t verdict.Nothing = record { lines = t.lines + 1; commands = t.commands; questions = t.questions; bad = t.bad }
-counted t verdict.Command = record { lines = t.lines + 1; commands = t.commands + 1; questions = t.questions; bad = t.bad }
-counted t verdict.Question = record { lines = t.lines + 1; commands = t.commands; questions = t.questions + 1; bad = t.bad }
-counted t (verdict.Bad p) = record { lines = t.lines + 1; commands = t.commands; questions = t.questions; bad = true }
+abbrev pub tally_with : Tally → Verdict → Tally
+tally_with t verdict.Nothing = record { lines = t.lines + 1; commands = t.commands; questions = t.questions; bad = t.bad }
+tally_with t verdict.Command = record { lines = t.lines + 1; commands = t.commands + 1; questions = t.questions; bad = t.bad }
+tally_with t verdict.Question = record { lines = t.lines + 1; commands = t.commands; questions = t.questions + 1; bad = t.bad }
+tally_with t (verdict.Bad p) = record { lines = t.lines + 1; commands = t.commands; questions = t.questions; bad = true }
 
 abbrev pub tally_after : Tally → List Verdict → Tally
 tally_after t [] = t
-tally_after t (v ∷ vs) = tally_after (counted t v) vs
+tally_after t (v ∷ vs) = tally_after (tally_with t v) vs
 
 abbrev pub counts_text : Tally → List ℕ
 counts_text t = decimal t.commands ++ codes " commands, " ++ decimal t.questions ++ codes " questions"

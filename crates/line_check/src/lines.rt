@@ -5,7 +5,9 @@ ghost use Rattle.std.specs.Io.KnownBytes.{Appends, Consumes, IsAtEnd};
 ghost use Rattle.plant_text.specs.Held.{held_with, held_after};
 ghost use Rattle.plant_text.specs.Writes.{with_lf};
 ghost use Rattle.line_check.specs.Verdicts.{verdict_of};
-ghost use Rattle.line_check.specs.Report.{told_text, line_text, counted, counts_text, end_text, no_lines, report, some_bad, verdicts_after, Told};
+ghost use Rattle.line_check.specs.Report.{told_text, line_text, tally_with, counts_text, end_text, no_lines};
+ghost use Rattle.line_check.specs.Report.{report};
+ghost use Rattle.line_check.specs.Report.{some_bad, verdicts_after, Told};
 
 use crate::judge::{NoMemory, Verdict, judge};
 use crate::problems::Problem;
@@ -119,8 +121,8 @@ fn next(number: u64) -> Result<u64, Fault>
 }
 
 /// Counts a line more.
-fn counted(tally: Tally, verdict: Verdict) -> Result<Tally, Fault>
-    ensures { IfOk result (λ now. now ≡ counted tally verdict) }
+fn tally_with(tally: Tally, verdict: Verdict) -> Result<Tally, Fault>
+    ensures { IfOk result (λ now. now ≡ tally_with tally verdict) }
 {
     let mut now = tally;
     now.lines = next(tally.lines)?;
@@ -140,11 +142,11 @@ fn take_verdict<W: Write>(
     tally: Tally,
     verdict: Verdict,
 ) -> Result<Tally, Fault>
-    ensures tally { IfOk result (λ now. now ≡ counted tally verdict) }
+    ensures tally { IfOk result (λ now. now ≡ tally_with tally verdict) }
     ensures text { OnOk result (Appends (W.contents writer.old) (W.contents writer.new)
         (line_text (tally.lines + 1) verdict)) }
 {
-    let now = counted(tally, verdict)?;
+    let now = tally_with(tally, verdict)?;
     match &verdict {
         Verdict::Bad(problem) => match tell_line(alloc, writer, now.lines, *problem) {
             Ok(()) => Ok(now),
@@ -171,7 +173,7 @@ fn take_line<W: Write>(
 }
 
 /// The line less one CR at its end.
-fn stripped(line: &[u8]) -> &[u8]
+fn without_carriage_return(line: &[u8]) -> &[u8]
     ensures { result.now ≡ strip_carriage_return line.now }
 {
     let n = line.len();
@@ -194,7 +196,7 @@ fn end_line<W: Write>(
         (verdict_of (strip_carriage_return held.old.items) ∷ [])
         (W.contents writer.old) (W.contents writer.new) now) }
 {
-    match take_line(alloc, writer, tally, stripped(held)) {
+    match take_line(alloc, writer, tally, without_carriage_return(held)) {
         Ok(now) => {
             held.clear();
             Ok(now)
@@ -326,13 +328,15 @@ fn check_pieces<R: Read, W: Write>(
     Err(Fault::Read)
 }
 
-/// Judges the lines of an input one after the other, and executes none: writes a line for each that is bad, with its number and its
-/// problem, and where there was none, how many commands and questions there were. `true` where some line is bad.
+/// Judges the lines of an input one after the other, and executes none: writes a line for each that is bad, with its
+/// number and its problem, and where there was none, how many commands and questions there were. `true` where some
+/// line is bad.
 ///
-/// A line ends with LF, and one CR before it is dropped; what stands behind the last LF counts as it stands. An empty line is passed
-/// over. Of a line at most 262,146 bytes are held.
+/// A line ends with LF, and one CR before it is dropped; what stands behind the last LF counts as it stands. An empty
+/// line is passed over. Of a line at most 262,146 bytes are held.
 ///
-/// In the clause, `bytes` are those that the reader has lost, to its end. After a fault some of the lines may have been told.
+/// In the clause, `bytes` are those that the reader has lost, to its end. After a fault some of the lines may have
+/// been told.
 pub(crate) fn check_lines<R: Read, W: Write>(
     alloc: Global,
     reader: &mut R,

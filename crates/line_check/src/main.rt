@@ -10,8 +10,6 @@ mod members;
 mod problems;
 mod rules;
 mod shapes;
-#[cfg(test)]
-mod tests;
 
 use lines::{Fault, check_lines};
 use std::process::ExitCode;

@@ -3,7 +3,11 @@ ghost use Rattle.std.specs.Prelude.{◌≡◌, ◌||◌, Some, option_and_then};
 ghost use Rattle.serde_json.specs.View.{view, items_view, members_view};
 ghost use Rattle.plant_base.specs.Values.{is_text, only};
 ghost use Rattle.plant_text.specs.Fields.{count_of};
-ghost use Rattle.line_check.specs.Problems.{may_lack, flaw_at, first_flaw, is_listed, first_other, other_name, other_flaw, shape_flaw, item_flaw, first_item, problem_in_list, list_problem, shared_count, command_problem, is_trace_word, names_nothing, question_problem, object_problem, first_problem, problem_of, flaw_text, problem_text};
+ghost use Rattle.line_check.specs.Problems.{may_lack, flaw_at, first_flaw, is_listed, first_other};
+ghost use Rattle.line_check.specs.Problems.{other_name, other_flaw, shape_flaw, item_flaw, first_item};
+ghost use Rattle.line_check.specs.Problems.{problem_in_list, list_problem, shared_count, command_problem};
+ghost use Rattle.line_check.specs.Problems.{is_trace_word, names_nothing, question_problem, object_problem};
+ghost use Rattle.line_check.specs.Problems.{first_problem, problem_of, flaw_text, problem_text};
 
 use crate::members::Member;
 use crate::rules::fits;

@@ -4,7 +4,8 @@ ghost use Rattle.serde_json.specs.View.{view};
 ghost use Rattle.plant_base.specs.Dates.{is_due};
 ghost use Rattle.plant_base.specs.Formed.{is_version, is_priority, is_phase_number};
 ghost use Rattle.plant_base.specs.Values.{is_id, is_text, is_unit, is_amount, is_moment};
-ghost use Rattle.line_check.specs.Rules.{rule_text, text_passes, number_passes, is_sublot, is_batch_word, is_list, fits};
+ghost use Rattle.line_check.specs.Rules.{rule_text, text_passes, number_passes, is_sublot, is_batch_word};
+ghost use Rattle.line_check.specs.Rules.{is_list, fits};
 ghost use Rattle.line_check.specs.Shapes.{is_command_word, is_question_word, is_kind};
 
 use crate::shapes::{is_command_word, is_kind, is_question_word};

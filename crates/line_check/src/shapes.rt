@@ -2,7 +2,11 @@
 ghost use Rattle.std.specs.Prelude.{◌≡◌, codes, option_map};
 ghost use Rattle.serde_json.specs.View.{view};
 ghost use Rattle.plant_text.specs.Fields.{string_at};
-ghost use Rattle.line_check.specs.Shapes.{shared_members, members_on_batch, members_of_word, is_command_word, own_members, traced_members, members_of_question, is_question_word, question_members, members_of_kind, is_kind, line_members, item_members, list_of_word};
+ghost use Rattle.line_check.specs.Shapes.{shared_members, members_on_batch, members_of_word, is_command_word};
+ghost use Rattle.line_check.specs.Shapes.{own_members, traced_members, members_of_question, is_question_word};
+ghost use Rattle.line_check.specs.Shapes.{question_members, members_of_kind, is_kind, line_members};
+ghost use Rattle.line_check.specs.Shapes.{item_members};
+ghost use Rattle.line_check.specs.Shapes.{list_of_word};
 
 use crate::members::Member;
 use serde_json::Value;
@@ -82,9 +86,7 @@ fn members_of_word(word: &str) -> Option<&'static [Member]>
         ])
     } else if word == "merge" {
         Some(&[Member::New, Member::Place, Member::Parts])
-    } else if word == "hold" {
-        Some(&[Member::Lot, Member::Hold])
-    } else if word == "unhold" {
+    } else if word == "hold" || word == "unhold" {
         Some(&[Member::Lot, Member::Hold])
     } else if word == "add_recipe" {
         Some(&[
@@ -97,9 +99,7 @@ fn members_of_word(word: &str) -> Option<&'static [Member]>
             Member::Title,
             Member::Lines,
         ])
-    } else if word == "approve" {
-        Some(&[Member::Recipe, Member::Version])
-    } else if word == "withdraw" {
+    } else if word == "approve" || word == "withdraw" {
         Some(&[Member::Recipe, Member::Version])
     } else if word == "import_orders" {
         Some(&[Member::Orders])

@@ -1,8 +1,6 @@
 //! Checks an order file on standard input before it is sent: how many orders it holds, or its first fault.
 #![tactic(auto)]
 
-#[cfg(test)]
-mod tests;
 mod verdict;
 
 use std::env;

@@ -2,7 +2,10 @@
 ghost use Rattle.std.specs.Prelude.{◌≡◌, All, IsTrue};
 ghost use Rattle.std.specs.List.{list_all, list_any};
 ghost use Rattle.plant_base.specs.Values.{is_id, is_text, is_amount};
-ghost use Rattle.plant_base.specs.Formed.{HasValues, HasPartValues, HasHeaderValues, HasLineValues, HasOrderValues, is_version, is_priority, has_numbers, are_orders, is_command_word, is_phase_number, is_formed, stamp_of, are_parts, has_sublot, are_apart, is_same_sublot};
+ghost use Rattle.plant_base.specs.Formed.{HasValues, HasPartValues, HasHeaderValues, HasLineValues};
+ghost use Rattle.plant_base.specs.Formed.{HasOrderValues, is_version, is_priority, has_numbers, are_orders};
+ghost use Rattle.plant_base.specs.Formed.{is_command_word, is_phase_number, is_formed, stamp_of, are_parts};
+ghost use Rattle.plant_base.specs.Formed.{has_sublot, are_apart, is_same_sublot};
 
 use crate::items::Items;
 use crate::rows::{Header, OrderRow, RecipeLine};

@@ -1,5 +1,6 @@
 ghost use Rattle.std.specs.Prelude.{◌≡◌, ℕ, ◌≤◌, List, length, IsSome, IfSome, ◌↔◌, Some, nat_eq, refl};
-ghost use Rattle.std.specs.Cmp.Lexicographic.{slice_cmp, pointwise, texts_po, texts_ties, nat_list_cmp_total, nat_list_eq_equiv};
+ghost use Rattle.std.specs.Cmp.Lexicographic.{slice_cmp, pointwise, texts_po, texts_ties, nat_list_cmp_total};
+ghost use Rattle.std.specs.Cmp.Lexicographic.{nat_list_eq_equiv};
 ghost use Rattle.std.specs.Ordering.{nat_cmp};
 ghost use Rattle.std.specs.Cmp;
 ghost use Rattle.std.specs.Str.{IsAscii};
@@ -27,7 +28,8 @@ impl<const N: usize> Model for Short<N> {
 
     ghost inverse = { λ v. record { len = length v; bytes = padded_to N v } };
 
-    ghost inverse_ok = { λ a h i. record { len = length_back N a.len a.bytes h i; bytes = padded_back N a.len a.bytes h i } };
+    ghost inverse_ok = { λ a h i. record { len = length_back N a.len a.bytes h i;
+        bytes = padded_back N a.len a.bytes h i } };
 }
 
 impl<const N: usize> Short<N> {

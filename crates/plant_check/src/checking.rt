@@ -1,6 +1,7 @@
 ghost use Rattle.std.specs.Prelude.{◌≡◌, IfOk};
 ghost use Rattle.plant_tables_judged.specs.Collecting.{rows_listed};
-ghost use Rattle.plant_check.specs.Broken.{broken_plan, broken_lot, broken_history, are_right_movements, are_right_numbers, first_broken, first_broken_of};
+ghost use Rattle.plant_check.specs.Broken.{broken_plan, broken_lot, broken_history, are_right_movements};
+ghost use Rattle.plant_check.specs.Broken.{are_right_numbers, first_broken, first_broken_of};
 
 use crate::ends::are_stocks;
 use crate::history::{are_acyclic, are_whole, movements_in};

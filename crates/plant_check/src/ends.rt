@@ -1,7 +1,8 @@
 //! What rows of table movement bring to a sublot and take from it, as their columns say.
 
 ghost use Rattle.std.specs.Prelude.{◌≡◌, ◌<◌, ◌^◌, IfOk};
-ghost use Rattle.plant_check.specs.Ends.{other_end, entered_by, left_by, entries, exits, total_of, has_right_stock, are_stocks};
+ghost use Rattle.plant_check.specs.Ends.{other_end, entered_by, left_by, entries, exits, total_of};
+ghost use Rattle.plant_check.specs.Ends.{has_right_stock, are_stocks};
 
 use plant_base::{Id, Sublot};
 use plant_check_groups::{Grouped, Grouping};

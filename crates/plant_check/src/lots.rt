@@ -2,7 +2,10 @@
 
 ghost use Rattle.std.specs.Prelude.{◌≡◌, IfOk, map};
 ghost use Rattle.std.specs.List.{list_all};
-ghost use Rattle.plant_check.specs.Lots.{are_from_zero, sublots_among, is_right_lot, makes_a_lot, is_division_sort, are_of_one_sort, is_of_one_birth, is_one_birth, is_one_division, is_born, is_lot_among, is_right_sublot, are_in_lots, are_lots};
+ghost use Rattle.plant_check.specs.Lots.{are_from_zero, sublots_among, is_right_lot, makes_a_lot};
+ghost use Rattle.plant_check.specs.Lots.{is_division_sort, are_of_one_sort, is_of_one_birth, is_one_birth};
+ghost use Rattle.plant_check.specs.Lots.{is_one_division, is_born, is_lot_among, is_right_sublot};
+ghost use Rattle.plant_check.specs.Lots.{are_in_lots, are_lots};
 
 use crate::ends::{EnteredPlaces, entries, total_of};
 use plant_base::{Definition, GREATEST_AMOUNT, Hold, Id, Lot, Sublot};

@@ -4,7 +4,10 @@ ghost use Rattle.std.specs.Prelude.{◌≡◌, IfOk, ◌&&◌, ◌==◌, map, le
 ghost use Rattle.std.specs.List.{list_all};
 ghost use Rattle.plant_base.specs.State.{same};
 ghost use Rattle.plant_view.specs.Production.{lines_among};
-ghost use Rattle.plant_check_plans.specs.Batches.{control_sized, control_where_formed, control_of_found, control_asked_for, is_control, is_row_among, is_right_batch, are_batches};
+ghost use Rattle.plant_check_plans.specs.Batches.{control_sized, control_where_formed, control_of_found};
+ghost use Rattle.plant_check_plans.specs.Batches.{control_asked_for, is_control, is_row_among};
+ghost use Rattle.plant_check_plans.specs.Batches.{is_right_batch};
+ghost use Rattle.plant_check_plans.specs.Batches.{are_batches};
 
 use crate::keys::{
     Batches, BatchesOfOrders, ControlLines, Orders, RecipeLines, Recipes, control_of, has_batch,
@@ -148,7 +151,8 @@ fn are_right(
     controls: &Grouped<ControlLines>,
 ) -> Result<bool, AllocError>
     ensures { IfOk result
-        (λ b. b ≡ list_all (is_right_batch plans.now.recipes.rows.now plans.now.lines.rows.now plans.now.jobs.rows.now batches.now controls.now.rows.now) batches.now) }
+        (λ b. b ≡ list_all (is_right_batch plans.now.recipes.rows.now plans.now.lines.rows.now
+        plans.now.jobs.rows.now batches.now controls.now.rows.now) batches.now) }
 {
     let orders = Grouped::<BatchesOfOrders>::new(alloc, batches)?;
     for batch in batches {
@@ -168,7 +172,8 @@ fn is_right(
     batch: &BatchRow,
 ) -> Result<bool, AllocError>
     ensures { IfOk result
-        (λ b. b ≡ is_right_batch plans.now.recipes.rows.now plans.now.lines.rows.now plans.now.jobs.rows.now orders.now.rows.now controls.now.rows.now batch.now) }
+        (λ b. b ≡ is_right_batch plans.now.recipes.rows.now plans.now.lines.rows.now
+        plans.now.jobs.rows.now orders.now.rows.now controls.now.rows.now batch.now) }
 {
     let order = batch.batch.job;
     let lines = control_of(controls, batch.batch.id);

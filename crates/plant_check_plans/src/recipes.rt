@@ -4,7 +4,8 @@ ghost use Rattle.std.specs.Prelude.{◌≡◌, IfOk, ◌&&◌, map};
 ghost use Rattle.std.specs.List.{list_all};
 ghost use Rattle.plant_recipe.specs.Form.{is_well_formed};
 ghost use Rattle.plant_view.specs.Production.{is_defined, is_known};
-ghost use Rattle.plant_check_plans.specs.Recipes.{are_numbered, is_whole_recipe, is_recipe_among, are_recipes};
+ghost use Rattle.plant_check_plans.specs.Recipes.{are_numbered, is_whole_recipe, is_recipe_among};
+ghost use Rattle.plant_check_plans.specs.Recipes.{are_recipes};
 
 use crate::keys::{Definitions, RecipeLines, Recipes, has_definition, has_recipe, lines_of};
 use crate::numbered::are_numbered;

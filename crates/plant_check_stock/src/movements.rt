@@ -5,7 +5,11 @@ ghost use Rattle.std.specs.List.{list_any, list_all};
 ghost use Rattle.plant_stock.specs.Stock.{goes_to, comes_from, is_one_source};
 ghost use Rattle.plant_view.specs.Genealogy.{batch_by};
 ghost use Rattle.plant_view.specs.Materials.{takes, makes, is_taken, is_made};
-ghost use Rattle.plant_check_stock.specs.Movements.{is_batch_there, names_known, are_of_one, is_asked_for, is_yielded, is_of_right_definition, is_merged, are_distinct, are_parts, is_of_right_merge, is_right_movement, are_movements};
+ghost use Rattle.plant_check_stock.specs.Movements.{is_batch_there, names_known, are_of_one, is_asked_for};
+ghost use Rattle.plant_check_stock.specs.Movements.{is_yielded, is_of_right_definition, is_merged};
+ghost use Rattle.plant_check_stock.specs.Movements.{are_distinct};
+ghost use Rattle.plant_check_stock.specs.Movements.{are_parts, is_of_right_merge, is_right_movement};
+ghost use Rattle.plant_check_stock.specs.Movements.{are_movements};
 
 use crate::keys::{Lots, Parts, Sublots, is_there, lot_at, parts_of};
 use plant_base::{BatchRow, ControlLine, Id, Lot, Movement, MovementKind, RecipeLine, Sublot};
@@ -47,7 +51,8 @@ pub fn are_movements(
 
 fn are_right(named: &Named, parts: &Grouped<Parts>, movements: &[Movement]) -> bool
     ensures { result ≡ list_all
-        (is_right_movement named.now.lots.rows.now named.now.sublots.rows.now named.now.batches.rows.now named.now.controls.rows.now parts.now.rows.now) movements.now }
+        (is_right_movement named.now.lots.rows.now named.now.sublots.rows.now named.now.batches.rows.now
+        named.now.controls.rows.now parts.now.rows.now) movements.now }
 {
     movements.iter().all(|m| is_right(named, parts, m))
 }
@@ -96,7 +101,8 @@ impl<'a> Named<'a> {
 
     // Whether what goes from lot to lot is of one definition, and a batch takes and makes what its recipe says.
     fn allows(&self, movement: &Movement) -> bool
-        ensures { result ≡ is_of_right_definition self.now.lots.rows.now self.now.controls.rows.now movement.now.kind movement.now.lot }
+        ensures { result ≡ is_of_right_definition self.now.lots.rows.now self.now.controls.rows.now
+            movement.now.kind movement.now.lot }
     {
         let lot = lot_at(&self.lots, movement.lot);
         match movement.kind {
@@ -115,7 +121,8 @@ impl<'a> Named<'a> {
 
 #[tactic(auto, unfolding(crate::specs::Movements::is_right_movement))]
 fn is_right(named: &Named, parts: &Grouped<Parts>, movement: &Movement) -> bool
-    ensures { result ≡ is_right_movement named.now.lots.rows.now named.now.sublots.rows.now named.now.batches.rows.now named.now.controls.rows.now parts.now.rows.now movement.now }
+    ensures { result ≡ is_right_movement named.now.lots.rows.now named.now.sublots.rows.now
+        named.now.batches.rows.now named.now.controls.rows.now parts.now.rows.now movement.now }
 {
     named.knows(movement) && named.allows(movement) && is_of_right_merge(parts, movement)
 }

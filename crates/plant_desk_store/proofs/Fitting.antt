@@ -4,7 +4,7 @@ use Rattle.plant_base.specs.State.{newest_schema}
 use Rattle.plant_tables_stored.specs.Loading.{contents_loaded}
 use Rattle.plant_tables_stored.specs.declared.loaded.Loaded.{Loaded}
 use Rattle.plant_tables_judged.specs.Collecting.{Rows, rows_from, rows_listed}
-use Rattle.plant_tables_columns.specs.Judging.{only_meta}
+use Rattle.plant_tables_columns.specs.TableColumns.{only_meta}
 use Rattle.plant_tables_judged.specs.declared.desk_rows.DeskRows.{DeskRows}
 use Rattle.plant_check.specs.Broken.{first_broken, first_broken_of, broken_rows, unless}
 use Rattle.plant_check.specs.declared.rule.Rule.{Rule}

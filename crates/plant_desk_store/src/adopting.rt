@@ -14,7 +14,8 @@ ghost use Rattle.table_forms.specs.Standing.{AreFree};
 ghost use Rattle.plant_tables.specs.DeskForms.{desk_forms};
 ghost use Rattle.plant_tables_judged.specs.Collecting.{Rows, rows_from};
 ghost use Rattle.plant_check.specs.Broken.{first_broken_of};
-ghost use Rattle.plant_desk_store.specs.Adopting.{IsNewlyOpened, AdoptedFrom, KeepsGood, IsRefusedBy, NamesFirst, BrokenBy, Opened};
+ghost use Rattle.plant_desk_store.specs.Adopting.{IsNewlyOpened, AdoptedFrom, KeepsGood, IsRefusedBy};
+ghost use Rattle.plant_desk_store.specs.Adopting.{NamesFirst, BrokenBy, Opened};
 ghost use Rattle.plant_desk_store.specs.Standing.{IsOpenAt, OthersStand};
 
 use crate::fitness::{Unfit, judge};

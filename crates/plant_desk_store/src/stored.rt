@@ -24,7 +24,8 @@ pub struct Desk<S: Alter> {
 }
 
 impl<S: Alter> Desk<S> {
-    ghost use Rattle.std.specs.Prelude.{◌≡◌, ◌≢◌, ◌≤◌, [], true, false, Some, None, IfOk, IfErr, IsErrOf, length, take};
+    ghost use Rattle.std.specs.Prelude.{◌≡◌, ◌≢◌, ◌≤◌, [], true, false, Some, None, IfOk, IfErr, IsErrOf};
+    ghost use Rattle.std.specs.Prelude.{length, take};
     ghost use Rattle.sqlite.specs.Effect.{Database};
     ghost use Rattle.sqlite.specs.Held.{state};
     ghost use Rattle.sqlite.specs.State.{HasCleanDisk, Survives};
@@ -176,5 +177,6 @@ impl<S: Alter> Keeper for Desk<S> {
 
     ghost leaves_something = { λ d left. never_nothing _ left };
 
-    ghost spares_leaves = { λ a b s clean spares left. spared_leaves _ _ (λ u. u ≡ s) left clean spares (S.Store.survives b.connection.store) };
+    ghost spares_leaves = { λ a b s clean spares left. spared_leaves _ _ (λ u. u ≡ s) left clean spares
+        (S.Store.survives b.connection.store) };
 }

@@ -16,7 +16,7 @@ use Rattle.plant_tables.specs.DeskTables.{contents_of}
 use Rattle.plant_tables_stored.specs.Loading.{contents_loaded}
 use Rattle.plant_tables_columns.specs.Booked.{movement_from, booked_of}
 use Rattle.plant_tables_judged.specs.Collecting.{Rows, rows_from, tables_in, AreWhole, AreInOrder}
-use Rattle.plant_tables_columns.specs.Judging.{only_meta}
+use Rattle.plant_tables_columns.specs.TableColumns.{only_meta}
 use Rattle.plant_tables_columns.specs.declared.booked.BookedRow.{BookedRow}
 use Rattle.plant_tables_judged.proofs.StandLemmas.{stands_for}
 use Rattle.plant_check.specs.Broken.{movements_in, broken_rows, first_broken_of, first_broken}

@@ -11,7 +11,7 @@ use Rattle.sqlite.specs.Order.{Row}
 use Rattle.plant_base.specs.State.{class_order, definition_order, recipe_order, master_line_order, job_order, control_line_order, lot_order, hold_order, event_order, movement_order}
 use Rattle.plant_view.specs.Tables.{batch_row_order, sublot_order}
 use Rattle.table_reads.specs.Rises.{Rises}
-use Rattle.plant_tables.specs.Encoding.{row_of_class, row_of_definition, row_of_recipe, row_of_master_line, row_of_job, row_of_batch, row_of_control_line, row_of_event, row_of_lot, row_of_sublot, row_of_movement, row_of_hold}
+use Rattle.plant_tables_columns.specs.TableColumns.{row_of_class, row_of_definition, row_of_recipe, row_of_master_line, row_of_job, row_of_batch, row_of_control_line, row_of_event, row_of_lot, row_of_sublot, row_of_movement, row_of_hold}
 use Rattle.table_forms.specs.Forms.{Form}
 use Rattle.table_reads.specs.Keys.{key_order, comes_before}
 use Rattle.table_reads.specs.Selects.{first_of}

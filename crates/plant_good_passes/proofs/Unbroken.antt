@@ -11,7 +11,7 @@ use Rattle.plant_tables.specs.Keyed.{HoldsTables}
 use Rattle.plant_tables_stored.specs.Loading.{AreLoaded, contents_loaded}
 use Rattle.plant_tables_stored.specs.declared.loaded.Loaded.{Loaded}
 use Rattle.plant_tables_judged.specs.Collecting.{Rows, rows_from, rows_in}
-use Rattle.plant_tables_columns.specs.Judging.{only_meta}
+use Rattle.plant_tables_columns.specs.TableColumns.{only_meta}
 use Rattle.plant_tables_judged.proofs.AgainLemmas.{read_again}
 use Rattle.plant_check.specs.Broken.{unless, or_else, are_acyclic, broken_plan, broken_lot, broken_history, first_broken_of, are_right_movements, are_right_numbers, broken_rows, first_broken}
 use Rattle.plant_check.specs.declared.rule.Rule.{Rule}

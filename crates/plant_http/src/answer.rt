@@ -1,7 +1,9 @@
 //! Answers, before they are written.
 ghost use Rattle.std.specs.Prelude.{◌≡◌, ◌⊎◌, false, IfOk, string_bytes};
 ghost use Rattle.plant_base.specs.Refusals.{number_of};
-ghost use Rattle.plant_http.specs.Answers.{body_bytes, Is, error_out, fault_out, csv_out, reply_out, answer_out, text_in, refused_status, reply_status, answer_status, form_for};
+ghost use Rattle.plant_http.specs.Answers.{body_bytes, Is, error_out, fault_out, csv_out, reply_out};
+ghost use Rattle.plant_http.specs.Answers.{answer_out, text_in, refused_status, reply_status, answer_status};
+ghost use Rattle.plant_http.specs.Answers.{form_for};
 
 use crate::room::{Room, csv_text, status_text};
 use plant_base::Refusal;

@@ -73,9 +73,9 @@ fn take_piece<R: Read>(
 /// Reads up to the end of the head, and no piece more. What was read stands in `bytes`, perhaps with bytes behind the
 /// head, and is at most [`LONGEST_HEAD`] bytes long. `reads` are the reads that may be made; each is counted off.
 ///
-/// The result depends on the bytes of the input and not on the pieces in which they come. `Read`: a read failed, or was
-/// interrupted. `Endless`: all reads were made, each of which gave a byte at least. `Memory`: memory was refused for the
-/// bytes.
+/// The result depends on the bytes of the input and not on the pieces in which they come. `Read`: a read failed, or
+/// was interrupted. `Endless`: all reads were made, each of which gave a byte at least. `Memory`: memory was refused
+/// for the bytes.
 pub fn read_head<R: Read>(
     reader: &mut R,
     bytes: &mut Vec<u8>,
@@ -84,7 +84,8 @@ pub fn read_head<R: Read>(
     requires { bytes.old.items ≡ [] }
     ensures known { IfOk result (λ _. Consumes (R.remaining reader.old) (R.remaining reader.new)
         bytes.new.items) }
-    ensures end { IfOk result (λ end. IfSome (R.remaining reader.old) (λ whole. end ≡ end_of_head whole)) }
+    ensures end { IfOk result (λ end. IfSome (R.remaining reader.old)
+        (λ whole. end ≡ end_of_head whole)) }
     ensures within { IfOk result (λ end. LiesWithin end bytes.new.items) }
     ensures spent { IfOk result (λ end. Spent end reads.old reads.new (length bytes.new.items)) }
     ensures endless { IsErrOf result InputFault.Endless → SpentAll reads.old
@@ -111,7 +112,8 @@ pub fn read_head<R: Read>(
     }
 }
 
-/// Reads on until `want` bytes are there, and says whether they came before the input ended. No byte behind them is read.
+/// Reads on until `want` bytes are there, and says whether they came before the input ended. No byte behind them is
+/// read.
 ///
 /// `Read`, `Endless` and `Memory` come as from [`read_head`].
 pub fn read_to<R: Read>(

@@ -2,7 +2,8 @@
 ghost use Rattle.std.specs.Prelude.{◌≡◌, ◌≤◌, map, length, All, option_map, IfOk, IfSome};
 ghost use Rattle.httparse.specs.Spans.{IsHeaderWithin, header_bytes};
 ghost use Rattle.plant_base.specs.Values.{is_moment, is_text, only};
-ghost use Rattle.plant_http_requests.specs.Fields.{is_name, count_named, value_named, body_length, framing, moment_in, only_moment, operator_in, stamp_in};
+ghost use Rattle.plant_http_requests.specs.Fields.{is_name, count_named, value_named, body_length, framing};
+ghost use Rattle.plant_http_requests.specs.Fields.{moment_in, only_moment, operator_in, stamp_in};
 
 use crate::status::Status;
 use httparse::spans::HeaderSpan;

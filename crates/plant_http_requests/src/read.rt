@@ -1,5 +1,6 @@
 //! From the input to what it asks for.
-ghost use Rattle.std.specs.Prelude.{◌≡◌, ◌≤◌, ◌+◌, ◌++◌, [], Some, None, length, take, drop, IfOk, IfSome, IsErrOf};
+ghost use Rattle.std.specs.Prelude.{◌≡◌, ◌≤◌, ◌+◌, ◌++◌, [], Some, None, length, take, drop, IfOk, IfSome};
+ghost use Rattle.std.specs.Prelude.{IsErrOf};
 ghost use Rattle.plant_http_input.specs.Reading.{SpentAll};
 ghost use Rattle.plant_http_requests.specs.Jobs.{AsksFor, HeadAsksFor, most_reads};
 

@@ -1,7 +1,8 @@
 //! What the head of a request decides.
 ghost use Rattle.std.specs.Prelude.{◌≡◌, length, map, All};
 ghost use Rattle.httparse.specs.Spans.{IsHeaderWithin, IsWithin, header_bytes, span_bytes};
-ghost use Rattle.plant_http_requests.specs.Steps.{refuse, fails, is_head, question_of, form_of, post_step, posted_step, asked_step, target_step, request_step};
+ghost use Rattle.plant_http_requests.specs.Steps.{refuse, fails, is_head, question_of, form_of, post_step};
+ghost use Rattle.plant_http_requests.specs.Steps.{posted_step, asked_step, target_step, request_step};
 
 use crate::fields::{framing, stamp_in};
 use crate::job::{Content, Form, HeadStep, Job};

@@ -81,7 +81,7 @@ impl Model for Routes {
     ghost inverse = { λ v. record { router = v } };
 }
 
-fn built(alloc: Global) -> Result<Router<Route>, InsertError>
+fn desk_router(alloc: Global) -> Result<Router<Route>, InsertError>
     ensures { IfOk result (λ r. r ≡ the_routes) }
 {
     let mut router = Router::new(alloc);
@@ -127,13 +127,14 @@ impl Routes {
     pub fn new(alloc: Global) -> Result<Self, RoutesFault>
         ensures { IfOk result (λ r. r ≡ the_routes) }
     {
-        match built(alloc) {
+        match desk_router(alloc) {
             Ok(router) => Ok(Routes { router }),
             Err(_) => Err(RoutesFault),
         }
     }
 
-    /// What a path asks for. `None` where no route has this form, and where what stands in the place of an id isn't one.
+    /// What a path asks for. `None` where no route has this form, and where what stands in the place of an id isn't
+    /// one.
     #[tactic(auto, unfolding(crate::specs::Routes::found_in))]
     pub fn find(&self, path: &[u8]) -> Option<Target>
         ensures { result ≡ target_of path.now }

@@ -7,7 +7,6 @@ use Rattle.std.proofs.lemmas.List.Kept.{IsStrictlySortedBy-filter}
 use Rattle.std.proofs.lemmas.List.Sorted.{IsPermutation-sym, IsPermutation-trans}
 use Rattle.sqlite.specs.Effect.{Database}
 use Rattle.sqlite.specs.Order.{Row}
-use Rattle.sqlite.specs.Table.{Table}
 use Rattle.sqlite.specs.declared.types.Value.TheVariants.{Text}
 use Rattle.sqlite_trees.proofs.ListLemmas.{IsPermutation-filter}
 use Rattle.plant_base.specs.RowValues.{HasClassValues, HasDefinitionValues, HasLotValues, HasHoldValues}
@@ -29,18 +28,20 @@ use Rattle.plant_view.specs.Refusing.{holds_of}
 use Rattle.plant_view.specs.Tables.{Tables, tables_of, batch_row, batch_row_order, sublot_order, sublot_row, sublots_of}
 use Rattle.plant_view.specs.Views.{events_of}
 use Rattle.plant_good.specs.Good.{IsGood}
-use Rattle.table_forms.specs.Forms.{Form, table_of}
+use Rattle.table_forms.specs.Forms.{Form}
 use Rattle.table_forms.specs.Standing.{Stands}
 use Rattle.table_reads.specs.Found.{has_values}
 use Rattle.table_reads.specs.Keys.{key_order, comes_before}
 use Rattle.table_reads.specs.Reading.{Finds}
 use Rattle.table_reads.specs.Selects.{first_of}
 use Rattle.table_reads.proofs.KeyOrder.{key_total}
-use Rattle.plant_tables.specs.Encoding.{number, row_of_meta, row_of_class, row_of_definition, row_of_recipe, row_of_master_line, row_of_job, row_of_batch, row_of_control_line, row_of_event, row_of_lot, row_of_sublot, row_of_movement, row_of_hold}
+use Rattle.table_reads.proofs.Same.{one_tree}
+use Rattle.plant_tables_columns.specs.Kinds.{number}
+use Rattle.plant_tables_columns.specs.TableColumns.{row_of_meta, row_of_class, row_of_definition, row_of_recipe, row_of_master_line, row_of_job, row_of_batch, row_of_control_line, row_of_event, row_of_lot, row_of_sublot, row_of_movement, row_of_hold, meta_from, class_from, definition_from, recipe_from, master_line_from, job_from, batch_from, control_line_from, batch_event_from, lot_from, sublot_from, movement_read, hold_from}
 use Rattle.plant_tables.specs.DeskForms.{meta_form, class_form, definition_form, recipe_form, recipe_line_form, job_form, batch_form, control_line_form, batch_event_form, lot_form, sublot_form, movement_form, hold_form}
 use Rattle.plant_tables.specs.Keyed.{HoldsTables}
+use Rattle.plant_tables.proofs.Bridge.{all_filter}
 use Rattle.plant_tables_columns.specs.All.{all_from}
-use Rattle.plant_tables_columns.specs.Judging.{meta_from, class_from, definition_from, recipe_from, master_line_from, job_from, batch_from, control_line_from, batch_event_from, lot_from, sublot_from, movement_read, hold_from}
 use Rattle.plant_tables_columns.specs.Obeying.{HasMetaValues, HasRecipeValues, HasMasterLineValues, HasJobValues, HasBatchRowValues, HasControlLineValues, HasEventRowValues, HasSublotValues, HasMovementRowValues, HasGoodValues}
 use Rattle.plant_tables_columns.proofs.Options.{some_same}
 use Rattle.plant_tables_columns.proofs.RowLaws.{meta_reads, class_reads, definition_reads, recipe_reads, job_reads, batch_reads, event_reads, lot_reads, sublot_reads, hold_reads, master_line_again, control_line_again}
@@ -53,13 +54,6 @@ use Rattle.plant_keyed.proofs.Shown.{movement_again}
 use Rattle.plant_keyed.proofs.Tests.{one_text, text_number, two_texts}
 
 -- ---- lists
-
-all_passing : {R : Type 0} (P : R → Type 0) (p : R → Bool) (rs : List R) → AllByRecursion P rs → AllByRecursion P (filter p rs)
-all_passing P p [] all = tt
-all_passing P p (r ∷ rs) all = elim (p r) as (λ b. AllByRecursion P (cond b (r ∷ filter p rs) (filter p rs))) [
-  | true ↦ (all.0, all_passing P p rs all.1)
-  | false ↦ all_passing P p rs all.1
-]
 
 -- the first of the rows that pass
 first_passing : {R : Type 0} (p : R → Bool) (rs : List R) → slice_get (filter p rs) 0 ≡ find p rs
@@ -94,12 +88,6 @@ filter_all p passes (r ∷ rs) = rw (passes r) (ap (λ l. r ∷ l) (filter_all p
 
 -- ---- one table
 
-one_tree : (db : Database) (form : Form) (places : List ℕ) (values : Row) (rows stood : List Row) (a : Finds db form places values rows) (b : Stands db form stood) → a.tree ≡ b.tree
-one_tree db form places values rows stood a b =
-    let at : Some a.at ≡ Some b.at = sym a.declared.named ∙ b.declared.named in
-    let tables : Some (table_of form a.tree) ≡ Some (table_of form b.tree) = sym a.declared.listed ∙ ap (slice_get db.schema.tables) (some_same a.at b.at at) ∙ b.declared.listed in
-    ap (λ (t : Table). t.tree) (some_same (table_of form a.tree) (table_of form b.tree) tables)
-
 module _ {R : Type 0} (row_from : Row → Option R) (written : R → Row) (P : R → Type 0) (again : (r : R) → P r → row_from (written r) ≡ Some r) (form : Form) (order : R → R → Ordering) (by_key : (a b : R) → order a b ≡ key_order (first_of form.keys) (written a) (written b))
     (db : Database) (rs : List R) (stands : Stands db form (map written rs)) (sorted : IsStrictlySortedBy order rs) (all : AllByRecursion P rs)
     (places : List ℕ) (values : Row) (p : R → Bool) (tests : (r : R) → has_values places values (written r) ≡ p r) where
@@ -110,12 +98,12 @@ module _ {R : Type 0} (row_from : Row → Option R) (written : R → Row) (P : R
       let total = key_total (first_of form.keys) in
       let here = map (drop 1) (db.trees stands.tree) in
       let test = has_values places values in
-      let there : IsPermutation found.stored (filter test here) = subst (λ tree. IsPermutation found.stored (filter test (map (drop 1) (db.trees tree)))) (one_tree db form places values found.stored (map written rs) found.finds stands) found.finds.same in
+      let there : IsPermutation found.stored (filter test here) = subst (λ tree. IsPermutation found.stored (filter test (map (drop 1) (db.trees tree)))) (one_tree db.schema form found.finds.at found.finds.tree stands.at stands.tree found.finds.declared stands.declared) found.finds.same in
       let back : IsPermutation (filter test here) (filter test (map written rs)) = IsPermutation-filter test here (map written rs) (IsPermutation-sym (map written rs) here stands.same) in
       let moved : IsPermutation found.stored (map written (filter p rs)) = subst (IsPermutation found.stored) (filter_mapped written test p tests rs) (IsPermutation-trans found.stored (filter test here) (filter test (map written rs)) there back) in
       let rising : IsStrictlySortedBy key found.stored = subst (IsStrictlySortedBy key) (map_same found.stored) (strictly_sorted (λ row. row) (comes_before form) key total (λ a b. refl) found.stored found.rising) in
       let one : found.stored ≡ map written (filter p rs) = same_sorted key total found.stored (map written (filter p rs)) rising (sorted_keys written order key by_key (filter p rs) (IsStrictlySortedBy-filter order p rs sorted)) moved in
-      let told : all_from row_from found.stored ≡ Some (map (λ r. r) (filter p rs)) = ap (all_from row_from) one ∙ all_again row_from written (λ r. r) P again (filter p rs) (all_passing P p rs all) in
+      let told : all_from row_from found.stored ≡ Some (map (λ r. r) (filter p rs)) = ap (all_from row_from) one ∙ all_again row_from written (λ r. r) P again (filter p rs) (all_filter P p rs all) in
       some_same rows (map (λ r. r) (filter p rs)) (sym found.read ∙ told) ∙ map_same (filter p rs)
 
   -- and the first of them is the first that has the values

@@ -22,10 +22,9 @@ use Rattle.plant_view.specs.Tables.{Tables, tables_of, position_of, batch_row, s
 use Rattle.plant_good.specs.Good.{IsGood}
 use Rattle.table_forms.specs.Forms.{Form, table_of}
 use Rattle.table_forms.specs.Standing.{Stands}
-use Rattle.plant_tables.specs.Encoding.{row_of_meta, row_of_class, row_of_definition, row_of_recipe, row_of_master_line, row_of_job, row_of_batch, row_of_control_line, row_of_event, row_of_lot, row_of_sublot, row_of_movement, row_of_hold}
+use Rattle.plant_tables_columns.specs.TableColumns.{row_of_meta, row_of_class, row_of_definition, row_of_recipe, row_of_master_line, row_of_job, row_of_batch, row_of_control_line, row_of_event, row_of_lot, row_of_sublot, row_of_movement, row_of_hold, only_meta, class_from, definition_from, recipe_from, master_line_from, job_from, batch_from, control_line_from, batch_event_from, lot_from, sublot_from, movement_read, hold_from}
 use Rattle.plant_tables.specs.DeskForms.{meta_form, class_form, definition_form, recipe_form, recipe_line_form, job_form, batch_form, control_line_form, batch_event_form, lot_form, sublot_form, movement_form, hold_form}
 use Rattle.plant_tables.specs.Keyed.{HoldsTables}
-use Rattle.plant_tables_columns.specs.Judging.{only_meta, class_from, definition_from, recipe_from, master_line_from, job_from, batch_from, control_line_from, batch_event_from, lot_from, sublot_from, movement_read, hold_from}
 use Rattle.plant_tables_columns.specs.Obeying.{HasRecipeValues, HasMasterLineValues, HasJobValues, HasBatchRowValues, HasControlLineValues, HasEventRowValues, HasSublotValues, HasMovementRowValues, HasGoodValues}
 use Rattle.plant_tables_columns.proofs.KindLemmas as kinds
 use Rattle.plant_tables_columns.proofs.RowLaws.{meta_reads, class_reads, definition_reads, recipe_reads, job_reads, batch_reads, event_reads, lot_reads, sublot_reads, hold_reads, master_line_again, control_line_again, movement_row_again}

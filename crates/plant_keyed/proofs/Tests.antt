@@ -13,7 +13,8 @@ use Rattle.plant_base.specs.declared.rows.MovementKind.TheVariants as kind
 use Rattle.plant_view.specs.Genealogy.{batch_by}
 use Rattle.plant_view.specs.Views.{is_named, is_scrap}
 use Rattle.table_reads.specs.Found.{has_values}
-use Rattle.plant_tables.specs.Encoding.{number, row_of_movement}
+use Rattle.plant_tables_columns.specs.Kinds.{number}
+use Rattle.plant_tables_columns.specs.TableColumns.{row_of_movement}
 use Rattle.plant_tables.proofs.KeyTests.{and_true}
 use Rattle.plant_tables_judged.proofs.SortedLemmas.{int_cmp_pos}
 use Rattle.plant_keyed.specs.Edges.{names_other_lot}

@@ -12,7 +12,7 @@ use Rattle.plant_base.specs.declared.rows.Position.{Position}
 use Rattle.plant_view.specs.Tables.{batch_row_order, sublot_order, place_of_row}
 use Rattle.table_forms.specs.Forms.{Form}
 use Rattle.plant_tables.specs.DeskForms.{meta_form, class_form, definition_form, recipe_form, recipe_line_form, job_form, batch_form, control_line_form, batch_event_form, lot_form, sublot_form, movement_form, hold_form}
-use Rattle.plant_tables_columns.specs.Judging.{only_meta, class_from, definition_from, recipe_from, master_line_from, job_from, batch_from, control_line_from, batch_event_from, lot_from, sublot_from, movement_read, hold_from}
+use Rattle.plant_tables_columns.specs.TableColumns.{only_meta, class_from, definition_from, recipe_from, master_line_from, job_from, batch_from, control_line_from, batch_event_from, lot_from, sublot_from, movement_read, hold_from}
 use Rattle.plant_keyed.specs.Sorting.{in_order}
 
 abbrev pub rows_under : Database → Option Table → List Row

@@ -14,7 +14,7 @@ use crate::keyed::Keyed;
 use crate::texts;
 use plant_base::{Id, Movement};
 use plant_desk::edges;
-use plant_tables::columns::id;
+use plant_tables_columns::storing::id;
 use plant_tables::forms::MOVEMENT;
 use plant_trace::{Direction, Node, neighbours};
 use sqlite::Alter;

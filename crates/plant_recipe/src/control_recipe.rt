@@ -3,7 +3,8 @@ ghost use Rattle.std.specs.Prelude.{◌≡◌, ◌==◌, ◌≤◌, if◌then◌
 ghost use Rattle.plant_base.specs.Values.{greatest_amount};
 ghost use Rattle.plant_recipe.specs.Scaling.{scaled_of};
 ghost use Rattle.plant_recipe.specs.Form.{fits, all_fit};
-ghost use Rattle.plant_recipe.specs.Control.{is_size_of, line_scaled, scales_to_nothing, lines_scaled, control_of, KeepsProcedure};
+ghost use Rattle.plant_recipe.specs.Control.{is_size_of, line_scaled, scales_to_nothing, lines_scaled};
+ghost use Rattle.plant_recipe.specs.Control.{control_of, KeepsProcedure};
 ghost use Rattle.plant_recipe.specs.declared.control_recipe.RecipeFault.TheVariants.{Nothing, Memory};
 
 use crate::master::Master;

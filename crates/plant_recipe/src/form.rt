@@ -1,7 +1,10 @@
 //! Which recipes are well formed.
 ghost use Rattle.std.specs.Prelude.{◌≡◌};
 ghost use Rattle.std.specs.List.{list_any};
-ghost use Rattle.plant_recipe.specs.Form.{is_in_of, is_out_of, is_parameter_of, is_phase, phases_of, has_allowed_length, has_size_range, has_phase, has_product, repeats, has_no_repeats, fits, all_fit, is_well_formed, StandsOnceWhereFormed, HasPhasesWhereFormed};
+ghost use Rattle.plant_recipe.specs.Form.{is_in_of, is_out_of, is_parameter_of, is_phase, phases_of};
+ghost use Rattle.plant_recipe.specs.Form.{has_allowed_length, has_size_range, has_phase, has_product};
+ghost use Rattle.plant_recipe.specs.Form.{repeats, has_no_repeats, fits, all_fit, is_well_formed};
+ghost use Rattle.plant_recipe.specs.Form.{StandsOnceWhereFormed, HasPhasesWhereFormed};
 
 use crate::scaling::scaled;
 use plant_base::{Amount, GREATEST_AMOUNT, Header, Id, RecipeLine};

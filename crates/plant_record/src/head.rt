@@ -1,7 +1,8 @@
 //! The head of the record: the batch, its order, its recipe, its release and its state.
 ghost use Rattle.std.specs.Prelude.{◌≡◌, Some};
 ghost use Rattle.plant_recipe.specs.Form.{is_phase};
-ghost use Rattle.plant_record.specs.Record.{batch_text, head_text, open_or_closed, order_text, phases_in, recipe_text, released_text, state_text};
+ghost use Rattle.plant_record.specs.Record.{batch_text, head_text, open_or_closed, order_text, phases_in};
+ghost use Rattle.plant_record.specs.Record.{recipe_text, released_text, state_text};
 
 use crate::items::AtBy;
 use plant_base::{Batch, Header, Job, OrderRow, RecipeLine};

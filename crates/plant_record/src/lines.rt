@@ -1,6 +1,7 @@
 //! The lines of the sections.
 ghost use Rattle.std.specs.Prelude.{◌≡◌, Some};
-ghost use Rattle.plant_record.specs.Record.{consumed_text, control_text, event_text, event_word, produced_text, recipe_line_text, sublot_text};
+ghost use Rattle.plant_record.specs.Record.{consumed_text, control_text, event_text, event_word};
+ghost use Rattle.plant_record.specs.Record.{produced_text, recipe_line_text, sublot_text};
 
 use crate::items::{AtBy, InSix, InThree, Measured};
 use plant_base::{BatchEvent, Event, Id, RecipeLine, Unit};

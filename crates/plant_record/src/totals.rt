@@ -3,7 +3,8 @@ ghost use Rattle.std.specs.Prelude.{◌≡◌, ◌≤◌, Some};
 ghost use Rattle.std.specs.List.{flat_map};
 ghost use Rattle.plant_base.specs.State.{same};
 ghost use Rattle.plant_base.specs.Values.{greatest_amount};
-ghost use Rattle.plant_record.specs.Record.{amount_of, asked_and_booked, booked_of, input_total, output_total, totals_text};
+ghost use Rattle.plant_record.specs.Record.{amount_of, asked_and_booked, booked_of, input_total};
+ghost use Rattle.plant_record.specs.Record.{output_total, totals_text};
 
 use plant_base::{Amount, Id, RecipeLine};
 use plant_desk::{BatchView, Booking, MeasuredLine};

@@ -42,7 +42,7 @@ use Rattle.table_forms.specs.Standing.{Contents, StandIn}
 use Rattle.table_forms.specs.Moves.{changed_at, taken_at}
 use Rattle.plant_tables.specs.DeskForms.{class_form, definition_form, recipe_form, recipe_line_form, job_form, batch_form, control_line_form, batch_event_form, lot_form, sublot_form, movement_form, hold_form, meta_form}
 use Rattle.plant_tables.specs.DeskTables.{rows_of, contents_of, rows_changed, all_rows_changed}
-use Rattle.plant_tables.specs.Encoding.{row_of_meta, row_of_class, row_of_definition, row_of_recipe, row_of_master_line, row_of_job, row_of_batch, row_of_control_line, row_of_event, row_of_lot, row_of_sublot, row_of_movement, row_of_hold}
+use Rattle.plant_tables_columns.specs.TableColumns.{row_of_meta, row_of_class, row_of_definition, row_of_recipe, row_of_master_line, row_of_job, row_of_batch, row_of_control_line, row_of_event, row_of_lot, row_of_sublot, row_of_movement, row_of_hold}
 use Rattle.plant_tables.specs.Keyed.{AreKeyed, IsFresh, AreFresh}
 use Rattle.plant_tables.proofs.KeyTests.{or_false, one_text, second_text, two_texts, text_number, text_numbers, one_number, two_numbers, text_tie, and_true}
 use Rattle.plant_tables.proofs.Permuted.{put_by_key, put_at_end}
@@ -197,7 +197,7 @@ one_changed (change.Unhold lot hold) t keyed fresh =
 
 -- ---- the keys stay
 
-all_filter : {R : Type 0} (P : R → Type 0) (p : R → Bool) (xs : List R) → AllByRecursion P xs → AllByRecursion P (filter p xs)
+pub all_filter : {R : Type 0} (P : R → Type 0) (p : R → Bool) (xs : List R) → AllByRecursion P xs → AllByRecursion P (filter p xs)
 all_filter P p [] all = tt
 all_filter P p (x ∷ xs) all = elim (cases_Bool (p x)) [
   | inl keeps ↦ rw keeps (all.0, all_filter P p xs all.1)

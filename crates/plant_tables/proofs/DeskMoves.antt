@@ -3,14 +3,6 @@ use Rattle.std.proofs.Common.{◌≡◌, refl, ℕ, List, [], ◌∷◌, ◌++�
 use Rattle.sqlite.specs.Order.{Row}
 use Rattle.sqlite.specs.declared.types.Value.TheVariants.{Text}
 use Rattle.sqlite.specs.State.{State}
-use Rattle.plant_base.specs.declared.rows.RecipeLine.{RecipeLine}
-use Rattle.plant_base.specs.declared.rows.RecipeLine.TheVariants as line
-use Rattle.plant_base.specs.declared.rows.MasterLine.{MasterLine}
-use Rattle.plant_base.specs.declared.rows.BatchRow.{BatchRow}
-use Rattle.plant_base.specs.declared.rows.ControlLine.{ControlLine}
-use Rattle.plant_base.specs.declared.rows.MovementKind.{MovementKind}
-use Rattle.plant_base.specs.declared.rows.MovementKind.TheVariants as kind
-use Rattle.plant_base.specs.declared.rows.Movement.{Movement}
 use Rattle.table_forms.specs.declared.fault.Fault.{Fault}
 use Rattle.table_forms.specs.Forms.{Form}
 use Rattle.table_forms.specs.Rows.{fits_columns}
@@ -19,8 +11,7 @@ use Rattle.table_forms.specs.Moves.{Moves, PutsRow, TakesRows, MakesTables, Foun
 use Rattle.table_forms.specs.Standing.{Contents}
 use Rattle.plant_view.specs.declared.change.RowChange.{RowChange}
 use Rattle.plant_tables.specs.DeskTables.{rows_changed, all_rows_changed}
-use Rattle.plant_tables.specs.DeskForms.{desk_forms, recipe_line_form, batch_form, control_line_form, movement_form}
-use Rattle.plant_tables.specs.Encoding.{number, columns_of_line, row_of_master_line, row_of_batch, row_of_control_line, row_of_movement}
+use Rattle.plant_tables.specs.DeskForms.{desk_forms}
 use Rattle.plant_tables.proofs.DeskTexts.{create_texts, all_made, desk_apart}
 
 pub put_moved : {X : Type 0} (place : ℕ) (form : Form) (text : List ℕ) (row : Row) → slice_get desk_forms place ≡ Some form → IsPutText text form → fits_columns form.columns row ≡ true
@@ -40,42 +31,3 @@ desk_founded old new (Err e) made = tt
 pub one_more_change : (cs : List RowChange) (c : RowChange) (t : Contents) → rows_changed c (all_rows_changed cs t) ≡ all_rows_changed (cs ++ c ∷ []) t
 one_more_change [] c t = refl
 one_more_change (d ∷ cs) c t = one_more_change cs c (rows_changed d t)
-
--- ---- the rows whose columns hang on a case
-
-pub fits_master_line : (r : MasterLine) → fits_columns recipe_line_form.columns (row_of_master_line r) ≡ true
-fits_master_line r = go r.line
-  where
-    go : (l : RecipeLine) → fits_columns recipe_line_form.columns (Text r.recipe ∷ number r.version ∷ number r.number ∷ columns_of_line l) ≡ true
-    go (line.In def amount) = refl
-    go (line.Out def amount) = refl
-    go (line.Parameter name value) = refl
-    go (line.Phase unit_procedure operation phase) = refl
-
-pub fits_control_line : (r : ControlLine) → fits_columns control_line_form.columns (row_of_control_line r) ≡ true
-fits_control_line r = go r.line
-  where
-    go : (l : RecipeLine) → fits_columns control_line_form.columns (Text r.batch ∷ number r.number ∷ columns_of_line l) ≡ true
-    go (line.In def amount) = refl
-    go (line.Out def amount) = refl
-    go (line.Parameter name value) = refl
-    go (line.Phase unit_procedure operation phase) = refl
-
-pub fits_batch : (r : BatchRow) → fits_columns batch_form.columns (row_of_batch r) ≡ true
-fits_batch r = go r.closed
-  where
-    go : (closed : Bool) → fits_columns batch_form.columns (row_of_batch (record r { closed = closed })) ≡ true
-    go true = refl
-    go false = refl
-
-pub fits_movement : (r : Movement) → fits_columns movement_form.columns (row_of_movement r) ≡ true
-fits_movement r = go r.kind
-  where
-    go : (k : MovementKind) → fits_columns movement_form.columns (row_of_movement (record r { kind = k })) ≡ true
-    go kind.Received = refl
-    go (kind.Consumed batch) = refl
-    go (kind.Produced batch) = refl
-    go kind.Scrapped = refl
-    go (kind.Divided to) = refl
-    go (kind.Split to) = refl
-    go (kind.Merged to) = refl

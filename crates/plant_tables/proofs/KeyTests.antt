@@ -17,7 +17,7 @@ use Rattle.sqlite_sql.specs.declared.ops.CompareOp.TheVariants.{Eq}
 use Rattle.sqlite_sql.specs.Ops.{binary, is_true, from_truth}
 use Rattle.plant_base.specs.State.{id_cmp, numbered_cmp}
 use Rattle.table_forms.specs.Rows.{same_key}
-use Rattle.plant_tables.specs.Encoding.{number}
+use Rattle.plant_tables_columns.specs.Kinds.{number}
 
 true_is : (b : Bool) → is_true (from_truth (Some b)) ≡ b
 true_is true = refl

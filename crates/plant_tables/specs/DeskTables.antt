@@ -8,7 +8,7 @@ use Rattle.plant_view.specs.Tables.{Tables}
 use Rattle.plant_view.specs.declared.change.RowChange.{RowChange}
 use Rattle.plant_view.specs.declared.change.RowChange.TheVariants as change
 use Rattle.plant_tables.specs.DeskForms.{meta_form, class_form, definition_form, recipe_form, recipe_line_form, job_form, batch_form, control_line_form, batch_event_form, lot_form, sublot_form, movement_form, hold_form}
-use Rattle.plant_tables.specs.Encoding.{row_of_meta, row_of_class, row_of_definition, row_of_recipe, row_of_master_line, row_of_job, row_of_batch, row_of_control_line, row_of_event, row_of_lot, row_of_sublot, row_of_movement, row_of_hold}
+use Rattle.plant_tables_columns.specs.TableColumns.{row_of_meta, row_of_class, row_of_definition, row_of_recipe, row_of_master_line, row_of_job, row_of_batch, row_of_control_line, row_of_event, row_of_lot, row_of_sublot, row_of_movement, row_of_hold}
 
 -- the rows of each table, in the order of the forms
 abbrev pub rows_of : Tables → List (List Row)

@@ -1,5 +1,4 @@
 pub mod DeskForms
-pub mod Encoding
 pub mod DeskTables
 pub mod Keyed
 pub mod DeskStopping

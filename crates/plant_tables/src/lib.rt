@@ -1,9 +1,7 @@
 //! The tables of the desk in a SQLite store: how each is declared, and how its rows are written.
 #![tactic(auto)]
 
-pub mod columns;
 mod commit;
-mod encode;
 pub mod forms;
 mod write;
 

@@ -7,14 +7,14 @@ ghost use Rattle.plant_tables.specs.DeskTables.{rows_changed, all_rows_changed};
 ghost use Rattle.plant_tables.specs.Keyed.{MovesTables};
 ghost use Rattle.plant_base.specs.State.{newest_schema};
 
-use crate::columns::{id, large};
-use crate::encode::{
+use crate::forms;
+use plant_base::{ControlLine, MasterLine, RecipeLine};
+use plant_tables_columns::storing::{id, large};
+use plant_tables_columns::{
     batch_values, class_values, control_line_values, definition_values, event_values, hold_values,
     job_values, lot_values, master_line_values, meta_values, movement_values, recipe_values,
     sublot_values,
 };
-use crate::forms;
-use plant_base::{ControlLine, MasterLine, RecipeLine};
 use plant_view::RowChange;
 use sqlite::{Alter, Transaction};
 use table_forms::{Fault, make_tables, put_row, take_rows};

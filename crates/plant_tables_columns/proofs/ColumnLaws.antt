@@ -1,10 +1,13 @@
 -- What columns that stand side by side keep, from what each keeps.
-use Rattle.std.proofs.Common.{◌≡◌, refl, sym, ap, ap₂, ◌∙◌, subst, ℕ, suc, ◌+◌, ◌<◌, List, [], ◌∷◌, ◌++◌, length, length-append, ◌==◌, true, Option, Some, None, option_map, eqb-true, eq-eqb, arith}
+use Rattle.std.proofs.Common.{◌≡◌, refl, sym, ap, ap₂, ◌∙◌, subst, ℕ, suc, ◌+◌, ◌<◌, List, [], ◌∷◌, ◌++◌, length, ◌==◌, true, Option, Some, None, option_map, eqb-true, eq-eqb, arith}
+use Rattle.std.proofs.lemmas.Bool.{and_parts}
 use Rattle.std.specs.Bool.{⊤}
 use Rattle.sqlite.specs.declared.types.Value.{Value}
 use Rattle.sqlite.specs.declared.types.Value.TheVariants.{Null}
 use Rattle.sqlite.specs.Order.{Row, column}
-use Rattle.plant_tables_columns.specs.Columns.{Columns, one, two, ◌⊗◌, made, read_row}
+use Rattle.sqlite_schema.specs.declared.schema.Column.{Column}
+use Rattle.table_forms.specs.Rows.{fits_columns}
+use Rattle.plant_tables_columns.specs.Columns.{Columns, Kind, one, ◌⊗◌, made, read_row}
 use Rattle.plant_tables_columns.proofs.Options.{bound, mapped, some_same, where_true}
 use Rattle.plant_tables_columns.proofs.KindLaws.{IsKind}
 
@@ -49,68 +52,75 @@ whole (r ∷ row) (v ∷ vs) long h = ap₂ (λ x xs. x ∷ xs) h.0 (whole row v
 
 -- ---- what columns keep
 
--- How columns are read and stored: where something was read, there stand the columns that it is stored as, but for what
--- isn't whole; where the columns of something good and whole stand, it is read; and all that was read is good.
-pub record AreLawful {A : Type 0} (c : Columns A) (stored : A → Row) (good whole : A → Type 0) : Type 0 where
-  pub wide : (a : A) → length (stored a) ≡ c.width
-  pub back : (row : Row) (at : ℕ) (a : A) → c.read row at ≡ Some a → whole a → StandFrom row at (stored a)
-  pub again : (row : Row) (at : ℕ) (a : A) → StandFrom row at (stored a) → good a → whole a → c.read row at ≡ Some a
+-- How columns are stored and read: something is stored as they are declared; where something was read, there stand the
+-- columns that it is stored as, but for what isn't whole; where the columns of something good and whole stand, it is read;
+-- and all that was read is good.
+pub record AreLawful {A : Type 0} (c : Columns A) (good whole : A → Type 0) : Type 0 where
+  pub fits : (a : A) → fits_columns c.declared (c.stored a) ≡ true
+  pub back : (row : Row) (at : ℕ) (a : A) → c.read row at ≡ Some a → whole a → StandFrom row at (c.stored a)
+  pub again : (row : Row) (at : ℕ) (a : A) → StandFrom row at (c.stored a) → good a → whole a → c.read row at ≡ Some a
   pub keeps : (row : Row) (at : ℕ) (a : A) → c.read row at ≡ Some a → good a
 
-pub one_lawful : {A : Type 0} {read : Value → Option A} {stored : A → Value} {good whole : A → Type 0} → IsKind read stored good whole → AreLawful (one read) (λ a. stored a ∷ []) good whole
-one_lawful {A} {read} kind = record {
-  wide = λ a. refl;
-  back = λ row at a h is. (kind.back (column row at) a h is, tt);
-  again = λ row at a h is all. ap read h.0 ∙ kind.again a is all;
-  keeps = λ row at a h. kind.keeps (column row at) a h;
+-- what fits is as wide as what is declared
+fitting_wide : (declared : List Column) (row : Row) → fits_columns declared row ≡ true → length row ≡ length declared
+fitting_wide [] [] h = refl
+fitting_wide [] (v ∷ vs) h = absurd (cc)
+fitting_wide (c ∷ cs) [] h = absurd (cc)
+fitting_wide (c ∷ cs) (v ∷ vs) h = ap suc (fitting_wide cs vs (and_parts _ (fits_columns cs vs) h).1)
+
+pub wide : {A : Type 0} {c : Columns A} {good whole : A → Type 0} → AreLawful c good whole → (a : A) → length (c.stored a) ≡ length c.declared
+wide {A} {c} laws a = fitting_wide c.declared (c.stored a) (laws.fits a)
+
+-- columns side by side fit where each does
+fits_beside : (declared more : List Column) (row rest : Row) → fits_columns declared row ≡ true → fits_columns more rest ≡ true → fits_columns (declared ++ more) (row ++ rest) ≡ true
+fits_beside [] more [] rest h k = k
+fits_beside [] more (v ∷ vs) rest h k = absurd (cc)
+fits_beside (c ∷ cs) more [] rest h k = absurd (cc)
+fits_beside (c ∷ cs) more (v ∷ vs) rest h k = let parts = and_parts _ (fits_columns cs vs) h in rw (parts.0, fits_beside cs more vs rest parts.1 k) refl
+
+pub one_lawful : {A : Type 0} {name : List ℕ} {kind : Kind A} {good whole : A → Type 0} → IsKind kind good whole → AreLawful (one name kind) good whole
+one_lawful {A} {name} {kind} laws = record {
+  fits = laws.fits name;
+  back = λ row at a h is. (laws.back (column row at) a h is, tt);
+  again = λ row at a h is all. ap kind.read h.0 ∙ laws.again a is all;
+  keeps = λ row at a h. laws.keeps (column row at) a h;
 }
 
-pub two_lawful : {A : Type 0} {read : Value → Value → Option A} {first second : A → Value} {good : A → Type 0}
-    → ((v w : Value) (a : A) → read v w ≡ Some a → (v ≡ first a) × (w ≡ second a))
-    → ((a : A) → good a → read (first a) (second a) ≡ Some a)
-    → ((v w : Value) (a : A) → read v w ≡ Some a → good a)
-    → AreLawful (two read) (λ a. first a ∷ second a ∷ []) good (λ _. ⊤)
-two_lawful {A} {read} {first} {second} {good} back again keeps = record {
-  wide = λ a. refl;
-  back = λ row at a h _. let is = back (column row at) (column row (at + 1)) a h in let next : at + 1 ≡ suc at = omega arith in (is.0, (subst (λ k. column row k ≡ second a) next is.1, tt));
-  again = λ row at a h is _. let next : suc at ≡ at + 1 = omega arith in ap₂ read h.0 (subst (λ k. column row k ≡ second a) next h.1.0) ∙ again a is;
-  keeps = λ row at a h. keeps (column row at) (column row (at + 1)) a h;
-}
-
-pub beside_lawful : {A B : Type 0} {a : Columns A} {b : Columns B} {stored_a : A → Row} {stored_b : B → Row} {good_a whole_a : A → Type 0} {good_b whole_b : B → Type 0}
-    → AreLawful a stored_a good_a whole_a → AreLawful b stored_b good_b whole_b
-    → AreLawful (a ⊗ b) (λ p. stored_a p.0 ++ stored_b p.1) (λ p. good_a p.0 × good_b p.1) (λ p. whole_a p.0 × whole_b p.1)
-beside_lawful {A} {B} {a} {b} {stored_a} {stored_b} {good_a} {whole_a} {good_b} {whole_b} left right = record {
-  wide = λ p. length-append (stored_a p.0) (stored_b p.1) ∙ ap₂ (λ m n. m + n) (left.wide p.0) (right.wide p.1);
+infixr 11 ◌⊕◌
+pub ◌⊕◌ : {A B : Type 0} {a : Columns A} {b : Columns B} {good_a whole_a : A → Type 0} {good_b whole_b : B → Type 0}
+    → AreLawful a good_a whole_a → AreLawful b good_b whole_b
+    → AreLawful (a ⊗ b) (λ p. good_a p.0 × good_b p.1) (λ p. whole_a p.0 × whole_b p.1)
+◌⊕◌ {A} {B} {a} {b} {good_a} {whole_a} {good_b} {whole_b} left right = record {
+  fits = λ p. fits_beside a.declared b.declared (a.stored p.0) (b.stored p.1) (left.fits p.0) (right.fits p.1);
   back = λ row at p h is.
       let x = bound (a.read row at) _ p h in
-      let y = bound (b.read row (at + a.width)) _ p x.2 in
+      let y = bound (b.read row (at + length a.declared)) _ p x.2 in
       let same : (x.0, y.0) ≡ p = some_same _ _ y.2 in
-      subst (λ q. whole_a q.0 × whole_b q.1 → StandFrom row at (stored_a q.0 ++ stored_b q.1)) same (λ all.
-      stand_join row at (stored_a x.0) (stored_b y.0) (left.back row at x.0 x.1 all.0)
-      (subst (λ n. StandFrom row (at + n) (stored_b y.0)) (sym (left.wide x.0)) (right.back row (at + a.width) y.0 y.1 all.1))) is;
+      subst (λ q. whole_a q.0 × whole_b q.1 → StandFrom row at (a.stored q.0 ++ b.stored q.1)) same (λ all.
+      stand_join row at (a.stored x.0) (b.stored y.0) (left.back row at x.0 x.1 all.0)
+      (subst (λ n. StandFrom row (at + n) (b.stored y.0)) (sym (wide left x.0)) (right.back row (at + length a.declared) y.0 y.1 all.1))) is;
   again = λ row at p h good is.
-      let first = left.again row at p.0 (stand_front row at (stored_a p.0) (stored_b p.1) h) good.0 is.0 in
-      let rest = subst (λ n. StandFrom row (at + n) (stored_b p.1)) (left.wide p.0) (stand_rest row at (stored_a p.0) (stored_b p.1) h) in
-      let second = right.again row (at + a.width) p.1 rest good.1 is.1 in
+      let first = left.again row at p.0 (stand_front row at (a.stored p.0) (b.stored p.1) h) good.0 is.0 in
+      let rest = subst (λ n. StandFrom row (at + n) (b.stored p.1)) (wide left p.0) (stand_rest row at (a.stored p.0) (b.stored p.1) h) in
+      let second = right.again row (at + length a.declared) p.1 rest good.1 is.1 in
       rw (first, second) refl;
   keeps = λ row at p h.
       let x = bound (a.read row at) _ p h in
-      let y = bound (b.read row (at + a.width)) _ p x.2 in
+      let y = bound (b.read row (at + length a.declared)) _ p x.2 in
       let same : (x.0, y.0) ≡ p = some_same _ _ y.2 in
-      subst (λ q. good_a q.0 × good_b q.1) same (left.keeps row at x.0 x.1, right.keeps row (at + a.width) y.0 y.1);
+      subst (λ q. good_a q.0 × good_b q.1) same (left.keeps row at x.0 x.1, right.keeps row (at + length a.declared) y.0 y.1);
 }
 
 -- what is made of columns and taken apart again
-pub made_lawful : {A B : Type 0} {c : Columns A} {stored : A → Row} {good whole : A → Type 0} (make : A → B) (parts : B → A)
+pub made_lawful : {A B : Type 0} {c : Columns A} {good whole : A → Type 0} (make : A → B) (parts : B → A)
     → ((b : B) → make (parts b) ≡ b) → ((a : A) → parts (make a) ≡ a)
-    → AreLawful c stored good whole → AreLawful (made make c) (λ b. stored (parts b)) (λ b. good (parts b)) (λ b. whole (parts b))
-made_lawful {A} {B} {c} {stored} {good} {whole} make parts made_again same_parts laws = record {
-  wide = λ b. laws.wide (parts b);
+    → AreLawful c good whole → AreLawful (made make parts c) (λ b. good (parts b)) (λ b. whole (parts b))
+made_lawful {A} {B} {c} {good} {whole} make parts made_again same_parts laws = record {
+  fits = λ b. laws.fits (parts b);
   back = λ row at b h is.
       let p = mapped make (c.read row at) b h in
       let same : p.0 ≡ parts b = sym (same_parts p.0) ∙ ap parts p.2 in
-      subst (λ a. whole a → StandFrom row at (stored a)) same (laws.back row at p.0 p.1) is;
+      subst (λ a. whole a → StandFrom row at (c.stored a)) same (laws.back row at p.0 p.1) is;
   again = λ row at b h is all. ap (option_map make) (laws.again row at (parts b) h is all) ∙ ap Some (made_again b);
   keeps = λ row at b h.
       let p = mapped make (c.read row at) b h in
@@ -119,11 +129,11 @@ made_lawful {A} {B} {c} {stored} {good} {whole} make parts made_again same_parts
 }
 
 -- the same laws in other words
-pub in_words : {A : Type 0} {c : Columns A} {stored : A → Row} {good whole : A → Type 0} (IsGood IsWhole : A → Type 0)
+pub in_words : {A : Type 0} {c : Columns A} {good whole : A → Type 0} (IsGood IsWhole : A → Type 0)
     → ((a : A) → good a → IsGood a) → ((a : A) → IsGood a → good a) → ((a : A) → IsWhole a → whole a)
-    → AreLawful c stored good whole → AreLawful c stored IsGood IsWhole
+    → AreLawful c good whole → AreLawful c IsGood IsWhole
 in_words IsGood IsWhole told meant is_whole laws = record {
-  wide = laws.wide;
+  fits = laws.fits;
   back = λ row at a h is. laws.back row at a h (is_whole a is);
   again = λ row at a h is all. laws.again row at a h (meant a is) (is_whole a all);
   keeps = λ row at a h. told a (laws.keeps row at a h);
@@ -131,15 +141,15 @@ in_words IsGood IsWhole told meant is_whole laws = record {
 
 -- ---- whole rows
 
-pub row_back : {A : Type 0} {c : Columns A} {stored : A → Row} {good whole : A → Type 0} → AreLawful c stored good whole → (row : Row) (a : A) → read_row c row ≡ Some a → whole a → row ≡ stored a
-row_back {A} {c} {stored} laws row a h is =
-    let p = where_true (length row == c.width) (c.read row 0) a h in
-    whole row (stored a) (eqb-true (length row) c.width p.0 ∙ sym (laws.wide a)) (laws.back row 0 a p.1 is)
+pub row_back : {A : Type 0} {c : Columns A} {good all_there : A → Type 0} → AreLawful c good all_there → (row : Row) (a : A) → read_row c row ≡ Some a → all_there a → row ≡ c.stored a
+row_back {A} {c} laws row a h is =
+    let p = where_true (length row == length c.declared) (c.read row 0) a h in
+    whole row (c.stored a) (eqb-true (length row) (length c.declared) p.0 ∙ sym (wide laws a)) (laws.back row 0 a p.1 is)
 
-pub row_again : {A : Type 0} {c : Columns A} {stored : A → Row} {good whole : A → Type 0} → AreLawful c stored good whole → (a : A) → good a → whole a → read_row c (stored a) ≡ Some a
-row_again {A} {c} {stored} laws a is all =
-    let wide : (length (stored a) == c.width) ≡ true = eq-eqb (length (stored a)) c.width (laws.wide a) in
-    rw wide (laws.again (stored a) 0 a (stand_itself (stored a)) is all)
+pub row_again : {A : Type 0} {c : Columns A} {good all_there : A → Type 0} → AreLawful c good all_there → (a : A) → good a → all_there a → read_row c (c.stored a) ≡ Some a
+row_again {A} {c} laws a is all =
+    let same_width : (length (c.stored a) == length c.declared) ≡ true = eq-eqb (length (c.stored a)) (length c.declared) (wide laws a) in
+    rw same_width (laws.again (c.stored a) 0 a (stand_itself (c.stored a)) is all)
 
-pub row_keeps : {A : Type 0} {c : Columns A} {stored : A → Row} {good whole : A → Type 0} → AreLawful c stored good whole → (row : Row) (a : A) → read_row c row ≡ Some a → good a
-row_keeps {A} {c} laws row a h = let p = where_true (length row == c.width) (c.read row 0) a h in laws.keeps row 0 a p.1
+pub row_keeps : {A : Type 0} {c : Columns A} {good all_there : A → Type 0} → AreLawful c good all_there → (row : Row) (a : A) → read_row c row ≡ Some a → good a
+row_keeps {A} {c} laws row a h = let p = where_true (length row == length c.declared) (c.read row 0) a h in laws.keeps row 0 a p.1

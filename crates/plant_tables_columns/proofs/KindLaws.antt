@@ -1,5 +1,5 @@
 -- What one value was read from, and what is read of a value that obeys its rule.
-use Rattle.std.proofs.Common.{◌≡◌, refl, sym, ap, ◌∙◌, subst, ℕ, zero, suc, ◌≤◌, ℤ, pos, negsuc, List, Bool, true, false, ◌&&◌, ◌==◌, length, [], Option, Some, None, option_map, nat_le, eqb-true, arith}
+use Rattle.std.proofs.Common.{◌≡◌, refl, sym, ap, ◌∙◌, subst, ℕ, zero, suc, ◌≤◌, ℤ, pos, negsuc, List, ◌∷◌, Bool, true, false, ◌&&◌, ◌==◌, length, [], Option, Some, None, option_map, nat_le, eqb-true, arith}
 use Rattle.std.proofs.lemmas.Bool.{and_parts}
 use Rattle.std.proofs.lemmas.Bool.Decides.{nat_tests}
 use Rattle.std.specs.Prelude.{if◌then◌else◌, option_and_then, unwrap_or}
@@ -8,16 +8,21 @@ use Rattle.sqlite.specs.declared.types.Value.{Value}
 use Rattle.sqlite.specs.declared.types.Value.TheVariants.{Null, Int, Real, Text, Blob}
 use Rattle.plant_base.specs.Values.{only, is_id, is_text, is_unit, greatest_sublot}
 use Rattle.plant_base.specs.Dates.{is_due}
-use Rattle.plant_tables.specs.Encoding.{number, flag}
-use Rattle.plant_tables_columns.specs.Reading.{text_in, integer_in, is_null, by_text, by_number, id_from, text_from, unit_from, due_from, is_in, number_in, number_from, one_from, sublot_number_from, line_number, line_number_from, flag_from, or_null, id_or_null, sublot_or_null}
+use Rattle.sqlite_schema.specs.declared.schema.Column.{Column}
+use Rattle.table_forms.specs.Forms.{integer, text, integer_or_null, text_or_null}
+use Rattle.table_forms.specs.Rows.{fits_columns}
+use Rattle.plant_tables_columns.specs.Columns.{Kind}
+use Rattle.plant_tables_columns.specs.Kinds.{number, flag, null_or, ids, texts, units, dues, numbers, line_numbers, always_one, flags, ids_or_none, sublot_numbers_or_none}
+use Rattle.plant_tables_columns.specs.Reading.{text_in, integer_in, is_null, by_text, by_number, id_from, text_from, unit_from, due_from, is_in, number_in, number_from, sublot_number_from, line_number, line_number_from, flag_from, or_null, id_or_null, sublot_or_null}
 use Rattle.plant_tables_columns.proofs.Options.{bound, mapped, some_same, only_back, only_again}
 
--- How a kind of value is read of a column and stored in it: what was read is what was stored, but for one that isn't
--- whole; a good one that is whole is read again; and each that was read is good.
-pub record IsKind {A : Type 0} (read : Value → Option A) (stored : A → Value) (good whole : A → Type 0) : Type 0 where
-  pub back : (v : Value) (a : A) → read v ≡ Some a → whole a → v ≡ stored a
-  pub again : (a : A) → good a → whole a → read (stored a) ≡ Some a
-  pub keeps : (v : Value) (a : A) → read v ≡ Some a → good a
+-- How a kind of value is stored in a column and read of it: it is stored as the column is declared; what was read is what
+-- was stored, but for one that isn't whole; a good one that is whole is read again; and each that was read is good.
+pub record IsKind {A : Type 0} (kind : Kind A) (good whole : A → Type 0) : Type 0 where
+  pub fits : (name : List ℕ) (a : A) → fits_columns (kind.declared name ∷ []) (kind.stored a ∷ []) ≡ true
+  pub back : (v : Value) (a : A) → kind.read v ≡ Some a → whole a → v ≡ kind.stored a
+  pub again : (a : A) → good a → whole a → kind.read (kind.stored a) ≡ Some a
+  pub keeps : (v : Value) (a : A) → kind.read v ≡ Some a → good a
 
 -- nothing more is asked
 abbrev pub Any : {A : Type 0} → A → Type 0
@@ -36,29 +41,30 @@ pub text_kind : {A : Type 0} (read : List ℕ → Option A) (stored : A → List
     → ((bytes : List ℕ) (a : A) → read bytes ≡ Some a → bytes ≡ stored a)
     → ((a : A) → good a → read (stored a) ≡ Some a)
     → ((bytes : List ℕ) (a : A) → read bytes ≡ Some a → good a)
-    → IsKind (by_text read) (λ a. Text (stored a)) good Any
+    → IsKind (record { declared = text; stored = λ a. Text (stored a); read = by_text read }) good Any
 text_kind read stored good back again keeps = record {
+  fits = λ name a. refl;
   back = λ v a h _. let p = bound (text_in v) read a h in text_is v p.0 p.1 ∙ ap Text (back p.0 a p.2);
   again = λ a is _. again a is;
   keeps = λ v a h. let p = bound (text_in v) read a h in keeps p.0 a p.2;
 }
 
-only_kind : (obeys : List ℕ → Bool) → IsKind (by_text (only obeys)) Text (λ a. obeys a ≡ true) Any
+only_kind : (obeys : List ℕ → Bool) → IsKind (record { declared = text; stored = Text; read = by_text (only obeys) }) (λ a. obeys a ≡ true) Any
 only_kind obeys = text_kind (only obeys) (λ a. a) (λ a. obeys a ≡ true) (λ bytes a h. (only_back obeys bytes a h).0) (only_again obeys) (λ bytes a h. (only_back obeys bytes a h).1)
 
-pub id_kind : IsKind id_from Text (λ a. is_id a ≡ true) Any
+pub id_kind : IsKind ids (λ a. is_id a ≡ true) Any
 unfolding id_from
 id_kind = only_kind is_id
 
-pub text_like : IsKind text_from Text (λ a. is_text a ≡ true) Any
+pub text_like : IsKind texts (λ a. is_text a ≡ true) Any
 unfolding text_from
 text_like = only_kind is_text
 
-pub unit_kind : IsKind unit_from Text (λ a. is_unit a ≡ true) Any
+pub unit_kind : IsKind units (λ a. is_unit a ≡ true) Any
 unfolding unit_from
 unit_kind = only_kind is_unit
 
-pub due_kind : IsKind due_from Text (λ a. is_due a ≡ true) Any
+pub due_kind : IsKind dues (λ a. is_due a ≡ true) Any
 unfolding due_from
 due_kind = only_kind is_due
 
@@ -75,8 +81,9 @@ pub integer_kind : {A : Type 0} (read : ℤ → Option A) (stored : A → ℤ) (
     → ((n : ℤ) (a : A) → read n ≡ Some a → whole a → n ≡ stored a)
     → ((a : A) → good a → whole a → read (stored a) ≡ Some a)
     → ((n : ℤ) (a : A) → read n ≡ Some a → good a)
-    → IsKind (by_number read) (λ a. Int (stored a)) good whole
+    → IsKind (record { declared = integer; stored = λ a. Int (stored a); read = by_number read }) good whole
 integer_kind read stored good whole back again keeps = record {
+  fits = λ name a. refl;
   back = λ v a h is. let p = bound (integer_in v) read a h in integer_is v p.0 p.1 ∙ ap Int (back p.0 a p.2 is);
   again = again;
   keeps = λ v a h. let p = bound (integer_in v) read a h in keeps p.0 a p.2;
@@ -102,21 +109,23 @@ up_to high n h =
     let least : nat_le 0 n ≡ true = grind (arith, nat_tests) in
     rw (least, h) refl
 
-pub number_kind : (low high : ℕ) → IsKind (number_from low high) number (λ n. is_in low high n ≡ true) Any
+pub number_kind : (low high : ℕ) → IsKind (numbers low high) (λ n. is_in low high n ≡ true) Any
 unfolding number_from
 number_kind low high = integer_kind (number_in low high) pos (λ n. is_in low high n ≡ true) Any (λ z n h _. number_back low high z n h) (λ n good _. number_again low high n good) (number_keeps low high)
 
 -- the same in the words of a greatest number
-pub below_kind : (high : ℕ) → IsKind (number_from 0 high) number (λ n. nat_le n high ≡ true) Any
+pub below_kind : (high : ℕ) → IsKind (numbers 0 high) (λ n. nat_le n high ≡ true) Any
 below_kind high = record {
+  fits = (number_kind 0 high).fits;
   back = (number_kind 0 high).back;
   again = λ n most _. (number_kind 0 high).again n (up_to high n most) tt;
   keeps = λ v n h. (and_parts (nat_le 0 n) (nat_le n high) ((number_kind 0 high).keeps v n h)).1;
 }
 
 -- the number 1
-pub one_kind : IsKind one_from (λ _. number 1) Any Any
+pub one_kind : IsKind always_one Any Any
 one_kind = record {
+  fits = λ name a. refl;
   back = λ v a h _.
       let p = mapped (λ n. tt) (number_from 1 1 v) a h in
       let parts = and_parts (nat_le 1 p.0) (nat_le p.0 1) ((number_kind 1 1).keeps v p.0 p.1) in
@@ -156,7 +165,7 @@ numbered_again n most least =
     let good : is_in 1 65535 n ≡ true = rw (low, high) refl in
     rw (number_again 1 65535 n good) refl
 
-pub line_number_kind : IsKind line_number_from number (λ n. n ≤ 65535) IsNumbered
+pub line_number_kind : IsKind line_numbers (λ n. n ≤ 65535) IsNumbered
 unfolding line_number_from
 line_number_kind = integer_kind (λ n. Some (line_number n)) pos (λ n. n ≤ 65535) IsNumbered (λ z n h low. numbered_back z n (some_same _ _ h) low) (λ n most least. ap Some (numbered_again n most least)) (λ z n h. numbered_keeps z n (some_same _ _ h))
 
@@ -176,15 +185,14 @@ unfolding flag_from
 flag_again true = ap (option_map (λ k. nat_le 1 k)) ((number_kind 0 1).again 1 refl tt)
 flag_again false = ap (option_map (λ k. nat_le 1 k)) ((number_kind 0 1).again 0 refl tt)
 
-pub flag_kind : IsKind flag_from flag Any Any
-flag_kind = record { back = λ v b h _. flag_back v b h; again = λ b _ _. flag_again b; keeps = λ v b h. tt }
+flag_fits : (name : List ℕ) (b : Bool) → fits_columns (integer name ∷ []) (flag b ∷ []) ≡ true
+flag_fits name true = refl
+flag_fits name false = refl
+
+pub flag_kind : IsKind flags Any Any
+flag_kind = record { fits = flag_fits; back = λ v b h _. flag_back v b h; again = λ b _ _. flag_again b; keeps = λ v b h. tt }
 
 -- ---- what may be left out
-
--- the column of a value or none
-abbrev pub null_or : {A : Type 0} → (A → Value) → Option A → Value
-null_or stored None = Null
-null_or stored (Some a) = stored a
 
 abbrev pub GoodOrNone : {A : Type 0} → (A → Type 0) → Option A → Type 0
 GoodOrNone good None = ⊤
@@ -197,29 +205,43 @@ null_is (Real x) h = absurd (cc)
 null_is (Text bytes) h = absurd (cc)
 null_is (Blob bytes) h = absurd (cc)
 
-pub or_null_kind : {A : Type 0} (read : Value → Option A) (stored : A → Value) (good : A → Type 0) → IsKind read stored good Any → ((a : A) → is_null (stored a) ≡ false) → IsKind (or_null read) (null_or stored) (GoodOrNone good) Any
-or_null_kind {A} read stored good kind there = record { back = λ v o h _. back v o h; again = λ o is _. again o is; keeps = keeps }
+pub or_null_kind : {A : Type 0} (declared : List ℕ → Column) (read : Value → Option A) (stored : A → Value) (good : A → Type 0)
+    → ((name : List ℕ) (o : Option A) → fits_columns (declared name ∷ []) (null_or stored o ∷ []) ≡ true)
+    → ((v : Value) (a : A) → read v ≡ Some a → v ≡ stored a)
+    → ((a : A) → good a → read (stored a) ≡ Some a)
+    → ((v : Value) (a : A) → read v ≡ Some a → good a)
+    → ((a : A) → is_null (stored a) ≡ false)
+    → IsKind (record { declared = declared; stored = null_or stored; read = or_null read }) (GoodOrNone good) Any
+or_null_kind {A} declared read stored good fit backward again_one keeps_one there = record { fits = fit; back = λ v o h _. back v o h; again = λ o is _. again o is; keeps = keeps }
   where
     back : (v : Value) (o : Option A) → or_null read v ≡ Some o → v ≡ null_or stored o
     back v o h = elim (is_null v) as (λ b. is_null v ≡ b → (if b then Some None else option_map Some (read v)) ≡ Some o → v ≡ null_or stored o) [
       | true ↦ λ e f. null_is v e ∙ ap (null_or stored) (some_same None o f)
-      | false ↦ λ e f. let p = mapped Some (read v) o f in kind.back v p.0 p.1 tt ∙ ap (null_or stored) p.2
+      | false ↦ λ e f. let p = mapped Some (read v) o f in backward v p.0 p.1 ∙ ap (null_or stored) p.2
     ] refl h
 
     again : (o : Option A) → GoodOrNone good o → or_null read (null_or stored o) ≡ Some o
     again None is = refl
-    again (Some a) is = rw (there a, kind.again a is tt) refl
+    again (Some a) is = rw (there a, again_one a is) refl
 
     keeps : (v : Value) (o : Option A) → or_null read v ≡ Some o → GoodOrNone good o
     keeps v o h = elim (is_null v) as (λ b. (if b then Some None else option_map Some (read v)) ≡ Some o → GoodOrNone good o) [
       | true ↦ λ f. subst (GoodOrNone good) (some_same None o f) tt
-      | false ↦ λ f. let p = mapped Some (read v) o f in subst (GoodOrNone good) p.2 (kind.keeps v p.0 p.1)
+      | false ↦ λ f. let p = mapped Some (read v) o f in subst (GoodOrNone good) p.2 (keeps_one v p.0 p.1)
     ] h
 
-pub optional_id_kind : IsKind id_or_null (null_or Text) (GoodOrNone (λ a. is_id a ≡ true)) Any
-unfolding id_or_null
-optional_id_kind = or_null_kind id_from Text (λ a. is_id a ≡ true) id_kind (λ a. refl)
+id_fits : (name : List ℕ) (o : Option (List ℕ)) → fits_columns (text_or_null name ∷ []) (null_or Text o ∷ []) ≡ true
+id_fits name None = refl
+id_fits name (Some id) = refl
 
-pub optional_sublot_kind : IsKind sublot_or_null (null_or number) (GoodOrNone (λ n. nat_le n greatest_sublot ≡ true)) Any
+pub optional_id_kind : IsKind ids_or_none (GoodOrNone (λ a. is_id a ≡ true)) Any
+unfolding id_or_null
+optional_id_kind = or_null_kind text_or_null id_from Text (λ a. is_id a ≡ true) id_fits (λ v a h. id_kind.back v a h tt) (λ a is. id_kind.again a is tt) id_kind.keeps (λ a. refl)
+
+number_fits : (name : List ℕ) (o : Option ℕ) → fits_columns (integer_or_null name ∷ []) (null_or number o ∷ []) ≡ true
+number_fits name None = refl
+number_fits name (Some n) = refl
+
+pub optional_sublot_kind : IsKind sublot_numbers_or_none (GoodOrNone (λ n. nat_le n greatest_sublot ≡ true)) Any
 unfolding sublot_or_null
-optional_sublot_kind = or_null_kind sublot_number_from number (λ n. nat_le n greatest_sublot ≡ true) (below_kind greatest_sublot) (λ a. refl)
+optional_sublot_kind = or_null_kind integer_or_null sublot_number_from number (λ n. nat_le n greatest_sublot ≡ true) number_fits (λ v a h. (below_kind greatest_sublot).back v a h tt) (λ a is. (below_kind greatest_sublot).again a is tt) (below_kind greatest_sublot).keeps (λ a. refl)

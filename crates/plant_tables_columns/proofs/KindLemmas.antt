@@ -1,25 +1,16 @@
--- The columns that a movement's kind asks for, and the movement of a row that has them.
+-- What a movement's kind asks of its columns, and the movement of a row that has them.
 use Rattle.std.proofs.Common.{◌≡◌, refl, sym, ap, ◌∙◌, subst, ℕ, List, [], ◌∷◌, ◌++◌, true, ◌&&◌, Option, Some, None, eqb-true}
 use Rattle.std.specs.Prelude.{is_none}
 use Rattle.std.proofs.lemmas.Bool.{and_parts}
-use Rattle.sqlite.specs.declared.types.Value.TheVariants.{Text}
-use Rattle.sqlite.specs.Order.{Row}
 use Rattle.plant_base.specs.declared.rows.MovementKind.{MovementKind}
 use Rattle.plant_base.specs.declared.rows.MovementKind.TheVariants as kind
 use Rattle.plant_base.specs.declared.rows.Movement.{Movement}
 use Rattle.plant_base.proofs.Keys.{same_id, same_itself}
-use Rattle.plant_tables.specs.Encoding.{number, kind_number, columns_of_kind, row_of_movement}
-use Rattle.plant_tables_columns.specs.Naming.{movement_sort_number}
 use Rattle.plant_tables_columns.specs.Booked.{names_nothing, batch_named, is_zero, lot_named, is_lot, sublot_named, kind_of_sort, kind_from, moved_as, movement_from, sort_of, other_lot, other_sublot, batch_of, booked_of}
 use Rattle.plant_tables_columns.specs.declared.booked.MovementSort.{MovementSort}
 use Rattle.plant_tables_columns.specs.declared.booked.MovementSort.TheVariants as sort
 use Rattle.plant_tables_columns.specs.declared.booked.BookedRow.{BookedRow}
 use Rattle.plant_tables_columns.proofs.Options.{mapped, some_same, where_true}
-use Rattle.plant_tables_columns.proofs.KindLaws.{null_or}
-
--- what a row names beside its sublot, as columns
-abbrev pub other_columns : Option (List ℕ) → Option ℕ → Option (List ℕ) → Row
-other_columns lot sub batch = null_or Text lot ∷ null_or number sub ∷ null_or Text batch ∷ []
 
 no_id : (o : Option (List ℕ)) → is_none o ≡ true → o ≡ None
 no_id None h = refl
@@ -42,9 +33,6 @@ pub record Names (r : BookedRow) (lot : Option (List ℕ)) (sub : Option ℕ) (b
   pub other_lot : r.lot2 ≡ lot
   pub other_sub : r.sub2 ≡ sub
   pub its_batch : r.batch ≡ batch
-
-named_columns : {r : BookedRow} {lot : Option (List ℕ)} {sub : Option ℕ} {batch : Option (List ℕ)} → Names r lot sub batch → other_columns r.lot2 r.sub2 r.batch ≡ other_columns lot sub batch
-named_columns n = λ i. other_columns (n.other_lot i) (n.other_sub i) (n.its_batch i)
 
 pub nothing_named : (r : BookedRow) → names_nothing r ≡ true → Names r None None None
 nothing_named r h =
@@ -70,68 +58,47 @@ one_sublot r to h =
     let inner = and_parts (is_lot r.lot r.lot2) (is_none r.batch) parts.0 in
     record { other_lot = own_lot r.lot r.lot2 inner.0; other_sub = parts.1; its_batch = no_id r.batch inner.1 }
 
--- the row has the columns of this kind
+-- the row names what this kind asks for
 pub record FitsKind (s : MovementSort) (r : BookedRow) (k : MovementKind) : Type 0 where
-  pub is_sort : movement_sort_number s ≡ kind_number k
-  pub are_columns : other_columns r.lot2 r.sub2 r.batch ≡ columns_of_kind k r.lot
+  pub is_sort : s ≡ sort_of k
+  pub names : Names r (other_lot k r.lot) (other_sublot k) (batch_of k)
 
 sort_fits : (s : MovementSort) (r : BookedRow) (k : MovementKind) → kind_of_sort s r ≡ Some k → FitsKind s r k
 sort_fits sort.Received r k h =
     let parts = where_true (names_nothing r) (Some kind.Received) k h in
-    subst (FitsKind sort.Received r) (some_same _ _ parts.1) (record { is_sort = refl; are_columns = named_columns (nothing_named r parts.0) })
+    subst (FitsKind sort.Received r) (some_same _ _ parts.1) (record { is_sort = refl; names = nothing_named r parts.0 })
 sort_fits sort.Consumed r k h =
     let read = mapped kind.Consumed (batch_named r) k h in
-    subst (FitsKind sort.Consumed r) read.2 (record { is_sort = refl; are_columns = named_columns (one_batch r read.0 read.1) })
+    subst (FitsKind sort.Consumed r) read.2 (record { is_sort = refl; names = one_batch r read.0 read.1 })
 sort_fits sort.Produced r k h =
     let read = mapped kind.Produced (batch_named r) k h in
-    subst (FitsKind sort.Produced r) read.2 (record { is_sort = refl; are_columns = named_columns (one_batch r read.0 read.1) })
+    subst (FitsKind sort.Produced r) read.2 (record { is_sort = refl; names = one_batch r read.0 read.1 })
 sort_fits sort.Scrapped r k h =
     let parts = where_true (names_nothing r) (Some kind.Scrapped) k h in
-    subst (FitsKind sort.Scrapped r) (some_same _ _ parts.1) (record { is_sort = refl; are_columns = named_columns (nothing_named r parts.0) })
+    subst (FitsKind sort.Scrapped r) (some_same _ _ parts.1) (record { is_sort = refl; names = nothing_named r parts.0 })
 sort_fits sort.Divided r k h =
     let read = mapped kind.Divided (sublot_named r) k h in
-    subst (FitsKind sort.Divided r) read.2 (record { is_sort = refl; are_columns = named_columns (one_sublot r read.0 read.1) })
+    subst (FitsKind sort.Divided r) read.2 (record { is_sort = refl; names = one_sublot r read.0 read.1 })
 sort_fits sort.Split r k h =
     let read = mapped kind.Split (lot_named r) k h in
-    subst (FitsKind sort.Split r) read.2 (record { is_sort = refl; are_columns = named_columns (one_lot r read.0 read.1) })
+    subst (FitsKind sort.Split r) read.2 (record { is_sort = refl; names = one_lot r read.0 read.1 })
 sort_fits sort.Merged r k h =
     let read = mapped kind.Merged (lot_named r) k h in
-    subst (FitsKind sort.Merged r) read.2 (record { is_sort = refl; are_columns = named_columns (one_lot r read.0 read.1) })
+    subst (FitsKind sort.Merged r) read.2 (record { is_sort = refl; names = one_lot r read.0 read.1 })
 
--- the columns of a row that books whatever it names
-abbrev pub row_of_booked : BookedRow → Row
-row_of_booked r =
-    number r.seq ∷ number r.line ∷ number (movement_sort_number r.sort) ∷ Text r.lot ∷ number r.sub ∷ null_or Text r.lot2 ∷ null_or number r.sub2 ∷ null_or Text r.batch ∷ number r.amount ∷ number r.at ∷ Text r.by ∷ Text r.note ∷ []
-
--- the row's columns are those of its movement
-pub movement_back : (r : BookedRow) (m : Movement) → movement_from r ≡ Some m → row_of_booked r ≡ row_of_movement m
+-- the row is the one that books its movement
+pub movement_back : (r : BookedRow) (m : Movement) → movement_from r ≡ Some m → r ≡ booked_of m
 unfolding movement_from
 movement_back r m h =
     let read = mapped (moved_as r) (kind_from r) m h in
     let fits = sort_fits r.sort r read.0 read.1 in
-    joined r (movement_sort_number r.sort) (kind_number read.0) fits.is_sort (other_columns r.lot2 r.sub2 r.batch) (columns_of_kind read.0 r.lot) fits.are_columns ∙ ap row_of_movement read.2
-  where
-    joined : (r : BookedRow) (s k : ℕ) → s ≡ k → (others columns : Row) → others ≡ columns
-        → ◌≡◌ {A = Row} (number r.seq ∷ number r.line ∷ number s ∷ Text r.lot ∷ number r.sub ∷ (others ++ number r.amount ∷ number r.at ∷ Text r.by ∷ Text r.note ∷ []))
-        (number r.seq ∷ number r.line ∷ number k ∷ Text r.lot ∷ number r.sub ∷ (columns ++ number r.amount ∷ number r.at ∷ Text r.by ∷ Text r.note ∷ []))
-    joined r s k e others columns f = λ i. number r.seq ∷ number r.line ∷ number (e i) ∷ Text r.lot ∷ number r.sub ∷ (f i ++ number r.amount ∷ number r.at ∷ Text r.by ∷ Text r.note ∷ [])
+    let named = fits.names in
+    (λ i. record r { sort = fits.is_sort i; lot2 = named.other_lot i; sub2 = named.other_sub i; batch = named.its_batch i }) ∙ ap booked_of read.2
 
 -- the row that books a movement has its line
 pub same_line : (r : BookedRow) (m : Movement) → movement_from r ≡ Some m → m.line ≡ r.line
 unfolding movement_from
 same_line r m h = let read = mapped (moved_as r) (kind_from r) m h in ap (λ m. m.line) (sym read.2)
-
--- the row that books a movement has its columns
-pub columns_of_booked : (m : Movement) → row_of_movement m ≡ row_of_booked (booked_of m)
-columns_of_booked m = elim m.kind as (λ k. row_of_movement (record m { kind = k }) ≡ row_of_booked (booked_of (record m { kind = k }))) [
-  | kind.Received ↦ refl
-  | kind.Consumed batch ↦ refl
-  | kind.Produced batch ↦ refl
-  | kind.Scrapped ↦ refl
-  | kind.Divided to ↦ refl
-  | kind.Split to ↦ refl
-  | kind.Merged to ↦ refl
-]
 
 own_kind : (k : MovementKind) (r : BookedRow) → r.sort ≡ sort_of k → r.lot2 ≡ other_lot k r.lot → r.sub2 ≡ other_sublot k → r.batch ≡ batch_of k → kind_from r ≡ Some k
 own_kind kind.Received r s a b c = rw (s, a, b, c) refl

@@ -9,10 +9,13 @@ use Rattle.plant_base.specs.Values.{is_id, is_amount, greatest_amount}
 use Rattle.plant_base.specs.Formed.{HasLineValues}
 use Rattle.plant_base.specs.declared.rows.RecipeLine.{RecipeLine}
 use Rattle.plant_base.specs.declared.rows.RecipeLine.TheVariants as line
-use Rattle.plant_tables.specs.Encoding.{number, columns_of_line}
+use Rattle.table_forms.specs.Forms.{integer}
+use Rattle.table_forms.specs.Rows.{fits_columns}
+use Rattle.plant_tables_columns.specs.Columns.{Kind}
+use Rattle.plant_tables_columns.specs.Kinds.{number}
 use Rattle.plant_tables_columns.specs.Reading.{is_null, is_empty, is_zero, id_from, text_from, amount_from}
 use Rattle.plant_tables_columns.specs.Naming.{line_sort_from, line_sort_number, line_sort_numbered}
-use Rattle.plant_tables_columns.specs.Judging.{material_from, has_no_material, parameter_from, phase_from, line_of_sort, line_from, line_columns}
+use Rattle.plant_tables_columns.specs.TableColumns.{columns_of_line, material_from, has_no_material, parameter_from, phase_from, line_of_sort, line_from, line_columns}
 use Rattle.plant_tables_columns.specs.declared.line.LineSort.{LineSort}
 use Rattle.plant_tables_columns.specs.declared.line.LineSort.TheVariants as line_sort
 use Rattle.plant_tables_columns.specs.declared.line.Material.{Material}
@@ -21,7 +24,10 @@ use Rattle.plant_tables_columns.proofs.KindLaws.{IsKind, Any, integer_kind, id_k
 use Rattle.plant_tables_columns.proofs.NameLemmas.{int_same, line_sort_back, line_sort_own}
 use Rattle.plant_tables_columns.proofs.ColumnLaws.{StandFrom, AreLawful}
 
-line_sort_kind : IsKind line_sort_from (λ s. number (line_sort_number s)) Any Any
+abbrev line_sorts : Kind LineSort
+line_sorts = record { declared = integer; stored = λ s. number (line_sort_number s); read = line_sort_from }
+
+line_sort_kind : IsKind line_sorts Any Any
 unfolding line_sort_from
 line_sort_kind = integer_kind line_sort_numbered (λ s. pos (line_sort_number s)) Any Any (λ n s h _. line_sort_back n s h) (λ s _ _. line_sort_own s) (λ n s h. tt)
 
@@ -157,11 +163,11 @@ six_stand row at =
     let n5 : suc (suc (suc (suc (suc at)))) ≡ at + 5 = omega arith in
     (refl, (ap (column row) n1, (ap (column row) n2, (ap (column row) n3, (ap (column row) n4, (ap (column row) n5, tt))))))
 
-line_wide : (l : RecipeLine) → length (columns_of_line l) ≡ 6
-line_wide (line.In d n) = refl
-line_wide (line.Out d n) = refl
-line_wide (line.Parameter name value) = refl
-line_wide (line.Phase unit_procedure operation phase) = refl
+line_fits : (l : RecipeLine) → fits_columns line_columns.declared (columns_of_line l) ≡ true
+line_fits (line.In d n) = refl
+line_fits (line.Out d n) = refl
+line_fits (line.Parameter name value) = refl
+line_fits (line.Phase unit_procedure operation phase) = refl
 
 line_again : (row : Row) (at : ℕ) (l : RecipeLine) → StandFrom row at (columns_of_line l) → HasLineValues l → line_columns.read row at ≡ Some l
 line_again row at (line.In d n) h good = six row at _ _ _ _ _ _ _ h (sort_again line_sort.In _ _ _ _ _ (line.In d n) (rw (material_again d n good.0 good.1) refl))
@@ -169,9 +175,9 @@ line_again row at (line.Out d n) h good = six row at _ _ _ _ _ _ _ h (sort_again
 line_again row at (line.Parameter name value) h good = six row at _ _ _ _ _ _ _ h (sort_again line_sort.Parameter _ _ _ _ _ (line.Parameter name value) (parameter_again name value good))
 line_again row at (line.Phase unit_procedure operation phase) h good = six row at _ _ _ _ _ _ _ h (sort_again line_sort.Phase _ _ _ _ _ (line.Phase unit_procedure operation phase) (phase_again unit_procedure operation phase good))
 
-pub line_lawful : AreLawful line_columns columns_of_line HasLineValues Any
+pub line_lawful : AreLawful line_columns HasLineValues Any
 line_lawful = record {
-  wide = line_wide;
+  fits = line_fits;
   back = λ row at l h _. subst (StandFrom row at) (line_back _ _ _ _ _ _ l h).0 (six_stand row at);
   again = λ row at l h good _. line_again row at l h good;
   keeps = λ row at l h. (line_back _ _ _ _ _ _ l h).1;

@@ -20,9 +20,8 @@ use Rattle.plant_base.specs.declared.states.Event.{Event}
 use Rattle.plant_base.specs.declared.states.Event.TheVariants as event
 use Rattle.plant_base.proofs.Find.{found_passes}
 use Rattle.plant_base.proofs.Keys.{same_id}
-use Rattle.plant_tables.specs.Encoding.{event_name, event_phase}
 use Rattle.plant_tables_columns.specs.Reading.{number_in}
-use Rattle.plant_tables_columns.specs.Naming.{all_recipe_states, recipe_state_named, all_job_states, job_state_named, all_batch_states, batch_state_named, all_words, word_named, plain_event, event_named, line_sort_number, all_line_sorts, line_sort_numbered, movement_sort_number, all_movement_sorts, movement_sort_numbered}
+use Rattle.plant_tables_columns.specs.Naming.{event_name, event_phase, all_recipe_states, recipe_state_named, all_job_states, job_state_named, all_batch_states, batch_state_named, all_words, word_named, plain_event, event_named, line_sort_number, all_line_sorts, line_sort_numbered, movement_sort_number, all_movement_sorts, movement_sort_numbered}
 use Rattle.plant_base.specs.RowValues.{HasPhaseNumber}
 use Rattle.plant_tables_columns.specs.declared.line.LineSort.{LineSort}
 use Rattle.plant_tables_columns.specs.declared.line.LineSort.TheVariants as line_sort

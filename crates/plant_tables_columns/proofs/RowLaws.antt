@@ -10,15 +10,13 @@ use Rattle.plant_base.specs.declared.rows.ControlLine.{ControlLine}
 use Rattle.plant_base.specs.declared.rows.MovementKind.{MovementKind}
 use Rattle.plant_base.specs.declared.rows.MovementKind.TheVariants as kind
 use Rattle.plant_base.specs.declared.rows.Movement.{Movement}
-use Rattle.plant_tables.specs.Encoding.{row_of_meta, row_of_class, row_of_definition, row_of_recipe, row_of_master_line, row_of_job, row_of_batch, row_of_control_line, row_of_event, row_of_lot, row_of_sublot, row_of_movement, row_of_hold}
 use Rattle.plant_tables_columns.specs.Reading.{is_in}
 use Rattle.plant_tables_columns.specs.Columns.{Columns, read_row}
-use Rattle.plant_tables_columns.specs.Judging.{meta_from, class_from, definition_from, recipe_from, master_line_from, control_line_from, job_from, batch_from, batch_event_from, lot_from, sublot_from, booked_from, hold_from}
+use Rattle.plant_tables_columns.specs.TableColumns.{row_of_meta, row_of_class, row_of_definition, row_of_recipe, row_of_master_line, row_of_job, row_of_batch, row_of_control_line, row_of_event, row_of_lot, row_of_sublot, row_of_booked, row_of_movement, row_of_hold, meta_from, class_from, definition_from, recipe_from, master_line_from, control_line_from, job_from, batch_from, batch_event_from, lot_from, sublot_from, booked_from, hold_from}
 use Rattle.plant_tables_columns.specs.Booked.{booked_of}
 use Rattle.plant_tables_columns.specs.Obeying.{HasMetaValues, HasRecipeValues, HasMasterLineValues, HasControlLineValues, HasJobValues, HasBatchRowValues, HasEventRowValues, HasSublotValues, HasKindRowValues, HasMovementRowValues}
 use Rattle.plant_tables_columns.specs.declared.booked.BookedRow.{BookedRow}
 use Rattle.plant_tables_columns.proofs.KindLaws.{Any, IsNumbered}
-use Rattle.plant_tables_columns.proofs.KindLemmas.{row_of_booked, columns_of_booked}
 use Rattle.plant_tables_columns.proofs.ColumnLaws.{AreLawful, row_back, row_again, row_keeps}
 use Rattle.plant_tables_columns.proofs.TableLaws.{meta_lawful, class_lawful, definition_lawful, recipe_lawful, HasMasterColumns, master_line_lawful, HasControlColumns, control_line_lawful, job_lawful, batch_lawful, batch_event_lawful, lot_lawful, sublot_lawful, HasBookedColumns, booked_lawful, hold_lawful}
 
@@ -29,7 +27,7 @@ pub record Reads {A : Type 0} (row_from : Row → Option A) (stored : A → Row)
   pub again : (a : A) → good a → whole a → row_from (stored a) ≡ Some a
   pub keeps : (row : Row) (a : A) → row_from row ≡ Some a → good a
 
-reads : {A : Type 0} {c : Columns A} {stored : A → Row} {good whole : A → Type 0} → AreLawful c stored good whole → Reads (read_row c) stored good whole
+reads : {A : Type 0} {c : Columns A} {good whole : A → Type 0} → AreLawful c good whole → Reads (read_row c) c.stored good whole
 reads laws = record { back = row_back laws; again = row_again laws; keeps = row_keeps laws }
 
 pub meta_reads : Reads meta_from row_of_meta HasMetaValues Any
@@ -112,4 +110,4 @@ booked_good m (kind.Split to) is named good = record { seq = good.seq; line = nu
 booked_good m (kind.Merged to) is named good = record { seq = good.seq; line = number_high m.line good.line; lot = good.lot; sub = good.sub; lot2 = named; sub2 = refl; batch = tt; amount = good.amount; at = good.at; by = good.by; note = good.note }
 
 pub movement_row_again : (m : Movement) → HasMovementRowValues m → booked_from (row_of_movement m) ≡ Some (booked_of m)
-movement_row_again m good = ap booked_from (columns_of_booked m) ∙ booked_reads.again (booked_of m) (booked_good m m.kind refl good.kind good) (number_low m.line good.line)
+movement_row_again m good = booked_reads.again (booked_of m) (booked_good m m.kind refl good.kind good) (number_low m.line good.line)

@@ -1,10 +1,10 @@
 -- Table by table: what its columns keep.
-use Rattle.std.proofs.Common.{◌≡◌, refl, ap, ◌∙◌, ℕ, ◌≤◌, ℤ, pos, List, [], ◌∷◌, Bool, true, ◌&&◌, nat_le, option_map, Option, Some}
+use Rattle.std.proofs.Common.{◌≡◌, refl, ap, ap₂, ◌∙◌, subst, ℕ, suc, ◌+◌, ◌≤◌, ℤ, pos, List, [], ◌∷◌, Bool, true, ◌&&◌, nat_le, option_map, Option, Some, arith}
 use Rattle.std.specs.Prelude.{option_and_then}
 use Rattle.std.proofs.lemmas.Bool.{and_parts}
 use Rattle.sqlite.specs.declared.types.Value.{Value}
 use Rattle.sqlite.specs.declared.types.Value.TheVariants.{Int, Text}
-use Rattle.sqlite.specs.Order.{Row}
+use Rattle.sqlite.specs.Order.{Row, column}
 use Rattle.plant_base.specs.Values.{is_id, is_text, is_amount, is_moment, greatest_amount, greatest_moment, greatest_phase, greatest_priority, greatest_seq, greatest_sublot, greatest_version}
 use Rattle.plant_base.specs.Formed.{is_version, is_priority, HasHeaderValues, HasLineValues}
 use Rattle.plant_base.specs.Words.{recipe_state_name, job_state_name, batch_state_name}
@@ -27,35 +27,34 @@ use Rattle.plant_base.specs.declared.rows.Hold.{Hold}
 use Rattle.plant_base.specs.RowValues.{HasClassValues, HasDefinitionValues, HasPhaseNumber, HasLotValues, HasHoldValues}
 use Rattle.plant_recipe.specs.Progress.{greatest_attempt}
 use Rattle.plant_view.specs.Production.{HasBatchValues, HasGoodOrder}
-use Rattle.plant_tables.specs.Encoding.{number, flag, event_name, event_phase, row_of_meta, row_of_class, row_of_definition, row_of_recipe, columns_of_line, row_of_master_line, row_of_job, row_of_batch, row_of_control_line, row_of_event, row_of_lot, row_of_sublot, row_of_hold}
+use Rattle.plant_tables_columns.specs.Kinds.{number, recipe_states, job_states, batch_states, movement_sorts}
 use Rattle.plant_tables_columns.specs.Reading.{text_in, integer_in, greatest_number}
-use Rattle.plant_tables_columns.specs.Naming.{recipe_state_named, recipe_state_from, job_state_named, job_state_from, batch_state_named, batch_state_from, event_named, event_from, movement_sort_number, movement_sort_numbered, movement_sort_from}
-use Rattle.plant_tables_columns.specs.Columns.{Columns, two}
-use Rattle.plant_tables_columns.specs.Judging.{meta_columns, class_columns, definition_columns, header_columns, recipe_columns, master_line_columns, control_line_columns, order_columns, job_columns, released_columns, batch_columns, batch_event_columns, lot_columns, sublot_columns, booked_columns, hold_columns}
+use Rattle.plant_tables_columns.specs.Naming.{event_name, event_phase, recipe_state_named, recipe_state_from, job_state_named, job_state_from, batch_state_named, batch_state_from, event_named, event_from, movement_sort_number, movement_sort_numbered, movement_sort_from}
+use Rattle.plant_tables_columns.specs.Columns.{Columns}
+use Rattle.plant_tables_columns.specs.TableColumns.{event_columns, meta_columns, class_columns, definition_columns, header_columns, recipe_columns, master_line_columns, control_line_columns, order_columns, job_columns, released_columns, batch_columns, batch_event_columns, lot_columns, sublot_columns, booked_columns, hold_columns}
 use Rattle.plant_tables_columns.specs.Obeying.{HasMetaValues, HasRecipeValues, HasJobValues, HasBatchRowValues, HasEventRowValues, HasSublotValues}
 use Rattle.plant_tables_columns.specs.declared.booked.BookedRow.{BookedRow}
 use Rattle.plant_tables_columns.proofs.Options.{bound}
 use Rattle.plant_tables_columns.proofs.KindLaws.{IsKind, Any, GoodOrNone, text_kind, integer_kind, text_is, integer_is, id_kind, text_like, unit_kind, due_kind, number_kind, below_kind, one_kind, line_number_kind, IsNumbered, flag_kind, optional_id_kind, optional_sublot_kind}
 use Rattle.plant_tables_columns.proofs.NameLemmas.{recipe_state_back, recipe_state_own, job_state_back, job_state_own, batch_state_back, batch_state_own, event_back, event_own, event_keeps, movement_sort_back, movement_sort_own}
 use Rattle.plant_tables_columns.proofs.LineLaws.{line_lawful}
-use Rattle.plant_tables_columns.proofs.KindLemmas.{row_of_booked}
-use Rattle.plant_tables_columns.proofs.ColumnLaws.{AreLawful, one_lawful, two_lawful, beside_lawful, made_lawful, in_words}
+use Rattle.plant_tables_columns.proofs.ColumnLaws.{AreLawful, StandFrom, one_lawful, ◌⊕◌, made_lawful, in_words}
 
 -- ---- words
 
-recipe_state_kind : IsKind recipe_state_from (λ s. Text (recipe_state_name s)) Any Any
+recipe_state_kind : IsKind recipe_states Any Any
 unfolding recipe_state_from
 recipe_state_kind = text_kind recipe_state_named recipe_state_name Any recipe_state_back (λ s _. recipe_state_own s) (λ bytes s h. tt)
 
-job_state_kind : IsKind job_state_from (λ s. Text (job_state_name s)) Any Any
+job_state_kind : IsKind job_states Any Any
 unfolding job_state_from
 job_state_kind = text_kind job_state_named job_state_name Any job_state_back (λ s _. job_state_own s) (λ bytes s h. tt)
 
-batch_state_kind : IsKind batch_state_from (λ s. Text (batch_state_name s)) Any Any
+batch_state_kind : IsKind batch_states Any Any
 unfolding batch_state_from
 batch_state_kind = text_kind batch_state_named batch_state_name Any batch_state_back (λ s _. batch_state_own s) (λ bytes s h. tt)
 
-movement_sort_kind : IsKind movement_sort_from (λ s. number (movement_sort_number s)) Any Any
+movement_sort_kind : IsKind movement_sorts Any Any
 unfolding movement_sort_from
 movement_sort_kind = integer_kind movement_sort_numbered (λ s. pos (movement_sort_number s)) Any Any (λ n s h _. movement_sort_back n s h) (λ s _ _. movement_sort_own s) (λ n s h. tt)
 
@@ -73,38 +72,44 @@ event_parts v w e h =
     let p2 = bound (integer_in w) (λ number. event_named p1.0 number) e p1.2 in
     record { name = p1.0; phase = p2.0; is_word = text_is v p1.0 p1.1; is_phase = integer_is w p2.0 p2.1; says = p2.2 }
 
-event_lawful : AreLawful (two event_from) (λ e. Text (event_name e) ∷ number (event_phase e) ∷ []) HasPhaseNumber Any
+event_back_whole : (row : Row) (at : ℕ) (e : Event) → event_columns.read row at ≡ Some e → StandFrom row at (event_columns.stored e)
+event_back_whole row at e h =
+    let p = event_parts (column row at) (column row (at + 1)) e h in
+    let is = event_back p.name p.phase e p.says in
+    let next : at + 1 ≡ suc at = omega arith in
+    (p.is_word ∙ ap Text is.is_named, (subst (λ k. column row k ≡ number (event_phase e)) next (p.is_phase ∙ ap Int is.has_phase), tt))
+
+event_lawful : AreLawful event_columns HasPhaseNumber Any
 unfolding event_from
-event_lawful = two_lawful {read = event_from}
-    (λ v w e h. let p = event_parts v w e h in let is = event_back p.name p.phase e p.says in (p.is_word ∙ ap Text is.is_named, p.is_phase ∙ ap Int is.has_phase))
-    event_own
-    (λ v w e h. let p = event_parts v w e h in event_keeps p.name p.phase e p.says)
+event_lawful = record {
+  fits = λ e. refl;
+  back = λ row at e h _. event_back_whole row at e h;
+  again = λ row at e h is _. let next : suc at ≡ at + 1 = omega arith in ap₂ event_from h.0 (subst (λ k. column row k ≡ number (event_phase e)) next h.1.0) ∙ event_own e is;
+  keeps = λ row at e h. let p = event_parts (column row at) (column row (at + 1)) e h in event_keeps p.name p.phase e p.says;
+}
 
 -- ---- tables
 
-pub meta_lawful : AreLawful meta_columns row_of_meta HasMetaValues Any
+pub meta_lawful : AreLawful meta_columns HasMetaValues Any
 meta_lawful = in_words HasMetaValues Any (λ m g. record { schema = g.1.0; seq = g.1.1.0; at = g.1.1.1 }) (λ m h. (tt, (h.schema, (h.seq, h.at)))) (λ m _. (tt, (tt, (tt, tt))))
-    (made_lawful _ (λ m. (tt, (m.schema, (m.position.seq, m.position.at)))) (λ m. refl) (λ p. refl)
-    (beside_lawful (one_lawful one_kind) (beside_lawful (one_lawful (number_kind 1 greatest_number)) (beside_lawful (one_lawful (below_kind greatest_seq)) (one_lawful (below_kind greatest_moment))))))
+    (made_lawful _ _ (λ m. refl) (λ p. refl)
+    (one_lawful one_kind ⊕ one_lawful (number_kind 1 greatest_number) ⊕ one_lawful (below_kind greatest_seq) ⊕ one_lawful (below_kind greatest_moment)))
 
-pub class_lawful : AreLawful class_columns row_of_class HasClassValues Any
+pub class_lawful : AreLawful class_columns HasClassValues Any
 class_lawful = in_words HasClassValues Any (λ r g. record { id = g.0; name = g.1 }) (λ r h. (h.id, h.name)) (λ r _. (tt, tt))
-    (made_lawful _ (λ r. (r.id, r.name)) (λ r. refl) (λ p. refl) (beside_lawful (one_lawful id_kind) (one_lawful text_like)))
+    (made_lawful _ _ (λ r. refl) (λ p. refl) (one_lawful id_kind ⊕ one_lawful text_like))
 
-pub definition_lawful : AreLawful definition_columns row_of_definition HasDefinitionValues Any
+pub definition_lawful : AreLawful definition_columns HasDefinitionValues Any
 definition_lawful = in_words HasDefinitionValues Any (λ r g. record { id = g.0; class = g.1.0; name = g.1.1.0; unit = g.1.1.1 }) (λ r h. (h.id, (h.class, (h.name, h.unit)))) (λ r _. (tt, (tt, (tt, tt))))
-    (made_lawful _ (λ r. (r.id, (r.class, (r.name, r.unit)))) (λ r. refl) (λ p. refl)
-    (beside_lawful (one_lawful id_kind) (beside_lawful (one_lawful id_kind) (beside_lawful (one_lawful text_like) (one_lawful unit_kind)))))
-
-abbrev header_row : Header → Row
-header_row h = Text h.recipe ∷ number h.version ∷ Text h.product ∷ number h.base ∷ number h.least ∷ number h.greatest ∷ Text h.title ∷ []
+    (made_lawful _ _ (λ r. refl) (λ p. refl)
+    (one_lawful id_kind ⊕ one_lawful id_kind ⊕ one_lawful text_like ⊕ one_lawful unit_kind))
 
 -- a header with its version
 record HasHeaderColumns (h : Header) : Type 0 where
   pub values : HasHeaderValues h
   pub version : is_version h.version ≡ true
 
-header_lawful : AreLawful header_columns header_row HasHeaderColumns Any
+header_lawful : AreLawful header_columns HasHeaderColumns Any
 header_lawful = in_words HasHeaderColumns Any
     (λ h g. record {
       values = record { recipe = g.0; product = g.1.1.0; base = g.1.1.1.0; least = g.1.1.1.1.0; greatest = g.1.1.1.1.1.0; title = g.1.1.1.1.1.1 };
@@ -112,12 +117,12 @@ header_lawful = in_words HasHeaderColumns Any
     })
     (λ h is. (is.values.recipe, (is.version, (is.values.product, (is.values.base, (is.values.least, (is.values.greatest, is.values.title)))))))
     (λ h _. (tt, (tt, (tt, (tt, (tt, (tt, tt)))))))
-    (made_lawful _ (λ h. (h.recipe, (h.version, (h.product, (h.base, (h.least, (h.greatest, h.title))))))) (λ h. refl) (λ p. refl)
-    (beside_lawful (one_lawful id_kind) (beside_lawful (one_lawful (number_kind 1 greatest_version)) (beside_lawful (one_lawful id_kind) (beside_lawful (one_lawful (number_kind 1 greatest_amount)) (beside_lawful (one_lawful (number_kind 1 greatest_amount)) (beside_lawful (one_lawful (number_kind 1 greatest_amount)) (one_lawful text_like))))))))
+    (made_lawful _ _ (λ h. refl) (λ p. refl)
+    (one_lawful id_kind ⊕ one_lawful (number_kind 1 greatest_version) ⊕ one_lawful id_kind ⊕ one_lawful (number_kind 1 greatest_amount) ⊕ one_lawful (number_kind 1 greatest_amount) ⊕ one_lawful (number_kind 1 greatest_amount) ⊕ one_lawful text_like))
 
-pub recipe_lawful : AreLawful recipe_columns row_of_recipe HasRecipeValues Any
+pub recipe_lawful : AreLawful recipe_columns HasRecipeValues Any
 recipe_lawful = in_words HasRecipeValues Any (λ r g. record { header = g.0.values; version = g.0.version }) (λ r h. (record { values = h.header; version = h.version }, tt)) (λ r _. (tt, tt))
-    (made_lawful _ (λ r. (r.header, r.state)) (λ r. refl) (λ p. refl) (beside_lawful header_lawful (one_lawful recipe_state_kind)))
+    (made_lawful _ _ (λ r. refl) (λ p. refl) (header_lawful ⊕ one_lawful recipe_state_kind))
 
 -- ---- lines, whose number has no rule but that a column holds it
 
@@ -127,66 +132,60 @@ pub record HasMasterColumns (l : MasterLine) : Type 0 where
   pub number : l.number ≤ 65535
   pub line : HasLineValues l.line
 
-pub master_line_lawful : AreLawful master_line_columns row_of_master_line HasMasterColumns (λ l. IsNumbered l.number)
+pub master_line_lawful : AreLawful master_line_columns HasMasterColumns (λ l. IsNumbered l.number)
 master_line_lawful = in_words HasMasterColumns (λ l. IsNumbered l.number) (λ l g. record { recipe = g.0; version = g.1.0; number = g.1.1.0; line = g.1.1.1 }) (λ l h. (h.recipe, (h.version, (h.number, h.line)))) (λ l low. (tt, (tt, (low, tt))))
-    (made_lawful _ (λ l. (l.recipe, (l.version, (l.number, l.line)))) (λ l. refl) (λ p. refl)
-    (beside_lawful (one_lawful id_kind) (beside_lawful (one_lawful (number_kind 1 greatest_version)) (beside_lawful (one_lawful line_number_kind) line_lawful))))
+    (made_lawful _ _ (λ l. refl) (λ p. refl)
+    (one_lawful id_kind ⊕ one_lawful (number_kind 1 greatest_version) ⊕ one_lawful line_number_kind ⊕ line_lawful))
 
 pub record HasControlColumns (l : ControlLine) : Type 0 where
   pub batch : is_id l.batch ≡ true
   pub number : l.number ≤ 65535
   pub line : HasLineValues l.line
 
-pub control_line_lawful : AreLawful control_line_columns row_of_control_line HasControlColumns (λ l. IsNumbered l.number)
+pub control_line_lawful : AreLawful control_line_columns HasControlColumns (λ l. IsNumbered l.number)
 control_line_lawful = in_words HasControlColumns (λ l. IsNumbered l.number) (λ l g. record { batch = g.0; number = g.1.0; line = g.1.1 }) (λ l h. (h.batch, (h.number, h.line))) (λ l low. (tt, (low, tt)))
-    (made_lawful _ (λ l. (l.batch, (l.number, l.line))) (λ l. refl) (λ p. refl) (beside_lawful (one_lawful id_kind) (beside_lawful (one_lawful line_number_kind) line_lawful)))
+    (made_lawful _ _ (λ l. refl) (λ p. refl) (one_lawful id_kind ⊕ one_lawful line_number_kind ⊕ line_lawful))
 
 -- ---- orders and batches
-
-abbrev order_row : OrderRow → Row
-order_row o = Text o.order ∷ Text o.recipe ∷ number o.version ∷ number o.size ∷ Text o.due ∷ number o.priority ∷ []
 
 both : (a b : Bool) → a ≡ true → b ≡ true → (a && b) ≡ true
 both a b h k = rw (h, k) refl
 
-order_lawful : AreLawful order_columns order_row HasGoodOrder Any
+order_lawful : AreLawful order_columns HasGoodOrder Any
 order_lawful = in_words HasGoodOrder Any
     (λ o g. (record { order = g.0; recipe = g.1.0; size = g.1.1.1.0; due = g.1.1.1.1.0 }, both (is_version o.version) (is_priority o.priority) g.1.1.0 g.1.1.1.1.1))
     (λ o h. let numbers = and_parts (is_version o.version) (is_priority o.priority) h.1 in (h.0.order, (h.0.recipe, (numbers.0, (h.0.size, (h.0.due, numbers.1))))))
     (λ o _. (tt, (tt, (tt, (tt, (tt, tt))))))
-    (made_lawful _ (λ o. (o.order, (o.recipe, (o.version, (o.size, (o.due, o.priority)))))) (λ o. refl) (λ p. refl)
-    (beside_lawful (one_lawful id_kind) (beside_lawful (one_lawful id_kind) (beside_lawful (one_lawful (number_kind 1 greatest_version)) (beside_lawful (one_lawful (number_kind 1 greatest_amount)) (beside_lawful (one_lawful due_kind) (one_lawful (number_kind 1 greatest_priority))))))))
+    (made_lawful _ _ (λ o. refl) (λ p. refl)
+    (one_lawful id_kind ⊕ one_lawful id_kind ⊕ one_lawful (number_kind 1 greatest_version) ⊕ one_lawful (number_kind 1 greatest_amount) ⊕ one_lawful due_kind ⊕ one_lawful (number_kind 1 greatest_priority)))
 
-pub job_lawful : AreLawful job_columns row_of_job HasJobValues Any
-job_lawful = in_words HasJobValues Any (λ j g. g.0) (λ j h. (h, tt)) (λ j _. (tt, tt)) (made_lawful _ (λ j. (j.order, j.state)) (λ j. refl) (λ p. refl) (beside_lawful order_lawful (one_lawful job_state_kind)))
+pub job_lawful : AreLawful job_columns HasJobValues Any
+job_lawful = in_words HasJobValues Any (λ j g. g.0) (λ j h. (h, tt)) (λ j _. (tt, tt)) (made_lawful _ _ (λ j. refl) (λ p. refl) (order_lawful ⊕ one_lawful job_state_kind))
 
-abbrev released_row : Batch → Row
-released_row b = Text b.id ∷ Text b.job ∷ number b.at ∷ Text b.by ∷ Text b.note ∷ []
-
-released_lawful : AreLawful released_columns released_row HasBatchValues Any
+released_lawful : AreLawful released_columns HasBatchValues Any
 released_lawful = in_words HasBatchValues Any (λ b g. record { id = g.0; job = g.1.0; at = g.1.1.0; by = g.1.1.1.0; note = g.1.1.1.1 }) (λ b h. (h.id, (h.job, (h.at, (h.by, h.note))))) (λ b _. (tt, (tt, (tt, (tt, tt)))))
-    (made_lawful _ (λ b. (b.id, (b.job, (b.at, (b.by, b.note))))) (λ b. refl) (λ p. refl)
-    (beside_lawful (one_lawful id_kind) (beside_lawful (one_lawful id_kind) (beside_lawful (one_lawful (below_kind greatest_moment)) (beside_lawful (one_lawful text_like) (one_lawful text_like))))))
+    (made_lawful _ _ (λ b. refl) (λ p. refl)
+    (one_lawful id_kind ⊕ one_lawful id_kind ⊕ one_lawful (below_kind greatest_moment) ⊕ one_lawful text_like ⊕ one_lawful text_like))
 
-pub batch_lawful : AreLawful batch_columns row_of_batch HasBatchRowValues Any
+pub batch_lawful : AreLawful batch_columns HasBatchRowValues Any
 batch_lawful = in_words HasBatchRowValues Any (λ b g. record { batch = g.0; attempt = g.1.1.0; next = g.1.1.1.0 }) (λ b h. (h.batch, (tt, (h.attempt, (h.next, tt))))) (λ b _. (tt, (tt, (tt, (tt, tt)))))
-    (made_lawful _ (λ b. (b.batch, (b.state, (b.attempt, (b.next, b.closed))))) (λ b. refl) (λ p. refl)
-    (beside_lawful released_lawful (beside_lawful (one_lawful batch_state_kind) (beside_lawful (one_lawful (number_kind 1 greatest_attempt)) (beside_lawful (one_lawful (number_kind 1 greatest_phase)) (one_lawful flag_kind))))))
+    (made_lawful _ _ (λ b. refl) (λ p. refl)
+    (released_lawful ⊕ one_lawful batch_state_kind ⊕ one_lawful (number_kind 1 greatest_attempt) ⊕ one_lawful (number_kind 1 greatest_phase) ⊕ one_lawful flag_kind))
 
-pub batch_event_lawful : AreLawful batch_event_columns row_of_event HasEventRowValues Any
+pub batch_event_lawful : AreLawful batch_event_columns HasEventRowValues Any
 batch_event_lawful = in_words HasEventRowValues Any (λ e g. record { seq = g.0; batch = g.1.0; phase = g.1.1.0; at = g.1.1.1.0; by = g.1.1.1.1.0; note = g.1.1.1.1.1 }) (λ e h. (h.seq, (h.batch, (h.phase, (h.at, (h.by, h.note)))))) (λ e _. (tt, (tt, (tt, (tt, (tt, tt))))))
-    (made_lawful _ (λ e. (e.seq, (e.batch, (e.event, (e.at, (e.by, e.note)))))) (λ e. refl) (λ p. refl)
-    (beside_lawful (one_lawful (below_kind greatest_seq)) (beside_lawful (one_lawful id_kind) (beside_lawful event_lawful (beside_lawful (one_lawful (below_kind greatest_moment)) (beside_lawful (one_lawful text_like) (one_lawful text_like)))))))
+    (made_lawful _ _ (λ e. refl) (λ p. refl)
+    (one_lawful (below_kind greatest_seq) ⊕ one_lawful id_kind ⊕ event_lawful ⊕ one_lawful (below_kind greatest_moment) ⊕ one_lawful text_like ⊕ one_lawful text_like))
 
 -- ---- lots
 
-pub lot_lawful : AreLawful lot_columns row_of_lot HasLotValues Any
-lot_lawful = in_words HasLotValues Any (λ l g. record { id = g.0; def = g.1 }) (λ l h. (h.id, h.def)) (λ l _. (tt, tt)) (made_lawful _ (λ l. (l.id, l.def)) (λ l. refl) (λ p. refl) (beside_lawful (one_lawful id_kind) (one_lawful id_kind)))
+pub lot_lawful : AreLawful lot_columns HasLotValues Any
+lot_lawful = in_words HasLotValues Any (λ l g. record { id = g.0; def = g.1 }) (λ l h. (h.id, h.def)) (λ l _. (tt, tt)) (made_lawful _ _ (λ l. refl) (λ p. refl) (one_lawful id_kind ⊕ one_lawful id_kind))
 
-pub sublot_lawful : AreLawful sublot_columns row_of_sublot HasSublotValues Any
+pub sublot_lawful : AreLawful sublot_columns HasSublotValues Any
 sublot_lawful = in_words HasSublotValues Any (λ s g. record { lot = g.0; number = g.1.0; place = g.1.1.0; stock = g.1.1.1 }) (λ s h. (h.lot, (h.number, (h.place, h.stock)))) (λ s _. (tt, (tt, (tt, tt))))
-    (made_lawful _ (λ s. (s.lot, (s.number, (s.place, s.stock)))) (λ s. refl) (λ p. refl)
-    (beside_lawful (one_lawful id_kind) (beside_lawful (one_lawful (below_kind greatest_sublot)) (beside_lawful (one_lawful text_like) (one_lawful (below_kind greatest_amount))))))
+    (made_lawful _ _ (λ s. refl) (λ p. refl)
+    (one_lawful id_kind ⊕ one_lawful (below_kind greatest_sublot) ⊕ one_lawful text_like ⊕ one_lawful (below_kind greatest_amount)))
 
 pub record HasBookedColumns (r : BookedRow) : Type 0 where
   pub seq : nat_le r.seq greatest_seq ≡ true
@@ -201,7 +200,7 @@ pub record HasBookedColumns (r : BookedRow) : Type 0 where
   pub by : is_text r.by ≡ true
   pub note : is_text r.note ≡ true
 
-pub booked_lawful : AreLawful booked_columns row_of_booked HasBookedColumns (λ r. IsNumbered r.line)
+pub booked_lawful : AreLawful booked_columns HasBookedColumns (λ r. IsNumbered r.line)
 booked_lawful = in_words HasBookedColumns (λ r. IsNumbered r.line)
     (λ r g. record {
       seq = g.0;
@@ -218,12 +217,10 @@ booked_lawful = in_words HasBookedColumns (λ r. IsNumbered r.line)
     })
     (λ r h. (h.seq, (h.line, (tt, (h.lot, (h.sub, (h.lot2, (h.sub2, (h.batch, (h.amount, (h.at, (h.by, h.note))))))))))))
     (λ r low. (tt, (low, (tt, (tt, (tt, (tt, (tt, (tt, (tt, (tt, (tt, tt))))))))))))
-    (made_lawful _ (λ r. (r.seq, (r.line, (r.sort, (r.lot, (r.sub, (r.lot2, (r.sub2, (r.batch, (r.amount, (r.at, (r.by, r.note)))))))))))) (λ r. refl) (λ p. refl)
-    (beside_lawful (one_lawful (below_kind greatest_seq)) (beside_lawful (one_lawful line_number_kind) (beside_lawful (one_lawful movement_sort_kind) (beside_lawful (one_lawful id_kind) (beside_lawful (one_lawful (below_kind greatest_sublot))
-    (beside_lawful (one_lawful optional_id_kind) (beside_lawful (one_lawful optional_sublot_kind) (beside_lawful (one_lawful optional_id_kind)
-    (beside_lawful (one_lawful (number_kind 1 greatest_amount)) (beside_lawful (one_lawful (below_kind greatest_moment)) (beside_lawful (one_lawful text_like) (one_lawful text_like)))))))))))))
+    (made_lawful _ _ (λ r. refl) (λ p. refl)
+    (one_lawful (below_kind greatest_seq) ⊕ one_lawful line_number_kind ⊕ one_lawful movement_sort_kind ⊕ one_lawful id_kind ⊕ one_lawful (below_kind greatest_sublot) ⊕ one_lawful optional_id_kind ⊕ one_lawful optional_sublot_kind ⊕ one_lawful optional_id_kind ⊕ one_lawful (number_kind 1 greatest_amount) ⊕ one_lawful (below_kind greatest_moment) ⊕ one_lawful text_like ⊕ one_lawful text_like))
 
-pub hold_lawful : AreLawful hold_columns row_of_hold HasHoldValues Any
+pub hold_lawful : AreLawful hold_columns HasHoldValues Any
 hold_lawful = in_words HasHoldValues Any (λ h g. record { lot = g.0; id = g.1.0; at = g.1.1.0; by = g.1.1.1.0; note = g.1.1.1.1 }) (λ h is. (is.lot, (is.id, (is.at, (is.by, is.note))))) (λ h _. (tt, (tt, (tt, (tt, tt)))))
-    (made_lawful _ (λ h. (h.lot, (h.id, (h.at, (h.by, h.note))))) (λ h. refl) (λ p. refl)
-    (beside_lawful (one_lawful id_kind) (beside_lawful (one_lawful id_kind) (beside_lawful (one_lawful (below_kind greatest_moment)) (beside_lawful (one_lawful text_like) (one_lawful text_like))))))
+    (made_lawful _ _ (λ h. refl) (λ p. refl)
+    (one_lawful id_kind ⊕ one_lawful id_kind ⊕ one_lawful (below_kind greatest_moment) ⊕ one_lawful text_like ⊕ one_lawful text_like))

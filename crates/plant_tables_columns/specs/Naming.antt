@@ -62,6 +62,18 @@ word_named name = find (λ w. same (word_name w) name) all_words
 
 -- ---- events
 
+-- its word
+abbrev pub event_name : Event → List ℕ
+event_name (event.Moved word) = word_name word
+event_name (event.PhaseDone phase) = codes "phase"
+event_name event.Closed = codes "close"
+
+-- the phase that was done, else 0
+abbrev pub event_phase : Event → ℕ
+event_phase (event.Moved word) = 0
+event_phase (event.PhaseDone phase) = phase
+event_phase event.Closed = 0
+
 -- an event that has no phase
 unfoldable pub plain_event : List ℕ → Option Event
 plain_event name = if same name (codes "close") then Some event.Closed else option_map event.Moved (word_named name)

@@ -1,5 +1,5 @@
-//! The columns of the desk's tables: how each is read by the rule of its values, and the row of the desk that a stored
-//! row stands for.
+//! The columns of the desk's tables: how each is stored, how it is read by the rule of its values, and the row of the
+//! desk that a stored row stands for.
 #![tactic(auto)]
 
 mod booked;
@@ -11,6 +11,11 @@ mod naming;
 mod orders;
 mod reading;
 mod stocks;
+pub mod storing;
 
 pub use booked::{BookedRow, MovementSort};
 pub use judged::{Judged, judge_all};
+pub use masters::{class_values, definition_values, master_line_values, recipe_values};
+pub use meta::meta_values;
+pub use orders::{batch_values, control_line_values, event_values, job_values};
+pub use stocks::{hold_values, lot_values, movement_values, sublot_values};

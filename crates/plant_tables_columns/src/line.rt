@@ -2,12 +2,17 @@
 
 ghost use Rattle.std.specs.Prelude.{◌≡◌, ◌<◌, ◌+◌, pos};
 ghost use Rattle.sqlite.specs.Order.{column};
-ghost use Rattle.plant_tables_columns.specs.Naming.{line_sort_number, all_line_sorts, line_sort_numbered, line_sort_from};
-ghost use Rattle.plant_tables_columns.specs.Judging.{material_from, has_no_material, parameter_from, phase_from, line_from};
+ghost use Rattle.plant_tables_columns.specs.Naming.{line_sort_number, all_line_sorts, line_sort_numbered};
+ghost use Rattle.plant_tables_columns.specs.Naming.{line_sort_from};
+ghost use Rattle.sqlite.specs.Values.{bound};
+ghost use Rattle.plant_tables_columns.specs.TableColumns.{columns_of_line, material_from, has_no_material};
+ghost use Rattle.plant_tables_columns.specs.TableColumns.{parameter_from, phase_from, line_from};
 
 use crate::reading::{amount, id, integer, is_empty, is_null, is_zero, text};
+use crate::storing;
 use plant_base::{Amount, Id, RecipeLine};
 use sqlite::Row;
+use sqlite_value::value::ValueRef;
 
 /// What a line of a recipe is.
 #[derive(Clone, Copy, Debug, PartialEq, Eq)]
@@ -69,7 +74,7 @@ pub struct Material {
 }
 
 /// The material of an in or out line, from the columns def, qty, t1, t2 and t3. It uses no text.
-#[tactic(auto, unfolding(crate::specs::Judging::material_from))]
+#[tactic(auto, unfolding(crate::specs::TableColumns::material_from))]
 fn material_named(row: &Row, def: usize) -> Option<Material>
     requires { def < 1000 }
     ensures { result ≡ material_from (column row.now def) (column row.now (def + 1))
@@ -85,7 +90,7 @@ fn material_named(row: &Row, def: usize) -> Option<Material>
 }
 
 /// Whether the columns def and qty are unused.
-#[tactic(auto, unfolding(crate::specs::Judging::has_no_material))]
+#[tactic(auto, unfolding(crate::specs::TableColumns::has_no_material))]
 fn names_no_material(row: &Row, def: usize) -> bool
     requires { def < 1000 }
     ensures { result ≡ has_no_material (column row.now def) (column row.now (def + 1)) }
@@ -94,7 +99,7 @@ fn names_no_material(row: &Row, def: usize) -> bool
 }
 
 /// A parameter, from the columns def, qty, t1, t2 and t3.
-#[tactic(auto, unfolding(crate::specs::Judging::parameter_from))]
+#[tactic(auto, unfolding(crate::specs::TableColumns::parameter_from))]
 fn parameter(row: &Row, def: usize) -> Option<RecipeLine>
     requires { def < 1000 }
     ensures { result ≡ parameter_from (column row.now def) (column row.now (def + 1))
@@ -110,7 +115,7 @@ fn parameter(row: &Row, def: usize) -> Option<RecipeLine>
 }
 
 /// A phase, from the columns def, qty, t1, t2 and t3.
-#[tactic(auto, unfolding(crate::specs::Judging::phase_from))]
+#[tactic(auto, unfolding(crate::specs::TableColumns::phase_from))]
 fn phase(row: &Row, def: usize) -> Option<RecipeLine>
     requires { def < 1000 }
     ensures { result ≡ phase_from (column row.now def) (column row.now (def + 1))
@@ -128,7 +133,7 @@ fn phase(row: &Row, def: usize) -> Option<RecipeLine>
 
 /// The line that has these columns: kind, and then def, qty, t1, t2 and t3. `None` where a value breaks its rule, or a
 /// column that its kind uses is unused or the other way round.
-#[tactic(auto, unfolding(crate::specs::Judging::line_from))]
+#[tactic(auto, unfolding(crate::specs::TableColumns::line_from))]
 pub(crate) fn line(row: &Row, kind: usize, def: usize) -> Option<RecipeLine>
     requires { def < 1000 }
     ensures { result ≡ line_from (column row.now kind) (column row.now def) (column row.now (def + 1))
@@ -145,5 +150,49 @@ pub(crate) fn line(row: &Row, kind: usize, def: usize) -> Option<RecipeLine>
         }
         LineSort::Parameter => parameter(row, def),
         LineSort::Phase => phase(row, def),
+    }
+}
+
+/// The columns kind, def, qty, t1, t2 and t3 of a line of a recipe.
+pub(crate) fn line_values(line: &RecipeLine) -> [ValueRef<'_>; 6]
+    ensures { bound result ≡ columns_of_line line.now }
+{
+    match line {
+        RecipeLine::In { def, amount: n } => [
+            storing::small(1),
+            storing::id(def),
+            storing::amount(*n),
+            storing::word(""),
+            storing::word(""),
+            storing::word(""),
+        ],
+        RecipeLine::Out { def, amount: n } => [
+            storing::small(2),
+            storing::id(def),
+            storing::amount(*n),
+            storing::word(""),
+            storing::word(""),
+            storing::word(""),
+        ],
+        RecipeLine::Parameter { name, value } => [
+            storing::small(3),
+            ValueRef::Null,
+            storing::small(0),
+            storing::id(name),
+            storing::text(value),
+            storing::word(""),
+        ],
+        RecipeLine::Phase {
+            unit_procedure,
+            operation,
+            phase,
+        } => [
+            storing::small(4),
+            ValueRef::Null,
+            storing::small(0),
+            storing::id(unit_procedure),
+            storing::id(operation),
+            storing::id(phase),
+        ],
     }
 }

@@ -1,19 +1,31 @@
 //! Rows of classes, definitions and master recipes.
 
 ghost use Rattle.std.specs.Prelude.{◌≡◌};
-ghost use Rattle.plant_tables_columns.specs.Judging.{class_from, definition_from, header_columns, recipe_from, master_line_from};
+ghost use Rattle.sqlite.specs.Values.{bound};
+ghost use Rattle.plant_tables_columns.specs.TableColumns.{row_of_class, class_from, row_of_definition};
+ghost use Rattle.plant_tables_columns.specs.TableColumns.{definition_from, header_columns, row_of_recipe};
+ghost use Rattle.plant_tables_columns.specs.TableColumns.{recipe_from, row_of_master_line, master_line_from};
 
 use crate::judged::Judged;
-use crate::line::line;
+use crate::line::{line, line_values};
 use crate::naming::recipe_state;
 use crate::reading::{amount, id, line_number, small, text, unit};
+use crate::storing;
 use plant_base::{Class, Definition, GREATEST_VERSION, Header, MasterLine, Recipe};
 use sqlite::Row;
+use sqlite_value::value::ValueRef;
+
+/// A row of `class`.
+pub fn class_values(row: &Class) -> [ValueRef<'_>; 2]
+    ensures { bound result ≡ row_of_class row.now }
+{
+    [storing::id(&row.id), storing::text(&row.name)]
+}
 
 impl Judged for Class {
     ghost row_from = { class_from };
 
-    #[tactic(auto, unfolding(crate::specs::Judging::class_from))]
+    #[tactic(auto, unfolding(crate::specs::TableColumns::class_from))]
     fn judge(row: &Row) -> Option<Class> {
         if row.column_count() != 2 {
             return None;
@@ -25,10 +37,22 @@ impl Judged for Class {
     }
 }
 
+/// A row of `definition`.
+pub fn definition_values(row: &Definition) -> [ValueRef<'_>; 4]
+    ensures { bound result ≡ row_of_definition row.now }
+{
+    [
+        storing::id(&row.id),
+        storing::id(&row.class),
+        storing::text(&row.name),
+        storing::bytes(row.unit.as_bytes()),
+    ]
+}
+
 impl Judged for Definition {
     ghost row_from = { definition_from };
 
-    #[tactic(auto, unfolding(crate::specs::Judging::definition_from))]
+    #[tactic(auto, unfolding(crate::specs::TableColumns::definition_from))]
     fn judge(row: &Row) -> Option<Definition> {
         if row.column_count() != 4 {
             return None;
@@ -57,10 +81,27 @@ fn header(row: &Row) -> Option<Header>
     })
 }
 
+/// A row of `recipe`.
+pub fn recipe_values(row: &Recipe) -> [ValueRef<'_>; 8]
+    ensures { bound result ≡ row_of_recipe row.now }
+{
+    let header = &row.header;
+    [
+        storing::id(&header.recipe),
+        storing::small(header.version),
+        storing::id(&header.product),
+        storing::amount(header.base),
+        storing::amount(header.least),
+        storing::amount(header.greatest),
+        storing::text(&header.title),
+        storing::word(row.state.name()),
+    ]
+}
+
 impl Judged for Recipe {
     ghost row_from = { recipe_from };
 
-    #[tactic(auto, unfolding(crate::specs::Judging::recipe_from))]
+    #[tactic(auto, unfolding(crate::specs::TableColumns::recipe_from))]
     fn judge(row: &Row) -> Option<Recipe> {
         if row.column_count() != 8 {
             return None;
@@ -72,10 +113,28 @@ impl Judged for Recipe {
     }
 }
 
+/// A row of `recipe_line`.
+pub fn master_line_values(row: &MasterLine) -> [ValueRef<'_>; 9]
+    ensures { bound result ≡ row_of_master_line row.now }
+{
+    let [kind, def, qty, t1, t2, t3] = line_values(&row.line);
+    [
+        storing::id(&row.recipe),
+        storing::small(row.version),
+        storing::small(row.number),
+        kind,
+        def,
+        qty,
+        t1,
+        t2,
+        t3,
+    ]
+}
+
 impl Judged for MasterLine {
     ghost row_from = { master_line_from };
 
-    #[tactic(auto, unfolding(crate::specs::Judging::master_line_from))]
+    #[tactic(auto, unfolding(crate::specs::TableColumns::master_line_from))]
     fn judge(row: &Row) -> Option<MasterLine> {
         if row.column_count() != 9 {
             return None;

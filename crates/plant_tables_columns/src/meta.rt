@@ -1,16 +1,40 @@
 //! The row of table meta.
 
-ghost use Rattle.plant_tables_columns.specs.Judging.{meta_from};
+ghost use Rattle.std.specs.Prelude.{◌≡◌};
+ghost use Rattle.sqlite.specs.Values.{bound};
+ghost use Rattle.sqlite_value.specs.Value.{owned};
+ghost use Rattle.plant_tables_columns.specs.Kinds.{number};
+ghost use Rattle.plant_tables_columns.specs.TableColumns.{row_of_meta, meta_from};
 
 use crate::judged::Judged;
 use crate::reading::{moment, number};
+use crate::storing;
 use plant_base::{GREATEST_SEQ, Meta, Position};
 use sqlite::Row;
+use sqlite_value::value::ValueRef;
+
+/// The schema and the seq are given as values.
+pub fn meta_values(
+    row: &Meta,
+    schema: ValueRef<'static>,
+    seq: ValueRef<'static>,
+) -> [ValueRef<'static>; 4]
+    requires schema { owned schema ≡ number row.now.schema }
+    requires seq { owned seq ≡ number row.now.position.seq }
+    ensures { bound result ≡ row_of_meta row.now }
+{
+    [
+        storing::small(1),
+        schema,
+        seq,
+        storing::moment(row.position.at),
+    ]
+}
 
 impl Judged for Meta {
     ghost row_from = { meta_from };
 
-    #[tactic(auto, unfolding(crate::specs::Judging::meta_from))]
+    #[tactic(auto, unfolding(crate::specs::TableColumns::meta_from))]
     fn judge(row: &Row) -> Option<Meta> {
         if row.column_count() != 4 {
             return None;

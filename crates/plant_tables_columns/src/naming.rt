@@ -2,7 +2,11 @@
 
 ghost use Rattle.std.specs.Prelude.{◌≡◌};
 ghost use Rattle.sqlite.specs.Order.{column};
-ghost use Rattle.plant_tables_columns.specs.Naming.{all_recipe_states, recipe_state_named, recipe_state_from, all_job_states, job_state_named, job_state_from, all_batch_states, batch_state_named, batch_state_from, all_words, word_named, plain_event, event_named, event_from};
+ghost use Rattle.plant_tables_columns.specs.Naming.{all_recipe_states, recipe_state_named, recipe_state_from};
+ghost use Rattle.plant_tables_columns.specs.Naming.{all_job_states, job_state_named, job_state_from};
+ghost use Rattle.plant_tables_columns.specs.Naming.{all_batch_states, batch_state_named, batch_state_from};
+ghost use Rattle.plant_tables_columns.specs.Naming.{all_words, word_named, plain_event, event_named};
+ghost use Rattle.plant_tables_columns.specs.Naming.{event_from};
 
 use crate::reading::{bytes, integer, tiny_within};
 use plant_base::{BatchState, Event, GREATEST_PHASE, JobState, RecipeState, Word};

@@ -1,18 +1,27 @@
 //! Rows of orders, batches, control recipes and events.
 
 ghost use Rattle.std.specs.Prelude.{◌≡◌};
-ghost use Rattle.plant_tables_columns.specs.Judging.{order_columns, job_from, released_columns, batch_from, control_line_from, batch_event_from};
+ghost use Rattle.sqlite.specs.Values.{bound};
+ghost use Rattle.sqlite_value.specs.Value.{owned};
+ghost use Rattle.plant_tables_columns.specs.Kinds.{number};
+ghost use Rattle.plant_tables_columns.specs.Naming.{event_name, event_phase};
+ghost use Rattle.plant_tables_columns.specs.TableColumns.{order_columns, row_of_job, job_from};
+ghost use Rattle.plant_tables_columns.specs.TableColumns.{released_columns, row_of_batch, batch_from};
+ghost use Rattle.plant_tables_columns.specs.TableColumns.{row_of_control_line, control_line_from};
+ghost use Rattle.plant_tables_columns.specs.TableColumns.{row_of_event, batch_event_from};
 
 use crate::judged::Judged;
-use crate::line::line;
+use crate::line::{line, line_values};
 use crate::naming::{batch_state, event, job_state};
 use crate::reading::{amount, due, flag, id, line_number, moment, number, small, text, tiny};
+use crate::storing;
 use plant_base::{
-    Batch, BatchEvent, BatchRow, ControlLine, GREATEST_PHASE, GREATEST_PRIORITY, GREATEST_SEQ,
-    GREATEST_VERSION, Job, OrderRow,
+    Batch, BatchEvent, BatchRow, ControlLine, Event, GREATEST_PHASE, GREATEST_PRIORITY,
+    GREATEST_SEQ, GREATEST_VERSION, Job, OrderRow,
 };
 use plant_recipe::GREATEST_ATTEMPT;
 use sqlite::Row;
+use sqlite_value::value::ValueRef;
 
 /// The order in the first columns.
 fn order(row: &Row) -> Option<OrderRow>
@@ -28,10 +37,26 @@ fn order(row: &Row) -> Option<OrderRow>
     })
 }
 
+/// A row of `job`.
+pub fn job_values(row: &Job) -> [ValueRef<'_>; 7]
+    ensures { bound result ≡ row_of_job row.now }
+{
+    let order = &row.order;
+    [
+        storing::id(&order.order),
+        storing::id(&order.recipe),
+        storing::small(order.version),
+        storing::amount(order.size),
+        storing::bytes(order.due.as_bytes()),
+        storing::small(u16::from(order.priority)),
+        storing::word(row.state.name()),
+    ]
+}
+
 impl Judged for Job {
     ghost row_from = { job_from };
 
-    #[tactic(auto, unfolding(crate::specs::Judging::job_from))]
+    #[tactic(auto, unfolding(crate::specs::TableColumns::job_from))]
     fn judge(row: &Row) -> Option<Job> {
         if row.column_count() != 7 {
             return None;
@@ -56,10 +81,28 @@ fn released_batch(row: &Row) -> Option<Batch>
     })
 }
 
+/// A row of `batch`.
+pub fn batch_values(row: &BatchRow) -> [ValueRef<'_>; 9]
+    ensures { bound result ≡ row_of_batch row.now }
+{
+    let batch = &row.batch;
+    [
+        storing::id(&batch.id),
+        storing::id(&batch.job),
+        storing::moment(batch.at),
+        storing::text(&batch.by),
+        storing::text(&batch.note),
+        storing::word(row.state.name()),
+        storing::small(u16::from(row.attempt)),
+        storing::small(u16::from(row.next)),
+        storing::truth(row.closed),
+    ]
+}
+
 impl Judged for BatchRow {
     ghost row_from = { batch_from };
 
-    #[tactic(auto, unfolding(crate::specs::Judging::batch_from))]
+    #[tactic(auto, unfolding(crate::specs::TableColumns::batch_from))]
     fn judge(row: &Row) -> Option<BatchRow> {
         if row.column_count() != 9 {
             return None;
@@ -74,10 +117,27 @@ impl Judged for BatchRow {
     }
 }
 
+/// A row of `control_line`.
+pub fn control_line_values(row: &ControlLine) -> [ValueRef<'_>; 8]
+    ensures { bound result ≡ row_of_control_line row.now }
+{
+    let [kind, def, qty, t1, t2, t3] = line_values(&row.line);
+    [
+        storing::id(&row.batch),
+        storing::small(row.number),
+        kind,
+        def,
+        qty,
+        t1,
+        t2,
+        t3,
+    ]
+}
+
 impl Judged for ControlLine {
     ghost row_from = { control_line_from };
 
-    #[tactic(auto, unfolding(crate::specs::Judging::control_line_from))]
+    #[tactic(auto, unfolding(crate::specs::TableColumns::control_line_from))]
     fn judge(row: &Row) -> Option<ControlLine> {
         if row.column_count() != 8 {
             return None;
@@ -90,10 +150,46 @@ impl Judged for ControlLine {
     }
 }
 
+fn word_of(event: Event) -> &'static str
+    ensures { result.now ≡ event_name event }
+{
+    match event {
+        Event::Moved(word) => word.name(),
+        Event::PhaseDone(_) => "phase",
+        Event::Closed => "close",
+    }
+}
+
+/// The number of the phase that was done, else 0.
+fn phase_of(event: Event) -> u16
+    ensures { result ≡ event_phase event }
+{
+    match event {
+        Event::PhaseDone(phase) => u16::from(phase),
+        Event::Moved(_) | Event::Closed => 0,
+    }
+}
+
+/// The seq is given as a value.
+pub fn event_values<'a>(row: &'a BatchEvent, seq: ValueRef<'a>) -> [ValueRef<'a>; 7]
+    requires { owned seq ≡ number row.now.seq }
+    ensures { bound result ≡ row_of_event row.now }
+{
+    [
+        seq,
+        storing::id(&row.batch),
+        storing::word(word_of(row.event)),
+        storing::small(phase_of(row.event)),
+        storing::moment(row.at),
+        storing::text(&row.by),
+        storing::text(&row.note),
+    ]
+}
+
 impl Judged for BatchEvent {
     ghost row_from = { batch_event_from };
 
-    #[tactic(auto, unfolding(crate::specs::Judging::batch_event_from))]
+    #[tactic(auto, unfolding(crate::specs::TableColumns::batch_event_from))]
     fn judge(row: &Row) -> Option<BatchEvent> {
         if row.column_count() != 7 {
             return None;

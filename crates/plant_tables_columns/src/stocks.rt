@@ -1,22 +1,40 @@
 //! Rows of lots, sublots, movements and holds.
 
-ghost use Rattle.plant_tables_columns.specs.Judging.{lot_from, sublot_from, booked_from, movement_read, hold_from};
+ghost use Rattle.std.specs.Prelude.{◌≡◌, ◌∷◌, []};
+ghost use Rattle.sqlite.specs.Values.{bound};
+ghost use Rattle.sqlite_value.specs.Value.{owned};
+ghost use Rattle.sqlite_value.specs.declared.value.Value.TheVariants.{Text as Bytes};
+ghost use Rattle.plant_tables_columns.specs.Booked.{sort_of, other_lot, other_sublot, batch_of};
+ghost use Rattle.plant_tables_columns.specs.Kinds.{number, null_or};
+ghost use Rattle.plant_tables_columns.specs.Naming.{movement_sort_number};
+ghost use Rattle.plant_tables_columns.specs.TableColumns.{row_of_lot, lot_from, row_of_sublot, sublot_from};
+ghost use Rattle.plant_tables_columns.specs.TableColumns.{booked_from, row_of_movement, movement_read};
+ghost use Rattle.plant_tables_columns.specs.TableColumns.{row_of_hold, hold_from};
 
 use crate::booked::{BookedRow, movement_sort};
 use crate::judged::Judged;
 use crate::reading::{
     amount, id, line_number, moment, number, optional_id, optional_sublot, sublot_number, text,
 };
+use crate::storing;
 use plant_base::{
     Amount, GREATEST_AMOUNT, GREATEST_SEQ, Hold, Id, Lot, Moment, Movement, MovementKind, Sublot,
     Text,
 };
 use sqlite::Row;
+use sqlite_value::value::ValueRef;
+
+/// A row of `lot`.
+pub fn lot_values(row: &Lot) -> [ValueRef<'_>; 2]
+    ensures { bound result ≡ row_of_lot row.now }
+{
+    [storing::id(&row.id), storing::id(&row.def)]
+}
 
 impl Judged for Lot {
     ghost row_from = { lot_from };
 
-    #[tactic(auto, unfolding(crate::specs::Judging::lot_from))]
+    #[tactic(auto, unfolding(crate::specs::TableColumns::lot_from))]
     fn judge(row: &Row) -> Option<Lot> {
         if row.column_count() != 2 {
             return None;
@@ -28,10 +46,23 @@ impl Judged for Lot {
     }
 }
 
+/// The stock is given as a value.
+pub fn sublot_values<'a>(row: &'a Sublot, stock: ValueRef<'a>) -> [ValueRef<'a>; 4]
+    requires { owned stock ≡ number row.now.stock }
+    ensures { bound result ≡ row_of_sublot row.now }
+{
+    [
+        storing::id(&row.lot),
+        storing::small(row.number),
+        storing::text(&row.place),
+        stock,
+    ]
+}
+
 impl Judged for Sublot {
     ghost row_from = { sublot_from };
 
-    #[tactic(auto, unfolding(crate::specs::Judging::sublot_from))]
+    #[tactic(auto, unfolding(crate::specs::TableColumns::sublot_from))]
     fn judge(row: &Row) -> Option<Sublot> {
         if row.column_count() != 4 {
             return None;
@@ -45,10 +76,72 @@ impl Judged for Sublot {
     }
 }
 
+/// The number of its sort.
+fn sort_number(kind: &MovementKind) -> u16
+    ensures { result ≡ movement_sort_number (sort_of kind.now) }
+{
+    match kind {
+        MovementKind::Received => 1,
+        MovementKind::Consumed { .. } => 2,
+        MovementKind::Produced { .. } => 3,
+        MovementKind::Scrapped => 4,
+        MovementKind::Divided { .. } => 5,
+        MovementKind::Split { .. } => 6,
+        MovementKind::Merged { .. } => 7,
+    }
+}
+
+/// The columns lot2, sub2 and batch of a movement of this lot.
+fn kind_values<'a>(kind: &'a MovementKind, lot: &'a Id) -> [ValueRef<'a>; 3]
+    ensures { bound result ≡ null_or Bytes (other_lot kind.now lot.now)
+        ∷ null_or number (other_sublot kind.now) ∷ null_or Bytes (batch_of kind.now) ∷ [] }
+{
+    match kind {
+        MovementKind::Received | MovementKind::Scrapped => [
+            ValueRef::Null,
+            ValueRef::Null,
+            ValueRef::Null,
+        ],
+        MovementKind::Consumed { batch } | MovementKind::Produced { batch } => [
+            ValueRef::Null,
+            ValueRef::Null,
+            storing::id(batch),
+        ],
+        MovementKind::Divided { to } => [storing::id(lot), storing::small(*to), ValueRef::Null],
+        MovementKind::Split { to } | MovementKind::Merged { to } => [
+            storing::id(to),
+            storing::small(0),
+            ValueRef::Null,
+        ],
+    }
+}
+
+/// The seq is given as a value.
+pub fn movement_values<'a>(row: &'a Movement, seq: ValueRef<'a>) -> [ValueRef<'a>; 12]
+    requires { owned seq ≡ number row.now.seq }
+    ensures { bound result ≡ row_of_movement row.now }
+{
+    let [lot2, sub2, batch] = kind_values(&row.kind, &row.lot);
+    [
+        seq,
+        storing::small(row.line),
+        storing::small(sort_number(&row.kind)),
+        storing::id(&row.lot),
+        storing::small(row.sub),
+        lot2,
+        sub2,
+        batch,
+        storing::amount(row.amount),
+        storing::moment(row.at),
+        storing::text(&row.by),
+        storing::text(&row.note),
+    ]
+}
+
 impl Judged for BookedRow {
     ghost row_from = { booked_from };
 
-    #[tactic(auto, unfolding(crate::specs::Judging::booked_from))]
+    #[tactic(auto, unfolding(crate::specs::TableColumns::booked_from))]
     fn judge(row: &Row) -> Option<BookedRow> {
         if row.column_count() != 12 {
             return None;
@@ -73,7 +166,7 @@ impl Judged for BookedRow {
 impl Judged for Movement {
     ghost row_from = { movement_read };
 
-    #[tactic(auto, unfolding(crate::specs::Judging::movement_read))]
+    #[tactic(auto, unfolding(crate::specs::TableColumns::movement_read))]
     fn judge(row: &Row) -> Option<Movement> {
         // The checker can't follow movements, unless the function names these types.
         let _: Option<(Id, MovementKind, Amount, Moment, Text)> = None;
@@ -82,10 +175,23 @@ impl Judged for Movement {
     }
 }
 
+/// A row of `hold`.
+pub fn hold_values(row: &Hold) -> [ValueRef<'_>; 5]
+    ensures { bound result ≡ row_of_hold row.now }
+{
+    [
+        storing::id(&row.lot),
+        storing::id(&row.id),
+        storing::moment(row.at),
+        storing::text(&row.by),
+        storing::text(&row.note),
+    ]
+}
+
 impl Judged for Hold {
     ghost row_from = { hold_from };
 
-    #[tactic(auto, unfolding(crate::specs::Judging::hold_from))]
+    #[tactic(auto, unfolding(crate::specs::TableColumns::hold_from))]
     fn judge(row: &Row) -> Option<Hold> {
         if row.column_count() != 5 {
             return None;

@@ -12,7 +12,7 @@ use Rattle.plant_base.specs.declared.rows.MasterLine.{MasterLine}
 use Rattle.plant_view.specs.Tables.{Tables, batch_row_order, sublot_order}
 use Rattle.table_forms.specs.Forms.{Form}
 use Rattle.table_forms.specs.Standing.{Stands}
-use Rattle.plant_tables.specs.Encoding.{row_of_meta, row_of_class, row_of_definition, row_of_recipe, row_of_master_line, row_of_job, row_of_batch, row_of_control_line, row_of_event, row_of_lot, row_of_sublot, row_of_movement, row_of_hold}
+use Rattle.plant_tables_columns.specs.TableColumns.{row_of_meta, row_of_class, row_of_definition, row_of_recipe, row_of_master_line, row_of_job, row_of_batch, row_of_control_line, row_of_event, row_of_lot, row_of_sublot, row_of_movement, row_of_hold, only_meta, class_from, definition_from, recipe_from, master_line_from, job_from, batch_from, control_line_from, batch_event_from, lot_from, sublot_from, booked_from, hold_from}
 use Rattle.plant_tables.specs.DeskForms.{meta_form, class_form, definition_form, recipe_form, recipe_line_form, job_form, batch_form, control_line_form, batch_event_form, lot_form, sublot_form, movement_form, hold_form}
 use Rattle.plant_tables.specs.Keyed.{HoldsTables}
 use Rattle.table_reads.specs.Keys.{key_order}
@@ -20,7 +20,6 @@ use Rattle.table_reads.specs.Selects.{first_of}
 use Rattle.plant_tables_stored.specs.Loading.{Loads, AreLoaded, contents_loaded}
 use Rattle.plant_tables_stored.specs.declared.loaded.Loaded.{Loaded}
 use Rattle.plant_tables_columns.specs.Booked.{booked_of}
-use Rattle.plant_tables_columns.specs.Judging.{only_meta, class_from, definition_from, recipe_from, master_line_from, job_from, batch_from, control_line_from, batch_event_from, lot_from, sublot_from, booked_from, hold_from}
 use Rattle.plant_base.specs.RowValues.{HasClassValues, HasDefinitionValues, HasLotValues, HasHoldValues}
 use Rattle.plant_tables_columns.specs.Obeying.{HasRecipeValues, HasMasterLineValues, HasJobValues, HasBatchRowValues, HasControlLineValues, HasEventRowValues, HasSublotValues, HasMovementRowValues, HasGoodValues}
 use Rattle.plant_tables_columns.specs.All.{all_from}

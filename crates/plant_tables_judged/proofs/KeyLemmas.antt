@@ -5,7 +5,7 @@ use Rattle.std.specs.declared.cmp.Ordering.{Ordering}
 use Rattle.std.specs.declared.cmp.Ordering.TheVariants.{Less, Equal, Greater}
 use Rattle.sqlite.specs.declared.types.Value.TheVariants.{Text}
 use Rattle.plant_base.specs.State.{id_cmp, numbered_cmp}
-use Rattle.plant_tables.specs.Encoding.{number}
+use Rattle.plant_tables_columns.specs.Kinds.{number}
 use Rattle.table_reads.specs.Keys.{value_order}
 use Rattle.plant_tables_judged.proofs.SortedLemmas.{int_cmp_pos}
 

@@ -4,7 +4,7 @@ use Rattle.std.specs.Bool.{⊤}
 use Rattle.std.specs.List.{AllByRecursion, filter_map, cons_option}
 use Rattle.std.proofs.lemmas.Bool.{false≢true}
 use Rattle.plant_base.specs.declared.rows.Movement.{Movement}
-use Rattle.plant_tables.specs.Encoding.{row_of_meta, row_of_class, row_of_definition, row_of_recipe, row_of_master_line, row_of_job, row_of_batch, row_of_control_line, row_of_event, row_of_lot, row_of_sublot, row_of_movement, row_of_hold}
+use Rattle.plant_tables_columns.specs.TableColumns.{row_of_meta, row_of_class, row_of_definition, row_of_recipe, row_of_master_line, row_of_job, row_of_batch, row_of_control_line, row_of_event, row_of_lot, row_of_sublot, row_of_booked, row_of_movement, row_of_hold, only_meta, class_from, definition_from, recipe_from, master_line_from, job_from, batch_from, control_line_from, batch_event_from, lot_from, sublot_from, booked_from, hold_from}
 use Rattle.plant_tables.specs.DeskTables.{rows_of, contents_of}
 use Rattle.sqlite.specs.Order.{Row}
 use Rattle.plant_base.specs.declared.rows.Meta.{Meta}
@@ -14,12 +14,11 @@ use Rattle.std.proofs.lemmas.Option.{slice_get_within}
 use Rattle.plant_tables_stored.specs.Loading.{contents_loaded}
 use Rattle.plant_tables_stored.specs.declared.loaded.Loaded.{Loaded}
 use Rattle.plant_tables_columns.specs.Booked.{movement_from}
-use Rattle.plant_tables_columns.specs.Judging.{only_meta, class_from, definition_from, recipe_from, master_line_from, job_from, batch_from, control_line_from, batch_event_from, lot_from, sublot_from, booked_from, hold_from}
 use Rattle.plant_tables_columns.specs.All.{all_from}
 use Rattle.plant_tables_judged.specs.Collecting.{Rows, MasterRows, OrderRows, StockRows, masters_from, orders_from, stocks_from, rows_joined, rows_from, tables_in, AreWhole}
 use Rattle.plant_tables_columns.specs.declared.booked.BookedRow.{BookedRow}
 use Rattle.plant_tables_columns.proofs.Options.{bound, some_same}
-use Rattle.plant_tables_columns.proofs.KindLemmas.{row_of_booked, movement_back}
+use Rattle.plant_tables_columns.proofs.KindLemmas.{movement_back}
 use Rattle.plant_tables_columns.proofs.RowLaws.{meta_reads, class_reads, definition_reads, recipe_reads, master_line_reads, job_reads, batch_reads, control_line_reads, event_reads, lot_reads, sublot_reads, booked_reads, hold_reads}
 use Rattle.plant_tables_judged.proofs.TableLemmas.{every, all_back}
 
@@ -99,7 +98,7 @@ fitted (r ∷ rs) all = go (movement_from r) refl all.0 (fitted rs all.1)
     go : (o : Option Movement) → movement_from r ≡ o → is_some o ≡ true → map row_of_booked rs ≡ map row_of_movement (filter_map movement_from rs)
         → map row_of_booked (r ∷ rs) ≡ map row_of_movement (cons_option (movement_from r) (filter_map movement_from rs))
     go None e is more = absurd (false≢true is)
-    go (Some m) e is more = (λ i. movement_back r m e i ∷ more i) ∙ ap (λ o. map row_of_movement (cons_option o (filter_map movement_from rs))) (sym e)
+    go (Some m) e is more = (λ i. row_of_booked (movement_back r m e i) ∷ more i) ∙ ap (λ o. map row_of_movement (cons_option o (filter_map movement_from rs))) (sym e)
 
 -- ---- all tables
 

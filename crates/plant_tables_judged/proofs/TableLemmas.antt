@@ -1,5 +1,5 @@
 -- All rows of a table: as they are stored, and as they were read.
-use Rattle.std.proofs.Common.{◌≡◌, refl, sym, ap, ◌∙◌, subst, List, [], ◌∷◌, map, drop, Bool, Option, Some, slice_get, is_lt}
+use Rattle.std.proofs.Common.{◌≡◌, refl, sym, ap, ◌∙◌, subst, List, [], ◌∷◌, map, drop, Bool, Option, Some, is_lt}
 use Rattle.std.specs.Bool.{⊤}
 use Rattle.std.specs.declared.cmp.Ordering.{Ordering}
 use Rattle.std.specs.Cmp.{IsTotalOrder}
@@ -8,13 +8,13 @@ use Rattle.std.specs.List.Sorted.{IsStrictlySortedBy, IsPermutation}
 use Rattle.std.proofs.lemmas.List.Sorted.{IsPermutation-sym, IsPermutation-trans}
 use Rattle.sqlite.specs.Effect.{Database}
 use Rattle.sqlite.specs.Order.{Row}
-use Rattle.sqlite.specs.Table.{Table}
-use Rattle.table_forms.specs.Forms.{Form, table_of}
+use Rattle.table_forms.specs.Forms.{Form}
 use Rattle.table_forms.specs.Standing.{Stands}
 use Rattle.table_reads.specs.Reading.{Lists}
 use Rattle.table_reads.specs.Keys.{key_order, comes_before}
 use Rattle.table_reads.specs.Selects.{first_of}
 use Rattle.table_reads.proofs.KeyOrder.{key_total}
+use Rattle.table_reads.proofs.Same.{one_tree}
 use Rattle.plant_tables_stored.specs.Loading.{Loads}
 use Rattle.plant_tables_columns.specs.All.{all_from}
 use Rattle.plant_tables_columns.proofs.Options.{bound, some_same}
@@ -49,15 +49,9 @@ module _ {R T : Type 0} (row_from : Row → Option T) (written : R → Row) (mad
 
 -- ---- the rows of a table that were loaded are those that stand in it
 
-one_tree : (db : Database) (form : Form) (loaded : List Row) (rows : List Row) (a : Lists db form loaded) (b : Stands db form rows) → a.tree ≡ b.tree
-one_tree db form loaded rows a b =
-    let places : Some a.at ≡ Some b.at = sym a.declared.named ∙ b.declared.named in
-    let tables : Some (table_of form a.tree) ≡ Some (table_of form b.tree) = sym a.declared.listed ∙ ap (slice_get db.schema.tables) (some_same a.at b.at places) ∙ b.declared.listed in
-    ap (λ (t : Table). t.tree) (some_same (table_of form a.tree) (table_of form b.tree) tables)
-
 same_rows : (db : Database) (form : Form) (loaded rows : List Row) → Lists db form loaded → Stands db form rows → IsPermutation loaded rows
 same_rows db form loaded rows a b =
-    let there : IsPermutation loaded (map (drop 1) (db.trees b.tree)) = subst (λ tree. IsPermutation loaded (map (drop 1) (db.trees tree))) (one_tree db form loaded rows a b) a.same in
+    let there : IsPermutation loaded (map (drop 1) (db.trees b.tree)) = subst (λ tree. IsPermutation loaded (map (drop 1) (db.trees tree))) (one_tree db.schema form a.at a.tree b.at b.tree a.declared b.declared) a.same in
     IsPermutation-trans loaded (map (drop 1) (db.trees b.tree)) rows there (IsPermutation-sym rows (map (drop 1) (db.trees b.tree)) b.same)
 
 -- in the same order

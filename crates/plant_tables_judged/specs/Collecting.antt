@@ -23,7 +23,7 @@ use Rattle.plant_tables_columns.specs.All.{all_from}
 use Rattle.plant_tables_stored.specs.Loading.{contents_loaded}
 use Rattle.plant_tables_stored.specs.declared.loaded.Loaded.{Loaded}
 use Rattle.plant_tables_columns.specs.Booked.{movement_from, booked_of}
-use Rattle.plant_tables_columns.specs.Judging.{only_meta, class_from, definition_from, recipe_from, master_line_from, job_from, batch_from, control_line_from, batch_event_from, lot_from, sublot_from, booked_from, hold_from}
+use Rattle.plant_tables_columns.specs.TableColumns.{only_meta, class_from, definition_from, recipe_from, master_line_from, job_from, batch_from, control_line_from, batch_event_from, lot_from, sublot_from, booked_from, hold_from}
 use Rattle.plant_tables_columns.specs.declared.booked.BookedRow.{BookedRow}
 use Rattle.plant_tables_judged.specs.declared.desk_rows.DeskRows.{DeskRows}
 use Rattle.plant_tables_judged.specs.declared.desk_rows.MasterRows as held_masters

@@ -1,8 +1,11 @@
 ghost use Rattle.std.specs.Prelude.{◌≡◌, IfOk, is_some, option_map};
 ghost use Rattle.plant_tables_stored.specs.Loading.{contents_loaded};
-ghost use Rattle.plant_tables_columns.specs.Judging.{only_meta};
-ghost use Rattle.plant_tables_judged.specs.Collecting.{masters_listed, masters_from, orders_listed, orders_from, stocks_listed, stocks_from, rows_listed, rows_from};
-ghost use Rattle.plant_tables_judged.specs.Laws.{StandFor, AreReadAgain, AreWholeRows, AreSameTables, IsBookedAgain};
+ghost use Rattle.plant_tables_columns.specs.TableColumns.{only_meta};
+ghost use Rattle.plant_tables_judged.specs.Collecting.{masters_listed, masters_from, orders_listed};
+ghost use Rattle.plant_tables_judged.specs.Collecting.{orders_from, stocks_listed, stocks_from, rows_listed};
+ghost use Rattle.plant_tables_judged.specs.Collecting.{rows_from};
+ghost use Rattle.plant_tables_judged.specs.Laws.{StandFor, AreReadAgain, AreWholeRows, AreSameTables};
+ghost use Rattle.plant_tables_judged.specs.Laws.{IsBookedAgain};
 
 use plant_base::{
     BatchEvent, BatchRow, Class, ControlLine, Definition, Hold, Job, Lot, MasterLine, Meta, Recipe,
@@ -59,7 +62,7 @@ pub struct StockRows {
 }
 
 /// The one row of meta. `None` where there isn't one, or a value of it breaks its rule.
-#[tactic(auto, unfolding(plant_tables_columns::specs::Judging::only_meta))]
+#[tactic(auto, unfolding(plant_tables_columns::specs::TableColumns::only_meta))]
 fn only_meta(rows: &[Row]) -> Option<Meta>
     ensures { result ≡ only_meta rows.now }
 {

@@ -1,6 +1,7 @@
 //! What a store holds of the desk.
 
-ghost use Rattle.std.specs.Prelude.{◌≡◌, ◌≢◌, ◌↔◌, ◌∷◌, [], false, true, All, None, ℤ, IfOk, IfErr, IfSome, is_some};
+ghost use Rattle.std.specs.Prelude.{◌≡◌, ◌≢◌, ◌↔◌, ◌∷◌, [], false, true, All, None, ℤ, IfOk, IfErr, IfSome};
+ghost use Rattle.std.specs.Prelude.{is_some};
 ghost use Rattle.std.specs.List.{list_any};
 ghost use Rattle.sqlite.specs.Does.{lacks_sequence};
 ghost use Rattle.sqlite.specs.Held.{state};

@@ -3,7 +3,8 @@ ghost use Rattle.std.specs.Prelude.{◌≡◌, IfOk, string_bytes};
 ghost use Rattle.serde_json.specs.Data.{array};
 ghost use Rattle.serde_json.specs.View.{view};
 ghost use Rattle.serde_json.specs.Written.{compact_text};
-ghost use Rattle.plant_text.specs.Answers.{desk_data, sublot_data, sublots_data, lot_data, id_or_null, order_data, text_of_answer};
+ghost use Rattle.plant_text.specs.Answers.{desk_data, sublot_data, sublots_data, lot_data, id_or_null};
+ghost use Rattle.plant_text.specs.Answers.{order_data, text_of_answer};
 
 use crate::batch_answers::batch_text;
 use crate::replies::refusal_line;

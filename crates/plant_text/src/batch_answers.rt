@@ -3,7 +3,8 @@ ghost use Rattle.std.specs.Prelude.{◌≡◌, IfOk, string_bytes};
 ghost use Rattle.serde_json.specs.Data.{array};
 ghost use Rattle.serde_json.specs.View.{view};
 ghost use Rattle.serde_json.specs.Written.{compact_text};
-ghost use Rattle.plant_text.specs.BatchAnswers.{consumed_data, produced_data, booking_data, bookings_data, batch_data};
+ghost use Rattle.plant_text.specs.BatchAnswers.{consumed_data, produced_data, booking_data, bookings_data};
+ghost use Rattle.plant_text.specs.BatchAnswers.{batch_data};
 
 use plant_desk::{BatchView, Booking};
 use plant_record::phases_in;

@@ -1,7 +1,8 @@
 //! Commands on batches as JSON: one function a word.
 ghost use Rattle.std.specs.Prelude.{◌≡◌};
 ghost use Rattle.serde_json.specs.View.{view};
-ghost use Rattle.plant_text.specs.Batches.{command_word, word_at, batch_of, settle_of, phase_done_of, close_batch_of, consume_of, produce_of, body_on_batch};
+ghost use Rattle.plant_text.specs.Batches.{command_word, word_at, batch_of, settle_of, phase_done_of};
+ghost use Rattle.plant_text.specs.Batches.{close_batch_of, consume_of, produce_of, body_on_batch};
 
 use crate::fields::{amount_at, id_at, is_command, phase_at, sublot_at, text_at};
 use plant_base::{BatchCommand, CloseBatch, Command, Consume, PhaseDone, Produce, Settle, Word};

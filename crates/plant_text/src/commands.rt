@@ -2,7 +2,8 @@
 ghost use Rattle.std.specs.Prelude.{◌≡◌, codes, option_map};
 ghost use Rattle.plant_text.specs.Fields.{string_at};
 ghost use Rattle.serde_json.specs.View.{view};
-ghost use Rattle.plant_text.specs.Commands.{add_class_of, add_definition_of, receive_of, scrap_of, divide_of, split_of, merge_of, hold_of, unhold_of, body_of, envelope_of};
+ghost use Rattle.plant_text.specs.Commands.{add_class_of, add_definition_of, receive_of, scrap_of, divide_of};
+ghost use Rattle.plant_text.specs.Commands.{split_of, merge_of, hold_of, unhold_of, body_of, envelope_of};
 ghost use Rattle.plant_text.specs.Lists.{Reads};
 
 use crate::batches::body_on_batch;

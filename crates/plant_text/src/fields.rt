@@ -5,7 +5,9 @@ ghost use Rattle.serde_json.specs.Find.{get};
 ghost use Rattle.serde_json.specs.View.{view};
 ghost use Rattle.plant_base.specs.Values.{is_id, is_text, is_unit, only};
 ghost use Rattle.plant_base.specs.Dates.{is_due};
-ghost use Rattle.plant_text.specs.Fields.{natural_at, id_at, text_at, unit_at, amount_at, moment_at, sublot_at, version_at, priority_at, phase_at, due_at, note_at, count_of, is_shape, shared_names, is_command};
+ghost use Rattle.plant_text.specs.Fields.{natural_at, id_at, text_at, unit_at, amount_at, moment_at};
+ghost use Rattle.plant_text.specs.Fields.{sublot_at, version_at, priority_at, phase_at, due_at, note_at};
+ghost use Rattle.plant_text.specs.Fields.{count_of, is_shape, shared_names, is_command};
 
 use plant_base::{
     Amount, Due, GREATEST_PHASE, GREATEST_PRIORITY, GREATEST_SUBLOT, GREATEST_VERSION, Id, Moment,

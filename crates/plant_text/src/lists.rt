@@ -2,7 +2,8 @@
 ghost use Rattle.serde_json.specs.View.{view, items_view};
 ghost use Rattle.std.specs.Prelude.{◌≡◌, option_and_then};
 ghost use Rattle.serde_json.specs.Find.{get, as_array};
-ghost use Rattle.plant_text.specs.Lists.{Reads, each_item, input_of, output_of, parameter_of, phase_of, line_for, line_of, part_of, order_of};
+ghost use Rattle.plant_text.specs.Lists.{Reads, each_item, input_of, output_of, parameter_of, phase_of};
+ghost use Rattle.plant_text.specs.Lists.{line_for, line_of, part_of, order_of};
 
 use crate::fields::{
     amount_at, due_at, id_at, is_shape, priority_at, sublot_at, text_at, version_at,

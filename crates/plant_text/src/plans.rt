@@ -2,7 +2,8 @@
 ghost use Rattle.std.specs.Prelude.{◌≡◌};
 ghost use Rattle.serde_json.specs.View.{view};
 ghost use Rattle.plant_text.specs.Lists.{Reads};
-ghost use Rattle.plant_text.specs.Plans.{header_of, add_recipe_of, approve_of, withdraw_of, import_orders_of, cancel_order_of, release_of};
+ghost use Rattle.plant_text.specs.Plans.{header_of, add_recipe_of, approve_of, withdraw_of, import_orders_of};
+ghost use Rattle.plant_text.specs.Plans.{cancel_order_of, release_of};
 
 use crate::fields::{amount_at, id_at, is_command, text_at, version_at};
 use crate::lists::items_at;

@@ -1,7 +1,8 @@
 //! Questions as JSON: one function a word.
 ghost use Rattle.std.specs.Prelude.{◌≡◌};
 ghost use Rattle.serde_json.specs.View.{view};
-ghost use Rattle.plant_text.specs.Questions.{desk_of, named_id, lot_of, order_of, batch_of, traced_node, trace_of, question_for, question_of};
+ghost use Rattle.plant_text.specs.Questions.{desk_of, named_id, lot_of, order_of, batch_of, traced_node};
+ghost use Rattle.plant_text.specs.Questions.{trace_of, question_for, question_of};
 
 use crate::fields::{id_at, is_shape};
 use plant_base::Id;

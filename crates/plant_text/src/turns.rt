@@ -2,7 +2,8 @@
 ghost use Rattle.std.specs.Prelude.{◌≡◌, false, IfErr, IfOk, IsErrAnd, OnOk};
 ghost use Rattle.plant_base.specs.State.{State};
 ghost use Rattle.plant_desk.specs.Keeping.{IsSameDesk};
-ghost use Rattle.plant_text.specs.Session.{entry_of, is_refusal, is_unknown, command as command_entry, question as question_entry};
+ghost use Rattle.plant_text.specs.Session.{entry_of, is_refusal, is_unknown, command as command_entry};
+ghost use Rattle.plant_text.specs.Session.{question as question_entry};
 ghost use Rattle.plant_text.specs.Turns.{TurnEnds, FaultWritten, AnswerWritten, BadWritten};
 
 use crate::answers::answer_text;

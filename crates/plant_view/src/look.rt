@@ -1,6 +1,7 @@
 //! The look-ups of a view, each with the fault of a decision: `ViewFault::View` where the view failed.
 ghost use Rattle.std.specs.Prelude.{◌≡◌, IfOk, is_some, option_map};
-ghost use Rattle.plant_base.specs.State.{class_at, definition_at, recipe_at, master_lines_of, job_at, batch_at, batch_of, control_lines_of, lot_at, hold_at};
+ghost use Rattle.plant_base.specs.State.{class_at, definition_at, recipe_at, master_lines_of, job_at};
+ghost use Rattle.plant_base.specs.State.{batch_at, batch_of, control_lines_of, lot_at, hold_at};
 ghost use Rattle.plant_trace.specs.Sources.{Told};
 ghost use Rattle.plant_view.specs.Refusing.{is_held};
 ghost use Rattle.plant_view.specs.Sound.{IsSound};

@@ -11,10 +11,13 @@ use plant_trace::Edges;
 /// every state, but for a sublot's stock and a batch's progress: these are those of a sound state.
 pub trait View: Edges {
     ghost use Rattle.std.specs.Prelude.{◌≡◌, IfOk, map, option_map};
-    ghost use Rattle.plant_base.specs.State.{State, class_at, definition_at, recipe_at, master_lines_of, job_at, batch_at, batch_of, control_lines_of, lot_at, place_at, hold_at};
+    ghost use Rattle.plant_base.specs.State.{State, class_at, definition_at, recipe_at, master_lines_of};
+    ghost use Rattle.plant_base.specs.State.{job_at, batch_at, batch_of, control_lines_of, lot_at, place_at};
+    ghost use Rattle.plant_base.specs.State.{hold_at};
     ghost use Rattle.plant_trace.specs.Sources.{Told};
     ghost use Rattle.plant_view.specs.Genealogy.{edges_of};
-    ghost use Rattle.plant_view.specs.Tables.{position_of, batch_row, sublot_row, place_of_row, places_of, sublots_of};
+    ghost use Rattle.plant_view.specs.Tables.{position_of, batch_row, sublot_row, place_of_row, places_of};
+    ghost use Rattle.plant_view.specs.Tables.{sublots_of};
     ghost use Rattle.plant_view.specs.Refusing.{holds_of};
     ghost use Rattle.plant_view.specs.Sound.{IsSound};
     ghost use Rattle.plant_view.specs.Views.{events_of, movements_of, scraps_of};

@@ -10,7 +10,8 @@ use Rattle.table_forms.specs.Forms.{Form, table_of}
 use Rattle.table_forms.specs.Standing.{IsDeclared, HasTable}
 use Rattle.table_reads.specs.Reading.{Lists}
 
-one_tree : (schema : Schema) (form : Form) (at tree at' tree' : ℕ) → IsDeclared schema form at tree → IsDeclared schema form at' tree' → tree ≡ tree'
+-- a table that is declared twice over stands in one tree
+pub one_tree : (schema : Schema) (form : Form) (at tree at' tree' : ℕ) → IsDeclared schema form at tree → IsDeclared schema form at' tree' → tree ≡ tree'
 one_tree schema form at tree at' tree' p q =
     let named = p.named in
     let named' = q.named in

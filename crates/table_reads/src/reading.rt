@@ -1,4 +1,5 @@
-ghost use Rattle.std.specs.Prelude.{◌≡◌, ◌<◌, false, true, IsTrue, length, slice_index_or, ◌-◌, ◌++◌, ◌∷◌, [], IfOk, IfErr, OnOk, IsOkUnless, Some};
+ghost use Rattle.std.specs.Prelude.{◌≡◌, ◌<◌, false, true, IsTrue, length, slice_index_or, ◌-◌, ◌++◌, ◌∷◌};
+ghost use Rattle.std.specs.Prelude.{[], IfOk, IfErr, OnOk, IsOkUnless, Some};
 ghost use Rattle.sqlite.specs.Order.{Row as Values};
 ghost use Rattle.sqlite.specs.State.{HasCleanDisk, IsUnchanged, Survives, Shown};
 ghost use Rattle.sqlite.specs.Held.{state};

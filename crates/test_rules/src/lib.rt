@@ -1,4 +1,4 @@
-//! Tests of recipes, stock, traces, keepers over lists and runs, by the public functions of their crates.
+//! Tests of recipes, stock, traces, order files, keepers over lists and runs, by the public functions of their crates.
 #![tactic(auto)]
 
 #[cfg(test)]
@@ -7,6 +7,8 @@ mod groups;
 mod keepers;
 #[cfg(test)]
 mod movements;
+#[cfg(test)]
+mod orders;
 #[cfg(test)]
 mod recipes;
 #[cfg(test)]

@@ -3,7 +3,8 @@ ghost use Rattle.plant_base.specs.declared.refusal.Refusal.TheVariants.{OwnProdu
 ghost use Rattle.plant_base.specs.State.{State, control_lines_of};
 ghost use Rattle.plant_trace.specs.Sources.{Told};
 ghost use Rattle.plant_view.specs.Materials.{takes, is_taken};
-ghost use Rattle.plant_rules.specs.Consumption.{is_idle, is_own_product, wrong_consume, consume, IsDrawOf, IsLeft, IsDrawn};
+ghost use Rattle.plant_rules.specs.Consumption.{is_idle, is_own_product, wrong_consume, consume, IsDrawOf};
+ghost use Rattle.plant_rules.specs.Consumption.{IsLeft, IsDrawn};
 ghost use Rattle.plant_view.specs.Refusing.{refuse, at_limit};
 ghost use Rattle.plant_view.specs.Sound.{IsSound};
 ghost use Rattle.plant_view.specs.OneBatch.{PutsOneBatch};

@@ -5,7 +5,8 @@ ghost use Rattle.plant_base.specs.State.{State, lot_at};
 ghost use Rattle.plant_base.specs.Formed.{are_parts};
 ghost use Rattle.plant_trace.specs.Sources.{Told};
 ghost use Rattle.plant_rules.specs.Merging.{wrong_merge, merge, part_line};
-ghost use Rattle.plant_rules.specs.Parts.{PartsAre, wrong_found, merge_rows, found_rows, total_found, def_found, is_lacking, is_other};
+ghost use Rattle.plant_rules.specs.Parts.{PartsAre, wrong_found, merge_rows, found_rows, total_found};
+ghost use Rattle.plant_rules.specs.Parts.{def_found, is_lacking, is_other};
 ghost use Rattle.plant_view.specs.OneBatch.{PutsOneBatch};
 ghost use Rattle.plant_view.specs.Tables.{IsDecided};
 ghost use Rattle.plant_view.specs.Sound.{IsSound};
@@ -192,7 +193,8 @@ fn rows_of(
 
 // The row of a part's sublot after the part was taken from it; it asks for no more than there is.
 fn source_after(found: &Found) -> Sublot
-    ensures { result ≡ record { lot = found.now.part.lot; number = found.now.part.sub; place = found.now.place; stock = found.now.stock - found.now.part.amount } }
+    ensures { result ≡ record { lot = found.now.part.lot; number = found.now.part.sub;
+        place = found.now.place; stock = found.now.stock - found.now.part.amount } }
 {
     Sublot {
         lot: found.part.lot,

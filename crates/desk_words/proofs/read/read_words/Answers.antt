@@ -1,4 +1,4 @@
-use Rattle.std.proofs.Common.{◌≡◌, ◌∙◌, List, [], true, None, Some, map, subst, sym, ap, rules, refl, option_map}
+use Rattle.std.proofs.Common.{◌≡◌, ◌∙◌, List, [], true, None, Some, map, subst, sym, ap, refl, option_map}
 use Rattle.clap.specs.Kinds.{HasKind}
 use Rattle.clap.specs.Words.{App, HasMatchesOf, Text, app_of, fault_of, is_simple_and_free, subcommand_of, subcommand_rows_of}
 use Rattle.desk_words.specs.CommandLine.{the_program}

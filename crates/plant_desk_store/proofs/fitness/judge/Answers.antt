@@ -1,7 +1,7 @@
 use Rattle.std.proofs.Common.{◌≡◌, true, false, None, Some, is_some, rules}
 use Rattle.plant_tables_stored.specs.Loading.{contents_loaded}
 use Rattle.plant_tables_judged.specs.Collecting.{rows_from, rows_listed}
-use Rattle.plant_tables_columns.specs.Judging.{only_meta}
+use Rattle.plant_tables_columns.specs.TableColumns.{only_meta}
 use Rattle.plant_desk_store.proofs.Fitting.{no_meta, no_rows, fit_of, unfit_of}
 use Rattle.plant_desk_store.proofs.fitness.judge.Goals as goal
 

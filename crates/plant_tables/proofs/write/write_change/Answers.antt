@@ -4,10 +4,12 @@ use Rattle.sqlite.specs.declared.types.Value.TheVariants.{Text}
 use Rattle.table_forms.specs.Moves.{Moves}
 use Rattle.plant_tables.specs.DeskForms.{desk_forms, meta_form, class_form, definition_form, recipe_form, recipe_line_form, job_form, batch_form, control_line_form, batch_event_form, lot_form, sublot_form, movement_form, hold_form}
 use Rattle.plant_tables.specs.DeskTables.{rows_changed}
-use Rattle.plant_tables.specs.Encoding.{row_of_meta, row_of_class, row_of_definition, row_of_recipe, row_of_master_line, row_of_job, row_of_batch, row_of_control_line, row_of_event, row_of_lot, row_of_sublot, row_of_movement, row_of_hold}
+use Rattle.plant_tables_columns.specs.TableColumns.{row_of_meta, row_of_class, row_of_definition, row_of_recipe, row_of_master_line, row_of_job, row_of_batch, row_of_control_line, row_of_event, row_of_lot, row_of_sublot, row_of_movement, row_of_hold}
 use Rattle.plant_tables.specs.declared.forms.TheConstants.{PUT_META, PUT_CLASS, PUT_DEFINITION, PUT_RECIPE, PUT_RECIPE_LINE, PUT_JOB, PUT_BATCH, PUT_CONTROL_LINE, PUT_BATCH_EVENT, PUT_LOT, PUT_SUBLOT, PUT_MOVEMENT, PUT_HOLD, TAKE_HOLD}
 use Rattle.plant_tables.proofs.DeskTexts.{puts_meta, puts_class, puts_definition, puts_recipe, puts_recipe_line, puts_job, puts_batch, puts_control_line, puts_batch_event, puts_lot, puts_sublot, puts_movement, puts_hold, takes_hold}
-use Rattle.plant_tables.proofs.DeskMoves.{put_moved, take_moved, fits_master_line, fits_batch, fits_control_line, fits_movement}
+use Rattle.plant_tables.proofs.DeskMoves.{put_moved, take_moved}
+use Rattle.plant_tables_columns.specs.Booked.{booked_of}
+use Rattle.plant_tables_columns.proofs.TableLaws.{master_line_lawful, batch_lawful, control_line_lawful, booked_lawful}
 use Rattle.plant_tables.proofs.write.write_change.Goals as goal
 
 pub returns-in_ok-seq-in-Meta-clause-moved : goal.returns-in_ok-seq-in-Meta-clause-moved
@@ -53,7 +55,7 @@ returns-in-MasterLine-clause-moved g c clean =
     let new = state g.S.Store c.put_row-in-MasterLine.new.tx.conn.now in
     let put = rw c.master_line_values.ensures at (c.put_row-in-MasterLine.ensures.put clean) in
     subst (λ x. OnOk c.put_row-in-MasterLine.result (Moves desk_forms old new (rows_changed x))) (sym c.in-MasterLine.is)
-    (put_moved 4 recipe_line_form PUT_RECIPE_LINE.now (row_of_master_line c.in-MasterLine.row) refl puts_recipe_line (fits_master_line c.in-MasterLine.row) old new c.put_row-in-MasterLine.result put)
+    (put_moved 4 recipe_line_form PUT_RECIPE_LINE.now (row_of_master_line c.in-MasterLine.row) refl puts_recipe_line (master_line_lawful.fits c.in-MasterLine.row) old new c.put_row-in-MasterLine.result put)
 
 pub returns-in-Job-clause-moved : goal.returns-in-Job-clause-moved
 unfolding rows_changed
@@ -71,7 +73,7 @@ returns-in-Batch-clause-moved g c clean =
     let new = state g.S.Store c.put_row-in-Batch.new.tx.conn.now in
     let put = rw c.batch_values.ensures at (c.put_row-in-Batch.ensures.put clean) in
     subst (λ x. OnOk c.put_row-in-Batch.result (Moves desk_forms old new (rows_changed x))) (sym c.in-Batch.is)
-    (put_moved 6 batch_form PUT_BATCH.now (row_of_batch c.in-Batch.row) refl puts_batch (fits_batch c.in-Batch.row) old new c.put_row-in-Batch.result put)
+    (put_moved 6 batch_form PUT_BATCH.now (row_of_batch c.in-Batch.row) refl puts_batch (batch_lawful.fits c.in-Batch.row) old new c.put_row-in-Batch.result put)
 
 pub returns-in-ControlLine-clause-moved : goal.returns-in-ControlLine-clause-moved
 unfolding rows_changed
@@ -80,7 +82,7 @@ returns-in-ControlLine-clause-moved g c clean =
     let new = state g.S.Store c.put_row-in-ControlLine.new.tx.conn.now in
     let put = rw c.control_line_values.ensures at (c.put_row-in-ControlLine.ensures.put clean) in
     subst (λ x. OnOk c.put_row-in-ControlLine.result (Moves desk_forms old new (rows_changed x))) (sym c.in-ControlLine.is)
-    (put_moved 7 control_line_form PUT_CONTROL_LINE.now (row_of_control_line c.in-ControlLine.row) refl puts_control_line (fits_control_line c.in-ControlLine.row) old new c.put_row-in-ControlLine.result put)
+    (put_moved 7 control_line_form PUT_CONTROL_LINE.now (row_of_control_line c.in-ControlLine.row) refl puts_control_line (control_line_lawful.fits c.in-ControlLine.row) old new c.put_row-in-ControlLine.result put)
 
 pub returns-in_ok-seq-in-Event-clause-moved : goal.returns-in_ok-seq-in-Event-clause-moved
 unfolding rows_changed
@@ -116,7 +118,7 @@ returns-in_ok-seq-in-Movement-clause-moved g c clean =
     let new = state g.S.Store c.put_row-in-Movement.new.tx.conn.now in
     let put = rw c.movement_values.ensures at (c.put_row-in-Movement.ensures.put clean) in
     subst (λ x. OnOk c.put_row-in-Movement.result (Moves desk_forms old new (rows_changed x))) (sym c.in-Movement.is)
-    (put_moved 11 movement_form PUT_MOVEMENT.now (row_of_movement c.in-Movement.row) refl puts_movement (fits_movement c.in-Movement.row) old new c.put_row-in-Movement.result put)
+    (put_moved 11 movement_form PUT_MOVEMENT.now (row_of_movement c.in-Movement.row) refl puts_movement (booked_lawful.fits (booked_of c.in-Movement.row)) old new c.put_row-in-Movement.result put)
 
 pub returns-in-Hold-clause-moved : goal.returns-in-Hold-clause-moved
 unfolding rows_changed

@@ -1,10 +1,11 @@
--- The columns of each table, and the row of the desk that a stored row stands for: nothing where one of its values
--- breaks its rule.
-use Rattle.std.specs.Prelude.{ℕ, ◌+◌, List, [], ◌∷◌, Bool, ◌&&◌, Option, Some, None, option_map, if◌then◌else◌}
+-- The columns of each table, what each row of the desk is stored as in them, and the row of the desk that a stored row
+-- stands for: nothing where one of its values breaks its rule.
+use Rattle.std.specs.Prelude.{ℕ, ◌+◌, List, [], ◌∷◌, ◌++◌, Bool, ◌&&◌, Option, Some, None, option_map, codes, if◌then◌else◌}
 use Rattle.sqlite.specs.declared.types.Value.{Value}
+use Rattle.sqlite.specs.declared.types.Value.TheVariants.{Null, Text}
 use Rattle.sqlite.specs.Order.{Row, column}
 use Rattle.plant_base.specs.Dates.{◌>>=◌}
-use Rattle.plant_base.specs.Values.{greatest_amount, greatest_phase, greatest_priority, greatest_version}
+use Rattle.plant_base.specs.Values.{greatest_phase, greatest_priority, greatest_version}
 use Rattle.plant_recipe.specs.Progress.{greatest_attempt}
 use Rattle.plant_base.specs.declared.rows.Meta.{Meta}
 use Rattle.plant_base.specs.declared.rows.Class.{Class}
@@ -19,25 +20,32 @@ use Rattle.plant_base.specs.declared.rows.Job.{Job}
 use Rattle.plant_base.specs.declared.rows.Batch.{Batch}
 use Rattle.plant_base.specs.declared.rows.BatchRow.{BatchRow}
 use Rattle.plant_base.specs.declared.rows.ControlLine.{ControlLine}
+use Rattle.plant_base.specs.declared.states.Event.{Event}
 use Rattle.plant_base.specs.declared.rows.BatchEvent.{BatchEvent}
 use Rattle.plant_base.specs.declared.rows.Lot.{Lot}
 use Rattle.plant_base.specs.declared.rows.Sublot.{Sublot}
 use Rattle.plant_base.specs.declared.rows.Hold.{Hold}
 use Rattle.plant_base.specs.declared.rows.Movement.{Movement}
-use Rattle.plant_tables_columns.specs.Reading.{id_from, text_from, unit_from, due_from, number_from, one_from, greatest_number, amount_from, moment_from, seq_from, sublot_number_from, line_number_from, flag_from, id_or_null, sublot_or_null, is_null, is_empty, is_zero}
-use Rattle.plant_tables_columns.specs.Columns.{Columns, one, two, ◌⊗◌, made, read_row}
-use Rattle.plant_tables_columns.specs.Naming.{recipe_state_from, job_state_from, batch_state_from, event_from, line_sort_from, movement_sort_from}
+use Rattle.table_forms.specs.Forms.{integer, text, text_or_null}
+use Rattle.plant_tables_columns.specs.Reading.{id_from, text_from, amount_from, greatest_number, is_null, is_empty, is_zero}
+use Rattle.plant_tables_columns.specs.Columns.{Columns, one, ◌⊗◌, made, read_row}
+use Rattle.plant_tables_columns.specs.Kinds.{number, ids, texts, units, dues, numbers, amounts, stocks, moments, seqs, sublot_numbers, line_numbers, always_one, flags, recipe_states, job_states, batch_states, movement_sorts, ids_or_none, sublot_numbers_or_none}
+use Rattle.plant_tables_columns.specs.Naming.{event_name, event_phase, event_from, line_sort_from}
 use Rattle.plant_tables_columns.specs.declared.line.LineSort.{LineSort}
 use Rattle.plant_tables_columns.specs.declared.line.LineSort.TheVariants as line_sort
 use Rattle.plant_tables_columns.specs.declared.line.Material.{Material}
 use Rattle.plant_tables_columns.specs.declared.booked.BookedRow.{BookedRow}
-use Rattle.plant_tables_columns.specs.Booked.{movement_from}
+use Rattle.plant_tables_columns.specs.Booked.{movement_from, booked_of}
 
 -- ---- meta
 
 abbrev pub meta_columns : Columns Meta
 meta_columns = made (λ (k, (schema, (seq, at))). record { schema = schema; position = record { seq = seq; at = at } })
-    (one one_from ⊗ one (number_from 1 greatest_number) ⊗ one seq_from ⊗ one moment_from)
+    (λ m. (tt, (m.schema, (m.position.seq, m.position.at))))
+    (one (codes "k") always_one ⊗ one (codes "schema") (numbers 1 greatest_number) ⊗ one (codes "seq") seqs ⊗ one (codes "at") moments)
+
+abbrev pub row_of_meta : Meta → Row
+row_of_meta = meta_columns.stored
 
 unfoldable pub meta_from : Row → Option Meta
 meta_from = read_row meta_columns
@@ -51,24 +59,39 @@ only_meta (x ∷ y ∷ more) = None
 -- ---- classes, definitions and recipes
 
 abbrev pub class_columns : Columns Class
-class_columns = made (λ (id, name). record { id = id; name = name }) (one id_from ⊗ one text_from)
+class_columns = made (λ (id, name). record { id = id; name = name })
+    (λ c. (c.id, c.name))
+    (one (codes "id") ids ⊗ one (codes "name") texts)
+
+abbrev pub row_of_class : Class → Row
+row_of_class = class_columns.stored
 
 unfoldable pub class_from : Row → Option Class
 class_from = read_row class_columns
 
 abbrev pub definition_columns : Columns Definition
 definition_columns = made (λ (id, (class, (name, unit))). record { id = id; class = class; name = name; unit = unit })
-    (one id_from ⊗ one id_from ⊗ one text_from ⊗ one unit_from)
+    (λ d. (d.id, (d.class, (d.name, d.unit))))
+    (one (codes "id") ids ⊗ one (codes "class") ids ⊗ one (codes "name") texts ⊗ one (codes "unit") units)
+
+abbrev pub row_of_definition : Definition → Row
+row_of_definition = definition_columns.stored
 
 unfoldable pub definition_from : Row → Option Definition
 definition_from = read_row definition_columns
 
 abbrev pub header_columns : Columns Header
 header_columns = made (λ (recipe, (version, (product, (base, (least, (greatest, title)))))). record { recipe = recipe; version = version; product = product; base = base; least = least; greatest = greatest; title = title })
-    (one id_from ⊗ one (number_from 1 greatest_version) ⊗ one id_from ⊗ one amount_from ⊗ one amount_from ⊗ one amount_from ⊗ one text_from)
+    (λ h. (h.recipe, (h.version, (h.product, (h.base, (h.least, (h.greatest, h.title)))))))
+    (one (codes "id") ids ⊗ one (codes "version") (numbers 1 greatest_version) ⊗ one (codes "product") ids ⊗ one (codes "base") amounts ⊗ one (codes "low") amounts ⊗ one (codes "high") amounts ⊗ one (codes "title") texts)
 
 abbrev pub recipe_columns : Columns Recipe
-recipe_columns = made (λ (header, state). record { header = header; state = state }) (header_columns ⊗ one recipe_state_from)
+recipe_columns = made (λ (header, state). record { header = header; state = state })
+    (λ r. (r.header, r.state))
+    (header_columns ⊗ one (codes "state") recipe_states)
+
+abbrev pub row_of_recipe : Recipe → Row
+row_of_recipe = recipe_columns.stored
 
 unfoldable pub recipe_from : Row → Option Recipe
 recipe_from = read_row recipe_columns
@@ -112,19 +135,38 @@ line_from kind def qty t1 t2 t3 = do
   sort ← line_sort_from kind
   line_of_sort sort def qty t1 t2 t3
 
+-- kind, def, qty, t1, t2 and t3 of a line
+abbrev pub columns_of_line : RecipeLine → Row
+columns_of_line (line.In def amount) = number 1 ∷ Text def ∷ number amount ∷ Text [] ∷ Text [] ∷ Text [] ∷ []
+columns_of_line (line.Out def amount) = number 2 ∷ Text def ∷ number amount ∷ Text [] ∷ Text [] ∷ Text [] ∷ []
+columns_of_line (line.Parameter name value) = number 3 ∷ Null ∷ number 0 ∷ Text name ∷ Text value ∷ Text [] ∷ []
+columns_of_line (line.Phase unit_procedure operation phase) = number 4 ∷ Null ∷ number 0 ∷ Text unit_procedure ∷ Text operation ∷ Text phase ∷ []
+
 abbrev pub line_columns : Columns RecipeLine
-line_columns = record { width = 6; read = λ row at. line_from (column row at) (column row (at + 1)) (column row (at + 2)) (column row (at + 3)) (column row (at + 4)) (column row (at + 5)) }
+line_columns = record {
+  declared = integer (codes "kind") ∷ text_or_null (codes "def") ∷ integer (codes "qty") ∷ text (codes "t1") ∷ text (codes "t2") ∷ text (codes "t3") ∷ [];
+  stored = columns_of_line;
+  read = λ row at. line_from (column row at) (column row (at + 1)) (column row (at + 2)) (column row (at + 3)) (column row (at + 4)) (column row (at + 5));
+}
 
 abbrev pub master_line_columns : Columns MasterLine
 master_line_columns = made (λ (recipe, (version, (number, l))). record { recipe = recipe; version = version; number = number; line = l })
-    (one id_from ⊗ one (number_from 1 greatest_version) ⊗ one line_number_from ⊗ line_columns)
+    (λ l. (l.recipe, (l.version, (l.number, l.line))))
+    (one (codes "recipe") ids ⊗ one (codes "version") (numbers 1 greatest_version) ⊗ one (codes "no") line_numbers ⊗ line_columns)
+
+abbrev pub row_of_master_line : MasterLine → Row
+row_of_master_line = master_line_columns.stored
 
 unfoldable pub master_line_from : Row → Option MasterLine
 master_line_from = read_row master_line_columns
 
 abbrev pub control_line_columns : Columns ControlLine
 control_line_columns = made (λ (batch, (number, l)). record { batch = batch; number = number; line = l })
-    (one id_from ⊗ one line_number_from ⊗ line_columns)
+    (λ l. (l.batch, (l.number, l.line)))
+    (one (codes "batch") ids ⊗ one (codes "no") line_numbers ⊗ line_columns)
+
+abbrev pub row_of_control_line : ControlLine → Row
+row_of_control_line = control_line_columns.stored
 
 unfoldable pub control_line_from : Row → Option ControlLine
 control_line_from = read_row control_line_columns
@@ -133,28 +175,51 @@ control_line_from = read_row control_line_columns
 
 abbrev pub order_columns : Columns OrderRow
 order_columns = made (λ (order, (recipe, (version, (size, (due, priority))))). record { order = order; recipe = recipe; version = version; size = size; due = due; priority = priority })
-    (one id_from ⊗ one id_from ⊗ one (number_from 1 greatest_version) ⊗ one amount_from ⊗ one due_from ⊗ one (number_from 1 greatest_priority))
+    (λ o. (o.order, (o.recipe, (o.version, (o.size, (o.due, o.priority))))))
+    (one (codes "id") ids ⊗ one (codes "recipe") ids ⊗ one (codes "version") (numbers 1 greatest_version) ⊗ one (codes "size") amounts ⊗ one (codes "due") dues ⊗ one (codes "priority") (numbers 1 greatest_priority))
 
 abbrev pub job_columns : Columns Job
-job_columns = made (λ (order, state). record { order = order; state = state }) (order_columns ⊗ one job_state_from)
+job_columns = made (λ (order, state). record { order = order; state = state })
+    (λ j. (j.order, j.state))
+    (order_columns ⊗ one (codes "state") job_states)
+
+abbrev pub row_of_job : Job → Row
+row_of_job = job_columns.stored
 
 unfoldable pub job_from : Row → Option Job
 job_from = read_row job_columns
 
 abbrev pub released_columns : Columns Batch
 released_columns = made (λ (id, (job, (at, (by, note)))). record { id = id; job = job; at = at; by = by; note = note })
-    (one id_from ⊗ one id_from ⊗ one moment_from ⊗ one text_from ⊗ one text_from)
+    (λ b. (b.id, (b.job, (b.at, (b.by, b.note)))))
+    (one (codes "id") ids ⊗ one (codes "job") ids ⊗ one (codes "at") moments ⊗ one (codes "by_who") texts ⊗ one (codes "note") texts)
 
 abbrev pub batch_columns : Columns BatchRow
 batch_columns = made (λ (batch, (state, (attempt, (next, closed)))). record { batch = batch; state = state; attempt = attempt; next = next; closed = closed })
-    (released_columns ⊗ one batch_state_from ⊗ one (number_from 1 greatest_attempt) ⊗ one (number_from 1 greatest_phase) ⊗ one flag_from)
+    (λ b. (b.batch, (b.state, (b.attempt, (b.next, b.closed)))))
+    (released_columns ⊗ one (codes "state") batch_states ⊗ one (codes "attempt") (numbers 1 greatest_attempt) ⊗ one (codes "next") (numbers 1 greatest_phase) ⊗ one (codes "closed") flags)
+
+abbrev pub row_of_batch : BatchRow → Row
+row_of_batch = batch_columns.stored
 
 unfoldable pub batch_from : Row → Option BatchRow
 batch_from = read_row batch_columns
 
+-- the word and the phase of an event, which say what it is together
+abbrev pub event_columns : Columns Event
+event_columns = record {
+  declared = text (codes "word") ∷ integer (codes "phase") ∷ [];
+  stored = λ e. Text (event_name e) ∷ number (event_phase e) ∷ [];
+  read = λ row at. event_from (column row at) (column row (at + 1));
+}
+
 abbrev pub batch_event_columns : Columns BatchEvent
 batch_event_columns = made (λ (seq, (batch, (event, (at, (by, note))))). record { seq = seq; batch = batch; event = event; at = at; by = by; note = note })
-    (one seq_from ⊗ one id_from ⊗ two event_from ⊗ one moment_from ⊗ one text_from ⊗ one text_from)
+    (λ e. (e.seq, (e.batch, (e.event, (e.at, (e.by, e.note))))))
+    (one (codes "seq") seqs ⊗ one (codes "batch") ids ⊗ event_columns ⊗ one (codes "at") moments ⊗ one (codes "by_who") texts ⊗ one (codes "note") texts)
+
+abbrev pub row_of_event : BatchEvent → Row
+row_of_event = batch_event_columns.stored
 
 unfoldable pub batch_event_from : Row → Option BatchEvent
 batch_event_from = read_row batch_event_columns
@@ -162,18 +227,28 @@ batch_event_from = read_row batch_event_columns
 -- ---- lots
 
 abbrev pub lot_columns : Columns Lot
-lot_columns = made (λ (id, def). record { id = id; def = def }) (one id_from ⊗ one id_from)
+lot_columns = made (λ (id, def). record { id = id; def = def })
+    (λ l. (l.id, l.def))
+    (one (codes "id") ids ⊗ one (codes "def") ids)
+
+abbrev pub row_of_lot : Lot → Row
+row_of_lot = lot_columns.stored
 
 unfoldable pub lot_from : Row → Option Lot
 lot_from = read_row lot_columns
 
 abbrev pub sublot_columns : Columns Sublot
 sublot_columns = made (λ (lot, (number, (place, stock))). record { lot = lot; number = number; place = place; stock = stock })
-    (one id_from ⊗ one sublot_number_from ⊗ one text_from ⊗ one (number_from 0 greatest_amount))
+    (λ s. (s.lot, (s.number, (s.place, s.stock))))
+    (one (codes "lot") ids ⊗ one (codes "no") sublot_numbers ⊗ one (codes "place") texts ⊗ one (codes "stock") stocks)
+
+abbrev pub row_of_sublot : Sublot → Row
+row_of_sublot = sublot_columns.stored
 
 unfoldable pub sublot_from : Row → Option Sublot
 sublot_from = read_row sublot_columns
 
+-- the columns of a movement, whatever its kind asks of them
 abbrev pub booked_columns : Columns BookedRow
 booked_columns = made (λ (seq, (line, (sort, (lot, (sub, (lot2, (sub2, (batch, (amount, (at, (by, note))))))))))). record {
   seq = seq;
@@ -189,7 +264,15 @@ booked_columns = made (λ (seq, (line, (sort, (lot, (sub, (lot2, (sub2, (batch, 
   by = by;
   note = note;
 })
-    (one seq_from ⊗ one line_number_from ⊗ one movement_sort_from ⊗ one id_from ⊗ one sublot_number_from ⊗ one id_or_null ⊗ one sublot_or_null ⊗ one id_or_null ⊗ one amount_from ⊗ one moment_from ⊗ one text_from ⊗ one text_from)
+    (λ r. (r.seq, (r.line, (r.sort, (r.lot, (r.sub, (r.lot2, (r.sub2, (r.batch, (r.amount, (r.at, (r.by, r.note))))))))))))
+    (one (codes "seq") seqs ⊗ one (codes "line") line_numbers ⊗ one (codes "kind") movement_sorts ⊗ one (codes "lot") ids ⊗ one (codes "sub") sublot_numbers ⊗ one (codes "lot2") ids_or_none ⊗ one (codes "sub2") sublot_numbers_or_none ⊗ one (codes "batch") ids_or_none ⊗ one (codes "amount") amounts ⊗ one (codes "at") moments ⊗ one (codes "by_who") texts ⊗ one (codes "note") texts)
+
+abbrev pub row_of_booked : BookedRow → Row
+row_of_booked = booked_columns.stored
+
+-- the columns of the row that books a movement
+abbrev pub row_of_movement : Movement → Row
+row_of_movement m = row_of_booked (booked_of m)
 
 unfoldable pub booked_from : Row → Option BookedRow
 booked_from = read_row booked_columns
@@ -202,7 +285,11 @@ movement_read row = do
 
 abbrev pub hold_columns : Columns Hold
 hold_columns = made (λ (lot, (id, (at, (by, note)))). record { lot = lot; id = id; at = at; by = by; note = note })
-    (one id_from ⊗ one id_from ⊗ one moment_from ⊗ one text_from ⊗ one text_from)
+    (λ h. (h.lot, (h.id, (h.at, (h.by, h.note)))))
+    (one (codes "lot") ids ⊗ one (codes "id") ids ⊗ one (codes "at") moments ⊗ one (codes "by_who") texts ⊗ one (codes "note") texts)
+
+abbrev pub row_of_hold : Hold → Row
+row_of_hold = hold_columns.stored
 
 unfoldable pub hold_from : Row → Option Hold
 hold_from = read_row hold_columns

@@ -1,7 +1,8 @@
+//! The values of columns, each from what it stores.
 ghost use Rattle.std.specs.Prelude.{◌≡◌, ◌≤◌, ◌^◌, IfOk, IfErr};
 ghost use Rattle.sqlite_value.specs.declared.value.Value.TheVariants.{Int, Text as Bytes};
 ghost use Rattle.sqlite_value.specs.Value.{owned};
-ghost use Rattle.plant_tables.specs.Encoding.{number, flag};
+ghost use Rattle.plant_tables_columns.specs.Kinds.{number, flag};
 
 use plant_base::{Amount, Id, Moment, Text};
 use sqlite_value::value::ValueRef;

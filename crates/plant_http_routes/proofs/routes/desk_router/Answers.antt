@@ -1,6 +1,6 @@
 use Rattle.std.proofs.Common.{refl}
 use Rattle.matchit.proofs.OnLiterals.{matchit_on_literals}
-use Rattle.plant_http_routes.proofs.routes.built.Goals as goal
+use Rattle.plant_http_routes.proofs.routes.desk_router.Goals as goal
 
 pub returns : goal.returns
 unfolding matchit_on_literals

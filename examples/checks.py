@@ -1,0 +1,94 @@
+#!/usr/bin/env python3
+"""Runs the built checks of order files and of lines: on inputs that are long or have no end, and on streams that fail.
+
+    examples/checks.py ORDER_CHECK LINE_CHECK
+
+What they tell of files and lines that are short stands beside each program, which the gate runs on it.
+"""
+import os
+import subprocess
+import sys
+
+SECONDS = 60
+
+# The most bytes of an order file, and of a line.
+LONGEST = 262_144
+
+FAULTY_ORDERS = b"""order,recipe,version,size,due,priority
+O-1,CAKE,1,500,2027-03-01,5
+O-2,CAKE,1,500,2027-02-29,5
+"""
+
+GOOD_LINES = b"""{"ask":"desk"}
+
+{"at":1,"by":"","do":"settle","batch":"B"}
+{"ask":"lot","lot":"L"}"""
+
+
+class Check:
+    """A built program, and how many of its ends were as they have to be."""
+
+    def __init__(self, program):
+        self.program, self.passed, self.failed = os.path.abspath(program), 0, 0
+
+    def expect(self, name, ran, status, output, errors=b""):
+        """Compares how a run ended."""
+        found, wanted = (ran.returncode, ran.stdout or b"", ran.stderr), (status, output, errors)
+        self.passed += found == wanted
+        if found != wanted:
+            self.failed += 1
+            print(f"{os.path.basename(self.program)}, {name}: found {found}, wanted {wanted}", file=sys.stderr)
+
+    def tells(self, name, told, status, output):
+        """Runs the program on these bytes."""
+        ran = subprocess.run([self.program], input=told, capture_output=True, timeout=SECONDS)
+        self.expect(name, ran, status, output)
+
+    def tells_of_an_endless_input(self, status, output):
+        """Runs the program on line ends that don't end."""
+        with subprocess.Popen(["yes", ""], stdout=subprocess.PIPE) as endless:
+            ran = subprocess.run([self.program], stdin=endless.stdout, capture_output=True, timeout=SECONDS)
+            endless.kill()
+        self.expect("an input without end", ran, status, output)
+
+    def tells_a_failed_read(self):
+        """Runs the program on a folder, of which no byte can be read."""
+        folder = os.open("/", os.O_RDONLY)
+        ran = subprocess.run([self.program], stdin=folder, capture_output=True, timeout=SECONDS)
+        os.close(folder)
+        self.expect("a failed read", ran, 3, b"", b"fault: read\n")
+
+    def tells_a_failed_write(self, told):
+        """Runs the program on these bytes, with a device as its output that is full."""
+        with open("/dev/full", "wb") as full:
+            ran = subprocess.run([self.program], input=told, stdout=full, stderr=subprocess.PIPE, timeout=SECONDS)
+        self.expect("a failed write", ran, 3, b"", b"fault: write\n")
+
+
+def check_orders(check):
+    check.tells("a fault in words", FAULTY_ORDERS, 1, b"csv row 2 Due\n")
+    check.tells("a longest file", b"\n" * LONGEST, 1, b"csv row 0 Header\n")
+    check.tells_of_an_endless_input(1, b"csv row 0 TooLong\n")
+    check.tells_a_failed_read()
+    check.tells_a_failed_write(FAULTY_ORDERS)
+
+
+def check_lines(check):
+    check.tells("good lines", GOOD_LINES, 0, b"1 commands, 2 questions\n")
+    check.tells("a longer line", b" " * (LONGEST + 1), 1, b"line 1: longer than 262144 bytes\n")
+    check.tells("a longest line", b" " * LONGEST, 1, b"line 1: not a JSON text\n")
+    check.tells_a_failed_read()
+    check.tells_a_failed_write(b"{}\n")
+
+
+def main(order_check, line_check):
+    checks = [Check(order_check), Check(line_check)]
+    check_orders(checks[0])
+    check_lines(checks[1])
+    passed, failed = sum(it.passed for it in checks), sum(it.failed for it in checks)
+    print(f"checks: {passed} passed, {failed} failed")
+    return 1 if failed else 0
+
+
+if __name__ == "__main__":
+    sys.exit(main(*sys.argv[1:]))

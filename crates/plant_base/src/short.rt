@@ -28,8 +28,10 @@ impl<const N: usize> Model for Short<N> {
 
     ghost inverse = { λ v. record { len = length v; bytes = padded_to N v } };
 
-    ghost inverse_ok = { λ a h i. record { len = length_back N a.len a.bytes h i;
-        bytes = padded_back N a.len a.bytes h i } };
+    ghost inverse_ok = { λ a h i. record {
+      len = length_back N a.len a.bytes h i;
+      bytes = padded_back N a.len a.bytes h i;
+    } };
 }
 
 impl<const N: usize> Short<N> {

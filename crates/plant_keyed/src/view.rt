@@ -15,11 +15,11 @@ use plant_base::{
     Batch, BatchEvent, BatchRow, Class, ControlLine, Definition, Hold, Id, Job, Lot, MasterLine,
     Movement, Position, Recipe, Sublot,
 };
-use plant_tables_columns::storing::{id as text_of, small};
 use plant_tables::forms::{
     BATCH, BATCH_EVENT, CLASS, CONTROL_LINE, DEFINITION, HOLD, JOB, LOT, MOVEMENT, RECIPE,
     RECIPE_LINE, SUBLOT,
 };
+use plant_tables_columns::storing::{id as text_of, small};
 use plant_trace::{Direction, Edges, Node};
 use plant_view::View;
 use sqlite::Alter;

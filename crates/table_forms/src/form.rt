@@ -25,6 +25,9 @@ impl<'a> Model for Form<'a> {
 
     ghost Value = { form.Form };
 
-    ghost view = { λ f. record { name = f.name.now; columns = map column_of f.columns.now;
-        keys = map (λ k. k.now) f.keys.now } };
+    ghost view = { λ f. record {
+      name = f.name.now;
+      columns = map column_of f.columns.now;
+      keys = map (λ k. k.now) f.keys.now;
+    } };
 }

@@ -193,8 +193,12 @@ fn rows_of(
 
 // The row of a part's sublot after the part was taken from it; it asks for no more than there is.
 fn source_after(found: &Found) -> Sublot
-    ensures { result ≡ record { lot = found.now.part.lot; number = found.now.part.sub;
-        place = found.now.place; stock = found.now.stock - found.now.part.amount } }
+    ensures { result ≡ record {
+      lot = found.now.part.lot;
+      number = found.now.part.sub;
+      place = found.now.place;
+      stock = found.now.stock - found.now.part.amount;
+    } }
 {
     Sublot {
         lot: found.part.lot,

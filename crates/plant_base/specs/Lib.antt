@@ -1,6 +1,7 @@
 pub mod Dates
 pub mod Digits
 pub mod Formed
+pub mod Options
 pub mod Refusals
 pub mod RowValues
 pub mod Short

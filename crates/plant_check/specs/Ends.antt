@@ -39,12 +39,12 @@ entries rows lot number = filter (λ r. is_place (entered_by r.sort r) lot numbe
 abbrev pub exits : List BookedRow → List ℕ → ℕ → List BookedRow
 exits rows lot number = filter (λ r. is_place (left_by r.sort r) lot number) rows
 
-abbrev pub total_of : List BookedRow → ℕ
-total_of rows = sum_by (λ r. r.amount) rows
+abbrev pub total_booked : List BookedRow → ℕ
+total_booked rows = sum_by (λ r. r.amount) rows
 
 -- its stock is what entered it less what left it
 unfoldable pub has_right_stock : List BookedRow → Sublot → Bool
-has_right_stock rows s = s.stock + total_of (exits rows s.lot s.number) == total_of (entries rows s.lot s.number)
+has_right_stock rows s = s.stock + total_booked (exits rows s.lot s.number) == total_booked (entries rows s.lot s.number)
 
 abbrev pub are_stocks : List BookedRow → List Sublot → Bool
 are_stocks rows sublots = list_all (has_right_stock rows) sublots

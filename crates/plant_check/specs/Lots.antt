@@ -12,7 +12,7 @@ use Rattle.plant_view.specs.Production.{is_defined}
 use Rattle.plant_tables_columns.specs.declared.booked.BookedRow.{BookedRow}
 use Rattle.plant_tables_columns.specs.declared.booked.MovementSort.{MovementSort}
 use Rattle.plant_tables_columns.specs.declared.booked.MovementSort.TheVariants as sort
-use Rattle.plant_check.specs.Ends.{entries, total_of}
+use Rattle.plant_check.specs.Ends.{entries, total_booked}
 
 -- 0, or 0 and 1, and so on
 abbrev pub are_from_zero : List ℕ → Bool
@@ -54,7 +54,7 @@ is_of_one_birth first r = r.seq == first.seq && are_of_one_sort first.sort r.sor
 -- there are some, all of one number and of one sort that makes a lot, and they bring no more than an amount
 abbrev pub is_one_birth : List BookedRow → Bool
 is_one_birth [] = false
-is_one_birth (r ∷ rows) = list_all (is_of_one_birth r) (r ∷ rows) && nat_le (total_of (r ∷ rows)) greatest_amount
+is_one_birth (r ∷ rows) = list_all (is_of_one_birth r) (r ∷ rows) && nat_le (total_booked (r ∷ rows)) greatest_amount
 
 -- it is one, and a division
 abbrev pub is_one_division : List BookedRow → Bool

@@ -1,7 +1,7 @@
 //! What rows of table movement bring to a sublot and take from it, as their columns say.
 
 ghost use Rattle.std.specs.Prelude.{◌≡◌, ◌<◌, ◌^◌, IfOk};
-ghost use Rattle.plant_check.specs.Ends.{other_end, entered_by, left_by, entries, exits, total_of};
+ghost use Rattle.plant_check.specs.Ends.{other_end, entered_by, left_by, entries, exits, total_booked};
 ghost use Rattle.plant_check.specs.Ends.{has_right_stock, are_stocks};
 
 use plant_base::{Id, Sublot};
@@ -93,8 +93,8 @@ fn exits<'a>(left: &'a Grouped<LeftPlaces>, lot: Id, number: u16) -> &'a [Booked
 }
 
 /// The amounts of the rows in all.
-pub(crate) fn total_of(rows: &[BookedRow]) -> u128
-    ensures total { result ≡ total_of rows.now }
+pub(crate) fn total_booked(rows: &[BookedRow]) -> u128
+    ensures total { result ≡ total_booked rows.now }
     ensures small { result < 2 ^ 127 }
 {
     let mut total = 0;
@@ -126,7 +126,7 @@ fn has_right_stock(
     requires { entered.now.rows.now ≡ left.now.rows.now }
     ensures { result ≡ has_right_stock entered.now.rows.now sublot.now }
 {
-    let more = total_of(entries(entered, sublot.lot, sublot.number));
-    let less = total_of(exits(left, sublot.lot, sublot.number));
+    let more = total_booked(entries(entered, sublot.lot, sublot.number));
+    let less = total_booked(exits(left, sublot.lot, sublot.number));
     u128::from(sublot.stock) + less == more
 }

@@ -7,7 +7,7 @@ ghost use Rattle.plant_check.specs.Lots.{is_division_sort, are_of_one_sort, is_o
 ghost use Rattle.plant_check.specs.Lots.{is_one_division, is_born, is_lot_among, is_right_sublot};
 ghost use Rattle.plant_check.specs.Lots.{are_in_lots, are_lots};
 
-use crate::ends::{EnteredPlaces, entries, total_of};
+use crate::ends::{EnteredPlaces, entries, total_booked};
 use plant_base::{Definition, GREATEST_AMOUNT, Hold, Id, Lot, Sublot};
 use plant_check_groups::{Grouped, Grouping};
 use plant_check_plans::keys::{Definitions, has_definition};
@@ -152,7 +152,7 @@ fn is_one_birth(rows: &[BookedRow]) -> bool
     match rows {
         [] => false,
         [first, ..] => {
-            are_of_one_birth(first, rows) && total_of(rows) <= u128::from(GREATEST_AMOUNT)
+            are_of_one_birth(first, rows) && total_booked(rows) <= u128::from(GREATEST_AMOUNT)
         }
     }
 }

@@ -7,15 +7,10 @@ use Rattle.plant_base.specs.declared.rows.Job.{Job}
 use Rattle.plant_base.specs.declared.rows.Recipe.{Recipe}
 use Rattle.plant_base.specs.declared.states.JobState.{JobState}
 use Rattle.plant_base.specs.declared.states.JobState.TheVariants.{Open, Cancelled, Released, Finished}
-use Rattle.plant_recipe.specs.Control.{is_size_of}
+use Rattle.plant_view.specs.Production.{is_size_of_recipe}
 
 abbrev pub recipe_among : List Recipe → List ℕ → ℕ → Option Recipe
 recipe_among recipes id version = find (λ r. same r.header.recipe id && r.header.version == version) recipes
-
--- the recipe is there, and the size is one of it
-abbrev pub is_size_of_recipe : Option Recipe → ℕ → Bool
-is_size_of_recipe None size = false
-is_size_of_recipe (Some r) size = is_size_of r.header size
 
 -- the batch of an order, with its kept columns
 abbrev pub row_of_order : List BatchRow → List ℕ → Option BatchRow

@@ -2,7 +2,8 @@
 
 ghost use Rattle.std.specs.Prelude.{◌≡◌, IfOk};
 ghost use Rattle.plant_recipe.specs.Control.{is_size_of};
-ghost use Rattle.plant_check_plans.specs.Orders.{is_size_of_recipe, is_left_open, is_closed, is_started};
+ghost use Rattle.plant_check_plans.specs.Orders.{is_left_open, is_closed, is_started};
+ghost use Rattle.plant_view.specs.Production.{is_size_of_recipe};
 ghost use Rattle.plant_check_plans.specs.Orders.{is_right_order, are_orders};
 
 use crate::keys::{BatchesOfOrders, Recipes, batch_of, recipe_at};

@@ -1,14 +1,10 @@
 -- The lists of a keeper as a state.
 use Rattle.std.specs.Prelude.{ℕ, ◌+◌, ◌≤◌, List, [], ◌∷◌, ◌++◌, map, vec_len, vec_capacity}
 use Rattle.plant_base.specs.State.{State, put, class_order, definition_order, recipe_order, master_line_order, job_order, batch_order, control_line_order, lot_order, place_order, hold_order}
-use Rattle.plant_base.specs.declared.rows.Batch.{Batch}
-use Rattle.plant_base.specs.declared.rows.BatchRow.{BatchRow}
-use Rattle.plant_base.specs.declared.rows.Place.{Place}
 use Rattle.plant_base.specs.Values.{greatest_amount}
-use Rattle.plant_base.specs.declared.rows.Sublot.{Sublot}
 use Rattle.plant_base.specs.declared.rows.Movement.{Movement}
 use Rattle.plant_stock.specs.Stock.{entered, left}
-use Rattle.plant_view.specs.Tables.{Tables, without_hold}
+use Rattle.plant_view.specs.Tables.{Tables, without_hold, place_of_row, batch_of_row}
 use Rattle.plant_view.specs.declared.change.RowChange.{RowChange}
 use Rattle.plant_view.specs.declared.change.RowChange.TheVariants as row
 use Rattle.plant_desk.specs.declared.lists.Lists.{Lists}
@@ -31,14 +27,6 @@ state_of l = record {
   holds = l.holds.items;
 }
 
--- a sublot without its kept column
-abbrev pub without_stock : Sublot → Place
-without_stock r = record { lot = r.lot; number = r.number; place = r.place }
-
--- a batch without its kept columns
-abbrev pub without_progress : BatchRow → Batch
-without_progress r = r.batch
-
 -- the state whose lists are the rows of these tables without their kept columns
 abbrev pub state_without_kept : Tables → State
 state_without_kept t = record {
@@ -49,11 +37,11 @@ state_without_kept t = record {
   recipes = t.recipes;
   master_lines = t.master_lines;
   jobs = t.jobs;
-  batches = map without_progress t.batches;
+  batches = map batch_of_row t.batches;
   control_lines = t.control_lines;
   events = t.events;
   lots = t.lots;
-  places = map without_stock t.sublots;
+  places = map place_of_row t.sublots;
   movements = t.movements;
   holds = t.holds;
 }
@@ -66,11 +54,11 @@ applied (row.Definition r) s = record s { definitions = put definition_order r s
 applied (row.Recipe r) s = record s { recipes = put recipe_order r s.recipes }
 applied (row.MasterLine r) s = record s { master_lines = put master_line_order r s.master_lines }
 applied (row.Job r) s = record s { jobs = put job_order r s.jobs }
-applied (row.Batch r) s = record s { batches = put batch_order (without_progress r) s.batches }
+applied (row.Batch r) s = record s { batches = put batch_order (batch_of_row r) s.batches }
 applied (row.ControlLine r) s = record s { control_lines = put control_line_order r s.control_lines }
 applied (row.Event r) s = record s { events = s.events ++ r ∷ [] }
 applied (row.Lot r) s = record s { lots = put lot_order r s.lots }
-applied (row.Sublot r) s = record s { places = put place_order (without_stock r) s.places }
+applied (row.Sublot r) s = record s { places = put place_order (place_of_row r) s.places }
 applied (row.Movement r) s = record s { movements = s.movements ++ r ∷ [] }
 applied (row.Hold r) s = record s { holds = put hold_order r s.holds }
 applied (row.Unhold lot hold) s = record s { holds = without_hold lot hold s.holds }

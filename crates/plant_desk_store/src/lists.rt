@@ -2,7 +2,8 @@
 
 ghost use Rattle.std.specs.Prelude.{◌≡◌, IfOk, map};
 ghost use Rattle.std.specs.List.{filter_map};
-ghost use Rattle.plant_desk.specs.Lists.{state_of, without_stock, without_progress};
+ghost use Rattle.plant_desk.specs.Lists.{state_of};
+ghost use Rattle.plant_view.specs.Tables.{place_of_row, batch_of_row};
 ghost use Rattle.plant_tables_columns.specs.Booked.{movement_from};
 ghost use Rattle.plant_tables_judged.specs.Collecting.{rows_listed};
 ghost use Rattle.plant_good_found.specs.Restoring.{state_in};
@@ -40,19 +41,19 @@ pub(crate) fn lists_of(alloc: Global, rows: DeskRows) -> Result<Lists, AllocErro
 }
 
 fn batches_of(alloc: Global, rows: &[BatchRow]) -> Result<Vec<Batch>, AllocError>
-    ensures { IfOk result (λ list. list.items ≡ map without_progress rows.now) }
+    ensures { IfOk result (λ list. list.items ≡ map batch_of_row rows.now) }
 {
     rows.iter().map(|row| row.batch).collect(alloc)
 }
 
 fn places_of(alloc: Global, rows: &[Sublot]) -> Result<Vec<Place>, AllocError>
-    ensures { IfOk result (λ list. list.items ≡ map without_stock rows.now) }
+    ensures { IfOk result (λ list. list.items ≡ map place_of_row rows.now) }
 {
     rows.iter().map(|row| place_of(row)).collect(alloc)
 }
 
 fn place_of(row: &Sublot) -> Place
-    ensures { result ≡ without_stock row.now }
+    ensures { result ≡ place_of_row row.now }
 {
     Place {
         lot: row.lot,

@@ -19,15 +19,16 @@ use Rattle.plant_recipe.specs.Progress.{is_ended}
 use Rattle.plant_view.specs.Refusing.{refuse, at_limit, standing, is_held}
 use Rattle.plant_view.specs.Tables.{progress_at}
 use Rattle.plant_view.proofs.KeptSound.{passed}
-use Rattle.plant_view.specs.Production.{is_known}
+use Rattle.plant_view.specs.Production.{is_known, is_size_of_recipe}
 use Rattle.plant_rules_production.specs.Recipes.{is_in}
-use Rattle.plant_rules_production.specs.Releasing.{recipe_of, control_for}
-use Rattle.plant_rules_production.specs.Orders.{conflicts, is_size_in, is_waiting}
+use Rattle.plant_rules_production.specs.Releasing.{recipe_of, control_of_job}
+use Rattle.plant_rules_production.specs.Orders.{conflicts, is_waiting}
 use Rattle.plant_rules_production.specs.Batches.{turn_at, refuse_turn, wrong_event}
 use Rattle.plant_view.specs.Materials.{is_taken, is_made}
 use Rattle.plant_rules.specs.Consumption.{is_idle, is_own_product}
 use Rattle.plant_rules.specs.Division.{next_number}
-use Rattle.plant_rules.specs.Merging.{def_at, is_short, total_of, is_some_held, is_mixed}
+use Rattle.plant_rules.specs.Merging.{def_at, is_short, is_some_held, is_mixed}
+use Rattle.plant_stock.specs.Stock.{total_of}
 use Rattle.plant_rules.specs.Wrong.{wrong_body}
 use Rattle.plant_rules.proofs.Parting.{parts_there, parts_pass}
 
@@ -105,7 +106,7 @@ not_full s (body.Withdraw c) fine =
     let approved = passed (not (is_in Approved (recipe_at s c.recipe c.version))) _ _ there.1 in
     (passed (at_limit s) _ _ approved.1).0
 not_full s (body.ImportOrders c) fine =
-    let sizes = list_any (λ (o : OrderRow). not (is_size_in (recipe_at s o.recipe o.version) o.size)) c.orders in
+    let sizes = list_any (λ (o : OrderRow). not (is_size_of_recipe (recipe_at s o.recipe o.version) o.size)) c.orders in
     let conflict = list_any (λ (o : OrderRow). conflicts c.orders (job_at s o.order) o) c.orders in
     let planned = passed (list_any (λ (o : OrderRow). is_none (recipe_at s o.recipe o.version)) c.orders) UnknownRecipe (refuse conflict OrderConflict (refuse sizes SizeOutOfRange (unless_full s))) fine in
     let alike = passed conflict OrderConflict (refuse sizes SizeOutOfRange (unless_full s)) planned.1 in
@@ -119,7 +120,7 @@ not_full s (body.Release c) fine =
     let new = passed (is_some (batch_at s c.batch)) _ _ there.1 in
     let approved = passed (not (is_in Approved (recipe_of s (job_at s c.order)))) _ _ new.1 in
     let waits = passed (not (is_waiting (job_at s c.order))) _ _ approved.1 in
-    let control = passed (is_none (control_for s (job_at s c.order))) _ _ waits.1 in
+    let control = passed (is_none (control_of_job s (job_at s c.order))) _ _ waits.1 in
     (passed (at_limit s) _ _ control.1).0
 not_full s (body.BatchCommand c) fine = event_room s c.batch (event.Moved c.word) fine
 not_full s (body.Settle c) fine = event_room s c.batch (event.Moved Done) fine

@@ -34,7 +34,7 @@ use Rattle.plant_view.proofs.KeptSound.{passed, is_there}
 use Rattle.plant_view.proofs.Rows.{all_filtered}
 use Rattle.plant_view.proofs.Tests.{and_left, not_false}
 use Rattle.plant_rules_production.specs.Batches.{event_row, close_batch}
-use Rattle.plant_rules_production.specs.Releasing.{control_for, lines_in, released_batch, release}
+use Rattle.plant_rules_production.specs.Releasing.{control_of_job, lines_in, released_batch, release}
 use Rattle.plant_rules_production.specs.Recipes.{add_recipe, approve, withdraw}
 use Rattle.plant_rules_production.specs.Orders.{import_orders, cancel_order}
 use Rattle.plant_rules.specs.Booking.{line_of}
@@ -146,7 +146,7 @@ good_body s good t (body.Release c) stamp values formed fine sound =
     let new = passed (is_some (batch_at s c.batch)) _ _ there.1 in
     good_planned s good t stamp s.recipes s.master_lines next.jobs next.batches next.control_lines
     (all_put batch_order (λ (b : Batch). b.at ≤ t.at) (released_batch t c) s.batches (omega arith) (no_later s good t stamp))
-    (kept_with_batch s good.sound c.batch new.0 (lines_in (control_for s (job_at s c.order))) good.kept) sound
+    (kept_with_batch s good.sound c.batch new.0 (lines_in (control_of_job s (job_at s c.order))) good.kept) sound
 good_body s good t (body.BatchCommand c) stamp values formed fine sound =
     good_happened s good t stamp s.jobs (event_row s.seq t c.batch (event.Moved c.word)) (record { batch = values; phase = tt; at = stamp.at; by = stamp.by; note = stamp.note }) (refl, refl) sound
 good_body s good t (body.Settle c) stamp values formed fine sound =

@@ -26,7 +26,7 @@ use Rattle.plant_check_plans.specs.Batches as rules
 use Rattle.plant_check_plans.specs.Orders.{recipe_among}
 use Rattle.plant_tables_columns.proofs.Options.{where_true}
 use Rattle.plant_check_plans.specs.Recipes.{are_numbered}
-use Rattle.plant_good_found.specs.Restoring.{batch_without_columns}
+use Rattle.plant_view.specs.Tables.{batch_of_row}
 use Rattle.plant_good_found.proofs.Counted.{counted, counted_least, numbered_rows, id_of, alone_found}
 use Rattle.plant_good_found.proofs.Matching.{control_is}
 use Rattle.plant_good_found.proofs.Members.{IsIn, all_at, all_in, pass_at, any_in, finds, in_filter, in_map}
@@ -55,7 +55,7 @@ tested recipes rows jobs batches control b e =
 
 -- a control recipe that was found by tests is the one that the order's header scales
 scaled_from : (rows : List MasterLine) (o : OrderRow) (found : Option Recipe) (lines : List RecipeLine) → ((q : Recipe) → found ≡ Some q → (q.header.recipe ≡ o.recipe) × (q.header.version ≡ o.version)) → control_of_found rows o.size found ≡ Some lines
-    → view.control_from rows o (option_map (λ q. q.header) found) ≡ Some lines
+    → view.control_of_header rows o (option_map (λ q. q.header) found) ≡ Some lines
 scaled_from rows o None lines key e = absurd (cc)
 scaled_from rows o (Some q) lines key e =
     let own = lines_among rows q.header.recipe q.header.version in
@@ -67,7 +67,7 @@ scaled_by : (recipes : List Recipe) (rows : List MasterLine) (j : Option Job) (l
 scaled_by recipes rows None lines e = absurd (cc)
 scaled_by recipes rows (Some j) lines e =
     let test = λ (q : Recipe). same q.header.recipe j.order.recipe && q.header.version == j.order.version in
-    ap (view.control_from rows j.order) (header_found recipes j.order.recipe j.order.version)
+    ap (view.control_of_header rows j.order) (header_found recipes j.order.recipe j.order.version)
     ∙ scaled_from rows j.order (recipe_among recipes j.order.recipe j.order.version) lines
     (λ q found. same_key q.header.recipe j.order.recipe q.header.version j.order.version (found_passes test recipes q found)) e
 
@@ -97,31 +97,31 @@ module _ (recipes : List Recipe) (rows : List MasterLine) (jobs : List Job) (bat
   row_found b h = alone_found (λ (x : BatchRow). same x.batch.job b.batch.job) batches b h (same_itself b.batch.job) (tested_batch b h).alone
 
   -- a batch that is there is found without its columns
-  pub finds_batch : (id : List ℕ) → rules.is_row_among batches id ≡ true → is_batch_among (map batch_without_columns batches) id ≡ true
+  pub finds_batch : (id : List ℕ) → rules.is_row_among batches id ≡ true → is_batch_among (map batch_of_row batches) id ≡ true
   finds_batch id there =
       let b = any_in (λ (b : BatchRow). same b.batch.id id) batches there in
-      finds (λ (b : Batch). same b.id id) (map batch_without_columns batches) (batch_without_columns b.0) (in_map batch_without_columns batches b.0 b.1) b.2
+      finds (λ (b : Batch). same b.id id) (map batch_of_row batches) (batch_of_row b.0) (in_map batch_of_row batches b.0 b.1) b.2
 
-  sound : AllByRecursion (λ (b : BatchRow). HasBatchValues b.batch) batches → (b : BatchRow) → IsIn b batches → IsSoundBatch (headers_of recipes) rows (orders_of jobs) (map batch_without_columns batches) control b.batch
+  sound : AllByRecursion (λ (b : BatchRow). HasBatchValues b.batch) batches → (b : BatchRow) → IsIn b batches → IsSoundBatch (headers_of recipes) rows (orders_of jobs) (map batch_of_row batches) control b.batch
   sound values b h =
       let t = tested_batch b h in
       let test = λ (l : ControlLine). same l.batch b.batch.id in
       record {
         values = all_at (λ (b : BatchRow). HasBatchValues b.batch) batches b values h;
-        alone = batch_found batches b.batch.job ∙ ap (option_map batch_without_columns) (row_found b h);
+        alone = batch_found batches b.batch.job ∙ ap (option_map batch_of_row) (row_found b h);
         scaled = ap (control_of_order (headers_of recipes) rows) (find_mapped (λ (o : OrderRow). same o.order b.batch.job) (λ j. j.order) jobs) ∙ scaled_by recipes rows (job_among jobs b.batch.job) _ t.scaled;
         numbered = numbered_rows (control_line b.batch.id) (λ l. l.number) (λ l. l.line) (λ l. test l ≡ true)
             (λ l own. let same_batch = same_id l.batch b.batch.id own in λ i. record l { batch = sym same_batch i })
             1 (filter test control) (filtered_passes test control) (counted 1 _ t.numbered);
       }
 
-  pub sound_batches : (events : List BatchEvent) → IsStrictlySortedBy batch_order (map batch_without_columns batches) → IsStrictlySortedBy control_line_order control → AllByRecursion (λ (b : BatchRow). HasBatchValues b.batch) batches → list_all (λ e. rules.is_row_among batches e.batch) events ≡ true
-      → AreSoundBatches (headers_of recipes) rows (orders_of jobs) (map batch_without_columns batches) control events
+  pub sound_batches : (events : List BatchEvent) → IsStrictlySortedBy batch_order (map batch_of_row batches) → IsStrictlySortedBy control_line_order control → AllByRecursion (λ (b : BatchRow). HasBatchValues b.batch) batches → list_all (λ e. rules.is_row_among batches e.batch) events ≡ true
+      → AreSoundBatches (headers_of recipes) rows (orders_of jobs) (map batch_of_row batches) control events
   sound_batches events sorted control_sorted values witnessed = record {
     sorted = sorted;
     control_sorted = control_sorted;
-    each = all_mapped (IsSoundBatch (headers_of recipes) rows (orders_of jobs) (map batch_without_columns batches) control) batch_without_columns batches (all_in (λ (b : BatchRow). IsSoundBatch (headers_of recipes) rows (orders_of jobs) (map batch_without_columns batches) control b.batch) batches (sound values));
-    controlled = all_in (λ (l : ControlLine). is_batch_among (map batch_without_columns batches) l.batch ≡ true) control (λ l h. finds_batch l.batch
+    each = all_mapped (IsSoundBatch (headers_of recipes) rows (orders_of jobs) (map batch_of_row batches) control) batch_of_row batches (all_in (λ (b : BatchRow). IsSoundBatch (headers_of recipes) rows (orders_of jobs) (map batch_of_row batches) control b.batch) batches (sound values));
+    controlled = all_in (λ (l : ControlLine). is_batch_among (map batch_of_row batches) l.batch ≡ true) control (λ l h. finds_batch l.batch
         (pass_at (λ l. rules.is_row_among batches l.batch) control l (and_right (list_all (is_right_batch recipes rows jobs batches control) batches) (list_all (λ l. rules.is_row_among batches l.batch) control) tests) h));
-    witnessed = all_in (λ (e : BatchEvent). is_batch_among (map batch_without_columns batches) e.batch ≡ true) events (λ e h. finds_batch e.batch (pass_at (λ e. rules.is_row_among batches e.batch) events e witnessed h));
+    witnessed = all_in (λ (e : BatchEvent). is_batch_among (map batch_of_row batches) e.batch ≡ true) events (λ e h. finds_batch e.batch (pass_at (λ e. rules.is_row_among batches e.batch) events e witnessed h));
   }

@@ -20,13 +20,12 @@ use Rattle.plant_recipe.specs.Progress.{run_of, progress_after}
 use Rattle.plant_recipe.specs.declared.progress.Progress.{Progress}
 use Rattle.plant_recipe.proofs.Runs.{goes_along}
 use Rattle.plant_view.specs.Production.{is_finished, has_finished, IsSoundRun, AreSoundRuns, job_among}
-use Rattle.plant_view.specs.Tables.{phases_among, events_among, batch_row, row_at}
+use Rattle.plant_view.specs.Tables.{phases_among, events_among, batch_row, row_at, batch_of_row}
 use Rattle.plant_view.proofs.Rows.{all_mapped}
 use Rattle.plant_view.proofs.Tests.{and_left, and_right, not_true}
 use Rattle.plant_check_plans.specs.Batches.{control_asked_for, are_batches, is_row_among}
 use Rattle.plant_check_plans.specs.Events.{kept_progress, is_run, has_right_run, are_events}
 use Rattle.plant_check_plans.specs.Orders.{row_of_order, is_started, are_orders}
-use Rattle.plant_good_found.specs.Restoring.{batch_without_columns}
 use Rattle.plant_good_found.proofs.Batches.{tested_batch, row_found}
 use Rattle.plant_good_found.proofs.Matching.{one_progress}
 use Rattle.plant_good_found.proofs.Members.{IsIn, all_in, pass_at, found_in}
@@ -89,9 +88,9 @@ module _ (recipes : List Recipe) (rows : List MasterLine) (jobs : List Job) (bat
     finished = ap (λ (p : Progress). p.closed) (comes_to b h) ∙ closed_by b h (job_among jobs b.batch.job) refl;
   }
 
-  pub sound_runs : AreSoundRuns jobs (map batch_without_columns batches) control events
-  sound_runs = all_mapped (IsSoundRun jobs control events) batch_without_columns batches (all_in (λ (b : BatchRow). IsSoundRun jobs control events b.batch) batches sound_run)
+  pub sound_runs : AreSoundRuns jobs (map batch_of_row batches) control events
+  sound_runs = all_mapped (IsSoundRun jobs control events) batch_of_row batches (all_in (λ (b : BatchRow). IsSoundRun jobs control events b.batch) batches sound_run)
 
   -- the kept columns are those that the events tell
-  pub same_batches : map (batch_row control events) (map batch_without_columns batches) ≡ batches
-  same_batches = joined_again batch_without_columns (batch_row control events) batches (all_in (λ (b : BatchRow). batch_row control events b.batch ≡ b) batches (λ b h. ap (row_at b.batch) (comes_to b h)))
+  pub same_batches : map (batch_row control events) (map batch_of_row batches) ≡ batches
+  same_batches = joined_again batch_of_row (batch_row control events) batches (all_in (λ (b : BatchRow). batch_row control events b.batch ≡ b) batches (λ b h. ap (row_at b.batch) (comes_to b h)))

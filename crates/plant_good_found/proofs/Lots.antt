@@ -26,9 +26,9 @@ use Rattle.plant_check_plans.specs.Recipes.{are_numbered}
 use Rattle.plant_good.specs.Births.{numbers_among, AreFromZero, are_one_birth, IsBirth, IsDivision, IsBorn, AreBorn}
 use Rattle.plant_good.specs.Births as births
 use Rattle.plant_tables_columns.specs.Booked.{sort_of, booked_of}
-use Rattle.plant_check.specs.Ends.{total_of}
+use Rattle.plant_check.specs.Ends.{total_booked}
 use Rattle.plant_check.specs.Lots.{are_from_zero, sublots_among, is_right_lot, is_division_sort, are_of_one_sort, is_of_one_birth, is_one_birth, is_one_division, is_born, is_lot_among, is_right_sublot, are_in_lots, are_lots}
-use Rattle.plant_good_found.specs.Restoring.{place_of_sublot}
+use Rattle.plant_view.specs.Tables.{place_of_row}
 use Rattle.plant_good_found.proofs.Counted.{counted}
 use Rattle.plant_good_found.proofs.Members.{IsIn, all_in, pass_at}
 use Rattle.plant_good_found.proofs.Stocks.{same_entries}
@@ -42,12 +42,12 @@ classes_found classes definitions tests = all_in (λ (d : Definition). is_some (
 
 -- ---- numbers of sublots
 
-numbers_same : (sublots : List Sublot) (lot : List ℕ) → numbers_among (map place_of_sublot sublots) lot ≡ map (λ s. s.number) (sublots_among sublots lot)
+numbers_same : (sublots : List Sublot) (lot : List ℕ) → numbers_among (map place_of_row sublots) lot ≡ map (λ s. s.number) (sublots_among sublots lot)
 numbers_same [] lot = refl
 numbers_same (s ∷ sublots) lot = by (same s.lot lot) (numbers_same sublots lot)
   where
-    by : (b : Bool) → numbers_among (map place_of_sublot sublots) lot ≡ map (λ s. s.number) (sublots_among sublots lot)
-        → map (λ (p : Place). p.number) (cond b (place_of_sublot s ∷ filter (λ (p : Place). same p.lot lot) (map place_of_sublot sublots)) (filter (λ (p : Place). same p.lot lot) (map place_of_sublot sublots)))
+    by : (b : Bool) → numbers_among (map place_of_row sublots) lot ≡ map (λ s. s.number) (sublots_among sublots lot)
+        → map (λ (p : Place). p.number) (cond b (place_of_row s ∷ filter (λ (p : Place). same p.lot lot) (map place_of_row sublots)) (filter (λ (p : Place). same p.lot lot) (map place_of_row sublots)))
         ≡ map (λ (s : Sublot). s.number) (cond b (s ∷ sublots_among sublots lot) (sublots_among sublots lot))
     by true more = ap (λ ns. s.number ∷ ns) more
     by false more = more
@@ -74,12 +74,12 @@ all_of_birth first (m ∷ ms) e =
     let rest = list_all (is_of_one_birth (booked_of first)) (map booked_of ms) in
     (of_one_birth first m (and_left here rest e), all_of_birth first ms (and_right here rest e))
 
-birth : (ms : List Movement) → is_one_birth (map booked_of ms) ≡ true → IsBirth ms × (total_of (map booked_of ms) ≤ greatest_amount)
+birth : (ms : List Movement) → is_one_birth (map booked_of ms) ≡ true → IsBirth ms × (total_booked (map booked_of ms) ≤ greatest_amount)
 birth [] e = absurd (false≢true e)
 birth (m ∷ ms) e =
     let of_one = list_all (is_of_one_birth (booked_of m)) (map booked_of (m ∷ ms)) in
-    let few = nat_le (total_of (map booked_of (m ∷ ms))) greatest_amount in
-    (all_of_birth m (m ∷ ms) (and_left of_one few e), leb-true (total_of (map booked_of (m ∷ ms))) greatest_amount (and_right of_one few e))
+    let few = nat_le (total_booked (map booked_of (m ∷ ms))) greatest_amount in
+    (all_of_birth m (m ∷ ms) (and_left of_one few e), leb-true (total_booked (map booked_of (m ∷ ms))) greatest_amount (and_right of_one few e))
 
 division_kind : (k : MovementKind) → is_division_sort (sort_of k) ≡ true → stock.is_division k ≡ true
 division_kind (kind.Divided to) e = refl
@@ -131,15 +131,15 @@ module _ (definitions : List Definition) (lots : List Lot) (sublots : List Sublo
   pub lots_defined : AllByRecursion (λ l. is_defined definitions l.def ≡ true) lots
   lots_defined = all_in (λ (l : Lot). is_defined definitions l.def ≡ true) lots (λ l h. (right_lot l h).0)
 
-  pub sublots_housed : AllByRecursion (λ p. is_some (find (λ (l : Lot). same l.id p.lot) lots) ≡ true) (map place_of_sublot sublots)
-  sublots_housed = all_mapped (λ (p : Place). is_some (find (λ (l : Lot). same l.id p.lot) lots) ≡ true) place_of_sublot sublots
+  pub sublots_housed : AllByRecursion (λ p. is_some (find (λ (l : Lot). same l.id p.lot) lots) ≡ true) (map place_of_row sublots)
+  sublots_housed = all_mapped (λ (p : Place). is_some (find (λ (l : Lot). same l.id p.lot) lots) ≡ true) place_of_row sublots
       (all_in (λ (s : Sublot). is_some (find (λ (l : Lot). same l.id s.lot) lots) ≡ true) sublots (λ s h. any_found (λ (l : Lot). same l.id s.lot) lots (right_sublot s h).0))
 
   pub holds_placed : AllByRecursion (λ h. is_some (find (λ (l : Lot). same l.id h.lot) lots) ≡ true) holds
   holds_placed = all_in (λ (h : Hold). is_some (find (λ (l : Lot). same l.id h.lot) lots) ≡ true) holds (λ h there. any_found (λ (l : Lot). same l.id h.lot) lots
       (pass_at (λ h. is_lot_among lots h.lot) holds h (and_right (list_all (is_right_sublot lots (map booked_of ms)) sublots) (list_all (λ h. is_lot_among lots h.lot) holds) in_lots) there))
 
-  born : (s : Sublot) → IsIn s sublots → IsBorn ms (place_of_sublot s)
+  born : (s : Sublot) → IsIn s sublots → IsBorn ms (place_of_row s)
   born s h =
       let by = born_by ms s (right_sublot s h).1 in
       record {
@@ -147,14 +147,14 @@ module _ (definitions : List Definition) (lots : List Lot) (sublots : List Sublo
         divided = λ l. division (stock.entries ms s.lot s.number) (by.divided l);
       }
 
-  pub sound_births : AreBorn lots (map place_of_sublot sublots) ms
+  pub sound_births : AreBorn lots (map place_of_row sublots) ms
   sound_births = record {
-    numbered = all_in (λ (l : Lot). AreFromZero (numbers_among (map place_of_sublot sublots) l.id)) lots (λ l h. subst AreFromZero (sym (numbers_same sublots l.id)) (from_zero _ (right_lot l h).1));
-    each = all_mapped (IsBorn ms) place_of_sublot sublots (all_in (λ (s : Sublot). IsBorn ms (place_of_sublot s)) sublots born);
+    numbered = all_in (λ (l : Lot). AreFromZero (numbers_among (map place_of_row sublots) l.id)) lots (λ l h. subst AreFromZero (sym (numbers_same sublots l.id)) (from_zero _ (right_lot l h).1));
+    each = all_mapped (IsBorn ms) place_of_row sublots (all_in (λ (s : Sublot). IsBorn ms (place_of_row s)) sublots born);
   }
 
   -- sublot 0 was given no more than an amount, and another came of one division
-  pub small_birth : (s : Sublot) → IsIn s sublots → s.number ≡ 0 → total_of (map booked_of (stock.entries ms s.lot s.number)) ≤ greatest_amount
+  pub small_birth : (s : Sublot) → IsIn s sublots → s.number ≡ 0 → total_booked (map booked_of (stock.entries ms s.lot s.number)) ≤ greatest_amount
   small_birth s h z = (birth (stock.entries ms s.lot s.number) ((born_by ms s (right_sublot s h).1).whole z)).1
 
   pub one_division : (s : Sublot) → IsIn s sublots → 1 ≤ s.number → IsDivision (stock.entries ms s.lot s.number)

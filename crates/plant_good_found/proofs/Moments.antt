@@ -18,7 +18,7 @@ use Rattle.plant_check_stock.specs.Times as times
 use Rattle.plant_good.specs.Timed.{mark_of_movement, marks, IsNoLater, HasMoments}
 use Rattle.plant_good.specs.Timed as timed
 use Rattle.plant_good.proofs.Listing.{all_append}
-use Rattle.plant_good_found.specs.Restoring.{batch_without_columns}
+use Rattle.plant_view.specs.Tables.{batch_of_row}
 
 -- a number and a moment
 abbrev position : ℕ × ℕ → Position
@@ -46,7 +46,7 @@ module _ {X : Type 0} (moment : X → ℕ) (at : ℕ) where
   all_by : (xs : List X) → list_all (λ x. nat_le (moment x) at) xs ≡ true → AllByRecursion (λ x. moment x ≤ at) xs
   all_by xs e = all_weaker (λ (x : X). nat_le (moment x) at ≡ true) (λ x. moment x ≤ at) (λ x h. leb-true (moment x) at h) xs (each_passes (λ (x : X). nat_le (moment x) at) xs e)
 
-pub sound_moments : (at : ℕ) (ms : List Movement) (es : List BatchEvent) (batches : List BatchRow) (holds : List Hold) → are_times at ms es batches holds ≡ true → HasMoments at ms es (map batch_without_columns batches) holds
+pub sound_moments : (at : ℕ) (ms : List Movement) (es : List BatchEvent) (batches : List BatchRow) (holds : List Hold) → are_times at ms es batches holds ≡ true → HasMoments at ms es (map batch_of_row batches) holds
 sound_moments at ms es batches holds tests =
     let falls = never_fall (times.row_marks ms es) in
     let moved = list_all (λ (m : Movement). nat_le m.at at) ms in
@@ -61,6 +61,6 @@ sound_moments at ms es batches holds tests =
       bookings = all_append (λ (a : Position). a.at ≤ at) (map mark_of_movement ms) (map timed.mark_of_event es)
           (all_mapped (λ (a : Position). a.at ≤ at) mark_of_movement ms (all_by (λ (m : Movement). m.at) at ms (and_left moved happened two)))
           (all_mapped (λ (a : Position). a.at ≤ at) timed.mark_of_event es (all_by (λ (e : BatchEvent). e.at) at es (and_right moved happened two)));
-      released = all_mapped (λ (b : Batch). b.at ≤ at) batch_without_columns batches (all_by (λ (b : BatchRow). b.batch.at) at batches (and_right (moved && happened) released three));
+      released = all_mapped (λ (b : Batch). b.at ≤ at) batch_of_row batches (all_by (λ (b : BatchRow). b.batch.at) at batches (and_right (moved && happened) released three));
       held = all_by (λ (h : Hold). h.at) at holds (and_right (moved && happened && released) held by);
     }

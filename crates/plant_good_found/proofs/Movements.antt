@@ -20,7 +20,7 @@ use Rattle.plant_view.specs.Conserve.{is_of_lot}
 use Rattle.plant_view.specs.Genealogy.{batch_by, IsBatchThere}
 use Rattle.plant_view.specs.Production.{control_among}
 use Rattle.plant_view.specs.Sound.{IsThere, IsOneMaterial}
-use Rattle.plant_view.specs.Tables.{sublot_row}
+use Rattle.plant_view.specs.Tables.{sublot_row, place_of_row, batch_of_row}
 use Rattle.plant_view.proofs.Rows.{none_left, all_filtered}
 use Rattle.plant_view.proofs.Tests.{and_left, and_right}
 use Rattle.plant_rules.specs.Splitting.{def_of}
@@ -34,9 +34,9 @@ use Rattle.plant_good.specs.Valued.{HasMovementValues}
 use Rattle.plant_tables_columns.specs.Booked.{booked_of}
 use Rattle.plant_tables_judged.specs.Collecting.{Rows}
 use Rattle.plant_check.specs.Broken.{movements_in}
-use Rattle.plant_check.specs.Ends.{are_stocks, total_of}
+use Rattle.plant_check.specs.Ends.{are_stocks, total_booked}
 use Rattle.plant_check.specs.Lots.{are_lots}
-use Rattle.plant_good_found.specs.Restoring.{state_in, place_of_sublot, batch_without_columns}
+use Rattle.plant_good_found.specs.Restoring.{state_in}
 use Rattle.plant_good_found.proofs.Histories.{joined_again}
 use Rattle.plant_good_found.proofs.Lots.{small_birth, one_division}
 use Rattle.plant_good_found.proofs.Members.{IsIn, all_in, pass_at, any_in, finds, found_in, in_map}
@@ -90,7 +90,7 @@ module _ (r : Rows) (tests : are_movements r.lots r.sublots r.batches r.control_
   there None e = tt
   there (Some k) e =
       let s = any_in (λ (s : Sublot). same s.lot k.0 && s.number == k.1) r.sublots e in
-      finds (λ (p : Place). same p.lot k.0 && p.number == k.1) (map place_of_sublot r.sublots) (place_of_sublot s.0) (in_map place_of_sublot r.sublots s.0 s.1) s.2
+      finds (λ (p : Place). same p.lot k.0 && p.number == k.1) (map place_of_row r.sublots) (place_of_row s.0) (in_map place_of_row r.sublots s.0 s.1) s.2
 
   goes : (m : Movement) → IsIn m (movements_in r.movements) → is_there r.sublots (goes_to m.kind m.lot m.sub) ≡ true
   goes m h = and_left (is_there r.sublots (goes_to m.kind m.lot m.sub)) (is_there r.sublots (comes_from m.kind m.lot m.sub)) (and_left (is_there r.sublots (goes_to m.kind m.lot m.sub) && is_there r.sublots (comes_from m.kind m.lot m.sub)) (is_batch_there r.batches (batch_by m.kind)) (tested_movement m h).known)
@@ -101,14 +101,14 @@ module _ (r : Rows) (tests : are_movements r.lots r.sublots r.batches r.control_
   pub all_named : AllByRecursion (λ m. IsThere (state_in r) (goes_to m.kind m.lot m.sub) × IsThere (state_in r) (comes_from m.kind m.lot m.sub)) (movements_in r.movements)
   all_named = all_in (λ (m : Movement). IsThere (state_in r) (goes_to m.kind m.lot m.sub) × IsThere (state_in r) (comes_from m.kind m.lot m.sub)) (movements_in r.movements) (λ m h. (there (goes_to m.kind m.lot m.sub) (goes m h), there (comes_from m.kind m.lot m.sub) (comes m h)))
 
-  batch_is_there : (k : Option (List ℕ)) → is_batch_there r.batches k ≡ true → IsBatchThere (map batch_without_columns r.batches) k
+  batch_is_there : (k : Option (List ℕ)) → is_batch_there r.batches k ≡ true → IsBatchThere (map batch_of_row r.batches) k
   batch_is_there None e = tt
   batch_is_there (Some id) e =
       let b = any_in (λ (b : BatchRow). same b.batch.id id) r.batches e in
-      finds (λ (b : Batch). same b.id id) (map batch_without_columns r.batches) (batch_without_columns b.0) (in_map batch_without_columns r.batches b.0 b.1) b.2
+      finds (λ (b : Batch). same b.id id) (map batch_of_row r.batches) (batch_of_row b.0) (in_map batch_of_row r.batches b.0 b.1) b.2
 
-  pub all_batched : AllByRecursion (λ m. IsBatchThere (map batch_without_columns r.batches) (batch_by m.kind)) (movements_in r.movements)
-  all_batched = all_in (λ (m : Movement). IsBatchThere (map batch_without_columns r.batches) (batch_by m.kind)) (movements_in r.movements) (λ m h. batch_is_there (batch_by m.kind)
+  pub all_batched : AllByRecursion (λ m. IsBatchThere (map batch_of_row r.batches) (batch_by m.kind)) (movements_in r.movements)
+  all_batched = all_in (λ (m : Movement). IsBatchThere (map batch_of_row r.batches) (batch_by m.kind)) (movements_in r.movements) (λ m h. batch_is_there (batch_by m.kind)
       (and_right (is_there r.sublots (goes_to m.kind m.lot m.sub) && is_there r.sublots (comes_from m.kind m.lot m.sub)) (is_batch_there r.batches (batch_by m.kind)) (tested_movement m h).known))
 
   one_material : (k : MovementKind) (lot : List ℕ) (sub : ℕ) → is_of_right_definition r.lots r.control_lines k lot ≡ true → IsOneMaterial (state_in r) (goes_to k lot sub) (comes_from k lot sub)
@@ -143,13 +143,13 @@ module _ (r : Rows) (tests : are_movements r.lots r.sublots r.batches r.control_
     never_entered =
         let no_entry : flows.entries (movements_in r.movements) lot number ≡ [] = none_left (λ (m : Movement). is_place (goes_to m.kind m.lot m.sub) lot number) (movements_in r.movements)
         (all_in (λ (m : Movement). is_place (goes_to m.kind m.lot m.sub) lot number ≡ false) (movements_in r.movements) (λ m h. not_there (goes_to m.kind m.lot m.sub) (goes m h) (is_place (goes_to m.kind m.lot m.sub) lot number) refl)) in
-        sym (entered_of (movements_in r.movements) lot number) ∙ ap (λ es. total_of (map booked_of es)) no_entry
+        sym (entered_of (movements_in r.movements) lot number) ∙ ap (λ es. total_booked (map booked_of es)) no_entry
 
     never_left : left (movements_in r.movements) lot number ≡ 0
     never_left =
         let no_exit : movement_exits (movements_in r.movements) lot number ≡ [] = none_left (λ (m : Movement). is_place (comes_from m.kind m.lot m.sub) lot number) (movements_in r.movements)
         (all_in (λ (m : Movement). is_place (comes_from m.kind m.lot m.sub) lot number ≡ false) (movements_in r.movements) (λ m h. not_there (comes_from m.kind m.lot m.sub) (comes m h) (is_place (comes_from m.kind m.lot m.sub) lot number) refl)) in
-        sym (left_of (movements_in r.movements) lot number) ∙ ap (λ es. total_of (map booked_of es)) no_exit
+        sym (left_of (movements_in r.movements) lot number) ∙ ap (λ es. total_booked (map booked_of es)) no_exit
 
   -- ---- stocks
 
@@ -167,8 +167,8 @@ module _ (r : Rows) (tests : are_movements r.lots r.sublots r.batches r.control_
             omega (arith, moved)
 
     -- the kept stocks are those that the movements tell
-    pub same_sublots : map (sublot_row (movements_in r.movements)) (map place_of_sublot r.sublots) ≡ r.sublots
-    same_sublots = joined_again place_of_sublot (sublot_row (movements_in r.movements)) r.sublots (all_in (λ (s : Sublot). sublot_row (movements_in r.movements) (place_of_sublot s) ≡ s) r.sublots (λ s h.
+    pub same_sublots : map (sublot_row (movements_in r.movements)) (map place_of_row r.sublots) ≡ r.sublots
+    same_sublots = joined_again place_of_row (sublot_row (movements_in r.movements)) r.sublots (all_in (λ (s : Sublot). sublot_row (movements_in r.movements) (place_of_row s) ≡ s) r.sublots (λ s h.
         let own : s.stock + left (movements_in r.movements) s.lot s.number ≡ entered (movements_in r.movements) s.lot s.number = stock_is (movements_in r.movements) r.sublots stocks s h in
         let kept : entered (movements_in r.movements) s.lot s.number - left (movements_in r.movements) s.lot s.number ≡ s.stock = omega (arith, own) in
         λ i. record s { stock = kept i }))
@@ -177,12 +177,12 @@ module _ (r : Rows) (tests : are_movements r.lots r.sublots r.batches r.control_
       pub all_small : (lot : List ℕ) (number : ℕ) → entered (movements_in r.movements) lot number ≤ greatest_amount
       all_small lot number = by (find (λ (s : Sublot). same s.lot lot && s.number == number) r.sublots) refl
         where
-          single : (es : List Movement) → IsDivision es → AllByRecursion HasMovementValues es → total_of (map booked_of es) ≤ greatest_amount
+          single : (es : List Movement) → IsDivision es → AllByRecursion HasMovementValues es → total_booked (map booked_of es) ≤ greatest_amount
           single [] d v = absurd d
           single (m ∷ []) d v = let small = leb-true m.amount greatest_amount (and_right (nat_le 1 m.amount) (nat_le m.amount greatest_amount) v.0.amount) in omega (arith, small)
           single (m ∷ n ∷ es) d v = absurd d
 
-          divided : (n : ℕ) (s : Sublot) → IsIn s r.sublots → s.number ≡ n → total_of (map booked_of (flows.entries (movements_in r.movements) s.lot s.number)) ≤ greatest_amount
+          divided : (n : ℕ) (s : Sublot) → IsIn s r.sublots → s.number ≡ n → total_booked (map booked_of (flows.entries (movements_in r.movements) s.lot s.number)) ≤ greatest_amount
           divided zero s h e = small_birth r.definitions r.lots r.sublots r.holds (movements_in r.movements) lots s h e
           divided (suc n) s h e =
               single (flows.entries (movements_in r.movements) s.lot s.number) (one_division r.definitions r.lots r.sublots r.holds (movements_in r.movements) lots s h (omega (arith, e)))

@@ -13,11 +13,11 @@ use Rattle.plant_base.specs.declared.rows.OrderRow.{OrderRow}
 use Rattle.plant_base.specs.declared.rows.Recipe.{Recipe}
 use Rattle.plant_base.specs.declared.states.JobState.{JobState}
 use Rattle.plant_base.specs.declared.states.JobState.TheVariants.{Open, Cancelled, Released, Finished}
-use Rattle.plant_view.specs.Production.{headers_of, header_among, batch_among, is_size_of_some, has_batch, HasGoodOrder, AreSoundOrders}
+use Rattle.plant_view.specs.Production.{headers_of, header_among, batch_among, is_size_of_some, has_batch, HasGoodOrder, AreSoundOrders, is_size_of_recipe}
 use Rattle.plant_view.proofs.Rows.{all_mapped, find_mapped, some_mapped}
 use Rattle.plant_view.proofs.Tests.{and_left, and_right}
-use Rattle.plant_check_plans.specs.Orders.{recipe_among, is_size_of_recipe, row_of_order, is_started, is_right_order, are_orders}
-use Rattle.plant_good_found.specs.Restoring.{batch_without_columns}
+use Rattle.plant_check_plans.specs.Orders.{recipe_among, row_of_order, is_started, is_right_order, are_orders}
+use Rattle.plant_view.specs.Tables.{batch_of_row}
 use Rattle.plant_good_found.proofs.Members.{IsIn, all_in, pass_at}
 
 -- what the test of an order asks
@@ -37,8 +37,8 @@ pub header_found : (recipes : List Recipe) (id : List ℕ) (version : ℕ) → h
 header_found recipes id version = find_mapped (λ (h : Header). same h.recipe id && h.version == version) (λ q. q.header) recipes
 
 -- the batch that is found is that of the row
-pub batch_found : (batches : List BatchRow) (order : List ℕ) → batch_among (map batch_without_columns batches) order ≡ option_map batch_without_columns (row_of_order batches order)
-batch_found batches order = find_mapped (λ (b : Batch). same b.job order) batch_without_columns batches
+pub batch_found : (batches : List BatchRow) (order : List ℕ) → batch_among (map batch_of_row batches) order ≡ option_map batch_of_row (row_of_order batches order)
+batch_found batches order = find_mapped (λ (b : Batch). same b.job order) batch_of_row batches
 
 sized_same : (o : Option Recipe) (size : ℕ) → is_size_of_some (option_map (λ q. q.header) o) size ≡ is_size_of_recipe o size
 sized_same None size = refl
@@ -58,13 +58,13 @@ module _ (recipes : List Recipe) (batches : List BatchRow) (jobs : List Job) (te
   pub tested_order : (j : Job) → IsIn j jobs → IsTested recipes batches j
   tested_order j h = tested recipes batches j (pass_at (is_right_order recipes batches) jobs j tests h)
 
-  pub sound_orders : IsStrictlySortedBy job_order jobs → AllByRecursion (λ (j : Job). HasGoodOrder j.order) jobs → AreSoundOrders (headers_of recipes) jobs (map batch_without_columns batches)
+  pub sound_orders : IsStrictlySortedBy job_order jobs → AllByRecursion (λ (j : Job). HasGoodOrder j.order) jobs → AreSoundOrders (headers_of recipes) jobs (map batch_of_row batches)
   sound_orders sorted values = record {
     sorted = sorted;
     values = all_mapped HasGoodOrder (λ j. j.order) jobs values;
     sized = all_mapped (λ (o : OrderRow). is_size_of_some (header_among (headers_of recipes) o.recipe o.version) o.size ≡ true) (λ j. j.order) jobs
         (all_in (λ (j : Job). is_size_of_some (header_among (headers_of recipes) j.order.recipe j.order.version) j.order.size ≡ true) jobs (λ j h.
         ap (λ o. is_size_of_some o j.order.size) (header_found recipes j.order.recipe j.order.version) ∙ sized_same (recipe_among recipes j.order.recipe j.order.version) j.order.size ∙ (tested_order j h).sized));
-    started = all_in (λ (j : Job). is_some (batch_among (map batch_without_columns batches) j.order.order) ≡ has_batch j.state) jobs (λ j h.
-        ap is_some (batch_found batches j.order.order) ∙ some_mapped batch_without_columns (row_of_order batches j.order.order) ∙ has_one j.state (row_of_order batches j.order.order) (tested_order j h).started);
+    started = all_in (λ (j : Job). is_some (batch_among (map batch_of_row batches) j.order.order) ≡ has_batch j.state) jobs (λ j h.
+        ap is_some (batch_found batches j.order.order) ∙ some_mapped batch_of_row (row_of_order batches j.order.order) ∙ has_one j.state (row_of_order batches j.order.order) (tested_order j h).started);
   }

@@ -7,7 +7,7 @@ use Rattle.plant_base.specs.declared.rows.Place.{Place}
 use Rattle.plant_base.proofs.Put.{all_weaker}
 use Rattle.plant_view.specs.Genealogy.{edges_among}
 use Rattle.plant_view.specs.Sound.{IsSound}
-use Rattle.plant_view.specs.Tables.{tables_of}
+use Rattle.plant_view.specs.Tables.{tables_of, place_of_row, batch_of_row}
 use Rattle.plant_view.proofs.Rows.{all_mapped, each_passes, sorted_mapped}
 use Rattle.plant_good.specs.Good.{IsGood}
 use Rattle.plant_good.specs.Valued.{HasRowValues, HasPlaceValues, HasMovementValues}
@@ -23,7 +23,7 @@ use Rattle.plant_check.specs.Broken.{movements_in, broken_rows, first_broken_of,
 use Rattle.plant_check.specs.Ends.{are_stocks}
 use Rattle.plant_check.specs.Lots.{are_lots}
 use Rattle.plant_check.proofs.Cycles.{to_acyclic}
-use Rattle.plant_good_found.specs.Restoring.{state_in, place_of_sublot, batch_without_columns, UnbrokenIsRead, UnbrokenIsGood, UnbrokenHolds}
+use Rattle.plant_good_found.specs.Restoring.{state_in, UnbrokenIsRead, UnbrokenIsGood, UnbrokenHolds}
 use Rattle.plant_good_found.proofs.Batches.{control_numbered, sound_batches}
 use Rattle.plant_good_found.proofs.Booking.{all_booked, movement_values}
 use Rattle.plant_good_found.proofs.Histories.{witnessed, sound_runs, same_batches}
@@ -76,7 +76,7 @@ module _ (r : Rows) (p : PassesAll r) where
       control_lines = v.control_lines;
       events = v.events;
       lots = v.lots;
-      places = all_mapped HasPlaceValues place_of_sublot r.sublots (all_weaker HasSublotValues (λ s. HasPlaceValues (place_of_sublot s)) (λ s h. record { lot = h.lot; number = h.number; place = h.place }) r.sublots v.sublots);
+      places = all_mapped HasPlaceValues place_of_row r.sublots (all_weaker HasSublotValues (λ s. HasPlaceValues (place_of_row s)) (λ s h. record { lot = h.lot; number = h.number; place = h.place }) r.sublots v.sublots);
       movements = values_moved;
       holds = v.holds;
     }
@@ -87,20 +87,20 @@ module _ (r : Rows) (p : PassesAll r) where
         classes = o.keyed.classes;
         definitions = o.keyed.definitions;
         lots = o.keyed.lots;
-        places = sorted_mapped place_order place_of_sublot r.sublots o.keyed.sublots;
+        places = sorted_mapped place_order place_of_row r.sublots o.keyed.sublots;
         holds = o.keyed.holds;
         classified = classes_found r.classes r.definitions p.classes;
         defined = lots_defined r.definitions r.lots r.sublots r.holds (movements_in r.movements) lots;
         housed = sublots_housed r.definitions r.lots r.sublots r.holds (movements_in r.movements) lots;
         placed = holds_placed r.definitions r.lots r.sublots r.holds (movements_in r.movements) lots;
-        numbered = all_mapped (λ (q : Place). q.number ≤ greatest_sublot) place_of_sublot r.sublots (all_weaker HasSublotValues (λ s. s.number ≤ greatest_sublot) (λ s h. h.number) r.sublots v.sublots);
+        numbered = all_mapped (λ (q : Place). q.number ≤ greatest_sublot) place_of_row r.sublots (all_weaker HasSublotValues (λ s. s.number ≤ greatest_sublot) (λ s h. h.number) r.sublots v.sublots);
         named = all_named r p.movements;
         one_material = all_one_material r p.movements;
         small = all_small r p.movements stocks lots values_moved;
         covered = all_covered r p.movements stocks;
         recipes = sound_recipes r.definitions r.recipes r.master_lines p.recipes v.recipes v.master_lines o.keyed.recipes o.keyed.master_lines;
         orders = sound_orders r.recipes r.batches r.jobs p.orders o.keyed.jobs v.jobs;
-        batches = sound_batches r.recipes r.master_lines r.jobs r.batches r.control_lines p.batches r.events (sorted_mapped batch_order batch_without_columns r.batches o.keyed.batches) o.keyed.control_lines v.batches
+        batches = sound_batches r.recipes r.master_lines r.jobs r.batches r.control_lines p.batches r.events (sorted_mapped batch_order batch_of_row r.batches o.keyed.batches) o.keyed.control_lines v.batches
             (witnessed r.recipes r.master_lines r.jobs r.batches r.control_lines r.events p.batches p.orders p.events);
         runs = sound_runs r.recipes r.master_lines r.jobs r.batches r.control_lines r.events p.batches p.orders p.events;
         genealogy = record { batched = all_batched r p.movements; acyclic = to_acyclic (edges_among (movements_in r.movements)) p.descent };

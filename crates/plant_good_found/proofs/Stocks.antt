@@ -11,7 +11,7 @@ use Rattle.plant_stock.specs.Stock as flows
 use Rattle.plant_good.specs.Births as births
 use Rattle.plant_tables_columns.specs.Booked.{booked_of}
 use Rattle.plant_tables_columns.specs.declared.booked.BookedRow.{BookedRow}
-use Rattle.plant_check.specs.Ends.{entered_by, left_by, entries, exits, total_of, has_right_stock, are_stocks}
+use Rattle.plant_check.specs.Ends.{entered_by, left_by, entries, exits, total_booked, has_right_stock, are_stocks}
 use Rattle.plant_good_found.proofs.Members.{IsIn, pass_at}
 
 -- ---- where a movement's row leads
@@ -57,12 +57,12 @@ module _ (ms : List Movement) (lot : List ℕ) (number : ℕ) where
   same_exits = filtered_same booked_of (λ r. is_place (left_by r.sort r) lot number) (λ m. is_place (comes_from m.kind m.lot m.sub) lot number) (λ m. ap (λ k. is_place k lot number) (leaves_as m.kind m)) ms
 
 -- what those that pass bring is what all bring, each that passes
-passing_total : (p : Movement → Bool) (ms : List Movement) → total_of (map booked_of (filter p ms)) ≡ sum_by (λ m. if p m then m.amount else 0) ms
+passing_total : (p : Movement → Bool) (ms : List Movement) → total_booked (map booked_of (filter p ms)) ≡ sum_by (λ m. if p m then m.amount else 0) ms
 passing_total p [] = refl
 passing_total p (m ∷ ms) = by (p m) refl (passing_total p ms)
   where
-    by : (b : Bool) → p m ≡ b → total_of (map booked_of (filter p ms)) ≡ sum_by (λ m. if p m then m.amount else 0) ms
-        → total_of (map booked_of (cond b (m ∷ filter p ms) (filter p ms))) ≡ sum_by (λ m. if p m then m.amount else 0) (m ∷ ms)
+    by : (b : Bool) → p m ≡ b → total_booked (map booked_of (filter p ms)) ≡ sum_by (λ m. if p m then m.amount else 0) ms
+        → total_booked (map booked_of (cond b (m ∷ filter p ms) (filter p ms))) ≡ sum_by (λ m. if p m then m.amount else 0) (m ∷ ms)
     by true e more =
         let here : (if p m then m.amount else 0) ≡ m.amount = ap (λ b. if b then m.amount else 0) e in
         omega (arith, sum_by-cons (λ (r : BookedRow). r.amount) (booked_of m) (map booked_of (filter p ms)), sum_by-cons (λ (m : Movement). if p m then m.amount else 0) m ms, here, more)
@@ -70,24 +70,24 @@ passing_total p (m ∷ ms) = by (p m) refl (passing_total p ms)
         let here : (if p m then m.amount else 0) ≡ 0 = ap (λ b. if b then m.amount else 0) e in
         omega (arith, sum_by-cons (λ (m : Movement). if p m then m.amount else 0) m ms, here, more)
 
-pub entered_of : (ms : List Movement) (lot : List ℕ) (number : ℕ) → total_of (map booked_of (flows.entries ms lot number)) ≡ entered ms lot number
+pub entered_of : (ms : List Movement) (lot : List ℕ) (number : ℕ) → total_booked (map booked_of (flows.entries ms lot number)) ≡ entered ms lot number
 unfolding entered
 entered_of ms lot number = passing_total (λ m. is_place (goes_to m.kind m.lot m.sub) lot number) ms
 
-pub left_of : (ms : List Movement) (lot : List ℕ) (number : ℕ) → total_of (map booked_of (movement_exits ms lot number)) ≡ left ms lot number
+pub left_of : (ms : List Movement) (lot : List ℕ) (number : ℕ) → total_booked (map booked_of (movement_exits ms lot number)) ≡ left ms lot number
 unfolding left
 left_of ms lot number = passing_total (λ m. is_place (comes_from m.kind m.lot m.sub) lot number) ms
 
-entered_total : (ms : List Movement) (lot : List ℕ) (number : ℕ) → total_of (entries (map booked_of ms) lot number) ≡ entered ms lot number
-entered_total ms lot number = ap total_of (same_entries ms lot number) ∙ entered_of ms lot number
+entered_total : (ms : List Movement) (lot : List ℕ) (number : ℕ) → total_booked (entries (map booked_of ms) lot number) ≡ entered ms lot number
+entered_total ms lot number = ap total_booked (same_entries ms lot number) ∙ entered_of ms lot number
 
-left_total : (ms : List Movement) (lot : List ℕ) (number : ℕ) → total_of (exits (map booked_of ms) lot number) ≡ left ms lot number
-left_total ms lot number = ap total_of (same_exits ms lot number) ∙ left_of ms lot number
+left_total : (ms : List Movement) (lot : List ℕ) (number : ℕ) → total_booked (exits (map booked_of ms) lot number) ≡ left ms lot number
+left_total ms lot number = ap total_booked (same_exits ms lot number) ∙ left_of ms lot number
 
 -- the stock of a sublot that passes its test
 pub stock_is : (ms : List Movement) (sublots : List Sublot) → are_stocks (map booked_of ms) sublots ≡ true → (s : Sublot) → IsIn s sublots → s.stock + left ms s.lot s.number ≡ entered ms s.lot s.number
 unfolding has_right_stock
 stock_is ms sublots tests s h =
     let right = pass_at (has_right_stock (map booked_of ms)) sublots s tests h in
-    let sums : s.stock + total_of (exits (map booked_of ms) s.lot s.number) ≡ total_of (entries (map booked_of ms) s.lot s.number) = eqb-true (s.stock + total_of (exits (map booked_of ms) s.lot s.number)) (total_of (entries (map booked_of ms) s.lot s.number)) right in
+    let sums : s.stock + total_booked (exits (map booked_of ms) s.lot s.number) ≡ total_booked (entries (map booked_of ms) s.lot s.number) = eqb-true (s.stock + total_booked (exits (map booked_of ms) s.lot s.number)) (total_booked (entries (map booked_of ms) s.lot s.number)) right in
     ap (λ n. s.stock + n) (sym (left_total ms s.lot s.number)) ∙ sums ∙ entered_total ms s.lot s.number

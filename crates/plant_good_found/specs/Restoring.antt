@@ -3,11 +3,7 @@ use Rattle.std.specs.Prelude.{◌≡◌, Some, None, map}
 use Rattle.std.specs.List.{filter_map}
 use Rattle.sqlite.specs.Effect.{Database}
 use Rattle.plant_base.specs.State.{State, newest_schema}
-use Rattle.plant_base.specs.declared.rows.Batch.{Batch}
-use Rattle.plant_base.specs.declared.rows.BatchRow.{BatchRow}
-use Rattle.plant_base.specs.declared.rows.Place.{Place}
-use Rattle.plant_base.specs.declared.rows.Sublot.{Sublot}
-use Rattle.plant_view.specs.Tables.{tables_of}
+use Rattle.plant_view.specs.Tables.{tables_of, place_of_row, batch_of_row}
 use Rattle.plant_good.specs.Good.{IsGood}
 use Rattle.table_forms.specs.Standing.{StandIn}
 use Rattle.plant_tables.specs.DeskForms.{desk_forms}
@@ -17,14 +13,6 @@ use Rattle.plant_tables_stored.specs.declared.loaded.Loaded.{Loaded}
 use Rattle.plant_tables_columns.specs.Booked.{movement_from}
 use Rattle.plant_tables_judged.specs.Collecting.{Rows, rows_from, tables_in, AreWhole}
 use Rattle.plant_check.specs.Broken.{first_broken, first_broken_of}
-
--- a batch without the columns that its events tell
-abbrev pub batch_without_columns : BatchRow → Batch
-batch_without_columns r = r.batch
-
--- a sublot without its stock
-abbrev pub place_of_sublot : Sublot → Place
-place_of_sublot s = record { lot = s.lot; number = s.number; place = s.place }
 
 -- the rows without the columns that follow from others
 abbrev pub state_in : Rows → State
@@ -36,11 +24,11 @@ state_in r = record {
   recipes = r.recipes;
   master_lines = r.master_lines;
   jobs = r.jobs;
-  batches = map batch_without_columns r.batches;
+  batches = map batch_of_row r.batches;
   control_lines = r.control_lines;
   events = r.events;
   lots = r.lots;
-  places = map place_of_sublot r.sublots;
+  places = map place_of_row r.sublots;
   movements = filter_map movement_from r.movements;
   holds = r.holds;
 }

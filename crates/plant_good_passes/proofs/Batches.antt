@@ -23,13 +23,13 @@ use Rattle.plant_base.proofs.Keys.{same_id, same_key, same_itself}
 use Rattle.plant_recipe.specs.Form.{is_well_formed}
 use Rattle.plant_recipe.specs.Control.{control_of}
 use Rattle.plant_view.specs.Production as known
-use Rattle.plant_view.specs.Production.{headers_of, orders_of, order_among, batch_among, lines_among, control_line, control_among, control_of_order, IsWholeRecipe, IsSoundBatch, job_among}
+use Rattle.plant_view.specs.Production.{headers_of, orders_of, order_among, batch_among, lines_among, control_line, control_among, control_of_order, IsWholeRecipe, IsSoundBatch, job_among, is_size_of_recipe}
 use Rattle.plant_view.specs.Sound.{IsSound}
 use Rattle.plant_view.specs.Tables.{batch_row}
 use Rattle.plant_view.proofs.KeptSound.{all_two}
 use Rattle.plant_view.proofs.Rows.{all_mapped, all_unmapped, find_mapped}
 use Rattle.plant_check_plans.specs.Batches.{control_sized, control_where_formed, control_of_found, control_asked_for, is_control, is_row_among, is_right_batch, are_batches}
-use Rattle.plant_check_plans.specs.Orders.{recipe_among, is_size_of_recipe}
+use Rattle.plant_check_plans.specs.Orders.{recipe_among}
 use Rattle.plant_check_plans.specs.Recipes.{are_numbered}
 use Rattle.plant_good_passes.proofs.Testing.{all_pass, filter_mapped, AreApart, one_left, ids_apart, numbers_pass}
 use Rattle.plant_good_passes.proofs.Orders.{header_found, sizes_pass}
@@ -71,7 +71,7 @@ module _ (s : State) (sound : IsSound s) where
   control_made : (h : Header) (lines : List RecipeLine) (size : ℕ) (control : List RecipeLine) → is_well_formed h lines ≡ true → known.is_size_of_some (Some h) size ≡ true → control_of h lines size ≡ Some control → control_where_formed h lines size ≡ Some control
   control_made h lines size control formed sized e = ap (λ b. cond b (control_sized h lines size) None) formed ∙ ap (λ b. cond b (control_of h lines size) None) sized ∙ e
 
-  by_recipe : (o : OrderRow) (control : List RecipeLine) (r : Option Recipe) → recipe_among s.recipes o.recipe o.version ≡ r → is_size_of_recipe r o.size ≡ true → known.control_from s.master_lines o (option_map (λ x. x.header) r) ≡ Some control → control_of_found s.master_lines o.size r ≡ Some control
+  by_recipe : (o : OrderRow) (control : List RecipeLine) (r : Option Recipe) → recipe_among s.recipes o.recipe o.version ≡ r → is_size_of_recipe r o.size ≡ true → known.control_of_header s.master_lines o (option_map (λ x. x.header) r) ≡ Some control → control_of_found s.master_lines o.size r ≡ Some control
   by_recipe o control None found sized e = absurd (false≢true sized)
   by_recipe o control (Some r) found sized e =
       let test = λ (x : Recipe). same x.header.recipe o.recipe && x.header.version == o.version in
@@ -85,7 +85,7 @@ module _ (s : State) (sound : IsSound s) where
   by_order id control (Some j) found e =
       let sized = found_keeps (λ (x : Job). is_size_of_recipe (recipe_among s.recipes x.order.recipe x.order.version) x.order.size ≡ true) (λ (x : Job). same x.order.order id) s.jobs j (sizes_pass s sound) found in
       by_recipe j.order control (recipe_among s.recipes j.order.recipe j.order.version) refl sized
-      (ap (known.control_from s.master_lines j.order) (sym (header_found s.recipes j.order.recipe j.order.version)) ∙ e)
+      (ap (known.control_of_header s.master_lines j.order) (sym (header_found s.recipes j.order.recipe j.order.version)) ∙ e)
 
   control_asked : (id : List ℕ) (control : List RecipeLine) → control_of_order (headers_of s.recipes) s.master_lines (order_among (orders_of s.jobs) id) ≡ Some control → control_asked_for s.recipes s.master_lines (job_among s.jobs id) ≡ Some control
   control_asked id control e = by_order id control (job_among s.jobs id) refl (ap (control_of_order (headers_of s.recipes) s.master_lines) (sym (find_mapped (λ (o : OrderRow). same o.order id) (λ (j : Job). j.order) s.jobs)) ∙ e)

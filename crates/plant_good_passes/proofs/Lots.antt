@@ -26,7 +26,7 @@ use Rattle.plant_good.specs.Bookings.{AreCounted}
 use Rattle.plant_good.specs.Good.{IsGood}
 use Rattle.plant_tables_columns.specs.Booked.{booked_of, sort_of}
 use Rattle.plant_tables_columns.specs.declared.booked.BookedRow.{BookedRow}
-use Rattle.plant_check.specs.Ends.{entries, total_of}
+use Rattle.plant_check.specs.Ends.{entries, total_booked}
 use Rattle.plant_check.specs.Lots.{are_from_zero, sublots_among, is_right_lot, is_division_sort, are_of_one_sort, is_of_one_birth, is_one_birth, is_one_division, is_born, is_lot_among, is_right_sublot, are_lots}
 use Rattle.plant_good_passes.proofs.Testing.{all_pass, any_found, filter_mapped}
 use Rattle.plant_good_passes.proofs.Stocks.{entries_booked, total_entered}
@@ -50,14 +50,14 @@ division_sort (kind.Divided to) e = refl
 division_sort _ e = absurd (false≢true e)
 
 -- movements of one birth that bring no more than an amount
-birth_passes : (ms : List Movement) → kept.IsBirth ms → total_of (map booked_of ms) ≤ greatest_amount → is_one_birth (map booked_of ms) ≡ true
+birth_passes : (ms : List Movement) → kept.IsBirth ms → total_booked (map booked_of ms) ≤ greatest_amount → is_one_birth (map booked_of ms) ≡ true
 birth_passes [] birth small = absurd birth
 birth_passes (m ∷ ms) birth small =
     let of_one = λ (r : BookedRow). is_of_one_birth (booked_of m) r in
     and_from _ _
     (all_pass of_one (map booked_of (m ∷ ms)) (all_mapped (λ (r : BookedRow). of_one r ≡ true) booked_of (m ∷ ms)
     (all_weaker _ _ (λ (x : Movement) one. and_from _ _ (eq-eqb x.seq m.seq one.0) (one_sort m.kind x.kind one.1)) (m ∷ ms) birth)))
-    (le-leb (total_of (map booked_of (m ∷ ms))) greatest_amount small)
+    (le-leb (total_booked (map booked_of (m ∷ ms))) greatest_amount small)
 
 -- one division
 division_passes : (ms : List Movement) → kept.IsDivision ms → is_one_division (map booked_of ms) ≡ true
@@ -76,7 +76,7 @@ module _ (s : State) (good : IsGood s) where
   birth_told p birth =
       let booked = entries_booked s.movements p.lot p.number in
       ap is_one_birth booked
-      ∙ birth_passes (stock.entries s.movements p.lot p.number) birth (subst (λ n. n ≤ greatest_amount) (sym (total_entered s.movements p.lot p.number) ∙ ap total_of booked) (good.sound.small p.lot p.number))
+      ∙ birth_passes (stock.entries s.movements p.lot p.number) birth (subst (λ n. n ≤ greatest_amount) (sym (total_entered s.movements p.lot p.number) ∙ ap total_booked booked) (good.sound.small p.lot p.number))
 
   born_passes : (p : Place) → kept.IsBorn s.movements p → is_born rows (sublot_row s.movements p) ≡ true
   born_passes p born = by (p.number == 0) refl

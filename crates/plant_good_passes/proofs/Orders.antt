@@ -14,12 +14,12 @@ use Rattle.plant_base.specs.declared.states.JobState.{JobState}
 use Rattle.plant_base.specs.declared.states.JobState.TheVariants.{Open, Cancelled, Released, Finished}
 use Rattle.plant_base.proofs.Find.{found_passes, found_keeps}
 use Rattle.plant_base.proofs.Keys.{same_id, same_itself}
-use Rattle.plant_view.specs.Production.{headers_of, header_among, is_size_of_some, batch_among, has_batch, job_among, is_finished, has_finished, IsSoundRun}
+use Rattle.plant_view.specs.Production.{headers_of, header_among, is_size_of_some, batch_among, has_batch, job_among, is_finished, has_finished, IsSoundRun, is_size_of_recipe}
 use Rattle.plant_view.specs.Sound.{IsSound}
 use Rattle.plant_view.specs.Tables.{batch_row}
 use Rattle.plant_view.proofs.KeptSound.{all_two}
 use Rattle.plant_view.proofs.Rows.{all_unmapped, find_mapped}
-use Rattle.plant_check_plans.specs.Orders.{recipe_among, is_size_of_recipe, row_of_order, is_started, is_right_order, are_orders}
+use Rattle.plant_check_plans.specs.Orders.{recipe_among, row_of_order, is_started, is_right_order, are_orders}
 use Rattle.plant_good_passes.proofs.Testing.{all_pass, one_found, apart_sorted, ids_apart}
 
 -- a look-up among headers is one among recipes

@@ -18,7 +18,7 @@ use Rattle.plant_stock.specs.Stock as flows
 use Rattle.plant_good.specs.Births as kept
 use Rattle.plant_tables_columns.specs.Booked.{booked_of, sort_of}
 use Rattle.plant_tables_columns.specs.declared.booked.BookedRow.{BookedRow}
-use Rattle.plant_check.specs.Ends.{entered_by, left_by, entries, exits, total_of, has_right_stock, are_stocks}
+use Rattle.plant_check.specs.Ends.{entered_by, left_by, entries, exits, total_booked, has_right_stock, are_stocks}
 use Rattle.plant_good_passes.proofs.Testing.{all_pass, filter_mapped}
 
 -- the columns of a row tell where its movement goes, and where it comes from
@@ -49,20 +49,20 @@ module _ (told_by : BookedRow → Option (List ℕ × ℕ)) (end_of : Movement �
   rows_at : filter (λ r. is_place (told_by r) lot number) (map booked_of ms) ≡ map booked_of (filter (λ m. is_place (end_of m) lot number) ms)
   rows_at = filter_mapped (λ (r : BookedRow). is_place (told_by r) lot number) booked_of ms ∙ (λ i. map booked_of (filter (λ (m : Movement). is_place (alike m i) lot number) ms))
 
-  total_at : total_of (filter (λ r. is_place (told_by r) lot number) (map booked_of ms)) ≡ sum_by (λ m. cond (is_place (end_of m) lot number) m.amount 0) ms
+  total_at : total_booked (filter (λ r. is_place (told_by r) lot number) (map booked_of ms)) ≡ sum_by (λ m. cond (is_place (end_of m) lot number) m.amount 0) ms
   total_at =
       let own = λ (m : Movement). is_place (end_of m) lot number in
-      ap total_of rows_at ∙ sum_map (λ (r : BookedRow). r.amount) booked_of (filter own ms) ∙ sum_left own (λ (m : Movement). m.amount) ms
+      ap total_booked rows_at ∙ sum_map (λ (r : BookedRow). r.amount) booked_of (filter own ms) ∙ sum_left own (λ (m : Movement). m.amount) ms
 
 -- the rows of what entered a sublot
 pub entries_booked : (ms : List Movement) (lot : List ℕ) (number : ℕ) → entries (map booked_of ms) lot number ≡ map booked_of (flows.entries ms lot number)
 entries_booked = rows_at (λ r. entered_by r.sort r) (λ m. goes_to m.kind m.lot m.sub) (λ m. (ends_booked m).0)
 
-pub total_entered : (ms : List Movement) (lot : List ℕ) (number : ℕ) → total_of (entries (map booked_of ms) lot number) ≡ entered ms lot number
+pub total_entered : (ms : List Movement) (lot : List ℕ) (number : ℕ) → total_booked (entries (map booked_of ms) lot number) ≡ entered ms lot number
 unfolding entered
 total_entered = total_at (λ r. entered_by r.sort r) (λ m. goes_to m.kind m.lot m.sub) (λ m. (ends_booked m).0)
 
-total_left : (ms : List Movement) (lot : List ℕ) (number : ℕ) → total_of (exits (map booked_of ms) lot number) ≡ left ms lot number
+total_left : (ms : List Movement) (lot : List ℕ) (number : ℕ) → total_booked (exits (map booked_of ms) lot number) ≡ left ms lot number
 unfolding left
 total_left = total_at (λ r. left_by r.sort r) (λ m. comes_from m.kind m.lot m.sub) (λ m. (ends_booked m).1)
 

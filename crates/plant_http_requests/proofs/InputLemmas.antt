@@ -9,7 +9,7 @@ use Rattle.plant_http_input.specs.Reading.{GoesOn, SpentAll}
 use Rattle.plant_http_input.specs.declared.reading.HeadEnd.{HeadEnd}
 use Rattle.plant_http_input.specs.declared.reading.HeadEnd.TheVariants as end
 use Rattle.plant_http_requests.specs.Jobs.{body_job, finish, EndJob, HeadJob, HeadAsksFor, JobOf, AsksFor, Reads, ReadsSome, StepOf}
-use Rattle.plant_http_requests.specs.Steps.{refuse}
+use Rattle.plant_http_requests.specs.Steps.{refusal_of}
 use Rattle.plant_http_requests.specs.declared.job.Content.{Content}
 use Rattle.plant_http_requests.specs.declared.job.Job.{Job}
 use Rattle.plant_http_requests.specs.declared.job.HeadStep.{HeadStep}
@@ -51,11 +51,11 @@ whole_body (Some rest) (Some more) old new n len content step job so is g h read
 
 -- the input ended before the whole body
 pub cut_body : (start : Option (List ℕ)) (old : List ℕ) (n len : ℕ) (content : Content) (step : HeadStep) (job : Job) → StepOf (take n old) step → step ≡ Body len content
-    → n ≤ length old → IfSome start (λ rest. false ≡ nat_le (n + len) (length old + length rest)) → job ≡ refuse BadRequest false
+    → n ≤ length old → IfSome start (λ rest. false ≡ nat_le (n + len) (length old + length rest)) → job ≡ refusal_of BadRequest false
     → IfSome start (λ rest. HeadAsksFor (take n old) (drop n (old ++ rest)) job)
 cut_body None old n len content step job so is h short e = tt
 cut_body (Some rest) old n len content step job so is h short e =
-    (refuse BadRequest false, (step, so, rw (is, body_short old rest n len h short) refl), rw e refl)
+    (refusal_of BadRequest false, (step, so, rw (is, body_short old rest n len h short) refl), rw e refl)
 
 -- ---- inputs
 

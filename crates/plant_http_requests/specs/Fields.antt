@@ -1,6 +1,7 @@
 -- What the fields of a request say of its body.
 use Rattle.std.specs.Prelude.{ℕ, ◌+◌, Bool, ◌==◌, nat_lt, nat_le, List, [], ◌∷◌, map, codes, bytes_eq, Option, Some, None, option_and_then, Result, Ok, Err, if◌then◌else◌}
 use Rattle.std.specs.Char.{to_ascii_lowercase}
+use Rattle.plant_base.specs.Options.{◌>>=◌}
 use Rattle.plant_base.specs.Digits.{digits_of}
 use Rattle.plant_base.specs.Values.{is_moment, is_text, only}
 use Rattle.plant_base.specs.declared.command.Stamp.{Stamp}
@@ -53,10 +54,6 @@ framing minor fs =
     else Err BadRequest
 
 -- ---- the moment and the operator of an order file
-
-infixl 10 ◌>>=◌
-abbrev pub ◌>>=◌ : {A B : Type 0} → Option A → (A → Option B) → Option B
-o >>= f = option_and_then f o
 
 abbrev pub moment_in : List ℕ → Option ℕ
 moment_in text = option_and_then (only is_moment) (digits_of 12 text)

@@ -18,7 +18,7 @@ use Rattle.plant_http_input.specs.Head.{end_of_head}
 use Rattle.plant_http_input.specs.declared.reading.HeadEnd.{HeadEnd}
 use Rattle.plant_http_input.specs.declared.reading.HeadEnd.TheVariants as end
 use Rattle.plant_http_requests.specs.Heads.{field_lines, Parsed}
-use Rattle.plant_http_requests.specs.Steps.{refuse, fails, request_step}
+use Rattle.plant_http_requests.specs.Steps.{refusal_of, fails, request_step}
 use Rattle.plant_http_requests.specs.declared.job.Job.{Job}
 use Rattle.plant_http_requests.specs.declared.job.Job.TheVariants.{Refuse, Ask, Command, BadForm, BadFile, NoMemory}
 use Rattle.plant_http_requests.specs.declared.job.Content.{Content}
@@ -63,7 +63,7 @@ fault_job fault = fault_job_of fault.kind fault
 -- what a whole body asks for; the fields of an order file come before its text
 abbrev pub body_job : Content → List ℕ → Job
 body_job content.Command body = command_job (line_of body)
-body_job (content.Orders None) body = refuse BadRequest false
+body_job (content.Orders None) body = refusal_of BadRequest false
 body_job (content.Orders (Some stamp)) body = file_job stamp (orders_of body)
 
 -- ---- heads
@@ -72,7 +72,7 @@ body_job (content.Orders (Some stamp)) body = file_job stamp (orders_of body)
 abbrev pub finish : HeadStep → List ℕ → Job
 finish (S.Refuse status allow silent) rest = Refuse status allow silent
 finish (S.Ask question form silent) rest = Ask question form silent
-finish (S.Body n c) rest = if nat_le n (length rest) then body_job c (take n rest) else refuse BadRequest false
+finish (S.Body n c) rest = if nat_le n (length rest) then body_job c (take n rest) else refusal_of BadRequest false
 
 abbrev pub parsed_step : Option RequestHead → HeadStep
 parsed_step None = fails BadRequest false
@@ -91,8 +91,8 @@ HeadJob head rest job = (step : HeadStep) × StepOf head step × (job ≡ finish
 
 abbrev pub EndJob : HeadEnd → List ℕ → Option Job → Type 0
 EndJob end.Nothing whole job = job ≡ None
-EndJob end.Early whole job = job ≡ Some (refuse BadRequest false)
-EndJob end.TooLong whole job = job ≡ Some (refuse HeadTooLarge false)
+EndJob end.Early whole job = job ≡ Some (refusal_of BadRequest false)
+EndJob end.TooLong whole job = job ≡ Some (refusal_of HeadTooLarge false)
 EndJob (end.Found n) whole job = (j : Job) × (job ≡ Some j) × HeadJob (take n whole) (drop n whole) j
 
 -- what an input asks for: none where it has no byte

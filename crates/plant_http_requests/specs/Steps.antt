@@ -22,8 +22,8 @@ use Rattle.plant_http_requests.specs.declared.status.Status.{Status}
 use Rattle.plant_http_requests.specs.declared.status.Status.TheVariants.{NotFound, MethodNotAllowed, LengthRequired}
 use Rattle.plant_http_requests.specs.declared.status.Allow.TheVariants.{Unsaid, Get, Post}
 
-abbrev pub refuse : Status → Bool → Job
-refuse status silent = Refuse status Unsaid silent
+abbrev pub refusal_of : Status → Bool → Job
+refusal_of status silent = Refuse status Unsaid silent
 
 abbrev pub fails : Status → Bool → HeadStep
 fails status silent = S.Refuse status Unsaid silent

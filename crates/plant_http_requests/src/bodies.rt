@@ -6,7 +6,7 @@ ghost use Rattle.plant_http_requests.specs.Jobs.{command_job, file_job, fault_jo
 
 use crate::job::{Content, Job};
 use crate::status::Status;
-use crate::steps::refuse;
+use crate::steps::refusal_of;
 use plant_base::Stamp;
 use plant_orders::{CsvFault, CsvKind, import, read_orders};
 use plant_text::{Line, LineFault, read_line};
@@ -57,6 +57,6 @@ pub(crate) fn body_job(alloc: Global, content: Content, body: &[u8]) -> Job
     match content {
         Content::Command => command_job(alloc, body),
         Content::Orders(Some(stamp)) => file_job(alloc, stamp, body),
-        Content::Orders(None) => refuse(Status::BadRequest, false),
+        Content::Orders(None) => refusal_of(Status::BadRequest, false),
     }
 }

@@ -8,7 +8,7 @@ use crate::bodies::body_job;
 use crate::head::step_of_head;
 use crate::job::{HeadStep, Job};
 use crate::status::Status;
-use crate::steps::refuse;
+use crate::steps::refusal_of;
 use plant_http_input::{HeadEnd, InputFault, read_head, read_to};
 use plant_http_routes::Routes;
 use std::alloc::Global;
@@ -60,7 +60,7 @@ fn head_job<R: Read>(
             let want = n + size as usize;
             match read_to(reader, bytes, reads, want) {
                 Ok(true) => Ok(body_job(alloc, content, &bytes.as_slice()[n..want])),
-                Ok(false) => Ok(refuse(Status::BadRequest, false)),
+                Ok(false) => Ok(refusal_of(Status::BadRequest, false)),
                 Err(fault) => Err(fault),
             }
         }
@@ -88,8 +88,8 @@ pub fn read_job<R: Read>(
     let mut reads = MOST_READS;
     match read_head(reader, &mut bytes, &mut reads) {
         Ok(HeadEnd::Nothing) => Ok(None),
-        Ok(HeadEnd::Early) => Ok(Some(refuse(Status::BadRequest, false))),
-        Ok(HeadEnd::TooLong) => Ok(Some(refuse(Status::HeadTooLarge, false))),
+        Ok(HeadEnd::Early) => Ok(Some(refusal_of(Status::BadRequest, false))),
+        Ok(HeadEnd::TooLong) => Ok(Some(refusal_of(Status::HeadTooLarge, false))),
         Ok(HeadEnd::Found(n)) => {
             match head_job(alloc, routes, reader, &mut bytes, &mut reads, n) {
                 Ok(job) => Ok(Some(job)),

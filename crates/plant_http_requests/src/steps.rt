@@ -1,7 +1,7 @@
 //! What the head of a request decides.
 ghost use Rattle.std.specs.Prelude.{◌≡◌, length, map, All};
 ghost use Rattle.httparse.specs.Spans.{IsHeaderWithin, IsWithin, header_bytes, span_bytes};
-ghost use Rattle.plant_http_requests.specs.Steps.{refuse, fails, is_head, question_of, form_of, post_step};
+ghost use Rattle.plant_http_requests.specs.Steps.{refusal_of, fails, is_head, question_of, form_of, post_step};
 ghost use Rattle.plant_http_requests.specs.Steps.{posted_step, asked_step, target_step, request_step};
 
 use crate::fields::{framing, stamp_in};
@@ -13,8 +13,8 @@ use plant_desk::Question;
 use plant_http_routes::{Kind, Routes, Target};
 use plant_trace::{Direction, Node};
 
-pub(crate) fn refuse(status: Status, silent: bool) -> Job
-    ensures { result ≡ refuse status silent }
+pub(crate) fn refusal_of(status: Status, silent: bool) -> Job
+    ensures { result ≡ refusal_of status silent }
 {
     Job::Refuse {
         status,

@@ -21,8 +21,8 @@ use Rattle.plant_desk.specs.declared.question.MeasuredLine.{MeasuredLine}
 -- ---- lines and their items
 
 -- a line ends with an LF
-abbrev pub line : List ℕ → List ℕ
-line text = text ++ 10 ∷ []
+abbrev pub with_lf : List ℕ → List ℕ
+with_lf text = text ++ 10 ∷ []
 
 -- one space parts the items of a line, also beside an empty one
 abbrev pub items : List (List ℕ) → List ℕ
@@ -81,8 +81,8 @@ state_text p phases = items (codes "state" ∷ batch_state_name p.state ∷ code
     ∷ codes "phases" ∷ decimal (p.next - 1) ∷ codes "of" ∷ decimal phases ∷ open_or_closed p.closed ∷ [])
 
 abbrev pub head_text : BatchView → List ℕ
-head_text v = line (batch_text v.batch) ++ (line (order_text v.job) ++ (line (recipe_text v.job.order v.header)
-    ++ (line (released_text v.batch) ++ line (state_text v.progress (phases_in v.lines)))))
+head_text v = with_lf (batch_text v.batch) ++ (with_lf (order_text v.job) ++ (with_lf (recipe_text v.job.order v.header)
+    ++ (with_lf (released_text v.batch) ++ with_lf (state_text v.progress (phases_in v.lines)))))
 
 -- ---- the control recipe
 
@@ -132,7 +132,7 @@ asked_and_booked def asked bookings = items (def ∷ codes "asked" ∷ decimal a
 
 -- of an input what was consumed
 abbrev pub input_total : List Booking → RecipeLine → List ℕ
-input_total consumed (recipe_line.In def amount) = line (items (codes "in" ∷ asked_and_booked def amount consumed ∷ []))
+input_total consumed (recipe_line.In def amount) = with_lf (items (codes "in" ∷ asked_and_booked def amount consumed ∷ []))
 input_total consumed (recipe_line.Out def amount) = []
 input_total consumed (recipe_line.Parameter name value) = []
 input_total consumed (recipe_line.Phase unit_procedure operation phase) = []
@@ -140,7 +140,7 @@ input_total consumed (recipe_line.Phase unit_procedure operation phase) = []
 -- of an output what was produced
 abbrev pub output_total : List Booking → RecipeLine → List ℕ
 output_total produced (recipe_line.In def amount) = []
-output_total produced (recipe_line.Out def amount) = line (items (codes "out" ∷ asked_and_booked def amount produced ∷ []))
+output_total produced (recipe_line.Out def amount) = with_lf (items (codes "out" ∷ asked_and_booked def amount produced ∷ []))
 output_total produced (recipe_line.Parameter name value) = []
 output_total produced (recipe_line.Phase unit_procedure operation phase) = []
 
@@ -148,15 +148,15 @@ output_total produced (recipe_line.Phase unit_procedure operation phase) = []
 
 -- the title of a section stands also where the section is empty
 abbrev pub section : {A : Type 0} → List ℕ → (A → List ℕ) → List A → List ℕ
-section title text_of xs = line title ++ flat_map (λ x. line (text_of x)) xs
+section title text_of xs = with_lf title ++ flat_map (λ x. with_lf (text_of x)) xs
 
 -- the inputs first, then the outputs, each in the order of the control recipe
 abbrev pub totals_text : BatchView → List ℕ
-totals_text v = line (codes "TOTALS") ++ (flat_map (λ l. input_total v.consumed l.line.line) v.lines
+totals_text v = with_lf (codes "TOTALS") ++ (flat_map (λ l. input_total v.consumed l.line.line) v.lines
     ++ flat_map (λ l. output_total v.produced l.line.line) v.lines)
 
 -- the record of a batch, of which this is known
 unfoldable pub record_text : BatchView → List ℕ
 record_text v = head_text v ++ (section (codes "CONTROL RECIPE") control_text v.lines ++ (section (codes "EVENTS") event_text v.events
     ++ (section (codes "CONSUMED") consumed_text v.consumed ++ (section (codes "PRODUCED") produced_text v.produced
-    ++ (totals_text v ++ line (codes "END"))))))
+    ++ (totals_text v ++ with_lf (codes "END"))))))

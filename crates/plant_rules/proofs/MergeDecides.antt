@@ -12,7 +12,8 @@ use Rattle.plant_view.specs.declared.change.Decision.{Decision}
 use Rattle.plant_view.specs.declared.change.Decision.TheVariants.{Change, Refused}
 use Rattle.plant_rules.specs.declared.parts.Found.{Found}
 use Rattle.plant_view.specs.Refusing.{refuse, at_limit}
-use Rattle.plant_rules.specs.Merging.{is_short, total_of, is_some_held, is_mixed, wrong_parts, wrong_merge, merge}
+use Rattle.plant_rules.specs.Merging.{is_short, is_some_held, is_mixed, wrong_parts, wrong_merge, merge}
+use Rattle.plant_stock.specs.Stock.{total_of}
 use Rattle.plant_rules.specs.Parts.{found_of, is_lacking, is_other, total_found, def_found, wrong_found, merge_rows}
 use Rattle.plant_view.specs.Tables.{IsDecided}
 use Rattle.plant_view.specs.Sound.{IsSound}

@@ -13,14 +13,14 @@ use Rattle.plant_base.specs.declared.command.Stamp.{Stamp}
 use Rattle.plant_base.specs.declared.command.Merge.{Merge}
 use Rattle.plant_base.proofs.Put.{put_there, all_weaker}
 use Rattle.plant_base.proofs.Keys.{key_itself, place_order_total, test_tie, same_id}
-use Rattle.plant_stock.specs.Stock.{entered, left, entering, leaving}
+use Rattle.plant_stock.specs.Stock.{entered, left, entering, leaving, total_of}
 use Rattle.plant_stock.proofs.Book.{entered_push, left_push}
 use Rattle.plant_view.specs.Refusing.{standing}
 use Rattle.plant_view.specs.Sound.{IsSound}
 use Rattle.plant_view.specs.Tables.{Tables, tables_of, changed, changed_all, sublot_order, sublot_row}
 use Rattle.plant_view.specs.declared.change.RowChange.{RowChange}
 use Rattle.plant_view.specs.declared.change.RowChange.TheVariants as row
-use Rattle.plant_rules.specs.Merging.{part_line, part_lines, total_of, def_of_parts, merge}
+use Rattle.plant_rules.specs.Merging.{part_line, part_lines, def_of_parts, merge}
 use Rattle.plant_rules.specs.Parts.{text_of, found_of, found_rows, total_found, def_found, merge_rows}
 use Rattle.plant_view.proofs.KeptSound.{all_two}
 use Rattle.plant_view.proofs.Sublots.{sublots_taken, sublots_added, not_among, apart_fails, lots_apart, no_place, nothing_entered, nothing_left}

@@ -12,7 +12,8 @@ use Rattle.plant_view.specs.declared.change.Decision.TheVariants.{Change, Refuse
 use Rattle.plant_view.specs.declared.change.RowChange.TheVariants as row
 use Rattle.plant_rules_production.specs.declared.orders.FoundOrder.{FoundOrder}
 use Rattle.plant_view.specs.Refusing.{refuse, at_limit}
-use Rattle.plant_rules_production.specs.Orders.{conflicts, is_size_in, opened, new_orders, found_order, is_unplanned, is_conflict, is_oversize, is_new, wrong_found_orders, wrong_import_orders, import_orders, import_rows}
+use Rattle.plant_rules_production.specs.Orders.{conflicts, opened, new_orders, found_order, is_unplanned, is_conflict, is_oversize, is_new, wrong_found_orders, wrong_import_orders, import_orders, import_rows}
+use Rattle.plant_view.specs.Production.{is_size_of_recipe}
 use Rattle.plant_view.specs.Tables.{IsDecided}
 use Rattle.plant_view.specs.Rows.{put_all}
 use Rattle.plant_view.specs.Tables.{Tables, tables_of, changed, changed_all, Decides}
@@ -42,7 +43,7 @@ wrong_same : (s : State) (c : ImportOrders) → wrong_import_orders s c ≡ wron
 wrong_same s c =
     let unplanned : list_any is_unplanned (map (found_order s) c.orders) ≡ list_any (λ (o : OrderRow). is_none (recipe_at s o.recipe o.version)) c.orders = any_map is_unplanned (found_order s) c.orders in
     let conflict : list_any (is_conflict c.orders) (map (found_order s) c.orders) ≡ list_any (λ (o : OrderRow). conflicts c.orders (job_at s o.order) o) c.orders = any_map (is_conflict c.orders) (found_order s) c.orders in
-    let oversize : list_any is_oversize (map (found_order s) c.orders) ≡ list_any (λ (o : OrderRow). not (is_size_in (recipe_at s o.recipe o.version) o.size)) c.orders = any_map is_oversize (found_order s) c.orders in
+    let oversize : list_any is_oversize (map (found_order s) c.orders) ≡ list_any (λ (o : OrderRow). not (is_size_of_recipe (recipe_at s o.recipe o.version) o.size)) c.orders = any_map is_oversize (found_order s) c.orders in
     λ i. refuse (sym unplanned i) UnknownRecipe (refuse (sym conflict i) OrderConflict (refuse (sym oversize i) SizeOutOfRange (refuse (at_limit s) TooMany None)))
 
 -- what is decided of the orders that were found is what is decided of the state

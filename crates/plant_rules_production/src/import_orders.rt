@@ -4,7 +4,8 @@ ghost use Rattle.plant_base.specs.Values.{greatest_seq};
 ghost use Rattle.plant_base.specs.State.{State, same};
 ghost use Rattle.plant_trace.specs.Sources.{Told};
 ghost use Rattle.plant_rules_production.specs.Orders.{is_same_order, is_unplanned, is_conflict, is_oversize};
-ghost use Rattle.plant_rules_production.specs.Orders.{is_new, is_size_in, order_named, differs, found_order};
+ghost use Rattle.plant_view.specs.Production.{is_size_of_recipe};
+ghost use Rattle.plant_rules_production.specs.Orders.{is_new, order_named, differs, found_order};
 ghost use Rattle.plant_rules_production.specs.Orders.{wrong_found_orders, wrong_import_orders, import_orders};
 ghost use Rattle.plant_rules_production.specs.Orders.{import_rows};
 ghost use Rattle.plant_view.specs.OneBatch.{PutsOneBatch};
@@ -149,11 +150,11 @@ fn is_some_oversize(found: &[FoundOrder]) -> bool
 fn is_oversize(found: &FoundOrder) -> bool
     ensures { result ≡ is_oversize found.now }
 {
-    !is_size_in(found.recipe, found.order.size)
+    !is_size_of_recipe(found.recipe, found.order.size)
 }
 
-fn is_size_in(recipe: Option<Recipe>, size: Amount) -> bool
-    ensures { result ≡ is_size_in recipe size }
+fn is_size_of_recipe(recipe: Option<Recipe>, size: Amount) -> bool
+    ensures { result ≡ is_size_of_recipe recipe size }
 {
     match recipe {
         Some(recipe) => is_size_of(&recipe.header, size),

@@ -6,7 +6,8 @@ use Rattle.plant_base.specs.declared.rows.MovementKind.{MovementKind}
 use Rattle.plant_base.specs.declared.rows.MovementKind.TheVariants as kind
 use Rattle.plant_base.specs.declared.rows.Movement.{Movement}
 use Rattle.plant_base.proofs.Keys.{same_id, same_itself}
-use Rattle.plant_tables_columns.specs.Booked.{names_nothing, batch_named, is_zero, lot_named, is_lot, sublot_named, kind_of_sort, kind_from, moved_as, movement_from, sort_of, other_lot, other_sublot, batch_of, booked_of}
+use Rattle.plant_tables_columns.specs.Booked.{names_nothing, batch_named, is_zero, lot_named, is_lot, sublot_named, kind_of_sort, kind_from, moved_as, movement_from, sort_of, other_lot, other_sublot, booked_of}
+use Rattle.plant_view.specs.Genealogy.{batch_by}
 use Rattle.plant_tables_columns.specs.declared.booked.MovementSort.{MovementSort}
 use Rattle.plant_tables_columns.specs.declared.booked.MovementSort.TheVariants as sort
 use Rattle.plant_tables_columns.specs.declared.booked.BookedRow.{BookedRow}
@@ -61,7 +62,7 @@ one_sublot r to h =
 -- the row names what this kind asks for
 pub record FitsKind (s : MovementSort) (r : BookedRow) (k : MovementKind) : Type 0 where
   pub is_sort : s ≡ sort_of k
-  pub names : Names r (other_lot k r.lot) (other_sublot k) (batch_of k)
+  pub names : Names r (other_lot k r.lot) (other_sublot k) (batch_by k)
 
 sort_fits : (s : MovementSort) (r : BookedRow) (k : MovementKind) → kind_of_sort s r ≡ Some k → FitsKind s r k
 sort_fits sort.Received r k h =
@@ -100,7 +101,7 @@ pub same_line : (r : BookedRow) (m : Movement) → movement_from r ≡ Some m �
 unfolding movement_from
 same_line r m h = let read = mapped (moved_as r) (kind_from r) m h in ap (λ m. m.line) (sym read.2)
 
-own_kind : (k : MovementKind) (r : BookedRow) → r.sort ≡ sort_of k → r.lot2 ≡ other_lot k r.lot → r.sub2 ≡ other_sublot k → r.batch ≡ batch_of k → kind_from r ≡ Some k
+own_kind : (k : MovementKind) (r : BookedRow) → r.sort ≡ sort_of k → r.lot2 ≡ other_lot k r.lot → r.sub2 ≡ other_sublot k → r.batch ≡ batch_by k → kind_from r ≡ Some k
 own_kind kind.Received r s a b c = rw (s, a, b, c) refl
 own_kind (kind.Consumed batch) r s a b c = rw (s, a, b, c) refl
 own_kind (kind.Produced batch) r s a b c = rw (s, a, b, c) refl

@@ -1,6 +1,6 @@
 -- What all stored rows of a table stand for.
 use Rattle.std.specs.Prelude.{List, [], ◌∷◌, Option, Some}
-use Rattle.plant_base.specs.Dates.{◌>>=◌}
+use Rattle.plant_base.specs.Options.{◌>>=◌}
 
 -- the rows in their order: nothing where one stands for nothing
 abbrev pub all_from : {X R : Type 0} → (X → Option R) → List X → Option (List R)

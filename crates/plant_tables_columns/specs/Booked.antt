@@ -7,6 +7,7 @@ use Rattle.plant_base.specs.declared.rows.Movement.{Movement}
 use Rattle.plant_tables_columns.specs.declared.booked.MovementSort.{MovementSort}
 use Rattle.plant_tables_columns.specs.declared.booked.MovementSort.TheVariants as sort
 use Rattle.plant_tables_columns.specs.declared.booked.BookedRow.{BookedRow}
+use Rattle.plant_view.specs.Genealogy.{batch_by}
 
 abbrev pub names_nothing : BookedRow → Bool
 names_nothing r = is_none r.lot2 && is_none r.sub2 && is_none r.batch
@@ -91,15 +92,6 @@ other_sublot (kind.Divided to) = Some to
 other_sublot (kind.Split to) = Some 0
 other_sublot (kind.Merged to) = Some 0
 
-abbrev pub batch_of : MovementKind → Option (List ℕ)
-batch_of kind.Received = None
-batch_of (kind.Consumed batch) = Some batch
-batch_of (kind.Produced batch) = Some batch
-batch_of kind.Scrapped = None
-batch_of (kind.Divided to) = None
-batch_of (kind.Split to) = None
-batch_of (kind.Merged to) = None
-
 abbrev pub booked_of : Movement → BookedRow
 booked_of m = record {
   seq = m.seq;
@@ -109,7 +101,7 @@ booked_of m = record {
   sub = m.sub;
   lot2 = other_lot m.kind m.lot;
   sub2 = other_sublot m.kind;
-  batch = batch_of m.kind;
+  batch = batch_by m.kind;
   amount = m.amount;
   at = m.at;
   by = m.by;

@@ -2,7 +2,7 @@
 use Rattle.std.specs.Prelude.{ℕ, ℤ, pos, List, [], ◌∷◌, Option, Some, option_map, find, codes, if◌then◌else◌}
 use Rattle.std.specs.Ordering.{int_eq}
 use Rattle.sqlite.specs.declared.types.Value.{Value}
-use Rattle.plant_base.specs.Dates.{◌>>=◌}
+use Rattle.plant_base.specs.Options.{◌>>=◌}
 use Rattle.plant_base.specs.State.{same}
 use Rattle.plant_base.specs.Values.{greatest_phase}
 use Rattle.plant_base.specs.Words.{recipe_state_name, job_state_name, batch_state_name, word_name}

@@ -4,7 +4,7 @@ use Rattle.std.specs.Prelude.{ℕ, ◌+◌, List, [], ◌∷◌, ◌++◌, Bool,
 use Rattle.sqlite.specs.declared.types.Value.{Value}
 use Rattle.sqlite.specs.declared.types.Value.TheVariants.{Null, Text}
 use Rattle.sqlite.specs.Order.{Row, column}
-use Rattle.plant_base.specs.Dates.{◌>>=◌}
+use Rattle.plant_base.specs.Options.{◌>>=◌}
 use Rattle.plant_base.specs.Values.{greatest_phase, greatest_priority, greatest_version}
 use Rattle.plant_recipe.specs.Progress.{greatest_attempt}
 use Rattle.plant_base.specs.declared.rows.Meta.{Meta}

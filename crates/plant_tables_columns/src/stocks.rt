@@ -4,7 +4,8 @@ ghost use Rattle.std.specs.Prelude.{◌≡◌, ◌∷◌, []};
 ghost use Rattle.sqlite.specs.Values.{bound};
 ghost use Rattle.sqlite_value.specs.Value.{owned};
 ghost use Rattle.sqlite_value.specs.declared.value.Value.TheVariants.{Text as Bytes};
-ghost use Rattle.plant_tables_columns.specs.Booked.{sort_of, other_lot, other_sublot, batch_of};
+ghost use Rattle.plant_tables_columns.specs.Booked.{sort_of, other_lot, other_sublot};
+ghost use Rattle.plant_view.specs.Genealogy.{batch_by};
 ghost use Rattle.plant_tables_columns.specs.Kinds.{number, null_or};
 ghost use Rattle.plant_tables_columns.specs.Naming.{movement_sort_number};
 ghost use Rattle.plant_tables_columns.specs.TableColumns.{row_of_lot, lot_from, row_of_sublot, sublot_from};
@@ -94,7 +95,7 @@ fn sort_number(kind: &MovementKind) -> u16
 /// The columns lot2, sub2 and batch of a movement of this lot.
 fn kind_values<'a>(kind: &'a MovementKind, lot: &'a Id) -> [ValueRef<'a>; 3]
     ensures { bound result ≡ null_or Bytes (other_lot kind.now lot.now)
-        ∷ null_or number (other_sublot kind.now) ∷ null_or Bytes (batch_of kind.now) ∷ [] }
+        ∷ null_or number (other_sublot kind.now) ∷ null_or Bytes (batch_by kind.now) ∷ [] }
 {
     match kind {
         MovementKind::Received | MovementKind::Scrapped => [

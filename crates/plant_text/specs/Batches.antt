@@ -6,7 +6,8 @@ use Rattle.plant_base.specs.declared.states.Word.{Word}
 use Rattle.plant_base.specs.declared.states.Word.TheVariants.{Start, Stop, Hold, Restart, Abort, Reset, Pause, Resume}
 use Rattle.plant_base.specs.declared.command.Command.{Command}
 use Rattle.plant_base.specs.declared.command.Command.TheVariants as body
-use Rattle.plant_text.specs.Fields.{when, string_at, id_at, text_at, amount_at, sublot_at, phase_at, is_command, ◌>>=◌}
+use Rattle.plant_base.specs.Options.{◌>>=◌}
+use Rattle.plant_text.specs.Fields.{when, string_at, id_at, text_at, amount_at, sublot_at, phase_at, is_command}
 
 -- the word of command that a text is; the ending of a state is none
 abbrev pub command_word : List ℕ → Option Word

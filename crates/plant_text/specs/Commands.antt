@@ -5,7 +5,8 @@ use Rattle.serde_json.specs.Data.{Data}
 use Rattle.plant_base.specs.declared.command.Command.{Command}
 use Rattle.plant_base.specs.declared.command.Command.TheVariants as body
 use Rattle.plant_base.specs.declared.command.Envelope.{Envelope}
-use Rattle.plant_text.specs.Fields.{when, string_at, id_at, text_at, unit_at, amount_at, moment_at, sublot_at, note_at, is_command, ◌>>=◌}
+use Rattle.plant_base.specs.Options.{◌>>=◌}
+use Rattle.plant_text.specs.Fields.{when, string_at, id_at, text_at, unit_at, amount_at, moment_at, sublot_at, note_at, is_command}
 use Rattle.plant_text.specs.Lists.{items_at, part_of}
 use Rattle.plant_text.specs.Batches.{body_on_batch}
 use Rattle.plant_text.specs.Plans.{add_recipe_of, approve_of, withdraw_of, import_orders_of, cancel_order_of, release_of}

@@ -15,10 +15,6 @@ when holds o = if holds then o else None
 
 -- ---- members by their name
 
-infixl 10 ◌>>=◌
-abbrev pub ◌>>=◌ : {A B : Type 0} → Option A → (A → Option B) → Option B
-o >>= f = option_and_then f o
-
 -- the string that the object has under the name
 abbrev pub string_at : List ℕ → Data → Option (List ℕ)
 string_at name d = option_and_then as_str (get name d)

@@ -9,7 +9,8 @@ use Rattle.plant_base.specs.declared.rows.RecipeLine.{RecipeLine}
 use Rattle.plant_base.specs.declared.rows.RecipeLine.TheVariants as line
 use Rattle.plant_text.specs.declared.read.LineFault.{LineFault}
 use Rattle.plant_text.specs.declared.read.LineFault.TheVariants.{BadForm, Memory}
-use Rattle.plant_text.specs.Fields.{when, string_at, is_shape, ◌>>=◌, id_at, text_at, sublot_at, amount_at, due_at, version_at, priority_at}
+use Rattle.plant_base.specs.Options.{◌>>=◌}
+use Rattle.plant_text.specs.Fields.{when, string_at, is_shape, id_at, text_at, sublot_at, amount_at, due_at, version_at, priority_at}
 
 -- what was read is this, where it is something; nothing is said where memory was refused
 abbrev pub Reads : {T : Type 0} → Result T LineFault → Option T → Type 0

@@ -4,7 +4,8 @@ use Rattle.serde_json.specs.Data.{Data}
 use Rattle.plant_base.specs.declared.rows.Header.{Header}
 use Rattle.plant_base.specs.declared.command.Command.{Command}
 use Rattle.plant_base.specs.declared.command.Command.TheVariants as body
-use Rattle.plant_text.specs.Fields.{when, id_at, text_at, amount_at, version_at, is_command, ◌>>=◌}
+use Rattle.plant_base.specs.Options.{◌>>=◌}
+use Rattle.plant_text.specs.Fields.{when, id_at, text_at, amount_at, version_at, is_command}
 use Rattle.plant_text.specs.Lists.{items_at, line_of, order_of}
 
 -- the header of a recipe

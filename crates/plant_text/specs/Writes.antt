@@ -1,10 +1,8 @@
 -- What reaches a writer.
 use Rattle.std.specs.Prelude.{◌≡◌, ℕ, ◌<◌, List, [], ◌∷◌, ◌++◌, length, Option}
 use Rattle.std.specs.Io.KnownBytes.{Appends}
-
 -- the text and its LF
-abbrev pub with_lf : List ℕ → List ℕ
-with_lf text = text ++ 10 ∷ []
+pub use Rattle.plant_record.specs.Record.{with_lf}
 
 -- a front of the text was written and nothing else, and something of it is missing
 abbrev pub AppendsFront : Option (List ℕ) → Option (List ℕ) → List ℕ → Type 0

@@ -59,6 +59,10 @@ sublot_row ms p = record { lot = p.lot; number = p.number; place = p.place; stoc
 abbrev pub place_of_row : Sublot → Place
 place_of_row r = record { lot = r.lot; number = r.number; place = r.place }
 
+-- a batch without the columns that its events tell
+abbrev pub batch_of_row : BatchRow → Batch
+batch_of_row r = r.batch
+
 -- how many phases the control recipe of a batch has
 abbrev pub phases_among : List ControlLine → List ℕ → ℕ
 phases_among lines batch = length (filter (λ l. same l.batch batch && is_phase l.line) lines)

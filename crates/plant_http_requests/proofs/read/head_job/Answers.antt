@@ -13,4 +13,4 @@ pub returns-in-Ok-false-clause-asks : goal.returns-in-Ok-false-clause-asks
 returns-in-Ok-false-clause-asks g c =
     let so = rw (c.split_at.ensures.front, c.as_slice.ensures.value) at c.step_of_head-step.ensures in
     let short = rw c.in-Ok-false.field-0-test at c.in-Ok-false.ensures.there in
-    cut_body _ _ c.args.n c.in-Body.size c.in-Body.content c.step_of_head-step.result c.refuse.result so c.in-Body.is c.requires.within short c.refuse.ensures
+    cut_body _ _ c.args.n c.in-Body.size c.in-Body.content c.step_of_head-step.result c.refusal_of.result so c.in-Body.is c.requires.within short c.refusal_of.ensures

@@ -2,20 +2,20 @@ use Rattle.std.proofs.Common.{◌≡◌, Some, Err, false, refl, sym, ap, ◌∙
 use Rattle.plant_http_input.specs.declared.reading.HeadEnd.TheVariants as end
 use Rattle.plant_http_input.specs.declared.reading.InputFault.TheVariants as fault
 use Rattle.plant_http_requests.specs.Jobs.{most_reads}
-use Rattle.plant_http_requests.specs.Steps.{refuse}
+use Rattle.plant_http_requests.specs.Steps.{refusal_of}
 use Rattle.plant_http_requests.specs.declared.status.Status.TheVariants as status
 use Rattle.plant_http_requests.proofs.InputLemmas.{from_end, from_head, spent_more}
 use Rattle.plant_http_requests.proofs.read.read_job.Goals as goal
 
 pub returns-in-Ok-Early-clause-asks : goal.returns-in-Ok-Early-clause-asks
 returns-in-Ok-Early-clause-asks g c =
-    from_end _ end.Early (Some c.refuse.result) (rw c.in-Ok-Early.field-0-is at c.in-Ok-Early.ensures.end)
-    (λ whole. (Some (refuse status.BadRequest false), refl, rw c.refuse.ensures refl))
+    from_end _ end.Early (Some c.refusal_of.result) (rw c.in-Ok-Early.field-0-is at c.in-Ok-Early.ensures.end)
+    (λ whole. (Some (refusal_of status.BadRequest false), refl, rw c.refusal_of.ensures refl))
 
 pub returns-in-Ok-TooLong-clause-asks : goal.returns-in-Ok-TooLong-clause-asks
 returns-in-Ok-TooLong-clause-asks g c =
-    from_end _ end.TooLong (Some c.refuse-in-Ok-TooLong.result) (rw c.in-Ok-TooLong.field-0-is at c.in-Ok-TooLong.ensures.end)
-    (λ whole. (Some (refuse status.HeadTooLarge false), refl, rw c.refuse-in-Ok-TooLong.ensures refl))
+    from_end _ end.TooLong (Some c.refusal_of-in-Ok-TooLong.result) (rw c.in-Ok-TooLong.field-0-is at c.in-Ok-TooLong.ensures.end)
+    (λ whole. (Some (refusal_of status.HeadTooLarge false), refl, rw c.refusal_of-in-Ok-TooLong.ensures refl))
 
 pub returns-in-Ok-clause-asks : goal.returns-in-Ok-clause-asks
 returns-in-Ok-clause-asks g c =

@@ -8,7 +8,8 @@ use Rattle.plant_base.specs.declared.rows.MovementKind.TheVariants as kind
 use Rattle.plant_base.specs.declared.rows.Movement.{Movement}
 use Rattle.plant_good.specs.Valued.{HasMovementValues, HasKindValues}
 use Rattle.plant_tables_columns.specs.Reading.{is_in}
-use Rattle.plant_tables_columns.specs.Booked.{names_nothing, batch_named, lot_named, sublot_named, kind_of_sort, kind_from, moved_as, movement_from, sort_of, other_lot, other_sublot, batch_of, booked_of}
+use Rattle.plant_view.specs.Genealogy.{batch_by}
+use Rattle.plant_tables_columns.specs.Booked.{names_nothing, batch_named, lot_named, sublot_named, kind_of_sort, kind_from, moved_as, movement_from, sort_of, other_lot, other_sublot, booked_of}
 use Rattle.plant_tables_columns.specs.declared.booked.MovementSort.{MovementSort}
 use Rattle.plant_tables_columns.specs.declared.booked.MovementSort.TheVariants as sort
 use Rattle.plant_tables_columns.specs.declared.booked.BookedRow.{BookedRow}
@@ -20,7 +21,7 @@ use Rattle.plant_tables_columns.proofs.TableLaws.{HasBookedColumns}
 -- the row's columns are those that a movement of this kind is booked with
 record Books (s : MovementSort) (r : BookedRow) (k : MovementKind) : Type 0 where
   pub is_sort : s ≡ sort_of k
-  pub names : Names r (other_lot k r.lot) (other_sublot k) (batch_of k)
+  pub names : Names r (other_lot k r.lot) (other_sublot k) (batch_by k)
 
 sort_books : (s : MovementSort) (r : BookedRow) (k : MovementKind) → kind_of_sort s r ≡ Some k → Books s r k
 sort_books sort.Received r k h =
@@ -64,7 +65,7 @@ all_booked (r ∷ rows) all = go (movement_from r) refl all.0 (all_booked rows a
 
 -- ---- the values of a movement are those of its row
 
-kind_values : (k : MovementKind) (lot : List ℕ) → GoodOrNone (λ id. is_id id ≡ true) (other_lot k lot) → GoodOrNone (λ n. nat_le n greatest_sublot ≡ true) (other_sublot k) → GoodOrNone (λ id. is_id id ≡ true) (batch_of k) → HasKindValues k
+kind_values : (k : MovementKind) (lot : List ℕ) → GoodOrNone (λ id. is_id id ≡ true) (other_lot k lot) → GoodOrNone (λ n. nat_le n greatest_sublot ≡ true) (other_sublot k) → GoodOrNone (λ id. is_id id ≡ true) (batch_by k) → HasKindValues k
 kind_values kind.Received lot a b c = tt
 kind_values (kind.Consumed batch) lot a b c = c
 kind_values (kind.Produced batch) lot a b c = c

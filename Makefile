@@ -33,6 +33,8 @@ line_check:
 	cp crates/line_check/out/line_check build/line_check
 
 test:
+	mkdir -p build
+	date +%s > build/began
 	cmp examples/orders.csv crates/order_check/stdin
 	cmp examples/batch.jsonl crates/desk/stdin
 	cmp examples/batch.out crates/desk/stdout
@@ -40,3 +42,4 @@ test:
 	examples/sessions.py crates/desk/out/desk
 	examples/checks.py crates/order_check/out/order_check crates/line_check/out/line_check
 	examples/run.py crates/desk/out/desk README.md docs/EXAMPLES.md
+	@echo "the gate took $$(( ($$(date +%s) - $$(cat build/began)) / 60 )) minutes on $$(nproc) processors"

@@ -153,12 +153,17 @@ class Peer:
             if do == "consume":
                 self.one("SELECT * FROM batch WHERE id = ?", fields["batch"])
                 self.db.execute("SELECT * FROM control_line WHERE batch = ?", (fields["batch"],)).fetchall()
+                for made in (2, 3):
+                    self.db.execute("SELECT a FROM edge WHERE kind = ? AND b = ?", (made, lot)).fetchall()
             run("UPDATE sublot SET stock = ? WHERE lot = ? AND no = ?", (stock - fields["amount"], lot, fields["sub"]))
             if do == "split":
                 run("INSERT INTO lot VALUES (?, ?)", (other, definition))
                 run("INSERT INTO sublot VALUES (?, 0, ?, ?)", (other, fields["place"], fields["amount"]))
         run("INSERT INTO movement VALUES (?, 1, ?, ?, 0, ?, ?, ?, ?, ?, '', '')",
             (seq, kind, taken, other, None if other is None else 0, fields.get("batch"), fields["amount"], AT))
+        edge = {"consume": (1, taken, fields.get("batch")), "produce": (2, fields.get("batch"), taken), "split": (3, taken, other)}
+        if do in edge:
+            run("INSERT INTO edge VALUES (?, ?, ?) ON CONFLICT DO NOTHING", edge[do])
         run("UPDATE meta SET seq = ?, at = ? WHERE k = 1", (seq, AT))
         run("COMMIT")
 

@@ -20,7 +20,7 @@ import time
 SECONDS = 300
 BAD_FORM = b'{"name":"BadForm","refused":1}\n'
 DESK = b'{"ask":"desk"}'
-NEW_DESK = b'{"schema":1,"seq":0}\n'
+NEW_DESK = b'{"schema":2,"seq":0}\n'
 LINE_LIMIT = 262_144
 
 # How often a server is started at most where another program has taken its port.
@@ -29,7 +29,7 @@ ATTEMPTS = 3
 # A question over HTTP, and what a desk answers that has no command, and that has one.
 ASK = b"GET /v1/desk HTTP/1.0\n\n"
 NEW = b"HTTP/1.1 200 OK\r\nContent-Type: application/json\r\nContent-Length: 20\r\nConnection: close\r\n\r\n"
-NEW += b'{"schema":1,"seq":0}'
+NEW += b'{"schema":2,"seq":0}'
 ONE = NEW.replace(b'"seq":0', b'"seq":1')
 
 # A command over HTTP.
@@ -58,6 +58,7 @@ TABLES = {
     "sublot": ("lot no# place stock#", ["lot no"]),
     "movement": ("seq# line# kind# lot sub# lot2? sub2#? batch? amount# at# by_who note", ["seq line"]),
     "hold": ("lot id at# by_who note", ["lot id"]),
+    "edge": ("kind# a b", ["kind a b", "kind b a"]),
 }
 
 # The record of the batch of the session a_batch_runs_to_its_close.
@@ -296,7 +297,7 @@ class Check:
         second = self.run("run", file, told=b"".join(told[half:]))
         found = (first[0] | second[0], first[1] + second[1], first[2] + second[2])
         self.expect(f"{session.name}, over a file", found, (int(session.is_refused()), session.wanted, b""))
-        good = b"good schema 1 seq %d\n" % session.count()
+        good = b"good schema 2 seq %d\n" % session.count()
         self.expect(f"{session.name}, verified", self.run("verify", file), (0, good, b""))
 
     def orders_are_imported(self):
@@ -352,10 +353,10 @@ class Check:
         """Asks for traces and a record, over the file that the session leaves."""
         file = "words.db"
         for words, status, wanted in [
-            (["verify", file], 0, b"good schema 1 seq 0\n"),
-            (["init", file], 0, b"ready schema 1\n"),
+            (["verify", file], 0, b"good schema 2 seq 0\n"),
+            (["init", file], 0, b"ready schema 2\n"),
             (["run", file], int(session.is_refused()), session.wanted),
-            (["init", file], 0, b"ready schema 1\n"),
+            (["init", file], 0, b"ready schema 2\n"),
             (["trace", file, "forward", "F-1"], 0, b"lot D-1\nbatch B-1\n"),
             (["trace", file, "back", "D-1"], 0, b"lot F-1\nbatch B-1\n"),
             (["trace", file, "forward", "F-9"], 1, b'{"name":"UnknownLot","refused":9}\n'),
@@ -363,6 +364,24 @@ class Check:
             (["record", file, "B-9"], 1, b'{"name":"UnknownBatch","refused":8}\n'),
         ]:
             self.expect(" ".join(words), self.run(*words, told=session.told), (status, wanted, b""))
+
+    def an_older_schema_is_raised(self, session):
+        """Takes the file that the session leaves back to the first schema, and asks for what the session left."""
+        file = self.room / "older.db"
+        self.run("run", file.name, told=session.told)
+        store = sqlite3.connect(file)
+        edges = store.execute("SELECT kind, a, b FROM edge ORDER BY kind, a, b").fetchall()
+        self.expect("edges", edges, [(1, "F-1", "B-1"), (2, "B-1", "D-1")])
+        store.executescript("DROP TABLE edge; UPDATE meta SET schema = 1")
+        store.close()
+        for words, wanted in [
+            (["trace", file.name, "back", "D-1"], b"lot F-1\nbatch B-1\n"),
+            (["verify", file.name], b"good schema 2 seq %d\n" % session.count()),
+        ]:
+            self.expect(" ".join(words) + " of the first schema", self.run(*words), (0, wanted, b""))
+        store = sqlite3.connect(file)
+        self.expect("edges that were raised", store.execute("SELECT kind, a, b FROM edge ORDER BY kind, a, b").fetchall(), edges)
+        store.close()
 
     def commands_are_numbered_up_to_their_limit(self):
         """Tells a desk whose commands have all their numbers but one."""
@@ -375,7 +394,7 @@ class Check:
         told = Session("", wanted=b'{"ok":1000000000000000}\n')
         told.told = b'{"at":1,"by":"","do":"add_class","class":"RAW","name":""}\n'
         told.refused("TooMany", 28, '"do":"add_class","class":"WIP","name":""')
-        told.asked(DESK.decode(), '{"schema":1,"seq":1000000000000000}')
+        told.asked(DESK.decode(), '{"schema":2,"seq":1000000000000000}')
         found = self.run("run", file.name, told=told.told)
         self.expect("commands are numbered up to their limit", found, (1, told.wanted, b""))
 
@@ -502,7 +521,9 @@ def main(program):
             check.over_a_file(session, f"{number}.db")
         check.orders_are_imported()
         check.faults_of_order_files_are_told()
-        check.words_tell(next(it for it in sessions if it.name == "a_batch_runs_to_its_close"))
+        batch = next(it for it in sessions if it.name == "a_batch_runs_to_its_close")
+        check.words_tell(batch)
+        check.an_older_schema_is_raised(batch)
         check.commands_are_numbered_up_to_their_limit()
         check.tables_are_as_published()
         check.connections_may_break()

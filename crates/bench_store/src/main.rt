@@ -7,6 +7,7 @@
 ghost use Rattle.std.specs.Prelude.{◌≡◌, ◌+◌, ◌*◌, length, IfOk};
 ghost use Rattle.sqlite.specs.Held.{state};
 ghost use Rattle.sqlite.specs.State.{HasCleanDisk};
+ghost use Rattle.plant_base.specs.State.{newest_schema};
 ghost use Rattle.plant_tables_stored.specs.Loading.{AreLoaded, contents_loaded};
 ghost use Rattle.plant_tables_stored.specs.declared.loaded.Loaded.{Loaded};
 
@@ -179,10 +180,10 @@ fn write<S: Alter>(alloc: Global, conn: &mut Connection<S>, count: u64) -> Resul
 /// The number of movements, after every row of every table was read. Store where a table is missing.
 fn read<S: Alter>(alloc: Global, conn: &mut Connection<S>) -> Result<usize, Fault>
     ensures { HasCleanDisk (state S.Store conn.new)
-        → IfOk result (λ n. (x : Loaded) × AreLoaded (state S.Store conn.old).now x
+        → IfOk result (λ n. (x : Loaded) × AreLoaded newest_schema (state S.Store conn.old).now x
         × (n ≡ length (contents_loaded x 11))) }
 {
-    match &Loaded::read(alloc, conn, 1)? {
+    match &Loaded::read(alloc, conn, NEWEST_SCHEMA)? {
         Some(loaded) => Ok(loaded.rows(MOVEMENTS).len()),
         None => Err(Fault::Store),
     }

@@ -8,7 +8,7 @@ use Rattle.plant_desk_store.specs.Standing.{IsOpenAt, Stands}
 
 pub adopted_so : (c : store.State) → IsNewlyOpened c → (before after : States) → ((s : State) → before s → after s) → AdoptedFrom c before → AdoptedFrom c after
 adopted_so c opened before after step (inl h) = inl (h.0, step opening h.1)
-adopted_so c opened before after step (inr h) = inr (h.0, h.1, h.2, step h.0 h.3)
+adopted_so c opened before after step (inr h) = inr (h.0, (h.1.0, h.1.1, step h.1.0 h.1.2))
 
 -- an open desk at a state
 pub as_stands : (c : store.State) (shut : Bool) (s : State) → IsOpenAt c s → Stands c shut s
@@ -19,4 +19,4 @@ as_open c shut s is_open h = record { stands = h.0; leaves = h.1 is_open }
 
 pub adopted_at : (c : store.State) → IsNewlyOpened c → (stands : States) → AdoptedFrom c stands → (s : State) × stands s
 adopted_at c opened stands (inl h) = (opening, h.1)
-adopted_at c opened stands (inr h) = (h.0, h.3)
+adopted_at c opened stands (inr h) = (h.1.0, h.1.2)

@@ -1,5 +1,6 @@
 pub mod Dates
 pub mod Digits
+pub mod Edges
 pub mod Formed
 pub mod Options
 pub mod Refusals

@@ -19,7 +19,7 @@ use Rattle.plant_base.specs.declared.rows.Hold.{Hold}
 
 -- the newest schema of the tables
 abbrev pub newest_schema : ℕ
-newest_schema = 1
+newest_schema = 2
 
 pub record State : Type 0 where
   pub seq : ℕ

@@ -21,9 +21,9 @@ pub use due::{Due, DueFault};
 pub use items::Items;
 pub use refusal::Refusal;
 pub use rows::{
-    Batch, BatchEvent, BatchRow, Class, ControlLine, Definition, Header, Hold, Job, Lot,
-    MasterLine, Meta, Movement, MovementKind, NEWEST_SCHEMA, OrderRow, Place, Position, Recipe,
-    RecipeLine, Sublot,
+    Batch, BatchEvent, BatchRow, Class, ControlLine, Definition, EdgeKind, EdgeRow, Header, Hold,
+    Job, Lot, MasterLine, Meta, Movement, MovementKind, NEWEST_SCHEMA, OrderRow, Place, Position,
+    Recipe, RecipeLine, Sublot,
 };
 pub use states::{BatchState, Event, JobState, RecipeState, Word};
 pub use values::{

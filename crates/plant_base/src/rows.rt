@@ -1,11 +1,15 @@
 //! The rows of the desk's tables.
 
+ghost use Rattle.std.specs.Prelude.{◌≡◌, refl, Some};
+ghost use Rattle.plant_base.specs.Edges.{edge_kind_number, edge_order, edge_total, edge_ties, edge_partial};
+
 use crate::due::Due;
 use crate::states::{BatchState, Event, JobState, RecipeState};
 use crate::values::{Amount, Id, Moment, Text, Unit};
+use std::cmp::Ordering;
 
 /// The newest schema of the tables.
-pub const NEWEST_SCHEMA: u64 = 1;
+pub const NEWEST_SCHEMA: u64 = 2;
 
 /// Where the desk stands: how many commands were accepted, and the moment of the last.
 #[derive(Clone, Copy, Debug, PartialEq, Eq)]
@@ -219,6 +223,64 @@ pub struct Movement {
     pub at: Moment,
     pub by: Text,
     pub note: Text,
+}
+
+/// What an edge of the genealogy leads from, and what to.
+#[derive(Clone, Copy, Debug, PartialEq, Eq)]
+pub enum EdgeKind {
+    /// The batch took of the lot.
+    LotToBatch,
+    /// The batch brought to the lot.
+    BatchToLot,
+    /// The second lot was split off the first, or made of it among others.
+    LotToLot,
+}
+
+impl EdgeKind {
+    /// The number that stands for it in the table, 1 to 3.
+    pub fn number(self) -> u16
+        ensures { result ≡ edge_kind_number self }
+    {
+        match self {
+            EdgeKind::LotToBatch => 1,
+            EdgeKind::BatchToLot => 2,
+            EdgeKind::LotToLot => 3,
+        }
+    }
+}
+
+/// An edge of the genealogy: what the one went into or became (the material lot's assembly of IEC 62264-2). A pair has one
+/// edge, however often it was booked.
+#[derive(Clone, Copy, Debug, PartialEq, Eq)]
+pub struct EdgeRow {
+    pub kind: EdgeKind,
+    pub from: Id,
+    pub to: Id,
+}
+
+impl Ord for EdgeRow {
+    ghost cmp = { edge_order };
+
+    ghost total = { edge_total };
+
+    ghost matches_partial_cmp = { λ x y. refl };
+
+    ghost matches_eq = { edge_ties };
+
+    fn cmp(&self, other: &EdgeRow) -> Ordering {
+        let kinds = self.kind.number().cmp(&other.kind.number());
+        kinds.then(self.from.cmp(&other.from).then(self.to.cmp(&other.to)))
+    }
+}
+
+impl PartialOrd for EdgeRow {
+    ghost partial_cmp = { λ x y. Some (edge_order x y) };
+
+    ghost laws = { edge_partial };
+
+    fn partial_cmp(&self, other: &EdgeRow) -> Option<Ordering> {
+        Some(self.cmp(other))
+    }
 }
 
 /// A hold: while a lot has one it isn't consumed, split or merged.

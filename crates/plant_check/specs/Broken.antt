@@ -1,10 +1,14 @@
 -- The rules that tables obey which a desk has written, and the first that is broken.
 use Rattle.std.specs.Prelude.{ℕ, Bool, true, not, ◌&&◌, if◌then◌else◌, List, Option, Some, None, is_some, is_none, map}
 use Rattle.std.specs.List.{list_all, filter_map}
+use Rattle.std.specs.Cmp.Lexicographic.{pointwise}
+use Rattle.plant_base.specs.Edges.{edge_eq}
+use Rattle.plant_base.specs.declared.rows.EdgeRow.{EdgeRow}
 use Rattle.plant_base.specs.declared.rows.Movement.{Movement}
 use Rattle.plant_trace.specs.Reach.{leads}
 use Rattle.plant_trace.specs.declared.node.Node.{Node}
 use Rattle.plant_view.specs.Genealogy.{edges_among}
+use Rattle.plant_view.specs.Tables.{edges_in}
 use Rattle.plant_check_plans.specs.Catalogue.{are_classified}
 use Rattle.plant_check_plans.specs.Recipes.{are_recipes}
 use Rattle.plant_check_plans.specs.Orders.{are_orders}
@@ -39,6 +43,18 @@ movements_in rows = filter_map movement_from rows
 abbrev pub are_acyclic : List (Node × Node) → Bool
 are_acyclic pairs = list_all (λ p. not (leads pairs p.0 p.0)) pairs
 
+-- the same rows in the same order
+abbrev pub are_same_edges : List EdgeRow → List EdgeRow → Bool
+are_same_edges = pointwise edge_eq
+
+-- they are those of the movements, in a schema that keeps them
+abbrev pub are_kept_edges : ℕ → List EdgeRow → List Movement → Bool
+are_kept_edges schema rows movements = are_same_edges rows (edges_in schema movements)
+
+-- nothing came of itself, and the edges are those of the movements
+abbrev pub are_right_edges : Rows → List Movement → Bool
+are_right_edges r ms = are_acyclic (edges_among ms) && are_kept_edges r.meta.schema r.edges ms
+
 -- the first, where one is broken, and else what else is
 abbrev pub or_else : Option Rule → Option Rule → Option Rule
 or_else None rest = rest
@@ -70,7 +86,7 @@ broken_history r =
     unless (are_right_movements r (movements_in r.movements)) rule.Movements
     (unless (are_events r.control_lines r.events r.batches) rule.Events
     (unless (are_right_numbers r (movements_in r.movements)) rule.Numbers
-    (unless (are_acyclic (edges_among (movements_in r.movements))) rule.Descent None)))
+    (unless (are_right_edges r (movements_in r.movements)) rule.Descent None)))
 
 -- the first rule that rows break whose values obey theirs
 unfoldable pub first_broken_of : Rows → Option Rule

@@ -1,8 +1,10 @@
 ghost use Rattle.std.specs.Prelude.{◌≡◌, IfOk};
 ghost use Rattle.plant_tables_judged.specs.Collecting.{rows_listed};
 ghost use Rattle.plant_check.specs.Broken.{broken_plan, broken_lot, broken_history, are_right_movements};
-ghost use Rattle.plant_check.specs.Broken.{are_right_numbers, first_broken, first_broken_of};
+ghost use Rattle.plant_check.specs.Broken.{are_right_numbers, are_right_edges};
+ghost use Rattle.plant_check.specs.Broken.{first_broken, first_broken_of};
 
+use crate::edges::are_kept_edges;
 use crate::ends::are_stocks;
 use crate::history::{are_acyclic, are_whole, movements_in};
 use crate::lots::are_lots;
@@ -116,7 +118,7 @@ fn broken_history(alloc: Global, rows: &DeskRows) -> Result<Option<Rule>, AllocE
     if !are_numbers_of(alloc, rows, movements)? {
         return Ok(Some(Rule::Numbers));
     }
-    if !are_acyclic(alloc, movements)? {
+    if !are_edges_of(alloc, rows, movements)? {
         return Ok(Some(Rule::Descent));
     }
     Ok(None)
@@ -164,4 +166,14 @@ fn are_numbers_of(
         rows.batches.as_slice(),
         rows.holds.as_slice(),
     )
+}
+
+#[tactic(auto, unfolding(plant_tables_judged::specs::Collecting::rows_listed))]
+fn are_edges_of(alloc: Global, rows: &DeskRows, movements: &[Movement]) -> Result<bool, AllocError>
+    ensures { IfOk result (λ b. b ≡ are_right_edges (rows_listed rows.now) movements.now) }
+{
+    if !are_acyclic(alloc, movements)? {
+        return Ok(false);
+    }
+    are_kept_edges(alloc, rows.meta.schema, rows.edges.as_slice(), movements)
 }

@@ -2,12 +2,13 @@
 
 ghost use Rattle.std.specs.Prelude.{◌≡◌, ◌↔◌, IfOk, IsTrue, true};
 ghost use Rattle.plant_trace.specs.Reach.{IsAcyclic};
-ghost use Rattle.plant_view.specs.Genealogy.{edge_of, edges_among};
+ghost use Rattle.plant_view.specs.Genealogy.{edges_among};
 ghost use Rattle.plant_check.specs.Broken.{are_whole, movements_in, are_acyclic};
 
-use plant_base::{Movement, MovementKind};
+use plant_base::Movement;
 use plant_tables_judged::BookedRow;
 use plant_trace::{Node, acyclic};
+use plant_view::edges;
 use std::alloc::{AllocError, Global};
 
 /// Whether each row has the columns of its kind.
@@ -36,23 +37,4 @@ fn is_acyclic(alloc: Global, pairs: &[(Node, Node)]) -> Result<bool, AllocError>
     ensures { IfOk result (λ b. b ≡ are_acyclic pairs.now) }
 {
     acyclic(alloc, pairs)
-}
-
-fn edges(alloc: Global, movements: &[Movement]) -> Result<Vec<(Node, Node)>, AllocError>
-    ensures { IfOk result (λ pairs. pairs.items ≡ edges_among movements.now) }
-{
-    movements.iter().filter_map(|m| edge(m)).collect(alloc)
-}
-
-// The edge that a movement makes.
-fn edge(movement: &Movement) -> Option<(Node, Node)>
-    ensures { result ≡ edge_of movement.now }
-{
-    let lot = Node::Lot(movement.lot);
-    match movement.kind {
-        MovementKind::Received | MovementKind::Scrapped | MovementKind::Divided { .. } => None,
-        MovementKind::Consumed { batch } => Some((lot, Node::Batch(batch))),
-        MovementKind::Produced { batch } => Some((Node::Batch(batch), lot)),
-        MovementKind::Split { to } | MovementKind::Merged { to } => Some((lot, Node::Lot(to))),
-    }
 }

@@ -2,6 +2,7 @@
 #![tactic(auto)]
 
 mod checking;
+mod edges;
 mod ends;
 mod history;
 mod lots;

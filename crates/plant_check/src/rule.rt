@@ -29,7 +29,7 @@ pub enum Rule {
     Events,
     /// Numbers and lines of movements and events are those of commands, and moments don't fall.
     Numbers,
-    /// Nothing was made from itself.
+    /// Nothing was made from itself, and the edges that are kept are those of the movements.
     Descent,
 }
 

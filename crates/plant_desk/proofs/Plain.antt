@@ -27,6 +27,7 @@ plain_changed (row.Lot r) t = refl
 plain_changed (row.Sublot r) t = λ i. record (state_without_kept t) { places = put_kept place_of_row sublot_order place_order (λ a b. refl) r t.sublots i }
 plain_changed (row.Movement r) t = refl
 plain_changed (row.Hold r) t = refl
+plain_changed (row.Edge r) t = refl
 plain_changed (row.Unhold lot hold) t = refl
 
 plain_changed_all : (cs : List RowChange) (t : Tables) → state_without_kept (changed_all cs t) ≡ applied_all cs (state_without_kept t)

@@ -34,10 +34,10 @@ mapped_at f [] k d within = absurd (omega arith)
 mapped_at f (x ∷ xs) zero d within = first_in (f x) (map f xs)
 mapped_at f (x ∷ xs) (suc k) d within = rest_in (f x) (map f xs) (f (get_or xs k d)) (mapped_at f xs k d (omega arith))
 
-mapped_in : {X Y : Type 0} (f : X → Y) (xs : List X) (x : X) → Contains xs x → Contains (map f xs) (f x)
+pub mapped_in : {X Y : Type 0} (f : X → Y) (xs : List X) (x : X) → Contains xs x → Contains (map f xs) (f x)
 mapped_in f xs x h = subst (λ y. Contains (map f xs) (f y)) h.2 (mapped_at f xs h.0 x h.1)
 
-filtered_in : {X : Type 0} (test : X → Bool) (xs : List X) (x : X) → test x ≡ true → Contains xs x → Contains (filter test xs) x
+pub filtered_in : {X : Type 0} (test : X → Bool) (xs : List X) (x : X) → test x ≡ true → Contains xs x → Contains (filter test xs) x
 filtered_in test [] x t h = absurd (none_in x h)
 filtered_in test (y ∷ ys) x t h =
     ⊎_elim
@@ -74,7 +74,7 @@ module _ {R : Type 0} (order : R → R → Ordering) (exact : CmpEqualImpliesEq 
   stay [] rows y h = h
   stay (r ∷ rs) rows y h = stay rs (put order r rows) y (stays r rows y h)
 
-  come : (rs rows : List R) (y : R) → Contains rs y → Contains (put_all order rs rows) y
+  pub come : (rs rows : List R) (y : R) → Contains rs y → Contains (put_all order rs rows) y
   come [] rows y h = absurd (none_in y h)
   come (r ∷ rs) rows y h =
       ⊎_elim

@@ -61,6 +61,7 @@ applied (row.Lot r) s = record s { lots = put lot_order r s.lots }
 applied (row.Sublot r) s = record s { places = put place_order (place_of_row r) s.places }
 applied (row.Movement r) s = record s { movements = s.movements ++ r ∷ [] }
 applied (row.Hold r) s = record s { holds = put hold_order r s.holds }
+applied (row.Edge r) s = s
 applied (row.Unhold lot hold) s = record s { holds = without_hold lot hold s.holds }
 
 abbrev pub applied_all : List RowChange → State → State

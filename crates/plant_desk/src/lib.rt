@@ -25,7 +25,6 @@ pub use keeper::Keeper;
 pub use laws::{stock_law, tables_law, trace_law};
 pub use list_keeper::ListKeeper;
 pub use lists::Lists;
-pub use lots::edges;
 pub use question::{Answer, BatchView, Booking, LotAnswer, MeasuredLine, OrderAnswer, Question};
 pub use reply::{DeskFault, Reply};
 pub use report::RunReport;

@@ -137,6 +137,8 @@ impl Lists {
             }
             RowChange::Movement(r) => push_row(&mut self.movements, r),
             RowChange::Hold(r) => put_row(&mut self.holds, *r),
+            // The lists hold no edges: these follow from the movements.
+            RowChange::Edge(_) => {}
             RowChange::Unhold { lot, hold } => take_hold(&mut self.holds, *lot, *hold),
         }
     }

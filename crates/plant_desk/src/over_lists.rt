@@ -11,12 +11,11 @@ ghost use Rattle.plant_desk.specs.Lists.{state_of};
 
 use crate::answering::answer;
 use crate::lists::Lists;
-use crate::lots::edges;
 use crate::question::{Answer, Question};
 use crate::view::ListsView;
 use plant_base::{Command, Envelope};
 use plant_rules::decide;
-use plant_view::Decision;
+use plant_view::{Decision, edges};
 use std::alloc::AllocError;
 
 impl Lists {

@@ -11,13 +11,13 @@ use crate::keys::{
     batch_for, batch_of, class_of, definition_of, hold_of, job_of, lot_of, place_of, recipe_of,
 };
 use crate::lists::Lists;
-use crate::lots::{edges, holds_of, movements_of, scraps_of, standing_of, stocked_sublots};
+use crate::lots::{holds_of, movements_of, scraps_of, standing_of, stocked_sublots};
 use plant_base::{
     Batch, BatchEvent, BatchRow, Class, ControlLine, Definition, Hold, Id, Job, Lot, MasterLine,
     Movement, Position, Recipe, Sublot,
 };
 use plant_trace::{Direction, Edges, Indexed, Node, neighbours};
-use plant_view::View;
+use plant_view::{View, edges};
 use std::alloc::AllocError;
 
 // The lists, and their edges where they were indexed. Without an index each step of a trace goes over all movements.

@@ -1,5 +1,5 @@
 -- The tables of a good state are adopted again.
-use Rattle.std.proofs.Common.{◌≡◌, ◌∙◌, ◌<◌, ◌≤◌, ℕ, ◌^◌, pos, List, [], ◌∷◌, inl, inr, refl, sym, arith}
+use Rattle.std.proofs.Common.{◌≡◌, ◌∙◌, ◌<◌, ◌≤◌, ℕ, ◌^◌, pos, List, [], ◌∷◌, inl, inr, refl, sym, subst, arith}
 use Rattle.std.specs.Prelude.{◌⊎◌, All}
 use Rattle.std.specs.Int.Signed.{◌≤ℤ◌, le_z_yes}
 use Rattle.std.proofs.lemmas.Bool.Decides.{nat_tests}
@@ -15,17 +15,18 @@ use Rattle.sqlite_rules.specs.Lists.{Has}
 use Rattle.sqlite_rules.proofs.ListLemmas.{has_got}
 use Rattle.sqlite_catalog.specs.Listing.{IsSound, IsTableRow}
 use Rattle.sqlite_catalog.proofs.LayoutLemmas.{zipped_left}
-use Rattle.plant_base.specs.State.{State, newest_schema}
+use Rattle.plant_base.specs.State.{State}
 use Rattle.plant_view.specs.Tables.{tables_of}
 use Rattle.table_forms.specs.Forms.{Form, table_of}
-use Rattle.table_forms.specs.Standing.{HasTable, Stands, AreFree}
-use Rattle.plant_tables.specs.DeskForms.{desk_forms, meta_form}
-use Rattle.plant_tables.specs.Keyed.{HoldsTables}
+use Rattle.table_forms.specs.Standing.{HasTable, Stands, AreFree, IsFree}
+use Rattle.plant_tables.specs.DeskForms.{desk_forms, meta_form, forms_of, later_forms}
+use Rattle.plant_tables.specs.Keyed.{HoldsTablesOf}
 use Rattle.plant_good.specs.Good.{IsGood}
-use Rattle.plant_tables_stored.specs.Version.{IsVersion}
+use Rattle.plant_tables_stored.specs.Version.{IsVersion, IsKnown, HasTablesOf}
+use Rattle.plant_tables_stored.specs.Loading.{AreLoaded}
 use Rattle.plant_tables_stored.proofs.Versions.{one_version, each_free, free_tells_nothing}
 use Rattle.plant_good_passes.proofs.Unbroken.{read_good}
-use Rattle.plant_desk_store.specs.Adopting.{IsRefusedBy, IsFirstBroken}
+use Rattle.plant_desk_store.specs.Adopting.{HoldsGood, IsRefusedBy, IsFirstBroken}
 use Rattle.plant_check.specs.declared.rule.Rule.{Rule}
 use Rattle.plant_desk_store.specs.declared.adopting.AdoptFault.{AdoptFault}
 use Rattle.plant_desk_store.specs.declared.adopting.AdoptFault.TheVariants as fault
@@ -46,23 +47,32 @@ pos_le m n h = le_z_yes (le→leb m n h)
 pos_same : (m n : ℕ) → pos m ≡ pos n → m ≡ n
 pos_same m n e = cc
 
-module _ (db : Database) (s : State) (good : IsGood s) (holds : HoldsTables db (tables_of newest_schema s)) where
-  tables_held : All (HasTable db.schema) desk_forms
-  tables_held i d low = table_held db _ _ holds.sound (holds.each i _ (slice_get-get_or desk_forms i d low))
+module _ (version : ℕ) (db : Database) (s : State) (held : HoldsGood version db s) where
+  abbrev known_version : IsKnown version
+  known_version = held.0
 
-  version_held : IsVersion db (pos newest_schema)
+  abbrev good : IsGood s
+  good = held.1
+
+  abbrev holds : HoldsTablesOf version db (tables_of version s)
+  holds = held.2
+
+  tables_held : All (HasTable db.schema) (forms_of version)
+  tables_held i d low = table_held db _ _ holds.sound (holds.each i _ (slice_get-get_or (forms_of version) i d low))
+
+  pub version_held : IsVersion db (pos version)
   version_held =
       let meta = holds.each 0 meta_form refl in
       let known : s.at ≤ 253402300799 = grind (arith, nat_tests, good.values.at) in
       record {
-        row = Int (pos 1) ∷ Int (pos newest_schema) ∷ Int (pos s.seq) ∷ Int (pos s.at) ∷ [];
+        row = Int (pos 1) ∷ Int (pos version) ∷ Int (pos s.seq) ∷ Int (pos s.at) ∷ [];
         alone = record { at = meta.at; tree = meta.tree; declared = meta.declared; low = low_held db meta_form _ holds.sound meta; same = meta.same };
         good = record {
-          schema = pos newest_schema;
+          schema = pos version;
           seq = pos s.seq;
           at = pos s.at;
           is = refl;
-          schema_low = pos_le 1 1 (omega arith);
+          schema_low = pos_le 1 version known_version.0;
           seq_low = pos_le 0 s.seq (omega arith);
           seq_high = pos_le s.seq 1000000000000000 good.values.seq;
           at_low = pos_le 0 s.at (omega arith);
@@ -72,18 +82,27 @@ module _ (db : Database) (s : State) (good : IsGood s) (holds : HoldsTables db (
       }
 
   pub not_free : AreFree desk_forms db.schema → ⊥
-  not_free free = free_tells_nothing db (pos newest_schema) (each_free db.schema free) version_held
+  not_free free = free_tells_nothing db (pos version) (each_free db.schema free) version_held
 
-  unbroken_here : (r : Rule) → IsFirstBroken db r → ⊥
-  unbroken_here r (inl (first, inl none)) = absurd (none _ version_held)
-  unbroken_here r (inl (first, inr lacking)) = absurd (lacking tables_held)
-  unbroken_here r (inr (x, loaded, broken)) = let unbroken = (read_good db s x good holds loaded).1 in let both = sym unbroken ∙ broken in absurd (cc)
+  -- whatever version meta tells is this one
+  pub one_told : (other : ℕ) → IsVersion db (pos other) → other ≡ version
+  one_told other told = pos_same other version (one_version db (pos other) (pos version) told version_held)
 
-  pub unrefused_here : (f : AdoptFault) → IsRefusedBy db f → (f ≡ fault.Store) ⊎ (f ≡ fault.Memory)
-  unrefused_here fault.Store refused = inl refl
-  unrefused_here (fault.Newer n) refused = let same = pos_same n newest_schema (one_version db (pos n) (pos newest_schema) refused.0 version_held) in absurd (omega (arith, refused.1, same))
-  unrefused_here (fault.Damaged r) refused = absurd (unbroken_here r refused.broken)
-  unrefused_here fault.Memory refused = inr refl
+  module _ (later : All (IsFree db.schema) (later_forms version)) where
+    unbroken_here : (r : Rule) → IsFirstBroken db r → ⊥
+    unbroken_here r (inl (first, inl none)) = absurd (none _ version_held)
+    unbroken_here r (inl (first, inr (other, told, lacking))) = absurd (lacking (subst (λ k. HasTablesOf k db.schema) (sym (one_told other told)) (tables_held, later)))
+    unbroken_here r (inr (other, told, (x, loaded, broken))) =
+        let here : AreLoaded version db x = subst (λ k. AreLoaded k db x) (one_told other told) loaded in
+        let unbroken = (read_good version db s x known_version good holds here).1 in
+        let both = sym unbroken ∙ broken in
+        absurd (cc)
 
-pub unrefused : (db : Database) (s : State) → IsGood s → HoldsTables db (tables_of newest_schema s) → (f : AdoptFault) → IsRefusedBy db f → (f ≡ fault.Store) ⊎ (f ≡ fault.Memory)
+    pub unrefused_here : (f : AdoptFault) → IsRefusedBy db f → (f ≡ fault.Store) ⊎ (f ≡ fault.Memory)
+    unrefused_here fault.Store refused = inl refl
+    unrefused_here (fault.Newer n) refused = let same = one_told n refused.0 in absurd (omega (arith, refused.1, same, known_version.1))
+    unrefused_here (fault.Damaged r) refused = absurd (unbroken_here r refused.broken)
+    unrefused_here fault.Memory refused = inr refl
+
+pub unrefused : (version : ℕ) (db : Database) (s : State) → HoldsGood version db s → All (IsFree db.schema) (later_forms version) → (f : AdoptFault) → IsRefusedBy db f → (f ≡ fault.Store) ⊎ (f ≡ fault.Memory)
 unrefused = unrefused_here

@@ -1,6 +1,5 @@
 -- What is judged of loaded rows.
-use Rattle.std.proofs.Common.{◌≡◌, ◌∙◌, true, false, Option, None, Some, is_some, Result, Ok, Err, IfOk, IfErr, refl, sym, ap, subst}
-use Rattle.plant_base.specs.State.{newest_schema}
+use Rattle.std.proofs.Common.{◌≡◌, ◌∙◌, ℕ, true, false, Option, None, Some, is_some, Result, Ok, Err, IfOk, IfErr, refl, sym, ap, subst}
 use Rattle.plant_tables_stored.specs.Loading.{contents_loaded}
 use Rattle.plant_tables_stored.specs.declared.loaded.Loaded.{Loaded}
 use Rattle.plant_tables_judged.specs.Collecting.{Rows, rows_from, rows_listed}
@@ -25,32 +24,32 @@ same_broken : (x : Loaded) (r : Rows) → is_some (only_meta (contents_loaded x 
 unfolding first_broken
 same_broken x r e f = ap (λ b. unless b rule.Tables (broken_rows (rows_from x))) e ∙ ap broken_rows f
 
-pub fit_of : (x : Loaded) (rows : DeskRows) (judged : Result DeskRows Unfit) → is_some (only_meta (contents_loaded x 0)) ≡ true → rows_from x ≡ Some (rows_listed rows)
-    → IfOk judged (IsFitOf rows) → IfOk judged (IsFit x)
-fit_of x rows (Err u) e f h = tt
-fit_of x rows (Ok found) e f h = subst (IsFit x) (sym h.same) (record {
+pub fit_of : (x : Loaded) (schema : ℕ) (rows : DeskRows) (judged : Result DeskRows Unfit) → is_some (only_meta (contents_loaded x 0)) ≡ true → rows_from x ≡ Some (rows_listed rows)
+    → IfOk judged (IsFitOf rows schema) → IfOk judged (IsFit x schema)
+fit_of x schema rows (Err u) e f h = tt
+fit_of x schema rows (Ok found) e f h = subst (IsFit x schema) (sym h.same) (record {
   read = f;
   unbroken = h.unbroken;
   whole = same_broken x (rows_listed rows) e f ∙ h.unbroken;
-  newest = h.newest;
+  tells = h.tells;
 })
 
--- rows that aren't of the newest schema
-other_schema : (x : Loaded) (rows : DeskRows) → rows_from x ≡ Some (rows_listed rows) → ¬ (rows.meta.schema ≡ newest_schema) → IsUnfit x
+-- rows that aren't of the schema
+other_schema : (x : Loaded) (schema : ℕ) (rows : DeskRows) → rows_from x ≡ Some (rows_listed rows) → ¬ (rows.meta.schema ≡ schema) → IsUnfit x schema
 unfolding rows_listed
-other_schema x rows is other = λ r told fine schema.
+other_schema x schema rows is other = λ r told fine tells.
     let same : rows_listed rows ≡ r = (let both = sym is ∙ told in cc) in
-    other (subst (λ (q : Rows). q.meta.schema ≡ newest_schema) (sym same) schema)
+    other (subst (λ (q : Rows). q.meta.schema ≡ schema) (sym same) tells)
 
-unfit_by : (x : Loaded) (rows : DeskRows) (u : Unfit) → is_some (only_meta (contents_loaded x 0)) ≡ true → rows_from x ≡ Some (rows_listed rows) → IsUnfitOf rows u → IsUnfitBy x u
-unfit_by x rows (unfit.Broken r) e f h = same_broken x (rows_listed rows) e f ∙ h
-unfit_by x rows unfit.Schema e f h = (same_broken x (rows_listed rows) e f ∙ h.0, other_schema x rows f h.1)
-unfit_by x rows unfit.Memory e f h = tt
+unfit_by : (x : Loaded) (schema : ℕ) (rows : DeskRows) (u : Unfit) → is_some (only_meta (contents_loaded x 0)) ≡ true → rows_from x ≡ Some (rows_listed rows) → IsUnfitOf rows schema u → IsUnfitBy x schema u
+unfit_by x schema rows (unfit.Broken r) e f h = same_broken x (rows_listed rows) e f ∙ h
+unfit_by x schema rows unfit.Schema e f h = (same_broken x (rows_listed rows) e f ∙ h.0, other_schema x schema rows f h.1)
+unfit_by x schema rows unfit.Memory e f h = tt
 
-pub unfit_of : (x : Loaded) (rows : DeskRows) (judged : Result DeskRows Unfit) → is_some (only_meta (contents_loaded x 0)) ≡ true → rows_from x ≡ Some (rows_listed rows)
-    → IfErr judged (IsUnfitOf rows) → IfErr judged (IsUnfitBy x)
-unfit_of x rows (Ok found) e f h = tt
-unfit_of x rows (Err u) e f h = unfit_by x rows u e f h
+pub unfit_of : (x : Loaded) (schema : ℕ) (rows : DeskRows) (judged : Result DeskRows Unfit) → is_some (only_meta (contents_loaded x 0)) ≡ true → rows_from x ≡ Some (rows_listed rows)
+    → IfErr judged (IsUnfitOf rows schema) → IfErr judged (IsUnfitBy x schema)
+unfit_of x schema rows (Ok found) e f h = tt
+unfit_of x schema rows (Err u) e f h = unfit_by x schema rows u e f h
 
 -- ---- rows that break a rule
 
@@ -62,8 +61,8 @@ nothing_read : (x : Loaded) → is_some (only_meta (contents_loaded x 0)) ≡ fa
 unfolding rows_from
 nothing_read x e = let none : only_meta (contents_loaded x 0) ≡ None = none_of (only_meta (contents_loaded x 0)) e in rw none refl
 
-pub broken_unfit : (x : Loaded) (b : Rule) → first_broken x ≡ Some b → IsUnfit x
-broken_unfit x b broken r told fine schema = elim (is_some (only_meta (contents_loaded x 0))) as (λ there. is_some (only_meta (contents_loaded x 0)) ≡ there → ⊥) [
+pub broken_unfit : (x : Loaded) (schema : ℕ) (b : Rule) → first_broken x ≡ Some b → IsUnfit x schema
+broken_unfit x schema b broken r told fine tells = elim (is_some (only_meta (contents_loaded x 0))) as (λ there. is_some (only_meta (contents_loaded x 0)) ≡ there → ⊥) [
   | true ↦ λ e. (let both : Some b ≡ None = sym broken ∙ same_broken x r e told ∙ fine in absurd (cc))
   | false ↦ λ e. (let both : Some r ≡ None = sym told ∙ nothing_read x e in absurd (cc))
 ] refl

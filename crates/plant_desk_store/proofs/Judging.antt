@@ -1,8 +1,9 @@
 -- What is judged of loaded rows, and of the store that they were loaded of.
-use Rattle.std.proofs.Common.{◌≡◌, ◌∙◌, None, Some, Result, Ok, Err, IfErr, OnOk, sym, subst, inl, inr, ℕ, ◌<◌, ℤ, pos, arith}
+use Rattle.std.proofs.Common.{◌≡◌, ◌∙◌, None, Some, Result, Ok, Err, IfErr, IfOk, OnOk, OnErr, sym, ap, subst, inl, inr, ℕ, ◌<◌, ◌≤◌, ℤ, pos, arith}
 use Rattle.std.specs.Prelude.{◌≢◌, All}
 use Rattle.std.specs.Int.Signed.{◌≤ℤ◌}
 use lib.Dec.{leb→le}
+use Rattle.sqlite.specs.Tree.{Trees}
 use Rattle.sqlite.specs.Effect.{Database, IsDatabase}
 use Rattle.sqlite.specs.State as store
 use Rattle.sqlite.specs.State.{HasCleanDisk, IsUnchanged, Survives}
@@ -12,51 +13,53 @@ use Rattle.table_forms.specs.Resting.{Keeps}
 use Rattle.table_forms.specs.Stopping.{IsSettled}
 use Rattle.table_forms.proofs.Ending.{IsStore}
 use Rattle.table_reads.specs.Ordered.{IsRising}
-use Rattle.plant_tables.specs.DeskForms.{desk_forms}
-use Rattle.plant_tables.specs.DeskStopping.{IsUnopened}
-use Rattle.plant_tables.specs.Keyed.{HoldsTables}
-use Rattle.plant_view.specs.Tables.{tables_of}
+use Rattle.plant_tables.specs.DeskForms.{desk_forms, forms_of}
+use Rattle.plant_tables.specs.DeskStopping.{IsUnopened, IsCutShortOf}
+use Rattle.plant_tables.specs.Keyed.{HoldsTablesOf, HoldsTables}
+use Rattle.plant_view.specs.Tables.{Tables, tables_of}
 use Rattle.plant_good.specs.Good.{IsGood}
 use Rattle.plant_tables_stored.specs.Loading.{AreLoaded, AreRising, contents_loaded}
-use Rattle.plant_tables_stored.specs.Version.{IsVersion}
+use Rattle.plant_tables_stored.specs.Version.{IsVersion, IsKnown}
 use Rattle.plant_tables_stored.specs.declared.loaded.Loaded.{Loaded}
 use Rattle.plant_tables_stored.proofs.Versions.{one_version}
-use Rattle.plant_tables_judged.specs.Collecting.{Rows, rows_from}
-use Rattle.plant_check.specs.Broken.{first_broken_of}
-use Rattle.plant_desk_store.specs.Adopting.{IsNewlyOpened, AdoptedFrom, KeepsGood, NamesFirst, BrokenBy, IsRefusedBy}
+use Rattle.plant_tables_judged.specs.Collecting.{rows_in, rows_listed}
+use Rattle.plant_tables_judged.specs.declared.desk_rows.DeskRows.{DeskRows}
+use Rattle.plant_desk_store.specs.Adopting.{IsNewlyOpened, AdoptedFrom, HoldsGood, StillGood, IsRisingAt, NamesFirst, BrokenBy, IsRefusedBy}
 use Rattle.plant_good_found.specs.Restoring.{state_in, AreUnbroken}
-use Rattle.plant_desk_store.specs.Standing.{IsOpenAt, OthersStand}
+use Rattle.plant_desk_store.specs.Standing.{IsOpenAt, OthersStand, FindsStateOf}
+use Rattle.plant_desk_store.specs.Testing.{IsFit}
 use Rattle.plant_desk_store.specs.declared.adopting.AdoptFault.{AdoptFault}
 use Rattle.plant_desk_store.specs.declared.adopting.AdoptFault.TheVariants as fault
 use Rattle.plant_good_found.proofs.Restored.{unbroken_good, unbroken_holds}
+use Rattle.plant_good_passes.proofs.Unbroken.{read_good}
 use Rattle.plant_desk_store.proofs.Others.{others_settled, keeps_itself}
-use Rattle.plant_desk_store.proofs.Resting.{still_at, still_open, open_at}
+use Rattle.plant_desk_store.proofs.Resting.{still_at, open_at}
 
 -- ---- the store
 
 -- a rule that the loaded rows break is one that the tables do
-broken_tables : (db : Database) (x : Loaded) (f : AdoptFault) → AreLoaded db x → BrokenBy x f → NamesFirst db f
-broken_tables db x fault.Store loaded h = tt
-broken_tables db x (fault.Newer n) loaded h = absurd h
-broken_tables db x (fault.Damaged r) loaded h = inr (x, loaded, h)
-broken_tables db x fault.Memory loaded h = tt
+broken_tables : (version : ℕ) (db : Database) (x : Loaded) (f : AdoptFault) → IsVersion db (pos version) → AreLoaded version db x → BrokenBy x f → NamesFirst db f
+broken_tables version db x fault.Store told loaded h = tt
+broken_tables version db x (fault.Newer n) told loaded h = absurd h
+broken_tables version db x (fault.Damaged r) told loaded h = inr (version, told, (x, loaded, h))
+broken_tables version db x fault.Memory told loaded h = tt
 
-pub all_broken : (db : Database) (x : Loaded) (judged : Result (Unit {0}) AdoptFault) → AreLoaded db x → IfErr judged (BrokenBy x) → IfErr judged (NamesFirst db)
-all_broken db x (Ok u) loaded h = tt
-all_broken db x (Err f) loaded h = broken_tables db x f loaded h
+pub all_broken : {A : Type 0} (version : ℕ) (db : Database) (x : Loaded) (judged : Result A AdoptFault) → IsVersion db (pos version) → AreLoaded version db x → IfErr judged (BrokenBy x) → IfErr judged (NamesFirst db)
+all_broken version db x (Ok u) told loaded h = tt
+all_broken version db x (Err f) told loaded h = broken_tables version db x f told loaded h
 
 -- there is something of the desk, of no version above the newest
-pub record IsKnown (db : Database) : Type 0 where
+pub record IsThere (db : Database) : Type 0 where
   pub taken : ¬ All (IsFree db.schema) desk_forms
   pub known : (n : ℕ) → newest_schema < n → ¬ IsVersion db (pos n)
 
-refused_so : (db : Database) (f : AdoptFault) → IsKnown db → NamesFirst db f → IsRefusedBy db f
+refused_so : (db : Database) (f : AdoptFault) → IsThere db → NamesFirst db f → IsRefusedBy db f
 refused_so db fault.Store there h = tt
 refused_so db (fault.Newer n) there h = absurd h
 refused_so db (fault.Damaged r) there h = record { taken = there.taken; known = there.known; broken = h }
 refused_so db fault.Memory there h = tt
 
-pub all_refused : (db : Database) (judged : Result (Unit {0}) AdoptFault) → IsKnown db → IfErr judged (NamesFirst db) → IfErr judged (IsRefusedBy db)
+pub all_refused : (db : Database) (judged : Result (Unit {0}) AdoptFault) → IsThere db → IfErr judged (NamesFirst db) → IfErr judged (IsRefusedBy db)
 all_refused db (Ok u) there h = tt
 all_refused db (Err f) there h = refused_so db f there h
 
@@ -78,18 +81,28 @@ none_newer db v found low n above other =
 
 -- ---- what is adopted
 
--- rows that break no rule are those of a good state, whose tables the store holds
-pub rows_good : (c new : store.State) (x : Loaded) (judged : Result (Unit {0}) AdoptFault) → AreRising x → StandIn desk_forms c.now (contents_loaded x)
-    → ((s : State) → IsGood s → HoldsTables c.now (tables_of newest_schema s) → IsOpenAt new s)
-    → OnOk judged ((r : Rows) × (rows_from x ≡ Some r) × (first_broken_of r ≡ None) × (r.meta.schema ≡ newest_schema))
-    → OnOk judged ((s : State) × IsGood s × HoldsTables c.now (tables_of newest_schema s) × IsOpenAt new s)
-rows_good c new x (Err f) rising stands opens h = tt
-rows_good c new x (Ok u) rising stands opens h =
-    let r = h.0 in
-    let unbroken : AreUnbroken x r = record { rising = rising; read = h.1; unbroken = h.2; newest = h.3 } in
-    let good = (unbroken_good x r unbroken).good in
-    let holds = unbroken_holds c.now x r unbroken stands in
-    (state_in r, good, holds, opens (state_in r) good holds)
+module _ (version : ℕ) (db : Database) (x : Loaded) (known : IsKnown version) (loaded : AreLoaded version db x) where
+  -- the rows of a good state's tables are read as they are
+  rows_of_good : (s : State) (rows : DeskRows) → HoldsGood version db s → IsFit x version rows → rows_listed rows ≡ rows_in (tables_of version s)
+  rows_of_good s rows held fit = let again = (read_good version db s x known held.1 held.2 loaded).0 in let both = sym fit.read ∙ again in cc
+
+  pub told_rows : (s : State) (judged : Result DeskRows AdoptFault) → HoldsGood version db s → IfOk judged (IsFit x version) → IfOk judged (λ rows. rows_listed rows ≡ rows_in (tables_of version s))
+  told_rows s (Err f) held fit = tt
+  told_rows s (Ok rows) held fit = rows_of_good s rows held fit
+
+  -- rows that break no rule are those of a good state, whose tables the store holds
+  pub good_rows : (judged : Result DeskRows AdoptFault) → AreRising version x → StandIn (forms_of version) db (contents_loaded x) → IfOk judged (IsFit x version)
+      → IfOk judged (λ rows. (s : State) × HoldsGood version db s × (rows_listed rows ≡ rows_in (tables_of version s)))
+  unfolding rows_listed
+  good_rows (Err f) rising stands fit = tt
+  good_rows (Ok rows) rising stands fit =
+      let r = rows_listed rows in
+      let unbroken : AreUnbroken x r = record { rising = subst (λ k. AreRising k x) (sym fit.tells) rising; read = fit.read; unbroken = fit.unbroken } in
+      let s = state_in r in
+      let holds : HoldsTablesOf version db (tables_of version s) =
+      subst (λ k. HoldsTablesOf k db (tables_of k s)) fit.tells (unbroken_holds db x r unbroken (subst (λ k. StandIn (forms_of k) db (contents_loaded x)) (sym fit.tells) stands)) in
+      let held : HoldsGood version db s = (known, (unbroken_good x r unbroken).good, holds) in
+      (s, held, rows_of_good s rows held fit)
 
 -- a store that is unchanged is as it was opened
 pub still_new : (old new : store.State) → IsNewlyOpened old → IsUnchanged old new → IsStore new → IsNewlyOpened new
@@ -105,12 +118,26 @@ still_new old new newly same laws = record {
 
 pub opens_new : (old new : store.State) → IsNewlyOpened old → HasCleanDisk new → IsUnchanged old new → Keeps old new → IsStore new → (s : State) → IsGood s → HoldsTables old.now (tables_of newest_schema s) → IsOpenAt new s
 opens_new old new newly clean same kept laws s good holds =
-    open_at new s good (still_at old new (tables_of newest_schema s) (record { settled = newly.settled; holds = holds }) kept laws same.0.is_open) clean laws
+    open_at new s good (still_at newest_schema old new (tables_of newest_schema s) (record { settled = newly.settled; holds = holds }) kept laws same.0.is_open) clean laws
 
 -- a store over the tables of a good state, after calls that only read
-pub stays_good : (old new : store.State) → IsStore old → (HasCleanDisk new → HasCleanDisk old) → (HasCleanDisk new → Keeps old new) → Survives old new (λ _. ⊥) → IsStore new → KeepsGood old new
-stays_good old new first was kept survives laws = λ clean newly s good holds.
-    still_open old new s (open_at old s good (record { settled = newly.settled; holds = holds }) (was clean) first) clean (kept clean) survives laws
+pub stays_good : (old new : store.State) → (HasCleanDisk new → Keeps old new) → Survives old new (λ _. ⊥) → IsStore new → StillGood old new
+stays_good old new kept survives laws = λ clean newly version s held. record {
+  good = held.1;
+  shows = λ live. still_at version old new (tables_of version s) (record { settled = newly.settled; holds = held.2 }) (kept clean) laws live;
+  something = laws.something clean;
+  nothing_else = λ db left.
+      let before : old.may_leave db = elim (survives.crash clean db left) [
+        | inl was ↦ was
+        | inr none ↦ absurd none
+      ] in
+      let same : old.now.trees ≡ db = ap (λ (d : Database). d.trees) newly.settled.shows ∙ sym (newly.settled.nothing_else db before) in (
+        version,
+        omega arith,
+        held.0.1,
+        record { good = held.1; schema = old.now.schema; holds = subst (λ (trees : Trees). HoldsTablesOf version (record { schema = old.now.schema; trees = trees }) (tables_of version s)) same held.2 },
+      );
+}
 
 -- the tables weren't made, and the store shows what it showed
 pub unopened_keeps : (old new : store.State) → IsSettled old → IsUnopened old new → Keeps old new
@@ -124,14 +151,41 @@ pub adopts_none : (c new : store.State) (made : Result (Unit {0}) AdoptFault) �
 adopts_none c new (Err f) free h = tt
 adopts_none c new (Ok u) free h = inl (free, h)
 
-pub adopts_some : (c new : store.State) (db : Database) (judged : Result (Unit {0}) AdoptFault) → db ≡ c.now → OnOk judged ((s : State) × IsGood s × HoldsTables db (tables_of newest_schema s) × IsOpenAt new s) → OnOk judged (AdoptedFrom c (IsOpenAt new))
-adopts_some c new db (Err f) same h = tt
-adopts_some c new db (Ok u) same h = inr (h.0, h.1, subst (λ (d : Database). HoldsTables d (tables_of newest_schema h.0)) same h.2, h.3)
+pub adopts_some : (c new : store.State) (version : ℕ) (db : Database) (judged : Result (Unit {0}) AdoptFault) → db ≡ c.now → OnOk judged ((s : State) × HoldsGood version db s × IsOpenAt new s) → OnOk judged (AdoptedFrom c (IsOpenAt new))
+adopts_some c new version db (Err f) same h = tt
+adopts_some c new version db (Ok u) same h = inr (version, (h.0, subst (λ (d : Database). HoldsGood version d h.0) same h.1, h.2))
 
--- ---- tables of a good state
+-- ---- what was raised
 
-pub judged_others : (old new : store.State) (judged : Result (Unit {0}) AdoptFault) → IsNewlyOpened new → new.now ≡ old.now
-    → OnOk judged ((s : State) × IsGood s × HoldsTables old.now (tables_of newest_schema s) × IsOpenAt new s) → OnOk judged (OthersStand old.now new)
-judged_others old new (Err f) newly same h = tt
-judged_others old new (Ok u) newly same h =
-    others_settled old.now new newly.settled (subst IsDatabase (sym same) h.2.sound) (subst (KeepsOthers desk_forms old.now) (sym same) (keeps_itself old.now))
+-- the raising was cut short
+pub rises : (old new : store.State) (s : State) → IsGood s → IsCutShortOf 1 old new (tables_of 1 s) (tables_of newest_schema s) → IsRisingAt 1 new s
+rises old new s good cut = record {
+  good = good;
+  shows = λ live. (cut.shows live).0;
+  something = cut.leaves;
+  nothing_else = λ db left. elim (cut.nothing_else db left) [
+    | inl before ↦ (1, omega arith, omega arith, record { good = good; schema = before.schema; holds = before.holds })
+    | inr after ↦ (newest_schema, omega arith, omega arith, record { good = good; schema = after.schema; holds = after.holds })
+  ];
+}
+
+pub cut_keeps : (old new : store.State) (t after : Tables) → IsSettled old → IsCutShortOf 1 old new t after → Keeps old new
+cut_keeps old new t after settled cut = record {
+  was_open = λ live. settled.is_open;
+  now = λ live. (cut.shows live).1;
+  committed = λ live. let shown = cut.shows live in sym shown.0.settled.shows ∙ shown.1 ∙ settled.shows;
+}
+
+-- tables of other names stand in a store that is unchanged
+pub others_unchanged : (old new : store.State) → IsNewlyOpened new → new.now ≡ old.now → IsDatabase old.now → OthersStand old.now new
+others_unchanged old new newly same sound = others_settled old.now new newly.settled (subst IsDatabase (sym same) sound) (subst (KeepsOthers desk_forms old.now) (sym same) (keeps_itself old.now))
+
+-- ---- what holds at every exit
+
+pub always_ok : {X E P : Type 0} (r : Result X E) → P → OnOk r P
+always_ok (Ok x) h = h
+always_ok (Err e) h = tt
+
+pub always_err : {X E P : Type 0} (r : Result X E) → P → OnErr r P
+always_err (Ok x) h = tt
+always_err (Err e) h = h

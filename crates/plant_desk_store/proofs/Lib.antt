@@ -5,6 +5,7 @@ pub mod Judging
 pub mod Lasting
 pub mod OneSchema
 pub mod Others
+pub mod Raising
 pub mod Reopening
 pub mod Resting
 pub mod Showing

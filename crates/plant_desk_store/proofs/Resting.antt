@@ -1,5 +1,5 @@
 -- What a call that only reads leaves of where a store stands, and what a commit makes of it.
-use Rattle.std.proofs.Common.{◌≡◌, ◌∙◌, inl, inr, sym, ap, subst, refl, IsTrue}
+use Rattle.std.proofs.Common.{◌≡◌, ◌∙◌, ℕ, inl, inr, sym, ap, subst, refl, IsTrue}
 use Rattle.std.specs.Prelude.{◌⊎◌}
 use Rattle.sqlite.specs.Tree.{Trees}
 use Rattle.sqlite.specs.Effect.{Database}
@@ -10,29 +10,29 @@ use Rattle.plant_view.specs.Tables.{Tables, tables_of}
 use Rattle.plant_good.specs.Good.{IsGood}
 use Rattle.table_forms.specs.Resting.{Keeps}
 use Rattle.table_forms.proofs.Ending.{IsStore}
-use Rattle.plant_tables.specs.DeskStopping.{IsAt, Finds, IsCutShort}
-use Rattle.plant_tables.specs.Keyed.{HoldsTables}
+use Rattle.plant_tables.specs.DeskStopping.{IsAt, IsAtOf, Finds, IsCutShort}
+use Rattle.plant_tables.specs.Keyed.{HoldsTablesOf, HoldsTables}
 use Rattle.plant_desk.specs.Keeping.{States}
 use Rattle.plant_desk_store.specs.Left.{spared_leaves}
 use Rattle.plant_desk_store.specs.Standing.{StandsAt, FindsState, Leaves, IsOpenAt}
 
 -- ---- a call that only reads
 
-pub still_at : (old new : store.State) (t : Tables) → IsAt old t → Keeps old new → IsStore new → IsTrue new.is_open → IsAt new t
-still_at old new t at kept laws live = record {
+pub still_at : (version : ℕ) (old new : store.State) (t : Tables) → IsAtOf version old t → Keeps old new → IsStore new → IsTrue new.is_open → IsAtOf version new t
+still_at version old new t at kept laws live = record {
   settled = record {
     is_open = live;
     shows = kept.now live ∙ at.settled.shows ∙ sym (kept.committed live);
     leaves = laws.stays live;
     nothing_else = λ db left. laws.settled db live left;
   };
-  holds = subst (λ (d : Database). HoldsTables d t) (sym (kept.now live)) at.holds;
+  holds = subst (λ (d : Database). HoldsTablesOf version d t) (sym (kept.now live)) at.holds;
 }
 
 pub still_stands : (old new : store.State) (s : State) → StandsAt old s → Keeps old new → IsStore new → StandsAt new s
 still_stands old new s stands kept laws = record {
   good = stands.good;
-  shows = λ live. still_at old new (tables_of newest_schema s) (stands.shows (kept.was_open live)) kept laws live;
+  shows = λ live. still_at newest_schema old new (tables_of newest_schema s) (stands.shows (kept.was_open live)) kept laws live;
 }
 
 pub still_leaves : (old new : store.State) (states : States) → Leaves old states → HasCleanDisk new → Survives old new (λ _. ⊥) → IsStore new → Leaves new states

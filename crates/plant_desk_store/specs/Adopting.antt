@@ -1,5 +1,5 @@
 -- How a store that was opened is adopted.
-use Rattle.std.specs.Prelude.{◌≡◌, ◌⊎◌, ◌<◌, ℕ, ℤ, pos, All, Option, Some, None, ⊤}
+use Rattle.std.specs.Prelude.{◌≡◌, ◌⊎◌, ◌<◌, ◌≤◌, ℕ, ℤ, pos, All, Option, Some, None, IsTrue, ⊤}
 use Rattle.sqlite.specs.Tree.{Trees}
 use Rattle.sqlite.specs.Effect.{Database}
 use Rattle.sqlite.specs.State as store
@@ -7,38 +7,60 @@ use Rattle.sqlite.specs.State.{HasCleanDisk}
 use Rattle.plant_base.specs.State.{State, opening, newest_schema}
 use Rattle.plant_view.specs.Tables.{tables_of}
 use Rattle.plant_good.specs.Good.{IsGood}
-use Rattle.table_forms.specs.Standing.{AreFree, IsFree, HasTable}
+use Rattle.table_forms.specs.Standing.{AreFree, IsFree}
 pub use Rattle.table_reads.specs.Opened.{IsNewlyOpened}
 use Rattle.plant_tables.specs.DeskForms.{desk_forms}
-use Rattle.plant_tables.specs.DeskStopping.{MakesDesk}
-use Rattle.plant_tables.specs.Keyed.{HoldsTables}
+use Rattle.plant_tables.specs.DeskStopping.{MakesDesk, IsAtOf}
+use Rattle.plant_tables.specs.Keyed.{HoldsTablesOf}
 use Rattle.plant_tables_stored.specs.Loading.{AreLoaded}
-use Rattle.plant_tables_stored.specs.Version.{IsVersion}
+use Rattle.plant_tables_stored.specs.Version.{IsVersion, IsKnown, HasTablesOf}
 use Rattle.plant_tables_stored.specs.declared.loaded.Loaded.{Loaded}
 use Rattle.plant_check.specs.Broken.{first_broken}
 use Rattle.plant_check.specs.declared.rule.Rule.{Rule}
 use Rattle.plant_check.specs.declared.rule.Rule.TheVariants as rule
+use Rattle.plant_migrate.specs.Standing.{Raised}
 use Rattle.plant_desk.specs.Keeping.{States}
-use Rattle.plant_desk_store.specs.Standing.{IsOpenAt}
+use Rattle.plant_desk_store.specs.Standing.{IsOpenAt, FindsStateOf}
 use Rattle.plant_desk_store.specs.declared.adopting.AdoptFault.{AdoptFault}
 use Rattle.plant_desk_store.specs.declared.adopting.AdoptFault.TheVariants as fault
 
--- the store had none of the desk's tables, and the desk stands at the opening state; or it had those of a good state,
--- and the desk stands there
+-- the tables of a good state, of a version that can be read
+abbrev pub HoldsGood : ℕ → Database → State → Type 0
+HoldsGood version db s = IsKnown version × IsGood s × HoldsTablesOf version db (tables_of version s)
+
+-- the store had none of the desk's tables, and the desk stands at the opening state; or it had those of a good state, of
+-- some version, and the desk stands there
 abbrev pub AdoptedFrom : store.State → States → Type 0
-AdoptedFrom c stands = (AreFree desk_forms c.now.schema × stands opening) ⊎ ((s : State) × IsGood s × HoldsTables c.now (tables_of newest_schema s) × stands s)
+AdoptedFrom c stands = (AreFree desk_forms c.now.schema × stands opening) ⊎ ((version : ℕ) × ((s : State) × HoldsGood version c.now s × stands s))
 
 -- Whatever good state's tables were there, the store stands at that state, and a stop leaves that alone.
 abbrev pub KeepsGood : store.State → store.State → Type 0
-KeepsGood old new = HasCleanDisk new → IsNewlyOpened old → (s : State) → IsGood s → HoldsTables old.now (tables_of newest_schema s) → IsOpenAt new s
+KeepsGood old new = HasCleanDisk new → IsNewlyOpened old → (version : ℕ) (s : State) → HoldsGood version old.now s → IsOpenAt new s
 
--- table meta doesn't stand with one good row, or a table doesn't stand as it is declared
+-- The store, where it is open, shows the tables of the state as they are in this version, and a stop leaves something, and
+-- nothing else than tables of the state, of a version from this to the newest.
+pub record IsRisingAt (version : ℕ) (c : store.State) (s : State) : Type 0 where
+  pub good : IsGood s
+  pub shows : IsTrue c.is_open → IsAtOf version c (tables_of version s)
+  pub something : ∥ ((db : Trees) × c.may_leave db) ∥₁
+  pub nothing_else : (db : Trees) → c.may_leave db → (later : ℕ) × (version ≤ later) × (later ≤ newest_schema) × FindsStateOf later db s
+
+-- Whatever good state's tables were there, they still are, or a stop may leave those of a later version.
+abbrev pub StillGood : store.State → store.State → Type 0
+StillGood old new = HasCleanDisk new → IsNewlyOpened old → (version : ℕ) (s : State) → HoldsGood version old.now s → IsRisingAt version new s
+
+-- table meta doesn't stand with one good row, or the tables of its version don't stand as they are declared, or one that a
+-- later version adds is there
 abbrev pub LacksTables : Database → Type 0
-LacksTables db = ((n : ℤ) → ¬ IsVersion db n) ⊎ (¬ All (HasTable db.schema) desk_forms)
+LacksTables db = ((n : ℤ) → ¬ IsVersion db n) ⊎ ((version : ℕ) × IsVersion db (pos version) × ¬ HasTablesOf version db.schema)
+
+-- the rows of the tables, of the version that meta tells, break this rule first
+abbrev pub AreFirstBroken : Database → Rule → Type 0
+AreFirstBroken db r = (version : ℕ) × IsVersion db (pos version) × ((x : Loaded) × AreLoaded version db x × (first_broken x ≡ Some r))
 
 -- this is the first rule that the tables break
 abbrev pub IsFirstBroken : Database → Rule → Type 0
-IsFirstBroken db r = ((r ≡ rule.Tables) × LacksTables db) ⊎ ((x : Loaded) × AreLoaded db x × (first_broken x ≡ Some r))
+IsFirstBroken db r = ((r ≡ rule.Tables) × LacksTables db) ⊎ AreFirstBroken db r
 
 -- There is something of the desk, for not all of its tables' names are free; table meta tells no version above the
 -- newest; and this is the first rule that the tables break.
@@ -76,3 +98,12 @@ IsRefusedBy db fault.Memory = ⊤
 -- the trees with the tables of the opening state made in this database
 abbrev pub Opened : Database → Trees → Type 0
 Opened old trees = (db : Database) × MakesDesk old db × (trees ≡ db.trees)
+
+-- the trees with either: the tables made, or good ones of the first schema raised
+abbrev pub Written : Database → Trees → Type 0
+Written old trees = Opened old trees ⊎ Raised old trees
+
+-- some of the desk's tables are there, and not of a version that is raised
+pub record IsUnraised (db : Database) : Type 0 where
+  pub taken : AreFree desk_forms db.schema → ⊥
+  pub newest : (n : ℕ) → n < newest_schema → ¬ IsVersion db (pos n)

@@ -1,5 +1,5 @@
 -- Where the store of a desk stands, and what a stop leaves of it, in states of the desk.
-use Rattle.std.specs.Prelude.{◌≡◌, ◌⊎◌, Bool, false, Result, Ok, Err, IsTrue}
+use Rattle.std.specs.Prelude.{◌≡◌, ◌⊎◌, ℕ, Bool, false, Result, Ok, Err, IsTrue}
 use Rattle.sqlite.specs.Tree.{Trees}
 use Rattle.sqlite.specs.Schema.{Schema}
 use Rattle.sqlite.specs.Effect.{Database}
@@ -13,7 +13,7 @@ use Rattle.plant_good.specs.Good.{IsGood}
 use Rattle.table_forms.specs.Standing.{KeepsOthers}
 use Rattle.plant_tables.specs.DeskForms.{desk_forms}
 use Rattle.plant_tables.specs.DeskStopping.{IsAt}
-use Rattle.plant_tables.specs.Keyed.{HoldsTables}
+use Rattle.plant_tables.specs.Keyed.{HoldsTablesOf}
 use Rattle.plant_desk.specs.Keeping.{States}
 use Rattle.plant_desk.specs.Replies.{reply}
 use Rattle.plant_desk.specs.declared.reply.Reply.{Reply}
@@ -25,11 +25,15 @@ pub record StandsAt (c : store.State) (s : State) : Type 0 where
   pub good : IsGood s
   pub shows : IsTrue c.is_open → IsAt c (tables_of newest_schema s)
 
--- What an opening of these trees finds are the tables of this good state.
-pub record FindsState (trees : Trees) (s : State) : Type 0 where
+-- What an opening of these trees finds are the tables of this good state, of a version.
+pub record FindsStateOf (version : ℕ) (trees : Trees) (s : State) : Type 0 where
   pub good : IsGood s
   pub schema : Schema
-  pub holds : HoldsTables (record { schema = schema; trees = trees }) (tables_of newest_schema s)
+  pub holds : HoldsTablesOf version (record { schema = schema; trees = trees }) (tables_of version s)
+
+-- those of the newest
+abbrev pub FindsState : Trees → State → Type 0
+FindsState = FindsStateOf newest_schema
 
 -- A stop leaves something, and whatever it leaves are the tables of one of these states.
 pub record Leaves (c : store.State) (states : States) : Type 0 where

@@ -38,7 +38,7 @@ pub(crate) fn read_rows<S: Alter>(
         → (state S.Store connection.new).in_transaction ≡ false }
     ensures crash { Survives (state S.Store connection.old) (state S.Store connection.new) (λ _. ⊥) }
 {
-    match Loaded::read(alloc, connection, NEWEST_SCHEMA as i64)? {
+    match Loaded::read(alloc, connection, NEWEST_SCHEMA)? {
         None => Err(Fault::Store),
         Some(loaded) => fit_rows(alloc, &loaded),
     }
@@ -49,9 +49,9 @@ fn fit_rows(alloc: Global, loaded: &Loaded) -> Result<DeskRows, Fault>
     ensures rows { IfOk result (λ rows. rows_from loaded.now ≡ Some (rows_listed rows)) }
     ensures unbroken { IfOk result (λ rows. first_broken_of (rows_listed rows) ≡ None) }
     ensures newest { IfOk result (λ rows. rows.meta.schema ≡ newest_schema) }
-    ensures store { result ≡ Err Fault.Store → IsUnfit loaded.now }
+    ensures store { result ≡ Err Fault.Store → IsUnfit loaded.now newest_schema }
 {
-    match judge(alloc, loaded) {
+    match judge(alloc, loaded, NEWEST_SCHEMA) {
         Ok(rows) => Ok(rows),
         Err(Unfit::Broken(_)) => Err(Fault::Store),
         Err(Unfit::Schema) => Err(Fault::Store),

@@ -36,7 +36,7 @@ pub(crate) fn verify_on<S: Alter>(
         → (state S.Store connection.new).in_transaction ≡ false }
     ensures crash { Survives (state S.Store connection.old) (state S.Store connection.new) (λ _. ⊥) }
 {
-    match Loaded::read(alloc, connection, NEWEST_SCHEMA as i64) {
+    match Loaded::read(alloc, connection, NEWEST_SCHEMA) {
         Err(fault) => Err(fault_of(fault)),
         Ok(None) => Err(DeskFault::Store),
         Ok(Some(loaded)) => broken_rule(alloc, &loaded),
@@ -48,7 +48,7 @@ fn broken_rule(alloc: Global, loaded: &Loaded) -> Result<Option<Rule>, DeskFault
     ensures broken { IfOk result (λ broken. broken ≡ first_broken loaded.now) }
     ensures memory { IfErr result (λ fault. fault ≡ DeskFault.Memory) }
 {
-    match judge(alloc, loaded) {
+    match judge(alloc, loaded, NEWEST_SCHEMA) {
         Ok(_) => Ok(None),
         Err(Unfit::Broken(rule)) => Ok(Some(rule)),
         Err(Unfit::Schema) => Ok(None),

@@ -11,7 +11,7 @@ use Rattle.plant_check_stock.specs.Movements.{are_movements}
 use Rattle.plant_check_stock.specs.Numbering.{are_numbers}
 use Rattle.plant_check_stock.specs.Times.{are_times}
 use Rattle.plant_tables_judged.specs.Collecting.{Rows}
-use Rattle.plant_check.specs.Broken.{unless, or_else, are_whole, movements_in, are_acyclic, broken_plan, broken_lot, broken_history, are_right_movements, are_right_numbers, first_broken_of}
+use Rattle.plant_check.specs.Broken.{unless, or_else, are_whole, movements_in, are_acyclic, are_kept_edges, are_right_edges, broken_plan, broken_lot, broken_history, are_right_movements, are_right_numbers, first_broken_of}
 use Rattle.plant_check.specs.Ends.{are_stocks}
 use Rattle.plant_check.specs.Lots.{are_lots}
 use Rattle.plant_check.specs.declared.rule.Rule.{Rule}
@@ -29,6 +29,7 @@ pub record PassesAll (r : Rows) : Type 0 where
   pub numbers : are_numbers r.meta.position.seq r.events (movements_in r.movements) ≡ true
   pub times : are_times r.meta.position.at (movements_in r.movements) r.events r.batches r.holds ≡ true
   pub descent : are_acyclic (edges_among (movements_in r.movements)) ≡ true
+  pub edges : are_kept_edges r.meta.schema r.edges (movements_in r.movements) ≡ true
 
 pub obeyed : (b : Bool) (r : Rule) (rest : Option Rule) → unless b r rest ≡ None → (b ≡ true) × (rest ≡ None)
 obeyed true r rest e = (refl, e)
@@ -52,7 +53,7 @@ passes_all r none =
     let h1 = obeyed (are_right_movements r (movements_in r.movements)) _ _ stock.1 in
     let h2 = obeyed (are_events r.control_lines r.events r.batches) _ _ h1.1 in
     let h3 = obeyed (are_right_numbers r (movements_in r.movements)) _ _ h2.1 in
-    let h4 = obeyed (are_acyclic (edges_among (movements_in r.movements))) _ _ h3.1 in
+    let h4 = obeyed (are_right_edges r (movements_in r.movements)) _ _ h3.1 in
     record {
       classes = p1.0;
       recipes = p2.0;
@@ -65,5 +66,6 @@ passes_all r none =
       events = h2.0;
       numbers = and_left (are_numbers r.meta.position.seq r.events (movements_in r.movements)) _ h3.0;
       times = and_right (are_numbers r.meta.position.seq r.events (movements_in r.movements)) _ h3.0;
-      descent = h4.0;
+      descent = and_left (are_acyclic (edges_among (movements_in r.movements))) _ h4.0;
+      edges = and_right (are_acyclic (edges_among (movements_in r.movements))) _ h4.0;
     }

@@ -2,12 +2,14 @@
 use Rattle.std.proofs.Common.{◌≡◌, ◌∙◌, ◌≤◌, true, map, Option, Some, None, is_some, refl, sym, ap, subst}
 use Rattle.std.specs.List.{AllByRecursion}
 use Rattle.plant_base.specs.Values.{greatest_sublot}
-use Rattle.plant_base.specs.State.{newest_schema, batch_order, place_order}
+use Rattle.std.specs.List.Sorted.{IsStrictlySortedBy}
+use Rattle.plant_base.specs.Edges.{edge_order}
+use Rattle.plant_base.specs.State.{batch_order, place_order}
 use Rattle.plant_base.specs.declared.rows.Place.{Place}
 use Rattle.plant_base.proofs.Put.{all_weaker}
 use Rattle.plant_view.specs.Genealogy.{edges_among}
 use Rattle.plant_view.specs.Sound.{IsSound}
-use Rattle.plant_view.specs.Tables.{tables_of, place_of_row, batch_of_row}
+use Rattle.plant_view.specs.Tables.{tables_of, edges_in, place_of_row, batch_of_row}
 use Rattle.plant_view.proofs.Rows.{all_mapped, each_passes, sorted_mapped}
 use Rattle.plant_good.specs.Good.{IsGood}
 use Rattle.plant_good.specs.Valued.{HasRowValues, HasPlaceValues, HasMovementValues}
@@ -23,6 +25,8 @@ use Rattle.plant_check.specs.Broken.{movements_in, broken_rows, first_broken_of,
 use Rattle.plant_check.specs.Ends.{are_stocks}
 use Rattle.plant_check.specs.Lots.{are_lots}
 use Rattle.plant_check.proofs.Cycles.{to_acyclic}
+use Rattle.plant_check.proofs.EdgeSets.{same_list}
+use Rattle.plant_view.proofs.EdgeRows.{edges_sorted}
 use Rattle.plant_good_found.specs.Restoring.{state_in, UnbrokenIsRead, UnbrokenIsGood, UnbrokenHolds}
 use Rattle.plant_good_found.proofs.Batches.{control_numbered, sound_batches}
 use Rattle.plant_good_found.proofs.Booking.{all_booked, movement_values}
@@ -116,20 +120,27 @@ module _ (r : Rows) (p : PassesAll r) where
         moments = sound_moments r.meta.position.at (movements_in r.movements) r.events r.batches r.holds p.times;
       }
 
-  same_tables : r.meta.schema ≡ newest_schema → tables_in r ≡ tables_of newest_schema (state_in r)
-  same_tables newest =
+  -- the edges are those of the movements
+  edges : r.edges ≡ edges_in r.meta.schema (movements_in r.movements)
+  edges = same_list r.edges (edges_in r.meta.schema (movements_in r.movements)) p.edges
+
+  sorted_edges : IsStrictlySortedBy edge_order r.edges
+  sorted_edges = subst (IsStrictlySortedBy edge_order) (sym edges) (edges_sorted r.meta.schema (movements_in r.movements))
+
+  same_tables : tables_in r ≡ tables_of r.meta.schema (state_in r)
+  same_tables =
       let batches = same_batches r.recipes r.master_lines r.jobs r.batches r.control_lines r.events p.batches p.orders p.events in
       let sublots = same_sublots r p.movements stocks in
-      λ i. record (tables_in r) { meta = record r.meta { schema = newest i }; batches = sym batches i; sublots = sym sublots i }
+      λ i. record (tables_in r) { batches = sym batches i; sublots = sym sublots i; edges = edges i }
 
 pub unbroken_good : UnbrokenIsGood
 unbroken_good x r u =
     let p = passes_all r u.unbroken in
     let w = whole r p in
     record {
-      good = good r p (have_values x r u.read) (in_order x r u.rising u.read w);
+      good = good r p (have_values x r u.read) (in_order r.meta.schema x r u.rising u.read w (sorted_edges r p));
       whole = w;
-      tables = same_tables r p u.newest;
+      tables = same_tables r p;
     }
 
 pub unbroken_holds : UnbrokenHolds
@@ -137,7 +148,7 @@ unbroken_holds db x r u stand =
     let g = unbroken_good x r u in
     record {
       sound = stand.sound;
-      each = λ i form e. subst (Stands db form) (stands_for x r u.read g.whole i form e ∙ ap (λ t. contents_of t i) g.tables) (stand.each i form e);
+      each = λ i form e. subst (Stands db form) (stands_for x r u.read g.whole r.meta.schema i form e ∙ ap (λ t. contents_of t i) g.tables) (stand.each i form e);
     }
 
 rows_of : (rows : Option Rows) → broken_rows rows ≡ None → (r : Rows) × (rows ≡ Some r) × (first_broken_of r ≡ None)

@@ -1,5 +1,5 @@
 -- The rows that were read stand in the order of their keys.
-use Rattle.std.proofs.Common.{◌≡◌, ◌∙◌, List, [], ◌∷◌, map, Bool, Some, is_lt, refl, sym, subst}
+use Rattle.std.proofs.Common.{◌≡◌, ◌∙◌, ℕ, List, [], ◌∷◌, map, Bool, Some, is_lt, refl, sym, subst}
 use Rattle.std.specs.Cmp.{IsTotalOrder}
 use Rattle.std.specs.List.{AllByRecursion}
 use Rattle.std.specs.List.Sorted.{IsStrictlySortedBy}
@@ -8,6 +8,7 @@ use Rattle.std.specs.declared.cmp.Ordering.{Ordering}
 use Rattle.std.specs.declared.cmp.Ordering.TheVariants.{Less}
 use Rattle.sqlite.specs.Effect.{Database}
 use Rattle.sqlite.specs.Order.{Row}
+use Rattle.plant_base.specs.Edges.{edge_order}
 use Rattle.plant_base.specs.State.{class_order, definition_order, recipe_order, master_line_order, job_order, control_line_order, lot_order, hold_order, event_order, movement_order}
 use Rattle.plant_view.specs.Tables.{batch_row_order, sublot_order}
 use Rattle.table_reads.specs.Rises.{Rises}
@@ -45,22 +46,23 @@ module _ {R : Type 0} (written : R → Row) (form : Form) (order : R → R → O
       let rising : IsStrictlySortedBy keys rows = subst (IsStrictlySortedBy keys) (map_same rows) (strictly_sorted (λ row. row) (comes_before form) keys (key_total (first_of form.keys)) (λ a b. refl) rows rise) in
       rows_rise written order keys by_key rs (subst (IsStrictlySortedBy keys) same rising)
 
-pub in_order : (x : Loaded) (r : Rows) → AreRising x → rows_from x ≡ Some r → AreWhole r → AreInOrder (tables_in r)
-in_order x r rising read whole =
+pub in_order : (schema : ℕ) (x : Loaded) (r : Rows) → AreRising schema x → rows_from x ≡ Some r → AreWhole r → IsStrictlySortedBy edge_order r.edges → AreInOrder (tables_in r)
+in_order schema x r rising read whole edges =
     let s = are_stored x r read whole in
     record {
       keyed = record {
-        classes = table_rises row_of_class class_form class_order (λ a b. by_text a.id b.id) _ r.classes (rising 1 class_form refl) s.classes;
-        definitions = table_rises row_of_definition definition_form definition_order (λ a b. by_text a.id b.id) _ r.definitions (rising 2 definition_form refl) s.definitions;
-        recipes = table_rises row_of_recipe recipe_form recipe_order (λ a b. by_text_number a.header.recipe b.header.recipe a.header.version b.header.version) _ r.recipes (rising 3 recipe_form refl) s.recipes;
-        master_lines = table_rises row_of_master_line recipe_line_form master_line_order (λ a b. by_text_numbers a.recipe b.recipe a.version b.version a.number b.number) _ r.master_lines (rising 4 recipe_line_form refl) s.master_lines;
-        jobs = table_rises row_of_job job_form job_order (λ a b. by_text a.order.order b.order.order) _ r.jobs (rising 5 job_form refl) s.jobs;
-        batches = table_rises row_of_batch batch_form batch_row_order (λ a b. by_text a.batch.id b.batch.id) _ r.batches (rising 6 batch_form refl) s.batches;
-        control_lines = table_rises row_of_control_line control_line_form control_line_order (λ a b. by_text_number a.batch b.batch a.number b.number) _ r.control_lines (rising 7 control_line_form refl) s.control_lines;
-        lots = table_rises row_of_lot lot_form lot_order (λ a b. by_text a.id b.id) _ r.lots (rising 9 lot_form refl) s.lots;
-        sublots = table_rises row_of_sublot sublot_form sublot_order (λ a b. by_text_number a.lot b.lot a.number b.number) _ r.sublots (rising 10 sublot_form refl) s.sublots;
-        holds = table_rises row_of_hold hold_form hold_order (λ a b. by_two_texts a.lot b.lot a.id b.id) _ r.holds (rising 12 hold_form refl) s.holds;
+        classes = table_rises row_of_class class_form class_order (λ a b. by_text a.id b.id) _ r.classes (rising.tables 1 class_form refl) s.classes;
+        definitions = table_rises row_of_definition definition_form definition_order (λ a b. by_text a.id b.id) _ r.definitions (rising.tables 2 definition_form refl) s.definitions;
+        recipes = table_rises row_of_recipe recipe_form recipe_order (λ a b. by_text_number a.header.recipe b.header.recipe a.header.version b.header.version) _ r.recipes (rising.tables 3 recipe_form refl) s.recipes;
+        master_lines = table_rises row_of_master_line recipe_line_form master_line_order (λ a b. by_text_numbers a.recipe b.recipe a.version b.version a.number b.number) _ r.master_lines (rising.tables 4 recipe_line_form refl) s.master_lines;
+        jobs = table_rises row_of_job job_form job_order (λ a b. by_text a.order.order b.order.order) _ r.jobs (rising.tables 5 job_form refl) s.jobs;
+        batches = table_rises row_of_batch batch_form batch_row_order (λ a b. by_text a.batch.id b.batch.id) _ r.batches (rising.tables 6 batch_form refl) s.batches;
+        control_lines = table_rises row_of_control_line control_line_form control_line_order (λ a b. by_text_number a.batch b.batch a.number b.number) _ r.control_lines (rising.tables 7 control_line_form refl) s.control_lines;
+        lots = table_rises row_of_lot lot_form lot_order (λ a b. by_text a.id b.id) _ r.lots (rising.tables 9 lot_form refl) s.lots;
+        sublots = table_rises row_of_sublot sublot_form sublot_order (λ a b. by_text_number a.lot b.lot a.number b.number) _ r.sublots (rising.tables 10 sublot_form refl) s.sublots;
+        holds = table_rises row_of_hold hold_form hold_order (λ a b. by_two_texts a.lot b.lot a.id b.id) _ r.holds (rising.tables 12 hold_form refl) s.holds;
+        edges = edges;
       };
-      events = table_rises row_of_event batch_event_form event_order (λ a b. by_number a.seq b.seq) _ r.events (rising 8 batch_event_form refl) s.events;
-      movements = table_rises row_of_movement movement_form movement_order (λ a b. by_two_numbers a.seq b.seq a.line b.line) _ (tables_in r).movements (rising 11 movement_form refl) s.movements;
+      events = table_rises row_of_event batch_event_form event_order (λ a b. by_number a.seq b.seq) _ r.events (rising.tables 8 batch_event_form refl) s.events;
+      movements = table_rises row_of_movement movement_form movement_order (λ a b. by_two_numbers a.seq b.seq a.line b.line) _ (tables_in r).movements (rising.tables 11 movement_form refl) s.movements;
     }

@@ -2,12 +2,12 @@
 use Rattle.std.specs.Prelude.{◌≡◌, Some, None, map}
 use Rattle.std.specs.List.{filter_map}
 use Rattle.sqlite.specs.Effect.{Database}
-use Rattle.plant_base.specs.State.{State, newest_schema}
+use Rattle.plant_base.specs.State.{State}
 use Rattle.plant_view.specs.Tables.{tables_of, place_of_row, batch_of_row}
 use Rattle.plant_good.specs.Good.{IsGood}
 use Rattle.table_forms.specs.Standing.{StandIn}
-use Rattle.plant_tables.specs.DeskForms.{desk_forms}
-use Rattle.plant_tables.specs.Keyed.{HoldsTables}
+use Rattle.plant_tables.specs.DeskForms.{forms_of}
+use Rattle.plant_tables.specs.Keyed.{HoldsTablesOf}
 use Rattle.plant_tables_stored.specs.Loading.{AreRising, contents_loaded}
 use Rattle.plant_tables_stored.specs.declared.loaded.Loaded.{Loaded}
 use Rattle.plant_tables_columns.specs.Booked.{movement_from}
@@ -33,18 +33,17 @@ state_in r = record {
   holds = r.holds;
 }
 
--- the rows are those of a good state's tables
+-- the rows are those of a good state's tables, in the schema that they tell
 pub record AreOfGood (r : Rows) : Type 0 where
   pub good : IsGood (state_in r)
   pub whole : AreWhole r
-  pub tables : tables_in r ≡ tables_of newest_schema (state_in r)
+  pub tables : tables_in r ≡ tables_of r.meta.schema (state_in r)
 
--- these rows of the newest schema were loaded, each table by its key, and break no rule
+-- these rows were loaded, each table by its key, and break no rule
 pub record AreUnbroken (x : Loaded) (r : Rows) : Type 0 where
-  pub rising : AreRising x
+  pub rising : AreRising r.meta.schema x
   pub read : rows_from x ≡ Some r
   pub unbroken : first_broken_of r ≡ None
-  pub newest : r.meta.schema ≡ newest_schema
 
 -- ---- laws
 
@@ -58,4 +57,5 @@ UnbrokenIsGood = (x : Loaded) (r : Rows) → AreUnbroken x r → AreOfGood r
 
 -- and the database that they were loaded from holds these tables
 abbrev pub UnbrokenHolds : Type 0
-UnbrokenHolds = (db : Database) (x : Loaded) (r : Rows) → AreUnbroken x r → StandIn desk_forms db (contents_loaded x) → HoldsTables db (tables_of newest_schema (state_in r))
+UnbrokenHolds = (db : Database) (x : Loaded) (r : Rows) → AreUnbroken x r → StandIn (forms_of r.meta.schema) db (contents_loaded x)
+    → HoldsTablesOf r.meta.schema db (tables_of r.meta.schema (state_in r))

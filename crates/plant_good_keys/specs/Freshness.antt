@@ -1,5 +1,5 @@
 -- What the tables of good states tell of the rows that commands change: no row that is added has the key of another.
-use Rattle.std.specs.Prelude.{◌≡◌, true, List}
+use Rattle.std.specs.Prelude.{◌≡◌, ℕ, true, List}
 use Rattle.plant_base.specs.State.{State, newest_schema}
 use Rattle.plant_base.specs.Formed.{HasValues}
 use Rattle.plant_base.specs.declared.command.Envelope.{Envelope}
@@ -13,9 +13,9 @@ use Rattle.plant_tables.specs.Keyed.{AreKeyed, AreFresh}
 
 -- ---- laws
 
--- the rows of a sound state's tables stand in the order of their keys
+-- in each schema, the rows of a sound state's tables stand in the order of their keys
 abbrev pub SoundIsKeyed : Type 0
-SoundIsKeyed = (s : State) → IsSound s → AreKeyed (tables_of newest_schema s)
+SoundIsKeyed = (schema : ℕ) (s : State) → IsSound s → AreKeyed (tables_of schema s)
 
 -- changes that make the tables after a command of those before it add each row under a key of its own
 abbrev pub StepIsFresh : Type 0

@@ -1,21 +1,22 @@
 -- The tables of a good state break no rule, and are read again.
-use Rattle.std.proofs.Common.{◌≡◌, ◌∙◌, Bool, true, Option, Some, None, is_some, refl, ap}
+use Rattle.std.proofs.Common.{◌≡◌, ◌∙◌, ℕ, Bool, true, Option, Some, None, is_some, refl, ap}
 use Rattle.std.proofs.lemmas.Bool.{and_from}
 use Rattle.sqlite.specs.Effect.{Database}
-use Rattle.plant_base.specs.State.{State, newest_schema}
+use Rattle.plant_base.specs.State.{State}
 use Rattle.plant_base.specs.declared.rows.Meta.{Meta}
-use Rattle.plant_view.specs.Genealogy.{edges_among}
-use Rattle.plant_view.specs.Tables.{tables_of}
+use Rattle.plant_view.specs.Tables.{tables_of, edges_in}
 use Rattle.plant_good.specs.Good.{IsGood}
-use Rattle.plant_tables.specs.Keyed.{HoldsTables}
+use Rattle.plant_tables.specs.Keyed.{HoldsTablesOf, LacksLater}
 use Rattle.plant_tables_stored.specs.Loading.{AreLoaded, contents_loaded}
+use Rattle.plant_tables_stored.specs.Version.{IsKnown}
 use Rattle.plant_tables_stored.specs.declared.loaded.Loaded.{Loaded}
 use Rattle.plant_tables_judged.specs.Collecting.{Rows, rows_from, rows_in}
 use Rattle.plant_tables_columns.specs.TableColumns.{only_meta}
 use Rattle.plant_tables_judged.proofs.AgainLemmas.{read_again}
-use Rattle.plant_check.specs.Broken.{unless, or_else, are_acyclic, broken_plan, broken_lot, broken_history, first_broken_of, are_right_movements, are_right_numbers, broken_rows, first_broken}
+use Rattle.plant_check.specs.Broken.{unless, or_else, are_right_edges, broken_plan, broken_lot, broken_history, first_broken_of, are_right_movements, are_right_numbers, broken_rows, first_broken}
 use Rattle.plant_check.specs.declared.rule.Rule.{Rule}
 use Rattle.plant_check.specs.declared.rule.Rule.TheVariants as rule
+use Rattle.plant_check.proofs.EdgeSets.{same_itself}
 use Rattle.plant_good_passes.proofs.Values.{in_order, good_values}
 use Rattle.plant_good_passes.proofs.Recipes.{classes_pass, recipes_pass}
 use Rattle.plant_good_passes.proofs.Orders.{orders_pass}
@@ -32,9 +33,9 @@ use Rattle.plant_good_passes.proofs.Descent.{movements_again, descent_passes}
 obeyed : (b : Bool) (r : Rule) (rest : Option Rule) → b ≡ true → rest ≡ None → unless b r rest ≡ None
 obeyed b r rest e f = ap (λ x. unless x r rest) e ∙ f
 
-module _ (s : State) (good : IsGood s) where
+module _ (schema : ℕ) (s : State) (good : IsGood s) where
   abbrev rows : Rows
-  rows = rows_in (tables_of newest_schema s)
+  rows = rows_in (tables_of schema s)
 
   plan_unbroken : broken_plan rows ≡ None
   unfolding broken_plan
@@ -55,7 +56,7 @@ module _ (s : State) (good : IsGood s) where
       obeyed _ rule.Movements _ (ap (are_right_movements rows) again ∙ and_from _ _ (whole_pass s.movements) (movements_pass s good))
       (obeyed _ rule.Events _ (events_pass s good.sound)
       (obeyed _ rule.Numbers _ (ap (are_right_numbers rows) again ∙ and_from _ _ (numbers_pass s good) (times_pass s good))
-      (obeyed _ rule.Descent _ (ap (λ ms. are_acyclic (edges_among ms)) again ∙ descent_passes s good.sound) refl)))
+      (obeyed _ rule.Descent _ (ap (are_right_edges rows) again ∙ and_from _ _ (descent_passes s good.sound) (same_itself (edges_in schema s.movements))) refl)))
 
   pub good_unbroken : first_broken_of rows ≡ None
   unfolding first_broken_of
@@ -73,9 +74,10 @@ meta_read x r read = by (only_meta (contents_loaded x 0)) refl
     by (Some meta) e = refl
     by None e = let none : rows_from x ≡ None = rw e refl in absurd cc
 
-pub read_good : (db : Database) (s : State) (x : Loaded) → IsGood s → HoldsTables db (tables_of newest_schema s) → AreLoaded db x
-    → (rows_from x ≡ Some (rows_in (tables_of newest_schema s))) × (first_broken x ≡ None)
+pub read_good : (schema : ℕ) (db : Database) (s : State) (x : Loaded) → IsKnown schema → IsGood s → HoldsTablesOf schema db (tables_of schema s) → AreLoaded schema db x
+    → (rows_from x ≡ Some (rows_in (tables_of schema s))) × (first_broken x ≡ None)
 unfolding first_broken
-read_good db s x good holds loaded =
-    let read = read_again db (tables_of newest_schema s) holds (in_order s good) (good_values s good) x loaded in
-    (read, obeyed _ rule.Tables _ (meta_read x (rows_in (tables_of newest_schema s)) read) (ap broken_rows read ∙ good_unbroken s good))
+read_good schema db s x known good holds loaded =
+    let lacks : LacksLater schema (tables_of schema s) = λ none. rw none refl in
+    let read = read_again schema db (tables_of schema s) holds lacks (in_order schema s good) (good_values s good schema known) x loaded in
+    (read, obeyed _ rule.Tables _ (meta_read x (rows_in (tables_of schema s)) read) (ap broken_rows read ∙ good_unbroken schema s good))

@@ -1,11 +1,12 @@
 -- The values of a good state's tables, and the order of their rows.
 use Rattle.std.proofs.Common.{◌≡◌, ◌∙◌, ℕ, ◌+◌, ◌≤◌, true, List, [], ◌∷◌, Option, Some, None, is_some, map, length, refl, sym, ap, subst, arith}
-use Rattle.std.specs.Prelude.{◌&&◌, ◌==◌, ◌^◌, nat_le}
-use Rattle.std.specs.List.{AllByRecursion}
+use Rattle.std.specs.Prelude.{Bool, false, if◌then◌else◌, IfSome, ◌&&◌, ◌==◌, ◌^◌, nat_le}
+use Rattle.std.specs.List.{AllByRecursion, filter_map, cons_option}
 use Rattle.std.proofs.lemmas.Bool.{false≢true, le-leb, leb-true, eq-eqb, and_from}
 use Rattle.std.proofs.lemmas.List.{length-map}
+use Rattle.plant_base.specs.Edges.{edge_order, edge_total}
 use Rattle.plant_base.specs.State.{State, same, newest_schema, batch_at}
-use Rattle.plant_base.specs.Values.{greatest_seq}
+use Rattle.plant_base.specs.Values.{is_id, greatest_seq}
 use Rattle.plant_base.specs.declared.rows.Header.{Header}
 use Rattle.plant_base.specs.declared.rows.RecipeLine.{RecipeLine}
 use Rattle.plant_base.specs.declared.rows.Recipe.{Recipe}
@@ -14,6 +15,7 @@ use Rattle.plant_base.specs.declared.rows.Job.{Job}
 use Rattle.plant_base.specs.declared.rows.Batch.{Batch}
 use Rattle.plant_base.specs.declared.rows.ControlLine.{ControlLine}
 use Rattle.plant_base.specs.declared.rows.BatchEvent.{BatchEvent}
+use Rattle.plant_base.specs.declared.rows.EdgeRow.{EdgeRow}
 use Rattle.plant_base.specs.declared.rows.Movement.{Movement}
 use Rattle.plant_base.specs.declared.rows.MovementKind.{MovementKind}
 use Rattle.plant_base.specs.declared.rows.MovementKind.TheVariants as kind
@@ -27,10 +29,11 @@ use Rattle.plant_base.proofs.Keys.{same_id, same_key, same_itself, key_itself}
 use Rattle.plant_recipe.specs.Form.{is_well_formed, greatest_lines}
 use Rattle.plant_recipe.proofs.Lines.{keeps_procedure}
 use Rattle.plant_view.specs.Production.{headers_of, header_among, orders_of, rows_among, lines_among, master_line, control_line, control_among, IsWholeRecipe, HasGoodOrder, IsSoundBatch, is_batch_among}
+use Rattle.plant_view.specs.Genealogy.{edge_row_by, edge_row_of, edge_rows}
 use Rattle.plant_view.specs.Rows.{numbered}
 use Rattle.plant_view.specs.Tables.{tables_of, batch_row, sublot_row}
 use Rattle.plant_view.proofs.KeptSound.{all_two}
-use Rattle.plant_view.proofs.Rows.{all_mapped, all_unmapped}
+use Rattle.plant_view.proofs.Rows.{all_mapped, all_unmapped, all_put_all}
 use Rattle.plant_view.proofs.Tests.{and_left, and_right}
 use Rattle.plant_rules_production.proofs.ControlMade.{control_made}
 use Rattle.plant_good.specs.Valued as kept
@@ -40,15 +43,19 @@ use Rattle.plant_good.specs.Good.{IsGood}
 use Rattle.plant_good.proofs.KeptColumns.{columns}
 use Rattle.plant_good.proofs.Listing.{all_swap, all_passing}
 use Rattle.plant_good_keys.proofs.TableKeys.{keyed}
-use Rattle.plant_tables_columns.specs.Reading.{is_in}
+use Rattle.plant_tables_columns.specs.Reading.{is_in, greatest_number}
+use Rattle.plant_tables_stored.specs.Version.{IsKnown}
 use Rattle.plant_tables_judged.specs.Collecting.{AreInOrder}
 use Rattle.plant_base.specs.RowValues.{HasClassValues, HasDefinitionValues, HasLotValues, HasHoldValues, HasPhaseNumber}
-use Rattle.plant_tables_columns.specs.Obeying.{HasRecipeValues, IsLineNumber, HasMasterLineValues, HasBatchRowValues, HasControlLineValues, HasEventRowValues, HasSublotValues, HasKindRowValues, HasMovementRowValues, HasGoodValues}
+use Rattle.plant_tables_columns.specs.Obeying.{HasRecipeValues, IsLineNumber, HasMasterLineValues, HasBatchRowValues, HasControlLineValues, HasEventRowValues, HasSublotValues, HasKindRowValues, HasMovementRowValues, HasEdgeValues, HasGoodValues}
 
 -- ---- order
 
-pub in_order : (s : State) → IsGood s → AreInOrder (tables_of newest_schema s)
-in_order s good = record { keyed = keyed s good.sound; events = good.numbers.events; movements = good.numbers.movements }
+pub in_order : (schema : ℕ) (s : State) → IsGood s → AreInOrder (tables_of schema s)
+in_order schema s good = record { keyed = keyed schema s good.sound; events = good.numbers.events; movements = good.numbers.movements }
+
+pub newest_known : IsKnown newest_schema
+newest_known = (omega arith, omega arith)
 
 -- ---- numbers of lines
 
@@ -155,7 +162,7 @@ module _ (s : State) (good : IsGood s) where
   control_lines = all_two _ _ HasControlLineValues (λ (l : ControlLine) v n. record { batch = v.batch; number = n; line = v.line }) s.control_lines good.values.control_lines
       (all_two _ _ _ control_number s.control_lines good.sound.batches.controlled numbered_by_batch)
 
-  batches : AllByRecursion HasBatchRowValues (tables_of newest_schema s).batches
+  batches : AllByRecursion HasBatchRowValues (map (batch_row s.control_lines s.events) s.batches)
   batches =
       let row = batch_row s.control_lines s.events in
       let progress = all_unmapped HasProgressValues row s.batches (columns s good).progress in
@@ -178,7 +185,7 @@ module _ (s : State) (good : IsGood s) where
 
   -- ---- stocks
 
-  sublots : AllByRecursion HasSublotValues (tables_of newest_schema s).sublots
+  sublots : AllByRecursion HasSublotValues (map (sublot_row s.movements) s.places)
   sublots =
       let row = sublot_row s.movements in
       let stocks = all_unmapped (λ (r : Sublot). r.stock ≤ 10 ^ 12) row s.places (columns s good).stocks in
@@ -219,9 +226,34 @@ module _ (s : State) (good : IsGood s) where
     note = v.note;
   }) s.movements (all_two _ _ IsGivenLine (λ (m : Movement) given line. (given.1, line)) s.movements good.numbers.movements_given movement_lines) good.values.movements
 
-  pub good_values : HasGoodValues (tables_of newest_schema s)
-  good_values = record {
-    meta = record { schema = refl; seq = seq_values s.seq (omega arith); at = good.values.at };
+  -- what of a kind of movement makes an edge are ids
+  ends_good : (k : MovementKind) (lot : List ℕ) → is_id lot ≡ true → HasKindRowValues k → IfSome (edge_row_by k lot) HasEdgeValues
+  ends_good kind.Received lot id named = tt
+  ends_good (kind.Consumed batch) lot id named = record { from = id; to = named }
+  ends_good (kind.Produced batch) lot id named = record { from = named; to = id }
+  ends_good kind.Scrapped lot id named = tt
+  ends_good (kind.Divided to) lot id named = tt
+  ends_good (kind.Split to) lot id named = record { from = id; to = named }
+  ends_good (kind.Merged to) lot id named = record { from = id; to = named }
+
+  with_edge : (o : Option EdgeRow) (es : List EdgeRow) → IfSome o HasEdgeValues → AllByRecursion HasEdgeValues es → AllByRecursion HasEdgeValues (cons_option o es)
+  with_edge None es good_one all = all
+  with_edge (Some e) es good_one all = (good_one, all)
+
+  all_ends : (ms : List Movement) → AllByRecursion HasMovementRowValues ms → AllByRecursion HasEdgeValues (filter_map edge_row_of ms)
+  all_ends [] all = tt
+  all_ends (m ∷ ms) all = with_edge (edge_row_of m) (filter_map edge_row_of ms) (ends_good m.kind m.lot all.0.lot all.0.kind) (all_ends ms all.1)
+
+  edges : (keeps : Bool) → AllByRecursion HasEdgeValues (if keeps then edge_rows s.movements else [])
+  edges true = all_put_all edge_order edge_total HasEdgeValues (filter_map edge_row_of s.movements) [] (all_ends s.movements movements) tt
+  edges false = tt
+
+  known_schema : (schema : ℕ) → IsKnown schema → is_in 1 greatest_number schema ≡ true
+  known_schema schema known = in_range 1 greatest_number schema known.0 (omega (arith, known.1))
+
+  pub good_values : (schema : ℕ) → IsKnown schema → HasGoodValues (tables_of schema s)
+  good_values schema known = record {
+    meta = record { schema = known_schema schema known; seq = seq_values s.seq (omega arith); at = good.values.at };
     classes = good.values.classes;
     definitions = good.values.definitions;
     recipes = recipes;
@@ -234,4 +266,5 @@ module _ (s : State) (good : IsGood s) where
     sublots = sublots;
     movements = movements;
     holds = good.values.holds;
+    edges = edges (nat_le 2 schema);
   }

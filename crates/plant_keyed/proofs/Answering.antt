@@ -9,6 +9,7 @@ use Rattle.sqlite.specs.Effect.{Database}
 use Rattle.sqlite.specs.Order.{Row}
 use Rattle.sqlite.specs.declared.types.Value.TheVariants.{Text}
 use Rattle.sqlite_trees.proofs.ListLemmas.{IsPermutation-filter}
+use Rattle.plant_base.specs.Edges.{edge_kind_number, edge_order}
 use Rattle.plant_base.specs.RowValues.{HasClassValues, HasDefinitionValues, HasLotValues, HasHoldValues}
 use Rattle.plant_base.specs.State.{State, newest_schema, same, class_order, definition_order, recipe_order, master_line_order, job_order, control_line_order, event_order, lot_order, movement_order, hold_order, class_at, definition_at, recipe_at, master_lines_of, job_at, batch_at, batch_of, control_lines_of, lot_at, place_at, hold_at}
 use Rattle.plant_base.specs.declared.rows.Meta.{Meta}
@@ -24,6 +25,8 @@ use Rattle.plant_base.specs.declared.rows.Lot.{Lot}
 use Rattle.plant_base.specs.declared.rows.Sublot.{Sublot}
 use Rattle.plant_base.specs.declared.rows.Movement.{Movement}
 use Rattle.plant_base.specs.declared.rows.Hold.{Hold}
+use Rattle.plant_base.specs.declared.rows.EdgeRow.{EdgeRow}
+use Rattle.plant_view.specs.Genealogy.{edge_rows}
 use Rattle.plant_view.specs.Refusing.{holds_of}
 use Rattle.plant_view.specs.Tables.{Tables, tables_of, batch_row, batch_row_order, sublot_order, sublot_row, sublots_of}
 use Rattle.plant_view.specs.Views.{events_of}
@@ -32,23 +35,22 @@ use Rattle.table_forms.specs.Forms.{Form}
 use Rattle.table_forms.specs.Standing.{Stands}
 use Rattle.table_reads.specs.Found.{has_values}
 use Rattle.table_reads.specs.Keys.{key_order, comes_before}
-use Rattle.table_reads.specs.Reading.{Finds}
 use Rattle.table_reads.specs.Selects.{first_of}
 use Rattle.table_reads.proofs.KeyOrder.{key_total}
 use Rattle.table_reads.proofs.Same.{one_tree}
 use Rattle.plant_tables_columns.specs.Kinds.{number}
-use Rattle.plant_tables_columns.specs.TableColumns.{row_of_meta, row_of_class, row_of_definition, row_of_recipe, row_of_master_line, row_of_job, row_of_batch, row_of_control_line, row_of_event, row_of_lot, row_of_sublot, row_of_movement, row_of_hold, meta_from, class_from, definition_from, recipe_from, master_line_from, job_from, batch_from, control_line_from, batch_event_from, lot_from, sublot_from, movement_read, hold_from}
-use Rattle.plant_tables.specs.DeskForms.{meta_form, class_form, definition_form, recipe_form, recipe_line_form, job_form, batch_form, control_line_form, batch_event_form, lot_form, sublot_form, movement_form, hold_form}
+use Rattle.plant_tables_columns.specs.TableColumns.{row_of_meta, row_of_class, row_of_definition, row_of_recipe, row_of_master_line, row_of_job, row_of_batch, row_of_control_line, row_of_event, row_of_lot, row_of_sublot, row_of_movement, row_of_hold, row_of_edge, meta_from, class_from, definition_from, recipe_from, master_line_from, job_from, batch_from, control_line_from, batch_event_from, lot_from, sublot_from, movement_read, hold_from, edge_from}
+use Rattle.plant_tables.specs.DeskForms.{meta_form, class_form, definition_form, recipe_form, recipe_line_form, job_form, batch_form, control_line_form, batch_event_form, lot_form, sublot_form, movement_form, hold_form, edge_form}
 use Rattle.plant_tables.specs.Keyed.{HoldsTables}
 use Rattle.plant_tables.proofs.Bridge.{all_filter}
 use Rattle.plant_tables_columns.specs.All.{all_from}
-use Rattle.plant_tables_columns.specs.Obeying.{HasMetaValues, HasRecipeValues, HasMasterLineValues, HasJobValues, HasBatchRowValues, HasControlLineValues, HasEventRowValues, HasSublotValues, HasMovementRowValues, HasGoodValues}
+use Rattle.plant_tables_columns.specs.Obeying.{HasMetaValues, HasRecipeValues, HasMasterLineValues, HasJobValues, HasBatchRowValues, HasControlLineValues, HasEventRowValues, HasSublotValues, HasMovementRowValues, HasEdgeValues, HasGoodValues}
 use Rattle.plant_tables_columns.proofs.Options.{some_same}
-use Rattle.plant_tables_columns.proofs.RowLaws.{meta_reads, class_reads, definition_reads, recipe_reads, job_reads, batch_reads, event_reads, lot_reads, sublot_reads, hold_reads, master_line_again, control_line_again}
-use Rattle.plant_tables_judged.proofs.KeyLemmas.{by_text, by_number, by_text_number, by_two_texts, by_two_numbers, by_text_numbers}
+use Rattle.plant_tables_columns.proofs.RowLaws.{meta_reads, class_reads, definition_reads, recipe_reads, job_reads, batch_reads, event_reads, lot_reads, sublot_reads, hold_reads, edge_reads, master_line_again, control_line_again}
+use Rattle.plant_tables_judged.proofs.KeyLemmas.{by_text, by_number, by_text_number, by_two_texts, by_two_numbers, by_text_numbers, by_number_two_texts}
 use Rattle.plant_tables_judged.proofs.SortedLemmas.{same_sorted, strictly_sorted, sorted_keys}
 use Rattle.plant_tables_judged.proofs.TableLemmas.{map_same, all_again}
-use Rattle.plant_good_passes.proofs.Values.{in_order, good_values}
+use Rattle.plant_good_passes.proofs.Values.{in_order, good_values, newest_known}
 use Rattle.plant_keyed.specs.Finding.{AreFound, IsFirstFound}
 use Rattle.plant_keyed.proofs.Shown.{movement_again}
 use Rattle.plant_keyed.proofs.Tests.{one_text, text_number, two_texts}
@@ -117,63 +119,67 @@ module _ (db : Database) (s : State) (good : IsGood s) (holds : HoldsTables db (
   t = tables_of newest_schema s
 
   values : HasGoodValues t
-  values = good_values s good
+  values = good_values s good newest_schema newest_known
 
   pub meta_is : (row : Option Meta) → IsFirstFound db meta_form meta_from [] [] row → row ≡ Some t.meta
   unfolding IsStrictlySortedBy
   meta_is = first_again meta_from row_of_meta HasMetaValues (λ r h. meta_reads.again r h tt) meta_form (λ a b. key_order (1 ∷ []) (row_of_meta a) (row_of_meta b)) (λ a b. refl) db (t.meta ∷ []) (holds.each 0 meta_form refl) (tt, tt) (values.meta, tt) [] [] (λ r. true) (λ r. refl)
 
   pub class_is : (id : List ℕ) (row : Option Class) → IsFirstFound db class_form class_from (1 ∷ []) (Text id ∷ []) row → row ≡ class_at s id
-  class_is id = first_again class_from row_of_class HasClassValues (λ r h. class_reads.again r h tt) class_form class_order (λ a b. by_text a.id b.id) db s.classes (holds.each 1 class_form refl) (in_order s good).keyed.classes values.classes (1 ∷ []) (Text id ∷ []) (λ r. same r.id id) (λ r. one_text r.id id)
+  class_is id = first_again class_from row_of_class HasClassValues (λ r h. class_reads.again r h tt) class_form class_order (λ a b. by_text a.id b.id) db s.classes (holds.each 1 class_form refl) (in_order newest_schema s good).keyed.classes values.classes (1 ∷ []) (Text id ∷ []) (λ r. same r.id id) (λ r. one_text r.id id)
 
   pub definition_is : (id : List ℕ) (row : Option Definition) → IsFirstFound db definition_form definition_from (1 ∷ []) (Text id ∷ []) row → row ≡ definition_at s id
-  definition_is id = first_again definition_from row_of_definition HasDefinitionValues (λ r h. definition_reads.again r h tt) definition_form definition_order (λ a b. by_text a.id b.id) db s.definitions (holds.each 2 definition_form refl) (in_order s good).keyed.definitions values.definitions (1 ∷ []) (Text id ∷ []) (λ r. same r.id id) (λ r. one_text r.id id)
+  definition_is id = first_again definition_from row_of_definition HasDefinitionValues (λ r h. definition_reads.again r h tt) definition_form definition_order (λ a b. by_text a.id b.id) db s.definitions (holds.each 2 definition_form refl) (in_order newest_schema s good).keyed.definitions values.definitions (1 ∷ []) (Text id ∷ []) (λ r. same r.id id) (λ r. one_text r.id id)
 
   pub recipe_is : (id : List ℕ) (version : ℕ) (row : Option Recipe) → IsFirstFound db recipe_form recipe_from (1 ∷ 2 ∷ []) (Text id ∷ number version ∷ []) row → row ≡ recipe_at s id version
-  recipe_is id version = first_again recipe_from row_of_recipe HasRecipeValues (λ r h. recipe_reads.again r h tt) recipe_form recipe_order (λ a b. by_text_number a.header.recipe b.header.recipe a.header.version b.header.version) db s.recipes (holds.each 3 recipe_form refl) (in_order s good).keyed.recipes values.recipes (1 ∷ 2 ∷ []) (Text id ∷ number version ∷ []) (λ r. same r.header.recipe id && r.header.version == version) (λ r. text_number r.header.recipe id r.header.version version)
+  recipe_is id version = first_again recipe_from row_of_recipe HasRecipeValues (λ r h. recipe_reads.again r h tt) recipe_form recipe_order (λ a b. by_text_number a.header.recipe b.header.recipe a.header.version b.header.version) db s.recipes (holds.each 3 recipe_form refl) (in_order newest_schema s good).keyed.recipes values.recipes (1 ∷ 2 ∷ []) (Text id ∷ number version ∷ []) (λ r. same r.header.recipe id && r.header.version == version) (λ r. text_number r.header.recipe id r.header.version version)
 
   pub master_lines_are : (id : List ℕ) (version : ℕ) (rows : List MasterLine) → AreFound db recipe_line_form master_line_from (1 ∷ 2 ∷ []) (Text id ∷ number version ∷ []) rows → rows ≡ master_lines_of s id version
-  master_lines_are id version = found_again master_line_from row_of_master_line HasMasterLineValues master_line_again recipe_line_form master_line_order (λ a b. by_text_numbers a.recipe b.recipe a.version b.version a.number b.number) db s.master_lines (holds.each 4 recipe_line_form refl) (in_order s good).keyed.master_lines values.master_lines (1 ∷ 2 ∷ []) (Text id ∷ number version ∷ []) (λ r. same r.recipe id && r.version == version) (λ r. text_number r.recipe id r.version version)
+  master_lines_are id version = found_again master_line_from row_of_master_line HasMasterLineValues master_line_again recipe_line_form master_line_order (λ a b. by_text_numbers a.recipe b.recipe a.version b.version a.number b.number) db s.master_lines (holds.each 4 recipe_line_form refl) (in_order newest_schema s good).keyed.master_lines values.master_lines (1 ∷ 2 ∷ []) (Text id ∷ number version ∷ []) (λ r. same r.recipe id && r.version == version) (λ r. text_number r.recipe id r.version version)
 
   pub job_is : (id : List ℕ) (row : Option Job) → IsFirstFound db job_form job_from (1 ∷ []) (Text id ∷ []) row → row ≡ job_at s id
-  job_is id = first_again job_from row_of_job HasJobValues (λ r h. job_reads.again r h tt) job_form job_order (λ a b. by_text a.order.order b.order.order) db s.jobs (holds.each 5 job_form refl) (in_order s good).keyed.jobs values.jobs (1 ∷ []) (Text id ∷ []) (λ r. same r.order.order id) (λ r. one_text r.order.order id)
+  job_is id = first_again job_from row_of_job HasJobValues (λ r h. job_reads.again r h tt) job_form job_order (λ a b. by_text a.order.order b.order.order) db s.jobs (holds.each 5 job_form refl) (in_order newest_schema s good).keyed.jobs values.jobs (1 ∷ []) (Text id ∷ []) (λ r. same r.order.order id) (λ r. one_text r.order.order id)
 
   pub batch_is : (id : List ℕ) (row : Option BatchRow) → IsFirstFound db batch_form batch_from (1 ∷ []) (Text id ∷ []) row → row ≡ option_map (batch_row s.control_lines s.events) (batch_at s id)
   batch_is id row is =
-      first_again batch_from row_of_batch HasBatchRowValues (λ r h. batch_reads.again r h tt) batch_form batch_row_order (λ a b. by_text a.batch.id b.batch.id) db t.batches (holds.each 6 batch_form refl) (in_order s good).keyed.batches values.batches (1 ∷ []) (Text id ∷ []) (λ r. same r.batch.id id) (λ r. one_text r.batch.id id) row is
+      first_again batch_from row_of_batch HasBatchRowValues (λ r h. batch_reads.again r h tt) batch_form batch_row_order (λ a b. by_text a.batch.id b.batch.id) db t.batches (holds.each 6 batch_form refl) (in_order newest_schema s good).keyed.batches values.batches (1 ∷ []) (Text id ∷ []) (λ r. same r.batch.id id) (λ r. one_text r.batch.id id) row is
       ∙ found_mapped (batch_row s.control_lines s.events) (λ r. same r.batch.id id) (λ b. same b.id id) (λ b. refl) s.batches
 
   pub batch_for_is : (order : List ℕ) (row : Option BatchRow) → IsFirstFound db batch_form batch_from (2 ∷ []) (Text order ∷ []) row → row ≡ option_map (batch_row s.control_lines s.events) (batch_of s order)
   batch_for_is order row is =
-      first_again batch_from row_of_batch HasBatchRowValues (λ r h. batch_reads.again r h tt) batch_form batch_row_order (λ a b. by_text a.batch.id b.batch.id) db t.batches (holds.each 6 batch_form refl) (in_order s good).keyed.batches values.batches (2 ∷ []) (Text order ∷ []) (λ r. same r.batch.job order) (λ r. one_text r.batch.job order) row is
+      first_again batch_from row_of_batch HasBatchRowValues (λ r h. batch_reads.again r h tt) batch_form batch_row_order (λ a b. by_text a.batch.id b.batch.id) db t.batches (holds.each 6 batch_form refl) (in_order newest_schema s good).keyed.batches values.batches (2 ∷ []) (Text order ∷ []) (λ r. same r.batch.job order) (λ r. one_text r.batch.job order) row is
       ∙ found_mapped (batch_row s.control_lines s.events) (λ r. same r.batch.job order) (λ b. same b.job order) (λ b. refl) s.batches
 
   pub control_lines_are : (batch : List ℕ) (rows : List ControlLine) → AreFound db control_line_form control_line_from (1 ∷ []) (Text batch ∷ []) rows → rows ≡ control_lines_of s batch
-  control_lines_are batch = found_again control_line_from row_of_control_line HasControlLineValues control_line_again control_line_form control_line_order (λ a b. by_text_number a.batch b.batch a.number b.number) db s.control_lines (holds.each 7 control_line_form refl) (in_order s good).keyed.control_lines values.control_lines (1 ∷ []) (Text batch ∷ []) (λ r. same r.batch batch) (λ r. one_text r.batch batch)
+  control_lines_are batch = found_again control_line_from row_of_control_line HasControlLineValues control_line_again control_line_form control_line_order (λ a b. by_text_number a.batch b.batch a.number b.number) db s.control_lines (holds.each 7 control_line_form refl) (in_order newest_schema s good).keyed.control_lines values.control_lines (1 ∷ []) (Text batch ∷ []) (λ r. same r.batch batch) (λ r. one_text r.batch batch)
 
   pub events_are : (batch : List ℕ) (rows : List BatchEvent) → AreFound db batch_event_form batch_event_from (2 ∷ []) (Text batch ∷ []) rows → rows ≡ events_of s batch
-  events_are batch = found_again batch_event_from row_of_event HasEventRowValues (λ r h. event_reads.again r h tt) batch_event_form event_order (λ a b. by_number a.seq b.seq) db s.events (holds.each 8 batch_event_form refl) (in_order s good).events values.events (2 ∷ []) (Text batch ∷ []) (λ r. same r.batch batch) (λ r. one_text r.batch batch)
+  events_are batch = found_again batch_event_from row_of_event HasEventRowValues (λ r h. event_reads.again r h tt) batch_event_form event_order (λ a b. by_number a.seq b.seq) db s.events (holds.each 8 batch_event_form refl) (in_order newest_schema s good).events values.events (2 ∷ []) (Text batch ∷ []) (λ r. same r.batch batch) (λ r. one_text r.batch batch)
 
   pub lot_is : (id : List ℕ) (row : Option Lot) → IsFirstFound db lot_form lot_from (1 ∷ []) (Text id ∷ []) row → row ≡ lot_at s id
-  lot_is id = first_again lot_from row_of_lot HasLotValues (λ r h. lot_reads.again r h tt) lot_form lot_order (λ a b. by_text a.id b.id) db s.lots (holds.each 9 lot_form refl) (in_order s good).keyed.lots values.lots (1 ∷ []) (Text id ∷ []) (λ r. same r.id id) (λ r. one_text r.id id)
+  lot_is id = first_again lot_from row_of_lot HasLotValues (λ r h. lot_reads.again r h tt) lot_form lot_order (λ a b. by_text a.id b.id) db s.lots (holds.each 9 lot_form refl) (in_order newest_schema s good).keyed.lots values.lots (1 ∷ []) (Text id ∷ []) (λ r. same r.id id) (λ r. one_text r.id id)
 
   -- the stocks are those of the column
   pub sublot_is : (lot : List ℕ) (n : ℕ) (row : Option Sublot) → IsFirstFound db sublot_form sublot_from (1 ∷ 2 ∷ []) (Text lot ∷ number n ∷ []) row → row ≡ option_map (sublot_row s.movements) (place_at s lot n)
   sublot_is lot n row is =
-      first_again sublot_from row_of_sublot HasSublotValues (λ r h. sublot_reads.again r h tt) sublot_form sublot_order (λ a b. by_text_number a.lot b.lot a.number b.number) db t.sublots (holds.each 10 sublot_form refl) (in_order s good).keyed.sublots values.sublots (1 ∷ 2 ∷ []) (Text lot ∷ number n ∷ []) (λ r. same r.lot lot && r.number == n) (λ r. text_number r.lot lot r.number n) row is
+      first_again sublot_from row_of_sublot HasSublotValues (λ r h. sublot_reads.again r h tt) sublot_form sublot_order (λ a b. by_text_number a.lot b.lot a.number b.number) db t.sublots (holds.each 10 sublot_form refl) (in_order newest_schema s good).keyed.sublots values.sublots (1 ∷ 2 ∷ []) (Text lot ∷ number n ∷ []) (λ r. same r.lot lot && r.number == n) (λ r. text_number r.lot lot r.number n) row is
       ∙ found_mapped (sublot_row s.movements) (λ r. same r.lot lot && r.number == n) (λ p. same p.lot lot && p.number == n) (λ p. refl) s.places
 
   pub sublots_are : (lot : List ℕ) (rows : List Sublot) → AreFound db sublot_form sublot_from (1 ∷ []) (Text lot ∷ []) rows → rows ≡ sublots_of s lot
   sublots_are lot rows found =
-      found_again sublot_from row_of_sublot HasSublotValues (λ r h. sublot_reads.again r h tt) sublot_form sublot_order (λ a b. by_text_number a.lot b.lot a.number b.number) db t.sublots (holds.each 10 sublot_form refl) (in_order s good).keyed.sublots values.sublots (1 ∷ []) (Text lot ∷ []) (λ r. same r.lot lot) (λ r. one_text r.lot lot) rows found
+      found_again sublot_from row_of_sublot HasSublotValues (λ r h. sublot_reads.again r h tt) sublot_form sublot_order (λ a b. by_text_number a.lot b.lot a.number b.number) db t.sublots (holds.each 10 sublot_form refl) (in_order newest_schema s good).keyed.sublots values.sublots (1 ∷ []) (Text lot ∷ []) (λ r. same r.lot lot) (λ r. one_text r.lot lot) rows found
       ∙ filter_mapped (sublot_row s.movements) (λ r. same r.lot lot) (λ p. same p.lot lot) (λ p. refl) s.places
 
   -- the movements with these values in these columns
   pub movements_are : (places : List ℕ) (given : Row) (p : Movement → Bool) → ((m : Movement) → has_values places given (row_of_movement m) ≡ p m) → (rows : List Movement) → AreFound db movement_form movement_read places given rows → rows ≡ filter p s.movements
-  movements_are places given p tests = found_again movement_read row_of_movement HasMovementRowValues movement_again movement_form movement_order (λ a b. by_two_numbers a.seq b.seq a.line b.line) db s.movements (holds.each 11 movement_form refl) (in_order s good).movements values.movements places given p tests
+  movements_are places given p tests = found_again movement_read row_of_movement HasMovementRowValues movement_again movement_form movement_order (λ a b. by_two_numbers a.seq b.seq a.line b.line) db s.movements (holds.each 11 movement_form refl) (in_order newest_schema s good).movements values.movements places given p tests
 
   pub hold_is : (lot id : List ℕ) (row : Option Hold) → IsFirstFound db hold_form hold_from (1 ∷ 2 ∷ []) (Text lot ∷ Text id ∷ []) row → row ≡ hold_at s lot id
-  hold_is lot id = first_again hold_from row_of_hold HasHoldValues (λ r h. hold_reads.again r h tt) hold_form hold_order (λ a b. by_two_texts a.lot b.lot a.id b.id) db s.holds (holds.each 12 hold_form refl) (in_order s good).keyed.holds values.holds (1 ∷ 2 ∷ []) (Text lot ∷ Text id ∷ []) (λ r. same r.lot lot && same r.id id) (λ r. two_texts r.lot lot r.id id)
+  hold_is lot id = first_again hold_from row_of_hold HasHoldValues (λ r h. hold_reads.again r h tt) hold_form hold_order (λ a b. by_two_texts a.lot b.lot a.id b.id) db s.holds (holds.each 12 hold_form refl) (in_order newest_schema s good).keyed.holds values.holds (1 ∷ 2 ∷ []) (Text lot ∷ Text id ∷ []) (λ r. same r.lot lot && same r.id id) (λ r. two_texts r.lot lot r.id id)
 
   pub holds_are : (lot : List ℕ) (rows : List Hold) → AreFound db hold_form hold_from (1 ∷ []) (Text lot ∷ []) rows → rows ≡ holds_of s lot
-  holds_are lot = found_again hold_from row_of_hold HasHoldValues (λ r h. hold_reads.again r h tt) hold_form hold_order (λ a b. by_two_texts a.lot b.lot a.id b.id) db s.holds (holds.each 12 hold_form refl) (in_order s good).keyed.holds values.holds (1 ∷ []) (Text lot ∷ []) (λ r. same r.lot lot) (λ r. one_text r.lot lot)
+  holds_are lot = found_again hold_from row_of_hold HasHoldValues (λ r h. hold_reads.again r h tt) hold_form hold_order (λ a b. by_two_texts a.lot b.lot a.id b.id) db s.holds (holds.each 12 hold_form refl) (in_order newest_schema s good).keyed.holds values.holds (1 ∷ []) (Text lot ∷ []) (λ r. same r.lot lot) (λ r. one_text r.lot lot)
+
+  -- the edges with these values in these columns
+  pub edges_are : (places : List ℕ) (given : Row) (p : EdgeRow → Bool) → ((e : EdgeRow) → has_values places given (row_of_edge e) ≡ p e) → (rows : List EdgeRow) → AreFound db edge_form edge_from places given rows → rows ≡ filter p (edge_rows s.movements)
+  edges_are places given p tests = found_again edge_from row_of_edge HasEdgeValues (λ r h. edge_reads.again r h tt) edge_form edge_order (λ a b. by_number_two_texts (edge_kind_number a.kind) (edge_kind_number b.kind) a.from b.from a.to b.to) db t.edges (holds.each 13 edge_form refl) (in_order newest_schema s good).keyed.edges values.edges places given p tests

@@ -1,13 +1,18 @@
--- The movements that a look-up finds make the edges at a node.
-use Rattle.std.proofs.Common.{◌≡◌, ◌∙◌, ℕ, Bool, true, false, cond, List, [], ◌∷◌, ◌++◌, filter, Option, Some, None, Contains, refl, sym, ap, subst, inl, inr, arith}
-use Rattle.std.specs.Prelude.{◌⊎◌}
-use Rattle.std.specs.List.{cons_option}
-use Rattle.std.proofs.lemmas.List.Elements.{Contains-append_left, Contains-append_right, Contains-append_cases, Contains-push, Contains-push_cases, filter_map-append}
+-- The rows of edges that look-ups find are the edges at a node.
+use Rattle.std.proofs.Common.{◌≡◌, ◌∙◌, ℕ, Bool, true, List, [], ◌∷◌, ◌++◌, map, filter, option_map, Option, Some, None, Contains, refl, sym, ap, subst, inl, inr}
+use Rattle.std.specs.Prelude.{◌==◌}
+use Rattle.std.specs.List.{filter_map, cons_option}
+use Rattle.std.proofs.lemmas.Bool.{and_from, eq-eqb}
+use Rattle.std.proofs.lemmas.List.Elements.{All-contains, All-contains_itself, All-filter, All-from_recursion, All-map, All-weaker, recursion_from_All, Contains-append_left, Contains-append_right, Contains-append_cases}
+use Rattle.plant_base.specs.Edges.{edge_kind_number, edge_order, edge_total}
 use Rattle.plant_base.specs.State.{same}
 use Rattle.plant_base.proofs.Keys.{same_itself}
+use Rattle.plant_base.specs.declared.rows.EdgeKind.{EdgeKind}
+use Rattle.plant_base.specs.declared.rows.EdgeKind.TheVariants.{LotToBatch, BatchToLot, LotToLot}
+use Rattle.plant_base.specs.declared.rows.EdgeRow.{EdgeRow}
 use Rattle.plant_base.specs.declared.rows.Movement.{Movement}
-use Rattle.plant_base.specs.declared.rows.MovementKind.{MovementKind}
-use Rattle.plant_base.specs.declared.rows.MovementKind.TheVariants as kind
+use Rattle.plant_check.proofs.EdgeSets.{one_edge}
+use Rattle.plant_desk.proofs.Reaching.{mapped_in, filtered_in, come}
 use Rattle.plant_tables_columns.proofs.Options.{some_same}
 use Rattle.plant_trace.proofs.Listing.{Lists-same}
 use Rattle.plant_trace.specs.Reach.{IsNext, Lists}
@@ -15,161 +20,113 @@ use Rattle.plant_trace.specs.Turned.{turned}
 use Rattle.plant_trace.specs.declared.direction.Direction.{Direction}
 use Rattle.plant_trace.specs.declared.direction.Direction.TheVariants.{Forward, Back}
 use Rattle.plant_trace.specs.declared.node.Node.{Node}
-use Rattle.plant_trace.specs.declared.node.Node.TheVariants as node
-use Rattle.plant_view.specs.Genealogy.{edge_by, edge_of, edges_among, batch_by}
-use Rattle.plant_view.specs.Views.{is_named}
-use Rattle.plant_keyed.specs.Edges.{names_other_lot, HasEdgesAt}
+use Rattle.plant_view.specs.Genealogy.{edge_row_of, edge_rows, edges_among, ends_by, ends_of}
+use Rattle.plant_view.proofs.Rows.{all_put_all}
+use Rattle.plant_keyed.specs.Edges.{near_id, begins_at, id_of, AreKindsAt, HasEdgesAt}
 
 -- ---- lists
 
-abbrev Edge : Type 0
-Edge = Node × Node
+module _ {X Y : Type 0} (f : X → Y) where
+  -- it was mapped of one of the list
+  abbrev IsMapped : List X → Y → Type 0
+  IsMapped xs y = (x : X) × Contains xs x × (f x ≡ y)
 
-none_in : (e : Edge) → Contains [] e → ⊥
-none_in e has = absurd (omega (arith, has.1))
+  mapped_of : (xs : List X) (y : Y) → Contains (map f xs) y → IsMapped xs y
+  mapped_of xs y has = All-contains (IsMapped xs) (map f xs) y (All-map (IsMapped xs) f xs (All-weaker (Contains xs) (λ x. IsMapped xs (f x)) (λ x there. (x, there, refl)) xs (All-contains_itself xs))) has
 
-cons_cases : (o : Option Edge) (es : List Edge) (e : Edge) → Contains (cons_option o es) e → (o ≡ Some e) ⊎ Contains es e
-cons_cases None es e has = inr has
-cons_cases (Some x) es e has = elim (Contains-append_cases (x ∷ []) es e has) [
-  | inl here ↦ elim (Contains-push_cases [] x e here) [
-    | inl none ↦ absurd (none_in e none)
-    | inr is ↦ inl (ap Some is)
-  ]
-  | inr there ↦ inr there
-]
+  module _ {W : Type 0} (g : W → Option X) where
+    map_first : (o : Option X) (ys : List Y) (xs : List X) → ys ≡ map f xs → cons_option (option_map f o) ys ≡ map f (cons_option o xs)
+    map_first None ys xs e = e
+    map_first (Some x) ys xs e = ap (λ l. f x ∷ l) e
 
-cons_rest : (o : Option Edge) (es : List Edge) (e : Edge) → Contains es e → Contains (cons_option o es) e
-cons_rest None es e has = has
-cons_rest (Some x) es e has = Contains-append_right (x ∷ []) es e has
+    map_kept : (ws : List W) → filter_map (λ w. option_map f (g w)) ws ≡ map f (filter_map g ws)
+    map_kept [] = refl
+    map_kept (w ∷ ws) = map_first (g w) _ (filter_map g ws) (map_kept ws)
 
-cons_first : (o : Option Edge) (es : List Edge) (e : Edge) → o ≡ Some e → Contains (cons_option o es) e
-cons_first None es e is = absurd (cc)
-cons_first (Some x) es e is =
-    let same_edge : x ≡ e = cc in
-    subst (λ y. Contains (x ∷ es) y) same_edge (Contains-append_left (x ∷ []) es x (Contains-push [] x))
+among_all : {X : Type 0} (test : X → Bool) (xs : List X) (x : X) → Contains (filter test xs) x → Contains xs x
+among_all test xs x has = All-contains (Contains xs) (filter test xs) x (All-filter test (Contains xs) xs (All-contains_itself xs)) has
 
--- the edges of some movements are edges of all
-passing_only : (p : Movement → Bool) (ms : List Movement) (e : Edge) → Contains (edges_among (filter p ms)) e → Contains (edges_among ms) e
-passing_only p [] e has = has
-passing_only p (m ∷ ms) e has = elim (p m) as (λ b. Contains (edges_among (cond b (m ∷ filter p ms) (filter p ms))) e → Contains (edges_among (m ∷ ms)) e) [
-  | true ↦ λ more. elim (cons_cases (edge_of m) (edges_among (filter p ms)) e more) [
-    | inl is ↦ cons_first (edge_of m) (edges_among ms) e is
-    | inr rest ↦ cons_rest (edge_of m) (edges_among ms) e (passing_only p ms e rest)
-  ]
-  | false ↦ λ more. cons_rest (edge_of m) (edges_among ms) e (passing_only p ms e more)
-] has
+-- ---- what an edge begins at
 
-passing_first : (p : Movement → Bool) (m : Movement) (ms : List Movement) (e : Edge) → p m ≡ true → edge_of m ≡ Some e → Contains (edges_among (filter p (m ∷ ms))) e
-passing_first p m ms e passes is = rw passes (cons_first (edge_of m) (edges_among (filter p ms)) e is)
+near_is : (d : Direction) (e : EdgeRow) → id_of (turned d (ends_of e)).0 ≡ near_id d e
+near_is d e = by d e.kind
+  where
+    by : (d : Direction) (k : EdgeKind) → id_of (turned d (ends_by k e.from e.to)).0 ≡ near_id d e
+    by Forward LotToBatch = refl
+    by Forward BatchToLot = refl
+    by Forward LotToLot = refl
+    by Back LotToBatch = refl
+    by Back BatchToLot = refl
+    by Back LotToLot = refl
 
-passing_rest : (p : Movement → Bool) (m : Movement) (ms : List Movement) (e : Edge) → Contains (edges_among (filter p ms)) e → Contains (edges_among (filter p (m ∷ ms))) e
-passing_rest p m ms e has = elim (p m) as (λ b. Contains (edges_among (cond b (m ∷ filter p ms) (filter p ms))) e) [
-  | true ↦ cons_rest (edge_of m) (edges_among (filter p ms)) e has
-  | false ↦ has
-]
+-- an edge of the kind that begins at the node passes the test of the node's id
+passes : (d : Direction) (x : Node) (id : List ℕ) (kind : EdgeKind) (e : EdgeRow) → id ≡ id_of x → e.kind ≡ kind → (turned d (ends_of e)).0 ≡ x → begins_at d kind id e ≡ true
+passes d x id kind e named is begins =
+    let near : near_id d e ≡ id = sym (near_is d e) ∙ ap id_of begins ∙ sym named in
+    let of_kind : (edge_kind_number e.kind == edge_kind_number kind) ≡ true = eq-eqb _ _ (ap edge_kind_number is) in
+    and_from _ _ of_kind (subst (λ (a : List ℕ). same (near_id d e) a ≡ true) near (same_itself (near_id d e)))
 
--- where each movement whose edge begins at the node passes one of two tests, those that pass have all these edges
-module _ (d : Direction) (x : Node) (p q : Movement → Bool) (near : (m : Movement) (e : Edge) → edge_of m ≡ Some e → (turned d e).0 ≡ x → (p m ≡ true) ⊎ (q m ≡ true)) where
-  passing_each : (ms : List Movement) (e : Edge) → Contains (edges_among ms) e → (turned d e).0 ≡ x → Contains (edges_among (filter p ms)) e ⊎ Contains (edges_among (filter q ms)) e
-  passing_each [] e has at = absurd (none_in e has)
-  passing_each (m ∷ ms) e has at = elim (cons_cases (edge_of m) (edges_among ms) e has) [
-    | inl is ↦ elim (near m e is at) [
-      | inl passes ↦ inl (passing_first p m ms e passes is)
-      | inr passes ↦ inr (passing_first q m ms e passes is)
-    ]
-    | inr more ↦ elim (passing_each ms e more at) [
-      | inl first ↦ inl (passing_rest p m ms e first)
-      | inr second ↦ inr (passing_rest q m ms e second)
-    ]
-  ]
+-- ---- the rows of all edges
 
-  at_both : (ms : List Movement) → HasEdgesAt d x ms (filter p ms ++ filter q ms)
-  at_both ms = record {
-    only = λ e has. elim (Contains-append_cases (edges_among (filter p ms)) (edges_among (filter q ms)) e (subst (λ es. Contains es e) (filter_map-append edge_of (filter p ms) (filter q ms)) has)) [
-      | inl first ↦ passing_only p ms e first
-      | inr second ↦ passing_only q ms e second
-    ];
-    each = λ e has at. subst (λ es. Contains es e) (sym (filter_map-append edge_of (filter p ms) (filter q ms))) (elim (passing_each ms e has at) [
-      | inl first ↦ Contains-append_left (edges_among (filter p ms)) (edges_among (filter q ms)) e first
-      | inr second ↦ Contains-append_right (edges_among (filter p ms)) (edges_among (filter q ms)) e second
-    ]);
-  }
+module _ (ms : List Movement) where
+  abbrev made : List EdgeRow
+  made = filter_map edge_row_of ms
 
-at_passing : (d : Direction) (x : Node) (p : Movement → Bool) → ((m : Movement) (e : Edge) → edge_of m ≡ Some e → (turned d e).0 ≡ x → p m ≡ true) → (ms : List Movement) → HasEdgesAt d x ms (filter p ms)
-at_passing d x p near ms = record {
-  only = passing_only p ms;
-  each = λ e has at. elim (passing_each d x p p (λ m e is at. inl (near m e is at)) ms e has at) [
-    | inl first ↦ first
-    | inr second ↦ second
-  ];
-}
+  -- each of them was made by a movement
+  row_made : (e : EdgeRow) → Contains (edge_rows ms) e → Contains made e
+  row_made e has =
+      let each = all_put_all edge_order edge_total (Contains made) made [] (recursion_from_All (Contains made) made (All-contains_itself made)) tt in
+      All-contains (Contains made) (edge_rows ms) e (All-from_recursion (Contains made) (edge_rows ms) each) has
 
--- ---- the edges at a lot, and at a batch
+  row_pair : (e : EdgeRow) → Contains (edge_rows ms) e → Contains (edges_among ms) (ends_of e)
+  row_pair e has = subst (λ es. Contains es (ends_of e)) (sym (map_kept ends_of edge_row_of ms)) (mapped_in ends_of made e (row_made e has))
 
-lot_same : (a b : List ℕ) → node.Lot a ≡ node.Lot b → same a b ≡ true
-lot_same a b is =
-    let one : a ≡ b = cc in
-    subst (λ c. same a c ≡ true) one (same_itself a)
+  -- and each edge has its row
+  pair_row : (p : Node × Node) → Contains (edges_among ms) p → IsMapped ends_of (edge_rows ms) p
+  pair_row p has =
+      let of_row = mapped_of ends_of made p (subst (λ es. Contains es p) (map_kept ends_of edge_row_of ms) has) in
+      (of_row.0, come edge_order one_edge made [] of_row.0 of_row.1, of_row.2)
 
-batch_same : (a b : List ℕ) → node.Batch a ≡ node.Batch b → same a b ≡ true
-batch_same a b is =
-    let one : a ≡ b = cc in
-    subst (λ c. same a c ≡ true) one (same_itself a)
+  module _ (d : Direction) (x : Node) (id : List ℕ) (named : id ≡ id_of x) where
+    -- some of these rows, among them each that begins at the node
+    by_rows : (some : List EdgeRow) → ((e : EdgeRow) → Contains some e → Contains (edge_rows ms) e) → ((e : EdgeRow) → Contains (edge_rows ms) e → (turned d (ends_of e)).0 ≡ x → Contains some e)
+        → HasEdgesAt d x (edges_among ms) (map ends_of some)
+    by_rows some only each = record {
+      only = λ p has.
+          let of_row = mapped_of ends_of some p has in
+          subst (Contains (edges_among ms)) of_row.2 (row_pair of_row.0 (only of_row.0 of_row.1));
+      each = λ p has begins.
+          let of_row = pair_row p has in
+          subst (Contains (map ends_of some)) of_row.2 (mapped_in ends_of some of_row.0 (each of_row.0 of_row.1 (ap (λ (q : Node × Node). (turned d q).0) of_row.2 ∙ begins)));
+    }
 
-first_of : (p e : Edge) → Some p ≡ Some e → p.0 ≡ e.0
-first_of p e is = ap (λ q. q.0) (some_same p e is)
+    -- those of a kind that begin at the node's id
+    abbrev of_kind : EdgeKind → List EdgeRow
+    of_kind kind = filter (begins_at d kind id) (edge_rows ms)
 
-second_of : (p e : Edge) → Some p ≡ Some e → p.1 ≡ e.1
-second_of p e is = ap (λ q. q.1) (some_same p e is)
+    has_its_own : (kind : EdgeKind) (e : EdgeRow) → Contains (edge_rows ms) e → (turned d (ends_of e)).0 ≡ x → e.kind ≡ kind → Contains (of_kind kind) e
+    has_its_own kind e has begins is = filtered_in (begins_at d kind id) (edge_rows ms) e (passes d x id kind e named is begins) has
 
-from_lot : (id lot : List ℕ) (k : MovementKind) (e : Edge) → edge_by k lot ≡ Some e → e.0 ≡ node.Lot id → same lot id ≡ true
-from_lot id lot kind.Received e is at = absurd (cc)
-from_lot id lot (kind.Consumed b) e is at = lot_same lot id (first_of _ e is ∙ at)
-from_lot id lot (kind.Produced b) e is at = let turned_is : node.Batch b ≡ node.Lot id = first_of _ e is ∙ at in absurd (cc)
-from_lot id lot kind.Scrapped e is at = absurd (cc)
-from_lot id lot (kind.Divided to) e is at = absurd (cc)
-from_lot id lot (kind.Split to) e is at = lot_same lot id (first_of _ e is ∙ at)
-from_lot id lot (kind.Merged to) e is at = lot_same lot id (first_of _ e is ∙ at)
+    module _ (kinds : EdgeKind × Option EdgeKind) (are : AreKindsAt d x kinds) where
+      -- where there is one kind its rows are all, and where there are two those of both
+      pub by_one : kinds.1 ≡ None → HasEdgesAt d x (edges_among ms) (map ends_of (of_kind kinds.0))
+      by_one none = by_rows (of_kind kinds.0) (among_all _ (edge_rows ms)) (λ e has begins. elim (are e begins) [
+        | inl first ↦ has_its_own kinds.0 e has begins first
+        | inr second ↦ absurd cc
+      ])
 
-from_batch : (id lot : List ℕ) (k : MovementKind) (e : Edge) → edge_by k lot ≡ Some e → e.0 ≡ node.Batch id → is_named id (batch_by k) ≡ true
-from_batch id lot kind.Received e is at = absurd (cc)
-from_batch id lot (kind.Consumed b) e is at = let turned_is : node.Lot lot ≡ node.Batch id = first_of _ e is ∙ at in absurd (cc)
-from_batch id lot (kind.Produced b) e is at = batch_same b id (first_of _ e is ∙ at)
-from_batch id lot kind.Scrapped e is at = absurd (cc)
-from_batch id lot (kind.Divided to) e is at = absurd (cc)
-from_batch id lot (kind.Split to) e is at = let turned_is : node.Lot lot ≡ node.Batch id = first_of _ e is ∙ at in absurd (cc)
-from_batch id lot (kind.Merged to) e is at = let turned_is : node.Lot lot ≡ node.Batch id = first_of _ e is ∙ at in absurd (cc)
+      pub by_two : (kind : EdgeKind) → kinds.1 ≡ Some kind → HasEdgesAt d x (edges_among ms) (map ends_of (of_kind kinds.0 ++ of_kind kind))
+      by_two kind second = by_rows (of_kind kinds.0 ++ of_kind kind)
+          (λ e has. elim (Contains-append_cases (of_kind kinds.0) (of_kind kind) e has) [
+            | inl here ↦ among_all _ (edge_rows ms) e here
+            | inr there ↦ among_all _ (edge_rows ms) e there
+          ])
+          (λ e has begins. elim (are e begins) [
+            | inl is ↦ Contains-append_left (of_kind kinds.0) (of_kind kind) e (has_its_own kinds.0 e has begins is)
+            | inr is ↦ Contains-append_right (of_kind kinds.0) (of_kind kind) e (has_its_own kind e has begins (some_same e.kind kind (is ∙ second)))
+          ])
 
-to_batch : (id lot : List ℕ) (k : MovementKind) (e : Edge) → edge_by k lot ≡ Some e → e.1 ≡ node.Batch id → is_named id (batch_by k) ≡ true
-to_batch id lot kind.Received e is at = absurd (cc)
-to_batch id lot (kind.Consumed b) e is at = batch_same b id (second_of _ e is ∙ at)
-to_batch id lot (kind.Produced b) e is at = let turned_is : node.Lot lot ≡ node.Batch id = second_of _ e is ∙ at in absurd (cc)
-to_batch id lot kind.Scrapped e is at = absurd (cc)
-to_batch id lot (kind.Divided to) e is at = absurd (cc)
-to_batch id lot (kind.Split to) e is at = let turned_is : node.Lot to ≡ node.Batch id = second_of _ e is ∙ at in absurd (cc)
-to_batch id lot (kind.Merged to) e is at = let turned_is : node.Lot to ≡ node.Batch id = second_of _ e is ∙ at in absurd (cc)
-
-to_lot : (id : List ℕ) (m : Movement) (k : MovementKind) (e : Edge) → edge_by k m.lot ≡ Some e → e.1 ≡ node.Lot id → (same m.lot id ≡ true) ⊎ (names_other_lot id (record m { kind = k }) ≡ true)
-to_lot id m kind.Received e is at = absurd (cc)
-to_lot id m (kind.Consumed b) e is at = let turned_is : node.Batch b ≡ node.Lot id = second_of _ e is ∙ at in absurd (cc)
-to_lot id m (kind.Produced b) e is at = inl (lot_same m.lot id (second_of _ e is ∙ at))
-to_lot id m kind.Scrapped e is at = absurd (cc)
-to_lot id m (kind.Divided to) e is at = absurd (cc)
-to_lot id m (kind.Split to) e is at = inr (lot_same to id (second_of _ e is ∙ at))
-to_lot id m (kind.Merged to) e is at = inr (lot_same to id (second_of _ e is ∙ at))
-
--- those of a batch have its edges both ways
-pub at_batch : (d : Direction) (id : List ℕ) (ms : List Movement) → HasEdgesAt d (node.Batch id) ms (filter (λ m. is_named id (batch_by m.kind)) ms)
-at_batch Forward id = at_passing Forward (node.Batch id) _ (λ m e is at. from_batch id m.lot m.kind e is at)
-at_batch Back id = at_passing Back (node.Batch id) _ (λ m e is at. to_batch id m.lot m.kind e is at)
-
-pub from_lot_on : (id : List ℕ) (ms : List Movement) → HasEdgesAt Forward (node.Lot id) ms (filter (λ m. same m.lot id) ms)
-from_lot_on id = at_passing Forward (node.Lot id) _ (λ m e is at. from_lot id m.lot m.kind e is at)
-
-pub back_to_lot : (id : List ℕ) (ms : List Movement) → HasEdgesAt Back (node.Lot id) ms (filter (λ m. same m.lot id) ms ++ filter (names_other_lot id) ms)
-back_to_lot id = at_both Back (node.Lot id) (λ m. same m.lot id) (names_other_lot id) (λ m e is at. to_lot id m m.kind e is at)
-
--- the nodes next to the node are the same by some of the movements as by all
-pub next_by : (d : Direction) (x : Node) (all some : List Movement) (nodes : List Node) → HasEdgesAt d x all some → Lists (IsNext d (edges_among some) x) nodes → Lists (IsNext d (edges_among all) x) nodes
-next_by Forward x all some nodes has = Lists-same (IsNext Forward (edges_among some) x) (IsNext Forward (edges_among all) x) nodes (λ y. has.only (x, y)) (λ y next. has.each (x, y) next refl)
-next_by Back x all some nodes has = Lists-same (IsNext Back (edges_among some) x) (IsNext Back (edges_among all) x) nodes (λ y. has.only (y, x)) (λ y next. has.each (y, x) next refl)
+-- the nodes next to the node are the same by some of the edges as by all
+pub next_by : (d : Direction) (x : Node) (all some : List (Node × Node)) (nodes : List Node) → HasEdgesAt d x all some → Lists (IsNext d some x) nodes → Lists (IsNext d all x) nodes
+next_by Forward x all some nodes has = Lists-same (IsNext Forward some x) (IsNext Forward all x) nodes (λ y. has.only (x, y)) (λ y next. has.each (x, y) next refl)
+next_by Back x all some nodes has = Lists-same (IsNext Back some x) (IsNext Back all x) nodes (λ y. has.only (y, x)) (λ y next. has.each (y, x) next refl)

@@ -2,7 +2,7 @@
 use Rattle.std.proofs.Common.{refl, [], ◌∷◌, codes}
 use Rattle.sqlite_tied.specs.Compute.{everything}
 use Rattle.table_reads.specs.Selects.{Selects}
-use Rattle.plant_tables.specs.DeskForms.{meta_form, class_form, definition_form, recipe_form, recipe_line_form, job_form, batch_form, control_line_form, batch_event_form, lot_form, sublot_form, movement_form, hold_form}
+use Rattle.plant_tables.specs.DeskForms.{meta_form, class_form, definition_form, recipe_form, recipe_line_form, job_form, batch_form, control_line_form, batch_event_form, lot_form, sublot_form, movement_form, hold_form, edge_form}
 
 pub meta : Selects meta_form [] (codes "SELECT k, schema, seq, at FROM meta ORDER BY k")
 unfolding everything
@@ -56,14 +56,6 @@ pub sublots_of_lot : Selects sublot_form (1 ∷ []) (codes "SELECT lot, no, plac
 unfolding everything
 sublots_of_lot = record { readable = refl; compared = refl; parameters = codes "?1" ∷ []; written = refl }
 
-pub movements_of_lot : Selects movement_form (4 ∷ []) (codes "SELECT seq, line, kind, lot, sub, lot2, sub2, batch, amount, at, by_who, note FROM movement WHERE lot = ?1 ORDER BY seq, line")
-unfolding everything
-movements_of_lot = record { readable = refl; compared = refl; parameters = codes "?1" ∷ []; written = refl }
-
-pub movements_to_lot : Selects movement_form (6 ∷ []) (codes "SELECT seq, line, kind, lot, sub, lot2, sub2, batch, amount, at, by_who, note FROM movement WHERE lot2 = ?1 ORDER BY seq, line")
-unfolding everything
-movements_to_lot = record { readable = refl; compared = refl; parameters = codes "?1" ∷ []; written = refl }
-
 pub movements_of_batch : Selects movement_form (8 ∷ []) (codes "SELECT seq, line, kind, lot, sub, lot2, sub2, batch, amount, at, by_who, note FROM movement WHERE batch = ?1 ORDER BY seq, line")
 unfolding everything
 movements_of_batch = record { readable = refl; compared = refl; parameters = codes "?1" ∷ []; written = refl }
@@ -79,3 +71,11 @@ hold_by_key = record { readable = refl; compared = refl; parameters = codes "?1"
 pub holds_of_lot : Selects hold_form (1 ∷ []) (codes "SELECT lot, id, at, by_who, note FROM hold WHERE lot = ?1 ORDER BY lot, id")
 unfolding everything
 holds_of_lot = record { readable = refl; compared = refl; parameters = codes "?1" ∷ []; written = refl }
+
+pub edges_from : Selects edge_form (1 ∷ 2 ∷ []) (codes "SELECT kind, a, b FROM edge WHERE kind = ?1 AND a = ?2 ORDER BY kind, a, b")
+unfolding everything
+edges_from = record { readable = refl; compared = refl; parameters = codes "?1" ∷ codes "?2" ∷ []; written = refl }
+
+pub edges_to : Selects edge_form (1 ∷ 3 ∷ []) (codes "SELECT kind, a, b FROM edge WHERE kind = ?1 AND b = ?2 ORDER BY kind, a, b")
+unfolding everything
+edges_to = record { readable = refl; compared = refl; parameters = codes "?1" ∷ codes "?2" ∷ []; written = refl }

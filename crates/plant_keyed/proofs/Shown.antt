@@ -28,7 +28,7 @@ use Rattle.plant_tables.specs.Keyed.{HoldsTables}
 use Rattle.plant_tables_columns.specs.Obeying.{HasRecipeValues, HasMasterLineValues, HasJobValues, HasBatchRowValues, HasControlLineValues, HasEventRowValues, HasSublotValues, HasMovementRowValues, HasGoodValues}
 use Rattle.plant_tables_columns.proofs.KindLemmas as kinds
 use Rattle.plant_tables_columns.proofs.RowLaws.{meta_reads, class_reads, definition_reads, recipe_reads, job_reads, batch_reads, event_reads, lot_reads, sublot_reads, hold_reads, master_line_again, control_line_again, movement_row_again}
-use Rattle.plant_good_passes.proofs.Values.{in_order, good_values}
+use Rattle.plant_good_passes.proofs.Values.{in_order, good_values, newest_known}
 use Rattle.plant_keyed.specs.Shown.{rows_under, table_under, rows_at, rows_shown, position_told, position_shown, shown}
 use Rattle.plant_keyed.specs.Laws.{ShowsItsState}
 use Rattle.plant_keyed.proofs.Sorting.{again_in_order}
@@ -99,7 +99,7 @@ module _ (db : Database) (s : State) (good : IsGood s) (holds : HoldsTables db (
   t = tables_of newest_schema s
 
   values : HasGoodValues t
-  values = good_values s good
+  values = good_values s good newest_schema newest_known
 
   meta_rows : rows_at db meta_form ≡ row_of_meta t.meta ∷ []
   meta_rows = one_alone (row_of_meta t.meta) (rows_at db meta_form) (rows_stand db meta_form (row_of_meta t.meta ∷ []) (holds.each 0 meta_form refl))
@@ -112,44 +112,44 @@ module _ (db : Database) (s : State) (good : IsGood s) (holds : HoldsTables db (
   position_here = ap (λ rows. position_told (only_meta rows)) meta_rows ∙ ap position_told meta_here
 
   classes_here : rows_shown class_order class_from db class_form ≡ s.classes
-  classes_here = shown_again class_order (on_total (λ r. r.id) nat_list_cmp_total) row_of_class class_from HasClassValues (λ r h. class_reads.again r h tt) db class_form s.classes (holds.each 1 class_form refl) (in_order s good).keyed.classes values.classes
+  classes_here = shown_again class_order (on_total (λ r. r.id) nat_list_cmp_total) row_of_class class_from HasClassValues (λ r h. class_reads.again r h tt) db class_form s.classes (holds.each 1 class_form refl) (in_order newest_schema s good).keyed.classes values.classes
 
   definitions_here : rows_shown definition_order definition_from db definition_form ≡ s.definitions
-  definitions_here = shown_again definition_order (on_total (λ r. r.id) nat_list_cmp_total) row_of_definition definition_from HasDefinitionValues (λ r h. definition_reads.again r h tt) db definition_form s.definitions (holds.each 2 definition_form refl) (in_order s good).keyed.definitions values.definitions
+  definitions_here = shown_again definition_order (on_total (λ r. r.id) nat_list_cmp_total) row_of_definition definition_from HasDefinitionValues (λ r h. definition_reads.again r h tt) db definition_form s.definitions (holds.each 2 definition_form refl) (in_order newest_schema s good).keyed.definitions values.definitions
 
   recipes_here : rows_shown recipe_order recipe_from db recipe_form ≡ s.recipes
-  recipes_here = shown_again recipe_order (then_total (on_total (λ r. r.header.recipe) nat_list_cmp_total) (on_total (λ r. r.header.version) nat_cmp_total)) row_of_recipe recipe_from HasRecipeValues (λ r h. recipe_reads.again r h tt) db recipe_form s.recipes (holds.each 3 recipe_form refl) (in_order s good).keyed.recipes values.recipes
+  recipes_here = shown_again recipe_order (then_total (on_total (λ r. r.header.recipe) nat_list_cmp_total) (on_total (λ r. r.header.version) nat_cmp_total)) row_of_recipe recipe_from HasRecipeValues (λ r h. recipe_reads.again r h tt) db recipe_form s.recipes (holds.each 3 recipe_form refl) (in_order newest_schema s good).keyed.recipes values.recipes
 
   master_lines_here : rows_shown master_line_order master_line_from db recipe_line_form ≡ s.master_lines
-  master_lines_here = shown_again master_line_order (then_total (then_total (on_total (λ r. r.recipe) nat_list_cmp_total) (on_total (λ r. r.version) nat_cmp_total)) (on_total (λ r. r.number) nat_cmp_total)) row_of_master_line master_line_from HasMasterLineValues master_line_again db recipe_line_form s.master_lines (holds.each 4 recipe_line_form refl) (in_order s good).keyed.master_lines values.master_lines
+  master_lines_here = shown_again master_line_order (then_total (then_total (on_total (λ r. r.recipe) nat_list_cmp_total) (on_total (λ r. r.version) nat_cmp_total)) (on_total (λ r. r.number) nat_cmp_total)) row_of_master_line master_line_from HasMasterLineValues master_line_again db recipe_line_form s.master_lines (holds.each 4 recipe_line_form refl) (in_order newest_schema s good).keyed.master_lines values.master_lines
 
   jobs_here : rows_shown job_order job_from db job_form ≡ s.jobs
-  jobs_here = shown_again job_order (on_total (λ r. r.order.order) nat_list_cmp_total) row_of_job job_from HasJobValues (λ r h. job_reads.again r h tt) db job_form s.jobs (holds.each 5 job_form refl) (in_order s good).keyed.jobs values.jobs
+  jobs_here = shown_again job_order (on_total (λ r. r.order.order) nat_list_cmp_total) row_of_job job_from HasJobValues (λ r h. job_reads.again r h tt) db job_form s.jobs (holds.each 5 job_form refl) (in_order newest_schema s good).keyed.jobs values.jobs
 
   batches_here : map (λ r. r.batch) (rows_shown batch_row_order batch_from db batch_form) ≡ s.batches
   batches_here =
-      ap (map (λ r. r.batch)) (shown_again batch_row_order (on_total (λ r. r.batch.id) nat_list_cmp_total) row_of_batch batch_from HasBatchRowValues (λ r h. batch_reads.again r h tt) db batch_form t.batches (holds.each 6 batch_form refl) (in_order s good).keyed.batches values.batches)
+      ap (map (λ r. r.batch)) (shown_again batch_row_order (on_total (λ r. r.batch.id) nat_list_cmp_total) row_of_batch batch_from HasBatchRowValues (λ r h. batch_reads.again r h tt) db batch_form t.batches (holds.each 6 batch_form refl) (in_order newest_schema s good).keyed.batches values.batches)
       ∙ batches_unread s.control_lines s.events s.batches
 
   control_lines_here : rows_shown control_line_order control_line_from db control_line_form ≡ s.control_lines
-  control_lines_here = shown_again control_line_order (then_total (on_total (λ r. r.batch) nat_list_cmp_total) (on_total (λ r. r.number) nat_cmp_total)) row_of_control_line control_line_from HasControlLineValues control_line_again db control_line_form s.control_lines (holds.each 7 control_line_form refl) (in_order s good).keyed.control_lines values.control_lines
+  control_lines_here = shown_again control_line_order (then_total (on_total (λ r. r.batch) nat_list_cmp_total) (on_total (λ r. r.number) nat_cmp_total)) row_of_control_line control_line_from HasControlLineValues control_line_again db control_line_form s.control_lines (holds.each 7 control_line_form refl) (in_order newest_schema s good).keyed.control_lines values.control_lines
 
   events_here : rows_shown event_order batch_event_from db batch_event_form ≡ s.events
-  events_here = shown_again event_order (on_total (λ r. r.seq) nat_cmp_total) row_of_event batch_event_from HasEventRowValues (λ r h. event_reads.again r h tt) db batch_event_form s.events (holds.each 8 batch_event_form refl) (in_order s good).events values.events
+  events_here = shown_again event_order (on_total (λ r. r.seq) nat_cmp_total) row_of_event batch_event_from HasEventRowValues (λ r h. event_reads.again r h tt) db batch_event_form s.events (holds.each 8 batch_event_form refl) (in_order newest_schema s good).events values.events
 
   lots_here : rows_shown lot_order lot_from db lot_form ≡ s.lots
-  lots_here = shown_again lot_order (on_total (λ r. r.id) nat_list_cmp_total) row_of_lot lot_from HasLotValues (λ r h. lot_reads.again r h tt) db lot_form s.lots (holds.each 9 lot_form refl) (in_order s good).keyed.lots values.lots
+  lots_here = shown_again lot_order (on_total (λ r. r.id) nat_list_cmp_total) row_of_lot lot_from HasLotValues (λ r h. lot_reads.again r h tt) db lot_form s.lots (holds.each 9 lot_form refl) (in_order newest_schema s good).keyed.lots values.lots
 
   places_here : map place_of_row (rows_shown sublot_order sublot_from db sublot_form) ≡ s.places
   places_here =
-      ap (map place_of_row) (shown_again sublot_order (then_total (on_total (λ r. r.lot) nat_list_cmp_total) (on_total (λ r. r.number) nat_cmp_total)) row_of_sublot sublot_from HasSublotValues (λ r h. sublot_reads.again r h tt) db sublot_form t.sublots (holds.each 10 sublot_form refl) (in_order s good).keyed.sublots values.sublots)
+      ap (map place_of_row) (shown_again sublot_order (then_total (on_total (λ r. r.lot) nat_list_cmp_total) (on_total (λ r. r.number) nat_cmp_total)) row_of_sublot sublot_from HasSublotValues (λ r h. sublot_reads.again r h tt) db sublot_form t.sublots (holds.each 10 sublot_form refl) (in_order newest_schema s good).keyed.sublots values.sublots)
       ∙ places_unread s.movements s.places
 
   movements_here : rows_shown movement_order movement_read db movement_form ≡ s.movements
-  movements_here = shown_again movement_order (then_total (on_total (λ r. r.seq) nat_cmp_total) (on_total (λ r. r.line) nat_cmp_total)) row_of_movement movement_read HasMovementRowValues movement_again db movement_form s.movements (holds.each 11 movement_form refl) (in_order s good).movements values.movements
+  movements_here = shown_again movement_order (then_total (on_total (λ r. r.seq) nat_cmp_total) (on_total (λ r. r.line) nat_cmp_total)) row_of_movement movement_read HasMovementRowValues movement_again db movement_form s.movements (holds.each 11 movement_form refl) (in_order newest_schema s good).movements values.movements
 
   holds_here : rows_shown hold_order hold_from db hold_form ≡ s.holds
-  holds_here = shown_again hold_order (then_total (on_total (λ r. r.lot) nat_list_cmp_total) (on_total (λ r. r.id) nat_list_cmp_total)) row_of_hold hold_from HasHoldValues (λ r h. hold_reads.again r h tt) db hold_form s.holds (holds.each 12 hold_form refl) (in_order s good).keyed.holds values.holds
+  holds_here = shown_again hold_order (then_total (on_total (λ r. r.lot) nat_list_cmp_total) (on_total (λ r. r.id) nat_list_cmp_total)) row_of_hold hold_from HasHoldValues (λ r h. hold_reads.again r h tt) db hold_form s.holds (holds.each 12 hold_form refl) (in_order newest_schema s good).keyed.holds values.holds
 
   shown_here : shown db ≡ s
   unfolding shown

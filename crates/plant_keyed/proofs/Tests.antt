@@ -17,7 +17,6 @@ use Rattle.plant_tables_columns.specs.Kinds.{number}
 use Rattle.plant_tables_columns.specs.TableColumns.{row_of_movement}
 use Rattle.plant_tables.proofs.KeyTests.{and_true}
 use Rattle.plant_tables_judged.proofs.SortedLemmas.{int_cmp_pos}
-use Rattle.plant_keyed.specs.Edges.{names_other_lot}
 
 pub text_is : (a b : List ℕ) → is_eq (value_cmp (Text a) (Text b)) ≡ same a b
 text_is a b = ap is_eq (value_cmp-Text a b) ∙ sym (texts_ties a b)
@@ -33,27 +32,15 @@ one_text a b = and_true _ ∙ text_is a b
 pub text_number : (a b : List ℕ) (m n : ℕ) → (is_eq (value_cmp (Text a) (Text b)) && (is_eq (value_cmp (number m) (number n)) && true)) ≡ (same a b && m == n)
 text_number a b m n = ap₂ (λ x y. x && y) (text_is a b) (and_true _ ∙ number_is m n)
 
+-- a number, and then a text
+pub number_text : (m n : ℕ) (a b : List ℕ) → (is_eq (value_cmp (number m) (number n)) && (is_eq (value_cmp (Text a) (Text b)) && true)) ≡ (m == n && same a b)
+number_text m n a b = ap₂ (λ x y. x && y) (number_is m n) (one_text a b)
+
 -- two texts
 pub two_texts : (a b c d : List ℕ) → (is_eq (value_cmp (Text a) (Text b)) && (is_eq (value_cmp (Text c) (Text d)) && true)) ≡ (same a b && same c d)
 two_texts a b c d = ap₂ (λ x y. x && y) (text_is a b) (one_text c d)
 
 -- ---- movements
-
-pub lot_is : (m : Movement) (lot : List ℕ) → has_values (4 ∷ []) (Text lot ∷ []) (row_of_movement m) ≡ same m.lot lot
-lot_is m lot = one_text m.lot lot
-
-pub other_lot_is : (m : Movement) (lot : List ℕ) → has_values (6 ∷ []) (Text lot ∷ []) (row_of_movement m) ≡ names_other_lot lot m
-unfolding value_cmp
-other_lot_is m lot = by m.kind
-  where
-    by : (k : MovementKind) → has_values (6 ∷ []) (Text lot ∷ []) (row_of_movement (record m { kind = k })) ≡ names_other_lot lot (record m { kind = k })
-    by kind.Received = refl
-    by (kind.Consumed batch) = refl
-    by (kind.Produced batch) = refl
-    by kind.Scrapped = refl
-    by (kind.Divided to) = one_text m.lot lot
-    by (kind.Split to) = one_text to lot
-    by (kind.Merged to) = one_text to lot
 
 pub batch_is : (m : Movement) (batch : List ℕ) → has_values (8 ∷ []) (Text batch ∷ []) (row_of_movement m) ≡ is_named batch (batch_by m.kind)
 unfolding value_cmp

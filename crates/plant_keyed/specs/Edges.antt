@@ -1,18 +1,34 @@
--- The movements that name a node, and their edges.
-use Rattle.std.specs.Prelude.{◌≡◌, ℕ, Bool, List, Contains}
-use Rattle.plant_base.specs.declared.rows.Movement.{Movement}
-use Rattle.plant_tables_columns.specs.Booked.{other_lot}
+-- The edges that begin at a node, as a direction sees them.
+use Rattle.std.specs.Prelude.{◌≡◌, ◌⊎◌, ◌==◌, ◌&&◌, ℕ, Bool, List, Option, Some, Contains}
+use Rattle.plant_base.specs.Edges.{edge_kind_number}
+use Rattle.plant_base.specs.State.{same}
+use Rattle.plant_base.specs.declared.rows.EdgeKind.{EdgeKind}
+use Rattle.plant_base.specs.declared.rows.EdgeRow.{EdgeRow}
 use Rattle.plant_trace.specs.Turned.{turned}
 use Rattle.plant_trace.specs.declared.direction.Direction.{Direction}
+use Rattle.plant_trace.specs.declared.direction.Direction.TheVariants.{Forward, Back}
 use Rattle.plant_trace.specs.declared.node.Node.{Node}
-use Rattle.plant_view.specs.Genealogy.{edges_among}
-use Rattle.plant_view.specs.Views.{is_named}
+use Rattle.plant_trace.specs.declared.node.Node.TheVariants as node
+use Rattle.plant_view.specs.Genealogy.{ends_of}
 
--- the lot is the movement's other end
-abbrev pub names_other_lot : List ℕ → Movement → Bool
-names_other_lot lot m = is_named lot (other_lot m.kind m.lot)
+-- the id at which the edge begins, as the direction sees it
+abbrev pub near_id : Direction → EdgeRow → List ℕ
+near_id Forward e = e.from
+near_id Back e = e.to
 
--- The movements make every edge of all of them that begins at the node, as the direction sees it, and no other edge than theirs.
-pub record HasEdgesAt (d : Direction) (x : Node) (all some : List Movement) : Type 0 where
-  pub only : (e : Node × Node) → Contains (edges_among some) e → Contains (edges_among all) e
-  pub each : (e : Node × Node) → Contains (edges_among all) e → (turned d e).0 ≡ x → Contains (edges_among some) e
+-- the edge is of this kind and begins at this id
+abbrev pub begins_at : Direction → EdgeKind → List ℕ → EdgeRow → Bool
+begins_at d kind id e = edge_kind_number e.kind == edge_kind_number kind && same (near_id d e) id
+
+abbrev pub id_of : Node → List ℕ
+id_of (node.Lot id) = id
+id_of (node.Batch id) = id
+
+-- each edge that begins at the node is of the first kind, or of the second where there is one
+abbrev pub AreKindsAt : Direction → Node → EdgeKind × Option EdgeKind → Type 0
+AreKindsAt d x kinds = (e : EdgeRow) → (turned d (ends_of e)).0 ≡ x → (e.kind ≡ kinds.0) ⊎ (Some e.kind ≡ kinds.1)
+
+-- Some of all edges: every one of them that begins at the node, as the direction sees it, and none that isn't one of all.
+pub record HasEdgesAt (d : Direction) (x : Node) (all some : List (Node × Node)) : Type 0 where
+  pub only : (e : Node × Node) → Contains some e → Contains all e
+  pub each : (e : Node × Node) → Contains all e → (turned d e).0 ≡ x → Contains some e

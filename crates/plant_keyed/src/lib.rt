@@ -1,6 +1,7 @@
 //! The desk's rows, each found by its key by a query over a connection.
 #![tactic(auto)]
 
+mod edges;
 mod found;
 mod keyed;
 mod laws;

@@ -1,5 +1,5 @@
-//! The fixed text of each look-up: all columns of a table in their order, with a parameter for each column that is given,
-//! by the table's first key.
+//! The fixed text of each look-up: all columns of a table in their order, with a parameter for each column that is
+//! given, by the table's first key.
 
 pub(crate) const META: &str = "SELECT k, schema, seq, at FROM meta ORDER BY k";
 
@@ -37,12 +37,6 @@ pub(crate) const SUBLOT_BY_KEY: &str =
 pub(crate) const SUBLOTS_OF_LOT: &str =
     "SELECT lot, no, place, stock FROM sublot WHERE lot = ?1 ORDER BY lot, no";
 
-pub(crate) const MOVEMENTS_OF_LOT: &str =
-    "SELECT seq, line, kind, lot, sub, lot2, sub2, batch, amount, at, by_who, note FROM movement WHERE lot = ?1 ORDER BY seq, line";
-
-pub(crate) const MOVEMENTS_TO_LOT: &str =
-    "SELECT seq, line, kind, lot, sub, lot2, sub2, batch, amount, at, by_who, note FROM movement WHERE lot2 = ?1 ORDER BY seq, line";
-
 pub(crate) const MOVEMENTS_OF_BATCH: &str =
     "SELECT seq, line, kind, lot, sub, lot2, sub2, batch, amount, at, by_who, note FROM movement WHERE batch = ?1 ORDER BY seq, line";
 
@@ -54,3 +48,9 @@ pub(crate) const HOLD_BY_KEY: &str =
 
 pub(crate) const HOLDS_OF_LOT: &str =
     "SELECT lot, id, at, by_who, note FROM hold WHERE lot = ?1 ORDER BY lot, id";
+
+pub(crate) const EDGES_FROM: &str =
+    "SELECT kind, a, b FROM edge WHERE kind = ?1 AND a = ?2 ORDER BY kind, a, b";
+
+pub(crate) const EDGES_TO: &str =
+    "SELECT kind, a, b FROM edge WHERE kind = ?1 AND b = ?2 ORDER BY kind, a, b";

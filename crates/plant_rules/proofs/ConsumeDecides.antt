@@ -16,7 +16,7 @@ use Rattle.plant_view.specs.declared.change.RowChange.TheVariants as row
 use Rattle.plant_view.specs.Refusing.{standing}
 use Rattle.plant_view.specs.Sound.{IsSound}
 use Rattle.plant_view.specs.Tables.{tables_of, changed_all}
-use Rattle.plant_rules.specs.Booking.{line_of}
+use Rattle.plant_rules.specs.Booking.{line_of, edge_change}
 use Rattle.plant_rules.specs.Consumption.{consume, IsLeft}
 use Rattle.plant_rules.proofs.TakingTables.{consumption_takes, taken_tables}
 
@@ -33,7 +33,7 @@ own_by_trace pairs batch lot nodes own listed has =
     one_test own (leads pairs (node.Batch batch) (node.Lot lot)) (λ e. reached.1 (listed.only (node.Lot lot) (has.0 e))) (λ e. has.1 (listed.all (node.Lot lot) (reached.0 e)))
 
 pub consume_tables : (s : State) → IsSound s → (t : Stamp) (c : Consume) (p : Sublot) → IsLeft s c p
-    → changed_all (row.Meta (record { schema = newest_schema; position = record { seq = s.seq + 1; at = t.at } }) ∷ row.Sublot p ∷ row.Movement (line_of s.seq t (Consumed c.batch) c.lot c.sub c.amount) ∷ []) (tables_of newest_schema s) ≡ tables_of newest_schema (consume s t c)
+    → changed_all (row.Meta (record { schema = newest_schema; position = record { seq = s.seq + 1; at = t.at } }) ∷ row.Sublot p ∷ row.Movement (line_of s.seq t (Consumed c.batch) c.lot c.sub c.amount) ∷ edge_change (line_of s.seq t (Consumed c.batch) c.lot c.sub c.amount)) (tables_of newest_schema s) ≡ tables_of newest_schema (consume s t c)
 consume_tables s sound t c p left =
-    ap (λ (q : Sublot). changed_all (row.Meta (record { schema = newest_schema; position = record { seq = s.seq + 1; at = t.at } }) ∷ row.Sublot q ∷ row.Movement (line_of s.seq t (Consumed c.batch) c.lot c.sub c.amount) ∷ []) (tables_of newest_schema s)) left.1
+    ap (λ (q : Sublot). changed_all (row.Meta (record { schema = newest_schema; position = record { seq = s.seq + 1; at = t.at } }) ∷ row.Sublot q ∷ row.Movement (line_of s.seq t (Consumed c.batch) c.lot c.sub c.amount) ∷ edge_change (line_of s.seq t (Consumed c.batch) c.lot c.sub c.amount)) (tables_of newest_schema s)) left.1
     ∙ taken_tables (Consumed c.batch) (consumption_takes c.batch) s sound t c.lot c.sub c.amount p.place (standing s c.lot c.sub) left.0 refl

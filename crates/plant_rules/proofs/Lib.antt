@@ -17,3 +17,4 @@ pub mod SplitTables
 pub mod StepSound
 pub mod TakingSound
 pub mod TakingTables
+pub mod EdgeChanges

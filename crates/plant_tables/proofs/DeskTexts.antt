@@ -6,8 +6,8 @@ use Rattle.sqlite_resolve.specs.Compile.{first}
 use Rattle.table_forms.specs.Texts.{IsMakeText, IsPutText, IsTakeText, parse_or, rows_in, names_in, definition_in}
 use Rattle.table_forms.specs.Moves.{AreApart, AreMakeTexts}
 use Rattle.table_forms.proofs.Computed.{takes_two, upserts_row}
-use Rattle.plant_tables.specs.DeskForms.{desk_forms, meta_form, class_form, definition_form, recipe_form, recipe_line_form, job_form, batch_form, control_line_form, batch_event_form, lot_form, sublot_form, movement_form, hold_form}
-use Rattle.plant_tables.specs.declared.forms.TheConstants.{CREATE_META, PUT_META, CREATE_CLASS, PUT_CLASS, CREATE_DEFINITION, PUT_DEFINITION, CREATE_RECIPE, PUT_RECIPE, CREATE_RECIPE_LINE, PUT_RECIPE_LINE, CREATE_JOB, PUT_JOB, CREATE_BATCH, PUT_BATCH, CREATE_CONTROL_LINE, PUT_CONTROL_LINE, CREATE_BATCH_EVENT, PUT_BATCH_EVENT, CREATE_LOT, PUT_LOT, CREATE_SUBLOT, PUT_SUBLOT, CREATE_MOVEMENT, PUT_MOVEMENT, CREATE_HOLD, PUT_HOLD, TAKE_HOLD}
+use Rattle.plant_tables.specs.DeskForms.{desk_forms, later_forms, meta_form, class_form, definition_form, recipe_form, recipe_line_form, job_form, batch_form, control_line_form, batch_event_form, lot_form, sublot_form, movement_form, hold_form, edge_form}
+use Rattle.plant_tables.specs.declared.forms.TheConstants.{CREATE_META, PUT_META, CREATE_CLASS, PUT_CLASS, CREATE_DEFINITION, PUT_DEFINITION, CREATE_RECIPE, PUT_RECIPE, CREATE_RECIPE_LINE, PUT_RECIPE_LINE, CREATE_JOB, PUT_JOB, CREATE_BATCH, PUT_BATCH, CREATE_CONTROL_LINE, PUT_CONTROL_LINE, CREATE_BATCH_EVENT, PUT_BATCH_EVENT, CREATE_LOT, PUT_LOT, CREATE_SUBLOT, PUT_SUBLOT, CREATE_MOVEMENT, PUT_MOVEMENT, CREATE_HOLD, PUT_HOLD, CREATE_EDGE, PUT_EDGE, TAKE_HOLD}
 
 makes_meta : IsMakeText CREATE_META.now meta_form
 unfolding everything
@@ -146,17 +146,40 @@ puts_hold =
     (record { parsed = parse_or (first PUT_HOLD.now); reads = refl; columns = names_in (parse_or (first PUT_HOLD.now)).statement; rows = rows_in (parse_or (first PUT_HOLD.now)).statement; statement = refl; untimed = refl; made = λ schema tree. refl; above = refl })
     refl (record { aims = λ tree. refl; apart = refl; few = refl; some = refl; found = λ tree. refl; set = λ tree. refl; made = λ tree. refl }))
 
+makes_edge : IsMakeText CREATE_EDGE.now edge_form
+unfolding everything
+makes_edge = record { parsed = parse_or (first CREATE_EDGE.now); reads = refl; def = definition_in (parse_or (first CREATE_EDGE.now)).statement; statement = refl; name = refl; unconditional = refl; plain = refl; defines = refl; whole = refl; table_is = refl; own_name = refl }
+
+pub puts_edge : IsPutText PUT_EDGE.now edge_form
+unfolding everything
+puts_edge =
+    inr (upserts_row PUT_EDGE.now edge_form (1 ∷ 2 ∷ 3 ∷ [])
+    (record { parsed = parse_or (first PUT_EDGE.now); reads = refl; columns = names_in (parse_or (first PUT_EDGE.now)).statement; rows = rows_in (parse_or (first PUT_EDGE.now)).statement; statement = refl; untimed = refl; made = λ schema tree. refl; above = refl })
+    refl (record { aims = λ tree. refl; apart = refl; few = refl; some = refl; found = λ tree. refl; set = λ tree. refl; made = λ tree. refl }))
+
 pub takes_hold : IsTakeText TAKE_HOLD.now hold_form (1 ∷ 2 ∷ [])
 unfolding everything first_key
 takes_hold = takes_two TAKE_HOLD.now hold_form (parse_or (first TAKE_HOLD.now)) 1 2 refl refl refl (record { above = refl; found = λ tree. (refl, refl, (refl, refl, tt)); tested = λ tree. refl })
     (λ tree. (record { place = refl; strict = refl; named = refl }, record { place = refl; strict = refl; named = refl }))
 
 abbrev pub create_texts : List (List ℕ)
-create_texts = CREATE_META.now ∷ CREATE_CLASS.now ∷ CREATE_DEFINITION.now ∷ CREATE_RECIPE.now ∷ CREATE_RECIPE_LINE.now ∷ CREATE_JOB.now ∷ CREATE_BATCH.now ∷ CREATE_CONTROL_LINE.now ∷ CREATE_BATCH_EVENT.now ∷ CREATE_LOT.now ∷ CREATE_SUBLOT.now ∷ CREATE_MOVEMENT.now ∷ CREATE_HOLD.now ∷ []
+create_texts = CREATE_META.now ∷ CREATE_CLASS.now ∷ CREATE_DEFINITION.now ∷ CREATE_RECIPE.now ∷ CREATE_RECIPE_LINE.now ∷ CREATE_JOB.now ∷ CREATE_BATCH.now ∷ CREATE_CONTROL_LINE.now ∷ CREATE_BATCH_EVENT.now ∷ CREATE_LOT.now ∷ CREATE_SUBLOT.now ∷ CREATE_MOVEMENT.now ∷ CREATE_HOLD.now ∷ CREATE_EDGE.now ∷ []
 
 pub all_made : AreMakeTexts create_texts desk_forms
-all_made = (makes_meta, (makes_class, (makes_definition, (makes_recipe, (makes_recipe_line, (makes_job, (makes_batch, (makes_control_line, (makes_batch_event, (makes_lot, (makes_sublot, (makes_movement, (makes_hold, tt)))))))))))))
+all_made = (makes_meta, (makes_class, (makes_definition, (makes_recipe, (makes_recipe_line, (makes_job, (makes_batch, (makes_control_line, (makes_batch_event, (makes_lot, (makes_sublot, (makes_movement, (makes_hold, (makes_edge, tt))))))))))))))
 
 pub desk_apart : AreApart desk_forms
 unfolding everything
 desk_apart = record { apart = λ tree. refl }
+
+-- ---- those that the newest schema adds to the first
+
+abbrev pub later_texts : List (List ℕ)
+later_texts = CREATE_EDGE.now ∷ []
+
+pub later_made : AreMakeTexts later_texts (later_forms 1)
+later_made = (makes_edge, tt)
+
+pub later_apart : AreApart (later_forms 1)
+unfolding everything
+later_apart = record { apart = λ tree. refl }

@@ -1,8 +1,9 @@
 -- How the writing of changes ends, in the tables of the desk.
-use Rattle.std.proofs.Common.{◌≡◌, inl, inr, refl, sym, subst, List, Ok, Err, Result, OnOk, OnErr}
+use Rattle.std.proofs.Common.{◌≡◌, inl, inr, refl, sym, subst, ℕ, List, Ok, Err, Result, OnOk, OnErr}
 use Rattle.sqlite.specs.Tree.{Trees}
 use Rattle.sqlite.specs.Effect.{Database}
 use Rattle.sqlite.specs.State.{State}
+use Rattle.plant_base.specs.State.{newest_schema}
 use Rattle.plant_view.specs.Tables.{Tables, changed_all}
 use Rattle.plant_view.specs.declared.change.RowChange.{RowChange}
 use Rattle.table_forms.specs.Standing.{KeepsOthers}
@@ -10,37 +11,47 @@ use Rattle.table_forms.specs.Stopping.{IsSettled, IsUndone}
 use Rattle.table_forms.specs.Moves.{Moves}
 use Rattle.plant_tables.specs.DeskForms.{desk_forms}
 use Rattle.plant_tables.specs.DeskTables.{contents_of, all_rows_changed}
-use Rattle.plant_tables.specs.Keyed.{HoldsTables, AreKeyed, AreFresh, MovesTables}
-use Rattle.plant_tables.specs.DeskStopping.{IsAt, Finds, IsCutShort}
+use Rattle.plant_tables.specs.Keyed.{HoldsTablesOf, HoldsTables, AreKeyed, AreFresh, MovesTables}
+use Rattle.plant_tables.specs.DeskStopping.{IsAtOf, IsAt, FindsOf, Finds, IsCutShortOf, IsCutShort}
 use Rattle.plant_tables.proofs.Bridge.{all_changed, stand_as}
 
 pub tables_moved : (cs : List RowChange) (old new : State) → Moves desk_forms old new (all_rows_changed cs) → MovesTables cs old.now new.now
 tables_moved cs old new moves t keyed fresh holds =
     (stand_as desk_forms new.now (all_rows_changed cs (contents_of t)) (contents_of (changed_all cs t)) (all_changed cs t keyed fresh) (moves.stands (contents_of t) holds), moves.others (contents_of t) holds)
 
-finds_same : (db : Database) (trees : Trees) (t : Tables) → HoldsTables db t → trees ≡ db.trees → Finds db trees t
-finds_same db trees t holds same = subst (λ d. Finds db d t) (sym same) (record { schema = db.schema; holds = holds; others = record { kept = λ x listed foreign. (listed, refl) } })
+-- what an opening finds where nothing was changed
+pub finds_same : (version : ℕ) (db : Database) (trees : Trees) (t : Tables) → HoldsTablesOf version db t → trees ≡ db.trees → FindsOf version db trees t
+finds_same version db trees t holds same =
+    subst (λ d. FindsOf version db d t) (sym same) (record { schema = db.schema; holds = holds; others = record { kept = λ x listed foreign. (listed, refl) } })
 
-finds_made : (cs : List RowChange) (old after : Database) (trees : Trees) (t : Tables) → AreKeyed t → AreFresh cs t → HoldsTables old t → MovesTables cs old after → trees ≡ after.trees → Finds old trees (changed_all cs t)
-finds_made cs old after trees t keyed fresh holds made same =
-    let it = made t keyed fresh holds in
-    subst (λ d. Finds old d (changed_all cs t)) (sym same) (record { schema = after.schema; holds = it.0; others = it.1 })
+module _ (version : ℕ) (makes : Database → Database → Type 0) (old new : State) (before after : Tables) (at : IsAtOf version old before)
+    (leads : (db : Database) → makes old.now db → HoldsTables db after × KeepsOthers desk_forms old.now db) where
+  finds_made : (db : Database) (trees : Trees) → makes old.now db → trees ≡ db.trees → Finds old.now trees after
+  finds_made db trees made same =
+      let it = leads db made in
+      subst (λ d. Finds old.now d after) (sym same) (record { schema = db.schema; holds = it.0; others = it.1 })
+
+  pub ended_at : {X E : Type 0} (r : Result X E) → OnOk r (IsSettled new × makes old.now new.now) → OnOk r (IsAt new after × KeepsOthers desk_forms old.now new.now)
+  ended_at (Err e) done = tt
+  ended_at (Ok x) done =
+      let it = leads new.now done.1 in
+      (record { settled = done.0; holds = it.0 }, it.1)
+
+  pub cut_at : {X E : Type 0} (r : Result X E) → OnErr r (IsUndone makes old new) → OnErr r (IsCutShortOf version old new before after)
+  cut_at (Ok x) undone = tt
+  cut_at (Err e) undone = record {
+    leaves = undone.leaves;
+    nothing_else = λ db left. elim (undone.nothing_else db left) [
+      | inl still ↦ inl (finds_same version old.now db before at.holds still)
+      | inr made ↦ inr (finds_made made.0 db made.1 made.2)
+    ];
+    shows = λ live. let it = undone.shows live in (record { settled = it.0; holds = subst (λ d. HoldsTablesOf version d before) (sym it.1) at.holds }, it.1);
+  }
 
 pub done_at : {X E : Type 0} (cs : List RowChange) (old new : State) (t : Tables) (r : Result X E) → IsAt old t → AreKeyed t → AreFresh cs t → OnOk r (IsSettled new × MovesTables cs old.now new.now)
     → OnOk r (IsAt new (changed_all cs t) × KeepsOthers desk_forms old.now new.now)
-done_at cs old new t (Err e) at keyed fresh done = tt
-done_at cs old new t (Ok x) at keyed fresh done =
-    let it = done.1 t keyed fresh at.holds in
-    (record { settled = done.0; holds = it.0 }, it.1)
+done_at cs old new t r at keyed fresh done = ended_at newest_schema (MovesTables cs) old new t (changed_all cs t) at (λ db made. made t keyed fresh at.holds) r done
 
 pub undone_at : {X E : Type 0} (cs : List RowChange) (old new : State) (t : Tables) (r : Result X E) → IsAt old t → AreKeyed t → AreFresh cs t → OnErr r (IsUndone (MovesTables cs) old new)
     → OnErr r (IsCutShort old new t (changed_all cs t))
-undone_at cs old new t (Ok x) at keyed fresh undone = tt
-undone_at cs old new t (Err e) at keyed fresh undone = record {
-  leaves = undone.leaves;
-  nothing_else = λ db left. elim (undone.nothing_else db left) [
-    | inl before ↦ inl (finds_same old.now db t at.holds before)
-    | inr made ↦ inr (finds_made cs old.now made.0 db t keyed fresh at.holds made.1 made.2)
-  ];
-  shows = λ live. let it = undone.shows live in (record { settled = it.0; holds = subst (λ d. HoldsTables d t) (sym it.1) at.holds }, it.1);
-}
+undone_at cs old new t r at keyed fresh undone = cut_at newest_schema (MovesTables cs) old new t (changed_all cs t) at (λ db made. made t keyed fresh at.holds) r undone

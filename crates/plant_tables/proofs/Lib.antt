@@ -6,3 +6,4 @@ pub mod Bridge
 pub mod Ended
 pub mod Opened
 pub mod Fresh
+pub mod Raised

@@ -1,5 +1,5 @@
 -- Where a store stands, and what a stop may leave of it, in the tables of the desk.
-use Rattle.std.specs.Prelude.{◌≡◌, ◌⊎◌, IsTrue}
+use Rattle.std.specs.Prelude.{◌≡◌, ◌⊎◌, ℕ, IsTrue}
 use Rattle.sqlite.specs.Tree.{Trees}
 use Rattle.sqlite.specs.Schema.{Schema}
 use Rattle.sqlite.specs.Effect.{Database, IsDatabase}
@@ -9,25 +9,37 @@ use Rattle.plant_view.specs.Tables.{Tables, tables_of}
 use Rattle.table_forms.specs.Standing.{KeepsOthers, AreFree}
 use Rattle.table_forms.specs.Stopping.{IsSettled}
 use Rattle.plant_tables.specs.DeskForms.{desk_forms}
-use Rattle.plant_tables.specs.Keyed.{HoldsTables}
+use Rattle.plant_tables.specs.Keyed.{HoldsTablesOf, HoldsTables}
 
--- The store is open and in no transaction, holds these tables, and a stop leaves just them.
-pub record IsAt (s : State) (t : Tables) : Type 0 where
+-- The store is open and in no transaction, holds these tables of a schema, and a stop leaves just them.
+pub record IsAtOf (version : ℕ) (s : State) (t : Tables) : Type 0 where
   pub settled : IsSettled s
-  pub holds : HoldsTables s.now t
+  pub holds : HoldsTablesOf version s.now t
 
--- What an opening of these trees finds: these tables, and those of other names as they stood.
-pub record Finds (before : Database) (trees : Trees) (t : Tables) : Type 0 where
+-- those of the newest schema
+abbrev pub IsAt : State → Tables → Type 0
+IsAt = IsAtOf newest_schema
+
+-- What an opening of these trees finds: these tables of a schema, and those of other names as they stood.
+pub record FindsOf (version : ℕ) (before : Database) (trees : Trees) (t : Tables) : Type 0 where
   pub schema : Schema
-  pub holds : HoldsTables (record { schema = schema; trees = trees }) t
+  pub holds : HoldsTablesOf version (record { schema = schema; trees = trees }) t
   pub others : KeepsOthers desk_forms before (record { schema = schema; trees = trees })
 
--- A transaction was cut short: a stop leaves at least one, and nothing else than the tables before or after it, and the
--- store, where it is still open, shows those before.
-pub record IsCutShort (old new : State) (before after : Tables) : Type 0 where
+-- those of the newest schema
+abbrev pub Finds : Database → Trees → Tables → Type 0
+Finds = FindsOf newest_schema
+
+-- A transaction that leads from tables of a schema to tables of the newest was cut short: a stop leaves at least one, and
+-- nothing else than the tables before or after it, and the store, where it is still open, shows those before.
+pub record IsCutShortOf (version : ℕ) (old new : State) (before after : Tables) : Type 0 where
   pub leaves : ∥ ((db : Trees) × new.may_leave db) ∥₁
-  pub nothing_else : (db : Trees) → new.may_leave db → Finds old.now db before ⊎ Finds old.now db after
-  pub shows : IsTrue new.is_open → IsAt new before × (new.now ≡ old.now)
+  pub nothing_else : (db : Trees) → new.may_leave db → FindsOf version old.now db before ⊎ Finds old.now db after
+  pub shows : IsTrue new.is_open → IsAtOf version new before × (new.now ≡ old.now)
+
+-- one between tables of the newest
+abbrev pub IsCutShort : State → State → Tables → Tables → Type 0
+IsCutShort = IsCutShortOf newest_schema
 
 -- ---- the making of the tables
 

@@ -1,19 +1,28 @@
 -- The tables of the desk that a database holds, and the premises under which a change of rows is a change of the tables.
-use Rattle.std.specs.Prelude.{◌≡◌, ◌==◌, ◌&&◌, true, false, List, [], ◌∷◌, ⊤}
+use Rattle.std.specs.Prelude.{◌≡◌, ℕ, ◌==◌, ◌&&◌, true, false, nat_le, List, [], ◌∷◌, ⊤}
 use Rattle.std.specs.List.{AllByRecursion}
 use Rattle.std.specs.List.Sorted.{IsStrictlySortedBy}
 use Rattle.sqlite.specs.Effect.{Database}
-use Rattle.plant_base.specs.State.{same, class_order, definition_order, recipe_order, master_line_order, job_order, control_line_order, lot_order, hold_order}
+use Rattle.plant_base.specs.Edges.{edge_order}
+use Rattle.plant_base.specs.State.{newest_schema, same, class_order, definition_order, recipe_order, master_line_order, job_order, control_line_order, lot_order, hold_order}
 use Rattle.plant_view.specs.Tables.{Tables, batch_row_order, sublot_order, changed, changed_all}
 use Rattle.plant_view.specs.declared.change.RowChange.{RowChange}
 use Rattle.plant_view.specs.declared.change.RowChange.TheVariants as change
 use Rattle.table_forms.specs.Standing.{StandIn, KeepsOthers}
-use Rattle.plant_tables.specs.DeskForms.{desk_forms}
+use Rattle.plant_tables.specs.DeskForms.{forms_of, desk_forms}
 use Rattle.plant_tables.specs.DeskTables.{contents_of}
 
--- The database is sound, and each table is declared as its form says and has these rows.
+-- The database is sound, and each table of the schema is declared as its form says and has these rows.
+abbrev pub HoldsTablesOf : ℕ → Database → Tables → Type 0
+HoldsTablesOf schema db t = StandIn (forms_of schema) db (contents_of t)
+
+-- those of the newest schema
 abbrev pub HoldsTables : Database → Tables → Type 0
-HoldsTables db t = StandIn desk_forms db (contents_of t)
+HoldsTables = HoldsTablesOf newest_schema
+
+-- there are no rows of tables that a later schema adds
+abbrev pub LacksLater : ℕ → Tables → Type 0
+LacksLater schema t = nat_le 2 schema ≡ false → t.edges ≡ []
 
 -- The rows that are put by their keys stand in the order of their keys, none with the key of another.
 pub record AreKeyed (t : Tables) : Type 0 where
@@ -27,6 +36,7 @@ pub record AreKeyed (t : Tables) : Type 0 where
   pub lots : IsStrictlySortedBy lot_order t.lots
   pub sublots : IsStrictlySortedBy sublot_order t.sublots
   pub holds : IsStrictlySortedBy hold_order t.holds
+  pub edges : IsStrictlySortedBy edge_order t.edges
 
 -- A row that is added at the end has a key that no row has, and a batch is of an order that no other batch is of.
 abbrev pub IsFresh : RowChange → Tables → Type 0

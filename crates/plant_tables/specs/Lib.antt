@@ -2,3 +2,4 @@ pub mod DeskForms
 pub mod DeskTables
 pub mod Keyed
 pub mod DeskStopping
+pub mod Raising

@@ -1,7 +1,7 @@
-//! How each table of schema 1 is declared, and the fixed texts that make it and put a row into it. Such a text adds the
+//! How each table is declared, and the fixed texts that make it and put a row into it. Such a text adds the
 //! row, or updates each column of the one with its key; those of events of batches and of bookings only add.
-ghost use Rattle.std.specs.Prelude.{◌≡◌};
-ghost use Rattle.plant_tables.specs.DeskForms.{desk_forms};
+ghost use Rattle.std.specs.Prelude.{◌≡◌, ◌≤◌, take, drop};
+ghost use Rattle.plant_tables.specs.DeskForms.{desk_forms, forms_of, later_forms};
 
 use table_forms::ColumnForm::{Integer, IntegerOrNull, Text, TextOrNull};
 use table_forms::Form;
@@ -260,8 +260,21 @@ pub(crate) const PUT_HOLD: &str =
 
 pub(crate) const TAKE_HOLD: &str = "DELETE FROM hold WHERE lot = ?1 AND id = ?2";
 
-/// How each table of schema 1 is declared, in the order in which they are made.
-pub fn desk_forms() -> [Form<'static>; 13]
+/// Edges of the genealogy, which can be looked up from each of their ends.
+pub const EDGE: Form<'static> = Form {
+    name: b"edge",
+    columns: &[Integer(b"kind"), Text(b"a"), Text(b"b")],
+    keys: &[&[1, 2, 3], &[1, 3, 2]],
+};
+
+pub(crate) const CREATE_EDGE: &str =
+    "CREATE TABLE edge (kind INTEGER NOT NULL, a TEXT NOT NULL, b TEXT NOT NULL, UNIQUE (kind, a, b), UNIQUE (kind, b, a)) STRICT";
+
+pub(crate) const PUT_EDGE: &str =
+    "INSERT INTO edge (kind, a, b) VALUES (?1, ?2, ?3) ON CONFLICT (kind, a, b) DO UPDATE SET kind = excluded.kind, a = excluded.a, b = excluded.b";
+
+/// How each table of the newest schema is declared, in the order in which they are made.
+pub fn desk_forms() -> [Form<'static>; 14]
     ensures { result ≡ desk_forms }
 {
     [
@@ -278,5 +291,15 @@ pub fn desk_forms() -> [Form<'static>; 13]
         SUBLOT,
         MOVEMENT,
         HOLD,
+        EDGE,
     ]
+}
+
+/// How many of them, from the first on, are the tables of a schema.
+pub fn tables_in(schema: u64) -> usize
+    ensures own { take result desk_forms ≡ forms_of schema }
+    ensures later { drop result desk_forms ≡ later_forms schema }
+    ensures few { result ≤ 14 }
+{
+    if schema >= 2 { 14 } else { 13 }
 }

@@ -3,7 +3,9 @@
 
 mod commit;
 pub mod forms;
+mod raising;
 mod write;
 
 pub use commit::{commit_changes, commit_opening};
+pub use raising::commit_raising;
 pub use write::{create, write_change, write_changes};

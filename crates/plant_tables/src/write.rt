@@ -11,9 +11,9 @@ use crate::forms;
 use plant_base::{ControlLine, MasterLine, RecipeLine};
 use plant_tables_columns::storing::{id, large};
 use plant_tables_columns::{
-    batch_values, class_values, control_line_values, definition_values, event_values, hold_values,
-    job_values, lot_values, master_line_values, meta_values, movement_values, recipe_values,
-    sublot_values,
+    batch_values, class_values, control_line_values, definition_values, edge_values, event_values,
+    hold_values, job_values, lot_values, master_line_values, meta_values, movement_values,
+    recipe_values, sublot_values,
 };
 use plant_view::RowChange;
 use sqlite::{Alter, Transaction};
@@ -64,6 +64,7 @@ pub fn write_change<S: Alter>(tx: &mut Transaction<'_, S>, change: &RowChange) -
             put_row(tx, forms::PUT_MOVEMENT, &movement_values(row, seq))
         }
         RowChange::Hold(row) => put_row(tx, forms::PUT_HOLD, &hold_values(row)),
+        RowChange::Edge(row) => put_row(tx, forms::PUT_EDGE, &edge_values(row)),
         RowChange::Unhold { lot, hold } => { take_rows(tx, forms::TAKE_HOLD, &[id(lot), id(hold)]) }
     }
 }
@@ -121,6 +122,7 @@ pub fn create<S: Alter>(tx: &mut Transaction<'_, S>, schema: u64) -> Result<(), 
             forms::CREATE_SUBLOT,
             forms::CREATE_MOVEMENT,
             forms::CREATE_HOLD,
+            forms::CREATE_EDGE,
         ],
     )
 }

@@ -21,8 +21,11 @@ use Rattle.plant_base.specs.declared.states.Event.TheVariants as event
 use Rattle.plant_base.proofs.Find.{found_passes}
 use Rattle.plant_base.proofs.Keys.{same_id}
 use Rattle.plant_tables_columns.specs.Reading.{number_in}
-use Rattle.plant_tables_columns.specs.Naming.{event_name, event_phase, all_recipe_states, recipe_state_named, all_job_states, job_state_named, all_batch_states, batch_state_named, all_words, word_named, plain_event, event_named, line_sort_number, all_line_sorts, line_sort_numbered, movement_sort_number, all_movement_sorts, movement_sort_numbered}
+use Rattle.plant_tables_columns.specs.Naming.{event_name, event_phase, all_recipe_states, recipe_state_named, all_job_states, job_state_named, all_batch_states, batch_state_named, all_words, word_named, plain_event, event_named, line_sort_number, all_line_sorts, line_sort_numbered, movement_sort_number, all_movement_sorts, movement_sort_numbered, all_edge_kinds, edge_kind_numbered}
 use Rattle.plant_base.specs.RowValues.{HasPhaseNumber}
+use Rattle.plant_base.specs.Edges.{edge_kind_number}
+use Rattle.plant_base.specs.declared.rows.EdgeKind.{EdgeKind}
+use Rattle.plant_base.specs.declared.rows.EdgeKind.TheVariants as edge_kind
 use Rattle.plant_tables_columns.specs.declared.line.LineSort.{LineSort}
 use Rattle.plant_tables_columns.specs.declared.line.LineSort.TheVariants as line_sort
 use Rattle.plant_tables_columns.specs.declared.booked.MovementSort.{MovementSort}
@@ -177,3 +180,13 @@ movement_sort_own movement_sort.Scrapped = refl
 movement_sort_own movement_sort.Divided = refl
 movement_sort_own movement_sort.Split = refl
 movement_sort_own movement_sort.Merged = refl
+
+pub edge_kind_back : (number : ℤ) (k : EdgeKind) → edge_kind_numbered number ≡ Some k → number ≡ pos (edge_kind_number k)
+unfolding edge_kind_numbered
+edge_kind_back number k h = numbered_back edge_kind_number all_edge_kinds number k h
+
+pub edge_kind_own : (k : EdgeKind) → edge_kind_numbered (pos (edge_kind_number k)) ≡ Some k
+unfolding edge_kind_numbered
+edge_kind_own edge_kind.LotToBatch = refl
+edge_kind_own edge_kind.BatchToLot = refl
+edge_kind_own edge_kind.LotToLot = refl

@@ -12,13 +12,13 @@ use Rattle.plant_base.specs.declared.rows.MovementKind.TheVariants as kind
 use Rattle.plant_base.specs.declared.rows.Movement.{Movement}
 use Rattle.plant_tables_columns.specs.Reading.{is_in}
 use Rattle.plant_tables_columns.specs.Columns.{Columns, read_row}
-use Rattle.plant_tables_columns.specs.TableColumns.{row_of_meta, row_of_class, row_of_definition, row_of_recipe, row_of_master_line, row_of_job, row_of_batch, row_of_control_line, row_of_event, row_of_lot, row_of_sublot, row_of_booked, row_of_movement, row_of_hold, meta_from, class_from, definition_from, recipe_from, master_line_from, control_line_from, job_from, batch_from, batch_event_from, lot_from, sublot_from, booked_from, hold_from}
+use Rattle.plant_tables_columns.specs.TableColumns.{row_of_meta, row_of_class, row_of_definition, row_of_recipe, row_of_master_line, row_of_job, row_of_batch, row_of_control_line, row_of_event, row_of_lot, row_of_sublot, row_of_booked, row_of_movement, row_of_hold, row_of_edge, meta_from, class_from, definition_from, recipe_from, master_line_from, control_line_from, job_from, batch_from, batch_event_from, lot_from, sublot_from, booked_from, hold_from, edge_from}
 use Rattle.plant_tables_columns.specs.Booked.{booked_of}
-use Rattle.plant_tables_columns.specs.Obeying.{HasMetaValues, HasRecipeValues, HasMasterLineValues, HasControlLineValues, HasJobValues, HasBatchRowValues, HasEventRowValues, HasSublotValues, HasKindRowValues, HasMovementRowValues}
+use Rattle.plant_tables_columns.specs.Obeying.{HasMetaValues, HasRecipeValues, HasMasterLineValues, HasControlLineValues, HasJobValues, HasBatchRowValues, HasEventRowValues, HasSublotValues, HasKindRowValues, HasMovementRowValues, HasEdgeValues}
 use Rattle.plant_tables_columns.specs.declared.booked.BookedRow.{BookedRow}
 use Rattle.plant_tables_columns.proofs.KindLaws.{Any, IsNumbered}
 use Rattle.plant_tables_columns.proofs.ColumnLaws.{AreLawful, row_back, row_again, row_keeps}
-use Rattle.plant_tables_columns.proofs.TableLaws.{meta_lawful, class_lawful, definition_lawful, recipe_lawful, HasMasterColumns, master_line_lawful, HasControlColumns, control_line_lawful, job_lawful, batch_lawful, batch_event_lawful, lot_lawful, sublot_lawful, HasBookedColumns, booked_lawful, hold_lawful}
+use Rattle.plant_tables_columns.proofs.TableLaws.{meta_lawful, class_lawful, definition_lawful, recipe_lawful, HasMasterColumns, master_line_lawful, HasControlColumns, control_line_lawful, job_lawful, batch_lawful, batch_event_lawful, lot_lawful, sublot_lawful, HasBookedColumns, booked_lawful, hold_lawful, edge_lawful}
 
 -- How rows are read and stored: what was read has the columns of the row, but where it isn't whole; a good one that is
 -- whole is read of its own columns; and each that was read is good.
@@ -81,6 +81,10 @@ booked_reads = reads booked_lawful
 pub hold_reads : Reads hold_from row_of_hold HasHoldValues Any
 unfolding hold_from
 hold_reads = reads hold_lawful
+
+pub edge_reads : Reads edge_from row_of_edge HasEdgeValues Any
+unfolding edge_from
+edge_reads = reads edge_lawful
 
 -- ---- lines that have a number, and movements
 

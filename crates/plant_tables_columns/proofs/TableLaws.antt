@@ -24,19 +24,21 @@ use Rattle.plant_base.specs.declared.rows.BatchEvent.{BatchEvent}
 use Rattle.plant_base.specs.declared.rows.Lot.{Lot}
 use Rattle.plant_base.specs.declared.rows.Sublot.{Sublot}
 use Rattle.plant_base.specs.declared.rows.Hold.{Hold}
+use Rattle.plant_base.specs.declared.rows.EdgeRow.{EdgeRow}
+use Rattle.plant_base.specs.Edges.{edge_kind_number}
 use Rattle.plant_base.specs.RowValues.{HasClassValues, HasDefinitionValues, HasPhaseNumber, HasLotValues, HasHoldValues}
 use Rattle.plant_recipe.specs.Progress.{greatest_attempt}
 use Rattle.plant_view.specs.Production.{HasBatchValues, HasGoodOrder}
-use Rattle.plant_tables_columns.specs.Kinds.{number, recipe_states, job_states, batch_states, movement_sorts}
+use Rattle.plant_tables_columns.specs.Kinds.{number, recipe_states, job_states, batch_states, movement_sorts, edge_kinds}
 use Rattle.plant_tables_columns.specs.Reading.{text_in, integer_in, greatest_number}
-use Rattle.plant_tables_columns.specs.Naming.{event_name, event_phase, recipe_state_named, recipe_state_from, job_state_named, job_state_from, batch_state_named, batch_state_from, event_named, event_from, movement_sort_number, movement_sort_numbered, movement_sort_from}
+use Rattle.plant_tables_columns.specs.Naming.{event_name, event_phase, recipe_state_named, recipe_state_from, job_state_named, job_state_from, batch_state_named, batch_state_from, event_named, event_from, movement_sort_number, movement_sort_numbered, movement_sort_from, edge_kind_numbered, edge_kind_from}
 use Rattle.plant_tables_columns.specs.Columns.{Columns}
-use Rattle.plant_tables_columns.specs.TableColumns.{event_columns, meta_columns, class_columns, definition_columns, header_columns, recipe_columns, master_line_columns, control_line_columns, order_columns, job_columns, released_columns, batch_columns, batch_event_columns, lot_columns, sublot_columns, booked_columns, hold_columns}
-use Rattle.plant_tables_columns.specs.Obeying.{HasMetaValues, HasRecipeValues, HasJobValues, HasBatchRowValues, HasEventRowValues, HasSublotValues}
+use Rattle.plant_tables_columns.specs.TableColumns.{event_columns, meta_columns, class_columns, definition_columns, header_columns, recipe_columns, master_line_columns, control_line_columns, order_columns, job_columns, released_columns, batch_columns, batch_event_columns, lot_columns, sublot_columns, booked_columns, hold_columns, edge_columns}
+use Rattle.plant_tables_columns.specs.Obeying.{HasMetaValues, HasRecipeValues, HasJobValues, HasBatchRowValues, HasEventRowValues, HasSublotValues, HasEdgeValues}
 use Rattle.plant_tables_columns.specs.declared.booked.BookedRow.{BookedRow}
 use Rattle.plant_tables_columns.proofs.Options.{bound}
 use Rattle.plant_tables_columns.proofs.KindLaws.{IsKind, Any, GoodOrNone, text_kind, integer_kind, text_is, integer_is, id_kind, text_like, unit_kind, due_kind, number_kind, below_kind, one_kind, line_number_kind, IsNumbered, flag_kind, optional_id_kind, optional_sublot_kind}
-use Rattle.plant_tables_columns.proofs.NameLemmas.{recipe_state_back, recipe_state_own, job_state_back, job_state_own, batch_state_back, batch_state_own, event_back, event_own, event_keeps, movement_sort_back, movement_sort_own}
+use Rattle.plant_tables_columns.proofs.NameLemmas.{recipe_state_back, recipe_state_own, job_state_back, job_state_own, batch_state_back, batch_state_own, event_back, event_own, event_keeps, movement_sort_back, movement_sort_own, edge_kind_back, edge_kind_own}
 use Rattle.plant_tables_columns.proofs.LineLaws.{line_lawful}
 use Rattle.plant_tables_columns.proofs.ColumnLaws.{AreLawful, StandFrom, one_lawful, ◌⊕◌, made_lawful, in_words}
 
@@ -57,6 +59,10 @@ batch_state_kind = text_kind batch_state_named batch_state_name Any batch_state_
 movement_sort_kind : IsKind movement_sorts Any Any
 unfolding movement_sort_from
 movement_sort_kind = integer_kind movement_sort_numbered (λ s. pos (movement_sort_number s)) Any Any (λ n s h _. movement_sort_back n s h) (λ s _ _. movement_sort_own s) (λ n s h. tt)
+
+edge_kind_kind : IsKind edge_kinds Any Any
+unfolding edge_kind_from
+edge_kind_kind = integer_kind edge_kind_numbered (λ k. pos (edge_kind_number k)) Any Any (λ n k h _. edge_kind_back n k h) (λ k _ _. edge_kind_own k) (λ n k h. tt)
 
 record IsEventOfBoth (v w : Value) (e : Event) : Type 0 where
   pub name : List ℕ
@@ -224,3 +230,7 @@ pub hold_lawful : AreLawful hold_columns HasHoldValues Any
 hold_lawful = in_words HasHoldValues Any (λ h g. record { lot = g.0; id = g.1.0; at = g.1.1.0; by = g.1.1.1.0; note = g.1.1.1.1 }) (λ h is. (is.lot, (is.id, (is.at, (is.by, is.note))))) (λ h _. (tt, (tt, (tt, (tt, tt)))))
     (made_lawful _ _ (λ h. refl) (λ p. refl)
     (one_lawful id_kind ⊕ one_lawful id_kind ⊕ one_lawful (below_kind greatest_moment) ⊕ one_lawful text_like ⊕ one_lawful text_like))
+
+pub edge_lawful : AreLawful edge_columns HasEdgeValues Any
+edge_lawful = in_words HasEdgeValues Any (λ e g. record { from = g.1.0; to = g.1.1 }) (λ e h. (tt, (h.from, h.to))) (λ e _. (tt, (tt, tt)))
+    (made_lawful _ _ (λ e. refl) (λ p. refl) (one_lawful edge_kind_kind ⊕ one_lawful id_kind ⊕ one_lawful id_kind))

@@ -4,12 +4,14 @@ use Rattle.sqlite.specs.declared.types.Value.{Value}
 use Rattle.sqlite.specs.declared.types.Value.TheVariants.{Null, Int, Text}
 use Rattle.plant_base.specs.Words.{recipe_state_name, job_state_name, batch_state_name}
 use Rattle.plant_base.specs.Values.{greatest_amount, greatest_moment, greatest_seq, greatest_sublot}
+use Rattle.plant_base.specs.Edges.{edge_kind_number}
+use Rattle.plant_base.specs.declared.rows.EdgeKind.{EdgeKind}
 use Rattle.plant_base.specs.declared.states.RecipeState.{RecipeState}
 use Rattle.plant_base.specs.declared.states.JobState.{JobState}
 use Rattle.plant_base.specs.declared.states.BatchState.{BatchState}
 use Rattle.table_forms.specs.Forms.{integer, text, integer_or_null, text_or_null}
 use Rattle.plant_tables_columns.specs.Reading.{id_from, text_from, unit_from, due_from, number_from, one_from, line_number_from, flag_from, id_or_null, sublot_or_null}
-use Rattle.plant_tables_columns.specs.Naming.{recipe_state_from, job_state_from, batch_state_from, movement_sort_number, movement_sort_from}
+use Rattle.plant_tables_columns.specs.Naming.{recipe_state_from, job_state_from, batch_state_from, movement_sort_number, movement_sort_from, edge_kind_from}
 use Rattle.plant_tables_columns.specs.Columns.{Kind}
 use Rattle.plant_tables_columns.specs.declared.booked.MovementSort.{MovementSort}
 
@@ -86,6 +88,9 @@ batch_states = record { declared = text; stored = λ s. Text (batch_state_name s
 
 abbrev pub movement_sorts : Kind MovementSort
 movement_sorts = record { declared = integer; stored = λ s. number (movement_sort_number s); read = movement_sort_from }
+
+abbrev pub edge_kinds : Kind EdgeKind
+edge_kinds = record { declared = integer; stored = λ k. number (edge_kind_number k); read = edge_kind_from }
 
 -- ---- what may be left out
 

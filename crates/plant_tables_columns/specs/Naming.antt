@@ -3,9 +3,12 @@ use Rattle.std.specs.Prelude.{ℕ, ℤ, pos, List, [], ◌∷◌, Option, Some, 
 use Rattle.std.specs.Ordering.{int_eq}
 use Rattle.sqlite.specs.declared.types.Value.{Value}
 use Rattle.plant_base.specs.Options.{◌>>=◌}
+use Rattle.plant_base.specs.Edges.{edge_kind_number}
 use Rattle.plant_base.specs.State.{same}
 use Rattle.plant_base.specs.Values.{greatest_phase}
 use Rattle.plant_base.specs.Words.{recipe_state_name, job_state_name, batch_state_name, word_name}
+use Rattle.plant_base.specs.declared.rows.EdgeKind.{EdgeKind}
+use Rattle.plant_base.specs.declared.rows.EdgeKind.TheVariants as edge_kind
 use Rattle.plant_base.specs.declared.states.RecipeState.{RecipeState}
 use Rattle.plant_base.specs.declared.states.RecipeState.TheVariants as recipe_state
 use Rattle.plant_base.specs.declared.states.JobState.{JobState}
@@ -129,3 +132,13 @@ movement_sort_numbered number = find (λ s. int_eq (pos (movement_sort_number s)
 
 unfoldable pub movement_sort_from : Value → Option MovementSort
 movement_sort_from = by_number movement_sort_numbered
+
+abbrev pub all_edge_kinds : List EdgeKind
+all_edge_kinds = edge_kind.LotToBatch ∷ edge_kind.BatchToLot ∷ edge_kind.LotToLot ∷ []
+
+-- the kind of edge of this number
+unfoldable pub edge_kind_numbered : ℤ → Option EdgeKind
+edge_kind_numbered number = find (λ k. int_eq (pos (edge_kind_number k)) number) all_edge_kinds
+
+unfoldable pub edge_kind_from : Value → Option EdgeKind
+edge_kind_from = by_number edge_kind_numbered

@@ -19,6 +19,7 @@ use Rattle.plant_base.specs.declared.rows.MovementKind.{MovementKind}
 use Rattle.plant_base.specs.declared.rows.MovementKind.TheVariants as kind
 use Rattle.plant_base.specs.declared.rows.Movement.{Movement}
 use Rattle.plant_base.specs.declared.rows.Hold.{Hold}
+use Rattle.plant_base.specs.declared.rows.EdgeRow.{EdgeRow}
 use Rattle.plant_recipe.specs.Progress.{greatest_attempt}
 use Rattle.plant_view.specs.Production.{HasBatchValues, HasGoodOrder}
 use Rattle.plant_view.specs.Tables.{Tables}
@@ -91,6 +92,10 @@ pub record HasMovementRowValues (m : Movement) : Type 0 where
   pub by : is_text m.by ≡ true
   pub note : is_text m.note ≡ true
 
+pub record HasEdgeValues (e : EdgeRow) : Type 0 where
+  pub from : is_id e.from ≡ true
+  pub to : is_id e.to ≡ true
+
 -- each value of each row
 pub record HasGoodValues (t : Tables) : Type 0 where
   pub meta : HasMetaValues t.meta
@@ -106,3 +111,4 @@ pub record HasGoodValues (t : Tables) : Type 0 where
   pub sublots : AllByRecursion HasSublotValues t.sublots
   pub movements : AllByRecursion HasMovementRowValues t.movements
   pub holds : AllByRecursion HasHoldValues t.holds
+  pub edges : AllByRecursion HasEdgeValues t.edges

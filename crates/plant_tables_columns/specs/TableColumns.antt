@@ -25,11 +25,12 @@ use Rattle.plant_base.specs.declared.rows.BatchEvent.{BatchEvent}
 use Rattle.plant_base.specs.declared.rows.Lot.{Lot}
 use Rattle.plant_base.specs.declared.rows.Sublot.{Sublot}
 use Rattle.plant_base.specs.declared.rows.Hold.{Hold}
+use Rattle.plant_base.specs.declared.rows.EdgeRow.{EdgeRow}
 use Rattle.plant_base.specs.declared.rows.Movement.{Movement}
 use Rattle.table_forms.specs.Forms.{integer, text, text_or_null}
 use Rattle.plant_tables_columns.specs.Reading.{id_from, text_from, amount_from, greatest_number, is_null, is_empty, is_zero}
 use Rattle.plant_tables_columns.specs.Columns.{Columns, one, ◌⊗◌, made, read_row}
-use Rattle.plant_tables_columns.specs.Kinds.{number, ids, texts, units, dues, numbers, amounts, stocks, moments, seqs, sublot_numbers, line_numbers, always_one, flags, recipe_states, job_states, batch_states, movement_sorts, ids_or_none, sublot_numbers_or_none}
+use Rattle.plant_tables_columns.specs.Kinds.{number, ids, texts, units, dues, numbers, amounts, stocks, moments, seqs, sublot_numbers, line_numbers, always_one, flags, recipe_states, job_states, batch_states, movement_sorts, edge_kinds, ids_or_none, sublot_numbers_or_none}
 use Rattle.plant_tables_columns.specs.Naming.{event_name, event_phase, event_from, line_sort_from}
 use Rattle.plant_tables_columns.specs.declared.line.LineSort.{LineSort}
 use Rattle.plant_tables_columns.specs.declared.line.LineSort.TheVariants as line_sort
@@ -293,3 +294,16 @@ row_of_hold = hold_columns.stored
 
 unfoldable pub hold_from : Row → Option Hold
 hold_from = read_row hold_columns
+
+-- ---- edges
+
+abbrev pub edge_columns : Columns EdgeRow
+edge_columns = made (λ (kind, (from, to)). record { kind = kind; from = from; to = to })
+    (λ e. (e.kind, (e.from, e.to)))
+    (one (codes "kind") edge_kinds ⊗ one (codes "a") ids ⊗ one (codes "b") ids)
+
+abbrev pub row_of_edge : EdgeRow → Row
+row_of_edge = edge_columns.stored
+
+unfoldable pub edge_from : Row → Option EdgeRow
+edge_from = read_row edge_columns

@@ -3,6 +3,7 @@
 #![tactic(auto)]
 
 mod booked;
+mod edges;
 mod judged;
 mod line;
 mod masters;
@@ -14,6 +15,7 @@ mod stocks;
 pub mod storing;
 
 pub use booked::{BookedRow, MovementSort};
+pub use edges::edge_values;
 pub use judged::{Judged, judge_all};
 pub use masters::{class_values, definition_values, master_line_values, recipe_values};
 pub use meta::meta_values;

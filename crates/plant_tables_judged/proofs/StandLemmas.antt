@@ -1,15 +1,15 @@
 -- Rows that were read stand for the tables that were loaded.
-use Rattle.std.proofs.Common.{◌≡◌, refl, sym, ap, ◌∙◌, ℕ, zero, suc, ◌+◌, ◌<◌, ◌≤◌, true, List, [], ◌∷◌, length, map, Option, Some, None, is_some, slice_get, slice_index_or, arith}
+use Rattle.std.proofs.Common.{◌≡◌, refl, sym, ap, ◌∙◌, ℕ, zero, suc, ◌+◌, ◌<◌, ◌≤◌, Bool, true, false, nat_le, if◌then◌else◌, List, [], ◌∷◌, ◌++◌, length, map, Option, Some, None, is_some, slice_get, slice_index_or, arith}
 use Rattle.std.specs.Bool.{⊤}
 use Rattle.std.specs.List.{AllByRecursion, filter_map, cons_option}
 use Rattle.std.proofs.lemmas.Bool.{false≢true}
 use Rattle.plant_base.specs.declared.rows.Movement.{Movement}
-use Rattle.plant_tables_columns.specs.TableColumns.{row_of_meta, row_of_class, row_of_definition, row_of_recipe, row_of_master_line, row_of_job, row_of_batch, row_of_control_line, row_of_event, row_of_lot, row_of_sublot, row_of_booked, row_of_movement, row_of_hold, only_meta, class_from, definition_from, recipe_from, master_line_from, job_from, batch_from, control_line_from, batch_event_from, lot_from, sublot_from, booked_from, hold_from}
+use Rattle.plant_tables_columns.specs.TableColumns.{row_of_meta, row_of_class, row_of_definition, row_of_recipe, row_of_master_line, row_of_job, row_of_batch, row_of_control_line, row_of_event, row_of_lot, row_of_sublot, row_of_booked, row_of_movement, row_of_hold, row_of_edge, only_meta, class_from, definition_from, recipe_from, master_line_from, job_from, batch_from, control_line_from, batch_event_from, lot_from, sublot_from, booked_from, hold_from, edge_from}
 use Rattle.plant_tables.specs.DeskTables.{rows_of, contents_of}
 use Rattle.sqlite.specs.Order.{Row}
 use Rattle.plant_base.specs.declared.rows.Meta.{Meta}
 use Rattle.table_forms.specs.Forms.{Form}
-use Rattle.plant_tables.specs.DeskForms.{desk_forms}
+use Rattle.plant_tables.specs.DeskForms.{first_forms, edge_form, forms_of}
 use Rattle.std.proofs.lemmas.Option.{slice_get_within}
 use Rattle.plant_tables_stored.specs.Loading.{contents_loaded}
 use Rattle.plant_tables_stored.specs.declared.loaded.Loaded.{Loaded}
@@ -19,7 +19,7 @@ use Rattle.plant_tables_judged.specs.Collecting.{Rows, MasterRows, OrderRows, St
 use Rattle.plant_tables_columns.specs.declared.booked.BookedRow.{BookedRow}
 use Rattle.plant_tables_columns.proofs.Options.{bound, some_same}
 use Rattle.plant_tables_columns.proofs.KindLemmas.{movement_back}
-use Rattle.plant_tables_columns.proofs.RowLaws.{meta_reads, class_reads, definition_reads, recipe_reads, master_line_reads, job_reads, batch_reads, control_line_reads, event_reads, lot_reads, sublot_reads, booked_reads, hold_reads}
+use Rattle.plant_tables_columns.proofs.RowLaws.{meta_reads, class_reads, definition_reads, recipe_reads, master_line_reads, job_reads, batch_reads, control_line_reads, event_reads, lot_reads, sublot_reads, booked_reads, hold_reads, edge_reads}
 use Rattle.plant_tables_judged.proofs.TableLemmas.{every, all_back}
 
 -- what each table of these is read as
@@ -70,6 +70,7 @@ pub record AreStockRows (x : Loaded) (r : StockRows) : Type 0 where
   pub sublots : all_from sublot_from (contents_loaded x 10) ≡ Some r.sublots
   pub movements : all_from booked_from (contents_loaded x 11) ≡ Some r.movements
   pub holds : all_from hold_from (contents_loaded x 12) ≡ Some r.holds
+  pub edges : all_from edge_from (contents_loaded x 13) ≡ Some r.edges
 
 pub stocks_back : (x : Loaded) (r : StockRows) → stocks_from x ≡ Some r → AreStockRows x r
 unfolding stocks_from
@@ -78,12 +79,14 @@ stocks_back x r h =
     let p2 = bound (all_from sublot_from (contents_loaded x 10)) _ r p1.2 in
     let p3 = bound (all_from booked_from (contents_loaded x 11)) _ r p2.2 in
     let p4 = bound (all_from hold_from (contents_loaded x 12)) _ r p3.2 in
-    let same : record { lots = p1.0; sublots = p2.0; movements = p3.0; holds = p4.0 } ≡ r = some_same _ _ p4.2 in
+    let p5 = bound (all_from edge_from (contents_loaded x 13)) _ r p4.2 in
+    let same : record { lots = p1.0; sublots = p2.0; movements = p3.0; holds = p4.0; edges = p5.0 } ≡ r = some_same _ _ p5.2 in
     record {
       lots = p1.1 ∙ ap (λ r. Some r.lots) same;
       sublots = p2.1 ∙ ap (λ r. Some r.sublots) same;
       movements = p3.1 ∙ ap (λ r. Some r.movements) same;
       holds = p4.1 ∙ ap (λ r. Some r.holds) same;
+      edges = p5.1 ∙ ap (λ r. Some r.edges) same;
     }
 
 -- ---- movements
@@ -117,6 +120,7 @@ pub record AreStored (x : Loaded) (r : Rows) : Type 0 where
   pub sublots : contents_loaded x 10 ≡ map row_of_sublot r.sublots
   pub movements : contents_loaded x 11 ≡ map row_of_movement (filter_map movement_from r.movements)
   pub holds : contents_loaded x 12 ≡ map row_of_hold r.holds
+  pub edges : contents_loaded x 13 ≡ map row_of_edge r.edges
 
 meta_back : (rows : List Row) (r : Meta) → only_meta rows ≡ Some r → rows ≡ row_of_meta r ∷ []
 unfolding only_meta
@@ -149,6 +153,7 @@ are_stored x r h whole =
       sublots = all_back sublot_from row_of_sublot (λ _. ⊤) sublot_reads.back _ r.sublots (s.sublots ∙ ap (λ (r : Rows). Some r.sublots) same) (every r.sublots);
       movements = all_back booked_from row_of_booked (λ m. 1 ≤ m.line) booked_reads.back _ r.movements (s.movements ∙ ap (λ (r : Rows). Some r.movements) same) whole.movement_lines ∙ fitted r.movements whole.movements;
       holds = all_back hold_from row_of_hold (λ _. ⊤) hold_reads.back _ r.holds (s.holds ∙ ap (λ (r : Rows). Some r.holds) same) (every r.holds);
+      edges = all_back edge_from row_of_edge (λ _. ⊤) edge_reads.back _ r.edges (s.edges ∙ ap (λ (r : Rows). Some r.edges) same) (every r.edges);
     }
 
 -- the loaded rows of the first tables are these
@@ -161,12 +166,16 @@ at_place x first [] are place low = absurd (omega (arith, low))
 at_place x first (rows ∷ more) are zero low = let same : first + 0 ≡ first = omega arith in ap (contents_loaded x) same ∙ are.0
 at_place x first (rows ∷ more) are (suc place) low = let same : first + suc place ≡ suc first + place = omega arith in ap (contents_loaded x) same ∙ at_place x (suc first) more are.1 place (omega (arith, low))
 
+few_forms : (b : Bool) → length (first_forms ++ (if b then edge_form ∷ [] else [])) ≤ 14
+few_forms true = omega arith
+few_forms false = omega arith
+
 -- Rows that were read from what was loaded, whose lines have numbers and whose movements have the columns of their
 -- kinds, are the tables that were loaded.
-pub stands_for : (x : Loaded) (r : Rows) → rows_from x ≡ Some r → AreWhole r → (place : ℕ) (form : Form) → slice_get desk_forms place ≡ Some form → contents_loaded x place ≡ contents_of (tables_in r) place
-stands_for x r h whole place form is =
+pub stands_for : (x : Loaded) (r : Rows) → rows_from x ≡ Some r → AreWhole r → (schema place : ℕ) (form : Form) → slice_get (forms_of schema) place ≡ Some form → contents_loaded x place ≡ contents_of (tables_in r) place
+stands_for x r h whole schema place form is =
     let s = are_stored x r h whole in
-    let all : AreFrom x 0 (rows_of (tables_in r)) = (s.meta, (s.classes, (s.definitions, (s.recipes, (s.master_lines, (s.jobs, (s.batches, (s.control_lines, (s.events, (s.lots, (s.sublots, (s.movements, (s.holds, tt))))))))))))) in
-    let low : place < length desk_forms = slice_get_within desk_forms place form is in
+    let all : AreFrom x 0 (rows_of (tables_in r)) = (s.meta, (s.classes, (s.definitions, (s.recipes, (s.master_lines, (s.jobs, (s.batches, (s.control_lines, (s.events, (s.lots, (s.sublots, (s.movements, (s.holds, (s.edges, tt)))))))))))))) in
+    let low : place < length (rows_of (tables_in r)) = (let within = slice_get_within (forms_of schema) place form is in omega (arith, within, few_forms (nat_le 2 schema))) in
     let same : 0 + place ≡ place = omega arith in
     ap (contents_loaded x) (sym same) ∙ at_place x 0 (rows_of (tables_in r)) all place low

@@ -17,13 +17,14 @@ use Rattle.plant_base.specs.declared.rows.Lot.{Lot}
 use Rattle.plant_base.specs.declared.rows.Sublot.{Sublot}
 use Rattle.plant_base.specs.declared.rows.Movement.{Movement}
 use Rattle.plant_base.specs.declared.rows.Hold.{Hold}
+use Rattle.plant_base.specs.declared.rows.EdgeRow.{EdgeRow}
 use Rattle.plant_view.specs.Tables.{Tables}
 use Rattle.plant_tables.specs.Keyed.{AreKeyed}
 use Rattle.plant_tables_columns.specs.All.{all_from}
 use Rattle.plant_tables_stored.specs.Loading.{contents_loaded}
 use Rattle.plant_tables_stored.specs.declared.loaded.Loaded.{Loaded}
 use Rattle.plant_tables_columns.specs.Booked.{movement_from, booked_of}
-use Rattle.plant_tables_columns.specs.TableColumns.{only_meta, class_from, definition_from, recipe_from, master_line_from, job_from, batch_from, control_line_from, batch_event_from, lot_from, sublot_from, booked_from, hold_from}
+use Rattle.plant_tables_columns.specs.TableColumns.{only_meta, class_from, definition_from, recipe_from, master_line_from, job_from, batch_from, control_line_from, batch_event_from, lot_from, sublot_from, booked_from, hold_from, edge_from}
 use Rattle.plant_tables_columns.specs.declared.booked.BookedRow.{BookedRow}
 use Rattle.plant_tables_judged.specs.declared.desk_rows.DeskRows.{DeskRows}
 use Rattle.plant_tables_judged.specs.declared.desk_rows.MasterRows as held_masters
@@ -45,6 +46,7 @@ pub record Rows : Type 0 where
   pub sublots : List Sublot
   pub movements : List BookedRow
   pub holds : List Hold
+  pub edges : List EdgeRow
 
 pub record MasterRows : Type 0 where
   pub classes : List Class
@@ -63,6 +65,7 @@ pub record StockRows : Type 0 where
   pub sublots : List Sublot
   pub movements : List BookedRow
   pub holds : List Hold
+  pub edges : List EdgeRow
 
 unfoldable pub masters_from : Loaded → Option MasterRows
 masters_from x = do
@@ -86,7 +89,8 @@ stocks_from x = do
   sublots ← all_from sublot_from (contents_loaded x 10)
   movements ← all_from booked_from (contents_loaded x 11)
   holds ← all_from hold_from (contents_loaded x 12)
-  Some (record { lots = lots; sublots = sublots; movements = movements; holds = holds })
+  edges ← all_from edge_from (contents_loaded x 13)
+  Some (record { lots = lots; sublots = sublots; movements = movements; holds = holds; edges = edges })
 
 -- ---- the rows as lists
 
@@ -97,7 +101,7 @@ abbrev pub orders_listed : held_orders.OrderRows → OrderRows
 orders_listed r = record { jobs = r.jobs.items; batches = r.batches.items; control_lines = r.control_lines.items; events = r.events.items }
 
 abbrev pub stocks_listed : held_stocks.StockRows → StockRows
-stocks_listed r = record { lots = r.lots.items; sublots = r.sublots.items; movements = r.movements.items; holds = r.holds.items }
+stocks_listed r = record { lots = r.lots.items; sublots = r.sublots.items; movements = r.movements.items; holds = r.holds.items; edges = r.edges.items }
 
 -- ---- all tables
 
@@ -116,6 +120,7 @@ rows_joined meta m o s = record {
   sublots = s.sublots;
   movements = s.movements;
   holds = s.holds;
+  edges = s.edges;
 }
 
 -- every value of every table obeys its rule, and these are the rows
@@ -143,6 +148,7 @@ rows_listed r = record {
   sublots = r.sublots.items;
   movements = r.movements.items;
   holds = r.holds.items;
+  edges = r.edges.items;
 }
 
 -- ---- rows and tables
@@ -163,6 +169,7 @@ tables_in r = record {
   sublots = r.sublots;
   movements = filter_map movement_from r.movements;
   holds = r.holds;
+  edges = r.edges;
 }
 
 -- each line has a number, and each movement the columns of its kind
@@ -188,6 +195,7 @@ rows_in t = record {
   sublots = t.sublots;
   movements = map booked_of t.movements;
   holds = t.holds;
+  edges = t.edges;
 }
 
 -- the rows of each table stand in the order of their keys, none with the key of another

@@ -4,9 +4,9 @@ use Rattle.sqlite.specs.Effect.{Database}
 use Rattle.plant_base.specs.declared.rows.Movement.{Movement}
 use Rattle.plant_view.specs.Tables.{Tables}
 use Rattle.table_forms.specs.Forms.{Form}
-use Rattle.plant_tables.specs.DeskForms.{desk_forms}
+use Rattle.plant_tables.specs.DeskForms.{forms_of}
 use Rattle.plant_tables.specs.DeskTables.{contents_of}
-use Rattle.plant_tables.specs.Keyed.{HoldsTables}
+use Rattle.plant_tables.specs.Keyed.{HoldsTablesOf, LacksLater}
 use Rattle.plant_tables_stored.specs.Loading.{AreLoaded, contents_loaded}
 use Rattle.plant_tables_stored.specs.declared.loaded.Loaded.{Loaded}
 use Rattle.plant_tables_columns.specs.Booked.{movement_from, booked_of}
@@ -15,11 +15,13 @@ use Rattle.plant_tables_columns.specs.Obeying.{HasGoodValues}
 
 -- Rows whose lines have numbers, and whose movements have the columns of their kinds, are the tables that were loaded.
 abbrev pub StandFor : Type 0
-StandFor = (x : Loaded) (r : Rows) → rows_from x ≡ Some r → AreWhole r → (place : ℕ) (form : Form) → slice_get desk_forms place ≡ Some form → contents_loaded x place ≡ contents_of (tables_in r) place
+StandFor = (x : Loaded) (r : Rows) → rows_from x ≡ Some r → AreWhole r → (schema place : ℕ) (form : Form) → slice_get (forms_of schema) place ≡ Some form
+    → contents_loaded x place ≡ contents_of (tables_in r) place
 
--- What a database holds is read as it was written, where keys rise and each value obeys its rule.
+-- What a database holds of the tables of a schema is read as it was written, where keys rise and each value obeys its rule.
 abbrev pub AreReadAgain : Type 0
-AreReadAgain = (db : Database) (t : Tables) (x : Loaded) → HoldsTables db t → AreInOrder t → HasGoodValues t → AreLoaded db x → rows_from x ≡ Some (rows_in t)
+AreReadAgain = (schema : ℕ) (db : Database) (t : Tables) (x : Loaded) → HoldsTablesOf schema db t → LacksLater schema t → AreInOrder t → HasGoodValues t → AreLoaded schema db x
+    → rows_from x ≡ Some (rows_in t)
 
 -- The rows of good tables have numbers and the columns of their kinds.
 abbrev pub AreWholeRows : Type 0

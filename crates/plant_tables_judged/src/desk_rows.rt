@@ -8,15 +8,15 @@ ghost use Rattle.plant_tables_judged.specs.Laws.{StandFor, AreReadAgain, AreWhol
 ghost use Rattle.plant_tables_judged.specs.Laws.{IsBookedAgain};
 
 use plant_base::{
-    BatchEvent, BatchRow, Class, ControlLine, Definition, Hold, Job, Lot, MasterLine, Meta, Recipe,
-    Sublot,
+    BatchEvent, BatchRow, Class, ControlLine, Definition, EdgeRow, Hold, Job, Lot, MasterLine,
+    Meta, Recipe, Sublot,
 };
 use plant_tables_columns::{BookedRow, Judged, judge_all};
 use plant_tables_stored::Loaded;
 use sqlite::Row;
 use std::alloc::{AllocError, Global};
 
-/// The rows of the desk's tables, each table in the order in which it was read.
+/// The rows of the desk's tables, each table in the order in which it was read: no edges in the first schema.
 #[derive(Debug, Drop)]
 pub struct DeskRows {
     pub meta: Meta,
@@ -32,6 +32,7 @@ pub struct DeskRows {
     pub sublots: Vec<Sublot>,
     pub movements: Vec<BookedRow>,
     pub holds: Vec<Hold>,
+    pub edges: Vec<EdgeRow>,
 }
 
 /// The rows of classes, definitions and master recipes.
@@ -52,13 +53,14 @@ pub struct OrderRows {
     pub events: Vec<BatchEvent>,
 }
 
-/// The rows of lots and what was done with them.
+/// The rows of lots, what was done with them, and what came of what.
 #[derive(Debug, Drop)]
 pub struct StockRows {
     pub lots: Vec<Lot>,
     pub sublots: Vec<Sublot>,
     pub movements: Vec<BookedRow>,
     pub holds: Vec<Hold>,
+    pub edges: Vec<EdgeRow>,
 }
 
 /// The one row of meta. `None` where there isn't one, or a value of it breaks its rule.
@@ -144,11 +146,15 @@ fn stocks_of(alloc: Global, loaded: &Loaded) -> Result<Option<StockRows>, AllocE
     let Some(holds) = judge_all(alloc, loaded.rows(12))? else {
         return Ok(None);
     };
+    let Some(edges) = judge_all(alloc, loaded.rows(13))? else {
+        return Ok(None);
+    };
     Ok(Some(StockRows {
         lots,
         sublots,
         movements,
         holds,
+        edges,
     }))
 }
 
@@ -184,6 +190,7 @@ pub fn rows_of(alloc: Global, loaded: &Loaded) -> Result<Option<DeskRows>, Alloc
         sublots: stocks.sublots,
         movements: stocks.movements,
         holds: stocks.holds,
+        edges: stocks.edges,
     }))
 }
 

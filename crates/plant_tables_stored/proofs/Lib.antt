@@ -1,4 +1,5 @@
 pub mod Fronts
 pub mod Joined
+pub mod Parted
 pub mod Texts
 pub mod Versions

@@ -1,5 +1,5 @@
--- What is loaded of the tables.
-use Rattle.std.specs.Prelude.{◌≡◌, ℕ, List, [], map, Some, slice_get, slice_index_or}
+-- What is loaded of the tables of a schema.
+use Rattle.std.specs.Prelude.{◌≡◌, ℕ, List, [], map, Some, None, slice_get, slice_index_or}
 use Rattle.sqlite.specs.Effect.{Database}
 use Rattle.sqlite.specs.Order.{Row}
 use Rattle.table_forms.specs.Forms.{Form}
@@ -7,7 +7,7 @@ use Rattle.table_forms.specs.Standing.{Contents}
 use Rattle.table_reads.specs.Keys.{comes_before}
 use Rattle.table_reads.specs.Reading.{Lists}
 use Rattle.table_reads.specs.Rises.{Rises}
-use Rattle.plant_tables.specs.DeskForms.{desk_forms}
+use Rattle.plant_tables.specs.DeskForms.{forms_of}
 use Rattle.plant_tables_stored.specs.declared.loaded.Loaded.{Loaded}
 
 -- the table's rows are those of the list, each once, and the list rises by the key
@@ -19,10 +19,12 @@ pub record Loads (db : Database) (form : Form) (list : List Row) : Type 0 where
 abbrev pub contents_loaded : Loaded → Contents
 contents_loaded x place = slice_index_or (map (λ table. table.items) x.tables.items) place []
 
--- every row of every table
-abbrev pub AreLoaded : Database → Loaded → Type 0
-AreLoaded db x = (place : ℕ) (form : Form) → slice_get desk_forms place ≡ Some form → Loads db form (contents_loaded x place)
+-- every row of every table of the schema, and nothing else
+pub record AreLoaded (schema : ℕ) (db : Database) (x : Loaded) : Type 0 where
+  pub tables : (place : ℕ) (form : Form) → slice_get (forms_of schema) place ≡ Some form → Loads db form (contents_loaded x place)
+  pub no_more : (place : ℕ) → slice_get (forms_of schema) place ≡ None → contents_loaded x place ≡ []
 
--- each list rises by its key, whatever the store did
-abbrev pub AreRising : Loaded → Type 0
-AreRising x = (place : ℕ) (form : Form) → slice_get desk_forms place ≡ Some form → Rises (comes_before form) (contents_loaded x place)
+-- each list rises by its key, whatever the store did, and there are no more
+pub record AreRising (schema : ℕ) (x : Loaded) : Type 0 where
+  pub tables : (place : ℕ) (form : Form) → slice_get (forms_of schema) place ≡ Some form → Rises (comes_before form) (contents_loaded x place)
+  pub no_more : (place : ℕ) → slice_get (forms_of schema) place ≡ None → contents_loaded x place ≡ []

@@ -1,10 +1,13 @@
 -- What table meta tells of the version of the tables.
-use Rattle.std.specs.Prelude.{◌≡◌, ◌≤ℤ◌, ◌∷◌, [], ℤ, pos}
+use Rattle.std.specs.Prelude.{◌≡◌, ◌≤◌, ◌≤ℤ◌, ◌∷◌, [], ℕ, ℤ, pos, All}
 use Rattle.sqlite.specs.Effect.{Database}
 use Rattle.sqlite.specs.Order.{Row}
+use Rattle.sqlite.specs.Schema.{Schema}
 use Rattle.sqlite.specs.declared.types.Value.TheVariants.{Int}
 use Rattle.table_reads.specs.Reading.{Lists}
-use Rattle.plant_tables.specs.DeskForms.{meta_form}
+use Rattle.plant_base.specs.State.{newest_schema}
+use Rattle.table_forms.specs.Standing.{HasTable, IsFree}
+use Rattle.plant_tables.specs.DeskForms.{meta_form, forms_of, later_forms}
 use Rattle.plant_tables_stored.specs.declared.finding.MetaNumbers.{MetaNumbers}
 
 -- the row of these numbers
@@ -29,3 +32,11 @@ pub record IsVersion (db : Database) (n : ℤ) : Type 0 where
   pub alone : Lists db meta_form (row ∷ [])
   pub good : IsGoodMeta row
   pub tells : good.schema ≡ n
+
+-- the desk knows the schema
+abbrev pub IsKnown : ℕ → Type 0
+IsKnown schema = (1 ≤ schema) × (schema ≤ newest_schema)
+
+-- the tables of the schema stand as they are declared, and none that a later one adds
+abbrev pub HasTablesOf : ℕ → Schema → Type 0
+HasTablesOf schema there = All (HasTable there) (forms_of schema) × All (IsFree there) (later_forms schema)

@@ -154,7 +154,7 @@ fn has_counts(schema: &Schema) -> bool
 }
 
 /// Whether the next CREATE TABLE would make SQLite's table of counts as well.
-fn lacks_counts(schema: &Schema) -> bool
+pub fn lacks_counts(schema: &Schema) -> bool
     ensures { result ≡ lacks_sequence schema.now }
 {
     any_counts(schema.tables.as_slice()) && !has_counts(schema)

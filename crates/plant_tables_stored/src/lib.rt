@@ -5,5 +5,5 @@ mod finding;
 mod loaded;
 mod readings;
 
-pub use finding::{FoundTables, found};
+pub use finding::{FoundTables, found, lacks_counts};
 pub use loaded::Loaded;

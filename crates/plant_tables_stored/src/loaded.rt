@@ -1,19 +1,22 @@
-ghost use Rattle.std.specs.Prelude.{◌≡◌, ◌++◌, ◌∷◌, [], false, pos, All, None, IfOk, IfErr, IfSome, OnOk};
+ghost use Rattle.std.specs.Prelude.{◌≡◌, ◌↔◌, ◌++◌, ◌∷◌, [], true, false, None, IfOk, IfErr, IfSome, OnOk};
 ghost use Rattle.std.specs.Prelude.{IsOkUnless};
 ghost use Rattle.sqlite.specs.Held.{state};
 ghost use Rattle.sqlite.specs.State.{HasCleanDisk, IsUnchanged, Survives};
 ghost use Rattle.table_forms.specs.Resting.{Keeps};
-ghost use Rattle.table_forms.specs.Standing.{HasTable, StandIn};
+ghost use Rattle.table_forms.specs.Standing.{StandIn};
 ghost use Rattle.table_reads.specs.Ordered.{IsRising};
-ghost use Rattle.plant_tables.specs.DeskForms.{desk_forms};
+ghost use Rattle.plant_tables.specs.DeskForms.{forms_of};
 ghost use Rattle.plant_tables_stored.specs.Loading.{AreLoaded, AreRising, contents_loaded};
+ghost use Rattle.plant_tables_stored.specs.Version.{IsKnown, HasTablesOf};
 
-use crate::readings::desk_readings;
-use plant_tables::forms::desk_forms;
+use crate::readings::{desk_readings, readings_of};
+use plant_base::NEWEST_SCHEMA;
+use plant_tables::forms::{desk_forms, tables_in};
 use sqlite::{Alter, Connection, Row};
+use sqlite_schema::schema::Schema;
 use std::alloc::Global;
 use table_forms::Fault;
-use table_reads::{all_stand, read_table};
+use table_reads::{all_free, all_stand, read_table};
 
 /// Every row of the desk's tables as it is stored: the rows of each table by its key, the tables in the order of their
 /// forms. Values that break a rule are kept as they are.
@@ -44,23 +47,23 @@ impl Loaded {
         }
     }
 
-    /// Reads every row of the tables of a version, one query a table. `None` where a table of the version doesn't stand
-    /// as it is declared. Store where the version isn't 1, the only one that is known, where a transaction is open, and
-    /// where the store fails; Memory where there is none. Nothing is changed.
+    /// Reads every row of the tables of a schema, one query a table. `None` where one of them doesn't stand as it is
+    /// declared, or the name of one that a later schema adds isn't free. Store where the schema isn't known, where a
+    /// transaction is open, and where the store fails; Memory where there is none. Nothing is changed.
     pub fn read<S: Alter>(
         alloc: Global,
         conn: &mut Connection<S>,
-        version: i64,
+        schema: u64,
     ) -> Result<Option<Loaded>, Fault>
         ensures rows { HasCleanDisk (state S.Store conn.new)
-            → IfOk result (λ found. IfSome found (AreLoaded (state S.Store conn.old).now)) }
-        ensures ordered { IfOk result (λ found. IfSome found AreRising) }
+            → IfOk result (λ found. IfSome found (AreLoaded schema (state S.Store conn.old).now)) }
+        ensures ordered { IfOk result (λ found. IfSome found (AreRising schema)) }
         ensures stands { HasCleanDisk (state S.Store conn.new)
             → IsRising (state S.Store conn.old).now
-            → IfOk result (λ found. IfSome found (λ loaded. StandIn desk_forms
+            → IfOk result (λ found. IfSome found (λ loaded. StandIn (forms_of schema)
             (state S.Store conn.old).now (contents_loaded loaded))) }
         ensures missing { IfOk result (λ found. found ≡ None
-            → ¬ All (HasTable (state S.Store conn.old).now.schema) desk_forms) }
+            → ¬ HasTablesOf schema (state S.Store conn.old).now.schema) }
         ensures same { HasCleanDisk (state S.Store conn.new)
             → IfOk result (λ found. IfSome found (λ _. IsUnchanged (state S.Store conn.old)
             (state S.Store conn.new))) }
@@ -69,24 +72,28 @@ impl Loaded {
         ensures mode { (state S.Store conn.old).in_transaction ≡ false
             → (state S.Store conn.new).in_transaction ≡ false }
         ensures crash { Survives (state S.Store conn.old) (state S.Store conn.new) (λ _. ⊥) }
-        // Memory is wanted for the rows of a version that is known, all tables of which stand.
-        ensures known { IfErr result (λ fault. fault ≡ Fault.Memory → version ≡ pos 1) }
+        // Memory is wanted for the rows of a schema that is known, all tables of which stand.
+        ensures known { IfErr result (λ fault. fault ≡ Fault.Memory → IsKnown schema) }
         ensures memory { IfErr result (λ fault. fault ≡ Fault.Memory
-            → All (HasTable (state S.Store conn.old).now.schema) desk_forms) }
+            → HasTablesOf schema (state S.Store conn.old).now.schema) }
     {
-        if version != 1 {
+        if schema < 1 || schema > NEWEST_SCHEMA {
             return Err(Fault::Store);
         }
-        if !all_stand(conn.schema(), &desk_forms()) {
+        if !has_tables(conn.schema(), schema) {
             return Ok(None);
         }
-        Ok(Some(Loaded::read_all(alloc, conn)?))
+        Ok(Some(Loaded::read_all(alloc, conn, schema)?))
     }
 
-    fn read_all<S: Alter>(alloc: Global, conn: &mut Connection<S>) -> Result<Loaded, Fault>
+    fn read_all<S: Alter>(
+        alloc: Global,
+        conn: &mut Connection<S>,
+        schema: u64,
+    ) -> Result<Loaded, Fault>
         ensures rows { HasCleanDisk (state S.Store conn.new)
-            → IfOk result (AreLoaded (state S.Store conn.old).now) }
-        ensures rising { IfOk result AreRising }
+            → IfOk result (AreLoaded schema (state S.Store conn.old).now) }
+        ensures rising { IfOk result (AreRising schema) }
         ensures same { HasCleanDisk (state S.Store conn.new)
             → OnOk result (IsUnchanged (state S.Store conn.old) (state S.Store conn.new)) }
         ensures kept { HasCleanDisk (state S.Store conn.new)
@@ -97,10 +104,19 @@ impl Loaded {
     {
         let readings = desk_readings();
         let mut tables = Vec::new(alloc);
-        for reading in &readings {
+        for reading in readings_of(&readings, schema) {
             let rows = read_table(alloc, conn, &reading.form, reading.select)?;
             keep(&mut tables, rows)?;
         }
         Ok(Loaded { tables })
     }
+}
+
+/// Whether the tables of a schema stand as they are declared, and none that a later one adds.
+fn has_tables(there: &Schema, schema: u64) -> bool
+    ensures { (result ≡ true) ↔ HasTablesOf schema there.now }
+{
+    let forms = desk_forms();
+    let (own, later) = forms.split_at(tables_in(schema));
+    all_stand(there, own) && all_free(there, later)
 }

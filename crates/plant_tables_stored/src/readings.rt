@@ -2,12 +2,12 @@
 
 ghost use Rattle.std.specs.Prelude.{◌≡◌, map};
 ghost use Rattle.std.specs.List.{AllByRecursion};
-ghost use Rattle.plant_tables.specs.DeskForms.{desk_forms};
+ghost use Rattle.plant_tables.specs.DeskForms.{desk_forms, forms_of};
 ghost use Rattle.plant_tables_stored.specs.Readings.{SelectsAll};
 
 use plant_tables::forms::{
-    BATCH, BATCH_EVENT, CLASS, CONTROL_LINE, DEFINITION, HOLD, JOB, LOT, META, MOVEMENT, RECIPE,
-    RECIPE_LINE, SUBLOT,
+    BATCH, BATCH_EVENT, CLASS, CONTROL_LINE, DEFINITION, EDGE, HOLD, JOB, LOT, META, MOVEMENT,
+    RECIPE, RECIPE_LINE, SUBLOT, tables_in,
 };
 use table_forms::Form;
 
@@ -22,7 +22,7 @@ pub(crate) struct Reading {
 }
 
 /// The reading of each of the desk's tables, in the order of their forms.
-pub(crate) fn desk_readings() -> [Reading; 13]
+pub(crate) fn desk_readings() -> [Reading; 14]
     ensures forms { map (λ reading. reading.form) result ≡ desk_forms }
     ensures texts { AllByRecursion SelectsAll result }
 {
@@ -79,5 +79,20 @@ pub(crate) fn desk_readings() -> [Reading; 13]
             form: HOLD,
             select: "SELECT lot, id, at, by_who, note FROM hold ORDER BY lot, id",
         },
+        Reading {
+            form: EDGE,
+            select: "SELECT kind, a, b FROM edge ORDER BY kind, a, b",
+        },
     ]
+}
+
+/// Those of the tables of a schema.
+pub(crate) fn readings_of(readings: &[Reading], schema: u64) -> &[Reading]
+    requires forms { map (λ reading. reading.form) readings.now ≡ desk_forms }
+    requires texts { AllByRecursion SelectsAll readings.now }
+    ensures forms { map (λ reading. reading.form) result.now ≡ forms_of schema }
+    ensures texts { AllByRecursion SelectsAll result.now }
+{
+    let (own, _) = readings.split_at(tables_in(schema));
+    own
 }

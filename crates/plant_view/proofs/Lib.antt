@@ -7,3 +7,4 @@ pub mod Rows
 pub mod Sublots
 pub mod Summed
 pub mod Tests
+pub mod EdgeRows

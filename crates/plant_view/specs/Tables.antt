@@ -1,6 +1,7 @@
 -- The tables that stand for a state, and what row changes do to them.
-use Rattle.std.specs.Prelude.{◌≡◌, ℕ, ◌-◌, not, ◌&&◌, List, [], ◌∷◌, ◌++◌, length, map, filter, Option, Some, None}
+use Rattle.std.specs.Prelude.{◌≡◌, ℕ, ◌-◌, not, ◌&&◌, List, [], ◌∷◌, ◌++◌, length, map, filter, Option, Some, None, nat_le, if◌then◌else◌}
 use Rattle.std.specs.declared.cmp.Ordering.{Ordering}
+use Rattle.plant_base.specs.Edges.{edge_order}
 use Rattle.plant_base.specs.State.{State, same, put, numbered_cmp, newest_schema, class_order, definition_order, recipe_order, master_line_order, job_order, batch_order, control_line_order, lot_order, hold_order}
 use Rattle.plant_base.specs.declared.rows.Position.{Position}
 use Rattle.plant_base.specs.declared.rows.Meta.{Meta}
@@ -17,6 +18,7 @@ use Rattle.plant_base.specs.declared.rows.BatchEvent.{BatchEvent}
 use Rattle.plant_base.specs.declared.rows.Lot.{Lot}
 use Rattle.plant_base.specs.declared.rows.Place.{Place}
 use Rattle.plant_base.specs.declared.rows.Sublot.{Sublot}
+use Rattle.plant_base.specs.declared.rows.EdgeRow.{EdgeRow}
 use Rattle.plant_base.specs.declared.rows.Movement.{Movement}
 use Rattle.plant_base.specs.declared.rows.Hold.{Hold}
 use Rattle.plant_base.specs.declared.refusal.Refusal.{Refusal}
@@ -24,6 +26,7 @@ use Rattle.plant_recipe.specs.declared.progress.Progress.{Progress}
 use Rattle.plant_recipe.specs.Form.{is_phase}
 use Rattle.plant_recipe.specs.Progress.{progress_after}
 use Rattle.plant_stock.specs.Stock.{entered, left}
+use Rattle.plant_view.specs.Genealogy.{edge_rows}
 use Rattle.plant_view.specs.declared.change.RowChange.{RowChange}
 use Rattle.plant_view.specs.declared.change.RowChange.TheVariants as row
 use Rattle.plant_view.specs.declared.change.Decision.{Decision}
@@ -44,6 +47,7 @@ pub record Tables : Type 0 where
   pub sublots : List Sublot
   pub movements : List Movement
   pub holds : List Hold
+  pub edges : List EdgeRow
 
 abbrev pub position_of : State → Position
 position_of s = record { seq = s.seq; at = s.at }
@@ -93,6 +97,10 @@ sublots_of s lot = map (sublot_row s.movements) (filter (λ p. same p.lot lot) s
 abbrev pub places_of : State → List ℕ → List Place
 places_of s lot = filter (λ p. same p.lot lot) s.places
 
+-- the rows of the edges that movements make, in a schema that keeps them
+abbrev pub edges_in : ℕ → List Movement → List EdgeRow
+edges_in schema movements = if nat_le 2 schema then edge_rows movements else []
+
 -- the tables of a state in a schema
 abbrev pub tables_of : ℕ → State → Tables
 tables_of k s = record {
@@ -109,6 +117,7 @@ tables_of k s = record {
   sublots = map (sublot_row s.movements) s.places;
   movements = s.movements;
   holds = s.holds;
+  edges = edges_in k s.movements;
 }
 
 -- the holds but that of this lot and id
@@ -130,6 +139,7 @@ changed (row.Lot r) t = record t { lots = put lot_order r t.lots }
 changed (row.Sublot r) t = record t { sublots = put sublot_order r t.sublots }
 changed (row.Movement r) t = record t { movements = t.movements ++ r ∷ [] }
 changed (row.Hold r) t = record t { holds = put hold_order r t.holds }
+changed (row.Edge r) t = record t { edges = put edge_order r t.edges }
 changed (row.Unhold lot hold) t = record t { holds = without_hold lot hold t.holds }
 
 abbrev pub changed_all : List RowChange → Tables → Tables

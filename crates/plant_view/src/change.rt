@@ -1,6 +1,6 @@
 use plant_base::{
-    BatchEvent, BatchRow, Class, ControlLine, Definition, Hold, Id, Items, Job, Lot, MasterLine,
-    Meta, Movement, Recipe, Refusal, Sublot,
+    BatchEvent, BatchRow, Class, ControlLine, Definition, EdgeRow, Hold, Id, Items, Job, Lot,
+    MasterLine, Meta, Movement, Recipe, Refusal, Sublot,
 };
 
 /// One change of the desk's tables: a row that is added, or put in the place of the row with its key, or a hold
@@ -20,6 +20,8 @@ pub enum RowChange {
     Sublot(Sublot),
     Movement(Movement),
     Hold(Hold),
+    /// An edge of the genealogy: one that is there stays as it is.
+    Edge(EdgeRow),
     /// The hold of this lot and id is taken away.
     Unhold { lot: Id, hold: Id },
 }

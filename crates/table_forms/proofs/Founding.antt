@@ -1,5 +1,6 @@
 -- Tables made in turn.
 use Rattle.std.proofs.Common.{◌≡◌, inl, inr, ℕ, zero, suc, ◌+◌, ◌<◌, ◌≤◌, List, [], ◌∷◌, length, true, false, Some, refl, sym, ap, subst, ◌∙◌, slice_get, get_or, map, IsTrue, arith}
+use Rattle.sqlite.specs.Order.{Row}
 use Rattle.sqlite.specs.Table.{Table}
 use Rattle.sqlite.specs.Effect.{Database, IsDatabase}
 use Rattle.sqlite.specs.Does.{lacks_sequence}
@@ -20,6 +21,7 @@ pub record Begun (forms : List Form) (count : ℕ) (old new : Database) : Type 0
   pub counted : lacks_sequence new.schema ≡ false
   pub made : (i : ℕ) (form : Form) → i < count → slice_get forms i ≡ Some form → Stands new form []
   pub free : (i : ℕ) (form : Form) → count ≤ i → slice_get forms i ≡ Some form → IsFree new.schema form
+  pub kept : (form : Form) (rows : List Row) → Stands old form rows → Stands new form rows
   pub others : (t : Table) → Has old.schema.tables t → Has new.schema.tables t × (new.trees t.tree ≡ old.trees t.tree)
 
 pub record Founding (forms : List Form) (count : ℕ) (old new : State) : Type 0 where
@@ -33,6 +35,7 @@ none_made forms s = record {
     counted = free.counted;
     made = λ i form early is. absurd (omega arith);
     free = λ i form late is. free.each i form is;
+    kept = λ form rows there. there;
     others = λ t listed. (listed, refl);
   };
   shown = λ live inside. record { was_open = live; is_open = live; now_is = refl; committed_is = refl; mode = inside };
@@ -58,6 +61,7 @@ module _ (forms : List Form) (apart : AreApart forms) (count : ℕ) (first old n
         free = λ i f late there.
             subst (λ s. IsFree s f) (sym made.schema)
             (free_still old.now.schema old.now.trees form f b.sound (apart_at forms apart count i form f (omega arith) is there) (b.free i f (omega arith) there));
+        kept = λ f rows there. made.kept f rows (b.kept f rows there);
         others = λ t listed.
             let before = b.others t listed in
             let after = made.others t before.0 in
@@ -106,6 +110,7 @@ all_made f texts forms says old new count whole so_far = record {
             let early = within forms i form is in
             b.made i form (omega arith) is;
       };
+  kept = λ sound free. (so_far.begun sound free).kept;
   others = λ sound free. let b = so_far.begun sound free in record { kept = λ t listed foreign. b.others t listed };
   shown = so_far.shown;
 }

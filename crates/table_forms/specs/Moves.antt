@@ -9,7 +9,7 @@ use Rattle.sqlite_schema.specs.declared.schema.Index.{Index}
 use Rattle.sqlite_schema.specs.Names.{same_name}
 use Rattle.table_forms.specs.Forms.{Form, table_of}
 use Rattle.table_forms.specs.Rows.{fits_columns, put, take_away}
-use Rattle.table_forms.specs.Standing.{Contents, StandIn, KeepsOthers, AreFree}
+use Rattle.table_forms.specs.Standing.{Contents, Stands, StandIn, KeepsOthers, AreFree}
 use Rattle.table_forms.specs.Texts.{IsMakeText, IsPutText, IsTakeText}
 
 -- the name differs from those of the others, and the names of its own indexes do
@@ -61,9 +61,11 @@ AreMakeTexts [] (form ∷ forms) = ⊥
 AreMakeTexts (text ∷ texts) [] = ⊥
 AreMakeTexts (text ∷ texts) (form ∷ forms) = IsMakeText text form × AreMakeTexts texts forms
 
--- Where the tables are free they are made, and are empty. Nothing is committed, and the transaction goes on.
+-- Where the tables are free they are made, and are empty, and tables that stood have the rows that they had. Nothing is
+-- committed, and the transaction goes on.
 pub record Founds (forms : List Form) (old new : State) : Type 0 where
   pub stands : IsDatabase old.now → AreFree forms old.now.schema → StandIn forms new.now (λ _. [])
+  pub kept : IsDatabase old.now → AreFree forms old.now.schema → (form : Form) (rows : List Row) → Stands old.now form rows → Stands new.now form rows
   pub others : IsDatabase old.now → AreFree forms old.now.schema → KeepsOthers forms old.now new.now
   pub shown : IsTrue old.is_open → IsTrue old.in_transaction → Shows old new new.now old.committed true
 

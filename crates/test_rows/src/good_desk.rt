@@ -6,7 +6,7 @@
 
 /// The statements that put them in.
 pub(crate) const GOOD_DESK: &str = "
-    INSERT INTO meta VALUES (1, 1, 20, 300);
+    INSERT INTO meta VALUES (1, 2, 20, 300);
     INSERT INTO class VALUES ('FOOD', 'What is eaten');
     INSERT INTO definition VALUES
         ('DOUGH', 'FOOD', '', 'kg'),
@@ -71,4 +71,12 @@ pub(crate) const GOOD_DESK: &str = "
         (16, 1, 7, 'F-1', 1, 'F-3', 0, NULL, 120, 260, 'ben', ''),
         (16, 2, 7, 'F-2', 0, 'F-3', 0, NULL, 80, 260, 'ben', ''),
         (17, 1, 4, 'S-1', 0, NULL, NULL, NULL, 50, 270, 'ben', '');
-    INSERT INTO hold VALUES ('F-2', 'H-1', 260, 'ben', 'look')";
+    INSERT INTO hold VALUES ('F-2', 'H-1', 260, 'ben', 'look');
+    INSERT INTO edge VALUES
+        (1, 'D-0', 'B-1'),
+        (1, 'D-1', 'B-2'),
+        (1, 'F-1', 'B-1'),
+        (2, 'B-1', 'D-1'),
+        (3, 'F-1', 'F-2'),
+        (3, 'F-1', 'F-3'),
+        (3, 'F-2', 'F-3')";

@@ -3,9 +3,9 @@
 
 use crate::stores::{changed, filled, read};
 use plant_base::{
-    Amount, Batch, BatchEvent, BatchRow, BatchState, Class, ControlLine, Definition, Due, Event,
-    Header, Hold, Id, Job, JobState, Lot, Meta, Moment, Movement, MovementKind, OrderRow, Position,
-    Recipe, RecipeLine, RecipeState, Sublot, Text, Unit, Word,
+    Amount, Batch, BatchEvent, BatchRow, BatchState, Class, ControlLine, Definition, Due, EdgeKind,
+    EdgeRow, Event, Header, Hold, Id, Job, JobState, Lot, Meta, Moment, Movement, MovementKind,
+    NEWEST_SCHEMA, OrderRow, Position, Recipe, RecipeLine, RecipeState, Sublot, Text, Unit, Word,
 };
 use plant_tables_judged::{BookedRow, DeskRows, MovementSort, reading_laws, rows_of};
 use sqlite::params;
@@ -16,7 +16,7 @@ use std::test::Fail;
 
 /// The statements that put the rows in.
 const ROWS: &str = "
-    INSERT INTO meta VALUES (1, 1, 15, 300);
+    INSERT INTO meta VALUES (1, 2, 15, 300);
     INSERT INTO class VALUES ('RAW', 'Raw goods');
     INSERT INTO definition VALUES ('FLOUR', 'RAW', 'Flour', 'kg');
     INSERT INTO recipe VALUES ('CAKE', 2, 'DOUGH', 300, 100, 900, 'A cake', 'approved');
@@ -35,7 +35,8 @@ const ROWS: &str = "
     INSERT INTO lot VALUES ('F-1', 'FLOUR');
     INSERT INTO sublot VALUES ('F-1', 4, 'A1', 833);
     INSERT INTO movement VALUES (10, 1, 5, 'F-1', 0, 'F-1', 4, NULL, 833, 220, 'ben', '');
-    INSERT INTO hold VALUES ('F-1', 'H-1', 250, 'ben', 'look')";
+    INSERT INTO hold VALUES ('F-1', 'H-1', 250, 'ben', 'look');
+    INSERT INTO edge VALUES (2, 'B-1', 'F-1')";
 
 // ---- values of the desk
 
@@ -192,8 +193,14 @@ fn check_rest(rt: &(impl Abort + AllocGlobal), rows: &DeskRows) {
         wanted_event(rt, 15, Event::Closed),
     ];
     assert!(rt; rows.events.as_slice() == events.as_slice());
+    let edge = EdgeRow {
+        kind: EdgeKind::BatchToLot,
+        from: id(rt, b"B-1"),
+        to: id(rt, b"F-1"),
+    };
+    assert!(rt; rows.edges.as_slice() == [edge].as_slice());
     let meta = Meta {
-        schema: 1,
+        schema: NEWEST_SCHEMA,
         position: Position {
             seq: 15,
             at: moment(rt, 300),
@@ -239,7 +246,7 @@ const TAKEN: [&str; 5] = [
 ];
 
 /// After each of these changes a value breaks its rule.
-const REFUSED: [&str; 49] = [
+const REFUSED: [&str; 53] = [
     "UPDATE meta SET seq = -1",
     "DELETE FROM meta",
     "UPDATE class SET id = 'raw'",
@@ -289,6 +296,10 @@ const REFUSED: [&str; 49] = [
     "UPDATE movement SET sub2 = 100",
     "UPDATE movement SET batch = 'b-1'",
     "UPDATE movement SET amount = 0",
+    "UPDATE edge SET kind = 0",
+    "UPDATE edge SET kind = 4",
+    "UPDATE edge SET a = 'b-1'",
+    "UPDATE edge SET b = ''",
 ];
 
 #[test]

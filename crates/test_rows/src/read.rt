@@ -1,6 +1,7 @@
 //! What is read of stores in memory.
 
 use crate::stores::{Store, filled};
+use plant_base::NEWEST_SCHEMA;
 use plant_tables::forms::SUBLOT;
 use plant_tables_stored::{FoundTables, Loaded, found};
 use sqlite::types::ValueRef;
@@ -21,6 +22,9 @@ const SUBLOTS: usize = 10;
 
 /// The place of table movement.
 const MOVEMENTS: usize = 11;
+
+/// The place of table edge.
+const EDGES: usize = 13;
 
 /// The number in a column, where one stands there.
 fn number(row: &Row, at: usize) -> Option<i64> {
@@ -45,7 +49,7 @@ fn is_null(row: &Row, at: usize) -> bool {
 
 /// What is read of it.
 fn loaded(rt: &HostRuntime, conn: &mut Store) -> Result<Option<Loaded>, Fail> {
-    Ok(Loaded::read(rt.alloc(), conn, 1)?)
+    Ok(Loaded::read(rt.alloc(), conn, NEWEST_SCHEMA)?)
 }
 
 /// What is found in it.
@@ -142,13 +146,32 @@ fn missing_tables_are_told(rt: HostRuntime) -> Result<(), Fail> {
     let mut conn = filled(rt.alloc(), "CREATE UNIQUE INDEX more ON lot (def)")?;
     let guarded = loaded(&rt, &mut conn)?;
     assert!(rt; guarded.is_none());
+    let mut conn = filled(rt.alloc(), "DROP TABLE edge")?;
+    let older = loaded(&rt, &mut conn)?;
+    assert!(rt; older.is_none());
+    Ok(())
+}
+
+#[test]
+fn tables_of_the_first_schema_are_read(rt: HostRuntime) -> Result<(), Fail> {
+    let mut conn = filled(rt.alloc(), STOCKS)?;
+    let later = Loaded::read(rt.alloc(), &mut conn, 1)?;
+    assert!(rt; later.is_none());
+    conn.execute_batch("DROP TABLE edge")?;
+    match &Loaded::read(rt.alloc(), &mut conn, 1)? {
+        Some(loaded) => {
+            assert_eq!(rt; loaded.rows(LOTS).len(), 3);
+            assert!(rt; loaded.rows(EDGES).is_empty());
+        }
+        None => assert!(rt; false),
+    }
     Ok(())
 }
 
 #[test]
 fn open_transactions_are_refused(rt: HostRuntime) -> Result<(), Fail> {
     let mut conn = filled(rt.alloc(), "BEGIN")?;
-    match &Loaded::read(rt.alloc(), &mut conn, 1) {
+    match &Loaded::read(rt.alloc(), &mut conn, NEWEST_SCHEMA) {
         Ok(_) => assert!(rt; false),
         Err(fault) => assert!(rt; *fault == Fault::Store),
     }

@@ -1,12 +1,12 @@
 //! A desk that obeys every rule, and for each rule changes of it that break this rule and none before it.
 
 use crate::good_desk::GOOD_DESK;
-use crate::stores::changed;
+use crate::stores::{changed, changed_of_the_first};
 use plant_check::{Rule, check};
 use std::test::Fail;
 
 /// Each of these changes leads to a desk that breaks this rule, and none before it.
-const CHANGES: [(Rule, &str); 44] = [
+const CHANGES: [(Rule, &str); 48] = [
     (Rule::Tables, "UPDATE meta SET schema = 0"),
     (Rule::Tables, "UPDATE meta SET seq = -1"),
     (Rule::Tables, "DELETE FROM meta"),
@@ -128,14 +128,32 @@ const CHANGES: [(Rule, &str); 44] = [
     // A batch that takes of the lot that it made: each number is still above those that it needs.
     (
         Rule::Descent,
-        "UPDATE movement SET batch = 'B-1' WHERE seq = 15",
+        "UPDATE movement SET batch = 'B-1' WHERE seq = 15; UPDATE edge SET b = 'B-1' WHERE a = 'D-1'",
     ),
+    // The edges are those of the movements, and no others.
+    (Rule::Descent, "DELETE FROM edge WHERE a = 'D-0'"),
+    (Rule::Descent, "INSERT INTO edge VALUES (3, 'F-3', 'S-1')"),
+    (
+        Rule::Descent,
+        "UPDATE edge SET a = 'F-2', b = 'F-1' WHERE b = 'F-2'",
+    ),
+    (Rule::Descent, "UPDATE edge SET kind = 2 WHERE a = 'D-0'"),
 ];
 
 #[test]
 fn a_good_desk_breaks_no_rule(rt: HostRuntime) -> Result<(), Fail> {
     let desk = changed(rt.alloc(), GOOD_DESK, "")?;
     assert!(rt; check(rt.alloc(), &desk)?.is_none());
+    Ok(())
+}
+
+#[test]
+fn the_first_schema_has_no_edges(rt: HostRuntime) -> Result<(), Fail> {
+    let desk = changed_of_the_first(rt.alloc(), GOOD_DESK, "")?;
+    assert!(rt; check(rt.alloc(), &desk)?.is_none());
+    let cycle = "UPDATE movement SET batch = 'B-1' WHERE seq = 15";
+    let desk = changed_of_the_first(rt.alloc(), GOOD_DESK, cycle)?;
+    assert!(rt; check(rt.alloc(), &desk)? == Some(Rule::Descent));
     Ok(())
 }
 

@@ -1,5 +1,6 @@
 //! Stores in memory that hold the desk's tables, for the tests.
 
+use plant_base::NEWEST_SCHEMA;
 use plant_tables::create;
 use plant_tables_stored::Loaded;
 use sqlite::{Connection, MemStore};
@@ -14,7 +15,7 @@ pub(crate) type Store = Connection<MemStore>;
 pub(crate) fn made(alloc: Global) -> Result<Store, Fail> {
     let mut conn = Connection::open_in_memory(alloc)?;
     let mut tx = conn.transaction();
-    create(&mut tx, 1)?;
+    create(&mut tx, NEWEST_SCHEMA)?;
     tx.commit()?;
     Ok(conn)
 }
@@ -28,7 +29,19 @@ pub(crate) fn filled(alloc: Global, sql: &str) -> Result<Store, Fail> {
 
 /// What is read of it, where the desk's tables stand.
 pub(crate) fn read(alloc: Global, conn: &mut Store) -> Result<Loaded, Fail> {
-    Ok(Loaded::read(alloc, conn, 1)?.ok_or(Fault::Store)?)
+    Ok(Loaded::read(alloc, conn, NEWEST_SCHEMA)?.ok_or(Fault::Store)?)
+}
+
+/// What is read of tables of the first schema in which these rows were put, after this change.
+pub(crate) fn changed_of_the_first(
+    alloc: Global,
+    rows: &str,
+    change: &str,
+) -> Result<Loaded, Fail> {
+    let mut conn = filled(alloc, rows)?;
+    conn.execute_batch("DROP TABLE edge; UPDATE meta SET schema = 1")?;
+    conn.execute_batch(change)?;
+    Ok(Loaded::read(alloc, &mut conn, 1)?.ok_or(Fault::Store)?)
 }
 
 /// What is read of tables in which these rows were put, after this change.

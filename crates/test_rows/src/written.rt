@@ -1,9 +1,10 @@
 //! Rows that are written to a store in memory, and what SQL finds there. The wanted columns were written by hand.
 use crate::stores::{Store, made};
 use plant_base::{
-    Amount, Batch, BatchEvent, BatchRow, BatchState, Class, ControlLine, Definition, Due, Event,
-    Header, Hold, Id, Job, JobState, Lot, MasterLine, Meta, Moment, Movement, MovementKind,
-    OrderRow, Position, Recipe, RecipeLine, RecipeState, Sublot, Text, Unit,
+    Amount, Batch, BatchEvent, BatchRow, BatchState, Class, ControlLine, Definition, Due, EdgeKind,
+    EdgeRow, Event, Header, Hold, Id, Job, JobState, Lot, MasterLine, Meta, Moment, Movement,
+    MovementKind, NEWEST_SCHEMA, OrderRow, Position, Recipe, RecipeLine, RecipeState, Sublot, Text,
+    Unit,
 };
 use plant_tables::commit_changes;
 use plant_view::RowChange;
@@ -51,7 +52,7 @@ fn masters(rt: &(impl Abort + AllocGlobal)) -> [RowChange; 5] {
     };
     [
         RowChange::Meta(Meta {
-            schema: 1,
+            schema: NEWEST_SCHEMA,
             position: Position {
                 seq: 7,
                 at: moment(rt, 120),
@@ -152,7 +153,15 @@ fn hold(rt: &(impl Abort + AllocGlobal), name: &[u8]) -> RowChange {
     })
 }
 
-fn materials(rt: &(impl Abort + AllocGlobal)) -> [RowChange; 4] {
+fn edge(rt: &(impl Abort + AllocGlobal), batch: &[u8], lot: &[u8]) -> RowChange {
+    RowChange::Edge(EdgeRow {
+        kind: EdgeKind::BatchToLot,
+        from: id(rt, batch),
+        to: id(rt, lot),
+    })
+}
+
+fn materials(rt: &(impl Abort + AllocGlobal)) -> [RowChange; 5] {
     [
         RowChange::Lot(Lot {
             id: id(rt, b"F-1"),
@@ -171,11 +180,12 @@ fn materials(rt: &(impl Abort + AllocGlobal)) -> [RowChange; 4] {
             note: text(rt, b""),
         }),
         hold(rt, b"H-1"),
+        edge(rt, b"B-1", b"F-1"),
     ]
 }
 
-const WRITTEN: [&str; 13] = [
-    "SELECT count(*) FROM meta WHERE k = 1 AND schema = 1 AND seq = 7 AND at = 120",
+const WRITTEN: [&str; 14] = [
+    "SELECT count(*) FROM meta WHERE k = 1 AND schema = 2 AND seq = 7 AND at = 120",
     "SELECT count(*) FROM class WHERE id = 'RAW' AND name = 'Raw goods'",
     "SELECT count(*) FROM definition WHERE id = 'FLOUR' AND class = 'RAW' AND name = 'Flour' AND unit = 'kg'",
     "SELECT count(*) FROM recipe WHERE id = 'CAKE' AND version = 2 AND product = 'DOUGH' AND base = 300 AND low = 100 AND high = 900 AND title = 'A cake' AND state = 'approved'",
@@ -188,6 +198,7 @@ const WRITTEN: [&str; 13] = [
     "SELECT count(*) FROM sublot WHERE lot = 'F-1' AND no = 4 AND place = 'A1' AND stock = 833",
     "SELECT count(*) FROM movement WHERE seq = 10 AND line = 1 AND kind = 5 AND lot = 'F-1' AND sub = 0 AND lot2 = 'F-1' AND sub2 = 4 AND batch IS NULL AND amount = 833 AND at = 220 AND by_who = 'ben' AND note = ''",
     "SELECT count(*) FROM hold WHERE lot = 'F-1' AND id = 'H-1' AND at = 250 AND by_who = 'ben' AND note = 'look'",
+    "SELECT count(*) FROM edge WHERE kind = 2 AND a = 'B-1' AND b = 'F-1'",
 ];
 
 #[test]
@@ -208,6 +219,15 @@ fn puts_a_row_in_place_of_another(rt: HostRuntime) -> Result<(), Fail> {
     write(&mut conn, &[sublot(&rt, 1000), sublot(&rt, 20)])?;
     assert_eq!(rt; number(&mut conn, "SELECT count(*) FROM sublot")?, 1);
     assert_eq!(rt; number(&mut conn, "SELECT stock FROM sublot")?, 20);
+    Ok(())
+}
+
+#[test]
+fn a_known_edge_changes_nothing(rt: HostRuntime) -> Result<(), Fail> {
+    let mut conn = made(rt.alloc())?;
+    let known = edge(&rt, b"B-1", b"F-1");
+    write(&mut conn, &[known, edge(&rt, b"B-1", b"F-2"), known])?;
+    assert_eq!(rt; number(&mut conn, "SELECT count(*) FROM edge")?, 2);
     Ok(())
 }
 

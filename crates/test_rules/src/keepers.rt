@@ -102,7 +102,7 @@ fn stands_at_480(rt: &(impl Abort + AllocGlobal), keeper: &mut ListKeeper) -> Re
     }
     match &keeper.ask(&Question::Desk)? {
         Answer::Desk { schema, seq } => {
-            assert_eq!(rt; *schema, 1);
+            assert_eq!(rt; *schema, 2);
             assert_eq!(rt; *seq, 4);
         }
         _ => assert!(rt; false),

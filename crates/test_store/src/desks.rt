@@ -1,5 +1,6 @@
 //! Desks over stores, which are adopted, told what the worked batch begins with, and asked.
 use crate::commands::ten_commands;
+use plant_base::NEWEST_SCHEMA;
 use plant_desk::{Answer, Keeper, Question, Reply};
 use plant_desk_store::{AdoptRefused, Desk};
 use sqlite::{Alter, Connection};
@@ -29,14 +30,14 @@ pub fn desk_over<S: Alter + Drop>(
     }
 }
 
-/// How many commands the desk has accepted, its tables being of schema 1.
+/// How many commands the desk has accepted, its tables being of the newest schema.
 pub fn accepted<S: Alter + Drop>(
     rt: &(impl Abort + AllocGlobal),
     desk: &mut Desk<S>,
 ) -> Result<u64, Fail> {
     match &desk.ask(&Question::Desk)? {
         Answer::Desk { schema, seq } => {
-            assert_eq!(rt; *schema, 1);
+            assert_eq!(rt; *schema, NEWEST_SCHEMA);
             Ok(*seq)
         }
         _ => Err("another answer")?,

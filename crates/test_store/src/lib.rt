@@ -1,6 +1,7 @@
 //! Tests over stores. Of the desk's tables: every kind of row is written, overwritten and read back, and a transaction is
 //! stopped at each call of a file in turn. Of a desk over one store: what it is told is there when the store is adopted
-//! again, a store that was changed by hand is refused, and ten commands are stopped at each call of a file in turn.
+//! again, a store that was changed by hand is refused, one of an older schema is raised, and ten commands are stopped at
+//! each call of a file in turn.
 #![tactic(auto)]
 
 #[cfg(test)]
@@ -15,6 +16,8 @@ mod expected;
 mod files;
 #[cfg(test)]
 mod kept;
+#[cfg(test)]
+mod raised;
 #[cfg(test)]
 mod refused;
 #[cfg(test)]

@@ -1,9 +1,10 @@
 //! Changes of every kind of row. The columns that are no key are made of a text and a number, so that other ones
 //! overwrite them. Events and movements are only ever added, so the number counts in their keys.
 use plant_base::{
-    Amount, Batch, BatchEvent, BatchRow, BatchState, Class, ControlLine, Definition, Due, Event,
-    Header, Hold, Id, Job, JobState, Lot, MasterLine, Meta, Moment, Movement, MovementKind,
-    OrderRow, Position, Recipe, RecipeLine, RecipeState, Sublot, Text, Unit, Word,
+    Amount, Batch, BatchEvent, BatchRow, BatchState, Class, ControlLine, Definition, Due, EdgeKind,
+    EdgeRow, Event, Header, Hold, Id, Job, JobState, Lot, MasterLine, Meta, Moment, Movement,
+    MovementKind, NEWEST_SCHEMA, OrderRow, Position, Recipe, RecipeLine, RecipeState, Sublot, Text,
+    Unit, Word,
 };
 use plant_view::RowChange;
 use std::alloc::AllocError;
@@ -93,7 +94,7 @@ fn masters(rt: &(impl Abort + AllocGlobal), of: Content<'_>) -> [RowChange; 8] {
     };
     [
         RowChange::Meta(Meta {
-            schema: 1,
+            schema: NEWEST_SCHEMA,
             position: Position {
                 seq: u64::from(of.number),
                 at: moment(rt, of.number),
@@ -239,6 +240,22 @@ fn stocks(rt: &(impl Abort + AllocGlobal), of: Content<'_>) -> [RowChange; 4] {
     ]
 }
 
+/// An edge to a batch, and one to a lot.
+fn edges(rt: &(impl Abort + AllocGlobal)) -> [RowChange; 2] {
+    let from = id(rt, b"L-1");
+    let to_batch = EdgeRow {
+        kind: EdgeKind::LotToBatch,
+        from,
+        to: id(rt, b"B-1"),
+    };
+    let to_lot = EdgeRow {
+        kind: EdgeKind::LotToLot,
+        from,
+        to: id(rt, b"L-2"),
+    };
+    [RowChange::Edge(to_lot), RowChange::Edge(to_batch)]
+}
+
 /// The first hold of lot L-1 is taken away.
 fn unhold(rt: &(impl Abort + AllocGlobal)) -> RowChange {
     RowChange::Unhold {
@@ -248,7 +265,7 @@ fn unhold(rt: &(impl Abort + AllocGlobal)) -> RowChange {
 }
 
 /// A change of every kind: each row is added, or put in the place of the one with its key; an event or a movement of
-/// another number is added.
+/// another number is added, and an edge that is known stays.
 pub fn rows(
     rt: &(impl Abort + AllocGlobal),
     of: Content<'_>,
@@ -260,6 +277,7 @@ pub fn rows(
     changes.extend_from_slice(&orders(rt, of))?;
     changes.extend_from_slice(&stocks(rt, of))?;
     changes.extend_from_slice(&movements(rt, of))?;
+    changes.extend_from_slice(&edges(rt))?;
     Ok(changes)
 }
 

@@ -1,4 +1,5 @@
 //! What was loaded of the tables, as text.
+use plant_base::NEWEST_SCHEMA;
 use plant_tables::forms::desk_forms;
 use plant_tables_stored::{FoundTables, Loaded, found};
 use sqlite::types::ValueRef;
@@ -57,7 +58,7 @@ pub fn tables_told<S: Alter>(alloc: Global, conn: &mut Connection<S>) -> Result<
     if found(alloc, conn)? == FoundTables::Nothing {
         return Ok(text);
     }
-    match &Loaded::read(alloc, conn, 1)? {
+    match &Loaded::read(alloc, conn, NEWEST_SCHEMA)? {
         Some(loaded) => push_loaded(&mut text, alloc, loaded)?,
         None => text.push_str("a table is missing\n")?,
     }

@@ -13,7 +13,8 @@ ghost use Rattle.plant_view.specs.Tables.{Decides};
 use super::{is_idle, movement_of};
 use crate::draw::{Draw, found_draw};
 use plant_base::{
-    Consume, ControlLine, GREATEST_SEQ, Id, MovementKind, RecipeLine, Refusal, Stamp, Sublot,
+    Consume, ControlLine, EdgeKind, EdgeRow, GREATEST_SEQ, Id, MovementKind, RecipeLine, Refusal,
+    Stamp, Sublot,
 };
 use plant_trace::{Direction, Node, closure, has};
 use plant_view::{Decision, RowChange, View, ViewFault, changes, look, meta_after};
@@ -145,12 +146,18 @@ fn decide_left(
     }
     let kind = MovementKind::Consumed { batch: c.batch };
     let movement = movement_of(seq, stamp, kind, c.lot, c.sub, c.amount);
+    let edge = EdgeRow {
+        kind: EdgeKind::LotToBatch,
+        from: c.lot,
+        to: c.batch,
+    };
     let rows = changes(
         alloc,
         [
             meta_after(seq, stamp),
             RowChange::Sublot(left),
             RowChange::Movement(movement),
+            RowChange::Edge(edge),
         ],
     )?;
     Ok(Decision::Change(rows))

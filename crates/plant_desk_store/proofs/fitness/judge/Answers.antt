@@ -20,10 +20,10 @@ pub returns-in-Ok-Some-clause-fit : goal.returns-in-Ok-Some-clause-fit
 returns-in-Ok-Some-clause-fit c =
     let there : is_some (only_meta (contents_loaded c.args.loaded.now 0)) ≡ true = search rules in
     let from : rows_from c.args.loaded.now ≡ Some (rows_listed c.in-Ok-Some.rows) = search rules in
-    fit_of c.args.loaded.now c.in-Ok-Some.rows c.check_all.result there from c.check_all.ensures.fit
+    fit_of c.args.loaded.now c.args.schema c.in-Ok-Some.rows c.check_all.result there from c.check_all.ensures.fit
 
 pub returns-in-Ok-Some-clause-unfit : goal.returns-in-Ok-Some-clause-unfit
 returns-in-Ok-Some-clause-unfit c =
     let there : is_some (only_meta (contents_loaded c.args.loaded.now 0)) ≡ true = search rules in
     let from : rows_from c.args.loaded.now ≡ Some (rows_listed c.in-Ok-Some.rows) = search rules in
-    unfit_of c.args.loaded.now c.in-Ok-Some.rows c.check_all.result there from c.check_all.ensures.unfit
+    unfit_of c.args.loaded.now c.args.schema c.in-Ok-Some.rows c.check_all.result there from c.check_all.ensures.unfit

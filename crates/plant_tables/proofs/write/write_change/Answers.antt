@@ -2,11 +2,11 @@ use Rattle.std.proofs.Common.{refl, sym, subst, OnOk, [], ◌∷◌}
 use Rattle.sqlite.specs.Held.{state}
 use Rattle.sqlite.specs.declared.types.Value.TheVariants.{Text}
 use Rattle.table_forms.specs.Moves.{Moves}
-use Rattle.plant_tables.specs.DeskForms.{desk_forms, meta_form, class_form, definition_form, recipe_form, recipe_line_form, job_form, batch_form, control_line_form, batch_event_form, lot_form, sublot_form, movement_form, hold_form}
+use Rattle.plant_tables.specs.DeskForms.{desk_forms, meta_form, class_form, definition_form, recipe_form, recipe_line_form, job_form, batch_form, control_line_form, batch_event_form, lot_form, sublot_form, movement_form, hold_form, edge_form}
 use Rattle.plant_tables.specs.DeskTables.{rows_changed}
-use Rattle.plant_tables_columns.specs.TableColumns.{row_of_meta, row_of_class, row_of_definition, row_of_recipe, row_of_master_line, row_of_job, row_of_batch, row_of_control_line, row_of_event, row_of_lot, row_of_sublot, row_of_movement, row_of_hold}
-use Rattle.plant_tables.specs.declared.forms.TheConstants.{PUT_META, PUT_CLASS, PUT_DEFINITION, PUT_RECIPE, PUT_RECIPE_LINE, PUT_JOB, PUT_BATCH, PUT_CONTROL_LINE, PUT_BATCH_EVENT, PUT_LOT, PUT_SUBLOT, PUT_MOVEMENT, PUT_HOLD, TAKE_HOLD}
-use Rattle.plant_tables.proofs.DeskTexts.{puts_meta, puts_class, puts_definition, puts_recipe, puts_recipe_line, puts_job, puts_batch, puts_control_line, puts_batch_event, puts_lot, puts_sublot, puts_movement, puts_hold, takes_hold}
+use Rattle.plant_tables_columns.specs.TableColumns.{row_of_meta, row_of_class, row_of_definition, row_of_recipe, row_of_master_line, row_of_job, row_of_batch, row_of_control_line, row_of_event, row_of_lot, row_of_sublot, row_of_movement, row_of_hold, row_of_edge}
+use Rattle.plant_tables.specs.declared.forms.TheConstants.{PUT_META, PUT_CLASS, PUT_DEFINITION, PUT_RECIPE, PUT_RECIPE_LINE, PUT_JOB, PUT_BATCH, PUT_CONTROL_LINE, PUT_BATCH_EVENT, PUT_LOT, PUT_SUBLOT, PUT_MOVEMENT, PUT_HOLD, PUT_EDGE, TAKE_HOLD}
+use Rattle.plant_tables.proofs.DeskTexts.{puts_meta, puts_class, puts_definition, puts_recipe, puts_recipe_line, puts_job, puts_batch, puts_control_line, puts_batch_event, puts_lot, puts_sublot, puts_movement, puts_hold, puts_edge, takes_hold}
 use Rattle.plant_tables.proofs.DeskMoves.{put_moved, take_moved}
 use Rattle.plant_tables_columns.specs.Booked.{booked_of}
 use Rattle.plant_tables_columns.proofs.TableLaws.{master_line_lawful, batch_lawful, control_line_lawful, booked_lawful}
@@ -128,6 +128,15 @@ returns-in-Hold-clause-moved g c clean =
     let put = rw c.hold_values.ensures at (c.put_row-in-Hold.ensures.put clean) in
     subst (λ x. OnOk c.put_row-in-Hold.result (Moves desk_forms old new (rows_changed x))) (sym c.in-Hold.is)
     (put_moved 12 hold_form PUT_HOLD.now (row_of_hold c.in-Hold.row) refl puts_hold refl old new c.put_row-in-Hold.result put)
+
+pub returns-in-Edge-clause-moved : goal.returns-in-Edge-clause-moved
+unfolding rows_changed
+returns-in-Edge-clause-moved g c clean =
+    let old = state g.S.Store c.args.tx.now.conn.now in
+    let new = state g.S.Store c.put_row-in-Edge.new.tx.conn.now in
+    let put = rw c.edge_values.ensures at (c.put_row-in-Edge.ensures.put clean) in
+    subst (λ x. OnOk c.put_row-in-Edge.result (Moves desk_forms old new (rows_changed x))) (sym c.in-Edge.is)
+    (put_moved 13 edge_form PUT_EDGE.now (row_of_edge c.in-Edge.row) refl puts_edge refl old new c.put_row-in-Edge.result put)
 
 pub returns-in-Unhold-clause-moved : goal.returns-in-Unhold-clause-moved
 unfolding rows_changed

@@ -7,7 +7,7 @@ use Rattle.plant_tables_judged.proofs.desk_rows.reading_laws.Goals as goal
 pub returns : goal.returns
 returns c = record {
   stand_for = stands_for;
-  read_again = λ db t x holds ordered good are. read_again db t holds ordered good x are;
+  read_again = λ schema db t x holds lacks ordered good are. read_again schema db t holds lacks ordered good x are;
   whole = whole_rows;
   tables = same_tables;
   booked = movement_again;

@@ -1,0 +1,63 @@
+//! The edges that movements make, as their table keeps them.
+
+ghost use Rattle.std.specs.Prelude.{◌≡◌, [], IfOk};
+ghost use Rattle.std.specs.List.{filter_map};
+ghost use Rattle.plant_base.specs.Edges.{edge_order};
+ghost use Rattle.plant_view.specs.Genealogy.{edge_row_of, edge_rows};
+ghost use Rattle.plant_view.specs.Rows.{put_all};
+ghost use Rattle.plant_view.specs.Tables.{edges_in};
+ghost use Rattle.plant_check.specs.Broken.{are_same_edges, are_kept_edges};
+
+use plant_base::{EdgeRow, Movement};
+use plant_view::edge_row;
+use std::alloc::{AllocError, Global};
+use std::collections::BTreeSet;
+
+/// Whether these are the edges that the movements make, in a schema that keeps them, and none in another. The only error
+/// is that memory was refused.
+pub(crate) fn are_kept_edges(
+    alloc: Global,
+    schema: u64,
+    rows: &[EdgeRow],
+    movements: &[Movement],
+) -> Result<bool, AllocError>
+    ensures { IfOk result (λ b. b ≡ are_kept_edges schema rows.now movements.now) }
+{
+    let edges = edges_in(alloc, schema, movements)?;
+    Ok(rows == edges.as_slice())
+}
+
+fn edges_in(alloc: Global, schema: u64, movements: &[Movement]) -> Result<Vec<EdgeRow>, AllocError>
+    ensures { IfOk result (λ rows. rows.items ≡ edges_in schema movements.now) }
+{
+    if schema >= 2 {
+        edge_rows(alloc, movements)
+    } else {
+        Ok(Vec::new(alloc))
+    }
+}
+
+fn edge_rows(alloc: Global, movements: &[Movement]) -> Result<Vec<EdgeRow>, AllocError>
+    ensures { IfOk result (λ rows. rows.items ≡ edge_rows movements.now) }
+{
+    let edges = edges_of(alloc, movements)?;
+    let set = edge_set(alloc, edges.as_slice())?;
+    set.iter().copied().collect(alloc)
+}
+
+fn edges_of(alloc: Global, movements: &[Movement]) -> Result<Vec<EdgeRow>, AllocError>
+    ensures { IfOk result (λ rows. rows.items ≡ filter_map edge_row_of movements.now) }
+{
+    movements.iter().filter_map(|m| edge_row(m)).collect(alloc)
+}
+
+// The edges in their order, each once.
+fn edge_set(alloc: Global, edges: &[EdgeRow]) -> Result<BTreeSet<EdgeRow>, AllocError>
+    ensures { IfOk result (λ set. set.keys ≡ put_all edge_order edges.now []) }
+{
+    let mut set = BTreeSet::new(alloc);
+    for edge in edges {
+        set.insert(*edge)?;
+    }
+    Ok(set)
+}

@@ -1,0 +1,72 @@
+-- The version that is told, and what follows of the tables of a state.
+use Rattle.std.proofs.Common.{◌≡◌, ◌∙◌, refl, sym, ap, subst, ℕ, ◌≤◌, ◌<◌, ℤ, pos, true, false, nat_le, List, [], ◌∷◌, IsTrue, arith}
+use Rattle.std.proofs.lemmas.Bool.Decides.{nat_tests}
+use Rattle.std.proofs.lemmas.Int.{ints, to_z-of_z}
+use lib.Signed.{le_z}
+use mir.Syntax.{w64}
+use mir.Val.{SFits, to_z, of_z}
+use Rattle.std.specs.List.Sorted.{IsStrictlySortedBy}
+use Rattle.sqlite.specs.Effect.{Database}
+use Rattle.sqlite.specs.declared.types.Value.TheVariants.{Int}
+use Rattle.sqlite.specs.State as store
+use Rattle.plant_base.specs.State.{State, newest_schema}
+use Rattle.plant_view.specs.Tables.{Tables, tables_of}
+use Rattle.table_forms.specs.Resting.{Keeps}
+use Rattle.table_forms.specs.Standing.{Stands, KeepsOthers}
+use Rattle.table_forms.proofs.Ending.{IsStore}
+use Rattle.plant_tables.specs.DeskForms.{desk_forms, meta_form}
+use Rattle.plant_tables.specs.Keyed.{HoldsTablesOf}
+use Rattle.plant_tables.specs.DeskStopping.{IsAtOf, IsAt, IsCutShortOf}
+use Rattle.plant_tables_columns.specs.TableColumns.{row_of_meta}
+use Rattle.plant_tables_stored.specs.Loading.{Loads}
+use Rattle.plant_tables_stored.specs.Version.{IsVersion}
+use Rattle.plant_tables_judged.proofs.TableLemmas.{loaded_rows}
+use Rattle.plant_migrate.specs.Standing.{IsReadable, raised_to}
+use Rattle.plant_migrate.proofs.Kept.{at_still, cut_since}
+
+pub version_is : (version : ℕ) (db : Database) (t : Tables) (n : ℤ) → HoldsTablesOf version db t → IsVersion db n → n ≡ pos t.meta.schema
+unfolding IsStrictlySortedBy
+version_is version db t n holds v =
+    let stands : Stands db meta_form (row_of_meta t.meta ∷ []) = holds.each 0 meta_form refl in
+    let loads : Loads db meta_form (v.row ∷ []) = record { rows = v.alone; rising = λ k d low. absurd (omega (arith, low)) } in
+    let rows : v.row ∷ [] ≡ row_of_meta t.meta ∷ [] = loaded_rows db meta_form (v.row ∷ []) (row_of_meta t.meta ∷ []) loads stands (tt, tt) in
+    let row : v.row ≡ row_of_meta t.meta = cc in
+    let numbers : Int (pos 1) ∷ Int v.good.schema ∷ Int v.good.seq ∷ Int v.good.at ∷ [] ≡ Int (pos 1) ∷ Int (pos t.meta.schema) ∷ Int (pos t.meta.position.seq) ∷ Int (pos t.meta.position.at) ∷ [] = sym v.good.is ∙ row in
+    let same : v.good.schema ≡ pos t.meta.schema = cc in
+    sym v.tells ∙ same
+
+-- what the test of a version tells of the numbers
+pub not_below : (version to : ℕ) (n : ℤ) → SFits w64 n → n ≡ pos version → to ≤ 2 → le_z (to_z w64 to) (to_z w64 (of_z w64 n)) ≡ true → to ≤ version
+not_below version to n fits is few test = let at : le_z (to_z w64 to) (pos version) ≡ true = rw (to_z-of_z w64 n fits, is) at test in grind (arith, ints)
+
+pub below : (version to : ℕ) (n : ℤ) → SFits w64 n → n ≡ pos version → to ≤ 2 → le_z (to_z w64 to) (to_z w64 (of_z w64 n)) ≡ false → version < to
+below version to n fits is few test = let at : le_z (to_z w64 to) (pos version) ≡ false = rw (to_z-of_z w64 n fits, is) at test in grind (arith, ints)
+
+-- it is at least the schema that is asked for
+pub stays_at : (version to : ℕ) (old new : store.State) (s : State) → to ≤ version → IsReadable version old s → Keeps old new → IsStore new → IsTrue new.is_open
+    → IsAtOf (raised_to version to) new (tables_of (raised_to version to) s) × KeepsOthers desk_forms old.now new.now
+stays_at version to old new s low readable kept laws live =
+    let test : nat_le to version ≡ true = grind (arith, nat_tests) in
+    let is : raised_to version to ≡ version = rw test refl in
+    (subst (λ k. IsAtOf k new (tables_of k s)) (sym is) (at_still version old new (tables_of version s) readable.at kept laws live), subst (KeepsOthers desk_forms old.now) (sym (kept.now live)) (record { kept = λ x listed foreign. (listed, refl) }))
+
+-- still readable after calls that only read
+still_readable : (old mid : store.State) (s : State) → IsReadable 1 old s → Keeps old mid → IsStore mid → IsTrue mid.is_open → IsReadable 1 mid s
+still_readable old mid s readable kept laws live = record { known = readable.known; at = at_still 1 old mid (tables_of 1 s) readable.at kept laws live; ordered = readable.ordered; good = readable.good }
+
+-- it is the first, and the newest is asked for
+pub rises_to : (version to : ℕ) (old mid new : store.State) (s : State) → version ≡ 1 → to ≡ 2 → IsReadable version old s → Keeps old mid → IsStore mid → IsTrue mid.is_open
+    → ((u : State) → IsReadable 1 mid u → IsAt new (tables_of newest_schema u) × KeepsOthers desk_forms mid.now new.now)
+    → IsAtOf (raised_to version to) new (tables_of (raised_to version to) s) × KeepsOthers desk_forms old.now new.now
+rises_to version to old mid new s first newest readable kept laws live done =
+    let at : IsReadable 1 old s = subst (λ k. IsReadable k old s) first readable in
+    let it = done s (still_readable old mid s at kept laws live) in
+    let is : raised_to version to ≡ newest_schema = rw (first, newest) refl in
+    (subst (λ k. IsAtOf k new (tables_of k s)) (sym is) it.0, subst (λ (d : Database). KeepsOthers desk_forms d new.now) (kept.now live) it.1)
+
+pub cut_from : (version : ℕ) (old mid new : store.State) (s : State) → version ≡ 1 → IsReadable version old s → Keeps old mid → IsStore mid → IsTrue mid.is_open
+    → ((u : State) → IsReadable 1 mid u → IsCutShortOf 1 mid new (tables_of 1 u) (tables_of newest_schema u)) → IsCutShortOf version old new (tables_of version s) (tables_of newest_schema s)
+cut_from version old mid new s first readable kept laws live done =
+    let at : IsReadable 1 old s = subst (λ k. IsReadable k old s) first readable in
+    let cut = done s (still_readable old mid s at kept laws live) in
+    subst (λ k. IsCutShortOf k old new (tables_of k s) (tables_of newest_schema s)) (sym first) (cut_since 1 old mid new (tables_of 1 s) (tables_of newest_schema s) (kept.now live) cut)

@@ -1,0 +1,124 @@
+//! The raising of whatever tables a store holds.
+
+ghost use Rattle.std.specs.Prelude.{◌≡◌, ◌≢◌, ◌≤◌, false, ℕ, ℤ, pos, OnOk, OnErr, IfErr};
+ghost use Rattle.std.specs.Int.Signed.{◌≤ℤ◌, ◌<ℤ◌};
+ghost use Rattle.sqlite.specs.State.{HasCleanDisk, Survives};
+ghost use Rattle.sqlite.specs.Held.{state};
+ghost use Rattle.plant_base.specs.State.{State, newest_schema};
+ghost use Rattle.plant_view.specs.Tables.{tables_of};
+ghost use Rattle.table_forms.specs.Standing.{KeepsOthers};
+ghost use Rattle.plant_tables.specs.DeskForms.{desk_forms};
+ghost use Rattle.plant_tables.specs.DeskStopping.{IsAtOf, IsAt, IsCutShortOf};
+ghost use Rattle.plant_tables_stored.specs.Version.{IsVersion};
+ghost use Rattle.plant_migrate.specs.Standing.{IsReadable, Raised, raised_to};
+
+use crate::rows::raise_rows;
+use plant_base::NEWEST_SCHEMA;
+use plant_tables_judged::rows_of;
+use plant_tables_stored::{FoundTables, Loaded, found};
+use sqlite::{Alter, Connection};
+use std::alloc::Global;
+use table_forms::Fault;
+
+/// Why tables weren't raised.
+#[derive(Clone, Copy, Debug, PartialEq, Eq, thiserror::Error)]
+pub enum RaiseFault {
+    /// The store failed, or what stands in it isn't tables of a desk that can be raised.
+    #[error("the store failed")]
+    Store,
+    /// There was no memory.
+    #[error("out of memory")]
+    Memory,
+    /// The tables are of a schema that isn't known yet.
+    #[error("tables of schema {0}")]
+    Newer(i64),
+}
+
+fn fault_of(fault: Fault) -> RaiseFault
+    ensures store { fault ≡ Fault.Store → result ≡ RaiseFault.Store }
+    ensures memory { fault ≡ Fault.Memory → result ≡ RaiseFault.Memory }
+    ensures wanted { result ≡ RaiseFault.Memory → fault ≡ Fault.Memory }
+    ensures not_newer { (n : ℤ) → result ≢ RaiseFault.Newer n }
+{
+    match fault {
+        Fault::Store => RaiseFault::Store,
+        Fault::Memory => RaiseFault::Memory,
+    }
+}
+
+/// Reads the rows of tables of the first schema, and raises the tables. Store where they don't stand as they are
+/// declared, where a value breaks its rule, where the later tables can't be made, and where the store fails; Memory
+/// where there is none, and then nothing was written.
+fn raise_first<S: Alter>(alloc: Global, conn: &mut Connection<S>) -> Result<(), Fault>
+    requires { conn.old.in_transaction ≡ false }
+    ensures mode { conn.new.in_transaction ≡ false }
+    ensures clean { HasCleanDisk (state S.Store conn.new) → HasCleanDisk (state S.Store conn.old) }
+    ensures raised { HasCleanDisk (state S.Store conn.new) → (s : State)
+        → IsReadable 1 (state S.Store conn.old) s
+        → OnOk result (IsAt (state S.Store conn.new) (tables_of newest_schema s)
+        × KeepsOthers desk_forms (state S.Store conn.old).now (state S.Store conn.new).now) }
+    ensures cut_short { HasCleanDisk (state S.Store conn.new) → (s : State)
+        → IsReadable 1 (state S.Store conn.old) s
+        → OnErr result (IsCutShortOf 1 (state S.Store conn.old) (state S.Store conn.new)
+        (tables_of 1 s) (tables_of newest_schema s)) }
+    ensures unwritten { IfErr result (λ fault. fault ≡ Fault.Memory
+        → Survives (state S.Store conn.old) (state S.Store conn.new) (λ _. ⊥)) }
+    ensures crash { Survives (state S.Store conn.old) (state S.Store conn.new)
+        (Raised (state S.Store conn.old).now) }
+{
+    let loaded = match Loaded::read(alloc, conn, 1) {
+        Ok(Some(loaded)) => loaded,
+        Ok(None) => return Err(Fault::Store),
+        Err(fault) => return Err(fault),
+    };
+    match rows_of(alloc, &loaded) {
+        Ok(Some(rows)) => raise_rows(alloc, conn, &rows),
+        Ok(None) => Err(Fault::Store),
+        Err(_) => Err(Fault::Memory),
+    }
+}
+
+/// Raises the tables that a store holds to this schema: nothing is done where theirs isn't below it. `Newer` where they
+/// are of a schema above the newest; Store where there are none, where table meta doesn't tell a version, where a value
+/// breaks its rule, and where the store fails; Memory where there is none, and then nothing was written.
+pub fn raise<S: Alter>(alloc: Global, conn: &mut Connection<S>, to: u64) -> Result<(), RaiseFault>
+    requires mode { conn.old.in_transaction ≡ false }
+    requires known { to ≤ newest_schema }
+    ensures mode { conn.new.in_transaction ≡ false }
+    ensures raised { HasCleanDisk (state S.Store conn.new) → (version : ℕ) → (s : State)
+        → IsReadable version (state S.Store conn.old) s
+        → OnOk result (IsAtOf (raised_to version to) (state S.Store conn.new)
+        (tables_of (raised_to version to) s)
+        × KeepsOthers desk_forms (state S.Store conn.old).now (state S.Store conn.new).now) }
+    ensures cut_short { HasCleanDisk (state S.Store conn.new) → (version : ℕ) → (s : State)
+        → IsReadable version (state S.Store conn.old) s
+        → OnErr result (IsCutShortOf version (state S.Store conn.old) (state S.Store conn.new)
+        (tables_of version s) (tables_of newest_schema s)) }
+    // Of whatever store: a stop leaves what it left before, or tables that were raised; and only the first where there was
+    // no memory.
+    ensures unwritten { IfErr result (λ fault. fault ≡ RaiseFault.Memory
+        → Survives (state S.Store conn.old) (state S.Store conn.new) (λ _. ⊥)) }
+    ensures crash { Survives (state S.Store conn.old) (state S.Store conn.new)
+        (Raised (state S.Store conn.old).now) }
+    ensures newer { HasCleanDisk (state S.Store conn.new) → IfErr result (λ fault. (n : ℤ)
+        → fault ≡ RaiseFault.Newer n
+        → IsVersion (state S.Store conn.old).now n × (pos newest_schema <ℤ n)) }
+    ensures not_newer { HasCleanDisk (state S.Store conn.new) → OnOk result ((n : ℤ)
+        → IsVersion (state S.Store conn.old).now n → n ≤ℤ pos newest_schema) }
+{
+    let version = match found(alloc, conn) {
+        Ok(FoundTables::Version(version)) => version,
+        Ok(_) => return Err(RaiseFault::Store),
+        Err(fault) => return Err(fault_of(fault)),
+    };
+    if version > NEWEST_SCHEMA as i64 {
+        return Err(RaiseFault::Newer(version));
+    }
+    if version >= to as i64 {
+        return Ok(());
+    }
+    match raise_first(alloc, conn) {
+        Ok(()) => Ok(()),
+        Err(fault) => Err(fault_of(fault)),
+    }
+}

@@ -1,0 +1,129 @@
+//! A store of the first schema is raised to the newest when it is adopted, and answers as before. Its declarations and rows
+//! were written by hand.
+use crate::desks::{accepted, adopted, desk_over, run_ten};
+use crate::told::tables_told;
+use plant_base::Id;
+use plant_check::Rule;
+use plant_desk::{Answer, Keeper, Question};
+use plant_desk_store::AdoptFault;
+use plant_trace::{Direction, Node};
+use sqlite::{Alter, Connection, MemStore};
+use std::alloc::{AllocGlobal, Global};
+use std::process::Abort;
+use std::test::Fail;
+
+/// The tables of the first schema.
+const FIRST_SCHEMA: &str = "
+    CREATE TABLE meta (k INTEGER NOT NULL, schema INTEGER NOT NULL, seq INTEGER NOT NULL, at INTEGER NOT NULL, UNIQUE (k)) STRICT;
+    CREATE TABLE class (id TEXT NOT NULL, name TEXT NOT NULL, UNIQUE (id)) STRICT;
+    CREATE TABLE definition (id TEXT NOT NULL, class TEXT NOT NULL, name TEXT NOT NULL, unit TEXT NOT NULL, UNIQUE (id)) STRICT;
+    CREATE TABLE recipe (id TEXT NOT NULL, version INTEGER NOT NULL, product TEXT NOT NULL, base INTEGER NOT NULL, low INTEGER NOT NULL, high INTEGER NOT NULL, title TEXT NOT NULL, state TEXT NOT NULL, UNIQUE (id, version)) STRICT;
+    CREATE TABLE recipe_line (recipe TEXT NOT NULL, version INTEGER NOT NULL, no INTEGER NOT NULL, kind INTEGER NOT NULL, def TEXT, qty INTEGER NOT NULL, t1 TEXT NOT NULL, t2 TEXT NOT NULL, t3 TEXT NOT NULL, UNIQUE (recipe, version, no)) STRICT;
+    CREATE TABLE job (id TEXT NOT NULL, recipe TEXT NOT NULL, version INTEGER NOT NULL, size INTEGER NOT NULL, due TEXT NOT NULL, priority INTEGER NOT NULL, state TEXT NOT NULL, UNIQUE (id)) STRICT;
+    CREATE TABLE batch (id TEXT NOT NULL, job TEXT NOT NULL, at INTEGER NOT NULL, by_who TEXT NOT NULL, note TEXT NOT NULL, state TEXT NOT NULL, attempt INTEGER NOT NULL, next INTEGER NOT NULL, closed INTEGER NOT NULL, UNIQUE (id), UNIQUE (job)) STRICT;
+    CREATE TABLE control_line (batch TEXT NOT NULL, no INTEGER NOT NULL, kind INTEGER NOT NULL, def TEXT, qty INTEGER NOT NULL, t1 TEXT NOT NULL, t2 TEXT NOT NULL, t3 TEXT NOT NULL, UNIQUE (batch, no)) STRICT;
+    CREATE TABLE batch_event (seq INTEGER NOT NULL, batch TEXT NOT NULL, word TEXT NOT NULL, phase INTEGER NOT NULL, at INTEGER NOT NULL, by_who TEXT NOT NULL, note TEXT NOT NULL, UNIQUE (seq)) STRICT;
+    CREATE TABLE lot (id TEXT NOT NULL, def TEXT NOT NULL, UNIQUE (id)) STRICT;
+    CREATE TABLE sublot (lot TEXT NOT NULL, no INTEGER NOT NULL, place TEXT NOT NULL, stock INTEGER NOT NULL, UNIQUE (lot, no)) STRICT;
+    CREATE TABLE movement (seq INTEGER NOT NULL, line INTEGER NOT NULL, kind INTEGER NOT NULL, lot TEXT NOT NULL, sub INTEGER NOT NULL, lot2 TEXT, sub2 INTEGER, batch TEXT, amount INTEGER NOT NULL, at INTEGER NOT NULL, by_who TEXT NOT NULL, note TEXT NOT NULL, UNIQUE (seq, line)) STRICT;
+    CREATE TABLE hold (lot TEXT NOT NULL, id TEXT NOT NULL, at INTEGER NOT NULL, by_who TEXT NOT NULL, note TEXT NOT NULL, UNIQUE (lot, id)) STRICT";
+
+/// A lot that was received, two that were split off it, and one that was merged of those.
+const ROWS: &str = "
+    INSERT INTO meta VALUES (1, 1, 6, 160);
+    INSERT INTO class VALUES ('FOOD', '');
+    INSERT INTO definition VALUES ('FLOUR', 'FOOD', '', 'kg');
+    INSERT INTO lot VALUES ('F-1', 'FLOUR'), ('F-2', 'FLOUR'), ('F-3', 'FLOUR'), ('F-4', 'FLOUR');
+    INSERT INTO sublot VALUES ('F-1', 0, 'A1', 700), ('F-2', 0, 'A1', 0), ('F-3', 0, 'A1', 0), ('F-4', 0, 'A1', 300);
+    INSERT INTO movement VALUES
+        (3, 1, 1, 'F-1', 0, NULL, NULL, NULL, 1000, 130, 'ben', ''),
+        (4, 1, 6, 'F-1', 0, 'F-2', 0, NULL, 200, 140, 'ben', ''),
+        (5, 1, 6, 'F-1', 0, 'F-3', 0, NULL, 100, 150, 'ben', ''),
+        (6, 1, 7, 'F-2', 0, 'F-4', 0, NULL, 200, 160, 'ben', ''),
+        (6, 2, 7, 'F-3', 0, 'F-4', 0, NULL, 100, 160, 'ben', '')";
+
+/// What the store holds once it is raised: the edges are new, and the rest stays but for the schema's number.
+const RAISED: &str = "meta|1|2|6|160
+class|FOOD|
+definition|FLOUR|FOOD||kg
+lot|F-1|FLOUR
+lot|F-2|FLOUR
+lot|F-3|FLOUR
+lot|F-4|FLOUR
+sublot|F-1|0|A1|700
+sublot|F-2|0|A1|0
+sublot|F-3|0|A1|0
+sublot|F-4|0|A1|300
+movement|3|1|1|F-1|0|NULL|NULL|NULL|1000|130|ben|
+movement|4|1|6|F-1|0|F-2|0|NULL|200|140|ben|
+movement|5|1|6|F-1|0|F-3|0|NULL|100|150|ben|
+movement|6|1|7|F-2|0|F-4|0|NULL|200|160|ben|
+movement|6|2|7|F-3|0|F-4|0|NULL|100|160|ben|
+edge|3|F-1|F-2
+edge|3|F-1|F-3
+edge|3|F-2|F-4
+edge|3|F-3|F-4
+";
+
+fn first_store(alloc: Global) -> Result<Connection<MemStore>, Fail> {
+    let mut connection = Connection::open_in_memory(alloc)?;
+    connection.execute_batch(FIRST_SCHEMA)?;
+    connection.execute_batch(ROWS)?;
+    Ok(connection)
+}
+
+/// How many lots and batches the lot came from, by what the keeper answers.
+fn count_back<K: Keeper>(
+    rt: &(impl Abort + AllocGlobal),
+    keeper: &mut K,
+    lot: &[u8],
+) -> Result<usize, Fail> {
+    let lot = Id::read(lot).expect(rt, "an id");
+    match &keeper.ask(&Question::Trace(Direction::Back, Node::Lot(lot)))? {
+        Answer::Trace(nodes) => Ok(nodes.as_slice().len()),
+        _ => Err("another answer")?,
+    }
+}
+
+#[test]
+fn the_first_schema_is_raised(rt: HostRuntime) -> Result<(), Fail> {
+    let mut desk = desk_over(&rt, first_store(rt.alloc())?)?;
+    assert_eq!(rt; accepted(&rt, &mut desk)?, 6);
+    assert_eq!(rt; count_back(&rt, &mut desk, b"F-1")?, 0);
+    assert_eq!(rt; count_back(&rt, &mut desk, b"F-2")?, 1);
+    assert_eq!(rt; count_back(&rt, &mut desk, b"F-4")?, 3);
+    let mut connection = desk.close();
+    assert!(rt; tables_told(rt.alloc(), &mut connection)?.as_str() == RAISED);
+    let mut again = desk_over(&rt, connection)?;
+    assert_eq!(rt; accepted(&rt, &mut again)?, 6);
+    Ok(())
+}
+
+/// Takes the tables of a store back to the first schema.
+fn lower<S: Alter>(connection: &mut Connection<S>) -> Result<(), Fail> {
+    connection.execute_batch("DROP TABLE edge; UPDATE meta SET schema = 1")?;
+    Ok(())
+}
+
+#[test]
+fn ten_commands_are_raised(rt: HostRuntime) -> Result<(), Fail> {
+    let mut desk = desk_over(&rt, Connection::open_in_memory(rt.alloc())?)?;
+    run_ten(&rt, &mut desk)?;
+    let mut connection = desk.close();
+    let before = tables_told(rt.alloc(), &mut connection)?;
+    lower(&mut connection)?;
+    let raised = desk_over(&rt, connection)?;
+    assert!(rt; tables_told(rt.alloc(), &mut raised.close())? == before);
+    Ok(())
+}
+
+#[test]
+fn a_taken_name_of_a_later_table_is_refused(rt: HostRuntime) -> Result<(), Fail> {
+    let mut connection = first_store(rt.alloc())?;
+    connection.execute_batch("CREATE TABLE edge (a INTEGER)")?;
+    match adopted(&rt, connection)? {
+        Ok(_) => Err("the store is adopted")?,
+        Err(refused) => assert!(rt; refused.fault == AdoptFault::Damaged(Rule::Tables)),
+    }
+    Ok(())
+}

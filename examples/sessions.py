@@ -7,6 +7,7 @@ Each file of examples/sessions is a session: a line behind "> " is told to the d
 answer. Sessions that are long or no text stand below. Each is run over memory, and over a file in two runs, the second of which
 reopens what the first left; the file must then be found good, with as many commands as were accepted.
 """
+import json
 import pathlib
 import re
 import socket
@@ -159,6 +160,15 @@ def imported(orders):
     return f'"do":"import_orders","orders":[{rows}]'
 
 
+def split(lot, amount, new):
+    return f'"do":"split","lot":"{lot}","sub":0,"amount":{amount},"new":"{new}","place":""'
+
+
+def traced(lots):
+    """Returns the answer of a trace that comes to these lots, which are in order, and to no batch."""
+    return json.dumps({"nodes": [{"lot": it} for it in lots]}, separators=(",", ":"))
+
+
 def merged(parts):
     """Returns a merge of these parts, each a lot, a sublot and an amount."""
     listed = ",".join(f'{{"lot":"{lot}","sub":{sub},"amount":{amount}}}' for lot, sub, amount in parts)
@@ -200,6 +210,19 @@ def limits():
     sublots = Session("a lot has a hundred sublots at most").accepted(*GOODS, received("L-1", 480))
     sublots.accepted(*[divided] * 99).refused("TooMany", 28, divided)
     return [recipes, sixteen, parts, attempts, sublots]
+
+
+def traces():
+    """Returns sessions of traces along more nodes than are looked up one by one: in a chain of splits, and in a fan of them."""
+    lots, more = [f"C-{it:03}" for it in range(600)], [f"D-{it:03}" for it in range(600)]
+    chain = Session("a long chain is traced both ways").accepted(*GOODS, received(lots[0], 1000))
+    chain.accepted(*[split(lots[it - 1], 1000 - it, lots[it]) for it in range(1, 600)])
+    fan = Session("a wide fan is traced both ways").accepted(*GOODS, received("C-000", 1000))
+    fan.accepted(*[split("C-000", 1, it) for it in more])
+    for session, last, forward, back in [(chain, lots[-1], lots[1:], lots[:-1]), (fan, more[-1], more, ["C-000"])]:
+        session.asked('{"ask":"forward","lot":"C-000"}', traced(forward))
+        session.asked(f'{{"ask":"back","lot":"{last}"}}', traced(back))
+    return [chain, fan]
 
 
 def lines():
@@ -513,7 +536,7 @@ def shown(value):
 
 def main(program):
     folder = pathlib.Path(__file__).resolve().parent / "sessions"
-    sessions = [written(it) for it in sorted(folder.glob("*.txt"))] + limits() + lines() + [scraps()]
+    sessions = [written(it) for it in sorted(folder.glob("*.txt"))] + limits() + traces() + lines() + [scraps()]
     with tempfile.TemporaryDirectory() as room:
         check = Check(pathlib.Path(program).resolve(), pathlib.Path(room))
         for number, session in enumerate(sessions):

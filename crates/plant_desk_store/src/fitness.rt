@@ -20,7 +20,7 @@ pub(crate) enum Unfit {
 }
 
 /// The rows of a desk of a schema that loaded rows are: their values are judged and their rules checked. The
-/// adoption of a store, each reading of it and its test call this, and nothing else judges what a store holds.
+/// adoption of a store and its test call this, and nothing else judges what a store holds.
 pub(crate) fn judge(alloc: Global, loaded: &Loaded, schema: u64) -> Result<DeskRows, Unfit>
     ensures fit { IfOk result (IsFit loaded.now schema) }
     ensures unfit { IfErr result (IsUnfitBy loaded.now schema) }

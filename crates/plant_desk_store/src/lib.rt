@@ -2,17 +2,13 @@
 #![tactic(auto)]
 
 mod adopting;
-mod asking;
 mod executing;
 mod faults;
 mod fitness;
 mod laws;
-mod lists;
 mod looking;
-mod reading;
 mod running;
 mod stored;
-mod tracing;
 mod verifying;
 
 pub use adopting::{AdoptFault, AdoptRefused};

@@ -9,13 +9,14 @@ ghost use Rattle.table_forms.specs.Resting.{Keeps};
 ghost use Rattle.plant_view.specs.OneBatch.{PutsOneBatch};
 ghost use Rattle.plant_desk.specs.Answers.{answer};
 ghost use Rattle.plant_keyed.specs.Keeping.{IsSteady};
+ghost use Rattle.plant_keyed.specs.Remembering.{AreEdgesOf};
 ghost use Rattle.plant_desk_store.specs.Looking.{IsDecidedAt};
 ghost use Rattle.plant_desk_store.specs.Standing.{StandsAt};
 
 use crate::faults::{fault_in, fault_of};
 use plant_base::Envelope;
 use plant_desk::{Answer, DeskFault, Question, answer};
-use plant_keyed::Keyed;
+use plant_keyed::{Directed, Keyed};
 use plant_rules::decide;
 use plant_view::Decision;
 use sqlite::{Alter, Connection};
@@ -49,7 +50,8 @@ pub(crate) fn decide_on<S: Alter>(
         → (state S.Store connection.new).in_transaction ≡ false }
     ensures crash { Survives (state S.Store connection.old) (state S.Store connection.new) (λ _. ⊥) }
 {
-    let mut view = Keyed::new(alloc, connection);
+    let mut edges = Directed::unread(alloc);
+    let mut view = Keyed::new(alloc, connection, &mut edges);
     decide_over(alloc, &mut view, envelope)
 }
 
@@ -62,7 +64,7 @@ fn decide_over<S: Alter>(
     ensures steady { IsSteady (state S.Store view.old.conn.now) (state S.Store view.new.conn.now)
         view.old.has_failed view.new.has_failed }
     ensures decided { HasCleanDisk (state S.Store view.new.conn.now) → (s : State)
-        → StandsAt (state S.Store view.old.conn.now) s
+        → StandsAt (state S.Store view.old.conn.now) s → AreEdgesOf s view.old.edges.now
         → IfOk result (IsDecidedAt s envelope.now) }
     ensures one_batch { IfOk result (λ d. PutsOneBatch d.decision) }
     ensures small { IfOk result (λ d. d.seq ≤ greatest_seq) }
@@ -86,8 +88,8 @@ fn decide_over<S: Alter>(
     Ok(Decided { seq, decision })
 }
 
-/// Answers a question over the tables of a store. Store where a look-up fails, Memory where there is none. Nothing is
-/// changed.
+/// Answers a question over the tables of a store: a trace reads the edges that it follows, or all of them once where they
+/// are many. Store where a look-up fails, Memory where there is none. Nothing is changed.
 pub(crate) fn answer_on<S: Alter>(
     alloc: Global,
     connection: &mut Connection<S>,
@@ -103,7 +105,8 @@ pub(crate) fn answer_on<S: Alter>(
         → (state S.Store connection.new).in_transaction ≡ false }
     ensures crash { Survives (state S.Store connection.old) (state S.Store connection.new) (λ _. ⊥) }
 {
-    let mut view = Keyed::new(alloc, connection);
+    let mut edges = Directed::unread(alloc);
+    let mut view = Keyed::new(alloc, connection, &mut edges);
     answer_over(alloc, &mut view, question)
 }
 
@@ -116,7 +119,7 @@ fn answer_over<S: Alter>(
     ensures steady { IsSteady (state S.Store view.old.conn.now) (state S.Store view.new.conn.now)
         view.old.has_failed view.new.has_failed }
     ensures answers { HasCleanDisk (state S.Store view.new.conn.now) → (s : State)
-        → StandsAt (state S.Store view.old.conn.now) s
+        → StandsAt (state S.Store view.old.conn.now) s → AreEdgesOf s view.old.edges.now
         → IfOk result (λ a. a ≡ answer newest_schema s question.now) }
     ensures open { IfErr result (λ fault. fault ≢ DeskFault.Shut) }
 {

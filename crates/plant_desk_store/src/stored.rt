@@ -1,8 +1,8 @@
 ghost use Rattle.std.specs.Prelude.{◌≡◌, false};
 ghost use Rattle.plant_desk.specs.Keeping.{shuts};
 
-use crate::asking::ask_on;
 use crate::executing::execute_on;
+use crate::looking::answer_on;
 use crate::running::run_over;
 use crate::verifying::verify_on;
 use plant_base::{Envelope, Items};
@@ -170,7 +170,7 @@ impl<S: Alter> Keeper for Desk<S> {
         if self.is_shut {
             return Err(DeskFault::Shut);
         }
-        ask_on(self.alloc, &mut self.connection, question)
+        answer_on(self.alloc, &mut self.connection, question)
     }
 
     ghost leaves_state = { λ d s h is_open stood. stood.1 is_open };

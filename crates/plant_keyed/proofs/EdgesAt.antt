@@ -28,10 +28,10 @@ use Rattle.plant_keyed.specs.Edges.{near_id, begins_at, id_of, AreKindsAt, HasEd
 
 module _ {X Y : Type 0} (f : X → Y) where
   -- it was mapped of one of the list
-  abbrev IsMapped : List X → Y → Type 0
+  abbrev pub IsMapped : List X → Y → Type 0
   IsMapped xs y = (x : X) × Contains xs x × (f x ≡ y)
 
-  mapped_of : (xs : List X) (y : Y) → Contains (map f xs) y → IsMapped xs y
+  pub mapped_of : (xs : List X) (y : Y) → Contains (map f xs) y → IsMapped xs y
   mapped_of xs y has = All-contains (IsMapped xs) (map f xs) y (All-map (IsMapped xs) f xs (All-weaker (Contains xs) (λ x. IsMapped xs (f x)) (λ x there. (x, there, refl)) xs (All-contains_itself xs))) has
 
   module _ {W : Type 0} (g : W → Option X) where
@@ -78,11 +78,11 @@ module _ (ms : List Movement) where
       let each = all_put_all edge_order edge_total (Contains made) made [] (recursion_from_All (Contains made) made (All-contains_itself made)) tt in
       All-contains (Contains made) (edge_rows ms) e (All-from_recursion (Contains made) (edge_rows ms) each) has
 
-  row_pair : (e : EdgeRow) → Contains (edge_rows ms) e → Contains (edges_among ms) (ends_of e)
+  pub row_pair : (e : EdgeRow) → Contains (edge_rows ms) e → Contains (edges_among ms) (ends_of e)
   row_pair e has = subst (λ es. Contains es (ends_of e)) (sym (map_kept ends_of edge_row_of ms)) (mapped_in ends_of made e (row_made e has))
 
   -- and each edge has its row
-  pair_row : (p : Node × Node) → Contains (edges_among ms) p → IsMapped ends_of (edge_rows ms) p
+  pub pair_row : (p : Node × Node) → Contains (edges_among ms) p → IsMapped ends_of (edge_rows ms) p
   pair_row p has =
       let of_row = mapped_of ends_of made p (subst (λ es. Contains es p) (map_kept ends_of edge_row_of ms) has) in
       (of_row.0, come edge_order one_edge made [] of_row.0 of_row.1, of_row.2)

@@ -1,27 +1,18 @@
 -- What look-ups keep, and what they tell.
-use Rattle.std.proofs.Common.{◌≡◌, Bool, Result, IfOk, subst, arith}
+use Rattle.std.proofs.Common.{◌≡◌, Bool, Result, IfOk, sym, subst, arith}
 use Rattle.std.proofs.lemmas.Result.{IfOk-weaker}
 use Rattle.sqlite.specs.Effect.{Database}
 use Rattle.sqlite.specs.State as store
 use Rattle.sqlite.specs.State.{HasCleanDisk, Survives}
-use Rattle.plant_base.specs.State.{newest_schema}
+use Rattle.plant_base.specs.State.{State, newest_schema}
 use Rattle.plant_view.specs.Tables.{tables_of}
 use Rattle.plant_good.specs.Good.{IsGood}
 use Rattle.plant_tables.specs.Keyed.{HoldsTables}
 use Rattle.plant_keyed.specs.Keeping.{IsHonest, IsSteady, IsTold}
-use Rattle.plant_keyed.specs.Steadily.{steady_along}
+use Rattle.plant_keyed.specs.Remembering.{AreEdgesOf, IsTraced, StaysTrue}
+use Rattle.plant_keyed.specs.declared.directed.Directed.{Directed}
+use Rattle.plant_keyed.specs.Steadily.{honest_before, steady_along, stays_along}
 use Rattle.plant_keyed.specs.Shown.{shown}
-
--- what is honest after a call was honest before it
-pub honest_before : (old new : store.State) (was failed : Bool) → IsSteady old new was failed → IsHonest new failed → IsHonest old was
-honest_before old new was failed steady honest =
-    let same : new.now ≡ old.now = steady.shows honest.clean honest.unfailed in
-    record {
-      clean = omega (arith, steady.survives.clean, honest.clean);
-      unfailed = steady.unfailed honest.unfailed;
-      good = subst (λ (db : Database). IsGood (shown db)) same honest.good;
-      holds = subst (λ (db : Database). HoldsTables db (tables_of newest_schema (shown db))) same honest.holds;
-    }
 
 -- a call that keeps this tells what holds of the good state that was shown
 pub told_by : (old new : store.State) (was failed : Bool) (P : Type 0) → IsSteady old new was failed
@@ -51,3 +42,33 @@ told_then a b c f g h P first second = record {
       let earlier = second.before honest in
       subst P (first.shows earlier.clean earlier.unfailed) (second.holds honest);
 }
+
+-- what is remembered stays as true as it was where it is the same
+pub stays_by : (old new : store.State) (was failed : Bool) (x y : Directed) → IsSteady old new was failed → y ≡ x → StaysTrue old.now new failed x y
+stays_by old new was failed x y steady same honest =
+    let now : new.now ≡ old.now = steady.shows honest.clean honest.unfailed in (
+      λ true_of. subst (λ (db : Database). AreEdgesOf (shown db) y) (sym now) (subst (AreEdgesOf (shown old.now)) (sym same) true_of),
+      λ true_of. subst (AreEdgesOf (shown old.now)) same (subst (λ (db : Database). AreEdgesOf (shown db) y) now true_of),
+    )
+
+-- what is remembered once nothing was written tells the fact of the state that was shown before
+pub recalled_so : (old new : store.State) (was failed : Bool) (x y : Directed) (fact : State → Type 0) → IsSteady old new was failed → StaysTrue old.now new failed x y
+    → (AreEdgesOf (shown new.now) y → fact (shown new.now)) → IsTraced old new was failed x y (fact (shown old.now))
+recalled_so old new was failed x y fact steady stays tells = record {
+  told = record {
+    always = steady;
+    before = honest_before old new was failed steady;
+    holds = λ honest true_of. subst (λ (db : Database). fact (shown db)) (steady.shows honest.clean honest.unfailed) (tells ((stays honest).0 true_of));
+  };
+  stays = stays;
+}
+
+-- a look-up after it that remembers nothing more tells its fact
+pub traced_on : (a b c : store.State) (f g h : Bool) (x y z : Directed) (fact : State → Type 0) → IsSteady a b f g → StaysTrue a.now b g x y → IsTold b c g h (fact (shown b.now)) → z ≡ y
+    → IsTraced a c f h x z (fact (shown a.now))
+traced_on a b c f g h x y z fact first stays second same =
+    let both = told_then a b c f g h (λ (db : Database). fact (shown db)) first second in
+    record {
+      told = record { always = both.always; before = both.before; holds = λ honest _. both.holds honest };
+      stays = stays_along a.now b c f g h x y z second.always stays (stays_by b c g h y z second.always same);
+    }

@@ -1,4 +1,5 @@
 mod Answering
+mod Directing
 mod EdgesAt
 mod Judging
 mod Keeping

@@ -79,3 +79,7 @@ edges_from = record { readable = refl; compared = refl; parameters = codes "?1" 
 pub edges_to : Selects edge_form (1 ∷ 3 ∷ []) (codes "SELECT kind, a, b FROM edge WHERE kind = ?1 AND b = ?2 ORDER BY kind, a, b")
 unfolding everything
 edges_to = record { readable = refl; compared = refl; parameters = codes "?1" ∷ codes "?2" ∷ []; written = refl }
+
+pub edges : Selects edge_form [] (codes "SELECT kind, a, b FROM edge ORDER BY kind, a, b")
+unfolding everything
+edges = record { readable = refl; compared = refl; parameters = []; written = refl }

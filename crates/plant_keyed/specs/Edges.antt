@@ -1,9 +1,11 @@
 -- The edges that begin at a node, as a direction sees them.
-use Rattle.std.specs.Prelude.{◌≡◌, ◌⊎◌, ◌==◌, ◌&&◌, ℕ, Bool, List, Option, Some, Contains}
+use Rattle.std.specs.Prelude.{◌≡◌, ◌⊎◌, ◌↔◌, ◌==◌, ◌&&◌, ℕ, Bool, List, Option, Some, Contains}
+use Rattle.std.specs.List.Sorted.{IsSortedByKey}
 use Rattle.plant_base.specs.Edges.{edge_kind_number}
 use Rattle.plant_base.specs.State.{same}
 use Rattle.plant_base.specs.declared.rows.EdgeKind.{EdgeKind}
 use Rattle.plant_base.specs.declared.rows.EdgeRow.{EdgeRow}
+use Rattle.plant_trace.specs.Nodes.{node_cmp}
 use Rattle.plant_trace.specs.Turned.{turned}
 use Rattle.plant_trace.specs.declared.direction.Direction.{Direction}
 use Rattle.plant_trace.specs.declared.direction.Direction.TheVariants.{Forward, Back}
@@ -32,3 +34,11 @@ AreKindsAt d x kinds = (e : EdgeRow) → (turned d (ends_of e)).0 ≡ x → (e.k
 pub record HasEdgesAt (d : Direction) (x : Node) (all some : List (Node × Node)) : Type 0 where
   pub only : (e : Node × Node) → Contains some e → Contains all e
   pub each : (e : Node × Node) → Contains all e → (turned d e).0 ≡ x → Contains some e
+
+-- the links are the pairs, each with its near end first, as the direction sees it
+abbrev pub AreTurned : Direction → List (Node × Node) → List (Node × Node) → Type 0
+AreTurned d pairs links = (p : Node × Node) → Contains pairs p ↔ Contains links (turned d p)
+
+-- they stand in the order of their near ends
+abbrev pub Ascend : List (Node × Node) → Type 0
+Ascend links = IsSortedByKey (λ (l : Node × Node). l.0) node_cmp links

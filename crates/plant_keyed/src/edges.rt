@@ -1,13 +1,17 @@
-//! The edges of the genealogy, each found from either of its ends by its key.
+//! The edges of the genealogy, each found from either of its ends by its key; where a trace asks for many nodes, all of
+//! them are read at once.
 
-ghost use Rattle.std.specs.Prelude.{◌≡◌, filter, map, IfOk};
+ghost use Rattle.std.specs.Prelude.{◌≡◌, filter, map, false, true, IfOk, IfSome};
 ghost use Rattle.sqlite.specs.Held.{state};
+ghost use Rattle.plant_base.specs.State.{State};
 ghost use Rattle.plant_trace.specs.Reach.{IsNext, Lists};
 ghost use Rattle.plant_view.specs.Genealogy.{edge_rows, edges_of, ends_of};
-ghost use Rattle.plant_keyed.specs.Edges.{begins_at, id_of, AreKindsAt, HasEdgesAt};
-ghost use Rattle.plant_keyed.specs.Keeping.{IsTold};
+ghost use Rattle.plant_keyed.specs.Edges.{begins_at, id_of, AreKindsAt, AreTurned, HasEdgesAt};
+ghost use Rattle.plant_keyed.specs.Keeping.{IsSteady, IsTold};
+ghost use Rattle.plant_keyed.specs.Remembering.{AreEdgesOf, IsTraced, StaysTrue};
 ghost use Rattle.plant_keyed.specs.Shown.{shown};
 
+use crate::directed::Directed;
 use crate::keyed::Keyed;
 use crate::texts;
 use plant_base::{EdgeKind, EdgeRow, Id};
@@ -19,6 +23,12 @@ use sqlite::Alter;
 use std::alloc::{AllocError, Global};
 use table_forms::Fault;
 
+/// So many nodes are looked up before all edges are read, and one more for each so many commands that the desk has
+/// accepted: reading the edges that these made takes about as long as the look-ups of a node.
+const FEW: u64 = 256;
+
+const A_LOOK_UP: u64 = 16;
+
 impl<'a, S: Alter> Keyed<'a, S> {
     /// The edges of a kind that lead from the lot or batch of this id. The faults are those of each look-up.
     fn edges_from(&mut self, kind: EdgeKind, id: &Id) -> Result<Vec<EdgeRow>, Fault>
@@ -27,6 +37,7 @@ impl<'a, S: Alter> Keyed<'a, S> {
             self.old.has_failed self.new.has_failed
             (IfOk result (λ rows. rows.items ≡ filter (begins_at Direction.Forward kind id.now)
             (edge_rows (shown (state S.Store self.old.conn.now).now).movements))) }
+        ensures remembers { self.new.edges.now ≡ self.old.edges.now }
     {
         let key = [small(kind.number()), text_of(id)];
         self.found(&EDGE, texts::EDGES_FROM, &key)
@@ -39,6 +50,7 @@ impl<'a, S: Alter> Keyed<'a, S> {
             self.old.has_failed self.new.has_failed
             (IfOk result (λ rows. rows.items ≡ filter (begins_at Direction.Back kind id.now)
             (edge_rows (shown (state S.Store self.old.conn.now).now).movements))) }
+        ensures remembers { self.new.edges.now ≡ self.old.edges.now }
     {
         let key = [small(kind.number()), text_of(id)];
         self.found(&EDGE, texts::EDGES_TO, &key)
@@ -57,6 +69,7 @@ impl<'a, S: Alter> Keyed<'a, S> {
             self.old.has_failed self.new.has_failed
             (IfOk result (λ rows. rows.items ≡ filter (begins_at direction kind id.now)
             (edge_rows (shown (state S.Store self.old.conn.now).now).movements))) }
+        ensures remembers { self.new.edges.now ≡ self.old.edges.now }
     {
         match direction {
             Direction::Forward => self.edges_from(kind, id),
@@ -71,6 +84,7 @@ impl<'a, S: Alter> Keyed<'a, S> {
             self.old.has_failed self.new.has_failed
             (IfOk result (λ rows. HasEdgesAt direction node.now
             (edges_of (shown (state S.Store self.old.conn.now).now)) (map ends_of rows.items))) }
+        ensures remembers { self.new.edges.now ≡ self.old.edges.now }
     {
         let (kind, second) = kinds_at(node, direction);
         let id = id_of(node);
@@ -85,6 +99,70 @@ impl<'a, S: Alter> Keyed<'a, S> {
         }
     }
 
+    /// The nodes that come right after this one in the direction, strictly ascending, by the edges that begin at it. The
+    /// faults are those of each look-up.
+    fn look_up_next(&mut self, node: Node, direction: Direction) -> Result<Vec<Node>, Fault>
+        ensures same_reference { self.new.conn.ghost_name ≡ self.old.conn.ghost_name }
+        ensures told { IsTold (state S.Store self.old.conn.now) (state S.Store self.new.conn.now)
+            self.old.has_failed self.new.has_failed
+            (IfOk result (λ nodes. Lists (IsNext direction
+            (edges_of (shown (state S.Store self.old.conn.now).now)) node) nodes.items)) }
+        ensures remembers { self.new.edges.now ≡ self.old.edges.now }
+    {
+        let edges = self.edges_at(&node, direction)?;
+        match nodes_by(self.alloc, edges.as_slice(), node, direction) {
+            Ok(nodes) => Ok(nodes),
+            Err(_) => Err(Fault::Memory),
+        }
+    }
+
+    /// All edges. The faults are those of each look-up.
+    fn all_edges(&mut self) -> Result<Vec<EdgeRow>, Fault>
+        ensures same_reference { self.new.conn.ghost_name ≡ self.old.conn.ghost_name }
+        ensures told { IsTold (state S.Store self.old.conn.now) (state S.Store self.new.conn.now)
+            self.old.has_failed self.new.has_failed
+            (IfOk result (λ rows. rows.items
+            ≡ edge_rows (shown (state S.Store self.old.conn.now).now).movements)) }
+        ensures remembers { self.new.edges.now ≡ self.old.edges.now }
+    {
+        self.found(&EDGE, texts::EDGES, &[])
+    }
+
+    /// Reads all edges and remembers them as the direction sees them. The faults are those of each look-up.
+    fn remember(&mut self, direction: Direction) -> Result<(), Fault>
+        requires { self.old.edges.now.are_read ≡ false }
+        ensures same_reference { self.new.conn.ghost_name ≡ self.old.conn.ghost_name }
+        ensures steady { IsSteady (state S.Store self.old.conn.now) (state S.Store self.new.conn.now)
+            self.old.has_failed self.new.has_failed }
+        ensures stays { StaysTrue (state S.Store self.old.conn.now).now (state S.Store self.new.conn.now)
+            self.new.has_failed self.old.edges.now self.new.edges.now }
+    {
+        let rows = self.all_edges()?;
+        match directed_by(self.alloc, rows.as_slice(), direction) {
+            Ok(all) => {
+                *self.edges = all;
+                Ok(())
+            }
+            Err(_) => Err(Fault::Memory),
+        }
+    }
+
+    /// Reads and remembers all edges, where the nodes that were asked for are so many that this is no dearer than what was
+    /// looked up for them. The faults are those of each look-up.
+    fn remember_if_many(&mut self, direction: Direction) -> Result<(), Fault>
+        ensures same_reference { self.new.conn.ghost_name ≡ self.old.conn.ghost_name }
+        ensures steady { IsSteady (state S.Store self.old.conn.now) (state S.Store self.new.conn.now)
+            self.old.has_failed self.new.has_failed }
+        ensures stays { StaysTrue (state S.Store self.old.conn.now).now (state S.Store self.new.conn.now)
+            self.new.has_failed self.old.edges.now self.new.edges.now }
+    {
+        self.asked = self.asked.saturating_add(1);
+        if self.asked <= FEW + self.commands / A_LOOK_UP || self.edges.are_read {
+            return Ok(());
+        }
+        self.remember(direction)
+    }
+
     /// The nodes that come right after this one in the direction, strictly ascending. The faults are those of each
     /// look-up.
     pub(crate) fn next_nodes(
@@ -93,14 +171,15 @@ impl<'a, S: Alter> Keyed<'a, S> {
         direction: Direction,
     ) -> Result<Vec<Node>, Fault>
         ensures same_reference { self.new.conn.ghost_name ≡ self.old.conn.ghost_name }
-        ensures told { IsTold (state S.Store self.old.conn.now) (state S.Store self.new.conn.now)
-            self.old.has_failed self.new.has_failed
+        ensures traced { IsTraced (state S.Store self.old.conn.now) (state S.Store self.new.conn.now)
+            self.old.has_failed self.new.has_failed self.old.edges.now self.new.edges.now
             (IfOk result (λ nodes. Lists (IsNext direction
             (edges_of (shown (state S.Store self.old.conn.now).now)) node) nodes.items)) }
     {
-        let edges = self.edges_at(&node, direction)?;
-        match nodes_by(self.alloc, edges.as_slice(), node, direction) {
-            Ok(nodes) => Ok(nodes),
+        self.remember_if_many(direction)?;
+        match recalled(self.alloc, self.edges, &node, direction) {
+            Ok(Some(nodes)) => Ok(nodes),
+            Ok(None) => self.look_up_next(node, direction),
             Err(_) => Err(Fault::Memory),
         }
     }
@@ -146,4 +225,51 @@ fn pairs_of(alloc: Global, edges: &[EdgeRow]) -> Result<Vec<(Node, Node)>, Alloc
     ensures { IfOk result (λ pairs. pairs.items ≡ map ends_of edges.now) }
 {
     edges.iter().map(|edge| ends(edge)).collect(alloc)
+}
+
+// All of these edges as the direction sees them. The only error is that memory was refused.
+fn directed_by(
+    alloc: Global,
+    edges: &[EdgeRow],
+    direction: Direction,
+) -> Result<Directed, AllocError>
+    ensures way { IfOk result (λ d. d.direction ≡ direction) }
+    ensures turned { IfOk result (λ d. AreTurned direction (map ends_of edges.now) d.links.items) }
+{
+    let pairs = pairs_of(alloc, edges)?;
+    Directed::new(alloc, pairs.as_slice(), direction)
+}
+
+// The nodes that come right after this one in the direction, strictly ascending, where edges are remembered as that
+// direction sees them. The only error is that memory was refused.
+fn recalled(
+    alloc: Global,
+    edges: &Directed,
+    node: &Node,
+    direction: Direction,
+) -> Result<Option<Vec<Node>>, AllocError>
+    ensures { (s : State) → AreEdgesOf s edges.now
+        → IfOk result (λ found. IfSome found (λ nodes. Lists (IsNext direction (edges_of s) node.now)
+        nodes.items)) }
+{
+    if are_seen(edges, direction) {
+        match edges.next(alloc, *node) {
+            Ok(nodes) => Ok(Some(nodes)),
+            Err(_) => Err(AllocError),
+        }
+    } else {
+        Ok(None)
+    }
+}
+
+// Whether edges were read, as this direction sees them.
+fn are_seen(edges: &Directed, direction: Direction) -> bool
+    ensures read { result ≡ true → edges.now.are_read ≡ true }
+    ensures way { result ≡ true → edges.now.direction ≡ direction }
+{
+    match (edges.direction, direction) {
+        (Direction::Forward, Direction::Forward) | (Direction::Back, Direction::Back) =>
+            edges.are_read,
+        _ => false,
+    }
 }

@@ -10,6 +10,7 @@ ghost use Rattle.plant_keyed.specs.Finding.{AreFound, IsFirstFound, AreJudged, I
 ghost use Rattle.plant_keyed.specs.Keeping.{IsSteady, IsTold};
 ghost use Rattle.plant_keyed.specs.Shown.{shown};
 
+use crate::directed::Directed;
 use crate::found::found_rows;
 use crate::texts;
 use plant_base::{Meta, Position};
@@ -22,25 +23,34 @@ use table_forms::{Fault, Form};
 
 /// The rows of a desk's tables, each found by its key by a query over a connection that is lent. Nothing is written.
 ///
-/// It keeps no row. It keeps whether a look-up failed: from then on the connection may be closed.
+/// It keeps whether a look-up failed: from then on the connection may be closed. It keeps no row, but that a trace which
+/// has asked for many nodes reads all edges once and remembers them.
 #[derive(Drop)]
 pub struct Keyed<'a, S: Alter> {
     pub(crate) alloc: Global,
     pub conn: &'a mut Connection<S>,
     pub has_failed: bool,
+    pub edges: &'a mut Directed,
+    // How many commands were accepted, where that was read, and how many nodes were looked up.
+    pub(crate) commands: u64,
+    pub(crate) asked: u64,
 }
 
 impl<'a, S: Alter> Keyed<'a, S> {
-    /// Over a connection. No memory is taken.
-    pub fn new(alloc: Global, conn: &'a mut Connection<S>) -> Keyed<'a, S>
+    /// Over a connection, with a place for edges that are read. No memory is taken.
+    pub fn new(alloc: Global, conn: &'a mut Connection<S>, edges: &'a mut Directed) -> Keyed<'a, S>
         ensures same_reference { result.conn.ghost_name ≡ conn.entry.ghost_name }
         ensures same { result.conn.now ≡ conn.old }
         ensures unfailed { result.has_failed ≡ false }
+        ensures remembers { result.edges.now ≡ edges.old }
     {
         Keyed {
             alloc,
             conn,
             has_failed: false,
+            edges,
+            commands: 0,
+            asked: 0,
         }
     }
 
@@ -63,6 +73,7 @@ impl<'a, S: Alter> Keyed<'a, S> {
             → OnOk result (IsTrue (state S.Store self.new.conn.now).is_open) }
         ensures steady { IsSteady (state S.Store self.old.conn.now) (state S.Store self.new.conn.now)
             self.old.has_failed self.new.has_failed }
+        ensures remembers { self.new.edges.now ≡ self.old.edges.now }
     {
         match found_rows(self.alloc, self.conn, form, sql, values) {
             Ok(rows) => Ok(rows),
@@ -92,6 +103,7 @@ impl<'a, S: Alter> Keyed<'a, S> {
             → OnOk result (IsTrue (state S.Store self.new.conn.now).is_open) }
         ensures steady { IsSteady (state S.Store self.old.conn.now) (state S.Store self.new.conn.now)
             self.old.has_failed self.new.has_failed }
+        ensures remembers { self.new.edges.now ≡ self.old.edges.now }
     {
         let rows = self.found::<R>(form, sql, values)?;
         Ok(rows.as_slice().first().copied())
@@ -107,9 +119,13 @@ impl<'a, S: Alter> Keyed<'a, S> {
         ensures small { IfOk result (λ p. p.seq ≤ greatest_seq) }
         ensures live { HasCleanDisk (state S.Store self.new.conn.now)
             → OnOk result (IsTrue (state S.Store self.new.conn.now).is_open) }
+        ensures remembers { self.new.edges.now ≡ self.old.edges.now }
     {
         match self.first_found::<Meta>(&META, texts::META, &[])? {
-            Some(meta) => Ok(meta.position),
+            Some(meta) => {
+                self.commands = meta.position.seq;
+                Ok(meta.position)
+            }
             None => Err(Fault::Store),
         }
     }

@@ -1,6 +1,7 @@
 //! The desk's rows, each found by its key by a query over a connection.
 #![tactic(auto)]
 
+mod directed;
 mod edges;
 mod found;
 mod keyed;
@@ -9,5 +10,6 @@ mod movements;
 mod texts;
 mod view;
 
+pub use directed::Directed;
 pub use keyed::Keyed;
 pub use laws::shown_law;

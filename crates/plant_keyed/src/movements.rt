@@ -22,6 +22,7 @@ impl<'a, S: Alter> Keyed<'a, S> {
             self.old.has_failed self.new.has_failed
             (IfOk result (λ rows. rows.items
             ≡ movements_of (shown (state S.Store self.old.conn.now).now) batch.now)) }
+        ensures remembers { self.new.edges.now ≡ self.old.edges.now }
     {
         self.found(&MOVEMENT, texts::MOVEMENTS_OF_BATCH, &[id(batch)])
     }

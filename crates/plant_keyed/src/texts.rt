@@ -54,3 +54,5 @@ pub(crate) const EDGES_FROM: &str =
 
 pub(crate) const EDGES_TO: &str =
     "SELECT kind, a, b FROM edge WHERE kind = ?1 AND b = ?2 ORDER BY kind, a, b";
+
+pub(crate) const EDGES: &str = "SELECT kind, a, b FROM edge ORDER BY kind, a, b";

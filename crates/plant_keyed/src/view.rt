@@ -7,7 +7,8 @@ ghost use Rattle.plant_trace.specs.Sources.{same_along};
 ghost use Rattle.plant_view.specs.Genealogy.{edges_of};
 ghost use Rattle.plant_keyed.specs.Keeping.{IsHonest, IsSteady};
 ghost use Rattle.plant_keyed.specs.Shown.{shown};
-ghost use Rattle.plant_keyed.specs.Steadily.{steady_itself, steady_along};
+ghost use Rattle.plant_keyed.specs.Remembering.{AreEdgesOf, StaysTrue};
+ghost use Rattle.plant_keyed.specs.Steadily.{steady_itself, steady_along, stays_itself, stays_along};
 
 use crate::keyed::Keyed;
 use crate::texts;
@@ -28,14 +29,16 @@ use table_forms::Fault;
 impl<'a, S: Alter> Edges for Keyed<'a, S> {
     type Fault = Fault;
 
-    ghost honest = { λ k. IsHonest (state S.Store k.conn.now) k.has_failed };
+    ghost honest = { λ k. IsHonest (state S.Store k.conn.now) k.has_failed
+        × AreEdgesOf (shown (state S.Store k.conn.now).now) k.edges.now };
 
     ghost pairs = { λ k. edges_of (shown (state S.Store k.conn.now).now) };
 
     ghost kept = { λ k l. (state S.Store l.conn.now).now ≡ (state S.Store k.conn.now).now };
 
-    ghost steady = { λ k l. (l.conn.ghost_name ≡ k.conn.ghost_name) × IsSteady (state S.Store k.conn.now)
-        (state S.Store l.conn.now) k.has_failed l.has_failed };
+    ghost steady = { λ k l. (l.conn.ghost_name ≡ k.conn.ghost_name)
+        × IsSteady (state S.Store k.conn.now) (state S.Store l.conn.now) k.has_failed l.has_failed
+        × StaysTrue (state S.Store k.conn.now).now (state S.Store l.conn.now) l.has_failed k.edges.now l.edges.now };
 
     fn succ(&mut self, node: Node) -> Result<Vec<Node>, Fault> {
         self.next_nodes(node, Direction::Forward)
@@ -49,9 +52,17 @@ impl<'a, S: Alter> Edges for Keyed<'a, S> {
 
     ghost kept_along = { λ k l m a b. same_along a b };
 
-    ghost steady_itself = { λ k. (refl, steady_itself _ k.has_failed) };
+    ghost steady_itself = { λ k. (
+      refl,
+      steady_itself _ k.has_failed,
+      stays_itself _ k.has_failed k.edges.now,
+    ) };
 
-    ghost steady_along = { λ k l m a b. (same_along a.0 b.0, steady_along _ _ _ _ _ _ a.1 b.1) };
+    ghost steady_along = { λ k l m a b. (
+      same_along a.0 b.0,
+      steady_along _ _ _ _ _ _ a.1 b.1,
+      stays_along _ _ _ k.has_failed l.has_failed m.has_failed k.edges.now l.edges.now m.edges.now b.1 a.2 b.2,
+    ) };
 
     ghost kept_pairs = { λ k l a. ap (λ db. edges_of (shown db)) a };
 }

@@ -1,7 +1,7 @@
-//! Runs of lines and requests over HTTP in pieces and over streams that fail, runs of commands, connections of a listener, and the
-//! program's words: what each writes over a store in memory where something fails, and the exit status. How words are read, and what
-//! a desk answers to sessions that go well or are refused, is tested on the built program, by examples/sessions.py and
-//! examples/run.py.
+//! Two keepers that reply alike, runs of lines and requests over HTTP in pieces and over streams that fail, runs of
+//! commands, connections of a listener, and the program's words: what each writes over a store in memory where something
+//! fails, and the exit status. How words are read, and what a desk answers to sessions that go well or are refused, is
+//! tested on the built program, by examples/sessions.py and examples/run.py.
 #![tactic(auto)]
 
 #[cfg(test)]
@@ -10,6 +10,8 @@ mod ended;
 mod faults;
 #[cfg(test)]
 mod http_tests;
+#[cfg(test)]
+mod keepers_tests;
 #[cfg(test)]
 mod list_tests;
 #[cfg(test)]

@@ -6,11 +6,11 @@ use Rattle.plant_desk_store.proofs.Showing.{honest_at}
 use Rattle.plant_desk_store.proofs.looking.answer_over.Goals as goal
 
 pub returns-clause-answers : goal.returns-clause-answers
-returns-clause-answers g c clean s at =
+returns-clause-answers g c clean s at known =
     let old = state g.S.Store c.args.view.now.conn.now in
     let mid = state g.S.Store c.read_position.new.self.conn.now in
     let new = state g.S.Store c.answer.new.view.conn.now in
     let first = c.in-Ok.ensures.told in
     let second = c.in-Ok-answer.ensures in
-    let honest = honest_at old mid new c.args.view.now.has_failed c.read_position.new.self.has_failed c.answer.new.view.has_failed s first.always second.always.1 clean c.if-view.false c.in-Ok.ensures.live at in
-    subst (λ (u : State). c.in-Ok-answer.answer ≡ answer newest_schema u c.args.question.now) honest.shows (second.holds honest.ends (second.before honest.ends).good.sound)
+    let honest = honest_at old mid new c.args.view.now.has_failed c.read_position.new.self.has_failed c.answer.new.view.has_failed c.args.view.now.edges.now c.read_position.new.self.edges.now c.answer.new.view.edges.now s first.always second.always.1 c.in-Ok.ensures.remembers second.always.2 clean c.if-view.false c.in-Ok.ensures.live at known in
+    subst (λ (u : State). c.in-Ok-answer.answer ≡ answer newest_schema u c.args.question.now) honest.shows (second.holds (honest.ends, honest.true_of) (second.before (honest.ends, honest.true_of)).0.good.sound)

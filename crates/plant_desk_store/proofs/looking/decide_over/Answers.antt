@@ -4,19 +4,23 @@ use Rattle.plant_base.specs.State.{State}
 use Rattle.plant_rules.specs.Step.{step}
 use Rattle.plant_rules.specs.Wrong.{wrong}
 use Rattle.plant_view.specs.Tables.{Decides}
+use Rattle.plant_keyed.specs.Keeping.{IsHonest}
+use Rattle.plant_keyed.specs.Remembering.{AreEdgesOf}
+use Rattle.plant_keyed.specs.Shown.{shown}
 use Rattle.plant_desk_store.proofs.Showing.{honest_at}
 use Rattle.plant_desk_store.proofs.looking.decide_over.Goals as goal
 
 pub returns-clause-decided : goal.returns-clause-decided
-returns-clause-decided g c clean s at =
+returns-clause-decided g c clean s at known =
     let old = state g.S.Store c.args.view.now.conn.now in
     let mid = state g.S.Store c.read_position.new.self.conn.now in
     let new = state g.S.Store c.decide.new.view.conn.now in
     let first = c.in-Ok.ensures.told in
     let second = c.in-Ok-decide.ensures.decides in
-    let honest = honest_at old mid new c.args.view.now.has_failed c.read_position.new.self.has_failed c.decide.new.view.has_failed s first.always second.always.1 clean c.if-view.false c.in-Ok.ensures.live at in
+    let honest = honest_at old mid new c.args.view.now.has_failed c.read_position.new.self.has_failed c.decide.new.view.has_failed c.args.view.now.edges.now c.read_position.new.self.edges.now c.decide.new.view.edges.now s first.always second.always.1 c.in-Ok.ensures.remembers second.always.2 clean c.if-view.false c.in-Ok.ensures.live at known in
+    let honestly : IsHonest new c.decide.new.view.has_failed × AreEdgesOf (shown new.now) c.decide.new.view.edges.now = (honest.ends, honest.true_of) in
     let e = c.args.envelope.now in
     record {
-      seq = ap (λ p. p.seq) (first.holds (second.before honest.ends)) ∙ ap (λ (u : State). u.seq) honest.showed;
-      decides = subst (λ (u : State). Decides (wrong u e) u (step u e) c.in-Ok-decide.decision) honest.shows (second.holds honest.ends);
+      seq = ap (λ p. p.seq) (first.holds (second.before honestly).0) ∙ ap (λ (u : State). u.seq) honest.showed;
+      decides = subst (λ (u : State). Decides (wrong u e) u (step u e) c.in-Ok-decide.decision) honest.shows (second.holds honestly);
     }

@@ -1,11 +1,23 @@
 use Rattle.sqlite.specs.Held.{state}
+use Rattle.std.proofs.Common.{IfOk}
+use Rattle.plant_trace.specs.Reach.{IsNext, Lists}
 use Rattle.plant_view.specs.Genealogy.{edges_of}
 use Rattle.plant_keyed.specs.Shown.{shown}
-use Rattle.plant_keyed.proofs.EdgesAt.{next_by}
-use Rattle.plant_keyed.proofs.Keeping.{told_weaker}
+use Rattle.plant_keyed.proofs.Keeping.{recalled_so, traced_on}
 use Rattle.plant_keyed.proofs.keyed.Keyed.next_nodes.Goals as goal
 
-pub returns-in-Ok-clause-told : goal.returns-in-Ok-clause-told
-returns-in-Ok-clause-told g c =
-    let all = edges_of (shown (state g.S.Store c.args.self.now.conn.now).now) in
-    told_weaker _ _ _ _ _ _ (λ has. next_by c.args.direction c.args.node all _ _ has (rw (c.as_slice.ensures.value, c.in-Ok.is) at c.nodes_by.ensures)) c.in_ok-edges.ensures.told
+pub returns-in-Ok-Some-clause-traced : goal.returns-in-Ok-Some-clause-traced
+returns-in-Ok-Some-clause-traced g c =
+    let old = state g.S.Store c.args.self.now.conn.now in
+    let new = state g.S.Store c.remember_if_many.new.self.conn.now in
+    recalled_so old new _ _ _ _ (λ s. Lists (IsNext c.args.direction (edges_of s) c.args.node) c.in-Ok-Some.nodes.items)
+    c.remember_if_many.ensures.steady c.remember_if_many.ensures.stays
+    (λ true_of. rw c.in-Ok-Some.field-0-is at (c.in-Ok-Some.ensures (shown new.now) true_of))
+
+pub returns-in-Ok-None-clause-traced : goal.returns-in-Ok-None-clause-traced
+returns-in-Ok-None-clause-traced g c =
+    let old = state g.S.Store c.args.self.now.conn.now in
+    let mid = state g.S.Store c.remember_if_many.new.self.conn.now in
+    let new = state g.S.Store c.look_up_next.new.self.conn.now in
+    traced_on old mid new _ _ _ _ _ _ (λ s. IfOk c.look_up_next.result (λ nodes. Lists (IsNext c.args.direction (edges_of s) c.args.node) nodes.items))
+    c.remember_if_many.ensures.steady c.remember_if_many.ensures.stays c.look_up_next.ensures.told c.look_up_next.ensures.remembers

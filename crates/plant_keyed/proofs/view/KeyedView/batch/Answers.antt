@@ -5,7 +5,7 @@ use Rattle.plant_base.specs.State.{batch_at}
 use Rattle.plant_keyed.specs.Shown.{shown}
 use Rattle.plant_keyed.proofs.Shown.{batch_unread}
 use Rattle.plant_keyed.proofs.Answering.{batch_is}
-use Rattle.plant_keyed.proofs.Keeping.{told_found}
+use Rattle.plant_keyed.proofs.Keeping.{stays_by, told_found}
 use Rattle.plant_keyed.proofs.Selected.{batch_by_id}
 use Rattle.plant_keyed.proofs.view.KeyedView.batch.Goals as goal
 
@@ -19,7 +19,8 @@ returns-clause-row g c =
     let told = told_found old new c.args.self.now.has_failed c.first_found.new.self.has_failed c.first_found.result _ _ c.first_found.ensures.steady
     (λ clean. rw c.id.ensures at (c.first_found.ensures.row (1 ∷ []) batch_by_id (refl, rw c.id.ensures refl) clean))
     (λ good holds row found. ap (option_map (λ r. r.batch)) (batch_is old.now _ good holds c.args.id row found) ∙ batch_unread _ _ (batch_at (shown old.now) c.args.id)) in
-    record { always = (c.first_found.ensures.same_reference, told.always); before = told.before; same = λ h. told.always.shows h.clean h.unfailed; holds = told.holds }
+    let stays = stays_by _ _ _ _ _ _ told.always c.first_found.ensures.remembers in
+    record { always = (c.first_found.ensures.same_reference, told.always, stays); before = λ h. (told.before h.0, (stays h.0).1 h.1); same = λ h. told.always.shows h.0.clean h.0.unfailed; holds = λ h. told.holds h.0 }
 
 pub returns-clause-progress : goal.returns-clause-progress
 returns-clause-progress g c =
@@ -28,4 +29,5 @@ returns-clause-progress g c =
     let told = told_found old new c.args.self.now.has_failed c.first_found.new.self.has_failed c.first_found.result _ _ c.first_found.ensures.steady
     (λ clean. rw c.id.ensures at (c.first_found.ensures.row (1 ∷ []) batch_by_id (refl, rw c.id.ensures refl) clean))
     (λ good holds row found. batch_is old.now _ good holds c.args.id row found) in
-    record { always = (c.first_found.ensures.same_reference, told.always); before = told.before; same = λ h. told.always.shows h.clean h.unfailed; holds = λ h sound. told.holds h }
+    let stays = stays_by _ _ _ _ _ _ told.always c.first_found.ensures.remembers in
+    record { always = (c.first_found.ensures.same_reference, told.always, stays); before = λ h. (told.before h.0, (stays h.0).1 h.1); same = λ h. told.always.shows h.0.clean h.0.unfailed; holds = λ h sound. told.holds h.0 }

@@ -1,11 +1,12 @@
-use Rattle.std.proofs.Common.{◌∙◌, refl, [], ◌∷◌, ap, sym}
+use Rattle.std.proofs.Common.{◌∙◌, refl, [], ◌∷◌, ap, sym, rules}
 use Rattle.std.specs.Prelude.{option_map}
 use Rattle.sqlite.specs.Held.{state}
 use Rattle.plant_base.specs.State.{batch_of}
 use Rattle.plant_base.specs.declared.rows.BatchRow.{BatchRow}
 use Rattle.plant_keyed.specs.Shown.{shown}
+use Rattle.plant_keyed.specs.Steadily.{honest_before}
 use Rattle.plant_keyed.proofs.Answering.{batch_for_is}
-use Rattle.plant_keyed.proofs.Keeping.{told_by}
+use Rattle.plant_keyed.proofs.Keeping.{stays_by, told_by}
 use Rattle.plant_keyed.proofs.Selected.{batch_by_job}
 use Rattle.plant_keyed.proofs.Shown.{batch_unread}
 use Rattle.plant_keyed.proofs.view.KeyedView.batch_for.Goals as goal
@@ -22,7 +23,8 @@ returns-in-Some g c =
     let found = rw c.id.ensures at (c.in_ok-row.ensures.row (2 ∷ []) batch_by_job (refl, rw c.id.ensures refl) clean) in
     let is = batch_for_is old.now _ good holds c.args.order _ found in
     ap (option_map (λ (r : BatchRow). r.batch)) (sym c.in-Some.is ∙ is) ∙ batch_unread _ _ (batch_of (shown old.now) c.args.order)) in
-    record { always = (c.first_found.ensures.same_reference, told.always); before = told.before; same = λ h. told.always.shows h.clean h.unfailed; holds = told.holds }
+    let stays = stays_by _ _ _ _ _ _ told.always c.first_found.ensures.remembers in
+    record { always = (c.first_found.ensures.same_reference, told.always, stays); before = λ h. (told.before h.0, (stays h.0).1 h.1); same = λ h. told.always.shows h.0.clean h.0.unfailed; holds = λ h. told.holds h.0 }
 
 pub returns-in-None : goal.returns-in-None
 returns-in-None g c =
@@ -33,4 +35,11 @@ returns-in-None g c =
     let found = rw c.id.ensures at (c.in_ok-row.ensures.row (2 ∷ []) batch_by_job (refl, rw c.id.ensures refl) clean) in
     let is = batch_for_is old.now _ good holds c.args.order _ found in
     ap (option_map (λ (r : BatchRow). r.batch)) (sym c.in-None.is ∙ is) ∙ batch_unread _ _ (batch_of (shown old.now) c.args.order)) in
-    record { always = (c.first_found.ensures.same_reference, told.always); before = told.before; same = λ h. told.always.shows h.clean h.unfailed; holds = told.holds }
+    let stays = stays_by _ _ _ _ _ _ told.always c.first_found.ensures.remembers in
+    record { always = (c.first_found.ensures.same_reference, told.always, stays); before = λ h. (told.before h.0, (stays h.0).1 h.1); same = λ h. told.always.shows h.0.clean h.0.unfailed; holds = λ h. told.holds h.0 }
+
+pub returns-in_err-row : goal.returns-in_err-row
+returns-in_err-row g c =
+    let steady = c.first_found.ensures.steady in
+    let stays = stays_by _ _ _ _ _ _ steady c.first_found.ensures.remembers in
+    record { always = (c.first_found.ensures.same_reference, steady, stays); before = λ h. (honest_before _ _ _ _ steady h.0, (stays h.0).1 h.1); same = λ h. steady.shows h.0.clean h.0.unfailed; holds = λ h. search rules }

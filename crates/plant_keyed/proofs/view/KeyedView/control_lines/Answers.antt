@@ -1,7 +1,7 @@
 use Rattle.std.proofs.Common.{refl, [], ◌∷◌}
 use Rattle.sqlite.specs.Held.{state}
 use Rattle.plant_keyed.proofs.Answering.{control_lines_are}
-use Rattle.plant_keyed.proofs.Keeping.{told_found}
+use Rattle.plant_keyed.proofs.Keeping.{stays_by, told_found}
 use Rattle.plant_keyed.proofs.Selected.{lines_of_batch}
 use Rattle.plant_keyed.proofs.view.KeyedView.control_lines.Goals as goal
 
@@ -15,4 +15,5 @@ returns g c =
     let told = told_found old new c.args.self.now.has_failed c.found.new.self.has_failed c.found.result _ _ c.found.ensures.steady
     (λ clean. rw c.id.ensures at (c.found.ensures.rows (1 ∷ []) lines_of_batch (refl, rw c.id.ensures refl) clean))
     (λ good holds rows found. control_lines_are old.now _ good holds c.args.batch rows.items found) in
-    record { always = (c.found.ensures.same_reference, told.always); before = told.before; same = λ h. told.always.shows h.clean h.unfailed; holds = told.holds }
+    let stays = stays_by _ _ _ _ _ _ told.always c.found.ensures.remembers in
+    record { always = (c.found.ensures.same_reference, told.always, stays); before = λ h. (told.before h.0, (stays h.0).1 h.1); same = λ h. told.always.shows h.0.clean h.0.unfailed; holds = λ h. told.holds h.0 }

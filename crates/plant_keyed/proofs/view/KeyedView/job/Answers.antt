@@ -1,7 +1,7 @@
 use Rattle.std.proofs.Common.{refl, [], ◌∷◌}
 use Rattle.sqlite.specs.Held.{state}
 use Rattle.plant_keyed.proofs.Answering.{job_is}
-use Rattle.plant_keyed.proofs.Keeping.{told_found}
+use Rattle.plant_keyed.proofs.Keeping.{stays_by, told_found}
 use Rattle.plant_keyed.proofs.Selected.{job_by_id}
 use Rattle.plant_keyed.proofs.view.KeyedView.job.Goals as goal
 
@@ -15,4 +15,5 @@ returns g c =
     let told = told_found old new c.args.self.now.has_failed c.first_found.new.self.has_failed c.first_found.result _ _ c.first_found.ensures.steady
     (λ clean. rw c.id.ensures at (c.first_found.ensures.row (1 ∷ []) job_by_id (refl, rw c.id.ensures refl) clean))
     (λ good holds row found. job_is old.now _ good holds c.args.order row found) in
-    record { always = (c.first_found.ensures.same_reference, told.always); before = told.before; same = λ h. told.always.shows h.clean h.unfailed; holds = told.holds }
+    let stays = stays_by _ _ _ _ _ _ told.always c.first_found.ensures.remembers in
+    record { always = (c.first_found.ensures.same_reference, told.always, stays); before = λ h. (told.before h.0, (stays h.0).1 h.1); same = λ h. told.always.shows h.0.clean h.0.unfailed; holds = λ h. told.holds h.0 }

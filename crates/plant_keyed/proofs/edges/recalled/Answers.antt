@@ -1,0 +1,13 @@
+use Rattle.std.proofs.Common.{subst}
+use Rattle.plant_trace.specs.declared.direction.Direction.{Direction}
+use Rattle.plant_view.specs.Genealogy.{edges_of}
+use Rattle.plant_keyed.specs.Edges.{AreTurned}
+use Rattle.plant_keyed.proofs.Directing.{next_turned}
+use Rattle.plant_keyed.proofs.edges.recalled.Goals as goal
+
+pub returns-in-Ok : goal.returns-in-Ok
+returns-in-Ok c s true_of =
+    let all = c.args.edges.now in
+    let seen = c.are_seen in
+    let are = subst (λ (d : Direction). AreTurned d (edges_of s) all.links.items) (seen.ensures.way c.if-are_seen.true) (true_of (seen.ensures.read c.if-are_seen.true)) in
+    next_turned c.args.direction (edges_of s) all.links.items c.args.node.now _ are c.in-Ok.ensures

@@ -1,0 +1,23 @@
+-- What look-ups remember of the edges.
+use Rattle.std.specs.Prelude.{◌≡◌, ◌↔◌, Bool, true}
+use Rattle.sqlite.specs.Effect.{Database}
+use Rattle.sqlite.specs.State as store
+use Rattle.plant_base.specs.State.{State}
+use Rattle.plant_view.specs.Genealogy.{edges_of}
+use Rattle.plant_keyed.specs.Edges.{AreTurned}
+use Rattle.plant_keyed.specs.Keeping.{IsHonest, IsTold}
+use Rattle.plant_keyed.specs.Shown.{shown}
+use Rattle.plant_keyed.specs.declared.directed.Directed.{Directed}
+
+-- what is remembered, if edges were read, is all edges of the state
+abbrev pub AreEdgesOf : State → Directed → Type 0
+AreEdgesOf s d = d.are_read ≡ true → AreTurned d.direction (edges_of s) d.links.items
+
+-- where the look-ups end honest, what is remembered is as true of the state that they show as what was remembered before
+abbrev pub StaysTrue : Database → store.State → Bool → Directed → Directed → Type 0
+StaysTrue old new failed was is = IsHonest new failed → AreEdgesOf (shown old) was ↔ AreEdgesOf (shown new.now) is
+
+-- What look-ups tell of edges: the fact holds where what was remembered is true.
+pub record IsTraced (old new : store.State) (had_failed has_failed : Bool) (was is : Directed) (fact : Type 0) : Type 0 where
+  pub told : IsTold old new had_failed has_failed (AreEdgesOf (shown old.now) was → fact)
+  pub stays : StaysTrue old.now new has_failed was is

@@ -1,0 +1,143 @@
+"""Measures traces over desks of some numbers of edges. bench/genealogy.sh calls it.
+
+    genealogy.py PROGRAM FOLDER EDGES ..
+
+For each number and shape a desk is made in a file: in a chain each lot is split off the one before it, in a fan all are split off one,
+and in a mesh each is merged of the two before it. Then a run of the desk is asked for the trace forward from the first lot and the
+one back from the last, some times each, and SQLite's recursive query for the same over table edge of a copy of the file. What is told
+is the nodes found, the middle time of each, and their quotient. The answers are compared.
+"""
+import json
+import pathlib
+import shutil
+import sqlite3
+import statistics
+import subprocess
+import sys
+import threading
+import time
+
+TIMES = 5
+GREATEST = 10**12
+
+# The nodes that edges lead to from a lot, 0 for a lot and 1 for a batch, by the column of an edge's near end and that of its far end, and by
+# the kinds of edges that lead from a lot to a batch, and from a batch to a lot, in that direction.
+QUERY = """WITH RECURSIVE reached (sort, id) AS (
+    SELECT kind = {to_batch}, {far} FROM edge WHERE kind IN ({to_batch}, 3) AND {near} = ?1
+    UNION SELECT 1, {far} FROM reached JOIN edge ON kind = {to_batch} AND {near} = id WHERE sort = 0
+    UNION SELECT 0, {far} FROM reached JOIN edge ON kind = 3 AND {near} = id WHERE sort = 0
+    UNION SELECT 0, {far} FROM reached JOIN edge ON kind = {to_lot} AND {near} = id WHERE sort = 1
+) SELECT sort, id FROM reached ORDER BY sort, id"""
+
+FORWARD = QUERY.format(near="a", far="b", to_batch=1, to_lot=2)
+BACK = QUERY.format(near="b", far="a", to_batch=2, to_lot=1)
+
+
+def name(number):
+    return f"L-{number:07}"
+
+
+def line(do, **fields):
+    return {"at": 1000, "by": "", "do": do, **fields}
+
+
+def received(number, amount):
+    return line("receive", lot=name(number), **{"def": "SUGAR"}, amount=amount, place="")
+
+
+def split(lot, amount, new):
+    return line("split", lot=name(lot), sub=0, amount=amount, new=name(new), place="")
+
+
+def merged(first, second, new):
+    parts = [{"lot": name(it), "sub": 0, "amount": 1} for it in (first, second)]
+    return line("merge", new=name(new), place="", parts=parts)
+
+
+def commands(shape, edges):
+    yield line("add_class", **{"class": "RAW", "name": ""})
+    yield line("add_definition", **{"def": "SUGAR", "class": "RAW", "name": "", "unit": "g"})
+    if shape == "mesh":
+        # Each lot gives a part to each of the two behind it, and has but the two parts that it was merged of.
+        yield from (received(number, GREATEST) for number in (0, 1))
+        yield from (merged(number, number + 1, number + 2) for number in range(edges // 2))
+        return
+    yield received(0, GREATEST)
+    if shape == "chain":
+        yield from (split(number, GREATEST - number - 1, number + 1) for number in range(edges))
+    else:
+        yield from (split(0, 1, number + 1) for number in range(edges))
+
+
+def last(shape, edges):
+    return edges // 2 + 1 if shape == "mesh" else edges
+
+
+class Desk:
+    """A run of the built desk over a file."""
+
+    def __init__(self, program, path):
+        self.process = subprocess.Popen([program, "run", str(path)], stdin=subprocess.PIPE, stdout=subprocess.PIPE)
+
+    def give_all(self, lines):
+        """Gives commands without waiting for each reply; each must be accepted."""
+        text = "".join(json.dumps(it, separators=(",", ":")) + "\n" for it in lines)
+        feeder = threading.Thread(target=lambda: (self.process.stdin.write(text.encode()), self.process.stdin.flush()))
+        feeder.start()
+        for _ in range(text.count("\n")):
+            reply = self.process.stdout.readline()
+            if not reply.startswith(b'{"ok":'):
+                sys.exit(f"refused: {reply!r}")
+        feeder.join()
+
+    def trace(self, direction, lot):
+        """Returns the nodes of a trace, and how long it took to its answer."""
+        start = time.perf_counter()
+        self.process.stdin.write(json.dumps({"ask": direction, "lot": lot}).encode() + b"\n")
+        self.process.stdin.flush()
+        answer = self.process.stdout.readline()
+        took = time.perf_counter() - start
+        nodes = json.loads(answer)["nodes"]
+        return [(int("batch" in it), it.get("lot") or it["batch"]) for it in nodes], took
+
+    def close(self):
+        self.process.stdin.close()
+        self.process.stdout.read()
+        if self.process.wait() != 0:
+            sys.exit("the desk ended with a fault")
+
+
+def reached(file, query, lot):
+    start = time.perf_counter()
+    nodes = file.execute(query, (lot,)).fetchall()
+    return nodes, time.perf_counter() - start
+
+
+def measure(desk, file, shape, edges):
+    for direction, query, lot in (("forward", FORWARD, name(0)), ("back", BACK, name(last(shape, edges)))):
+        ours = [desk.trace(direction, lot) for _ in range(TIMES)]
+        theirs = [reached(file, query, lot) for _ in range(TIMES)]
+        if any(nodes != theirs[0][0] for nodes, _ in ours):
+            sys.exit(f"{shape} of {edges}, {direction}: the answers differ")
+        took, other = (statistics.median(seconds for _, seconds in it) for it in (ours, theirs))
+        found = len(ours[0][0])
+        print(f"{shape} of {edges} edges, {direction}: {found} nodes in {took * 1000:.1f} ms, by a query {other * 1000:.1f} ms: {took / other:.2f}")
+
+
+def main(program, folder, *sizes):
+    for edges in map(int, sizes):
+        for shape in ("chain", "fan", "mesh"):
+            path = pathlib.Path(folder) / f"{shape}-{edges}.db"
+            desk = Desk(program, path)
+            desk.give_all(commands(shape, edges))
+            desk.close()
+            copy = shutil.copy(path, f"{path}.copy")
+            file = sqlite3.connect(copy)
+            desk = Desk(program, path)
+            desk.trace("forward", name(0))
+            measure(desk, file, shape, edges)
+            file.close()
+            desk.close()
+
+
+main(*sys.argv[1:])

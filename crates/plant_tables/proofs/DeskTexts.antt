@@ -2,12 +2,15 @@
 use Rattle.std.proofs.Common.{refl, inl, inr, ℕ, List, [], ◌∷◌}
 use Rattle.sqlite_value.specs.Keys.{first_key}
 use Rattle.sqlite_tied.specs.Compute.{everything}
+use Rattle.sqlite_rules.proofs.ListLemmas.{has_got}
 use Rattle.sqlite_resolve.specs.Compile.{first}
 use Rattle.table_forms.specs.Texts.{IsMakeText, IsPutText, IsTakeText, parse_or, rows_in, names_in, definition_in}
 use Rattle.table_forms.specs.Moves.{AreApart, AreMakeTexts}
+use Rattle.table_forms.specs.Indexes.{IsIndexText, AreIndexTexts, AreOf, index_in}
 use Rattle.table_forms.proofs.Computed.{takes_two, upserts_row}
 use Rattle.plant_tables.specs.DeskForms.{desk_forms, later_forms, meta_form, class_form, definition_form, recipe_form, recipe_line_form, job_form, batch_form, control_line_form, batch_event_form, lot_form, sublot_form, movement_form, hold_form, edge_form}
-use Rattle.plant_tables.specs.declared.forms.TheConstants.{CREATE_META, PUT_META, CREATE_CLASS, PUT_CLASS, CREATE_DEFINITION, PUT_DEFINITION, CREATE_RECIPE, PUT_RECIPE, CREATE_RECIPE_LINE, PUT_RECIPE_LINE, CREATE_JOB, PUT_JOB, CREATE_BATCH, PUT_BATCH, CREATE_CONTROL_LINE, PUT_CONTROL_LINE, CREATE_BATCH_EVENT, PUT_BATCH_EVENT, CREATE_LOT, PUT_LOT, CREATE_SUBLOT, PUT_SUBLOT, CREATE_MOVEMENT, PUT_MOVEMENT, CREATE_HOLD, PUT_HOLD, CREATE_EDGE, PUT_EDGE, TAKE_HOLD}
+use Rattle.plant_tables.specs.DeskIndexes.{batch_event_by_batch, movement_by_lot, movement_by_batch, desk_indexes}
+use Rattle.plant_tables.specs.declared.forms.TheConstants.{CREATE_META, PUT_META, CREATE_CLASS, PUT_CLASS, CREATE_DEFINITION, PUT_DEFINITION, CREATE_RECIPE, PUT_RECIPE, CREATE_RECIPE_LINE, PUT_RECIPE_LINE, CREATE_JOB, PUT_JOB, CREATE_BATCH, PUT_BATCH, CREATE_CONTROL_LINE, PUT_CONTROL_LINE, CREATE_BATCH_EVENT, PUT_BATCH_EVENT, CREATE_LOT, PUT_LOT, CREATE_SUBLOT, PUT_SUBLOT, CREATE_MOVEMENT, PUT_MOVEMENT, CREATE_HOLD, PUT_HOLD, CREATE_EDGE, PUT_EDGE, TAKE_HOLD, CREATE_BATCH_EVENT_BY_BATCH, CREATE_MOVEMENT_BY_LOT, CREATE_MOVEMENT_BY_BATCH}
 
 makes_meta : IsMakeText CREATE_META.now meta_form
 unfolding everything
@@ -183,3 +186,26 @@ later_made = (makes_edge, tt)
 pub later_apart : AreApart (later_forms 1)
 unfolding everything
 later_apart = record { apart = λ tree. refl }
+
+-- ---- the indexes
+
+indexes_batch_event_by_batch : IsIndexText CREATE_BATCH_EVENT_BY_BATCH.now batch_event_by_batch
+unfolding everything
+indexes_batch_event_by_batch = record { parsed = parse_or (first CREATE_BATCH_EVENT_BY_BATCH.now); reads = refl; untimed = refl; whole = refl; def = index_in (parse_or (first CREATE_BATCH_EVENT_BY_BATCH.now)).statement; statement = refl; unconditional = refl; table_is = refl; own_name = refl; defines = λ tree. refl }
+
+indexes_movement_by_lot : IsIndexText CREATE_MOVEMENT_BY_LOT.now movement_by_lot
+unfolding everything
+indexes_movement_by_lot = record { parsed = parse_or (first CREATE_MOVEMENT_BY_LOT.now); reads = refl; untimed = refl; whole = refl; def = index_in (parse_or (first CREATE_MOVEMENT_BY_LOT.now)).statement; statement = refl; unconditional = refl; table_is = refl; own_name = refl; defines = λ tree. refl }
+
+indexes_movement_by_batch : IsIndexText CREATE_MOVEMENT_BY_BATCH.now movement_by_batch
+unfolding everything
+indexes_movement_by_batch = record { parsed = parse_or (first CREATE_MOVEMENT_BY_BATCH.now); reads = refl; untimed = refl; whole = refl; def = index_in (parse_or (first CREATE_MOVEMENT_BY_BATCH.now)).statement; statement = refl; unconditional = refl; table_is = refl; own_name = refl; defines = λ tree. refl }
+
+abbrev pub index_texts : List (List ℕ)
+index_texts = CREATE_BATCH_EVENT_BY_BATCH.now ∷ CREATE_MOVEMENT_BY_LOT.now ∷ CREATE_MOVEMENT_BY_BATCH.now ∷ []
+
+pub all_indexed : AreIndexTexts index_texts desk_indexes
+all_indexed = (indexes_batch_event_by_batch, (indexes_movement_by_lot, (indexes_movement_by_batch, tt)))
+
+pub indexes_of_desk : AreOf desk_indexes desk_forms
+indexes_of_desk = (has_got desk_forms 8 batch_event_form refl, (has_got desk_forms 11 movement_form refl, (has_got desk_forms 11 movement_form refl, tt)))

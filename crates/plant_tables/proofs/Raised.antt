@@ -10,8 +10,10 @@ use Rattle.table_forms.specs.Forms.{Form}
 use Rattle.table_forms.specs.Standing.{Stands, KeepsOthers, AreFree, is_among}
 use Rattle.table_forms.specs.Stopping.{IsSettled, IsUndone}
 use Rattle.table_forms.specs.Moves.{Founds, MakesTables}
+use Rattle.table_forms.specs.Indexes.{AddsIndexes}
 use Rattle.table_forms.proofs.Moving.{others_then}
 use Rattle.plant_tables.specs.DeskForms.{first_forms, edge_form, later_forms, desk_forms}
+use Rattle.plant_tables.specs.DeskIndexes.{desk_indexes}
 use Rattle.plant_tables.specs.DeskTables.{contents_of}
 use Rattle.plant_tables.specs.Keyed.{HoldsTablesOf, HoldsTables, LacksLater, AreFresh, MovesTables}
 use Rattle.plant_tables.specs.DeskStopping.{IsAt, IsCutShortOf}
@@ -58,7 +60,7 @@ module _ (a b : State) (t : Tables) (founds : Founds (later_forms 1) a b) (lacks
         subst (λ f. Stands b.now f (contents_of t i)) last.1 (subst (Stands b.now edge_form) (sym empty) made_empty)
   ]
 
-  all_stand : HoldsTables b.now t
+  pub all_stand : HoldsTables b.now t
   all_stand = record { sound = (founds.stands holds.sound free).sound; each = each_stands }
 
   others_stand : KeepsOthers desk_forms a.now b.now
@@ -69,9 +71,12 @@ module _ (a b : State) (t : Tables) (founds : Founds (later_forms 1) a b) (lacks
   pub rises : (cs : List RowChange) (c : State) → HoldsTables c.now (changed_all cs t) × KeepsOthers desk_forms b.now c.now → HoldsTables c.now (changed_all cs t) × KeepsOthers desk_forms a.now c.now
   rises cs c it = (it.0, others_then desk_forms a.now b.now c.now others_stand it.1)
 
-pub raised : {X E : Type 0} (cs : List RowChange) (a b c : State) (r : Result X E) → Founds (later_forms 1) a b → OnOk r (MovesTables cs b.now c.now) → OnOk r (RaisesTables cs a.now c.now)
-raised cs a b c (Err e) founds moves = tt
-raised cs a b c (Ok x) founds moves = λ t keyed lacks fresh free holds. rises a b t founds lacks free holds cs c (moves t keyed fresh (all_stand a b t founds lacks free holds))
+pub raised : {X E : Type 0} (cs : List RowChange) (a b c d : State) (r : Result X E) → Founds (later_forms 1) a b → AddsIndexes desk_forms desk_indexes b c → OnOk r (MovesTables cs c.now d.now) → OnOk r (RaisesTables cs a.now d.now)
+raised cs a b c d (Err e) founds adds moves = tt
+raised cs a b c d (Ok x) founds adds moves = λ t keyed lacks fresh free holds.
+    let stood : HoldsTables b.now t = all_stand a b t founds lacks free holds in
+    let it = moves t keyed fresh (adds.stands (contents_of t) stood) in
+    rises a b t founds lacks free holds cs d (it.0, others_then desk_forms b.now c.now d.now (adds.others (contents_of t) stood) it.1)
 
 -- ---- how it ends
 

@@ -1,4 +1,5 @@
 pub mod DeskForms
+pub mod DeskIndexes
 pub mod DeskTables
 pub mod Keyed
 pub mod DeskStopping

@@ -75,9 +75,9 @@ impl Work for Opening {
     }
 }
 
-/// Makes the tables of a desk that has accepted nothing, in one transaction. The one fault is [`Fault::Store`], where
-/// the store refuses one, as where its name is taken; then nothing is changed, but a commit that failed may be found
-/// made after a stop.
+/// Makes the tables of a desk that has accepted nothing, with their indexes, in one transaction. The one fault is
+/// [`Fault::Store`], where the store refuses one, as where its name is taken; then nothing is changed, but a commit that
+/// failed may be found made after a stop.
 pub fn commit_opening<S: Alter>(conn: &mut Connection<S>) -> Result<(), Fault>
     requires { conn.old.in_transaction ≡ false }
     ensures fault { IsOkUnless result Fault.Store }

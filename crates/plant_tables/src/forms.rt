@@ -1,5 +1,6 @@
 //! How each table is declared, and the fixed texts that make it and put a row into it. Such a text adds the
-//! row, or updates each column of the one with its key; those of events of batches and of bookings only add.
+//! row, or updates each column of the one with its key; those of events of batches and of bookings only add. Those
+//! two tables only grow, and have indexes for look-ups by other columns than those of their keys.
 ghost use Rattle.std.specs.Prelude.{◌≡◌, ◌≤◌, take, drop};
 ghost use Rattle.plant_tables.specs.DeskForms.{desk_forms, forms_of, later_forms};
 
@@ -179,6 +180,10 @@ pub const BATCH_EVENT: Form<'static> = Form {
 pub(crate) const CREATE_BATCH_EVENT: &str =
     "CREATE TABLE batch_event (seq INTEGER NOT NULL, batch TEXT NOT NULL, word TEXT NOT NULL, phase INTEGER NOT NULL, at INTEGER NOT NULL, by_who TEXT NOT NULL, note TEXT NOT NULL, UNIQUE (seq)) STRICT";
 
+/// The index that finds the events of a batch.
+pub(crate) const CREATE_BATCH_EVENT_BY_BATCH: &str =
+    "CREATE INDEX batch_event_by_batch ON batch_event (batch)";
+
 pub(crate) const PUT_BATCH_EVENT: &str =
     "INSERT INTO batch_event (seq, batch, word, phase, at, by_who, note) VALUES (?1, ?2, ?3, ?4, ?5, ?6, ?7)";
 
@@ -235,6 +240,13 @@ pub const MOVEMENT: Form<'static> = Form {
 
 pub(crate) const CREATE_MOVEMENT: &str =
     "CREATE TABLE movement (seq INTEGER NOT NULL, line INTEGER NOT NULL, kind INTEGER NOT NULL, lot TEXT NOT NULL, sub INTEGER NOT NULL, lot2 TEXT, sub2 INTEGER, batch TEXT, amount INTEGER NOT NULL, at INTEGER NOT NULL, by_who TEXT NOT NULL, note TEXT NOT NULL, UNIQUE (seq, line)) STRICT";
+
+/// The index that finds the bookings of a lot.
+pub(crate) const CREATE_MOVEMENT_BY_LOT: &str = "CREATE INDEX movement_by_lot ON movement (lot)";
+
+/// The index that finds the bookings for a batch.
+pub(crate) const CREATE_MOVEMENT_BY_BATCH: &str =
+    "CREATE INDEX movement_by_batch ON movement (batch)";
 
 pub(crate) const PUT_MOVEMENT: &str =
     "INSERT INTO movement (seq, line, kind, lot, sub, lot2, sub2, batch, amount, at, by_who, note) VALUES (?1, ?2, ?3, ?4, ?5, ?6, ?7, ?8, ?9, ?10, ?11, ?12)";

@@ -11,7 +11,7 @@ ghost use Rattle.plant_tables.specs.DeskStopping.{IsAt, IsCutShortOf};
 ghost use Rattle.plant_tables.specs.Raising.{CanRise, RaisesTables};
 
 use crate::forms;
-use crate::write::write_changes;
+use crate::write::{create_indexes, write_changes};
 use plant_view::RowChange;
 use sqlite::{Alter, Connection, Transaction};
 use table_forms::{Fault, Work, in_one, make_tables};
@@ -31,7 +31,7 @@ fn create_later<S: Alter>(tx: &mut Transaction<'_, S>) -> Result<(), Fault>
     make_tables(tx, &[forms::CREATE_EDGE])
 }
 
-/// The making of later tables, and the writing of some changes.
+/// The making of later tables and of indexes, and the writing of some changes.
 #[derive(Clone, Copy)]
 struct Raising<'a> {
     changes: &'a [RowChange],
@@ -42,13 +42,15 @@ impl<'a> Work for Raising<'a> {
 
     fn run<S: Alter>(&self, tx: &mut Transaction<'_, S>) -> Result<(), Fault> {
         create_later(tx)?;
+        create_indexes(tx)?;
         write_changes(tx, self.changes)
     }
 }
 
-/// Makes the tables that the newest schema adds to the first, and then the changes, in one transaction, whose commit is
-/// the last call of the store. The one fault is [`Fault::Store`], where the store refuses a table or a change, or where
-/// a number is above 2^63 - 1; then nothing is changed, but a commit that failed may be found made after a stop.
+/// Makes the tables that the newest schema adds to the first, the indexes, and then the changes, in one transaction,
+/// whose commit is the last call of the store. The one fault is [`Fault::Store`], where the store refuses a table, an
+/// index or a change, or where a number is above 2^63 - 1; then nothing is changed, but a commit that failed may be
+/// found made after a stop.
 pub fn commit_raising<S: Alter>(
     conn: &mut Connection<S>,
     changes: &[RowChange],

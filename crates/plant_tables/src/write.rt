@@ -2,7 +2,9 @@ ghost use Rattle.std.specs.Prelude.{◌≡◌, ◌≤◌, map, IfOk, OnOk, IsOkU
 ghost use Rattle.sqlite.specs.State.{HasCleanDisk, Survives, KeepsCommit};
 ghost use Rattle.sqlite.specs.Held.{state};
 ghost use Rattle.table_forms.specs.Moves.{Moves, Founds};
+ghost use Rattle.table_forms.specs.Indexes.{AddsIndexes};
 ghost use Rattle.plant_tables.specs.DeskForms.{desk_forms};
+ghost use Rattle.plant_tables.specs.DeskIndexes.{desk_indexes};
 ghost use Rattle.plant_tables.specs.DeskTables.{rows_changed, all_rows_changed};
 ghost use Rattle.plant_tables.specs.Keyed.{MovesTables};
 ghost use Rattle.plant_base.specs.State.{newest_schema};
@@ -17,7 +19,7 @@ use plant_tables_columns::{
 };
 use plant_view::RowChange;
 use sqlite::{Alter, Transaction};
-use table_forms::{Fault, make_tables, put_row, take_rows};
+use table_forms::{Fault, make_indexes, make_tables, put_row, take_rows};
 
 /// Makes one change inside the transaction, by one statement. The one fault is [`Fault::Store`], where the store
 /// refuses it, or where a number is above 2^63 - 1.
@@ -93,8 +95,30 @@ pub fn write_changes<S: Alter>(
     Ok(())
 }
 
-/// Makes the tables of a schema, and leaves them empty. The one fault is [`Fault::Store`], where the store refuses
-/// one, as where its name is taken.
+/// Makes the indexes that serve look-ups, of tables that stand and keep their rows. The one fault is [`Fault::Store`],
+/// where the store refuses one, as where its name is taken.
+pub(crate) fn create_indexes<S: Alter>(tx: &mut Transaction<'_, S>) -> Result<(), Fault>
+    ensures fault { IsOkUnless result Fault.Store }
+    ensures same_reference { tx.new.conn.ghost_name ≡ tx.old.conn.ghost_name }
+    ensures indexed { HasCleanDisk (state S.Store tx.new.conn.now)
+        → OnOk result (AddsIndexes desk_forms desk_indexes (state S.Store tx.old.conn.now)
+        (state S.Store tx.new.conn.now)) }
+    ensures kept { HasCleanDisk (state S.Store tx.new.conn.now)
+        → KeepsCommit (state S.Store tx.old.conn.now) (state S.Store tx.new.conn.now) }
+    ensures survives { Survives (state S.Store tx.old.conn.now) (state S.Store tx.new.conn.now) (λ _. ⊥) }
+{
+    make_indexes(
+        tx,
+        &[
+            forms::CREATE_BATCH_EVENT_BY_BATCH,
+            forms::CREATE_MOVEMENT_BY_LOT,
+            forms::CREATE_MOVEMENT_BY_BATCH,
+        ],
+    )
+}
+
+/// Makes the tables of a schema and their indexes, and leaves the tables empty. The one fault is [`Fault::Store`],
+/// where the store refuses one, as where its name is taken.
 pub fn create<S: Alter>(tx: &mut Transaction<'_, S>, schema: u64) -> Result<(), Fault>
     requires { schema ≡ newest_schema }
     ensures fault { IsOkUnless result Fault.Store }
@@ -124,5 +148,6 @@ pub fn create<S: Alter>(tx: &mut Transaction<'_, S>, schema: u64) -> Result<(), 
             forms::CREATE_HOLD,
             forms::CREATE_EDGE,
         ],
-    )
+    )?;
+    create_indexes(tx)
 }

@@ -93,7 +93,7 @@ as_long [] (f ∷ forms) says = absurd says
 as_long (t ∷ texts) [] says = absurd says
 as_long (t ∷ texts) (f ∷ forms) says = ap suc (as_long texts forms says.1)
 
-within : {X : Type 0} (xs : List X) (i : ℕ) (x : X) → slice_get xs i ≡ Some x → i < length xs
+pub within : {X : Type 0} (xs : List X) (i : ℕ) (x : X) → slice_get xs i ≡ Some x → i < length xs
 within [] i x is = absurd cc
 within (y ∷ ys) zero x is = omega arith
 within (y ∷ ys) (suc i) x is = let more = within ys i x is in omega arith

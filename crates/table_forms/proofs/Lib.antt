@@ -13,6 +13,7 @@ pub mod Apart
 pub mod Making
 pub mod Moving
 pub mod Founding
+pub mod Indexing
 pub mod Computed
 pub mod Listed
 pub mod Ending

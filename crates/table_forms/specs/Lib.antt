@@ -6,4 +6,5 @@ pub mod Views
 pub mod Written
 pub mod Texts
 pub mod Moves
+pub mod Indexes
 pub mod Stopping

@@ -11,4 +11,4 @@ pub use fault::{Fault, fault_of};
 pub use form::{ColumnForm, Form};
 pub use frame::{Work, in_one};
 pub use standing::{Stand, stand_of};
-pub use statements::{make_tables, put_row, take_rows};
+pub use statements::{make_indexes, make_tables, put_row, take_rows};

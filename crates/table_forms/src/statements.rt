@@ -3,6 +3,7 @@ ghost use Rattle.sqlite.specs.State.{HasCleanDisk, Survives, KeepsCommit};
 ghost use Rattle.sqlite.specs.Values.{bound};
 ghost use Rattle.sqlite.specs.Held.{state};
 ghost use Rattle.table_forms.specs.Moves.{RunsInside, PutsRow, TakesRows, MakesTables};
+ghost use Rattle.table_forms.specs.Indexes.{MakesIndexes};
 
 use crate::fault::{Fault, fault_of};
 use sqlite::{Alter, Error, Transaction};
@@ -101,6 +102,24 @@ pub fn make_tables<S: Alter>(tx: &mut Transaction<'_, S>, texts: &[&str]) -> Res
 {
     for text in texts {
         run_plain(tx, text)?;
+    }
+    Ok(())
+}
+
+/// Makes indexes of tables, one by each text, up to the first that the store refuses: [`Fault::Store`], the one
+/// fault. The tables keep their rows.
+pub fn make_indexes<S: Alter>(tx: &mut Transaction<'_, S>, texts: &[&str]) -> Result<(), Fault>
+    ensures fault { IsOkUnless result Fault.Store }
+    ensures same_reference { tx.new.conn.ghost_name ≡ tx.old.conn.ghost_name }
+    ensures made { HasCleanDisk (state S.Store tx.new.conn.now)
+        → OnOk result (MakesIndexes (map (λ text. text.now) texts.now)
+        (state S.Store tx.old.conn.now) (state S.Store tx.new.conn.now)) }
+    ensures kept { HasCleanDisk (state S.Store tx.new.conn.now)
+        → KeepsCommit (state S.Store tx.old.conn.now) (state S.Store tx.new.conn.now) }
+    ensures survives { Survives (state S.Store tx.old.conn.now) (state S.Store tx.new.conn.now) (λ _. ⊥) }
+{
+    for sql in texts {
+        run_plain(tx, sql)?;
     }
     Ok(())
 }

@@ -42,6 +42,14 @@ const ROWS: &str = "
         (6, 1, 7, 'F-2', 0, 'F-4', 0, NULL, 200, 160, 'ben', ''),
         (6, 2, 7, 'F-3', 0, 'F-4', 0, NULL, 100, 160, 'ben', '')";
 
+/// What takes a store of the newest schema back to the first: it fails where an index is missing.
+const LOWER: &str = "
+    DROP INDEX batch_event_by_batch;
+    DROP INDEX movement_by_lot;
+    DROP INDEX movement_by_batch;
+    DROP TABLE edge;
+    UPDATE meta SET schema = 1";
+
 /// What the store holds once it is raised: the edges are new, and the rest stays but for the schema's number.
 const RAISED: &str = "meta|1|2|6|160
 class|FOOD|
@@ -99,9 +107,9 @@ fn the_first_schema_is_raised(rt: HostRuntime) -> Result<(), Fail> {
     Ok(())
 }
 
-/// Takes the tables of a store back to the first schema.
-fn lower<S: Alter>(connection: &mut Connection<S>) -> Result<(), Fail> {
-    connection.execute_batch("DROP TABLE edge; UPDATE meta SET schema = 1")?;
+/// Takes the tables of a store back to the first schema, and the indexes away.
+pub fn lower<S: Alter>(connection: &mut Connection<S>) -> Result<(), Fail> {
+    connection.execute_batch(LOWER)?;
     Ok(())
 }
 
@@ -112,9 +120,9 @@ fn ten_commands_are_raised(rt: HostRuntime) -> Result<(), Fail> {
     let mut connection = desk.close();
     let before = tables_told(rt.alloc(), &mut connection)?;
     lower(&mut connection)?;
-    let raised = desk_over(&rt, connection)?;
-    assert!(rt; tables_told(rt.alloc(), &mut raised.close())? == before);
-    Ok(())
+    let mut again = desk_over(&rt, connection)?.close();
+    assert!(rt; tables_told(rt.alloc(), &mut again)? == before);
+    lower(&mut again)
 }
 
 #[test]

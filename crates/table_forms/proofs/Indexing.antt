@@ -1,0 +1,287 @@
+-- What texts that make indexes leave.
+use Rattle.std.proofs.Common.{◌≡◌, ◌⊎◌, inl, inr, ℕ, zero, suc, ◌+◌, ◌<◌, ◌≤◌, List, [], ◌∷◌, ◌++◌, map, drop, length, Bool, true, false, Some, None, Ok, Err, refl, sym, ap, subst, ◌∙◌, slice_get, get_or, is_some, IsTrue, arith, add-zero, if◌then◌else◌}
+use Rattle.std.proofs.lemmas.Bool.{cases_Bool}
+use Rattle.std.specs.Option.{option_or}
+use Rattle.std.specs.List.Sorted.{IsPermutation}
+use Rattle.sqlite.specs.Order.{Row}
+use Rattle.sqlite.specs.Tree.{Trees}
+use Rattle.sqlite.specs.Table.{Table}
+use Rattle.sqlite.specs.Schema.{Schema}
+use Rattle.sqlite.specs.Command.{Command}
+use Rattle.sqlite.specs.Command.TheVariants.{CreateIndex, Nothing}
+use Rattle.sqlite.specs.Effect.{Database, IsDatabase}
+use Rattle.sqlite.specs.State.{State, Shows, Executes, Writes, mode_of}
+use Rattle.sqlite.specs.Does.{Tally, Does, AtPlace, Defines, MakesIndex}
+use Rattle.sqlite.specs.Listing.{understood}
+use Rattle.sqlite_catalog.specs.Change.{indexed, next_tree, KeepsRows}
+use Rattle.sqlite_ast.specs.declared.CreateIndex as ast
+use Rattle.sqlite_ast.specs.declared.Statement.TheVariants as written
+use Rattle.sqlite_syntax.specs.declared.statement.Parsed.{Parsed}
+use Rattle.sqlite_resolve.specs.Lowering.{Checked, and_then}
+use Rattle.sqlite_resolve.specs.declared.error.CompileError.{CompileError}
+use Rattle.sqlite_resolve.specs.declared.error.CompileError.TheVariants.{Misuse, Exists}
+use Rattle.sqlite_resolve.specs.Define as define
+use Rattle.sqlite_resolve.specs.Compile.{compiled, first, planned, meaning, timed, returning, command, create_index, creates, is_reserved, small, index_defined_by, index_in}
+use Rattle.sqlite_schema.specs.declared.schema.Index.{Index}
+use Rattle.sqlite_schema.specs.Names.{table_named, view_named, index_named}
+use Rattle.sqlite_rules.specs.Lists.{Has}
+use Rattle.sqlite_rules.proofs.ListLemmas.{all_has, has_left, has_right, has_either, has_got}
+use Rattle.sqlite_trees.specs.View.{IsShaped}
+use Rattle.sqlite_trees.specs.declared.store.Shape.TheVariants as shape
+use Rattle.sqlite.proofs.Callers.{runs_as, command_of, IsPlain, statement_of}
+use Rattle.table_forms.specs.Forms.{Form, table_of}
+use Rattle.table_forms.specs.Standing.{Contents, IsDeclared, Stands, StandIn}
+use Rattle.table_forms.specs.Moves.{RunsInside, Founds}
+use Rattle.table_forms.specs.Indexes.{IndexForm, index_of, HasIndex, IsIndexText, AreIndexTexts, AreOf, AddsIndexes}
+use Rattle.table_forms.proofs.Listed.{length_mapped}
+use Rattle.table_forms.proofs.Texts.{plain_command, compiled_as, IsRefusedBy}
+use Rattle.table_forms.proofs.Turning.{understood_as, not_run}
+use Rattle.table_forms.proofs.Putting.{went, same_value}
+use Rattle.table_forms.proofs.Apart.{order_of}
+use Rattle.table_forms.proofs.Founding.{within}
+use Rattle.table_forms.proofs.Moving.{others_then, shown_then}
+
+-- ---- what the text compiles to
+
+module _ (schema : Schema) (p : Parsed) (def : ast.CreateIndex) (table : Table) (index : Index) (at : ℕ) (statement : p.statement ≡ written.CreateIndex def) (untimed : p.formats ≡ [])
+    (unconditional : def.if_missing ≡ false) (own_name : is_reserved def.table ≡ false) (named : table_named schema def.table ≡ Some at) (listed : slice_get schema.tables at ≡ Some table)
+    (defines : define.index table def ≡ Ok index) where
+  abbrev naming : Checked Bool
+  naming = creates false def.name (index_named schema def.name) (option_or (table_named schema def.name) (view_named schema def.name))
+
+  -- The name is free, or the text is refused.
+  named_so : (naming ≡ Ok true) ⊎ ((e : CompileError) × IsRefusedBy naming e)
+  unfolding creates
+  named_so = elim (cases_Bool (is_reserved def.name)) [
+    | inl reserved ↦ inr (Misuse, (rw reserved refl, refl))
+    | inr other ↦ elim (cases_Bool (is_some (option_or (table_named schema def.name) (view_named schema def.name)))) [
+      | inl taken ↦ inr (Exists, (rw (other, taken) refl, refl))
+      | inr clear ↦ elim (cases_Bool (is_some (index_named schema def.name))) [
+        | inl again ↦ inr (Exists, (rw (other, clear, again) refl, refl))
+        | inr none ↦ inl (rw (other, clear, none) refl)
+      ]
+    ]
+  ]
+
+  makes : (is_new : Checked Bool) → naming ≡ is_new → create_index schema def ≡ and_then is_new (λ is_new. if is_new then Ok (CreateIndex at) else Ok Nothing)
+  unfolding create_index
+  makes (Ok true) is = rw (own_name, named, listed, defines, unconditional, is) refl
+  makes (Ok false) is = rw (own_name, named, listed, unconditional, is) refl
+  makes (Err e) is = rw (own_name, named, listed, unconditional, is) refl
+
+  means : (c : Checked Command) → create_index schema def ≡ c → meaning schema p (small p.names) ≡ and_then c (λ c. Ok (c, None))
+  unfolding meaning returning command
+  means c is = rw (statement, is) refl
+
+  times : timed schema p.formats p.statement ≡ []
+  unfolding timed
+  times = rw (statement, untimed) refl
+
+  plans : (c : Checked Command) → create_index schema def ≡ c → planned schema p ≡ and_then (and_then c (λ c. Ok (c, None))) (λ found. Ok ([], found))
+  unfolding planned
+  plans c is = rw (times, add-zero, means c is) refl
+
+  compiles : (c : Checked Command) → create_index schema def ≡ c → (text : List ℕ) → first text ≡ Ok p → compiled schema text ≡ compiled_as p c
+  unfolding compiled
+  compiles (Ok c) is text reads = rw (reads, plans (Ok c) is) refl
+  compiles (Err e) is text reads = rw (reads, plans (Err e) is) refl
+
+  -- what a text that was not refused compiles to
+  pub compiles_index : (text : List ℕ) → first text ≡ Ok p → (compiled schema text ≡ Ok (plain_command p (CreateIndex at))) ⊎ ((e : CompileError) × IsRefusedBy (compiled schema text) e)
+  compiles_index text reads = elim named_so [
+    | inl free ↦ inl (compiles (Ok (CreateIndex at)) (makes (Ok true) free) text reads)
+    | inr barred ↦ inr (barred.0, (compiles (Err barred.0) (makes (Err barred.0) barred.1.0) text reads, barred.1.1))
+  ]
+
+-- the index that the text defines
+defined_so : (text : List ℕ) (index : IndexForm) (says : IsIndexText text index) (tree : ℕ) → index_defined_by (table_of index.table tree) text ≡ Ok (index_of index tree 0)
+unfolding index_defined_by index_in
+defined_so text index says tree = rw (says.reads, says.statement, says.defines tree) refl
+
+indexes_by : (text : List ℕ) (index : IndexForm) (says : IsIndexText text index) (old new : State) (at tree count : ℕ) → IsDeclared old.now.schema index.table at tree → Executes text [] old new (Ok count)
+    → Writes old new None (CreateIndex at) text [] count
+indexes_by text index says old new at tree count d h =
+    let schema = old.now.schema in
+    let own_name : is_reserved says.def.table ≡ false = subst (λ n. is_reserved n ≡ false) (sym says.table_is) says.own_name in
+    let named : table_named schema says.def.table ≡ Some at = subst (λ n. table_named schema n ≡ Some at) (sym says.table_is) d.named in
+    elim (compiles_index schema says.parsed says.def (table_of index.table tree) (index_of index tree 0) at says.statement says.untimed says.unconditional own_name named d.listed (says.defines tree) text says.reads) [
+      | inl is ↦
+          let known = understood_as schema text _ is in
+          let text_is : statement_of text (understood schema text) ≡ text = ap (statement_of text) known ∙ says.whole in
+          subst (λ t. Writes old new None (CreateIndex at) t [] count) text_is (runs_as text [] old new schema refl (CreateIndex at) (ap command_of known) (subst IsPlain (sym known) (refl, refl)) count h)
+      | inr barred ↦ absurd (not_run text [] old new count barred.0 barred.1.0 barred.1.1 h)
+    ]
+
+-- ---- the schema with one index more
+
+declared_still : (schema : Schema) (form : Form) (at tree : ℕ) (index : Index) → index.is_unique ≡ false → IsDeclared schema form at tree → IsDeclared (record schema { indexes = schema.indexes ++ index ∷ [] }) form at tree
+declared_still schema form at tree index plain d = record {
+  named = d.named;
+  listed = d.listed;
+  own = d.own;
+  keyed = λ i listed g. elim (has_either schema.indexes (index ∷ []) i listed) [
+    | inl old ↦ d.keyed i old g
+    | inr (inl is) ↦ absurd (let unbarred : i.is_unique ≡ false = ap (λ (x : Index). x.is_unique) is ∙ plain in let e = rw unbarred at g in cc)
+    | inr (inr none) ↦ absurd none
+  ];
+  alone = d.alone;
+}
+
+pub record Indexed (old new : State) (index : IndexForm) : Type 0 where
+  pub sound : IsDatabase new.now
+  pub made : HasIndex new.now.schema index
+  pub kept : (f : Form) (rows : List Row) → Stands old.now f rows → Stands new.now f rows
+  pub still : (other : IndexForm) → HasIndex old.now.schema other → HasIndex new.now.schema other
+  pub others : (t : Table) → Has old.now.schema.tables t → Has new.now.schema.tables t × (new.now.trees t.tree ≡ old.now.trees t.tree)
+
+-- what the command makes of the database
+added_is : (old new : State) (text : List ℕ) (index : IndexForm) (says : IsIndexText text index) (at tree : ℕ) (tally : Tally) → IsDeclared old.now.schema index.table at tree
+    → Does old.step_limit (mode_of old) [] old.now text None (CreateIndex at) (Ok (tally, new.now))
+    → (new.now.schema ≡ indexed old.now.schema (table_of index.table tree) (index_of index tree 0)) × KeepsRows old.now.schema.tables old.now.trees new.now.trees
+added_is old new text index says at tree tally d h =
+    let on : Defines (mode_of old) (MakesIndex text old.now (table_of index.table tree)) (Ok (tally, new.now)) =
+    subst (λ o. AtPlace (λ (t : Table). Defines (mode_of old) (MakesIndex text old.now t)) o (Ok (tally, new.now))) d.listed h in
+    let all = went on in
+    let added = all.1 in
+    let both : Ok added.index ≡ Ok (index_of index tree 0) = sym added.defined ∙ defined_so text index says tree in
+    let same : added.index ≡ index_of index tree 0 = cc in
+    let now : new.now ≡ all.0 = ap (λ (q : Tally × Database). q.1) (same_value all.2) in (
+      ap (λ (d : Database). d.schema) now ∙ (added.is ∙ ap (indexed old.now.schema (table_of index.table tree)) same),
+      subst (λ (t : Trees). KeepsRows old.now.schema.tables old.now.trees t) (sym (ap (λ (d : Database). d.trees) now)) added.rows,
+    )
+
+indexed_by : (text : List ℕ) (index : IndexForm) (says : IsIndexText text index) (old new : State) (at tree count : ℕ) → IsDeclared old.now.schema index.table at tree → Executes text [] old new (Ok count) → Indexed old new index
+indexed_by text index says old new at tree count d h =
+    let schema = old.now.schema in
+    let w = indexes_by text index says old new at tree count d h in
+    let is = added_is old new text index says at tree w.tally d w.changed in
+    let added : Index = index_of index tree (next_tree schema) in
+    let declared : (f : Form) (a t : ℕ) → IsDeclared schema f a t → IsDeclared new.now.schema f a t = λ f a t there. subst (λ s. IsDeclared s f a t) (sym is.0) (declared_still schema f a t added refl there) in
+    record {
+      sound = w.sound;
+      made = record { at = at; table = tree; tree = next_tree schema; declared = declared index.table at tree d; listed = subst (λ s. Has s.indexes added) (sym is.0) (has_right schema.indexes (added ∷ []) added (inl refl)) };
+      kept = λ f rows there.
+          let same = all_has _ schema.tables (table_of f there.tree) is.1 (has_got _ there.at _ there.declared.listed) in
+          record {
+            at = there.at;
+            tree = there.tree;
+            declared = declared f there.at there.tree there.declared;
+            shaped = subst (IsShaped shape.Table) (sym same) there.shaped;
+            same = subst (λ (r : List Row). IsPermutation rows (map (drop 1) r)) (sym same) there.same;
+          };
+      still = λ other there. record {
+        at = there.at;
+        table = there.table;
+        tree = there.tree;
+        declared = declared other.table there.at there.table there.declared;
+        listed = subst (λ s. Has s.indexes (index_of other there.table there.tree)) (sym is.0) (has_left schema.indexes _ _ there.listed);
+      };
+      others = λ t listed. (subst (λ s. Has s.tables t) (sym is.0) listed, all_has _ schema.tables t is.1 listed);
+    }
+
+-- ---- in turn
+
+-- what stands once the first so many indexes are made
+pub record Grown (forms : List Form) (indexes : List IndexForm) (count : ℕ) (contents : Contents) (old new : Database) : Type 0 where
+  pub stands : StandIn forms new contents
+  pub made : (i : ℕ) (index : IndexForm) → i < count → slice_get indexes i ≡ Some index → HasIndex new.schema index
+  pub kept : (form : Form) (rows : List Row) → Stands old form rows → Stands new form rows
+  pub others : (t : Table) → Has old.schema.tables t → Has new.schema.tables t × (new.trees t.tree ≡ old.trees t.tree)
+
+pub record Indexing (forms : List Form) (indexes : List IndexForm) (count : ℕ) (old new : State) : Type 0 where
+  pub grown : (contents : Contents) → StandIn forms old.now contents → Grown forms indexes count contents old.now new.now
+  pub shown : IsTrue old.is_open → IsTrue old.in_transaction → Shows old new new.now old.committed true
+
+pub none_indexed : (forms : List Form) (indexes : List IndexForm) (s : State) → Indexing forms indexes 0 s s
+none_indexed forms indexes s = record {
+  grown = λ contents stand. record {
+    stands = stand;
+    made = λ i index early is. absurd (omega arith);
+    kept = λ form rows there. there;
+    others = λ t listed. (listed, refl);
+  };
+  shown = λ live inside. record { was_open = live; is_open = live; now_is = refl; committed_is = refl; mode = inside };
+}
+
+-- the place of one of a list
+placed : {X : Type 0} (xs : List X) (x : X) → Has xs x → (i : ℕ) × (slice_get xs i ≡ Some x)
+placed [] x none = absurd none
+placed (y ∷ ys) x (inl is) = (zero, ap Some (sym is))
+placed (y ∷ ys) x (inr more) = let it = placed ys x more in (suc it.0, it.1)
+
+module _ (forms : List Form) (indexes : List IndexForm) (count : ℕ) (first old new : State) (text : List ℕ) (index : IndexForm) (is : slice_get indexes count ≡ Some index) (on : Has forms index.table)
+    (says : IsIndexText text index) (runs : ℕ) (ran : RunsInside text [] old new runs) where
+  one_grown : (contents : Contents) → Grown forms indexes count contents first.now old.now → Grown forms indexes (count + 1) contents first.now new.now
+  one_grown contents g =
+      let place = placed forms index.table on in
+      let there = g.stands.each place.0 index.table place.1 in
+      let made = indexed_by text index says old new there.at there.tree runs there.declared ran.ran in
+      record {
+        stands = record { sound = made.sound; each = λ i f at. made.kept f (contents i) (g.stands.each i f at) };
+        made = λ i other early at. elim (order_of i count) [
+          | inl before ↦ made.still other (g.made i other before at)
+          | inr (inl same) ↦
+              let both : slice_get indexes count ≡ Some other = subst (λ k. slice_get indexes k ≡ Some other) same at in
+              let equal : Some index ≡ Some other = sym is ∙ both in
+              let one : index ≡ other = cc in
+              subst (HasIndex new.now.schema) one made.made
+          | inr (inr after) ↦ absurd (omega arith)
+        ];
+        kept = λ f rows stood. made.kept f rows (g.kept f rows stood);
+        others = λ t listed.
+            let before = g.others t listed in
+            let after = made.others t before.0 in
+            (after.0, after.1 ∙ before.1);
+      }
+
+  one_indexed : Indexing forms indexes count first old → Indexing forms indexes (count + 1) first new
+  one_indexed so_far = record {
+    grown = λ contents stand. one_grown contents (so_far.grown contents stand);
+    shown = shown_then first old new so_far.shown (λ _ _. ran.shown);
+  }
+
+-- the text at a place makes the index there
+index_there : {X : Type 0} (f : X → List ℕ) (texts : List X) (indexes : List IndexForm) → AreIndexTexts (map f texts) indexes → (i : ℕ) (d : X) → i < length texts
+    → (index : IndexForm) × (slice_get indexes i ≡ Some index) × IsIndexText (f (get_or texts i d)) index
+index_there f [] indexes says i d low = absurd (omega arith)
+index_there f (t ∷ texts) [] says i d low = absurd says
+index_there f (t ∷ texts) (x ∷ indexes) says zero d low = (x, refl, says.0)
+index_there f (t ∷ texts) (x ∷ indexes) says (suc i) d low = index_there f texts indexes says.1 i d (omega arith)
+
+pub next_indexed : {X : Type 0} (f : X → List ℕ) (texts : List X) (forms : List Form) (indexes : List IndexForm) → AreOf indexes forms → AreIndexTexts (map f texts) indexes → (i : ℕ) (d : X) → i < length texts
+    → (first old new : State) → (count : ℕ) × RunsInside (f (get_or texts i d)) [] old new count → Indexing forms indexes i first old → Indexing forms indexes (i + 1) first new
+next_indexed f texts forms indexes of_these says i d low first old new ran so_far =
+    let it = index_there f texts indexes says i d low in
+    let on : Has forms it.0.table = all_has (λ (index : IndexForm). Has forms index.table) indexes it.0 of_these (has_got indexes i it.0 it.1) in
+    one_indexed forms indexes i first old new (f (get_or texts i d)) it.0 it.1 on it.2 ran.0 ran.1 so_far
+
+as_many : (texts : List (List ℕ)) (indexes : List IndexForm) → AreIndexTexts texts indexes → length texts ≡ length indexes
+as_many [] [] says = refl
+as_many [] (x ∷ indexes) says = absurd says
+as_many (t ∷ texts) [] says = absurd says
+as_many (t ∷ texts) (x ∷ indexes) says = ap suc (as_many texts indexes says.1)
+
+pub all_indexed : {X : Type 0} (f : X → List ℕ) (texts : List X) (forms : List Form) (indexes : List IndexForm) → AreIndexTexts (map f texts) indexes → (old new : State) (count : ℕ) → length texts ≤ count
+    → Indexing forms indexes count old new → AddsIndexes forms indexes old new
+all_indexed f texts forms indexes says old new count whole so_far = record {
+  made = λ contents stand i index is.
+      let long = as_many (map f texts) indexes says in
+      let same = length_mapped f texts in
+      let early = within indexes i index is in
+      (so_far.grown contents stand).made i index (omega arith) is;
+  stands = λ contents stand. (so_far.grown contents stand).stands;
+  kept = λ contents stand. (so_far.grown contents stand).kept;
+  others = λ contents stand. record { kept = λ t listed foreign. (so_far.grown contents stand).others t listed };
+  shown = so_far.shown;
+}
+
+-- ---- with tables that were made before
+
+-- Tables that were made, and then indexes of them.
+pub founds_then : (forms : List Form) (indexes : List IndexForm) (a b c : State) → Founds forms a b → AddsIndexes forms indexes b c → Founds forms a c
+founds_then forms indexes a b c founds adds = record {
+  stands = λ sound free. adds.stands (λ _. []) (founds.stands sound free);
+  kept = λ sound free form rows stood. adds.kept (λ _. []) (founds.stands sound free) form rows (founds.kept sound free form rows stood);
+  others = λ sound free. others_then forms a.now b.now c.now (founds.others sound free) (adds.others (λ _. []) (founds.stands sound free));
+  shown = shown_then a b c founds.shown adds.shown;
+}

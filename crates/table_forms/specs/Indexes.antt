@@ -1,0 +1,81 @@
+-- Indexes that serve look-ups, and bar no row: how one is declared, the text that makes it, and what such texts leave.
+use Rattle.std.specs.Prelude.{◌≡◌, ℕ, true, false, List, [], ◌∷◌, slice_range, slice_get, Some, Ok, IsTrue, ⊤}
+use Rattle.std.specs.List.{AllByRecursion}
+use Rattle.sqlite.specs.Order.{Row}
+use Rattle.sqlite.specs.Schema.{Schema}
+use Rattle.sqlite.specs.State.{State, Shows}
+use Rattle.sqlite_schema.specs.declared.schema.Index.{Index}
+use Rattle.sqlite_value.specs.Keys.{plain}
+use Rattle.sqlite_rules.specs.Lists.{Has}
+use Rattle.sqlite_ast.specs.declared.CreateIndex as ast
+use Rattle.sqlite_ast.specs.declared.Statement.{Statement}
+use Rattle.sqlite_ast.specs.declared.Statement.TheVariants as written
+use Rattle.sqlite_syntax.specs.declared.statement.Parsed.{Parsed}
+use Rattle.sqlite_resolve.specs.Define as define
+use Rattle.sqlite_resolve.specs.Compile.{first, is_reserved}
+use Rattle.table_forms.specs.Forms.{Form, table_of}
+use Rattle.table_forms.specs.Standing.{Contents, IsDeclared, Stands, StandIn, KeepsOthers}
+
+-- an index of the form's table, over the columns at these places, the first column being 1
+pub record IndexForm : Type 0 where
+  pub name : List ℕ
+  pub table : Form
+  pub places : List ℕ
+
+-- the index that is declared so, at a tree of its own, where the table has this tree
+abbrev pub index_of : IndexForm → ℕ → ℕ → Index
+index_of index table tree = record { name = index.name; tree = tree; table = table; columns = index.places; order = plain; is_unique = false }
+
+-- The index is listed, and its table is declared.
+pub record HasIndex (schema : Schema) (index : IndexForm) : Type 0 where
+  pub at : ℕ
+  pub table : ℕ
+  pub tree : ℕ
+  pub declared : IsDeclared schema index.table at table
+  pub listed : Has schema.indexes (index_of index table tree)
+
+-- ---- a text that makes the index
+
+pub record IsIndexText (text : List ℕ) (index : IndexForm) : Type 0 where
+  pub parsed : Parsed
+  pub reads : first text ≡ Ok parsed
+  pub untimed : parsed.formats ≡ []
+  pub whole : slice_range text parsed.start parsed.end ≡ text
+  pub def : ast.CreateIndex
+  pub statement : parsed.statement ≡ written.CreateIndex def
+  pub unconditional : def.if_missing ≡ false
+  pub table_is : def.table ≡ index.table.name
+  pub own_name : is_reserved index.table.name ≡ false
+  pub defines : (tree : ℕ) → define.index (table_of index.table tree) def ≡ Ok (index_of index tree 0)
+
+-- each text makes the index at its place
+abbrev pub AreIndexTexts : List (List ℕ) → List IndexForm → Type 0
+AreIndexTexts [] [] = ⊤
+AreIndexTexts [] (index ∷ indexes) = ⊥
+AreIndexTexts (text ∷ texts) [] = ⊥
+AreIndexTexts (text ∷ texts) (index ∷ indexes) = IsIndexText text index × AreIndexTexts texts indexes
+
+-- ---- what the texts leave
+
+-- each index is of some form's table
+abbrev pub AreOf : List IndexForm → List Form → Type 0
+AreOf indexes forms = AllByRecursion (λ (index : IndexForm). Has forms index.table) indexes
+
+-- Where the forms' tables stand the indexes are made, and each table that stood has the rows that it had. Nothing is
+-- committed, and the transaction goes on.
+pub record AddsIndexes (forms : List Form) (indexes : List IndexForm) (old new : State) : Type 0 where
+  pub made : (contents : Contents) → StandIn forms old.now contents → (i : ℕ) (index : IndexForm) → slice_get indexes i ≡ Some index → HasIndex new.now.schema index
+  pub stands : (contents : Contents) → StandIn forms old.now contents → StandIn forms new.now contents
+  pub kept : (contents : Contents) → StandIn forms old.now contents → (form : Form) (rows : List Row) → Stands old.now form rows → Stands new.now form rows
+  pub others : (contents : Contents) → StandIn forms old.now contents → KeepsOthers forms old.now new.now
+  pub shown : IsTrue old.is_open → IsTrue old.in_transaction → Shows old new new.now old.committed true
+
+-- The texts were run: where they make indexes of tables of these forms, those are made.
+abbrev pub MakesIndexes : List (List ℕ) → State → State → Type 0
+MakesIndexes texts old new = (forms : List Form) (indexes : List IndexForm) → AreOf indexes forms → AreIndexTexts texts indexes → AddsIndexes forms indexes old new
+
+-- ---- the part of what the parser reads, for those who compute it
+
+abbrev pub index_in : Statement → ast.CreateIndex
+index_in (written.CreateIndex def) = def
+index_in _ = record { is_unique = false; if_missing = false; name = []; table = []; columns = [] }

@@ -12,7 +12,7 @@ use Rattle.std.proofs.lemmas.List.{length-take, length-drop, get_or-take, get_or
 use Rattle.std.proofs.lemmas.List.Elements.{All-contains, All-contains_itself, All-drop, All-take}
 use Rattle.std.proofs.lemmas.List.Sorted.{Contains-permutation, IsPermutation-sym, searchable_from_sorted}
 use Rattle.plant_base.specs.declared.rows.Movement.{Movement}
-use Rattle.plant_desk.proofs.Reaching.{mapped_in}
+use Rattle.plant_view.proofs.Contained.{mapped_in}
 use Rattle.plant_trace.proofs.Listing.{Lists-same}
 use Rattle.plant_trace.specs.Nodes.{node_cmp, node_total}
 use Rattle.plant_trace.specs.Reach.{IsNext, Lists}

@@ -11,8 +11,8 @@ use Rattle.plant_base.specs.declared.rows.EdgeKind.{EdgeKind}
 use Rattle.plant_base.specs.declared.rows.EdgeKind.TheVariants.{LotToBatch, BatchToLot, LotToLot}
 use Rattle.plant_base.specs.declared.rows.EdgeRow.{EdgeRow}
 use Rattle.plant_base.specs.declared.rows.Movement.{Movement}
-use Rattle.plant_check.proofs.EdgeSets.{one_edge}
-use Rattle.plant_desk.proofs.Reaching.{mapped_in, filtered_in, come}
+use Rattle.plant_base.proofs.EdgeKeys.{one_edge}
+use Rattle.plant_view.proofs.Contained.{mapped_in, filtered_in, come}
 use Rattle.plant_tables_columns.proofs.Options.{some_same}
 use Rattle.plant_trace.proofs.Listing.{Lists-same}
 use Rattle.plant_trace.specs.Reach.{IsNext, Lists}

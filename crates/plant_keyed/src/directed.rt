@@ -9,7 +9,7 @@ ghost use Rattle.plant_trace.specs.Turned.{turned};
 ghost use Rattle.plant_trace.specs.declared.direction.Direction.TheVariants.{Forward};
 ghost use Rattle.plant_keyed.specs.Edges.{Ascend, AreTurned, HasEdgesAt};
 
-use plant_trace::{Direction, Node, neighbours};
+use plant_trace::{Direction, Node, ends, neighbours};
 use std::alloc::{AllocError, Global};
 
 /// All edges as a direction sees them, each with its near end first, in the order of those ends; or none yet.
@@ -112,16 +112,6 @@ fn turned_pairs(
 {
     pairs
         .iter()
-        .map(|pair| turned(*pair, direction))
+        .map(|pair| ends(*pair, direction))
         .collect(alloc)
-}
-
-// The pair with its near end first.
-fn turned(pair: (Node, Node), direction: Direction) -> (Node, Node)
-    ensures { result ≡ turned direction pair }
-{
-    match direction {
-        Direction::Forward => pair,
-        Direction::Back => (pair.1, pair.0),
-    }
 }

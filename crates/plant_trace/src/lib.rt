@@ -21,7 +21,7 @@ pub use edges::Edges;
 pub use fault::TraceFault;
 pub use growth::{growth_law, reach_law};
 pub use indexed::Indexed;
-pub use listed::{Listed, neighbours};
+pub use listed::{Listed, ends, neighbours};
 pub use node::Node;
 pub use rounds::closure_in_rounds;
 pub use worklist::closure;

@@ -4,8 +4,8 @@
 # make order_check  leaves the built check of order files at build/order_check
 # make line_check  leaves the built check of lines at build/line_check
 # make test  the gate: that the programs are run on what stands in examples/, then, from nothing, every proof, every
-#            must-fail edit, every test and the programs, and then sessions of the built desk, the two built checks
-#            on long inputs and streams that fail, and the examples of the documents
+#            must-fail edit, every test and the programs, and then sessions of the built desk, damaged files and broken
+#            requests, the two built checks on long inputs and streams that fail, and the examples of the documents
 .PHONY: look run desk order_check line_check test
 
 look:
@@ -40,6 +40,7 @@ test:
 	cmp examples/batch.out crates/desk/stdout
 	rt ci
 	examples/sessions.py crates/desk/out/desk
+	examples/hostile.py crates/desk/out/desk
 	examples/checks.py crates/order_check/out/order_check crates/line_check/out/line_check
 	examples/run.py crates/desk/out/desk README.md docs/EXAMPLES.md
 	@echo "the gate took $$(( ($$(date +%s) - $$(cat build/began)) / 60 )) minutes on $$(nproc) processors"

@@ -4,26 +4,36 @@
 
 For each size a desk of so many movements is made in a file, by receipts, scraps, splits and the bookings of batches; then COMMANDS
 commands of each kind are given to one run of the desk, each after the reply to the one before it. What is told of a kind is its commands
-a second and the middle time of one. Beside it stands a peer: a Python program over the standard library's sqlite3 that makes the same
-look-ups and writes by the same tables, commits each command durably (WAL, synchronous=FULL) and knows no rules but those of stock. At
-last the desk is asked about a lot, an order, itself and a batch.
+a second and the middle time of one. Beside it stand two peers that take the same lines from a pipe, make the same look-ups and writes in
+the same tables of a copy of the file, commit each command durably (WAL, synchronous=FULL) before they answer it, and know no rules but
+those of stock: bench/peer.py, in Python over the standard library's sqlite3, and bench/peer.c, which is left out where gcc or sqlite3.h
+isn't there. The kinds take turns in rounds, so that what else the machine does falls on all alike. At last the desk is asked about a
+lot, an order, itself, a batch, and where a lot came from, and the greatest size of its log is told.
 """
 import json
 import pathlib
-import sqlite3
+import shutil
 import statistics
 import subprocess
 import sys
+import threading
 import time
 
 AT = 1000
 
 
-class Desk:
-    """A run of the built desk over a file."""
+HERE = pathlib.Path(__file__).resolve().parent
 
-    def __init__(self, program, path):
-        self.process = subprocess.Popen([program, "run", str(path)], stdin=subprocess.PIPE, stdout=subprocess.PIPE)
+# How many rounds the commands of a kind are given in.
+ROUNDS = 5
+
+
+class Keeper:
+    """A program that takes lines from a pipe and answers each."""
+
+    def __init__(self, name, *words):
+        self.name = name
+        self.process = subprocess.Popen(words, stdin=subprocess.PIPE, stdout=subprocess.PIPE)
 
     def tell(self, **fields):
         """Gives a line, and returns the reply and how long it took."""
@@ -44,7 +54,6 @@ class Desk:
         """Gives lines without waiting for each reply."""
         text = "".join(json.dumps(it, separators=(",", ":")) + "\n" for it in lines)
         pieces = text.encode()
-        import threading
 
         def feed():
             self.process.stdin.write(pieces)
@@ -57,6 +66,11 @@ class Desk:
             if not reply.startswith(b'{"ok":'):
                 sys.exit(f"refused: {reply!r}")
         feeder.join()
+
+    def memory(self):
+        """Returns the kilobytes that the program had at most."""
+        status = pathlib.Path(f"/proc/{self.process.pid}/status").read_text()
+        return int(next(it for it in status.splitlines() if it.startswith("VmHWM:")).split()[1])
 
     def close(self):
         self.process.stdin.close()
@@ -99,12 +113,19 @@ def batch(number):
 
 
 def make(program, path, size):
-    desk = Desk(program, path)
+    """Makes a desk of so many movements, and returns the greatest size that its log had, as it is seen now and then, and the kilobytes of
+    memory that the run had at most."""
+    desk = Keeper("desk", program, "run", path)
     desk.give_all(list(beginning()))
-    for number in range(size // 9):
-        desk.give_all(list(batch(number)))
+    log, greatest = pathlib.Path(f"{path}-wal"), 0
+    for first in range(0, size // 9, 100):
+        numbers = range(first, min(first + 100, size // 9))
+        desk.give_all([it for number in numbers for it in batch(number)])
+        greatest = max(greatest, log.stat().st_size)
+    memory = desk.memory()
     if desk.close() != 0:
         sys.exit("the desk was not made")
+    return greatest, memory
 
 
 def kinds(count, last):
@@ -116,94 +137,68 @@ def kinds(count, last):
     yield "produce", [("produce", {"batch": last, "lot": f"P-{k}", "def": "DOUGH", "amount": 1, "place": "A1"}) for k in range(count)]
 
 
-class Peer:
-    """The same look-ups and writes by Python over sqlite3."""
+def peers(folder, path):
+    """Returns the peers, each over a copy of the file."""
+    def copied(name):
+        return shutil.copyfile(path, folder / f"{name}.db")
 
-    def __init__(self, path):
-        self.db = sqlite3.connect(path, isolation_level=None)
-        self.db.execute("PRAGMA journal_mode=WAL")
-        self.db.execute("PRAGMA synchronous=FULL")
-
-    def one(self, text, *values):
-        return self.db.execute(text, values).fetchone()
-
-    def tell(self, do, fields):
-        seq, at = self.one("SELECT seq, at FROM meta WHERE k = 1")
-        run = self.db.execute
-        run("BEGIN IMMEDIATE")
-        seq += 1
-        if do == "receive" or do == "produce":
-            made = fields["lot"]
-            self.one("SELECT id FROM definition WHERE id = ?", fields["def"])
-            assert not self.one("SELECT id FROM lot WHERE id = ?", made)
-            if do == "produce":
-                self.one("SELECT * FROM batch WHERE id = ?", fields["batch"])
-                self.db.execute("SELECT * FROM control_line WHERE batch = ?", (fields["batch"],)).fetchall()
-            run("INSERT INTO lot VALUES (?, ?)", (made, fields["def"]))
-            run("INSERT INTO sublot VALUES (?, 0, ?, ?)", (made, fields["place"], fields["amount"]))
-            kind, taken, other = (3 if do == "produce" else 1), made, None
-        else:
-            lot = fields["lot"]
-            definition = self.one("SELECT def FROM lot WHERE id = ?", lot)[0]
-            place, stock = self.one("SELECT place, stock FROM sublot WHERE lot = ? AND no = ?", lot, fields["sub"])
-            assert stock >= fields["amount"]
-            kind, taken, other = {"scrap": 4, "split": 6, "consume": 2}[do], lot, fields.get("new")
-            if do != "scrap":
-                self.db.execute("SELECT id FROM hold WHERE lot = ?", (lot,)).fetchall()
-            if do == "consume":
-                self.one("SELECT * FROM batch WHERE id = ?", fields["batch"])
-                self.db.execute("SELECT * FROM control_line WHERE batch = ?", (fields["batch"],)).fetchall()
-                for made in (2, 3):
-                    self.db.execute("SELECT a FROM edge WHERE kind = ? AND b = ?", (made, lot)).fetchall()
-            run("UPDATE sublot SET stock = ? WHERE lot = ? AND no = ?", (stock - fields["amount"], lot, fields["sub"]))
-            if do == "split":
-                run("INSERT INTO lot VALUES (?, ?)", (other, definition))
-                run("INSERT INTO sublot VALUES (?, 0, ?, ?)", (other, fields["place"], fields["amount"]))
-        run("INSERT INTO movement VALUES (?, 1, ?, ?, 0, ?, ?, ?, ?, ?, '', '')",
-            (seq, kind, taken, other, None if other is None else 0, fields.get("batch"), fields["amount"], AT))
-        edge = {"consume": (1, taken, fields.get("batch")), "produce": (2, fields.get("batch"), taken), "split": (3, taken, other)}
-        if do in edge:
-            run("INSERT INTO edge VALUES (?, ?, ?) ON CONFLICT DO NOTHING", edge[do])
-        run("UPDATE meta SET seq = ?, at = ? WHERE k = 1", (seq, AT))
-        run("COMMIT")
-
-    def accept(self, do, **fields):
-        start = time.perf_counter()
-        self.tell(do, fields)
-        return time.perf_counter() - start
+    yield Keeper("python", sys.executable, HERE / "peer.py", copied("python"))
+    peer = folder / "peer"
+    if shutil.which("gcc") and subprocess.run(["gcc", "-O2", "-o", peer, HERE / "peer.c", "-lsqlite3"], stderr=subprocess.DEVNULL).returncode == 0:
+        yield Keeper("C", peer, copied("C"))
 
 
-def measured(keeper, count, last):
-    return {name: [keeper.accept(do, **fields) for do, fields in commands] for name, commands in kinds(count, last)}
+def measured(keepers, count, last):
+    """Gives each kind of command to the keepers in turn, and returns how long each command took of each kind and keeper."""
+    took = {}
+    for name, commands in kinds(count, last):
+        step = max(1, len(commands) // ROUNDS)
+        for first in range(0, len(commands), step):
+            for keeper in keepers:
+                times = [keeper.accept(do, **fields) for do, fields in commands[first:first + step]]
+                took.setdefault(name, {}).setdefault(keeper.name, []).extend(times)
+    return took
 
 
 def rate(times):
     return f"{len(times) / sum(times):7.0f}/s {statistics.median(times) * 1e6:7.0f} us"
 
 
+def asked(desk):
+    """Asks the desk, and tells how long each kind of question takes."""
+    questions = {
+        "desk": {"ask": "desk"},
+        "lot": {"ask": "lot", "lot": "S-0"},
+        "order": {"ask": "order", "order": "O-0"},
+        "batch": {"ask": "batch", "batch": "B-0"},
+        "back": {"ask": "back", "lot": "S-0"},
+    }
+    for name, question in questions.items():
+        print(f"  ask {name:6} {rate([desk.tell(**question)[1] for _ in range(200)])}")
+
+
 def main():
     program, folder, count, *sizes = sys.argv[1:]
+    folder = pathlib.Path(folder)
     for size in map(int, sizes):
-        path = pathlib.Path(folder) / f"{size}.db"
+        path = folder / f"{size}.db"
         start = time.perf_counter()
-        make(program, path, size)
-        print(f"{size} movements, made in {time.perf_counter() - start:.1f} s")
-        copy = pathlib.Path(folder) / f"{size}-peer.db"
-        copy.write_bytes(path.read_bytes())
-        last = f"B-{size // 9 - 1}"
-        desk = Desk(program, path)
+        log, memory = make(program, path, size)
+        took = time.perf_counter() - start
+        print(f"{size} movements, made in {took:.1f} s, with a log of {log} bytes and a memory of {memory} kB at most")
+        others = list(peers(folder, path))
+        start = time.perf_counter()
+        desk = Keeper("desk", program, "run", path)
         desk.tell(ask="desk")
-        ours = measured(desk, int(count), last)
-        theirs = measured(Peer(copy), int(count), last)
-        for name, times in ours.items():
-            ratio = sum(theirs[name]) / sum(times)
-            print(f"  {name:8} desk {rate(times)}   peer {rate(theirs[name])}   {ratio:.2f} of the peer's")
-        questions = {"desk": {"ask": "desk"}, "lot": {"ask": "lot", "lot": "F"}, "order": {"ask": "order", "order": "O-0"},
-                     "batch": {"ask": "batch", "batch": "B-0"}, "back": {"ask": "back", "lot": "S-0"}}
-        for name, question in questions.items():
-            times = [desk.tell(**question)[1] for _ in range(20 if name in ("batch", "back") else 200)]
-            print(f"  ask {name:6} {rate(times)}")
-        desk.close()
+        print(f"  opened and adopted in {time.perf_counter() - start:.2f} s, with {desk.memory()} kB at most")
+        for name, took in measured([desk, *others], int(count), f"B-{size // 9 - 1}").items():
+            ours = took.pop("desk")
+            beside = "   ".join(f"{it} {rate(times)} {sum(times) / sum(ours):.2f}" for it, times in took.items())
+            print(f"  {name:8} desk {rate(ours)}   {beside}")
+        asked(desk)
+        for keeper in [desk, *others]:
+            keeper.close()
+        path.unlink()
 
 
 main()

@@ -33,6 +33,12 @@ NEW = b"HTTP/1.1 200 OK\r\nContent-Type: application/json\r\nContent-Length: 20\
 NEW += b'{"schema":2,"seq":0}'
 ONE = NEW.replace(b'"seq":0', b'"seq":1')
 
+# What takes tables back to the first schema.
+LOWER = """
+    DROP INDEX movement_by_lot; DROP INDEX movement_by_batch; DROP INDEX batch_event_by_batch; DROP TABLE edge;
+    UPDATE meta SET schema = 1;
+"""
+
 # A command over HTTP.
 POST = b"POST /v1/commands HTTP/1.1\r\nHost: a\r\nContent-Length: 59\r\n\r\n"
 POST += b'{"at":100,"by":"","do":"add_class","class":"RAW","name":""}'
@@ -395,7 +401,7 @@ class Check:
         store = sqlite3.connect(file)
         edges = store.execute("SELECT kind, a, b FROM edge ORDER BY kind, a, b").fetchall()
         self.expect("edges", edges, [(1, "F-1", "B-1"), (2, "B-1", "D-1")])
-        store.executescript("DROP TABLE edge; UPDATE meta SET schema = 1")
+        store.executescript(LOWER)
         store.close()
         for words, wanted in [
             (["trace", file.name, "back", "D-1"], b"lot F-1\nbatch B-1\n"),

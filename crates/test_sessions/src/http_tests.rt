@@ -208,3 +208,26 @@ fn a_writer_may_fail(rt: HostRuntime) -> Result<(), Fail> {
     }
     Err(Fail::from("no answer was written"))
 }
+
+/// A head of 5,000 bytes is answered where it comes in one piece, and takes too many reads where each gives one byte.
+#[test]
+fn a_head_may_take_too_many_reads(rt: HostRuntime) -> Result<(), Fail> {
+    let mut request = Vec::from_slice(rt.alloc(), b"GET /v1/desk HTTP/1.1\r\nHost: a\r\nX: ")?;
+    request.resize(4996, b'a')?;
+    request.extend_from_slice(b"\r\n\r\n")?;
+    let mut keeper = ListKeeper::new(rt.alloc());
+    for (most, wanted, answer) in [
+        (1, Err(ServeFault::Endless), b"".as_slice()),
+        (8192, Ok(Served::Answered(200)), NEW),
+    ] {
+        let input = Trickle {
+            rest: &request,
+            most,
+            reads: ENOUGH,
+        };
+        let (end, text) = served(&rt, &mut keeper, input, ENOUGH)?;
+        assert!(rt; end == wanted);
+        assert!(rt; text.as_slice() == answer);
+    }
+    Ok(())
+}

@@ -1,12 +1,15 @@
-//! The first commands of a batch: what it is made of is there, and it has begun.
+//! The commands of a batch, from its class to its closing, and what becomes of its product; and an import of many orders.
 use plant_base::Envelope;
 use plant_text::{Line, read_line};
 use std::alloc::Global;
 use std::test::Fail;
 
+/// How many orders are imported as one command.
+const ORDERS: u64 = 50;
+
 /// A recipe with what it needs, an order of it, a lot of flour, and the batch, which runs and has taken 167 of the flour's
-/// 1000.
-const LINES: [&[u8]; 10] = [
+/// 1000. Then it ends, and what it has made is split, divided, merged, held and scrapped.
+const LINES: [&[u8]; 20] = [
     b"{\"at\":0,\"by\":\"anna\",\"do\":\"add_class\",\"class\":\"RAW\",\"name\":\"Raw goods\"}",
     b"{\"at\":0,\"by\":\"anna\",\"do\":\"add_definition\",\"def\":\"FLOUR\",\"class\":\"RAW\",\"name\":\"\",\"unit\":\"kg\"}",
     b"{\"at\":0,\"by\":\"anna\",\"do\":\"add_definition\",\"def\":\"DOUGH\",\"class\":\"RAW\",\"name\":\"\",\"unit\":\"kg\"}",
@@ -17,6 +20,16 @@ const LINES: [&[u8]; 10] = [
     b"{\"at\":0,\"by\":\"anna\",\"do\":\"release\",\"order\":\"O-1\",\"batch\":\"B-1\"}",
     b"{\"at\":0,\"by\":\"anna\",\"do\":\"batch\",\"batch\":\"B-1\",\"word\":\"start\"}",
     b"{\"at\":0,\"by\":\"anna\",\"do\":\"consume\",\"batch\":\"B-1\",\"lot\":\"F-1\",\"sub\":0,\"amount\":167}",
+    b"{\"at\":0,\"by\":\"ben\",\"do\":\"phase_done\",\"batch\":\"B-1\",\"phase\":1}",
+    b"{\"at\":1,\"by\":\"ben\",\"do\":\"produce\",\"batch\":\"B-1\",\"lot\":\"D-1\",\"def\":\"DOUGH\",\"amount\":490,\"place\":\"A2\"}",
+    b"{\"at\":1,\"by\":\"ben\",\"do\":\"settle\",\"batch\":\"B-1\"}",
+    b"{\"at\":2,\"by\":\"ben\",\"do\":\"close_batch\",\"batch\":\"B-1\"}",
+    b"{\"at\":2,\"by\":\"ben\",\"do\":\"split\",\"lot\":\"D-1\",\"sub\":0,\"amount\":100,\"new\":\"D-2\",\"place\":\"A1\"}",
+    b"{\"at\":2,\"by\":\"ben\",\"do\":\"divide\",\"lot\":\"D-1\",\"sub\":0,\"amount\":50,\"place\":\"A2\"}",
+    b"{\"at\":2,\"by\":\"ben\",\"do\":\"merge\",\"new\":\"D-3\",\"place\":\"A3\",\"parts\":[{\"lot\":\"D-2\",\"sub\":0,\"amount\":60},{\"lot\":\"D-1\",\"sub\":1,\"amount\":50}]}",
+    b"{\"at\":2,\"by\":\"ben\",\"do\":\"hold\",\"lot\":\"D-1\",\"hold\":\"H-1\"}",
+    b"{\"at\":2,\"by\":\"ben\",\"do\":\"unhold\",\"lot\":\"D-1\",\"hold\":\"H-1\"}",
+    b"{\"at\":2,\"by\":\"ben\",\"do\":\"scrap\",\"lot\":\"D-3\",\"sub\":0,\"amount\":10}",
 ];
 
 /// The command that a line is.
@@ -27,11 +40,46 @@ fn command_of(alloc: Global, line: &[u8]) -> Result<Envelope, Fail> {
     }
 }
 
-/// Ten commands, each of which is accepted by a new desk.
-pub fn ten_commands(alloc: Global) -> Result<Vec<Envelope>, Fail> {
+fn commands_of(alloc: Global, lines: &[&[u8]]) -> Result<Vec<Envelope>, Fail> {
     let mut list = Vec::new(alloc);
-    for line in LINES {
+    for line in lines {
         list.push(command_of(alloc, line)?)?;
     }
     Ok(list)
+}
+
+/// Twenty commands, each of which is accepted by a new desk.
+pub fn twenty_commands(alloc: Global) -> Result<Vec<Envelope>, Fail> {
+    commands_of(alloc, &LINES)
+}
+
+/// The first ten of them: the batch has taken what it needs.
+pub fn ten_commands(alloc: Global) -> Result<Vec<Envelope>, Fail> {
+    commands_of(alloc, &LINES[..10])
+}
+
+/// The first five of them: the recipe is approved.
+pub fn five_commands(alloc: Global) -> Result<Vec<Envelope>, Fail> {
+    commands_of(alloc, &LINES[..5])
+}
+
+/// One command behind those five: an import of 50 orders.
+pub fn an_import(alloc: Global) -> Result<Vec<Envelope>, Fail> {
+    let mut line = String::from_str(
+        alloc,
+        "{\"at\":0,\"by\":\"anna\",\"do\":\"import_orders\",\"orders\":[",
+    )?;
+    for number in 0..ORDERS {
+        line.push_str(if number == 0 {
+            "{\"order\":\"O-"
+        } else {
+            ",{\"order\":\"O-"
+        })?;
+        line.push_str(format!(in alloc; "{number}")?.as_str())?;
+        line.push_str(
+            "\",\"recipe\":\"CAKE\",\"version\":1,\"size\":500,\"due\":\"2027-03-01\",\"priority\":5}",
+        )?;
+    }
+    line.push_str("]}")?;
+    commands_of(alloc, &[line.as_bytes()])
 }

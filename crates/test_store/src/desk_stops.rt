@@ -1,59 +1,27 @@
-//! Ten commands over files that are stopped after so many calls of one of them, for every number of calls. Opened and
-//! adopted anew, the files hold the tables after the commands that were answered, or after one more.
-use crate::commands::ten_commands;
+//! Commands over files that are stopped after so many calls of one of them, for every number of calls. Opened and adopted
+//! anew, the files hold the tables after the commands that were answered, or after one more.
+use crate::courses::{
+    Course, Work, an_import_of_orders, tables_to_raise, ten_from_nothing, twenty_of_a_new_desk,
+};
 use crate::desks::{adopted, desk_over};
 use crate::files::{
-    ALL, Calls, Image, InMemory, Stopped, are_running, closed, crashed, opened_with_log_of,
+    ALL, Calls, Fused, Image, InMemory, Stopped, are_running, closed, crashed, opened_with_log_of,
     reopened,
 };
 use crate::told::tables_told;
-use plant_base::Envelope;
+use plant_base::{Envelope, NEWEST_SCHEMA};
 use plant_desk::{DeskFault, Keeper, Question, Reply};
 use plant_desk_store::{AdoptFault, Desk};
-use sqlite::{Alter, Connection};
-use std::ops::Range;
+use plant_migrate::{RaiseFault, raise};
+use sqlite::Alter;
 use std::process::Abort;
 use std::test::Fail;
 
 /// No run has so many calls of a file.
 const FAR: u64 = 5000;
 
-/// So many frames of the log are copied into the database: this happens between the ten commands, too.
+/// So many frames of the log are copied into the database: this happens between the commands, too.
 const FRAMES: usize = 40;
-
-/// The ten commands, and the rows of all tables as text, after none of them and after each.
-#[derive(Drop)]
-struct Course {
-    commands: Vec<Envelope>,
-    texts: Vec<String>,
-}
-
-/// The rows of all tables of a new desk that was told these commands.
-fn text_after(rt: &(impl Abort + AllocGlobal), commands: &[Envelope]) -> Result<String, Fail> {
-    let mut desk = desk_over(rt, Connection::open_in_memory(rt.alloc())?)?;
-    let report = desk.run(commands);
-    assert!(rt; report.end.is_none());
-    tables_told(rt.alloc(), &mut desk.close())
-}
-
-/// The rows of all tables after none of the commands, after the first, and so on up to the last.
-fn texts_after(
-    rt: &(impl Abort + AllocGlobal),
-    commands: &[Envelope],
-) -> Result<Vec<String>, Fail> {
-    let mut texts = Vec::new(rt.alloc());
-    for count in 0..commands.len() {
-        texts.push(text_after(rt, &commands[..count])?)?;
-    }
-    texts.push(text_after(rt, commands)?)?;
-    Ok(texts)
-}
-
-fn course_of(rt: &(impl Abort + AllocGlobal)) -> Result<Course, Fail> {
-    let commands = ten_commands(rt.alloc())?;
-    let texts = texts_after(rt, &commands)?;
-    Ok(Course { commands, texts })
-}
 
 /// How a run ended: how many commands were answered, where the store was adopted, and the files as they were left.
 #[derive(Drop)]
@@ -74,44 +42,37 @@ fn check_shut<S: Alter>(
     Ok(())
 }
 
-/// How many commands are accepted, one by one, before the store fails.
+/// How many commands are accepted, one by one, before the store fails; so many were accepted before.
 fn answered_by<S: Alter>(
     rt: &(impl Abort + AllocGlobal),
     desk: &mut Desk<S>,
+    before: u64,
     commands: &[Envelope],
 ) -> Result<usize, Fail> {
-    for (before, command) in commands.iter().enumerate() {
+    let mut seq = before;
+    for (count, command) in commands.iter().enumerate() {
+        seq = seq.saturating_add(1);
         match desk.execute(command) {
-            Ok(reply) => assert!(rt; reply == Reply::Accepted((before as u64).saturating_add(1))),
+            Ok(reply) => assert!(rt; reply == Reply::Accepted(seq)),
             Err(fault) => {
                 assert!(rt; fault == DeskFault::Store);
                 check_shut(rt, desk, command)?;
-                return Ok(before);
+                return Ok(count);
             }
         }
     }
     Ok(commands.len())
 }
 
-/// Adopts files without a byte, and gives the commands one by one.
-fn run(
+/// Adopts the store, and gives the commands one by one.
+fn run_over(
     rt: &(impl Abort + AllocGlobal),
-    commands: &[Envelope],
-    calls: Calls,
+    course: &Course,
+    connection: Fused,
 ) -> Result<Ended, Fail> {
-    let files = Image::empty(rt.alloc()).files(rt.alloc(), calls)?;
-    let connection = match opened_with_log_of(rt.alloc(), files, FRAMES) {
-        Ok(connection) => connection,
-        Err(files) => {
-            return Ok(Ended {
-                answered: None,
-                files,
-            });
-        }
-    };
     match adopted(rt, connection)? {
         Ok(mut desk) => {
-            let answered = Some(answered_by(rt, &mut desk, commands)?);
+            let answered = Some(answered_by(rt, &mut desk, course.accepted, &course.commands)?);
             Ok(Ended {
                 answered,
                 files: closed(desk.close()),
@@ -127,6 +88,42 @@ fn run(
     }
 }
 
+/// Raises the tables of the store.
+fn raise_over(rt: &(impl Abort + AllocGlobal), mut connection: Fused) -> Result<Ended, Fail> {
+    if !connection.is_autocommit() {
+        return Err(Fail::from("a transaction is open"));
+    }
+    let answered = match raise(rt.alloc(), &mut connection, NEWEST_SCHEMA) {
+        Ok(()) => Some(0),
+        Err(fault) => {
+            assert!(rt; fault == RaiseFault::Store);
+            None
+        }
+    };
+    Ok(Ended {
+        answered,
+        files: closed(connection),
+    })
+}
+
+/// Does over these files, which stop after so many calls, what the course does, but with these commands.
+fn run(
+    rt: &(impl Abort + AllocGlobal),
+    course: &Course,
+    image: &Image,
+    calls: Calls,
+    commands: &[Envelope],
+) -> Result<Ended, Fail> {
+    match opened_with_log_of(rt.alloc(), image.files(rt.alloc(), calls)?, FRAMES) {
+        Ok(connection) if course.work == Work::Raise => raise_over(rt, connection),
+        Ok(connection) => run_over(rt, connection, course.accepted, commands),
+        Err(files) => Ok(Ended {
+            answered: None,
+            files,
+        }),
+    }
+}
+
 /// Whether these are the rows after so many commands.
 fn is_after(texts: &[String], count: usize, text: &str) -> bool {
     match texts.get(count) {
@@ -136,94 +133,179 @@ fn is_after(texts: &[String], count: usize, text: &str) -> bool {
 }
 
 /// Whether these are the rows after the commands that were answered, or after one more; where the store wasn't adopted,
-/// those of the opening state.
-fn may_be_left(texts: &[String], answered: Option<usize>, text: &str) -> bool {
+/// those of the files as they were at first, or after none of the commands.
+fn may_be_left(course: &Course, answered: Option<usize>, text: &str) -> bool {
+    let texts = course.texts.as_slice();
     match answered {
-        None => is_after(texts, 0, text),
+        None => course.first.as_str() == text || is_after(texts, 0, text),
         Some(count) => {
             is_after(texts, count, text) || is_after(texts, count.saturating_add(1), text)
         }
     }
 }
 
-/// Checks what files hold that were opened and adopted anew: a store where nothing was made yet gets the opening state.
+/// Checks what files hold: as they are opened, and once they are adopted.
 fn check_left(
     rt: &(impl Abort + AllocGlobal),
-    texts: &[String],
+    course: &Course,
     answered: Option<usize>,
     image: &Image,
 ) -> Result<(), Fail> {
-    let files = image.files(rt.alloc(), ALL)?;
-    let desk = desk_over(rt, reopened(rt.alloc(), files)?)?;
-    let text = tables_told(rt.alloc(), &mut desk.close())?;
-    assert!(rt; may_be_left(texts, answered, text.as_str()));
+    let mut connection = reopened(rt.alloc(), image.files(rt.alloc(), ALL)?)?;
+    let found = tables_told(rt.alloc(), &mut connection)?;
+    let mut adopted = desk_over(rt, connection)?.close();
+    let text = tables_told(rt.alloc(), &mut adopted)?;
+    assert!(rt; may_be_left(course, answered, found.as_str()));
+    assert!(rt;
+        text == found || (found == course.first && is_after(&course.texts, 0, text.as_str()))
+    );
     Ok(())
 }
 
-/// Whether the run ended without a stop, with each command accepted. What the files then hold is tested, with all that
-/// was written and with what was synced alone.
-fn is_whole(rt: &(impl Abort + AllocGlobal), course: &Course, calls: Calls) -> Result<bool, Fail> {
-    let Ended {
-        answered,
-        mut files,
-    } = run(rt, &course.commands, calls)?;
-    let is_whole = are_running(&mut files) && answered == Some(course.commands.len());
+/// Checks what a run has left: with all that was written, with what was synced alone, and with a part of the bytes that were
+/// written and not synced.
+fn check_ended(rt: &(impl Abort + AllocGlobal), course: &Course, ended: Ended) -> Result<(), Fail> {
+    let Ended { answered, files } = ended;
     let written = Image::of(rt.alloc(), &files)?;
     let synced = Image::of(rt.alloc(), &crashed(files))?;
-    check_left(rt, &course.texts, answered, &written)?;
+    check_left(rt, course, answered, &written)?;
     if synced != written {
-        check_left(rt, &course.texts, answered, &synced)?;
+        check_left(rt, course, answered, &synced)?;
+        check_left(
+            rt,
+            course,
+            answered,
+            &Image::torn(rt.alloc(), &written, &synced)?,
+        )?;
+        check_left(
+            rt,
+            course,
+            answered,
+            &Image::torn(rt.alloc(), &synced, &written)?,
+        )?;
     }
+    Ok(())
+}
+
+/// Whether a run over files that stop after so many calls has done all, with no stop. What it has left is checked.
+fn is_whole(rt: &(impl Abort + AllocGlobal), course: &Course, calls: Calls) -> Result<bool, Fail> {
+    let mut ended = run(rt, course, &course.image, calls, &course.commands)?;
+    let is_whole = are_running(&mut ended.files) && ended.answered == Some(course.commands.len());
+    check_files(rt, course, ended.answered, ended.files)?;
     Ok(is_whole)
 }
 
-/// Stops the file after each of these numbers of calls, up to the first run without a stop. Whether there was one.
-fn sweep(
-    rt: &(impl Abort + AllocGlobal),
-    stopped: Stopped,
-    numbers: Range<u64>,
-) -> Result<bool, Fail> {
-    let course = course_of(rt)?;
-    for calls in numbers {
-        if is_whole(rt, &course, stopped.after(calls))? {
-            return Ok(true);
+/// Stops the file after each number of calls, from none up to the first run without a stop.
+fn sweep(rt: &(impl Abort + AllocGlobal), course: &Course, stopped: Stopped) -> Result<(), Fail> {
+    for calls in 0..FAR {
+        if is_whole(rt, course, stopped.after(calls))? {
+            return Ok(());
         }
     }
-    Ok(false)
+    Err("each run was stopped")?
 }
 
-#[test]
-fn the_log_stops_first(rt: HostRuntime) -> Result<(), Fail> {
-    assert!(rt; !sweep(&rt, Stopped::Log, 0..40)?);
+/// Whether files that a run has left, and that stop after so many calls, are adopted with no stop. What is left is checked.
+fn is_adopted(
+    rt: &(impl Abort + AllocGlobal),
+    course: &Course,
+    answered: Option<usize>,
+    image: &Image,
+    calls: Calls,
+) -> Result<bool, Fail> {
+    let mut ended = run(rt, course, image, calls, &[])?;
+    let is_adopted = are_running(&mut ended.files) && ended.answered.is_some();
+    check_files(rt, course, answered, ended.files)?;
+    Ok(is_adopted)
+}
+
+/// Stops the file once more while it is adopted behind a stop, after each number of calls.
+fn sweep_again(
+    rt: &(impl Abort + AllocGlobal),
+    course: &Course,
+    ended: &Ended,
+    stopped: Stopped,
+) -> Result<(), Fail> {
+    let image = Image::of(rt.alloc(), &ended.files)?;
+    for calls in 0..FAR {
+        if is_adopted(rt, course, ended.answered, &image, stopped.after(calls))? {
+            return Ok(());
+        }
+    }
+    Err("each adoption was stopped")?
+}
+
+/// Stops the file twice in a row, first after these numbers of calls.
+fn sweep_twice(
+    rt: &(impl Abort + AllocGlobal),
+    course: &Course,
+    stopped: Stopped,
+    numbers: &[u64],
+) -> Result<(), Fail> {
+    for calls in numbers {
+        let ended = run(
+            rt,
+            course,
+            &course.image,
+            stopped.after(*calls),
+            &course.commands,
+        )?;
+        sweep_again(rt, course, &ended, stopped)?;
+    }
     Ok(())
 }
 
-#[test]
-fn the_log_stops_later(rt: HostRuntime) -> Result<(), Fail> {
-    assert!(rt; !sweep(&rt, Stopped::Log, 40..80)?);
-    Ok(())
+fn sweep_both(rt: &(impl Abort + AllocGlobal), course: &Course) -> Result<(), Fail> {
+    sweep(rt, course, Stopped::Log)?;
+    sweep(rt, course, Stopped::Database)
 }
 
 #[test]
-fn the_log_stops_late(rt: HostRuntime) -> Result<(), Fail> {
-    assert!(rt; !sweep(&rt, Stopped::Log, 80..120)?);
-    Ok(())
+fn ten_commands_are_stopped(rt: HostRuntime) -> Result<(), Fail> {
+    sweep_both(&rt, &ten_from_nothing(&rt)?)
 }
 
 #[test]
-fn the_log_stops_last(rt: HostRuntime) -> Result<(), Fail> {
-    assert!(rt; sweep(&rt, Stopped::Log, 120..FAR)?);
-    Ok(())
+fn twenty_commands_are_stopped_by_the_log(rt: HostRuntime) -> Result<(), Fail> {
+    sweep(&rt, &twenty_of_a_new_desk(&rt)?, Stopped::Log)
 }
 
 #[test]
-fn the_database_stops_first(rt: HostRuntime) -> Result<(), Fail> {
-    assert!(rt; !sweep(&rt, Stopped::Database, 0..35)?);
-    Ok(())
+fn twenty_commands_are_stopped_by_the_database(rt: HostRuntime) -> Result<(), Fail> {
+    sweep(&rt, &twenty_of_a_new_desk(&rt)?, Stopped::Database)
 }
 
 #[test]
-fn the_database_stops_last(rt: HostRuntime) -> Result<(), Fail> {
-    assert!(rt; sweep(&rt, Stopped::Database, 35..FAR)?);
-    Ok(())
+fn an_import_is_stopped(rt: HostRuntime) -> Result<(), Fail> {
+    sweep_both(&rt, &an_import_of_orders(&rt)?)
+}
+
+#[test]
+fn a_raising_adoption_is_stopped(rt: HostRuntime) -> Result<(), Fail> {
+    sweep_both(&rt, &tables_to_raise(&rt, Work::Adopt)?)
+}
+
+#[test]
+fn a_raising_is_stopped(rt: HostRuntime) -> Result<(), Fail> {
+    sweep_both(&rt, &tables_to_raise(&rt, Work::Raise)?)
+}
+
+#[test]
+fn a_stop_may_follow_a_stop_of_the_log(rt: HostRuntime) -> Result<(), Fail> {
+    sweep_twice(
+        &rt,
+        &ten_from_nothing(&rt)?,
+        Stopped::Log,
+        &[10, 40, 41, 75, 76, 110, 145],
+    )
+}
+
+#[test]
+fn a_stop_may_follow_a_stop_of_the_database(rt: HostRuntime) -> Result<(), Fail> {
+    sweep_twice(
+        &rt,
+        &ten_from_nothing(&rt)?,
+        Stopped::Database,
+        &[3, 20, 21, 40, 41, 60, 75],
+    )
 }

@@ -56,6 +56,28 @@ fn file(alloc: Global, bytes: &[u8], calls: u64) -> Result<Fuse<Memory>, Fail> {
     Ok(Fuse::new(memory, calls))
 }
 
+/// How many bytes the two begin with alike.
+fn common(front: &[u8], back: &[u8]) -> usize {
+    front
+        .iter()
+        .zip(back)
+        .take_while(|(one, other)| one == other)
+        .count()
+}
+
+/// The bytes of the one, and from the middle of what differs on those of the other.
+fn spliced(alloc: Global, front: &[u8], back: &[u8]) -> Result<Vec<u8>, Fail> {
+    let most = front.len().max(back.len());
+    let same = common(front, back);
+    let middle = same.saturating_add(most.saturating_sub(same) / 2);
+    let mut bytes = Vec::from_slice(alloc, &front[..middle.min(front.len())])?;
+    bytes.resize(middle, 0)?;
+    if middle < back.len() {
+        bytes.extend_from_slice(&back[middle..])?;
+    }
+    Ok(bytes)
+}
+
 impl Image {
     /// Two files without a byte.
     pub fn empty(alloc: Global) -> Image {
@@ -70,6 +92,15 @@ impl Image {
         Ok(Image {
             log: Vec::from_slice(alloc, files.log.inner().bytes())?,
             db: Vec::from_slice(alloc, files.db.inner().bytes())?,
+        })
+    }
+
+    /// What a stop may leave that tears a write: the bytes of the one, and from the middle of what differs on those of the
+    /// other.
+    pub fn torn(alloc: Global, front: &Image, back: &Image) -> Result<Image, Fail> {
+        Ok(Image {
+            log: spliced(alloc, &front.log, &back.log)?,
+            db: spliced(alloc, &front.db, &back.db)?,
         })
     }
 

@@ -7,6 +7,8 @@
 #[cfg(test)]
 mod commands;
 #[cfg(test)]
+mod courses;
+#[cfg(test)]
 mod desk_stops;
 #[cfg(test)]
 mod desks;

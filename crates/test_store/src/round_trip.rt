@@ -5,6 +5,7 @@ use crate::store::{Step, held, make_other, take};
 use sqlite::{Alter, Connection};
 use std::process::Abort;
 use std::test::Fail;
+use table_forms::Fault;
 
 /// Does the step, and compares what the store then holds.
 fn check<S: Alter>(
@@ -25,6 +26,8 @@ fn check_all<S: Alter>(
     make_other(conn)?;
     assert_eq!(rt; held(rt, conn)?.as_str(), "");
     check(rt, conn, Step::Open, OPENING)?;
+    assert!(rt; take(rt, conn, Step::AddTooMuch)? == Err(Fault::Store));
+    assert_eq!(rt; held(rt, conn)?.as_str(), OPENING);
     check(rt, conn, Step::Add, FIRST)?;
     check(rt, conn, Step::Overwrite, SECOND)
 }

@@ -291,3 +291,24 @@ pub fn rows_and_unhold(
     changes.push(unhold(rt))?;
     Ok(changes)
 }
+
+/// A sublot whose stock no column holds.
+fn overfull(rt: &(impl Abort + AllocGlobal)) -> RowChange {
+    RowChange::Sublot(Sublot {
+        lot: id(rt, b"L-1"),
+        number: 1,
+        place: text(rt, b""),
+        stock: 1 << 63,
+    })
+}
+
+/// The rows, and then a sublot whose stock no column holds.
+pub fn rows_and_overfull(
+    rt: &(impl Abort + AllocGlobal),
+    of: Content<'_>,
+) -> Result<Vec<RowChange>, AllocError> {
+    let _: Option<(RecipeLine, MasterLine, ControlLine, Movement, MovementKind)> = None;
+    let mut changes = rows(rt, of)?;
+    changes.push(overfull(rt))?;
+    Ok(changes)
+}

@@ -1,5 +1,4 @@
 //! What was loaded of the tables, as text.
-use plant_base::NEWEST_SCHEMA;
 use plant_tables::forms::desk_forms;
 use plant_tables_stored::{FoundTables, Loaded, found};
 use sqlite::types::ValueRef;
@@ -52,13 +51,23 @@ pub fn push_loaded(text: &mut String, alloc: Global, loaded: &Loaded) -> Result<
     Ok(())
 }
 
+/// The schema of the desk's tables in a store, 0 where none of its tables stands.
+fn schema_of<S: Alter>(alloc: Global, conn: &mut Connection<S>) -> Result<u64, Fail> {
+    match found(alloc, conn)? {
+        FoundTables::Nothing => Ok(0),
+        FoundTables::Version(schema) => Ok(schema as u64),
+        FoundTables::NoMeta => Err("table meta is damaged")?,
+    }
+}
+
 /// The rows of the desk's tables in a store, as text; none where none of its tables stands.
 pub fn tables_told<S: Alter>(alloc: Global, conn: &mut Connection<S>) -> Result<String, Fail> {
     let mut text = String::new(alloc);
-    if found(alloc, conn)? == FoundTables::Nothing {
+    let schema = schema_of(alloc, conn)?;
+    if schema == 0 {
         return Ok(text);
     }
-    match &Loaded::read(alloc, conn, NEWEST_SCHEMA)? {
+    match &Loaded::read(alloc, conn, schema)? {
         Some(loaded) => push_loaded(&mut text, alloc, loaded)?,
         None => text.push_str("a table is missing\n")?,
     }

@@ -1,0 +1,83 @@
+"""A peer of the desk in measurements: takes lines of commands as the desk does, over a copy of its file, and makes the same look-ups and
+writes by the standard library's sqlite3.
+
+    peer.py FILE
+
+Each command is committed durably (WAL, synchronous=FULL) before it is answered. It knows no rules but that a stock is enough.
+bench/commands.py runs it.
+"""
+import json
+import sqlite3
+import sys
+
+EDGES = {"consume": 1, "produce": 2, "split": 3}
+KINDS = {"receive": 1, "consume": 2, "produce": 3, "scrap": 4, "split": 6}
+
+
+class Store:
+    def __init__(self, path):
+        self.db = sqlite3.connect(path, isolation_level=None)
+        self.db.execute("PRAGMA journal_mode=WAL")
+        self.db.execute("PRAGMA synchronous=FULL")
+
+    def rows(self, text, *values):
+        return self.db.execute(text, values).fetchall()
+
+    def batch(self, batch):
+        self.rows("SELECT * FROM batch WHERE id = ?", batch)
+        self.rows("SELECT * FROM control_line WHERE batch = ?", batch)
+
+    def make_lot(self, lot, definition, place, amount):
+        assert not self.rows("SELECT id FROM lot WHERE id = ?", lot)
+        self.rows("INSERT INTO lot VALUES (?, ?)", lot, definition)
+        self.rows("INSERT INTO sublot VALUES (?, 0, ?, ?)", lot, place, amount)
+
+    def take(self, do, fields):
+        """Takes an amount out of a sublot, and returns the definition of its goods."""
+        lot, amount = fields["lot"], fields["amount"]
+        [(definition,)] = self.rows("SELECT def FROM lot WHERE id = ?", lot)
+        [(stock,)] = self.rows("SELECT stock FROM sublot WHERE lot = ? AND no = ?", lot, fields["sub"])
+        assert stock >= amount
+        if do != "scrap":
+            self.rows("SELECT id FROM hold WHERE lot = ?", lot)
+        if do == "consume":
+            self.batch(fields["batch"])
+            for kind in (2, 3):
+                self.rows("SELECT a FROM edge WHERE kind = ? AND b = ?", kind, lot)
+        self.rows("UPDATE sublot SET stock = ? WHERE lot = ? AND no = ?", stock - amount, lot, fields["sub"])
+        return definition
+
+    def book(self, do, fields):
+        """Executes a command, and returns its number."""
+        [(seq, _)] = self.rows("SELECT seq, at FROM meta WHERE k = 1")
+        seq, lot, batch, new = seq + 1, fields["lot"], fields.get("batch"), fields.get("new")
+        self.rows("BEGIN IMMEDIATE")
+        if do in ("receive", "produce"):
+            self.rows("SELECT id FROM definition WHERE id = ?", fields["def"])
+            if batch:
+                self.batch(batch)
+            self.make_lot(lot, fields["def"], fields["place"], fields["amount"])
+        else:
+            definition = self.take(do, fields)
+            if new:
+                self.make_lot(new, definition, fields["place"], fields["amount"])
+        self.rows("INSERT INTO movement VALUES (?, 1, ?, ?, 0, ?, ?, ?, ?, ?, ?, '')",
+                  seq, KINDS[do], lot, new, 0 if new else None, batch, fields["amount"], fields["at"], fields["by"])
+        if do in EDGES:
+            ends = {"consume": (lot, batch), "produce": (batch, lot), "split": (lot, new)}[do]
+            self.rows("INSERT INTO edge VALUES (?, ?, ?) ON CONFLICT DO NOTHING", EDGES[do], *ends)
+        self.rows("UPDATE meta SET seq = ?, at = ? WHERE k = 1", seq, fields["at"])
+        self.rows("COMMIT")
+        return seq
+
+
+def main(path):
+    store = Store(path)
+    for line in sys.stdin.buffer:
+        fields = json.loads(line)
+        sys.stdout.write('{"ok":%d}\n' % store.book(fields["do"], fields))
+        sys.stdout.flush()
+
+
+if __name__ == "__main__":
+    main(*sys.argv[1:])

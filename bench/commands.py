@@ -140,7 +140,7 @@ def kinds(count, last):
 def peers(folder, path):
     """Returns the peers, each over a copy of the file."""
     def copied(name):
-        return shutil.copyfile(path, folder / f"{name}.db")
+        return shutil.copyfile(path, folder / f"{path.stem}-{name}.db")
 
     yield Keeper("python", sys.executable, HERE / "peer.py", copied("python"))
     peer = folder / "peer"

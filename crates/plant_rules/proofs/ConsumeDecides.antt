@@ -7,11 +7,11 @@ use Rattle.plant_base.specs.declared.rows.MovementKind.TheVariants.{Consumed}
 use Rattle.plant_base.specs.declared.rows.Sublot.{Sublot}
 use Rattle.plant_base.specs.declared.command.Stamp.{Stamp}
 use Rattle.plant_base.specs.declared.command.Consume.{Consume}
-use Rattle.plant_trace.specs.Reach.{IsReached, Lists, leads}
-use Rattle.plant_trace.specs.declared.direction.Direction.TheVariants.{Forward}
+use Rattle.plant_trace.specs.Reach.{Reach, step, more, IsNext, IsReached, Lists, leads}
+use Rattle.plant_trace.specs.declared.direction.Direction.TheVariants.{Forward, Back}
 use Rattle.plant_trace.specs.declared.node.Node.{Node}
 use Rattle.plant_trace.specs.declared.node.Node.TheVariants as node
-use Rattle.plant_trace.proofs.Leading.{leads_where_reached}
+use Rattle.plant_trace.proofs.Leading.{leads_where_reached, none_in}
 use Rattle.plant_view.specs.declared.change.RowChange.TheVariants as row
 use Rattle.plant_view.specs.Refusing.{standing}
 use Rattle.plant_view.specs.Sound.{IsSound}
@@ -31,6 +31,19 @@ pub own_by_trace : (pairs : List (Node × Node)) (batch lot : List ℕ) (nodes :
 own_by_trace pairs batch lot nodes own listed has =
     let reached = leads_where_reached pairs (node.Batch batch) (node.Lot lot) in
     one_test own (leads pairs (node.Batch batch) (node.Lot lot)) (λ e. reached.1 (listed.only (node.Lot lot) (has.0 e))) (λ e. has.1 (listed.all (node.Lot lot) (reached.0 e)))
+
+last_edge : {X : Type 0} {E : X → X → Type 0} {a b : X} → Reach E a b → (x : X) × E x b
+last_edge (step {a = x} e) = (x, e)
+last_edge (more {b = x} r e) = (x, e)
+
+not_led : (b : Bool) → (b ≡ true → ⊥) → false ≡ b
+not_led true none = absurd (none refl)
+not_led false none = refl
+
+-- what nothing leads to came of nothing
+pub own_of_none : (pairs : List (Node × Node)) (batch lot : List ℕ) → Lists (IsNext Back pairs (node.Lot lot)) [] → false ≡ leads pairs (node.Batch batch) (node.Lot lot)
+own_of_none pairs batch lot listed =
+    not_led (leads pairs (node.Batch batch) (node.Lot lot)) (λ e. let last = last_edge ((leads_where_reached pairs (node.Batch batch) (node.Lot lot)).0 e) in none_in last.0 (listed.all last.0 last.1))
 
 pub consume_tables : (s : State) → IsSound s → (t : Stamp) (c : Consume) (p : Sublot) → IsLeft s c p
     → changed_all (row.Meta (record { schema = newest_schema; position = record { seq = s.seq + 1; at = t.at } }) ∷ row.Sublot p ∷ row.Movement (line_of s.seq t (Consumed c.batch) c.lot c.sub c.amount) ∷ edge_change (line_of s.seq t (Consumed c.batch) c.lot c.sub c.amount)) (tables_of newest_schema s) ≡ tables_of newest_schema (consume s t c)

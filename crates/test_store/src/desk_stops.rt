@@ -64,15 +64,16 @@ fn answered_by<S: Alter>(
     Ok(commands.len())
 }
 
-/// Adopts the store, and gives the commands one by one.
+/// Adopts the store, and gives the commands one by one; so many were accepted before.
 fn run_over(
     rt: &(impl Abort + AllocGlobal),
-    course: &Course,
     connection: Fused,
+    before: u64,
+    commands: &[Envelope],
 ) -> Result<Ended, Fail> {
     match adopted(rt, connection)? {
         Ok(mut desk) => {
-            let answered = Some(answered_by(rt, &mut desk, course.accepted, &course.commands)?);
+            let answered = Some(answered_by(rt, &mut desk, before, commands)?);
             Ok(Ended {
                 answered,
                 files: closed(desk.close()),
@@ -162,27 +163,27 @@ fn check_left(
     Ok(())
 }
 
-/// Checks what a run has left: with all that was written, with what was synced alone, and with a part of the bytes that were
-/// written and not synced.
-fn check_ended(rt: &(impl Abort + AllocGlobal), course: &Course, ended: Ended) -> Result<(), Fail> {
-    let Ended { answered, files } = ended;
+/// Checks files that a run has left: with all that was written, with what was synced alone, and with a part of the bytes that
+/// were written and not synced.
+fn check_files(
+    rt: &(impl Abort + AllocGlobal),
+    course: &Course,
+    answered: Option<usize>,
+    files: InMemory,
+) -> Result<(), Fail> {
     let written = Image::of(rt.alloc(), &files)?;
     let synced = Image::of(rt.alloc(), &crashed(files))?;
-    check_left(rt, course, answered, &written)?;
-    if synced != written {
-        check_left(rt, course, answered, &synced)?;
-        check_left(
-            rt,
-            course,
-            answered,
-            &Image::torn(rt.alloc(), &written, &synced)?,
-        )?;
-        check_left(
-            rt,
-            course,
-            answered,
-            &Image::torn(rt.alloc(), &synced, &written)?,
-        )?;
+    if synced == written {
+        return check_left(rt, course, answered, &written);
+    }
+    let images = [
+        Image::torn(rt.alloc(), &written, &synced)?,
+        Image::torn(rt.alloc(), &synced, &written)?,
+        written,
+        synced,
+    ];
+    for image in &images {
+        check_left(rt, course, answered, image)?;
     }
     Ok(())
 }

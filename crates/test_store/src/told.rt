@@ -1,4 +1,5 @@
 //! What was loaded of the tables, as text.
+use plant_base::NEWEST_SCHEMA;
 use plant_tables::forms::desk_forms;
 use plant_tables_stored::{FoundTables, Loaded, found};
 use sqlite::types::ValueRef;
@@ -51,11 +52,12 @@ pub fn push_loaded(text: &mut String, alloc: Global, loaded: &Loaded) -> Result<
     Ok(())
 }
 
-/// The schema of the desk's tables in a store, 0 where none of its tables stands.
+/// The schema of the desk's tables in a store, the first or the newest; 0 where none of its tables stands.
 fn schema_of<S: Alter>(alloc: Global, conn: &mut Connection<S>) -> Result<u64, Fail> {
     match found(alloc, conn)? {
         FoundTables::Nothing => Ok(0),
-        FoundTables::Version(schema) => Ok(schema as u64),
+        FoundTables::Version(1) => Ok(1),
+        FoundTables::Version(_) => Ok(NEWEST_SCHEMA),
         FoundTables::NoMeta => Err("table meta is damaged")?,
     }
 }

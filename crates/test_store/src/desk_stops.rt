@@ -297,7 +297,7 @@ fn a_stop_may_follow_a_stop_of_the_log(rt: HostRuntime) -> Result<(), Fail> {
         &rt,
         &ten_from_nothing(&rt)?,
         Stopped::Log,
-        &[10, 40, 41, 75, 76, 110, 145],
+        &[10, 41, 110, 145],
     )
 }
 

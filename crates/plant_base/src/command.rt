@@ -16,14 +16,14 @@ use crate::values::{
 };
 
 /// Makes a material class.
-#[derive(Clone, Copy, Debug, PartialEq, Eq)]
+#[derive(Clone, Copy)]
 pub struct AddClass {
     pub class: Id,
     pub name: Text,
 }
 
 /// Makes a material definition of a class.
-#[derive(Clone, Copy, Debug, PartialEq, Eq)]
+#[derive(Clone, Copy)]
 pub struct AddDefinition {
     pub def: Id,
     pub class: Id,
@@ -32,7 +32,7 @@ pub struct AddDefinition {
 }
 
 /// Makes a lot of goods that came from outside. They lie in its sublot 0.
-#[derive(Clone, Copy, Debug, PartialEq, Eq)]
+#[derive(Clone, Copy)]
 pub struct Receive {
     pub lot: Id,
     pub def: Id,
@@ -41,7 +41,7 @@ pub struct Receive {
 }
 
 /// Throws an amount of a sublot away.
-#[derive(Clone, Copy, Debug, PartialEq, Eq)]
+#[derive(Clone, Copy)]
 pub struct Scrap {
     pub lot: Id,
     /// 0 to 99; a greater number isn't well formed.
@@ -50,7 +50,7 @@ pub struct Scrap {
 }
 
 /// Moves an amount of a sublot into a new sublot of the same lot, whose number is one above the greatest.
-#[derive(Clone, Copy, Debug, PartialEq, Eq)]
+#[derive(Clone, Copy)]
 pub struct Divide {
     pub lot: Id,
     /// 0 to 99; a greater number isn't well formed.
@@ -60,7 +60,7 @@ pub struct Divide {
 }
 
 /// Makes a new lot of the same definition from an amount of a sublot.
-#[derive(Clone, Copy, Debug, PartialEq, Eq)]
+#[derive(Clone, Copy)]
 pub struct Split {
     pub lot: Id,
     /// 0 to 99; a greater number isn't well formed.
@@ -71,7 +71,7 @@ pub struct Split {
 }
 
 /// What a merge takes from one sublot.
-#[derive(Clone, Copy, Debug, PartialEq, Eq)]
+#[derive(Clone, Copy)]
 pub struct Part {
     pub lot: Id,
     /// 0 to 99; a greater number isn't well formed.
@@ -80,7 +80,7 @@ pub struct Part {
 }
 
 /// Makes a new lot from parts of lots of one definition.
-#[derive(Clone, Debug, Drop)]
+#[derive(Drop)]
 pub struct Merge {
     pub new: Id,
     pub place: Text,
@@ -89,14 +89,14 @@ pub struct Merge {
 }
 
 /// Holds a lot: while it has a hold it isn't consumed, split or merged.
-#[derive(Clone, Copy, Debug, PartialEq, Eq)]
+#[derive(Clone, Copy)]
 pub struct HoldLot {
     pub lot: Id,
     pub hold: Id,
 }
 
 /// Takes a hold of a lot away.
-#[derive(Clone, Copy, Debug, PartialEq, Eq)]
+#[derive(Clone, Copy)]
 pub struct UnholdLot {
     pub lot: Id,
     pub hold: Id,
@@ -104,7 +104,7 @@ pub struct UnholdLot {
 
 /// Makes a version of a master recipe, as a draft (IEC 61512-1: its header, and the lines of its formula and
 /// procedure).
-#[derive(Clone, Debug, Drop)]
+#[derive(Drop)]
 pub struct AddRecipe {
     /// Its version is 1 to 999; another number isn't well formed.
     pub header: Header,
@@ -113,7 +113,7 @@ pub struct AddRecipe {
 }
 
 /// Approves a draft, so that orders of it may be released.
-#[derive(Clone, Copy, Debug, PartialEq, Eq)]
+#[derive(Clone, Copy)]
 pub struct Approve {
     pub recipe: Id,
     /// 1 to 999; another number isn't well formed.
@@ -121,7 +121,7 @@ pub struct Approve {
 }
 
 /// Withdraws an approved recipe, so that no further order of it is released.
-#[derive(Clone, Copy, Debug, PartialEq, Eq)]
+#[derive(Clone, Copy)]
 pub struct Withdraw {
     pub recipe: Id,
     /// 1 to 999; another number isn't well formed.
@@ -129,27 +129,27 @@ pub struct Withdraw {
 }
 
 /// Makes each of these orders that isn't there yet (the job orders of IEC 62264-4), or none of them.
-#[derive(Clone, Debug, Drop)]
+#[derive(Drop)]
 pub struct ImportOrders {
     /// At most 1,000 orders, of versions 1 to 999 and priorities 1 to 9; other lists aren't well formed.
     pub orders: Items<OrderRow>,
 }
 
 /// Takes an open order back.
-#[derive(Clone, Copy, Debug, PartialEq, Eq)]
+#[derive(Clone, Copy)]
 pub struct CancelOrder {
     pub order: Id,
 }
 
 /// Releases an open order as a batch, with the control recipe of its size (IEC 61512-1).
-#[derive(Clone, Copy, Debug, PartialEq, Eq)]
+#[derive(Clone, Copy)]
 pub struct Release {
     pub order: Id,
     pub batch: Id,
 }
 
 /// Moves a batch by a word of its state table (made after the example of IEC 61512-1).
-#[derive(Clone, Copy, Debug, PartialEq, Eq)]
+#[derive(Clone, Copy)]
 pub struct BatchCommand {
     pub batch: Id,
     /// A word of command; [`Word::Done`] isn't well formed.
@@ -157,13 +157,13 @@ pub struct BatchCommand {
 }
 
 /// Tells that the state of a batch came to its end without a command.
-#[derive(Clone, Copy, Debug, PartialEq, Eq)]
+#[derive(Clone, Copy)]
 pub struct Settle {
     pub batch: Id,
 }
 
 /// Tells that a phase of a running batch was done.
-#[derive(Clone, Copy, Debug, PartialEq, Eq)]
+#[derive(Clone, Copy)]
 pub struct PhaseDone {
     pub batch: Id,
     /// 1 to 128; another number isn't well formed.
@@ -172,13 +172,13 @@ pub struct PhaseDone {
 
 /// Closes a batch that is complete, stopped or aborted. Its order is finished, and nothing more is booked or told of
 /// the batch.
-#[derive(Clone, Copy, Debug, PartialEq, Eq)]
+#[derive(Clone, Copy)]
 pub struct CloseBatch {
     pub batch: Id,
 }
 
 /// Books what a batch takes from a sublot (the material consumed of IEC 62264-4).
-#[derive(Clone, Copy, Debug, PartialEq, Eq)]
+#[derive(Clone, Copy)]
 pub struct Consume {
     pub batch: Id,
     pub lot: Id,
@@ -188,7 +188,7 @@ pub struct Consume {
 }
 
 /// Books what a batch brings as a new lot (the material produced of IEC 62264-4). It lies in the lot's sublot 0.
-#[derive(Clone, Copy, Debug, PartialEq, Eq)]
+#[derive(Clone, Copy)]
 pub struct Produce {
     pub batch: Id,
     pub lot: Id,
@@ -204,7 +204,7 @@ pub const GREATEST_ORDERS: usize = 1000;
 pub const GREATEST_PARTS: usize = 16;
 
 /// One command of the desk.
-#[derive(Clone, Debug, Drop)]
+#[derive(Drop)]
 pub enum Command {
     AddClass(AddClass),
     AddDefinition(AddDefinition),
@@ -262,7 +262,7 @@ pub struct Stamp {
 }
 
 /// A command with its moment, its operator and its note.
-#[derive(Clone, Debug, Drop)]
+#[derive(Drop)]
 pub struct Envelope {
     pub at: Moment,
     pub by: Text,

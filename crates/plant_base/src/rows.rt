@@ -12,7 +12,7 @@ use std::cmp::Ordering;
 pub const NEWEST_SCHEMA: u64 = 2;
 
 /// Where the desk stands: how many commands were accepted, and the moment of the last.
-#[derive(Clone, Copy, Debug, PartialEq, Eq)]
+#[derive(Clone, Copy, PartialEq, Eq)]
 pub struct Position {
     /// The number of accepted commands, 0 to 10^15.
     pub seq: u64,
@@ -21,21 +21,21 @@ pub struct Position {
 }
 
 /// The one row that tells the schema of the tables and where the desk stands.
-#[derive(Clone, Copy, Debug, PartialEq, Eq)]
+#[derive(Clone, Copy, PartialEq, Eq)]
 pub struct Meta {
     pub schema: u64,
     pub position: Position,
 }
 
 /// A material class, which groups material definitions (IEC 62264-2).
-#[derive(Clone, Copy, Debug, PartialEq, Eq)]
+#[derive(Clone, Copy, PartialEq, Eq)]
 pub struct Class {
     pub id: Id,
     pub name: Text,
 }
 
 /// A material definition: a kind of goods, of one class (IEC 62264-2).
-#[derive(Clone, Copy, Debug, PartialEq, Eq)]
+#[derive(Clone, Copy, PartialEq, Eq)]
 pub struct Definition {
     pub id: Id,
     pub class: Id,
@@ -62,7 +62,7 @@ pub struct Header {
 }
 
 /// A version of a master recipe, without its lines.
-#[derive(Clone, Copy, Debug, PartialEq, Eq)]
+#[derive(Clone, Copy, PartialEq, Eq)]
 pub struct Recipe {
     pub header: Header,
     pub state: RecipeState,
@@ -92,7 +92,7 @@ pub enum RecipeLine {
 }
 
 /// A line of a master recipe.
-#[derive(Clone, Copy, Debug, PartialEq, Eq)]
+#[derive(Clone, Copy, PartialEq, Eq)]
 pub struct MasterLine {
     pub recipe: Id,
     pub version: u16,
@@ -102,7 +102,7 @@ pub struct MasterLine {
 }
 
 /// What an order asks for.
-#[derive(Clone, Copy, Debug, PartialEq, Eq)]
+#[derive(Clone, Copy, PartialEq, Eq)]
 pub struct OrderRow {
     pub order: Id,
     pub recipe: Id,
@@ -115,14 +115,14 @@ pub struct OrderRow {
 }
 
 /// A job order: work asked for (IEC 62264-4).
-#[derive(Clone, Copy, Debug, PartialEq, Eq)]
+#[derive(Clone, Copy, PartialEq, Eq)]
 pub struct Job {
     pub order: OrderRow,
     pub state: JobState,
 }
 
 /// A batch as it was released, without what its events made of it.
-#[derive(Clone, Copy, Debug, PartialEq, Eq)]
+#[derive(Clone, Copy, PartialEq, Eq)]
 pub struct Batch {
     pub id: Id,
     /// The order that it was released for.
@@ -133,7 +133,7 @@ pub struct Batch {
 }
 
 /// A batch as its table keeps it: with the columns that are the fold of its events.
-#[derive(Clone, Copy, Debug, PartialEq, Eq)]
+#[derive(Clone, Copy, PartialEq, Eq)]
 pub struct BatchRow {
     pub batch: Batch,
     pub state: BatchState,
@@ -145,7 +145,7 @@ pub struct BatchRow {
 }
 
 /// A line of a batch's control recipe (IEC 61512-1).
-#[derive(Clone, Copy, Debug, PartialEq, Eq)]
+#[derive(Clone, Copy, PartialEq, Eq)]
 pub struct ControlLine {
     pub batch: Id,
     /// 1 to the number of the recipe's lines.
@@ -154,7 +154,7 @@ pub struct ControlLine {
 }
 
 /// What happened to a batch by one command.
-#[derive(Clone, Copy, Debug, PartialEq, Eq)]
+#[derive(Clone, Copy, PartialEq, Eq)]
 pub struct BatchEvent {
     pub seq: u64,
     pub batch: Id,
@@ -165,14 +165,14 @@ pub struct BatchEvent {
 }
 
 /// A material lot: a uniquely identified amount of one definition (IEC 62264-2).
-#[derive(Clone, Copy, Debug, PartialEq, Eq)]
+#[derive(Clone, Copy, PartialEq, Eq)]
 pub struct Lot {
     pub id: Id,
     pub def: Id,
 }
 
 /// Where a material sublot lies, without its stock (IEC 62264-2).
-#[derive(Clone, Copy, Debug, PartialEq, Eq)]
+#[derive(Clone, Copy, PartialEq, Eq)]
 pub struct Place {
     pub lot: Id,
     /// 0 to 99.
@@ -181,7 +181,7 @@ pub struct Place {
 }
 
 /// A material sublot as its table keeps it: with its stock, which is the sum over its movements.
-#[derive(Clone, Copy, Debug, PartialEq, Eq)]
+#[derive(Clone, Copy, PartialEq, Eq)]
 pub struct Sublot {
     pub lot: Id,
     /// 0 to 99.
@@ -192,7 +192,7 @@ pub struct Sublot {
 }
 
 /// What a movement does, with what its kind names.
-#[derive(Clone, Copy, Debug, PartialEq, Eq)]
+#[derive(Clone, Copy, PartialEq, Eq)]
 pub enum MovementKind {
     /// The amount comes to the lot from outside.
     Received,
@@ -211,7 +211,7 @@ pub enum MovementKind {
 }
 
 /// A booking: an amount that entered or left a sublot (the actual material of IEC 62264-4).
-#[derive(Clone, Copy, Debug, PartialEq, Eq)]
+#[derive(Clone, Copy, PartialEq, Eq)]
 pub struct Movement {
     pub seq: u64,
     /// 1 to the number of the command's movements.
@@ -226,7 +226,7 @@ pub struct Movement {
 }
 
 /// What an edge of the genealogy leads from, and what to.
-#[derive(Clone, Copy, Debug, PartialEq, Eq)]
+#[derive(Clone, Copy, PartialEq, Eq)]
 pub enum EdgeKind {
     /// The batch took of the lot.
     LotToBatch,
@@ -251,7 +251,7 @@ impl EdgeKind {
 
 /// An edge of the genealogy: what the one went into or became (the material lot's assembly of IEC 62264-2). A pair has one
 /// edge, however often it was booked.
-#[derive(Clone, Copy, Debug, PartialEq, Eq)]
+#[derive(Clone, Copy, PartialEq, Eq)]
 pub struct EdgeRow {
     pub kind: EdgeKind,
     pub from: Id,
@@ -284,7 +284,7 @@ impl PartialOrd for EdgeRow {
 }
 
 /// A hold: while a lot has one it isn't consumed, split or merged.
-#[derive(Clone, Copy, Debug, PartialEq, Eq)]
+#[derive(Clone, Copy, PartialEq, Eq)]
 pub struct Hold {
     pub lot: Id,
     pub id: Id,

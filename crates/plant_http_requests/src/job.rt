@@ -13,7 +13,7 @@ pub enum Form {
 }
 
 /// What a request asks for. `silent` where the answer's body is left out, as to a HEAD.
-#[derive(Debug, Drop)]
+#[derive(Drop)]
 pub enum Job {
     /// The request is answered by this status alone.
     Refuse {

@@ -17,7 +17,7 @@ use sqlite::Row;
 use std::alloc::{AllocError, Global};
 
 /// The rows of the desk's tables, each table in the order in which it was read: no edges in the first schema.
-#[derive(Debug, Drop)]
+#[derive(Drop)]
 pub struct DeskRows {
     pub meta: Meta,
     pub classes: Vec<Class>,
@@ -36,7 +36,7 @@ pub struct DeskRows {
 }
 
 /// The rows of classes, definitions and master recipes.
-#[derive(Debug, Drop)]
+#[derive(Drop)]
 pub struct MasterRows {
     pub classes: Vec<Class>,
     pub definitions: Vec<Definition>,
@@ -45,7 +45,7 @@ pub struct MasterRows {
 }
 
 /// The rows of orders and batches.
-#[derive(Debug, Drop)]
+#[derive(Drop)]
 pub struct OrderRows {
     pub jobs: Vec<Job>,
     pub batches: Vec<BatchRow>,
@@ -54,7 +54,7 @@ pub struct OrderRows {
 }
 
 /// The rows of lots, what was done with them, and what came of what.
-#[derive(Debug, Drop)]
+#[derive(Drop)]
 pub struct StockRows {
     pub lots: Vec<Lot>,
     pub sublots: Vec<Sublot>,

@@ -14,7 +14,7 @@ use std::alloc::Global;
 use thiserror::Error;
 
 /// What a line says to the desk.
-#[derive(Debug, Drop)]
+#[derive(Drop)]
 pub enum Line {
     /// A command for the desk to execute.
     Command(Envelope),

@@ -10,6 +10,11 @@ pub first_edge : {X : Type 0} {E : X → X → Type 0} {a b : X} → Reach E a b
 first_edge (step {b = y} e) = (y, e)
 first_edge (more r e) = first_edge r
 
+-- and comes to its end by some edge
+pub last_edge : {X : Type 0} {E : X → X → Type 0} {a b : X} → Reach E a b → (x : X) × E x b
+last_edge (step {a = x} e) = (x, e)
+last_edge (more {b = x} r e) = (x, e)
+
 -- two walks, one after the other
 pub joined : {X : Type 0} (E : X → X → Type 0) {a b c : X} → Reach E a b → Reach E b c → Reach E a c
 joined E r (step e) = more r e

@@ -13,10 +13,10 @@ use Rattle.plant_trace.proofs.Growing.{UpTo, here, on, farther, first_edge, join
 pub none_in : {X : Type 0} (x : X) → Contains [] x → ⊥
 none_in x e = omega (arith, e.1)
 
-first_in : {X : Type 0} (y : X) (xs : List X) → Contains (y ∷ xs) y
+pub first_in : {X : Type 0} (y : X) (xs : List X) → Contains (y ∷ xs) y
 first_in y xs = Contains-append_left (y ∷ []) xs y (Contains-push [] y)
 
-rest_in : {X : Type 0} (y : X) (xs : List X) (x : X) → Contains xs x → Contains (y ∷ xs) x
+pub rest_in : {X : Type 0} (y : X) (xs : List X) (x : X) → Contains xs x → Contains (y ∷ xs) x
 rest_in y xs x e = Contains-append_right (y ∷ []) xs x e
 
 pub first_or_rest : {X : Type 0} (y : X) (xs : List X) (x : X) → Contains (y ∷ xs) x → (y ≡ x) ⊎ Contains xs x

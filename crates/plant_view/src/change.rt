@@ -5,7 +5,7 @@ use plant_base::{
 
 /// One change of the desk's tables: a row that is added, or put in the place of the row with its key, or a hold
 /// that is taken away. Rows carry the columns that the tables keep beside the state.
-#[derive(Clone, Copy, Debug, PartialEq, Eq)]
+#[derive(Clone, Copy, PartialEq, Eq)]
 pub enum RowChange {
     Meta(Meta),
     Class(Class),
@@ -27,7 +27,7 @@ pub enum RowChange {
 }
 
 /// What is decided of a command.
-#[derive(Debug, Drop)]
+#[derive(Drop)]
 pub enum Decision {
     /// The command is accepted, and these changes are made in their order.
     Change(Items<RowChange>),

@@ -138,24 +138,3 @@ fn commands_are_executed_in_turn(rt: HostRuntime) -> Result<(), Fail> {
     }
     Ok(())
 }
-
-#[test]
-fn a_clone_is_answered_alike(rt: HostRuntime) -> Result<(), Fail> {
-    let list = commands(rt.alloc())?;
-    let mut keeper = ListKeeper::new(rt.alloc());
-    for envelope in &list {
-        keeper.execute(&envelope.clone()?)?;
-    }
-    stands_at_480(&rt, &mut keeper)?;
-    let absent = part(b"L-1", 1, 1)?;
-    let merged = merge(rt.alloc(), b"L-2", part(b"L-1", 0, 1)?, absent)?.clone()?;
-    assert_eq!(rt;
-        keeper.execute(&merged)?,
-        Reply::Refused(Refusal::UnknownSublot)
-    );
-    match &merged.body {
-        Command::Merge(c) => assert_eq!(rt; c.parts.as_slice().len(), 2),
-        _ => assert!(rt; false),
-    }
-    Ok(())
-}

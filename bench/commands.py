@@ -4,10 +4,10 @@
 
 For each size a desk of so many movements is made in a file, by receipts, scraps, splits and the bookings of batches; then COMMANDS
 commands of each kind are given to one run of the desk, each after the reply to the one before it. What is told of a kind is its commands
-a second and the middle time of one. Beside it stand two peers that take the same lines from a pipe, make the same look-ups and writes in
+a second and the middle time of one. Beside it stand three peers that take the same lines from a pipe, make the same look-ups and writes in
 the same tables of a copy of the file, commit each command durably (WAL, synchronous=FULL) before they answer it, and know no rules but
-those of stock: bench/peer.py, in Python over the standard library's sqlite3, and bench/peer.c, which is left out where gcc or sqlite3.h
-isn't there. The kinds take turns in rounds, so that what else the machine does falls on all alike. At last the desk is asked about a
+those of stock: bench/peer.py, in Python over the standard library's sqlite3, once more with a second sync at each commit, and bench/peer.c, which is
+left out where gcc or sqlite3.h isn't there. The kinds take turns in rounds, so that what else the machine does falls on all alike. At last the desk is asked about a
 lot, an order, itself, a batch, and where a lot came from, and the greatest size of its log is told.
 """
 import json
@@ -143,6 +143,7 @@ def peers(folder, path):
         return shutil.copyfile(path, folder / f"{path.stem}-{name}.db")
 
     yield Keeper("python", sys.executable, HERE / "peer.py", copied("python"))
+    yield Keeper("twice", sys.executable, HERE / "peer.py", copied("twice"), "twice")
     peer = folder / "peer"
     if shutil.which("gcc") and subprocess.run(["gcc", "-O2", "-o", peer, HERE / "peer.c", "-lsqlite3"], stderr=subprocess.DEVNULL).returncode == 0:
         yield Keeper("C", peer, copied("C"))

@@ -1,12 +1,14 @@
 """A peer of the desk in measurements: takes lines of commands as the desk does, over a copy of its file, and makes the same look-ups and
 writes by the standard library's sqlite3.
 
-    peer.py FILE
+    peer.py FILE [twice]
 
-Each command is committed durably (WAL, synchronous=FULL) before it is answered. It knows no rules but that a stock is enough.
+Each command is committed durably (WAL, synchronous=FULL) before it is answered. With `twice` each commit syncs a second time, what it
+wrote to a file beside: the desk's commits sync twice, so that a torn write may leave any bytes. It knows no rules but that a stock is enough.
 bench/commands.py runs it.
 """
 import json
+import os
 import sqlite3
 import sys
 
@@ -15,7 +17,8 @@ KINDS = {"receive": 1, "consume": 2, "produce": 3, "scrap": 4, "split": 6}
 
 
 class Store:
-    def __init__(self, path):
+    def __init__(self, path, is_twice):
+        self.second = os.open(f"{path}-second", os.O_CREAT | os.O_WRONLY) if is_twice else None
         self.db = sqlite3.connect(path, isolation_level=None)
         self.db.execute("PRAGMA journal_mode=WAL")
         self.db.execute("PRAGMA synchronous=FULL")
@@ -67,12 +70,18 @@ class Store:
             ends = {"consume": (lot, batch), "produce": (batch, lot), "split": (lot, new)}[do]
             self.rows("INSERT INTO edge VALUES (?, ?, ?) ON CONFLICT DO NOTHING", EDGES[do], *ends)
         self.rows("UPDATE meta SET seq = ?, at = ? WHERE k = 1", seq, fields["at"])
-        self.rows("COMMIT")
+        self.commit(seq)
         return seq
 
+    def commit(self, seq):
+        self.rows("COMMIT")
+        if self.second is not None:
+            os.pwrite(self.second, seq.to_bytes(8, "little"), 0)
+            os.fdatasync(self.second)
 
-def main(path):
-    store = Store(path)
+
+def main(path, syncs=""):
+    store = Store(path, syncs == "twice")
     for line in sys.stdin.buffer:
         fields = json.loads(line)
         sys.stdout.write('{"ok":%d}\n' % store.book(fields["do"], fields))

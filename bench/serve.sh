@@ -1,7 +1,7 @@
 #!/usr/bin/env bash
 # Questions and commands a second that `serve` answers over 127.0.0.1, one connection after the other, in memory and over a file; beside
 # it what `run` does with the same lines over a file, and what a server of Python's standard library answers that has nothing to look
-# up. Wants the built program (make desk), or another one as PROGRAM. Usage: bench/serve.sh [PROGRAM [QUESTIONS [COMMANDS [FOLDER]]]], by
+# up. Wants gcc and the built program (make desk), or another one as PROGRAM. Usage: bench/serve.sh [PROGRAM [QUESTIONS [COMMANDS [FOLDER]]]], by
 # default build/desk 1000 200 build. The files are in FOLDER: over a disk its syncs are most of a command's time, and differ from run to
 # run; in /dev/shm there are none. bench/serving.py measures, and tells what is in its figures.
 set -eu

@@ -2,11 +2,11 @@
 
     serving.py PROGRAM FOLDER QUESTIONS COMMANDS
 
-Each request is a connection of its own, made when the one before it has been answered, by a client over plain sockets in this process:
-its own time is in every figure of a server, but in that of the server's own processor, which tells how many requests a second one core
-would serve that did nothing else. How much the client takes shows the last server, which does nothing but accept, read once, write a
-text that it holds and close. The file is in FOLDER. Commands are receipts of one definition, each of a lot of its own; then
-questions ask about those lots in turn. What `run` does is measured from its start to its end.
+Each request is a connection of its own, made when the one before it has been answered, by a client in C (bench/client.c, built in
+FOLDER with gcc): its own time is in every figure of a server, but in that of the server's own processor, which tells how many requests
+a second one core would serve that did nothing else. The last server does nothing but accept, read once, write a text that it holds and
+close. The file is in FOLDER. Commands are receipts of one definition, each of a lot of its own; then questions ask about those lots in
+turn. What `run` does is measured from its start to its end.
 """
 import http.server
 import pathlib
@@ -75,17 +75,25 @@ def processor_seconds(process):
     return int(pathlib.Path(f"/proc/{process.pid}/schedstat").read_text().split()[0]) / 1e9
 
 
-def timed(name, port, requests, wanted, server):
-    """Sends requests, each of whose answers has to have a text in it."""
-    start, had = time.monotonic(), processor_seconds(server)
-    for request in requests:
-        text = answer(port, request)
-        if wanted not in text:
-            sys.exit(f"{name}: {request} was answered {text}")
-    told_of(name, len(requests), time.monotonic() - start, processor_seconds(server) - had)
+class Client:
+    """The client, built in a folder."""
+
+    def __init__(self, folder):
+        self.program = folder / "client"
+        source = pathlib.Path(__file__).with_name("client.c")
+        subprocess.run(["gcc", "-O2", "-o", self.program, source], check=True)
+
+    def timed(self, name, port, requests, wanted, server):
+        """Sends requests, each of whose answers has to have a text in it."""
+        told = b"".join(b"%d\n%s" % (len(it), it) for it in requests)
+        had = processor_seconds(server)
+        ran = subprocess.run([self.program, str(port), wanted], input=told, stdout=subprocess.PIPE)
+        if ran.returncode != 0:
+            sys.exit(f"{name}: the client ended with status {ran.returncode}")
+        told_of(name, len(requests), float(ran.stdout), processor_seconds(server) - had)
 
 
-def serve(program, file, name, questions, commands):
+def serve(client, program, file, name, questions, commands):
     """Measures a server over a file, and returns an answer about a lot."""
     port = free_port()
     about_desk = [asked(b"desk")] * questions
@@ -94,11 +102,11 @@ def serve(program, file, name, questions, commands):
     server = subprocess.Popen([program, "serve", file, str(port), str(count)])
     try:
         await_answer(port, asked(b"desk"), server)
-        timed(f"{name}, questions about an empty desk", port, about_desk, b'"seq":0}', server)
+        client.timed(f"{name}, questions about an empty desk", port, about_desk, b'"seq":0}', server)
         for it in PREPARED:
             answer(port, told(it))
-        timed(f"{name}, commands", port, [told(receipt(it + 1)) for it in range(commands)], b'"ok":', server)
-        timed(f"{name}, questions about {commands} lots", port, about_lots, b'"stock":500,', server)
+        client.timed(f"{name}, commands", port, [told(receipt(it + 1)) for it in range(commands)], b'"ok":', server)
+        client.timed(f"{name}, questions about {commands} lots", port, about_lots, b'"stock":500,', server)
         last = answer(port, about_lots[0])
         if server.wait(SECONDS) != 0:
             sys.exit(f"{name} ended with status {server.returncode}")
@@ -152,7 +160,7 @@ def serve_bare(port, text):
                 stream.sendall(text)
 
 
-def other(name, word, text, questions):
+def other(client, name, word, text, questions):
     """Measures a server of this file."""
     port = free_port()
     server = subprocess.Popen([sys.executable, __file__, word, str(port)], stdin=subprocess.PIPE)
@@ -160,20 +168,20 @@ def other(name, word, text, questions):
         server.stdin.write(text)
         server.stdin.close()
         await_answer(port, asked(b"desk"), server)
-        timed(name, port, [asked(b"desk")] * questions, text.rpartition(b"\r\n\r\n")[2], server)
+        client.timed(name, port, [asked(b"desk")] * questions, text.rpartition(b"\r\n\r\n")[2], server)
     finally:
         server.kill()
 
 
 def main(program, folder, questions, commands):
     folder, questions, commands = pathlib.Path(folder), int(questions), int(commands)
-    program = pathlib.Path(program).resolve()
-    serve(program, ":memory:", "serve in memory", questions, commands)
-    text = serve(program, folder / "served.db", "serve over a file", questions, commands)
+    program, client = pathlib.Path(program).resolve(), Client(folder)
+    serve(client, program, ":memory:", "serve in memory", questions, commands)
+    text = serve(client, program, folder / "served.db", "serve over a file", questions, commands)
     run(program, folder / "run.db", questions, commands)
     body = text.rpartition(b"\r\n\r\n")[2]
-    other(f"Python's http.server, {len(body)} bytes that it holds", "fixed", body, questions)
-    other("bare sockets in Python, the same", "bare", text, questions)
+    other(client, f"Python's http.server, {len(body)} bytes that it holds", "fixed", body, questions)
+    other(client, "bare sockets in Python, the same", "bare", text, questions)
 
 
 if __name__ == "__main__":

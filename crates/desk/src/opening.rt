@@ -1,16 +1,13 @@
 //! The file of the desk, opened.
-ghost use Rattle.std.specs.Prelude.{◌≡◌, false, IfOk};
-ghost use Rattle.sqlite.specs.State.{HasCleanDisk};
+ghost use Rattle.std.specs.Prelude.{◌≡◌, false};
 ghost use Rattle.sqlite.specs.Held.{state};
 ghost use Rattle.sqlite.specs.Files.{file_state};
-ghost use Rattle.table_reads.specs.Opened.{IsNewlyOpened};
 
 use crate::working::do_work;
 use desk_program::{Performed, after_closing, tell_opening, tell_outcome};
 use desk_words::Words;
 use sqlite::{Alter, Connection, Error, ErrorCode, FileFrom, FileStore, Start};
-use std::alloc::Global;
-use table_reads::{open_in_memory, reopen};
+use table_reads::{open_file, open_in_memory};
 
 /// The name of the file that stands for memory.
 const IN_MEMORY: &str = ":memory:";
@@ -31,37 +28,6 @@ pub(crate) fn perform_over<S: Start>(rt: &HostRuntime, words: &Words<'_>, start:
     match open_file(rt, words.file, start) {
         Ok(connection) => perform_closing(rt, words, connection),
         Err(error) => tell_opening(&error, &mut rt.stderr()),
-    }
-}
-
-/// A connection over the file, which is made where it isn't there: no transaction is open, it shows what was committed and
-/// a stop leaves just that, and each table stands in the order of its rowids. What it answers where it doesn't open: the
-/// store's error.
-fn open_file<S: Start>(
-    rt: &HostRuntime,
-    file: &str,
-    start: S,
-) -> Result<Connection<FileStore<FileFrom<S>>>, Error>
-    ensures newly { IfOk result (λ c. HasCleanDisk (file_state c) → IsNewlyOpened (file_state c)) }
-    ensures rests { IfOk result (λ c. (file_state c).in_transaction ≡ false) }
-{
-    match Connection::open_from(rt, file, false, start) {
-        Ok(connection) => in_order(rt.alloc(), connection),
-        Err((error, _)) => Err(error),
-    }
-}
-
-/// The same connection opened anew. What it answers where it doesn't open: the store's error.
-fn in_order<S: Alter + Drop>(
-    alloc: Global,
-    connection: Connection<S>,
-) -> Result<Connection<S>, Error>
-    ensures newly { IfOk result (λ c. HasCleanDisk (state S.Store c) → IsNewlyOpened (state S.Store c)) }
-    ensures rests { IfOk result (λ c. (state S.Store c).in_transaction ≡ false) }
-{
-    match reopen(alloc, connection) {
-        Ok(connection) => Ok(connection),
-        Err((error, _)) => Err(error),
     }
 }
 

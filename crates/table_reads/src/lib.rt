@@ -6,6 +6,6 @@ mod opening;
 mod reading;
 mod table;
 
-pub use opening::{open_in_memory, open_over, reopen};
+pub use opening::{open_file, open_in_memory, open_over, reopen};
 pub use reading::read_rows;
 pub use table::{all_free, all_stand, find_rows, read_table};

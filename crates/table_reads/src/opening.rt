@@ -3,10 +3,11 @@ ghost use Rattle.sqlite_trees.specs.View.{doubt, IsClean, IsQuiet};
 ghost use Rattle.sqlite.specs.State.{HasCleanDisk, Opens, IsLive};
 ghost use Rattle.sqlite.specs.Steps.{IsFresh, over_memory};
 ghost use Rattle.sqlite.specs.Held.{state};
+ghost use Rattle.sqlite.specs.Files.{file_state};
 ghost use Rattle.table_reads.specs.Opened.{IsNewlyOpened};
 ghost use Rattle.table_reads.specs.Ordered.{IsRising};
 
-use sqlite::{Alter, Connection, Error, ErrorCode, MemStore};
+use sqlite::{Alter, Connection, Error, ErrorCode, FileFrom, FileStore, MemStore, Start};
 use std::alloc::{AllocError, Global};
 
 /// A connection over a store that was just opened: no transaction is open, it shows what was committed and a stop leaves
@@ -56,4 +57,34 @@ pub fn open_in_memory(alloc: Global) -> Result<Connection<MemStore>, AllocError>
     ensures rests { IfOk result (λ c. (state over_memory c).in_transaction ≡ false) }
 {
     Connection::open_in_memory(alloc)
+}
+
+/// A connection over a file, which is made where it isn't there, as [`open_over`] opens one. `start` stands for what the
+/// file holds before it is opened. What it answers where the file doesn't open: the store's error.
+pub fn open_file<S: Start>(
+    rt: &HostRuntime,
+    file: &str,
+    start: S,
+) -> Result<Connection<FileStore<FileFrom<S>>>, Error>
+    ensures newly { IfOk result (λ c. HasCleanDisk (file_state c) → IsNewlyOpened (file_state c)) }
+    ensures rests { IfOk result (λ c. (file_state c).in_transaction ≡ false) }
+{
+    match Connection::open_from(rt, file, false, start) {
+        Ok(connection) => in_order(rt.alloc(), connection),
+        Err((error, _)) => Err(error),
+    }
+}
+
+/// The same connection opened anew. What it answers where it doesn't open: the store's error.
+fn in_order<S: Alter + Drop>(
+    alloc: Global,
+    connection: Connection<S>,
+) -> Result<Connection<S>, Error>
+    ensures newly { IfOk result (λ c. HasCleanDisk (state S.Store c) → IsNewlyOpened (state S.Store c)) }
+    ensures rests { IfOk result (λ c. (state S.Store c).in_transaction ≡ false) }
+{
+    match reopen(alloc, connection) {
+        Ok(connection) => Ok(connection),
+        Err((error, _)) => Err(error),
+    }
 }

@@ -7,7 +7,7 @@ use crate::fault::Fault;
 use plant_desk::{Answer, Keeper, Question};
 
 /// The schema of a keeper's tables, and how many commands it has accepted.
-#[derive(Clone, Copy, Debug, PartialEq, Eq)]
+#[derive(Clone, Copy)]
 pub(crate) struct Standing {
     pub(crate) schema: u64,
     pub(crate) seq: u64,

@@ -9,7 +9,7 @@ use plant_tables_stored::Loaded;
 use std::alloc::Global;
 
 /// Why loaded rows aren't those of a desk of a schema.
-#[derive(Clone, Copy, Debug, PartialEq, Eq)]
+#[derive(Clone, Copy)]
 pub(crate) enum Unfit {
     /// They break this rule, and none before it.
     Broken(Rule),

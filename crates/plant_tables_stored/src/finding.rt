@@ -37,7 +37,7 @@ pub enum FoundTables {
 }
 
 /// The numbers of a row of table meta.
-#[derive(Clone, Copy, Debug)]
+#[derive(Clone, Copy)]
 struct MetaNumbers {
     k: i64,
     schema: i64,

@@ -20,7 +20,7 @@ use table_reads::{all_free, all_stand, read_table};
 
 /// Every row of the desk's tables as it is stored: the rows of each table by its key, the tables in the order of their
 /// forms. Values that break a rule are kept as they are.
-#[derive(Debug, Drop)]
+#[derive(Drop)]
 pub struct Loaded {
     pub tables: Vec<Vec<Row>>,
 }

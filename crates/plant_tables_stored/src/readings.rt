@@ -15,11 +15,81 @@ use table_forms::Form;
 pub(crate) const SELECT_META: &str = "SELECT k, schema, seq, at FROM meta ORDER BY k";
 
 /// A table, and the text that reads all its rows: the columns in their order, by the first key.
-#[derive(Debug, Drop)]
+#[derive(Drop)]
 pub(crate) struct Reading {
     pub form: Form<'static>,
     pub select: &'static str,
 }
+
+const META_READING: Reading = Reading {
+    form: META,
+    select: SELECT_META,
+};
+
+const CLASS_READING: Reading = Reading {
+    form: CLASS,
+    select: "SELECT id, name FROM class ORDER BY id",
+};
+
+const DEFINITION_READING: Reading = Reading {
+    form: DEFINITION,
+    select: "SELECT id, class, name, unit FROM definition ORDER BY id",
+};
+
+const RECIPE_READING: Reading = Reading {
+    form: RECIPE,
+    select: "SELECT id, version, product, base, low, high, title, state FROM recipe ORDER BY id, version",
+};
+
+const RECIPE_LINE_READING: Reading = Reading {
+    form: RECIPE_LINE,
+    select: "SELECT recipe, version, no, kind, def, qty, t1, t2, t3 FROM recipe_line ORDER BY recipe, version, no",
+};
+
+const JOB_READING: Reading = Reading {
+    form: JOB,
+    select: "SELECT id, recipe, version, size, due, priority, state FROM job ORDER BY id",
+};
+
+const BATCH_READING: Reading = Reading {
+    form: BATCH,
+    select: "SELECT id, job, at, by_who, note, state, attempt, next, closed FROM batch ORDER BY id",
+};
+
+const CONTROL_LINE_READING: Reading = Reading {
+    form: CONTROL_LINE,
+    select: "SELECT batch, no, kind, def, qty, t1, t2, t3 FROM control_line ORDER BY batch, no",
+};
+
+const BATCH_EVENT_READING: Reading = Reading {
+    form: BATCH_EVENT,
+    select: "SELECT seq, batch, word, phase, at, by_who, note FROM batch_event ORDER BY seq",
+};
+
+const LOT_READING: Reading = Reading {
+    form: LOT,
+    select: "SELECT id, def FROM lot ORDER BY id",
+};
+
+const SUBLOT_READING: Reading = Reading {
+    form: SUBLOT,
+    select: "SELECT lot, no, place, stock FROM sublot ORDER BY lot, no",
+};
+
+const MOVEMENT_READING: Reading = Reading {
+    form: MOVEMENT,
+    select: "SELECT seq, line, kind, lot, sub, lot2, sub2, batch, amount, at, by_who, note FROM movement ORDER BY seq, line",
+};
+
+const HOLD_READING: Reading = Reading {
+    form: HOLD,
+    select: "SELECT lot, id, at, by_who, note FROM hold ORDER BY lot, id",
+};
+
+const EDGE_READING: Reading = Reading {
+    form: EDGE,
+    select: "SELECT kind, a, b FROM edge ORDER BY kind, a, b",
+};
 
 /// The reading of each of the desk's tables, in the order of their forms.
 pub(crate) fn desk_readings() -> [Reading; 14]
@@ -27,62 +97,20 @@ pub(crate) fn desk_readings() -> [Reading; 14]
     ensures texts { AllByRecursion SelectsAll result }
 {
     [
-        Reading {
-            form: META,
-            select: SELECT_META,
-        },
-        Reading {
-            form: CLASS,
-            select: "SELECT id, name FROM class ORDER BY id",
-        },
-        Reading {
-            form: DEFINITION,
-            select: "SELECT id, class, name, unit FROM definition ORDER BY id",
-        },
-        Reading {
-            form: RECIPE,
-            select: "SELECT id, version, product, base, low, high, title, state FROM recipe ORDER BY id, version",
-        },
-        Reading {
-            form: RECIPE_LINE,
-            select: "SELECT recipe, version, no, kind, def, qty, t1, t2, t3 FROM recipe_line ORDER BY recipe, version, no",
-        },
-        Reading {
-            form: JOB,
-            select: "SELECT id, recipe, version, size, due, priority, state FROM job ORDER BY id",
-        },
-        Reading {
-            form: BATCH,
-            select: "SELECT id, job, at, by_who, note, state, attempt, next, closed FROM batch ORDER BY id",
-        },
-        Reading {
-            form: CONTROL_LINE,
-            select: "SELECT batch, no, kind, def, qty, t1, t2, t3 FROM control_line ORDER BY batch, no",
-        },
-        Reading {
-            form: BATCH_EVENT,
-            select: "SELECT seq, batch, word, phase, at, by_who, note FROM batch_event ORDER BY seq",
-        },
-        Reading {
-            form: LOT,
-            select: "SELECT id, def FROM lot ORDER BY id",
-        },
-        Reading {
-            form: SUBLOT,
-            select: "SELECT lot, no, place, stock FROM sublot ORDER BY lot, no",
-        },
-        Reading {
-            form: MOVEMENT,
-            select: "SELECT seq, line, kind, lot, sub, lot2, sub2, batch, amount, at, by_who, note FROM movement ORDER BY seq, line",
-        },
-        Reading {
-            form: HOLD,
-            select: "SELECT lot, id, at, by_who, note FROM hold ORDER BY lot, id",
-        },
-        Reading {
-            form: EDGE,
-            select: "SELECT kind, a, b FROM edge ORDER BY kind, a, b",
-        },
+        META_READING,
+        CLASS_READING,
+        DEFINITION_READING,
+        RECIPE_READING,
+        RECIPE_LINE_READING,
+        JOB_READING,
+        BATCH_READING,
+        CONTROL_LINE_READING,
+        BATCH_EVENT_READING,
+        LOT_READING,
+        SUBLOT_READING,
+        MOVEMENT_READING,
+        HOLD_READING,
+        EDGE_READING,
     ]
 }
 

@@ -427,6 +427,28 @@ class Check:
         found = self.run("run", file.name, told=told.told)
         self.expect("commands are numbered up to their limit", found, (1, told.wanted, b""))
 
+    def a_large_desk_is_adopted(self):
+        """Writes the rows of a desk of 70,000 movements, of which each lot was received once and scrapped nine times."""
+        file, lots, at = self.room / "large.db", range(7000), 100
+        self.run("run", file.name, told=Session("").accepted(*GOODS).told)
+        store = sqlite3.connect(file)
+        [(seq,)] = store.execute("SELECT seq FROM meta")
+        movements = (
+            (seq + 10 * lot + it + 1, 1, 4 if it else 1, f"L-{lot}", 0, None, None, None, 1 if it else 100, at, "", "")
+            for lot in lots
+            for it in range(10)
+        )
+        store.executemany("INSERT INTO lot VALUES (?, 'SUGAR')", ((f"L-{it}",) for it in lots))
+        store.executemany("INSERT INTO sublot VALUES (?, 0, 'A1', 91)", ((f"L-{it}",) for it in lots))
+        store.executemany("INSERT INTO movement VALUES (?, ?, ?, ?, ?, ?, ?, ?, ?, ?, ?, ?)", movements)
+        store.execute("UPDATE meta SET seq = ?, at = ?", (seq + 10 * len(lots), at))
+        store.commit()
+        store.close()
+        good = b"good schema 2 seq %d\n" % (seq + 10 * len(lots))
+        self.expect("a desk of 70,000 movements", self.run("verify", file.name), (0, good, b""))
+        told = Session("").asked('{"ask":"lot","lot":"L-6999"}', '{"def":"SUGAR","held":false,"lot":"L-6999","stock":91,"sublots":[{"no":0,"place":"A1","stock":91}]}')
+        self.expect("its last lot", self.run("run", file.name, told=told.told), (0, told.wanted, b""))
+
     def serving(self, file, count):
         """Starts a server of so many connections, and returns it with its port and what it answers to a first question."""
         for _ in range(ATTEMPTS):
@@ -554,6 +576,7 @@ def main(program):
         check.words_tell(batch)
         check.an_older_schema_is_raised(batch)
         check.commands_are_numbered_up_to_their_limit()
+        check.a_large_desk_is_adopted()
         check.tables_are_as_published()
         check.connections_may_break()
     print(f"sessions: {check.passed} passed, {check.failed} failed")

@@ -1,7 +1,6 @@
-//! A bench of the desk's tables and of a desk over them. `write FILE N` makes in a file the tables of a desk that obeys
-//! every rule, with N movements, by one transaction, and `read FILE` reads every row of them; `adopt FILE` adopts it, `ask
-//! FILE` then asks where the desk stands, and `verify FILE` tests all tables once more. Each prints one line. `memory N`
-//! writes and verifies in memory, as is done without words.
+//! A bench of the desk's tables. `write FILE N` makes in a file the tables of a desk that obeys every rule, with N
+//! movements, by one transaction, and `read FILE` reads every row of them; each prints how many. `memory N` writes and
+//! reads in memory, as is done without words.
 #![tactic(auto)]
 
 ghost use Rattle.std.specs.Prelude.{◌≡◌, ◌+◌, ◌*◌, length, IfOk};
@@ -15,15 +14,13 @@ use plant_base::{
     Amount, Class, ControlLine, Definition, Id, Lot, MasterLine, Meta, Moment, Movement,
     MovementKind, NEWEST_SCHEMA, Position, RecipeLine, Sublot, Text, Unit,
 };
-use plant_desk::{Answer, Keeper, Question};
-use plant_desk_store::Desk;
 use plant_tables::{commit_changes, commit_opening};
 use plant_tables_stored::Loaded;
 use plant_view::RowChange;
 use sqlite::{Alter, Connection, File, FileStore};
 use std::alloc::Global;
 use std::process::ExitCode;
-use std::{env, fmt, io};
+use std::{env, io};
 use table_forms::Fault;
 
 /// Each lot is received once and scrapped nine times.
@@ -189,61 +186,12 @@ fn read<S: Alter>(alloc: Global, conn: &mut Connection<S>) -> Result<usize, Faul
     }
 }
 
-/// The desk over a store. Store where its tables are not those of a desk.
-fn adopted<S: Alter + Drop>(alloc: Global, conn: Connection<S>) -> Result<Desk<S>, Fault> {
-    if !conn.is_autocommit() {
-        return Err(Fault::Store);
-    }
-    match Desk::adopt(alloc, conn) {
-        Ok(desk) => Ok(desk),
-        Err(_) => Err(Fault::Store),
-    }
-}
-
-/// What was done.
-#[derive(Clone, Copy)]
-enum Done {
-    /// So many movements were written or read.
-    Moved(u64),
-    Adopted,
-    /// The desk has accepted so many commands.
-    Asked(u64),
-    /// No rule is broken.
-    Verified,
-}
-
-impl fmt::Display for Done {
-    fn fmt<W: fmt::Write>(&self, f: &mut fmt::Formatter<W>) -> fmt::Result {
-        match self {
-            Done::Moved(count) => write!(f, "{count} movements"),
-            Done::Adopted => write!(f, "adopted"),
-            Done::Asked(seq) => write!(f, "{seq} commands"),
-            Done::Verified => write!(f, "no rule is broken"),
-        }
-    }
-}
-
-/// Asks where the desk stands.
-fn asked<S: Alter + Drop>(desk: &mut Desk<S>) -> Result<Done, Fault> {
-    match &desk.ask(&Question::Desk) {
-        Ok(Answer::Desk { seq, .. }) => Ok(Done::Asked(*seq)),
-        _ => Err(Fault::Store),
-    }
-}
-
-/// Tests all tables.
-fn verified<S: Alter + Drop>(desk: &mut Desk<S>) -> Result<Done, Fault> {
-    match desk.verify() {
-        Ok(None) => Ok(Done::Verified),
-        _ => Err(Fault::Store),
-    }
-}
-
-fn in_memory(alloc: Global, count: u64) -> Result<Done, Fault> {
+/// Writes so many movements in memory, and reads them.
+fn in_memory(alloc: Global, count: u64) -> Result<u64, Fault> {
     match Connection::open_in_memory(alloc) {
         Ok(mut conn) => {
             write(alloc, &mut conn, count)?;
-            verified(&mut adopted(alloc, conn)?)
+            Ok(read(alloc, &mut conn)? as u64)
         }
         Err(_) => Err(Fault::Memory),
     }
@@ -256,34 +204,22 @@ fn opened(rt: &HostRuntime, path: &str) -> Result<Connection<FileStore<File>>, F
     }
 }
 
-/// The desk over a file.
-fn desk_of(rt: &HostRuntime, path: &str) -> Result<Desk<FileStore<File>>, Fault> {
-    adopted(rt.alloc(), opened(rt, path)?)
-}
-
 /// The number that a word says.
 fn count_of(word: &String) -> u64 {
     word.as_str().parse::<u64>().unwrap_or(FEW)
 }
 
-/// Does what the words ask for.
-fn run(rt: &HostRuntime, words: &[String]) -> Result<Done, Fault> {
+/// Does what the words ask for: how many movements were written or read.
+fn run(rt: &HostRuntime, words: &[String]) -> Result<u64, Fault> {
     match words {
         [_, word, path, count] if word.as_str() == "write" => {
             let count = count_of(count);
             write(rt.alloc(), &mut opened(rt, path.as_str())?, count)?;
-            Ok(Done::Moved(count))
+            Ok(count)
         }
         [_, word, path] if word.as_str() == "read" => {
-            let count = read(rt.alloc(), &mut opened(rt, path.as_str())?)?;
-            Ok(Done::Moved(count as u64))
+            Ok(read(rt.alloc(), &mut opened(rt, path.as_str())?)? as u64)
         }
-        [_, word, path] if word.as_str() == "adopt" => {
-            desk_of(rt, path.as_str())?;
-            Ok(Done::Adopted)
-        }
-        [_, word, path] if word.as_str() == "ask" => asked(&mut desk_of(rt, path.as_str())?),
-        [_, word, path] if word.as_str() == "verify" => verified(&mut desk_of(rt, path.as_str())?),
         [_, word, count] if word.as_str() == "memory" => in_memory(rt.alloc(), count_of(count)),
         _ => in_memory(rt.alloc(), FEW),
     }
@@ -303,8 +239,8 @@ fn main(rt: HostRuntime) -> ExitCode {
         return ExitCode::from(FAILED);
     };
     match run(&rt, &words) {
-        Ok(done) => {
-            let _ = println!(rt; "{done}");
+        Ok(count) => {
+            let _ = println!(rt; "{count} movements");
             ExitCode::from(0)
         }
         Err(_) => ExitCode::from(FAILED),

@@ -14,7 +14,7 @@ use Rattle.plant_orders.specs.Importing.{import}
 use Rattle.plant_orders.specs.Orders.{orders_of}
 use Rattle.plant_orders.specs.Telling.{csv_text}
 use Rattle.plant_orders.specs.declared.fault.CsvFault.{CsvFault}
-use Rattle.plant_text.specs.Replies.{fault_text}
+use Rattle.plant_text_answers.specs.Replies.{fault_text}
 use Rattle.plant_text.specs.Session.{Entry, command}
 use Rattle.plant_text.specs.Turns.{TurnEnds, FaultWritten}
 use Rattle.plant_text.specs.Writes.{with_lf, AppendsFront}

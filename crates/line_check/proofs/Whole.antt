@@ -14,11 +14,11 @@ use Rattle.plant_base.specs.Formed.{is_version, is_priority, is_phase_number}
 use Rattle.plant_base.specs.Values.{only, is_id, is_text, is_unit, is_amount, is_moment}
 use Rattle.plant_base.specs.declared.command.Command.{Command}
 use Rattle.plant_base.specs.declared.rows.RecipeLine.{RecipeLine}
-use Rattle.plant_text.specs.Fields.{when, string_at, id_at, text_at, unit_at, amount_at, moment_at, sublot_at, version_at, priority_at, phase_at, due_at, text_or_empty, count_of, has_each, is_shape, is_command}
-use Rattle.plant_text.specs.Batches.{command_word, batch_of, settle_of, phase_done_of, close_batch_of, consume_of, produce_of, body_on_batch}
-use Rattle.plant_text.specs.Lists.{each_item, items_at, part_of, order_of, input_of, output_of, parameter_of, phase_of, line_for, line_of}
-use Rattle.plant_text.specs.Plans.{header_of, add_recipe_of, approve_of, withdraw_of, import_orders_of, cancel_order_of, release_of}
-use Rattle.plant_text.specs.Commands.{add_class_of, add_definition_of, receive_of, scrap_of, divide_of, split_of, merge_of, hold_of, unhold_of, body_of, envelope_of}
+use Rattle.plant_text_commands.specs.Fields.{when, string_at, id_at, text_at, unit_at, amount_at, moment_at, sublot_at, version_at, priority_at, phase_at, due_at, text_or_empty, count_of, has_each, is_shape, is_command}
+use Rattle.plant_text_commands.specs.Batches.{command_word, batch_of, settle_of, phase_done_of, close_batch_of, consume_of, produce_of, body_on_batch}
+use Rattle.plant_text_commands.specs.Lists.{each_item, items_at, part_of, order_of, input_of, output_of, parameter_of, phase_of, line_for, line_of}
+use Rattle.plant_text_commands.specs.Plans.{header_of, add_recipe_of, approve_of, withdraw_of, import_orders_of, cancel_order_of, release_of}
+use Rattle.plant_text_commands.specs.Commands.{add_class_of, add_definition_of, receive_of, scrap_of, divide_of, split_of, merge_of, hold_of, unhold_of, body_of, envelope_of}
 use Rattle.plant_text.specs.Questions.{named_id, lot_or_batch, traced_node, question_for, question_of}
 use Rattle.plant_text.specs.Lines.{shape_of, longest_line, line_of as line_of_text}
 use Rattle.plant_text.specs.declared.read.Line.{Line}

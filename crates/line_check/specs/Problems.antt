@@ -5,7 +5,7 @@ use Rattle.std.specs.Str.{bytes_eq}
 use Rattle.serde_json.specs.Data.{Data, Items, no_items, item, Members, no_members, member}
 use Rattle.serde_json.specs.Find.{get, as_array, as_object}
 use Rattle.plant_base.specs.Values.{only, is_text}
-use Rattle.plant_text.specs.Fields.{string_at, count_of}
+use Rattle.plant_text_commands.specs.Fields.{string_at, count_of}
 use Rattle.line_check.specs.declared.members.Member.{Member}
 use Rattle.line_check.specs.declared.members.Member.TheVariants as m
 use Rattle.line_check.specs.declared.problems.Flaw.{Flaw}

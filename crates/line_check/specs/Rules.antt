@@ -6,7 +6,7 @@ use Rattle.serde_json.specs.Find.{as_number, as_u64, as_str, as_array}
 use Rattle.plant_base.specs.Dates.{is_due}
 use Rattle.plant_base.specs.Formed.{is_version, is_priority, is_phase_number}
 use Rattle.plant_base.specs.Values.{is_id, is_text, is_unit, is_amount, is_moment, greatest_sublot}
-use Rattle.plant_text.specs.Batches.{command_word}
+use Rattle.plant_text_commands.specs.Batches.{command_word}
 use Rattle.line_check.specs.declared.rules.Rule.{Rule}
 use Rattle.line_check.specs.declared.rules.Rule.TheVariants as rule
 use Rattle.line_check.specs.Shapes.{is_command_word, is_question_word, is_kind}

@@ -3,7 +3,7 @@ use Rattle.std.specs.Prelude.{ℕ, List, [], ◌∷◌, Bool, if◌then◌else�
 use Rattle.std.specs.Str.{bytes_eq}
 use Rattle.serde_json.specs.Data.{Data, null}
 use Rattle.serde_json.specs.Find.{get}
-use Rattle.plant_text.specs.Fields.{string_at}
+use Rattle.plant_text_commands.specs.Fields.{string_at}
 use Rattle.line_check.specs.declared.members.Member.{Member}
 use Rattle.line_check.specs.declared.members.Member.TheVariants as m
 

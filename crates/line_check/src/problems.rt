@@ -2,7 +2,7 @@
 ghost use Rattle.std.specs.Prelude.{◌≡◌, ◌||◌, Some, option_and_then};
 ghost use Rattle.serde_json.specs.View.{view, items_view, members_view};
 ghost use Rattle.plant_base.specs.Values.{is_text, only};
-ghost use Rattle.plant_text.specs.Fields.{count_of};
+ghost use Rattle.plant_text_commands.specs.Fields.{count_of};
 ghost use Rattle.line_check.specs.Problems.{may_lack, flaw_at, first_flaw, is_listed, first_other};
 ghost use Rattle.line_check.specs.Problems.{other_name, other_flaw, shape_flaw, item_flaw, first_item};
 ghost use Rattle.line_check.specs.Problems.{problem_in_list, list_problem, shared_count, command_problem};

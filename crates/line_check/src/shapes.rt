@@ -1,7 +1,7 @@
 //! Which members commands, questions and the items of lists have, in the order of the formats.
 ghost use Rattle.std.specs.Prelude.{◌≡◌, codes, option_map};
 ghost use Rattle.serde_json.specs.View.{view};
-ghost use Rattle.plant_text.specs.Fields.{string_at};
+ghost use Rattle.plant_text_commands.specs.Fields.{string_at};
 ghost use Rattle.line_check.specs.Shapes.{shared_members, members_on_batch, members_of_word, is_command_word};
 ghost use Rattle.line_check.specs.Shapes.{own_members, traced_members, members_of_question, is_question_word};
 ghost use Rattle.line_check.specs.Shapes.{question_members, members_of_kind, is_kind, line_members};

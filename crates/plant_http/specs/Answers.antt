@@ -16,8 +16,8 @@ use Rattle.plant_desk.specs.declared.reply.DeskFault.{DeskFault}
 use Rattle.plant_desk.specs.declared.reply.DeskFault.TheVariants as fault
 use Rattle.plant_desk.specs.declared.question.BatchView.{BatchView}
 use Rattle.plant_record.specs.Record.{record_text}
-use Rattle.plant_text.specs.Answers.{text_of_answer}
-use Rattle.plant_text.specs.Replies.{reply_text, fault_text}
+use Rattle.plant_text_answers.specs.Answers.{text_of_answer}
+use Rattle.plant_text_answers.specs.Replies.{reply_text, fault_text}
 use Rattle.plant_http_requests.specs.declared.job.Job.{Job}
 use Rattle.plant_http_requests.specs.declared.job.Job.TheVariants as J
 use Rattle.plant_http_requests.specs.declared.job.Form.{Form}

@@ -1,5 +1,5 @@
 -- The batch record as a text: its sections, and what stands in each line.
-use Rattle.std.specs.Prelude.{ℕ, ◌-◌, ◌==◌, Bool, true, false, if◌then◌else◌, List, [], ◌∷◌, ◌++◌, length, replicate, codes, decimal, Option, Some, None, count_by, sum_by}
+use Rattle.std.specs.Prelude.{ℕ, ◌-◌, ◌==◌, Bool, true, false, if◌then◌else◌, List, [], ◌∷◌, ◌++◌, length, replicate, codes, decimal, Option, Some, None, sum_by}
 use Rattle.std.specs.List.{flat_map}
 use Rattle.plant_base.specs.State.{same}
 use Rattle.plant_base.specs.Words.{job_state_name, batch_state_name, word_name}
@@ -12,8 +12,8 @@ use Rattle.plant_base.specs.declared.rows.RecipeLine.{RecipeLine}
 use Rattle.plant_base.specs.declared.rows.RecipeLine.TheVariants as recipe_line
 use Rattle.plant_base.specs.declared.states.Event.{Event}
 use Rattle.plant_base.specs.declared.states.Event.TheVariants as event
-use Rattle.plant_recipe.specs.Form.{is_phase}
 use Rattle.plant_recipe.specs.declared.progress.Progress.{Progress}
+use Rattle.plant_desk.specs.BatchViews.{phases_in}
 use Rattle.plant_desk.specs.declared.question.BatchView.{BatchView}
 use Rattle.plant_desk.specs.declared.question.Booking.{Booking}
 use Rattle.plant_desk.specs.declared.question.MeasuredLine.{MeasuredLine}
@@ -66,10 +66,6 @@ recipe_text order h = items (codes "recipe" ∷ order.recipe ∷ decimal order.v
 
 abbrev pub released_text : Batch → List ℕ
 released_text b = items (codes "released" ∷ at_by b.at b.by b.note ∷ [])
-
--- how many phases a control recipe has
-abbrev pub phases_in : List MeasuredLine → ℕ
-phases_in lines = count_by (λ l. is_phase l.line.line) lines
 
 abbrev pub open_or_closed : Bool → List ℕ
 open_or_closed false = codes "open"

@@ -1,26 +1,13 @@
 //! The head of the record: the batch, its order, its recipe, its release and its state.
 ghost use Rattle.std.specs.Prelude.{◌≡◌, Some};
-ghost use Rattle.plant_recipe.specs.Form.{is_phase};
-ghost use Rattle.plant_record.specs.Record.{batch_text, head_text, open_or_closed, order_text, phases_in};
+ghost use Rattle.plant_record.specs.Record.{batch_text, head_text, open_or_closed, order_text};
 ghost use Rattle.plant_record.specs.Record.{recipe_text, released_text, state_text};
+ghost use Rattle.plant_desk.specs.BatchViews.{phases_in};
 
 use crate::items::AtBy;
-use plant_base::{Batch, Header, Job, OrderRow, RecipeLine};
-use plant_desk::{BatchView, MeasuredLine};
+use plant_base::{Batch, Header, Job, OrderRow};
+use plant_desk::{BatchView, phases_in};
 use std::fmt;
-
-/// How many phases a control recipe has.
-pub fn phases_in(lines: &[MeasuredLine]) -> usize
-    ensures { result ≡ phases_in lines.now }
-{
-    lines.iter().filter(|l| is_phase(l.line.line)).count()
-}
-
-fn is_phase(line: RecipeLine) -> bool
-    ensures { result ≡ is_phase line }
-{
-    matches!(line, RecipeLine::Phase { .. })
-}
 
 /// Which batch it is.
 #[derive(Clone, Copy)]

@@ -8,5 +8,4 @@ mod sections;
 mod totals;
 mod whole;
 
-pub use head::phases_in;
 pub use whole::record;

@@ -1,12 +1,8 @@
-pub mod Each
 pub mod EndLemmas
-pub mod Floats
 pub mod HeldLemmas
 pub mod Known
 pub mod Leaving
 pub mod LineLemmas
-pub mod Listed
 pub mod Reading
 pub mod RunLemmas
-pub mod Shapes
 pub mod TurnLemmas

@@ -7,9 +7,9 @@ use Rattle.std.proofs.lemmas.Str.{IsUtf8-from_is_utf8, is_utf8-from_IsUtf8}
 use Rattle.serde_json.specs.Data.{Data}
 use Rattle.serde_json.specs.Read.{read}
 use Rattle.plant_text.specs.declared.read.Line.{Line}
-use Rattle.plant_text.specs.declared.read.LineFault.{LineFault}
-use Rattle.plant_text.specs.declared.read.LineFault.TheVariants.{BadForm, Memory}
-use Rattle.plant_text.specs.Lists.{Reads}
+use Rattle.plant_text_commands.specs.declared.fault.LineFault.{LineFault}
+use Rattle.plant_text_commands.specs.declared.fault.LineFault.TheVariants.{BadForm, Memory}
+use Rattle.plant_text_commands.specs.Lists.{Reads}
 use Rattle.plant_text.specs.Lines.{shape_of, longest_line, read_shape, line_of}
 
 pub at_value : (bytes : List ℕ) (d : Data) → length bytes ≤ longest_line → IsUtf8 bytes → read bytes ≡ Some d → line_of bytes ≡ shape_of d

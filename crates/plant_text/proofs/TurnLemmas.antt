@@ -11,14 +11,14 @@ use Rattle.plant_desk.specs.declared.question.Question.{Question}
 use Rattle.plant_desk.specs.declared.reply.DeskFault.{DeskFault}
 use Rattle.plant_desk.specs.declared.reply.DeskFault.TheVariants.{Store, Memory, Shut}
 use Rattle.plant_text.specs.Lines.{longest_line, line_of}
-use Rattle.plant_text.specs.Replies.{fault_text}
+use Rattle.plant_text_answers.specs.Replies.{fault_text}
 use Rattle.plant_text.specs.declared.read.Line.{Line}
 use Rattle.plant_text.specs.declared.turns.Stop.{Stop}
 use Rattle.plant_text.specs.declared.turns.Stop.TheVariants as S
 use Rattle.plant_text.specs.Session.{Entry, nothing, bad, command, question, entry_of, entry_where, entry_text, after, is_unknown, FaultLeaves, StopsAt}
 use Rattle.plant_text.specs.Writes.{with_lf, AppendsFront}
 use Rattle.plant_text.specs.Turns.{TurnEnds, FaultWritten, AnswerWritten, BadWritten}
-use Rattle.plant_text.specs.Answers.{text_of_answer}
+use Rattle.plant_text_answers.specs.Answers.{text_of_answer}
 use Rattle.plant_desk.specs.declared.question.Answer.{Answer}
 use Rattle.std.specs.Prelude.{IfErr, IfOk, IsErrAnd}
 

@@ -1,17 +1,7 @@
-pub mod Answers
-pub mod BatchAnswers
-pub mod Batches
-pub mod Commands
-pub mod Fields
 pub mod Held
 pub mod Leaving
 pub mod Lines
-pub mod Lists
-pub mod Natural
-pub mod Plans
 pub mod Questions
-pub mod Replies
 pub mod Session
-pub mod TraceAnswers
 pub mod Turns
 pub mod Writes

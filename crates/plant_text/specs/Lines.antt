@@ -6,7 +6,7 @@ use Rattle.serde_json.specs.Find.{get}
 use Rattle.serde_json.specs.Read.{read}
 use Rattle.plant_text.specs.declared.read.Line.{Line}
 use Rattle.plant_text.specs.declared.read.Line.TheVariants as L
-use Rattle.plant_text.specs.Commands.{envelope_of}
+use Rattle.plant_text_commands.specs.Commands.{envelope_of}
 use Rattle.plant_text.specs.Questions.{question_of}
 
 -- the command or the question that a JSON value is; with `do` and `ask` it would have a member too many for either

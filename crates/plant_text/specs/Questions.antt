@@ -8,7 +8,7 @@ use Rattle.plant_trace.specs.declared.node.Node.{Node}
 use Rattle.plant_trace.specs.declared.node.Node.TheVariants.{Lot, Batch}
 use Rattle.plant_desk.specs.declared.question.Question.{Question}
 use Rattle.plant_desk.specs.declared.question.Question.TheVariants as Q
-use Rattle.plant_text.specs.Fields.{when, string_at, id_at, is_shape}
+use Rattle.plant_text_commands.specs.Fields.{when, string_at, id_at, is_shape}
 
 abbrev pub desk_of : Data → Option Question
 desk_of d = when (is_shape (codes "ask" ∷ []) d) (Some Q.Desk)

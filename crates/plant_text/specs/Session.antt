@@ -17,8 +17,8 @@ use Rattle.plant_desk.specs.declared.reply.Reply.TheVariants.{Accepted, Refused}
 use Rattle.plant_desk.specs.declared.reply.DeskFault.{DeskFault}
 use Rattle.plant_desk.specs.declared.reply.DeskFault.TheVariants.{Store, Memory, Shut}
 use Rattle.plant_text.specs.Lines.{line_of}
-use Rattle.plant_text.specs.Replies.{reply_text, fault_text}
-use Rattle.plant_text.specs.Answers.{text_of_answer}
+use Rattle.plant_text_answers.specs.Replies.{reply_text, fault_text}
+use Rattle.plant_text_answers.specs.Answers.{text_of_answer}
 use Rattle.plant_text.specs.Writes.{with_lf, AppendsFront}
 use Rattle.plant_text.specs.declared.read.Line.{Line}
 use Rattle.plant_text.specs.declared.read.Line.TheVariants as L

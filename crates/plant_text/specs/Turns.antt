@@ -8,8 +8,8 @@ use Rattle.plant_desk.specs.declared.reply.Reply.TheVariants.{Refused}
 use Rattle.plant_desk.specs.declared.question.Answer.{Answer}
 use Rattle.plant_desk.specs.declared.reply.DeskFault.{DeskFault}
 use Rattle.plant_desk.specs.declared.reply.DeskFault.TheVariants.{Memory}
-use Rattle.plant_text.specs.Answers.{text_of_answer}
-use Rattle.plant_text.specs.Replies.{reply_text, fault_text}
+use Rattle.plant_text_answers.specs.Answers.{text_of_answer}
+use Rattle.plant_text_answers.specs.Replies.{reply_text, fault_text}
 use Rattle.plant_text.specs.Writes.{with_lf, AppendsFront}
 use Rattle.plant_text.specs.Session.{Entry, entry_text, after, is_refused, is_unknown, Told, StopsAt, Stopped}
 use Rattle.plant_text.specs.declared.run.RunEnd.{RunEnd}

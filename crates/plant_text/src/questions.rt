@@ -4,9 +4,9 @@ ghost use Rattle.serde_json.specs.View.{view};
 ghost use Rattle.plant_text.specs.Questions.{desk_of, named_id, lot_of, order_of, batch_of, traced_node};
 ghost use Rattle.plant_text.specs.Questions.{trace_of, question_for, question_of};
 
-use crate::fields::{id_at, is_shape};
 use plant_base::Id;
 use plant_desk::Question;
+use plant_text_commands::{id_at, is_shape};
 use plant_trace::{Direction, Node};
 use serde_json::Value;
 

@@ -3,15 +3,14 @@ ghost use Rattle.std.specs.Prelude.{◌≡◌, ◌<◌, length, Some, None, IfOk
 ghost use Rattle.serde_json.specs.Errors.{IsMemory};
 ghost use Rattle.serde_json.specs.View.{view};
 ghost use Rattle.plant_text.specs.Lines.{longest_line, shape_of, line_of};
-ghost use Rattle.plant_text.specs.Lists.{Reads};
+ghost use Rattle.plant_text_commands.specs.Lists.{Reads};
 
-use crate::commands::envelope_of;
 use crate::questions::question_of;
 use plant_base::Envelope;
 use plant_desk::Question;
+use plant_text_commands::{LineFault, envelope_of};
 use serde_json::Value;
 use std::alloc::Global;
-use thiserror::Error;
 
 /// What a line says to the desk.
 #[derive(Drop)]
@@ -20,17 +19,6 @@ pub enum Line {
     Command(Envelope),
     /// A question about the desk's state.
     Question(Question),
-}
-
-/// Why a line says nothing.
-#[derive(Clone, Copy, Debug, PartialEq, Eq, Error)]
-pub enum LineFault {
-    /// The line is longer than 262,144 bytes or no JSON text in UTF-8, or its value has the shape of no command and of no question.
-    #[error("no command and no question")]
-    BadForm,
-    /// Memory was refused while the line was read. Nothing is said of the line.
-    #[error("out of memory")]
-    Memory,
 }
 
 fn fault_of(error: &serde_json::Error) -> LineFault

@@ -6,12 +6,12 @@ ghost use Rattle.plant_text.specs.Session.{entry_of, is_refusal, is_unknown, com
 ghost use Rattle.plant_text.specs.Session.{question as question_entry};
 ghost use Rattle.plant_text.specs.Turns.{TurnEnds, FaultWritten, AnswerWritten, BadWritten};
 
-use crate::answers::answer_text;
-use crate::read::{Line, LineFault, read_line};
-use crate::replies::{fault_line, reply_line};
+use crate::read::{Line, read_line};
 use crate::writes::write_line;
 use plant_base::{Envelope, Refusal};
 use plant_desk::{Answer, DeskFault, Keeper, Question, Reply};
+use plant_text_answers::{answer_text, fault_line, reply_line};
+use plant_text_commands::LineFault;
 use std::alloc::Global;
 use std::io::Write;
 

@@ -1,7 +1,7 @@
 use Rattle.std.proofs.Common.{◌≡◌, ◌≤◌, ◌∙◌, length, subst, sym, Option, arith}
 use Rattle.std.specs.Prelude.{IfOk, Some}
 use Rattle.plant_text.specs.declared.read.Line.{Line}
-use Rattle.plant_text.specs.declared.read.LineFault.TheVariants.{BadForm}
+use Rattle.plant_text_commands.specs.declared.fault.LineFault.TheVariants.{BadForm}
 use Rattle.plant_text.specs.Lines.{longest_line}
 use Rattle.plant_text.proofs.Reading.{at_value, at_refusal, line_long, read_ok, read_bad_form}
 use Rattle.plant_text.proofs.read.read_line.Goals as goal

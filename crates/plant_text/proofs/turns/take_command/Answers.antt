@@ -1,7 +1,7 @@
 use Rattle.std.proofs.Common.{ap, ◌∙◌}
 use Rattle.plant_text.specs.Session.{command}
 use Rattle.plant_text.specs.Writes.{with_lf}
-use Rattle.plant_text.specs.Replies.{reply_text}
+use Rattle.plant_text_answers.specs.Replies.{reply_text}
 use Rattle.plant_text.proofs.TurnLemmas.{stops_by_fault, stops_unwritten, command_faults}
 use Rattle.plant_text.proofs.turns.take_command.Goals as goal
 

@@ -1,0 +1,5 @@
+pub mod Answers
+pub mod BatchAnswers
+pub mod Natural
+pub mod Replies
+pub mod TraceAnswers

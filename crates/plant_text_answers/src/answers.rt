@@ -1,0 +1,115 @@
+//! The texts of answers.
+ghost use Rattle.std.specs.Prelude.{◌≡◌, IfOk, string_bytes};
+ghost use Rattle.serde_json.specs.Data.{array};
+ghost use Rattle.serde_json.specs.View.{view};
+ghost use Rattle.serde_json.specs.Written.{compact_text};
+ghost use Rattle.plant_text_answers.specs.Answers.{desk_data, sublot_data, sublots_data, lot_data, id_or_null};
+ghost use Rattle.plant_text_answers.specs.Answers.{order_data, text_of_answer};
+
+use crate::batch_answers::batch_text;
+use crate::replies::refusal_line;
+use crate::trace_answers::trace_text;
+use plant_base::{Id, Sublot};
+use plant_desk::{Answer, LotAnswer, OrderAnswer};
+use serde_json::{Value, json};
+use std::alloc::{AllocError, Global};
+
+fn desk_value(alloc: Global, schema: u64, seq: u64) -> Result<Value, AllocError>
+    ensures { IfOk result (λ v. view v ≡ desk_data schema seq) }
+{
+    json!(in alloc; {"schema": schema, "seq": seq})
+}
+
+fn sublot_value(alloc: Global, sublot: &Sublot) -> Result<Value, AllocError>
+    ensures { IfOk result (λ v. view v ≡ sublot_data sublot.now) }
+{
+    let number = sublot.number;
+    let place = sublot.place.as_str();
+    let stock = sublot.stock;
+    json!(in alloc; {"no": number, "place": place, "stock": stock})
+}
+
+fn sublots_value(alloc: Global, sublots: &[Sublot]) -> Result<Value, AllocError>
+    ensures { IfOk result (λ v. view v ≡ array (sublots_data sublots.now)) }
+{
+    let mut list = Vec::new(alloc);
+    for sublot in sublots {
+        let value = sublot_value(alloc, sublot)?;
+        list.push(value)?;
+    }
+    Ok(Value::Array(list))
+}
+
+fn lot_value(alloc: Global, lot: &LotAnswer) -> Result<Value, AllocError>
+    ensures { IfOk result (λ v. view v ≡ lot_data lot.now) }
+{
+    let def = lot.def.as_str();
+    let id = lot.lot.as_str();
+    let held = lot.held;
+    let stock = lot.stock;
+    let sublots = sublots_value(alloc, lot.sublots.as_slice())?;
+    json!(in alloc; {"def": def, "held": held, "lot": id, "stock": stock, "sublots": sublots})
+}
+
+fn lot_text(alloc: Global, lot: &LotAnswer) -> Result<String, AllocError>
+    ensures { IfOk result (λ s. string_bytes s ≡ compact_text (lot_data lot.now)) }
+{
+    let value = lot_value(alloc, lot)?;
+    value.to_string(alloc)
+}
+
+fn batch_value(alloc: Global, batch: Option<Id>) -> Result<Value, AllocError>
+    ensures { IfOk result (λ v. view v ≡ id_or_null batch) }
+{
+    match batch {
+        None => Ok(Value::Null),
+        Some(id) => json!(in alloc; (id.as_str())),
+    }
+}
+
+fn order_value(alloc: Global, answer: &OrderAnswer) -> Result<Value, AllocError>
+    ensures { IfOk result (λ v. view v ≡ order_data answer.now) }
+{
+    let order = answer.job.order;
+    let batch = batch_value(alloc, answer.batch)?;
+    let due = order.due.as_str();
+    let id = order.order.as_str();
+    let recipe = order.recipe.as_str();
+    let size = order.size.get();
+    let state = answer.job.state.name();
+    json!(in alloc; {
+        "batch": batch, "due": due, "order": id, "priority": (order.priority), "recipe": recipe,
+        "size": size, "state": state, "version": (order.version)
+    })
+}
+
+fn order_text(alloc: Global, answer: &OrderAnswer) -> Result<String, AllocError>
+    ensures { IfOk result (λ s. string_bytes s ≡ compact_text (order_data answer.now)) }
+{
+    let value = order_value(alloc, answer)?;
+    value.to_string(alloc)
+}
+
+/// The text of an answer, without an LF: JSON with no blanks, the members by the bytes of their names.
+///
+/// - of the desk `{"schema":N,"seq":N}`
+/// - of a lot `{"def":ID,"held":BOOL,"lot":ID,"stock":N,"sublots":[{"no":N,"place":TEXT,"stock":N}]}`
+/// - of an order `{"batch":ID or null,"due":"YYYY-MM-DD","order":ID,"priority":N,"recipe":ID,"size":N,"state":WORD,"version":N}`
+/// - of a batch `{"attempt":N,"batch":ID,"closed":BOOL,"consumed":[{"amount":N,"def":ID,"lot":ID,"seq":N,"sub":N}],
+///   "next":N,"order":ID,"phases":N,"produced":[{"amount":N,"def":ID,"lot":ID,"seq":N}],"recipe":ID,"size":N,
+///   "state":WORD,"version":N}`
+/// - of a trace `{"nodes":[{"lot":ID},{"batch":ID}]}`
+/// - of an unknown id the refusal's text, as [`crate::reply_line`] gives it
+#[tactic(auto, unfolding(crate::specs::Answers::text_of_answer))]
+pub fn answer_text(alloc: Global, answer: &Answer) -> Result<String, AllocError>
+    ensures { IfOk result (λ s. string_bytes s ≡ text_of_answer answer.now) }
+{
+    match answer {
+        Answer::Desk { schema, seq } => desk_value(alloc, *schema, *seq)?.to_string(alloc),
+        Answer::Lot(lot) => lot_text(alloc, lot),
+        Answer::Order(order) => order_text(alloc, order),
+        Answer::Batch(batch) => batch_text(alloc, batch),
+        Answer::Trace(nodes) => trace_text(alloc, nodes.as_slice()),
+        Answer::Unknown(refusal) => String::from_str(alloc, refusal_line(*refusal).as_str()),
+    }
+}

@@ -1,0 +1,79 @@
+//! The texts of answers about batches.
+ghost use Rattle.std.specs.Prelude.{◌≡◌, IfOk, string_bytes};
+ghost use Rattle.serde_json.specs.Data.{array};
+ghost use Rattle.serde_json.specs.View.{view};
+ghost use Rattle.serde_json.specs.Written.{compact_text};
+ghost use Rattle.plant_text_answers.specs.BatchAnswers.{consumed_data, produced_data, booking_data, bookings_data};
+ghost use Rattle.plant_text_answers.specs.BatchAnswers.{batch_data};
+
+use plant_desk::{BatchView, Booking, phases_in};
+use serde_json::{Value, json};
+use std::alloc::{AllocError, Global};
+
+fn consumed_value(alloc: Global, booking: &Booking) -> Result<Value, AllocError>
+    ensures { IfOk result (λ v. view v ≡ consumed_data booking.now) }
+{
+    let amount = booking.amount.get();
+    let def = booking.def.as_str();
+    let lot = booking.lot.as_str();
+    json!(in alloc; {"amount": amount, "def": def, "lot": lot, "seq": (booking.seq), "sub": (booking.sub)})
+}
+
+fn produced_value(alloc: Global, booking: &Booking) -> Result<Value, AllocError>
+    ensures { IfOk result (λ v. view v ≡ produced_data booking.now) }
+{
+    let amount = booking.amount.get();
+    let def = booking.def.as_str();
+    let lot = booking.lot.as_str();
+    json!(in alloc; {"amount": amount, "def": def, "lot": lot, "seq": (booking.seq)})
+}
+
+// What was taken has its sublot, what was brought has none.
+fn booking_value(alloc: Global, booking: &Booking, taken: bool) -> Result<Value, AllocError>
+    ensures { IfOk result (λ v. view v ≡ booking_data taken booking.now) }
+{
+    if taken {
+        consumed_value(alloc, booking)
+    } else {
+        produced_value(alloc, booking)
+    }
+}
+
+fn bookings_value(alloc: Global, bookings: &[Booking], taken: bool) -> Result<Value, AllocError>
+    ensures { IfOk result (λ v. view v ≡ array (bookings_data taken bookings.now)) }
+{
+    let mut list = Vec::new(alloc);
+    for booking in bookings {
+        let value = booking_value(alloc, booking, taken)?;
+        list.push(value)?;
+    }
+    Ok(Value::Array(list))
+}
+
+fn batch_value(alloc: Global, batch: &BatchView) -> Result<Value, AllocError>
+    ensures { IfOk result (λ v. view v ≡ batch_data batch.now) }
+{
+    let progress = batch.progress;
+    let planned = batch.job.order;
+    let id = batch.batch.id.as_str();
+    let consumed = bookings_value(alloc, batch.consumed.as_slice(), true)?;
+    let order = planned.order.as_str();
+    let phases = phases_in(batch.lines.as_slice());
+    let produced = bookings_value(alloc, batch.produced.as_slice(), false)?;
+    let recipe = planned.recipe.as_str();
+    let size = planned.size.get();
+    let state = progress.state.name();
+    json!(in alloc; {
+        "attempt": (progress.attempt), "batch": id, "closed": (progress.closed), "consumed": consumed,
+        "next": (progress.next), "order": order, "phases": phases, "produced": produced,
+        "recipe": recipe, "size": size, "state": state, "version": (planned.version)
+    })
+}
+
+/// The text of what is known of a batch.
+pub(crate) fn batch_text(alloc: Global, batch: &BatchView) -> Result<String, AllocError>
+    ensures { IfOk result (λ s. string_bytes s ≡ compact_text (batch_data batch.now)) }
+{
+    let value = batch_value(alloc, batch)?;
+    value.to_string(alloc)
+}

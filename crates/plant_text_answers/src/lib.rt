@@ -1,0 +1,10 @@
+//! The texts of replies, of faults and of answers: JSON (RFC 8259) with no blanks.
+#![tactic(auto)]
+
+mod answers;
+mod batch_answers;
+mod replies;
+mod trace_answers;
+
+pub use answers::answer_text;
+pub use replies::{ReplyText, fault_line, reply_line};

@@ -1,0 +1,5 @@
+pub mod Batches
+pub mod Commands
+pub mod Fields
+pub mod Lists
+pub mod Plans

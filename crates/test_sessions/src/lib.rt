@@ -1,6 +1,6 @@
 //! Two keepers that reply alike, runs of lines and requests over HTTP in pieces and over streams that fail, runs of
 //! commands, connections of a listener, and the program's words: what each writes over a store in memory where something
-//! fails, and the exit status. How words are read, and what a desk answers to sessions that go well or are refused, is
+//! fails or its log stops, and the exit status. How words are read, and what a desk answers to sessions that go well or are refused, is
 //! tested on the built program, by examples/sessions.py and examples/run.py.
 #![tactic(auto)]
 
@@ -28,5 +28,7 @@ mod slow_tests;
 mod streams;
 #[cfg(test)]
 mod word_sessions;
+#[cfg(test)]
+mod word_stops;
 #[cfg(test)]
 mod words_told;

@@ -1,12 +1,11 @@
 //! Commands over files, and what the tables hold after none of them and after each.
 use crate::commands::{an_import, five_commands, ten_commands, twenty_commands};
 use crate::desks::{accepted, desk_over};
-use crate::files::{ALL, Image, closed, reopened};
 use crate::raised::lower;
-use crate::told::tables_told;
 use plant_base::Envelope;
 use std::process::Abort;
 use std::test::Fail;
+use test_files::{ALL, Image, closed, reopened, tables_told};
 
 /// What is done over files.
 #[derive(Clone, Copy, PartialEq, Eq)]

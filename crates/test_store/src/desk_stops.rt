@@ -4,11 +4,6 @@ use crate::courses::{
     Course, Work, an_import_of_orders, tables_to_raise, ten_from_nothing, twenty_of_a_new_desk,
 };
 use crate::desks::{adopted, desk_over};
-use crate::files::{
-    ALL, Calls, Fused, Image, InMemory, Stopped, are_running, closed, crashed, opened_with_log_of,
-    reopened,
-};
-use crate::told::tables_told;
 use plant_base::{Envelope, NEWEST_SCHEMA};
 use plant_desk::{DeskFault, Keeper, Question, Reply};
 use plant_desk_store::{AdoptFault, Desk};
@@ -16,6 +11,10 @@ use plant_migrate::{RaiseFault, raise};
 use sqlite::Alter;
 use std::process::Abort;
 use std::test::Fail;
+use test_files::{
+    ALL, Calls, Fused, Image, InMemory, Stopped, are_running, closed, crashed, opened_with_log_of,
+    reopened, tables_told,
+};
 
 /// No run has so many calls of a file.
 const FAR: u64 = 5000;

@@ -1,7 +1,6 @@
 //! A store of the first schema is raised to the newest when it is adopted, and answers as before. Its declarations and rows
 //! were written by hand.
 use crate::desks::{accepted, adopted, desk_over, run_ten};
-use crate::told::tables_told;
 use plant_base::Id;
 use plant_check::Rule;
 use plant_desk::{Answer, Keeper, Question};
@@ -11,6 +10,7 @@ use sqlite::{Alter, Connection, MemStore};
 use std::alloc::{AllocGlobal, Global};
 use std::process::Abort;
 use std::test::Fail;
+use test_files::tables_told;
 
 /// The tables of the first schema.
 const FIRST_SCHEMA: &str = "

@@ -1,11 +1,11 @@
 //! Every kind of row is written, overwritten and read back, beside a table of another name.
 use crate::expected::{FIRST, OPENING, SECOND};
-use crate::files::{ALL, Image, reopened};
 use crate::store::{Step, held, make_other, take};
 use sqlite::{Alter, Connection};
 use std::process::Abort;
 use std::test::Fail;
 use table_forms::Fault;
+use test_files::{ALL, Image, reopened};
 
 /// Does the step, and compares what the store then holds.
 fn check<S: Alter>(

@@ -1,11 +1,11 @@
 //! A transaction over files that are stopped after so many calls of one of them, for every number of calls. Opened anew,
 //! the files hold the tables from before it or from after it, and those from after it where it was answered.
 use crate::expected::{FIRST, OPENING, SECOND};
-use crate::files::{ALL, Calls, Image, InMemory, Stopped, crashed, opened, reopened};
 use crate::store::{Step, held, make_other, take};
 use sqlite::{Alter, Connection};
 use std::process::Abort;
 use std::test::Fail;
+use test_files::{ALL, Calls, Image, InMemory, Stopped, crashed, opened, reopened};
 
 /// A stop after so many calls that no run comes to it.
 const FAR: u64 = 5000;

@@ -1,10 +1,10 @@
 //! A run of the program over files that are stopped after so many calls of the log, for every number of calls: the fault
 //! has its line on standard output, behind the replies of what was kept before it, and its line on standard error.
-use crate::files::{Image, Stopped, opened};
 use desk_program::perform;
 use desk_words::Task;
 use std::process::Abort;
 use std::test::Fail;
+use test_files::{Image, Stopped, opened};
 
 /// No run has so many calls of the log.
 const FAR: u64 = 2000;

@@ -41,7 +41,7 @@ pub fn push_row(
 }
 
 /// A line for each row, the tables in the order in which they are made.
-pub fn push_loaded(text: &mut String, alloc: Global, loaded: &Loaded) -> Result<(), AllocError> {
+fn push_loaded(text: &mut String, alloc: Global, loaded: &Loaded) -> Result<(), AllocError> {
     let forms = desk_forms();
     for place in 0..forms.len() {
         let form = &forms[place];

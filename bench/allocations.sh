@@ -4,8 +4,9 @@
 # with one line on standard error and the status of that fault: want of memory, or a store that failed for it. A program
 # that reads its words before anything else may also end as with wrong words, status 2 and nothing written.
 #
-# Wants gcc and the built program (make desk, make order_check). Usage: bench/allocations.sh [PROGRAM [INPUT [STEP]]], by
-# default build/desk, the session beside it, and each allocation; with a STEP only each so many-th is refused.
+# Wants gcc and the built program (make desk, make order_check, or `rt run` in crates/bench_lists for the keeper of lists). Usage:
+# bench/allocations.sh [PROGRAM [INPUT [STEP]]], by default build/desk, the session beside it, and each allocation; with a STEP only
+# each so many-th is refused.
 set -eu
 cd "$(dirname "$0")/.."
 program=$(realpath "${1:-build/desk}")

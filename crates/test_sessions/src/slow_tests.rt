@@ -1,9 +1,9 @@
 //! Sessions over readers that give a byte a read and writers that take three bytes a write, and fail.
 use crate::pieces::{ENOUGH, Narrow, Trickle};
-use crate::session::{REPLIES, SESSION};
 use plant_desk::ListKeeper;
 use plant_text::{RunEnd, run_lines};
 use std::test::Fail;
+use test_files::{REPLIES, SESSION};
 
 /// What a new desk over lists writes for an input, a byte a read and three bytes a write, up to so many of each.
 fn slow_session(

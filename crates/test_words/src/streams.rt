@@ -1,6 +1,5 @@
 //! Streams that fail.
 use crate::ended::{INIT, RUN, VERIFY};
-use crate::session::SESSION;
 use desk_program::perform;
 use desk_words::Task;
 use std::io;
@@ -8,6 +7,7 @@ use std::io::{Read, Write};
 use std::process::Abort;
 use std::test::Fail;
 use table_reads::open_in_memory;
+use test_files::SESSION;
 
 /// Fails at the first read.
 #[derive(Drop)]

@@ -1,10 +1,10 @@
 //! A desk that was told a session.
-use crate::session::{REPLIES, SESSION};
 use desk_program::run;
 use plant_desk_store::Desk;
 use sqlite::{Alter, Connection};
 use std::process::Abort;
 use std::test::Fail;
+use test_files::{REPLIES, SESSION};
 
 /// A desk over the store, in which no transaction may be open, after the five lines of the session.
 pub fn after_session<S: Alter + Drop>(

@@ -1,11 +1,11 @@
 //! Stores that aren't adopted: nothing is written to standard output.
 use crate::ended::{Outcome, RUN, VERIFY, is_fault, performed};
-use crate::session::SESSION;
 use crate::word_sessions::after_session;
 use desk_words::Task;
 use sqlite::Connection;
 use std::process::Abort;
 use std::test::Fail;
+use test_files::SESSION;
 
 /// Runs the program over a store that was changed by hand after the session.
 fn ended_over(rt: &(impl Abort + AllocGlobal), task: &Task, change: &str) -> Result<Outcome, Fail> {

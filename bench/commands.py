@@ -1,14 +1,16 @@
 """Measures commands over desks of some sizes. bench/commands.sh calls it.
 
-    commands.py PROGRAM FOLDER COMMANDS SIZE ..
+    commands.py PROGRAM FOLDER COMMANDS file|memory SIZE ..
 
 For each size a desk of so many movements is made in a file, by receipts, scraps, splits and the bookings of batches; then COMMANDS
 commands of each kind are given to one run of the desk, each after the reply to the one before it. What is told of a kind is its commands
-a second and the middle time of one. Beside it stand three peers that take the same lines from a pipe, make the same look-ups and writes in
+a second and the middle time of one. Beside it stand peers that take the same lines from a pipe, make the same look-ups and writes in
 the same tables of a copy of the file, commit each command durably (WAL, synchronous=FULL) before they answer it, and know no rules but
-those of stock: bench/peer.py, in Python over the standard library's sqlite3, once more with a second sync at each commit, and bench/peer.c, which is
-left out where gcc or sqlite3.h isn't there. The kinds take turns in rounds, so that what else the machine does falls on all alike. At last the desk is asked about a
-lot, an order, itself, a batch, and where a lot came from, and the greatest size of its log is told.
+those of stock: bench/peer.py, in Python over the standard library's sqlite3, and bench/peer.c, which is left out where gcc or sqlite3.h
+isn't there; each of them once more with a second sync at each commit, as the desk's commits have. With `memory` the desk and the peers
+keep their tables in memory instead, and none syncs. The kinds take turns in rounds, so that what else the machine does falls on all
+alike. At last the desk is asked about a lot, an order, itself, a batch, and where a lot came from, and the greatest size of its log is
+told.
 """
 import json
 import pathlib
@@ -112,16 +114,26 @@ def batch(number):
     yield line("scrap", lot=f"D-{number}-1", sub=0, amount=1)
 
 
-def make(program, path, size):
-    """Makes a desk of so many movements, and returns the greatest size that its log had, as it is seen now and then, and the kilobytes of
-    memory that the run had at most."""
-    desk = Keeper("desk", program, "run", path)
+def fill(desk, size, after_some=lambda: None):
+    """Gives a new desk so many movements, and calls what is to be done after some."""
     desk.give_all(list(beginning()))
-    log, greatest = pathlib.Path(f"{path}-wal"), 0
     for first in range(0, size // 9, 100):
         numbers = range(first, min(first + 100, size // 9))
         desk.give_all([it for number in numbers for it in batch(number)])
+        after_some()
+
+
+def make(program, path, size):
+    """Makes a file of so many movements, and returns the greatest size that its log had, as it is seen now and then, and the kilobytes of
+    memory that the run had at most."""
+    desk = Keeper("desk", program, "run", path)
+    log, greatest = pathlib.Path(f"{path}-wal"), 0
+
+    def see_log():
+        nonlocal greatest
         greatest = max(greatest, log.stat().st_size)
+
+    fill(desk, size, see_log)
     memory = desk.memory()
     if desk.close() != 0:
         sys.exit("the desk was not made")
@@ -137,16 +149,21 @@ def kinds(count, last):
     yield "produce", [("produce", {"batch": last, "lot": f"P-{k}", "def": "DOUGH", "amount": 1, "place": "A1"}) for k in range(count)]
 
 
-def peers(folder, path):
+def peers(folder, path, is_in_memory):
     """Returns the peers, each over a copy of the file."""
     def copied(name):
         return shutil.copyfile(path, folder / f"{path.stem}-{name}.db")
 
-    yield Keeper("python", sys.executable, HERE / "peer.py", copied("python"))
-    yield Keeper("twice", sys.executable, HERE / "peer.py", copied("twice"), "twice")
+    programs = {"python": [sys.executable, HERE / "peer.py"]}
     peer = folder / "peer"
     if shutil.which("gcc") and subprocess.run(["gcc", "-O2", "-o", peer, HERE / "peer.c", "-lsqlite3"], stderr=subprocess.DEVNULL).returncode == 0:
-        yield Keeper("C", peer, copied("C"))
+        programs["C"] = [peer]
+    for name, program in programs.items():
+        if is_in_memory:
+            yield Keeper(name, *program, copied(name), "memory")
+        else:
+            yield Keeper(name, *program, copied(name))
+            yield Keeper(f"{name} twice", *program, copied(f"{name}-twice"), "twice")
 
 
 def measured(keepers, count, last):
@@ -178,20 +195,29 @@ def asked(desk):
         print(f"  ask {name:6} {rate([desk.tell(**question)[1] for _ in range(200)])}")
 
 
+def opened(program, path, size, is_in_memory):
+    """Returns the desk over the file, or one in memory that was given the same."""
+    desk = Keeper("desk", program, "run", ":memory:" if is_in_memory else path)
+    if is_in_memory:
+        fill(desk, size)
+    desk.tell(ask="desk")
+    return desk
+
+
 def main():
-    program, folder, count, *sizes = sys.argv[1:]
-    folder = pathlib.Path(folder)
+    program, folder, count, is_in_memory, *sizes = sys.argv[1:]
+    folder, is_in_memory = pathlib.Path(folder), is_in_memory == "memory"
     for size in map(int, sizes):
         path = folder / f"{size}.db"
         start = time.perf_counter()
         log, memory = make(program, path, size)
         took = time.perf_counter() - start
         print(f"{size} movements, made in {took:.1f} s, with a log of {log} bytes and a memory of {memory} kB at most")
-        others = list(peers(folder, path))
+        others = list(peers(folder, path, is_in_memory))
         start = time.perf_counter()
-        desk = Keeper("desk", program, "run", path)
-        desk.tell(ask="desk")
-        print(f"  opened and adopted in {time.perf_counter() - start:.2f} s, with {desk.memory()} kB at most")
+        desk = opened(program, path, size, is_in_memory)
+        did = "made once more in memory" if is_in_memory else "opened and adopted"
+        print(f"  {did} in {time.perf_counter() - start:.2f} s, with {desk.memory()} kB at most")
         for name, took in measured([desk, *others], int(count), f"B-{size // 9 - 1}").items():
             ours = took.pop("desk")
             beside = "   ".join(f"{it} {rate(times)} {sum(times) / sum(ours):.2f}" for it, times in took.items())

@@ -1,19 +1,26 @@
 /* A peer of the desk in measurements, in C: takes lines of commands as the desk does, over a copy of its file, and makes the
  * same look-ups and writes by SQLite, with statements that are prepared once. Each command is committed durably (WAL,
- * synchronous=FULL) before it is answered. It knows no rules but that a stock is enough, and reads no more of a line than
- * the members it wants. bench/commands.py builds it and runs it.
+ * synchronous=FULL) before it is answered. With `twice` each commit syncs a second time, what it wrote to a file beside: the
+ * desk's commits sync twice. With `memory` the file is copied into a store in memory, and nothing is written elsewhere. It
+ * knows no rules but that a stock is enough, and reads no more of a line than the members it wants. bench/commands.py builds
+ * it and runs it.
  *
  *     gcc -O2 -o peer bench/peer.c -lsqlite3
- *     peer FILE
+ *     peer FILE [twice|memory]
  */
+#include <fcntl.h>
 #include <sqlite3.h>
 #include <stdio.h>
 #include <stdlib.h>
 #include <string.h>
+#include <unistd.h>
 
 enum { RECEIVE = 1, CONSUME = 2, PRODUCE = 3, SCRAP = 4, SPLIT = 6 };
 
 static sqlite3 *db;
+
+/* The file of the second syncs, below 0 where there are none. */
+static int second = -1;
 
 static void fail(const char *what) {
     fprintf(stderr, "%s: %s\n", what, sqlite3_errmsg(db));
@@ -172,13 +179,29 @@ static sqlite3_int64 book(const char *line) {
     sqlite3_bind_int64(it, 2, at);
     run(it);
     run(ready(&commit));
+    if (second >= 0 && (pwrite(second, &seq, sizeof seq, 0) != sizeof seq || fdatasync(second) != 0)) fail("second sync");
     return seq;
+}
+
+/* Has the file copied into a store in memory, which takes its place. */
+static void copy_into_memory(void) {
+    sqlite3 *file = db;
+    if (sqlite3_open(":memory:", &db) != SQLITE_OK) fail("memory");
+    sqlite3_backup *copy = sqlite3_backup_init(db, "main", file, "main");
+    if (!copy || sqlite3_backup_step(copy, -1) != SQLITE_DONE || sqlite3_backup_finish(copy) != SQLITE_OK) fail("copy");
+    sqlite3_close(file);
 }
 
 int main(int count, char **words) {
     static char line[1 << 18];
-    if (count != 2 || sqlite3_open(words[1], &db) != SQLITE_OK) return 2;
-    if (sqlite3_exec(db, "PRAGMA journal_mode=WAL; PRAGMA synchronous=FULL", NULL, NULL, NULL) != SQLITE_OK) fail("pragmas");
+    if (count < 2 || sqlite3_open(words[1], &db) != SQLITE_OK) return 2;
+    char beside[4096];
+    if (count == 3 && strcmp(words[2], "twice") == 0) {
+        snprintf(beside, sizeof beside, "%s-second", words[1]);
+        second = open(beside, O_CREAT | O_WRONLY, 0600);
+    }
+    if (count == 3 && strcmp(words[2], "memory") == 0) copy_into_memory();
+    else if (sqlite3_exec(db, "PRAGMA journal_mode=WAL; PRAGMA synchronous=FULL", NULL, NULL, NULL) != SQLITE_OK) fail("pragmas");
     while (fgets(line, sizeof line, stdin)) {
         printf("{\"ok\":%lld}\n", book(line));
         fflush(stdout);

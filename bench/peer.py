@@ -1,11 +1,11 @@
 """A peer of the desk in measurements: takes lines of commands as the desk does, over a copy of its file, and makes the same look-ups and
 writes by the standard library's sqlite3.
 
-    peer.py FILE [twice]
+    peer.py FILE [twice|memory]
 
 Each command is committed durably (WAL, synchronous=FULL) before it is answered. With `twice` each commit syncs a second time, what it
-wrote to a file beside: the desk's commits sync twice, so that a torn write may leave any bytes. It knows no rules but that a stock is enough.
-bench/commands.py runs it.
+wrote to a file beside: the desk's commits sync twice, so that a torn write may leave any bytes. With `memory` the file is copied into a
+store in memory, and nothing is written elsewhere. It knows no rules but that a stock is enough. bench/commands.py runs it.
 """
 import json
 import os
@@ -17,11 +17,15 @@ KINDS = {"receive": 1, "consume": 2, "produce": 3, "scrap": 4, "split": 6}
 
 
 class Store:
-    def __init__(self, path, is_twice):
-        self.second = os.open(f"{path}-second", os.O_CREAT | os.O_WRONLY) if is_twice else None
+    def __init__(self, path, way):
+        self.second = os.open(f"{path}-second", os.O_CREAT | os.O_WRONLY) if way == "twice" else None
         self.db = sqlite3.connect(path, isolation_level=None)
-        self.db.execute("PRAGMA journal_mode=WAL")
-        self.db.execute("PRAGMA synchronous=FULL")
+        if way == "memory":
+            file, self.db = self.db, sqlite3.connect(":memory:", isolation_level=None)
+            file.backup(self.db)
+        else:
+            self.db.execute("PRAGMA journal_mode=WAL")
+            self.db.execute("PRAGMA synchronous=FULL")
 
     def rows(self, text, *values):
         return self.db.execute(text, values).fetchall()
@@ -80,8 +84,8 @@ class Store:
             os.fdatasync(self.second)
 
 
-def main(path, syncs=""):
-    store = Store(path, syncs == "twice")
+def main(path, way=""):
+    store = Store(path, way)
     for line in sys.stdin.buffer:
         fields = json.loads(line)
         sys.stdout.write('{"ok":%d}\n' % store.book(fields["do"], fields))

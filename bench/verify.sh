@@ -2,11 +2,10 @@
 # The seconds and the peak memory of words of the built program over a file with so many movements: of a run without lines, which opens
 # and adopts it and closes it; of verify, which tests all its tables once more, and how many times those of the file before; of a run
 # that raises it from the first schema, to which Python's sqlite3 has taken it back; and of one question to a file that was empty.
-# Wants the built program (make desk), or another one as DESK, and the built crates/bench_store (`rt run` there), which makes the files.
+# Python's sqlite3 writes the movements into a file that the desk made. Wants the built program (make desk), or another one as DESK.
 # Usage: [DESK=PROGRAM] bench/verify.sh [N ..], by default 1000 10000 100000.
 set -eu
 cd "$(dirname "$0")/.."
-maker=$PWD/crates/bench_store/out/bench_store
 desk=$(realpath "${DESK:-build/desk}")
 work=$(mktemp -d)
 trap 'rm -rf "$work"' EXIT
@@ -16,6 +15,19 @@ timed() { # words.., with lines of standard input
 }
 timed "$desk" run "$work/empty.db" <<< '{"ask":"desk"}'
 echo "an empty file, $(cat "$work/out"): $seconds s, $memory kB at most"
+goods='{"at":1,"by":"","do":"add_class","class":"RAW","name":""}
+{"at":1,"by":"","do":"add_definition","def":"SUGAR","class":"RAW","name":"","unit":"g"}'
+# each lot is received once and scrapped nine times
+fill="
+import sqlite3, sys
+store, lots = sqlite3.connect(sys.argv[1]), range(int(sys.argv[2]) // 10)
+movements = ((3 + 10 * lot + it, 1, 4 if it else 1, f'L-{lot}', 0, None, None, None, 1 if it else 100, 1, '', '') for lot in lots for it in range(10))
+store.executemany('INSERT INTO lot VALUES (?, \'SUGAR\')', ((f'L-{it}',) for it in lots))
+store.executemany('INSERT INTO sublot VALUES (?, 0, \'A1\', 91)', ((f'L-{it}',) for it in lots))
+store.executemany('INSERT INTO movement VALUES (?, ?, ?, ?, ?, ?, ?, ?, ?, ?, ?, ?)', movements)
+store.execute('UPDATE meta SET seq = ?', (2 + 10 * len(lots),))
+store.commit()
+"
 lower="
 import sqlite3, sys
 store = sqlite3.connect(sys.argv[1])
@@ -26,8 +38,9 @@ store.executescript('DROP TABLE edge; UPDATE meta SET schema = 1')
 before=
 for count in ${@:-1000 10000 100000}; do
   file=$work/$count.db
-  timed "$maker" write "$file" "$count" < /dev/null
-  echo "write $(cat "$work/out"): $seconds s, $memory kB at most"
+  "$desk" run "$file" <<< "$goods" > /dev/null
+  python3 -c "$fill" "$file" "$count"
+  echo "$count movements"
   timed "$desk" run "$file" < /dev/null
   echo "  adopt: $seconds s, $memory kB at most"
   timed "$desk" verify "$file" < /dev/null

@@ -70,15 +70,22 @@ bare_program =
     let plain = new_app (codes "desk") in
     record plain { top = record plain.top { disable_help_subcommand = true; has_version = true } }
 
-abbrev pub the_program : App
-the_program = with_subcommand (with_subcommand (with_subcommand (with_subcommand (with_subcommand (with_subcommand
-    (with_subcommand bare_program (word_app (codes "init")).top)
+-- the words that take commands in
+abbrev pub with_taking : App → App
+with_taking program = with_subcommand (with_subcommand (with_subcommand program
+    (word_app (codes "init")).top)
     (word_app (codes "run")).top)
-    import_app.top)
+    import_app.top
+
+-- the words that tell of a desk
+abbrev pub with_telling : App → App
+with_telling program = with_subcommand (with_subcommand (with_subcommand program
     trace_app.top)
     record_app.top)
-    (word_app (codes "verify")).top)
-    serve_app.top
+    (word_app (codes "verify")).top
+
+abbrev pub the_program : App
+the_program = with_subcommand (with_telling (with_taking bare_program)) serve_app.top
 
 -- no argument of the command is global
 abbrev pub IsLocal : Command → Type 0

@@ -3,8 +3,7 @@ ghost use Rattle.std.specs.Prelude.{◌≡◌, IfOk, codes, false};
 ghost use Rattle.clap.specs.Words.{app_of, rule_of};
 ghost use Rattle.desk_words.specs.CommandLine.{bare_program, import_app, count_rule, port_rule, record_app};
 ghost use Rattle.desk_words.specs.CommandLine.{serve_app, the_program, trace_app, required_rule, word_app};
-ghost use Rattle.desk_words.specs.CommandLine.{at_rule};
-ghost use Rattle.desk_words.specs.CommandLine.{by_rule, IsLocal};
+ghost use Rattle.desk_words.specs.CommandLine.{at_rule, by_rule, with_taking, with_telling, IsLocal};
 
 use clap::{Arg, Command, value_parser};
 use plant_base::GREATEST_MOMENT;
@@ -180,35 +179,70 @@ fn bare_command<'a>(alloc: Global) -> Command<'a>
         .disable_help_subcommand(true)
 }
 
-/// The command line of the program.
-pub(crate) fn command_line<'a>(alloc: Global) -> Result<Command<'a>, AllocError>
-    ensures { IfOk result (λ c. app_of c ≡ the_program) }
+/// The word `init`.
+fn init_command<'a>(alloc: Global) -> Result<Command<'a>, AllocError>
+    ensures app { IfOk result (λ c. app_of c ≡ word_app (codes "init")) }
+    ensures local { IfOk result (λ c. IsLocal c) }
 {
-    let init = word_command(
+    word_command(
         alloc,
         "init",
         "Make a desk, or take up the one that is there",
         "Example: desk init plant.db\nPrints ready schema N, N being the schema of its tables.",
-    )?;
-    let run = word_command(
+    )
+}
+
+/// The word `run`.
+fn run_command<'a>(alloc: Global) -> Result<Command<'a>, AllocError>
+    ensures app { IfOk result (λ c. app_of c ≡ word_app (codes "run")) }
+    ensures local { IfOk result (λ c. IsLocal c) }
+{
+    word_command(
         alloc,
         "run",
         "Answer commands and questions, a line of JSON each, from standard input",
         "Example: desk run plant.db < shift.jsonl\n\
 Prints a line for each. The exit status is 1 where one was refused.",
-    )?;
-    let verify = word_command(
+    )
+}
+
+/// The word `verify`.
+fn verify_command<'a>(alloc: Global) -> Result<Command<'a>, AllocError>
+    ensures app { IfOk result (λ c. app_of c ≡ word_app (codes "verify")) }
+    ensures local { IfOk result (λ c. IsLocal c) }
+{
+    word_command(
         alloc,
         "verify",
         "Check every record of a desk",
         "Example: desk verify plant.db\n\
 Prints good schema N seq S, S being how many commands were accepted.",
-    )?;
-    let with_init = bare_command(alloc).subcommand(init)?;
-    let with_run = with_init.subcommand(run)?;
-    let with_import = with_run.subcommand(import_command(alloc)?)?;
-    let with_trace = with_import.subcommand(trace_command(alloc)?)?;
+    )
+}
+
+/// The program with the words that take commands in as well: `init`, `run` and `import`.
+fn with_taking<'a>(alloc: Global, program: Command<'a>) -> Result<Command<'a>, AllocError>
+    ensures { IfOk result (λ c. app_of c ≡ with_taking (app_of program.entry)) }
+{
+    let with_init = program.subcommand(init_command(alloc)?)?;
+    let with_run = with_init.subcommand(run_command(alloc)?)?;
+    with_run.subcommand(import_command(alloc)?)
+}
+
+/// The program with the words that tell of a desk as well: `trace`, `record` and `verify`.
+fn with_telling<'a>(alloc: Global, program: Command<'a>) -> Result<Command<'a>, AllocError>
+    ensures { IfOk result (λ c. app_of c ≡ with_telling (app_of program.entry)) }
+{
+    let with_trace = program.subcommand(trace_command(alloc)?)?;
     let with_record = with_trace.subcommand(record_command(alloc)?)?;
-    let with_verify = with_record.subcommand(verify)?;
-    with_verify.subcommand(serve_command(alloc)?)
+    with_record.subcommand(verify_command(alloc)?)
+}
+
+/// The command line of the program.
+pub(crate) fn command_line<'a>(alloc: Global) -> Result<Command<'a>, AllocError>
+    ensures { IfOk result (λ c. app_of c ≡ the_program) }
+{
+    let taking = with_taking(alloc, bare_command(alloc))?;
+    let telling = with_telling(alloc, taking)?;
+    telling.subcommand(serve_command(alloc)?)
 }

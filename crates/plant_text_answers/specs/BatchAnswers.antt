@@ -1,5 +1,5 @@
 -- The JSON trees of answers about batches.
-use Rattle.std.specs.Prelude.{ℕ, Bool, true, false, if◌then◌else◌, List, map, codes}
+use Rattle.std.specs.Prelude.{Bool, true, false, if◌then◌else◌, List, map, codes}
 use Rattle.serde_json.specs.Data.{Data, Items, boolean, string, array, object, member, no_members}
 use Rattle.serde_json.specs.View.{items_of}
 use Rattle.plant_base.specs.Words.{batch_state_name}

@@ -23,10 +23,7 @@ fn desk_value(alloc: Global, schema: u64, seq: u64) -> Result<Value, AllocError>
 fn sublot_value(alloc: Global, sublot: &Sublot) -> Result<Value, AllocError>
     ensures { IfOk result (λ v. view v ≡ sublot_data sublot.now) }
 {
-    let number = sublot.number;
-    let place = sublot.place.as_str();
-    let stock = sublot.stock;
-    json!(in alloc; {"no": number, "place": place, "stock": stock})
+    json!(in alloc; {"no": (sublot.number), "place": (sublot.place.as_str()), "stock": (sublot.stock)})
 }
 
 fn sublots_value(alloc: Global, sublots: &[Sublot]) -> Result<Value, AllocError>
@@ -43,12 +40,11 @@ fn sublots_value(alloc: Global, sublots: &[Sublot]) -> Result<Value, AllocError>
 fn lot_value(alloc: Global, lot: &LotAnswer) -> Result<Value, AllocError>
     ensures { IfOk result (λ v. view v ≡ lot_data lot.now) }
 {
-    let def = lot.def.as_str();
-    let id = lot.lot.as_str();
-    let held = lot.held;
-    let stock = lot.stock;
     let sublots = sublots_value(alloc, lot.sublots.as_slice())?;
-    json!(in alloc; {"def": def, "held": held, "lot": id, "stock": stock, "sublots": sublots})
+    json!(in alloc; {
+        "def": (lot.def.as_str()), "held": (lot.held), "lot": (lot.lot.as_str()), "stock": (lot.stock),
+        "sublots": sublots
+    })
 }
 
 fn lot_text(alloc: Global, lot: &LotAnswer) -> Result<String, AllocError>
@@ -72,14 +68,10 @@ fn order_value(alloc: Global, answer: &OrderAnswer) -> Result<Value, AllocError>
 {
     let order = answer.job.order;
     let batch = batch_value(alloc, answer.batch)?;
-    let due = order.due.as_str();
-    let id = order.order.as_str();
-    let recipe = order.recipe.as_str();
-    let size = order.size.get();
-    let state = answer.job.state.name();
     json!(in alloc; {
-        "batch": batch, "due": due, "order": id, "priority": (order.priority), "recipe": recipe,
-        "size": size, "state": state, "version": (order.version)
+        "batch": batch, "due": (order.due.as_str()), "order": (order.order.as_str()), "priority": (order.priority),
+        "recipe": (order.recipe.as_str()), "size": (order.size.get()), "state": (answer.job.state.name()),
+        "version": (order.version)
     })
 }
 

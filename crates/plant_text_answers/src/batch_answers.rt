@@ -13,19 +13,19 @@ use std::alloc::{AllocError, Global};
 fn consumed_value(alloc: Global, booking: &Booking) -> Result<Value, AllocError>
     ensures { IfOk result (λ v. view v ≡ consumed_data booking.now) }
 {
-    let amount = booking.amount.get();
-    let def = booking.def.as_str();
-    let lot = booking.lot.as_str();
-    json!(in alloc; {"amount": amount, "def": def, "lot": lot, "seq": (booking.seq), "sub": (booking.sub)})
+    json!(in alloc; {
+        "amount": (booking.amount.get()), "def": (booking.def.as_str()), "lot": (booking.lot.as_str()),
+        "seq": (booking.seq), "sub": (booking.sub)
+    })
 }
 
 fn produced_value(alloc: Global, booking: &Booking) -> Result<Value, AllocError>
     ensures { IfOk result (λ v. view v ≡ produced_data booking.now) }
 {
-    let amount = booking.amount.get();
-    let def = booking.def.as_str();
-    let lot = booking.lot.as_str();
-    json!(in alloc; {"amount": amount, "def": def, "lot": lot, "seq": (booking.seq)})
+    json!(in alloc; {
+        "amount": (booking.amount.get()), "def": (booking.def.as_str()), "lot": (booking.lot.as_str()),
+        "seq": (booking.seq)
+    })
 }
 
 // What was taken has its sublot, what was brought has none.
@@ -53,20 +53,15 @@ fn bookings_value(alloc: Global, bookings: &[Booking], taken: bool) -> Result<Va
 fn batch_value(alloc: Global, batch: &BatchView) -> Result<Value, AllocError>
     ensures { IfOk result (λ v. view v ≡ batch_data batch.now) }
 {
-    let progress = batch.progress;
-    let planned = batch.job.order;
-    let id = batch.batch.id.as_str();
     let consumed = bookings_value(alloc, batch.consumed.as_slice(), true)?;
-    let order = planned.order.as_str();
-    let phases = phases_in(batch.lines.as_slice());
     let produced = bookings_value(alloc, batch.produced.as_slice(), false)?;
-    let recipe = planned.recipe.as_str();
-    let size = planned.size.get();
-    let state = progress.state.name();
+    let phases = phases_in(batch.lines.as_slice());
     json!(in alloc; {
-        "attempt": (progress.attempt), "batch": id, "closed": (progress.closed), "consumed": consumed,
-        "next": (progress.next), "order": order, "phases": phases, "produced": produced,
-        "recipe": recipe, "size": size, "state": state, "version": (planned.version)
+        "attempt": (batch.progress.attempt), "batch": (batch.batch.id.as_str()), "closed": (batch.progress.closed),
+        "consumed": consumed, "next": (batch.progress.next), "order": (batch.job.order.order.as_str()),
+        "phases": phases, "produced": produced, "recipe": (batch.job.order.recipe.as_str()),
+        "size": (batch.job.order.size.get()), "state": (batch.progress.state.name()),
+        "version": (batch.job.order.version)
     })
 }
 

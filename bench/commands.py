@@ -5,12 +5,12 @@
 For each size a desk of so many movements is made in a file, by receipts, scraps, splits and the bookings of batches; then COMMANDS
 commands of each kind are given to one run of the desk, each after the reply to the one before it. What is told of a kind is its commands
 a second and the middle time of one. Beside it stand peers that take the same lines from a pipe, make the same look-ups and writes in
-the same tables of a copy of the file, commit each command durably (WAL, synchronous=FULL) before they answer it, and know no rules but
-those of stock: bench/peer.py, in Python over the standard library's sqlite3, and bench/peer.c, which is left out where gcc or sqlite3.h
-isn't there; each of them once more with a second sync at each commit, as the desk's commits have. With `memory` the desk and the peers
-keep their tables in memory instead, and none syncs. The kinds take turns in rounds, so that what else the machine does falls on all
-alike. At last the desk is asked about a lot, an order, itself, a batch, and where a lot came from, and the greatest size of its log is
-told.
+the same tables of a copy of the file, commit each command durably before they answer it, and know no rules but those of stock:
+bench/peer.py, in Python over the standard library's sqlite3, and bench/peer.c, which is left out where gcc or sqlite3.h isn't there.
+Each is run three times: over a rollback journal, which is SQLite's default; over a log written ahead; and over such a log with a second
+sync at each commit, as the desk's commits have. With `memory` the desk and the peers keep their tables in memory instead, and none
+syncs. The kinds take turns in rounds, so that what else the machine does falls on all alike. At last the desk is asked about a lot, an
+order, itself, a batch, and where a lot came from, and the greatest size of its log is told.
 """
 import json
 import pathlib
@@ -159,11 +159,8 @@ def peers(folder, path, is_in_memory):
     if shutil.which("gcc") and subprocess.run(["gcc", "-O2", "-o", peer, HERE / "peer.c", "-lsqlite3"], stderr=subprocess.DEVNULL).returncode == 0:
         programs["C"] = [peer]
     for name, program in programs.items():
-        if is_in_memory:
-            yield Keeper(name, *program, copied(name), "memory")
-        else:
-            yield Keeper(name, *program, copied(name))
-            yield Keeper(f"{name} twice", *program, copied(f"{name}-twice"), "twice")
+        for way in ["memory"] if is_in_memory else ["journal", "wal", "twice"]:
+            yield Keeper(f"{name} {way}", *program, copied(f"{name}-{way}"), way)
 
 
 def measured(keepers, count, last):
@@ -220,8 +217,9 @@ def main():
         print(f"  {did} in {time.perf_counter() - start:.2f} s, with {desk.memory()} kB at most")
         for name, took in measured([desk, *others], int(count), f"B-{size // 9 - 1}").items():
             ours = took.pop("desk")
-            beside = "   ".join(f"{it} {rate(times)} {sum(times) / sum(ours):.2f}" for it, times in took.items())
-            print(f"  {name:8} desk {rate(ours)}   {beside}")
+            print(f"  {name:8} desk {rate(ours)}")
+            for it, times in took.items():
+                print(f"    {it:14} {rate(times)} {sum(times) / sum(ours):.2f}")
         asked(desk)
         for keeper in [desk, *others]:
             keeper.close()

@@ -1,12 +1,13 @@
 /* A peer of the desk in measurements, in C: takes lines of commands as the desk does, over a copy of its file, and makes the
- * same look-ups and writes by SQLite, with statements that are prepared once. Each command is committed durably (WAL,
- * synchronous=FULL) before it is answered. With `twice` each commit syncs a second time, what it wrote to a file beside: the
- * desk's commits sync twice. With `memory` the file is copied into a store in memory, and nothing is written elsewhere. It
- * knows no rules but that a stock is enough, and reads no more of a line than the members it wants. bench/commands.py builds
- * it and runs it.
+ * same look-ups and writes by SQLite, with statements that are prepared once. Each command is committed durably before it
+ * is answered: with `journal` as SQLite does it where it isn't told otherwise (a rollback journal, synchronous=FULL), with
+ * `wal` over a log written ahead, with `twice` likewise, and each commit syncs a second time, what it wrote to a file
+ * beside, as the desk's commits sync twice. With `memory` the file is copied into a store in memory, and nothing is written
+ * elsewhere. It knows no rules but that a stock is enough, and reads no more of a line than the members it wants.
+ * bench/commands.py builds it and runs it.
  *
  *     gcc -O2 -o peer bench/peer.c -lsqlite3
- *     peer FILE [twice|memory]
+ *     peer FILE journal|wal|twice|memory
  */
 #include <fcntl.h>
 #include <sqlite3.h>
@@ -192,16 +193,29 @@ static void copy_into_memory(void) {
     sqlite3_close(file);
 }
 
-int main(int count, char **words) {
-    static char line[1 << 18];
-    if (count < 2 || sqlite3_open(words[1], &db) != SQLITE_OK) return 2;
-    char beside[4096];
-    if (count == 3 && strcmp(words[2], "twice") == 0) {
-        snprintf(beside, sizeof beside, "%s-second", words[1]);
+static void set(const char *pragmas) {
+    if (sqlite3_exec(db, pragmas, NULL, NULL, NULL) != SQLITE_OK) fail(pragmas);
+}
+
+/* Has the file kept in this way. */
+static void begin_as(const char *way, const char *path) {
+    if (strcmp(way, "memory") == 0) {
+        copy_into_memory();
+        return;
+    }
+    set(strcmp(way, "journal") == 0 ? "PRAGMA journal_mode=DELETE" : "PRAGMA journal_mode=WAL");
+    set("PRAGMA synchronous=FULL");
+    if (strcmp(way, "twice") == 0) {
+        char beside[4096];
+        snprintf(beside, sizeof beside, "%s-second", path);
         second = open(beside, O_CREAT | O_WRONLY, 0600);
     }
-    if (count == 3 && strcmp(words[2], "memory") == 0) copy_into_memory();
-    else if (sqlite3_exec(db, "PRAGMA journal_mode=WAL; PRAGMA synchronous=FULL", NULL, NULL, NULL) != SQLITE_OK) fail("pragmas");
+}
+
+int main(int count, char **words) {
+    static char line[1 << 18];
+    if (count != 3 || sqlite3_open(words[1], &db) != SQLITE_OK) return 2;
+    begin_as(words[2], words[1]);
     while (fgets(line, sizeof line, stdin)) {
         printf("{\"ok\":%lld}\n", book(line));
         fflush(stdout);

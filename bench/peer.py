@@ -1,11 +1,12 @@
 """A peer of the desk in measurements: takes lines of commands as the desk does, over a copy of its file, and makes the same look-ups and
 writes by the standard library's sqlite3.
 
-    peer.py FILE [twice|memory]
+    peer.py FILE journal|wal|twice|memory
 
-Each command is committed durably (WAL, synchronous=FULL) before it is answered. With `twice` each commit syncs a second time, what it
-wrote to a file beside: the desk's commits sync twice, so that a torn write may leave any bytes. With `memory` the file is copied into a
-store in memory, and nothing is written elsewhere. It knows no rules but that a stock is enough. bench/commands.py runs it.
+Each command is committed durably before it is answered: with `journal` as sqlite3 does it where it isn't told otherwise (a rollback
+journal, synchronous=FULL), with `wal` over a log written ahead, with `twice` likewise, and each commit syncs a second time, what it wrote
+to a file beside, as the desk's commits sync twice. With `memory` the file is copied into a store in memory, and nothing is written
+elsewhere. It knows no rules but that a stock is enough. bench/commands.py runs it.
 """
 import json
 import os
@@ -24,7 +25,7 @@ class Store:
             file, self.db = self.db, sqlite3.connect(":memory:", isolation_level=None)
             file.backup(self.db)
         else:
-            self.db.execute("PRAGMA journal_mode=WAL")
+            self.db.execute(f"PRAGMA journal_mode={'DELETE' if way == 'journal' else 'WAL'}")
             self.db.execute("PRAGMA synchronous=FULL")
 
     def rows(self, text, *values):
@@ -84,7 +85,7 @@ class Store:
             os.fdatasync(self.second)
 
 
-def main(path, way=""):
+def main(path, way):
     store = Store(path, way)
     for line in sys.stdin.buffer:
         fields = json.loads(line)

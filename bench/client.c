@@ -1,10 +1,10 @@
-/* A client in measurements of servers: sends requests to a port of 127.0.0.1, each on a connection of its own once the one
- * before it was answered, and reads each answer up to its end. Requests come on standard input, each behind a line with its
- * number of bytes. Once all were answered it prints how many seconds that took; it fails where an answer lacks the wanted text.
- * bench/serving.py builds it and runs it.
+/* A client in measurements of servers: sends requests to a port of 127.0.0.1, each on a connection of its own, and reads each
+ * answer up to its end. So many processes share them, each of which sends its next request once the one before it was
+ * answered. Requests come on standard input, each behind a line with its number of bytes. Once all were answered it prints
+ * how many seconds that took; it fails where an answer lacks the wanted text. bench/serving.py builds it and runs it.
  *
  *     gcc -O2 -o client bench/client.c
- *     client PORT WANTED
+ *     client PORT WANTED PROCESSES
  */
 #define _GNU_SOURCE
 #include <arpa/inet.h>
@@ -12,6 +12,7 @@
 #include <stdlib.h>
 #include <string.h>
 #include <sys/socket.h>
+#include <sys/wait.h>
 #include <time.h>
 #include <unistd.h>
 
@@ -58,10 +59,24 @@ static double seconds(void) {
     return (double)it.tv_sec + (double)it.tv_nsec / 1e9;
 }
 
-int main(int count, char **words) {
+/* Sends each request of a share, which begins at the first and takes each so-manieth, and ends the process. */
+static void send_share(const struct sockaddr_in *to, const struct Request *first, int shares, const char *wanted) {
     static char text[ROOM];
-    if (count != 3) {
-        fputs("usage: client PORT WANTED\n", stderr);
+    for (const struct Request *it = first; it;) {
+        size_t had = answer(to, it, text);
+        if (!memmem(text, had, wanted, strlen(wanted))) {
+            fprintf(stderr, "%.*s was answered %.*s\n", (int)it->length, it->bytes, (int)had, text);
+            exit(1);
+        }
+        for (int at = 0; it && at < shares; at++) it = it->next;
+    }
+    exit(0);
+}
+
+int main(int count, char **words) {
+    int shares = count == 4 ? atoi(words[3]) : 0;
+    if (shares < 1) {
+        fputs("usage: client PORT WANTED PROCESSES\n", stderr);
         return 2;
     }
     struct sockaddr_in to = {.sin_family = AF_INET, .sin_port = htons((unsigned short)atoi(words[1]))};
@@ -69,13 +84,13 @@ int main(int count, char **words) {
     struct Request *first = NULL;
     for (struct Request **last = &first, *it; (it = read_request()) != NULL; last = &it->next) *last = it;
     double start = seconds();
-    for (const struct Request *it = first; it; it = it->next) {
-        size_t had = answer(&to, it, text);
-        if (!memmem(text, had, words[2], strlen(words[2]))) {
-            fprintf(stderr, "%.*s was answered %.*s\n", (int)it->length, it->bytes, (int)had, text);
-            return 1;
-        }
+    for (int at = 0; at < shares && first; at++, first = first->next) {
+        pid_t child = fork();
+        if (child < 0) fail("fork");
+        if (child == 0) send_share(&to, first, shares, words[2]);
     }
+    for (int status; wait(&status) > 0;)
+        if (status != 0) return 1;
     printf("%.6f\n", seconds() - start);
     return 0;
 }

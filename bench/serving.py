@@ -2,9 +2,10 @@
 
     serving.py PROGRAM FOLDER QUESTIONS COMMANDS
 
-Each request is a connection of its own, made when the one before it has been answered, by a client in C (bench/client.c, built in
-FOLDER with gcc): its own time is in every figure of a server, but in that of the server's own processor, which tells how many requests
-a second one core would serve that did nothing else. The last server does nothing but accept, read once, write a text that it holds and
+Each request is a connection of its own, made by a client in C (bench/client.c, built in FOLDER with gcc). Where one process of it sends
+them all, each once the one before it was answered, its own time is in the figure; where three share them, the next connection waits
+while one is answered, and the figure is what the server does. Beside each stands what the server's own processor would do, which tells
+how many requests a second one core would serve that did nothing else. The last server does nothing but accept, read once, write a text that it holds and
 close. The file is in FOLDER. Commands are receipts of one definition, each of a lot of its own; then questions ask about those lots in
 turn. What `run` does is measured from its start to its end.
 """
@@ -16,6 +17,9 @@ import sys
 import time
 
 SECONDS = 60
+
+# How many processes send requests at once.
+SHARES = 3
 
 PREPARED = [
     b'{"at":1,"by":"","do":"add_class","class":"RAW","name":""}',
@@ -83,14 +87,20 @@ class Client:
         source = pathlib.Path(__file__).with_name("client.c")
         subprocess.run(["gcc", "-O2", "-o", self.program, source], check=True)
 
-    def timed(self, name, port, requests, wanted, server):
-        """Sends requests, each of whose answers has to have a text in it."""
+    def timed(self, name, port, requests, wanted, server, shares=1):
+        """Sends requests, which so many processes share, and each of whose answers has to have a text in it."""
         told = b"".join(b"%d\n%s" % (len(it), it) for it in requests)
         had = processor_seconds(server)
-        ran = subprocess.run([self.program, str(port), wanted], input=told, stdout=subprocess.PIPE)
+        ran = subprocess.run([self.program, str(port), wanted, str(shares)], input=told, stdout=subprocess.PIPE)
         if ran.returncode != 0:
             sys.exit(f"{name}: the client ended with status {ran.returncode}")
-        told_of(name, len(requests), float(ran.stdout), processor_seconds(server) - had)
+        shared = f", {shares} at once" if shares > 1 else ""
+        told_of(name + shared, len(requests), float(ran.stdout), processor_seconds(server) - had)
+
+    def timed_both(self, name, port, requests, wanted, server):
+        """Sends requests one after the other, and then once more, shared."""
+        self.timed(name, port, requests, wanted, server)
+        self.timed(name, port, requests, wanted, server, SHARES)
 
 
 def serve(client, program, file, name, questions, commands):
@@ -98,15 +108,15 @@ def serve(client, program, file, name, questions, commands):
     port = free_port()
     about_desk = [asked(b"desk")] * questions
     about_lots = [asked(b"lots/L-%d" % (it % commands + 1)) for it in range(questions)]
-    count = 1 + len(about_desk) + len(PREPARED) + commands + len(about_lots) + 1
+    count = 1 + 2 * len(about_desk) + len(PREPARED) + commands + 2 * len(about_lots) + 1
     server = subprocess.Popen([program, "serve", file, str(port), str(count)])
     try:
         await_answer(port, asked(b"desk"), server)
-        client.timed(f"{name}, questions about an empty desk", port, about_desk, b'"seq":0}', server)
+        client.timed_both(f"{name}, questions about an empty desk", port, about_desk, b'"seq":0}', server)
         for it in PREPARED:
             answer(port, told(it))
         client.timed(f"{name}, commands", port, [told(receipt(it + 1)) for it in range(commands)], b'"ok":', server)
-        client.timed(f"{name}, questions about {commands} lots", port, about_lots, b'"stock":500,', server)
+        client.timed_both(f"{name}, questions about {commands} lots", port, about_lots, b'"stock":500,', server)
         last = answer(port, about_lots[0])
         if server.wait(SECONDS) != 0:
             sys.exit(f"{name} ended with status {server.returncode}")
@@ -168,7 +178,7 @@ def other(client, name, word, text, questions):
         server.stdin.write(text)
         server.stdin.close()
         await_answer(port, asked(b"desk"), server)
-        client.timed(name, port, [asked(b"desk")] * questions, text.rpartition(b"\r\n\r\n")[2], server)
+        client.timed_both(name, port, [asked(b"desk")] * questions, text.rpartition(b"\r\n\r\n")[2], server)
     finally:
         server.kill()
 

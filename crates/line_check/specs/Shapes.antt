@@ -24,6 +24,17 @@ members_on_batch word =
     if bytes_eq word (codes "produce") then Some (m.Batch ∷ m.Lot ∷ m.Definition ∷ m.Amount ∷ m.Place ∷ []) else (
     None))))))
 
+-- the members of a command on recipes and orders, or else of one on a batch
+abbrev pub members_on_plans : List ℕ → Option (List Member)
+members_on_plans word =
+    if bytes_eq word (codes "add_recipe") then Some (m.Recipe ∷ m.Version ∷ m.Product ∷ m.Base ∷ m.Least ∷ m.Greatest ∷ m.Title ∷ m.Lines ∷ []) else (
+    if bytes_eq word (codes "approve") then Some (m.Recipe ∷ m.Version ∷ []) else (
+    if bytes_eq word (codes "withdraw") then Some (m.Recipe ∷ m.Version ∷ []) else (
+    if bytes_eq word (codes "import_orders") then Some (m.Orders ∷ []) else (
+    if bytes_eq word (codes "cancel_order") then Some (m.Order ∷ []) else (
+    if bytes_eq word (codes "release") then Some (m.Order ∷ m.Batch ∷ []) else (
+    members_on_batch word))))))
+
 -- the members that the command of a word has of its own
 abbrev pub members_of_word : List ℕ → Option (List Member)
 members_of_word word =
@@ -36,13 +47,7 @@ members_of_word word =
     if bytes_eq word (codes "merge") then Some (m.New ∷ m.Place ∷ m.Parts ∷ []) else (
     if bytes_eq word (codes "hold") then Some (m.Lot ∷ m.Hold ∷ []) else (
     if bytes_eq word (codes "unhold") then Some (m.Lot ∷ m.Hold ∷ []) else (
-    if bytes_eq word (codes "add_recipe") then Some (m.Recipe ∷ m.Version ∷ m.Product ∷ m.Base ∷ m.Least ∷ m.Greatest ∷ m.Title ∷ m.Lines ∷ []) else (
-    if bytes_eq word (codes "approve") then Some (m.Recipe ∷ m.Version ∷ []) else (
-    if bytes_eq word (codes "withdraw") then Some (m.Recipe ∷ m.Version ∷ []) else (
-    if bytes_eq word (codes "import_orders") then Some (m.Orders ∷ []) else (
-    if bytes_eq word (codes "cancel_order") then Some (m.Order ∷ []) else (
-    if bytes_eq word (codes "release") then Some (m.Order ∷ m.Batch ∷ []) else (
-    members_on_batch word)))))))))))))))
+    members_on_plans word)))))))))
 
 abbrev pub is_command_word : List ℕ → Bool
 is_command_word word = is_some (members_of_word word)

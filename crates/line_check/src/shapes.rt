@@ -2,7 +2,7 @@
 ghost use Rattle.std.specs.Prelude.{◌≡◌, codes, option_map};
 ghost use Rattle.serde_json.specs.View.{view};
 ghost use Rattle.plant_text_commands.specs.Fields.{string_at};
-ghost use Rattle.line_check.specs.Shapes.{shared_members, members_on_batch, members_of_word, is_command_word};
+ghost use Rattle.line_check.specs.Shapes.{shared_members, members_on_batch, members_on_plans, members_of_word, is_command_word};
 ghost use Rattle.line_check.specs.Shapes.{own_members, traced_members, members_of_question, is_question_word};
 ghost use Rattle.line_check.specs.Shapes.{question_members, members_of_kind, is_kind, line_members};
 ghost use Rattle.line_check.specs.Shapes.{item_members};
@@ -52,6 +52,34 @@ fn members_on_batch(word: &str) -> Option<&'static [Member]>
     }
 }
 
+/// The members that a command on recipes and orders has of its own, or else one on a batch.
+fn members_on_plans(word: &str) -> Option<&'static [Member]>
+    ensures { option_map (λ s. s.now) result ≡ members_on_plans word.now }
+{
+    if word == "add_recipe" {
+        Some(&[
+            Member::Recipe,
+            Member::Version,
+            Member::Product,
+            Member::Base,
+            Member::Least,
+            Member::Greatest,
+            Member::Title,
+            Member::Lines,
+        ])
+    } else if word == "approve" || word == "withdraw" {
+        Some(&[Member::Recipe, Member::Version])
+    } else if word == "import_orders" {
+        Some(&[Member::Orders])
+    } else if word == "cancel_order" {
+        Some(&[Member::Order])
+    } else if word == "release" {
+        Some(&[Member::Order, Member::Batch])
+    } else {
+        members_on_batch(word)
+    }
+}
+
 /// The members that the command of a word has of its own.
 fn members_of_word(word: &str) -> Option<&'static [Member]>
     ensures { option_map (λ s. s.now) result ≡ members_of_word word.now }
@@ -88,27 +116,8 @@ fn members_of_word(word: &str) -> Option<&'static [Member]>
         Some(&[Member::New, Member::Place, Member::Parts])
     } else if word == "hold" || word == "unhold" {
         Some(&[Member::Lot, Member::Hold])
-    } else if word == "add_recipe" {
-        Some(&[
-            Member::Recipe,
-            Member::Version,
-            Member::Product,
-            Member::Base,
-            Member::Least,
-            Member::Greatest,
-            Member::Title,
-            Member::Lines,
-        ])
-    } else if word == "approve" || word == "withdraw" {
-        Some(&[Member::Recipe, Member::Version])
-    } else if word == "import_orders" {
-        Some(&[Member::Orders])
-    } else if word == "cancel_order" {
-        Some(&[Member::Order])
-    } else if word == "release" {
-        Some(&[Member::Order, Member::Batch])
     } else {
-        members_on_batch(word)
+        members_on_plans(word)
     }
 }
 

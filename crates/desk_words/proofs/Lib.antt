@@ -1,4 +1,3 @@
 mod Numerals
 mod Refusals
 mod PlainMeanings
-mod Shapes

@@ -1,6 +1,6 @@
 //! The command line, as clap is told it.
 ghost use Rattle.std.specs.Prelude.{◌≡◌, IfOk, codes, false};
-ghost use Rattle.clap.specs.Words.{app_of, rule_of};
+ghost use Rattle.clap.specs.Words.{app_of, rule_of, shape_of, with_subcommand};
 ghost use Rattle.desk_words.specs.CommandLine.{bare_program, import_app, count_rule, port_rule, record_app};
 ghost use Rattle.desk_words.specs.CommandLine.{serve_app, the_program, trace_app, required_rule, word_app};
 ghost use Rattle.desk_words.specs.CommandLine.{at_rule, by_rule, with_taking, with_telling, IsLocal};
@@ -220,22 +220,30 @@ Prints good schema N seq S, S being how many commands were accepted.",
     )
 }
 
+/// The program with one word more, none of whose arguments is global.
+fn with_word<'a>(program: Command<'a>, word: Command<'a>) -> Result<Command<'a>, AllocError>
+    requires { IsLocal word }
+    ensures { IfOk result (λ c. app_of c ≡ with_subcommand (app_of program.entry) (shape_of word.entry)) }
+{
+    program.subcommand(word)
+}
+
 /// The program with the words that take commands in as well: `init`, `run` and `import`.
 fn with_taking<'a>(alloc: Global, program: Command<'a>) -> Result<Command<'a>, AllocError>
     ensures { IfOk result (λ c. app_of c ≡ with_taking (app_of program.entry)) }
 {
-    let with_init = program.subcommand(init_command(alloc)?)?;
-    let with_run = with_init.subcommand(run_command(alloc)?)?;
-    with_run.subcommand(import_command(alloc)?)
+    let with_init = with_word(program, init_command(alloc)?)?;
+    let with_run = with_word(with_init, run_command(alloc)?)?;
+    with_word(with_run, import_command(alloc)?)
 }
 
 /// The program with the words that tell of a desk as well: `trace`, `record` and `verify`.
 fn with_telling<'a>(alloc: Global, program: Command<'a>) -> Result<Command<'a>, AllocError>
     ensures { IfOk result (λ c. app_of c ≡ with_telling (app_of program.entry)) }
 {
-    let with_trace = program.subcommand(trace_command(alloc)?)?;
-    let with_record = with_trace.subcommand(record_command(alloc)?)?;
-    with_record.subcommand(verify_command(alloc)?)
+    let with_trace = with_word(program, trace_command(alloc)?)?;
+    let with_record = with_word(with_trace, record_command(alloc)?)?;
+    with_word(with_record, verify_command(alloc)?)
 }
 
 /// The command line of the program.
@@ -244,5 +252,5 @@ pub(crate) fn command_line<'a>(alloc: Global) -> Result<Command<'a>, AllocError>
 {
     let taking = with_taking(alloc, bare_command(alloc))?;
     let telling = with_telling(alloc, taking)?;
-    telling.subcommand(serve_command(alloc)?)
+    with_word(telling, serve_command(alloc)?)
 }

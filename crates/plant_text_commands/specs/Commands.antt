@@ -76,6 +76,17 @@ unhold_of d = when (is_command (codes "lot" ∷ codes "hold" ∷ []) d) (do
   hold ← id_at (codes "hold") d
   Some (body.Unhold (record { lot = lot; hold = hold })))
 
+-- the command of a word on recipes and orders, or else the one on a batch
+abbrev pub body_on_plans : List ℕ → Data → Option Command
+body_on_plans word d =
+    if bytes_eq word (codes "add_recipe") then add_recipe_of d else (
+    if bytes_eq word (codes "approve") then approve_of d else (
+    if bytes_eq word (codes "withdraw") then withdraw_of d else (
+    if bytes_eq word (codes "import_orders") then import_orders_of d else (
+    if bytes_eq word (codes "cancel_order") then cancel_order_of d else (
+    if bytes_eq word (codes "release") then release_of d else (
+    body_on_batch word d))))))
+
 -- the command of a word
 abbrev pub body_of : List ℕ → Data → Option Command
 body_of word d =
@@ -88,13 +99,7 @@ body_of word d =
     if bytes_eq word (codes "merge") then merge_of d else (
     if bytes_eq word (codes "hold") then hold_of d else (
     if bytes_eq word (codes "unhold") then unhold_of d else (
-    if bytes_eq word (codes "add_recipe") then add_recipe_of d else (
-    if bytes_eq word (codes "approve") then approve_of d else (
-    if bytes_eq word (codes "withdraw") then withdraw_of d else (
-    if bytes_eq word (codes "import_orders") then import_orders_of d else (
-    if bytes_eq word (codes "cancel_order") then cancel_order_of d else (
-    if bytes_eq word (codes "release") then release_of d else (
-    body_on_batch word d)))))))))))))))
+    body_on_plans word d)))))))))
 
 abbrev pub envelope_of : Data → Option Envelope
 envelope_of d = do

@@ -3,7 +3,8 @@ ghost use Rattle.std.specs.Prelude.{◌≡◌, codes, option_map};
 ghost use Rattle.plant_text_commands.specs.Fields.{string_at};
 ghost use Rattle.serde_json.specs.View.{view};
 ghost use Rattle.plant_text_commands.specs.Commands.{add_class_of, add_definition_of, receive_of, scrap_of, divide_of};
-ghost use Rattle.plant_text_commands.specs.Commands.{split_of, merge_of, hold_of, unhold_of, body_of, envelope_of};
+ghost use Rattle.plant_text_commands.specs.Commands.{split_of, merge_of, hold_of, unhold_of, body_on_plans, body_of};
+ghost use Rattle.plant_text_commands.specs.Commands.{envelope_of};
 ghost use Rattle.plant_text_commands.specs.Lists.{Reads};
 
 use crate::batches::body_on_batch;
@@ -153,6 +154,28 @@ fn unhold_of(value: &Value) -> Option<Command>
     Some(Command::Unhold(UnholdLot { lot, hold }))
 }
 
+/// The command of a word on recipes and orders, or else the one on a batch.
+fn body_on_plans(alloc: Global, value: &Value, word: &str) -> Result<Command, LineFault>
+    ensures { Reads result (body_on_plans word.now (view value.now)) }
+{
+    if word == "add_recipe" {
+        add_recipe_of(alloc, value)
+    } else if word == "approve" {
+        approve_of(value).ok_or(LineFault::BadForm)
+    } else if word == "withdraw" {
+        withdraw_of(value).ok_or(LineFault::BadForm)
+    } else if word == "import_orders" {
+        import_orders_of(alloc, value)
+    } else if word == "cancel_order" {
+        cancel_order_of(value).ok_or(LineFault::BadForm)
+    } else if word == "release" {
+        release_of(value).ok_or(LineFault::BadForm)
+    } else {
+        body_on_batch(value, word).ok_or(LineFault::BadForm)
+    }
+}
+
+/// The command of a word.
 fn body_of(alloc: Global, value: &Value, word: &str) -> Result<Command, LineFault>
     ensures { Reads result (body_of word.now (view value.now)) }
 {
@@ -174,20 +197,8 @@ fn body_of(alloc: Global, value: &Value, word: &str) -> Result<Command, LineFaul
         hold_of(value).ok_or(LineFault::BadForm)
     } else if word == "unhold" {
         unhold_of(value).ok_or(LineFault::BadForm)
-    } else if word == "add_recipe" {
-        add_recipe_of(alloc, value)
-    } else if word == "approve" {
-        approve_of(value).ok_or(LineFault::BadForm)
-    } else if word == "withdraw" {
-        withdraw_of(value).ok_or(LineFault::BadForm)
-    } else if word == "import_orders" {
-        import_orders_of(alloc, value)
-    } else if word == "cancel_order" {
-        cancel_order_of(value).ok_or(LineFault::BadForm)
-    } else if word == "release" {
-        release_of(value).ok_or(LineFault::BadForm)
     } else {
-        body_on_batch(value, word).ok_or(LineFault::BadForm)
+        body_on_plans(alloc, value, word)
     }
 }
 

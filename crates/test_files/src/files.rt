@@ -1,5 +1,6 @@
 //! A log and a database file in memory, each of which stops after so many calls.
 ghost use Rattle.std.specs.Prelude.{◌≡◌};
+ghost use Rattle.test_files.specs.Stops.{calls_until};
 
 use sqlite::{Connection, FileStore, Files, Options};
 use sqlite_disk::{Crash, Disk, Fuse, Memory};
@@ -42,8 +43,7 @@ pub enum Stopped {
 impl Stopped {
     /// A stop of this file after so many of its calls, and none of the other.
     pub fn after(self, calls: u64) -> Calls
-        ensures log { self ≡ Stopped.Log → result.log ≡ calls }
-        ensures database { self ≡ Stopped.Database → result.db ≡ calls }
+        ensures { result ≡ calls_until self calls }
     {
         match self {
             Stopped::Log => Calls { log: calls, ..ALL },

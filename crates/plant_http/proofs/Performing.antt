@@ -14,7 +14,7 @@ use Rattle.plant_http_requests.specs.Jobs.{is_of_body, Reads}
 use Rattle.plant_http_requests.specs.declared.job.Form.{Form}
 use Rattle.plant_http_requests.specs.declared.job.Job.{Job}
 use Rattle.plant_http_requests.specs.declared.job.Job.TheVariants as J
-use Rattle.plant_http.specs.Answers.{Out, out_of, fault_out, reply_out, answer_out, shut_out, is_silent, shown, Executed, Asked}
+use Rattle.plant_http.specs.Answers.{Out, fault_out, reply_out, answer_out, shut_out, is_silent, shown, Executed, Asked}
 use Rattle.plant_http.specs.Serving.{Performs, OutWhenShut}
 use Rattle.plant_http.specs.declared.answer.Answer.{Answer}
 

@@ -1,19 +1,19 @@
 -- From a job that was read to the request of the whole input.
-use Rattle.std.proofs.Common.{◌≡◌, ℕ, ◌+◌, ◌≤◌, ◌==◌, Bool, true, false, List, [], ◌∷◌, ◌++◌, length, take, Option, Some, None, Result, Ok, Err, refl, sym, ap, ◌∙◌, arith}
+use Rattle.std.proofs.Common.{◌≡◌, ℕ, ◌+◌, ◌≤◌, ◌==◌, Bool, true, false, List, [], ◌∷◌, length, Option, Some, None, Result, Ok, Err, refl, sym, ap, ◌∙◌, arith}
 use Rattle.std.specs.Prelude.{IfSome, nat_le, if◌then◌else◌}
-use Rattle.std.specs.Io.KnownBytes.{Consumes, Keeps}
+use Rattle.std.specs.Io.KnownBytes.{Keeps}
 use Rattle.std.proofs.lemmas.Bool.Decides.{nat_tests}
 use Rattle.std.proofs.lemmas.List.{length-append}
 use Rattle.plant_base.specs.State.{State}
 use Rattle.plant_desk.specs.Keeping.{States}
-use Rattle.plant_http_input.specs.Head.{end_of_head, end_where, head_length}
+use Rattle.plant_http_input.specs.Head.{end_of_head, end_where}
 use Rattle.plant_http_input.specs.Reading.{SpentAll}
 use Rattle.plant_http_input.specs.declared.reading.HeadEnd.{HeadEnd}
 use Rattle.plant_http_input.specs.declared.reading.HeadEnd.TheVariants as head
-use Rattle.plant_http_requests.specs.Jobs.{AsksFor, EndJob, JobOf, most_reads}
+use Rattle.plant_http_requests.specs.Jobs.{AsksFor, EndJob, most_reads}
 use Rattle.plant_http_requests.specs.declared.job.Job.{Job}
-use Rattle.plant_http.specs.Answers.{answer_bytes, shut_out}
-use Rattle.plant_http.specs.Serving.{Serves, ServesShut, Answers, AnswersJobShut, Untouched, end_of}
+use Rattle.plant_http.specs.Answers.{shut_out}
+use Rattle.plant_http.specs.Serving.{Serves, ServesShut, Answers, AnswersJobShut, end_of}
 use Rattle.plant_text.specs.Leaving.{LeavesAlone}
 use Rattle.plant_http_input.specs.declared.reading.InputFault.{InputFault}
 use Rattle.plant_http_input.specs.declared.reading.InputFault.TheVariants as input

@@ -6,7 +6,7 @@ ghost use Rattle.plant_http.specs.Answers.{answer_bytes, shown};
 
 use crate::answer::Answer;
 use crate::room::head_text;
-use plant_text::{Unwritten, write_text};
+use plant_text::{Unwritten, write_both};
 use std::io::Write;
 
 /// Writes an answer: its head, and its body where it isn't left out. No memory is taken.
@@ -21,12 +21,6 @@ pub(crate) fn send<W: Write>(writer: &mut W, answer: &Answer) -> Result<(), Unwr
 {
     let body = answer.body.as_bytes();
     let head = head_text(answer.status, answer.allow, answer.form, body.len());
-    match write_text(writer, head.as_bytes()) {
-        Ok(()) => {}
-        Err(unwritten) => return Err(unwritten),
-    }
-    if answer.silent {
-        return Ok(());
-    }
-    write_text(writer, body)
+    let rest: &[u8] = if answer.silent { &[] } else { body };
+    write_both(writer, head.as_bytes(), rest)
 }

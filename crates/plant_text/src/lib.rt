@@ -14,4 +14,4 @@ pub use plant_text_commands::LineFault;
 pub use read::{Line, read_line};
 pub use run::{RunEnd, run_lines, run_lines_within};
 pub use turns::{Stop, is_unknown, take_command, tell_fault};
-pub use writes::{Unwritten, write_line, write_text};
+pub use writes::{Unwritten, write_both, write_line, write_text};

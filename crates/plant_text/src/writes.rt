@@ -1,10 +1,14 @@
 //! Whole texts to a writer.
-ghost use Rattle.std.specs.Prelude.{OnOk, OnErr};
+ghost use Rattle.std.specs.Prelude.{◌++◌, OnOk, OnErr};
 ghost use Rattle.std.specs.Io.KnownBytes.{Appends};
 ghost use Rattle.plant_text.specs.Writes.{with_lf, AppendsFront};
 
+use arrayvec::ArrayVec;
 use std::io::Write;
 use thiserror::Error;
+
+/// How many bytes two texts have together at most that are written in one.
+const MOST_TOGETHER: usize = 4096;
 
 /// The writer failed, was interrupted, or took no byte. A front of the text may stand there, and no more is written.
 #[derive(Clone, Copy, Debug, PartialEq, Eq, Error)]
@@ -31,6 +35,36 @@ pub fn write_text<W: Write>(writer: &mut W, text: &[u8]) -> Result<(), Unwritten
     Ok(())
 }
 
+/// Writes two texts, one after the other.
+fn write_each<W: Write>(writer: &mut W, first: &[u8], second: &[u8]) -> Result<(), Unwritten>
+    ensures ok { OnOk result (Appends (W.contents writer.old) (W.contents writer.new)
+        (first.now ++ second.now)) }
+    ensures err { OnErr result (AppendsFront (W.contents writer.old) (W.contents writer.new)
+        (first.now ++ second.now)) }
+{
+    match write_text(writer, first) {
+        Ok(()) => write_text(writer, second),
+        Err(unwritten) => Err(unwritten),
+    }
+}
+
+/// Writes two texts, one behind the other: as one where both are short, since each write to a pipe or a socket costs more than their
+/// copy, and wakes the reader. No memory is taken.
+///
+/// `Unwritten`: a front of both was written, perhaps none of them but never all, and nothing else.
+pub fn write_both<W: Write>(writer: &mut W, first: &[u8], second: &[u8]) -> Result<(), Unwritten>
+    ensures ok { OnOk result (Appends (W.contents writer.old) (W.contents writer.new)
+        (first.now ++ second.now)) }
+    ensures err { OnErr result (AppendsFront (W.contents writer.old) (W.contents writer.new)
+        (first.now ++ second.now)) }
+{
+    let mut both = ArrayVec::<u8, MOST_TOGETHER>::new();
+    if both.try_extend_from_slice(first).is_err() || both.try_extend_from_slice(second).is_err() {
+        return write_each(writer, first, second);
+    }
+    write_text(writer, both.as_slice())
+}
+
 /// Writes the text and an LF.
 ///
 /// `Unwritten`: a front of both was written, perhaps none of them but never all, and nothing else.
@@ -40,8 +74,5 @@ pub fn write_line<W: Write>(writer: &mut W, text: &[u8]) -> Result<(), Unwritten
     ensures err { OnErr result (AppendsFront (W.contents writer.old) (W.contents writer.new)
         (with_lf text.now)) }
 {
-    match write_text(writer, text) {
-        Ok(()) => write_text(writer, b"\n"),
-        Err(unwritten) => Err(unwritten),
-    }
+    write_both(writer, text, b"\n")
 }

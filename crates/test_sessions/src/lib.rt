@@ -19,3 +19,5 @@ mod server_tests;
 mod session;
 #[cfg(test)]
 mod slow_tests;
+#[cfg(test)]
+mod write_tests;

@@ -1,4 +1,4 @@
-//! Readers that give a few bytes a read and writers that take three bytes a write, and fail.
+//! Readers that give a few bytes a read, writers that take three bytes a write, and fail, and writers that count.
 use std::io;
 use std::io::{Error, ErrorKind, Read, Write};
 
@@ -43,6 +43,25 @@ impl Write for Narrow {
         let n = buf.len().min(3);
         self.held.extend_from_slice(&buf[..n])?;
         Ok(n)
+    }
+
+    fn flush(&mut self) -> io::Result<()> {
+        Ok(())
+    }
+}
+
+/// Takes all of each write, and counts them.
+#[derive(Drop)]
+pub struct Counted {
+    pub held: Vec<u8>,
+    pub writes: u64,
+}
+
+impl Write for Counted {
+    fn write(&mut self, buf: &[u8]) -> io::Result<usize> {
+        self.writes = self.writes.saturating_add(1);
+        self.held.extend_from_slice(buf)?;
+        Ok(buf.len())
     }
 
     fn flush(&mut self) -> io::Result<()> {

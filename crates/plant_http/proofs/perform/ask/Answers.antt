@@ -1,5 +1,5 @@
 use Rattle.std.proofs.Common.{◌∙◌}
-use Rattle.plant_http.proofs.Performing.{question_performs, question_shut}
+use Rattle.plant_http.proofs.Performing.{question_performs}
 use Rattle.plant_http.proofs.perform.ask.Goals as goal
 
 pub returns-clause-performs : goal.returns-clause-performs

@@ -1,4 +1,4 @@
-use Rattle.std.proofs.Common.{◌≡◌, false, true, Some, Err, sym, ap, ◌∙◌}
+use Rattle.std.proofs.Common.{Some, ap, ◌∙◌}
 use Rattle.plant_http.proofs.Serving.{serves_known, shut_known, serves_nothing, shut_nothing}
 use Rattle.plant_http.proofs.serve.serve_one.Goals as goal
 

@@ -184,6 +184,35 @@ def limits_are_kept(check):
             server.communicate()
 
 
+def answers_outlive_what_is_not_read(check):
+    """Sends bytes that no request asks for, before its answer and behind it: each answer comes whole, and so does the next."""
+    much = b"-" * 50_000
+    too_large = posted(b"300000")[:-59] + much
+    cases = [
+        ("a body that is too large", too_large, status(413)),
+        ("a question with a body", HOST + b"Content-Length: 50000\r\n\r\n" + much, NEW),
+        ("more than a question", ASK + much, NEW),
+    ]
+    server, port, _ = check.serving(":memory:", 1 + 3 * len(cases) + 2)
+    try:
+        for name, sent, wanted in cases:
+            check.expect(name, answered(port, sent), wanted)
+            with connected(port) as slow:
+                slow.sendall(sent)
+                check.expect(f"{name}, and a client that stays", rest_of(slow), wanted)
+                check.expect(f"the next behind {name}", answered(port, ASK), NEW)
+        with connected(port) as late:
+            late.sendall(HOST + b"Content-Length: 50000\r\n\r\n")
+            found = rest_of(late)
+            late.sendall(much)
+            check.expect("a body that comes behind the answer", found, NEW)
+        check.expect("the next behind it", answered(port, ASK), NEW)
+        check.expect("its server", server.wait(timeout=60), 0)
+    finally:
+        server.kill()
+        server.communicate()
+
+
 def main(program):
     session = written(HERE / "sessions" / "a_batch_runs_to_its_close.txt")
     with tempfile.TemporaryDirectory() as room:
@@ -192,6 +221,7 @@ def main(program):
         rules_are_tested(check)
         fronts_are_bad(check)
         limits_are_kept(check)
+        answers_outlive_what_is_not_read(check)
     print(f"hostile: {check.passed} passed, {check.failed} failed")
     return 1 if check.failed else 0
 

@@ -31,12 +31,12 @@ fn bound_waits(stream: &TcpStream) {
     let _ = stream.set_write_timeout(most);
 }
 
-/// Ends a connection behind its answer: tells the client that no more comes, and reads on for a while.
+/// Reads on behind an answer until the client ends its side, for a while.
 ///
 /// A socket that is closed with unread bytes in it resets the connection, and a reset can destroy an answer on its way.
-fn finish(stream: &TcpStream) {
+pub(crate) fn read_on(stream: &TcpStream) {
     let most = Some(Duration::from_secs(MOST_SECONDS_BEHIND));
-    if stream.shutdown(Shutdown::Write).is_err() || stream.set_read_timeout(most).is_err() {
+    if stream.set_read_timeout(most).is_err() {
         return;
     }
     let mut input = stream;
@@ -49,22 +49,46 @@ fn finish(stream: &TcpStream) {
     }
 }
 
+/// Reads on behind an answer what has come, and waits for no more.
+pub(crate) fn read_rest(stream: &TcpStream) {
+    if stream.set_nonblocking(true).is_ok() {
+        read_on(stream);
+    }
+}
+
+/// Tells the client that no more comes than its answer, which has this status. The connection comes back where nothing has to be read
+/// on: the request was read to its end, but for the body of a GET, which is never read.
+fn end_answer(stream: TcpStream, status: u16) -> Option<TcpStream> {
+    if stream.shutdown(Shutdown::Write).is_err() {
+        return None;
+    }
+    if matches!(status, 200 | 409) {
+        return Some(stream);
+    }
+    read_on(&stream);
+    None
+}
+
 /// Serves the request of one connection. What becomes of it is the connection's affair: the keeper is what it is told of.
 ///
-/// Where nothing was answered, for a fault of the connection or for want of memory, nothing has to reach the client, and the
-/// connection is dropped at once.
+/// The connection comes back where its client has all that it needs to end it. Where nothing was answered, for a fault of the connection or
+/// for want of memory, nothing has to reach the client, and the connection is dropped at once.
 pub(crate) fn serve_stream<K: Keeper>(
     alloc: Global,
     routes: &Routes,
-    stream: &TcpStream,
+    stream: TcpStream,
     keeper: &mut K,
-)
+) -> Option<TcpStream>
     ensures { IsSameDesk K.honest K.schema K.beside keeper.old keeper.new }
 {
-    bound_waits(stream);
-    let mut input = stream;
-    let mut output = stream;
-    if let Ok(Served::Answered(_)) = serve_one(alloc, routes, &mut input, &mut output, keeper) {
-        finish(stream);
+    bound_waits(&stream);
+    let served = {
+        let mut input = &stream;
+        let mut output = &stream;
+        serve_one(alloc, routes, &mut input, &mut output, keeper)
+    };
+    match served {
+        Ok(Served::Answered(status)) => end_answer(stream, status),
+        Ok(Served::Nothing) | Err(_) => None,
     }
 }

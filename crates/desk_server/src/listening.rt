@@ -4,13 +4,43 @@ ghost use Rattle.sqlite.specs.Held.{state};
 ghost use Rattle.sqlite.specs.State.{HasCleanDisk};
 ghost use Rattle.desk_server.specs.Serving.{EndsServing, IsSameStore};
 
-use crate::connection::serve_stream;
+use crate::connection::{read_on, read_rest, serve_stream};
 use desk_program::Fault;
 use plant_desk_store::Desk;
 use plant_http_routes::Routes;
 use sqlite::Alter;
 use std::alloc::Global;
-use std::net::TcpListener;
+use std::net::{TcpListener, TcpStream};
+
+/// Serves so many connections of a listener, one after the other, by an open desk. `answered` is the last whose client had still to end
+/// it: a server that waited for that would do nothing meanwhile, and when the next is answered it has mostly come.
+fn serve_each<S: Alter + Drop>(
+    alloc: Global,
+    listener: &TcpListener,
+    count: u32,
+    routes: &Routes,
+    desk: &mut Desk<S>,
+    answered: &mut Option<TcpStream>,
+) -> Result<bool, Fault>
+    requires { desk.old.is_shut ≡ false }
+    ensures same { IsSameStore S.Store desk.old desk.new }
+    ensures ends { EndsServing desk.new.is_shut result }
+{
+    for _ in 0..count {
+        let Ok((stream, _)) = listener.accept() else {
+            return Err(Fault::Net);
+        };
+        let next = serve_stream(alloc, routes, stream, desk);
+        if let Some(former) = &*answered {
+            read_rest(former);
+        }
+        *answered = next;
+        if desk.is_shut() {
+            return Err(Fault::Store);
+        }
+    }
+    Ok(false)
+}
 
 /// Serves so many connections of a listener, one after the other, by an open desk. What is answered to a request ends nothing,
 /// and neither does a fault of a connection; one without a byte counts too.
@@ -30,14 +60,10 @@ pub fn serve_listener<S: Alter + Drop>(
     let Ok(routes) = Routes::new(alloc) else {
         return Err(Fault::Memory);
     };
-    for _ in 0..count {
-        let Ok((stream, _)) = listener.accept() else {
-            return Err(Fault::Net);
-        };
-        serve_stream(alloc, &routes, &stream, desk);
-        if desk.is_shut() {
-            return Err(Fault::Store);
-        }
+    let mut answered = None;
+    let end = serve_each(alloc, listener, count, &routes, desk, &mut answered);
+    if let Some(last) = &answered {
+        read_on(last);
     }
-    Ok(false)
+    end
 }

@@ -6,12 +6,15 @@ Each request is a connection of its own, made by a client in C (bench/client.c, 
 them all, each once the one before it was answered, its own time is in the figure; where three share them, the next connection waits
 while one is answered, and the figure is what the server does. Beside each stands what the server's own processor would do, which tells
 how many requests a second one core would serve that did nothing else. The last server does nothing but accept, read once, write a text that it holds and
-close. The file is in FOLDER. Commands are receipts of one definition, each of a lot of its own; then questions ask about those lots in
+close. Last, the desk in memory, the desk over a file and the server of the library stand side by side, and are asked about a new desk in turn, in
+rounds, since a machine that others use too is now faster and now slower: what is told of a round is how many times as many questions a
+second the desk answered. The file is in FOLDER. Commands are receipts of one definition, each of a lot of its own; then questions ask about those lots in
 turn. What `run` does is measured from its start to its end.
 """
 import http.server
 import pathlib
 import socket
+import statistics
 import subprocess
 import sys
 import time
@@ -20,6 +23,10 @@ SECONDS = 60
 
 # How many processes send requests at once.
 SHARES = 3
+
+# How often servers that stand side by side are asked in turn, and how many questions each time.
+ROUNDS = 15
+ROUND_QUESTIONS = 2000
 
 PREPARED = [
     b'{"at":1,"by":"","do":"add_class","class":"RAW","name":""}',
@@ -87,15 +94,20 @@ class Client:
         source = pathlib.Path(__file__).with_name("client.c")
         subprocess.run(["gcc", "-O2", "-o", self.program, source], check=True)
 
-    def timed(self, name, port, requests, wanted, server, shares=1):
-        """Sends requests, which so many processes share, and each of whose answers has to have a text in it."""
+    def seconds(self, name, port, requests, wanted, shares):
+        """Sends requests, which so many processes share, and each of whose answers has to have a text in it. Returns how long that took."""
         told = b"".join(b"%d\n%s" % (len(it), it) for it in requests)
-        had = processor_seconds(server)
         ran = subprocess.run([self.program, str(port), wanted, str(shares)], input=told, stdout=subprocess.PIPE)
         if ran.returncode != 0:
             sys.exit(f"{name}: the client ended with status {ran.returncode}")
+        return float(ran.stdout)
+
+    def timed(self, name, port, requests, wanted, server, shares=1):
+        """Sends requests, and tells how long that took, and the server's processor."""
+        had = processor_seconds(server)
+        took = self.seconds(name, port, requests, wanted, shares)
         shared = f", {shares} at once" if shares > 1 else ""
-        told_of(name + shared, len(requests), float(ran.stdout), processor_seconds(server) - had)
+        told_of(name + shared, len(requests), took, processor_seconds(server) - had)
 
     def timed_both(self, name, port, requests, wanted, server):
         """Sends requests one after the other, and then once more, shared."""
@@ -170,17 +182,54 @@ def serve_bare(port, text):
                 stream.sendall(text)
 
 
-def other(client, name, word, text, questions):
-    """Measures a server of this file."""
+def other_server(word, text):
+    """Starts a server of this file, and returns it with its port."""
     port = free_port()
     server = subprocess.Popen([sys.executable, __file__, word, str(port)], stdin=subprocess.PIPE)
+    server.stdin.write(text)
+    server.stdin.close()
+    await_answer(port, asked(b"desk"), server)
+    return server, port
+
+
+def other(client, name, word, text, questions):
+    """Measures a server of this file."""
+    server, port = other_server(word, text)
     try:
-        server.stdin.write(text)
-        server.stdin.close()
-        await_answer(port, asked(b"desk"), server)
         client.timed_both(name, port, [asked(b"desk")] * questions, text.rpartition(b"\r\n\r\n")[2], server)
     finally:
         server.kill()
+
+
+def in_turn(client, desks, other_port, body, shares):
+    """Asks desks at their ports in turn with the server of the library, and tells of each round how many times as many it answered."""
+    requests = [asked(b"desk")] * ROUND_QUESTIONS
+    rounds = []
+    for _ in range(ROUNDS):
+        of_other = client.seconds("Python's http.server", other_port, requests, body, shares)
+        rounds.append([of_other / client.seconds(name, port, requests, body, shares) for name, port in desks])
+    for (name, _), times in zip(desks, zip(*rounds)):
+        low, middle, high = min(times), statistics.median(times), max(times)
+        shared = f", {shares} at once" if shares > 1 else ""
+        print(f"{name}{shared}: {middle:.2f} times Python's http.server in the middle of {ROUNDS} rounds, {low:.2f} to {high:.2f}", flush=True)
+
+
+def side_by_side(client, program, file, body):
+    """Measures desks and the server of the library in turn."""
+    other, other_port = other_server("fixed", body)
+    servers, desks = [other], []
+    count = 1 + 2 * ROUNDS * ROUND_QUESTIONS
+    try:
+        for name, store in [("serve in memory", ":memory:"), ("serve over a file", file)]:
+            port = free_port()
+            servers.append(subprocess.Popen([program, "serve", store, str(port), str(count)]))
+            await_answer(port, asked(b"desk"), servers[-1])
+            desks.append((name, port))
+        for shares in (1, SHARES):
+            in_turn(client, desks, other_port, body, shares)
+    finally:
+        for it in servers:
+            it.kill()
 
 
 def main(program, folder, questions, commands):
@@ -192,6 +241,7 @@ def main(program, folder, questions, commands):
     body = text.rpartition(b"\r\n\r\n")[2]
     other(client, f"Python's http.server, {len(body)} bytes that it holds", "fixed", body, questions)
     other(client, "bare sockets in Python, the same", "bare", text, questions)
+    side_by_side(client, program, folder / "new.db", b'{"schema":2,"seq":0}')
 
 
 if __name__ == "__main__":

@@ -57,7 +57,7 @@ pub(crate) fn read_rest(stream: &TcpStream) {
 }
 
 /// Tells the client that no more comes than its answer, which has this status. The connection comes back where nothing has to be read
-/// on: the request was read to its end, but for the body of a GET, which is never read.
+/// on: a request that is answered 200 or 409 was read to its end, but for the body of a GET or HEAD, which is never read.
 fn end_answer(stream: TcpStream, status: u16) -> Option<TcpStream> {
     if stream.shutdown(Shutdown::Write).is_err() {
         return None;

@@ -12,8 +12,8 @@ use sqlite::Alter;
 use std::alloc::Global;
 use std::net::{TcpListener, TcpStream};
 
-/// Serves so many connections of a listener, one after the other, by an open desk. `answered` is the last whose client had still to end
-/// it: a server that waited for that would do nothing meanwhile, and when the next is answered it has mostly come.
+/// Serves so many connections of a listener, one after the other, by an open desk. `answered` is the last one, where its client has its
+/// answer and may not have ended it: the next is served meanwhile, by when the client mostly has.
 fn serve_each<S: Alter + Drop>(
     alloc: Global,
     listener: &TcpListener,

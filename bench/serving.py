@@ -5,7 +5,7 @@
 Each request is a connection of its own, made by a client in C (bench/client.c, built in FOLDER with gcc). Where one process of it sends
 them all, each once the one before it was answered, its own time is in the figure; where three share them, the next connection waits
 while one is answered, and the figure is what the server does. Beside each stands what the server's own processor would do, which tells
-how many requests a second one core would serve that did nothing else. The last server does nothing but accept, read once, write a text that it holds and
+how many requests a second one core would serve that did nothing else. The server of bare sockets does nothing but accept, read once, write a text that it holds and
 close. Last, the desk in memory, the desk over a file and the server of the library stand side by side, and are asked about a new desk in turn, in
 rounds, since a machine that others use too is now faster and now slower: what is told of a round is how many times as many questions a
 second the desk answered. The file is in FOLDER. Commands are receipts of one definition, each of a lot of its own; then questions ask about those lots in
@@ -186,9 +186,13 @@ def other_server(word, text):
     """Starts a server of this file, and returns it with its port."""
     port = free_port()
     server = subprocess.Popen([sys.executable, __file__, word, str(port)], stdin=subprocess.PIPE)
-    server.stdin.write(text)
-    server.stdin.close()
-    await_answer(port, asked(b"desk"), server)
+    try:
+        server.stdin.write(text)
+        server.stdin.close()
+        await_answer(port, asked(b"desk"), server)
+    except BaseException:
+        server.kill()
+        raise
     return server, port
 
 

@@ -3,10 +3,9 @@
 # make desk  leaves the built program at build/desk
 # make order_check  leaves the built check of order files at build/order_check
 # make line_check  leaves the built check of lines at build/line_check
-# make test  the gate: that the programs are run on what stands in examples/, then, from nothing, every proof, every
-#            must-fail edit, every test and the programs, and then sessions of the built desk, damaged files and broken
-#            requests, the two built checks on long inputs and streams that fail, and the examples of the documents
-.PHONY: look run desk order_check line_check test
+# make test  the gate (gate/test.sh): every proof, must-fail edit, test and program from nothing, then the built programs
+# make edits has the prover try the edits that the gate doesn't, of all crates or of some: make edits NAMES="plant_tables"
+.PHONY: look run desk order_check line_check test edits
 
 look:
 	cd crates/desk && rt try < stdin
@@ -33,14 +32,7 @@ line_check:
 	cp crates/line_check/out/line_check build/line_check
 
 test:
-	mkdir -p build
-	date +%s > build/began
-	cmp examples/orders.csv crates/order_check/stdin
-	cmp examples/batch.jsonl crates/desk/stdin
-	cmp examples/batch.out crates/desk/stdout
-	rt ci
-	examples/sessions.py crates/desk/out/desk
-	examples/hostile.py crates/desk/out/desk
-	examples/checks.py crates/order_check/out/order_check crates/line_check/out/line_check
-	examples/run.py crates/desk/out/desk README.md docs/EXAMPLES.md
-	@echo "the gate took $$(( ($$(date +%s) - $$(cat build/began)) / 60 )) minutes on $$(nproc) processors"
+	gate/test.sh
+
+edits:
+	gate/edits.py try $(NAMES)

@@ -65,7 +65,7 @@ TABLES = {
     "sublot": ("lot no# place stock#", ["lot no"]),
     "movement": ("seq# line# kind# lot sub# lot2? sub2#? batch? amount# at# by_who note", ["seq line"]),
     "hold": ("lot id at# by_who note", ["lot id"]),
-    "edge": ("kind# a b", ["kind a b", "kind b a"]),
+    "edge": ("kind# a b", ["kind a b"]),
 }
 
 # The record of the batch of the session a_batch_runs_to_its_close.
@@ -412,6 +412,28 @@ class Check:
         self.expect("edges that were raised", store.execute("SELECT kind, a, b FROM edge ORDER BY kind, a, b").fetchall(), edges)
         store.close()
 
+    def a_desk_needs_no_index(self, session):
+        """Takes the indexes of the file that the session leaves away: it is as good, and answers and accepts as before."""
+        file = self.room / "plain.db"
+        self.run("run", file.name, told=session.told)
+        store = sqlite3.connect(file)
+        names = "SELECT name FROM sqlite_schema WHERE type = 'index' AND sql IS NOT NULL ORDER BY name"
+        indexes = [name for (name,) in store.execute(names)]
+        self.expect("indexes", indexes, ["batch_event_by_batch", "edge_by_end", "movement_by_batch", "movement_by_lot"])
+        for name in indexes:
+            store.execute(f"DROP INDEX {name}")
+        store.commit()
+        store.close()
+        last = session.count()
+        more = b'{"at":400,"by":"","do":"scrap","lot":"D-1","sub":0,"amount":1}\n'
+        for words, told, wanted in [
+            (["verify", file.name], b"", b"good schema 2 seq %d\n" % last),
+            (["trace", file.name, "back", "D-1"], b"", b"lot F-1\nbatch B-1\n"),
+            (["run", file.name], more, b'{"ok":%d}\n' % (last + 1)),
+            (["verify", file.name], b"", b"good schema 2 seq %d\n" % (last + 1)),
+        ]:
+            self.expect(" ".join(words) + " without an index", self.run(*words, told=told), (0, wanted, b""))
+
     def commands_are_numbered_up_to_their_limit(self):
         """Tells a desk whose commands have all their numbers but one."""
         file = self.room / "numbers.db"
@@ -575,6 +597,7 @@ def main(program):
         batch = next(it for it in sessions if it.name == "a_batch_runs_to_its_close")
         check.words_tell(batch)
         check.an_older_schema_is_raised(batch)
+        check.a_desk_needs_no_index(batch)
         check.commands_are_numbered_up_to_their_limit()
         check.a_large_desk_is_adopted()
         check.tables_are_as_published()

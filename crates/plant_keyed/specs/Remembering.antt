@@ -1,5 +1,5 @@
 -- What look-ups remember of the edges.
-use Rattle.std.specs.Prelude.{◌≡◌, ◌↔◌, Bool, true}
+use Rattle.std.specs.Prelude.{◌≡◌, ◌↔◌, ℕ, ◌+◌, ◌/◌, min, Bool, true, nat_le}
 use Rattle.sqlite.specs.Effect.{Database}
 use Rattle.sqlite.specs.State as store
 use Rattle.plant_base.specs.State.{State}
@@ -16,6 +16,14 @@ AreEdgesOf s d = d.are_read ≡ true → AreTurned d.direction (edges_of s) d.li
 -- where the look-ups end honest, what is remembered is as true of the state that they show as what was remembered before
 abbrev pub StaysTrue : Database → store.State → Bool → Directed → Directed → Type 0
 StaysTrue old new failed was is = IsHonest new failed → AreEdgesOf (shown old) was ↔ AreEdgesOf (shown new.now) is
+
+-- one more node asked for, counted up to the greatest number of 64 bits
+abbrev pub one_more : ℕ → ℕ
+one_more asked = min (asked + 1) 18446744073709551615
+
+-- so few nodes that each is looked up, after so many commands: 256, and one for each 16 commands
+abbrev pub are_few : ℕ → ℕ → Bool
+are_few asked commands = nat_le asked (256 + commands / 16)
 
 -- What look-ups tell of edges: the fact holds where what was remembered is true.
 pub record IsTraced (old new : store.State) (had_failed has_failed : Bool) (was is : Directed) (fact : Type 0) : Type 0 where

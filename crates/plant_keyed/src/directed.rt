@@ -44,6 +44,7 @@ impl Directed {
     ) -> Result<Directed, AllocError>
         ensures way { IfOk result (λ d. d.direction ≡ direction) }
         ensures turned { IfOk result (λ d. AreTurned direction pairs.now d.links.items) }
+        ensures read { IfOk result (λ d. d.are_read ≡ true) }
     {
         let mut links = turned_pairs(alloc, pairs, direction)?;
         links.sort_by_key(|link| link.0)?;

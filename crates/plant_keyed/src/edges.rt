@@ -1,17 +1,18 @@
 //! The edges of the genealogy, each found from either of its ends by its key; where a trace asks for many nodes, all of
 //! them are read at once.
 
-ghost use Rattle.std.specs.Prelude.{◌≡◌, filter, map, false, true, IfOk, IfSome};
+ghost use Rattle.std.specs.Prelude.{◌≡◌, filter, map, false, true, IfOk, IfSome, OnOk};
 ghost use Rattle.sqlite.specs.Held.{state};
 ghost use Rattle.plant_base.specs.State.{State};
 ghost use Rattle.plant_trace.specs.Reach.{IsNext, Lists};
 ghost use Rattle.plant_view.specs.Genealogy.{edge_rows, edges_of, ends_of};
 ghost use Rattle.plant_keyed.specs.Edges.{begins_at, id_of, AreKindsAt, AreTurned, HasEdgesAt};
 ghost use Rattle.plant_keyed.specs.Keeping.{IsSteady, IsTold};
-ghost use Rattle.plant_keyed.specs.Remembering.{AreEdgesOf, IsTraced, StaysTrue};
+ghost use Rattle.plant_keyed.specs.Remembering.{AreEdgesOf, IsTraced, StaysTrue, one_more, are_few};
 ghost use Rattle.plant_keyed.specs.Shown.{shown};
 
 use crate::directed::Directed;
+use crate::faults::if_memory;
 use crate::keyed::Keyed;
 use crate::texts;
 use plant_base::{EdgeKind, EdgeRow, Id};
@@ -93,10 +94,8 @@ impl<'a, S: Alter> Keyed<'a, S> {
             return Ok(rows);
         };
         let more = self.edges_of_kind(other, id, direction)?;
-        match rows.extend_from_slice(more.as_slice()) {
-            Ok(()) => Ok(rows),
-            Err(_) => Err(Fault::Memory),
-        }
+        if_memory(rows.extend_from_slice(more.as_slice()))?;
+        Ok(rows)
     }
 
     /// The nodes that come right after this one in the direction, strictly ascending, by the edges that begin at it. The
@@ -110,10 +109,7 @@ impl<'a, S: Alter> Keyed<'a, S> {
         ensures remembers { self.new.edges.now ≡ self.old.edges.now }
     {
         let edges = self.edges_at(&node, direction)?;
-        match nodes_by(self.alloc, edges.as_slice(), node, direction) {
-            Ok(nodes) => Ok(nodes),
-            Err(_) => Err(Fault::Memory),
-        }
+        if_memory(nodes_by(self.alloc, edges.as_slice(), node, direction))
     }
 
     /// All edges. The faults are those of each look-up.
@@ -136,15 +132,11 @@ impl<'a, S: Alter> Keyed<'a, S> {
             self.old.has_failed self.new.has_failed }
         ensures stays { StaysTrue (state S.Store self.old.conn.now).now (state S.Store self.new.conn.now)
             self.new.has_failed self.old.edges.now self.new.edges.now }
+        ensures read { OnOk result (self.new.edges.now.are_read ≡ true) }
     {
         let rows = self.all_edges()?;
-        match directed_by(self.alloc, rows.as_slice(), direction) {
-            Ok(all) => {
-                *self.edges = all;
-                Ok(())
-            }
-            Err(_) => Err(Fault::Memory),
-        }
+        *self.edges = if_memory(directed_by(self.alloc, rows.as_slice(), direction))?;
+        Ok(())
     }
 
     /// Reads and remembers all edges, where the nodes that were asked for are so many that this is no dearer than what was
@@ -155,9 +147,12 @@ impl<'a, S: Alter> Keyed<'a, S> {
             self.old.has_failed self.new.has_failed }
         ensures stays { StaysTrue (state S.Store self.old.conn.now).now (state S.Store self.new.conn.now)
             self.new.has_failed self.old.edges.now self.new.edges.now }
+        ensures counted { self.new.asked ≡ one_more self.old.asked }
+        ensures few { are_few (one_more self.old.asked) self.old.commands ≡ true → self.new.edges.now ≡ self.old.edges.now }
+        ensures many { are_few (one_more self.old.asked) self.old.commands ≡ false → OnOk result (self.new.edges.now.are_read ≡ true) }
     {
         self.asked = self.asked.saturating_add(1);
-        if self.asked <= FEW + self.commands / A_LOOK_UP || self.edges.are_read {
+        if self.edges.are_read || are_few(self.asked, self.commands) {
             return Ok(());
         }
         self.remember(direction)
@@ -177,12 +172,18 @@ impl<'a, S: Alter> Keyed<'a, S> {
             (edges_of (shown (state S.Store self.old.conn.now).now)) node) nodes.items)) }
     {
         self.remember_if_many(direction)?;
-        match recalled(self.alloc, self.edges, &node, direction) {
-            Ok(Some(nodes)) => Ok(nodes),
-            Ok(None) => self.look_up_next(node, direction),
-            Err(_) => Err(Fault::Memory),
+        match if_memory(recalled(self.alloc, self.edges, &node, direction))? {
+            Some(nodes) => Ok(nodes),
+            None => self.look_up_next(node, direction),
         }
     }
+}
+
+// Whether so many nodes are looked up one by one, after so many commands.
+fn are_few(asked: u64, commands: u64) -> bool
+    ensures { result ≡ are_few asked commands }
+{
+    asked <= FEW + commands / A_LOOK_UP
 }
 
 // The kind of the edges that begin at the node, as the direction sees them, and the second kind where there are two.
@@ -235,6 +236,7 @@ fn directed_by(
 ) -> Result<Directed, AllocError>
     ensures way { IfOk result (λ d. d.direction ≡ direction) }
     ensures turned { IfOk result (λ d. AreTurned direction (map ends_of edges.now) d.links.items) }
+    ensures read { IfOk result (λ d. d.are_read ≡ true) }
 {
     let pairs = pairs_of(alloc, edges)?;
     Directed::new(alloc, pairs.as_slice(), direction)

@@ -1,17 +1,19 @@
 //! Rows that a query finds, judged by the rules of their values.
 
-ghost use Rattle.std.specs.Prelude.{◌≡◌, false, ℕ, List, IfOk, OnOk};
+ghost use Rattle.std.specs.Prelude.{◌≡◌, false, ℕ, List, Some, None, Err, IfOk, IfErr, OnOk};
 ghost use Rattle.sqlite.specs.State.{HasCleanDisk, IsUnchanged, Survives};
 ghost use Rattle.sqlite.specs.Held.{state};
 ghost use Rattle.sqlite.specs.Values.{bound};
 ghost use Rattle.table_forms.specs.Resting.{Keeps};
 ghost use Rattle.table_reads.specs.Found.{AreGiven};
 ghost use Rattle.table_reads.specs.Selects.{Selects};
+ghost use Rattle.plant_tables_columns.specs.All.{all_from};
 ghost use Rattle.plant_keyed.specs.Finding.{AreFound, AreJudged};
 
+use crate::faults::if_memory;
 use plant_tables_columns::{Judged, judge_all};
 use sqlite::types::ValueRef;
-use sqlite::{Alter, Connection};
+use sqlite::{Alter, Connection, Row};
 use std::alloc::Global;
 use table_forms::{Fault, Form};
 use table_reads::find_rows;
@@ -40,10 +42,21 @@ pub(crate) fn found_rows<S: Alter, R: Judged>(
         → (state S.Store conn.new).in_transaction ≡ false }
     ensures crash { Survives (state S.Store conn.old) (state S.Store conn.new) (λ _. ⊥) }
 {
-    let stored = find_rows(alloc, conn, form, sql, values)?;
-    match judge_all(alloc, stored.as_slice()) {
-        Ok(Some(rows)) => Ok(rows),
-        Ok(None) => Err(Fault::Store),
-        Err(_) => Err(Fault::Memory),
+    judged_by(alloc, find_rows(alloc, conn, form, sql, values))
+}
+
+/// The rows of the desk that were read. The faults are those of the reading; Store where a value of a row breaks its rule,
+/// and Memory where there is none for the rows.
+fn judged_by<R: Judged>(alloc: Global, read: Result<Vec<Row>, Fault>) -> Result<Vec<R>, Fault>
+    ensures handed { IfErr read (λ fault. result ≡ Err fault) }
+    ensures rows { IfOk read (λ stored. IfOk result
+        (λ rows. all_from R.row_from stored.items ≡ Some rows.items)) }
+    ensures broken { IfOk read (λ stored. IfErr result
+        (λ fault. fault ≡ Fault.Store → all_from R.row_from stored.items ≡ None)) }
+{
+    let stored = read?;
+    match if_memory(judge_all(alloc, stored.as_slice()))? {
+        Some(rows) => Ok(rows),
+        None => Err(Fault::Store),
     }
 }

@@ -3,6 +3,7 @@
 
 mod directed;
 mod edges;
+mod faults;
 mod found;
 mod keyed;
 mod laws;

@@ -46,7 +46,7 @@ use Rattle.plant_tables.specs.DeskForms.{class_form, definition_form, recipe_for
 use Rattle.plant_tables.specs.DeskTables.{rows_of, contents_of, rows_changed, all_rows_changed}
 use Rattle.plant_tables_columns.specs.TableColumns.{row_of_meta, row_of_class, row_of_definition, row_of_recipe, row_of_master_line, row_of_job, row_of_batch, row_of_control_line, row_of_event, row_of_lot, row_of_sublot, row_of_movement, row_of_hold, row_of_edge}
 use Rattle.plant_tables.specs.Keyed.{AreKeyed, IsFresh, AreFresh}
-use Rattle.plant_tables.proofs.KeyTests.{or_false, one_text, second_text, two_texts, text_number, text_numbers, one_number, two_numbers, number_texts, number_texts_turned, text_tie, and_true}
+use Rattle.plant_tables.proofs.KeyTests.{or_false, one_text, second_text, two_texts, text_number, text_numbers, one_number, two_numbers, number_texts, text_tie, and_true}
 use Rattle.plant_tables.proofs.Permuted.{put_by_key, put_at_end}
 
 -- ---- the orders
@@ -133,15 +133,9 @@ sublot_met x r = or_false _ ∙ text_number x.lot r.lot x.number r.number [] []
 hold_met : (x r : Hold) → meets hold_form (row_of_hold x) (row_of_hold r) ≡ is_eq (hold_order x r)
 hold_met x r = or_false _ ∙ two_texts x.lot r.lot x.id r.id [] []
 
-or_itself : (a : Bool) → (a || a) ≡ a
-or_itself true = refl
-or_itself false = refl
-
--- each of its keys has all its columns
 edge_met : (x r : EdgeRow) → meets edge_form (row_of_edge x) (row_of_edge r) ≡ is_eq (edge_order x r)
 edge_met x r =
-    rw (number_texts (edge_kind_number x.kind) (edge_kind_number r.kind) x.from r.from x.to r.to, number_texts_turned (edge_kind_number x.kind) (edge_kind_number r.kind) x.from r.from x.to r.to, or_false)
-    (or_itself (is_eq (edge_order x r)))
+    or_false _ ∙ number_texts (edge_kind_number x.kind) (edge_kind_number r.kind) x.from r.from x.to r.to
 
 implied_or : (a b : Bool) → (b ≡ true → a ≡ true) → (a || b) ≡ a
 implied_or true b h = refl

@@ -1,16 +1,18 @@
 -- What the fixed texts say, by computing them.
-use Rattle.std.proofs.Common.{refl, inl, inr, ℕ, List, [], ◌∷◌}
+use Rattle.std.proofs.Common.{refl, inl, inr, ℕ, zero, suc, nat_le, List, [], ◌∷◌, take}
+use Rattle.std.proofs.lemmas.Bool.{cases_Bool}
 use Rattle.sqlite_value.specs.Keys.{first_key}
 use Rattle.sqlite_tied.specs.Compute.{everything}
 use Rattle.sqlite_rules.proofs.ListLemmas.{has_got}
 use Rattle.sqlite_resolve.specs.Compile.{first}
-use Rattle.table_forms.specs.Texts.{IsMakeText, IsPutText, IsTakeText, parse_or, rows_in, names_in, definition_in}
+use Rattle.table_forms.specs.Texts.{IsMakeText, IsPutText, IsUpsertText, IsTakeText, parse_or, rows_in, names_in, definition_in}
 use Rattle.table_forms.specs.Moves.{AreApart, AreMakeTexts}
-use Rattle.table_forms.specs.Indexes.{IsIndexText, AreIndexTexts, AreOf, index_in}
+use Rattle.table_forms.specs.Forms.{Form}
+use Rattle.table_forms.specs.Indexes.{IndexForm, IsIndexText, AreIndexTexts, AreOf, index_in}
 use Rattle.table_forms.proofs.Computed.{takes_two, upserts_row}
-use Rattle.plant_tables.specs.DeskForms.{desk_forms, later_forms, meta_form, class_form, definition_form, recipe_form, recipe_line_form, job_form, batch_form, control_line_form, batch_event_form, lot_form, sublot_form, movement_form, hold_form, edge_form}
-use Rattle.plant_tables.specs.DeskIndexes.{batch_event_by_batch, movement_by_lot, movement_by_batch, desk_indexes}
-use Rattle.plant_tables.specs.declared.forms.TheConstants.{CREATE_META, PUT_META, CREATE_CLASS, PUT_CLASS, CREATE_DEFINITION, PUT_DEFINITION, CREATE_RECIPE, PUT_RECIPE, CREATE_RECIPE_LINE, PUT_RECIPE_LINE, CREATE_JOB, PUT_JOB, CREATE_BATCH, PUT_BATCH, CREATE_CONTROL_LINE, PUT_CONTROL_LINE, CREATE_BATCH_EVENT, PUT_BATCH_EVENT, CREATE_LOT, PUT_LOT, CREATE_SUBLOT, PUT_SUBLOT, CREATE_MOVEMENT, PUT_MOVEMENT, CREATE_HOLD, PUT_HOLD, CREATE_EDGE, PUT_EDGE, TAKE_HOLD, CREATE_BATCH_EVENT_BY_BATCH, CREATE_MOVEMENT_BY_LOT, CREATE_MOVEMENT_BY_BATCH}
+use Rattle.plant_tables.specs.DeskForms.{desk_forms, first_forms, forms_of, later_forms, meta_form, class_form, definition_form, recipe_form, recipe_line_form, job_form, batch_form, control_line_form, batch_event_form, lot_form, sublot_form, movement_form, hold_form, edge_form}
+use Rattle.plant_tables.specs.DeskIndexes.{batch_event_by_batch, movement_by_lot, movement_by_batch, edge_by_end, indexes_of, desk_indexes}
+use Rattle.plant_tables.specs.declared.forms.TheConstants.{CREATE_META, PUT_META, CREATE_CLASS, PUT_CLASS, CREATE_DEFINITION, PUT_DEFINITION, CREATE_RECIPE, PUT_RECIPE, CREATE_RECIPE_LINE, PUT_RECIPE_LINE, CREATE_JOB, PUT_JOB, CREATE_BATCH, PUT_BATCH, CREATE_CONTROL_LINE, PUT_CONTROL_LINE, CREATE_BATCH_EVENT, PUT_BATCH_EVENT, CREATE_LOT, PUT_LOT, CREATE_SUBLOT, PUT_SUBLOT, CREATE_MOVEMENT, PUT_MOVEMENT, CREATE_HOLD, PUT_HOLD, CREATE_EDGE, PUT_EDGE, TAKE_HOLD, CREATE_BATCH_EVENT_BY_BATCH, CREATE_MOVEMENT_BY_LOT, CREATE_MOVEMENT_BY_BATCH, CREATE_EDGE_BY_END}
 
 makes_meta : IsMakeText CREATE_META.now meta_form
 unfolding everything
@@ -123,12 +125,15 @@ makes_sublot : IsMakeText CREATE_SUBLOT.now sublot_form
 unfolding everything
 makes_sublot = record { parsed = parse_or (first CREATE_SUBLOT.now); reads = refl; def = definition_in (parse_or (first CREATE_SUBLOT.now)).statement; statement = refl; name = refl; unconditional = refl; plain = refl; defines = refl; whole = refl; table_is = refl; own_name = refl }
 
-pub puts_sublot : IsPutText PUT_SUBLOT.now sublot_form
+pub upserts_sublot : IsUpsertText PUT_SUBLOT.now sublot_form
 unfolding everything
-puts_sublot =
-    inr (upserts_row PUT_SUBLOT.now sublot_form (1 ∷ 2 ∷ [])
+upserts_sublot =
+    upserts_row PUT_SUBLOT.now sublot_form (1 ∷ 2 ∷ [])
     (record { parsed = parse_or (first PUT_SUBLOT.now); reads = refl; columns = names_in (parse_or (first PUT_SUBLOT.now)).statement; rows = rows_in (parse_or (first PUT_SUBLOT.now)).statement; statement = refl; untimed = refl; made = λ schema tree. refl; above = refl })
-    refl (record { aims = λ tree. refl; apart = refl; few = refl; some = refl; found = λ tree. refl; set = λ tree. refl; made = λ tree. refl }))
+    refl (record { aims = λ tree. refl; apart = refl; few = refl; some = refl; found = λ tree. refl; set = λ tree. refl; made = λ tree. refl })
+
+pub puts_sublot : IsPutText PUT_SUBLOT.now sublot_form
+puts_sublot = inr upserts_sublot
 
 makes_movement : IsMakeText CREATE_MOVEMENT.now movement_form
 unfolding everything
@@ -153,12 +158,15 @@ makes_edge : IsMakeText CREATE_EDGE.now edge_form
 unfolding everything
 makes_edge = record { parsed = parse_or (first CREATE_EDGE.now); reads = refl; def = definition_in (parse_or (first CREATE_EDGE.now)).statement; statement = refl; name = refl; unconditional = refl; plain = refl; defines = refl; whole = refl; table_is = refl; own_name = refl }
 
-pub puts_edge : IsPutText PUT_EDGE.now edge_form
+pub upserts_edge : IsUpsertText PUT_EDGE.now edge_form
 unfolding everything
-puts_edge =
-    inr (upserts_row PUT_EDGE.now edge_form (1 ∷ 2 ∷ 3 ∷ [])
+upserts_edge =
+    upserts_row PUT_EDGE.now edge_form (1 ∷ 2 ∷ 3 ∷ [])
     (record { parsed = parse_or (first PUT_EDGE.now); reads = refl; columns = names_in (parse_or (first PUT_EDGE.now)).statement; rows = rows_in (parse_or (first PUT_EDGE.now)).statement; statement = refl; untimed = refl; made = λ schema tree. refl; above = refl })
-    refl (record { aims = λ tree. refl; apart = refl; few = refl; some = refl; found = λ tree. refl; set = λ tree. refl; made = λ tree. refl }))
+    refl (record { aims = λ tree. refl; apart = refl; few = refl; some = refl; found = λ tree. refl; set = λ tree. refl; made = λ tree. refl })
+
+pub puts_edge : IsPutText PUT_EDGE.now edge_form
+puts_edge = inr upserts_edge
 
 pub takes_hold : IsTakeText TAKE_HOLD.now hold_form (1 ∷ 2 ∷ [])
 unfolding everything first_key
@@ -174,6 +182,21 @@ all_made = (makes_meta, (makes_class, (makes_definition, (makes_recipe, (makes_r
 pub desk_apart : AreApart desk_forms
 unfolding everything
 desk_apart = record { apart = λ tree. refl }
+
+first_apart : AreApart first_forms
+unfolding everything
+first_apart = record { apart = λ tree. refl }
+
+pub apart_of : (schema : ℕ) → AreApart (forms_of schema)
+apart_of schema = elim (cases_Bool (nat_le 2 schema)) [ inl second ↦ rw second desk_apart | inr first ↦ rw first first_apart ]
+
+-- texts that make the tables of some forms: so many of them make those of as many forms
+pub front_made : (n : ℕ) (texts : List (List ℕ)) (forms : List Form) → AreMakeTexts texts forms → AreMakeTexts (take n texts) (take n forms)
+front_made zero texts forms made = tt
+front_made (suc n) [] [] made = tt
+front_made (suc n) [] (form ∷ forms) made = elim made [ ]
+front_made (suc n) (text ∷ texts) [] made = elim made [ ]
+front_made (suc n) (text ∷ texts) (form ∷ forms) made = (made.0, front_made n texts forms made.1)
 
 -- ---- those that the newest schema adds to the first
 
@@ -201,11 +224,25 @@ indexes_movement_by_batch : IsIndexText CREATE_MOVEMENT_BY_BATCH.now movement_by
 unfolding everything
 indexes_movement_by_batch = record { parsed = parse_or (first CREATE_MOVEMENT_BY_BATCH.now); reads = refl; untimed = refl; whole = refl; def = index_in (parse_or (first CREATE_MOVEMENT_BY_BATCH.now)).statement; statement = refl; unconditional = refl; table_is = refl; own_name = refl; defines = λ tree. refl }
 
+indexes_edge_by_end : IsIndexText CREATE_EDGE_BY_END.now edge_by_end
+unfolding everything
+indexes_edge_by_end = record { parsed = parse_or (first CREATE_EDGE_BY_END.now); reads = refl; untimed = refl; whole = refl; def = index_in (parse_or (first CREATE_EDGE_BY_END.now)).statement; statement = refl; unconditional = refl; table_is = refl; own_name = refl; defines = λ tree. refl }
+
 abbrev pub index_texts : List (List ℕ)
-index_texts = CREATE_BATCH_EVENT_BY_BATCH.now ∷ CREATE_MOVEMENT_BY_LOT.now ∷ CREATE_MOVEMENT_BY_BATCH.now ∷ []
+index_texts = CREATE_BATCH_EVENT_BY_BATCH.now ∷ CREATE_MOVEMENT_BY_LOT.now ∷ CREATE_MOVEMENT_BY_BATCH.now ∷ CREATE_EDGE_BY_END.now ∷ []
 
 pub all_indexed : AreIndexTexts index_texts desk_indexes
-all_indexed = (indexes_batch_event_by_batch, (indexes_movement_by_lot, (indexes_movement_by_batch, tt)))
+all_indexed = (indexes_batch_event_by_batch, (indexes_movement_by_lot, (indexes_movement_by_batch, (indexes_edge_by_end, tt))))
 
-pub indexes_of_desk : AreOf desk_indexes desk_forms
-indexes_of_desk = (has_got desk_forms 8 batch_event_form refl, (has_got desk_forms 11 movement_form refl, (has_got desk_forms 11 movement_form refl, tt)))
+indexes_of_desk : AreOf desk_indexes desk_forms
+indexes_of_desk = (has_got desk_forms 8 batch_event_form refl, (has_got desk_forms 11 movement_form refl, (has_got desk_forms 11 movement_form refl, (has_got desk_forms 13 edge_form refl, tt))))
+
+pub indexed_of : (schema : ℕ) → AreOf (indexes_of schema) (forms_of schema)
+indexed_of schema = elim (cases_Bool (nat_le 2 schema)) [ inl second ↦ rw second indexes_of_desk | inr first ↦ rw first tt ]
+
+pub front_indexed : (n : ℕ) (texts : List (List ℕ)) (indexes : List IndexForm) → AreIndexTexts texts indexes → AreIndexTexts (take n texts) (take n indexes)
+front_indexed zero texts indexes made = tt
+front_indexed (suc n) [] [] made = tt
+front_indexed (suc n) [] (index ∷ indexes) made = elim made [ ]
+front_indexed (suc n) (text ∷ texts) [] made = elim made [ ]
+front_indexed (suc n) (text ∷ texts) (index ∷ indexes) made = (made.0, front_indexed n texts indexes made.1)

@@ -103,15 +103,3 @@ three_tied p q r = both_tied _ _ p (ordering_then q r) refl (both_tied _ _ q r r
 pub number_texts : (m n : ℕ) (a b c d : List ℕ) → same_key (1 ∷ 2 ∷ 3 ∷ []) (numbered_pair m a c) (numbered_pair n b d) ≡ is_eq (ordering_then (nat_cmp m n) (ordering_then (id_cmp a b) (id_cmp c d)))
 unfolding first_key
 number_texts m n a b c d = rw (number_tie m n, text_tie a b, text_tie c d, and_true) (three_tied (nat_cmp m n) (id_cmp a b) (id_cmp c d))
-
-turned : (p q r : Bool) → (p && (r && q)) ≡ (p && (q && r))
-turned true true true = refl
-turned true true false = refl
-turned true false true = refl
-turned true false false = refl
-turned false q r = refl
-
-pub number_texts_turned : (m n : ℕ) (a b c d : List ℕ) → same_key (1 ∷ 3 ∷ 2 ∷ []) (numbered_pair m a c) (numbered_pair n b d) ≡ is_eq (ordering_then (nat_cmp m n) (ordering_then (id_cmp a b) (id_cmp c d)))
-unfolding first_key
-number_texts_turned m n a b c d =
-    rw (number_tie m n, text_tie a b, text_tie c d, and_true) (turned (is_eq (nat_cmp m n)) (is_eq (id_cmp a b)) (is_eq (id_cmp c d)) ∙ three_tied (nat_cmp m n) (id_cmp a b) (id_cmp c d))

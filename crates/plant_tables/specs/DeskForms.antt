@@ -43,9 +43,8 @@ movement_form = record { name = codes "movement"; columns = booked_columns.decla
 abbrev pub hold_form : Form
 hold_form = record { name = codes "hold"; columns = hold_columns.declared; keys = (1 ∷ 2 ∷ []) ∷ [] }
 
--- it is keyed from each of its ends
 abbrev pub edge_form : Form
-edge_form = record { name = codes "edge"; columns = edge_columns.declared; keys = (1 ∷ 2 ∷ 3 ∷ []) ∷ (1 ∷ 3 ∷ 2 ∷ []) ∷ [] }
+edge_form = record { name = codes "edge"; columns = edge_columns.declared; keys = (1 ∷ 2 ∷ 3 ∷ []) ∷ [] }
 
 -- ---- schemas
 

@@ -1,7 +1,9 @@
 -- The indexes that serve look-ups in tables of the desk.
-use Rattle.std.specs.Prelude.{List, [], ◌∷◌, codes}
-use Rattle.table_forms.specs.Indexes.{IndexForm}
-use Rattle.plant_tables.specs.DeskForms.{batch_event_form, movement_form}
+use Rattle.std.specs.Prelude.{◌≡◌, ℕ, nat_le, if◌then◌else◌, List, [], ◌∷◌, slice_get, Some, codes}
+use Rattle.sqlite.specs.Schema.{Schema}
+use Rattle.plant_base.specs.State.{newest_schema}
+use Rattle.table_forms.specs.Indexes.{IndexForm, HasIndex}
+use Rattle.plant_tables.specs.DeskForms.{batch_event_form, movement_form, edge_form}
 
 abbrev pub batch_event_by_batch : IndexForm
 batch_event_by_batch = record { name = codes "batch_event_by_batch"; table = batch_event_form; places = 2 ∷ [] }
@@ -12,5 +14,17 @@ movement_by_lot = record { name = codes "movement_by_lot"; table = movement_form
 abbrev pub movement_by_batch : IndexForm
 movement_by_batch = record { name = codes "movement_by_batch"; table = movement_form; places = 8 ∷ [] }
 
+abbrev pub edge_by_end : IndexForm
+edge_by_end = record { name = codes "edge_by_end"; table = edge_form; places = 1 ∷ 3 ∷ 2 ∷ [] }
+
+-- those of a schema: the first has none
+abbrev pub indexes_of : ℕ → List IndexForm
+indexes_of schema = if nat_le 2 schema then batch_event_by_batch ∷ movement_by_lot ∷ movement_by_batch ∷ edge_by_end ∷ [] else []
+
+-- those of the newest
 abbrev pub desk_indexes : List IndexForm
-desk_indexes = batch_event_by_batch ∷ movement_by_lot ∷ movement_by_batch ∷ []
+desk_indexes = indexes_of newest_schema
+
+-- each of these is there
+abbrev pub HasIndexes : List IndexForm → Schema → Type 0
+HasIndexes indexes schema = (i : ℕ) (index : IndexForm) → slice_get indexes i ≡ Some index → HasIndex schema index

@@ -3,4 +3,5 @@ pub mod DeskIndexes
 pub mod DeskTables
 pub mod Keyed
 pub mod DeskStopping
+pub mod PutTexts
 pub mod Raising

@@ -1,8 +1,9 @@
 //! How each table is declared, and the fixed texts that make it and put a row into it. Such a text adds the
-//! row, or updates each column of the one with its key; those of events of batches and of bookings only add. Those
-//! two tables only grow, and have indexes for look-ups by other columns than those of their keys.
+//! row, or updates each column of the one with its key; those of events of batches and of bookings only add.
+//! Tables that are looked up by other columns than those of their keys have indexes for it, which bar no row.
 ghost use Rattle.std.specs.Prelude.{◌≡◌, ◌≤◌, take, drop};
 ghost use Rattle.plant_tables.specs.DeskForms.{desk_forms, forms_of, later_forms};
+ghost use Rattle.plant_tables.specs.DeskIndexes.{desk_indexes, indexes_of};
 
 use table_forms::ColumnForm::{Integer, IntegerOrNull, Text, TextOrNull};
 use table_forms::Form;
@@ -272,15 +273,18 @@ pub(crate) const PUT_HOLD: &str =
 
 pub(crate) const TAKE_HOLD: &str = "DELETE FROM hold WHERE lot = ?1 AND id = ?2";
 
-/// Edges of the genealogy, which can be looked up from each of their ends.
+/// Edges of the genealogy.
 pub const EDGE: Form<'static> = Form {
     name: b"edge",
     columns: &[Integer(b"kind"), Text(b"a"), Text(b"b")],
-    keys: &[&[1, 2, 3], &[1, 3, 2]],
+    keys: &[&[1, 2, 3]],
 };
 
 pub(crate) const CREATE_EDGE: &str =
-    "CREATE TABLE edge (kind INTEGER NOT NULL, a TEXT NOT NULL, b TEXT NOT NULL, UNIQUE (kind, a, b), UNIQUE (kind, b, a)) STRICT";
+    "CREATE TABLE edge (kind INTEGER NOT NULL, a TEXT NOT NULL, b TEXT NOT NULL, UNIQUE (kind, a, b)) STRICT";
+
+/// The index that finds the edges that lead to a node, in the order of those that they come from.
+pub(crate) const CREATE_EDGE_BY_END: &str = "CREATE INDEX edge_by_end ON edge (kind, b, a)";
 
 pub(crate) const PUT_EDGE: &str =
     "INSERT INTO edge (kind, a, b) VALUES (?1, ?2, ?3) ON CONFLICT (kind, a, b) DO UPDATE SET kind = excluded.kind, a = excluded.a, b = excluded.b";
@@ -307,11 +311,45 @@ pub fn desk_forms() -> [Form<'static>; 14]
     ]
 }
 
-/// How many of them, from the first on, are the tables of a schema.
+/// The texts that make them, in the same order.
+pub(crate) const CREATE_TABLES: [&str; 14] = [
+    CREATE_META,
+    CREATE_CLASS,
+    CREATE_DEFINITION,
+    CREATE_RECIPE,
+    CREATE_RECIPE_LINE,
+    CREATE_JOB,
+    CREATE_BATCH,
+    CREATE_CONTROL_LINE,
+    CREATE_BATCH_EVENT,
+    CREATE_LOT,
+    CREATE_SUBLOT,
+    CREATE_MOVEMENT,
+    CREATE_HOLD,
+    CREATE_EDGE,
+];
+
+/// The texts that make the indexes of the newest schema.
+pub(crate) const CREATE_INDEXES: [&str; 4] = [
+    CREATE_BATCH_EVENT_BY_BATCH,
+    CREATE_MOVEMENT_BY_LOT,
+    CREATE_MOVEMENT_BY_BATCH,
+    CREATE_EDGE_BY_END,
+];
+
+/// How many of the tables, from the first on, are those of a schema.
 pub fn tables_in(schema: u64) -> usize
     ensures own { take result desk_forms ≡ forms_of schema }
     ensures later { drop result desk_forms ≡ later_forms schema }
     ensures few { result ≤ 14 }
 {
     if schema >= 2 { 14 } else { 13 }
+}
+
+/// How many of the indexes, from the first on, are those of a schema: the first schema has none.
+pub(crate) fn indexes_in(schema: u64) -> usize
+    ensures own { take result desk_indexes ≡ indexes_of schema }
+    ensures few { result ≤ 4 }
+{
+    if schema >= 2 { 4 } else { 0 }
 }

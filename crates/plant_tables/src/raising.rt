@@ -12,6 +12,7 @@ ghost use Rattle.plant_tables.specs.Raising.{CanRise, RaisesTables};
 
 use crate::forms;
 use crate::write::{create_indexes, write_changes};
+use plant_base::NEWEST_SCHEMA;
 use plant_view::RowChange;
 use sqlite::{Alter, Connection, Transaction};
 use table_forms::{Fault, Work, in_one, make_tables};
@@ -42,7 +43,7 @@ impl<'a> Work for Raising<'a> {
 
     fn run<S: Alter>(&self, tx: &mut Transaction<'_, S>) -> Result<(), Fault> {
         create_later(tx)?;
-        create_indexes(tx)?;
+        create_indexes(tx, NEWEST_SCHEMA)?;
         write_changes(tx, self.changes)
     }
 }

@@ -1,10 +1,12 @@
 ghost use Rattle.std.specs.Prelude.{◌≡◌, ◌≤◌, map, IfOk, OnOk, IsOkUnless};
+ghost use Rattle.sqlite.specs.Effect.{IsDatabase};
 ghost use Rattle.sqlite.specs.State.{HasCleanDisk, Survives, KeepsCommit};
 ghost use Rattle.sqlite.specs.Held.{state};
 ghost use Rattle.table_forms.specs.Moves.{Moves, Founds};
 ghost use Rattle.table_forms.specs.Indexes.{AddsIndexes};
-ghost use Rattle.plant_tables.specs.DeskForms.{desk_forms};
-ghost use Rattle.plant_tables.specs.DeskIndexes.{desk_indexes};
+ghost use Rattle.table_forms.specs.Standing.{AreFree};
+ghost use Rattle.plant_tables.specs.DeskForms.{desk_forms, forms_of};
+ghost use Rattle.plant_tables.specs.DeskIndexes.{indexes_of, HasIndexes};
 ghost use Rattle.plant_tables.specs.DeskTables.{rows_changed, all_rows_changed};
 ghost use Rattle.plant_tables.specs.Keyed.{MovesTables};
 ghost use Rattle.plant_base.specs.State.{newest_schema};
@@ -95,59 +97,44 @@ pub fn write_changes<S: Alter>(
     Ok(())
 }
 
-/// Makes the indexes that serve look-ups, of tables that stand and keep their rows. The one fault is [`Fault::Store`],
-/// where the store refuses one, as where its name is taken.
-pub(crate) fn create_indexes<S: Alter>(tx: &mut Transaction<'_, S>) -> Result<(), Fault>
+/// Makes the indexes of a schema, which serve look-ups, of tables that stand and keep their rows. The one fault is
+/// [`Fault::Store`], where the store refuses one, as where its name is taken.
+pub(crate) fn create_indexes<S: Alter>(
+    tx: &mut Transaction<'_, S>,
+    schema: u64,
+) -> Result<(), Fault>
     ensures fault { IsOkUnless result Fault.Store }
     ensures same_reference { tx.new.conn.ghost_name ≡ tx.old.conn.ghost_name }
     ensures indexed { HasCleanDisk (state S.Store tx.new.conn.now)
-        → OnOk result (AddsIndexes desk_forms desk_indexes (state S.Store tx.old.conn.now)
+        → OnOk result (AddsIndexes (forms_of schema) (indexes_of schema) (state S.Store tx.old.conn.now)
         (state S.Store tx.new.conn.now)) }
     ensures kept { HasCleanDisk (state S.Store tx.new.conn.now)
         → KeepsCommit (state S.Store tx.old.conn.now) (state S.Store tx.new.conn.now) }
     ensures survives { Survives (state S.Store tx.old.conn.now) (state S.Store tx.new.conn.now) (λ _. ⊥) }
 {
-    make_indexes(
-        tx,
-        &[
-            forms::CREATE_BATCH_EVENT_BY_BATCH,
-            forms::CREATE_MOVEMENT_BY_LOT,
-            forms::CREATE_MOVEMENT_BY_BATCH,
-        ],
-    )
+    let (own, _) = forms::CREATE_INDEXES.split_at(forms::indexes_in(schema));
+    make_indexes(tx, own)
 }
 
-/// Makes the tables of a schema and their indexes, and leaves the tables empty. The one fault is [`Fault::Store`],
+/// Makes the tables of a schema, with its indexes, and leaves the tables empty. The one fault is [`Fault::Store`],
 /// where the store refuses one, as where its name is taken.
 pub fn create<S: Alter>(tx: &mut Transaction<'_, S>, schema: u64) -> Result<(), Fault>
-    requires { schema ≡ newest_schema }
+    requires numbered { 1 ≤ schema }
+    requires known { schema ≤ newest_schema }
     ensures fault { IsOkUnless result Fault.Store }
     ensures same_reference { tx.new.conn.ghost_name ≡ tx.old.conn.ghost_name }
     ensures founded { HasCleanDisk (state S.Store tx.new.conn.now)
-        → OnOk result (Founds desk_forms (state S.Store tx.old.conn.now)
+        → OnOk result (Founds (forms_of schema) (state S.Store tx.old.conn.now)
         (state S.Store tx.new.conn.now)) }
+    ensures indexed { HasCleanDisk (state S.Store tx.new.conn.now)
+        → IsDatabase (state S.Store tx.old.conn.now).now
+        → AreFree (forms_of schema) (state S.Store tx.old.conn.now).now.schema
+        → OnOk result (HasIndexes (indexes_of schema) (state S.Store tx.new.conn.now).now.schema) }
     ensures kept { HasCleanDisk (state S.Store tx.new.conn.now)
         → KeepsCommit (state S.Store tx.old.conn.now) (state S.Store tx.new.conn.now) }
     ensures survives { Survives (state S.Store tx.old.conn.now) (state S.Store tx.new.conn.now) (λ _. ⊥) }
 {
-    make_tables(
-        tx,
-        &[
-            forms::CREATE_META,
-            forms::CREATE_CLASS,
-            forms::CREATE_DEFINITION,
-            forms::CREATE_RECIPE,
-            forms::CREATE_RECIPE_LINE,
-            forms::CREATE_JOB,
-            forms::CREATE_BATCH,
-            forms::CREATE_CONTROL_LINE,
-            forms::CREATE_BATCH_EVENT,
-            forms::CREATE_LOT,
-            forms::CREATE_SUBLOT,
-            forms::CREATE_MOVEMENT,
-            forms::CREATE_HOLD,
-            forms::CREATE_EDGE,
-        ],
-    )?;
-    create_indexes(tx)
+    let (own, _) = forms::CREATE_TABLES.split_at(forms::tables_in(schema));
+    make_tables(tx, own)?;
+    create_indexes(tx, schema)
 }

@@ -166,6 +166,8 @@ pub fn lacks_counts(schema: &Schema) -> bool
 pub fn found<S: Alter>(alloc: Global, conn: &mut Connection<S>) -> Result<FoundTables, Fault>
     ensures nothing { IfOk result (λ found. (found ≡ FoundTables.Nothing)
         ↔ AreFree desk_forms (state S.Store conn.old).now.schema) }
+    // Where they can be made, there is no fault.
+    ensures free { AreFree desk_forms (state S.Store conn.old).now.schema → IfErr result (λ _. ⊥) }
     ensures taken { IfOk result (λ found. found ≢ FoundTables.Nothing
         → ¬ All (IsFree (state S.Store conn.old).now.schema) desk_forms) }
     ensures version { HasCleanDisk (state S.Store conn.new)

@@ -64,6 +64,9 @@ impl Loaded {
             (state S.Store conn.old).now (contents_loaded loaded))) }
         ensures missing { IfOk result (λ found. found ≡ None
             → ¬ HasTablesOf schema (state S.Store conn.old).now.schema) }
+        // Where the tables of a known schema don't stand so, that is told, and no fault.
+        ensures lacking { IsKnown schema → ¬ HasTablesOf schema (state S.Store conn.old).now.schema
+            → IfErr result (λ _. ⊥) }
         ensures same { HasCleanDisk (state S.Store conn.new)
             → IfOk result (λ found. IfSome found (λ _. IsUnchanged (state S.Store conn.old)
             (state S.Store conn.new))) }

@@ -19,9 +19,13 @@ use table_forms::{Fault, Form, fault_of};
 
 /// Whether the row may follow the list.
 fn may_follow(form: &Form<'_>, list: &[Row], row: &Row) -> bool
-    ensures { IsTrue result → (d : Values) → 0 < length list.now
+    ensures follows { IsTrue result → (d : Values) → 0 < length list.now
         → key.comes_before form.now (slice_index_or list.now (length list.now - 1) d) row.now
         ≡ true }
+    ensures stops { result ≡ false → (d : Values)
+        → key.comes_before form.now (slice_index_or list.now (length list.now - 1) d) row.now
+        ≡ false }
+    ensures first { list.now ≡ [] → result ≡ true }
 {
     match list.last() {
         Some(last) => comes_before(form, last, row),

@@ -1,32 +1,17 @@
-//! A store of the first schema is raised to the newest when it is adopted, and answers as before. Its declarations and rows
-//! were written by hand.
+//! A store of the first schema is raised to the newest when it is adopted, and answers as before. Its rows were written by
+//! hand.
 use crate::desks::{accepted, adopted, desk_over, run_ten};
 use plant_base::Id;
 use plant_check::Rule;
 use plant_desk::{Answer, Keeper, Question};
 use plant_desk_store::AdoptFault;
+use plant_tables::create;
 use plant_trace::{Direction, Node};
 use sqlite::{Alter, Connection, MemStore};
 use std::alloc::{AllocGlobal, Global};
 use std::process::Abort;
 use std::test::Fail;
 use test_files::tables_told;
-
-/// The tables of the first schema.
-const FIRST_SCHEMA: &str = "
-    CREATE TABLE meta (k INTEGER NOT NULL, schema INTEGER NOT NULL, seq INTEGER NOT NULL, at INTEGER NOT NULL, UNIQUE (k)) STRICT;
-    CREATE TABLE class (id TEXT NOT NULL, name TEXT NOT NULL, UNIQUE (id)) STRICT;
-    CREATE TABLE definition (id TEXT NOT NULL, class TEXT NOT NULL, name TEXT NOT NULL, unit TEXT NOT NULL, UNIQUE (id)) STRICT;
-    CREATE TABLE recipe (id TEXT NOT NULL, version INTEGER NOT NULL, product TEXT NOT NULL, base INTEGER NOT NULL, low INTEGER NOT NULL, high INTEGER NOT NULL, title TEXT NOT NULL, state TEXT NOT NULL, UNIQUE (id, version)) STRICT;
-    CREATE TABLE recipe_line (recipe TEXT NOT NULL, version INTEGER NOT NULL, no INTEGER NOT NULL, kind INTEGER NOT NULL, def TEXT, qty INTEGER NOT NULL, t1 TEXT NOT NULL, t2 TEXT NOT NULL, t3 TEXT NOT NULL, UNIQUE (recipe, version, no)) STRICT;
-    CREATE TABLE job (id TEXT NOT NULL, recipe TEXT NOT NULL, version INTEGER NOT NULL, size INTEGER NOT NULL, due TEXT NOT NULL, priority INTEGER NOT NULL, state TEXT NOT NULL, UNIQUE (id)) STRICT;
-    CREATE TABLE batch (id TEXT NOT NULL, job TEXT NOT NULL, at INTEGER NOT NULL, by_who TEXT NOT NULL, note TEXT NOT NULL, state TEXT NOT NULL, attempt INTEGER NOT NULL, next INTEGER NOT NULL, closed INTEGER NOT NULL, UNIQUE (id), UNIQUE (job)) STRICT;
-    CREATE TABLE control_line (batch TEXT NOT NULL, no INTEGER NOT NULL, kind INTEGER NOT NULL, def TEXT, qty INTEGER NOT NULL, t1 TEXT NOT NULL, t2 TEXT NOT NULL, t3 TEXT NOT NULL, UNIQUE (batch, no)) STRICT;
-    CREATE TABLE batch_event (seq INTEGER NOT NULL, batch TEXT NOT NULL, word TEXT NOT NULL, phase INTEGER NOT NULL, at INTEGER NOT NULL, by_who TEXT NOT NULL, note TEXT NOT NULL, UNIQUE (seq)) STRICT;
-    CREATE TABLE lot (id TEXT NOT NULL, def TEXT NOT NULL, UNIQUE (id)) STRICT;
-    CREATE TABLE sublot (lot TEXT NOT NULL, no INTEGER NOT NULL, place TEXT NOT NULL, stock INTEGER NOT NULL, UNIQUE (lot, no)) STRICT;
-    CREATE TABLE movement (seq INTEGER NOT NULL, line INTEGER NOT NULL, kind INTEGER NOT NULL, lot TEXT NOT NULL, sub INTEGER NOT NULL, lot2 TEXT, sub2 INTEGER, batch TEXT, amount INTEGER NOT NULL, at INTEGER NOT NULL, by_who TEXT NOT NULL, note TEXT NOT NULL, UNIQUE (seq, line)) STRICT;
-    CREATE TABLE hold (lot TEXT NOT NULL, id TEXT NOT NULL, at INTEGER NOT NULL, by_who TEXT NOT NULL, note TEXT NOT NULL, UNIQUE (lot, id)) STRICT";
 
 /// A lot that was received, two that were split off it, and one that was merged of those.
 const ROWS: &str = "
@@ -75,7 +60,9 @@ edge|3|F-3|F-4
 
 fn first_store(alloc: Global) -> Result<Connection<MemStore>, Fail> {
     let mut connection = Connection::open_in_memory(alloc)?;
-    connection.execute_batch(FIRST_SCHEMA)?;
+    let mut tx = connection.transaction();
+    create(&mut tx, 1)?;
+    tx.commit()?;
     connection.execute_batch(ROWS)?;
     Ok(connection)
 }

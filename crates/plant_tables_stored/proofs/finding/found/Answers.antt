@@ -63,6 +63,12 @@ returns-in-Some-clause-taken g c other free =
     let stood : c.all_free.result ≡ true = c.all_free.ensures.1 (subst₂ (λ schema forms. All (IsFree schema) forms) (sym c.schema.ensures.value) (sym c.desk_forms.ensures) free) in
     absurd (let both = sym stood ∙ failed in cc)
 
+pub returns-in_err-version-clause-free : goal.returns-in_err-version-clause-free
+returns-in_err-version-clause-free g c free =
+    let failed : c.all_free.result ≡ false = search rules in
+    let stood : c.all_free.result ≡ true = c.all_free.ensures.1 (subst₂ (λ schema forms. All (IsFree schema) forms) (sym c.schema.ensures.value) (sym c.desk_forms.ensures) (each_free c.args.conn.now.schema free)) in
+    absurd (let both = sym stood ∙ failed in cc)
+
 pub returns-in-None-clause-taken : goal.returns-in-None-clause-taken
 returns-in-None-clause-taken g c other free =
     let failed : c.all_free.result ≡ false = search rules in

@@ -45,7 +45,7 @@ rows-preserved g c =
     let pushed : c.keep.new.list.items ≡ c.rows.list.items ++ c.in-Some.row ∷ [] = c.in_ok-keep.ensures.kept in
     let passed : IsTrue c.may_follow.result = search rules in
     let same : c.as_slice.result.now ≡ c.rows.list.items = search rules in
-    let next = rw same at (c.may_follow.ensures passed) in (
+    let next = rw same at (c.may_follow.ensures.follows passed) in (
       rw pushed (rises_more (comes_before c.args.form.now) c.rows.list.items c.in-Some.row was.0 next),
       moved.same_reference ∙ was.1,
       moved.mode was.2,

@@ -17,6 +17,11 @@ returns-then-not-has_tables-clause-missing g c none all =
     let failed : c.has_tables.result ≡ false = search rules in
     absurd (let both = sym stood ∙ failed in cc)
 
+pub returns-in_err-read_all-clause-lacking : goal.returns-in_err-read_all-clause-lacking
+returns-in_err-read_all-clause-lacking g c known lacks =
+    let stood : c.has_tables.result ≡ true = search rules in
+    absurd (lacks (subst (HasTablesOf c.args.schema) c.schema.ensures.value (c.has_tables.ensures.0 stood)))
+
 pub returns-in_err-read_all-clause-memory : goal.returns-in_err-read_all-clause-memory
 returns-in_err-read_all-clause-memory g c =
     if_error c.from_residual.result _ (λ fault memory.

@@ -1,0 +1,5 @@
+use Rattle.plant_tables.proofs.DeskTexts.{upserts_sublot, upserts_edge}
+use Rattle.plant_tables.proofs.laws.put_law.Goals as goal
+
+pub returns : goal.returns
+returns c = (upserts_sublot, upserts_edge)

@@ -1,6 +1,6 @@
-# make look  shows what the desk answers to the batch in examples/, by a quick run that proves nothing
+# make look  shows what the desk answers to the batch in examples/, each line with its reply, by a quick run that proves nothing
 # make run   proves and builds the desk, and runs that batch over a file, build/plant.db, which is made anew
-# make desk  leaves the built program at build/desk
+# make desk  leaves the built program at build/desk; the crates that it stands on are proved side by side
 # make order_check  leaves the built check of order files at build/order_check
 # make line_check  leaves the built check of lines at build/line_check
 # make test  the gate (gate/test.sh): every proof, must-fail edit, test and program from nothing, then the built programs
@@ -8,7 +8,7 @@
 .PHONY: look run desk order_check line_check test edits
 
 look:
-	cd crates/desk && rt try < stdin
+	@make/look.py
 
 run: desk
 	rm -f build/plant.db build/plant.db-wal
@@ -16,20 +16,8 @@ run: desk
 	build/desk run build/plant.db < crates/desk/stdin
 	build/desk verify build/plant.db
 
-desk:
-	cd crates/desk && rt run < /dev/null
-	mkdir -p build
-	cp crates/desk/out/desk build/desk
-
-order_check:
-	cd crates/order_check && rt run < stdin
-	mkdir -p build
-	cp crates/order_check/out/order_check build/order_check
-
-line_check:
-	cd crates/line_check && rt run < /dev/null
-	mkdir -p build
-	cp crates/line_check/out/line_check build/line_check
+desk order_check line_check:
+	@make/side_by_side.py $@
 
 test:
 	gate/test.sh

@@ -5,6 +5,8 @@
 set -eu
 cd "$(dirname "$0")/.."
 began=$SECONDS
+# Copies of the repository in which crates were built or edits tried: rt ci takes none.
+rm -rf build/copies build/edits
 cmp examples/orders.csv crates/order_check/stdin
 cmp examples/batch.jsonl crates/desk/stdin
 cmp examples/batch.out crates/desk/stdout

@@ -1,0 +1,321 @@
+#!/usr/bin/env python3
+"""Proves and builds programs, and the crates that they stand on side by side.
+
+    make/side_by_side.py PROGRAM...
+
+In the repository's folder. A crate of crates.txt is begun as soon as those below it are built: as many at once as there are
+processors, and 4 GB of free memory for each. Of those that can be begun, the one that most others stand on goes first. A crate that was
+built here and has not changed since, nor anything below it, is passed over.
+
+rt lets one command at a time into a crate and those below it. So each crate is built in a copy of the repository, of which there are as
+many as crates at once, in build/copies/; what it leaves in out/ comes back to the crate's own folder, and the copies are removed.
+
+Leaves each program at build/PROGRAM, and what rt says of a crate in build/CRATE.log. Ends with status 0 where all are built; with 1 where
+one isn't, whose last lines are shown; with 2 where nothing could be begun.
+"""
+import fcntl
+import hashlib
+import json
+import os
+import shutil
+import signal
+import subprocess
+import sys
+import time
+
+COPIES = "build/copies"
+
+# What was built here, by name: the sum of the texts of which it was.
+BUILT = "build/built.json"
+
+# The memory that a check may want, in bytes.
+ROOM = 4_000_000_000
+
+# After how many seconds without news it is told what is under way.
+SILENCE = 60
+
+# How many of the last lines are shown of a crate that isn't built.
+SHOWN = 20
+
+# The files of a crate on which it depends how it is built.
+PARTS = ("src", "specs", "proofs", "stdin", "status")
+
+
+class Wrong(Exception):
+    """Why nothing can be begun."""
+
+
+def lines_listed():
+    """The lines of crates.txt, in its order, by the crate that each is about."""
+    with open("crates.txt") as it:
+        lines = [line.split("#")[0].strip() for line in it]
+    return {line.partition(":")[0].split()[0]: line for line in lines if line}
+
+
+def stands_on(lines):
+    """The crates of the list, each with those of the repository on which it stands."""
+    named = {name: line.partition(":")[2].split() for name, line in lines.items()}
+    return {name: [it for it in words if it in named] for name, words in named.items()}
+
+
+def below(listed, name):
+    """All crates on which a crate stands, in the order of the list."""
+    found = set()
+    left = list(listed[name])
+    while left:
+        found.add(left[-1])
+        left.extend(it for it in listed[left.pop()] if it not in found)
+    return [it for it in listed if it in found]
+
+
+def sum_of_files(name):
+    """A sum of the texts of one crate."""
+    sum_of_all = hashlib.sha256()
+    for part in PARTS:
+        top = f"crates/{name}/{part}"
+        files = [top] if os.path.isfile(top) else sorted(f"{at}/{it}" for at, _, names in os.walk(top) for it in names)
+        for file in files:
+            with open(file, "rb") as it:
+                text = it.read()
+            sum_of_all.update(f"{file} {len(text)}\n".encode() + text)
+    return sum_of_all.hexdigest()
+
+
+def sums_of(lines, listed, needed):
+    """For each crate needed a sum of all of which it is built: the toolchain, its texts, and those below it."""
+    toolchain = subprocess.run(["rt", "version"], capture_output=True, check=True).stdout.decode()
+    own = {name: f"{toolchain}{lines[name]} {sum_of_files(name)}" for name in needed}
+    whole = {name: "\n".join(own[it] for it in [*below(listed, name), name]) for name in needed}
+    return {name: hashlib.sha256(text.encode()).hexdigest() for name, text in whole.items()}
+
+
+def clock(seconds):
+    return f"{int(seconds) // 60}:{int(seconds) % 60:02}"
+
+
+def most_at_once():
+    """How many crates may be built at once."""
+    with open("/proc/meminfo") as it:
+        free = next(1024 * int(line.split()[1]) for line in it if line.startswith("MemAvailable"))
+    return max(1, min(len(os.sched_getaffinity(0)), free // ROOM))
+
+
+def link(one, other):
+    """Gives a file a second name, or copies it: rt replaces such a file and never writes into it."""
+    try:
+        os.link(one, other)
+    except OSError:
+        shutil.copy2(one, other)
+
+
+def move(one, other):
+    """Moves a folder, where it is there, into the place of another."""
+    if os.path.isdir(one):
+        shutil.rmtree(other, ignore_errors=True)
+        os.rename(one, other)
+
+
+class Copy:
+    """A copy of the repository in which one crate at a time is built."""
+
+    def __init__(self, number, lines):
+        self.folder = f"{COPIES}/{number}"
+        for name in lines:
+            os.makedirs(f"{self.folder}/crates/{name}")
+            for part in PARTS:
+                whole, to = f"crates/{name}/{part}", f"{self.folder}/crates/{name}/{part}"
+                if os.path.isdir(whole):
+                    shutil.copytree(whole, to)
+                elif os.path.isfile(whole):
+                    shutil.copy2(whole, to)
+        with open(f"{self.folder}/crates.txt", "w") as it:
+            it.write("".join(f"{line}\n" for line in lines.values()))
+        shutil.copy2("HANDLES", f"{self.folder}/HANDLES")
+
+    def take_libraries(self, names):
+        """Takes over the libraries that were built."""
+        for name in names:
+            library, to = f"crates/{name}/out/rlib", f"{self.folder}/crates/{name}/out/rlib"
+            if os.path.isdir(library) and not os.path.isdir(to):
+                shutil.copytree(library, to, copy_function=link)
+
+
+class Build:
+    """A crate that is being built in a copy."""
+
+    def __init__(self, listed, name, copy, is_program, jobs):
+        self.name, self.copy, self.is_program, self.began = name, copy, is_program, time.monotonic()
+        self.own, self.there = f"crates/{name}", f"{copy.folder}/crates/{name}"
+        copy.take_libraries(below(listed, name))
+        move(f"{self.own}/out", f"{self.there}/out")
+        if is_program and os.path.exists(f"{self.there}/out/{name}"):
+            os.remove(f"{self.there}/out/{name}")
+        given = f"{self.there}/stdin" if is_program else os.devnull
+        words = ["rt", "run" if is_program else "lib", "--jobs", str(jobs)]
+        with open(f"build/{name}.log", "wb") as log, open(given, "rb") as it:
+            how = {"cwd": self.there, "stdin": it, "stdout": log, "stderr": log}
+            self.process = subprocess.Popen(words, start_new_session=True, **how)
+
+    def seconds(self):
+        return time.monotonic() - self.began
+
+    def end(self):
+        """Ends what still runs of it, and has the crate's own folder keep what is there of its work."""
+        if self.process.poll() is None:
+            os.killpg(self.process.pid, signal.SIGTERM)
+            self.process.wait()
+        move(f"{self.there}/out", f"{self.own}/out")
+
+    def is_good(self):
+        """Whether it ended as it has to: a program with the status that it is to have on its input."""
+        wanted = 0
+        if self.is_program and os.path.isfile(f"{self.own}/status"):
+            with open(f"{self.own}/status") as it:
+                wanted = int(it.read())
+        is_there = not self.is_program or os.path.isfile(f"{self.own}/out/{self.name}")
+        return self.process.returncode == wanted and is_there
+
+    def tell_failure(self):
+        print(f"\n{self.name} is not built. The last lines of build/{self.name}.log:", flush=True)
+        with open(f"build/{self.name}.log", errors="replace") as it:
+            print("".join(f"  {line}" for line in it.readlines()[-SHOWN:]), flush=True)
+
+
+class Work:
+    """All that is to be built, what of it is under way, and what is built."""
+
+    def __init__(self, programs):
+        self.began, self.programs, lines = time.monotonic(), programs, lines_listed()
+        self.listed = stands_on(lines)
+        for name in programs:
+            if name not in self.listed or not os.path.isfile(f"crates/{name}/src/main.rt"):
+                raise Wrong(f"{name} is no program of crates.txt")
+        wanted = set(programs).union(*(below(self.listed, it) for it in programs))
+        self.needed = [it for it in self.listed if it in wanted]
+        self.lines = {it: lines[it] for it in self.needed}
+        self.above = {it: sum(it in below(self.listed, other) for other in self.needed) for it in self.needed}
+        self.sums = sums_of(self.lines, self.listed, self.needed)
+        self.noted = self.read_noted()
+        self.built = {it for it in self.needed if self.is_unchanged(it)}
+        self.running, self.news = [], time.monotonic()
+
+    @staticmethod
+    def read_noted():
+        try:
+            with open(BUILT) as it:
+                return json.load(it)
+        except (OSError, ValueError):
+            return {}
+
+    def is_unchanged(self, name):
+        left = f"build/{name}" if name in self.programs else f"crates/{name}/out/rlib"
+        return self.noted.get(name) == self.sums[name] and os.path.exists(left)
+
+    def tell(self, words):
+        print(f"{clock(time.monotonic() - self.began):>6}  {words}", flush=True)
+        self.news = time.monotonic()
+
+    def tell_running(self):
+        shown = ", ".join(f"{it.name} {clock(it.seconds())}" for it in self.running)
+        self.tell(f"{len(self.built)} of {len(self.needed)} done; under way: {shown}")
+
+    def ready(self):
+        """The crates that can be begun, those first that most others stand on."""
+        begun = self.built.union(it.name for it in self.running)
+        found = [it for it in self.needed if it not in begun and self.built.issuperset(self.listed[it])]
+        return sorted(found, key=lambda it: -self.above[it])
+
+    def begin(self, copies, at_once):
+        ready = self.ready()
+        jobs = max(1, at_once // max(1, len(ready) + len(self.running)))
+        for name, copy in zip(ready, [it for it in copies if it not in [other.copy for other in self.running]]):
+            self.running.append(Build(self.listed, name, copy, name in self.programs, jobs))
+
+    def note(self, build):
+        """Notes a crate as built, and leaves a program where it is looked for."""
+        self.running.remove(build)
+        self.built.add(build.name)
+        if build.is_program:
+            shutil.copy2(f"crates/{build.name}/out/{build.name}", f"build/{build.name}.new")
+            os.replace(f"build/{build.name}.new", f"build/{build.name}")
+        self.noted[build.name] = self.sums[build.name]
+        with open(f"{BUILT}.new", "w") as it:
+            json.dump(self.noted, it, indent=0)
+        os.replace(f"{BUILT}.new", BUILT)
+        left = len(self.needed) - len(self.built)
+        self.tell(f"{build.name} is built ({clock(build.seconds())}); {len(self.built)} of {len(self.needed)} done, {left} left")
+
+    def build_all(self, copies, at_once):
+        """Builds what isn't built, and tells whether all of it is."""
+        while len(self.built) < len(self.needed):
+            self.begin(copies, at_once)
+            time.sleep(0.1)
+            for build in [it for it in self.running if it.process.poll() is not None]:
+                build.end()
+                if not build.is_good():
+                    self.running.remove(build)
+                    build.tell_failure()
+                    return False
+                self.note(build)
+            if time.monotonic() - self.news > SILENCE:
+                self.tell_running()
+        return True
+
+    def locked(self):
+        """Keeps other commands of rt out of the crates' folders until what is given is closed, as rt does itself."""
+        held = [os.open(f"crates/{it}", os.O_RDONLY) for it in sorted(self.needed)]
+        for it in held:
+            try:
+                fcntl.flock(it, fcntl.LOCK_EX | fcntl.LOCK_NB)
+            except BlockingIOError:
+                print("another command of rt works in these crates: waiting for it to end", flush=True)
+                fcntl.flock(it, fcntl.LOCK_EX)
+        return held
+
+    def done(self):
+        """Does all of it, and gives the status."""
+        at_once = most_at_once()
+        left = len(self.needed) - len(self.built)
+        shown = ", ".join(self.programs)
+        if left:
+            print(f"{shown}: {left} of {len(self.needed)} crates are to be proved and built, {at_once} at once", flush=True)
+            held = self.locked()
+            shutil.rmtree(COPIES, ignore_errors=True)
+            try:
+                copies = [Copy(number, self.lines) for number in range(1, at_once + 1)]
+                if not self.build_all(copies, at_once):
+                    return 1
+            finally:
+                for build in self.running:
+                    build.end()
+                shutil.rmtree(COPIES, ignore_errors=True)
+                for it in held:
+                    os.close(it)
+        self.tell(f"{shown}: proved and built, in build/")
+        return 0
+
+
+def main(words):
+    if words[:1] in (["-h"], ["--help"]) or not words:
+        print(__doc__, end="")
+        return 0 if words else 2
+    os.chdir(os.path.dirname(os.path.dirname(os.path.realpath(__file__))))
+    os.makedirs("build", exist_ok=True)
+    for it in (signal.SIGTERM, signal.SIGHUP):
+        signal.signal(it, lambda number, _: sys.exit(128 + number))
+    try:
+        return Work(words).done()
+    except KeyboardInterrupt:
+        print("\nbroken off; what was built is kept", file=sys.stderr)
+        return 130
+    except FileNotFoundError as error:
+        if error.filename != "rt":
+            raise
+        print("there is no command rt: README says which toolchain is wanted", file=sys.stderr)
+    except Wrong as error:
+        print(error, file=sys.stderr)
+    return 2
+
+
+if __name__ == "__main__":
+    sys.exit(main(sys.argv[1:]))

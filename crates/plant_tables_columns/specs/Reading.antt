@@ -3,7 +3,7 @@ use Rattle.std.specs.Prelude.{ℕ, ◌-◌, ◌^◌, ℤ, pos, negsuc, Bool, tru
 use Rattle.std.specs.Ordering.{int_eq}
 use Rattle.sqlite.specs.declared.types.Value.{Value}
 use Rattle.sqlite.specs.declared.types.Value.TheVariants.{Null, Int, Real, Text, Blob}
-use Rattle.plant_base.specs.Values.{only, is_id, is_text, is_unit, greatest_amount, greatest_moment, greatest_sublot, greatest_seq}
+use Rattle.plant_base.specs.Values.{only, is_id, is_text, is_unit, greatest_amount, greatest_moment, greatest_sublot}
 use Rattle.plant_base.specs.Dates.{is_due}
 
 -- ---- what stands in a column
@@ -77,9 +77,6 @@ amount_from = number_from 1 greatest_amount
 
 abbrev pub moment_from : Value → Option ℕ
 moment_from = number_from 0 greatest_moment
-
-abbrev pub seq_from : Value → Option ℕ
-seq_from = number_from 0 greatest_seq
 
 abbrev pub sublot_number_from : Value → Option ℕ
 sublot_number_from = number_from 0 greatest_sublot

@@ -5,7 +5,6 @@
 set -eu
 cd "$(dirname "$0")/.."
 began=$SECONDS
-rm -rf build/copies build/edits
 # Copies of the repository in which crates were built or edits tried: rt ci takes none.
 rm -rf build/copies build/edits
 cmp examples/orders.csv crates/order_check/stdin

@@ -112,7 +112,7 @@ def move(one, other):
     """Moves a folder, where it is there, into the place of another."""
     if os.path.isdir(one):
         shutil.rmtree(other, ignore_errors=True)
-        os.rename(one, other)
+        shutil.move(one, other)
 
 
 class Copy:

@@ -109,7 +109,8 @@ impl<'a, S: Alter> Keyed<'a, S> {
         ensures remembers { self.new.edges.now ≡ self.old.edges.now }
     {
         let edges = self.edges_at(&node, direction)?;
-        if_memory(nodes_by(self.alloc, edges.as_slice(), node, direction))
+        let nodes = if_memory(nodes_by(self.alloc, edges.as_slice(), node, direction))?;
+        Ok(nodes)
     }
 
     /// All edges. The faults are those of each look-up.
@@ -120,6 +121,7 @@ impl<'a, S: Alter> Keyed<'a, S> {
             (IfOk result (λ rows. rows.items
             ≡ edge_rows (shown (state S.Store self.old.conn.now).now).movements)) }
         ensures remembers { self.new.edges.now ≡ self.old.edges.now }
+        ensures asked { self.new.asked ≡ self.old.asked }
     {
         self.found(&EDGE, texts::EDGES, &[])
     }
@@ -133,9 +135,11 @@ impl<'a, S: Alter> Keyed<'a, S> {
         ensures stays { StaysTrue (state S.Store self.old.conn.now).now (state S.Store self.new.conn.now)
             self.new.has_failed self.old.edges.now self.new.edges.now }
         ensures read { OnOk result (self.new.edges.now.are_read ≡ true) }
+        ensures asked { self.new.asked ≡ self.old.asked }
     {
         let rows = self.all_edges()?;
-        *self.edges = if_memory(directed_by(self.alloc, rows.as_slice(), direction))?;
+        let all = if_memory(directed_by(self.alloc, rows.as_slice(), direction))?;
+        *self.edges = all;
         Ok(())
     }
 
@@ -172,7 +176,8 @@ impl<'a, S: Alter> Keyed<'a, S> {
             (edges_of (shown (state S.Store self.old.conn.now).now)) node) nodes.items)) }
     {
         self.remember_if_many(direction)?;
-        match if_memory(recalled(self.alloc, self.edges, &node, direction))? {
+        let known = if_memory(recalled(self.alloc, self.edges, &node, direction))?;
+        match known {
             Some(nodes) => Ok(nodes),
             None => self.look_up_next(node, direction),
         }

@@ -9,6 +9,7 @@ use table_forms::Fault;
 pub(crate) fn if_memory<T>(made: Result<T, AllocError>) -> Result<T, Fault>
     ensures made { IfOk made (λ value. result ≡ Ok value) }
     ensures refused { IfErr made (λ _. result ≡ Err Fault.Memory) }
+    ensures only { IfOk result (λ value. made ≡ Ok value) }
 {
     match made {
         Ok(value) => Ok(value),

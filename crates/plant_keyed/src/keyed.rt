@@ -74,6 +74,7 @@ impl<'a, S: Alter> Keyed<'a, S> {
         ensures steady { IsSteady (state S.Store self.old.conn.now) (state S.Store self.new.conn.now)
             self.old.has_failed self.new.has_failed }
         ensures remembers { self.new.edges.now ≡ self.old.edges.now }
+        ensures asked { self.new.asked ≡ self.old.asked }
     {
         match found_rows(self.alloc, self.conn, form, sql, values) {
             Ok(rows) => Ok(rows),

@@ -17,8 +17,8 @@ returns-in_default-clause-told g c =
     told_weaker _ _ _ _ (c.in_ok-rows.rows.items ≡ filter (begins_at c.args.direction kinds.result.0 c.id_of-id.result.now) (edge_rows all)) _ (λ is. subst (λ (rows : List EdgeRow). HasEdgesAt c.args.direction c.args.node.now (edges_among all) (map ends_of rows)) (sym is)
     (by_one all c.args.direction c.args.node.now c.id_of-id.result.now c.id_of-id.ensures kinds.result kinds.ensures c.in_default.is)) c.in_ok-rows.ensures.told
 
-pub returns-in-Ok-clause-told : goal.returns-in-Ok-clause-told
-returns-in-Ok-clause-told g c =
+pub returns-clause-told : goal.returns-clause-told
+returns-clause-told g c =
     let old = state g.S.Store c.args.self.now.conn.now in
     let mid = state g.S.Store c.edges_of_kind.new.self.conn.now in
     let new = state g.S.Store c.edges_of_kind-2.new.self.conn.now in
@@ -33,7 +33,7 @@ returns-in-Ok-clause-told g c =
       always = both.always;
       before = both.before;
       holds = λ honest.
-          let is = pushed c.as_slice.result.now refl c.in-Ok.is c.extend_from_slice.ensures.items
+          let is = pushed c.as_slice.result.now refl c.in_ok-if_memory.ensures.only c.extend_from_slice.ensures.items
           ∙ ap₂ (λ xs ys. xs ++ ys) (first.holds (second.before honest)) (c.as_slice.ensures.value ∙ both.holds honest) in
           subst (λ (rows : List EdgeRow). HasEdgesAt c.args.direction c.args.node.now (edges_among all) (map ends_of rows)) (sym is)
           (by_two all c.args.direction c.args.node.now id c.id_of-id.ensures kinds.result kinds.ensures c.in-Some.other c.in-Some.is);

@@ -5,7 +5,7 @@ use Rattle.plant_keyed.proofs.EdgesAt.{next_by}
 use Rattle.plant_keyed.proofs.Keeping.{told_weaker}
 use Rattle.plant_keyed.proofs.keyed.Keyed.look_up_next.Goals as goal
 
-pub returns-in-Ok-clause-told : goal.returns-in-Ok-clause-told
-returns-in-Ok-clause-told g c =
+pub returns-clause-told : goal.returns-clause-told
+returns-clause-told g c =
     let all = edges_of (shown (state g.S.Store c.args.self.now.conn.now).now) in
-    told_weaker _ _ _ _ _ _ (λ has. next_by c.args.direction c.args.node all _ _ has (rw (c.as_slice.ensures.value, c.in-Ok.is) at c.nodes_by.ensures)) c.in_ok-edges.ensures.told
+    told_weaker _ _ _ _ _ _ (λ has. next_by c.args.direction c.args.node all _ _ has (rw (c.as_slice.ensures.value, c.in_ok-nodes.ensures.only) at c.nodes_by.ensures)) c.in_ok-edges.ensures.told

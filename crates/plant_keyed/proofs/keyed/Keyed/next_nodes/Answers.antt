@@ -6,16 +6,16 @@ use Rattle.plant_keyed.specs.Shown.{shown}
 use Rattle.plant_keyed.proofs.Keeping.{recalled_so, traced_on}
 use Rattle.plant_keyed.proofs.keyed.Keyed.next_nodes.Goals as goal
 
-pub returns-in-Ok-Some-clause-traced : goal.returns-in-Ok-Some-clause-traced
-returns-in-Ok-Some-clause-traced g c =
+pub returns-in-Some-clause-traced : goal.returns-in-Some-clause-traced
+returns-in-Some-clause-traced g c =
     let old = state g.S.Store c.args.self.now.conn.now in
     let new = state g.S.Store c.remember_if_many.new.self.conn.now in
-    recalled_so old new _ _ _ _ (λ s. Lists (IsNext c.args.direction (edges_of s) c.args.node) c.in-Ok-Some.nodes.items)
+    recalled_so old new _ _ _ _ (λ s. Lists (IsNext c.args.direction (edges_of s) c.args.node) c.in-Some.nodes.items)
     c.remember_if_many.ensures.steady c.remember_if_many.ensures.stays
-    (λ true_of. rw c.in-Ok-Some.field-0-is at (c.in-Ok-Some.ensures (shown new.now) true_of))
+    (λ true_of. rw (c.in_ok-known.ensures.only, c.in-Some.is) at (c.recalled.ensures (shown new.now) true_of))
 
-pub returns-in-Ok-None-clause-traced : goal.returns-in-Ok-None-clause-traced
-returns-in-Ok-None-clause-traced g c =
+pub returns-in-None-clause-traced : goal.returns-in-None-clause-traced
+returns-in-None-clause-traced g c =
     let old = state g.S.Store c.args.self.now.conn.now in
     let mid = state g.S.Store c.remember_if_many.new.self.conn.now in
     let new = state g.S.Store c.look_up_next.new.self.conn.now in

@@ -10,15 +10,15 @@ use Rattle.plant_keyed.specs.Shown.{shown}
 use Rattle.plant_keyed.proofs.Directing.{all_told}
 use Rattle.plant_keyed.proofs.keyed.Keyed.remember.Goals as goal
 
-pub returns-in-Ok-clause-stays : goal.returns-in-Ok-clause-stays
-returns-in-Ok-clause-stays g c honest =
+pub returns-clause-stays : goal.returns-clause-stays
+returns-clause-stays g c honest =
     let old = state g.S.Store c.args.self.now.conn.now in
     let told = c.in_ok-rows.ensures.told in
-    let all = c.in-Ok.all in
+    let all = c.in_ok-all.all in
     let now = told.always.shows honest.clean honest.unfailed in
-    let turned = rw (c.as_slice.ensures.value, told.holds honest) at c.in-Ok.ensures.turned in
+    let turned = rw (c.as_slice.ensures.value, told.holds honest, c.in_ok-all.ensures.only) at c.directed_by.ensures.turned in
     let whole = all_told (shown old.now).movements c.args.direction all.links.items turned in
-    let true_of : AreEdgesOf (shown old.now) all = λ _. subst (λ (d : Direction). AreTurned d (edges_of (shown old.now)) all.links.items) (sym c.in-Ok.ensures.way) whole in (
+    let true_of : AreEdgesOf (shown old.now) all = λ _. subst (λ (d : Direction). AreTurned d (edges_of (shown old.now)) all.links.items) (sym (rw c.in_ok-all.ensures.only at c.directed_by.ensures.way)) whole in (
       λ _. subst (λ (db : Database). AreEdgesOf (shown db) all) (sym now) true_of,
       λ _ read. absurd (false≢true (sym c.requires ∙ read)),
     )

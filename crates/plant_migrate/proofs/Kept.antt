@@ -3,12 +3,14 @@ use Rattle.std.proofs.Common.{◌≡◌, ◌⊎◌, ◌∙◌, inl, inr, refl, s
 use Rattle.sqlite.specs.Tree.{Trees}
 use Rattle.sqlite.specs.Effect.{Database}
 use Rattle.sqlite.specs.State.{State, HasCleanDisk, Survives}
-use Rattle.plant_view.specs.Tables.{Tables}
+use Rattle.plant_base.specs.State as desk
+use Rattle.plant_view.specs.Tables.{Tables, tables_of}
 use Rattle.table_forms.specs.Resting.{Keeps}
 use Rattle.table_forms.proofs.Ending.{IsStore}
 use Rattle.plant_tables.specs.Keyed.{HoldsTablesOf}
 use Rattle.plant_tables.specs.DeskStopping.{IsAtOf, FindsOf, Finds, IsCutShortOf}
 use Rattle.plant_tables.proofs.Ended.{finds_same}
+use Rattle.plant_migrate.specs.Standing.{IsCutShortAmid}
 
 pub keeps_itself : (s : State) → Keeps s s
 keeps_itself s = record { was_open = λ live. live; now = λ _. refl; committed = λ _. refl }
@@ -49,4 +51,15 @@ cut_since version first mid new before after same cut = record {
   leaves = cut.leaves;
   nothing_else = λ db left. subst (λ d. FindsOf version d db before ⊎ Finds d db after) same (cut.nothing_else db left);
   shows = λ live. let it = cut.shows live in (it.0, it.1 ∙ same);
+}
+
+-- the same of a raising to a schema that wasn't begun
+pub not_raised : (version to : ℕ) (old new : State) (s : desk.State) → IsAtOf version old (tables_of version s) → Keeps old new → IsStore new → HasCleanDisk new → Survives old new (λ _. ⊥) → IsCutShortAmid version to old new s
+not_raised version to old new s at kept laws clean wrote = record {
+  leaves = laws.something clean;
+  nothing_else = λ db left. elim (wrote.crash clean db left) [
+    | inl still ↦ inl (found_still version old new (tables_of version s) at kept laws db still)
+    | inr none ↦ absurd none
+  ];
+  shows = λ live. (at_still version old new (tables_of version s) at kept laws live, kept.now live);
 }

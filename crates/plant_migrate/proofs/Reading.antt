@@ -1,12 +1,12 @@
 -- The rows that are read of the tables of a state in the first schema are those tables' rows.
-use Rattle.std.proofs.Common.{◌≡◌, ◌∙◌, refl, sym, subst, Option, Some, Ok, Err, Result, OnOk, OnErr}
+use Rattle.std.proofs.Common.{◌≡◌, ◌∙◌, refl, subst, Some, Ok, Err, Result, OnOk, OnErr}
 use Rattle.sqlite.specs.Effect.{Database}
 use Rattle.sqlite.specs.State as store
 use Rattle.plant_base.specs.State.{State, newest_schema}
 use Rattle.plant_view.specs.Tables.{tables_of}
 use Rattle.table_forms.specs.Standing.{KeepsOthers}
 use Rattle.plant_tables.specs.DeskForms.{desk_forms}
-use Rattle.plant_tables.specs.DeskStopping.{IsAtOf, IsAt, IsCutShortOf}
+use Rattle.plant_tables.specs.DeskStopping.{IsAt, IsCutShortOf}
 use Rattle.plant_tables_stored.specs.Loading.{AreLoaded}
 use Rattle.plant_tables_stored.specs.declared.loaded.Loaded.{Loaded}
 use Rattle.plant_tables_judged.specs.Collecting.{rows_from, rows_in, rows_listed}

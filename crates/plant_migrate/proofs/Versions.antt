@@ -1,10 +1,13 @@
 -- The version that is told, and what follows of the tables of a state.
-use Rattle.std.proofs.Common.{◌≡◌, ◌∙◌, refl, sym, ap, subst, ℕ, ◌≤◌, ◌<◌, ℤ, pos, true, false, nat_le, List, [], ◌∷◌, IsTrue, arith}
+use Rattle.std.proofs.Common.{◌≡◌, ◌∙◌, refl, sym, subst, ℕ, ◌≤◌, ◌<◌, ℤ, pos, true, false, nat_le, [], ◌∷◌, IsTrue, arith}
 use Rattle.std.proofs.lemmas.Bool.Decides.{nat_tests}
 use Rattle.std.proofs.lemmas.Int.{ints, to_z-of_z}
+use lib.Dec.{leb→le}
+use lib.IntN.{negsuc}
 use lib.Signed.{le_z}
 use mir.Syntax.{w64}
 use mir.Val.{SFits, to_z, of_z}
+use Rattle.std.specs.Int.Signed.{◌≤ℤ◌}
 use Rattle.std.specs.List.Sorted.{IsStrictlySortedBy}
 use Rattle.sqlite.specs.Effect.{Database}
 use Rattle.sqlite.specs.declared.types.Value.TheVariants.{Int}
@@ -21,7 +24,7 @@ use Rattle.plant_tables_columns.specs.TableColumns.{row_of_meta}
 use Rattle.plant_tables_stored.specs.Loading.{Loads}
 use Rattle.plant_tables_stored.specs.Version.{IsVersion}
 use Rattle.plant_tables_judged.proofs.TableLemmas.{loaded_rows}
-use Rattle.plant_migrate.specs.Standing.{IsReadable, raised_to}
+use Rattle.plant_migrate.specs.Standing.{IsReadable, IsCutShortAmid, TellsKnown, raised_to}
 use Rattle.plant_migrate.proofs.Kept.{at_still, cut_since}
 
 pub version_is : (version : ℕ) (db : Database) (t : Tables) (n : ℤ) → HoldsTablesOf version db t → IsVersion db n → n ≡ pos t.meta.schema
@@ -34,6 +37,20 @@ version_is version db t n holds v =
     let numbers : Int (pos 1) ∷ Int v.good.schema ∷ Int v.good.seq ∷ Int v.good.at ∷ [] ≡ Int (pos 1) ∷ Int (pos t.meta.schema) ∷ Int (pos t.meta.position.seq) ∷ Int (pos t.meta.position.at) ∷ [] = sym v.good.is ∙ row in
     let same : v.good.schema ≡ pos t.meta.schema = cc in
     sym v.tells ∙ same
+
+-- the version that meta tells is a number from 1
+pub version_number : (db : Database) (v : ℤ) → IsVersion db v → (n : ℕ) × (v ≡ pos n) × (1 ≤ n)
+version_number db v told = from v (subst (λ z. pos 1 ≤ℤ z) told.tells told.good.schema_low)
+  where
+    from : (z : ℤ) → pos 1 ≤ℤ z → (n : ℕ) × (z ≡ pos n) × (1 ≤ n)
+    from (pos n) low = (n, refl, leb→le 1 n low.le)
+    from (negsuc n) low = absurd low.le
+
+pub tells_known : (db : Database) (v : ℤ) → IsVersion db v → v ≤ℤ pos newest_schema → TellsKnown db
+tells_known db v told low =
+    let number = version_number db v told in
+    let high : pos number.0 ≤ℤ pos newest_schema = subst (λ z. z ≤ℤ pos newest_schema) number.1 low in
+    (number.0, subst (IsVersion db) number.1 told, (number.2, leb→le number.0 newest_schema high.le))
 
 -- what the test of a version tells of the numbers
 pub not_below : (version to : ℕ) (n : ℤ) → SFits w64 n → n ≡ pos version → to ≤ 2 → le_z (to_z w64 to) (to_z w64 (of_z w64 n)) ≡ true → to ≤ version
@@ -64,9 +81,18 @@ rises_to version to old mid new s first newest readable kept laws live done =
     let is : raised_to version to ≡ newest_schema = rw (first, newest) refl in
     (subst (λ k. IsAtOf k new (tables_of k s)) (sym is) it.0, subst (λ (d : Database). KeepsOthers desk_forms d new.now) (kept.now live) it.1)
 
-pub cut_from : (version : ℕ) (old mid new : store.State) (s : State) → version ≡ 1 → IsReadable version old s → Keeps old mid → IsStore mid → IsTrue mid.is_open
-    → ((u : State) → IsReadable 1 mid u → IsCutShortOf 1 mid new (tables_of 1 u) (tables_of newest_schema u)) → IsCutShortOf version old new (tables_of version s) (tables_of newest_schema s)
-cut_from version old mid new s first readable kept laws live done =
+-- what is told of a version below the one that is asked for
+pub first_told : (db : Database) (v : ℤ) (to : ℕ) → SFits w64 v → IsVersion db v → to ≤ 2 → le_z (to_z w64 to) (to_z w64 (of_z w64 v)) ≡ false → IsVersion db (pos 1) × (1 < to)
+first_told db v to fits told few test =
+    let number = version_number db v told in
+    let under : number.0 < to = below number.0 to v fits number.1 few test in
+    let first : number.0 ≡ 1 = omega (arith, under, number.2, few) in
+    (subst (λ k. IsVersion db (pos k)) first (subst (IsVersion db) number.1 told), subst (λ k. k < to) first under)
+
+pub cut_from : (version to : ℕ) (old mid new : store.State) (s : State) → version ≡ 1 → to ≡ 2 → IsReadable version old s → Keeps old mid → IsStore mid → IsTrue mid.is_open
+    → ((u : State) → IsReadable 1 mid u → IsCutShortOf 1 mid new (tables_of 1 u) (tables_of newest_schema u)) → IsCutShortAmid version to old new s
+cut_from version to old mid new s first newest readable kept laws live done =
     let at : IsReadable 1 old s = subst (λ k. IsReadable k old s) first readable in
-    let cut = done s (still_readable old mid s at kept laws live) in
-    subst (λ k. IsCutShortOf k old new (tables_of k s) (tables_of newest_schema s)) (sym first) (cut_since 1 old mid new (tables_of 1 s) (tables_of newest_schema s) (kept.now live) cut)
+    let cut = cut_since 1 old mid new (tables_of 1 s) (tables_of newest_schema s) (kept.now live) (done s (still_readable old mid s at kept laws live)) in
+    let amid : IsCutShortAmid 1 2 old new s = record { leaves = cut.leaves; nothing_else = cut.nothing_else; shows = cut.shows } in
+    subst (λ k. IsCutShortAmid k to old new s) (sym first) (subst (λ k. IsCutShortAmid 1 k old new s) (sym newest) amid)

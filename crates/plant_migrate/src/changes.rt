@@ -1,6 +1,6 @@
 //! The changes that raise the tables of the first schema.
 
-ghost use Rattle.std.specs.Prelude.{◌≡◌, IfOk};
+ghost use Rattle.std.specs.Prelude.{◌≡◌, IfOk, IsOkUnless};
 ghost use Rattle.std.specs.List.{filter_map};
 ghost use Rattle.plant_migrate.specs.Raised.{edge_booked, edge_change, raising_changes};
 
@@ -10,6 +10,7 @@ use plant_base::{
 use plant_tables_judged::{BookedRow, DeskRows};
 use plant_view::{RowChange, edge_row};
 use std::alloc::{AllocError, Global};
+use table_forms::Fault;
 
 /// The edge that a booked movement makes, where its columns are those of its kind and it makes one.
 fn edge_booked(booked: &BookedRow) -> Option<EdgeRow>
@@ -41,7 +42,7 @@ fn edge_changes(alloc: Global, booked: &[BookedRow]) -> Result<Vec<RowChange>, A
 
 /// An edge for each movement that makes one, then the newest schema at the same position. The only error is that memory
 /// was refused.
-pub(crate) fn changes_of(alloc: Global, rows: &DeskRows) -> Result<Vec<RowChange>, AllocError>
+fn list_changes(alloc: Global, rows: &DeskRows) -> Result<Vec<RowChange>, AllocError>
     ensures { IfOk result (λ changes. changes.items ≡ raising_changes rows.now.meta.position
         rows.now.movements.items) }
 {
@@ -54,4 +55,16 @@ pub(crate) fn changes_of(alloc: Global, rows: &DeskRows) -> Result<Vec<RowChange
     };
     changes.push(RowChange::Meta(meta))?;
     Ok(changes)
+}
+
+/// The same changes, for a store: what is wanted of memory is told as `Memory`.
+pub(crate) fn changes_of(alloc: Global, rows: &DeskRows) -> Result<Vec<RowChange>, Fault>
+    ensures fault { IsOkUnless result Fault.Memory }
+    ensures changes { IfOk result (λ changes. changes.items ≡ raising_changes rows.now.meta.position
+        rows.now.movements.items) }
+{
+    match list_changes(alloc, rows) {
+        Ok(changes) => Ok(changes),
+        Err(_) => Err(Fault::Memory),
+    }
 }

@@ -10,7 +10,8 @@ ghost use Rattle.table_forms.specs.Standing.{KeepsOthers};
 ghost use Rattle.plant_tables.specs.DeskForms.{desk_forms};
 ghost use Rattle.plant_tables.specs.DeskStopping.{IsAtOf, IsAt, IsCutShortOf};
 ghost use Rattle.plant_tables_stored.specs.Version.{IsVersion};
-ghost use Rattle.plant_migrate.specs.Standing.{IsReadable, Raised, raised_to};
+ghost use Rattle.plant_migrate.specs.Standing.{IsReadable, raised_to, TellsKnown};
+ghost use Rattle.plant_migrate.specs.Standing.{IsCutShortAmid, IsFirstRaised, IsRaisedTo};
 
 use crate::rows::raise_rows;
 use plant_base::NEWEST_SCHEMA;
@@ -37,7 +38,7 @@ pub enum RaiseFault {
 fn fault_of(fault: Fault) -> RaiseFault
     ensures store { fault ≡ Fault.Store → result ≡ RaiseFault.Store }
     ensures memory { fault ≡ Fault.Memory → result ≡ RaiseFault.Memory }
-    ensures wanted { result ≡ RaiseFault.Memory → fault ≡ Fault.Memory }
+    ensures other { result ≢ RaiseFault.Store → fault ≡ Fault.Memory }
     ensures not_newer { (n : ℤ) → result ≢ RaiseFault.Newer n }
 {
     match fault {
@@ -63,8 +64,10 @@ fn raise_first<S: Alter>(alloc: Global, conn: &mut Connection<S>) -> Result<(), 
         (tables_of 1 s) (tables_of newest_schema s)) }
     ensures unwritten { IfErr result (λ fault. fault ≡ Fault.Memory
         → Survives (state S.Store conn.old) (state S.Store conn.new) (λ _. ⊥)) }
+    // A stop leaves what it left before, or, only where the rows that were read obey the rules of values and the later tables
+    // could be made, the tables raised from those rows.
     ensures crash { Survives (state S.Store conn.old) (state S.Store conn.new)
-        (Raised (state S.Store conn.old).now) }
+        (IsFirstRaised (state S.Store conn.old).now) }
 {
     let loaded = match Loaded::read(alloc, conn, 1) {
         Ok(Some(loaded)) => loaded,
@@ -79,8 +82,9 @@ fn raise_first<S: Alter>(alloc: Global, conn: &mut Connection<S>) -> Result<(), 
 }
 
 /// Raises the tables that a store holds to this schema: nothing is done where theirs isn't below it. `Newer` where they
-/// are of a schema above the newest; Store where there are none, where table meta doesn't tell a version, where a value
-/// breaks its rule, and where the store fails; Memory where there is none, and then nothing was written.
+/// are of a schema above the newest, and then nothing was written; Store where there are none, where table meta doesn't
+/// tell a version, where a value breaks its rule, and where the store fails; Memory where there is none, and then nothing
+/// was written.
 pub fn raise<S: Alter>(alloc: Global, conn: &mut Connection<S>, to: u64) -> Result<(), RaiseFault>
     requires mode { conn.old.in_transaction ≡ false }
     requires known { to ≤ newest_schema }
@@ -92,14 +96,17 @@ pub fn raise<S: Alter>(alloc: Global, conn: &mut Connection<S>, to: u64) -> Resu
         × KeepsOthers desk_forms (state S.Store conn.old).now (state S.Store conn.new).now) }
     ensures cut_short { HasCleanDisk (state S.Store conn.new) → (version : ℕ) → (s : State)
         → IsReadable version (state S.Store conn.old) s
-        → OnErr result (IsCutShortOf version (state S.Store conn.old) (state S.Store conn.new)
-        (tables_of version s) (tables_of newest_schema s)) }
-    // Of whatever store: a stop leaves what it left before, or tables that were raised; and only the first where there was
-    // no memory.
-    ensures unwritten { IfErr result (λ fault. fault ≡ RaiseFault.Memory
+        → OnErr result (IsCutShortAmid version to (state S.Store conn.old) (state S.Store conn.new) s) }
+
+    // Of whatever store: a stop leaves what it left before, and nothing else at a fault but Store; else also raised tables,
+    // only where table meta tells the first schema, a later one is asked for, the rows obey the rules of values and the
+    // later tables could be made.
+    ensures unwritten { IfErr result (λ fault. fault ≢ RaiseFault.Store
         → Survives (state S.Store conn.old) (state S.Store conn.new) (λ _. ⊥)) }
     ensures crash { Survives (state S.Store conn.old) (state S.Store conn.new)
-        (Raised (state S.Store conn.old).now) }
+        (IsRaisedTo to (state S.Store conn.old).now) }
+    ensures told { HasCleanDisk (state S.Store conn.new)
+        → OnOk result (TellsKnown (state S.Store conn.old).now) }
     ensures newer { HasCleanDisk (state S.Store conn.new) → IfErr result (λ fault. (n : ℤ)
         → fault ≡ RaiseFault.Newer n
         → IsVersion (state S.Store conn.old).now n × (pos newest_schema <ℤ n)) }

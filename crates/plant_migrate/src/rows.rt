@@ -1,7 +1,6 @@
 //! The raising of tables whose rows are at hand.
 
 ghost use Rattle.std.specs.Prelude.{◌≡◌, ◌↔◌, true, false, OnOk, OnErr, IfErr};
-ghost use Rattle.sqlite.specs.Effect.{Database};
 ghost use Rattle.sqlite.specs.State.{HasCleanDisk, Survives};
 ghost use Rattle.sqlite.specs.Held.{state};
 ghost use Rattle.plant_base.specs.State.{State, newest_schema};
@@ -10,9 +9,9 @@ ghost use Rattle.table_forms.specs.Standing.{AreFree, KeepsOthers};
 ghost use Rattle.plant_tables.specs.DeskForms.{desk_forms, later_forms};
 ghost use Rattle.plant_tables.specs.Keyed.{AreKeyed};
 ghost use Rattle.plant_tables.specs.DeskStopping.{IsAtOf, IsAt, IsCutShortOf};
-ghost use Rattle.plant_tables.specs.Raising.{RaisesTables};
 ghost use Rattle.plant_tables_judged.specs.Collecting.{rows_in, rows_listed};
 ghost use Rattle.plant_migrate.specs.Raised.{raising_changes};
+ghost use Rattle.plant_migrate.specs.Standing.{IsRaisedBy};
 
 use crate::changes::changes_of;
 use plant_tables::commit_raising;
@@ -54,15 +53,16 @@ pub fn raise_rows<S: Alter>(
         → OnErr result (IsCutShortOf 1 (state S.Store conn.old) (state S.Store conn.new)
         (tables_of 1 s) (tables_of newest_schema s)) }
     ensures unwritten { IfErr result (λ fault. fault ≡ Fault.Memory → conn.new ≡ conn.old) }
+    // A stop leaves what it left before, or, only where the later tables could be made, the raised ones.
     ensures survives { Survives (state S.Store conn.old) (state S.Store conn.new)
-        (λ trees. (db : Database) × RaisesTables (raising_changes rows.now.meta.position
-        rows.now.movements.items) (state S.Store conn.old).now db × (trees ≡ db.trees)) }
+        (IsRaisedBy (raising_changes rows.now.meta.position rows.now.movements.items)
+        (state S.Store conn.old).now) }
 {
     if !can_rise(conn.schema()) {
         return Err(Fault::Store);
     }
     match changes_of(alloc, rows) {
         Ok(changes) => commit_raising(conn, changes.as_slice()),
-        Err(_) => Err(Fault::Memory),
+        Err(fault) => Err(fault),
     }
 }

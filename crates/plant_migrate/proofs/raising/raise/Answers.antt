@@ -1,18 +1,18 @@
-use Rattle.std.proofs.Common.{◌≡◌, ◌∙◌, ◌≤◌, ◌<◌, ℕ, ℤ, pos, sym, subst, arith, rules, w64}
+use Rattle.std.proofs.Common.{◌≡◌, ◌≤◌, ◌<◌, pos, subst, arith, rules, w64}
 use mir.Val.{SFits}
 use Rattle.std.specs.Int.Signed.{◌≤ℤ◌}
 use Rattle.sqlite.specs.Effect.{Database}
 use Rattle.sqlite.specs.Held.{state}
-use Rattle.sqlite.specs.State.{HasCleanDisk, IsUnchanged, Survives}
+use Rattle.sqlite.specs.State.{HasCleanDisk, IsUnchanged}
 use Rattle.sqlite.proofs.StateLemmas.{survives_then, survives_weaker}
 use Rattle.plant_base.specs.State.{newest_schema}
 use Rattle.plant_view.specs.Tables.{tables_of}
 use Rattle.table_forms.proofs.Ending.{IsStore}
 use Rattle.plant_tables_stored.specs.Version.{IsVersion}
 use Rattle.plant_tables_stored.proofs.Versions.{one_version}
-use Rattle.plant_migrate.specs.Standing.{Raised}
-use Rattle.plant_migrate.proofs.Kept.{not_begun}
-use Rattle.plant_migrate.proofs.Versions.{version_is, not_below, below, stays_at, rises_to, cut_from}
+use Rattle.plant_migrate.specs.Standing.{IsFirstRaised, IsRaisedTo}
+use Rattle.plant_migrate.proofs.Kept.{not_raised}
+use Rattle.plant_migrate.proofs.Versions.{version_is, not_below, below, first_told, tells_known, stays_at, rises_to, cut_from}
 use Rattle.plant_migrate.proofs.raising.raise.Goals as goal
 
 pub returns-then-version-clause-cut_short : goal.returns-then-version-clause-cut_short
@@ -21,7 +21,7 @@ returns-then-version-clause-cut_short g c clean version s readable =
     let old = state g.S.Store c.args.conn.now in
     let mid = state g.S.Store held in
     let store : IsStore mid = record { settled = g.met.S.Store.settled held.store; stays = g.met.S.Store.stays held.store; something = g.met.S.Store.survives held.store } in
-    not_begun version old mid (tables_of version s) readable.at (c.found.ensures.kept clean) store (tables_of newest_schema s) clean c.found.ensures.crash
+    not_raised version c.args.to old mid s readable.at (c.found.ensures.kept clean) store clean c.found.ensures.crash
 
 pub returns-then-version-to-clause-raised : goal.returns-then-version-to-clause-raised
 returns-then-version-to-clause-raised g c was version s readable =
@@ -82,7 +82,8 @@ returns-in-Err-raise_first-clause-cut_short g c clean version s readable =
     let fits : SFits w64 c.in-Ok-Version.version = search rules in
     let under : version < c.args.to = below version c.args.to c.in-Ok-Version.version fits is c.requires.known c.if-version-to.false in
     let first : version ≡ 1 = omega (arith, under, readable.known.0, c.requires.known) in
-    cut_from version old mid new s first readable (c.found.ensures.kept was) store same.0.is_open (c.in-Err-raise_first.ensures.cut_short clean)
+    let newest : c.args.to ≡ 2 = omega (arith, under, readable.known.0, c.requires.known) in
+    cut_from version c.args.to old mid new s first newest readable (c.found.ensures.kept was) store same.0.is_open (c.in-Err-raise_first.ensures.cut_short clean)
 
 pub returns-then-version-clause-crash : goal.returns-then-version-clause-crash
 returns-then-version-clause-crash g c = survives_weaker _ _ _ _ (λ clean db none. absurd none) c.found.ensures.crash
@@ -97,8 +98,13 @@ returns-in-Ok-raise_first-clause-crash g c =
     let new = state g.S.Store c.raise_first.new.conn in
     survives_then old mid new _ _ _ (λ _ db none. absurd none)
     (λ clean trees raised.
-    let same : IsUnchanged old mid = c.in-Ok-Version.ensures.same (c.raise_first.ensures.clean clean) _ c.in-Ok-Version.field-0-is in
-    subst (λ (db : Database). Raised db trees) same.0.now_is raised) c.found.ensures.crash c.raise_first.ensures.crash
+    let was : HasCleanDisk mid = c.raise_first.ensures.clean clean in
+    let same : IsUnchanged old mid = c.in-Ok-Version.ensures.same was _ c.in-Ok-Version.field-0-is in
+    let told : IsVersion old.now c.in-Ok-Version.version = (c.in-Ok-Version.ensures.version was _).0 c.in-Ok-Version.field-0-is in
+    let fits : SFits w64 c.in-Ok-Version.version = search rules in
+    let first = first_told old.now c.in-Ok-Version.version c.args.to fits told c.requires.known c.if-version-to.false in
+    let to : IsRaisedTo c.args.to old.now trees = record { told = first.0; below = first.1; raised = subst (λ (db : Database). IsFirstRaised db trees) same.0.now_is raised } in
+    to) c.found.ensures.crash c.raise_first.ensures.crash
 
 pub returns-in-Err-raise_first-clause-crash : goal.returns-in-Err-raise_first-clause-crash
 returns-in-Err-raise_first-clause-crash g c =
@@ -107,12 +113,30 @@ returns-in-Err-raise_first-clause-crash g c =
     let new = state g.S.Store c.raise_first.new.conn in
     survives_then old mid new _ _ _ (λ _ db none. absurd none)
     (λ clean trees raised.
-    let same : IsUnchanged old mid = c.in-Ok-Version.ensures.same (c.raise_first.ensures.clean clean) _ c.in-Ok-Version.field-0-is in
-    subst (λ (db : Database). Raised db trees) same.0.now_is raised) c.found.ensures.crash c.raise_first.ensures.crash
+    let was : HasCleanDisk mid = c.raise_first.ensures.clean clean in
+    let same : IsUnchanged old mid = c.in-Ok-Version.ensures.same was _ c.in-Ok-Version.field-0-is in
+    let told : IsVersion old.now c.in-Ok-Version.version = (c.in-Ok-Version.ensures.version was _).0 c.in-Ok-Version.field-0-is in
+    let fits : SFits w64 c.in-Ok-Version.version = search rules in
+    let first = first_told old.now c.in-Ok-Version.version c.args.to fits told c.requires.known c.if-version-to.false in
+    let to : IsRaisedTo c.args.to old.now trees = record { told = first.0; below = first.1; raised = subst (λ (db : Database). IsFirstRaised db trees) same.0.now_is raised } in
+    to) c.found.ensures.crash c.raise_first.ensures.crash
 
 pub returns-in-Err-raise_first-clause-unwritten : goal.returns-in-Err-raise_first-clause-unwritten
-returns-in-Err-raise_first-clause-unwritten g c memory =
-    survives_then _ _ _ _ _ _ (λ _ db none. none) (λ _ db none. none) c.found.ensures.crash (c.in-Err-raise_first.ensures.unwritten (c.fault_of-in-Err-raise_first.ensures.wanted memory))
+returns-in-Err-raise_first-clause-unwritten g c other =
+    survives_then _ _ _ _ _ _ (λ _ db none. none) (λ _ db none. none) c.found.ensures.crash (c.in-Err-raise_first.ensures.unwritten (c.fault_of-in-Err-raise_first.ensures.other other))
 
 pub returns-in-Ok-clause-crash : goal.returns-in-Ok-clause-crash
 returns-in-Ok-clause-crash g c = survives_weaker _ _ _ _ (λ clean db none. absurd none) c.found.ensures.crash
+
+pub returns-then-version-to-clause-told : goal.returns-then-version-to-clause-told
+returns-then-version-to-clause-told g c was =
+    let old = state g.S.Store c.args.conn.now in
+    let told : IsVersion old.now c.in-Ok-Version.version = (c.in-Ok-Version.ensures.version was _).0 c.in-Ok-Version.field-0-is in
+    tells_known old.now c.in-Ok-Version.version told (search rules)
+
+pub returns-in-Ok-raise_first-clause-told : goal.returns-in-Ok-raise_first-clause-told
+returns-in-Ok-raise_first-clause-told g c clean =
+    let old = state g.S.Store c.args.conn.now in
+    let was : HasCleanDisk (state g.S.Store c.found.new.conn) = c.raise_first.ensures.clean clean in
+    let told : IsVersion old.now c.in-Ok-Version.version = (c.in-Ok-Version.ensures.version was _).0 c.in-Ok-Version.field-0-is in
+    tells_known old.now c.in-Ok-Version.version told (search rules)

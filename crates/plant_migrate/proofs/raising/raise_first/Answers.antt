@@ -10,7 +10,7 @@ use Rattle.table_forms.proofs.Ending.{IsStore}
 use Rattle.plant_tables.specs.DeskStopping.{IsAtOf}
 use Rattle.plant_tables_judged.specs.Collecting.{rows_from, rows_in, rows_listed}
 use Rattle.plant_tables_stored.specs.Loading.{AreLoaded}
-use Rattle.plant_migrate.specs.Standing.{Raised}
+use Rattle.plant_migrate.specs.Standing.{IsFirstRaised}
 use Rattle.plant_migrate.proofs.Kept.{at_still, not_begun}
 use Rattle.plant_migrate.proofs.Reading.{rows_read, raised_since, unraised_since}
 use Rattle.plant_migrate.proofs.raising.raise_first.Goals as goal
@@ -77,7 +77,10 @@ returns-in-Ok-Some-rows_of-clause-crash g c =
     (λ clean trees made.
     let was : HasCleanDisk mid = omega (arith, c.raise_rows.ensures.survives.clean) in
     let same : IsUnchanged old mid = rw c.in-Ok-Some.field-0-is at (c.in-Ok-Some.ensures.same was) in
-    subst (λ (db : Database). Raised db trees) same.0.now_is (_, made)) c.read.ensures.crash c.raise_rows.ensures.survives
+    let loaded : AreLoaded 1 mid.now c.in-Ok-Some.loaded = subst (λ (db : Database). AreLoaded 1 db c.in-Ok-Some.loaded) (sym same.0.now_is) (rw c.in-Ok-Some.field-0-is at (c.in-Ok-Some.ensures.rows was)) in
+    let told : Some (rows_listed c.in-Ok-Some-rows_of.rows) ≡ rows_from c.in-Ok-Some.loaded = rw c.in-Ok-Some-rows_of.field-0-is at c.in-Ok-Some-rows_of.ensures in
+    let first : IsFirstRaised mid.now trees = record { loaded = c.in-Ok-Some.loaded; are = loaded; rows = c.in-Ok-Some-rows_of.rows; good = sym told; raised = made } in
+    subst (λ (db : Database). IsFirstRaised db trees) same.0.now_is first) c.read.ensures.crash c.raise_rows.ensures.survives
 
 pub returns-in-Ok-None-clause-crash : goal.returns-in-Ok-None-clause-crash
 returns-in-Ok-None-clause-crash g c = survives_weaker _ _ _ _ (λ clean db none. absurd none) c.read.ensures.crash

@@ -1,4 +1,4 @@
-use Rattle.std.proofs.Common.{◌≡◌, rules, true, false}
+use Rattle.std.proofs.Common.{rules}
 use Rattle.plant_tables.specs.DeskForms.{later_forms}
 use Rattle.plant_migrate.proofs.Free.{names_taken, names_free}
 use Rattle.plant_migrate.proofs.rows.can_rise.Goals as goal

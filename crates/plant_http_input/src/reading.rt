@@ -1,5 +1,5 @@
 //! Reads, one after another, and what was found in them.
-ghost use Rattle.std.specs.Prelude.{◌≡◌, ◌≤◌, ◌<◌, ◌+◌, [], length, nat_le, true, IfOk, IfSome, IsErrOf};
+ghost use Rattle.std.specs.Prelude.{◌≡◌, ◌≤◌, ◌<◌, ◌+◌, [], length, nat_le, true, IfOk, IfSome, IsErrOf, OnErr};
 ghost use Rattle.std.specs.Io.KnownBytes.{Consumes};
 ghost use Rattle.plant_http_input.specs.Head.{end_of_head, LiesWithin};
 ghost use Rattle.plant_http_input.specs.Reading.{TakesPiece, GoesOn, Spent, SpentAll};
@@ -127,6 +127,7 @@ pub fn read_to<R: Read>(
     ensures there { IfOk result (λ there. IfSome (R.remaining reader.old) (λ rest.
         there ≡ nat_le want (length bytes.old.items + length rest))) }
     ensures enough { IfOk result (λ there. there ≡ true → want ≤ length bytes.new.items) }
+    ensures early { OnErr result (length bytes.old.items < want) }
     ensures endless { IsErrOf result InputFault.Endless → SpentAll reads.old
         (R.remaining reader.old) (R.remaining reader.new) }
 {

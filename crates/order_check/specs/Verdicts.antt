@@ -14,7 +14,3 @@ verdict_of (Err fault) = verdict.Fault fault
 abbrev pub verdict_text : Verdict → List ℕ
 verdict_text (verdict.Orders count) = decimal count ++ codes " orders"
 verdict_text (verdict.Fault fault) = csv_text fault
-
-abbrev pub status_of : Verdict → ℕ
-status_of (verdict.Orders count) = 0
-status_of (verdict.Fault fault) = 1

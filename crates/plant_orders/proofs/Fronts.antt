@@ -1,12 +1,13 @@
 -- What the front of a text tells of the text.
-use Rattle.std.proofs.Common.{◌≡◌, ℕ, ◌<◌, true, nat_lt, List, [], ◌++◌, length, take, Option, Some, None, Result, Ok, Err, IfOk, IfErr, IfSome, refl, sym, ap, ◌∙◌, ⊎_elim, arith, subst}
+use Rattle.std.proofs.Common.{◌≡◌, ℕ, ◌<◌, true, nat_lt, List, [], ◌++◌, length, take, Option, Some, None, Result, Ok, Err, OnOk, IfOk, IfErr, IfSome, refl, sym, ap, ◌∙◌, ⊎_elim, arith, subst}
 use Rattle.std.specs.Option.{option_map}
 use Rattle.std.proofs.lemmas.Bool.Decides.{nat_tests}
 use Rattle.std.proofs.lemmas.Bool.{cases_lt}
 use Rattle.std.proofs.lemmas.List.{length-take-le, take_all}
 use Rattle.plant_base.specs.declared.rows.OrderRow.{OrderRow}
 use Rattle.plant_orders.specs.Orders.{fault, orders_of}
-use Rattle.plant_orders.specs.Telling.{TellsOf}
+use Rattle.std.specs.declared.io.Error.{Error}
+use Rattle.plant_orders.specs.Telling.{TellsOf, told_reading}
 use Rattle.plant_orders.specs.declared.fault.CsvFault.{CsvFault}
 use Rattle.plant_orders.specs.declared.source.OrdersFault.{OrdersFault}
 use Rattle.plant_orders.specs.declared.fault.CsvKind.TheVariants as kind
@@ -38,3 +39,8 @@ told_of_front n limit (Err e) known front gives fails is = (tt, said_of_text (λ
 pub read_into_nothing : (known : Option (List ℕ)) (old new front : List ℕ) → old ≡ [] → front ≡ new → IfSome known (λ text. new ≡ old ++ text) → IfSome known (λ text. front ≡ text)
 read_into_nothing None old new front empty is says = tt
 read_into_nothing (Some text) old new front empty is says = is ∙ says ∙ ap (λ room. room ++ text) empty
+
+-- where no error is told of a reading it has none
+pub was_read : (r : Result ℕ Error) (n : ℕ) (P : Type 0) → told_reading r ≡ Ok n → OnOk r P → P
+was_read (Ok m) n P told is = is
+was_read (Err e) n P told is = cc told

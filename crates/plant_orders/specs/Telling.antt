@@ -1,5 +1,9 @@
 -- How the fault of an order file is told.
-use Rattle.std.specs.Prelude.{◌≡◌, ◌≢◌, ℕ, ◌++◌, List, codes, decimal, Result, Err, ⊤}
+use Rattle.std.specs.Prelude.{◌≡◌, ◌≢◌, ℕ, ◌++◌, List, codes, decimal, Result, Ok, Err, ⊤}
+use Rattle.std.specs.IoError.{error_kind}
+use Rattle.std.specs.declared.io.Error.{Error}
+use Rattle.std.specs.declared.io.ErrorKind.{ErrorKind}
+use Rattle.std.specs.declared.io.ErrorKind.TheVariants as io
 use Rattle.plant_base.specs.declared.rows.OrderRow.{OrderRow}
 use Rattle.plant_orders.specs.Orders.{kind_name}
 use Rattle.plant_orders.specs.declared.fault.CsvFault.{CsvFault}
@@ -17,3 +21,13 @@ abbrev pub TellsOf : OrdersFault → Result (List OrderRow) CsvFault → Type 0
 TellsOf (fault.Csv e) says = (says ≡ Err e) × (e.kind ≢ kind.Memory)
 TellsOf fault.Read says = ⊤
 TellsOf fault.Memory says = ⊤
+
+-- an error of a reading for want of memory is told as that, and every other as a read that failed
+abbrev pub fault_of_kind : ErrorKind → OrdersFault
+fault_of_kind io.OutOfMemory = fault.Memory
+fault_of_kind _ = fault.Read
+
+-- how many bytes a reading gave, or what its error is told as
+abbrev pub told_reading : Result ℕ Error → Result ℕ OrdersFault
+told_reading (Ok n) = Ok n
+told_reading (Err error) = Err (fault_of_kind (error_kind error))

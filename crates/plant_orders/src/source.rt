@@ -2,7 +2,7 @@
 ghost use Rattle.std.specs.Prelude.{◌≡◌, ◌≢◌, IfOk, IfErr, IfSome, Ok};
 ghost use Rattle.std.specs.IoError.{error_kind};
 ghost use Rattle.plant_orders.specs.Orders.{orders_of};
-ghost use Rattle.plant_orders.specs.Telling.{TellsOf};
+ghost use Rattle.plant_orders.specs.Telling.{TellsOf, fault_of_kind, told_reading};
 
 use crate::fault::{CsvFault, CsvKind};
 use crate::read::{LONGEST_FILE, read_orders};
@@ -39,12 +39,21 @@ fn fault_of(fault: CsvFault) -> OrdersFault
 
 /// What a failed reading to the end is told as.
 fn read_fault(error: &io::Error) -> OrdersFault
-    ensures memory { error_kind error.now ≡ ErrorKind.OutOfMemory → result ≡ OrdersFault.Memory }
-    ensures read { error_kind error.now ≢ ErrorKind.OutOfMemory → result ≡ OrdersFault.Read }
+    ensures { result ≡ fault_of_kind (error_kind error.now) }
 {
     match error.kind() {
         ErrorKind::OutOfMemory => OrdersFault::Memory,
         _ => OrdersFault::Read,
+    }
+}
+
+/// How many bytes a reading to the end gave, or what its error is told as.
+fn told_reading(reading: io::Result<usize>) -> Result<usize, OrdersFault>
+    ensures { result ≡ told_reading reading }
+{
+    match reading {
+        Ok(n) => Ok(n),
+        Err(error) => Err(read_fault(&error)),
     }
 }
 
@@ -60,10 +69,8 @@ pub fn orders_from<R: Read>(alloc: Global, reader: &mut R) -> Result<Items<Order
 {
     let mut bytes = Vec::new(alloc);
     let mut front = reader.take(LONGEST_FILE as u64 + 1);
-    match front.read_to_end(&mut bytes) {
-        Ok(_) => orders_in(alloc, &bytes),
-        Err(error) => Err(read_fault(&error)),
-    }
+    told_reading(front.read_to_end(&mut bytes))?;
+    orders_in(alloc, &bytes)
 }
 
 /// The orders of a file that was read.

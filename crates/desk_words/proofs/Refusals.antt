@@ -1,12 +1,13 @@
 -- Which refusals clap's kinds lead to.
-use Rattle.std.proofs.Common.{◌≡◌, Bool, true, false, List, [], ◌∷◌, inl, inr, None, ap, sym, ◌∙◌, rules}
+use Rattle.std.proofs.Common.{◌≡◌, Bool, true, false, List, [], ◌∷◌, inl, inr, None, ap, sym, ◌∙◌, refl, subst, rules}
 use Rattle.std.specs.List.{list_any}
 use Rattle.clap.specs.Kinds.{HasKind, IsAmong, Kinds}
 use Rattle.clap.specs.Words.{Text, fault_of, kind_of, subcommand_of}
 use Rattle.clap.specs.declared.error.Error.{Error}
 use Rattle.clap.specs.declared.error.kind.ErrorKind.{ErrorKind}
+use Rattle.clap.specs.declared.error.kind.ErrorKind.TheVariants as kind
 use Rattle.desk_words.specs.CommandLine.{the_program}
-use Rattle.desk_words.specs.Meaning.{IsFaultOf, IsNotHelp, IsRefusedBy, asks_help, is_mistake, meant_in}
+use Rattle.desk_words.specs.Meaning.{IsFaultOf, IsNotHelp, IsRefusedBy, asks_help, is_mistake, meant_in, told_as}
 use Rattle.desk_words.specs.declared.meaning.WordsFault.{WordsFault}
 use Rattle.desk_words.specs.declared.meaning.WordsFault.TheVariants.{Usage, Help, Memory}
 
@@ -15,6 +16,14 @@ any_among : (p : ErrorKind → Bool) (k : ErrorKind) (ks : Kinds) → IsAmong k 
 any_among p k [] h e = absurd h
 any_among p k (x ∷ xs) (inl same) e = let first : p x ≡ true = sym (ap p same) ∙ e in search (rules, first)
 any_among p k (x ∷ xs) (inr later) e = let rest = any_among p k xs later e in search (rules, rest)
+
+-- what tells an error by its text is a fault of it
+pub told_fault : (k : ErrorKind) (usage help fault : WordsFault) → fault ≡ told_as k usage help
+    → (is_mistake k ≡ true → IsFaultOf k usage) → (asks_help k ≡ true → IsFaultOf k help) → IsFaultOf k fault
+told_fault kind.OutOfMemory usage help fault is mistake helps = subst (IsFaultOf kind.OutOfMemory) (sym is) tt
+told_fault kind.DisplayHelp usage help fault is mistake helps = subst (IsFaultOf kind.DisplayHelp) (sym is) (helps refl)
+told_fault kind.DisplayVersion usage help fault is mistake helps = subst (IsFaultOf kind.DisplayVersion) (sym is) (helps refl)
+told_fault k usage help fault is mistake helps = rw is (mistake refl)
 
 pub refused_by : (words : List Text) (fault : WordsFault) (e : Error) → HasKind (fault_of the_program words) e
     → IsFaultOf (kind_of e) fault → IsRefusedBy words fault

@@ -120,6 +120,13 @@ IsFaultOf k (Usage text) = is_mistake k ≡ true
 IsFaultOf k (Help text) = asks_help k ≡ true
 IsFaultOf k Memory = Unit {0}
 
+-- the fault that tells an error of this kind, of these two, which tell its text as a mistake and as help
+abbrev pub told_as : ErrorKind → WordsFault → WordsFault → WordsFault
+told_as kind.OutOfMemory usage help = Memory
+told_as kind.DisplayHelp usage help = help
+told_as kind.DisplayVersion usage help = help
+told_as _ usage help = usage
+
 abbrev pub IsNotHelp : WordsFault → Type 0
 IsNotHelp (Help text) = ⊥
 IsNotHelp _ = Unit {0}

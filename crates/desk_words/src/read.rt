@@ -2,7 +2,7 @@
 ghost use Rattle.std.specs.Prelude.{◌≡◌, IfErr, IfOk, Some, [], map};
 ghost use Rattle.clap.specs.Words.{fault_of, kind_of, subcommand_of};
 ghost use Rattle.desk_words.specs.CommandLine.{the_program};
-ghost use Rattle.desk_words.specs.Meaning.{IsFaultOf, IsNotHelp, IsRefusedBy, meant_in, words_meant};
+ghost use Rattle.desk_words.specs.Meaning.{IsFaultOf, IsNotHelp, IsRefusedBy, meant_in, told_as, words_meant};
 
 use crate::command_line::command_line;
 use crate::matched::words_in;
@@ -25,9 +25,16 @@ fn refusal_of(alloc: Global, error: Error) -> WordsFault
     ensures { IsFaultOf (kind_of error) result }
 {
     let kind = error.kind();
-    let Ok(text) = error.to_string(alloc) else {
-        return WordsFault::Memory;
-    };
+    match error.to_string(alloc) {
+        Ok(text) => told_as(kind, text),
+        Err(_) => WordsFault::Memory,
+    }
+}
+
+/// The fault that tells an error of this kind by its text.
+fn told_as(kind: ErrorKind, text: String) -> WordsFault
+    ensures { result ≡ told_as kind (WordsFault.Usage text) (WordsFault.Help text) }
+{
     match kind {
         ErrorKind::OutOfMemory => WordsFault::Memory,
         ErrorKind::DisplayHelp | ErrorKind::DisplayVersion => WordsFault::Help(text),

@@ -44,6 +44,14 @@ class Check:
         ran = subprocess.run([self.program], input=told, capture_output=True, timeout=SECONDS)
         self.expect(name, ran, status, output)
 
+    def takes_no_word(self):
+        """Runs the program with a word, of which it may not read its input first: that doesn't end."""
+        reading, writing = os.pipe()
+        ran = subprocess.run([self.program, "orders.csv"], stdin=reading, capture_output=True, timeout=SECONDS)
+        os.close(reading)
+        os.close(writing)
+        self.expect("a word", ran, 2, b"", b"usage: %s < FILE\n" % os.path.basename(self.program).encode())
+
     def tells_of_an_endless_input(self, status, output):
         """Runs the program on line ends that don't end."""
         with subprocess.Popen(["yes", ""], stdout=subprocess.PIPE) as endless:
@@ -68,13 +76,17 @@ class Check:
 def check_orders(check):
     check.tells("a fault in words", FAULTY_ORDERS, 1, b"csv row 2 Due\n")
     check.tells("a longest file", b"\n" * LONGEST, 1, b"csv row 0 Header\n")
+    check.tells("a file of more than 4 MB", b"\n" * (5 << 20), 1, b"csv row 0 TooLong\n")
     check.tells_of_an_endless_input(1, b"csv row 0 TooLong\n")
+    check.takes_no_word()
     check.tells_a_failed_read()
     check.tells_a_failed_write(FAULTY_ORDERS)
 
 
 def check_lines(check):
     check.tells("good lines", GOOD_LINES, 0, b"1 commands, 2 questions\n")
+    check.tells("lines of more than 4 MB", b'{"ask":"desk"}\n' * 400_000, 0, b"0 commands, 400000 questions\n")
+    check.takes_no_word()
     check.tells("a longer line", b" " * (LONGEST + 1), 1, b"line 1: longer than 262144 bytes\n")
     check.tells("a longest line", b" " * LONGEST, 1, b"line 1: not a JSON text\n")
     check.tells_a_failed_read()

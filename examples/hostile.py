@@ -14,6 +14,7 @@ import socket
 import sqlite3
 import sys
 import tempfile
+import time
 
 from sessions import ASK, LOWER, NEW, POST, Check, Session, answered, connected, lines_of, rest_of, written
 
@@ -41,6 +42,17 @@ DAMAGES = [
     "UPDATE meta SET seq = 17",
     "DELETE FROM edge WHERE kind = 2",
 ]
+
+# The edges of the twenty commands.
+EDGES = [(1, "F-1", "B-1"), (2, "B-1", "D-1"), (3, "D-1", "D-2"), (3, "D-1", "D-3"), (3, "D-2", "D-3")]
+
+# How many seconds a client may hold the server that says nothing, with what else a busy machine takes; and how many a client may pause.
+MOST_HELD = 20
+PAUSE = 2
+
+# How many seconds the server waits at least for the end of its last client, and how often this is looked at where the machine is busy.
+LAST_WAIT = 0.9
+ATTEMPTS = 5
 
 # What is answered with each status, where no body but the status is told.
 PHRASES = {
@@ -132,6 +144,9 @@ def damages_are_named(check, session):
     """Breaks each rule in turn in a file of twenty commands."""
     first, file = check.room / "twenty.db", check.room / "damaged.db"
     check.expect("twenty commands", check.run("run", first.name, told=session.told), (0, session.wanted, b""))
+    store = sqlite3.connect(first)
+    check.expect("their edges", store.execute("SELECT kind, a, b FROM edge ORDER BY kind, a, b").fetchall(), EDGES)
+    store.close()
     for number, statement in enumerate(DAMAGES, 1):
         shutil.copyfile(first, file)
         changed(file, statement)
@@ -213,6 +228,60 @@ def answers_outlive_what_is_not_read(check):
         server.communicate()
 
 
+def clients_may_be_slow(check):
+    """Serves a client behind one that says nothing, and one that pauses; and from no other address than 127.0.0.1."""
+    server, port, _ = check.serving(":memory:", 1 + 4)
+    try:
+        for address in ["127.0.0.2", "127.1.2.3"]:
+            check.expect(f"a connection to {address}", is_refused(address, port), True)
+        with connected(port) as silent:
+            began = time.monotonic()
+            check.expect("a client behind one that says nothing", answered(port, ASK), NEW)
+            held = time.monotonic() - began
+            check.expect(f"it is served within a bound, {held}", held < MOST_HELD, True)
+            check.expect("the one that says nothing", rest_of(silent), b"")
+        with connected(port) as slow:
+            slow.sendall(ASK[:9])
+            time.sleep(PAUSE)
+            slow.sendall(ASK[9:])
+            check.expect("a client that pauses", rest_of(slow), NEW)
+        check.expect("two requests behind one another", answered(port, ASK + ASK), NEW)
+        check.expect("its server", server.wait(timeout=60), 0)
+    finally:
+        server.kill()
+        server.communicate()
+
+
+def the_last_client_is_waited_for(check):
+    """Sends less than was promised, as the last client, and looks whether the server waits for the rest behind its answer."""
+    for _ in range(ATTEMPTS):
+        server, port, _ = check.serving(":memory:", 2)
+        try:
+            with connected(port) as last:
+                last.sendall(HOST + b"Content-Length: 50000\r\n\r\n")
+                found, began = rest_of(last), time.monotonic()
+                time.sleep(LAST_WAIT / 3)
+                has_ended = server.poll() is not None
+                is_judged = time.monotonic() - began < LAST_WAIT
+            status = server.wait(timeout=60)
+        finally:
+            server.kill()
+            server.communicate()
+        if is_judged:
+            break
+    check.expect("the last client's answer", found, NEW)
+    check.expect("the last client is waited for", (is_judged, has_ended, status), (True, False, 0))
+
+
+def is_refused(address, port):
+    """Returns whether no connection to this address is taken."""
+    try:
+        socket.create_connection((address, port), 5).close()
+    except ConnectionRefusedError:
+        return True
+    return False
+
+
 def main(program):
     session = written(HERE / "sessions" / "a_batch_runs_to_its_close.txt")
     with tempfile.TemporaryDirectory() as room:
@@ -222,6 +291,8 @@ def main(program):
         fronts_are_bad(check)
         limits_are_kept(check)
         answers_outlive_what_is_not_read(check)
+        clients_may_be_slow(check)
+        the_last_client_is_waited_for(check)
     print(f"hostile: {check.passed} passed, {check.failed} failed")
     return 1 if check.failed else 0
 

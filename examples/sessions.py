@@ -220,10 +220,10 @@ def limits():
 
 def traces():
     """Returns sessions of traces along more nodes than are looked up one by one: in a chain of splits, and in a fan of them."""
-    lots, more = [f"C-{it:03}" for it in range(600)], [f"D-{it:03}" for it in range(600)]
+    lots, more = [f"C-{it:03}" for it in range(600)], [f"D-{it:04}" for it in range(2000)]
     chain = Session("a long chain is traced both ways").accepted(*GOODS, received(lots[0], 1000))
     chain.accepted(*[split(lots[it - 1], 1000 - it, lots[it]) for it in range(1, 600)])
-    fan = Session("a wide fan is traced both ways").accepted(*GOODS, received("C-000", 1000))
+    fan = Session("a wide fan is traced both ways").accepted(*GOODS, received("C-000", 2000))
     fan.accepted(*[split("C-000", 1, it) for it in more])
     for session, last, forward, back in [(chain, lots[-1], lots[1:], lots[:-1]), (fan, more[-1], more, ["C-000"])]:
         session.asked('{"ask":"forward","lot":"C-000"}', traced(forward))
@@ -243,7 +243,7 @@ def lines():
         Session("a line of a carriage return and another", b"\r\r\n", BAD_FORM),
         Session("a last line of a carriage return", b"\r", BAD_FORM),
         Session("a blank is no line", b" \n", BAD_FORM),
-        Session("text is UTF-8", b'{"ask":"de\xffsk"}\n', BAD_FORM),
+        Session("text is UTF-8, and what is none ends nothing", b'{"ask":"de\xffsk"}\n' + DESK + b"\n", BAD_FORM + NEW_DESK),
         Session("a question has no other member", b'{"ask":"desk","x":1}\n', BAD_FORM),
         Session("an id is in capitals", b'{"ask":"lot","lot":"l-1"}\n', BAD_FORM),
         Session("a line is JSON", b"nonsense\n", BAD_FORM),

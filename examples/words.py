@@ -1,0 +1,149 @@
+#!/usr/bin/env python3
+"""Gives the built desk words that it can't follow: files that hold no desk, a port that is taken, numbers out of their range, and help.
+
+    examples/words.py PROGRAM
+"""
+import os
+import pathlib
+import re
+import shlex
+import socket
+import sqlite3
+import subprocess
+import sys
+import tempfile
+
+from sessions import SECONDS, Check
+
+STORE = (3, b"", b"fault: store\n")
+
+# How the usage of each word stands in its help, behind the program's name: the arguments in their order.
+USAGES = {
+    "init": "init <FILE>",
+    "run": "run <FILE>",
+    "import": "import [OPTIONS] --at <N> <FILE>",
+    "trace": "trace <FILE> <DIRECTION> <LOT>",
+    "record": "record <FILE> <BATCH>",
+    "verify": "verify <FILE>",
+    "serve": "serve <FILE> <PORT> <COUNT>",
+}
+
+# Words whose values are out of their range, or are none.
+WRONG_VALUES = [
+    ["serve", "wrong.db", "0", "1"],
+    ["serve", "wrong.db", "65536", "1"],
+    ["serve", "wrong.db", "8080", "0"],
+    ["serve", "wrong.db", "8080", "1000001"],
+    ["serve", "wrong.db", "x", "1"],
+    ["import", "wrong.db", "--at", "x"],
+    ["import", "wrong.db", "--at", "253402300800"],
+    ["import", "wrong.db", "--at", "1", "--by", "a" * 61],
+    ["trace", "wrong.db", "up", "L-1"],
+    ["trace", "wrong.db", "back", "l-1"],
+    ["record", "wrong.db", "b-1"],
+]
+
+
+class Words(Check):
+    """The built desk, in a directory of its own."""
+
+    def files_may_hold_no_desk(self):
+        """Names a folder, a file of text, and one in a folder that isn't there."""
+        (self.room / "folder").mkdir()
+        text = self.room / "text"
+        text.write_bytes(b"FLOUR 500 kg\n" * 500)
+        for words in [["init"], ["run"], ["verify"], ["record", "B-1"], ["trace", "back", "L-1"], ["import", "--at", "1"], ["serve", "8080", "1"]]:
+            for name in ["folder", "text", "nowhere/plant.db"]:
+                self.expect(f"{words[0]} of {name}", self.run(words[0], name, *words[1:]), STORE)
+        self.expect("a text stays", text.read_bytes(), b"FLOUR 500 kg\n" * 500)
+
+    def a_view_may_stand_beside(self):
+        """Makes a desk in a file that has a view and a table of other names, which stay."""
+        file = self.room / "view.db"
+        store = sqlite3.connect(file)
+        store.executescript("CREATE TABLE shift (id TEXT); CREATE VIEW shifts AS SELECT id FROM shift; INSERT INTO shift VALUES ('night')")
+        store.close()
+        self.expect("init beside a view", self.run("init", file.name), (0, b"ready schema 2\n", b""))
+        told = b'{"at":1,"by":"","do":"add_class","class":"RAW","name":""}\n'
+        self.expect("run beside a view", self.run("run", file.name, told=told), (0, b'{"ok":1}\n', b""))
+        self.expect("verify beside a view", self.run("verify", file.name), (0, b"good schema 2 seq 1\n", b""))
+        store = sqlite3.connect(file)
+        self.expect("the view", store.execute("SELECT * FROM shifts").fetchall(), [("night",)])
+        store.close()
+
+    def words_are_text(self):
+        """Gives a word that is no UTF-8, in each place."""
+        for words in [[b"run", b"\xff.db"], [b"\xff"], [b"import", b"a.db", b"--at", b"\xff"]]:
+            self.expect(f"{words}", self.run(*words), (2, b"", b"error: a word is not UTF-8\n"))
+
+    def a_port_may_be_taken(self):
+        """Serves at a port that another program listens on."""
+        with socket.socket() as other:
+            other.bind(("127.0.0.1", 0))
+            other.listen()
+            port = other.getsockname()[1]
+            self.expect("a port that is taken", self.run("serve", "taken.db", str(port), "1"), (3, b"", b"fault: net\n"))
+
+    def input_may_fail(self):
+        """Gives a folder, of which no byte can be read, as standard input."""
+        for words in [["import", ":memory:", "--at", "1"], ["run", ":memory:"]]:
+            folder = os.open("/", os.O_RDONLY)
+            ran = subprocess.run([self.program, *words], stdin=folder, capture_output=True, cwd=self.room, timeout=SECONDS)
+            os.close(folder)
+            self.expect(f"{words[0]} of a folder", (ran.returncode, ran.stdout, ran.stderr), (3, b"", b"fault: read\n"))
+
+    def values_have_ranges(self):
+        """Gives values that are none: the words are told as wrong, and no file is made."""
+        for words in WRONG_VALUES:
+            status, output, errors = self.run(*words)
+            told = errors.startswith(b"error: ") and errors.endswith(b"For more information, try '--help'.\n")
+            self.expect(f"{words}, {errors}", (status, output, told), (2, b"", True))
+        self.expect("no file is made", (self.room / "wrong.db").exists(), False)
+
+    def help_is_true(self):
+        """Asks each word for help: its arguments stand in their order, and its example is understood."""
+        name = os.path.basename(self.program)
+        (self.room / "shift.jsonl").write_bytes(b'{"ask":"desk"}\n')
+        (self.room / "orders.csv").write_bytes(b"order,recipe,version,size,due,priority\n")
+        for word, usage in USAGES.items():
+            status, output, errors = self.run(word, "--help")
+            text = output.decode()
+            self.expect(f"{word} --help", (status, errors), (0, b""))
+            self.expect(f"the usage of {word}", re.findall(r"^Usage: (.*)$", text, re.M), [f"{name} {usage}"])
+            self.expect(f"the arguments of {word}", listed(text), re.findall(r"<\w+>", usage.split("--at <N>")[-1]))
+            [example] = re.findall(r"^Example: desk (.*)$", text, re.M)
+            self.example_is_understood(word, *example.split(" < "))
+
+    def example_is_understood(self, word, words, file=None):
+        """Runs the words of an example, but for those that serve, which a port of 0 keeps from it."""
+        words = shlex.split(words)
+        self.expect(f"the example of {word}", words[0], word)
+        if word == "serve":
+            words = [*words[:2], "0", *words[3:]]
+        told = (self.room / file).read_bytes() if file else b""
+        status, _, errors = self.run(*words, told=told)
+        self.expect(f"the example of {word}, {errors}", status, {"serve": 2, "trace": 1, "record": 1}.get(word, 0))
+
+
+def listed(text):
+    """Returns the arguments that a help lists, in their order."""
+    found = re.search(r"^Arguments:\n((?:  .*\n)+)", text, re.M)
+    return re.findall(r"^  (<\w+>)", found[1], re.M)
+
+
+def main(program):
+    with tempfile.TemporaryDirectory() as room:
+        check = Words(pathlib.Path(program).resolve(), pathlib.Path(room))
+        check.files_may_hold_no_desk()
+        check.a_view_may_stand_beside()
+        check.words_are_text()
+        check.a_port_may_be_taken()
+        check.input_may_fail()
+        check.values_have_ranges()
+        check.help_is_true()
+    print(f"words: {check.passed} passed, {check.failed} failed")
+    return 1 if check.failed else 0
+
+
+if __name__ == "__main__":
+    sys.exit(main(*sys.argv[1:]))

@@ -1,0 +1,46 @@
+#!/usr/bin/env python3
+"""Asks a desk over a file and a run over the keeper of lists every question about every id, after the same twenty commands.
+
+    examples/keepers.py PROGRAM LISTS
+
+LISTS is the built bench_lists. Both have to print the same, byte for byte.
+"""
+import pathlib
+import re
+import subprocess
+import sys
+import tempfile
+
+from hostile import HERE, twenty_of
+from sessions import SECONDS, Check, written
+
+# What may be asked about an id.
+QUESTIONS = [
+    '{"ask":"lot","lot":"%s"}',
+    '{"ask":"order","order":"%s"}',
+    '{"ask":"batch","batch":"%s"}',
+    '{"ask":"back","lot":"%s"}',
+    '{"ask":"forward","lot":"%s"}',
+    '{"ask":"back","batch":"%s"}',
+    '{"ask":"forward","batch":"%s"}',
+]
+
+
+def main(program, lists):
+    session = twenty_of(written(HERE / "sessions" / "a_batch_runs_to_its_close.txt"))
+    ids = sorted(set(re.findall(rb'"([A-Z][A-Z0-9-]*)"', session.told))) + [b"X-9"]
+    questions = ['{"ask":"desk"}'] + [it % name.decode() for name in ids for it in QUESTIONS]
+    told = session.told + "".join(it + "\n" for it in questions).encode()
+    with tempfile.TemporaryDirectory() as room:
+        check = Check(pathlib.Path(program).resolve(), pathlib.Path(room))
+        status, answers, errors = check.run("run", "twenty.db", told=told)
+        ran = subprocess.run([pathlib.Path(lists).resolve()], input=told, capture_output=True, timeout=SECONDS)
+        check.expect("a desk over a file", (status, answers.startswith(session.wanted), errors), (1, True, b""))
+        check.expect("its answers", answers.count(b"\n"), 20 + len(questions))
+        check.expect("the keeper of lists", (ran.returncode, ran.stdout, ran.stderr), (1, answers, b""))
+    print(f"keepers: {check.passed} passed, {check.failed} failed, of {len(questions)} questions")
+    return 1 if check.failed else 0
+
+
+if __name__ == "__main__":
+    sys.exit(main(*sys.argv[1:]))

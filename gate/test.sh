@@ -1,7 +1,8 @@
 #!/usr/bin/env bash
 # The gate: that the programs are run on what stands in examples/ and that each edit can still be applied, then, from nothing,
-# every proof, every must-fail edit, every test and the programs, and then sessions of the built desk, damaged files and broken
-# requests, the two built checks on long inputs and streams that fail, and the examples of the documents.
+# every proof, every must-fail edit, every test and the programs, and then sessions of the built desk, words that it can't follow, both
+# keepers side by side, its limits, damaged files and broken requests, the two built checks on long inputs and streams that fail, and
+# the examples of the documents.
 set -eu
 cd "$(dirname "$0")/.."
 began=$SECONDS
@@ -15,6 +16,8 @@ rt ci
 proved=$SECONDS
 desk=crates/desk/out/desk
 examples/sessions.py $desk
+examples/words.py $desk
+examples/keepers.py $desk crates/bench_lists/out/bench_lists
 examples/hostile.py $desk
 examples/checks.py crates/order_check/out/order_check crates/line_check/out/line_check
 examples/run.py $desk README.md docs/EXAMPLES.md

@@ -11,8 +11,8 @@ import re
 WORDS = {
     "plant_desk.Keeping": ["IsSameDesk", "States", "Executes", "Asks", "shuts", "writes_nothing"],
     "plant_desk_store.Standing": ["Leaves", "Stands", "IsOpenAt", "FindsState", "OthersStand", "IsBeside"],
-    "plant_desk_store.Adopting": ["AdoptedFrom"],
-    "plant_desk_store.Laws": ["StopsAreReopened"],
+    "plant_desk_store.Adopting": ["AdoptedFrom", "Adopts"],
+    "plant_desk_store.Laws": ["StopsAreReopened", "GoodIsAdoptedAgain", "OpeningIsAdopted", "OthersAreSpared"],
     "plant_trace.Reach": ["IsReached", "Lists"],
 }
 

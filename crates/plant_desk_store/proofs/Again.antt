@@ -27,6 +27,7 @@ use Rattle.plant_tables_stored.specs.Loading.{AreLoaded}
 use Rattle.plant_tables_stored.proofs.Versions.{one_version, each_free, free_tells_nothing}
 use Rattle.plant_good_passes.proofs.Unbroken.{read_good}
 use Rattle.plant_desk_store.specs.Adopting.{HoldsGood, IsRefusedBy, IsFirstBroken}
+use Rattle.plant_desk_store.specs.Laws.{IsAdoptable}
 use Rattle.plant_check.specs.declared.rule.Rule.{Rule}
 use Rattle.plant_desk_store.specs.declared.adopting.AdoptFault.{AdoptFault}
 use Rattle.plant_desk_store.specs.declared.adopting.AdoptFault.TheVariants as fault
@@ -41,7 +42,7 @@ low_held db form rows sound stands = let few = below db.schema db.trees sound (t
 table_held : (db : Database) (form : Form) (rows : List Row) → IsSound db.schema db.trees → Stands db form rows → HasTable db.schema form
 table_held db form rows sound stands = record { at = stands.at; tree = stands.tree; declared = stands.declared; low = low_held db form rows sound stands }
 
-pos_le : (m n : ℕ) → m ≤ n → pos m ≤ℤ pos n
+pub pos_le : (m n : ℕ) → m ≤ n → pos m ≤ℤ pos n
 pos_le m n h = le_z_yes (le→leb m n h)
 
 pos_same : (m n : ℕ) → pos m ≡ pos n → m ≡ n
@@ -104,5 +105,5 @@ module _ (version : ℕ) (db : Database) (s : State) (held : HoldsGood version d
     unrefused_here (fault.Damaged r) refused = absurd (unbroken_here r refused.broken)
     unrefused_here fault.Memory refused = inr refl
 
-pub unrefused : (version : ℕ) (db : Database) (s : State) → HoldsGood version db s → All (IsFree db.schema) (later_forms version) → (f : AdoptFault) → IsRefusedBy db f → (f ≡ fault.Store) ⊎ (f ≡ fault.Memory)
-unrefused = unrefused_here
+pub unrefused : (version : ℕ) (db : Database) (s : State) → IsAdoptable version db s → (f : AdoptFault) → IsRefusedBy db f → (f ≡ fault.Store) ⊎ (f ≡ fault.Memory)
+unrefused version db s adoptable = unrefused_here version db s adoptable.held adoptable.free

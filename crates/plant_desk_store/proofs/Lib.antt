@@ -3,6 +3,7 @@ pub mod Finding
 pub mod Fitting
 pub mod Judging
 pub mod Lasting
+pub mod Leaving
 pub mod OneSchema
 pub mod Others
 pub mod Raising
@@ -10,3 +11,4 @@ pub mod Reopening
 pub mod Resting
 pub mod Showing
 pub mod Stepping
+pub mod Telling

@@ -1,10 +1,7 @@
 -- What comes of the tables of a schema that are judged, and of good ones that are raised.
 use Rattle.std.proofs.Common.{◌≡◌, ◌∙◌, ℕ, ◌≤◌, ℤ, pos, Result, Ok, Err, OnOk, OnErr, IfErr, refl, sym, subst, inl, inr, arith}
 use Rattle.std.specs.Prelude.{◌⊎◌}
-use Rattle.std.specs.Int.Signed.{◌≤ℤ◌}
 use Rattle.std.proofs.Math.Nat.{eq-or-lt_of_le}
-use lib.Dec.{leb→le}
-use lib.IntN.{negsuc}
 use Rattle.sqlite.specs.Tree.{Trees}
 use Rattle.sqlite.specs.Effect.{Database}
 use Rattle.sqlite.specs.State as store
@@ -58,14 +55,6 @@ names_none db (Err f) known = elim known [
 ]
 
 -- ---- the version
-
--- the version that meta tells is a number from 1
-pub version_number : (db : Database) (v : ℤ) → IsVersion db v → (n : ℕ) × (v ≡ pos n) × (1 ≤ n)
-version_number db v told = from v (subst (λ z. pos 1 ≤ℤ z) told.tells told.good.schema_low)
-  where
-    from : (z : ℤ) → pos 1 ≤ℤ z → (n : ℕ) × (z ≡ pos n) × (1 ≤ n)
-    from (pos n) low = (n, refl, leb→le 1 n low.le)
-    from (negsuc n) low = absurd low.le
 
 -- tables that aren't to be raised, of no version above the newest, are of the newest
 pub newest_told : (db : Database) (version : ℕ) → IsUnraised db → IsVersion db (pos version) → version ≤ newest_schema → version ≡ newest_schema

@@ -1,20 +1,80 @@
 -- What is opened over what a stop left.
-use Rattle.std.proofs.Common.{◌≡◌, sym, subst}
+use Rattle.std.proofs.Common.{◌≡◌, ◌<◌, ◌≤◌, ℕ, inl, inr, refl, sym, ap, ap₂, subst, arith}
+use Rattle.std.specs.Prelude.{◌⊎◌, All}
 use Rattle.sqlite.specs.Tree.{Trees}
 use Rattle.sqlite.specs.Schema.{Schema}
 use Rattle.sqlite.specs.Effect.{Database, IsDatabase}
 use Rattle.sqlite_catalog.specs.Listing.{IsSound}
-use Rattle.plant_base.specs.State.{State, newest_schema}
-use Rattle.plant_view.specs.Tables.{tables_of}
+use Rattle.plant_base.specs.State.{State, opening, newest_schema}
+use Rattle.plant_view.specs.Tables.{Tables, tables_of}
 use Rattle.plant_good.specs.Good.{IsGood}
-use Rattle.plant_tables.specs.Keyed.{HoldsTables}
-use Rattle.plant_desk_store.specs.Standing.{FindsState}
+use Rattle.plant_good.proofs.StepGood.{opening_good}
+use Rattle.table_forms.specs.Standing.{AreFree, IsFree, KeepsOthers}
+use Rattle.plant_tables.specs.DeskForms.{desk_forms, later_forms}
+use Rattle.plant_tables.specs.DeskStopping.{FindsOf}
+use Rattle.plant_tables.specs.Keyed.{HoldsTablesOf}
+use Rattle.plant_tables_stored.specs.Version.{IsKnown}
+use Rattle.plant_desk_store.specs.Adopting.{HoldsGood, IsRaised}
+use Rattle.plant_desk_store.specs.Laws.{IsAdoptable, IsOpenedAfter}
+use Rattle.plant_desk_store.specs.Standing.{FindsStateOf}
+use Rattle.plant_desk_store.proofs.Again.{not_free, one_told, version_held}
 use Rattle.plant_desk_store.proofs.OneSchema.{one_schema}
+use Rattle.plant_desk_store.proofs.Others.{keeps_itself}
 
-pub reopened : (trees : Trees) (s : State) → FindsState trees s → (db : Database) → db.trees ≡ trees → IsDatabase db → IsGood s × HoldsTables db (tables_of newest_schema s)
-reopened trees s finds db same sound =
-    let listed : finds.schema ≡ db.schema = one_schema finds.schema db.schema trees finds.holds.sound (subst (IsSound db.schema) same sound) in (
-      finds.good,
-      subst (λ (found : Trees). HoldsTables (record { schema = db.schema; trees = found }) (tables_of newest_schema s)) (sym same)
-          (subst (λ (schema : Schema). HoldsTables (record { schema = schema; trees = trees }) (tables_of newest_schema s)) listed finds.holds),
-    )
+abbrev database_of : Schema → Trees → Database
+database_of schema trees = record { schema = schema; trees = trees }
+
+-- sound databases over the same trees are one
+same_database : (a b : Database) → IsDatabase a → IsDatabase b → b.trees ≡ a.trees → b ≡ a
+same_database a b sound other same =
+    let listed : b.schema ≡ a.schema = one_schema b.schema a.schema a.trees (subst (IsSound b.schema) same other) sound in
+    ap₂ database_of listed same
+
+pub reopened : (version : ℕ) (trees : Trees) (s : State) → IsKnown version → (finds : FindsStateOf version trees s) → (db : Database) → db.trees ≡ trees → IsDatabase db → HoldsGood version db s × (db.schema ≡ finds.schema)
+reopened version trees s known finds db same sound =
+    let found : Database = record { schema = finds.schema; trees = trees } in
+    let is : db ≡ found = same_database found db finds.holds.sound sound same in
+    ((known, finds.good, subst (λ (d : Database). HoldsTablesOf version d (tables_of version s)) (sym is) finds.holds), ap (λ (d : Database). d.schema) is)
+
+-- no table is added after the newest schema
+none_later : (later : ℕ) (schema : Schema) → later ≡ 2 → All (IsFree schema) (later_forms later)
+none_later later schema newest = subst (λ k. All (IsFree schema) (later_forms k)) (sym newest) (λ i d low. let none : i < 0 = low in absurd (omega (arith, none)))
+
+-- ---- adopted, stopped, opened again
+
+module _ (old db : Database) (sound : IsDatabase db) where
+  -- what is to be found in the trees stands in the database that is opened over them
+  found_here : (version : ℕ) (t : Tables) → FindsOf version old db.trees t → HoldsTablesOf version db t × KeepsOthers desk_forms old db
+  found_here version t finds =
+      let found : Database = record { schema = finds.schema; trees = db.trees } in
+      let is : db ≡ found = same_database found db finds.holds.sound sound refl in
+      (subst (λ (d : Database). HoldsTablesOf version d t) (sym is) finds.holds, subst (KeepsOthers desk_forms old) (sym is) finds.others)
+
+  raised_here : (version : ℕ) (s : State) → HoldsGood version old s → (raised : IsRaised old db.trees) → (later : ℕ) × (version ≤ later) × IsAdoptable later db s × KeepsOthers desk_forms old db
+  raised_here version s held raised =
+      let one : raised.version ≡ version = one_told version old s held raised.version (version_held raised.version old raised.stood.0 raised.stood.1) in
+      let here : HoldsGood raised.version old s = subst (λ k. HoldsGood k old s) (sym one) held in
+      let stands = found_here raised.later (tables_of raised.later s) (raised.finds s here) in
+      let low : 1 ≤ raised.version = raised.stood.1.0.0 in
+      let newest : raised.later ≡ 2 = omega (arith, low, raised.above, raised.known) in
+      let known : IsKnown raised.later = (omega (arith, low, raised.above), raised.known) in
+      (raised.later, omega (arith, one, raised.above), record { held = (known, held.1, stands.0); free = none_later raised.later db.schema newest }, stands.1)
+
+pub adopted_again : (version : ℕ) (old : Database) (s : State) → IsAdoptable version old s → (db : Database) → IsOpenedAfter old db → (later : ℕ) × (version ≤ later) × IsAdoptable later db s × KeepsOthers desk_forms old db
+adopted_again version old s adoptable db (sound, inl same) =
+    let is : db ≡ old = same_database old db adoptable.held.2.sound sound same in
+    (version, omega arith, subst (λ (d : Database). IsAdoptable version d s) (sym is) adoptable, subst (KeepsOthers desk_forms old) (sym is) (keeps_itself old))
+adopted_again version old s adoptable db (sound, inr (inl made)) = absurd (not_free version old s adoptable.held made.free)
+adopted_again version old s adoptable db (sound, inr (inr raised)) = raised_here old db sound version s adoptable.held raised
+
+pub opening_adopted : (old : Database) → IsDatabase old → AreFree desk_forms old.schema → (db : Database) → IsOpenedAfter old db → (db ≡ old) ⊎ (IsAdoptable newest_schema db opening × KeepsOthers desk_forms old db)
+opening_adopted old was free db (sound, inl same) = inl (same_database old db was sound same)
+opening_adopted old was free db (sound, inr (inl made)) =
+    let stands = found_here old db sound newest_schema (tables_of newest_schema opening) made.finds in
+    inr (record { held = ((omega arith, omega arith), opening_good, stands.0); free = none_later newest_schema db.schema refl }, stands.1)
+opening_adopted old was free db (sound, inr (inr raised)) = absurd (not_free raised.version old raised.stood.0 raised.stood.1 free)
+
+pub others_spared : (old : Database) → IsDatabase old → (AreFree desk_forms old.schema → ⊥) → ((version : ℕ) (s : State) → ¬ HoldsGood version old s) → (db : Database) → IsOpenedAfter old db → db ≡ old
+others_spared old was taken none db (sound, inl same) = same_database old db was sound same
+others_spared old was taken none db (sound, inr (inl made)) = absurd (taken made.free)
+others_spared old was taken none db (sound, inr (inr raised)) = absurd (none raised.version raised.stood.0 raised.stood.1)

@@ -9,8 +9,8 @@ use Rattle.plant_view.specs.Tables.{tables_of}
 use Rattle.plant_good.specs.Good.{IsGood}
 use Rattle.table_forms.specs.Standing.{AreFree, IsFree}
 pub use Rattle.table_reads.specs.Opened.{IsNewlyOpened}
-use Rattle.plant_tables.specs.DeskForms.{desk_forms}
-use Rattle.plant_tables.specs.DeskStopping.{MakesDesk, IsAtOf}
+use Rattle.plant_tables.specs.DeskForms.{desk_forms, later_forms}
+use Rattle.plant_tables.specs.DeskStopping.{MakesDesk, IsAtOf, FindsOf, Finds, opening_tables}
 use Rattle.plant_tables.specs.Keyed.{HoldsTablesOf}
 use Rattle.plant_tables_stored.specs.Loading.{AreLoaded}
 use Rattle.plant_tables_stored.specs.Version.{IsVersion, IsKnown, HasTablesOf}
@@ -18,7 +18,6 @@ use Rattle.plant_tables_stored.specs.declared.loaded.Loaded.{Loaded}
 use Rattle.plant_check.specs.Broken.{first_broken}
 use Rattle.plant_check.specs.declared.rule.Rule.{Rule}
 use Rattle.plant_check.specs.declared.rule.Rule.TheVariants as rule
-use Rattle.plant_migrate.specs.Standing.{Raised}
 use Rattle.plant_desk.specs.Keeping.{States}
 use Rattle.plant_desk_store.specs.Standing.{IsOpenAt, FindsStateOf}
 use Rattle.plant_desk_store.specs.declared.adopting.AdoptFault.{AdoptFault}
@@ -95,13 +94,36 @@ IsRefusedBy db (fault.Newer n) = IsVersion db (pos n) × (newest_schema < n)
 IsRefusedBy db (fault.Damaged r) = IsDamaged db r
 IsRefusedBy db fault.Memory = ⊤
 
--- the trees with the tables of the opening state made in this database
-abbrev pub Opened : Database → Trees → Type 0
-Opened old trees = (db : Database) × MakesDesk old db × (trees ≡ db.trees)
+-- ---- what a stop leaves
 
--- the trees with either: the tables made, or good ones of the first schema raised
-abbrev pub Written : Database → Trees → Type 0
-Written old trees = Opened old trees ⊎ Raised old trees
+-- the trees of a database in which the making of the tables came to its end
+abbrev pub AreMade : Database → Trees → Type 0
+AreMade old trees = (db : Database) × MakesDesk old db × (trees ≡ db.trees)
+
+-- The names of the desk's tables were free, and in the trees those of the opening state are to be found, beside the same
+-- tables of other names.
+pub record IsOpened (old : Database) (trees : Trees) : Type 0 where
+  pub free : AreFree desk_forms old.schema
+  pub finds : Finds old trees opening_tables
+
+-- The tables of a good state stood there in a schema below the newest, with the names free that later ones add, and in the
+-- trees those of the same state in a later schema are to be found, beside the same tables of other names.
+pub record IsRaised (old : Database) (trees : Trees) : Type 0 where
+  pub version : ℕ
+  pub later : ℕ
+  pub above : version < later
+  pub known : later ≤ newest_schema
+  pub stood : (s : State) × HoldsGood version old s
+  pub free : AreFree (later_forms version) old.schema
+  pub finds : (s : State) → HoldsGood version old s → FindsOf later old trees (tables_of later s)
+
+-- what an adoption may have made of a database, in what a stop leaves
+abbrev pub IsAdopted : Database → Trees → Type 0
+IsAdopted old trees = IsOpened old trees ⊎ IsRaised old trees
+
+-- the same of a store as it was just opened
+abbrev pub Adopts : store.State → Trees → Type 0
+Adopts c trees = IsNewlyOpened c → IsAdopted c.now trees
 
 -- some of the desk's tables are there, and not of a version that is raised
 pub record IsUnraised (db : Database) : Type 0 where

@@ -1,22 +1,46 @@
--- What follows from where a desk stands.
-use Rattle.std.specs.Prelude.{◌≡◌, ◌⊎◌, ℕ, All}
+-- What follows from where a desk stands, and from what an adoption leaves.
+use Rattle.std.specs.Prelude.{◌≡◌, ◌⊎◌, ◌≤◌, ℕ, All}
 use Rattle.sqlite.specs.Tree.{Trees}
 use Rattle.sqlite.specs.Effect.{Database, IsDatabase}
-use Rattle.plant_base.specs.State.{State, newest_schema}
-use Rattle.plant_view.specs.Tables.{tables_of}
-use Rattle.plant_good.specs.Good.{IsGood}
-use Rattle.table_forms.specs.Standing.{IsFree}
-use Rattle.plant_tables.specs.DeskForms.{later_forms}
-use Rattle.plant_tables.specs.Keyed.{HoldsTables}
-use Rattle.plant_desk_store.specs.Adopting.{HoldsGood, IsRefusedBy}
-use Rattle.plant_desk_store.specs.Standing.{FindsState}
+use Rattle.plant_base.specs.State.{State, opening, newest_schema}
+use Rattle.table_forms.specs.Standing.{AreFree, IsFree, KeepsOthers}
+use Rattle.plant_tables.specs.DeskForms.{desk_forms, later_forms}
+use Rattle.plant_tables_stored.specs.Version.{IsKnown}
+use Rattle.plant_desk_store.specs.Adopting.{HoldsGood, IsAdopted, IsRefusedBy}
+use Rattle.plant_desk_store.specs.Standing.{FindsStateOf}
 use Rattle.plant_desk_store.specs.declared.adopting.AdoptFault.{AdoptFault}
 use Rattle.plant_desk_store.specs.declared.adopting.AdoptFault.TheVariants.{Store, Memory}
 
--- Whatever database is opened over what a stop left, it holds the tables of the state that was to be found there.
+-- The tables of a good state stand in a known version, and the names of those that a later one adds are free.
+pub record IsAdoptable (version : ℕ) (db : Database) (s : State) : Type 0 where
+  pub held : HoldsGood version db s
+  pub free : All (IsFree db.schema) (later_forms version)
+
+-- Whatever database is opened over what a stop left, it holds the tables of the state that was to be found there, in the
+-- same version, and its names are those that were to be found.
 abbrev pub StopsAreReopened : Type 0
-StopsAreReopened = (trees : Trees) (s : State) → FindsState trees s → (db : Database) → db.trees ≡ trees → IsDatabase db → IsGood s × HoldsTables db (tables_of newest_schema s)
+StopsAreReopened = (version : ℕ) (trees : Trees) (s : State) → IsKnown version → (finds : FindsStateOf version trees s) → (db : Database) → db.trees ≡ trees → IsDatabase db → HoldsGood version db s × (db.schema ≡ finds.schema)
 
 -- The tables of a good state, of a known version, and none that a later one adds, are refused by a fault of the store or for want of memory, and for nothing else.
 abbrev pub GoodIsUnrefused : Type 0
-GoodIsUnrefused = (version : ℕ) (db : Database) (s : State) → HoldsGood version db s → All (IsFree db.schema) (later_forms version) → (f : AdoptFault) → IsRefusedBy db f → (f ≡ Store) ⊎ (f ≡ Memory)
+GoodIsUnrefused = (version : ℕ) (db : Database) (s : State) → IsAdoptable version db s → (f : AdoptFault) → IsRefusedBy db f → (f ≡ Store) ⊎ (f ≡ Memory)
+
+-- ---- adopted, stopped, opened again
+
+-- the database that is opened over the trees that were there, or over those that an adoption may have made
+abbrev pub IsOpenedAfter : Database → Database → Type 0
+IsOpenedAfter old db = IsDatabase db × ((db.trees ≡ old.trees) ⊎ IsAdopted old db.trees)
+
+-- Where a good state could be adopted, it can be again, in the same version or a later one, beside the same tables of
+-- other names.
+abbrev pub GoodIsAdoptedAgain : Type 0
+GoodIsAdoptedAgain = (version : ℕ) (old : Database) (s : State) → IsAdoptable version old s → (db : Database) → IsOpenedAfter old db → (later : ℕ) × (version ≤ later) × IsAdoptable later db s × KeepsOthers desk_forms old db
+
+-- Where the names of the desk's tables were free, nothing was changed, or the opening state can be adopted, beside the same
+-- tables of other names.
+abbrev pub OpeningIsAdopted : Type 0
+OpeningIsAdopted = (old : Database) → IsDatabase old → AreFree desk_forms old.schema → (db : Database) → IsOpenedAfter old db → (db ≡ old) ⊎ (IsAdoptable newest_schema db opening × KeepsOthers desk_forms old db)
+
+-- Where they weren't free and no good state stood in a known version, nothing was changed.
+abbrev pub OthersAreSpared : Type 0
+OthersAreSpared = (old : Database) → IsDatabase old → (AreFree desk_forms old.schema → ⊥) → ((version : ℕ) (s : State) → ¬ HoldsGood version old s) → (db : Database) → IsOpenedAfter old db → db ≡ old

@@ -1,4 +1,5 @@
 pub mod Adopting
+pub mod Faults
 pub mod Laws
 pub mod Left
 pub mod Looking

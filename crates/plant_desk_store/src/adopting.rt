@@ -13,10 +13,12 @@ ghost use Rattle.plant_tables.specs.DeskForms.{desk_forms};
 ghost use Rattle.plant_tables_stored.specs.Version.{IsKnown, IsVersion};
 ghost use Rattle.plant_tables_judged.specs.Collecting.{rows_in, rows_listed};
 ghost use Rattle.plant_desk_store.specs.Testing.{IsFit};
+ghost use Rattle.plant_desk_store.specs.Faults as spec;
 ghost use Rattle.plant_desk_store.specs.Adopting.{IsNewlyOpened, AdoptedFrom, HoldsGood, KeepsGood};
 ghost use Rattle.plant_desk_store.specs.Adopting.{StillGood, IsRisingAt, IsRefusedBy, NamesFirst, BrokenBy};
-ghost use Rattle.plant_desk_store.specs.Adopting.{Opened, Written, IsUnraised};
-ghost use Rattle.plant_migrate.specs.Standing.{Raised};
+ghost use Rattle.plant_desk_store.specs.Adopting.{AreMade, IsRaised, Adopts, IsUnraised};
+ghost use Rattle.plant_migrate.specs.Raised.{raising_changes};
+ghost use Rattle.plant_migrate.specs.Standing.{IsRaisedBy};
 ghost use Rattle.plant_desk_store.specs.Standing.{IsOpenAt, OthersStand};
 
 use crate::fitness::{Unfit, judge};
@@ -59,10 +61,23 @@ fn fault_of(fault: Fault) -> AdoptFault
     ensures known { (result ≡ AdoptFault.Store) ⊎ (result ≡ AdoptFault.Memory) }
     ensures store { fault ≡ Fault.Store → result ≡ AdoptFault.Store }
     ensures memory { fault ≡ Fault.Memory → result ≡ AdoptFault.Memory }
+    ensures is { result ≡ spec.adopt_fault fault }
 {
     match fault {
         Fault::Store => AdoptFault::Store,
         Fault::Memory => AdoptFault::Memory,
+    }
+}
+
+/// The rows that an adoption reads. `Damaged`, of the first rule, where a table doesn't stand as it is declared; Store
+/// where the store failed; Memory where there was none.
+fn rows_to_adopt(read: Result<Option<Loaded>, Fault>) -> Result<Loaded, AdoptFault>
+    ensures { result ≡ spec.rows_to_adopt read }
+{
+    match read {
+        Ok(Some(loaded)) => Ok(loaded),
+        Ok(None) => Err(AdoptFault::Damaged(Rule::Tables)),
+        Err(fault) => Err(fault_of(fault)),
     }
 }
 
@@ -105,8 +120,10 @@ impl<S: Alter> Desk<S> {
             → IsNewlyOpened (state S.Store connection)
             → Keeps (state S.Store connection) (state S.Store refused.connection)) }
 
-        // What a stop leaves: where the store has some of the desk's tables, of no older schema, and at each fault but Store,
-        // what it left before; else that, or the opening state's tables, or raised ones.
+        // What a stop leaves: what it left before, and only that where the store has some of the desk's tables, of no older
+        // schema, and at each fault but Store. Else, of a store as it was just opened, also the tables of the opening state,
+        // only where the names of the desk's tables were free, or those of the good state that stood there in an older
+        // schema, in a later one; each beside the same tables of other names.
         ensures spared { IsUnraised (state S.Store connection).now
             → MatchResult result (λ desk. Survives (state S.Store connection)
             (state S.Store desk.connection) (λ _. ⊥))
@@ -114,9 +131,9 @@ impl<S: Alter> Desk<S> {
         ensures unmade { IfErr result (λ refused. refused.fault ≢ AdoptFault.Store
             → Survives (state S.Store connection) (state S.Store refused.connection) (λ _. ⊥)) }
         ensures crash { MatchResult result (λ desk. Survives (state S.Store connection)
-            (state S.Store desk.connection) (Written (state S.Store connection).now))
+            (state S.Store desk.connection) (Adopts (state S.Store connection)))
             (λ refused. Survives (state S.Store connection) (state S.Store refused.connection)
-            (Written (state S.Store connection).now)) }
+            (Adopts (state S.Store connection))) }
     {
         match adopt_on(alloc, &mut connection) {
             Ok(()) => Ok(Desk {
@@ -152,28 +169,39 @@ fn adopt_on<S: Alter>(alloc: Global, connection: &mut Connection<S>) -> Result<(
     ensures spared { IsUnraised (state S.Store connection.old).now
         → Survives (state S.Store connection.old) (state S.Store connection.new) (λ _. ⊥) }
     ensures crash { Survives (state S.Store connection.old) (state S.Store connection.new)
-        (Written (state S.Store connection.old).now) }
+        (Adopts (state S.Store connection.old)) }
 {
-    match found(alloc, connection) {
-        Err(fault) => Err(fault_of(fault)),
-        Ok(FoundTables::Nothing) => make_opening(connection),
-        Ok(FoundTables::NoMeta) => Err(AdoptFault::Damaged(Rule::Tables)),
-        Ok(FoundTables::Version(version)) => {
-            let schema = schema_of(version);
-            if schema > NEWEST_SCHEMA {
-                return Err(AdoptFault::Newer(schema));
-            }
-            adopt_tables(alloc, connection, schema)
-        }
+    match schema_found(found(alloc, connection)) {
+        Ok(None) => make_opening(connection),
+        Ok(Some(schema)) => adopt_tables(alloc, connection, schema),
+        Err(fault) => Err(fault),
     }
 }
 
-/// A version that table meta tells, as the number of a schema; of one that it can't tell, as no number is below 1, this
-/// is 0, which is no schema's.
-fn schema_of(version: i64) -> u64
-    ensures { (n : ℕ) → version ≡ pos n → result ≡ n }
+/// The schema of the tables that were found, `None` where there are none of the desk's. `Damaged`, of the first rule, where
+/// table meta tells no version; `Newer` where it tells one above the newest; Store where the store failed; Memory where
+/// there was none.
+fn schema_found(found: Result<FoundTables, Fault>) -> Result<Option<u64>, AdoptFault>
+    ensures { result ≡ spec.schema_found found }
 {
-    u64::try_from(version).unwrap_or(0)
+    match found {
+        Ok(FoundTables::Nothing) => Ok(None),
+        Ok(FoundTables::NoMeta) => Err(AdoptFault::Damaged(Rule::Tables)),
+        Ok(FoundTables::Version(version)) => schema_told(version),
+        Err(fault) => Err(fault_of(fault)),
+    }
+}
+
+/// The schema of a version, where it is known; `Newer` where it is above the newest. Of a number that meta can't tell, as
+/// none is below 1, this is 0, which is no schema's.
+fn schema_told(version: i64) -> Result<Option<u64>, AdoptFault>
+    ensures { result ≡ spec.schema_told version }
+{
+    let schema = u64::try_from(version).unwrap_or(0);
+    if schema > NEWEST_SCHEMA {
+        return Err(AdoptFault::Newer(schema));
+    }
+    Ok(Some(schema))
 }
 
 /// Tests the tables of a schema, which are there, and raises them where they are good and the schema isn't the newest.
@@ -212,7 +240,8 @@ fn adopt_tables<S: Alter>(
     ensures newest { schema ≡ newest_schema
         → Survives (state S.Store connection.old) (state S.Store connection.new) (λ _. ⊥) }
     ensures crash { Survives (state S.Store connection.old) (state S.Store connection.new)
-        (Raised (state S.Store connection.old).now) }
+        (λ trees. IsNewlyOpened (state S.Store connection.old) → IsKnown schema
+        → IsRaised (state S.Store connection.old).now trees) }
 {
     let rows = judge_tables(alloc, connection, schema)?;
     if schema < NEWEST_SCHEMA {
@@ -242,7 +271,7 @@ fn make_opening<S: Alter>(connection: &mut Connection<S>) -> Result<(), AdoptFau
         → OnErr result (Keeps (state S.Store connection.old) (state S.Store connection.new)) }
     ensures store { IfErr result (λ fault. fault ≡ AdoptFault.Store) }
     ensures crash { Survives (state S.Store connection.old) (state S.Store connection.new)
-        (Opened (state S.Store connection.old).now) }
+        (AreMade (state S.Store connection.old).now) }
 {
     match commit_opening(connection) {
         Ok(()) => Ok(()),
@@ -276,10 +305,9 @@ fn judge_tables<S: Alter>(
         → IfErr result (NamesFirst (state S.Store connection.old).now) }
     ensures crash { Survives (state S.Store connection.old) (state S.Store connection.new) (λ _. ⊥) }
 {
-    match Loaded::read(alloc, connection, schema) {
-        Err(fault) => Err(fault_of(fault)),
-        Ok(None) => Err(AdoptFault::Damaged(Rule::Tables)),
-        Ok(Some(loaded)) => judge_rows(alloc, &loaded, schema),
+    match rows_to_adopt(Loaded::read(alloc, connection, schema)) {
+        Ok(loaded) => judge_rows(alloc, &loaded, schema),
+        Err(fault) => Err(fault),
     }
 }
 
@@ -323,7 +351,8 @@ fn raise_tables<S: Alter>(
     ensures unmade { IfErr result (λ fault. fault ≢ AdoptFault.Store
         → Survives (state S.Store connection.old) (state S.Store connection.new) (λ _. ⊥)) }
     ensures crash { Survives (state S.Store connection.old) (state S.Store connection.new)
-        (Raised (state S.Store connection.old).now) }
+        (IsRaisedBy (raising_changes rows.now.meta.position rows.now.movements.items)
+        (state S.Store connection.old).now) }
 {
     match raise_rows(alloc, connection, rows) {
         Ok(()) => Ok(()),

@@ -1,8 +1,10 @@
 //! The faults of the desk that those below it are.
 
 ghost use Rattle.std.specs.Prelude.{◌≡◌, ◌≢◌, ◌⊎◌};
+ghost use Rattle.plant_desk_store.specs.Faults as spec;
 
 use plant_desk::DeskFault;
+use plant_tables_stored::Loaded;
 use plant_view::ViewFault;
 use table_forms::Fault;
 
@@ -11,6 +13,7 @@ pub(crate) fn fault_of(fault: Fault) -> DeskFault
     ensures known { (result ≡ DeskFault.Store) ⊎ (result ≡ DeskFault.Memory) }
     ensures store { fault ≡ Fault.Store → result ≡ DeskFault.Store }
     ensures memory { fault ≡ Fault.Memory → result ≡ DeskFault.Memory }
+    ensures is { result ≡ spec.desk_fault fault }
 {
     match fault {
         Fault::Store => DeskFault::Store,
@@ -24,9 +27,32 @@ pub(crate) fn fault_in(fault: ViewFault<Fault>) -> DeskFault
     ensures store { fault ≡ ViewFault.View Fault.Store → result ≡ DeskFault.Store }
     ensures refused { fault ≡ ViewFault.View Fault.Memory → result ≡ DeskFault.Memory }
     ensures memory { fault ≡ ViewFault.Memory → result ≡ DeskFault.Memory }
+    ensures is { result ≡ spec.look_fault fault }
 {
     match fault {
         ViewFault::View(fault) => fault_of(fault),
         ViewFault::Memory => DeskFault::Memory,
+    }
+}
+
+/// What look-ups came to, as the desk tells it.
+pub(crate) fn looked<T>(answer: Result<T, ViewFault<Fault>>) -> Result<T, DeskFault>
+    ensures { result ≡ spec.looked answer }
+{
+    match answer {
+        Ok(answer) => Ok(answer),
+        Err(fault) => Err(fault_in(fault)),
+    }
+}
+
+/// The rows that a test reads. Store where a table doesn't stand as it is declared, and where the store failed; Memory
+/// where there was none.
+pub(crate) fn rows_to_test(read: Result<Option<Loaded>, Fault>) -> Result<Loaded, DeskFault>
+    ensures { result ≡ spec.rows_to_test read }
+{
+    match read {
+        Ok(Some(loaded)) => Ok(loaded),
+        Ok(None) => Err(DeskFault::Store),
+        Err(fault) => Err(fault_of(fault)),
     }
 }

@@ -1,13 +1,24 @@
 //! Laws of a desk over its store.
 
 ghost use Rattle.plant_desk_store.specs.Laws.{StopsAreReopened, GoodIsUnrefused};
+ghost use Rattle.plant_desk_store.specs.Laws.{GoodIsAdoptedAgain, OpeningIsAdopted, OthersAreSpared};
 
 /// What follows from the clauses of a desk, as laws about their words; the function itself does nothing.
 ///
 /// `reopened`: whatever database is opened over what a stop left, it holds the tables of the state that was to be found
-/// there. So the states that a clause names as those that a stop leaves are those at which a desk is adopted again.
+/// there, in the same schema. So the states that a clause names as those that a stop leaves are those at which a desk is
+/// adopted again.
 /// `unrefused`: the tables of a good state are refused by a fault of the store or for want of memory, and for nothing else.
+///
+/// The others are of what an adoption leaves (`crash` of `Desk::adopt`), whatever it answers, once it is opened again.
+/// `adopted_again`: where a good state could be adopted, it can be again, in the same schema or a later one.
+/// `opening_adopted`: where the names of the desk's tables were free, nothing was changed, or the opening state can be
+/// adopted. `others_spared`: where they weren't free and no good state stood there, nothing was changed. Tables of other
+/// names stand as they did.
 pub fn desk_laws()
     ensures reopened { StopsAreReopened }
     ensures unrefused { GoodIsUnrefused }
+    ensures adopted_again { GoodIsAdoptedAgain }
+    ensures opening_adopted { OpeningIsAdopted }
+    ensures others_spared { OthersAreSpared }
 {}

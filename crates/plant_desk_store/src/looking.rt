@@ -13,14 +13,15 @@ ghost use Rattle.plant_keyed.specs.Remembering.{AreEdgesOf};
 ghost use Rattle.plant_desk_store.specs.Looking.{IsDecidedAt};
 ghost use Rattle.plant_desk_store.specs.Standing.{StandsAt};
 
-use crate::faults::{fault_in, fault_of};
+use crate::faults::looked;
 use plant_base::Envelope;
 use plant_desk::{Answer, DeskFault, Question, answer};
 use plant_keyed::{Directed, Keyed};
 use plant_rules::decide;
-use plant_view::Decision;
+use plant_view::{Decision, ViewFault};
 use sqlite::{Alter, Connection};
 use std::alloc::Global;
+use table_forms::Fault;
 
 /// A decision, and how many commands were accepted before it.
 #[derive(Drop)]
@@ -52,14 +53,16 @@ pub(crate) fn decide_on<S: Alter>(
 {
     let mut edges = Directed::unread(alloc);
     let mut view = Keyed::new(alloc, connection, &mut edges);
-    decide_over(alloc, &mut view, envelope)
+    looked(decide_over(alloc, &mut view, envelope))
 }
 
+/// Decides a command by look-ups. `View` where one of them fails, with its fault; `Memory` where there is none for what is
+/// made of their rows.
 fn decide_over<S: Alter>(
     alloc: Global,
     view: &mut Keyed<'_, S>,
     envelope: &Envelope,
-) -> Result<Decided, DeskFault>
+) -> Result<Decided, ViewFault<Fault>>
     ensures same_reference { view.new.conn.ghost_name ≡ view.old.conn.ghost_name }
     ensures steady { IsSteady (state S.Store view.old.conn.now) (state S.Store view.new.conn.now)
         view.old.has_failed view.new.has_failed }
@@ -70,20 +73,19 @@ fn decide_over<S: Alter>(
     ensures small { IfOk result (λ d. d.seq ≤ greatest_seq) }
     ensures live { HasCleanDisk (state S.Store view.new.conn.now)
         → OnOk result (IsTrue (state S.Store view.new.conn.now).is_open) }
-    ensures open { IfErr result (λ fault. fault ≢ DeskFault.Shut) }
 {
     // A position that was read shows that the connection is open.
     let seq = match view.read_position() {
         Ok(position) => position.seq,
-        Err(fault) => return Err(fault_of(fault)),
+        Err(fault) => return Err(ViewFault::View(fault)),
     };
     let decision = match decide(alloc, view, envelope) {
         Ok(decision) => decision,
-        Err(fault) => return Err(fault_in(fault)),
+        Err(fault) => return Err(fault),
     };
     // That no decision is made after a look-up failed isn't a clause of `decide`.
     if view.has_failed {
-        return Err(DeskFault::Store);
+        return Err(ViewFault::View(Fault::Store));
     }
     Ok(Decided { seq, decision })
 }
@@ -107,34 +109,34 @@ pub(crate) fn answer_on<S: Alter>(
 {
     let mut edges = Directed::unread(alloc);
     let mut view = Keyed::new(alloc, connection, &mut edges);
-    answer_over(alloc, &mut view, question)
+    looked(answer_over(alloc, &mut view, question))
 }
 
+/// Answers a question by look-ups. The faults are those of [`decide_over`].
 fn answer_over<S: Alter>(
     alloc: Global,
     view: &mut Keyed<'_, S>,
     question: &Question,
-) -> Result<Answer, DeskFault>
+) -> Result<Answer, ViewFault<Fault>>
     ensures same_reference { view.new.conn.ghost_name ≡ view.old.conn.ghost_name }
     ensures steady { IsSteady (state S.Store view.old.conn.now) (state S.Store view.new.conn.now)
         view.old.has_failed view.new.has_failed }
     ensures answers { HasCleanDisk (state S.Store view.new.conn.now) → (s : State)
         → StandsAt (state S.Store view.old.conn.now) s → AreEdgesOf s view.old.edges.now
         → IfOk result (λ a. a ≡ answer newest_schema s question.now) }
-    ensures open { IfErr result (λ fault. fault ≢ DeskFault.Shut) }
 {
     // A position that was read shows that the connection is open.
     let _position = match view.read_position() {
         Ok(position) => position,
-        Err(fault) => return Err(fault_of(fault)),
+        Err(fault) => return Err(ViewFault::View(fault)),
     };
     let answer = match answer(alloc, view, question) {
         Ok(answer) => answer,
-        Err(fault) => return Err(fault_in(fault)),
+        Err(fault) => return Err(fault),
     };
     // That nothing is answered after a look-up failed isn't a clause of `answer`.
     if view.has_failed {
-        return Err(DeskFault::Store);
+        return Err(ViewFault::View(Fault::Store));
     }
     Ok(answer)
 }

@@ -9,7 +9,7 @@ ghost use Rattle.plant_check.specs.Broken.{first_broken};
 ghost use Rattle.plant_desk_store.specs.Standing.{StandsAt};
 ghost use Rattle.plant_desk_store.specs.Testing.{IsTested};
 
-use crate::faults::fault_of;
+use crate::faults::rows_to_test;
 use crate::fitness::{Unfit, judge};
 use plant_base::NEWEST_SCHEMA;
 use plant_check::Rule;
@@ -36,10 +36,9 @@ pub(crate) fn verify_on<S: Alter>(
         → (state S.Store connection.new).in_transaction ≡ false }
     ensures crash { Survives (state S.Store connection.old) (state S.Store connection.new) (λ _. ⊥) }
 {
-    match Loaded::read(alloc, connection, NEWEST_SCHEMA) {
-        Err(fault) => Err(fault_of(fault)),
-        Ok(None) => Err(DeskFault::Store),
-        Ok(Some(loaded)) => broken_rule(alloc, &loaded),
+    match rows_to_test(Loaded::read(alloc, connection, NEWEST_SCHEMA)) {
+        Ok(loaded) => broken_rule(alloc, &loaded),
+        Err(fault) => Err(fault),
     }
 }
 

@@ -9,7 +9,9 @@ use Rattle.plant_base.specs.State.{newest_schema}
 use Rattle.plant_view.specs.Tables.{tables_of}
 use Rattle.plant_tables.specs.Keyed.{HoldsTablesOf}
 use Rattle.plant_tables_judged.specs.Collecting.{rows_listed}
-use Rattle.plant_migrate.specs.Standing.{Raised}
+use Rattle.plant_migrate.specs.Standing.{IsRaisedBy}
+use Rattle.plant_migrate.proofs.Ends.{changes_in}
+use Rattle.plant_desk_store.proofs.Leaving.{raised_from}
 use Rattle.plant_desk_store.proofs.Judging.{always_err, still_new, stays_good, opens_new, others_unchanged}
 use Rattle.plant_desk_store.proofs.Raising.{keeps_along, names_none, open_raised, still_raised}
 use Rattle.plant_desk_store.proofs.adopting.adopt_tables.Goals as goal
@@ -110,9 +112,13 @@ returns-then-schema-lt-NEWEST_SCHEMA-clause-crash g c =
     let mid = state g.S.Store c.judge_tables.new.connection in
     let new = state g.S.Store c.raise_tables.new.connection in
     survives_then old mid new _ _ _ (λ _ db none. absurd none)
-    (λ clean trees raised.
-    let same : IsUnchanged old mid = c.in_ok-rows.ensures.unchanged (c.raise_tables.ensures.clean clean) in
-    subst (λ (db : Database). Raised db trees) same.0.now_is raised) c.judge_tables.ensures.crash c.raise_tables.ensures.crash
+    (λ clean trees made newly known.
+    let was : HasCleanDisk mid = c.raise_tables.ensures.clean clean in
+    let same : IsUnchanged old mid = c.in_ok-rows.ensures.unchanged was in
+    let good = c.in_ok-rows.ensures.good was newly known in
+    let first : c.args.schema ≡ 1 = search (rules, arith, known.0) in
+    raised_from c.args.schema old.now trees c.in_ok-rows.rows first (good.0, good.1) (c.in_ok-rows.ensures.told was)
+    (subst (λ (db : Database). IsRaisedBy (changes_in c.in_ok-rows.rows) db trees) same.0.now_is made)) c.judge_tables.ensures.crash c.raise_tables.ensures.crash
 
 -- ---- they are good, and of the newest schema
 

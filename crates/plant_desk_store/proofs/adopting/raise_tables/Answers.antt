@@ -1,5 +1,4 @@
 use Rattle.sqlite.specs.Held.{state}
-use Rattle.sqlite.proofs.StateLemmas.{survives_weaker}
 use Rattle.table_forms.proofs.Ending.{IsStore}
 use Rattle.plant_base.specs.State.{newest_schema}
 use Rattle.plant_view.specs.Tables.{tables_of}
@@ -24,9 +23,3 @@ returns-in-Err-clause-still g c clean settled s held rows =
     let new = state g.S.Store c.raise_rows.new.conn in
     let cut = c.in-Err.ensures.cut_short clean s (record { settled = settled; holds = held.2 }) (keyed 1 s held.1.sound) rows in
     (rises old new s held.1 cut, cut_keeps old new (tables_of 1 s) (tables_of newest_schema s) settled cut)
-
-pub returns-in-Ok-clause-crash : goal.returns-in-Ok-clause-crash
-returns-in-Ok-clause-crash g c = survives_weaker _ _ _ _ (λ clean trees made. (_, made)) c.raise_rows.ensures.survives
-
-pub returns-in-Err-clause-crash : goal.returns-in-Err-clause-crash
-returns-in-Err-clause-crash g c = survives_weaker _ _ _ _ (λ clean trees made. (_, made)) c.raise_rows.ensures.survives

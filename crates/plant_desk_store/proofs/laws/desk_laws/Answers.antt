@@ -1,5 +1,5 @@
 use Rattle.plant_desk_store.proofs.Again.{unrefused}
-use Rattle.plant_desk_store.proofs.Reopening.{reopened}
+use Rattle.plant_desk_store.proofs.Reopening.{reopened, adopted_again, opening_adopted, others_spared}
 use Rattle.plant_desk_store.proofs.laws.desk_laws.Goals as goal
 
 pub returns-clause-reopened : goal.returns-clause-reopened
@@ -7,3 +7,12 @@ returns-clause-reopened c = reopened
 
 pub returns-clause-unrefused : goal.returns-clause-unrefused
 returns-clause-unrefused c = unrefused
+
+pub returns-clause-adopted_again : goal.returns-clause-adopted_again
+returns-clause-adopted_again c = adopted_again
+
+pub returns-clause-opening_adopted : goal.returns-clause-opening_adopted
+returns-clause-opening_adopted c = opening_adopted
+
+pub returns-clause-others_spared : goal.returns-clause-others_spared
+returns-clause-others_spared c = others_spared

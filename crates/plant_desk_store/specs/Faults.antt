@@ -1,0 +1,59 @@
+-- What calls below the desk came to, as the desk and an adoption tell it.
+use Rattle.std.specs.Prelude.{ℕ, ℤ, pos, negsuc, nat_lt, if◌then◌else◌, Option, Some, None, Result, Ok, Err}
+use Rattle.table_forms.specs.declared.fault.Fault.{Fault}
+use Rattle.table_forms.specs.declared.fault.Fault.TheVariants as below
+use Rattle.plant_base.specs.State.{newest_schema}
+use Rattle.plant_view.specs.declared.fault.ViewFault.{ViewFault}
+use Rattle.plant_view.specs.declared.fault.ViewFault.TheVariants as view
+use Rattle.plant_check.specs.declared.rule.Rule.TheVariants as rule
+use Rattle.plant_tables_stored.specs.declared.finding.FoundTables.{FoundTables}
+use Rattle.plant_tables_stored.specs.declared.finding.FoundTables.TheVariants as tables
+use Rattle.plant_tables_stored.specs.declared.loaded.Loaded.{Loaded}
+use Rattle.plant_desk.specs.declared.reply.DeskFault.{DeskFault}
+use Rattle.plant_desk.specs.declared.reply.DeskFault.TheVariants as desk
+use Rattle.plant_desk_store.specs.declared.adopting.AdoptFault.{AdoptFault}
+use Rattle.plant_desk_store.specs.declared.adopting.AdoptFault.TheVariants as adopting
+
+-- a fault of the store, as the desk tells it
+abbrev pub desk_fault : Fault → DeskFault
+desk_fault below.Store = desk.Store
+desk_fault below.Memory = desk.Memory
+
+-- a fault of look-ups, or of what is made of their rows
+abbrev pub look_fault : ViewFault Fault → DeskFault
+look_fault (view.View f) = desk_fault f
+look_fault view.Memory = desk.Memory
+
+-- a fault of the store, as an adoption tells it
+abbrev pub adopt_fault : Fault → AdoptFault
+adopt_fault below.Store = adopting.Store
+adopt_fault below.Memory = adopting.Memory
+
+-- what look-ups came to
+abbrev pub looked : {A : Type 0} → Result A (ViewFault Fault) → Result A DeskFault
+looked (Ok a) = Ok a
+looked (Err f) = Err (look_fault f)
+
+-- the rows that a test reads: a table that doesn't stand as it is declared is a fault of the store
+abbrev pub rows_to_test : Result (Option Loaded) Fault → Result Loaded DeskFault
+rows_to_test (Ok (Some x)) = Ok x
+rows_to_test (Ok None) = Err desk.Store
+rows_to_test (Err f) = Err (desk_fault f)
+
+-- the rows that an adoption reads: there such a table breaks the first rule
+abbrev pub rows_to_adopt : Result (Option Loaded) Fault → Result Loaded AdoptFault
+rows_to_adopt (Ok (Some x)) = Ok x
+rows_to_adopt (Ok None) = Err (adopting.Damaged rule.Tables)
+rows_to_adopt (Err f) = Err (adopt_fault f)
+
+-- The schema of a version that table meta tells, where it is known; a number below 0, which meta can't tell, is that of none.
+abbrev pub schema_told : ℤ → Result (Option ℕ) AdoptFault
+schema_told (pos n) = if nat_lt newest_schema n then Err (adopting.Newer n) else Ok (Some n)
+schema_told (negsuc n) = Ok (Some 0)
+
+-- what an adoption finds: none of the desk's tables, or those of a schema
+abbrev pub schema_found : Result FoundTables Fault → Result (Option ℕ) AdoptFault
+schema_found (Ok tables.Nothing) = Ok None
+schema_found (Ok tables.NoMeta) = Err (adopting.Damaged rule.Tables)
+schema_found (Ok (tables.Version v)) = schema_told v
+schema_found (Err f) = Err (adopt_fault f)

@@ -220,10 +220,10 @@ def limits():
 
 def traces():
     """Returns sessions of traces along more nodes than are looked up one by one: in a chain of splits, and in a fan of them."""
-    lots, more = [f"C-{it:03}" for it in range(600)], [f"D-{it:04}" for it in range(2000)]
+    lots, more = [f"C-{it:03}" for it in range(600)], [f"D-{it:03}" for it in range(600)]
     chain = Session("a long chain is traced both ways").accepted(*GOODS, received(lots[0], 1000))
     chain.accepted(*[split(lots[it - 1], 1000 - it, lots[it]) for it in range(1, 600)])
-    fan = Session("a wide fan is traced both ways").accepted(*GOODS, received("C-000", 2000))
+    fan = Session("a wide fan is traced both ways").accepted(*GOODS, received("C-000", 1000))
     fan.accepted(*[split("C-000", 1, it) for it in more])
     for session, last, forward, back in [(chain, lots[-1], lots[1:], lots[:-1]), (fan, more[-1], more, ["C-000"])]:
         session.asked('{"ask":"forward","lot":"C-000"}', traced(forward))

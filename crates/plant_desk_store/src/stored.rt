@@ -13,7 +13,7 @@ use std::alloc::Global;
 
 /// A desk over its file: its records stand in the tables of one store.
 ///
-/// A command or a question reads the rows that it names, and a trace all tables. Nothing of the state is kept between
+/// A command or a question reads the rows that it names, and a trace all edges, where they are many. Nothing of the state is kept between
 /// calls but whether the desk is shut.
 #[derive(Drop)]
 pub struct Desk<S: Alter> {

@@ -18,6 +18,7 @@ desk=crates/desk/out/desk
 examples/sessions.py $desk
 examples/words.py $desk
 examples/keepers.py $desk crates/bench_lists/out/bench_lists
+examples/limits.py $desk
 examples/hostile.py $desk
 examples/checks.py crates/order_check/out/order_check crates/line_check/out/line_check
 examples/run.py $desk README.md docs/EXAMPLES.md

@@ -1,5 +1,5 @@
 -- What is judged of loaded rows, and of the store that they were loaded of.
-use Rattle.std.proofs.Common.{◌≡◌, ◌∙◌, None, Some, Result, Ok, Err, IfErr, IfOk, OnOk, OnErr, sym, ap, subst, inl, inr, ℕ, ◌<◌, ◌≤◌, ℤ, pos, arith}
+use Rattle.std.proofs.Common.{◌≡◌, ◌∙◌, Result, Ok, Err, IfErr, IfOk, OnOk, OnErr, sym, ap, subst, inl, inr, ℕ, ◌<◌, ℤ, pos, arith}
 use Rattle.std.specs.Prelude.{◌≢◌, All}
 use Rattle.std.specs.Int.Signed.{◌≤ℤ◌}
 use lib.Dec.{leb→le}
@@ -26,7 +26,7 @@ use Rattle.plant_tables_judged.specs.Collecting.{rows_in, rows_listed}
 use Rattle.plant_tables_judged.specs.declared.desk_rows.DeskRows.{DeskRows}
 use Rattle.plant_desk_store.specs.Adopting.{IsNewlyOpened, AdoptedFrom, HoldsGood, StillGood, IsRisingAt, NamesFirst, BrokenBy, IsRefusedBy}
 use Rattle.plant_good_found.specs.Restoring.{state_in, AreUnbroken}
-use Rattle.plant_desk_store.specs.Standing.{IsOpenAt, OthersStand, FindsStateOf}
+use Rattle.plant_desk_store.specs.Standing.{IsOpenAt, OthersStand}
 use Rattle.plant_desk_store.specs.Testing.{IsFit}
 use Rattle.plant_desk_store.specs.declared.adopting.AdoptFault.{AdoptFault}
 use Rattle.plant_desk_store.specs.declared.adopting.AdoptFault.TheVariants as fault

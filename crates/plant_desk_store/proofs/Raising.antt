@@ -1,5 +1,5 @@
 -- What comes of the tables of a schema that are judged, and of good ones that are raised.
-use Rattle.std.proofs.Common.{◌≡◌, ◌∙◌, ℕ, ◌≤◌, ℤ, pos, Result, Ok, Err, OnOk, OnErr, IfErr, refl, sym, subst, inl, inr, arith}
+use Rattle.std.proofs.Common.{◌≡◌, ◌∙◌, ℕ, ◌≤◌, pos, Result, Ok, Err, OnOk, OnErr, IfErr, sym, subst, inl, inr}
 use Rattle.std.specs.Prelude.{◌⊎◌}
 use Rattle.std.proofs.Math.Nat.{eq-or-lt_of_le}
 use Rattle.sqlite.specs.Tree.{Trees}

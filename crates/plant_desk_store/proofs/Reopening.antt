@@ -7,7 +7,6 @@ use Rattle.sqlite.specs.Effect.{Database, IsDatabase}
 use Rattle.sqlite_catalog.specs.Listing.{IsSound}
 use Rattle.plant_base.specs.State.{State, opening, newest_schema}
 use Rattle.plant_view.specs.Tables.{Tables, tables_of}
-use Rattle.plant_good.specs.Good.{IsGood}
 use Rattle.plant_good.proofs.StepGood.{opening_good}
 use Rattle.table_forms.specs.Standing.{AreFree, IsFree, KeepsOthers}
 use Rattle.plant_tables.specs.DeskForms.{desk_forms, later_forms}

@@ -1,9 +1,8 @@
 -- What is so of what a call below came to, once the desk or an adoption tells it.
-use Rattle.std.proofs.Common.{◌≡◌, ◌≢◌, ◌∙◌, ◌≤◌, ◌<◌, ℕ, ℤ, pos, Bool, true, false, nat_lt, Option, None, Some, Result, Ok, Err, IfOk, IfErr, IfSome, OnOk, sym, subst, refl, arith}
+use Rattle.std.proofs.Common.{◌≡◌, ◌≢◌, ◌≤◌, ◌<◌, ℕ, ℤ, pos, Bool, true, false, nat_lt, Option, None, Some, Result, Ok, Err, IfOk, IfErr, IfSome, OnOk, sym, subst, refl, arith}
 use Rattle.std.specs.Prelude.{◌↔◌}
 use Rattle.std.proofs.lemmas.Bool.Decides.{nat_tests}
 use lib.IntN.{negsuc}
-use Rattle.sqlite.specs.Effect.{Database}
 use Rattle.sqlite.specs.State as store
 use Rattle.sqlite.specs.State.{IsUnchanged}
 use Rattle.plant_base.specs.State.{newest_schema}
@@ -20,7 +19,7 @@ use Rattle.plant_tables_stored.specs.declared.loaded.Loaded.{Loaded}
 use Rattle.plant_check.specs.declared.rule.Rule.TheVariants as rule
 use Rattle.plant_desk.specs.declared.reply.DeskFault.{DeskFault}
 use Rattle.plant_desk.specs.declared.reply.DeskFault.TheVariants.{Shut}
-use Rattle.plant_desk_store.specs.Faults.{look_fault, looked, rows_to_test, rows_to_adopt, adopt_fault, schema_told, schema_found}
+use Rattle.plant_desk_store.specs.Faults.{looked, rows_to_test, rows_to_adopt, schema_told, schema_found}
 use Rattle.plant_desk_store.specs.declared.adopting.AdoptFault.{AdoptFault}
 use Rattle.plant_desk_store.specs.declared.adopting.AdoptFault.TheVariants as fault
 

@@ -1,4 +1,3 @@
-use Rattle.table_forms.specs.Resting.{Keeps}
 use Rattle.sqlite.specs.Held.{state}
 use Rattle.sqlite.specs.State.{IsUnchanged}
 use Rattle.plant_base.specs.State.{newest_schema}

@@ -22,7 +22,8 @@ pub enum Line {
 }
 
 fn fault_of(error: &serde_json::Error) -> LineFault
-    ensures { result ≡ LineFault.BadForm → ¬ IsMemory error.now }
+    ensures bad_form { result ≡ LineFault.BadForm → ¬ IsMemory error.now }
+    ensures memory { result ≡ LineFault.Memory → IsMemory error.now }
 {
     if error.is_memory() {
         LineFault::Memory

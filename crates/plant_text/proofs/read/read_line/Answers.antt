@@ -12,7 +12,7 @@ returns-then-bytes-gt-LONGEST_LINE-clause-bad_form c = λ e. line_long c.args.by
 pub returns-in-Err-clause-bad_form : goal.returns-in-Err-clause-bad_form
 returns-in-Err-clause-bad_form c = λ e.
     let bad : c.fault_of.result ≡ BadForm = cc in
-    at_refusal c.args.bytes.now (c.in-Err.ensures.err (c.fault_of.ensures bad))
+    at_refusal c.args.bytes.now (c.in-Err.ensures.err (c.fault_of.ensures.bad_form bad))
 
 pub returns-clause-ok : goal.returns-clause-ok
 returns-clause-ok c =

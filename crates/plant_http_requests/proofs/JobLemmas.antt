@@ -1,6 +1,6 @@
 -- What bodies ask for, and that an input asks for one thing.
 use Rattle.std.proofs.Common.{◌≡◌, ◌≤◌, ℕ, Bool, true, false, List, [], length, drop, take, Option, Some, None, Result, Ok, Err, refl, sym, ap, ◌∙◌}
-use Rattle.std.specs.Prelude.{nat_lt}
+use Rattle.std.specs.Prelude.{nat_lt, IfOk, IsErrOf}
 use Rattle.std.specs.Bool.{MatchBool}
 use Rattle.httparse.specs.Grammar.{RequestHead}
 use Rattle.httparse.proofs.GrammarLemmas.{request_unique}
@@ -12,20 +12,30 @@ use Rattle.plant_orders.specs.declared.fault.CsvKind.{CsvKind}
 use Rattle.plant_orders.specs.declared.fault.CsvKind.TheVariants as csv
 use Rattle.plant_text.specs.declared.read.Line.{Line}
 use Rattle.plant_text.specs.declared.read.Line.TheVariants as L
+use Rattle.plant_text.specs.declared.LineFault.{LineFault}
+use Rattle.plant_text.specs.declared.LineFault.TheVariants as line
 use Rattle.plant_http_input.specs.declared.reading.HeadEnd.{HeadEnd}
 use Rattle.plant_http_input.specs.declared.reading.HeadEnd.TheVariants as end
 use Rattle.plant_http_input.specs.Head.{end_of_head}
 use Rattle.plant_http_requests.specs.Heads.{field_lines, Parsed}
 use Rattle.plant_http_requests.specs.Steps.{fails}
-use Rattle.plant_http_requests.specs.Jobs.{command_job, file_job, fault_job_of, is_of_body, Reads, StepOf, HeadJob, EndJob, JobOf, parsed_step, finish}
+use Rattle.plant_http_requests.specs.Jobs.{command_job, command_of, file_job, fault_job_of, is_of_body, Reads, StepOf, HeadJob, EndJob, JobOf, parsed_step, finish}
 use Rattle.plant_http_requests.specs.declared.job.Job.{Job}
 use Rattle.plant_http_requests.specs.declared.job.HeadStep.{HeadStep}
 use Rattle.plant_http_requests.specs.declared.status.Status.TheVariants.{HeadTooLarge}
 
-pub command_is_of_body : (o : Option Line) → is_of_body (command_job o) ≡ true
+command_is_of_body : (o : Option Line) → is_of_body (command_job o) ≡ true
 command_is_of_body None = refl
 command_is_of_body (Some (L.Command e)) = refl
 command_is_of_body (Some (L.Question q)) = refl
+
+-- what was read of a line is what it asks for, want of memory aside
+pub command_reads : (read : Result Line LineFault) (o : Option Line) → IfOk read (λ said. o ≡ Some said) → (IsErrOf read line.BadForm → o ≡ None)
+    → Reads (command_of read) (command_job o)
+command_reads (Ok (L.Command e)) o said bad = ap command_job (sym said)
+command_reads (Ok (L.Question q)) o said bad = ap command_job (sym said)
+command_reads (Err line.BadForm) o said bad = ap command_job (sym (bad refl))
+command_reads (Err line.Memory) o said bad = command_is_of_body o
 
 file_is_of_body : (stamp : Stamp) (read : Result (List OrderRow) CsvFault) → is_of_body (file_job stamp read) ≡ true
 file_is_of_body stamp (Ok orders) = refl

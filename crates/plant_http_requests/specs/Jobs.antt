@@ -1,5 +1,5 @@
 -- What an input asks for.
-use Rattle.std.specs.Prelude.{◌≡◌, ℕ, ◌+◌, Bool, true, false, nat_lt, nat_le, List, length, take, drop, map, Option, Some, None, Result, Ok, Err, if◌then◌else◌}
+use Rattle.std.specs.Prelude.{◌≡◌, ℕ, ◌+◌, ◌<◌, Bool, true, false, nat_lt, nat_le, List, length, take, drop, map, Option, Some, None, Result, Ok, Err, if◌then◌else◌}
 use Rattle.std.specs.Bool.{MatchBool}
 use Rattle.httparse.specs.Grammar.{RequestHead}
 use Rattle.httparse.specs.Spans.{name_and_value}
@@ -14,6 +14,8 @@ use Rattle.plant_orders.specs.declared.fault.CsvKind.TheVariants as csv
 use Rattle.plant_text.specs.Lines.{line_of}
 use Rattle.plant_text.specs.declared.read.Line.{Line}
 use Rattle.plant_text.specs.declared.read.Line.TheVariants as L
+use Rattle.plant_text.specs.declared.LineFault.{LineFault}
+use Rattle.plant_text.specs.declared.LineFault.TheVariants as line
 use Rattle.plant_http_input.specs.Head.{end_of_head}
 use Rattle.plant_http_input.specs.declared.reading.HeadEnd.{HeadEnd}
 use Rattle.plant_http_input.specs.declared.reading.HeadEnd.TheVariants as end
@@ -38,6 +40,13 @@ abbrev pub command_job : Option Line → Job
 command_job None = BadForm
 command_job (Some (L.Command e)) = Command e
 command_job (Some (L.Question q)) = BadForm
+
+-- what a body asks for that was read as a line; want of memory comes of nothing else
+abbrev pub command_of : Result Line LineFault → Job
+command_of (Ok (L.Command e)) = Command e
+command_of (Ok (L.Question q)) = BadForm
+command_of (Err line.BadForm) = BadForm
+command_of (Err line.Memory) = NoMemory
 
 abbrev pub file_job : Stamp → Result (List OrderRow) CsvFault → Job
 file_job stamp (Ok orders) = Command (import stamp orders)
@@ -118,6 +127,10 @@ Reads (Ask question form silent) job = Ask question form silent ≡ job
 Reads (Command e) job = Command e ≡ job
 Reads BadForm job = BadForm ≡ job
 Reads (BadFile fault) job = BadFile fault ≡ job
+
+-- the head asks for a body of which so many bytes are too few
+abbrev pub LacksBody : List ℕ → ℕ → Type 0
+LacksBody head have = (size : ℕ) × (c : Content) × StepOf head (S.Body size c) × (have < size)
 
 -- a head and the bytes behind it ask for this, want of memory aside
 abbrev pub HeadAsksFor : List ℕ → List ℕ → Job → Type 0

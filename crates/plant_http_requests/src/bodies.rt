@@ -2,7 +2,7 @@
 ghost use Rattle.std.specs.Prelude.{◌≡◌, Some, None, IfSome};
 ghost use Rattle.plant_orders.specs.Orders.{orders_of};
 ghost use Rattle.plant_text.specs.Lines.{line_of};
-ghost use Rattle.plant_http_requests.specs.Jobs.{command_job, file_job, fault_job, body_job, Reads};
+ghost use Rattle.plant_http_requests.specs.Jobs.{command_job, command_of, file_job, fault_job, body_job, Reads};
 
 use crate::job::{Content, Job};
 use crate::status::Status;
@@ -12,15 +12,22 @@ use plant_orders::{CsvFault, CsvKind, import, read_orders};
 use plant_text::{Line, LineFault, read_line};
 use std::alloc::Global;
 
-fn command_job(alloc: Global, body: &[u8]) -> Job
-    ensures { Reads result (command_job (line_of body.now)) }
+/// What a body asks for that was read as a line. A question is no command.
+fn command_of(read: Result<Line, LineFault>) -> Job
+    ensures { result ≡ command_of read }
 {
-    match read_line(alloc, body) {
+    match read {
         Ok(Line::Command(envelope)) => Job::Command(envelope),
         Ok(Line::Question(_)) => Job::BadForm,
         Err(LineFault::BadForm) => Job::BadForm,
         Err(LineFault::Memory) => Job::NoMemory,
     }
+}
+
+fn command_job(alloc: Global, body: &[u8]) -> Job
+    ensures { Reads result (command_job (line_of body.now)) }
+{
+    command_of(read_line(alloc, body))
 }
 
 fn fault_job(fault: CsvFault) -> Job

@@ -1,8 +1,8 @@
 //! From the input to what it asks for.
 ghost use Rattle.std.specs.Prelude.{◌≡◌, ◌≤◌, ◌+◌, ◌++◌, [], Some, None, length, take, drop, IfOk, IfSome};
-ghost use Rattle.std.specs.Prelude.{IsErrOf};
+ghost use Rattle.std.specs.Prelude.{IsErrOf, OnErr};
 ghost use Rattle.plant_http_input.specs.Reading.{SpentAll};
-ghost use Rattle.plant_http_requests.specs.Jobs.{AsksFor, HeadAsksFor, most_reads};
+ghost use Rattle.plant_http_requests.specs.Jobs.{AsksFor, HeadAsksFor, LacksBody, most_reads};
 
 use crate::bodies::body_job;
 use crate::head::step_of_head;
@@ -30,6 +30,7 @@ fn head_job<R: Read>(
     requires small { length bytes.old.items ≤ 8192 }
     ensures asks { IfOk result (λ job. IfSome (R.remaining reader.old) (λ left.
         HeadAsksFor (take n bytes.old.items) (drop n (bytes.old.items ++ left)) job)) }
+    ensures lacks { OnErr result (LacksBody (take n bytes.old.items) (length (drop n bytes.old.items))) }
     ensures endless { IsErrOf result InputFault.Endless → SpentAll reads.old
         (R.remaining reader.old) (R.remaining reader.new) }
 {

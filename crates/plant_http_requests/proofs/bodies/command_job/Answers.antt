@@ -1,6 +1,6 @@
 use Rattle.plant_text.specs.Lines.{line_of}
-use Rattle.plant_http_requests.proofs.JobLemmas.{command_is_of_body}
+use Rattle.plant_http_requests.proofs.JobLemmas.{command_reads}
 use Rattle.plant_http_requests.proofs.bodies.command_job.Goals as goal
 
-pub returns-in-Err-Memory : goal.returns-in-Err-Memory
-returns-in-Err-Memory c = command_is_of_body (line_of c.args.body.now)
+pub returns : goal.returns
+returns c = rw c.command_of.ensures (command_reads _ (line_of c.args.body.now) c.read_line.ensures.ok c.read_line.ensures.bad_form)

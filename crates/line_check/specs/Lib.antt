@@ -1,6 +1,1 @@
-pub mod Members
-pub mod Problems
-pub mod Report
-pub mod Rules
-pub mod Shapes
-pub mod Verdicts
+pub mod Endings

@@ -62,10 +62,6 @@ report bytes = texts 0 (verdicts (lines bytes)) ++ end_text (tally_after no_line
 abbrev pub some_bad : List ℕ → Bool
 some_bad bytes = (tally_after no_lines (verdicts (lines bytes))).bad
 
--- the exit status of a check that told all
-abbrev pub status_of : Bool → ℕ
-status_of bad = if bad then 1 else 0
-
 -- ---- over bytes that come in pieces
 
 -- the verdicts on the lines that end in the bytes, where so much is held of the first

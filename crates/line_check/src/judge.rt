@@ -1,5 +1,5 @@
 //! The verdict on a line.
-ghost use Rattle.std.specs.Prelude.{◌≡◌, true, IfOk};
+ghost use Rattle.std.specs.Prelude.{◌≡◌, true, false, IfOk};
 ghost use Rattle.serde_json.specs.Errors.{IsMemory};
 ghost use Rattle.line_check.specs.Verdicts.{problem_of_line, verdict_of, tells_why};
 
@@ -30,7 +30,8 @@ const LONGEST_LINE: usize = 262_144;
 
 /// Whether a read failed for its text, and not for want of memory.
 fn is_refusal(error: &serde_json::Error) -> bool
-    ensures { result ≡ true → ¬ IsMemory error.now }
+    ensures refusal { result ≡ true → ¬ IsMemory error.now }
+    ensures memory { result ≡ false → IsMemory error.now }
 {
     if error.is_memory() { false } else { true }
 }

@@ -1,5 +1,5 @@
 //! The verdicts on the lines of an input.
-ghost use Rattle.std.specs.Prelude.{◌≡◌, ℕ, ◌+◌, ◌<◌, List, [], ◌∷◌, ◌++◌, length, Option, Some, OnOk, IfOk};
+ghost use Rattle.std.specs.Prelude.{◌≡◌, ℕ, ◌+◌, ◌<◌, List, [], ◌∷◌, ◌++◌, length, Option, Some, OnOk, IfErr, IfOk};
 ghost use Rattle.std.specs.Str.Lines.{strip_carriage_return};
 ghost use Rattle.std.specs.Io.KnownBytes.{Appends, Consumes, IsAtEnd};
 ghost use Rattle.plant_text.specs.Held.{held_with, held_after};
@@ -30,6 +30,8 @@ pub(crate) struct Tally {
 /// Why a check ends before it has told all.
 #[derive(Clone, Copy, Debug, PartialEq, Eq)]
 pub(crate) enum Fault {
+    /// A word stands on the command line behind the program's name.
+    Usage,
     /// A read failed, or the input had not ended after 10^9 reads.
     Read,
     /// A text couldn't be written whole.
@@ -73,8 +75,9 @@ impl fmt::Display for Tally {
 
 /// Writes a text and an LF.
 fn tell<W: Write>(writer: &mut W, text: &[u8]) -> Result<(), Fault>
-    ensures { OnOk result (Appends (W.contents writer.old) (W.contents writer.new)
+    ensures text { OnOk result (Appends (W.contents writer.old) (W.contents writer.new)
         (with_lf text.now)) }
+    ensures unwritten { IfErr result (λ fault. fault ≡ Fault.Write) }
 {
     match write_line(writer, text) {
         Ok(()) => Ok(()),

@@ -14,4 +14,4 @@ returns-in-Ok c =
 pub returns-then-is_refusal : goal.returns-then-is_refusal
 returns-then-is_refusal c =
     let short : length c.args.line.now ≤ longest_line = omega arith in
-    sym (problem_at_refusal c.args.line.now short (c.in-Err.ensures.err (c.is_refusal.ensures c.if-is_refusal.true)))
+    sym (problem_at_refusal c.args.line.now short (c.in-Err.ensures.err (c.is_refusal.ensures.refusal c.if-is_refusal.true)))

@@ -3,12 +3,11 @@ ghost use Rattle.std.specs.Prelude.{◌≡◌, false};
 ghost use Rattle.sqlite.specs.Held.{state};
 
 use desk_program::{Fault, Performed, adopt, perform_task, performed_of};
-use desk_server::serve_listener;
+use desk_server::{listen_at, local_at, serve_listener};
 use desk_words::{Serving, Work};
 use plant_desk_store::Desk;
 use sqlite::{Alter, Connection};
 use std::io;
-use std::net::{Ipv4Addr, TcpListener};
 
 /// Does the work over the opened store: a task over the standard streams, or the serving of requests.
 pub(crate) fn do_work<S: Alter + Drop>(
@@ -67,8 +66,6 @@ fn serve_at<S: Alter + Drop>(
 ) -> Result<bool, Fault>
     requires { desk.old.is_shut ≡ false }
 {
-    match TcpListener::bind(rt, (Ipv4Addr::LOCALHOST, serving.port)) {
-        Ok(listener) => serve_listener(rt.alloc(), &listener, serving.count, desk),
-        Err(_) => Err(Fault::Net),
-    }
+    let listener = listen_at(rt, local_at(serving.port))?;
+    serve_listener(rt.alloc(), &listener, serving.count, desk)
 }

@@ -1,5 +1,6 @@
 //! One connection.
-ghost use Rattle.std.specs.Prelude.{◌≡◌, false};
+ghost use Rattle.std.specs.Prelude.{◌≡◌, ◌*◌, false};
+ghost use Rattle.std.specs.Duration.{as_nanos};
 ghost use Rattle.plant_desk.specs.Keeping.{IsSameDesk};
 
 use plant_desk::Keeper;
@@ -10,23 +11,31 @@ use std::io::Read;
 use std::net::{Shutdown, TcpStream};
 use std::time::Duration;
 
-/// How many seconds a read of a request or a write of its answer waits at most.
-const MOST_SECONDS: u64 = 10;
-
-/// How many seconds a read behind an answer waits at most.
-const MOST_SECONDS_BEHIND: u64 = 1;
-
 /// How many pieces are read at most of what a client sends behind its answer.
 const MOST_PIECES: u32 = 64;
 
 /// How many bytes a piece has at most.
 const PIECE_BYTES: usize = 8192;
 
+/// How long a read of a request or a write of its answer waits at most: ten seconds.
+fn most_wait() -> Duration
+    ensures { as_nanos result ≡ 10 * 1_000_000_000 }
+{
+    Duration::from_secs(10)
+}
+
+/// How long a read behind an answer waits at most: a second.
+fn most_wait_behind() -> Duration
+    ensures { as_nanos result ≡ 1_000_000_000 }
+{
+    Duration::from_secs(1)
+}
+
 /// Bounds the time that a read and a write of the connection wait.
 ///
 /// Where the system doesn't take a bound, a client that sends nothing holds the server for as long as it likes.
 fn bound_waits(stream: &TcpStream) {
-    let most = Some(Duration::from_secs(MOST_SECONDS));
+    let most = Some(most_wait());
     let _ = stream.set_read_timeout(most);
     let _ = stream.set_write_timeout(most);
 }
@@ -35,7 +44,7 @@ fn bound_waits(stream: &TcpStream) {
 ///
 /// A socket that is closed with unread bytes in it resets the connection, and a reset can destroy an answer on its way.
 pub(crate) fn read_on(stream: &TcpStream) {
-    let most = Some(Duration::from_secs(MOST_SECONDS_BEHIND));
+    let most = Some(most_wait_behind());
     if stream.set_read_timeout(most).is_err() {
         return;
     }

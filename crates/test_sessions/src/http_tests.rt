@@ -97,6 +97,7 @@ fn served<K: Keeper>(
     let mut writer = Narrow {
         held: Vec::new(rt.alloc()),
         writes,
+        fails: false,
     };
     let end = serve_one(rt.alloc(), &routes, &mut request, &mut writer, keeper);
     Ok((end, writer.held))

@@ -27,17 +27,22 @@ impl Read for Trickle<'_> {
     }
 }
 
-/// Takes three bytes a write, and none after so many writes.
+/// Takes three bytes a write, and after so many writes none, or fails.
 #[derive(Drop)]
 pub struct Narrow {
     pub held: Vec<u8>,
     pub writes: u64,
+    pub fails: bool,
 }
 
 impl Write for Narrow {
     fn write(&mut self, buf: &[u8]) -> io::Result<usize> {
         if self.writes == 0 {
-            return Ok(0);
+            return if self.fails {
+                Err(Error::from(ErrorKind::Other))
+            } else {
+                Ok(0)
+            };
         }
         self.writes -= 1;
         let n = buf.len().min(3);

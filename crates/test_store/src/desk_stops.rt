@@ -33,9 +33,14 @@ struct Ended {
 fn check_shut<S: Alter>(
     rt: &(impl Abort + AllocGlobal),
     desk: &mut Desk<S>,
-    command: &Envelope,
+    commands: &[Envelope],
 ) -> Result<(), Fail> {
-    assert!(rt; matches!(desk.execute(command), Err(DeskFault::Shut)));
+    let report = desk.run(commands);
+    assert!(rt; report.end == Some(DeskFault::Shut));
+    assert!(rt; report.replies.as_slice().is_empty());
+    if let Some(command) = commands.first() {
+        assert!(rt; matches!(desk.execute(command), Err(DeskFault::Shut)));
+    }
     assert!(rt; matches!(desk.ask(&Question::Desk), Err(DeskFault::Shut)));
     assert!(rt; matches!(desk.verify(), Err(DeskFault::Shut)));
     Ok(())
@@ -55,7 +60,7 @@ fn answered_by<S: Alter>(
             Ok(reply) => assert!(rt; reply == Reply::Accepted(seq)),
             Err(fault) => {
                 assert!(rt; fault == DeskFault::Store);
-                check_shut(rt, desk, command)?;
+                check_shut(rt, desk, commands)?;
                 return Ok(count);
             }
         }

@@ -1,8 +1,8 @@
 #!/usr/bin/env bash
 # The gate: that the programs are run on what stands in examples/ and that each edit can still be applied, then, from nothing,
 # every proof, every must-fail edit, every test and the programs, and then sessions of the built desk, words that it can't follow, both
-# keepers side by side, its limits, damaged files and broken requests, the two built checks on long inputs and streams that fail, and
-# the examples of the documents.
+# keepers side by side, its limits, damaged files and broken requests, refused memory, the two built checks on long inputs and streams
+# that fail, and the examples of the documents.
 set -eu
 cd "$(dirname "$0")/.."
 began=$SECONDS
@@ -20,6 +20,7 @@ examples/words.py $desk
 examples/keepers.py $desk crates/bench_lists/out/bench_lists
 examples/limits.py $desk
 examples/hostile.py $desk
+examples/refused.py $desk
 examples/checks.py crates/order_check/out/order_check crates/line_check/out/line_check
 examples/run.py $desk README.md docs/EXAMPLES.md
 echo "the gate took $(((SECONDS - began) / 60)) minutes on $(nproc) processors, $((SECONDS - proved)) seconds of them behind rt ci"

@@ -1,8 +1,10 @@
 //! The words of the command line as they come from the system.
-ghost use Rattle.std.specs.Prelude.{◌≡◌, IfOk, map, string_bytes};
+ghost use Rattle.std.specs.Prelude.{◌≡◌, IfErr, IfOk, OnErr, Ok, Err, map, string_bytes};
+ghost use Rattle.std.specs.IoError.{error_kind};
+ghost use Rattle.desk.specs.Arguments.{IsNotUtf8, fault_of_kind};
 
 use desk_words::WordsFault;
-use std::alloc::Global;
+use std::alloc::{AllocError, Global};
 use std::env;
 use std::io::{Error, ErrorKind};
 
@@ -11,30 +13,56 @@ use std::io::{Error, ErrorKind};
 /// `Usage` comes where one of them isn't UTF-8, `Memory` for want of memory.
 pub(crate) fn read_arguments(rt: &HostRuntime) -> Result<Vec<String>, WordsFault> {
     match env::args(rt) {
-        Ok(words) => match words.collect(rt.alloc()) {
-            Ok(words) => Ok(words),
-            Err(_) => Err(WordsFault::Memory),
-        },
-        Err(error) => Err(fault_of(rt.alloc(), &error)),
+        Ok(words) => list_of(words.collect(rt.alloc())),
+        Err(error) => Err(fault_of(&error, not_utf8(rt.alloc()))),
     }
 }
 
-/// Why the words couldn't be read.
-fn fault_of(alloc: Global, error: &Error) -> WordsFault {
-    if error.kind() == ErrorKind::OutOfMemory {
-        return WordsFault::Memory;
+/// The words that were collected, or want of memory for their list.
+fn list_of(words: Result<Vec<String>, AllocError>) -> Result<Vec<String>, WordsFault>
+    ensures ok { IfOk words (λ list. result ≡ Ok list) }
+    ensures memory { OnErr words (result ≡ Err WordsFault.Memory) }
+{
+    match words {
+        Ok(list) => Ok(list),
+        Err(_) => Err(WordsFault::Memory),
     }
-    match String::from_str(alloc, "error: a word is not UTF-8\n") {
-        Ok(text) => WordsFault::Usage(text),
+}
+
+/// Why the words couldn't be read: for want of memory, else since one of them isn't UTF-8, which is told so.
+fn fault_of(error: &Error, not_utf8: WordsFault) -> WordsFault
+    ensures { result ≡ fault_of_kind (error_kind error.now) not_utf8 }
+{
+    match error.kind() {
+        ErrorKind::OutOfMemory => WordsFault::Memory,
+        _ => not_utf8,
+    }
+}
+
+/// The mistake that a word isn't UTF-8.
+fn not_utf8(alloc: Global) -> WordsFault
+    ensures { IsNotUtf8 result }
+{
+    usage_of(String::from_str(alloc, "error: a word is not UTF-8\n"))
+}
+
+/// A mistake in the words by its text, or want of memory for that.
+fn usage_of(text: Result<String, AllocError>) -> WordsFault
+    ensures usage { IfOk text (λ line. result ≡ WordsFault.Usage line) }
+    ensures memory { OnErr text (result ≡ WordsFault.Memory) }
+{
+    match text {
+        Ok(line) => WordsFault::Usage(line),
         Err(_) => WordsFault::Memory,
     }
 }
 
 /// The words as texts.
 ///
-/// `Memory` comes for want of memory.
+/// `Memory` comes for want of memory, and no other fault.
 pub(crate) fn texts_of<'a>(alloc: Global, words: &'a [String]) -> Result<Vec<&'a str>, WordsFault>
-    ensures { IfOk result (λ texts. map (λ s. s.now) texts.items ≡ map string_bytes words.now) }
+    ensures texts { IfOk result (λ texts. map (λ s. s.now) texts.items ≡ map string_bytes words.now) }
+    ensures memory { IfErr result (λ fault. fault ≡ WordsFault.Memory) }
 {
     let mut texts = Vec::new(alloc);
     for word in words {

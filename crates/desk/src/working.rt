@@ -1,13 +1,16 @@
 //! What is done over an opened store.
-ghost use Rattle.std.specs.Prelude.{◌≡◌, false};
+ghost use Rattle.std.specs.Prelude.{◌≡◌, false, Err, IfErr, OnErr, OnOk};
 ghost use Rattle.sqlite.specs.Held.{state};
+ghost use Rattle.desk_server.specs.Serving.{EndsServing};
 
 use desk_program::{Fault, Performed, adopt, perform_task, performed_of};
 use desk_server::{listen_at, local_at, serve_listener};
 use desk_words::{Serving, Work};
 use plant_desk_store::Desk;
 use sqlite::{Alter, Connection};
+use std::alloc::Global;
 use std::io;
+use std::net::TcpListener;
 
 /// Does the work over the opened store: a task over the standard streams, or the serving of requests.
 pub(crate) fn do_work<S: Alter + Drop>(
@@ -65,7 +68,26 @@ fn serve_at<S: Alter + Drop>(
     desk: &mut Desk<S>,
 ) -> Result<bool, Fault>
     requires { desk.old.is_shut ≡ false }
+    ensures ends { EndsServing desk.new.is_shut result }
 {
-    let listener = listen_at(rt, local_at(serving.port))?;
-    serve_listener(rt.alloc(), &listener, serving.count, desk)
+    let listening = listen_at(rt, local_at(serving.port));
+    serve_listening(rt.alloc(), listening, serving.count, desk)
+}
+
+/// Serves the connections that come in where a port is listened on. The fault of one that isn't is handed on.
+fn serve_listening<S: Alter + Drop>(
+    alloc: Global,
+    listening: Result<TcpListener, Fault>,
+    count: u32,
+    desk: &mut Desk<S>,
+) -> Result<bool, Fault>
+    requires { desk.old.is_shut ≡ false }
+    ensures ends { OnOk listening (EndsServing desk.new.is_shut result) }
+    ensures fault { IfErr listening (λ fault. result ≡ Err fault) }
+    ensures still { OnErr listening (desk.new ≡ desk.old) }
+{
+    match listening {
+        Ok(listener) => serve_listener(alloc, &listener, count, desk),
+        Err(fault) => Err(fault),
+    }
 }

@@ -1,32 +1,29 @@
 -- Order files that were taken in.
-use Rattle.std.proofs.Common.{◌≡◌, inl, ℕ, List, Bool, Option, Some, None, Result, Ok, subst, sym}
-use Rattle.std.specs.Prelude.{IfSome}
+use Rattle.std.proofs.Common.{◌≡◌, ℕ, List, Bool, Option, Some, None, Result, Ok, Err}
+use Rattle.std.specs.Prelude.{IfSome, IfOk, IfErr}
 use Rattle.sqlite.specs.State as store
 use Rattle.plant_base.specs.State.{State}
 use Rattle.plant_base.specs.declared.command.Stamp.{Stamp}
 use Rattle.plant_base.specs.declared.rows.OrderRow.{OrderRow}
 use Rattle.plant_desk.specs.Keeping.{States}
 use Rattle.plant_desk_store.specs.Adopting.{IsNewlyOpened, AdoptedFrom}
-use Rattle.plant_orders.specs.Importing.{import}
 use Rattle.plant_orders.specs.Orders.{orders_of}
-use Rattle.plant_orders.specs.declared.fault.CsvFault.{CsvFault}
-use Rattle.plant_text.specs.Session.{command}
-use Rattle.plant_text.specs.Turns.{TurnEnds}
-use Rattle.plant_text.specs.declared.turns.Stop.{Stop}
+use Rattle.plant_orders.specs.Telling.{TellsOf}
+use Rattle.plant_orders.specs.declared.source.OrdersFault.{OrdersFault}
 use Rattle.desk_program.proofs.Adopted.{adopted_so}
-use Rattle.desk_program.specs.Faults.{outcome_of_turn}
-use Rattle.desk_program.specs.Imported.{ImportEnds}
+use Rattle.desk_program.specs.Imported.{ImportEnds, OrdersTaken}
 use Rattle.desk_program.specs.declared.fault.Fault.{Fault}
 
--- the orders of a file were executed as one command
-pub file_taken : (unread : Option (List ℕ)) (k : ℕ) (s : State) (stamp : Stamp) (orders : List OrderRow) (old new : Option (List ℕ))
-    (stands : States) (shut : Bool) (leaves : States → Type 0) (turn : Result Bool Stop) (done : Result Bool Fault)
-    → IfSome unread (λ bytes. orders_of bytes ≡ Ok orders)
-    → TurnEnds k s (command (import stamp orders)) old new stands shut leaves turn → done ≡ outcome_of_turn turn
+-- what a reader gave of its file was taken in
+pub given_taken : (unread : Option (List ℕ)) (k : ℕ) (s : State) (stamp : Stamp) (given : Result (List OrderRow) OrdersFault) (old new : Option (List ℕ))
+    (stands : States) (shut : Bool) (leaves : States → Type 0) (done : Result Bool Fault)
+    → IfOk given (λ orders. IfSome unread (λ bytes. orders_of bytes ≡ Ok orders))
+    → IfErr given (λ fault. IfSome unread (λ bytes. TellsOf fault (orders_of bytes)))
+    → OrdersTaken k s stamp given old new stands shut leaves done
     → IfSome unread (λ bytes. ImportEnds k s stamp (orders_of bytes) old new stands shut leaves done)
-file_taken None k s stamp orders old new stands shut leaves turn done says ends is = tt
-file_taken (Some bytes) k s stamp orders old new stands shut leaves turn done says ends is =
-    subst (λ (r : Result (List OrderRow) CsvFault). ImportEnds k s stamp r old new stands shut leaves done) (sym says) (inl (turn, ends, is))
+given_taken None k s stamp given old new stands shut leaves done says tells taken = tt
+given_taken (Some bytes) k s stamp (Ok orders) old new stands shut leaves done says tells taken = (Ok orders, says, taken)
+given_taken (Some bytes) k s stamp (Err f) old new stands shut leaves done says tells taken = (Err f, tells, taken)
 
 -- a file was taken in by a keeper that is shut now, or is not
 pub import_ended : (unread : Option (List ℕ)) (k : ℕ) (s : State) (stamp : Stamp) (old new : Option (List ℕ)) (stands : Bool → States)

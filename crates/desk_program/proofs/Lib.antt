@@ -1,4 +1,6 @@
 mod Adopted
+mod Asked
 mod Imports
+mod KindNames
 mod OneLine
 mod Told

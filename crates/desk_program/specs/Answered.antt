@@ -1,5 +1,5 @@
 -- What the words `trace` and `record` print of an answer.
-use Rattle.std.specs.Prelude.{◌≡◌, ◌⊎◌, ℕ, List, ◌++◌, Bool, Option, Result, Ok, Err, codes, flat_map}
+use Rattle.std.specs.Prelude.{◌≡◌, ◌⊎◌, ℕ, List, ◌++◌, Bool, Option, Result, Ok, Err, IfOk, codes, flat_map}
 use Rattle.std.specs.Io.KnownBytes.{Appends}
 use Rattle.sqlite.specs.Held.{Held, state}
 use Rattle.sqlite_trees.specs.declared.store.Store.{Ghosts}
@@ -11,14 +11,16 @@ use Rattle.plant_desk.specs.Answers.{answer}
 use Rattle.plant_desk.specs.declared.question.Question.{Question}
 use Rattle.plant_desk.specs.declared.question.Answer.{Answer}
 use Rattle.plant_desk.specs.declared.question.Answer.TheVariants as A
+use Rattle.plant_desk.specs.declared.reply.DeskFault.{DeskFault}
 use Rattle.plant_desk_store.specs.Adopting.{AdoptedFrom}
 use Rattle.plant_desk_store.specs.Standing.{IsOpenAt}
 use Rattle.plant_text_answers.specs.Answers.{text_of_answer}
 use Rattle.plant_text.specs.Session.{is_unknown}
 use Rattle.plant_text.specs.Writes.{with_lf, AppendsFront}
-use Rattle.desk_program.specs.Faults.{NothingBut}
+use Rattle.desk_program.specs.Faults.{desk_fault}
 use Rattle.desk_program.specs.Running.{WasRefused}
 use Rattle.desk_program.specs.declared.fault.Fault.{Fault}
+use Rattle.desk_program.specs.declared.fault.Fault.TheVariants as fault
 
 -- a node in words
 abbrev pub node_text : Node → List ℕ
@@ -38,10 +40,21 @@ told_text (A.Batch view) = record_text view
 told_text (A.Trace nodes) = trace_text nodes
 told_text (A.Unknown r) = with_lf (text_of_answer (A.Unknown r))
 
--- how the printing of an answer ended
+-- how the printing of an answer ended: its text was written, or a front of it where the writer failed; or memory was
+-- refused for it, and nothing was written
+abbrev pub AnswerPrinted : Answer → Option (List ℕ) → Option (List ℕ) → Result Bool Fault → Type 0
+AnswerPrinted a old new (Ok refused) = Appends old new (told_text a) × (refused ≡ is_unknown a)
+AnswerPrinted a old new (Err f) = ((f ≡ fault.Write) × AppendsFront old new (told_text a))
+    ⊎ ((f ≡ fault.Memory) × (new ≡ old))
+
+-- how it was told what a keeper answered: the answer was printed; or the keeper's fault is told, and nothing was written
+abbrev pub AskedTold : Result Answer DeskFault → Option (List ℕ) → Option (List ℕ) → Result Bool Fault → Type 0
+AskedTold (Ok a) old new done = AnswerPrinted a old new done
+AskedTold (Err f) old new done = (done ≡ Err (desk_fault f)) × (new ≡ old)
+
+-- how it was told what a keeper answered, which was this answer or a fault
 abbrev pub AnswerTold : Answer → Option (List ℕ) → Option (List ℕ) → Result Bool Fault → Type 0
-AnswerTold a old new (Ok refused) = Appends old new (told_text a) × (refused ≡ is_unknown a)
-AnswerTold a old new (Err f) = NothingBut (AppendsFront old new (told_text a)) old new f
+AnswerTold a old new done = (asked : Result Answer DeskFault) × IfOk asked (λ answered. answered ≡ a) × AskedTold asked old new done
 
 -- what came of a question to the desk of a store that was just opened: the store was adopted, the answer of its state
 -- printed, and it stands there still; or it wasn't adopted, and nothing was printed

@@ -1,5 +1,8 @@
 -- The faults that the program ends with: where they come from, and the exit status of each.
-use Rattle.std.specs.Prelude.{◌≡◌, ℕ, List, Bool, Option, Result, Ok, Err}
+use Rattle.std.specs.Prelude.{◌≡◌, ℕ, List, Bool, Option, Some, None, Result, Ok, Err, ⊤}
+use Rattle.plant_check.specs.declared.rule.Rule.{Rule}
+use Rattle.plant_desk.specs.declared.question.Answer.{Answer}
+use Rattle.plant_desk.specs.declared.question.Answer.TheVariants as A
 use Rattle.plant_desk.specs.declared.reply.DeskFault.{DeskFault}
 use Rattle.plant_desk.specs.declared.reply.DeskFault.TheVariants as desk
 use Rattle.plant_desk_store.specs.declared.adopting.AdoptFault.{AdoptFault}
@@ -10,6 +13,7 @@ use Rattle.plant_text.specs.declared.turns.Stop.{Stop}
 use Rattle.plant_text.specs.declared.turns.Stop.TheVariants as stop
 use Rattle.desk_program.specs.declared.fault.Fault.{Fault}
 use Rattle.desk_program.specs.declared.fault.Fault.TheVariants as fault
+use Rattle.desk_program.specs.declared.standing.Standing.{Standing}
 
 abbrev pub status_of : Fault → ℕ
 status_of fault.Store = 3
@@ -47,6 +51,22 @@ abbrev pub outcome_of_turn : Result Bool Stop → Result Bool Fault
 outcome_of_turn (Ok refused) = Ok refused
 outcome_of_turn (Err stop.Write) = Err fault.Write
 outcome_of_turn (Err (stop.Fault f)) = Err (desk_fault f)
+
+-- what a test of all tables came to: a rule that they break is damage
+abbrev pub outcome_of_test : Result (Option Rule) DeskFault → Result ⊤ Fault
+outcome_of_test (Ok None) = Ok tt
+outcome_of_test (Ok (Some rule)) = Err (fault.Damaged rule)
+outcome_of_test (Err f) = Err (desk_fault f)
+
+-- where a keeper stands by what it answered when it was asked for that; an answer of another kind is a fault of the store
+abbrev pub standing_of : Result Answer DeskFault → Result Standing Fault
+standing_of (Ok (A.Desk schema seq)) = Ok (record { schema = schema; seq = seq })
+standing_of (Ok (A.Lot lot)) = Err fault.Store
+standing_of (Ok (A.Order order)) = Err fault.Store
+standing_of (Ok (A.Batch view)) = Err fault.Store
+standing_of (Ok (A.Trace nodes)) = Err fault.Store
+standing_of (Ok (A.Unknown refusal)) = Err fault.Store
+standing_of (Err f) = Err (desk_fault f)
 
 -- at this fault nothing was written, or, where the writer failed, what is said of it
 abbrev pub NothingBut : Type 0 → Option (List ℕ) → Option (List ℕ) → Fault → Type 0

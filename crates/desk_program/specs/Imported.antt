@@ -12,10 +12,11 @@ use Rattle.plant_desk_store.specs.Adopting.{AdoptedFrom, IsNewlyOpened}
 use Rattle.plant_desk_store.specs.Standing.{Stands, Leaves}
 use Rattle.plant_orders.specs.Importing.{import}
 use Rattle.plant_orders.specs.Orders.{orders_of}
-use Rattle.plant_orders.specs.Telling.{csv_text}
+use Rattle.plant_orders.specs.Telling.{csv_text, TellsOf}
 use Rattle.plant_orders.specs.declared.fault.CsvFault.{CsvFault}
-use Rattle.plant_text_answers.specs.Replies.{fault_text}
-use Rattle.plant_text.specs.Session.{Entry, command}
+use Rattle.plant_orders.specs.declared.source.OrdersFault.{OrdersFault}
+use Rattle.plant_orders.specs.declared.source.OrdersFault.TheVariants as none
+use Rattle.plant_text.specs.Session.{command}
 use Rattle.plant_text.specs.Turns.{TurnEnds, FaultWritten}
 use Rattle.plant_text.specs.Writes.{with_lf, AppendsFront}
 use Rattle.plant_text.specs.declared.turns.Stop.{Stop}
@@ -29,23 +30,33 @@ abbrev pub CsvTold : CsvFault → Option (List ℕ) → Option (List ℕ) → Re
 CsvTold csv old new done = ((done ≡ Ok true) × Appends old new (with_lf (csv_text csv)))
     ⊎ ((done ≡ Err fault.Write) × AppendsFront old new (with_lf (csv_text csv)))
 
--- The keeper stood at s. What came of a file that says this: its orders were executed as one command and the reply was
--- written, as in a run; or its first fault was told, and nothing executed.
-abbrev pub FileTaken : ℕ → State → Stamp → Result (List OrderRow) CsvFault → Option (List ℕ) → Option (List ℕ) → States → Bool → (States → Type 0) → Result Bool Fault → Type 0
-FileTaken k s stamp (Ok orders) old new stands shut leaves done =
+-- the line of want of memory was written, or a front of it where the writer failed
+abbrev pub MemoryTold : Option (List ℕ) → Option (List ℕ) → Result Bool Fault → Type 0
+MemoryTold old new done = (stop : Stop) × FaultWritten desk.Memory old new stop × (done ≡ outcome_of_turn (Err stop))
+
+-- what was told where a reader gave no orders: the first fault of its file, or want of memory; of a failed read nothing is
+-- written
+abbrev pub NoOrdersTold : OrdersFault → Option (List ℕ) → Option (List ℕ) → Result Bool Fault → Type 0
+NoOrdersTold (none.Csv csv) old new done = CsvTold csv old new done
+NoOrdersTold none.Read old new done = (done ≡ Err fault.Read) × (new ≡ old)
+NoOrdersTold none.Memory old new done = MemoryTold old new done
+
+-- The keeper stood at s. What came of what a reader gave: its orders were executed as one command and the reply was
+-- written, as in a run; or why it gave none was told, and nothing executed.
+abbrev pub OrdersTaken : ℕ → State → Stamp → Result (List OrderRow) OrdersFault → Option (List ℕ) → Option (List ℕ) → States → Bool → (States → Type 0) → Result Bool Fault → Type 0
+OrdersTaken k s stamp (Ok orders) old new stands shut leaves done =
     (turn : Result Bool Stop) × TurnEnds k s (command (import stamp orders)) old new stands shut leaves turn × (done ≡ outcome_of_turn turn)
-FileTaken k s stamp (Err csv) old new stands shut leaves done = CsvTold csv old new done × stands s × (shut ≡ false)
+OrdersTaken k s stamp (Err f) old new stands shut leaves done = NoOrdersTold f old new done × stands s × (shut ≡ false)
 
--- no file was read: the reader failed, and nothing was written; or memory was refused, whose line was
-abbrev pub FileUnread : Option (List ℕ) → Option (List ℕ) → Result Bool Fault → Type 0
-FileUnread old new done = ((done ≡ Err fault.Read) × (new ≡ old))
-    ⊎ ((stop : Stop) × FaultWritten desk.Memory old new stop × (done ≡ outcome_of_turn (Err stop)))
+-- what a reader may give of a file that says this: its orders, or a fault that tells of it
+abbrev pub IsGivenOf : Result (List OrderRow) CsvFault → Result (List OrderRow) OrdersFault → Type 0
+IsGivenOf says (Ok orders) = says ≡ Ok orders
+IsGivenOf says (Err f) = TellsOf f says
 
--- what came of a file at a keeper that stood at s: where it wasn't read, nothing was executed
+-- what came of a file that says this at a keeper that stood at s
 abbrev pub ImportEnds : ℕ → State → Stamp → Result (List OrderRow) CsvFault → Option (List ℕ) → Option (List ℕ) → States → Bool → (States → Type 0) → Result Bool Fault → Type 0
 ImportEnds k s stamp says old new stands shut leaves done =
-    FileTaken k s stamp says old new stands shut leaves done
-    ⊎ (FileUnread old new done × stands s × (shut ≡ false))
+    (given : Result (List OrderRow) OrdersFault) × IsGivenOf says given × OrdersTaken k s stamp given old new stands shut leaves done
 
 -- what came of a file over a store that was just opened: the store was adopted, and the file taken in from there; or it
 -- wasn't adopted, and nothing was written

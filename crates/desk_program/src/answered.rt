@@ -10,11 +10,12 @@ ghost use Rattle.plant_desk_store.specs.Adopting.{IsNewlyOpened};
 ghost use Rattle.plant_desk_store.specs.Standing.{IsOpenAt};
 ghost use Rattle.plant_text_answers.specs.Answers.{text_of_answer};
 ghost use Rattle.plant_text.specs.Writes.{with_lf};
-ghost use Rattle.desk_program.specs.Answered.{node_text, told_text, trace_text, AnswerTold, AskGives};
+ghost use Rattle.desk_program.specs.Answered.{node_text, told_text, trace_text};
+ghost use Rattle.desk_program.specs.Answered.{AnswerPrinted, AnswerTold, AskedTold, AskGives};
 
 use crate::adopting::{Performed, adopt, performed_of};
 use crate::fault::Fault;
-use plant_desk::{Answer, Keeper, Question};
+use plant_desk::{Answer, DeskFault, Keeper, Question};
 use plant_desk_store::Desk;
 use plant_text::{answer_text, is_unknown, record, write_text};
 use plant_trace::Node;
@@ -84,7 +85,7 @@ fn told_text(alloc: Global, answer: &Answer) -> Result<String, AllocError>
 
 /// Prints an answer. `true` where it tells that the id isn't known.
 fn print_answer<W: Write>(alloc: Global, writer: &mut W, answer: &Answer) -> Result<bool, Fault>
-    ensures { AnswerTold answer.now (W.contents writer.old) (W.contents writer.new) result }
+    ensures { AnswerPrinted answer.now (W.contents writer.old) (W.contents writer.new) result }
 {
     match told_text(alloc, answer) {
         Ok(text) => match write_text(writer, text.as_bytes()) {
@@ -92,6 +93,20 @@ fn print_answer<W: Write>(alloc: Global, writer: &mut W, answer: &Answer) -> Res
             Err(_) => Err(Fault::Write),
         },
         Err(_) => Err(Fault::Memory),
+    }
+}
+
+/// Prints what a keeper answered. Its fault is handed on, and nothing is printed.
+fn print_asked<W: Write>(
+    alloc: Global,
+    writer: &mut W,
+    asked: Result<Answer, DeskFault>,
+) -> Result<bool, Fault>
+    ensures { AskedTold asked (W.contents writer.old) (W.contents writer.new) result }
+{
+    match asked {
+        Ok(answer) => print_answer(alloc, writer, &answer),
+        Err(fault) => Err(Fault::from(fault)),
     }
 }
 
@@ -113,10 +128,7 @@ pub fn tell_answer<W: Write, K: Keeper>(
         → AnswerTold (answer (K.schema keeper.old) s question.now)
         (W.contents writer.old) (W.contents writer.new) result }
 {
-    match keeper.ask(question) {
-        Ok(answer) => print_answer(alloc, writer, &answer),
-        Err(fault) => Err(Fault::from(fault)),
-    }
+    print_asked(alloc, writer, keeper.ask(question))
 }
 
 /// Asks an open desk, and gives its store back.

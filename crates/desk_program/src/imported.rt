@@ -1,5 +1,5 @@
 //! The word `import`: an order file, executed as one command.
-ghost use Rattle.std.specs.Prelude.{◌≡◌, ◌⊎◌, Bool, false, IfSome};
+ghost use Rattle.std.specs.Prelude.{◌≡◌, Bool, false, IfSome};
 ghost use Rattle.sqlite.specs.Held.{state};
 ghost use Rattle.sqlite.specs.State.{HasCleanDisk};
 ghost use Rattle.plant_base.specs.State.{State};
@@ -8,11 +8,13 @@ ghost use Rattle.plant_desk_store.specs.Adopting.{IsNewlyOpened};
 ghost use Rattle.plant_desk_store.specs.Standing.{IsOpenAt, Leaves, Stands};
 ghost use Rattle.plant_base.specs.State.{newest_schema};
 ghost use Rattle.plant_orders.specs.Orders.{orders_of};
-ghost use Rattle.desk_program.specs.Imported.{CsvTold, FileUnread, ImportEnds, ImportLeft};
+ghost use Rattle.desk_program.specs.Imported.{CsvTold, ImportEnds, ImportLeft, MemoryTold};
+ghost use Rattle.desk_program.specs.Imported.{NoOrdersTold, OrdersTaken};
 
 use crate::adopting::{Performed, adopt, performed_of};
 use crate::fault::{Fault, outcome_of_turn};
-use plant_base::Stamp;
+use crate::lines::csv_line;
+use plant_base::{Items, OrderRow, Stamp};
 use plant_desk::{DeskFault, Keeper};
 use plant_desk_store::Desk;
 use plant_orders::{CsvFault, OrdersFault, import, orders_from};
@@ -23,22 +25,50 @@ use std::io::{Read, Write};
 
 /// Tells want of memory, as a run does.
 fn tell_no_memory<W: Write>(writer: &mut W) -> Result<bool, Fault>
-    ensures { FileUnread (W.contents writer.old) (W.contents writer.new) result }
+    ensures { MemoryTold (W.contents writer.old) (W.contents writer.new) result }
 {
     outcome_of_turn(Err(tell_fault(writer, DeskFault::Memory)))
 }
 
-/// Tells the first fault of an order file, which is a refusal.
-fn tell_csv<W: Write>(alloc: Global, writer: &mut W, fault: CsvFault) -> Result<bool, Fault>
-    ensures { CsvTold fault (W.contents writer.old) (W.contents writer.new) result
-        ⊎ FileUnread (W.contents writer.old) (W.contents writer.new) result }
+/// Tells the first fault of an order file, which is a refusal. It takes no memory, so that no want of it is told in its place.
+fn tell_csv<W: Write>(writer: &mut W, fault: CsvFault) -> Result<bool, Fault>
+    ensures { CsvTold fault (W.contents writer.old) (W.contents writer.new) result }
 {
-    match fault.to_string(alloc) {
-        Ok(text) => match write_line(writer, text.as_bytes()) {
-            Ok(()) => Ok(true),
-            Err(_) => Err(Fault::Write),
-        },
-        Err(_) => tell_no_memory(writer),
+    match write_line(writer, csv_line(fault).as_bytes()) {
+        Ok(()) => Ok(true),
+        Err(_) => Err(Fault::Write),
+    }
+}
+
+/// Tells why a reader gave no orders.
+fn tell_no_orders<W: Write>(writer: &mut W, fault: OrdersFault) -> Result<bool, Fault>
+    ensures { NoOrdersTold fault (W.contents writer.old) (W.contents writer.new) result }
+{
+    match fault {
+        OrdersFault::Csv(fault) => tell_csv(writer, fault),
+        OrdersFault::Read => Err(Fault::Read),
+        OrdersFault::Memory => tell_no_memory(writer),
+    }
+}
+
+/// Has an open keeper execute the orders that a reader gave, as one command, and prints the reply; or tells why it gave
+/// none.
+fn take_orders<W: Write, K: Keeper>(
+    writer: &mut W,
+    keeper: &mut K,
+    stamp: Stamp,
+    given: Result<Items<OrderRow>, OrdersFault>,
+) -> Result<bool, Fault>
+    requires { K.shut keeper.old ≡ false }
+    ensures same { IsSameDesk K.honest K.schema K.beside keeper.old keeper.new }
+    ensures taken { K.honest keeper.new → (s : State) → K.stands keeper.old s
+        → OrdersTaken (K.schema keeper.old) s stamp given
+        (W.contents writer.old) (W.contents writer.new)
+        (K.stands keeper.new) (K.shut keeper.new) (K.leaves keeper.new) result }
+{
+    match given {
+        Ok(orders) => outcome_of_turn(take_command(writer, keeper, &import(stamp, orders))),
+        Err(fault) => tell_no_orders(writer, fault),
     }
 }
 
@@ -48,8 +78,8 @@ fn tell_csv<W: Write>(alloc: Global, writer: &mut W, fault: CsvFault) -> Result<
 /// Where the file is none, its first fault is printed in place of a reply, `csv row R KIND` and an LF, which counts as a
 /// refusal, and nothing is executed.
 ///
-/// `Read`: the reader failed; nothing was executed and nothing written. `Memory`: memory was refused before the command, or
-/// by the keeper. `Store`: the keeper's fault. The line of these two faults was written, `{"fault":N}` and an LF. `Write`: a
+/// `Read`: the reader failed; nothing was executed and nothing written. `Memory`: memory was refused for the file, or by the
+/// keeper. `Store`: the keeper's fault. The line of these two faults was written, `{"fault":N}` and an LF. `Write`: a
 /// front of the line was written, and not all of it; what was executed stays.
 pub fn take_file<R: Read, W: Write, K: Keeper>(
     alloc: Global,
@@ -65,12 +95,8 @@ pub fn take_file<R: Read, W: Write, K: Keeper>(
         (orders_of bytes) (W.contents writer.old) (W.contents writer.new)
         (K.stands keeper.new) (K.shut keeper.new) (K.leaves keeper.new) result) }
 {
-    match orders_from(alloc, reader) {
-        Ok(orders) => outcome_of_turn(take_command(writer, keeper, &import(stamp, orders))),
-        Err(OrdersFault::Csv(fault)) => tell_csv(alloc, writer, fault),
-        Err(OrdersFault::Read) => Err(Fault::Read),
-        Err(OrdersFault::Memory) => tell_no_memory(writer),
-    }
+    let given = orders_from(alloc, reader);
+    take_orders(writer, keeper, stamp, given)
 }
 
 /// Has an open desk take in an order file, and gives its store back.

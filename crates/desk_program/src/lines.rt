@@ -1,10 +1,12 @@
 //! The lines that the program writes, in a room of fixed size: they take no memory.
 ghost use Rattle.std.specs.Prelude.{◌≡◌, ◌+◌, ◌≤◌, ◌++◌, length, decimal};
+ghost use Rattle.plant_orders.specs.Telling.{csv_text};
 ghost use Rattle.desk_program.specs.Texts as spec;
 
 use crate::fault::Fault;
 use arrayvec::ArrayString;
 use itoa::Buffer;
+use plant_orders::CsvFault;
 
 /// A line without its LF.
 pub(crate) type ShortLine = ArrayString<64>;
@@ -50,6 +52,17 @@ fn word_and_number(word: &str, number: u64) -> ShortLine
     let mut line = ArrayString::new();
     line.push_str(word);
     push_number(&mut line, number);
+    line
+}
+
+/// The first fault of an order file: `csv row R KIND`
+#[tactic(auto, using(crate::proofs::KindNames::name_is_short))]
+pub(crate) fn csv_line(fault: CsvFault) -> ShortLine
+    ensures { result.bytes ≡ csv_text fault }
+{
+    let mut line = word_and_number("csv row ", u64::from(fault.row));
+    line.push_str(" ");
+    line.push_str(fault.kind.name());
     line
 }
 

@@ -2,15 +2,35 @@
 ghost use Rattle.std.specs.Prelude.{◌≡◌, ◌≢◌, false, IfOk, IfErr};
 ghost use Rattle.plant_base.specs.State.{State};
 ghost use Rattle.plant_desk.specs.Keeping.{IsSameDesk};
+ghost use Rattle.desk_program.specs.Faults as spec;
 
 use crate::fault::Fault;
-use plant_desk::{Answer, Keeper, Question};
+use plant_desk::{Answer, DeskFault, Keeper, Question};
 
 /// The schema of a keeper's tables, and how many commands it has accepted.
 #[derive(Clone, Copy)]
 pub(crate) struct Standing {
     pub(crate) schema: u64,
     pub(crate) seq: u64,
+}
+
+/// Where a keeper stands by what it answered, or its fault.
+fn standing_of(asked: Result<Answer, DeskFault>) -> Result<Standing, Fault>
+    ensures is { result ≡ spec.standing_of asked }
+    ensures unwritten { IfErr result (λ fault. fault ≢ Fault.Write) }
+{
+    match asked {
+        Ok(Answer::Desk { schema, seq }) => Ok(Standing { schema, seq }),
+        // No keeper that keeps its word answers anything else.
+        Ok(
+            Answer::Lot(_)
+            | Answer::Order(_)
+            | Answer::Batch(_)
+            | Answer::Trace(_)
+            | Answer::Unknown(_),
+        ) => Err(Fault::Store),
+        Err(fault) => Err(Fault::from(fault)),
+    }
 }
 
 /// Asks an open keeper where it stands. It stays open, and where it was.
@@ -23,10 +43,5 @@ pub(crate) fn ask_standing<K: Keeper>(keeper: &mut K) -> Result<Standing, Fault>
         → IfOk result (λ at. (at.schema ≡ K.schema keeper.old) × (at.seq ≡ s.seq)) }
     ensures unwritten { IfErr result (λ fault. fault ≢ Fault.Write) }
 {
-    match keeper.ask(&Question::Desk) {
-        Ok(Answer::Desk { schema, seq }) => Ok(Standing { schema, seq }),
-        // No keeper that keeps its word answers anything else.
-        Ok(_) => Err(Fault::Store),
-        Err(fault) => Err(Fault::from(fault)),
-    }
+    standing_of(keeper.ask(&Question::Desk))
 }

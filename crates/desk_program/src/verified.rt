@@ -8,6 +8,7 @@ ghost use Rattle.plant_desk.specs.Keeping.{IsSameDesk};
 ghost use Rattle.plant_desk_store.specs.Adopting.{IsNewlyOpened, AdoptedFrom};
 ghost use Rattle.plant_desk_store.specs.Standing.{IsOpenAt, Stands};
 ghost use Rattle.plant_text.specs.Writes.{with_lf};
+ghost use Rattle.desk_program.specs.Faults as spec;
 ghost use Rattle.desk_program.specs.Texts.{good_text};
 ghost use Rattle.desk_program.specs.Performing.{IsGoodLine, Printed, Unprinted};
 
@@ -16,11 +17,24 @@ use crate::fault::Fault;
 use crate::lines::good_line;
 use crate::printing::print_line;
 use crate::standing::ask_standing;
-use plant_desk::Keeper;
+use plant_check::Rule;
+use plant_desk::{DeskFault, Keeper};
 use plant_desk_store::Desk;
 use sqlite::{Alter, Connection};
 use std::alloc::Global;
 use std::io::Write;
+
+/// What a test of all tables came to: a rule that they break is a fault.
+fn outcome_of_test(test: Result<Option<Rule>, DeskFault>) -> Result<(), Fault>
+    ensures is { result ≡ spec.outcome_of_test test }
+    ensures unwritten { IfErr result (λ fault. fault ≢ Fault.Write) }
+{
+    match test {
+        Ok(None) => Ok(()),
+        Ok(Some(rule)) => Err(Fault::Damaged(rule)),
+        Err(fault) => Err(Fault::from(fault)),
+    }
+}
 
 /// Tests all tables of an open desk, whose first broken rule is a fault.
 fn check_tables<S: Alter>(desk: &mut Desk<S>) -> Result<(), Fault>
@@ -33,11 +47,7 @@ fn check_tables<S: Alter>(desk: &mut Desk<S>) -> Result<(), Fault>
         → Stands (state S.Store desk.new.connection) desk.new.is_shut s }
     ensures unwritten { IfErr result (λ fault. fault ≢ Fault.Write) }
 {
-    match desk.verify() {
-        Ok(None) => Ok(()),
-        Ok(Some(rule)) => Err(Fault::Damaged(rule)),
-        Err(fault) => Err(Fault::from(fault)),
-    }
+    outcome_of_test(desk.verify())
 }
 
 /// Prints `good schema N seq S`: the schema of the keeper's tables, and how many commands it has accepted.

@@ -1,5 +1,5 @@
 //! Connections, one after the other.
-ghost use Rattle.std.specs.Prelude.{◌≡◌, ◌≢◌, false, true, IfErr, IfOk};
+ghost use Rattle.std.specs.Prelude.{◌≡◌, ◌≢◌, false, true, Ok, Err, IfErr, IfOk, OnErr};
 ghost use Rattle.sqlite.specs.Held.{state};
 ghost use Rattle.sqlite.specs.State.{HasCleanDisk};
 ghost use Rattle.desk_server.specs.Serving.{EndsServing, IsSameStore};
@@ -7,7 +7,7 @@ ghost use Rattle.desk_server.specs.Serving.{EndsServing, IsSameStore};
 use crate::connection::{read_on, read_rest, serve_stream};
 use desk_program::Fault;
 use plant_desk_store::Desk;
-use plant_http_routes::Routes;
+use plant_http_routes::{Routes, RoutesFault};
 use sqlite::Alter;
 use std::alloc::Global;
 use std::net::{TcpListener, TcpStream};
@@ -25,6 +25,7 @@ fn serve_each<S: Alter + Drop>(
     requires { desk.old.is_shut ≡ false }
     ensures same { IsSameStore S.Store desk.old desk.new }
     ensures ends { EndsServing desk.new.is_shut result }
+    ensures routed { IfErr result (λ fault. fault ≢ Fault.Memory) }
 {
     for _ in 0..count {
         let Ok((stream, _)) = listener.accept() else {
@@ -42,6 +43,17 @@ fn serve_each<S: Alter + Drop>(
     Ok(false)
 }
 
+/// The routes, or want of memory for them.
+fn routes_of(made: Result<Routes, RoutesFault>) -> Result<Routes, Fault>
+    ensures ok { IfOk made (λ routes. result ≡ Ok routes) }
+    ensures memory { OnErr made (result ≡ Err Fault.Memory) }
+{
+    match made {
+        Ok(routes) => Ok(routes),
+        Err(_) => Err(Fault::Memory),
+    }
+}
+
 /// Serves so many connections of a listener, one after the other, by an open desk. What is answered to a request ends nothing,
 /// and neither does a fault of a connection; one without a byte counts too.
 ///
@@ -57,9 +69,7 @@ pub fn serve_listener<S: Alter + Drop>(
     ensures same { IsSameStore S.Store desk.old desk.new }
     ensures ends { EndsServing desk.new.is_shut result }
 {
-    let Ok(routes) = Routes::new(alloc) else {
-        return Err(Fault::Memory);
-    };
+    let routes = routes_of(Routes::new(alloc))?;
     let mut answered = None;
     let end = serve_each(alloc, listener, count, &routes, desk, &mut answered);
     if let Some(last) = &answered {

@@ -6,3 +6,4 @@ pub mod Turned
 pub mod Index
 pub mod Ranks
 pub mod Growth
+pub mod Places

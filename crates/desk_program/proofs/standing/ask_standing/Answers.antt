@@ -1,11 +1,9 @@
-use Rattle.std.proofs.Common.{◌≡◌, sym, ◌∙◌}
-use Rattle.plant_desk.specs.Answers.{answer}
-use Rattle.plant_desk.specs.declared.question.Answer.TheVariants as A
+use Rattle.desk_program.proofs.Asked.{asked_stays, asked_standing}
 use Rattle.desk_program.proofs.standing.ask_standing.Goals as goal
 
-pub returns-in-Ok-Desk-clause-asked : goal.returns-in-Ok-Desk-clause-asked
-unfolding answer
-returns-in-Ok-Desk-clause-asked g c = λ h s stands.
-    let asked = c.in-Ok-Desk.ensures.asks h c.requires s stands in
-    let e : A.Desk c.in-Ok-Desk.schema c.in-Ok-Desk.seq ≡ A.Desk (g.K.Keeper.schema c.args.keeper.now) s.seq = sym c.in-Ok-Desk.field-0-is ∙ asked.0 in
-    (cc, cc)
+pub returns-clause-stays : goal.returns-clause-stays
+returns-clause-stays g c = λ h s stands. asked_stays _ s (g.K.Keeper.stands c.ask.new.self) _ c.ask.result (c.ask.ensures.asks h c.requires s stands)
+
+pub returns-clause-asked : goal.returns-clause-asked
+returns-clause-asked g c = λ h s stands.
+    asked_standing _ s (g.K.Keeper.stands c.ask.new.self) c.ask.result c.standing_of.result (c.ask.ensures.asks h c.requires s stands) c.standing_of.ensures.is

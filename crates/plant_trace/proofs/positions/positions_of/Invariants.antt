@@ -1,5 +1,13 @@
-use Rattle.std.proofs.Common.{◌-◌, ◌^◌}
+use Rattle.std.proofs.Common.{◌-◌, ◌^◌, ◌≤◌, length, take}
+use Rattle.plant_trace.specs.Places.{ArePlaces, HasFirst}
 use Rattle.plant_trace.proofs.positions.positions_of.Given as goal
+
+abbrev pub invariant-taken : goal.invariant-taken
+invariant-taken l = record {
+  first : HasFirst l.pairs l.ready.items;
+  reached : l.at ≤ length l.ready.items;
+  places : ArePlaces (take l.at l.ready.items) l.positions;
+}
 
 abbrev pub decreases-taken : goal.decreases-taken
 decreases-taken l = 2 ^ 64 - l.at

@@ -1,0 +1,5 @@
+use Rattle.plant_trace.specs.Places.{Grows}
+use Rattle.plant_trace.proofs.positions.take.Given as goal
+
+abbrev pub invariant-loop-node : goal.invariant-loop-node
+invariant-loop-node l = Grows l.initial.ready.items l.ready.items

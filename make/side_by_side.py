@@ -4,8 +4,9 @@
     make/side_by_side.py PROGRAM...
 
 In the repository's folder. A crate of crates.txt is begun as soon as those below it are built: as many at once as there are
-processors, and 4 GB of free memory for each. Of those that can be begun, the one that most others stand on goes first. A crate that was
-built here and has not changed since, nor anything below it, is passed over.
+processors, and 4 GB of free memory for each. Of those that can be begun, the one with the longest chain of others above it goes first, by
+their lines, and the longest of all gets a second processor. A crate that was built here and has not changed since, nor anything below
+it, is passed over.
 
 rt lets one command at a time into a crate and those below it. So each crate is built in a copy of the repository, of which there are as
 many as crates at once, in build/copies/; what it leaves in out/ comes back to the crate's own folder, and the copies are removed.
@@ -69,8 +70,8 @@ def below(listed, name):
 
 
 def sum_of_files(name):
-    """A sum of the texts of one crate."""
-    sum_of_all = hashlib.sha256()
+    """A sum of the texts of one crate, and how many lines they have."""
+    sum_of_all, count = hashlib.sha256(), 0
     for part in PARTS:
         top = f"crates/{name}/{part}"
         files = [top] if os.path.isfile(top) else sorted(f"{at}/{it}" for at, _, names in os.walk(top) for it in names)
@@ -78,15 +79,24 @@ def sum_of_files(name):
             with open(file, "rb") as it:
                 text = it.read()
             sum_of_all.update(f"{file} {len(text)}\n".encode() + text)
-    return sum_of_all.hexdigest()
+            count += text.count(b"\n")
+    return sum_of_all.hexdigest(), count
 
 
-def sums_of(lines, listed, needed):
+def sums_of(lines, listed, files):
     """For each crate needed a sum of all of which it is built: the toolchain, its texts, and those below it."""
     toolchain = subprocess.run(["rt", "version"], capture_output=True, check=True).stdout.decode()
-    own = {name: f"{toolchain}{lines[name]} {sum_of_files(name)}" for name in needed}
-    whole = {name: "\n".join(own[it] for it in [*below(listed, name), name]) for name in needed}
+    own = {name: f"{toolchain}{lines[name]} {sum_of_all}" for name, (sum_of_all, _) in files.items()}
+    whole = {name: "\n".join(own[it] for it in [*below(listed, name), name]) for name in files}
     return {name: hashlib.sha256(text.encode()).hexdigest() for name, text in whole.items()}
+
+
+def chains(listed, files):
+    """For each crate needed the lines of the longest chain of crates that begins with it, each of which stands on the one before."""
+    found = {}
+    for name in reversed(files):
+        found[name] = files[name][1] + max((found[it] for it in found if name in listed[it]), default=0)
+    return found
 
 
 def clock(seconds):
@@ -193,8 +203,8 @@ class Work:
         wanted = set(programs).union(*(below(self.listed, it) for it in programs))
         self.needed = [it for it in self.listed if it in wanted]
         self.lines = {it: lines[it] for it in self.needed}
-        self.above = {it: sum(it in below(self.listed, other) for other in self.needed) for it in self.needed}
-        self.sums = sums_of(self.lines, self.listed, self.needed)
+        files = {it: sum_of_files(it) for it in self.needed}
+        self.chains, self.sums = chains(self.listed, files), sums_of(self.lines, self.listed, files)
         self.noted = self.read_noted()
         self.built = {it for it in self.needed if self.is_unchanged(it)}
         self.running, self.news = [], time.monotonic()
@@ -220,15 +230,18 @@ class Work:
         self.tell(f"{len(self.built)} of {len(self.needed)} done; under way: {shown}")
 
     def ready(self):
-        """The crates that can be begun, those first that most others stand on."""
+        """The crates that can be begun, those first that have the longest chain above them."""
         begun = self.built.union(it.name for it in self.running)
         found = [it for it in self.needed if it not in begun and self.built.issuperset(self.listed[it])]
-        return sorted(found, key=lambda it: -self.above[it])
+        return sorted(found, key=lambda it: -self.chains[it])
 
     def begin(self, copies, at_once):
         ready = self.ready()
-        jobs = max(1, at_once // max(1, len(ready) + len(self.running)))
+        waiting = [*ready, *(it.name for it in self.running)]
+        longest = max(self.chains[it] for it in waiting)
+        spare = max(1, at_once // len(waiting))
         for name, copy in zip(ready, [it for it in copies if it not in [other.copy for other in self.running]]):
+            jobs = max(spare, min(2, at_once)) if self.chains[name] == longest else spare
             self.running.append(Build(self.listed, name, copy, name in self.programs, jobs))
 
     def note(self, build):

@@ -1,10 +1,11 @@
 //! What is done over an opened store.
 ghost use Rattle.std.specs.Prelude.{◌≡◌, false, Err, IfErr, OnErr, OnOk};
 ghost use Rattle.sqlite.specs.Held.{state};
+ghost use Rattle.desk.specs.Served.{outcome_of};
 ghost use Rattle.desk_server.specs.Serving.{EndsServing};
 
 use desk_program::{Fault, Performed, adopt, perform_task, performed_of};
-use desk_server::{listen_at, local_at, serve_listener};
+use desk_server::{ServingFault, listen_at, local_at, serve_listener};
 use desk_words::{Serving, Work};
 use plant_desk_store::Desk;
 use sqlite::{Alter, Connection};
@@ -54,10 +55,22 @@ fn serve_desk<S: Alter + Drop>(
 ) -> Performed<S>
     requires { desk.is_shut ≡ false }
 {
-    let outcome = serve_at(rt, serving, &mut desk);
+    let served = serve_at(rt, serving, &mut desk);
     Performed {
-        outcome,
+        outcome: outcome_of(served),
         connection: desk.close(),
+    }
+}
+
+/// What is told of the requests that were served, of which none counts as a refusal, or of the fault that ended it.
+fn outcome_of(served: Result<(), ServingFault>) -> Result<bool, Fault>
+    ensures { result ≡ outcome_of served }
+{
+    match served {
+        Ok(()) => Ok(false),
+        Err(ServingFault::Store) => Err(Fault::Store),
+        Err(ServingFault::Net) => Err(Fault::Net),
+        Err(ServingFault::Memory) => Err(Fault::Memory),
     }
 }
 
@@ -66,7 +79,7 @@ fn serve_at<S: Alter + Drop>(
     rt: &HostRuntime,
     serving: Serving,
     desk: &mut Desk<S>,
-) -> Result<bool, Fault>
+) -> Result<(), ServingFault>
     requires { desk.old.is_shut ≡ false }
     ensures ends { EndsServing desk.new.is_shut result }
 {
@@ -77,10 +90,10 @@ fn serve_at<S: Alter + Drop>(
 /// Serves the connections that come in where a port is listened on. The fault of one that isn't is handed on.
 fn serve_listening<S: Alter + Drop>(
     alloc: Global,
-    listening: Result<TcpListener, Fault>,
+    listening: Result<TcpListener, ServingFault>,
     count: u32,
     desk: &mut Desk<S>,
-) -> Result<bool, Fault>
+) -> Result<(), ServingFault>
     requires { desk.old.is_shut ≡ false }
     ensures ends { OnOk listening (EndsServing desk.new.is_shut result) }
     ensures fault { IfErr listening (λ fault. result ≡ Err fault) }

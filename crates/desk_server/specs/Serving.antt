@@ -8,8 +8,8 @@ use Rattle.plant_base.specs.State.{newest_schema}
 use Rattle.plant_desk.specs.Keeping.{IsSameDesk}
 use Rattle.plant_desk_store.specs.Standing.{IsBeside}
 use Rattle.plant_desk_store.specs.declared.stored.Desk.{Desk}
-use Rattle.desk_program.specs.declared.fault.Fault.{Fault}
-use Rattle.desk_program.specs.declared.fault.Fault.TheVariants as fault
+use Rattle.desk_server.specs.declared.fault.ServingFault.{ServingFault}
+use Rattle.desk_server.specs.declared.fault.ServingFault.TheVariants as fault
 
 -- the desk is one and the same: what it stood on has kept its word, and what stands beside its tables stands there still
 abbrev pub IsSameStore : {S : Type 0} (g : Ghosts S) → Desk S g → Desk S g → Type 0
@@ -18,14 +18,9 @@ IsSameStore {S} g old new =
     (λ (d : Desk S g) (before : Database). IsBeside (state g d.connection) d.is_shut before) old new
 
 -- The end of the connections: all were served, or no further one could be taken, or memory was refused before the first,
--- by a desk that is open; or a fault of the store has shut it. Nothing counts as a refusal.
-abbrev pub EndsServing : Bool → Result Bool Fault → Type 0
-EndsServing shut (Ok refused) = (shut ≡ false) × (refused ≡ false)
+-- by a desk that is open; or a fault of the store has shut it.
+abbrev pub EndsServing : Bool → Result (Unit {0}) ServingFault → Type 0
+EndsServing shut (Ok served) = shut ≡ false
 EndsServing shut (Err fault.Store) = shut ≡ true
 EndsServing shut (Err fault.Net) = shut ≡ false
 EndsServing shut (Err fault.Memory) = shut ≡ false
-EndsServing shut (Err (fault.Newer schema)) = ⊥
-EndsServing shut (Err (fault.Damaged rule)) = ⊥
-EndsServing shut (Err fault.Read) = ⊥
-EndsServing shut (Err fault.Write) = ⊥
-EndsServing shut (Err fault.Endless) = ⊥

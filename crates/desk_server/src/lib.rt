@@ -3,7 +3,9 @@
 
 mod address;
 mod connection;
+mod fault;
 mod listening;
 
 pub use address::{listen_at, local_at};
+pub use fault::ServingFault;
 pub use listening::serve_listener;

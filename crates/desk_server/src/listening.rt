@@ -5,7 +5,7 @@ ghost use Rattle.sqlite.specs.State.{HasCleanDisk};
 ghost use Rattle.desk_server.specs.Serving.{EndsServing, IsSameStore};
 
 use crate::connection::{read_on, read_rest, serve_stream};
-use desk_program::Fault;
+use crate::fault::ServingFault;
 use plant_desk_store::Desk;
 use plant_http_routes::{Routes, RoutesFault};
 use sqlite::Alter;
@@ -21,15 +21,15 @@ fn serve_each<S: Alter + Drop>(
     routes: &Routes,
     desk: &mut Desk<S>,
     answered: &mut Option<TcpStream>,
-) -> Result<bool, Fault>
+) -> Result<(), ServingFault>
     requires { desk.old.is_shut ≡ false }
     ensures same { IsSameStore S.Store desk.old desk.new }
     ensures ends { EndsServing desk.new.is_shut result }
-    ensures routed { IfErr result (λ fault. fault ≢ Fault.Memory) }
+    ensures routed { IfErr result (λ fault. fault ≢ ServingFault.Memory) }
 {
     for _ in 0..count {
         let Ok((stream, _)) = listener.accept() else {
-            return Err(Fault::Net);
+            return Err(ServingFault::Net);
         };
         let next = serve_stream(alloc, routes, stream, desk);
         if let Some(former) = &*answered {
@@ -37,20 +37,20 @@ fn serve_each<S: Alter + Drop>(
         }
         *answered = next;
         if desk.is_shut() {
-            return Err(Fault::Store);
+            return Err(ServingFault::Store);
         }
     }
-    Ok(false)
+    Ok(())
 }
 
 /// The routes, or want of memory for them.
-fn routes_of(made: Result<Routes, RoutesFault>) -> Result<Routes, Fault>
+fn routes_of(made: Result<Routes, RoutesFault>) -> Result<Routes, ServingFault>
     ensures ok { IfOk made (λ routes. result ≡ Ok routes) }
-    ensures memory { OnErr made (result ≡ Err Fault.Memory) }
+    ensures memory { OnErr made (result ≡ Err ServingFault.Memory) }
 {
     match made {
         Ok(routes) => Ok(routes),
-        Err(_) => Err(Fault::Memory),
+        Err(_) => Err(ServingFault::Memory),
     }
 }
 
@@ -64,7 +64,7 @@ pub fn serve_listener<S: Alter + Drop>(
     listener: &TcpListener,
     count: u32,
     desk: &mut Desk<S>,
-) -> Result<bool, Fault>
+) -> Result<(), ServingFault>
     requires { desk.old.is_shut ≡ false }
     ensures same { IsSameStore S.Store desk.old desk.new }
     ensures ends { EndsServing desk.new.is_shut result }

@@ -1,7 +1,6 @@
 //! Connections that come in on a listener.
 use crate::session::new_desk;
-use desk_program::Fault;
-use desk_server::serve_listener;
+use desk_server::{ServingFault, serve_listener};
 use std::io::{Read, Write};
 use std::net::{Shutdown, SocketAddr, TcpListener, TcpStream};
 use std::test::Fail;
@@ -29,7 +28,7 @@ fn connections_are_served_in_turn(rt: HostRuntime) -> Result<(), Fail> {
         return Err(Fail::from("a new desk is shut"));
     }
     let end = serve_listener(rt.alloc(), &listener, 4, &mut desk);
-    assert!(rt; end == Err(Fault::Net));
+    assert!(rt; end == Err(ServingFault::Net));
     let mut answer = Vec::new(rt.alloc());
     asking.read_to_end(&mut answer)?;
     assert!(rt; answer.ends_with(b"\r\n\r\n{\"schema\":2,\"seq\":0}"));

@@ -21,4 +21,4 @@ pub returns-clause-same : goal.returns-clause-same
 returns-clause-same g c = c.loop.invariant.0
 
 pub returns-clause-ends : goal.returns-clause-ends
-returns-clause-ends g c = (c.loop.invariant.1, refl)
+returns-clause-ends g c = c.loop.invariant.1

@@ -101,12 +101,9 @@ def apply():
 
 def copy(folder):
     shutil.rmtree(folder, ignore_errors=True)
-    listed = subprocess.run(["git", "ls-files", "--cached", "--others", "--exclude-standard"], cwd=TOP, check=True, capture_output=True, text=True)
-    for name in listed.stdout.splitlines():
-        if (TOP / name).is_file() and pathlib.Path(name).suffix != ".edit":
-            (folder / name).parent.mkdir(parents=True, exist_ok=True)
-            shutil.copy2(TOP / name, folder / name)
-    subprocess.run(["git", "init", "-q"], cwd=folder, check=True)
+    shutil.copytree(TOP, folder, ignore=shutil.ignore_patterns(".git", "build", "out", "__pycache__", "*.edit"))
+    # rt goes up to the first .git for the top of a repository.
+    (folder / ".git").mkdir()
     return 0
 
 

@@ -11,7 +11,9 @@ An edit names in its line `refused by:` the function whose contract has to refus
 prover prints it, or the end of it that fits one function alone. Each function is proved by itself, over what others promise. So edits of
 one crate that stand in the functions that they name, each in another, are tried together, and the prover says of each function whether
 it meets its own contract. An edit that stands elsewhere, as in a constant or in what the function is made of, is tried by itself, and so is one
-whose function is refused for a call of what another edit broke. An edit isn't refused by a proof that names what it took away.
+whose function is refused for a call of what another edit broke. A function that is refused for a call alone refuses nothing, and neither
+does a proof that names what the edit took away; but a goal that the edit gave another name is left to the search, without the answer that
+it had, and one that the search leaves open counts as refused: that its clause is false is then to be read.
 """
 import concurrent.futures
 import os
@@ -181,7 +183,10 @@ def judged(edit, verdicts, is_alone):
         return False, f"no one function is {edit.function}"
     if verdicts.functions[path] == "proved":
         return False, f"NOT REFUSED: {path} is still proved"
-    goals = [] if verdicts.functions[path].startswith("could not tell") else verdicts.open_goals(edit, path, is_alone)
+    status = verdicts.functions[path]
+    goals = [] if status.startswith("could not tell") else verdicts.open_goals(edit, path, False)
+    if not goals and is_alone and re.fullmatch(r"not proved|no proof: (?!it calls).*", status):
+        goals = verdicts.open_goals(edit, path, True)
     return (True, f"refused by {path}: {goals[0][:110]}") if goals else (None, f"{path}: {verdicts.functions[path][:200]}")
 
 

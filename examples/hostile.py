@@ -41,6 +41,7 @@ DAMAGES = [
     "UPDATE batch SET attempt = 2",
     "UPDATE meta SET seq = 17",
     "DELETE FROM edge WHERE kind = 2",
+    "INSERT INTO receipt VALUES ('K-1', 99, 'x')",
 ]
 
 # The edges of the twenty commands.
@@ -86,7 +87,7 @@ def padded(size):
 
 
 # What a new desk answers to the command.
-ACCEPTED = NEW[: -len(b'20\r\nConnection: close\r\n\r\n{"schema":2,"seq":0}')] + b'8\r\nConnection: close\r\n\r\n{"ok":1}'
+ACCEPTED = NEW[: -len(b'20\r\nConnection: close\r\n\r\n{"schema":3,"seq":0}')] + b'8\r\nConnection: close\r\n\r\n{"ok":1}'
 
 # Requests to new desks, each with its answer.
 REQUESTS = [
@@ -154,14 +155,17 @@ def damages_are_named(check, session):
 
 
 def rules_are_tested(check):
-    """Changes a good desk in each way that is written, and verifies it; and in the first schema, which has no edges."""
+    """Changes a good desk in each way that is written, and verifies it; and in the older schemas, which have no receipts, and the first no
+    edges."""
     first, file = check.room / "good.db", check.room / "changed.db"
     check.run("init", first.name)
     changed(first, "DELETE FROM meta;" + (HERE / "tables/good_desk.sql").read_text())
-    good = (0, b"good schema 2 seq 20\n", b"")
+    good = (0, b"good schema 3 seq 20\n", b"")
     lines = (HERE / "tables/broken_rules.txt").read_text().splitlines()
     cases = [line.split(": ", 1) for line in lines if line and not line.startswith("#")]
     cases += [("0", LOWER), ("12", LOWER + "UPDATE movement SET batch = 'B-1' WHERE seq = 15")]
+    second = "DROP TABLE receipt; UPDATE meta SET schema = 2"
+    cases += [("0", second), ("12", second + "; DELETE FROM edge WHERE a = 'D-0'"), ("1", second + "; CREATE TABLE receipt (a INTEGER)")]
     for number, statement in cases:
         shutil.copyfile(first, file)
         changed(file, statement)

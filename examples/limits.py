@@ -128,7 +128,7 @@ class Limits(Check):
     def verifies(self, name, file, seq):
         """Verifies a file, and returns the seconds that it takes."""
         began = time.monotonic()
-        self.expect(f"{name}, verified", self.run("verify", file), (0, b"good schema 2 seq %d\n" % seq, b""))
+        self.expect(f"{name}, verified", self.run("verify", file), (0, b"good schema 3 seq %d\n" % seq, b""))
         return time.monotonic() - began
 
     def filled(self, file, rows, seq):

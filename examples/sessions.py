@@ -21,7 +21,7 @@ import time
 SECONDS = 300
 BAD_FORM = b'{"name":"BadForm","refused":1}\n'
 DESK = b'{"ask":"desk"}'
-NEW_DESK = b'{"schema":2,"seq":0}\n'
+NEW_DESK = b'{"schema":3,"seq":0}\n'
 LINE_LIMIT = 262_144
 
 # How often a server is started at most where another program has taken its port.
@@ -30,12 +30,12 @@ ATTEMPTS = 3
 # A question over HTTP, and what a desk answers that has no command, and that has one.
 ASK = b"GET /v1/desk HTTP/1.0\n\n"
 NEW = b"HTTP/1.1 200 OK\r\nContent-Type: application/json\r\nContent-Length: 20\r\nConnection: close\r\n\r\n"
-NEW += b'{"schema":2,"seq":0}'
+NEW += b'{"schema":3,"seq":0}'
 ONE = NEW.replace(b'"seq":0', b'"seq":1')
 
 # What takes tables back to the first schema.
 LOWER = """
-    DROP INDEX movement_by_lot; DROP INDEX movement_by_batch; DROP INDEX batch_event_by_batch; DROP TABLE edge;
+    DROP INDEX movement_by_lot; DROP INDEX movement_by_batch; DROP INDEX batch_event_by_batch; DROP TABLE edge; DROP TABLE receipt;
     UPDATE meta SET schema = 1;
 """
 
@@ -66,7 +66,47 @@ TABLES = {
     "movement": ("seq# line# kind# lot sub# lot2? sub2#? batch? amount# at# by_who note", ["seq line"]),
     "hold": ("lot id at# by_who note", ["lot id"]),
     "edge": ("kind# a b", ["kind a b"]),
+    "receipt": ("id seq# content", ["id"]),
 }
+
+# Commands of each word, with what is kept of each as its content behind its moment, its operator and its note.
+WORDS = [
+    ('"do":"add_class","class":"RAW","name":"Raw goods"', "add_class RAW|Raw goods"),
+    ('"do":"add_definition","def":"FLOUR","class":"RAW","name":"","unit":"kg"', "add_definition FLOUR|RAW||kg"),
+    ('"do":"add_definition","def":"DOUGH","class":"RAW","name":"Dough","unit":"kg"', "add_definition DOUGH|RAW|Dough|kg"),
+    (
+        '"do":"add_recipe","recipe":"CAKE","version":1,"product":"DOUGH","base":300,"min":100,"max":900,"title":"A cake","lines":['
+        '{"kind":"in","def":"FLOUR","qty":100},{"kind":"out","def":"DOUGH","qty":300},'
+        '{"kind":"par","name":"TEMP","value":"80 C"},{"kind":"phase","unit":"MIX","oper":"BLEND","phase":"STIR"}]',
+        "add_recipe CAKE|1|DOUGH|300|100|900|A cake|4|in|FLOUR|100|out|DOUGH|300|par|TEMP|80 C|phase|MIX|BLEND|STIR",
+    ),
+    ('"do":"approve","recipe":"CAKE","version":1', "approve CAKE|1"),
+    (
+        '"do":"import_orders","orders":['
+        '{"order":"O-1","recipe":"CAKE","version":1,"size":500,"due":"2027-03-01","priority":5},'
+        '{"order":"O-2","recipe":"CAKE","version":1,"size":100,"due":"2027-03-08","priority":1}]',
+        "import_orders 2|O-1|CAKE|1|500|2027-03-01|5|O-2|CAKE|1|100|2027-03-08|1",
+    ),
+    ('"do":"cancel_order","order":"O-2"', "cancel_order O-2"),
+    ('"do":"receive","lot":"F-1","def":"FLOUR","amount":1000,"place":"A1"', "receive F-1|FLOUR|1000|A1"),
+    ('"do":"release","order":"O-1","batch":"B-1"', "release O-1|B-1"),
+    ('"do":"batch","batch":"B-1","word":"start"', "batch B-1|start"),
+    ('"do":"consume","batch":"B-1","lot":"F-1","sub":0,"amount":167', "consume B-1|F-1|0|167"),
+    ('"do":"phase_done","batch":"B-1","phase":1', "phase_done B-1|1"),
+    ('"do":"produce","batch":"B-1","lot":"D-1","def":"DOUGH","amount":490,"place":"A2"', "produce B-1|D-1|DOUGH|490|A2"),
+    ('"do":"settle","batch":"B-1"', "settle B-1"),
+    ('"do":"close_batch","batch":"B-1"', "close_batch B-1"),
+    ('"do":"scrap","lot":"D-1","sub":0,"amount":10', "scrap D-1|0|10"),
+    ('"do":"split","lot":"D-1","sub":0,"amount":100,"new":"D-2","place":""', "split D-1|0|100|D-2|"),
+    ('"do":"divide","lot":"D-1","sub":0,"amount":50,"place":"A2"', "divide D-1|0|50|A2"),
+    (
+        '"do":"merge","new":"D-3","place":"A3","parts":[{"lot":"D-2","sub":0,"amount":60},{"lot":"D-1","sub":1,"amount":50}]',
+        "merge D-3|A3|2|D-2|0|60|D-1|1|50",
+    ),
+    ('"do":"hold","lot":"D-1","hold":"H-1"', "hold D-1|H-1"),
+    ('"do":"unhold","lot":"D-1","hold":"H-1"', "unhold D-1|H-1"),
+    ('"do":"withdraw","recipe":"CAKE","version":1', "withdraw CAKE|1"),
+]
 
 # The record of the batch of the session a_batch_runs_to_its_close.
 RECORD = b"""BATCH RECORD B-1
@@ -118,8 +158,8 @@ class Session:
         return self
 
     def count(self):
-        """Returns how many commands are accepted."""
-        return sum(it.startswith(b'{"ok":') for it in self.wanted.split(b"\n"))
+        """Returns how many commands are accepted: a repeat is answered the number that it got."""
+        return len({it for it in self.wanted.split(b"\n") if it.startswith(b'{"ok":')})
 
     def is_refused(self):
         """Returns whether a line is refused."""
@@ -326,7 +366,7 @@ class Check:
         second = self.run("run", file, told=b"".join(told[half:]))
         found = (first[0] | second[0], first[1] + second[1], first[2] + second[2])
         self.expect(f"{session.name}, over a file", found, (int(session.is_refused()), session.wanted, b""))
-        good = b"good schema 2 seq %d\n" % session.count()
+        good = b"good schema 3 seq %d\n" % session.count()
         self.expect(f"{session.name}, verified", self.run("verify", file), (0, good, b""))
 
     def orders_are_imported(self):
@@ -382,10 +422,10 @@ class Check:
         """Asks for traces and a record, over the file that the session leaves."""
         file = "words.db"
         for words, status, wanted in [
-            (["verify", file], 0, b"good schema 2 seq 0\n"),
-            (["init", file], 0, b"ready schema 2\n"),
+            (["verify", file], 0, b"good schema 3 seq 0\n"),
+            (["init", file], 0, b"ready schema 3\n"),
             (["run", file], int(session.is_refused()), session.wanted),
-            (["init", file], 0, b"ready schema 2\n"),
+            (["init", file], 0, b"ready schema 3\n"),
             (["trace", file, "forward", "F-1"], 0, b"lot D-1\nbatch B-1\n"),
             (["trace", file, "back", "D-1"], 0, b"lot F-1\nbatch B-1\n"),
             (["trace", file, "forward", "F-9"], 1, b'{"name":"UnknownLot","refused":9}\n'),
@@ -405,12 +445,63 @@ class Check:
         store.close()
         for words, wanted in [
             (["trace", file.name, "back", "D-1"], b"lot F-1\nbatch B-1\n"),
-            (["verify", file.name], b"good schema 2 seq %d\n" % session.count()),
+            (["verify", file.name], b"good schema 3 seq %d\n" % session.count()),
         ]:
             self.expect(" ".join(words) + " of the first schema", self.run(*words), (0, wanted, b""))
         store = sqlite3.connect(file)
         self.expect("edges that were raised", store.execute("SELECT kind, a, b FROM edge ORDER BY kind, a, b").fetchall(), edges)
         store.close()
+
+    def contents_are_as_published(self):
+        """Tells a desk a command of each word under a reference, each line twice, and reads what is kept of them with another SQLite:
+        the receipts are as published, and all other tables as where each line is told once without a reference."""
+        once, twice, receipts = Session("each word once"), Session("each word twice"), []
+        for number, (body, content) in enumerate(WORDS, 1):
+            told = f'{{"at":{100 + number},"by":"anna",{body},"note":"{number}"'.encode()
+            once.told += told + b"}\n"
+            twice.told += 2 * (told + b',"ref":"K-%03d"}\n' % number)
+            once.wanted += b'{"ok":%d}\n' % number
+            twice.wanted += 2 * (b'{"ok":%d}\n' % number)
+            lines = [str(100 + number), "anna", str(number), *content.replace(" ", "|", 1).split("|")]
+            receipts.append((f"K-{number:03}", number, "".join(f"{it}\n" for it in lines)))
+        found = {}
+        for session in (once, twice):
+            file = self.room / f"{session.name}.db"
+            self.expect(session.name, self.run("run", file.name, told=session.told), (0, session.wanted, b""))
+            store = sqlite3.connect(file)
+            found[session.name] = {it: store.execute(f"SELECT * FROM {it} ORDER BY 1, 2").fetchall() for it in TABLES}
+            store.close()
+        self.expect("receipts", found[twice.name].pop("receipt"), receipts)
+        self.expect("no receipts", found[once.name].pop("receipt"), [])
+        self.expect("other tables", found[twice.name], found[once.name])
+
+    def a_reference_has_three_roads(self):
+        """Gives one import under one reference by a line, by a word and by a request: it acts once, and any other one is refused."""
+        file, head, row = "roads.db", b"order,recipe,version,size,due,priority\n", b"O-0,R,1,1,2027-03-01,5\n"
+        told = Session("").accepted(*GOODS, recipe(1), '"do":"approve","recipe":"R","version":1')
+        told.told += f'{{"at":100,"by":"anna",{imported(1)},"ref":"FILE-7"}}\n'.encode()
+        self.expect("by a line", self.run("run", file, told=told.told)[1].splitlines()[-1], b'{"ok":5}')
+        words = ["import", file, "--at", "100", "--by", "anna", "--ref"]
+        again, reused = b'{"ok":5}\n', b'{"name":"RefReused","refused":31}\n'
+        self.expect("by a word", self.run(*words, "FILE-7", told=head + row), (0, again, b""))
+        self.expect("by a word, another file", self.run(*words, "FILE-7", told=head), (1, reused, b""))
+        status, out, _ = self.run(*words, "file-7", told=head + row)
+        self.expect("by a word, no id", (status, out), (2, b""))
+        server, port, _ = self.serving(file, 5)
+        try:
+            for name, fields, body, wanted in [
+                ("by a request", b"Desk-Ref: FILE-7\r\n", head + row, (b"200", again[:-1])),
+                ("by a request, another file", b"Desk-Ref: FILE-7\r\n", head, (b"409", reused[:-1])),
+                ("by a request, no id", b"Desk-Ref: file-7\r\n", head + row, (b"400", b'{"status":400}')),
+                ("by a request, twice", b"Desk-Ref: FILE-7\r\n" * 2, head + row, (b"400", b'{"status":400}')),
+            ]:
+                request = b"POST /v1/orders HTTP/1.1\r\nHost: a\r\nDesk-At: 100\r\nDesk-By: anna\r\n%sContent-Length: %d\r\n\r\n%s"
+                answer = answered(port, request % (fields, len(body), body))
+                self.expect(name, (answer.split()[1], answer.partition(b"\r\n\r\n")[2]), wanted)
+            server.communicate(timeout=SECONDS)
+        finally:
+            server.kill()
+            server.communicate()
 
     def a_desk_needs_no_index(self, session):
         """Takes the indexes of the file that the session leaves away: it is as good, and answers and accepts as before."""
@@ -427,10 +518,10 @@ class Check:
         last = session.count()
         more = b'{"at":400,"by":"","do":"scrap","lot":"D-1","sub":0,"amount":1}\n'
         for words, told, wanted in [
-            (["verify", file.name], b"", b"good schema 2 seq %d\n" % last),
+            (["verify", file.name], b"", b"good schema 3 seq %d\n" % last),
             (["trace", file.name, "back", "D-1"], b"", b"lot F-1\nbatch B-1\n"),
             (["run", file.name], more, b'{"ok":%d}\n' % (last + 1)),
-            (["verify", file.name], b"", b"good schema 2 seq %d\n" % (last + 1)),
+            (["verify", file.name], b"", b"good schema 3 seq %d\n" % (last + 1)),
         ]:
             self.expect(" ".join(words) + " without an index", self.run(*words, told=told), (0, wanted, b""))
 
@@ -445,7 +536,7 @@ class Check:
         told = Session("", wanted=b'{"ok":1000000000000000}\n')
         told.told = b'{"at":1,"by":"","do":"add_class","class":"RAW","name":""}\n'
         told.refused("TooMany", 28, '"do":"add_class","class":"WIP","name":""')
-        told.asked(DESK.decode(), '{"schema":2,"seq":1000000000000000}')
+        told.asked(DESK.decode(), '{"schema":3,"seq":1000000000000000}')
         found = self.run("run", file.name, told=told.told)
         self.expect("commands are numbered up to their limit", found, (1, told.wanted, b""))
 
@@ -466,7 +557,7 @@ class Check:
         store.execute("UPDATE meta SET seq = ?, at = ?", (seq + 10 * len(lots), at))
         store.commit()
         store.close()
-        good = b"good schema 2 seq %d\n" % (seq + 10 * len(lots))
+        good = b"good schema 3 seq %d\n" % (seq + 10 * len(lots))
         self.expect("a desk of 70,000 movements", self.run("verify", file.name), (0, good, b""))
         told = Session("").asked('{"ask":"lot","lot":"L-6999"}', '{"def":"SUGAR","held":false,"lot":"L-6999","stock":91,"sublots":[{"no":0,"place":"A1","stock":91}]}')
         self.expect("its last lot", self.run("run", file.name, told=told.told), (0, told.wanted, b""))
@@ -596,6 +687,8 @@ def main(program):
         check.faults_of_order_files_are_told()
         batch = next(it for it in sessions if it.name == "a_batch_runs_to_its_close")
         check.words_tell(batch)
+        check.contents_are_as_published()
+        check.a_reference_has_three_roads()
         check.an_older_schema_is_raised(batch)
         check.a_desk_needs_no_index(batch)
         check.commands_are_numbered_up_to_their_limit()

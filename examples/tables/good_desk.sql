@@ -76,3 +76,21 @@ INSERT INTO edge VALUES
     (3, 'F-1', 'F-2'),
     (3, 'F-1', 'F-3'),
     (3, 'F-2', 'F-3');
+INSERT INTO receipt VALUES
+    ('K-1', 17, '270
+ben
+
+scrap
+S-1
+0
+50
+'),
+    ('K-2', 1, '110
+ben
+
+receive
+F-1
+FLOUR
+1000
+A1
+');

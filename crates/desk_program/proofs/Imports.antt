@@ -3,35 +3,35 @@ use Rattle.std.proofs.Common.{◌≡◌, ℕ, List, Bool, Option, Some, None, Re
 use Rattle.std.specs.Prelude.{IfSome, IfOk, IfErr}
 use Rattle.sqlite.specs.State as store
 use Rattle.plant_base.specs.State.{State}
-use Rattle.plant_base.specs.declared.command.Stamp.{Stamp}
 use Rattle.plant_base.specs.declared.rows.OrderRow.{OrderRow}
 use Rattle.plant_desk.specs.Keeping.{States}
 use Rattle.plant_desk_store.specs.Adopting.{IsNewlyOpened, AdoptedFrom}
 use Rattle.plant_orders.specs.Orders.{orders_of}
 use Rattle.plant_orders.specs.Telling.{TellsOf}
+use Rattle.plant_orders.specs.declared.importing.Heading.{Heading}
 use Rattle.plant_orders.specs.declared.source.OrdersFault.{OrdersFault}
 use Rattle.desk_program.proofs.Adopted.{adopted_so}
 use Rattle.desk_program.specs.Imported.{ImportEnds, OrdersTaken}
 use Rattle.desk_program.specs.declared.fault.Fault.{Fault}
 
 -- what a reader gave of its file was taken in
-pub given_taken : (unread : Option (List ℕ)) (k : ℕ) (s : State) (stamp : Stamp) (given : Result (List OrderRow) OrdersFault) (old new : Option (List ℕ))
+pub given_taken : (unread : Option (List ℕ)) (k : ℕ) (s : State) (heading : Heading) (given : Result (List OrderRow) OrdersFault) (old new : Option (List ℕ))
     (stands : States) (shut : Bool) (leaves : States → Type 0) (done : Result Bool Fault)
     → IfOk given (λ orders. IfSome unread (λ bytes. orders_of bytes ≡ Ok orders))
     → IfErr given (λ fault. IfSome unread (λ bytes. TellsOf fault (orders_of bytes)))
-    → OrdersTaken k s stamp given old new stands shut leaves done
-    → IfSome unread (λ bytes. ImportEnds k s stamp (orders_of bytes) old new stands shut leaves done)
-given_taken None k s stamp given old new stands shut leaves done says tells taken = tt
-given_taken (Some bytes) k s stamp (Ok orders) old new stands shut leaves done says tells taken = (Ok orders, says, taken)
-given_taken (Some bytes) k s stamp (Err f) old new stands shut leaves done says tells taken = (Err f, tells, taken)
+    → OrdersTaken k s heading given old new stands shut leaves done
+    → IfSome unread (λ bytes. ImportEnds k s heading (orders_of bytes) old new stands shut leaves done)
+given_taken None k s heading given old new stands shut leaves done says tells taken = tt
+given_taken (Some bytes) k s heading (Ok orders) old new stands shut leaves done says tells taken = (Ok orders, says, taken)
+given_taken (Some bytes) k s heading (Err f) old new stands shut leaves done says tells taken = (Err f, tells, taken)
 
 -- a file was taken in by a keeper that is shut now, or is not
-pub import_ended : (unread : Option (List ℕ)) (k : ℕ) (s : State) (stamp : Stamp) (old new : Option (List ℕ)) (stands : Bool → States)
+pub import_ended : (unread : Option (List ℕ)) (k : ℕ) (s : State) (heading : Heading) (old new : Option (List ℕ)) (stands : Bool → States)
     (leaves : States → Type 0) (shut : Bool) (done : Result Bool Fault)
-    → IfSome unread (λ bytes. ImportEnds k s stamp (orders_of bytes) old new (stands shut) shut leaves done)
-    → IfSome unread (λ bytes. (b : Bool) × ImportEnds k s stamp (orders_of bytes) old new (stands b) b leaves done)
-import_ended None k s stamp old new stands leaves shut done h = tt
-import_ended (Some bytes) k s stamp old new stands leaves shut done h = (shut, h)
+    → IfSome unread (λ bytes. ImportEnds k s heading (orders_of bytes) old new (stands shut) shut leaves done)
+    → IfSome unread (λ bytes. (b : Bool) × ImportEnds k s heading (orders_of bytes) old new (stands b) b leaves done)
+import_ended None k s heading old new stands leaves shut done h = tt
+import_ended (Some bytes) k s heading old new stands leaves shut done h = (shut, h)
 
 -- of each state that the store may have stood at, for the one at which it was adopted
 pub adopted_each : (unread : Option (List ℕ)) (c : store.State) → IsNewlyOpened c → (before : States) (after : State → List ℕ → Type 0) (Q : List ℕ → Type 0)

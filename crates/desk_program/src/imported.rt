@@ -14,10 +14,10 @@ ghost use Rattle.desk_program.specs.Imported.{NoOrdersTold, OrdersTaken};
 use crate::adopting::{Performed, adopt, performed_of};
 use crate::fault::{Fault, outcome_of_turn};
 use crate::lines::csv_line;
-use plant_base::{Items, OrderRow, Stamp};
+use plant_base::{Items, OrderRow};
 use plant_desk::{DeskFault, Keeper};
 use plant_desk_store::Desk;
-use plant_orders::{CsvFault, OrdersFault, import, orders_from};
+use plant_orders::{CsvFault, Heading, OrdersFault, import, orders_from};
 use plant_text::{take_command, tell_fault, write_line};
 use sqlite::{Alter, Connection};
 use std::alloc::Global;
@@ -56,18 +56,18 @@ fn tell_no_orders<W: Write>(writer: &mut W, fault: OrdersFault) -> Result<bool, 
 fn take_orders<W: Write, K: Keeper>(
     writer: &mut W,
     keeper: &mut K,
-    stamp: Stamp,
+    heading: Heading,
     given: Result<Items<OrderRow>, OrdersFault>,
 ) -> Result<bool, Fault>
     requires { K.shut keeper.old ≡ false }
     ensures same { IsSameDesk K.honest K.schema K.beside keeper.old keeper.new }
     ensures taken { K.honest keeper.new → (s : State) → K.stands keeper.old s
-        → OrdersTaken (K.schema keeper.old) s stamp given
+        → OrdersTaken (K.schema keeper.old) s heading given
         (W.contents writer.old) (W.contents writer.new)
         (K.stands keeper.new) (K.shut keeper.new) (K.leaves keeper.new) result }
 {
     match given {
-        Ok(orders) => outcome_of_turn(take_command(writer, keeper, &import(stamp, orders))),
+        Ok(orders) => outcome_of_turn(take_command(writer, keeper, &import(heading, orders))),
         Err(fault) => tell_no_orders(writer, fault),
     }
 }
@@ -86,17 +86,17 @@ pub fn take_file<R: Read, W: Write, K: Keeper>(
     reader: &mut R,
     writer: &mut W,
     keeper: &mut K,
-    stamp: Stamp,
+    heading: Heading,
 ) -> Result<bool, Fault>
     requires { K.shut keeper.old ≡ false }
     ensures same { IsSameDesk K.honest K.schema K.beside keeper.old keeper.new }
     ensures taken { K.honest keeper.new → (s : State) → K.stands keeper.old s
-        → IfSome (R.remaining reader.old) (λ bytes. ImportEnds (K.schema keeper.old) s stamp
+        → IfSome (R.remaining reader.old) (λ bytes. ImportEnds (K.schema keeper.old) s heading
         (orders_of bytes) (W.contents writer.old) (W.contents writer.new)
         (K.stands keeper.new) (K.shut keeper.new) (K.leaves keeper.new) result) }
 {
     let given = orders_from(alloc, reader);
-    take_orders(writer, keeper, stamp, given)
+    take_orders(writer, keeper, heading, given)
 }
 
 /// Has an open desk take in an order file, and gives its store back.
@@ -105,19 +105,19 @@ fn import_into<S: Alter + Drop, R: Read, W: Write>(
     mut desk: Desk<S>,
     reader: &mut R,
     writer: &mut W,
-    stamp: Stamp,
+    heading: Heading,
 ) -> Performed<S>
     requires { desk.is_shut ≡ false }
     ensures honest { HasCleanDisk (state S.Store result.connection)
         → HasCleanDisk (state S.Store desk.connection) }
     ensures taken { HasCleanDisk (state S.Store result.connection)
         → (s : State) → IsOpenAt (state S.Store desk.connection) s
-        → IfSome (R.remaining reader.old) (λ bytes. (shut : Bool) × ImportEnds newest_schema s stamp
+        → IfSome (R.remaining reader.old) (λ bytes. (shut : Bool) × ImportEnds newest_schema s heading
         (orders_of bytes) (W.contents writer.old) (W.contents writer.new)
         (Stands (state S.Store result.connection) shut) shut
         (Leaves (state S.Store result.connection)) result.outcome) }
 {
-    let outcome = take_file(alloc, reader, writer, &mut desk, stamp);
+    let outcome = take_file(alloc, reader, writer, &mut desk, heading);
     Performed {
         outcome,
         connection: desk.close(),
@@ -130,15 +130,15 @@ pub(crate) fn import_store<S: Alter + Drop, R: Read, W: Write>(
     connection: Connection<S>,
     reader: &mut R,
     writer: &mut W,
-    stamp: Stamp,
+    heading: Heading,
 ) -> Performed<S>
     requires { (state S.Store connection).in_transaction ≡ false }
     ensures { HasCleanDisk (state S.Store result.connection) → IsNewlyOpened (state S.Store connection)
         → IfSome (R.remaining reader.old) (λ bytes. ImportLeft S.Store connection result.connection
-        stamp bytes (W.contents writer.old) (W.contents writer.new) result.outcome) }
+        heading bytes (W.contents writer.old) (W.contents writer.new) result.outcome) }
 {
     match adopt(alloc, connection) {
-        Ok(desk) => import_into(alloc, desk, reader, writer, stamp),
+        Ok(desk) => import_into(alloc, desk, reader, writer, heading),
         Err(stopped) => performed_of(stopped),
     }
 }

@@ -4,7 +4,7 @@ ghost use Rattle.sqlite.specs.Held.{state};
 ghost use Rattle.desk_program.specs.Imported.{ImportGives};
 ghost use Rattle.desk_program.specs.Performing.{Exits, IsGoodLine, IsReady, PrintsLine, after_closing};
 ghost use Rattle.desk_program.specs.Running.{RunGives};
-ghost use Rattle.desk_program.specs.Tasks.{Asked, TaskGives, import_stamp};
+ghost use Rattle.desk_program.specs.Tasks.{Asked, TaskGives, import_heading};
 ghost use Rattle.desk_program.specs.declared.fault.Fault.{Fault};
 
 use crate::adopting::{Performed, performed_of};
@@ -16,8 +16,9 @@ use crate::session::{Session, run};
 use crate::telling::tell_fault;
 use crate::verified::verify;
 use desk_words::Task;
-use plant_base::{Moment, Stamp, Text};
+use plant_base::{Id, Moment, Stamp, Text};
 use plant_desk::Question;
+use plant_orders::Heading;
 use plant_trace::Node;
 use sqlite::{Alter, Connection};
 use std::alloc::Global;
@@ -82,12 +83,15 @@ fn perform_verify<S: Alter + Drop, W: Write>(
     }
 }
 
-/// When and by whom orders came; they are noted with nothing.
-fn import_stamp(at: Moment, by: Text) -> Stamp
-    ensures { result ≡ import_stamp at by }
+/// When, by whom and under which reference orders came; they are noted with nothing.
+fn import_heading(at: Moment, by: Text, reference: Option<Id>) -> Heading
+    ensures { result ≡ import_heading at by reference }
 {
     match Text::read(b"") {
-        Some(note) => Stamp { at, by, note },
+        Some(note) => Heading {
+            stamp: Stamp { at, by, note },
+            reference,
+        },
         None => unreachable!(),
     }
 }
@@ -98,13 +102,13 @@ fn perform_import<S: Alter + Drop, R: Read, W: Write>(
     connection: Connection<S>,
     reader: &mut R,
     writer: &mut W,
-    stamp: Stamp,
+    heading: Heading,
 ) -> Performed<S>
     requires { (state S.Store connection).in_transaction ≡ false }
-    ensures { ImportGives S.Store connection stamp (R.remaining reader.old)
+    ensures { ImportGives S.Store connection heading (R.remaining reader.old)
         (W.contents writer.old) (W.contents writer.new) result.outcome }
 {
-    import_store(alloc, connection, reader, writer, stamp)
+    import_store(alloc, connection, reader, writer, heading)
 }
 
 /// Asks a question.
@@ -140,8 +144,9 @@ pub fn perform_task<S: Alter + Drop, R: Read, W: Write>(
     match *task {
         Task::Init => perform_init(alloc, connection, writer),
         Task::Run => perform_run(alloc, connection, reader, writer),
-        Task::Import { at, by } => {
-            perform_import(alloc, connection, reader, writer, import_stamp(at, by))
+        Task::Import { at, by, reference } => {
+            let heading = import_heading(at, by, reference);
+            perform_import(alloc, connection, reader, writer, heading)
         }
         Task::Trace { direction, lot } => {
             let question = Question::Trace(direction, Node::Lot(lot));

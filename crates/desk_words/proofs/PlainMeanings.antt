@@ -1,5 +1,5 @@
 -- The plain words, computed.
-use Rattle.std.proofs.Common.{◌≡◌, ◌||◌, Bool, true, false, List, [], ◌∷◌, None, codes, refl, rules}
+use Rattle.std.proofs.Common.{◌≡◌, ◌||◌, Bool, true, false, List, [], ◌∷◌, Some, None, codes, refl, rules}
 use Rattle.std.specs.Str.{bytes_eq}
 use Rattle.clap.specs.Lexer.{long_of, short_of}
 use Rattle.clap.specs.Words.{Text}
@@ -7,7 +7,7 @@ use Rattle.clap.proofs.OnLiterals.{clap_on_literals}
 use Rattle.plant_base.specs.Values.{is_id}
 use Rattle.plant_trace.specs.declared.direction.Direction.TheVariants.{Back, Forward}
 use Rattle.desk_words.specs.Meaning.{number_in, work_in}
-use Rattle.desk_words.specs.PlainWords.{AreWrong, AskHelp, PlainWords, Tell, TellsFile, TellsTrace, WantsFile, begins_with_dash, is_word}
+use Rattle.desk_words.specs.PlainWords.{AreWrong, AskHelp, MeanNothing, PlainWords, Tell, TellsFile, TellsTrace, WantsFile, begins_with_dash, is_word}
 use Rattle.desk_words.specs.CommandLine.{the_program}
 use Rattle.desk_words.specs.declared.meaning.Work.TheVariants as work
 use Rattle.desk_words.specs.declared.meaning.Task.TheVariants as task
@@ -99,15 +99,26 @@ record_batch name file batch h id =
     rw (not_dashes file h, not_long file h, not_short file h, not_dashes batch k, not_long batch k, not_short batch k, id) (refl, refl)
 
 import_at : (name file : Text) → begins_with_dash file ≡ false
-    → Tell (name ∷ codes "import" ∷ file ∷ codes "--at" ∷ codes "100" ∷ []) (file, work.Task (task.Import 100 (codes "desk")))
+    → Tell (name ∷ codes "import" ∷ file ∷ codes "--at" ∷ codes "100" ∷ []) (file, work.Task (task.Import 100 (codes "desk") None))
 unfolding clap_on_literals work_in number_in
 import_at name file h = rw (not_dashes file h, not_long file h, not_short file h) (refl, refl)
 
 import_by : (name file : Text) → begins_with_dash file ≡ false
     → Tell (name ∷ codes "import" ∷ file ∷ codes "--at" ∷ codes "100" ∷ codes "--by" ∷ codes "anna" ∷ [])
-    (file, work.Task (task.Import 100 (codes "anna")))
+    (file, work.Task (task.Import 100 (codes "anna") None))
 unfolding clap_on_literals work_in number_in
 import_by name file h = rw (not_dashes file h, not_long file h, not_short file h) (refl, refl)
+
+import_ref : (name file : Text) → begins_with_dash file ≡ false
+    → Tell (name ∷ codes "import" ∷ file ∷ codes "--at" ∷ codes "100" ∷ codes "--ref" ∷ codes "R-1" ∷ [])
+    (file, work.Task (task.Import 100 (codes "desk") (Some (codes "R-1"))))
+unfolding clap_on_literals work_in number_in
+import_ref name file h = rw (not_dashes file h, not_long file h, not_short file h) (refl, refl)
+
+no_reference : (name file : Text) → begins_with_dash file ≡ false
+    → MeanNothing (name ∷ codes "import" ∷ file ∷ codes "--at" ∷ codes "100" ∷ codes "--ref" ∷ codes "r-1" ∷ [])
+unfolding clap_on_literals work_in number_in
+no_reference name file h = rw (not_dashes file h, not_long file h, not_short file h) refl
 
 import_wants : (name file : Text) → begins_with_dash file ≡ false → AreWrong (name ∷ codes "import" ∷ file ∷ [])
 unfolding clap_on_literals
@@ -170,6 +181,8 @@ plain_words = record {
   record_batch = record_batch;
   import_at = import_at;
   import_by = import_by;
+  import_ref = import_ref;
+  no_reference = no_reference;
   import_wants = import_wants;
   serve_port = serve_port;
   no_port = no_port;

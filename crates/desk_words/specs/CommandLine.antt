@@ -40,6 +40,13 @@ by_rule = record (new_rule (codes "by")) {
   defaults = codes "desk" ∷ [];
 }
 
+-- the reference of an import, which may be left out
+abbrev pub reference_rule : Rule
+reference_rule = record (new_rule (codes "ref")) {
+  long = Some (codes "ref");
+  value_names = 1;
+}
+
 abbrev pub port_rule : Rule
 port_rule = number_rule (codes "port") (parser.Signed (pos 1) (pos greatest_port))
 
@@ -53,7 +60,7 @@ abbrev pub word_app : Text → App
 word_app name = with_rule (new_app name) file_rule
 
 abbrev pub import_app : App
-import_app = with_rule (with_rule (word_app (codes "import")) at_rule) by_rule
+import_app = with_rule (with_rule (with_rule (word_app (codes "import")) at_rule) by_rule) reference_rule
 
 abbrev pub trace_app : App
 trace_app = with_rule (with_rule (word_app (codes "trace")) (required_rule (codes "direction"))) (required_rule (codes "lot"))

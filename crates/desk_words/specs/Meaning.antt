@@ -7,6 +7,7 @@ use Rattle.std.specs.Str.Parse.{digits_value, without_leading_plus}
 use Rattle.clap.specs.Words.{Kinds, Row, Text, fault_of, first_of, subcommand_of}
 use Rattle.clap.specs.declared.error.kind.ErrorKind.{ErrorKind}
 use Rattle.clap.specs.declared.error.kind.ErrorKind.TheVariants as kind
+use Rattle.plant_base.specs.Options.{◌>>=◌}
 use Rattle.plant_base.specs.Values.{greatest_moment, is_id, is_text, only}
 use Rattle.plant_trace.specs.declared.direction.Direction.{Direction}
 use Rattle.plant_trace.specs.declared.direction.Direction.TheVariants.{Back, Forward}
@@ -50,10 +51,17 @@ direction_of text = if bytes_eq text (codes "back") then Some Back
 abbrev pub value_in : {A : Type 0} → Text → (Text → Option A) → List Row → Option A
 value_in name read rows = option_and_then read (first_of name rows)
 
+-- a value that may be left out
+abbrev pub if_named : {A : Type 0} → (Text → Option A) → Option Text → Option (Option A)
+if_named read None = Some None
+if_named read (Some text) = option_map Some (read text)
+
 abbrev pub import_in : List Row → Option Task
-import_in rows =
-    option_and_then (λ at. option_map (λ by. task.Import at by) (value_in (codes "by") (only is_text) rows))
-    (value_in (codes "at") (number_in 0 greatest_moment) rows)
+import_in rows = do
+  at ← value_in (codes "at") (number_in 0 greatest_moment) rows
+  by ← value_in (codes "by") (only is_text) rows
+  reference ← if_named (only is_id) (first_of (codes "ref") rows)
+  Some (task.Import at by reference)
 
 abbrev pub trace_in : List Row → Option Task
 trace_in rows =

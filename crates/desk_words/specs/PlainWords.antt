@@ -1,5 +1,5 @@
 -- What plain words tell, whatever the program, the file and the batch are called.
-use Rattle.std.specs.Prelude.{◌≡◌, ◌==◌, ◌||◌, Bool, true, false, List, [], ◌∷◌, codes, Some}
+use Rattle.std.specs.Prelude.{◌≡◌, ◌==◌, ◌||◌, Bool, true, false, List, [], ◌∷◌, codes, Some, None}
 use Rattle.std.specs.Str.{bytes_eq}
 use Rattle.clap.specs.Words.{Text, fault_of, subcommand_of}
 use Rattle.clap.specs.declared.error.kind.ErrorKind.TheVariants as kind
@@ -35,6 +35,10 @@ AskHelp words = fault_of the_program words ≡ kind.DisplayHelp ∷ []
 abbrev pub AreWrong : List Text → Type 0
 AreWrong words = has_mistake (fault_of the_program words) ≡ true
 
+-- clap takes the words, and a value breaks a rule of the desk
+abbrev pub MeanNothing : List Text → Type 0
+MeanNothing words = meant_in (subcommand_of the_program words) ≡ None
+
 -- a word with a file
 abbrev pub TellsFile : Text → Work → Type 0
 TellsFile word w = (name file : Text) → begins_with_dash file ≡ false → Tell (name ∷ word ∷ file ∷ []) (file, w)
@@ -65,10 +69,16 @@ pub record PlainWords : Type 0 where
       → Tell (name ∷ codes "record" ∷ file ∷ batch ∷ []) (file, work.Task (task.Record batch))
   -- where nobody is named, the desk brings the orders
   pub import_at : (name file : Text) → begins_with_dash file ≡ false
-      → Tell (name ∷ codes "import" ∷ file ∷ codes "--at" ∷ codes "100" ∷ []) (file, work.Task (task.Import 100 (codes "desk")))
+      → Tell (name ∷ codes "import" ∷ file ∷ codes "--at" ∷ codes "100" ∷ []) (file, work.Task (task.Import 100 (codes "desk") None))
   pub import_by : (name file : Text) → begins_with_dash file ≡ false
       → Tell (name ∷ codes "import" ∷ file ∷ codes "--at" ∷ codes "100" ∷ codes "--by" ∷ codes "anna" ∷ [])
-      (file, work.Task (task.Import 100 (codes "anna")))
+      (file, work.Task (task.Import 100 (codes "anna") None))
+  pub import_ref : (name file : Text) → begins_with_dash file ≡ false
+      → Tell (name ∷ codes "import" ∷ file ∷ codes "--at" ∷ codes "100" ∷ codes "--ref" ∷ codes "R-1" ∷ [])
+      (file, work.Task (task.Import 100 (codes "desk") (Some (codes "R-1"))))
+  -- a reference is an id
+  pub no_reference : (name file : Text) → begins_with_dash file ≡ false
+      → MeanNothing (name ∷ codes "import" ∷ file ∷ codes "--at" ∷ codes "100" ∷ codes "--ref" ∷ codes "r-1" ∷ [])
   pub import_wants : (name file : Text) → begins_with_dash file ≡ false → AreWrong (name ∷ codes "import" ∷ file ∷ [])
   pub serve_port : (name file : Text) → begins_with_dash file ≡ false
       → Tell (name ∷ codes "serve" ∷ file ∷ codes "8080" ∷ codes "1000" ∷ [])

@@ -3,7 +3,8 @@ ghost use Rattle.std.specs.Prelude.{◌≡◌, IfOk, codes, false};
 ghost use Rattle.clap.specs.Words.{app_of, rule_of, shape_of, with_subcommand};
 ghost use Rattle.desk_words.specs.CommandLine.{bare_program, import_app, count_rule, port_rule, record_app};
 ghost use Rattle.desk_words.specs.CommandLine.{serve_app, the_program, trace_app, required_rule, word_app};
-ghost use Rattle.desk_words.specs.CommandLine.{at_rule, by_rule, with_taking, with_telling, IsLocal};
+ghost use Rattle.desk_words.specs.CommandLine.{at_rule, by_rule, reference_rule, with_taking, with_telling};
+ghost use Rattle.desk_words.specs.CommandLine.{IsLocal};
 
 use clap::{Arg, Command, value_parser};
 use plant_base::GREATEST_MOMENT;
@@ -101,6 +102,16 @@ fn by_argument<'a>(alloc: Global) -> Arg<'a>
         .help("Who brought them: at most 60 characters of ASCII")
 }
 
+/// `--ref ID`, the reference under which they are taken in once.
+fn reference_argument<'a>(alloc: Global) -> Arg<'a>
+    ensures rule { rule_of result ≡ reference_rule }
+    ensures local { result.global ≡ false }
+{
+    Arg::new(alloc, "ref").long("ref").value_name("ID").help(
+        "The reference under which they are taken in once, however often it is sent",
+    )
+}
+
 /// The word `import`.
 fn import_command<'a>(alloc: Global) -> Result<Command<'a>, AllocError>
     ensures app { IfOk result (λ c. app_of c ≡ import_app) }
@@ -114,7 +125,8 @@ fn import_command<'a>(alloc: Global) -> Result<Command<'a>, AllocError>
 Prints {\"ok\":N}, or the refusal, or the first fault of the file, as in csv row 2 Due.",
     )?
     .arg(at_argument(alloc))?
-    .arg(by_argument(alloc))
+    .arg(by_argument(alloc))?
+    .arg(reference_argument(alloc))
 }
 
 /// The word `trace`.

@@ -5,7 +5,7 @@ ghost use Rattle.desk_words.specs.Meaning.{import_in, meant_by, meant_in, record
 ghost use Rattle.desk_words.specs.Meaning.{words_meant, work_in};
 
 use crate::meaning::{Serving, Task, Words, Work};
-use crate::values::{direction_at, id_at, moment_at, number_at, text_at, value_of};
+use crate::values::{direction_at, id_at, moment_at, number_at, optional_id_at, text_at, value_of};
 use clap::ArgMatches;
 
 /// The name of the file that stands for memory.
@@ -23,7 +23,8 @@ fn import_in(matches: &ArgMatches<'_>) -> Option<Task>
 {
     let at = moment_at(matches, "at")?;
     let by = text_at(matches, "by")?;
-    Some(Task::Import { at, by })
+    let reference = optional_id_at(matches, "ref")?;
+    Some(Task::Import { at, by, reference })
 }
 
 /// The trace that the arguments tell.

@@ -36,6 +36,8 @@ pub enum Task {
         at: Moment,
         /// Who brought them.
         by: Text,
+        /// The reference under which they are taken in once, where one is named.
+        reference: Option<Id>,
     },
     /// Tell what leads to a lot, or where it leads.
     Trace {

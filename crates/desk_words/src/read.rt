@@ -14,7 +14,7 @@ use std::alloc::Global;
 /// What is told where clap takes the words and a value breaks a rule of the desk.
 const BROKEN_RULE: &str = "error: a value breaks its rule
 DIRECTION is back or forward
-LOT and BATCH are 1 to 24 of A to Z, 0 to 9 and -, the first a letter
+ID, LOT and BATCH are 1 to 24 of A to Z, 0 to 9 and -, the first a letter
 TEXT is at most 60 characters from the space to ~
 
 For more information, try '--help'.

@@ -2,7 +2,7 @@
 ghost use Rattle.std.specs.Prelude.{◌≡◌, ◌<◌, ◌^◌, ◌≤◌, IfSome, option_and_then, option_map};
 ghost use Rattle.clap.specs.Words.{first_of, found_of, rows_of};
 ghost use Rattle.plant_base.specs.Values.{greatest_moment, is_id, is_text, only};
-ghost use Rattle.desk_words.specs.Meaning.{direction_of, number_in};
+ghost use Rattle.desk_words.specs.Meaning.{direction_of, if_named, number_in};
 
 use clap::ArgMatches;
 use plant_base::{GREATEST_MOMENT, Id, Moment, Text};
@@ -15,13 +15,33 @@ pub(crate) fn value_of<'a>(matches: &ArgMatches<'a>, id: &str) -> Option<&'a str
     matches.get_str(id)
 }
 
+/// The id that a text says.
+fn read_id(text: &str) -> Option<Id>
+    ensures { result ≡ only is_id text.now }
+{
+    Id::read(text.as_bytes())
+}
+
 /// The id that an argument is.
 pub(crate) fn id_at(matches: &ArgMatches<'_>, id: &str) -> Option<Id>
     ensures { result ≡ option_and_then (only is_id) (first_of id.now (rows_of (found_of matches.now))) }
 {
     match value_of(matches, id) {
-        Some(text) => Id::read(text.as_bytes()),
+        Some(text) => read_id(text),
         None => None,
+    }
+}
+
+/// The id that an argument is, where it is named.
+pub(crate) fn optional_id_at(matches: &ArgMatches<'_>, id: &str) -> Option<Option<Id>>
+    ensures { result ≡ if_named (only is_id) (first_of id.now (rows_of (found_of matches.now))) }
+{
+    match value_of(matches, id) {
+        Some(text) => match read_id(text) {
+            Some(found) => Some(Some(found)),
+            None => None,
+        },
+        None => Some(None),
     }
 }
 

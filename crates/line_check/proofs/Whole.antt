@@ -14,7 +14,7 @@ use Rattle.plant_base.specs.Formed.{is_version, is_priority, is_phase_number}
 use Rattle.plant_base.specs.Values.{only, is_id, is_text, is_unit, is_amount, is_moment}
 use Rattle.plant_base.specs.declared.command.Command.{Command}
 use Rattle.plant_base.specs.declared.rows.RecipeLine.{RecipeLine}
-use Rattle.plant_text_commands.specs.Fields.{when, string_at, id_at, text_at, unit_at, amount_at, moment_at, sublot_at, version_at, priority_at, phase_at, due_at, text_or_empty, count_of, has_each, is_shape, is_command}
+use Rattle.plant_text_commands.specs.Fields.{when, string_at, id_at, text_at, unit_at, amount_at, moment_at, sublot_at, version_at, priority_at, phase_at, due_at, text_or_empty, id_or_none, count_of, has_each, is_shape, name_if_there, shared_names, is_command}
 use Rattle.plant_text_commands.specs.Batches.{command_word, batch_of, settle_of, phase_done_of, close_batch_of, consume_of, produce_of, body_on_batch}
 use Rattle.plant_text_commands.specs.Lists.{each_item, items_at, part_of, order_of, input_of, output_of, parameter_of, phase_of, line_for, line_of}
 use Rattle.plant_text_commands.specs.Plans.{header_of, add_recipe_of, approve_of, withdraw_of, import_orders_of, cancel_order_of, release_of}
@@ -171,6 +171,10 @@ note_where : (o : Option Data) → flaw_where m.Note o ≡ None → Here (text_o
 note_where None e = tt
 note_where (Some v) e = text_value is_text v (passed (fits rule.Text v) (flaw.Breaks m.Note) e)
 
+reference_where : (o : Option Data) → flaw_where m.Reference o ≡ None → Here (id_or_none o)
+reference_where None e = tt
+reference_where (Some v) e = here_map Some _ (text_value is_id v (passed (fits rule.Id v) (flaw.Breaks m.Reference) e))
+
 -- ---- shapes
 
 has_where : (r : Rule) (o : Option Data) → Fit r o → is_some o ≡ true
@@ -205,18 +209,25 @@ shape_whole ms d need e =
     let count : (count_of d == length ms) ≡ true = passed (count_of d == length ms) _ f.1 in
     rw (length-map ms name_of, count, has_all ms d need f.0) refl
 
--- at, by and do, and a note where there is one; their count is 4 or 3
-whole_by : (own : List (List ℕ)) (d : Data) (n : ℕ) (b : Bool) → is_some (get (codes "note") d) ≡ b → n ≡ length own → has_each own d ≡ true → (count_of d == n + cond b 4 3) ≡ true
-    → is_some (get (codes "at") d) ≡ true → is_some (get (codes "by") d) ≡ true → is_some (get (codes "do") d) ≡ true
-    → is_shape (own ++ cond b (codes "at" ∷ codes "by" ∷ codes "do" ∷ codes "note" ∷ []) (codes "at" ∷ codes "by" ∷ codes "do" ∷ [])) d ≡ true
-whole_by own d n true note same has count at by word =
-    let shared = codes "at" ∷ codes "by" ∷ codes "do" ∷ codes "note" ∷ [] in
-    let counted : (count_of d == length own + 4) ≡ true = rw (← same) count in
-    rw (length-append own shared, counted, list_all-append (λ name. is_some (get name d)) own shared, has, at, by, word, note) refl
-whole_by own d n false note same has count at by word =
-    let shared = codes "at" ∷ codes "by" ∷ codes "do" ∷ [] in
-    let counted : (count_of d == length own + 3) ≡ true = rw (← same) count in
-    rw (length-append own shared, counted, list_all-append (λ name. is_some (get name d)) own shared, has, at, by, word) refl
+-- the members of two lists, and no other
+whole_with : (own shared : List (List ℕ)) (d : Data) (n : ℕ) → n ≡ length own → has_each own d ≡ true → has_each shared d ≡ true → (count_of d == n + length shared) ≡ true
+    → is_shape (own ++ shared) d ≡ true
+whole_with own shared d n same has_own has_shared count =
+    let counted : (count_of d == length own + length shared) ≡ true = rw (← same) count in
+    rw (length-append own shared, counted, list_all-append (λ name. is_some (get name d)) own shared, has_own, has_shared) refl
+
+has_if_there : (name : List ℕ) (d : Data) (b : Bool) → is_some (get name d) ≡ b → has_each (cond b (name ∷ []) []) d ≡ true
+has_if_there name d true e = rw e refl
+has_if_there name d false e = refl
+
+-- at, by and do, and a note and a reference where they are there
+has_shared : (d : Data) → is_some (get (codes "at") d) ≡ true → is_some (get (codes "by") d) ≡ true → is_some (get (codes "do") d) ≡ true → has_each (shared_names d) d ≡ true
+has_shared d at by word =
+    let note = has_if_there (codes "note") d (is_some (get (codes "note") d)) refl in
+    let reference = has_if_there (codes "ref") d (is_some (get (codes "ref") d)) refl in
+    let may_lack : has_each (name_if_there (codes "note") d ++ name_if_there (codes "ref") d) d ≡ true
+    = list_all-append (λ name. is_some (get name d)) (name_if_there (codes "note") d) (name_if_there (codes "ref") d) ∙ (λ i. note i && reference i) in
+    λ i. at i && (by i && (word i && may_lack i))
 
 command_whole : (ms : List Member) (d : Data) → list_all is_needed ms ≡ true → first_flaw shared_members d ≡ None → first_flaw ms d ≡ None
     → other_flaw (length ms + shared_count d) shared_members ms d ≡ None → is_command (map name_of ms) d ≡ true
@@ -224,10 +235,11 @@ command_whole ms d need shared own other =
     let f = none_both (flaw_at m.At d) _ shared in
     let g = none_both (flaw_at m.By d) _ f.1 in
     let h = none_both (flaw_at m.Note d) _ g.1 in
-    let w = none_both (flaw_at m.Do d) _ h.1 in
+    let r = none_both (flaw_at m.Reference d) _ h.1 in
+    let w = none_both (flaw_at m.Do d) _ r.1 in
     let count : (count_of d == length ms + shared_count d) ≡ true = passed (count_of d == length ms + shared_count d) _ other in
-    whole_by (map name_of ms) d (length ms) (is_some (get (codes "note") d)) refl (sym (length-map ms name_of)) (has_all ms d need own) count
-    (has_at m.At d refl f.0) (has_at m.By d refl g.0) (has_at m.Do d refl w.0)
+    whole_with (map name_of ms) (shared_names d) d (length ms) (sym (length-map ms name_of)) (has_all ms d need own)
+    (has_shared d (has_at m.At d refl f.0) (has_at m.By d refl g.0) (has_at m.Do d refl w.0)) count
 
 add_class-here : (d : Data) → is_command (codes "class" ∷ codes "name" ∷ []) d ≡ true → first_flaw (m.Class ∷ m.Name ∷ []) d ≡ None → Here (add_class_of d)
 add_class-here d shape e =
@@ -623,10 +635,12 @@ command-here d e =
     let f = none_both (flaw_at m.At d) _ shared in
     let g = none_both (flaw_at m.By d) _ f.1 in
     let h = none_both (flaw_at m.Note d) _ g.1 in
-    let w = none_both (flaw_at m.Do d) _ h.1 in
+    let r = none_both (flaw_at m.Reference d) _ h.1 in
+    let w = none_both (flaw_at m.Do d) _ r.1 in
     let word : Here (option_and_then members_of_word (string_at (codes "do") d)) = word_in members_of_word rule.Command (λ v. refl) (get (codes "do") d) (fit_at m.Do d refl w.0) in
     here_bind _ _ (moment_at-here m.At d refl refl f.0) (λ at. here_bind _ _ (text_at-here m.By d refl refl g.0) (λ by. here_bind _ _ (note_where (get (codes "note") d) h.0) (λ note.
-    body_from _ (string_at (codes "do") d) d shared word c.0 own other (λ body. tt))))
+    here_bind _ _ (reference_where (get (codes "ref") d) r.0) (λ reference.
+    body_from _ (string_at (codes "do") d) d shared word c.0 own other (λ body. tt)))))
 
 -- ---- questions
 

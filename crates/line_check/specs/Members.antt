@@ -9,6 +9,7 @@ abbrev pub name_of : Member → List ℕ
 name_of m.At = codes "at"
 name_of m.By = codes "by"
 name_of m.Note = codes "note"
+name_of m.Reference = codes "ref"
 name_of m.Do = codes "do"
 name_of m.Ask = codes "ask"
 name_of m.Class = codes "class"
@@ -50,6 +51,7 @@ abbrev pub rule_of : Member → Rule
 rule_of m.At = rule.Moment
 rule_of m.By = rule.Text
 rule_of m.Note = rule.Text
+rule_of m.Reference = rule.Id
 rule_of m.Do = rule.Command
 rule_of m.Ask = rule.Question
 rule_of m.Class = rule.Id

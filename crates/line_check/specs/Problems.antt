@@ -5,7 +5,7 @@ use Rattle.std.specs.Str.{bytes_eq}
 use Rattle.serde_json.specs.Data.{Data, Items, no_items, item, Members, no_members, member}
 use Rattle.serde_json.specs.Find.{get, as_array, as_object}
 use Rattle.plant_base.specs.Values.{only, is_text}
-use Rattle.plant_text_commands.specs.Fields.{string_at, count_of}
+use Rattle.plant_text_commands.specs.Fields.{string_at, count_of, shared_names}
 use Rattle.line_check.specs.declared.members.Member.{Member}
 use Rattle.line_check.specs.declared.members.Member.TheVariants as m
 use Rattle.line_check.specs.declared.problems.Flaw.{Flaw}
@@ -25,6 +25,7 @@ first_of None later = later
 
 abbrev pub may_lack : Member → Bool
 may_lack m.Note = true
+may_lack m.Reference = true
 may_lack _ = false
 
 -- what is wrong with a member, by what stands under its name
@@ -80,9 +81,9 @@ list_problem d = option_and_then (λ list. problem_in_list list d) (option_and_t
 
 -- ---- commands and questions
 
--- at, by and do, and a note where there is one
+-- how many of the members that each command has there are
 abbrev pub shared_count : Data → ℕ
-shared_count d = if is_some (get (codes "note") d) then 4 else 3
+shared_count d = length (shared_names d)
 
 abbrev pub command_problem : Data → Option Problem
 command_problem d =

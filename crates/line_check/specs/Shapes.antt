@@ -9,9 +9,9 @@ use Rattle.line_check.specs.declared.members.Member.TheVariants as m
 
 -- ---- commands
 
--- the members that each command has; the note may be left out
+-- the members that each command has; the note and the reference may be left out
 abbrev pub shared_members : List Member
-shared_members = m.At ∷ m.By ∷ m.Note ∷ m.Do ∷ []
+shared_members = m.At ∷ m.By ∷ m.Note ∷ m.Reference ∷ m.Do ∷ []
 
 -- the members of a command on a batch
 abbrev pub members_on_batch : List ℕ → Option (List Member)

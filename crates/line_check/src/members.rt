@@ -13,6 +13,8 @@ pub(crate) enum Member {
     By,
     /// The note of a command, which may be left out.
     Note,
+    /// The reference of a command, which may be left out.
+    Reference,
     /// The word of a command.
     Do,
     /// The word of a question.
@@ -96,6 +98,7 @@ impl Member {
             Member::At => "at",
             Member::By => "by",
             Member::Note => "note",
+            Member::Reference => "ref",
             Member::Do => "do",
             Member::Ask => "ask",
             Member::Class => "class",
@@ -149,7 +152,8 @@ impl Member {
             | Member::Value => Rule::Text,
             Member::Do => Rule::Command,
             Member::Ask => Rule::Question,
-            Member::Class
+            Member::Reference
+            | Member::Class
             | Member::Definition
             | Member::Lot
             | Member::New

@@ -105,7 +105,7 @@ fn may_lack(member: Member) -> bool
     ensures { result ≡ may_lack member }
 {
     match member {
-        Member::Note => true,
+        Member::Note | Member::Reference => true,
         _ => false,
     }
 }
@@ -267,7 +267,11 @@ fn list_problem(value: &Value) -> Option<Problem>
 fn shared_count(value: &Value) -> usize
     ensures { result ≡ shared_count (view value.now) }
 {
-    if value.get("note").is_some() { 4 } else { 3 }
+    match (value.get("note").is_some(), value.get("ref").is_some()) {
+        (true, true) => 5,
+        (true, false) | (false, true) => 4,
+        (false, false) => 3,
+    }
 }
 
 /// The first problem of an object with `do`.

@@ -18,11 +18,17 @@ pub(crate) fn string_at<'a>(value: &'a Value, name: &str) -> Option<&'a str>
     value.get(name)?.as_str()
 }
 
-/// The members that each command has. The note may be left out.
+/// The members that each command has. The note and the reference may be left out.
 pub(crate) fn shared_members() -> &'static [Member]
     ensures { result.now ≡ shared_members }
 {
-    &[Member::At, Member::By, Member::Note, Member::Do]
+    &[
+        Member::At,
+        Member::By,
+        Member::Note,
+        Member::Reference,
+        Member::Do,
+    ]
 }
 
 /// The members that a command on a batch has of its own.

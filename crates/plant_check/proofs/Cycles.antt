@@ -3,7 +3,7 @@ use Rattle.std.proofs.Common.{◌≡◌, ◌∙◌, Bool, true, false, List, [],
 use Rattle.std.specs.Prelude.{◌↔◌, ◌⊎◌, ◌&&◌, not, IsTrue, Contains}
 use Rattle.std.specs.List.{list_all}
 use Rattle.std.proofs.lemmas.Bool.{false≢true}
-use Rattle.plant_trace.specs.Reach.{Reach, HasEdge, IsAcyclic, leads}
+use Rattle.plant_trace.specs.Reach.{IsAcyclic, leads}
 use Rattle.plant_trace.specs.declared.node.Node.{Node}
 use Rattle.plant_trace.proofs.Growing.{first_edge}
 use Rattle.plant_trace.proofs.Leading.{none_in, first_or_rest, leads_where_reached}

@@ -1,5 +1,5 @@
 -- The rules that tables obey which a desk has written, and the first that is broken.
-use Rattle.std.specs.Prelude.{ℕ, Bool, true, not, ◌&&◌, if◌then◌else◌, List, Option, Some, None, is_some, is_none, map}
+use Rattle.std.specs.Prelude.{ℕ, Bool, not, ◌&&◌, if◌then◌else◌, List, Option, Some, None, is_some}
 use Rattle.std.specs.List.{list_all, filter_map}
 use Rattle.std.specs.Cmp.Lexicographic.{pointwise}
 use Rattle.plant_base.specs.Edges.{edge_eq}
@@ -16,6 +16,7 @@ use Rattle.plant_check_plans.specs.Batches.{are_batches}
 use Rattle.plant_check_plans.specs.Events.{are_events}
 use Rattle.plant_check_stock.specs.Movements.{are_movements}
 use Rattle.plant_check_stock.specs.Numbering.{are_numbers}
+use Rattle.plant_check_stock.specs.Receipts.{are_receipts}
 use Rattle.plant_check_stock.specs.Times.{are_times}
 use Rattle.plant_tables_stored.specs.Loading.{contents_loaded}
 use Rattle.plant_tables_stored.specs.declared.loaded.Loaded.{Loaded}
@@ -88,9 +89,13 @@ broken_history r =
     (unless (are_right_numbers r (movements_in r.movements)) rule.Numbers
     (unless (are_right_edges r (movements_in r.movements)) rule.Descent None)))
 
+-- the one on receipts, where it is broken
+unfoldable pub broken_receipt : Rows → Option Rule
+broken_receipt r = unless (are_receipts r.meta.position.seq r.receipts) rule.Receipts None
+
 -- the first rule that rows break whose values obey theirs
 unfoldable pub first_broken_of : Rows → Option Rule
-first_broken_of r = or_else (broken_plan r) (or_else (broken_lot r) (broken_history r))
+first_broken_of r = or_else (broken_plan r) (or_else (broken_lot r) (or_else (broken_history r) (broken_receipt r)))
 
 abbrev pub broken_rows : Option Rows → Option Rule
 broken_rows None = Some rule.Values

@@ -1,5 +1,5 @@
 -- Lots, and how their sublots came to be.
-use Rattle.std.specs.Prelude.{ℕ, ◌+◌, Bool, true, false, ◌&&◌, ◌==◌, nat_le, if◌then◌else◌, List, [], ◌∷◌, length, map, filter}
+use Rattle.std.specs.Prelude.{ℕ, Bool, true, false, ◌&&◌, ◌==◌, nat_le, if◌then◌else◌, List, [], ◌∷◌, length, map, filter}
 use Rattle.std.specs.List.{list_any, list_all}
 use Rattle.plant_base.specs.Values.{greatest_amount}
 use Rattle.plant_base.specs.State.{same}

@@ -1,7 +1,7 @@
 ghost use Rattle.std.specs.Prelude.{◌≡◌, IfOk};
 ghost use Rattle.plant_tables_judged.specs.Collecting.{rows_listed};
 ghost use Rattle.plant_check.specs.Broken.{broken_plan, broken_lot, broken_history, are_right_movements};
-ghost use Rattle.plant_check.specs.Broken.{are_right_numbers, are_right_edges};
+ghost use Rattle.plant_check.specs.Broken.{are_right_numbers, are_right_edges, broken_receipt};
 ghost use Rattle.plant_check.specs.Broken.{first_broken, first_broken_of};
 
 use crate::edges::are_kept_edges;
@@ -11,7 +11,7 @@ use crate::lots::are_lots;
 use crate::rule::Rule;
 use plant_base::Movement;
 use plant_check_plans::{are_batches, are_classified, are_events, are_orders, are_recipes};
-use plant_check_stock::{are_movements, are_numbers, are_times};
+use plant_check_stock::{are_movements, are_numbers, are_receipts, are_times};
 use plant_tables_judged::{DeskRows, has_meta, rows_of};
 use plant_tables_stored::Loaded;
 use std::alloc::{AllocError, Global};
@@ -42,7 +42,10 @@ pub fn check_rows(alloc: Global, rows: &DeskRows) -> Result<Option<Rule>, AllocE
     if let Some(rule) = broken_lot(alloc, rows)? {
         return Ok(Some(rule));
     }
-    broken_history(alloc, rows)
+    if let Some(rule) = broken_history(alloc, rows)? {
+        return Ok(Some(rule));
+    }
+    broken_receipt(alloc, rows)
 }
 
 #[tactic(auto, unfolding(plant_tables_judged::specs::Collecting::rows_listed, crate::specs::Broken::broken_plan))]
@@ -176,4 +179,14 @@ fn are_edges_of(alloc: Global, rows: &DeskRows, movements: &[Movement]) -> Resul
         return Ok(false);
     }
     are_kept_edges(alloc, rows.meta.schema, rows.edges.as_slice(), movements)
+}
+
+#[tactic(auto, unfolding(plant_tables_judged::specs::Collecting::rows_listed, crate::specs::Broken::broken_receipt))]
+fn broken_receipt(alloc: Global, rows: &DeskRows) -> Result<Option<Rule>, AllocError>
+    ensures { IfOk result (λ broken. broken ≡ broken_receipt (rows_listed rows.now)) }
+{
+    if !are_receipts(alloc, rows.meta.position.seq, rows.receipts.as_slice())? {
+        return Ok(Some(Rule::Receipts));
+    }
+    Ok(None)
 }

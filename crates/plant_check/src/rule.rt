@@ -31,10 +31,12 @@ pub enum Rule {
     Numbers,
     /// Nothing was made from itself, and the edges that are kept are those of the movements.
     Descent,
+    /// Each receipt has a number of its own that was given, and its content is made of what contents are made of.
+    Receipts,
 }
 
 impl Rule {
-    /// Its number, 1 to 12.
+    /// Its number, 1 to 13.
     pub fn number(self) -> u8
         ensures { result ≡ rule_number self }
     {
@@ -51,6 +53,7 @@ impl Rule {
             Rule::Events => 10,
             Rule::Numbers => 11,
             Rule::Descent => 12,
+            Rule::Receipts => 13,
         }
     }
 }

@@ -1,3 +1,4 @@
 pub mod Movements
 pub mod Numbering
+pub mod Receipts
 pub mod Times

@@ -71,7 +71,8 @@ fn are_given(greatest: u64, events: &[BatchEvent]) -> bool
     events.iter().all(|e| is_given(greatest, e.seq))
 }
 
-fn is_given(greatest: u64, seq: u64) -> bool
+// Whether it is the number of an accepted command, `greatest` being the last one.
+pub(crate) fn is_given(greatest: u64, seq: u64) -> bool
     ensures { result ≡ is_given greatest seq }
 {
     1 <= seq && seq <= greatest

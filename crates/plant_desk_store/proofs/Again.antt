@@ -50,13 +50,13 @@ pos_same m n e = cc
 
 module _ (version : ℕ) (db : Database) (s : State) (held : HoldsGood version db s) where
   abbrev known_version : IsKnown version
-  known_version = held.0
+  known_version = held.known
 
   abbrev good : IsGood s
-  good = held.1
+  good = held.good
 
   abbrev holds : HoldsTablesOf version db (tables_of version s)
-  holds = held.2
+  holds = held.holds
 
   tables_held : All (HasTable db.schema) (forms_of version)
   tables_held i d low = table_held db _ _ holds.sound (holds.each i _ (slice_get-get_or (forms_of version) i d low))

@@ -1,14 +1,21 @@
 -- What is judged of loaded rows.
-use Rattle.std.proofs.Common.{◌≡◌, ◌∙◌, ℕ, true, false, Option, None, Some, is_some, Result, Ok, Err, IfOk, IfErr, refl, sym, ap, subst}
+use Rattle.std.proofs.Common.{◌≡◌, ◌∙◌, ℕ, ◌≤◌, true, false, leb-true, List, [], ◌∷◌, Option, None, Some, is_some, Result, Ok, Err, IfOk, IfErr, OnOk, refl, sym, ap, subst}
+use Rattle.sqlite.specs.Order.{Row}
+use Rattle.plant_base.specs.declared.rows.Meta.{Meta}
+use Rattle.plant_view.proofs.Tests.{and_left}
 use Rattle.plant_tables_stored.specs.Loading.{contents_loaded}
 use Rattle.plant_tables_stored.specs.declared.loaded.Loaded.{Loaded}
-use Rattle.plant_tables_judged.specs.Collecting.{Rows, rows_from, rows_listed}
-use Rattle.plant_tables_columns.specs.TableColumns.{only_meta}
+use Rattle.plant_tables_judged.specs.Collecting.{Rows, rows_from, rows_joined, rows_listed, masters_from, orders_from, stocks_from}
+use Rattle.plant_tables_columns.specs.All.{all_from}
+use Rattle.plant_tables_columns.specs.TableColumns.{only_meta, receipt_from}
+use Rattle.plant_tables_columns.proofs.Options.{bound, some_same}
+use Rattle.plant_tables_columns.proofs.RowLaws.{meta_reads}
 use Rattle.plant_tables_judged.specs.declared.desk_rows.DeskRows.{DeskRows}
 use Rattle.plant_check.specs.Broken.{first_broken, first_broken_of, broken_rows, unless}
 use Rattle.plant_check.specs.declared.rule.Rule.{Rule}
 use Rattle.plant_check.specs.declared.rule.Rule.TheVariants as rule
 use Rattle.plant_desk_store.specs.Testing.{IsUnfit, IsFit, IsUnfitBy, IsFitOf, IsUnfitOf}
+use Rattle.plant_desk_store.specs.declared.adopting.AdoptFault.{AdoptFault}
 use Rattle.plant_desk_store.specs.declared.fitness.Unfit.{Unfit}
 use Rattle.plant_desk_store.specs.declared.fitness.Unfit.TheVariants as unfit
 
@@ -50,6 +57,33 @@ pub unfit_of : (x : Loaded) (schema : ℕ) (rows : DeskRows) (judged : Result De
     → IfErr judged (IsUnfitOf rows schema) → IfErr judged (IsUnfitBy x schema)
 unfit_of x schema rows (Ok found) e f h = tt
 unfit_of x schema rows (Err u) e f h = unfit_by x schema rows u e f h
+
+-- ---- the version that rows tell
+
+meta_numbered : (rows : List Row) (m : Meta) → only_meta rows ≡ Some m → 1 ≤ m.schema
+unfolding only_meta
+meta_numbered [] m h = absurd (cc)
+meta_numbered (row ∷ []) m h = leb-true 1 m.schema (and_left _ _ (meta_reads.keeps row m h).schema)
+meta_numbered (row ∷ other ∷ rows) m h = absurd (cc)
+
+rows_numbered : (x : Loaded) (r : Rows) → rows_from x ≡ Some r → 1 ≤ r.meta.schema
+unfolding rows_from
+rows_numbered x r h =
+    let p1 = bound (only_meta (contents_loaded x 0)) _ r h in
+    let p2 = bound (masters_from x) _ r p1.2 in
+    let p3 = bound (orders_from x) _ r p2.2 in
+    let p4 = bound (stocks_from x) _ r p3.2 in
+    let p5 = bound (all_from receipt_from (contents_loaded x 14)) _ r p4.2 in
+    subst (λ (q : Rows). 1 ≤ q.meta.schema) (some_same (rows_joined p1.0 p2.0 p3.0 p4.0 p5.0) r p5.2) (meta_numbered (contents_loaded x 0) p1.0 p1.1)
+
+-- it is the first or a later one
+numbered : (x : Loaded) (schema : ℕ) (rows : DeskRows) → IsFit x schema rows → 1 ≤ schema
+unfolding rows_listed
+numbered x schema rows fit = subst (λ k. 1 ≤ k) fit.tells (rows_numbered x (rows_listed rows) fit.read)
+
+pub all_numbered : (x : Loaded) (schema : ℕ) (judged : Result DeskRows AdoptFault) → IfOk judged (IsFit x schema) → OnOk judged (1 ≤ schema)
+all_numbered x schema (Err f) fit = tt
+all_numbered x schema (Ok rows) fit = numbered x schema rows fit
 
 -- ---- rows that break a rule
 

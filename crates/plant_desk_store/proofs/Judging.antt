@@ -1,5 +1,5 @@
 -- What is judged of loaded rows, and of the store that they were loaded of.
-use Rattle.std.proofs.Common.{◌≡◌, ◌∙◌, Result, Ok, Err, IfErr, IfOk, OnOk, OnErr, sym, ap, subst, inl, inr, ℕ, ◌<◌, ℤ, pos, arith}
+use Rattle.std.proofs.Common.{◌≡◌, ◌∙◌, Result, Ok, Err, IfErr, IfOk, OnOk, OnErr, IsTrue, refl, sym, ap, subst, inl, inr, ℕ, ◌<◌, ℤ, pos, arith}
 use Rattle.std.specs.Prelude.{◌≢◌, All}
 use Rattle.std.specs.Int.Signed.{◌≤ℤ◌}
 use lib.Dec.{leb→le}
@@ -12,11 +12,13 @@ use Rattle.table_forms.specs.Standing.{StandIn, AreFree, IsFree, KeepsOthers}
 use Rattle.table_forms.specs.Resting.{Keeps}
 use Rattle.table_forms.specs.Stopping.{IsSettled}
 use Rattle.table_forms.proofs.Ending.{IsStore}
+use Rattle.table_forms.specs.declared.fault.Fault.{Fault}
+use Rattle.table_forms.specs.declared.fault.Fault.TheVariants as below
 use Rattle.table_reads.specs.Ordered.{IsRising}
 use Rattle.plant_tables.specs.DeskForms.{desk_forms, forms_of}
-use Rattle.plant_tables.specs.DeskStopping.{IsUnopened, IsCutShortOf}
+use Rattle.plant_tables.specs.DeskStopping.{IsUnopened}
 use Rattle.plant_tables.specs.Keyed.{HoldsTablesOf, HoldsTables}
-use Rattle.plant_view.specs.Tables.{Tables, tables_of}
+use Rattle.plant_view.specs.Tables.{Tables, tables_of, receipts_in}
 use Rattle.plant_good.specs.Good.{IsGood}
 use Rattle.plant_tables_stored.specs.Loading.{AreLoaded, AreRising, contents_loaded}
 use Rattle.plant_tables_stored.specs.Version.{IsVersion, IsKnown}
@@ -24,7 +26,10 @@ use Rattle.plant_tables_stored.specs.declared.loaded.Loaded.{Loaded}
 use Rattle.plant_tables_stored.proofs.Versions.{one_version}
 use Rattle.plant_tables_judged.specs.Collecting.{rows_in, rows_listed}
 use Rattle.plant_tables_judged.specs.declared.desk_rows.DeskRows.{DeskRows}
-use Rattle.plant_desk_store.specs.Adopting.{IsNewlyOpened, AdoptedFrom, HoldsGood, StillGood, IsRisingAt, NamesFirst, BrokenBy, IsRefusedBy}
+use Rattle.plant_migrate.specs.Standing.{IsCutShortAmid}
+use Rattle.plant_migrate.proofs.Ends.{raised_to_is}
+use Rattle.plant_desk_store.specs.Adopting.{IsNewlyOpened, AdoptedFrom, HoldsGood, StillGood, IsRisingAt, ShowsStill, NamesFirst, BrokenBy, IsRefusedBy}
+use Rattle.plant_desk_store.specs.Faults.{adopt_fault}
 use Rattle.plant_good_found.specs.Restoring.{state_in, AreUnbroken}
 use Rattle.plant_desk_store.specs.Standing.{IsOpenAt, OthersStand}
 use Rattle.plant_desk_store.specs.Testing.{IsFit}
@@ -34,6 +39,7 @@ use Rattle.plant_good_found.proofs.Restored.{unbroken_good, unbroken_holds}
 use Rattle.plant_good_passes.proofs.Unbroken.{read_good}
 use Rattle.plant_desk_store.proofs.Others.{others_settled, keeps_itself}
 use Rattle.plant_desk_store.proofs.Resting.{still_at, open_at}
+use Rattle.plant_migrate.proofs.StateChanges.{whole_on}
 
 -- ---- the store
 
@@ -84,7 +90,7 @@ none_newer db v found low n above other =
 module _ (version : ℕ) (db : Database) (x : Loaded) (known : IsKnown version) (loaded : AreLoaded version db x) where
   -- the rows of a good state's tables are read as they are
   rows_of_good : (s : State) (rows : DeskRows) → HoldsGood version db s → IsFit x version rows → rows_listed rows ≡ rows_in (tables_of version s)
-  rows_of_good s rows held fit = let again = (read_good version db s x known held.1 held.2 loaded).0 in let both = sym fit.read ∙ again in cc
+  rows_of_good s rows held fit = let again = (read_good version db s x known held.good held.holds loaded).0 in let both = sym fit.read ∙ again in cc
 
   pub told_rows : (s : State) (judged : Result DeskRows AdoptFault) → HoldsGood version db s → IfOk judged (IsFit x version) → IfOk judged (λ rows. rows_listed rows ≡ rows_in (tables_of version s))
   told_rows s (Err f) held fit = tt
@@ -101,7 +107,9 @@ module _ (version : ℕ) (db : Database) (x : Loaded) (known : IsKnown version) 
       let s = state_in r in
       let holds : HoldsTablesOf version db (tables_of version s) =
       subst (λ k. HoldsTablesOf k db (tables_of k s)) fit.tells (unbroken_holds db x r unbroken (subst (λ k. StandIn (forms_of k) db (contents_loaded x)) (sym fit.tells) stands)) in
-      let held : HoldsGood version db s = (known, (unbroken_good x r unbroken).good, holds) in
+      let found = unbroken_good x r unbroken in
+      let whole : receipts_in version s.receipts ≡ s.receipts = subst (λ k. receipts_in k s.receipts ≡ s.receipts) fit.tells (sym (ap (λ (t : Tables). t.receipts) found.tables)) in
+      let held : HoldsGood version db s = record { known = known; good = found.good; holds = holds; whole = whole } in
       (s, held, rows_of_good s rows held fit)
 
 -- a store that is unchanged is as it was opened
@@ -123,8 +131,8 @@ opens_new old new newly clean same kept laws s good holds =
 -- a store over the tables of a good state, after calls that only read
 pub stays_good : (old new : store.State) → (HasCleanDisk new → Keeps old new) → Survives old new (λ _. ⊥) → IsStore new → StillGood old new
 stays_good old new kept survives laws = λ clean newly version s held. record {
-  good = held.1;
-  shows = λ live. still_at version old new (tables_of version s) (record { settled = newly.settled; holds = held.2 }) (kept clean) laws live;
+  good = held.good;
+  shows = λ live. inl (still_at version old new (tables_of version s) (record { settled = newly.settled; holds = held.holds }) (kept clean) laws live);
   something = laws.something clean;
   nothing_else = λ db left.
       let before : old.may_leave db = elim (survives.crash clean db left) [
@@ -134,9 +142,16 @@ stays_good old new kept survives laws = λ clean newly version s held. record {
       let same : old.now.trees ≡ db = ap (λ (d : Database). d.trees) newly.settled.shows ∙ sym (newly.settled.nothing_else db before) in (
         version,
         omega arith,
-        held.0.1,
-        record { good = held.1; schema = old.now.schema; holds = subst (λ (trees : Trees). HoldsTablesOf version (record { schema = old.now.schema; trees = trees }) (tables_of version s)) same held.2 },
+        held.known.1,
+        record { good = held.good; schema = old.now.schema; holds = subst (λ (trees : Trees). HoldsTablesOf version (record { schema = old.now.schema; trees = trees }) (tables_of version s)) same held.holds; whole = held.whole },
       );
+}
+
+keeps_same : (old new : store.State) → new ≡ old → Keeps old new
+keeps_same old new same = record {
+  was_open = λ live. subst (λ (c : store.State). IsTrue c.is_open) same live;
+  now = λ live. ap (λ (c : store.State). c.now) same;
+  committed = λ live. ap (λ (c : store.State). c.committed) same;
 }
 
 -- the tables weren't made, and the store shows what it showed
@@ -158,23 +173,43 @@ adopts_some c new version db (Ok u) same h = inr (version, (h.0, subst (λ (d : 
 -- ---- what was raised
 
 -- the raising was cut short
-pub rises : (old new : store.State) (s : State) → IsGood s → IsCutShortOf 1 old new (tables_of 1 s) (tables_of newest_schema s) → IsRisingAt 1 new s
-rises old new s good cut = record {
-  good = good;
-  shows = λ live. (cut.shows live).0;
-  something = cut.leaves;
-  nothing_else = λ db left. elim (cut.nothing_else db left) [
-    | inl before ↦ (1, omega arith, omega arith, record { good = good; schema = before.schema; holds = before.holds })
-    | inr after ↦ (newest_schema, omega arith, omega arith, record { good = good; schema = after.schema; holds = after.holds })
+pub rises : (version : ℕ) (old new : store.State) (s : State) → HoldsGood version old.now s → IsCutShortAmid version newest_schema old new s → IsRisingAt version new s
+rises version old new s held cut = record {
+  good = held.good;
+  shows = λ live. elim (cut.shows live) [
+    | inl before ↦ inl before.0
+    | inr between ↦ inr (between.later, between.above, between.below, between.at)
   ];
+  something = cut.leaves;
+  nothing_else = λ db left.
+      let found = cut.nothing_else db left in
+      let top = raised_to_is version newest_schema held.known.1 in (
+        found.0,
+        found.1,
+        omega (arith, found.2, top),
+        record { good = held.good; schema = found.3.schema; holds = found.3.holds; whole = whole_on version found.0 s.receipts found.1 held.whole },
+      );
 }
 
-pub cut_keeps : (old new : store.State) (t after : Tables) → IsSettled old → IsCutShortOf 1 old new t after → Keeps old new
-cut_keeps old new t after settled cut = record {
-  was_open = λ live. settled.is_open;
-  now = λ live. (cut.shows live).1;
-  committed = λ live. let shown = cut.shows live in sym shown.0.settled.shows ∙ shown.1 ∙ settled.shows;
-}
+-- what a store shows after it
+cut_shows : (version : ℕ) (old new : store.State) (s : State) (f : Fault) → IsSettled old → HoldsGood version old.now s → IsCutShortAmid version newest_schema old new s → (f ≡ below.Memory → new ≡ old) → ShowsStill (adopt_fault f) old new
+cut_shows version old new s below.Store settled held cut unwritten = λ live. elim (cut.shows live) [
+  | inl before ↦ inl (record {
+    was_open = λ _. settled.is_open;
+    now = λ _. before.1;
+    committed = λ _. sym before.0.settled.shows ∙ before.1 ∙ settled.shows;
+  })
+  | inr between ↦ inr (refl, record { version = version; state = s; stood = held; between = between })
+]
+cut_shows version old new s below.Memory settled held cut unwritten = λ live. inl (keeps_same old new (unwritten refl))
+
+pub told_shows : (version : ℕ) (old new : store.State) (s : State) (f : Fault) (told : AdoptFault) → IsSettled old → HoldsGood version old.now s → IsCutShortAmid version newest_schema old new s → (f ≡ below.Memory → new ≡ old) → told ≡ adopt_fault f → ShowsStill told old new
+told_shows version old new s f told settled held cut unwritten is = subst (λ x. ShowsStill x old new) (sym is) (cut_shows version old new s f settled held cut unwritten)
+
+-- where nothing was raised it shows what it showed
+pub keeps_shows : (old new : store.State) (made : Result (Unit {0}) AdoptFault) → OnErr made (Keeps old new) → IfErr made (λ f. ShowsStill f old new)
+keeps_shows old new (Ok u) kept = tt
+keeps_shows old new (Err f) kept = λ live. inl kept
 
 -- tables of other names stand in a store that is unchanged
 pub others_unchanged : (old new : store.State) → IsNewlyOpened new → new.now ≡ old.now → IsDatabase old.now → OthersStand old.now new

@@ -7,11 +7,11 @@ use Rattle.sqlite.specs.Effect.{Database}
 use Rattle.sqlite.specs.State as store
 use Rattle.sqlite.specs.State.{HasCleanDisk, Survives}
 use Rattle.plant_base.specs.State.{State, newest_schema}
-use Rattle.plant_view.specs.Tables.{tables_of}
 use Rattle.table_forms.specs.Resting.{Keeps}
+use Rattle.table_forms.specs.Standing.{KeepsOthers}
+use Rattle.plant_tables.specs.DeskForms.{desk_forms}
 use Rattle.plant_tables_stored.specs.Version.{IsVersion}
-use Rattle.plant_tables_judged.specs.Collecting.{Rows, rows_in}
-use Rattle.plant_desk_store.specs.Adopting.{IsNewlyOpened, HoldsGood, KeepsGood, StillGood, IsRisingAt, IsUnraised, NamesFirst}
+use Rattle.plant_desk_store.specs.Adopting.{IsNewlyOpened, HoldsGood, KeepsGood, StillGood, IsRisingAt, ShowsStill, IsUnraised, NamesFirst}
 use Rattle.plant_desk_store.specs.Standing.{IsOpenAt, OthersStand}
 use Rattle.plant_desk_store.specs.declared.adopting.AdoptFault.{AdoptFault}
 use Rattle.plant_desk_store.specs.declared.adopting.AdoptFault.TheVariants as fault
@@ -24,6 +24,29 @@ keeps_along a b c first second = record {
   now = λ live. second.now live ∙ first.now (second.was_open live);
   committed = λ live. second.committed live ∙ first.committed (second.was_open live);
 }
+
+-- what a store still shows after calls that only read
+pub shows_along : (old mid new : store.State) (f : AdoptFault) → Keeps old mid → mid.now ≡ old.now → ShowsStill f mid new → ShowsStill f old new
+shows_along old mid new f first same shows = λ live. elim (shows live) [
+  | inl kept ↦ inl (keeps_along old mid new first kept)
+  | inr risen ↦
+      let up = risen.1 in
+      inr (
+        risen.0,
+        record {
+          version = up.version;
+          state = up.state;
+          stood = subst (λ (db : Database). HoldsGood up.version db up.state) same up.stood;
+          between = record {
+            later = up.between.later;
+            above = up.between.above;
+            below = up.between.below;
+            at = up.between.at;
+            others = subst (λ (db : Database). KeepsOthers desk_forms db new.now) same up.between.others;
+          };
+        },
+      )
+]
 
 -- what holds of a stop where the disk is clean
 pub survives_if : (old new : store.State) (P R : Trees → Type 0) → Survives old new P → (HasCleanDisk new → Survives old new R) → Survives old new R
@@ -65,16 +88,9 @@ newest_told db version whole told low = elim (eq-or-lt_of_le low) [
 
 -- ---- good tables that were read and are raised
 
-module _ (schema : ℕ) (old mid new : store.State) (raised : Result (Unit {0}) AdoptFault) (rows : Rows) (first : schema ≡ 1) (same : mid.now ≡ old.now) (s : State)
-    (held : HoldsGood schema old.now s) (read : rows ≡ rows_in (tables_of schema s)) where
-  first_held : HoldsGood 1 mid.now s
-  first_held = subst (λ k. HoldsGood k mid.now s) first (subst (λ (db : Database). HoldsGood schema db s) (sym same) held)
+module _ (schema : ℕ) (old mid new : store.State) (raised : Result (Unit {0}) AdoptFault) (same : mid.now ≡ old.now) (s : State) (held : HoldsGood schema old.now s) where
+  pub held_here : HoldsGood schema mid.now s
+  held_here = subst (λ (db : Database). HoldsGood schema db s) (sym same) held
 
-  first_read : rows ≡ rows_in (tables_of 1 s)
-  first_read = subst (λ k. rows ≡ rows_in (tables_of k s)) first read
-
-  pub open_raised : (HoldsGood 1 mid.now s → rows ≡ rows_in (tables_of 1 s) → OnOk raised (IsOpenAt new s × OthersStand mid.now new)) → OnOk raised (IsOpenAt new s × OthersStand old.now new)
-  open_raised done = subst (λ (db : Database). OnOk raised (IsOpenAt new s × OthersStand db new)) same (done first_held first_read)
-
-  pub still_raised : (HoldsGood 1 mid.now s → rows ≡ rows_in (tables_of 1 s) → OnErr raised (IsRisingAt 1 new s × Keeps mid new)) → OnErr raised (IsRisingAt schema new s × Keeps mid new)
-  still_raised done = subst (λ k. OnErr raised (IsRisingAt k new s × Keeps mid new)) (sym first) (done first_held first_read)
+  pub open_raised : (HoldsGood schema mid.now s → OnOk raised (IsOpenAt new s × OthersStand mid.now new)) → OnOk raised (IsOpenAt new s × OthersStand old.now new)
+  open_raised done = subst (λ (db : Database). OnOk raised (IsOpenAt new s × OthersStand db new)) same (done held_here)

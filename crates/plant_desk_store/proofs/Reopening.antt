@@ -14,11 +14,14 @@ use Rattle.plant_tables.specs.DeskStopping.{FindsOf}
 use Rattle.plant_tables.specs.Keyed.{HoldsTablesOf}
 use Rattle.plant_tables_stored.specs.Version.{IsKnown}
 use Rattle.plant_desk_store.specs.Adopting.{HoldsGood, IsRaised}
-use Rattle.plant_desk_store.specs.Laws.{IsAdoptable, IsOpenedAfter}
+use Rattle.plant_desk_store.specs.Laws.{IsAdoptable, IsOpenedAfter, GoodIsAdoptedAgain}
 use Rattle.plant_desk_store.specs.Standing.{FindsStateOf}
 use Rattle.plant_desk_store.proofs.Again.{not_free, one_told, version_held}
 use Rattle.plant_desk_store.proofs.OneSchema.{one_schema}
 use Rattle.plant_desk_store.proofs.Others.{keeps_itself}
+use Rattle.plant_migrate.specs.Steps.{FindsRisable}
+use Rattle.plant_migrate.proofs.Free.{each_is_free}
+use Rattle.plant_migrate.proofs.StateChanges.{whole_on}
 
 abbrev database_of : Schema → Trees → Database
 database_of schema trees = record { schema = schema; trees = trees }
@@ -33,10 +36,11 @@ pub reopened : (version : ℕ) (trees : Trees) (s : State) → IsKnown version �
 reopened version trees s known finds db same sound =
     let found : Database = record { schema = finds.schema; trees = trees } in
     let is : db ≡ found = same_database found db finds.holds.sound sound same in
-    ((known, finds.good, subst (λ (d : Database). HoldsTablesOf version d (tables_of version s)) (sym is) finds.holds), ap (λ (d : Database). d.schema) is)
+    let holds = subst (λ (d : Database). HoldsTablesOf version d (tables_of version s)) (sym is) finds.holds in
+    (record { known = known; good = finds.good; holds = holds; whole = finds.whole }, ap (λ (d : Database). d.schema) is)
 
 -- no table is added after the newest schema
-none_later : (later : ℕ) (schema : Schema) → later ≡ 2 → All (IsFree schema) (later_forms later)
+none_later : (later : ℕ) (schema : Schema) → later ≡ newest_schema → All (IsFree schema) (later_forms later)
 none_later later schema newest = subst (λ k. All (IsFree schema) (later_forms k)) (sym newest) (λ i d low. let none : i < 0 = low in absurd (omega (arith, none)))
 
 -- ---- adopted, stopped, opened again
@@ -49,19 +53,28 @@ module _ (old db : Database) (sound : IsDatabase db) where
       let is : db ≡ found = same_database found db finds.holds.sound sound refl in
       (subst (λ (d : Database). HoldsTablesOf version d t) (sym is) finds.holds, subst (KeepsOthers desk_forms old) (sym is) finds.others)
 
+  -- and so it is with the names that are free there
+  free_here : (version : ℕ) (t : Tables) → FindsRisable version old db.trees t → All (IsFree db.schema) (later_forms version)
+  free_here version t found =
+      let there : Database = record { schema = found.finds.schema; trees = db.trees } in
+      let is : db ≡ there = same_database there db found.finds.holds.sound sound refl in
+      subst (λ (d : Database). All (IsFree d.schema) (later_forms version)) (sym is) (each_is_free found.finds.schema (later_forms version) found.free)
+
   raised_here : (version : ℕ) (s : State) → HoldsGood version old s → (raised : IsRaised old db.trees) → (later : ℕ) × (version ≤ later) × IsAdoptable later db s × KeepsOthers desk_forms old db
   raised_here version s held raised =
       let one : raised.version ≡ version = one_told version old s held raised.version (version_held raised.version old raised.stood.0 raised.stood.1) in
       let here : HoldsGood raised.version old s = subst (λ k. HoldsGood k old s) (sym one) held in
-      let stands = found_here raised.later (tables_of raised.later s) (raised.finds s here) in
-      let low : 1 ≤ raised.version = raised.stood.1.0.0 in
-      let newest : raised.later ≡ 2 = omega (arith, low, raised.above, raised.known) in
+      let found = raised.finds s here in
+      let stands = found_here raised.later (tables_of raised.later s) found.finds in
+      let low : 1 ≤ raised.version = raised.stood.1.known.0 in
       let known : IsKnown raised.later = (omega (arith, low, raised.above), raised.known) in
-      (raised.later, omega (arith, one, raised.above), record { held = (known, held.1, stands.0); free = none_later raised.later db.schema newest }, stands.1)
+      let whole = whole_on raised.version raised.later s.receipts (omega (arith, raised.above)) here.whole in
+      let there : HoldsGood raised.later db s = record { known = known; good = held.good; holds = stands.0; whole = whole } in
+      (raised.later, omega (arith, one, raised.above), record { held = there; free = free_here raised.later (tables_of raised.later s) found }, stands.1)
 
-pub adopted_again : (version : ℕ) (old : Database) (s : State) → IsAdoptable version old s → (db : Database) → IsOpenedAfter old db → (later : ℕ) × (version ≤ later) × IsAdoptable later db s × KeepsOthers desk_forms old db
+pub adopted_again : GoodIsAdoptedAgain
 adopted_again version old s adoptable db (sound, inl same) =
-    let is : db ≡ old = same_database old db adoptable.held.2.sound sound same in
+    let is : db ≡ old = same_database old db adoptable.held.holds.sound sound same in
     (version, omega arith, subst (λ (d : Database). IsAdoptable version d s) (sym is) adoptable, subst (KeepsOthers desk_forms old) (sym is) (keeps_itself old))
 adopted_again version old s adoptable db (sound, inr (inl made)) = absurd (not_free version old s adoptable.held made.free)
 adopted_again version old s adoptable db (sound, inr (inr raised)) = raised_here old db sound version s adoptable.held raised
@@ -70,7 +83,8 @@ pub opening_adopted : (old : Database) → IsDatabase old → AreFree desk_forms
 opening_adopted old was free db (sound, inl same) = inl (same_database old db was sound same)
 opening_adopted old was free db (sound, inr (inl made)) =
     let stands = found_here old db sound newest_schema (tables_of newest_schema opening) made.finds in
-    inr (record { held = ((omega arith, omega arith), opening_good, stands.0); free = none_later newest_schema db.schema refl }, stands.1)
+    let held : HoldsGood newest_schema db opening = record { known = (omega arith, omega arith); good = opening_good; holds = stands.0; whole = refl } in
+    inr (record { held = held; free = none_later newest_schema db.schema refl }, stands.1)
 opening_adopted old was free db (sound, inr (inr raised)) = absurd (not_free raised.version old raised.stood.0 raised.stood.1 free)
 
 pub others_spared : (old : Database) → IsDatabase old → (AreFree desk_forms old.schema → ⊥) → ((version : ℕ) (s : State) → ¬ HoldsGood version old s) → (db : Database) → IsOpenedAfter old db → db ≡ old

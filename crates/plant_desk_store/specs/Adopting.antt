@@ -5,16 +5,19 @@ use Rattle.sqlite.specs.Effect.{Database}
 use Rattle.sqlite.specs.State as store
 use Rattle.sqlite.specs.State.{HasCleanDisk}
 use Rattle.plant_base.specs.State.{State, opening, newest_schema}
-use Rattle.plant_view.specs.Tables.{tables_of}
+use Rattle.plant_view.specs.Tables.{tables_of, receipts_in}
 use Rattle.plant_good.specs.Good.{IsGood}
 use Rattle.table_forms.specs.Standing.{AreFree, IsFree}
+use Rattle.table_forms.specs.Resting.{Keeps}
 pub use Rattle.table_reads.specs.Opened.{IsNewlyOpened}
 use Rattle.plant_tables.specs.DeskForms.{desk_forms, later_forms}
-use Rattle.plant_tables.specs.DeskStopping.{MakesDesk, IsAtOf, FindsOf, Finds, opening_tables}
+use Rattle.plant_tables.specs.DeskStopping.{MakesDesk, IsAtOf, Finds, opening_tables}
 use Rattle.plant_tables.specs.Keyed.{HoldsTablesOf}
 use Rattle.plant_tables_stored.specs.Loading.{AreLoaded}
 use Rattle.plant_tables_stored.specs.Version.{IsVersion, IsKnown, HasTablesOf}
 use Rattle.plant_tables_stored.specs.declared.loaded.Loaded.{Loaded}
+use Rattle.plant_migrate.specs.Standing.{IsBetween}
+use Rattle.plant_migrate.specs.Steps.{FindsRisable}
 use Rattle.plant_check.specs.Broken.{first_broken}
 use Rattle.plant_check.specs.declared.rule.Rule.{Rule}
 use Rattle.plant_check.specs.declared.rule.Rule.TheVariants as rule
@@ -23,9 +26,12 @@ use Rattle.plant_desk_store.specs.Standing.{IsOpenAt, FindsStateOf}
 use Rattle.plant_desk_store.specs.declared.adopting.AdoptFault.{AdoptFault}
 use Rattle.plant_desk_store.specs.declared.adopting.AdoptFault.TheVariants as fault
 
--- the tables of a good state, of a version that can be read
-abbrev pub HoldsGood : ℕ → Database → State → Type 0
-HoldsGood version db s = IsKnown version × IsGood s × HoldsTablesOf version db (tables_of version s)
+-- The database holds the tables of a good state, of a version that can be read and that lacks no row of the state.
+pub record HoldsGood (version : ℕ) (db : Database) (s : State) : Type 0 where
+  pub known : IsKnown version
+  pub good : IsGood s
+  pub holds : HoldsTablesOf version db (tables_of version s)
+  pub whole : receipts_in version s.receipts ≡ s.receipts
 
 -- the store had none of the desk's tables, and the desk stands at the opening state; or it had those of a good state, of
 -- some version, and the desk stands there
@@ -36,17 +42,33 @@ AdoptedFrom c stands = (AreFree desk_forms c.now.schema × stands opening) ⊎ (
 abbrev pub KeepsGood : store.State → store.State → Type 0
 KeepsGood old new = HasCleanDisk new → IsNewlyOpened old → (version : ℕ) (s : State) → HoldsGood version old.now s → IsOpenAt new s
 
--- The store, where it is open, shows the tables of the state as they are in this version, and a stop leaves something, and
--- nothing else than tables of the state, of a version from this to the newest.
+-- the store is at the tables of the state in a version above this one and below the newest
+abbrev pub IsOnTheWay : ℕ → store.State → State → Type 0
+IsOnTheWay version c s = (later : ℕ) × (version < later) × (later < newest_schema) × IsAtOf later c (tables_of later s)
+
+-- The store, where it is open, shows the tables of the state as they are in this version, or in one between it and the
+-- newest, and a stop leaves something, and nothing else than tables of the state, of a version from this to the newest.
 pub record IsRisingAt (version : ℕ) (c : store.State) (s : State) : Type 0 where
   pub good : IsGood s
-  pub shows : IsTrue c.is_open → IsAtOf version c (tables_of version s)
+  pub shows : IsTrue c.is_open → IsAtOf version c (tables_of version s) ⊎ IsOnTheWay version c s
   pub something : ∥ ((db : Trees) × c.may_leave db) ∥₁
   pub nothing_else : (db : Trees) → c.may_leave db → (later : ℕ) × (version ≤ later) × (later ≤ newest_schema) × FindsStateOf later db s
 
 -- Whatever good state's tables were there, they still are, or a stop may leave those of a later version.
 abbrev pub StillGood : store.State → store.State → Type 0
 StillGood old new = HasCleanDisk new → IsNewlyOpened old → (version : ℕ) (s : State) → HoldsGood version old.now s → IsRisingAt version new s
+
+-- The tables of a good state stood there in an older version, and the store is at those of the same state in one between
+-- that and the newest, beside the same tables of other names.
+pub record HasRisen (old new : store.State) : Type 0 where
+  pub version : ℕ
+  pub state : State
+  pub stood : HoldsGood version old.now state
+  pub between : IsBetween version newest_schema old new state
+
+-- The store, where it is open, shows what it showed; or, after a fault of the store and no other, what was raised.
+abbrev pub ShowsStill : AdoptFault → store.State → store.State → Type 0
+ShowsStill f old new = IsTrue new.is_open → Keeps old new ⊎ ((f ≡ fault.Store) × HasRisen old new)
 
 -- table meta doesn't stand with one good row, or the tables of its version don't stand as they are declared, or one that a
 -- later version adds is there
@@ -107,7 +129,8 @@ pub record IsOpened (old : Database) (trees : Trees) : Type 0 where
   pub finds : Finds old trees opening_tables
 
 -- The tables of a good state stood there in a schema below the newest, with the names free that later ones add, and in the
--- trees those of the same state in a later schema are to be found, beside the same tables of other names.
+-- trees those of the same state in a later schema are to be found, beside the same tables of other names and with the names
+-- free that later ones than that add.
 pub record IsRaised (old : Database) (trees : Trees) : Type 0 where
   pub version : ℕ
   pub later : ℕ
@@ -115,7 +138,7 @@ pub record IsRaised (old : Database) (trees : Trees) : Type 0 where
   pub known : later ≤ newest_schema
   pub stood : (s : State) × HoldsGood version old s
   pub free : AreFree (later_forms version) old.schema
-  pub finds : (s : State) → HoldsGood version old s → FindsOf later old trees (tables_of later s)
+  pub finds : (s : State) → HoldsGood version old s → FindsRisable later old trees (tables_of later s)
 
 -- what an adoption may have made of a database, in what a stop leaves
 abbrev pub IsAdopted : Database → Trees → Type 0

@@ -7,7 +7,7 @@ use Rattle.sqlite.specs.State as store
 use Rattle.sqlite_catalog.specs.Listing.{IsSound}
 use Rattle.plant_base.specs.State.{State, newest_schema}
 use Rattle.plant_base.specs.declared.command.Envelope.{Envelope}
-use Rattle.plant_view.specs.Tables.{tables_of}
+use Rattle.plant_view.specs.Tables.{tables_of, receipts_in}
 use Rattle.plant_rules.specs.Step.{step}
 use Rattle.plant_good.specs.Good.{IsGood}
 use Rattle.table_forms.specs.Standing.{KeepsOthers}
@@ -25,11 +25,12 @@ pub record StandsAt (c : store.State) (s : State) : Type 0 where
   pub good : IsGood s
   pub shows : IsTrue c.is_open → IsAt c (tables_of newest_schema s)
 
--- What an opening of these trees finds are the tables of this good state, of a version.
+-- What an opening of these trees finds are the tables of this good state, of a version that lacks no row of the state.
 pub record FindsStateOf (version : ℕ) (trees : Trees) (s : State) : Type 0 where
   pub good : IsGood s
   pub schema : Schema
   pub holds : HoldsTablesOf version (record { schema = schema; trees = trees }) (tables_of version s)
+  pub whole : receipts_in version s.receipts ≡ s.receipts
 
 -- those of the newest
 abbrev pub FindsState : Trees → State → Type 0

@@ -1,6 +1,6 @@
 //! The adoption of a store.
 
-ghost use Rattle.std.specs.Prelude.{◌≡◌, ◌≢◌, ◌⊎◌, ℕ, false, pos, IfOk, IfErr, OnOk, OnErr, MatchResult};
+ghost use Rattle.std.specs.Prelude.{◌≡◌, ◌≢◌, ◌⊎◌, ◌≤◌, ◌<◌, ◌-◌, ℕ, false, pos, IfOk, IfErr, OnOk, OnErr, MatchResult};
 ghost use Rattle.sqlite.specs.Held.{state};
 ghost use Rattle.sqlite.specs.State.{HasCleanDisk, IsUnchanged, Survives};
 ghost use Rattle.sqlite.specs.Effect.{IsDatabase};
@@ -16,9 +16,10 @@ ghost use Rattle.plant_desk_store.specs.Testing.{IsFit};
 ghost use Rattle.plant_desk_store.specs.Faults as spec;
 ghost use Rattle.plant_desk_store.specs.Adopting.{IsNewlyOpened, AdoptedFrom, HoldsGood, KeepsGood};
 ghost use Rattle.plant_desk_store.specs.Adopting.{StillGood, IsRisingAt, IsRefusedBy, NamesFirst, BrokenBy};
+ghost use Rattle.plant_desk_store.specs.Adopting.{ShowsStill};
 ghost use Rattle.plant_desk_store.specs.Adopting.{AreMade, IsRaised, Adopts, IsUnraised};
-ghost use Rattle.plant_migrate.specs.Raised.{raising_changes};
-ghost use Rattle.plant_migrate.specs.Standing.{IsRaisedBy};
+ghost use Rattle.plant_migrate.specs.Raised.{edges_from};
+ghost use Rattle.plant_migrate.specs.Steps.{IsRaisedBy};
 ghost use Rattle.plant_desk_store.specs.Standing.{IsOpenAt, OthersStand};
 
 use crate::fitness::{Unfit, judge};
@@ -83,15 +84,15 @@ fn rows_to_adopt(read: Result<Option<Loaded>, Fault>) -> Result<Loaded, AdoptFau
 
 impl<S: Alter> Desk<S> {
     /// Adopts a store in which no transaction is open. One that has none of the desk's tables gets them, with the
-    /// opening state, in one transaction; good tables of an older schema are raised to the newest in one; tables of other
-    /// names aren't read and stay.
+    /// opening state, in one transaction; good tables of an older schema are raised to the newest, one schema after the
+    /// other, each in a transaction of its own; tables of other names aren't read and stay.
     ///
     /// - `Newer`: the tables are of a schema above the newest. Nothing is changed.
     /// - `Damaged`: some of the tables are there, of no schema above the newest, and they break this rule, and none before
     ///   it. Nothing is changed.
     /// - `Memory`: nothing is changed.
     /// - `Store`: the tables are as they were, or, where there were none, made with the opening state, or, where they were
-    ///   good and of an older schema, raised.
+    ///   good and of an older schema, raised, to the newest or to one between.
     pub fn adopt(alloc: Global, mut connection: Connection<S>) -> Result<Desk<S>, AdoptRefused<S>>
         requires { (state S.Store connection).in_transaction ≡ false }
         ensures adopted { IfOk result (λ desk. HasCleanDisk (state S.Store desk.connection)
@@ -100,7 +101,8 @@ impl<S: Alter> Desk<S> {
         ensures open { IfOk result (λ desk. desk.is_shut ≡ false) }
 
         // Over the tables of a good state the desk stands at this state, and a stop leaves that state alone; at a fault the
-        // tables are as they were, and a stop leaves those or those of a later schema, of the same state.
+        // tables are as they were, or of a schema between theirs and the newest, and a stop leaves those of some schema from
+        // theirs to the newest, of the same state.
         ensures again { IfOk result (λ desk. KeepsGood (state S.Store connection)
             (state S.Store desk.connection)) }
         ensures still { IfErr result (λ refused. StillGood (state S.Store connection)
@@ -111,14 +113,15 @@ impl<S: Alter> Desk<S> {
             → IsNewlyOpened (state S.Store connection)
             → OthersStand (state S.Store connection).now (state S.Store desk.connection)) }
 
-        // A fault has its cause; no transaction is open then, and the store, while it is open, shows what it showed.
+        // A fault has its cause; no transaction is open then, and the store, while it is open, shows what it showed, or, at
+        // Store, good tables of an older schema that were raised to one below the newest.
         ensures refused { IfErr result (λ refused. HasCleanDisk (state S.Store refused.connection)
             → IsRefusedBy (state S.Store connection).now refused.fault) }
         ensures rests { IfErr result (λ refused. (state S.Store refused.connection).in_transaction
             ≡ false) }
         ensures shows { IfErr result (λ refused. HasCleanDisk (state S.Store refused.connection)
             → IsNewlyOpened (state S.Store connection)
-            → Keeps (state S.Store connection) (state S.Store refused.connection)) }
+            → ShowsStill refused.fault (state S.Store connection) (state S.Store refused.connection)) }
 
         // What a stop leaves: what it left before, and only that where the store has some of the desk's tables, of no older
         // schema, and at each fault but Store. Else, of a store as it was just opened, also the tables of the opening state,
@@ -163,7 +166,8 @@ fn adopt_on<S: Alter>(alloc: Global, connection: &mut Connection<S>) -> Result<(
         → IfErr result (IsRefusedBy (state S.Store connection.old).now) }
     ensures shows { HasCleanDisk (state S.Store connection.new)
         → IsNewlyOpened (state S.Store connection.old)
-        → OnErr result (Keeps (state S.Store connection.old) (state S.Store connection.new)) }
+        → IfErr result (λ fault. ShowsStill fault (state S.Store connection.old)
+        (state S.Store connection.new)) }
     ensures unmade { IfErr result (λ fault. fault ≢ AdoptFault.Store
         → Survives (state S.Store connection.old) (state S.Store connection.new) (λ _. ⊥)) }
     ensures spared { IsUnraised (state S.Store connection.old).now
@@ -231,7 +235,8 @@ fn adopt_tables<S: Alter>(
         → OnOk result (OthersStand (state S.Store connection.old).now (state S.Store connection.new)) }
     ensures shows { HasCleanDisk (state S.Store connection.new)
         → IsNewlyOpened (state S.Store connection.old) → IsKnown schema
-        → OnErr result (Keeps (state S.Store connection.old) (state S.Store connection.new)) }
+        → IfErr result (λ fault. ShowsStill fault (state S.Store connection.old)
+        (state S.Store connection.new)) }
     ensures named { HasCleanDisk (state S.Store connection.new)
         → IsVersion (state S.Store connection.old).now (pos schema)
         → IfErr result (NamesFirst (state S.Store connection.old).now) }
@@ -245,7 +250,7 @@ fn adopt_tables<S: Alter>(
 {
     let rows = judge_tables(alloc, connection, schema)?;
     if schema < NEWEST_SCHEMA {
-        raise_tables(alloc, connection, &rows)
+        raise_tables(alloc, connection, schema, &rows)
     } else {
         Ok(())
     }
@@ -296,6 +301,7 @@ fn judge_tables<S: Alter>(
     ensures told { HasCleanDisk (state S.Store connection.new) → (s : State)
         → HoldsGood schema (state S.Store connection.old).now s
         → IfOk result (λ rows. rows_listed rows ≡ rows_in (tables_of schema s)) }
+    ensures numbered { OnOk result (1 ≤ schema) }
     ensures unchanged { HasCleanDisk (state S.Store connection.new)
         → OnOk result (IsUnchanged (state S.Store connection.old) (state S.Store connection.new)) }
     ensures kept { HasCleanDisk (state S.Store connection.new)
@@ -325,36 +331,44 @@ fn judge_rows(alloc: Global, loaded: &Loaded, schema: u64) -> Result<DeskRows, A
     }
 }
 
-/// Raises good tables of the first schema, whose rows these are, to the newest.
+/// Raises good tables of an older schema, whose rows these are, to the newest, one schema after the other.
 fn raise_tables<S: Alter>(
     alloc: Global,
     connection: &mut Connection<S>,
+    schema: u64,
     rows: &DeskRows,
 ) -> Result<(), AdoptFault>
-    requires { (state S.Store connection.old).in_transaction ≡ false }
+    requires rest { (state S.Store connection.old).in_transaction ≡ false }
+    requires numbered { 1 ≤ schema }
+    requires older { schema < newest_schema }
     ensures mode { (state S.Store connection.new).in_transaction ≡ false }
     ensures clean { HasCleanDisk (state S.Store connection.new)
         → HasCleanDisk (state S.Store connection.old) }
     ensures raised { HasCleanDisk (state S.Store connection.new)
         → IsSettled (state S.Store connection.old) → (s : State)
-        → HoldsGood 1 (state S.Store connection.old).now s
-        → rows_listed rows.now ≡ rows_in (tables_of 1 s)
+        → HoldsGood schema (state S.Store connection.old).now s
+        → rows_listed rows.now ≡ rows_in (tables_of schema s)
         → OnOk result (IsOpenAt (state S.Store connection.new) s
         × OthersStand (state S.Store connection.old).now (state S.Store connection.new)) }
     ensures still { HasCleanDisk (state S.Store connection.new)
         → IsSettled (state S.Store connection.old) → (s : State)
-        → HoldsGood 1 (state S.Store connection.old).now s
-        → rows_listed rows.now ≡ rows_in (tables_of 1 s)
-        → OnErr result (IsRisingAt 1 (state S.Store connection.new) s
-        × Keeps (state S.Store connection.old) (state S.Store connection.new)) }
+        → HoldsGood schema (state S.Store connection.old).now s
+        → rows_listed rows.now ≡ rows_in (tables_of schema s)
+        → OnErr result (IsRisingAt schema (state S.Store connection.new) s) }
+    ensures shows { HasCleanDisk (state S.Store connection.new)
+        → IsSettled (state S.Store connection.old) → (s : State)
+        → HoldsGood schema (state S.Store connection.old).now s
+        → rows_listed rows.now ≡ rows_in (tables_of schema s)
+        → IfErr result (λ fault. ShowsStill fault (state S.Store connection.old)
+        (state S.Store connection.new)) }
     ensures known { IfErr result (λ fault. (fault ≡ AdoptFault.Store) ⊎ (fault ≡ AdoptFault.Memory)) }
     ensures unmade { IfErr result (λ fault. fault ≢ AdoptFault.Store
         → Survives (state S.Store connection.old) (state S.Store connection.new) (λ _. ⊥)) }
     ensures crash { Survives (state S.Store connection.old) (state S.Store connection.new)
-        (IsRaisedBy (raising_changes rows.now.meta.position rows.now.movements.items)
-        (state S.Store connection.old).now) }
+        (IsRaisedBy schema (newest_schema - schema) rows.now.meta.position
+        (edges_from schema rows.now.movements.items) (state S.Store connection.old)) }
 {
-    match raise_rows(alloc, connection, rows) {
+    match raise_rows(alloc, connection, schema, NEWEST_SCHEMA, rows) {
         Ok(()) => Ok(()),
         Err(fault) => Err(fault_of(fault)),
     }

@@ -1,6 +1,6 @@
 //! Commands over a store.
 
-ghost use Rattle.std.specs.Prelude.{◌≡◌, ◌≢◌, ◌⊎◌, ◌+◌, ◌<◌, ◌≤◌, ◌^◌, false, true, IfOk, IfErr, OnOk, OnErr};
+ghost use Rattle.std.specs.Prelude.{◌≡◌, ◌≢◌, ◌⊎◌, ◌+◌, ◌<◌, ◌≤◌, ◌^◌, ℕ, false, true, Ok, IfOk, IfErr, OnOk, OnErr};
 ghost use Rattle.std.specs.Prelude.{IsTrue};
 ghost use Rattle.sqlite.specs.Effect.{Database};
 ghost use Rattle.sqlite.specs.Held.{state};
@@ -12,7 +12,7 @@ ghost use Rattle.plant_good.specs.Good.{IsGood};
 ghost use Rattle.plant_base.specs.Values.{greatest_seq};
 ghost use Rattle.plant_view.specs.OneBatch.{PutsOneBatch};
 ghost use Rattle.plant_desk.specs.Keeping.{writes_nothing};
-ghost use Rattle.plant_desk_store.specs.Looking.{IsDecidedAt};
+ghost use Rattle.plant_desk_store.specs.Looking.{IsDecidedAt, IsRepeat};
 ghost use Rattle.plant_desk_store.specs.Standing.{StandsAt, Leaves, IsOpenAt, Executed, OthersStand};
 
 use crate::looking::{Decided, decide_on};
@@ -46,6 +46,11 @@ pub(crate) fn execute_on<S: Alter>(
     // Where nothing was to be written, a stop leaves what it left before.
     ensures spared { writes_nothing result ≡ true
         → Survives (state S.Store connection.old) (state S.Store connection.new) (λ _. ⊥) }
+
+    // Nothing is to be written for a command that was accepted before, whatever it is answered now.
+    ensures repeated { HasCleanDisk (state S.Store connection.new) → (s : State)
+        → StandsAt (state S.Store connection.old) s → IsRepeat s envelope.now
+        → Survives (state S.Store connection.old) (state S.Store connection.new) (λ _. ⊥) }
 {
     let decided = decide_on(alloc, connection, envelope)?;
     execute_decided(connection, decided, envelope)
@@ -75,6 +80,10 @@ fn execute_decided<S: Alter>(
         → OthersStand before (state S.Store connection.new) }
     ensures untouched { writes_nothing result ≡ true → connection.new ≡ connection.old }
 
+    // A command that was accepted before is answered the number that it got then, and nothing is written.
+    ensures repeated { (n : ℕ) → decided.decision ≡ Decision.Repeat n
+        → (result ≡ Ok (Reply.Accepted n)) × (connection.new ≡ connection.old) }
+
     // Store comes of the commit of a command that is accepted.
     ensures fault { IfErr result (λ fault. fault ≡ DeskFault.Store) }
 {
@@ -84,6 +93,7 @@ fn execute_decided<S: Alter>(
     let Decided { seq, decision } = decided;
     match decision {
         Decision::Refused(refusal) => Ok(Reply::Refused(refusal)),
+        Decision::Repeat(number) => Ok(Reply::Accepted(number)),
         Decision::Change(changes) => commit_on(connection, seq, changes.as_slice()),
     }
 }

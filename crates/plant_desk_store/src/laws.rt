@@ -11,10 +11,11 @@ ghost use Rattle.plant_desk_store.specs.Laws.{GoodIsAdoptedAgain, OpeningIsAdopt
 /// `unrefused`: the tables of a good state are refused by a fault of the store or for want of memory, and for nothing else.
 ///
 /// The others are of what an adoption leaves (`crash` of `Desk::adopt`), whatever it answers, once it is opened again.
-/// `adopted_again`: where a good state could be adopted, it can be again, in the same schema or a later one.
-/// `opening_adopted`: where the names of the desk's tables were free, nothing was changed, or the opening state can be
-/// adopted. `others_spared`: where they weren't free and no good state stood there, nothing was changed. Tables of other
-/// names stand as they did.
+/// `adopted_again`: where a good state could be adopted, its tables stand there, in the same schema or a later one, and it
+/// can be adopted again; of a schema between the one that was found and the newest, where the names that later ones add are
+/// still free. `opening_adopted`: where the names of the desk's tables were free, nothing was changed, or the opening state
+/// can be adopted. `others_spared`: where they weren't free and no good state stood there, nothing was changed. Tables of
+/// other names stand as they did.
 pub fn desk_laws()
     ensures reopened { StopsAreReopened }
     ensures unrefused { GoodIsUnrefused }

@@ -1,13 +1,12 @@
 -- A row of table movement whose columns are those of its kind is the row that books its movement.
-use Rattle.std.proofs.Common.{◌≡◌, ◌∙◌, ℕ, ◌≤◌, true, nat_le, List, [], ◌∷◌, map, Option, Some, None, is_some, refl, sym, ap, subst}
+use Rattle.std.proofs.Common.{◌≡◌, ◌∙◌, ℕ, true, nat_le, List, [], ◌∷◌, map, Option, Some, None, is_some, refl, sym, ap, subst}
 use Rattle.std.specs.List.{AllByRecursion, filter_map, cons_option}
-use Rattle.std.proofs.lemmas.Bool.{false≢true, and_parts, leb-true}
+use Rattle.std.proofs.lemmas.Bool.{false≢true, leb-true}
 use Rattle.plant_base.specs.Values.{is_id, greatest_sublot}
 use Rattle.plant_base.specs.declared.rows.MovementKind.{MovementKind}
 use Rattle.plant_base.specs.declared.rows.MovementKind.TheVariants as kind
 use Rattle.plant_base.specs.declared.rows.Movement.{Movement}
 use Rattle.plant_good.specs.Valued.{HasMovementValues, HasKindValues}
-use Rattle.plant_tables_columns.specs.Reading.{is_in}
 use Rattle.plant_view.specs.Genealogy.{batch_by}
 use Rattle.plant_tables_columns.specs.Booked.{names_nothing, batch_named, lot_named, sublot_named, kind_of_sort, kind_from, moved_as, movement_from, sort_of, other_lot, other_sublot, booked_of}
 use Rattle.plant_tables_columns.specs.declared.booked.MovementSort.{MovementSort}

@@ -14,4 +14,5 @@ pub mod Lots
 pub mod Movements
 pub mod Numbers
 pub mod Moments
+pub mod Receipts
 pub mod Restored

@@ -24,7 +24,6 @@ use Rattle.plant_check_plans.proofs.Keying.{found_any}
 use Rattle.plant_check_plans.specs.Catalogue.{is_class_among, are_classified}
 use Rattle.plant_check_plans.specs.Recipes.{are_numbered}
 use Rattle.plant_good.specs.Births.{numbers_among, AreFromZero, are_one_birth, IsBirth, IsDivision, IsBorn, AreBorn}
-use Rattle.plant_good.specs.Births as births
 use Rattle.plant_tables_columns.specs.Booked.{sort_of, booked_of}
 use Rattle.plant_check.specs.Ends.{total_booked}
 use Rattle.plant_check.specs.Lots.{are_from_zero, sublots_among, is_right_lot, is_division_sort, are_of_one_sort, is_of_one_birth, is_one_birth, is_one_division, is_born, is_lot_among, is_right_sublot, are_in_lots, are_lots}

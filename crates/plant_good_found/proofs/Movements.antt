@@ -28,7 +28,6 @@ use Rattle.plant_view.specs.Materials.{is_taken, is_made}
 use Rattle.plant_check_stock.specs.Movements.{is_there, is_batch_there, names_known, lot_among, are_of_one, is_asked_for, is_yielded, is_of_right_definition, is_of_right_merge, is_right_movement, are_movements}
 use Rattle.plant_good.specs.Births.{IsDivision}
 use Rattle.plant_stock.specs.Stock as flows
-use Rattle.plant_good.specs.Births as births
 use Rattle.plant_good.specs.Keeping.{IsAsked, KeepToRecipes}
 use Rattle.plant_good.specs.Valued.{HasMovementValues}
 use Rattle.plant_tables_columns.specs.Booked.{booked_of}

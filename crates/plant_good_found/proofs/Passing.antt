@@ -9,9 +9,10 @@ use Rattle.plant_check_plans.specs.Batches.{are_batches}
 use Rattle.plant_check_plans.specs.Events.{are_events}
 use Rattle.plant_check_stock.specs.Movements.{are_movements}
 use Rattle.plant_check_stock.specs.Numbering.{are_numbers}
+use Rattle.plant_check_stock.specs.Receipts.{are_receipts}
 use Rattle.plant_check_stock.specs.Times.{are_times}
 use Rattle.plant_tables_judged.specs.Collecting.{Rows}
-use Rattle.plant_check.specs.Broken.{unless, or_else, are_whole, movements_in, are_acyclic, are_kept_edges, are_right_edges, broken_plan, broken_lot, broken_history, are_right_movements, are_right_numbers, first_broken_of}
+use Rattle.plant_check.specs.Broken.{unless, or_else, are_whole, movements_in, are_acyclic, are_kept_edges, are_right_edges, broken_plan, broken_lot, broken_history, broken_receipt, are_right_movements, are_right_numbers, first_broken_of}
 use Rattle.plant_check.specs.Ends.{are_stocks}
 use Rattle.plant_check.specs.Lots.{are_lots}
 use Rattle.plant_check.specs.declared.rule.Rule.{Rule}
@@ -30,6 +31,7 @@ pub record PassesAll (r : Rows) : Type 0 where
   pub times : are_times r.meta.position.at (movements_in r.movements) r.events r.batches r.holds ≡ true
   pub descent : are_acyclic (edges_among (movements_in r.movements)) ≡ true
   pub edges : are_kept_edges r.meta.schema r.edges (movements_in r.movements) ≡ true
+  pub receipts : are_receipts r.meta.position.seq r.receipts ≡ true
 
 pub obeyed : (b : Bool) (r : Rule) (rest : Option Rule) → unless b r rest ≡ None → (b ≡ true) × (rest ≡ None)
 obeyed true r rest e = (refl, e)
@@ -40,20 +42,22 @@ neither None rest e = (refl, e)
 neither (Some r) rest e = absurd (cc)
 
 pub passes_all : (r : Rows) → first_broken_of r ≡ None → PassesAll r
-unfolding first_broken_of broken_plan broken_lot broken_history
+unfolding first_broken_of broken_plan broken_lot broken_history broken_receipt
 passes_all r none =
-    let plan = neither (broken_plan r) (or_else (broken_lot r) (broken_history r)) none in
-    let stock = neither (broken_lot r) (broken_history r) plan.1 in
+    let plan = neither (broken_plan r) (or_else (broken_lot r) (or_else (broken_history r) (broken_receipt r))) none in
+    let stock = neither (broken_lot r) (or_else (broken_history r) (broken_receipt r)) plan.1 in
+    let history = neither (broken_history r) (broken_receipt r) stock.1 in
     let p1 = obeyed (are_classified r.classes r.definitions) _ _ plan.0 in
     let p2 = obeyed (are_recipes r.definitions r.recipes r.master_lines) _ _ p1.1 in
     let p3 = obeyed (are_orders r.recipes r.batches r.jobs) _ _ p2.1 in
     let p4 = obeyed (are_batches r.recipes r.master_lines r.jobs r.batches r.control_lines) _ _ p3.1 in
     let s1 = obeyed (are_stocks r.movements r.sublots) _ _ stock.0 in
     let s2 = obeyed (are_lots r.definitions r.lots r.sublots r.holds r.movements) _ _ s1.1 in
-    let h1 = obeyed (are_right_movements r (movements_in r.movements)) _ _ stock.1 in
+    let h1 = obeyed (are_right_movements r (movements_in r.movements)) _ _ history.0 in
     let h2 = obeyed (are_events r.control_lines r.events r.batches) _ _ h1.1 in
     let h3 = obeyed (are_right_numbers r (movements_in r.movements)) _ _ h2.1 in
     let h4 = obeyed (are_right_edges r (movements_in r.movements)) _ _ h3.1 in
+    let r1 = obeyed (are_receipts r.meta.position.seq r.receipts) _ _ history.1 in
     record {
       classes = p1.0;
       recipes = p2.0;
@@ -68,4 +72,5 @@ passes_all r none =
       times = and_right (are_numbers r.meta.position.seq r.events (movements_in r.movements)) _ h3.0;
       descent = and_left (are_acyclic (edges_among (movements_in r.movements))) _ h4.0;
       edges = and_right (are_acyclic (edges_among (movements_in r.movements))) _ h4.0;
+      receipts = r1.0;
     }

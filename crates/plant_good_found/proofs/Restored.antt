@@ -1,15 +1,17 @@
 -- Rows that break no rule are those of a good state's tables.
-use Rattle.std.proofs.Common.{◌≡◌, ◌∙◌, ◌≤◌, true, map, Option, Some, None, is_some, refl, sym, ap, subst}
+use Rattle.std.proofs.Common.{◌≡◌, ◌∙◌, ◌≤◌, nat_le, Bool, true, false, List, [], map, Option, Some, None, is_some, refl, sym, ap, subst}
 use Rattle.std.specs.List.{AllByRecursion}
+use Rattle.std.specs.Prelude.{if◌then◌else◌}
 use Rattle.plant_base.specs.Values.{greatest_sublot}
 use Rattle.std.specs.List.Sorted.{IsStrictlySortedBy}
 use Rattle.plant_base.specs.Edges.{edge_order}
 use Rattle.plant_base.specs.State.{batch_order, place_order}
 use Rattle.plant_base.specs.declared.rows.Place.{Place}
+use Rattle.plant_base.specs.declared.rows.Receipt.{Receipt}
 use Rattle.plant_base.proofs.Put.{all_weaker}
 use Rattle.plant_view.specs.Genealogy.{edges_among}
 use Rattle.plant_view.specs.Sound.{IsSound}
-use Rattle.plant_view.specs.Tables.{tables_of, edges_in, place_of_row, batch_of_row}
+use Rattle.plant_view.specs.Tables.{tables_of, edges_in, receipts_in, place_of_row, batch_of_row}
 use Rattle.plant_view.proofs.Rows.{all_mapped, each_passes, sorted_mapped}
 use Rattle.plant_good.specs.Good.{IsGood}
 use Rattle.plant_good.specs.Valued.{HasRowValues, HasPlaceValues, HasMovementValues}
@@ -20,7 +22,7 @@ use Rattle.plant_tables_columns.specs.Booked.{movement_from, booked_of}
 use Rattle.plant_tables_judged.specs.Collecting.{Rows, rows_from, tables_in, AreWhole, AreInOrder}
 use Rattle.plant_tables_columns.specs.TableColumns.{only_meta}
 use Rattle.plant_tables_columns.specs.declared.booked.BookedRow.{BookedRow}
-use Rattle.plant_tables_judged.proofs.StandLemmas.{stands_for}
+use Rattle.plant_tables_judged.proofs.StandLemmas.{are_stored, stands_for}
 use Rattle.plant_check.specs.Broken.{movements_in, broken_rows, first_broken_of, first_broken}
 use Rattle.plant_check.specs.Ends.{are_stocks}
 use Rattle.plant_check.specs.Lots.{are_lots}
@@ -40,7 +42,8 @@ use Rattle.plant_good_found.proofs.Orders.{sound_orders}
 use Rattle.plant_good_found.proofs.Passing.{PassesAll, obeyed, passes_all}
 use Rattle.plant_good_found.proofs.Recipes.{sound_recipes}
 use Rattle.plant_good_found.proofs.Recipes as recipes
-use Rattle.plant_good_found.proofs.Rising.{in_order}
+use Rattle.plant_good_found.proofs.Receipts.{contents_there, good_receipts}
+use Rattle.plant_good_found.proofs.Rising.{in_order, receipts_none}
 use Rattle.plant_tables_columns.proofs.TableLaws.{HasBookedColumns}
 use Rattle.plant_good_found.proofs.Values.{HaveValues, HasSublotValues, have_values}
 
@@ -64,6 +67,7 @@ module _ (r : Rows) (p : PassesAll r) where
     control_lines = control_numbered r.recipes r.master_lines r.jobs r.batches r.control_lines p.batches;
     movement_lines = subst (AllByRecursion (λ (m : BookedRow). 1 ≤ m.line)) (sym booked) (all_mapped (λ (m : BookedRow). 1 ≤ m.line) booked_of (movements_in r.movements) (numbers.lines_numbered r.meta.position.seq r.events (movements_in r.movements) p.numbers));
     movements = whole_movements;
+    contents = contents_there r.meta.position.seq r.receipts p.receipts;
   }
 
   module _ (v : HaveValues r) where
@@ -118,6 +122,7 @@ module _ (r : Rows) (p : PassesAll r) where
         kept = all_kept r p.movements;
         numbers = numbers.sound_numbers r.meta.position.seq r.events (movements_in r.movements) p.numbers o.movements o.events (λ m h. (tested_movement r p.movements m h).merge);
         moments = sound_moments r.meta.position.at (movements_in r.movements) r.events r.batches r.holds p.times;
+        receipts = good_receipts r.meta.position.seq r.receipts o.keyed.receipts v.receipts p.receipts;
       }
 
   -- the edges are those of the movements
@@ -127,20 +132,26 @@ module _ (r : Rows) (p : PassesAll r) where
   sorted_edges : IsStrictlySortedBy edge_order r.edges
   sorted_edges = subst (IsStrictlySortedBy edge_order) (sym edges) (edges_sorted r.meta.schema (movements_in r.movements))
 
-  same_tables : tables_in r ≡ tables_of r.meta.schema (state_in r)
-  same_tables =
+  same_tables : r.receipts ≡ receipts_in r.meta.schema r.receipts → tables_in r ≡ tables_of r.meta.schema (state_in r)
+  same_tables receipts =
       let batches = same_batches r.recipes r.master_lines r.jobs r.batches r.control_lines r.events p.batches p.orders p.events in
       let sublots = same_sublots r p.movements stocks in
-      λ i. record (tables_in r) { batches = sym batches i; sublots = sym sublots i; edges = edges i }
+      λ i. record (tables_in r) { batches = sym batches i; sublots = sym sublots i; edges = edges i; receipts = receipts i }
+
+-- receipts that a schema keeps, or none
+kept_in : (keeps : Bool) (rs : List Receipt) → (keeps ≡ false → rs ≡ []) → rs ≡ (if keeps then rs else [])
+kept_in true rs none = refl
+kept_in false rs none = none refl
 
 pub unbroken_good : UnbrokenIsGood
 unbroken_good x r u =
     let p = passes_all r u.unbroken in
     let w = whole r p in
+    let stored = are_stored x r u.read w in
     record {
       good = good r p (have_values x r u.read) (in_order r.meta.schema x r u.rising u.read w (sorted_edges r p));
       whole = w;
-      tables = same_tables r p;
+      tables = same_tables r p (kept_in (nat_le 3 r.meta.schema) r.receipts (receipts_none r.meta.schema x r.receipts u.rising stored.receipts));
     }
 
 pub unbroken_holds : UnbrokenHolds

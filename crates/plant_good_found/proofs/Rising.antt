@@ -1,24 +1,25 @@
 -- The rows that were read stand in the order of their keys.
-use Rattle.std.proofs.Common.{◌≡◌, ◌∙◌, ℕ, List, [], ◌∷◌, map, Bool, Some, is_lt, refl, sym, subst}
-use Rattle.std.specs.Cmp.{IsTotalOrder}
+use Rattle.std.proofs.Common.{◌≡◌, ◌∙◌, ℕ, nat_le, List, [], ◌∷◌, map, Bool, true, false, Some, None, inl, inr, refl, sym, subst}
+use Rattle.std.specs.Prelude.{slice_get}
+use Rattle.std.proofs.lemmas.Bool.{cases_Bool}
 use Rattle.std.specs.List.{AllByRecursion}
 use Rattle.std.specs.List.Sorted.{IsStrictlySortedBy}
-use Rattle.std.specs.Ordering.{ordering_then}
 use Rattle.std.specs.declared.cmp.Ordering.{Ordering}
 use Rattle.std.specs.declared.cmp.Ordering.TheVariants.{Less}
-use Rattle.sqlite.specs.Effect.{Database}
 use Rattle.sqlite.specs.Order.{Row}
 use Rattle.plant_base.specs.Edges.{edge_order}
-use Rattle.plant_base.specs.State.{class_order, definition_order, recipe_order, master_line_order, job_order, control_line_order, lot_order, hold_order, event_order, movement_order}
+use Rattle.plant_base.specs.declared.rows.Receipt.{Receipt}
+use Rattle.plant_base.specs.State.{class_order, definition_order, recipe_order, master_line_order, job_order, control_line_order, lot_order, hold_order, receipt_order, event_order, movement_order}
 use Rattle.plant_view.specs.Tables.{batch_row_order, sublot_order}
 use Rattle.table_reads.specs.Rises.{Rises}
-use Rattle.plant_tables_columns.specs.TableColumns.{row_of_class, row_of_definition, row_of_recipe, row_of_master_line, row_of_job, row_of_batch, row_of_control_line, row_of_event, row_of_lot, row_of_sublot, row_of_movement, row_of_hold}
+use Rattle.plant_tables_columns.specs.TableColumns.{row_of_class, row_of_definition, row_of_recipe, row_of_master_line, row_of_job, row_of_batch, row_of_control_line, row_of_event, row_of_lot, row_of_sublot, row_of_movement, row_of_hold, row_of_receipt}
 use Rattle.table_forms.specs.Forms.{Form}
 use Rattle.table_reads.specs.Keys.{key_order, comes_before}
 use Rattle.table_reads.specs.Selects.{first_of}
 use Rattle.table_reads.proofs.KeyOrder.{key_total}
-use Rattle.plant_tables.specs.DeskForms.{class_form, definition_form, recipe_form, recipe_line_form, job_form, batch_form, control_line_form, batch_event_form, lot_form, sublot_form, movement_form, hold_form}
-use Rattle.plant_tables_stored.specs.Loading.{AreRising}
+use Rattle.plant_tables.specs.DeskForms.{class_form, definition_form, recipe_form, recipe_line_form, job_form, batch_form, control_line_form, batch_event_form, lot_form, sublot_form, movement_form, hold_form, receipt_form, forms_of}
+use Rattle.plant_tables.proofs.DeskMoves.{receipt_place}
+use Rattle.plant_tables_stored.specs.Loading.{AreRising, contents_loaded}
 use Rattle.plant_tables_stored.specs.declared.loaded.Loaded.{Loaded}
 use Rattle.plant_tables_judged.specs.Collecting.{Rows, rows_from, tables_in, AreWhole, AreInOrder}
 use Rattle.plant_tables_judged.proofs.KeyLemmas.{by_text, by_number, by_text_number, by_two_texts, by_two_numbers, by_text_numbers}
@@ -46,6 +47,27 @@ module _ {R : Type 0} (written : R → Row) (form : Form) (order : R → R → O
       let rising : IsStrictlySortedBy keys rows = subst (IsStrictlySortedBy keys) (map_same rows) (strictly_sorted (λ row. row) (comes_before form) keys (key_total (first_of form.keys)) (λ a b. refl) rows rise) in
       rows_rise written order keys by_key rs (subst (IsStrictlySortedBy keys) same rising)
 
+-- ---- receipts
+
+no_place : (schema : ℕ) → nat_le 3 schema ≡ false → slice_get (forms_of schema) 14 ≡ None
+no_place schema below = elim (cases_Bool (nat_le 2 schema)) [ inl second ↦ rw (below, second) refl | inr first ↦ rw (below, first) refl ]
+
+none_stored : (rs : List Receipt) → [] ≡ map row_of_receipt rs → rs ≡ []
+none_stored [] e = refl
+none_stored (r ∷ rs) e = absurd (cc)
+
+-- in a schema that keeps none there are none
+pub receipts_none : (schema : ℕ) (x : Loaded) (rs : List Receipt) → AreRising schema x → contents_loaded x 14 ≡ map row_of_receipt rs → nat_le 3 schema ≡ false → rs ≡ []
+receipts_none schema x rs rising stored below = none_stored rs (sym (rising.no_more 14 (no_place schema below)) ∙ stored)
+
+receipts_rise : (schema : ℕ) (x : Loaded) (rs : List Receipt) → AreRising schema x → contents_loaded x 14 ≡ map row_of_receipt rs → (keeps : Bool) → nat_le 3 schema ≡ keeps → IsStrictlySortedBy receipt_order rs
+unfolding IsStrictlySortedBy
+receipts_rise schema x rs rising stored true third =
+    table_rises row_of_receipt receipt_form receipt_order (λ a b. by_text a.reference b.reference) _ rs (rising.tables 14 receipt_form (receipt_place schema third)) stored
+receipts_rise schema x rs rising stored false below = subst (IsStrictlySortedBy receipt_order) (sym (receipts_none schema x rs rising stored below)) tt
+
+-- ---- all tables
+
 pub in_order : (schema : ℕ) (x : Loaded) (r : Rows) → AreRising schema x → rows_from x ≡ Some r → AreWhole r → IsStrictlySortedBy edge_order r.edges → AreInOrder (tables_in r)
 in_order schema x r rising read whole edges =
     let s = are_stored x r read whole in
@@ -62,6 +84,7 @@ in_order schema x r rising read whole edges =
         sublots = table_rises row_of_sublot sublot_form sublot_order (λ a b. by_text_number a.lot b.lot a.number b.number) _ r.sublots (rising.tables 10 sublot_form refl) s.sublots;
         holds = table_rises row_of_hold hold_form hold_order (λ a b. by_two_texts a.lot b.lot a.id b.id) _ r.holds (rising.tables 12 hold_form refl) s.holds;
         edges = edges;
+        receipts = receipts_rise schema x r.receipts rising s.receipts (nat_le 3 schema) refl;
       };
       events = table_rises row_of_event batch_event_form event_order (λ a b. by_number a.seq b.seq) _ r.events (rising.tables 8 batch_event_form refl) s.events;
       movements = table_rises row_of_movement movement_form movement_order (λ a b. by_two_numbers a.seq b.seq a.line b.line) _ (tables_in r).movements (rising.tables 11 movement_form refl) s.movements;

@@ -8,7 +8,6 @@ use Rattle.plant_base.specs.declared.rows.MovementKind.TheVariants as kind
 use Rattle.plant_base.specs.declared.rows.Sublot.{Sublot}
 use Rattle.plant_stock.specs.Stock.{goes_to, comes_from, is_place, entered, left}
 use Rattle.plant_stock.specs.Stock as flows
-use Rattle.plant_good.specs.Births as births
 use Rattle.plant_tables_columns.specs.Booked.{booked_of}
 use Rattle.plant_tables_columns.specs.declared.booked.BookedRow.{BookedRow}
 use Rattle.plant_check.specs.Ends.{entered_by, left_by, entries, exits, total_booked, has_right_stock, are_stocks}

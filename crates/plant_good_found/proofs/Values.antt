@@ -1,5 +1,5 @@
 -- The values of rows that were read obey their rules.
-use Rattle.std.proofs.Common.{◌≡◌, subst, ℕ, ◌≤◌, List, [], ◌∷◌, Bool, true, nat_le, leb-true, Option, Some}
+use Rattle.std.proofs.Common.{◌≡◌, subst, ◌≤◌, List, [], ◌∷◌, true, leb-true, Option, Some}
 use Rattle.std.specs.List.{AllByRecursion}
 use Rattle.sqlite.specs.Order.{Row}
 use Rattle.plant_base.specs.Values.{is_id, is_text, is_moment, greatest_seq, greatest_sublot}
@@ -10,16 +10,17 @@ use Rattle.plant_base.specs.declared.rows.Header.{Header}
 use Rattle.plant_base.specs.declared.rows.Recipe.{Recipe}
 use Rattle.plant_base.specs.declared.rows.Job.{Job}
 use Rattle.plant_base.specs.declared.rows.BatchRow.{BatchRow}
+use Rattle.plant_base.specs.declared.rows.Receipt.{Receipt}
 use Rattle.plant_base.specs.declared.rows.Sublot.{Sublot}
 use Rattle.plant_good.specs.Valued.{HasMasterValues, HasControlValues, HasEventValues}
 use Rattle.plant_view.specs.Production.{HasBatchValues, HasGoodOrder}
 use Rattle.plant_tables_stored.specs.Loading.{contents_loaded}
 use Rattle.plant_tables_stored.specs.declared.loaded.Loaded.{Loaded}
 use Rattle.plant_tables_columns.specs.All.{all_from}
-use Rattle.plant_tables_columns.specs.TableColumns.{only_meta, class_from, definition_from, recipe_from, master_line_from, job_from, batch_from, control_line_from, batch_event_from, lot_from, sublot_from, booked_from, hold_from}
+use Rattle.plant_tables_columns.specs.TableColumns.{only_meta, receipt_from}
 use Rattle.plant_tables_columns.proofs.Options.{bound, some_same}
 use Rattle.plant_tables_columns.proofs.TableLaws.{HasBookedColumns}
-use Rattle.plant_tables_columns.proofs.RowLaws.{Reads, meta_reads, class_reads, definition_reads, recipe_reads, master_line_reads, job_reads, batch_reads, control_line_reads, event_reads, lot_reads, sublot_reads, booked_reads, hold_reads}
+use Rattle.plant_tables_columns.proofs.RowLaws.{Reads, meta_reads, class_reads, definition_reads, recipe_reads, master_line_reads, job_reads, batch_reads, control_line_reads, event_reads, lot_reads, sublot_reads, booked_reads, hold_reads, receipt_reads}
 use Rattle.plant_tables_judged.specs.Collecting.{Rows, rows_joined, rows_from, masters_from, orders_from, stocks_from}
 use Rattle.plant_tables_judged.proofs.StandLemmas.{masters_back, orders_back, stocks_back}
 
@@ -70,6 +71,7 @@ pub record HaveValues (r : Rows) : Type 0 where
   pub sublots : AllByRecursion HasSublotValues r.sublots
   pub movements : AllByRecursion HasBookedColumns r.movements
   pub holds : AllByRecursion HasHoldValues r.holds
+  pub receipts : AllByRecursion (λ (q : Receipt). is_id q.reference ≡ true) r.receipts
 
 pub have_values : (x : Loaded) (r : Rows) → rows_from x ≡ Some r → HaveValues r
 unfolding rows_from
@@ -78,10 +80,11 @@ have_values x r h =
     let p2 = bound (masters_from x) _ r p1.2 in
     let p3 = bound (orders_from x) _ r p2.2 in
     let p4 = bound (stocks_from x) _ r p3.2 in
+    let p5 = bound (all_from receipt_from (contents_loaded x 14)) _ r p4.2 in
     let m = masters_back x p2.0 p2.1 in
     let o = orders_back x p3.0 p3.1 in
     let s = stocks_back x p4.0 p4.1 in
-    subst HaveValues (some_same (rows_joined p1.0 p2.0 p3.0 p4.0) r p4.2) (record {
+    subst HaveValues (some_same (rows_joined p1.0 p2.0 p3.0 p4.0 p5.0) r p5.2) (record {
       meta = only_meta_good (contents_loaded x 0) p1.0 p1.1;
       classes = all_good HasClassValues class_reads (λ r h. h) _ _ m.classes;
       definitions = all_good HasDefinitionValues definition_reads (λ r h. h) _ _ m.definitions;
@@ -95,4 +98,5 @@ have_values x r h =
       sublots = all_good HasSublotValues sublot_reads (λ r h. record { lot = h.lot; number = leb-true r.number greatest_sublot h.number; place = h.place }) _ _ s.sublots;
       movements = all_good HasBookedColumns booked_reads (λ r h. h) _ _ s.movements;
       holds = all_good HasHoldValues hold_reads (λ r h. h) _ _ s.holds;
+      receipts = all_good (λ (q : Receipt). is_id q.reference ≡ true) receipt_reads (λ r h. h.reference) _ _ p5.1;
     })

@@ -31,6 +31,7 @@ state_in r = record {
   places = map place_of_row r.sublots;
   movements = filter_map movement_from r.movements;
   holds = r.holds;
+  receipts = r.receipts;
 }
 
 -- the rows are those of a good state's tables, in the schema that they tell

@@ -1,23 +1,35 @@
--- The tables of a sound state stand in the order of their keys.
-use Rattle.std.proofs.Common.{ℕ}
-use Rattle.plant_base.specs.State.{State}
-use Rattle.plant_view.specs.Sound.{IsSound}
+-- The tables of a good state stand in the order of their keys.
+use Rattle.std.proofs.Common.{ℕ, Bool, true, false, List, [], nat_le}
+use Rattle.std.specs.Prelude.{if◌then◌else◌}
+use Rattle.std.specs.List.Sorted.{IsStrictlySortedBy}
+use Rattle.plant_base.specs.State.{State, receipt_order}
+use Rattle.plant_base.specs.declared.rows.Receipt.{Receipt}
 use Rattle.plant_view.specs.Tables.{tables_of, sublot_order, sublot_row, batch_row_order, batch_row}
 use Rattle.plant_view.proofs.EdgeRows.{edges_sorted}
 use Rattle.plant_view.proofs.Rows.{sorted_mapped}
+use Rattle.plant_good.specs.Good.{IsGood}
 use Rattle.plant_tables.specs.Keyed.{AreKeyed}
 
-pub keyed : (schema : ℕ) (s : State) → IsSound s → AreKeyed (tables_of schema s)
-keyed schema s sound = record {
-  classes = sound.classes;
-  definitions = sound.definitions;
-  recipes = sound.recipes.sorted;
-  master_lines = sound.recipes.rows_sorted;
-  jobs = sound.orders.sorted;
-  batches = sorted_mapped batch_row_order (batch_row s.control_lines s.events) s.batches sound.batches.sorted;
-  control_lines = sound.batches.control_sorted;
-  lots = sound.lots;
-  sublots = sorted_mapped sublot_order (sublot_row s.movements) s.places sound.places;
-  holds = sound.holds;
-  edges = edges_sorted schema s.movements;
-}
+-- the receipts, or none in a schema that keeps none
+receipts_sorted : (keeps : Bool) (rs : List Receipt) → IsStrictlySortedBy receipt_order rs → IsStrictlySortedBy receipt_order (if keeps then rs else [])
+unfolding IsStrictlySortedBy
+receipts_sorted true rs sorted = sorted
+receipts_sorted false rs sorted = tt
+
+pub keyed : (schema : ℕ) (s : State) → IsGood s → AreKeyed (tables_of schema s)
+keyed schema s good =
+    let sound = good.sound in
+    record {
+      classes = sound.classes;
+      definitions = sound.definitions;
+      recipes = sound.recipes.sorted;
+      master_lines = sound.recipes.rows_sorted;
+      jobs = sound.orders.sorted;
+      batches = sorted_mapped batch_row_order (batch_row s.control_lines s.events) s.batches sound.batches.sorted;
+      control_lines = sound.batches.control_sorted;
+      lots = sound.lots;
+      sublots = sorted_mapped sublot_order (sublot_row s.movements) s.places sound.places;
+      holds = sound.holds;
+      edges = edges_sorted schema s.movements;
+      receipts = receipts_sorted (nat_le 3 schema) s.receipts good.receipts.sorted;
+    }

@@ -3,7 +3,6 @@ use Rattle.std.specs.Prelude.{◌≡◌, ℕ, true, List}
 use Rattle.plant_base.specs.State.{State, newest_schema}
 use Rattle.plant_base.specs.Formed.{HasValues}
 use Rattle.plant_base.specs.declared.command.Envelope.{Envelope}
-use Rattle.plant_view.specs.Sound.{IsSound}
 use Rattle.plant_view.specs.OneBatch.{puts_one_batch}
 use Rattle.plant_view.specs.Tables.{tables_of, changed_all}
 use Rattle.plant_view.specs.declared.change.RowChange.{RowChange}
@@ -13,9 +12,9 @@ use Rattle.plant_tables.specs.Keyed.{AreKeyed, AreFresh}
 
 -- ---- laws
 
--- in each schema, the rows of a sound state's tables stand in the order of their keys
-abbrev pub SoundIsKeyed : Type 0
-SoundIsKeyed = (schema : ℕ) (s : State) → IsSound s → AreKeyed (tables_of schema s)
+-- in each schema, the rows of a good state's tables stand in the order of their keys
+abbrev pub GoodIsKeyed : Type 0
+GoodIsKeyed = (schema : ℕ) (s : State) → IsGood s → AreKeyed (tables_of schema s)
 
 -- changes that make the tables after a command of those before it add each row under a key of its own
 abbrev pub StepIsFresh : Type 0

@@ -5,6 +5,7 @@ mod Lots
 mod Movements
 mod Numbers
 mod Orders
+mod Receipts
 mod Recipes
 mod Stocks
 mod Testing

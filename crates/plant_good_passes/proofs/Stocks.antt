@@ -15,7 +15,6 @@ use Rattle.plant_view.specs.Tables.{sublot_row}
 use Rattle.plant_view.proofs.Rows.{all_of, all_mapped}
 use Rattle.plant_view.proofs.Tests.{sum_map}
 use Rattle.plant_stock.specs.Stock as flows
-use Rattle.plant_good.specs.Births as kept
 use Rattle.plant_tables_columns.specs.Booked.{booked_of, sort_of}
 use Rattle.plant_tables_columns.specs.declared.booked.BookedRow.{BookedRow}
 use Rattle.plant_check.specs.Ends.{entered_by, left_by, entries, exits, total_booked, has_right_stock, are_stocks}

@@ -19,9 +19,8 @@ use Rattle.plant_base.specs.declared.rows.EdgeRow.{EdgeRow}
 use Rattle.plant_base.specs.declared.rows.Movement.{Movement}
 use Rattle.plant_base.specs.declared.rows.MovementKind.{MovementKind}
 use Rattle.plant_base.specs.declared.rows.MovementKind.TheVariants as kind
-use Rattle.plant_base.specs.declared.states.Event.{Event}
-use Rattle.plant_base.specs.declared.states.Event.TheVariants as event
 use Rattle.plant_base.specs.declared.rows.Place.{Place}
+use Rattle.plant_base.specs.declared.rows.Receipt.{Receipt}
 use Rattle.plant_base.specs.declared.rows.Sublot.{Sublot}
 use Rattle.plant_base.proofs.Put.{all_weaker}
 use Rattle.plant_base.proofs.Find.{found_passes, found_keeps}
@@ -40,19 +39,19 @@ use Rattle.plant_good.specs.Valued as kept
 use Rattle.plant_good.specs.Bookings.{AreCounted, booked}
 use Rattle.plant_good.specs.Columns.{HasProgressValues}
 use Rattle.plant_good.specs.Good.{IsGood}
+use Rattle.plant_good.specs.Receipts.{HasReceiptValues}
 use Rattle.plant_good.proofs.KeptColumns.{columns}
 use Rattle.plant_good.proofs.Listing.{all_swap, all_passing}
 use Rattle.plant_good_keys.proofs.TableKeys.{keyed}
 use Rattle.plant_tables_columns.specs.Reading.{is_in, greatest_number}
 use Rattle.plant_tables_stored.specs.Version.{IsKnown}
 use Rattle.plant_tables_judged.specs.Collecting.{AreInOrder}
-use Rattle.plant_base.specs.RowValues.{HasClassValues, HasDefinitionValues, HasLotValues, HasHoldValues, HasPhaseNumber}
-use Rattle.plant_tables_columns.specs.Obeying.{HasRecipeValues, IsLineNumber, HasMasterLineValues, HasBatchRowValues, HasControlLineValues, HasEventRowValues, HasSublotValues, HasKindRowValues, HasMovementRowValues, HasEdgeValues, HasGoodValues}
+use Rattle.plant_tables_columns.specs.Obeying.{HasRecipeValues, IsLineNumber, HasMasterLineValues, HasBatchRowValues, HasControlLineValues, HasEventRowValues, HasSublotValues, HasKindRowValues, HasMovementRowValues, HasEdgeValues, HasReceiptRowValues, HasGoodValues}
 
 -- ---- order
 
 pub in_order : (schema : ℕ) (s : State) → IsGood s → AreInOrder (tables_of schema s)
-in_order schema s good = record { keyed = keyed schema s good.sound; events = good.numbers.events; movements = good.numbers.movements }
+in_order schema s good = record { keyed = keyed schema s good; events = good.numbers.events; movements = good.numbers.movements }
 
 pub newest_known : IsKnown newest_schema
 newest_known = (omega arith, omega arith)
@@ -248,6 +247,14 @@ module _ (s : State) (good : IsGood s) where
   edges true = all_put_all edge_order edge_total HasEdgeValues (filter_map edge_row_of s.movements) [] (all_ends s.movements movements) tt
   edges false = tt
 
+  receipts : (keeps : Bool) → AllByRecursion HasReceiptRowValues (if keeps then s.receipts else [])
+  receipts true = all_two HasReceiptValues _ HasReceiptRowValues (λ (r : Receipt) v given. record {
+    reference = v.reference;
+    seq = seq_values r.seq given.1;
+    content = v.content;
+  }) s.receipts good.receipts.values good.receipts.given
+  receipts false = tt
+
   known_schema : (schema : ℕ) → IsKnown schema → is_in 1 greatest_number schema ≡ true
   known_schema schema known = in_range 1 greatest_number schema known.0 (omega (arith, known.1))
 
@@ -267,4 +274,5 @@ module _ (s : State) (good : IsGood s) where
     movements = movements;
     holds = good.values.holds;
     edges = edges (nat_le 2 schema);
+    receipts = receipts (nat_le 3 schema);
   }

@@ -1,5 +1,5 @@
 -- From what was read to the whole input.
-use Rattle.std.proofs.Common.{◌≡◌, ℕ, ◌+◌, ◌-◌, ◌≤◌, Bool, true, false, nat_le, List, [], ◌∷◌, ◌++◌, length, take, drop, Option, Some, None, refl, sym, ap, ◌∙◌, arith, rules, append_assoc}
+use Rattle.std.proofs.Common.{◌≡◌, ℕ, ◌+◌, ◌-◌, ◌≤◌, true, false, nat_le, List, ◌++◌, length, take, drop, Option, Some, None, refl, sym, ap, ◌∙◌, arith, append_assoc}
 use Rattle.std.specs.Prelude.{IfSome, slice_range}
 use Rattle.std.specs.Io.KnownBytes.{Consumes}
 use Rattle.std.proofs.lemmas.Bool.Decides.{nat_tests}
@@ -8,7 +8,7 @@ use Rattle.plant_http_input.specs.Head.{end_of_head}
 use Rattle.plant_http_input.specs.Reading.{GoesOn, SpentAll}
 use Rattle.plant_http_input.specs.declared.reading.HeadEnd.{HeadEnd}
 use Rattle.plant_http_input.specs.declared.reading.HeadEnd.TheVariants as end
-use Rattle.plant_http_requests.specs.Jobs.{body_job, finish, EndJob, HeadJob, HeadAsksFor, JobOf, AsksFor, Reads, ReadsSome, StepOf}
+use Rattle.plant_http_requests.specs.Jobs.{body_job, EndJob, HeadJob, HeadAsksFor, AsksFor, Reads, ReadsSome, StepOf}
 use Rattle.plant_http_requests.specs.Steps.{refusal_of}
 use Rattle.plant_http_requests.specs.declared.job.Content.{Content}
 use Rattle.plant_http_requests.specs.declared.job.Job.{Job}

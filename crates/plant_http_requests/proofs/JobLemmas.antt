@@ -1,15 +1,15 @@
 -- What bodies ask for, and that an input asks for one thing.
-use Rattle.std.proofs.Common.{◌≡◌, ◌≤◌, ℕ, Bool, true, false, List, [], length, drop, take, Option, Some, None, Result, Ok, Err, refl, sym, ap, ◌∙◌}
+use Rattle.std.proofs.Common.{◌≡◌, ℕ, Bool, true, false, List, [], drop, take, Option, Some, None, Result, Ok, Err, refl, sym, ap, ◌∙◌}
 use Rattle.std.specs.Prelude.{nat_lt, IfOk, IsErrOf}
 use Rattle.std.specs.Bool.{MatchBool}
 use Rattle.httparse.specs.Grammar.{RequestHead}
 use Rattle.httparse.proofs.GrammarLemmas.{request_unique}
-use Rattle.plant_base.specs.declared.command.Stamp.{Stamp}
 use Rattle.plant_base.specs.declared.rows.OrderRow.{OrderRow}
 use Rattle.plant_orders.specs.Orders.{FailsAs}
 use Rattle.plant_orders.specs.declared.fault.CsvFault.{CsvFault}
 use Rattle.plant_orders.specs.declared.fault.CsvKind.{CsvKind}
 use Rattle.plant_orders.specs.declared.fault.CsvKind.TheVariants as csv
+use Rattle.plant_orders.specs.declared.importing.Heading.{Heading}
 use Rattle.plant_text.specs.declared.read.Line.{Line}
 use Rattle.plant_text.specs.declared.read.Line.TheVariants as L
 use Rattle.plant_text.specs.declared.LineFault.{LineFault}
@@ -19,7 +19,7 @@ use Rattle.plant_http_input.specs.declared.reading.HeadEnd.TheVariants as end
 use Rattle.plant_http_input.specs.Head.{end_of_head}
 use Rattle.plant_http_requests.specs.Heads.{field_lines, Parsed}
 use Rattle.plant_http_requests.specs.Steps.{fails}
-use Rattle.plant_http_requests.specs.Jobs.{command_job, command_of, file_job, fault_job_of, is_of_body, Reads, StepOf, HeadJob, EndJob, JobOf, parsed_step, finish}
+use Rattle.plant_http_requests.specs.Jobs.{command_job, command_of, file_job, fault_job_of, is_of_body, Reads, EndJob, JobOf, parsed_step, finish}
 use Rattle.plant_http_requests.specs.declared.job.Job.{Job}
 use Rattle.plant_http_requests.specs.declared.job.HeadStep.{HeadStep}
 use Rattle.plant_http_requests.specs.declared.status.Status.TheVariants.{HeadTooLarge}
@@ -37,23 +37,23 @@ command_reads (Ok (L.Question q)) o said bad = ap command_job (sym said)
 command_reads (Err line.BadForm) o said bad = ap command_job (sym (bad refl))
 command_reads (Err line.Memory) o said bad = command_is_of_body o
 
-file_is_of_body : (stamp : Stamp) (read : Result (List OrderRow) CsvFault) → is_of_body (file_job stamp read) ≡ true
-file_is_of_body stamp (Ok orders) = refl
-file_is_of_body stamp (Err fault) = refl
+file_is_of_body : (heading : Heading) (read : Result (List OrderRow) CsvFault) → is_of_body (file_job heading read) ≡ true
+file_is_of_body heading (Ok orders) = refl
+file_is_of_body heading (Err fault) = refl
 
-pub fault_reads : (kind : CsvKind) (e : CsvFault) (stamp : Stamp) (read : Result (List OrderRow) CsvFault) → FailsAs kind e read
-    → Reads (fault_job_of kind e) (file_job stamp read)
-fault_reads csv.Memory e stamp read h = file_is_of_body stamp read
-fault_reads csv.TooLong e stamp read h = ap (file_job stamp) (sym h)
-fault_reads csv.Header e stamp read h = ap (file_job stamp) (sym h)
-fault_reads csv.Shape e stamp read h = ap (file_job stamp) (sym h)
-fault_reads csv.Order e stamp read h = ap (file_job stamp) (sym h)
-fault_reads csv.Recipe e stamp read h = ap (file_job stamp) (sym h)
-fault_reads csv.Version e stamp read h = ap (file_job stamp) (sym h)
-fault_reads csv.Size e stamp read h = ap (file_job stamp) (sym h)
-fault_reads csv.Due e stamp read h = ap (file_job stamp) (sym h)
-fault_reads csv.Priority e stamp read h = ap (file_job stamp) (sym h)
-fault_reads csv.TooManyRows e stamp read h = ap (file_job stamp) (sym h)
+pub fault_reads : (kind : CsvKind) (e : CsvFault) (heading : Heading) (read : Result (List OrderRow) CsvFault) → FailsAs kind e read
+    → Reads (fault_job_of kind e) (file_job heading read)
+fault_reads csv.Memory e heading read h = file_is_of_body heading read
+fault_reads csv.TooLong e heading read h = ap (file_job heading) (sym h)
+fault_reads csv.Header e heading read h = ap (file_job heading) (sym h)
+fault_reads csv.Shape e heading read h = ap (file_job heading) (sym h)
+fault_reads csv.Order e heading read h = ap (file_job heading) (sym h)
+fault_reads csv.Recipe e heading read h = ap (file_job heading) (sym h)
+fault_reads csv.Version e heading read h = ap (file_job heading) (sym h)
+fault_reads csv.Size e heading read h = ap (file_job heading) (sym h)
+fault_reads csv.Due e heading read h = ap (file_job heading) (sym h)
+fault_reads csv.Priority e heading read h = ap (file_job heading) (sym h)
+fault_reads csv.TooManyRows e heading read h = ap (file_job heading) (sym h)
 
 -- ---- an input asks for one thing
 

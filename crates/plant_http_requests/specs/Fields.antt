@@ -1,10 +1,11 @@
 -- What the fields of a request say of its body.
-use Rattle.std.specs.Prelude.{ℕ, ◌+◌, Bool, ◌==◌, nat_lt, nat_le, List, [], ◌∷◌, map, codes, bytes_eq, Option, Some, None, option_and_then, Result, Ok, Err, if◌then◌else◌}
+use Rattle.std.specs.Prelude.{ℕ, ◌+◌, Bool, ◌==◌, nat_lt, nat_le, List, [], ◌∷◌, map, codes, bytes_eq, Option, Some, None, option_map, option_and_then, Result, Ok, Err, if◌then◌else◌}
 use Rattle.std.specs.Char.{to_ascii_lowercase}
 use Rattle.plant_base.specs.Options.{◌>>=◌}
 use Rattle.plant_base.specs.Digits.{digits_of}
-use Rattle.plant_base.specs.Values.{is_moment, is_text, only}
+use Rattle.plant_base.specs.Values.{is_id, is_moment, is_text, only}
 use Rattle.plant_base.specs.declared.command.Stamp.{Stamp}
+use Rattle.plant_orders.specs.declared.importing.Heading.{Heading}
 use Rattle.plant_http_requests.specs.declared.status.Status.{Status}
 use Rattle.plant_http_requests.specs.declared.status.Status.TheVariants.{BadRequest, PayloadTooLarge, NotImplemented}
 
@@ -53,7 +54,7 @@ framing minor fs =
     then (if count_named (codes "transfer-encoding") fs == 0 then body_length fs else Err NotImplemented)
     else Err BadRequest
 
--- ---- the moment and the operator of an order file
+-- ---- the moment, the operator and the reference of an order file
 
 abbrev pub moment_in : List ℕ → Option ℕ
 moment_in text = option_and_then (only is_moment) (digits_of 12 text)
@@ -75,3 +76,20 @@ stamp_in fs = do
   at ← only_moment fs
   by ← operator_in fs
   Some (record { at = at; by = by; note = [] })
+
+-- the reference that the first field Desk-Ref says
+abbrev pub reference_named : Fields → Option (List ℕ)
+reference_named fs = option_and_then (only is_id) (value_named (codes "desk-ref") fs)
+
+-- at most one field Desk-Ref; no reference where there is none
+unfoldable pub reference_in : Fields → Option (Option (List ℕ))
+reference_in fs =
+    if count_named (codes "desk-ref") fs == 0 then Some None
+    else if count_named (codes "desk-ref") fs == 1 then option_map Some (reference_named fs)
+    else None
+
+abbrev pub heading_in : Fields → Option Heading
+heading_in fs = do
+  stamp ← stamp_in fs
+  reference ← reference_in fs
+  Some (record { stamp = stamp; reference = reference })

@@ -1,16 +1,15 @@
 -- What an input asks for.
-use Rattle.std.specs.Prelude.{◌≡◌, ℕ, ◌+◌, ◌<◌, Bool, true, false, nat_lt, nat_le, List, length, take, drop, map, Option, Some, None, Result, Ok, Err, if◌then◌else◌}
+use Rattle.std.specs.Prelude.{◌≡◌, ℕ, ◌<◌, Bool, true, false, nat_lt, nat_le, List, length, take, drop, map, Option, Some, None, Result, Ok, Err, if◌then◌else◌}
 use Rattle.std.specs.Bool.{MatchBool}
 use Rattle.httparse.specs.Grammar.{RequestHead}
 use Rattle.httparse.specs.Spans.{name_and_value}
-use Rattle.plant_base.specs.declared.command.Envelope.{Envelope}
-use Rattle.plant_base.specs.declared.command.Stamp.{Stamp}
 use Rattle.plant_base.specs.declared.rows.OrderRow.{OrderRow}
 use Rattle.plant_orders.specs.Importing.{import}
 use Rattle.plant_orders.specs.Orders.{orders_of}
 use Rattle.plant_orders.specs.declared.fault.CsvFault.{CsvFault}
 use Rattle.plant_orders.specs.declared.fault.CsvKind.{CsvKind}
 use Rattle.plant_orders.specs.declared.fault.CsvKind.TheVariants as csv
+use Rattle.plant_orders.specs.declared.importing.Heading.{Heading}
 use Rattle.plant_text.specs.Lines.{line_of}
 use Rattle.plant_text.specs.declared.read.Line.{Line}
 use Rattle.plant_text.specs.declared.read.Line.TheVariants as L
@@ -48,9 +47,9 @@ command_of (Ok (L.Question q)) = BadForm
 command_of (Err line.BadForm) = BadForm
 command_of (Err line.Memory) = NoMemory
 
-abbrev pub file_job : Stamp → Result (List OrderRow) CsvFault → Job
-file_job stamp (Ok orders) = Command (import stamp orders)
-file_job stamp (Err fault) = BadFile fault
+abbrev pub file_job : Heading → Result (List OrderRow) CsvFault → Job
+file_job heading (Ok orders) = Command (import heading orders)
+file_job heading (Err fault) = BadFile fault
 
 -- what the reader of order files tells as a fault: the file's, or want of memory
 abbrev pub fault_job_of : CsvKind → CsvFault → Job
@@ -73,7 +72,7 @@ fault_job fault = fault_job_of fault.kind fault
 abbrev pub body_job : Content → List ℕ → Job
 body_job content.Command body = command_job (line_of body)
 body_job (content.Orders None) body = refusal_of BadRequest false
-body_job (content.Orders (Some stamp)) body = file_job stamp (orders_of body)
+body_job (content.Orders (Some heading)) body = file_job heading (orders_of body)
 
 -- ---- heads
 

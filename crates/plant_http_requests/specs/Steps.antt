@@ -1,5 +1,5 @@
 -- What the head of a request decides.
-use Rattle.std.specs.Prelude.{ℕ, Bool, true, false, ◌||◌, List, [], codes, bytes_eq, Option, Some, None, Result, Ok, Err, if◌then◌else◌}
+use Rattle.std.specs.Prelude.{ℕ, Bool, false, ◌||◌, List, codes, bytes_eq, Option, Some, None, Result, Ok, Err, if◌then◌else◌}
 use Rattle.plant_desk.specs.declared.question.Question.{Question}
 use Rattle.plant_desk.specs.declared.question.Question.TheVariants as Q
 use Rattle.plant_trace.specs.declared.direction.Direction.TheVariants.{Back, Forward}
@@ -9,7 +9,7 @@ use Rattle.plant_http_routes.specs.declared.routes.Kind.{Kind}
 use Rattle.plant_http_routes.specs.declared.routes.Kind.TheVariants as kind
 use Rattle.plant_http_routes.specs.declared.routes.Target.{Target}
 use Rattle.plant_http_routes.specs.declared.routes.Target.TheVariants as target
-use Rattle.plant_http_requests.specs.Fields.{Fields, framing, stamp_in}
+use Rattle.plant_http_requests.specs.Fields.{Fields, framing, heading_in}
 use Rattle.plant_http_requests.specs.declared.job.Job.{Job}
 use Rattle.plant_http_requests.specs.declared.job.Job.TheVariants.{Refuse}
 use Rattle.plant_http_requests.specs.declared.job.Form.{Form}
@@ -71,7 +71,7 @@ asked_step question form method =
 abbrev pub target_step : Target → List ℕ → Option ℕ → Fields → HeadStep
 target_step target.Desk method length fs = asked_step Q.Desk Json method
 target_step target.Commands method length fs = posted_step content.Command method length
-target_step target.Orders method length fs = posted_step (content.Orders (stamp_in fs)) method length
+target_step target.Orders method length fs = posted_step (content.Orders (heading_in fs)) method length
 target_step (target.Named k id) method length fs = asked_step (question_of k id) (form_of k) method
 
 abbrev pub routed_step : Option Target → List ℕ → Option ℕ → Fields → HeadStep

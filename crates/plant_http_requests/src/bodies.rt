@@ -7,8 +7,7 @@ ghost use Rattle.plant_http_requests.specs.Jobs.{command_job, command_of, file_j
 use crate::job::{Content, Job};
 use crate::status::Status;
 use crate::steps::refusal_of;
-use plant_base::Stamp;
-use plant_orders::{CsvFault, CsvKind, import, read_orders};
+use plant_orders::{CsvFault, CsvKind, Heading, import, read_orders};
 use plant_text::{Line, LineFault, read_line};
 use std::alloc::Global;
 
@@ -48,11 +47,11 @@ fn fault_job(fault: CsvFault) -> Job
     }
 }
 
-fn file_job(alloc: Global, stamp: Stamp, body: &[u8]) -> Job
-    ensures { Reads result (file_job stamp (orders_of body.now)) }
+fn file_job(alloc: Global, heading: Heading, body: &[u8]) -> Job
+    ensures { Reads result (file_job heading (orders_of body.now)) }
 {
     match read_orders(alloc, body) {
-        Ok(orders) => Job::Command(import(stamp, orders)),
+        Ok(orders) => Job::Command(import(heading, orders)),
         Err(fault) => fault_job(fault),
     }
 }
@@ -63,7 +62,7 @@ pub(crate) fn body_job(alloc: Global, content: Content, body: &[u8]) -> Job
 {
     match content {
         Content::Command => command_job(alloc, body),
-        Content::Orders(Some(stamp)) => file_job(alloc, stamp, body),
+        Content::Orders(Some(heading)) => file_job(alloc, heading, body),
         Content::Orders(None) => refusal_of(Status::BadRequest, false),
     }
 }

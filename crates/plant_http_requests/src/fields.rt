@@ -1,13 +1,15 @@
 //! The fields of a request: what they say of its body.
 ghost use Rattle.std.specs.Prelude.{◌≡◌, ◌≤◌, map, length, All, option_map, IfOk, IfSome};
 ghost use Rattle.httparse.specs.Spans.{IsHeaderWithin, header_bytes};
-ghost use Rattle.plant_base.specs.Values.{is_moment, is_text, only};
+ghost use Rattle.plant_base.specs.Values.{is_id, is_moment, is_text, only};
 ghost use Rattle.plant_http_requests.specs.Fields.{is_name, count_named, value_named, body_length, framing};
-ghost use Rattle.plant_http_requests.specs.Fields.{moment_in, only_moment, operator_in, stamp_in};
+ghost use Rattle.plant_http_requests.specs.Fields.{moment_in, only_moment, operator_in, reference_in};
+ghost use Rattle.plant_http_requests.specs.Fields.{reference_named, stamp_in, heading_in};
 
 use crate::status::Status;
 use httparse::spans::HeaderSpan;
-use plant_base::{Moment, Stamp, Text, read_digits};
+use plant_base::{Id, Moment, Stamp, Text, read_digits};
+use plant_orders::Heading;
 
 fn has_name(head: &[u8], field: &HeaderSpan, name: &[u8]) -> bool
     requires { IsHeaderWithin (length head.now) field.now }
@@ -119,6 +121,33 @@ fn operator_in(head: &[u8], fields: &[HeaderSpan]) -> Option<Text>
     }
 }
 
+/// The reference that the one field which names it says.
+fn reference_named(head: &[u8], fields: &[HeaderSpan]) -> Option<Id>
+    requires { All (IsHeaderWithin (length head.now)) fields.now }
+    ensures { result ≡ reference_named (map (header_bytes head.now) fields.now) }
+{
+    match value_named(head, fields, b"desk-ref") {
+        Some(text) => Id::read(text),
+        None => None,
+    }
+}
+
+/// The reference that the fields name, which may be left out. `None` where there are several or the one is no id.
+#[tactic(auto, unfolding(crate::specs::Fields::reference_in))]
+fn reference_in(head: &[u8], fields: &[HeaderSpan]) -> Option<Option<Id>>
+    requires { All (IsHeaderWithin (length head.now)) fields.now }
+    ensures { result ≡ reference_in (map (header_bytes head.now) fields.now) }
+{
+    let count = count_named(head, fields, b"desk-ref");
+    if count == 0 {
+        return Some(None);
+    }
+    if count != 1 {
+        return None;
+    }
+    Some(Some(reference_named(head, fields)?))
+}
+
 fn only_moment(head: &[u8], fields: &[HeaderSpan]) -> Option<Moment>
     requires { All (IsHeaderWithin (length head.now)) fields.now }
     ensures { result ≡ only_moment (map (header_bytes head.now) fields.now) }
@@ -134,7 +163,7 @@ fn only_moment(head: &[u8], fields: &[HeaderSpan]) -> Option<Moment>
 
 /// The moment and the operator that an order file is taken with, and an empty note. `None` where there isn't one field
 /// Desk-At with a moment in 1 to 12 digits, or there are several fields Desk-By or one with no text.
-pub(crate) fn stamp_in(head: &[u8], fields: &[HeaderSpan]) -> Option<Stamp>
+fn stamp_in(head: &[u8], fields: &[HeaderSpan]) -> Option<Stamp>
     requires { All (IsHeaderWithin (length head.now)) fields.now }
     ensures { result ≡ stamp_in (map (header_bytes head.now) fields.now) }
 {
@@ -142,4 +171,15 @@ pub(crate) fn stamp_in(head: &[u8], fields: &[HeaderSpan]) -> Option<Stamp>
     let by = operator_in(head, fields)?;
     let note = read_text(b"")?;
     Some(Stamp { at, by, note })
+}
+
+/// The same with the reference that an order file is taken under. `None` also where there are several fields Desk-Ref or
+/// one with no id.
+pub(crate) fn heading_in(head: &[u8], fields: &[HeaderSpan]) -> Option<Heading>
+    requires { All (IsHeaderWithin (length head.now)) fields.now }
+    ensures { result ≡ heading_in (map (header_bytes head.now) fields.now) }
+{
+    let stamp = stamp_in(head, fields)?;
+    let reference = reference_in(head, fields)?;
+    Some(Heading { stamp, reference })
 }

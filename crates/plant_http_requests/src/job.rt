@@ -1,7 +1,7 @@
 use crate::status::{Allow, Status};
-use plant_base::{Envelope, Stamp};
+use plant_base::Envelope;
 use plant_desk::Question;
-use plant_orders::CsvFault;
+use plant_orders::{CsvFault, Heading};
 
 /// As what an answer is written.
 #[derive(Clone, Copy, Debug, PartialEq, Eq)]
@@ -42,8 +42,9 @@ pub enum Job {
 pub(crate) enum Content {
     /// One command.
     Command,
-    /// An order file, to be taken with this moment and operator; `None` where the fields of the head name none.
-    Orders(Option<Stamp>),
+    /// An order file, to be taken with this moment and operator and under this reference; `None` where the fields of the
+    /// head don't name them as they should.
+    Orders(Option<Heading>),
 }
 
 /// What the head alone decides.

@@ -4,7 +4,7 @@ ghost use Rattle.httparse.specs.Spans.{IsHeaderWithin, IsWithin, header_bytes, s
 ghost use Rattle.plant_http_requests.specs.Steps.{refusal_of, fails, is_head, question_of, form_of, post_step};
 ghost use Rattle.plant_http_requests.specs.Steps.{posted_step, asked_step, target_step, request_step};
 
-use crate::fields::{framing, stamp_in};
+use crate::fields::{framing, heading_in};
 use crate::job::{Content, Form, HeadStep, Job};
 use crate::status::{Allow, Status};
 use httparse::spans::{HeaderSpan, RequestSpans};
@@ -117,7 +117,7 @@ fn target_step(
     match target {
         Target::Desk => asked_step(Question::Desk, Form::Json, method),
         Target::Commands => posted_step(Content::Command, method, size),
-        Target::Orders => posted_step(Content::Orders(stamp_in(head, fields)), method, size),
+        Target::Orders => posted_step(Content::Orders(heading_in(head, fields)), method, size),
         Target::Named(kind, id) => asked_step(question_of(kind, id), form_of(kind), method),
     }
 }

@@ -11,7 +11,7 @@ use Rattle.sqlite.specs.declared.types.Value.TheVariants.{Text}
 use Rattle.sqlite_trees.proofs.ListLemmas.{IsPermutation-filter}
 use Rattle.plant_base.specs.Edges.{edge_kind_number, edge_order}
 use Rattle.plant_base.specs.RowValues.{HasClassValues, HasDefinitionValues, HasLotValues, HasHoldValues}
-use Rattle.plant_base.specs.State.{State, newest_schema, same, class_order, definition_order, recipe_order, master_line_order, job_order, control_line_order, event_order, lot_order, movement_order, hold_order, class_at, definition_at, recipe_at, master_lines_of, job_at, batch_at, batch_of, control_lines_of, lot_at, place_at, hold_at}
+use Rattle.plant_base.specs.State.{State, newest_schema, same, class_order, definition_order, recipe_order, master_line_order, job_order, control_line_order, event_order, lot_order, movement_order, hold_order, receipt_order, class_at, definition_at, recipe_at, master_lines_of, job_at, batch_at, batch_of, control_lines_of, lot_at, place_at, hold_at, receipt_at}
 use Rattle.plant_base.specs.declared.rows.Meta.{Meta}
 use Rattle.plant_base.specs.declared.rows.Class.{Class}
 use Rattle.plant_base.specs.declared.rows.Definition.{Definition}
@@ -26,6 +26,7 @@ use Rattle.plant_base.specs.declared.rows.Sublot.{Sublot}
 use Rattle.plant_base.specs.declared.rows.Movement.{Movement}
 use Rattle.plant_base.specs.declared.rows.Hold.{Hold}
 use Rattle.plant_base.specs.declared.rows.EdgeRow.{EdgeRow}
+use Rattle.plant_base.specs.declared.rows.Receipt.{Receipt}
 use Rattle.plant_view.specs.Genealogy.{edge_rows}
 use Rattle.plant_view.specs.Refusing.{holds_of}
 use Rattle.plant_view.specs.Tables.{Tables, tables_of, batch_row, batch_row_order, sublot_order, sublot_row, sublots_of}
@@ -39,14 +40,14 @@ use Rattle.table_reads.specs.Selects.{first_of}
 use Rattle.table_reads.proofs.KeyOrder.{key_total}
 use Rattle.table_reads.proofs.Same.{one_tree}
 use Rattle.plant_tables_columns.specs.Kinds.{number}
-use Rattle.plant_tables_columns.specs.TableColumns.{row_of_meta, row_of_class, row_of_definition, row_of_recipe, row_of_master_line, row_of_job, row_of_batch, row_of_control_line, row_of_event, row_of_lot, row_of_sublot, row_of_movement, row_of_hold, row_of_edge, meta_from, class_from, definition_from, recipe_from, master_line_from, job_from, batch_from, control_line_from, batch_event_from, lot_from, sublot_from, movement_read, hold_from, edge_from}
-use Rattle.plant_tables.specs.DeskForms.{meta_form, class_form, definition_form, recipe_form, recipe_line_form, job_form, batch_form, control_line_form, batch_event_form, lot_form, sublot_form, movement_form, hold_form, edge_form}
+use Rattle.plant_tables_columns.specs.TableColumns.{row_of_meta, row_of_class, row_of_definition, row_of_recipe, row_of_master_line, row_of_job, row_of_batch, row_of_control_line, row_of_event, row_of_lot, row_of_sublot, row_of_movement, row_of_hold, row_of_edge, row_of_receipt, meta_from, class_from, definition_from, recipe_from, master_line_from, job_from, batch_from, control_line_from, batch_event_from, lot_from, sublot_from, movement_read, hold_from, edge_from, receipt_from}
+use Rattle.plant_tables.specs.DeskForms.{meta_form, class_form, definition_form, recipe_form, recipe_line_form, job_form, batch_form, control_line_form, batch_event_form, lot_form, sublot_form, movement_form, hold_form, edge_form, receipt_form}
 use Rattle.plant_tables.specs.Keyed.{HoldsTables}
 use Rattle.plant_tables.proofs.Bridge.{all_filter}
 use Rattle.plant_tables_columns.specs.All.{all_from}
-use Rattle.plant_tables_columns.specs.Obeying.{HasMetaValues, HasRecipeValues, HasMasterLineValues, HasJobValues, HasBatchRowValues, HasControlLineValues, HasEventRowValues, HasSublotValues, HasMovementRowValues, HasEdgeValues, HasGoodValues}
+use Rattle.plant_tables_columns.specs.Obeying.{HasMetaValues, HasRecipeValues, HasMasterLineValues, HasJobValues, HasBatchRowValues, HasControlLineValues, HasEventRowValues, HasSublotValues, HasMovementRowValues, HasEdgeValues, HasReceiptRowValues, HasGoodValues}
 use Rattle.plant_tables_columns.proofs.Options.{some_same}
-use Rattle.plant_tables_columns.proofs.RowLaws.{meta_reads, class_reads, definition_reads, recipe_reads, job_reads, batch_reads, event_reads, lot_reads, sublot_reads, hold_reads, edge_reads, master_line_again, control_line_again}
+use Rattle.plant_tables_columns.proofs.RowLaws.{meta_reads, class_reads, definition_reads, recipe_reads, job_reads, batch_reads, event_reads, lot_reads, sublot_reads, hold_reads, edge_reads, master_line_again, control_line_again, receipt_again}
 use Rattle.plant_tables_judged.proofs.KeyLemmas.{by_text, by_number, by_text_number, by_two_texts, by_two_numbers, by_text_numbers, by_number_two_texts}
 use Rattle.plant_tables_judged.proofs.SortedLemmas.{same_sorted, strictly_sorted, sorted_keys}
 use Rattle.plant_tables_judged.proofs.TableLemmas.{map_same, all_again}
@@ -183,3 +184,6 @@ module _ (db : Database) (s : State) (good : IsGood s) (holds : HoldsTables db (
   -- the edges with these values in these columns
   pub edges_are : (places : List ℕ) (given : Row) (p : EdgeRow → Bool) → ((e : EdgeRow) → has_values places given (row_of_edge e) ≡ p e) → (rows : List EdgeRow) → AreFound db edge_form edge_from places given rows → rows ≡ filter p (edge_rows s.movements)
   edges_are places given p tests = found_again edge_from row_of_edge HasEdgeValues (λ r h. edge_reads.again r h tt) edge_form edge_order (λ a b. by_number_two_texts (edge_kind_number a.kind) (edge_kind_number b.kind) a.from b.from a.to b.to) db t.edges (holds.each 13 edge_form refl) (in_order newest_schema s good).keyed.edges values.edges places given p tests
+
+  pub receipt_is : (reference : List ℕ) (row : Option Receipt) → IsFirstFound db receipt_form receipt_from (1 ∷ []) (Text reference ∷ []) row → row ≡ receipt_at s reference
+  receipt_is reference = first_again receipt_from row_of_receipt HasReceiptRowValues receipt_again receipt_form receipt_order (λ a b. by_text a.reference b.reference) db s.receipts (holds.each 14 receipt_form refl) (in_order newest_schema s good).keyed.receipts values.receipts (1 ∷ []) (Text reference ∷ []) (λ r. same r.reference reference) (λ r. one_text r.reference reference)

@@ -2,7 +2,7 @@
 use Rattle.std.proofs.Common.{refl, [], ◌∷◌, codes}
 use Rattle.sqlite_tied.specs.Compute.{everything}
 use Rattle.table_reads.specs.Selects.{Selects}
-use Rattle.plant_tables.specs.DeskForms.{meta_form, class_form, definition_form, recipe_form, recipe_line_form, job_form, batch_form, control_line_form, batch_event_form, lot_form, sublot_form, movement_form, hold_form, edge_form}
+use Rattle.plant_tables.specs.DeskForms.{meta_form, class_form, definition_form, recipe_form, recipe_line_form, job_form, batch_form, control_line_form, batch_event_form, lot_form, sublot_form, movement_form, hold_form, edge_form, receipt_form}
 
 pub meta : Selects meta_form [] (codes "SELECT k, schema, seq, at FROM meta ORDER BY k")
 unfolding everything
@@ -71,6 +71,10 @@ hold_by_key = record { readable = refl; compared = refl; parameters = codes "?1"
 pub holds_of_lot : Selects hold_form (1 ∷ []) (codes "SELECT lot, id, at, by_who, note FROM hold WHERE lot = ?1 ORDER BY lot, id")
 unfolding everything
 holds_of_lot = record { readable = refl; compared = refl; parameters = codes "?1" ∷ []; written = refl }
+
+pub receipt_by_id : Selects receipt_form (1 ∷ []) (codes "SELECT id, seq, content FROM receipt WHERE id = ?1 ORDER BY id")
+unfolding everything
+receipt_by_id = record { readable = refl; compared = refl; parameters = codes "?1" ∷ []; written = refl }
 
 pub edges_from : Selects edge_form (1 ∷ 2 ∷ []) (codes "SELECT kind, a, b FROM edge WHERE kind = ?1 AND a = ?2 ORDER BY kind, a, b")
 unfolding everything

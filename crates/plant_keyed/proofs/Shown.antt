@@ -11,7 +11,7 @@ use Rattle.std.proofs.lemmas.List.Sorted.{length_permutation, All-permutation, I
 use Rattle.sqlite.specs.Effect.{Database}
 use Rattle.sqlite.specs.Order.{Row}
 use Rattle.sqlite_trees.proofs.ListLemmas.{along_permutation}
-use Rattle.plant_base.specs.State.{State, newest_schema, class_order, definition_order, recipe_order, master_line_order, job_order, control_line_order, event_order, lot_order, movement_order, hold_order}
+use Rattle.plant_base.specs.State.{State, newest_schema, class_order, definition_order, recipe_order, master_line_order, job_order, control_line_order, event_order, lot_order, movement_order, hold_order, receipt_order}
 use Rattle.plant_base.specs.declared.rows.Batch.{Batch}
 use Rattle.plant_base.specs.declared.rows.ControlLine.{ControlLine}
 use Rattle.plant_base.specs.declared.rows.BatchEvent.{BatchEvent}
@@ -22,12 +22,12 @@ use Rattle.plant_view.specs.Tables.{Tables, tables_of, position_of, batch_row, s
 use Rattle.plant_good.specs.Good.{IsGood}
 use Rattle.table_forms.specs.Forms.{Form, table_of}
 use Rattle.table_forms.specs.Standing.{Stands}
-use Rattle.plant_tables_columns.specs.TableColumns.{row_of_meta, row_of_class, row_of_definition, row_of_recipe, row_of_master_line, row_of_job, row_of_batch, row_of_control_line, row_of_event, row_of_lot, row_of_sublot, row_of_movement, row_of_hold, only_meta, class_from, definition_from, recipe_from, master_line_from, job_from, batch_from, control_line_from, batch_event_from, lot_from, sublot_from, movement_read, hold_from}
-use Rattle.plant_tables.specs.DeskForms.{meta_form, class_form, definition_form, recipe_form, recipe_line_form, job_form, batch_form, control_line_form, batch_event_form, lot_form, sublot_form, movement_form, hold_form}
+use Rattle.plant_tables_columns.specs.TableColumns.{row_of_meta, row_of_class, row_of_definition, row_of_recipe, row_of_master_line, row_of_job, row_of_batch, row_of_control_line, row_of_event, row_of_lot, row_of_sublot, row_of_movement, row_of_hold, row_of_receipt, only_meta, class_from, definition_from, recipe_from, master_line_from, job_from, batch_from, control_line_from, batch_event_from, lot_from, sublot_from, movement_read, hold_from, receipt_from}
+use Rattle.plant_tables.specs.DeskForms.{meta_form, class_form, definition_form, recipe_form, recipe_line_form, job_form, batch_form, control_line_form, batch_event_form, lot_form, sublot_form, movement_form, hold_form, receipt_form}
 use Rattle.plant_tables.specs.Keyed.{HoldsTables}
-use Rattle.plant_tables_columns.specs.Obeying.{HasRecipeValues, HasMasterLineValues, HasJobValues, HasBatchRowValues, HasControlLineValues, HasEventRowValues, HasSublotValues, HasMovementRowValues, HasGoodValues}
+use Rattle.plant_tables_columns.specs.Obeying.{HasRecipeValues, HasMasterLineValues, HasJobValues, HasBatchRowValues, HasControlLineValues, HasEventRowValues, HasSublotValues, HasMovementRowValues, HasReceiptRowValues, HasGoodValues}
 use Rattle.plant_tables_columns.proofs.KindLemmas as kinds
-use Rattle.plant_tables_columns.proofs.RowLaws.{meta_reads, class_reads, definition_reads, recipe_reads, job_reads, batch_reads, event_reads, lot_reads, sublot_reads, hold_reads, master_line_again, control_line_again, movement_row_again}
+use Rattle.plant_tables_columns.proofs.RowLaws.{meta_reads, class_reads, definition_reads, recipe_reads, job_reads, batch_reads, event_reads, lot_reads, sublot_reads, hold_reads, master_line_again, control_line_again, movement_row_again, receipt_again}
 use Rattle.plant_good_passes.proofs.Values.{in_order, good_values, newest_known}
 use Rattle.plant_keyed.specs.Shown.{rows_under, table_under, rows_at, rows_shown, position_told, position_shown, shown}
 use Rattle.plant_keyed.specs.Laws.{ShowsItsState}
@@ -151,6 +151,9 @@ module _ (db : Database) (s : State) (good : IsGood s) (holds : HoldsTables db (
   holds_here : rows_shown hold_order hold_from db hold_form ≡ s.holds
   holds_here = shown_again hold_order (then_total (on_total (λ r. r.lot) nat_list_cmp_total) (on_total (λ r. r.id) nat_list_cmp_total)) row_of_hold hold_from HasHoldValues (λ r h. hold_reads.again r h tt) db hold_form s.holds (holds.each 12 hold_form refl) (in_order newest_schema s good).keyed.holds values.holds
 
+  receipts_here : rows_shown receipt_order receipt_from db receipt_form ≡ s.receipts
+  receipts_here = shown_again receipt_order (on_total (λ r. r.reference) nat_list_cmp_total) row_of_receipt receipt_from HasReceiptRowValues receipt_again db receipt_form s.receipts (holds.each 14 receipt_form refl) (in_order newest_schema s good).keyed.receipts values.receipts
+
   shown_here : shown db ≡ s
   unfolding shown
   shown_here = λ i. record {
@@ -168,6 +171,7 @@ module _ (db : Database) (s : State) (good : IsGood s) (holds : HoldsTables db (
     places = places_here i;
     movements = movements_here i;
     holds = holds_here i;
+    receipts = receipts_here i;
   }
 
 pub shows_its_state : ShowsItsState

@@ -6,13 +6,13 @@ use Rattle.sqlite.specs.Effect.{Database}
 use Rattle.sqlite.specs.Order.{Row}
 use Rattle.sqlite.specs.Table.{Table}
 use Rattle.sqlite_schema.specs.Names.{table_named}
-use Rattle.plant_base.specs.State.{State, newest_schema, class_order, definition_order, recipe_order, master_line_order, job_order, control_line_order, event_order, lot_order, movement_order, hold_order}
+use Rattle.plant_base.specs.State.{State, newest_schema, class_order, definition_order, recipe_order, master_line_order, job_order, control_line_order, event_order, lot_order, movement_order, hold_order, receipt_order}
 use Rattle.plant_base.specs.declared.rows.Meta.{Meta}
 use Rattle.plant_base.specs.declared.rows.Position.{Position}
 use Rattle.plant_view.specs.Tables.{batch_row_order, sublot_order, place_of_row}
 use Rattle.table_forms.specs.Forms.{Form}
-use Rattle.plant_tables.specs.DeskForms.{meta_form, class_form, definition_form, recipe_form, recipe_line_form, job_form, batch_form, control_line_form, batch_event_form, lot_form, sublot_form, movement_form, hold_form}
-use Rattle.plant_tables_columns.specs.TableColumns.{only_meta, class_from, definition_from, recipe_from, master_line_from, job_from, batch_from, control_line_from, batch_event_from, lot_from, sublot_from, movement_read, hold_from}
+use Rattle.plant_tables.specs.DeskForms.{meta_form, class_form, definition_form, recipe_form, recipe_line_form, job_form, batch_form, control_line_form, batch_event_form, lot_form, sublot_form, movement_form, hold_form, receipt_form}
+use Rattle.plant_tables_columns.specs.TableColumns.{only_meta, class_from, definition_from, recipe_from, master_line_from, job_from, batch_from, control_line_from, batch_event_from, lot_from, sublot_from, movement_read, hold_from, receipt_from}
 use Rattle.plant_keyed.specs.Sorting.{in_order}
 
 abbrev pub rows_under : Database → Option Table → List Row
@@ -56,4 +56,5 @@ shown db = record {
   places = map place_of_row (rows_shown sublot_order sublot_from db sublot_form);
   movements = rows_shown movement_order movement_read db movement_form;
   holds = rows_shown hold_order hold_from db hold_form;
+  receipts = rows_shown receipt_order receipt_from db receipt_form;
 }

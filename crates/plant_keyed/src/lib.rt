@@ -8,6 +8,7 @@ mod found;
 mod keyed;
 mod laws;
 mod movements;
+mod receipts;
 mod texts;
 mod view;
 

@@ -49,6 +49,9 @@ pub(crate) const HOLD_BY_KEY: &str =
 pub(crate) const HOLDS_OF_LOT: &str =
     "SELECT lot, id, at, by_who, note FROM hold WHERE lot = ?1 ORDER BY lot, id";
 
+pub(crate) const RECEIPT_BY_ID: &str =
+    "SELECT id, seq, content FROM receipt WHERE id = ?1 ORDER BY id";
+
 pub(crate) const EDGES_FROM: &str =
     "SELECT kind, a, b FROM edge WHERE kind = ?1 AND a = ?2 ORDER BY kind, a, b";
 

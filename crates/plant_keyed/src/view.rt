@@ -14,7 +14,7 @@ use crate::keyed::Keyed;
 use crate::texts;
 use plant_base::{
     Batch, BatchEvent, BatchRow, Class, ControlLine, Definition, Hold, Id, Job, Lot, MasterLine,
-    Movement, Position, Recipe, Sublot,
+    Movement, Position, Receipt, Recipe, Sublot,
 };
 use plant_tables::forms::{
     BATCH, BATCH_EVENT, CLASS, CONTROL_LINE, DEFINITION, HOLD, JOB, LOT, MOVEMENT, RECIPE,
@@ -144,6 +144,10 @@ impl<'a, S: Alter> View for Keyed<'a, S> {
 
     fn holds(&mut self, lot: Id) -> Result<Vec<Hold>, Fault> {
         self.found(&HOLD, texts::HOLDS_OF_LOT, &[text_of(&lot)])
+    }
+
+    fn receipt(&mut self, reference: Id) -> Result<Option<Receipt>, Fault> {
+        self.receipt_of(&reference)
     }
 
     ghost kept_state = { λ k l a. ap shown a };

@@ -1,56 +1,102 @@
 -- How the raising of the tables of a state ends.
-use Rattle.std.proofs.Common.{◌≡◌, ◌∙◌, refl, sym, ap, subst, List, map}
+use Rattle.std.proofs.Common.{◌≡◌, ◌∙◌, inl, inr, refl, sym, ap, subst, ℕ, ◌+◌, ◌-◌, ◌≤◌, ◌<◌, nat_le, List, Ok, Err, Result, OnOk, OnErr, arith}
+use Rattle.std.proofs.lemmas.Bool.{cases_Bool}
+use Rattle.std.proofs.lemmas.Bool.Decides.{nat_tests}
 use Rattle.sqlite.specs.Tree.{Trees}
 use Rattle.sqlite.specs.Effect.{Database}
 use Rattle.sqlite.specs.State as store
 use Rattle.plant_base.specs.State.{State, newest_schema}
 use Rattle.plant_base.specs.declared.rows.Position.{Position}
-use Rattle.plant_view.specs.Tables.{Tables, changed_all, tables_of, position_of}
+use Rattle.plant_view.specs.Tables.{tables_of, receipts_in, position_of}
 use Rattle.plant_view.specs.declared.change.RowChange.{RowChange}
-use Rattle.table_forms.specs.Standing.{AreFree}
-use Rattle.plant_tables.specs.DeskForms.{later_forms}
-use Rattle.plant_tables.specs.Keyed.{HoldsTablesOf, HoldsTables, AreKeyed, AreFresh}
-use Rattle.plant_tables.specs.DeskStopping.{IsAtOf, Finds}
-use Rattle.plant_tables.specs.Raising.{CanRise}
-use Rattle.plant_tables_columns.specs.Booked.{booked_of}
-use Rattle.plant_tables_columns.specs.declared.booked.BookedRow.{BookedRow}
+use Rattle.table_forms.specs.Standing.{AreFree, KeepsOthers}
+use Rattle.table_forms.specs.Stopping.{IsSettled}
+use Rattle.plant_tables.specs.DeskForms.{desk_forms, later_forms}
+use Rattle.plant_tables.specs.Keyed.{HoldsTablesOf, AreKeyed, LacksLater}
+use Rattle.plant_tables.specs.DeskStopping.{IsAtOf, FindsOf}
 use Rattle.plant_tables_judged.specs.Collecting.{Rows, rows_in, rows_listed}
 use Rattle.plant_tables_judged.specs.declared.desk_rows.DeskRows.{DeskRows}
-use Rattle.plant_migrate.specs.Raised.{raising_changes}
-use Rattle.plant_migrate.specs.Standing.{IsRaisedBy}
-use Rattle.plant_migrate.proofs.StateChanges.{state_raised, all_fresh}
+use Rattle.plant_migrate.specs.Raised.{edges_from, raised_by}
+use Rattle.plant_migrate.specs.Steps.{IsRisable, IsCutShortWithin, FindsRisable, IsRaisedBy}
+use Rattle.plant_migrate.specs.Standing.{IsCutShortAmid, raised_to}
+use Rattle.plant_migrate.proofs.StateChanges.{bookings, state_raised}
 
--- the changes of these rows
-abbrev pub changes_in : DeskRows → List RowChange
-changes_in r = raising_changes r.meta.position r.movements.items
+-- the tables of a version have no rows of later tables
+pub lacks_later : (version : ℕ) (s : State) → LacksLater version (tables_of version s)
+lacks_later version s = record { edges = λ lacking. rw lacking refl; receipts = λ lacking. rw lacking refl }
 
-module _ (old : store.State) (s : State) (rows : DeskRows) (at : IsAtOf 1 old (tables_of 1 s)) (keyed : AreKeyed (tables_of 1 s)) (free : AreFree (later_forms 1) old.now.schema) where
-  pub rises : CanRise old (tables_of 1 s)
-  rises = record { at = at; keyed = keyed; lacks = λ _. refl; free = free }
+pub state_risable : (version : ℕ) (db : Database) (s : State) → HoldsTablesOf version db (tables_of version s) → AreKeyed (tables_of version s) → IsRisable version db (tables_of version s)
+state_risable version db s holds keyed = record { holds = holds; keyed = keyed; lacks = lacks_later version s }
 
-  pub fresh : AreFresh (changes_in rows) (tables_of 1 s)
-  fresh = all_fresh rows.movements.items _ (tables_of 1 s)
-
-pub leads : (s : State) (rows : DeskRows) → rows_listed rows ≡ rows_in (tables_of 1 s) → changed_all (changes_in rows) (tables_of 1 s) ≡ tables_of newest_schema s
+-- what the rows tell that were read of the tables of a state
+pub position_told : (version : ℕ) (s : State) (rows : DeskRows) → rows_listed rows ≡ rows_in (tables_of version s) → rows.meta.position ≡ position_of s
 unfolding rows_listed
-leads s rows are =
-    let position : rows.meta.position ≡ position_of s = ap (λ (r : Rows). r.meta.position) are in
-    let booked : rows.movements.items ≡ map booked_of s.movements = ap (λ (r : Rows). r.movements) are in
-    ap (λ (p : Position). changed_all (raising_changes p rows.movements.items) (tables_of 1 s)) position
-    ∙ ap (λ (bs : List BookedRow). changed_all (raising_changes (position_of s) bs) (tables_of 1 s)) booked ∙ state_raised s
+position_told version s rows are = ap (λ (r : Rows). r.meta.position) are
 
--- what is so of the tables of the first schema and the changed ones is so of those of the state in each schema
-pub led : (P : Tables → Tables → Type 0) (old : store.State) (s : State) (rows : DeskRows) (changes : List RowChange) → changes ≡ changes_in rows → IsAtOf 1 old (tables_of 1 s) → AreKeyed (tables_of 1 s) → AreFree (later_forms 1) old.now.schema
-    → rows_listed rows ≡ rows_in (tables_of 1 s) → ((t : Tables) → CanRise old t → AreFresh changes t → P t (changed_all changes t)) → P (tables_of 1 s) (tables_of newest_schema s)
-led P old s rows changes same at keyed free are all =
-    let new : AreFresh changes (tables_of 1 s) = subst (λ cs. AreFresh cs (tables_of 1 s)) (sym same) (fresh old s rows at keyed free) in
-    let is : changed_all changes (tables_of 1 s) ≡ tables_of newest_schema s = ap (λ cs. changed_all cs (tables_of 1 s)) same ∙ leads s rows are in
-    subst (P (tables_of 1 s)) is (all (tables_of 1 s) (rises old s rows at keyed free) new)
+pub bookings_told : (version : ℕ) (s : State) (rows : DeskRows) → rows_listed rows ≡ rows_in (tables_of version s) → rows.movements.items ≡ bookings s
+unfolding rows_listed
+bookings_told version s rows are = ap (λ (r : Rows). r.movements) are
 
--- what is to be found where the tables of the state were raised
-pub finds_raised : (old : Database) (trees : Trees) (s : State) (rows : DeskRows) → HoldsTablesOf 1 old (tables_of 1 s) → AreKeyed (tables_of 1 s) → rows_listed rows ≡ rows_in (tables_of 1 s) → IsRaisedBy (changes_in rows) old trees
-    → Finds old trees (tables_of newest_schema s)
-finds_raised old trees s rows holds keyed are made =
-    let done = made.raises (tables_of 1 s) keyed (λ _. refl) (all_fresh rows.movements.items _ (tables_of 1 s)) made.free holds in
-    let held : HoldsTables made.new (tables_of newest_schema s) = subst (HoldsTables made.new) (leads s rows are) done.0 in
-    subst (λ (d : Trees). Finds old d (tables_of newest_schema s)) (sym made.same) (record { schema = made.new.schema; holds = held; others = done.1 })
+pub raised_to_is : (version to : ℕ) → version ≤ to → raised_to version to ≡ to
+raised_to_is version to low = elim (cases_Bool (nat_le to version)) [
+  | inl high ↦ let same : version ≡ to = grind (arith, nat_tests) in rw high same
+  | inr below ↦ rw below refl
+]
+
+-- the position and the edges are those of the state
+module _ (version to : ℕ) (s : State) (position : Position) (edges : List RowChange) (low : 1 ≤ version) (upward : version ≤ to) (high : to ≤ newest_schema) (whole : receipts_in version s.receipts ≡ s.receipts)
+    (placed : position ≡ position_of s) (edged : edges ≡ edges_from version (bookings s)) where
+  raised_is : (done : ℕ) → version + done ≤ to → raised_by done version position edges (tables_of version s) ≡ tables_of (version + done) s
+  raised_is done few =
+      ap (λ (p : Position). raised_by done version p edges (tables_of version s)) placed
+      ∙ ap (λ cs. raised_by done version (position_of s) cs (tables_of version s)) edged
+      ∙ state_raised s version done low (omega (arith, few, high)) whole
+
+  all_done : version + (to - version) ≡ to
+  all_done = omega (arith, upward)
+
+  pub state_ends : {X E : Type 0} (old new : store.State) (r : Result X E)
+      → OnOk r (IsAtOf (version + (to - version)) new (raised_by (to - version) version position edges (tables_of version s)) × KeepsOthers desk_forms old.now new.now)
+      → OnOk r (IsAtOf to new (tables_of to s) × KeepsOthers desk_forms old.now new.now)
+  state_ends old new (Err e) ended = tt
+  state_ends old new (Ok x) ended =
+      let at : IsAtOf (version + (to - version)) new (tables_of (version + (to - version)) s) = subst (IsAtOf (version + (to - version)) new) (raised_is (to - version) (omega (arith, upward))) ended.0 in
+      (subst (λ k. IsAtOf k new (tables_of k s)) all_done at, ended.1)
+
+  cut_amid : (old new : store.State) → IsCutShortWithin version (to - version) (λ done. raised_by done version position edges (tables_of version s)) old new → IsCutShortAmid version to old new s
+  cut_amid old new cut = record {
+    leaves = cut.leaves;
+    nothing_else = λ db left.
+        let found = cut.nothing_else db left in
+        let few : version + found.0 ≤ to = omega (arith, upward, found.1) in
+        let is = raised_to_is version to upward in
+        (version + found.0, omega arith, omega (arith, few, is), subst (FindsOf (version + found.0) old.now db) (raised_is found.0 few) found.2);
+    shows = λ live. elim (cut.shows live) [
+      | inl still ↦ inl still
+      | inr amid ↦
+          let few : version + amid.done < to = omega (arith, upward, amid.few) in
+          inr (record { later = version + amid.done; above = omega (arith, amid.some); below = few; at = subst (IsAtOf (version + amid.done) new) (raised_is amid.done (omega (arith, few))) amid.at; others = amid.others })
+    ];
+  }
+
+  pub state_cut : {X E : Type 0} (old new : store.State) (r : Result X E) → OnErr r (IsCutShortWithin version (to - version) (λ done. raised_by done version position edges (tables_of version s)) old new)
+      → OnErr r (IsCutShortAmid version to old new s)
+  state_cut old new (Ok x) cut = tt
+  state_cut old new (Err e) cut = cut_amid old new cut
+
+  -- what is to be found where the tables of the state were raised
+  pub finds_raised : (old : store.State) (trees : Trees) → IsSettled old → HoldsTablesOf version old.now (tables_of version s) → AreKeyed (tables_of version s) → (made : IsRaisedBy version (to - version) position edges old trees)
+      → FindsRisable (version + made.done) old.now trees (tables_of (version + made.done) s)
+  finds_raised old trees settled holds keyed made =
+      subst (FindsRisable (version + made.done) old.now trees) (raised_is made.done (omega (arith, upward, made.few))) (made.finds (λ _. settled) (tables_of version s) (state_risable version old.now s holds keyed))
+
+-- what was made of a store that shows what another showed
+pub raised_since : (version steps : ℕ) (position : Position) (edges : List RowChange) (first mid : store.State) (trees : Trees) → mid.now ≡ first.now → (IsSettled first → IsSettled mid)
+    → IsRaisedBy version steps position edges mid trees → IsRaisedBy version steps position edges first trees
+raised_since version steps position edges first mid trees same settles made = record {
+  free = subst (λ (d : Database). AreFree (later_forms version) d.schema) same made.free;
+  done = made.done;
+  some = made.some;
+  few = made.few;
+  finds = λ settled t can. subst (λ (d : Database). FindsRisable (version + made.done) d trees (raised_by made.done version position edges t)) same (made.finds (λ more. settles (settled more)) t (subst (λ (d : Database). IsRisable version d t) (sym same) can));
+}

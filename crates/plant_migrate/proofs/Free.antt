@@ -15,7 +15,7 @@ module _ (schema : Schema) (forms : List Form) where
     counted = counted;
   }
 
-  each_is_free : AreFree forms schema → All (IsFree schema) forms
+  pub each_is_free : AreFree forms schema → All (IsFree schema) forms
   each_is_free free i d low = free.each i _ (slice_get-get_or forms i d low)
 
   pub names_taken : (a : Bool) → (a ≡ true) ↔ All (IsFree schema) forms → a ≡ false → (a ≡ true) ↔ AreFree forms schema

@@ -1,5 +1,7 @@
+pub mod Chains
 pub mod StateChanges
 pub mod Kept
+pub mod Stepping
 pub mod Ends
 pub mod Free
 pub mod Reading

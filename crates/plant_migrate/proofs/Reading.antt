@@ -1,32 +1,84 @@
--- The rows that are read of the tables of a state in the first schema are those tables' rows.
-use Rattle.std.proofs.Common.{◌≡◌, ◌∙◌, refl, subst, Some, Ok, Err, Result, OnOk, OnErr}
+-- What is read of the tables of a state before they are raised.
+use Rattle.std.proofs.Common.{◌≡◌, ◌∙◌, inl, inr, ◌-◌, ◌<◌, refl, sym, ap, subst, ℕ, List, [], ◌∷◌, Some, Ok, Err, Result, OnOk, OnErr}
+use Rattle.std.specs.List.Sorted.{IsStrictlySortedBy}
 use Rattle.sqlite.specs.Effect.{Database}
+use Rattle.sqlite.specs.Order.{Row}
+use Rattle.sqlite.specs.Tree.{Trees}
 use Rattle.sqlite.specs.State as store
-use Rattle.plant_base.specs.State.{State, newest_schema}
-use Rattle.plant_view.specs.Tables.{tables_of}
+use Rattle.plant_base.specs.State.{State}
+use Rattle.plant_base.specs.declared.rows.Meta.{Meta}
+use Rattle.plant_view.specs.Tables.{tables_of, position_of}
 use Rattle.table_forms.specs.Standing.{KeepsOthers}
-use Rattle.plant_tables.specs.DeskForms.{desk_forms}
-use Rattle.plant_tables.specs.DeskStopping.{IsAt, IsCutShortOf}
-use Rattle.plant_tables_stored.specs.Loading.{AreLoaded}
+use Rattle.table_forms.specs.Stopping.{IsSettled}
+use Rattle.plant_tables.specs.DeskForms.{desk_forms, meta_form}
+use Rattle.plant_tables.specs.DeskStopping.{IsAtOf}
+use Rattle.plant_tables_columns.specs.TableColumns.{only_meta, row_of_meta}
+use Rattle.plant_tables_columns.proofs.RowLaws.{meta_reads}
+use Rattle.plant_tables_stored.specs.Loading.{AreLoaded, Loads}
 use Rattle.plant_tables_stored.specs.declared.loaded.Loaded.{Loaded}
 use Rattle.plant_tables_judged.specs.Collecting.{rows_from, rows_in, rows_listed}
 use Rattle.plant_tables_judged.specs.declared.desk_rows.DeskRows.{DeskRows}
 use Rattle.plant_tables_judged.proofs.AgainLemmas.{read_again}
-use Rattle.plant_migrate.specs.Standing.{IsReadable}
-use Rattle.plant_migrate.proofs.Kept.{cut_since}
+use Rattle.plant_tables_judged.proofs.TableLemmas.{loaded_rows}
+use Rattle.plant_migrate.specs.Raised.{edges_from}
+use Rattle.plant_migrate.specs.Steps.{IsRaisedBy}
+use Rattle.plant_migrate.specs.Standing.{IsReadable, IsCutShortAmid, IsRead, IsRaisedFrom}
+use Rattle.plant_migrate.proofs.Ends.{lacks_later, raised_since}
+use Rattle.plant_migrate.proofs.Kept.{amid_since}
 
-pub rows_read : (old : store.State) (s : State) (x : Loaded) (rows : DeskRows) → IsReadable 1 old s → AreLoaded 1 old.now x → Some (rows_listed rows) ≡ rows_from x → rows_listed rows ≡ rows_in (tables_of 1 s)
-rows_read old s x rows readable loaded are =
-    let again : rows_from x ≡ Some (rows_in (tables_of 1 s)) = read_again 1 old.now (tables_of 1 s) readable.at.holds (λ _. refl) readable.ordered readable.good x loaded in
-    let both : Some (rows_listed rows) ≡ Some (rows_in (tables_of 1 s)) = are ∙ again in
+pub rows_read : (version : ℕ) (old : store.State) (s : State) (x : Loaded) (rows : DeskRows) → IsReadable version old s → AreLoaded version old.now x → Some (rows_listed rows) ≡ rows_from x → rows_listed rows ≡ rows_in (tables_of version s)
+rows_read version old s x rows readable loaded are =
+    let again : rows_from x ≡ Some (rows_in (tables_of version s)) = read_again version old.now (tables_of version s) readable.at.holds (lacks_later version s) readable.ordered readable.good x loaded in
+    let both : Some (rows_listed rows) ≡ Some (rows_in (tables_of version s)) = are ∙ again in
     cc
 
--- what is so of a store that shows the same as before
-pub raised_since : {X E : Type 0} (first mid new : store.State) (s : State) (r : Result X E) → mid.now ≡ first.now → OnOk r (IsAt new (tables_of newest_schema s) × KeepsOthers desk_forms mid.now new.now)
-    → OnOk r (IsAt new (tables_of newest_schema s) × KeepsOthers desk_forms first.now new.now)
-raised_since first mid new s r same done = subst (λ (d : Database). OnOk r (IsAt new (tables_of newest_schema s) × KeepsOthers desk_forms d new.now)) same done
+pub meta_read : (version : ℕ) (old : store.State) (s : State) (stored : List Row) (meta : Meta) → IsReadable version old s → Loads old.now meta_form stored → Some meta ≡ only_meta stored → meta.position ≡ position_of s
+unfolding only_meta IsStrictlySortedBy
+meta_read version old s stored meta readable loads are =
+    let t = tables_of version s in
+    let rows : stored ≡ row_of_meta t.meta ∷ [] = loaded_rows old.now meta_form stored (row_of_meta t.meta ∷ []) loads (readable.at.holds.each 0 meta_form refl) (tt, tt) in
+    let again : only_meta stored ≡ Some t.meta = ap only_meta rows ∙ meta_reads.again t.meta readable.good.meta tt in
+    let both : Some meta ≡ Some t.meta = are ∙ again in
+    let same : meta ≡ t.meta = cc in
+    ap (λ (m : Meta). m.position) same
 
-pub unraised_since : {X E : Type 0} (first mid new : store.State) (s : State) (r : Result X E) → mid.now ≡ first.now → OnErr r (IsCutShortOf 1 mid new (tables_of 1 s) (tables_of newest_schema s))
-    → OnErr r (IsCutShortOf 1 first new (tables_of 1 s) (tables_of newest_schema s))
-unraised_since first mid new s (Ok x) same cut = tt
-unraised_since first mid new s (Err e) same cut = cut_since 1 first mid new (tables_of 1 s) (tables_of newest_schema s) same cut
+-- what is so of a store that shows the same as before
+pub ends_since : {X E : Type 0} (to : ℕ) (first mid new : store.State) (s : State) (r : Result X E) → mid.now ≡ first.now → OnOk r (IsAtOf to new (tables_of to s) × KeepsOthers desk_forms mid.now new.now)
+    → OnOk r (IsAtOf to new (tables_of to s) × KeepsOthers desk_forms first.now new.now)
+ends_since to first mid new s r same done = subst (λ (d : Database). OnOk r (IsAtOf to new (tables_of to s) × KeepsOthers desk_forms d new.now)) same done
+
+pub cut_since : {X E : Type 0} (version to : ℕ) (first mid new : store.State) (s : State) (r : Result X E) → mid.now ≡ first.now → OnErr r (IsCutShortAmid version to mid new s) → OnErr r (IsCutShortAmid version to first new s)
+cut_since version to first mid new s (Ok x) same cut = tt
+cut_since version to first mid new s (Err e) same cut = amid_since version to first mid new s same cut
+
+-- ---- what was made of it
+
+-- of the first schema, by the rows of its tables
+pub first_raised : (to : ℕ) (first mid : store.State) (trees : Trees) (x : Loaded) (rows : DeskRows) → mid.now ≡ first.now → (IsSettled first → IsSettled mid) → AreLoaded 1 first.now x → Some (rows_listed rows) ≡ rows_from x
+    → IsRaisedBy 1 (to - 1) rows.meta.position (edges_from 1 rows.movements.items) mid trees → IsRaisedFrom 1 to first trees
+unfolding rows_listed
+first_raised to first mid trees x rows same settles loaded told made = record {
+  position = rows.meta.position;
+  booked = rows.movements.items;
+  read = inl (refl, record { loaded = x; are = loaded; rows = rows_listed rows; good = sym told; at = refl; movements = refl });
+  raised = raised_since 1 (to - 1) rows.meta.position (edges_from 1 rows.movements.items) first mid trees same settles made;
+}
+
+-- of a later one, by the row of table meta
+pub later_raised : (version to : ℕ) (first mid : store.State) (trees : Trees) (stored : List Row) (meta : Meta) → 1 < version → mid.now ≡ first.now → (IsSettled first → IsSettled mid) → Loads first.now meta_form stored → Some meta ≡ only_meta stored
+    → IsRaisedBy version (to - version) meta.position (edges_from version []) mid trees → IsRaisedFrom version to first trees
+later_raised version to first mid trees stored meta later same settles loads told made = record {
+  position = meta.position;
+  booked = [];
+  read = inr (later, record { stored = stored; are = loads; meta = meta; good = sym told; at = refl });
+  raised = raised_since version (to - version) meta.position (edges_from version []) first mid trees same settles made;
+}
+
+-- as seen from a store before that shows the same
+pub from_since : (version to : ℕ) (first mid : store.State) (trees : Trees) → mid.now ≡ first.now → (IsSettled first → IsSettled mid) → IsRaisedFrom version to mid trees → IsRaisedFrom version to first trees
+from_since version to first mid trees same settles made = record {
+  position = made.position;
+  booked = made.booked;
+  read = subst (λ (d : Database). IsRead version d made.position made.booked) same made.read;
+  raised = raised_since version (to - version) made.position (edges_from version made.booked) first mid trees same settles made.raised;
+}

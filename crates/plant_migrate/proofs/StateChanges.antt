@@ -1,21 +1,24 @@
--- What the changes make of the tables of a state in the first schema.
-use Rattle.std.proofs.Common.{◌≡◌, ◌∙◌, refl, ap, List, [], ◌∷◌, ◌++◌, map, Option, Some, None, option_map, option_and_then}
+-- What the changes make of the tables of a state.
+use Rattle.std.proofs.Common.{◌≡◌, ◌∙◌, inl, inr, refl, ap, ℕ, zero, suc, ◌+◌, ◌≤◌, ◌==◌, nat_le, false, eqb-true, List, [], ◌∷◌, ◌++◌, map, Option, Some, None, option_map, option_and_then, arith}
+use Rattle.std.proofs.lemmas.Bool.{cases_Bool}
+use Rattle.std.proofs.lemmas.Bool.Decides.{nat_tests}
 use Rattle.std.specs.List.{filter_map, cons_option}
 use Rattle.plant_base.specs.Edges.{edge_order}
 use Rattle.plant_base.specs.State.{State, newest_schema, put}
 use Rattle.plant_base.specs.declared.rows.EdgeRow.{EdgeRow}
-use Rattle.plant_base.specs.declared.rows.Meta.{Meta}
 use Rattle.plant_base.specs.declared.rows.Movement.{Movement}
+use Rattle.plant_base.specs.declared.rows.Receipt.{Receipt}
 use Rattle.plant_view.specs.Genealogy.{edge_row_of}
 use Rattle.plant_view.specs.Rows.{put_all}
-use Rattle.plant_view.specs.Tables.{Tables, changed, changed_all, tables_of, position_of}
+use Rattle.plant_view.specs.Tables.{Tables, changed, changed_all, tables_of, receipts_in, position_of}
 use Rattle.plant_view.specs.declared.change.RowChange.{RowChange}
 use Rattle.plant_view.specs.declared.change.RowChange.TheVariants as change
-use Rattle.plant_tables.specs.Keyed.{AreFresh}
+use Rattle.plant_tables.specs.Raising.{IsOlder}
+use Rattle.plant_tables.proofs.Raised.{by_older}
 use Rattle.plant_tables_columns.specs.Booked.{booked_of}
 use Rattle.plant_tables_columns.specs.declared.booked.BookedRow.{BookedRow}
 use Rattle.plant_tables_columns.proofs.KindLemmas.{movement_again}
-use Rattle.plant_migrate.specs.Raised.{edge_booked, edge_change, raising_changes}
+use Rattle.plant_migrate.specs.Raised.{edge_change, edges_from, added_rows, raised_once, raised_by}
 
 abbrev with_edges : Tables → List EdgeRow → Tables
 with_edges t edges = record t { edges = edges }
@@ -32,14 +35,55 @@ edges_changed (m ∷ ms) c t = ap (λ o. changed_all (cons_option o (filter_map 
     one None more = more t
     one (Some e) more = more (with_edges t (put edge_order e t.edges))
 
-pub state_raised : (s : State) → changed_all (raising_changes (position_of s) (map booked_of s.movements)) (tables_of 1 s) ≡ tables_of newest_schema s
-state_raised s = edges_changed s.movements (change.Meta (record { schema = newest_schema; position = position_of s })) (tables_of 1 s)
+-- the bookings of a state
+abbrev pub bookings : State → List BookedRow
+bookings s = map booked_of s.movements
 
--- no change is of a row that has to be new
-pub all_fresh : (booked : List BookedRow) (r : Meta) (t : Tables) → AreFresh (filter_map edge_change booked ++ change.Meta r ∷ []) t
-all_fresh [] r t = (tt, tt)
-all_fresh (b ∷ bs) r t = one (edge_booked b) (all_fresh bs r)
-  where
-    one : (o : Option EdgeRow) → ((u : Tables) → AreFresh (filter_map edge_change bs ++ change.Meta r ∷ []) u) → AreFresh (cons_option (option_map change.Edge o) (filter_map edge_change bs) ++ change.Meta r ∷ []) t
-    one None more = more t
-    one (Some e) more = (tt, more (with_edges t (put edge_order e t.edges)))
+-- ---- one version
+
+abbrev StateRises : State → ℕ → Type 0
+StateRises s version = receipts_in version s.receipts ≡ s.receipts → raised_once version (position_of s) (filter_map edge_change (bookings s)) (tables_of version s) ≡ tables_of (version + 1) s
+
+first_rises : (s : State) → StateRises s 1
+first_rises s whole = edges_changed s.movements (change.Meta (record { schema = 2; position = position_of s })) (tables_of 1 s)
+
+second_rises : (s : State) → StateRises s 2
+second_rises s whole = ap (λ (rs : List Receipt). record (tables_of 3 s) { receipts = rs }) whole
+
+state_rises : (s : State) (version : ℕ) → IsOlder version → StateRises s version
+state_rises s = by_older (StateRises s) (first_rises s) (second_rises s)
+
+-- ---- some versions
+
+-- a schema that lacks none of the receipts, and those after it
+pub whole_on : (version later : ℕ) (rs : List Receipt) → version ≤ later → receipts_in version rs ≡ rs → receipts_in later rs ≡ rs
+whole_on version later rs low whole = elim (cases_Bool (nat_le 3 later)) [
+  | inl keeps ↦ rw keeps refl
+  | inr lacks ↦
+      let below : nat_le 3 version ≡ false = grind (arith, nat_tests) in
+      let none : [] ≡ rs = rw below at whole in
+      rw lacks none
+]
+
+-- only the first version has edges added
+same_added : (version n : ℕ) (booked : List BookedRow) → 1 ≤ version → added_rows (version + n) (edges_from version booked) ≡ added_rows (version + n) (filter_map edge_change booked)
+same_added version n booked low = elim (cases_Bool (version + n == 1)) [
+  | inl first ↦
+      let sum : version + n ≡ 1 = eqb-true (version + n) 1 first in
+      let one : version ≡ 1 = omega (arith, sum, low) in
+      ap (added_rows (version + n)) (rw one refl)
+  | inr later ↦ rw later refl
+]
+
+-- The tables of a state in a version are raised to those in a later one.
+pub state_raised : (s : State) (version n : ℕ) → 1 ≤ version → version + n ≤ newest_schema → receipts_in version s.receipts ≡ s.receipts
+    → raised_by n version (position_of s) (edges_from version (bookings s)) (tables_of version s) ≡ tables_of (version + n) s
+state_raised s version zero low high whole = let same : version ≡ version + 0 = omega arith in ap (λ k. tables_of k s) same
+state_raised s version (suc n) low high whole =
+    let before = state_raised s version n low (omega (arith, high)) whole in
+    let older : IsOlder (version + n) = (omega (arith, low), omega (arith, high)) in
+    let next : version + n + 1 ≡ version + suc n = omega arith in
+    ap (λ (t : Tables). raised_once (version + n) (position_of s) (edges_from version (bookings s)) t) before
+    ∙ ap (λ cs. changed_all (cs ++ change.Meta (record { schema = version + n + 1; position = position_of s }) ∷ []) (tables_of (version + n) s)) (same_added version n (bookings s) low)
+    ∙ state_rises s (version + n) older (whole_on version (version + n) s.receipts (omega arith) whole)
+    ∙ ap (λ k. tables_of k s) next

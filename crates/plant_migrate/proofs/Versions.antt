@@ -1,9 +1,9 @@
 -- The version that is told, and what follows of the tables of a state.
-use Rattle.std.proofs.Common.{◌≡◌, ◌∙◌, refl, sym, subst, ℕ, ◌≤◌, ◌<◌, ℤ, pos, true, false, nat_le, [], ◌∷◌, IsTrue, arith}
+use Rattle.std.proofs.Common.{◌≡◌, ◌∙◌, refl, sym, ap, subst, ℕ, ◌≤◌, ◌<◌, ℤ, pos, true, false, nat_le, [], ◌∷◌, IsTrue, arith}
 use Rattle.std.proofs.lemmas.Bool.Decides.{nat_tests}
 use Rattle.std.proofs.lemmas.Int.{ints, to_z-of_z}
 use lib.Dec.{leb→le}
-use lib.IntN.{negsuc}
+use lib.IntN.{negsuc, nat_abs}
 use lib.Signed.{le_z}
 use mir.Syntax.{w64}
 use mir.Val.{SFits, to_z, of_z}
@@ -12,20 +12,24 @@ use Rattle.std.specs.List.Sorted.{IsStrictlySortedBy}
 use Rattle.sqlite.specs.Effect.{Database}
 use Rattle.sqlite.specs.declared.types.Value.TheVariants.{Int}
 use Rattle.sqlite.specs.State as store
+use Rattle.sqlite.specs.Tree.{Trees}
 use Rattle.plant_base.specs.State.{State, newest_schema}
 use Rattle.plant_view.specs.Tables.{Tables, tables_of}
 use Rattle.table_forms.specs.Resting.{Keeps}
 use Rattle.table_forms.specs.Standing.{Stands, KeepsOthers}
+use Rattle.table_forms.specs.Stopping.{IsSettled}
 use Rattle.table_forms.proofs.Ending.{IsStore}
 use Rattle.plant_tables.specs.DeskForms.{desk_forms, meta_form}
 use Rattle.plant_tables.specs.Keyed.{HoldsTablesOf}
-use Rattle.plant_tables.specs.DeskStopping.{IsAtOf, IsAt, IsCutShortOf}
+use Rattle.plant_tables.specs.DeskStopping.{IsAtOf}
 use Rattle.plant_tables_columns.specs.TableColumns.{row_of_meta}
 use Rattle.plant_tables_stored.specs.Loading.{Loads}
 use Rattle.plant_tables_stored.specs.Version.{IsVersion}
 use Rattle.plant_tables_judged.proofs.TableLemmas.{loaded_rows}
-use Rattle.plant_migrate.specs.Standing.{IsReadable, IsCutShortAmid, TellsKnown, raised_to}
-use Rattle.plant_migrate.proofs.Kept.{at_still, cut_since}
+use Rattle.plant_migrate.specs.Standing.{IsReadable, IsCutShortAmid, IsRaisedFrom, IsRaisedTo, TellsKnown, raised_to}
+use Rattle.plant_migrate.proofs.Ends.{raised_to_is}
+use Rattle.plant_migrate.proofs.Reading.{from_since}
+use Rattle.plant_migrate.proofs.Kept.{at_still, amid_since}
 
 pub version_is : (version : ℕ) (db : Database) (t : Tables) (n : ℤ) → HoldsTablesOf version db t → IsVersion db n → n ≡ pos t.meta.schema
 unfolding IsStrictlySortedBy
@@ -53,10 +57,10 @@ tells_known db v told low =
     (number.0, subst (IsVersion db) number.1 told, (number.2, leb→le number.0 newest_schema high.le))
 
 -- what the test of a version tells of the numbers
-pub not_below : (version to : ℕ) (n : ℤ) → SFits w64 n → n ≡ pos version → to ≤ 2 → le_z (to_z w64 to) (to_z w64 (of_z w64 n)) ≡ true → to ≤ version
+pub not_below : (version to : ℕ) (n : ℤ) → SFits w64 n → n ≡ pos version → to ≤ newest_schema → le_z (to_z w64 to) (to_z w64 (of_z w64 n)) ≡ true → to ≤ version
 not_below version to n fits is few test = let at : le_z (to_z w64 to) (pos version) ≡ true = rw (to_z-of_z w64 n fits, is) at test in grind (arith, ints)
 
-pub below : (version to : ℕ) (n : ℤ) → SFits w64 n → n ≡ pos version → to ≤ 2 → le_z (to_z w64 to) (to_z w64 (of_z w64 n)) ≡ false → version < to
+pub below : (version to : ℕ) (n : ℤ) → SFits w64 n → n ≡ pos version → to ≤ newest_schema → le_z (to_z w64 to) (to_z w64 (of_z w64 n)) ≡ false → version < to
 below version to n fits is few test = let at : le_z (to_z w64 to) (pos version) ≡ false = rw (to_z-of_z w64 n fits, is) at test in grind (arith, ints)
 
 -- it is at least the schema that is asked for
@@ -68,31 +72,37 @@ stays_at version to old new s low readable kept laws live =
     (subst (λ k. IsAtOf k new (tables_of k s)) (sym is) (at_still version old new (tables_of version s) readable.at kept laws live), subst (KeepsOthers desk_forms old.now) (sym (kept.now live)) (record { kept = λ x listed foreign. (listed, refl) }))
 
 -- still readable after calls that only read
-still_readable : (old mid : store.State) (s : State) → IsReadable 1 old s → Keeps old mid → IsStore mid → IsTrue mid.is_open → IsReadable 1 mid s
-still_readable old mid s readable kept laws live = record { known = readable.known; at = at_still 1 old mid (tables_of 1 s) readable.at kept laws live; ordered = readable.ordered; good = readable.good }
+still_readable : (version : ℕ) (old mid : store.State) (s : State) → IsReadable version old s → Keeps old mid → IsStore mid → IsTrue mid.is_open → IsReadable version mid s
+still_readable version old mid s readable kept laws live = record { known = readable.known; at = at_still version old mid (tables_of version s) readable.at kept laws live; whole = readable.whole; ordered = readable.ordered; good = readable.good }
 
--- it is the first, and the newest is asked for
-pub rises_to : (version to : ℕ) (old mid new : store.State) (s : State) → version ≡ 1 → to ≡ 2 → IsReadable version old s → Keeps old mid → IsStore mid → IsTrue mid.is_open
-    → ((u : State) → IsReadable 1 mid u → IsAt new (tables_of newest_schema u) × KeepsOthers desk_forms mid.now new.now)
+-- the number that is handed on is the version
+pub handed_on : (version : ℕ) (v : ℤ) → SFits w64 v → v ≡ pos version → nat_abs (to_z w64 (of_z w64 v)) ≡ version
+handed_on version v fits is = ap nat_abs (to_z-of_z w64 v fits ∙ is)
+
+-- it is below the one that is asked for
+pub rises_to : (version handed to : ℕ) (old mid new : store.State) (s : State) → handed ≡ version → version < to → IsReadable version old s → Keeps old mid → IsStore mid → IsTrue mid.is_open
+    → ((u : State) → IsReadable handed mid u → IsAtOf to new (tables_of to u) × KeepsOthers desk_forms mid.now new.now)
     → IsAtOf (raised_to version to) new (tables_of (raised_to version to) s) × KeepsOthers desk_forms old.now new.now
-rises_to version to old mid new s first newest readable kept laws live done =
-    let at : IsReadable 1 old s = subst (λ k. IsReadable k old s) first readable in
-    let it = done s (still_readable old mid s at kept laws live) in
-    let is : raised_to version to ≡ newest_schema = rw (first, newest) refl in
+rises_to version handed to old mid new s same under readable kept laws live done =
+    let it = done s (subst (λ k. IsReadable k mid s) (sym same) (still_readable version old mid s readable kept laws live)) in
+    let is : raised_to version to ≡ to = raised_to_is version to (omega (arith, under)) in
     (subst (λ k. IsAtOf k new (tables_of k s)) (sym is) it.0, subst (λ (d : Database). KeepsOthers desk_forms d new.now) (kept.now live) it.1)
 
--- what is told of a version below the one that is asked for
-pub first_told : (db : Database) (v : ℤ) (to : ℕ) → SFits w64 v → IsVersion db v → to ≤ 2 → le_z (to_z w64 to) (to_z w64 (of_z w64 v)) ≡ false → IsVersion db (pos 1) × (1 < to)
-first_told db v to fits told few test =
-    let number = version_number db v told in
-    let under : number.0 < to = below number.0 to v fits number.1 few test in
-    let first : number.0 ≡ 1 = omega (arith, under, number.2, few) in
-    (subst (λ k. IsVersion db (pos k)) first (subst (IsVersion db) number.1 told), subst (λ k. k < to) first under)
+pub cut_from : (version handed to : ℕ) (old mid new : store.State) (s : State) → handed ≡ version → IsReadable version old s → Keeps old mid → IsStore mid → IsTrue mid.is_open
+    → ((u : State) → IsReadable handed mid u → IsCutShortAmid handed to mid new u) → IsCutShortAmid version to old new s
+cut_from version handed to old mid new s same readable kept laws live done =
+    let here = done s (subst (λ k. IsReadable k mid s) (sym same) (still_readable version old mid s readable kept laws live)) in
+    amid_since version to old mid new s (kept.now live) (subst (λ k. IsCutShortAmid k to mid new s) same here)
 
-pub cut_from : (version to : ℕ) (old mid new : store.State) (s : State) → version ≡ 1 → to ≡ 2 → IsReadable version old s → Keeps old mid → IsStore mid → IsTrue mid.is_open
-    → ((u : State) → IsReadable 1 mid u → IsCutShortOf 1 mid new (tables_of 1 u) (tables_of newest_schema u)) → IsCutShortAmid version to old new s
-cut_from version to old mid new s first newest readable kept laws live done =
-    let at : IsReadable 1 old s = subst (λ k. IsReadable k old s) first readable in
-    let cut = cut_since 1 old mid new (tables_of 1 s) (tables_of newest_schema s) (kept.now live) (done s (still_readable old mid s at kept laws live)) in
-    let amid : IsCutShortAmid 1 2 old new s = record { leaves = cut.leaves; nothing_else = cut.nothing_else; shows = cut.shows } in
-    subst (λ k. IsCutShortAmid k to old new s) (sym first) (subst (λ k. IsCutShortAmid 1 k old new s) (sym newest) amid)
+-- what was made of the tables of the version that is told
+pub raised_told : (to : ℕ) (old mid : store.State) (trees : Trees) (v : ℤ) → SFits w64 v → IsVersion old.now v → to ≤ newest_schema → le_z (to_z w64 to) (to_z w64 (of_z w64 v)) ≡ false → mid.now ≡ old.now → (IsSettled old → IsSettled mid)
+    → IsRaisedFrom (nat_abs (to_z w64 (of_z w64 v))) to mid trees → IsRaisedTo to old trees
+raised_told to old mid trees v fits told few test same settles made =
+    let number = version_number old.now v told in
+    let here : IsRaisedFrom number.0 to mid trees = subst (λ k. IsRaisedFrom k to mid trees) (handed_on number.0 v fits number.1) made in
+    record {
+      version = number.0;
+      told = subst (IsVersion old.now) number.1 told;
+      below = below number.0 to v fits number.1 few test;
+      raised = from_since number.0 to old mid trees same settles here;
+    }

@@ -1,12 +1,13 @@
--- The changes that raise the tables of the first schema.
-use Rattle.std.specs.Prelude.{List, [], ◌∷◌, ◌++◌, Option, option_map, option_and_then}
-use Rattle.std.specs.List.{filter_map}
-use Rattle.plant_base.specs.State.{newest_schema}
+-- The changes that raise tables of a schema to the next, and what becomes of the tables.
+use Rattle.std.specs.Prelude.{◌≡◌, ℕ, zero, suc, ◌+◌, ◌==◌, List, [], Option, option_map, option_and_then, if◌then◌else◌}
+use Rattle.std.specs.List.{AllByRecursion, filter_map}
 use Rattle.plant_base.specs.declared.rows.EdgeRow.{EdgeRow}
 use Rattle.plant_base.specs.declared.rows.Position.{Position}
 use Rattle.plant_view.specs.Genealogy.{edge_row_of}
+use Rattle.plant_view.specs.Tables.{Tables, changed_all}
 use Rattle.plant_view.specs.declared.change.RowChange.{RowChange}
 use Rattle.plant_view.specs.declared.change.RowChange.TheVariants as change
+use Rattle.plant_tables.specs.Raising.{raising}
 use Rattle.plant_tables_columns.specs.Booked.{movement_from}
 use Rattle.plant_tables_columns.specs.declared.booked.BookedRow.{BookedRow}
 
@@ -17,6 +18,23 @@ edge_booked r = option_and_then edge_row_of (movement_from r)
 abbrev pub edge_change : BookedRow → Option RowChange
 edge_change r = option_map change.Edge (edge_booked r)
 
--- an edge for each movement that makes one, then the newest schema at the same position
-abbrev pub raising_changes : Position → List BookedRow → List RowChange
-raising_changes position booked = filter_map edge_change booked ++ change.Meta (record { schema = newest_schema; position = position }) ∷ []
+-- an edge for each movement that makes one, where tables of this version have no edges yet
+abbrev pub edges_from : ℕ → List BookedRow → List RowChange
+edges_from version booked = if version == 1 then filter_map edge_change booked else []
+
+-- each change puts an edge
+abbrev pub AreEdges : List RowChange → Type 0
+AreEdges = AllByRecursion (λ c. (e : EdgeRow) × (c ≡ change.Edge e))
+
+-- the rows of the tables that the schema after this version adds: the edges are the second's, and receipts there are none
+abbrev pub added_rows : ℕ → List RowChange → List RowChange
+added_rows version edges = if version == 1 then edges else []
+
+-- the tables of a version, raised to the next
+abbrev pub raised_once : ℕ → Position → List RowChange → Tables → Tables
+raised_once version position edges t = changed_all (raising version position (added_rows version edges)) t
+
+-- raised by so many versions, one after the other
+abbrev pub raised_by : ℕ → ℕ → Position → List RowChange → Tables → Tables
+raised_by zero version position edges t = t
+raised_by (suc n) version position edges t = raised_once (version + n) position edges (raised_by n version position edges t)

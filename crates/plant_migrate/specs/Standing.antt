@@ -1,27 +1,32 @@
 -- A store that holds the tables of a state in a schema, whichever it is, and what a raising leaves of it.
-use Rattle.std.specs.Prelude.{◌≡◌, ◌⊎◌, ◌<◌, ℕ, pos, List, Some, nat_le, if◌then◌else◌, IsTrue}
+use Rattle.std.specs.Prelude.{◌≡◌, ◌⊎◌, ◌<◌, ◌≤◌, ◌-◌, ℕ, pos, List, Some, nat_le, if◌then◌else◌, IsTrue}
+use Rattle.sqlite.specs.Order.{Row}
 use Rattle.sqlite.specs.Tree.{Trees}
 use Rattle.sqlite.specs.Effect.{Database}
 use Rattle.sqlite.specs.State as store
 use Rattle.plant_base.specs.State.{State}
-use Rattle.plant_view.specs.Tables.{tables_of}
-use Rattle.plant_view.specs.declared.change.RowChange.{RowChange}
-use Rattle.table_forms.specs.Standing.{AreFree}
-use Rattle.plant_tables.specs.DeskForms.{later_forms}
+use Rattle.plant_base.specs.declared.rows.Meta.{Meta}
+use Rattle.plant_base.specs.declared.rows.Position.{Position}
+use Rattle.plant_view.specs.Tables.{tables_of, receipts_in}
+use Rattle.table_forms.specs.Standing.{KeepsOthers}
+use Rattle.plant_tables.specs.DeskForms.{desk_forms, meta_form}
 use Rattle.plant_tables.specs.DeskStopping.{IsAtOf, FindsOf}
-use Rattle.plant_tables.specs.Raising.{RaisesTables}
 use Rattle.plant_tables_columns.specs.Obeying.{HasGoodValues}
-use Rattle.plant_tables_judged.specs.Collecting.{AreInOrder, rows_from, rows_listed}
-use Rattle.plant_tables_judged.specs.declared.desk_rows.DeskRows.{DeskRows}
-use Rattle.plant_tables_stored.specs.Loading.{AreLoaded}
+use Rattle.plant_tables_columns.specs.TableColumns.{only_meta}
+use Rattle.plant_tables_columns.specs.declared.booked.BookedRow.{BookedRow}
+use Rattle.plant_tables_judged.specs.Collecting.{AreInOrder, Rows, rows_from}
+use Rattle.plant_tables_stored.specs.Loading.{AreLoaded, Loads}
 use Rattle.plant_tables_stored.specs.Version.{IsVersion, IsKnown}
 use Rattle.plant_tables_stored.specs.declared.loaded.Loaded.{Loaded}
-use Rattle.plant_migrate.specs.Raised.{raising_changes}
+use Rattle.plant_migrate.specs.Raised.{edges_from}
+use Rattle.plant_migrate.specs.Steps.{IsRaisedBy}
 
--- The store is at the tables of the state in a schema that is known; their keys rise, and each value obeys its rule.
+-- The store is at the tables of the state in a schema that is known, and that lacks no row of the state; their keys rise,
+-- and each value obeys its rule.
 pub record IsReadable (version : ℕ) (c : store.State) (s : State) : Type 0 where
   pub known : IsKnown version
   pub at : IsAtOf version c (tables_of version s)
+  pub whole : receipts_in version s.receipts ≡ s.receipts
   pub ordered : AreInOrder (tables_of version s)
   pub good : HasGoodValues (tables_of version s)
 
@@ -35,32 +40,58 @@ TellsKnown db = (version : ℕ) × IsVersion db (pos version) × IsKnown version
 
 -- ---- what a stop leaves
 
--- A raising to this schema was cut short: a stop leaves at least one, and nothing else than the tables of the state in the
--- version before or in the one that they are raised to, beside the same tables of other names; and the store, where it is
--- still open, shows what it showed.
+-- the tables of the state are to be found, in some version from the one to the other
+abbrev pub FindsBetween : ℕ → ℕ → State → Database → Trees → Type 0
+FindsBetween version to s old db = (later : ℕ) × (version ≤ later) × (later ≤ to) × FindsOf later old db (tables_of later s)
+
+-- The store is at the tables of the state in a version between the two, and tables of other names stand as they did.
+pub record IsBetween (version to : ℕ) (old new : store.State) (s : State) : Type 0 where
+  pub later : ℕ
+  pub above : version < later
+  pub below : later < to
+  pub at : IsAtOf later new (tables_of later s)
+  pub others : KeepsOthers desk_forms old.now new.now
+
+-- A raising to this schema was cut short: a stop leaves at least one, and nothing else than the tables of the state in a
+-- version from the one before to the one that they are raised to, beside the same tables of other names; and the store,
+-- where it is still open, shows what it showed, or those of a version between the two.
 pub record IsCutShortAmid (version to : ℕ) (old new : store.State) (s : State) : Type 0 where
   pub leaves : ∥ ((db : Trees) × new.may_leave db) ∥₁
-  pub nothing_else : (db : Trees) → new.may_leave db → FindsOf version old.now db (tables_of version s) ⊎ FindsOf (raised_to version to) old.now db (tables_of (raised_to version to) s)
-  pub shows : IsTrue new.is_open → IsAtOf version new (tables_of version s) × (new.now ≡ old.now)
+  pub nothing_else : (db : Trees) → new.may_leave db → FindsBetween version (raised_to version to) s old.now db
+  pub shows : IsTrue new.is_open → (IsAtOf version new (tables_of version s) × (new.now ≡ old.now)) ⊎ IsBetween version to old new s
 
--- The later tables could be made in this database, and the trees are those that it has once these changes raised its tables.
-pub record IsRaisedBy (changes : List RowChange) (old : Database) (trees : Trees) : Type 0 where
-  pub free : AreFree (later_forms 1) old.schema
-  pub new : Database
-  pub raises : RaisesTables changes old new
-  pub same : trees ≡ new.trees
-
--- The rows of the tables of the first schema in this database obey the rules of values, and the trees are those of the
--- tables raised from them.
-pub record IsFirstRaised (old : Database) (trees : Trees) : Type 0 where
+-- The rows of the tables of the first schema in this database obey the rules of values, and tell this position and these
+-- bookings.
+pub record AreRowsRead (db : Database) (position : Position) (booked : List BookedRow) : Type 0 where
   pub loaded : Loaded
-  pub are : AreLoaded 1 old loaded
-  pub rows : DeskRows
-  pub good : rows_from loaded ≡ Some (rows_listed rows)
-  pub raised : IsRaisedBy (raising_changes rows.meta.position rows.movements.items) old trees
+  pub are : AreLoaded 1 db loaded
+  pub rows : Rows
+  pub good : rows_from loaded ≡ Some rows
+  pub at : rows.meta.position ≡ position
+  pub movements : rows.movements ≡ booked
 
--- Table meta tells the first schema, a later one is asked for, and the trees are those of the raised tables.
-pub record IsRaisedTo (to : ℕ) (old : Database) (trees : Trees) : Type 0 where
-  pub told : IsVersion old (pos 1)
-  pub below : 1 < to
-  pub raised : IsFirstRaised old trees
+-- The one row of table meta in this database obeys the rules of values, and tells this position.
+pub record IsMetaRead (db : Database) (position : Position) : Type 0 where
+  pub stored : List Row
+  pub are : Loads db meta_form stored
+  pub meta : Meta
+  pub good : only_meta stored ≡ Some meta
+  pub at : meta.position ≡ position
+
+-- what is read of tables of a version before they are raised: of the first all rows, and of a later one table meta alone
+abbrev pub IsRead : ℕ → Database → Position → List BookedRow → Type 0
+IsRead version db position booked = ((version ≡ 1) × AreRowsRead db position booked) ⊎ ((1 < version) × IsMetaRead db position)
+
+-- In the trees the tables of this version are to be found, raised towards the other by what was read of them.
+pub record IsRaisedFrom (version to : ℕ) (old : store.State) (trees : Trees) : Type 0 where
+  pub position : Position
+  pub booked : List BookedRow
+  pub read : IsRead version old.now position booked
+  pub raised : IsRaisedBy version (to - version) position (edges_from version booked) old trees
+
+-- Table meta tells a version below the one that is asked for, and in the trees its tables are to be found, raised.
+pub record IsRaisedTo (to : ℕ) (old : store.State) (trees : Trees) : Type 0 where
+  pub version : ℕ
+  pub told : IsVersion old.now (pos version)
+  pub below : version < to
+  pub raised : IsRaisedFrom version to old trees

@@ -1,13 +1,11 @@
-//! The changes that raise the tables of the first schema.
+//! The rows that a raising adds.
 
 ghost use Rattle.std.specs.Prelude.{◌≡◌, IfOk, IsOkUnless};
 ghost use Rattle.std.specs.List.{filter_map};
-ghost use Rattle.plant_migrate.specs.Raised.{edge_booked, edge_change, raising_changes};
+ghost use Rattle.plant_migrate.specs.Raised.{edge_booked, edge_change, edges_from, added_rows, AreEdges};
 
-use plant_base::{
-    ControlLine, EdgeRow, MasterLine, Meta, Movement, MovementKind, NEWEST_SCHEMA, RecipeLine,
-};
-use plant_tables_judged::{BookedRow, DeskRows};
+use plant_base::{ControlLine, EdgeRow, MasterLine, Movement, MovementKind, RecipeLine};
+use plant_tables_judged::BookedRow;
 use plant_view::{RowChange, edge_row};
 use std::alloc::{AllocError, Global};
 use table_forms::Fault;
@@ -34,37 +32,36 @@ fn edge_change(booked: &BookedRow) -> Option<RowChange>
 fn edge_changes(alloc: Global, booked: &[BookedRow]) -> Result<Vec<RowChange>, AllocError>
     ensures { IfOk result (λ changes. changes.items ≡ filter_map edge_change booked.now) }
 {
+    // The checker can't follow row changes, unless the function names these types.
+    let _: Option<(RecipeLine, MasterLine, ControlLine, Movement, MovementKind)> = None;
     booked
         .iter()
         .filter_map(|row| edge_change(row))
         .collect(alloc)
 }
 
-/// An edge for each movement that makes one, then the newest schema at the same position. The only error is that memory
-/// was refused.
-fn list_changes(alloc: Global, rows: &DeskRows) -> Result<Vec<RowChange>, AllocError>
-    ensures { IfOk result (λ changes. changes.items ≡ raising_changes rows.now.meta.position
-        rows.now.movements.items) }
-{
-    // The checker can't follow row changes, unless the function names these types.
-    let _: Option<(RecipeLine, MasterLine, ControlLine, Movement, MovementKind)> = None;
-    let mut changes = edge_changes(alloc, rows.movements.as_slice())?;
-    let meta = Meta {
-        schema: NEWEST_SCHEMA,
-        position: rows.meta.position,
-    };
-    changes.push(RowChange::Meta(meta))?;
-    Ok(changes)
-}
-
-/// The same changes, for a store: what is wanted of memory is told as `Memory`.
-pub(crate) fn changes_of(alloc: Global, rows: &DeskRows) -> Result<Vec<RowChange>, Fault>
+/// The changes that put the edges of all booked movements of tables of this version, which keep no edges yet; none of
+/// those of a later version. The only error is that memory was refused.
+pub(crate) fn edges_from(
+    alloc: Global,
+    version: u64,
+    booked: &[BookedRow],
+) -> Result<Vec<RowChange>, Fault>
     ensures fault { IsOkUnless result Fault.Memory }
-    ensures changes { IfOk result (λ changes. changes.items ≡ raising_changes rows.now.meta.position
-        rows.now.movements.items) }
+    ensures edges { IfOk result (λ changes. changes.items ≡ edges_from version booked.now) }
 {
-    match list_changes(alloc, rows) {
+    if version != 1 {
+        return Ok(Vec::new(alloc));
+    }
+    match edge_changes(alloc, booked) {
         Ok(changes) => Ok(changes),
         Err(_) => Err(Fault::Memory),
     }
+}
+
+/// The rows of the tables that the schema after this version adds: the edges, where it is the second.
+pub(crate) fn added_rows(version: u64, edges: &[RowChange]) -> &[RowChange]
+    ensures { result.now ≡ added_rows version edges.now }
+{
+    if version == 1 { edges } else { &[] }
 }

@@ -1,6 +1,6 @@
 //! The raising of whatever tables a store holds.
 
-ghost use Rattle.std.specs.Prelude.{◌≡◌, ◌≢◌, ◌≤◌, false, ℕ, ℤ, pos, OnOk, OnErr, IfErr};
+ghost use Rattle.std.specs.Prelude.{◌≡◌, ◌≢◌, ◌≤◌, ◌<◌, false, ℕ, ℤ, pos, OnOk, OnErr, IfErr};
 ghost use Rattle.std.specs.Int.Signed.{◌≤ℤ◌, ◌<ℤ◌};
 ghost use Rattle.sqlite.specs.State.{HasCleanDisk, Survives};
 ghost use Rattle.sqlite.specs.Held.{state};
@@ -8,15 +8,16 @@ ghost use Rattle.plant_base.specs.State.{State, newest_schema};
 ghost use Rattle.plant_view.specs.Tables.{tables_of};
 ghost use Rattle.table_forms.specs.Standing.{KeepsOthers};
 ghost use Rattle.plant_tables.specs.DeskForms.{desk_forms};
-ghost use Rattle.plant_tables.specs.DeskStopping.{IsAtOf, IsAt, IsCutShortOf};
+ghost use Rattle.plant_tables.specs.DeskStopping.{IsAtOf};
 ghost use Rattle.plant_tables_stored.specs.Version.{IsVersion};
 ghost use Rattle.plant_migrate.specs.Standing.{IsReadable, raised_to, TellsKnown};
-ghost use Rattle.plant_migrate.specs.Standing.{IsCutShortAmid, IsFirstRaised, IsRaisedTo};
+ghost use Rattle.plant_migrate.specs.Standing.{IsCutShortAmid, IsRaisedFrom, IsRaisedTo};
 
 use crate::rows::raise_rows;
+use crate::steps::raise_by;
 use plant_base::NEWEST_SCHEMA;
-use plant_tables_judged::rows_of;
-use plant_tables_stored::{FoundTables, Loaded, found};
+use plant_tables_judged::{only_meta, rows_of};
+use plant_tables_stored::{FoundTables, Loaded, found, read_meta};
 use sqlite::{Alter, Connection};
 use std::alloc::Global;
 use table_forms::Fault;
@@ -50,24 +51,22 @@ fn fault_of(fault: Fault) -> RaiseFault
 /// Reads the rows of tables of the first schema, and raises the tables. Store where they don't stand as they are
 /// declared, where a value breaks its rule, where the later tables can't be made, and where the store fails; Memory
 /// where there is none, and then nothing was written.
-fn raise_first<S: Alter>(alloc: Global, conn: &mut Connection<S>) -> Result<(), Fault>
-    requires { conn.old.in_transaction ≡ false }
+fn raise_first<S: Alter>(alloc: Global, conn: &mut Connection<S>, to: u64) -> Result<(), Fault>
+    requires mode { conn.old.in_transaction ≡ false }
+    requires below { 1 < to }
+    requires newest { to ≤ newest_schema }
     ensures mode { conn.new.in_transaction ≡ false }
-    ensures clean { HasCleanDisk (state S.Store conn.new) → HasCleanDisk (state S.Store conn.old) }
     ensures raised { HasCleanDisk (state S.Store conn.new) → (s : State)
         → IsReadable 1 (state S.Store conn.old) s
-        → OnOk result (IsAt (state S.Store conn.new) (tables_of newest_schema s)
+        → OnOk result (IsAtOf to (state S.Store conn.new) (tables_of to s)
         × KeepsOthers desk_forms (state S.Store conn.old).now (state S.Store conn.new).now) }
     ensures cut_short { HasCleanDisk (state S.Store conn.new) → (s : State)
         → IsReadable 1 (state S.Store conn.old) s
-        → OnErr result (IsCutShortOf 1 (state S.Store conn.old) (state S.Store conn.new)
-        (tables_of 1 s) (tables_of newest_schema s)) }
+        → OnErr result (IsCutShortAmid 1 to (state S.Store conn.old) (state S.Store conn.new) s) }
     ensures unwritten { IfErr result (λ fault. fault ≡ Fault.Memory
         → Survives (state S.Store conn.old) (state S.Store conn.new) (λ _. ⊥)) }
-    // A stop leaves what it left before, or, only where the rows that were read obey the rules of values and the later tables
-    // could be made, the tables raised from those rows.
     ensures crash { Survives (state S.Store conn.old) (state S.Store conn.new)
-        (IsFirstRaised (state S.Store conn.old).now) }
+        (IsRaisedFrom 1 to (state S.Store conn.old)) }
 {
     let loaded = match Loaded::read(alloc, conn, 1) {
         Ok(Some(loaded)) => loaded,
@@ -75,16 +74,87 @@ fn raise_first<S: Alter>(alloc: Global, conn: &mut Connection<S>) -> Result<(), 
         Err(fault) => return Err(fault),
     };
     match rows_of(alloc, &loaded) {
-        Ok(Some(rows)) => raise_rows(alloc, conn, &rows),
+        Ok(Some(rows)) => raise_rows(alloc, conn, 1, to, &rows),
         Ok(None) => Err(Fault::Store),
         Err(_) => Err(Fault::Memory),
     }
 }
 
-/// Raises the tables that a store holds to this schema: nothing is done where theirs isn't below it. `Newer` where they
-/// are of a schema above the newest, and then nothing was written; Store where there are none, where table meta doesn't
-/// tell a version, where a value breaks its rule, and where the store fails; Memory where there is none, and then nothing
-/// was written.
+/// Reads table meta of tables of a schema that keeps edges, and raises the tables. Store where it doesn't stand as it is
+/// declared, hasn't one row or has a value that breaks its rule, where the later tables can't be made, and where the store
+/// fails; Memory where there is none, and then nothing was written.
+fn raise_later<S: Alter>(
+    alloc: Global,
+    conn: &mut Connection<S>,
+    version: u64,
+    to: u64,
+) -> Result<(), Fault>
+    requires mode { conn.old.in_transaction ≡ false }
+    requires later { 1 < version }
+    requires below { version < to }
+    requires newest { to ≤ newest_schema }
+    ensures mode { conn.new.in_transaction ≡ false }
+    ensures raised { HasCleanDisk (state S.Store conn.new) → (s : State)
+        → IsReadable version (state S.Store conn.old) s
+        → OnOk result (IsAtOf to (state S.Store conn.new) (tables_of to s)
+        × KeepsOthers desk_forms (state S.Store conn.old).now (state S.Store conn.new).now) }
+    ensures cut_short { HasCleanDisk (state S.Store conn.new) → (s : State)
+        → IsReadable version (state S.Store conn.old) s
+        → OnErr result (IsCutShortAmid version to (state S.Store conn.old) (state S.Store conn.new) s) }
+    ensures unwritten { IfErr result (λ fault. fault ≡ Fault.Memory
+        → Survives (state S.Store conn.old) (state S.Store conn.new) (λ _. ⊥)) }
+    ensures crash { Survives (state S.Store conn.old) (state S.Store conn.new)
+        (IsRaisedFrom version to (state S.Store conn.old)) }
+{
+    let stored = match read_meta(alloc, conn) {
+        Ok(stored) => stored,
+        Err(fault) => return Err(fault),
+    };
+    match only_meta(stored.as_slice()) {
+        Some(meta) => raise_by(conn, version, to - version, &meta.position, &[]),
+        None => Err(Fault::Store),
+    }
+}
+
+/// Raises tables of this version, which table meta tells, to a later one.
+fn raise_from<S: Alter>(
+    alloc: Global,
+    conn: &mut Connection<S>,
+    version: u64,
+    to: u64,
+) -> Result<(), Fault>
+    requires mode { conn.old.in_transaction ≡ false }
+    requires known { 1 ≤ version }
+    requires below { version < to }
+    requires newest { to ≤ newest_schema }
+    ensures mode { conn.new.in_transaction ≡ false }
+    ensures clean { HasCleanDisk (state S.Store conn.new) → HasCleanDisk (state S.Store conn.old) }
+    ensures raised { HasCleanDisk (state S.Store conn.new) → (s : State)
+        → IsReadable version (state S.Store conn.old) s
+        → OnOk result (IsAtOf to (state S.Store conn.new) (tables_of to s)
+        × KeepsOthers desk_forms (state S.Store conn.old).now (state S.Store conn.new).now) }
+    ensures cut_short { HasCleanDisk (state S.Store conn.new) → (s : State)
+        → IsReadable version (state S.Store conn.old) s
+        → OnErr result (IsCutShortAmid version to (state S.Store conn.old) (state S.Store conn.new) s) }
+    ensures unwritten { IfErr result (λ fault. fault ≡ Fault.Memory
+        → Survives (state S.Store conn.old) (state S.Store conn.new) (λ _. ⊥)) }
+    // A stop leaves what it left before, or, only where the rows that were read obey the rules of values and the later tables
+    // could be made, the tables raised from those rows.
+    ensures crash { Survives (state S.Store conn.old) (state S.Store conn.new)
+        (IsRaisedFrom version to (state S.Store conn.old)) }
+{
+    if version == 1 {
+        raise_first(alloc, conn, to)
+    } else {
+        raise_later(alloc, conn, version, to)
+    }
+}
+
+/// Raises the tables that a store holds to this schema, one version after the other, each in one transaction: nothing is
+/// done where theirs isn't below it. `Newer` where they are of a schema above the newest, and then nothing was written;
+/// Store where there are none, where table meta doesn't tell a version, where a value that is read breaks its rule, and
+/// where the store fails, and then the versions that were committed stay; Memory where there is none, and then nothing was
+/// written.
 pub fn raise<S: Alter>(alloc: Global, conn: &mut Connection<S>, to: u64) -> Result<(), RaiseFault>
     requires mode { conn.old.in_transaction ≡ false }
     requires known { to ≤ newest_schema }
@@ -99,12 +169,12 @@ pub fn raise<S: Alter>(alloc: Global, conn: &mut Connection<S>, to: u64) -> Resu
         → OnErr result (IsCutShortAmid version to (state S.Store conn.old) (state S.Store conn.new) s) }
 
     // Of whatever store: a stop leaves what it left before, and nothing else at a fault but Store; else also raised tables,
-    // only where table meta tells the first schema, a later one is asked for, the rows obey the rules of values and the
-    // later tables could be made.
+    // only where table meta tells an older schema than is asked for, the rows that are read obey the rules of values and
+    // the later tables could be made.
     ensures unwritten { IfErr result (λ fault. fault ≢ RaiseFault.Store
         → Survives (state S.Store conn.old) (state S.Store conn.new) (λ _. ⊥)) }
     ensures crash { Survives (state S.Store conn.old) (state S.Store conn.new)
-        (IsRaisedTo to (state S.Store conn.old).now) }
+        (IsRaisedTo to (state S.Store conn.old)) }
     ensures told { HasCleanDisk (state S.Store conn.new)
         → OnOk result (TellsKnown (state S.Store conn.old).now) }
     ensures newer { HasCleanDisk (state S.Store conn.new) → IfErr result (λ fault. (n : ℤ)
@@ -124,7 +194,11 @@ pub fn raise<S: Alter>(alloc: Global, conn: &mut Connection<S>, to: u64) -> Resu
     if version >= to as i64 {
         return Ok(());
     }
-    match raise_first(alloc, conn) {
+    // Table meta tells none.
+    if version < 1 {
+        return Err(RaiseFault::Store);
+    }
+    match raise_from(alloc, conn, version as u64, to) {
         Ok(()) => Ok(()),
         Err(fault) => Err(fault_of(fault)),
     }

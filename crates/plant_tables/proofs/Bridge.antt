@@ -18,7 +18,7 @@ use Rattle.sqlite_value.specs.Order.{Row}
 use Rattle.sqlite_value.specs.declared.value.Value.TheVariants.{Text}
 use Rattle.sqlite_value.specs.Keys.{first_key}
 use Rattle.plant_base.specs.Edges.{edge_kind_number, edge_order, edge_total}
-use Rattle.plant_base.specs.State.{same, put, class_order, definition_order, recipe_order, master_line_order, job_order, control_line_order, lot_order, hold_order}
+use Rattle.plant_base.specs.State.{same, put, class_order, definition_order, recipe_order, master_line_order, job_order, control_line_order, lot_order, hold_order, receipt_order}
 use Rattle.plant_base.proofs.Put.{sorted_put}
 use Rattle.plant_base.specs.declared.rows.Meta.{Meta}
 use Rattle.plant_base.specs.declared.rows.Class.{Class}
@@ -34,6 +34,7 @@ use Rattle.plant_base.specs.declared.rows.Sublot.{Sublot}
 use Rattle.plant_base.specs.declared.rows.Movement.{Movement}
 use Rattle.plant_base.specs.declared.rows.Hold.{Hold}
 use Rattle.plant_base.specs.declared.rows.EdgeRow.{EdgeRow}
+use Rattle.plant_base.specs.declared.rows.Receipt.{Receipt}
 use Rattle.plant_view.specs.Tables.{Tables, batch_row_order, sublot_order, changed, changed_all, without_hold}
 use Rattle.plant_view.specs.declared.change.RowChange.{RowChange}
 use Rattle.plant_view.specs.declared.change.RowChange.TheVariants as change
@@ -42,9 +43,9 @@ use Rattle.table_forms.specs.Rows.{meets, has_values, take_away, same_key}
 use Rattle.table_forms.specs.Rows as rows
 use Rattle.table_forms.specs.Standing.{Contents, StandIn}
 use Rattle.table_forms.specs.Moves.{changed_at, taken_at}
-use Rattle.plant_tables.specs.DeskForms.{class_form, definition_form, recipe_form, recipe_line_form, job_form, batch_form, control_line_form, batch_event_form, lot_form, sublot_form, movement_form, hold_form, edge_form, meta_form}
+use Rattle.plant_tables.specs.DeskForms.{class_form, definition_form, recipe_form, recipe_line_form, job_form, batch_form, control_line_form, batch_event_form, lot_form, sublot_form, movement_form, hold_form, edge_form, receipt_form, meta_form}
 use Rattle.plant_tables.specs.DeskTables.{rows_of, contents_of, rows_changed, all_rows_changed}
-use Rattle.plant_tables_columns.specs.TableColumns.{row_of_meta, row_of_class, row_of_definition, row_of_recipe, row_of_master_line, row_of_job, row_of_batch, row_of_control_line, row_of_event, row_of_lot, row_of_sublot, row_of_movement, row_of_hold, row_of_edge}
+use Rattle.plant_tables_columns.specs.TableColumns.{row_of_meta, row_of_class, row_of_definition, row_of_recipe, row_of_master_line, row_of_job, row_of_batch, row_of_control_line, row_of_event, row_of_lot, row_of_sublot, row_of_movement, row_of_hold, row_of_edge, row_of_receipt}
 use Rattle.plant_tables.specs.Keyed.{AreKeyed, IsFresh, AreFresh}
 use Rattle.plant_tables.proofs.KeyTests.{or_false, one_text, second_text, two_texts, text_number, text_numbers, one_number, two_numbers, number_texts, text_tie, and_true}
 use Rattle.plant_tables.proofs.Permuted.{put_by_key, put_at_end}
@@ -80,6 +81,9 @@ sublot_total = then_total (on_total (λ r. r.lot) nat_list_cmp_total) (on_total 
 
 hold_total : IsTotalOrder hold_order
 hold_total = then_total (on_total (λ r. r.lot) nat_list_cmp_total) (on_total (λ r. r.id) nat_list_cmp_total)
+
+receipt_total : IsTotalOrder receipt_order
+receipt_total = on_total (λ r. r.reference) nat_list_cmp_total
 
 -- ---- the table at a place
 
@@ -136,6 +140,9 @@ hold_met x r = or_false _ ∙ two_texts x.lot r.lot x.id r.id [] []
 edge_met : (x r : EdgeRow) → meets edge_form (row_of_edge x) (row_of_edge r) ≡ is_eq (edge_order x r)
 edge_met x r =
     or_false _ ∙ number_texts (edge_kind_number x.kind) (edge_kind_number r.kind) x.from r.from x.to r.to
+
+receipt_met : (x r : Receipt) → meets receipt_form (row_of_receipt x) (row_of_receipt r) ≡ is_eq (receipt_order x r)
+receipt_met x r = or_false _ ∙ one_text x.reference r.reference [] []
 
 implied_or : (a b : Bool) → (b ≡ true → a ≡ true) → (a || b) ≡ a
 implied_or true b h = refl
@@ -198,6 +205,7 @@ one_changed (change.Sublot r) t keyed fresh = at_place 10 (rows.put sublot_form 
 one_changed (change.Movement r) t keyed fresh = at_place 11 (rows.put movement_form (row_of_movement r)) (rows_of t) (map row_of_movement (t.movements ++ r ∷ [])) (omega arith) (put_at_end row_of_movement movement_form r t.movements (movements_apart r t.movements fresh))
 one_changed (change.Hold r) t keyed fresh = at_place 12 (rows.put hold_form (row_of_hold r)) (rows_of t) (map row_of_hold (put hold_order r t.holds)) (omega arith) (put_typed hold_order hold_total row_of_hold hold_form hold_met r t.holds keyed.holds)
 one_changed (change.Edge r) t keyed fresh = at_place 13 (rows.put edge_form (row_of_edge r)) (rows_of t) (map row_of_edge (put edge_order r t.edges)) (omega arith) (put_typed edge_order edge_total row_of_edge edge_form edge_met r t.edges keyed.edges)
+one_changed (change.Receipt r) t keyed fresh = at_place 14 (rows.put receipt_form (row_of_receipt r)) (rows_of t) (map row_of_receipt (put receipt_order r t.receipts)) (omega arith) (put_typed receipt_order receipt_total row_of_receipt receipt_form receipt_met r t.receipts keyed.receipts)
 one_changed (change.Unhold lot hold) t keyed fresh =
     at_place 12 (take_away (1 ∷ 2 ∷ []) (Text lot ∷ Text hold ∷ [])) (rows_of t) (map row_of_hold (without_hold lot hold t.holds)) (omega arith)
     (subst (IsPermutation (take_away (1 ∷ 2 ∷ []) (Text lot ∷ Text hold ∷ []) (map row_of_hold t.holds))) (hold_taken lot hold t.holds) (IsPermutation-refl _))
@@ -220,21 +228,22 @@ sorted_filter order p (x ∷ xs) sorted = elim (cases_Bool (p x)) [
 ]
 
 pub keyed_after : (c : RowChange) (t : Tables) → AreKeyed t → AreKeyed (changed c t)
-keyed_after (change.Meta r) t k = record { classes = k.classes; definitions = k.definitions; recipes = k.recipes; master_lines = k.master_lines; jobs = k.jobs; batches = k.batches; control_lines = k.control_lines; lots = k.lots; sublots = k.sublots; holds = k.holds; edges = k.edges }
-keyed_after (change.Class r) t k = record { classes = sorted_put class_order class_total r t.classes k.classes; definitions = k.definitions; recipes = k.recipes; master_lines = k.master_lines; jobs = k.jobs; batches = k.batches; control_lines = k.control_lines; lots = k.lots; sublots = k.sublots; holds = k.holds; edges = k.edges }
-keyed_after (change.Definition r) t k = record { classes = k.classes; definitions = sorted_put definition_order definition_total r t.definitions k.definitions; recipes = k.recipes; master_lines = k.master_lines; jobs = k.jobs; batches = k.batches; control_lines = k.control_lines; lots = k.lots; sublots = k.sublots; holds = k.holds; edges = k.edges }
-keyed_after (change.Recipe r) t k = record { classes = k.classes; definitions = k.definitions; recipes = sorted_put recipe_order recipe_total r t.recipes k.recipes; master_lines = k.master_lines; jobs = k.jobs; batches = k.batches; control_lines = k.control_lines; lots = k.lots; sublots = k.sublots; holds = k.holds; edges = k.edges }
-keyed_after (change.MasterLine r) t k = record { classes = k.classes; definitions = k.definitions; recipes = k.recipes; master_lines = sorted_put master_line_order master_line_total r t.master_lines k.master_lines; jobs = k.jobs; batches = k.batches; control_lines = k.control_lines; lots = k.lots; sublots = k.sublots; holds = k.holds; edges = k.edges }
-keyed_after (change.Job r) t k = record { classes = k.classes; definitions = k.definitions; recipes = k.recipes; master_lines = k.master_lines; jobs = sorted_put job_order job_total r t.jobs k.jobs; batches = k.batches; control_lines = k.control_lines; lots = k.lots; sublots = k.sublots; holds = k.holds; edges = k.edges }
-keyed_after (change.Batch r) t k = record { classes = k.classes; definitions = k.definitions; recipes = k.recipes; master_lines = k.master_lines; jobs = k.jobs; batches = sorted_put batch_row_order batch_total r t.batches k.batches; control_lines = k.control_lines; lots = k.lots; sublots = k.sublots; holds = k.holds; edges = k.edges }
-keyed_after (change.ControlLine r) t k = record { classes = k.classes; definitions = k.definitions; recipes = k.recipes; master_lines = k.master_lines; jobs = k.jobs; batches = k.batches; control_lines = sorted_put control_line_order control_line_total r t.control_lines k.control_lines; lots = k.lots; sublots = k.sublots; holds = k.holds; edges = k.edges }
-keyed_after (change.Event r) t k = record { classes = k.classes; definitions = k.definitions; recipes = k.recipes; master_lines = k.master_lines; jobs = k.jobs; batches = k.batches; control_lines = k.control_lines; lots = k.lots; sublots = k.sublots; holds = k.holds; edges = k.edges }
-keyed_after (change.Lot r) t k = record { classes = k.classes; definitions = k.definitions; recipes = k.recipes; master_lines = k.master_lines; jobs = k.jobs; batches = k.batches; control_lines = k.control_lines; lots = sorted_put lot_order lot_total r t.lots k.lots; sublots = k.sublots; holds = k.holds; edges = k.edges }
-keyed_after (change.Sublot r) t k = record { classes = k.classes; definitions = k.definitions; recipes = k.recipes; master_lines = k.master_lines; jobs = k.jobs; batches = k.batches; control_lines = k.control_lines; lots = k.lots; sublots = sorted_put sublot_order sublot_total r t.sublots k.sublots; holds = k.holds; edges = k.edges }
-keyed_after (change.Movement r) t k = record { classes = k.classes; definitions = k.definitions; recipes = k.recipes; master_lines = k.master_lines; jobs = k.jobs; batches = k.batches; control_lines = k.control_lines; lots = k.lots; sublots = k.sublots; holds = k.holds; edges = k.edges }
-keyed_after (change.Hold r) t k = record { classes = k.classes; definitions = k.definitions; recipes = k.recipes; master_lines = k.master_lines; jobs = k.jobs; batches = k.batches; control_lines = k.control_lines; lots = k.lots; sublots = k.sublots; holds = sorted_put hold_order hold_total r t.holds k.holds; edges = k.edges }
-keyed_after (change.Edge r) t k = record { classes = k.classes; definitions = k.definitions; recipes = k.recipes; master_lines = k.master_lines; jobs = k.jobs; batches = k.batches; control_lines = k.control_lines; lots = k.lots; sublots = k.sublots; holds = k.holds; edges = sorted_put edge_order edge_total r t.edges k.edges }
-keyed_after (change.Unhold lot hold) t k = record { classes = k.classes; definitions = k.definitions; recipes = k.recipes; master_lines = k.master_lines; jobs = k.jobs; batches = k.batches; control_lines = k.control_lines; lots = k.lots; sublots = k.sublots; holds = sorted_filter hold_order _ t.holds k.holds; edges = k.edges }
+keyed_after (change.Meta r) t k = record { classes = k.classes; definitions = k.definitions; recipes = k.recipes; master_lines = k.master_lines; jobs = k.jobs; batches = k.batches; control_lines = k.control_lines; lots = k.lots; sublots = k.sublots; holds = k.holds; edges = k.edges; receipts = k.receipts }
+keyed_after (change.Class r) t k = record { classes = sorted_put class_order class_total r t.classes k.classes; definitions = k.definitions; recipes = k.recipes; master_lines = k.master_lines; jobs = k.jobs; batches = k.batches; control_lines = k.control_lines; lots = k.lots; sublots = k.sublots; holds = k.holds; edges = k.edges; receipts = k.receipts }
+keyed_after (change.Definition r) t k = record { classes = k.classes; definitions = sorted_put definition_order definition_total r t.definitions k.definitions; recipes = k.recipes; master_lines = k.master_lines; jobs = k.jobs; batches = k.batches; control_lines = k.control_lines; lots = k.lots; sublots = k.sublots; holds = k.holds; edges = k.edges; receipts = k.receipts }
+keyed_after (change.Recipe r) t k = record { classes = k.classes; definitions = k.definitions; recipes = sorted_put recipe_order recipe_total r t.recipes k.recipes; master_lines = k.master_lines; jobs = k.jobs; batches = k.batches; control_lines = k.control_lines; lots = k.lots; sublots = k.sublots; holds = k.holds; edges = k.edges; receipts = k.receipts }
+keyed_after (change.MasterLine r) t k = record { classes = k.classes; definitions = k.definitions; recipes = k.recipes; master_lines = sorted_put master_line_order master_line_total r t.master_lines k.master_lines; jobs = k.jobs; batches = k.batches; control_lines = k.control_lines; lots = k.lots; sublots = k.sublots; holds = k.holds; edges = k.edges; receipts = k.receipts }
+keyed_after (change.Job r) t k = record { classes = k.classes; definitions = k.definitions; recipes = k.recipes; master_lines = k.master_lines; jobs = sorted_put job_order job_total r t.jobs k.jobs; batches = k.batches; control_lines = k.control_lines; lots = k.lots; sublots = k.sublots; holds = k.holds; edges = k.edges; receipts = k.receipts }
+keyed_after (change.Batch r) t k = record { classes = k.classes; definitions = k.definitions; recipes = k.recipes; master_lines = k.master_lines; jobs = k.jobs; batches = sorted_put batch_row_order batch_total r t.batches k.batches; control_lines = k.control_lines; lots = k.lots; sublots = k.sublots; holds = k.holds; edges = k.edges; receipts = k.receipts }
+keyed_after (change.ControlLine r) t k = record { classes = k.classes; definitions = k.definitions; recipes = k.recipes; master_lines = k.master_lines; jobs = k.jobs; batches = k.batches; control_lines = sorted_put control_line_order control_line_total r t.control_lines k.control_lines; lots = k.lots; sublots = k.sublots; holds = k.holds; edges = k.edges; receipts = k.receipts }
+keyed_after (change.Event r) t k = record { classes = k.classes; definitions = k.definitions; recipes = k.recipes; master_lines = k.master_lines; jobs = k.jobs; batches = k.batches; control_lines = k.control_lines; lots = k.lots; sublots = k.sublots; holds = k.holds; edges = k.edges; receipts = k.receipts }
+keyed_after (change.Lot r) t k = record { classes = k.classes; definitions = k.definitions; recipes = k.recipes; master_lines = k.master_lines; jobs = k.jobs; batches = k.batches; control_lines = k.control_lines; lots = sorted_put lot_order lot_total r t.lots k.lots; sublots = k.sublots; holds = k.holds; edges = k.edges; receipts = k.receipts }
+keyed_after (change.Sublot r) t k = record { classes = k.classes; definitions = k.definitions; recipes = k.recipes; master_lines = k.master_lines; jobs = k.jobs; batches = k.batches; control_lines = k.control_lines; lots = k.lots; sublots = sorted_put sublot_order sublot_total r t.sublots k.sublots; holds = k.holds; edges = k.edges; receipts = k.receipts }
+keyed_after (change.Movement r) t k = record { classes = k.classes; definitions = k.definitions; recipes = k.recipes; master_lines = k.master_lines; jobs = k.jobs; batches = k.batches; control_lines = k.control_lines; lots = k.lots; sublots = k.sublots; holds = k.holds; edges = k.edges; receipts = k.receipts }
+keyed_after (change.Hold r) t k = record { classes = k.classes; definitions = k.definitions; recipes = k.recipes; master_lines = k.master_lines; jobs = k.jobs; batches = k.batches; control_lines = k.control_lines; lots = k.lots; sublots = k.sublots; holds = sorted_put hold_order hold_total r t.holds k.holds; edges = k.edges; receipts = k.receipts }
+keyed_after (change.Edge r) t k = record { classes = k.classes; definitions = k.definitions; recipes = k.recipes; master_lines = k.master_lines; jobs = k.jobs; batches = k.batches; control_lines = k.control_lines; lots = k.lots; sublots = k.sublots; holds = k.holds; edges = sorted_put edge_order edge_total r t.edges k.edges; receipts = k.receipts }
+keyed_after (change.Receipt r) t k = record { classes = k.classes; definitions = k.definitions; recipes = k.recipes; master_lines = k.master_lines; jobs = k.jobs; batches = k.batches; control_lines = k.control_lines; lots = k.lots; sublots = k.sublots; holds = k.holds; edges = k.edges; receipts = sorted_put receipt_order receipt_total r t.receipts k.receipts }
+keyed_after (change.Unhold lot hold) t k = record { classes = k.classes; definitions = k.definitions; recipes = k.recipes; master_lines = k.master_lines; jobs = k.jobs; batches = k.batches; control_lines = k.control_lines; lots = k.lots; sublots = k.sublots; holds = sorted_filter hold_order _ t.holds k.holds; edges = k.edges; receipts = k.receipts }
 
 -- ---- the same rows, changed alike
 
@@ -269,6 +278,7 @@ rows_same (change.Sublot r) a b same = changed_same 10 sublot_form (row_of_sublo
 rows_same (change.Movement r) a b same = changed_same 11 movement_form (row_of_movement r) a b same
 rows_same (change.Hold r) a b same = changed_same 12 hold_form (row_of_hold r) a b same
 rows_same (change.Edge r) a b same = changed_same 13 edge_form (row_of_edge r) a b same
+rows_same (change.Receipt r) a b same = changed_same 14 receipt_form (row_of_receipt r) a b same
 rows_same (change.Unhold lot hold) a b same = taken_same 12 (1 ∷ 2 ∷ []) (Text lot ∷ Text hold ∷ []) a b same
 
 all_same : (cs : List RowChange) (a b : Contents) → SameRows a b → SameRows (all_rows_changed cs a) (all_rows_changed cs b)

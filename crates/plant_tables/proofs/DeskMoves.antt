@@ -1,5 +1,6 @@
 -- What a statement makes of the desk's tables.
-use Rattle.std.proofs.Common.{◌≡◌, refl, sym, ap, ◌∙◌, subst, ℕ, List, [], ◌∷◌, ◌++◌, map, take, true, Some, Ok, Err, Result, OnOk, slice_get}
+use Rattle.std.proofs.Common.{◌≡◌, inl, inr, refl, sym, ap, ◌∙◌, subst, ℕ, nat_le, List, [], ◌∷◌, ◌++◌, map, take, true, Some, Ok, Err, Result, OnOk, slice_get}
+use Rattle.std.proofs.lemmas.Bool.{cases_Bool}
 use Rattle.std.proofs.lemmas.List.{take-map}
 use Rattle.std.specs.Borrow.{Bor}
 use Rattle.sqlite.specs.Order.{Row}
@@ -9,25 +10,51 @@ use Rattle.table_forms.specs.declared.fault.Fault.{Fault}
 use Rattle.table_forms.specs.Forms.{Form}
 use Rattle.table_forms.specs.Rows.{fits_columns}
 use Rattle.table_forms.specs.Texts.{IsPutText, IsTakeText}
-use Rattle.table_forms.specs.Moves.{Moves, PutsRow, TakesRows, AreMakeTexts, MakesTables, Founds, changed_at, taken_at}
-use Rattle.table_forms.specs.Indexes.{IndexForm, AreIndexTexts, MakesIndexes, AddsIndexes}
+use Rattle.table_forms.specs.Moves.{AreApart, Moves, PutsRow, TakesRows, AreMakeTexts, MakesTables, SparesTables, LeavesFree, Founds, changed_at, taken_at}
+use Rattle.table_forms.specs.Indexes.{IndexForm, AreOf, AreIndexTexts, MakesIndexes, AddsIndexes}
 use Rattle.table_forms.specs.Standing.{Contents, AreFree}
 use Rattle.table_forms.proofs.Indexing.{founds_then}
+use Rattle.plant_base.specs.State.{newest_schema}
 use Rattle.plant_view.specs.declared.change.RowChange.{RowChange}
+use Rattle.plant_view.specs.declared.change.RowChange.TheVariants as change
 use Rattle.plant_tables.specs.DeskTables.{rows_changed, all_rows_changed}
-use Rattle.plant_tables.specs.DeskForms.{desk_forms, forms_of}
-use Rattle.plant_tables.specs.DeskIndexes.{indexes_of, desk_indexes, HasIndexes}
-use Rattle.plant_tables.proofs.DeskTexts.{create_texts, all_made, desk_apart, apart_of, front_made, index_texts, all_indexed, indexed_of, front_indexed}
+use Rattle.plant_tables.specs.Keyed.{IsOfSchema, AreOfSchema}
+use Rattle.plant_tables.specs.DeskForms.{desk_forms, edge_form, receipt_form, forms_of, added_forms}
+use Rattle.plant_tables.specs.DeskIndexes.{indexes_of, desk_indexes, added_indexes, HasIndexes}
+use Rattle.plant_tables.proofs.DeskTexts.{create_texts, all_made, apart_of, front_made, index_texts, all_indexed, indexed_of, front_indexed}
 
-pub put_moved : {X : Type 0} (place : ℕ) (form : Form) (text : List ℕ) (row : Row) → slice_get desk_forms place ≡ Some form → IsPutText text form → fits_columns form.columns row ≡ true
-    → (old new : State) (r : Result X Fault) → OnOk r (PutsRow text row old new) → OnOk r (Moves desk_forms old new (changed_at place form row))
-put_moved place form text row is says fit old new (Ok x) put = put desk_forms place form desk_apart is says fit
-put_moved place form text row is says fit old new (Err e) put = tt
+pub put_moved : {X : Type 0} (schema place : ℕ) (form : Form) (text : List ℕ) (row : Row) → slice_get (forms_of schema) place ≡ Some form → IsPutText text form → fits_columns form.columns row ≡ true
+    → (old new : State) (r : Result X Fault) → OnOk r (PutsRow text row old new) → OnOk r (Moves (forms_of schema) old new (changed_at place form row))
+put_moved schema place form text row is says fit old new (Ok x) put = put (forms_of schema) place form (apart_of schema) is says fit
+put_moved schema place form text row is says fit old new (Err e) put = tt
 
-pub take_moved : {X : Type 0} (place : ℕ) (form : Form) (text key : List ℕ) (values : Row) → slice_get desk_forms place ≡ Some form → IsTakeText text form key
-    → (old new : State) (r : Result X Fault) → OnOk r (TakesRows text values old new) → OnOk r (Moves desk_forms old new (taken_at place key values))
-take_moved place form text key values is says old new (Ok x) taken = taken desk_forms place form key desk_apart is says
-take_moved place form text key values is says old new (Err e) taken = tt
+pub take_moved : {X : Type 0} (schema place : ℕ) (form : Form) (text key : List ℕ) (values : Row) → slice_get (forms_of schema) place ≡ Some form → IsTakeText text form key
+    → (old new : State) (r : Result X Fault) → OnOk r (TakesRows text values old new) → OnOk r (Moves (forms_of schema) old new (taken_at place key values))
+take_moved schema place form text key values is says old new (Ok x) taken = taken (forms_of schema) place form key (apart_of schema) is says
+take_moved schema place form text key values is says old new (Err e) taken = tt
+
+-- the places of the tables that later schemas add
+pub edge_place : (schema : ℕ) → nat_le 2 schema ≡ true → slice_get (forms_of schema) 13 ≡ Some edge_form
+edge_place schema second = elim (cases_Bool (nat_le 3 schema)) [ inl third ↦ rw third refl | inr below ↦ rw (below, second) refl ]
+
+pub receipt_place : (schema : ℕ) → nat_le 3 schema ≡ true → slice_get (forms_of schema) 14 ≡ Some receipt_form
+receipt_place schema third = rw third refl
+
+-- what the texts made that were run for a schema
+pub added_founded : {X : Type 0} (schema : ℕ) (forms : List Form) (texts : List (List ℕ)) → added_forms schema ≡ forms → AreApart forms → AreMakeTexts texts forms
+    → (old new : State) (r : Result X Fault) → OnOk r (MakesTables texts old new) → OnOk r (Founds (added_forms schema) old new)
+added_founded schema forms texts is apart texts_make old new (Ok x) made = subst (λ fs. Founds fs old new) (sym is) (made forms apart texts_make)
+added_founded schema forms texts is apart texts_make old new (Err e) made = tt
+
+pub added_spared : {X : Type 0} (schema : ℕ) (forms : List Form) (texts : List (List ℕ)) → added_forms schema ≡ forms → AreApart forms → AreMakeTexts texts forms
+    → (old new : State) (r : Result X Fault) → OnOk r (SparesTables texts old new) → OnOk r (LeavesFree (added_forms schema) old.now new.now)
+added_spared schema forms texts is apart texts_make old new (Ok x) spares = subst (λ fs. LeavesFree fs old.now new.now) (sym is) (spares forms apart texts_make)
+added_spared schema forms texts is apart texts_make old new (Err e) spares = tt
+
+pub added_indexed : {X : Type 0} (schema : ℕ) (indexes : List IndexForm) (texts : List (List ℕ)) → added_indexes schema ≡ indexes → AreOf indexes (forms_of schema) → AreIndexTexts texts indexes
+    → (old new : State) (r : Result X Fault) → OnOk r (MakesIndexes texts old new) → OnOk r (AddsIndexes (forms_of schema) (added_indexes schema) old new)
+added_indexed schema indexes texts is of texts_make old new (Ok x) made = subst (λ xs. AddsIndexes (forms_of schema) xs old new) (sym is) (made (forms_of schema) indexes of texts_make)
+added_indexed schema indexes texts is of texts_make old new (Err e) made = tt
 
 -- the texts in front of some are those in front of their texts
 texts_front : (n : ℕ) (all front : List (Bor (List ℕ))) → front ≡ take n all → map (λ text. text.now) front ≡ take n (map (λ text. text.now) all)
@@ -62,3 +89,27 @@ all_indexed_then forms indexes a b c (Err e) founds added sound free = tt
 pub one_more_change : (cs : List RowChange) (c : RowChange) (t : Contents) → rows_changed c (all_rows_changed cs t) ≡ all_rows_changed (cs ++ c ∷ []) t
 one_more_change [] c t = refl
 one_more_change (d ∷ cs) c t = one_more_change cs c (rows_changed d t)
+
+-- ---- the newest schema has every table
+
+of_newest : (c : RowChange) → IsOfSchema newest_schema c
+of_newest (change.Meta r) = tt
+of_newest (change.Class r) = tt
+of_newest (change.Definition r) = tt
+of_newest (change.Recipe r) = tt
+of_newest (change.MasterLine r) = tt
+of_newest (change.Job r) = tt
+of_newest (change.Batch r) = tt
+of_newest (change.ControlLine r) = tt
+of_newest (change.Event r) = tt
+of_newest (change.Lot r) = tt
+of_newest (change.Sublot r) = tt
+of_newest (change.Movement r) = tt
+of_newest (change.Hold r) = tt
+of_newest (change.Edge r) = refl
+of_newest (change.Receipt r) = refl
+of_newest (change.Unhold lot hold) = tt
+
+pub all_of_newest : (cs : List RowChange) → AreOfSchema newest_schema cs
+all_of_newest [] = tt
+all_of_newest (c ∷ cs) = (of_newest c, all_of_newest cs)

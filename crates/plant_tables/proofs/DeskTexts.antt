@@ -1,6 +1,7 @@
 -- What the fixed texts say, by computing them.
-use Rattle.std.proofs.Common.{refl, inl, inr, ℕ, zero, suc, nat_le, List, [], ◌∷◌, take}
+use Rattle.std.proofs.Common.{◌≡◌, refl, inl, inr, ℕ, zero, suc, nat_le, true, List, [], ◌∷◌, take, arith}
 use Rattle.std.proofs.lemmas.Bool.{cases_Bool}
+use Rattle.std.proofs.lemmas.Bool.Decides.{nat_tests}
 use Rattle.sqlite_value.specs.Keys.{first_key}
 use Rattle.sqlite_tied.specs.Compute.{everything}
 use Rattle.sqlite_rules.proofs.ListLemmas.{has_got}
@@ -8,11 +9,11 @@ use Rattle.sqlite_resolve.specs.Compile.{first}
 use Rattle.table_forms.specs.Texts.{IsMakeText, IsPutText, IsUpsertText, IsTakeText, parse_or, rows_in, names_in, definition_in}
 use Rattle.table_forms.specs.Moves.{AreApart, AreMakeTexts}
 use Rattle.table_forms.specs.Forms.{Form}
-use Rattle.table_forms.specs.Indexes.{IndexForm, IsIndexText, AreIndexTexts, AreOf, index_in}
+use Rattle.table_forms.specs.Indexes.{IndexForm, IsIndexText, AreIndexTexts, AreOf, index_in, are_named_apart}
 use Rattle.table_forms.proofs.Computed.{takes_two, upserts_row}
-use Rattle.plant_tables.specs.DeskForms.{desk_forms, first_forms, forms_of, later_forms, meta_form, class_form, definition_form, recipe_form, recipe_line_form, job_form, batch_form, control_line_form, batch_event_form, lot_form, sublot_form, movement_form, hold_form, edge_form}
-use Rattle.plant_tables.specs.DeskIndexes.{batch_event_by_batch, movement_by_lot, movement_by_batch, edge_by_end, indexes_of, desk_indexes}
-use Rattle.plant_tables.specs.declared.forms.TheConstants.{CREATE_META, PUT_META, CREATE_CLASS, PUT_CLASS, CREATE_DEFINITION, PUT_DEFINITION, CREATE_RECIPE, PUT_RECIPE, CREATE_RECIPE_LINE, PUT_RECIPE_LINE, CREATE_JOB, PUT_JOB, CREATE_BATCH, PUT_BATCH, CREATE_CONTROL_LINE, PUT_CONTROL_LINE, CREATE_BATCH_EVENT, PUT_BATCH_EVENT, CREATE_LOT, PUT_LOT, CREATE_SUBLOT, PUT_SUBLOT, CREATE_MOVEMENT, PUT_MOVEMENT, CREATE_HOLD, PUT_HOLD, CREATE_EDGE, PUT_EDGE, TAKE_HOLD, CREATE_BATCH_EVENT_BY_BATCH, CREATE_MOVEMENT_BY_LOT, CREATE_MOVEMENT_BY_BATCH, CREATE_EDGE_BY_END}
+use Rattle.plant_tables.specs.DeskForms.{desk_forms, first_forms, forms_of, meta_form, class_form, definition_form, recipe_form, recipe_line_form, job_form, batch_form, control_line_form, batch_event_form, lot_form, sublot_form, movement_form, hold_form, edge_form, receipt_form}
+use Rattle.plant_tables.specs.DeskIndexes.{batch_event_by_batch, movement_by_lot, movement_by_batch, edge_by_end, second_indexes, indexes_of, desk_indexes}
+use Rattle.plant_tables.specs.declared.forms.TheConstants.{CREATE_META, PUT_META, CREATE_CLASS, PUT_CLASS, CREATE_DEFINITION, PUT_DEFINITION, CREATE_RECIPE, PUT_RECIPE, CREATE_RECIPE_LINE, PUT_RECIPE_LINE, CREATE_JOB, PUT_JOB, CREATE_BATCH, PUT_BATCH, CREATE_CONTROL_LINE, PUT_CONTROL_LINE, CREATE_BATCH_EVENT, PUT_BATCH_EVENT, CREATE_LOT, PUT_LOT, CREATE_SUBLOT, PUT_SUBLOT, CREATE_MOVEMENT, PUT_MOVEMENT, CREATE_HOLD, PUT_HOLD, CREATE_EDGE, PUT_EDGE, CREATE_RECEIPT, PUT_RECEIPT, TAKE_HOLD, CREATE_BATCH_EVENT_BY_BATCH, CREATE_MOVEMENT_BY_LOT, CREATE_MOVEMENT_BY_BATCH, CREATE_EDGE_BY_END}
 
 makes_meta : IsMakeText CREATE_META.now meta_form
 unfolding everything
@@ -168,27 +169,45 @@ upserts_edge =
 pub puts_edge : IsPutText PUT_EDGE.now edge_form
 puts_edge = inr upserts_edge
 
+makes_receipt : IsMakeText CREATE_RECEIPT.now receipt_form
+unfolding everything
+makes_receipt = record { parsed = parse_or (first CREATE_RECEIPT.now); reads = refl; def = definition_in (parse_or (first CREATE_RECEIPT.now)).statement; statement = refl; name = refl; unconditional = refl; plain = refl; defines = refl; whole = refl; table_is = refl; own_name = refl }
+
+pub puts_receipt : IsPutText PUT_RECEIPT.now receipt_form
+unfolding everything
+puts_receipt =
+    inr (upserts_row PUT_RECEIPT.now receipt_form (1 ∷ [])
+    (record { parsed = parse_or (first PUT_RECEIPT.now); reads = refl; columns = names_in (parse_or (first PUT_RECEIPT.now)).statement; rows = rows_in (parse_or (first PUT_RECEIPT.now)).statement; statement = refl; untimed = refl; made = λ schema tree. refl; above = refl })
+    refl (record { aims = λ tree. refl; apart = refl; few = refl; some = refl; found = λ tree. refl; set = λ tree. refl; made = λ tree. refl }))
+
 pub takes_hold : IsTakeText TAKE_HOLD.now hold_form (1 ∷ 2 ∷ [])
 unfolding everything first_key
 takes_hold = takes_two TAKE_HOLD.now hold_form (parse_or (first TAKE_HOLD.now)) 1 2 refl refl refl (record { above = refl; found = λ tree. (refl, refl, (refl, refl, tt)); tested = λ tree. refl })
     (λ tree. (record { place = refl; strict = refl; named = refl }, record { place = refl; strict = refl; named = refl }))
 
 abbrev pub create_texts : List (List ℕ)
-create_texts = CREATE_META.now ∷ CREATE_CLASS.now ∷ CREATE_DEFINITION.now ∷ CREATE_RECIPE.now ∷ CREATE_RECIPE_LINE.now ∷ CREATE_JOB.now ∷ CREATE_BATCH.now ∷ CREATE_CONTROL_LINE.now ∷ CREATE_BATCH_EVENT.now ∷ CREATE_LOT.now ∷ CREATE_SUBLOT.now ∷ CREATE_MOVEMENT.now ∷ CREATE_HOLD.now ∷ CREATE_EDGE.now ∷ []
+create_texts = CREATE_META.now ∷ CREATE_CLASS.now ∷ CREATE_DEFINITION.now ∷ CREATE_RECIPE.now ∷ CREATE_RECIPE_LINE.now ∷ CREATE_JOB.now ∷ CREATE_BATCH.now ∷ CREATE_CONTROL_LINE.now ∷ CREATE_BATCH_EVENT.now ∷ CREATE_LOT.now ∷ CREATE_SUBLOT.now ∷ CREATE_MOVEMENT.now ∷ CREATE_HOLD.now ∷ CREATE_EDGE.now ∷ CREATE_RECEIPT.now ∷ []
 
 pub all_made : AreMakeTexts create_texts desk_forms
-all_made = (makes_meta, (makes_class, (makes_definition, (makes_recipe, (makes_recipe_line, (makes_job, (makes_batch, (makes_control_line, (makes_batch_event, (makes_lot, (makes_sublot, (makes_movement, (makes_hold, (makes_edge, tt))))))))))))))
+all_made = (makes_meta, (makes_class, (makes_definition, (makes_recipe, (makes_recipe_line, (makes_job, (makes_batch, (makes_control_line, (makes_batch_event, (makes_lot, (makes_sublot, (makes_movement, (makes_hold, (makes_edge, (makes_receipt, tt)))))))))))))))
 
 pub desk_apart : AreApart desk_forms
 unfolding everything
 desk_apart = record { apart = λ tree. refl }
+
+second_apart : AreApart (forms_of 2)
+unfolding everything
+second_apart = record { apart = λ tree. refl }
 
 first_apart : AreApart first_forms
 unfolding everything
 first_apart = record { apart = λ tree. refl }
 
 pub apart_of : (schema : ℕ) → AreApart (forms_of schema)
-apart_of schema = elim (cases_Bool (nat_le 2 schema)) [ inl second ↦ rw second desk_apart | inr first ↦ rw first first_apart ]
+apart_of schema = elim (cases_Bool (nat_le 3 schema)) [
+  | inl third ↦ rw third desk_apart
+  | inr below ↦ elim (cases_Bool (nat_le 2 schema)) [ inl second ↦ rw (below, second) second_apart | inr first ↦ rw (below, first) first_apart ]
+]
 
 -- texts that make the tables of some forms: so many of them make those of as many forms
 pub front_made : (n : ℕ) (texts : List (List ℕ)) (forms : List Form) → AreMakeTexts texts forms → AreMakeTexts (take n texts) (take n forms)
@@ -198,17 +217,32 @@ front_made (suc n) [] (form ∷ forms) made = elim made [ ]
 front_made (suc n) (text ∷ texts) [] made = elim made [ ]
 front_made (suc n) (text ∷ texts) (form ∷ forms) made = (made.0, front_made n texts forms made.1)
 
--- ---- those that the newest schema adds to the first
+-- ---- those that a schema adds to the one before it
 
-abbrev pub later_texts : List (List ℕ)
-later_texts = CREATE_EDGE.now ∷ []
+pub edge_made : AreMakeTexts (CREATE_EDGE.now ∷ []) (edge_form ∷ [])
+edge_made = (makes_edge, tt)
 
-pub later_made : AreMakeTexts later_texts (later_forms 1)
-later_made = (makes_edge, tt)
+pub edge_apart : AreApart (edge_form ∷ [])
+unfolding everything
+edge_apart = record { apart = λ tree. refl }
 
-pub later_apart : AreApart (later_forms 1)
+pub receipt_made : AreMakeTexts (CREATE_RECEIPT.now ∷ []) (receipt_form ∷ [])
+receipt_made = (makes_receipt, tt)
+
+pub receipt_apart : AreApart (receipt_form ∷ [])
+unfolding everything
+receipt_apart = record { apart = λ tree. refl }
+
+pub later_apart : AreApart (edge_form ∷ receipt_form ∷ [])
 unfolding everything
 later_apart = record { apart = λ tree. refl }
+
+pub indexes_apart_of_receipts : are_named_apart second_indexes (receipt_form ∷ []) ≡ true
+unfolding everything
+indexes_apart_of_receipts = refl
+
+pub none_apart : AreApart []
+none_apart = record { apart = λ tree. refl }
 
 -- ---- the indexes
 
@@ -237,8 +271,18 @@ all_indexed = (indexes_batch_event_by_batch, (indexes_movement_by_lot, (indexes_
 indexes_of_desk : AreOf desk_indexes desk_forms
 indexes_of_desk = (has_got desk_forms 8 batch_event_form refl, (has_got desk_forms 11 movement_form refl, (has_got desk_forms 11 movement_form refl, (has_got desk_forms 13 edge_form refl, tt))))
 
+pub indexes_of_second : AreOf second_indexes (forms_of 2)
+indexes_of_second = (has_got (forms_of 2) 8 batch_event_form refl, (has_got (forms_of 2) 11 movement_form refl, (has_got (forms_of 2) 11 movement_form refl, (has_got (forms_of 2) 13 edge_form refl, tt))))
+
+-- the third schema has what the second has
+pub third_second : (schema : ℕ) → nat_le 3 schema ≡ true → nat_le 2 schema ≡ true
+third_second schema third = grind (arith, nat_tests)
+
 pub indexed_of : (schema : ℕ) → AreOf (indexes_of schema) (forms_of schema)
-indexed_of schema = elim (cases_Bool (nat_le 2 schema)) [ inl second ↦ rw second indexes_of_desk | inr first ↦ rw first tt ]
+indexed_of schema = elim (cases_Bool (nat_le 3 schema)) [
+  | inl third ↦ rw (third, third_second schema third) indexes_of_desk
+  | inr below ↦ elim (cases_Bool (nat_le 2 schema)) [ inl second ↦ rw (below, second) indexes_of_second | inr first ↦ rw (below, first) tt ]
+]
 
 pub front_indexed : (n : ℕ) (texts : List (List ℕ)) (indexes : List IndexForm) → AreIndexTexts texts indexes → AreIndexTexts (take n texts) (take n indexes)
 front_indexed zero texts indexes made = tt

@@ -9,35 +9,35 @@ use Rattle.plant_view.specs.declared.change.RowChange.{RowChange}
 use Rattle.table_forms.specs.Standing.{KeepsOthers}
 use Rattle.table_forms.specs.Stopping.{IsSettled, IsUndone}
 use Rattle.table_forms.specs.Moves.{Moves}
-use Rattle.plant_tables.specs.DeskForms.{desk_forms}
+use Rattle.plant_tables.specs.DeskForms.{desk_forms, forms_of}
 use Rattle.plant_tables.specs.DeskTables.{contents_of, all_rows_changed}
-use Rattle.plant_tables.specs.Keyed.{HoldsTablesOf, HoldsTables, AreKeyed, AreFresh, MovesTables}
-use Rattle.plant_tables.specs.DeskStopping.{IsAtOf, IsAt, FindsOf, Finds, IsCutShortOf, IsCutShort}
+use Rattle.plant_tables.specs.Keyed.{HoldsTablesOf, AreKeyed, AreFresh, MovesTablesOf, MovesTables}
+use Rattle.plant_tables.specs.DeskStopping.{IsAtOf, IsAt, FindsOf, IsCutShortOf, IsCutShort}
 use Rattle.plant_tables.proofs.Bridge.{all_changed, stand_as}
 
-pub tables_moved : (cs : List RowChange) (old new : State) → Moves desk_forms old new (all_rows_changed cs) → MovesTables cs old.now new.now
-tables_moved cs old new moves t keyed fresh holds =
-    (stand_as desk_forms new.now (all_rows_changed cs (contents_of t)) (contents_of (changed_all cs t)) (all_changed cs t keyed fresh) (moves.stands (contents_of t) holds), moves.others (contents_of t) holds)
+pub tables_moved : (schema : ℕ) (cs : List RowChange) (old new : State) → Moves (forms_of schema) old new (all_rows_changed cs) → MovesTablesOf schema cs old.now new.now
+tables_moved schema cs old new moves t keyed fresh holds =
+    (stand_as (forms_of schema) new.now (all_rows_changed cs (contents_of t)) (contents_of (changed_all cs t)) (all_changed cs t keyed fresh) (moves.stands (contents_of t) holds), moves.others (contents_of t) holds)
 
 -- what an opening finds where nothing was changed
 pub finds_same : (version : ℕ) (db : Database) (trees : Trees) (t : Tables) → HoldsTablesOf version db t → trees ≡ db.trees → FindsOf version db trees t
 finds_same version db trees t holds same =
     subst (λ d. FindsOf version db d t) (sym same) (record { schema = db.schema; holds = holds; others = record { kept = λ x listed foreign. (listed, refl) } })
 
-module _ (version : ℕ) (makes : Database → Database → Type 0) (old new : State) (before after : Tables) (at : IsAtOf version old before)
-    (leads : (db : Database) → makes old.now db → HoldsTables db after × KeepsOthers desk_forms old.now db) where
-  finds_made : (db : Database) (trees : Trees) → makes old.now db → trees ≡ db.trees → Finds old.now trees after
+module _ (version later : ℕ) (makes : Database → Database → Type 0) (old new : State) (before after : Tables) (at : IsAtOf version old before)
+    (leads : (db : Database) → makes old.now db → HoldsTablesOf later db after × KeepsOthers desk_forms old.now db) where
+  finds_made : (db : Database) (trees : Trees) → makes old.now db → trees ≡ db.trees → FindsOf later old.now trees after
   finds_made db trees made same =
       let it = leads db made in
-      subst (λ d. Finds old.now d after) (sym same) (record { schema = db.schema; holds = it.0; others = it.1 })
+      subst (λ d. FindsOf later old.now d after) (sym same) (record { schema = db.schema; holds = it.0; others = it.1 })
 
-  pub ended_at : {X E : Type 0} (r : Result X E) → OnOk r (IsSettled new × makes old.now new.now) → OnOk r (IsAt new after × KeepsOthers desk_forms old.now new.now)
+  pub ended_at : {X E : Type 0} (r : Result X E) → OnOk r (IsSettled new × makes old.now new.now) → OnOk r (IsAtOf later new after × KeepsOthers desk_forms old.now new.now)
   ended_at (Err e) done = tt
   ended_at (Ok x) done =
       let it = leads new.now done.1 in
       (record { settled = done.0; holds = it.0 }, it.1)
 
-  pub cut_at : {X E : Type 0} (r : Result X E) → OnErr r (IsUndone makes old new) → OnErr r (IsCutShortOf version old new before after)
+  pub cut_at : {X E : Type 0} (r : Result X E) → OnErr r (IsUndone makes old new) → OnErr r (IsCutShortOf version later old new before after)
   cut_at (Ok x) undone = tt
   cut_at (Err e) undone = record {
     leaves = undone.leaves;
@@ -50,8 +50,8 @@ module _ (version : ℕ) (makes : Database → Database → Type 0) (old new : S
 
 pub done_at : {X E : Type 0} (cs : List RowChange) (old new : State) (t : Tables) (r : Result X E) → IsAt old t → AreKeyed t → AreFresh cs t → OnOk r (IsSettled new × MovesTables cs old.now new.now)
     → OnOk r (IsAt new (changed_all cs t) × KeepsOthers desk_forms old.now new.now)
-done_at cs old new t r at keyed fresh done = ended_at newest_schema (MovesTables cs) old new t (changed_all cs t) at (λ db made. made t keyed fresh at.holds) r done
+done_at cs old new t r at keyed fresh done = ended_at newest_schema newest_schema (MovesTables cs) old new t (changed_all cs t) at (λ db made. made t keyed fresh at.holds) r done
 
 pub undone_at : {X E : Type 0} (cs : List RowChange) (old new : State) (t : Tables) (r : Result X E) → IsAt old t → AreKeyed t → AreFresh cs t → OnErr r (IsUndone (MovesTables cs) old new)
     → OnErr r (IsCutShort old new t (changed_all cs t))
-undone_at cs old new t r at keyed fresh undone = cut_at newest_schema (MovesTables cs) old new t (changed_all cs t) at (λ db made. made t keyed fresh at.holds) r undone
+undone_at cs old new t r at keyed fresh undone = cut_at newest_schema newest_schema (MovesTables cs) old new t (changed_all cs t) at (λ db made. made t keyed fresh at.holds) r undone

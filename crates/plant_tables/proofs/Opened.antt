@@ -34,7 +34,7 @@ one_row : SameRows (rows_changed (change.Meta opening_meta) (λ _. [])) (content
 unfolding rows_changed
 one_row zero = IsPermutation-refl _
 one_row (suc k) =
-    let empty = all_empty ([] ∷ [] ∷ [] ∷ [] ∷ [] ∷ [] ∷ [] ∷ [] ∷ [] ∷ [] ∷ [] ∷ [] ∷ [] ∷ []) (refl, (refl, (refl, (refl, (refl, (refl, (refl, (refl, (refl, (refl, (refl, (refl, (refl, tt))))))))))))) k in
+    let empty = all_empty ([] ∷ [] ∷ [] ∷ [] ∷ [] ∷ [] ∷ [] ∷ [] ∷ [] ∷ [] ∷ [] ∷ [] ∷ [] ∷ [] ∷ []) (refl, (refl, (refl, (refl, (refl, (refl, (refl, (refl, (refl, (refl, (refl, (refl, (refl, (refl, tt)))))))))))))) k in
     let miss : (suc k == 0) ≡ false = false_from_ne_true _ (λ hit. let zero = eqb-true (suc k) 0 hit in absurd (omega arith)) in
     rw miss (subst (IsPermutation []) (sym empty) (IsPermutation-refl []))
 

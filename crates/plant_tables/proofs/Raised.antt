@@ -1,89 +1,216 @@
--- The tables of the first schema, raised to the newest.
-use Rattle.std.proofs.Common.{◌≡◌, ◌⊎◌, inl, inr, refl, sym, ap, subst, ◌∙◌, ℕ, zero, suc, List, [], ◌∷◌, ◌++◌, map, length, Bool, false, slice_get, Some, Ok, Err, Result, OnOk, OnErr}
+-- The tables of a schema, raised to the next.
+use Rattle.std.proofs.Common.{◌≡◌, ◌⊎◌, inl, inr, refl, sym, ap, subst, ◌∙◌, ℕ, zero, suc, ◌+◌, List, [], ◌∷◌, ◌++◌, map, length, Bool, true, false, slice_get, Some, Ok, Err, Result, OnOk, OnErr, arith}
 use Rattle.std.proofs.lemmas.Bool.{cases_Bool}
 use Rattle.std.specs.List.{list_any}
+use Rattle.sqlite.specs.Effect.{Database}
+use Rattle.sqlite.specs.Schema.{Schema}
 use Rattle.sqlite.specs.State.{State}
-use Rattle.plant_view.specs.Tables.{Tables, changed_all}
+use Rattle.plant_base.specs.declared.rows.Position.{Position}
+use Rattle.plant_view.specs.Tables.{Tables, changed, changed_all}
 use Rattle.plant_view.specs.declared.change.RowChange.{RowChange}
-use Rattle.table_forms.specs.declared.fault.Fault.{Fault}
+use Rattle.plant_view.specs.declared.change.RowChange.TheVariants as change
 use Rattle.table_forms.specs.Forms.{Form}
-use Rattle.table_forms.specs.Standing.{Stands, KeepsOthers, AreFree, is_among}
+use Rattle.table_forms.specs.Standing.{Contents, Stands, KeepsOthers, AreFree, is_among}
 use Rattle.table_forms.specs.Stopping.{IsSettled, IsUndone}
-use Rattle.table_forms.specs.Moves.{Founds, MakesTables}
-use Rattle.table_forms.specs.Indexes.{AddsIndexes}
-use Rattle.table_forms.proofs.Moving.{others_then}
-use Rattle.plant_tables.specs.DeskForms.{first_forms, edge_form, later_forms, desk_forms}
-use Rattle.plant_tables.specs.DeskIndexes.{desk_indexes}
-use Rattle.plant_tables.specs.DeskTables.{contents_of}
-use Rattle.plant_tables.specs.Keyed.{HoldsTablesOf, HoldsTables, LacksLater, AreFresh, MovesTables}
-use Rattle.plant_tables.specs.DeskStopping.{IsAt, IsCutShortOf}
-use Rattle.plant_tables.specs.Raising.{CanRise, RaisesTables}
-use Rattle.plant_tables.proofs.DeskTexts.{later_texts, later_made, later_apart}
-use Rattle.plant_tables.proofs.Ended.{ended_at, cut_at}
-use Rattle.plant_tables_columns.specs.TableColumns.{row_of_edge}
+use Rattle.table_forms.specs.Moves.{Moves, Founds, LeavesFree, AreApart}
+use Rattle.table_forms.specs.Indexes.{AddsIndexes, are_named_apart}
+use Rattle.table_forms.proofs.Founding.{got_behind}
+use Rattle.table_forms.proofs.Moving.{others_then, moves_then, moves_as}
+use Rattle.plant_tables.specs.DeskForms.{edge_form, receipt_form, forms_of, later_forms, added_forms, desk_forms}
+use Rattle.plant_tables.specs.DeskIndexes.{added_indexes}
+use Rattle.plant_tables.specs.DeskTables.{contents_of, rows_changed, all_rows_changed}
+use Rattle.plant_tables.specs.Keyed.{HoldsTablesOf, LacksLater, AreFresh, AreOfSchema, MovesTablesOf}
+use Rattle.plant_tables.specs.DeskStopping.{IsAtOf, IsCutShortOf}
+use Rattle.plant_tables.specs.Raising.{IsOlder, AreRisable, RaisesTables, raising}
+use Rattle.plant_tables.proofs.DeskTexts.{later_apart, receipt_apart, indexes_apart_of_receipts}
+use Rattle.plant_tables.proofs.DeskMoves.{one_more_change}
+use Rattle.plant_tables.proofs.Ended.{tables_moved, ended_at, cut_at}
+use Rattle.plant_tables_columns.specs.TableColumns.{row_of_edge, row_of_receipt}
 
--- a place of a list with one more behind it is one of the list, or the last
-front_or_last : {X : Type 0} (xs : List X) (y : X) (i : ℕ) (x : X) → slice_get (xs ++ y ∷ []) i ≡ Some x → (slice_get xs i ≡ Some x) ⊎ ((i ≡ length xs) × (y ≡ x))
-front_or_last [] y zero x is = inr (refl, let same : Some y ≡ Some x = is in cc)
-front_or_last [] y (suc i) x is = absurd cc
-front_or_last (z ∷ zs) y zero x is = inl is
-front_or_last (z ∷ zs) y (suc i) x is = elim (front_or_last zs y i x is) [ inl early ↦ inl early | inr last ↦ inr (ap suc last.0, last.1) ]
+-- ---- the older schemas
 
--- what none of a list passes, none of its last passes
-none_of_last : {X : Type 0} (p : X → Bool) (xs ys : List X) → list_any p (xs ++ ys) ≡ false → list_any p ys ≡ false
-none_of_last p [] ys none = none
-none_of_last p (x ∷ xs) ys none = elim (cases_Bool (p x)) [
-  | inl hit ↦ absurd (let some = rw hit at none in cc)
-  | inr miss ↦ none_of_last p xs ys (rw miss at none)
+one_or_two : (version : ℕ) → IsOlder version → (version ≡ 1) ⊎ (version ≡ 2)
+one_or_two zero older = absurd (omega (arith, older.0))
+one_or_two (suc zero) older = inl refl
+one_or_two (suc (suc zero)) older = inr refl
+one_or_two (suc (suc (suc n))) older = absurd (omega (arith, older.1))
+
+-- what is so of each older schema
+pub by_older : (P : ℕ → Type 0) → P 1 → P 2 → (version : ℕ) → IsOlder version → P version
+by_older P first second version older = elim (one_or_two version older) [
+  | inl one ↦ subst P (sym one) first
+  | inr two ↦ subst P (sym two) second
 ]
 
-among_last : (xs ys : List Form) (name : List ℕ) → is_among (xs ++ ys) name ≡ false → is_among ys name ≡ false
-among_last xs ys name none = none_of_last _ xs ys none
+-- the tables of the next schema are those of this one, and those that it adds
+next_is : (version : ℕ) → IsOlder version → forms_of (version + 1) ≡ forms_of version ++ added_forms (version + 1)
+next_is = by_older (λ v. forms_of (v + 1) ≡ forms_of v ++ added_forms (v + 1)) refl refl
 
-pub later_founded : {X : Type 0} (old new : State) (r : Result X Fault) → OnOk r (MakesTables later_texts old new) → OnOk r (Founds (later_forms 1) old new)
-later_founded old new (Ok x) made = made (later_forms 1) later_apart later_made
-later_founded old new (Err e) made = tt
+later_is : (version : ℕ) → IsOlder version → later_forms version ≡ added_forms (version + 1) ++ later_forms (version + 1)
+later_is = by_older (λ v. later_forms v ≡ added_forms (v + 1) ++ later_forms (v + 1)) refl refl
 
--- The tables of the first schema that stand, and the later ones, which were made and are empty, are those of the newest.
-module _ (a b : State) (t : Tables) (founds : Founds (later_forms 1) a b) (lacks : LacksLater 1 t) (free : AreFree (later_forms 1) a.now.schema) (holds : HoldsTablesOf 1 a.now t) where
-  no_edges : contents_of t (length first_forms) ≡ []
-  no_edges = ap (map row_of_edge) (lacks refl)
+desk_is : (version : ℕ) → IsOlder version → desk_forms ≡ forms_of (version + 1) ++ later_forms (version + 1)
+desk_is = by_older (λ v. desk_forms ≡ forms_of (v + 1) ++ later_forms (v + 1)) refl refl
 
-  made_empty : Stands b.now edge_form []
-  made_empty = (founds.stands holds.sound free).each 0 edge_form refl
+-- ---- lists of which one stands behind the other
 
-  each_stands : (i : ℕ) (form : Form) → slice_get desk_forms i ≡ Some form → Stands b.now form (contents_of t i)
-  each_stands i form is = elim (front_or_last first_forms edge_form i form is) [
-    | inl early ↦ founds.kept holds.sound free form (contents_of t i) (holds.each i form early)
-    | inr last ↦
-        let empty : contents_of t i ≡ [] = ap (contents_of t) last.0 ∙ no_edges in
-        subst (λ f. Stands b.now f (contents_of t i)) last.1 (subst (Stands b.now edge_form) (sym empty) made_empty)
+-- a place is one of the first list, or of the second
+parted : {X : Type 0} (xs ys : List X) (i : ℕ) (x : X) → slice_get (xs ++ ys) i ≡ Some x → (slice_get xs i ≡ Some x) ⊎ ((j : ℕ) × (i ≡ length xs + j) × (slice_get ys j ≡ Some x))
+parted [] ys i x is = let same : i ≡ 0 + i = omega arith in inr (i, same, is)
+parted (z ∷ zs) ys zero x is = inl is
+parted (z ∷ zs) ys (suc i) x is = elim (parted zs ys i x is) [
+  | inl early ↦ inl early
+  | inr late ↦ let at : suc i ≡ suc (length zs) + late.0 = omega (arith, late.1) in inr (late.0, at, late.2)
+]
+
+in_front : {X : Type 0} (xs ys : List X) (i : ℕ) (x : X) → slice_get xs i ≡ Some x → slice_get (xs ++ ys) i ≡ Some x
+in_front [] ys i x is = absurd cc
+in_front (z ∷ zs) ys zero x is = is
+in_front (z ∷ zs) ys (suc i) x is = in_front zs ys i x is
+
+-- what none of both passes, none of either does
+none_of_both : {X : Type 0} (p : X → Bool) (xs ys : List X) → list_any p (xs ++ ys) ≡ false → (list_any p xs ≡ false) × (list_any p ys ≡ false)
+none_of_both p [] ys none = (refl, none)
+none_of_both p (x ∷ xs) ys none = elim (cases_Bool (p x)) [
+  | inl hit ↦ absurd (let some = rw hit at none in cc)
+  | inr miss ↦ let rest = none_of_both p xs ys (rw miss at none) in (rw miss rest.0, rest.1)
+]
+
+none_among : (xs ys : List Form) (name : List ℕ) → is_among (xs ++ ys) name ≡ false → (is_among xs name ≡ false) × (is_among ys name ≡ false)
+none_among xs ys name none = none_of_both _ xs ys none
+
+-- a name that is none of the desk's is none of the next schema's, nor of those that it adds
+foreign_next : (version : ℕ) → IsOlder version → (name : List ℕ) → is_among desk_forms name ≡ false → is_among (forms_of (version + 1)) name ≡ false
+foreign_next version older name foreign = (none_among (forms_of (version + 1)) (later_forms (version + 1)) name (subst (λ fs. is_among fs name ≡ false) (desk_is version older) foreign)).0
+
+foreign_added : (version : ℕ) → IsOlder version → (name : List ℕ) → is_among desk_forms name ≡ false → is_among (added_forms (version + 1)) name ≡ false
+foreign_added version older name foreign = (none_among (forms_of version) (added_forms (version + 1)) name (subst (λ fs. is_among fs name ≡ false) (next_is version older) (foreign_next version older name foreign))).1
+
+-- where all later tables can be made, those of the next schema can
+pub free_next : (version : ℕ) → IsOlder version → (schema : Schema) → AreFree (later_forms version) schema → AreFree (added_forms (version + 1)) schema
+free_next version older schema free = record {
+  each = λ i form is. free.each i form (subst (λ fs. slice_get fs i ≡ Some form) (sym (later_is version older)) (in_front (added_forms (version + 1)) (later_forms (version + 1)) i form is));
+  counted = free.counted;
+}
+
+-- and those of the ones after it
+free_after : (version : ℕ) → IsOlder version → (schema : Schema) → AreFree (later_forms version) schema → AreFree (later_forms (version + 1)) schema
+free_after version older schema free = record {
+  each = λ i form is. free.each (length (added_forms (version + 1)) + i) form
+      (subst (λ fs. slice_get fs (length (added_forms (version + 1)) + i) ≡ Some form) (sym (later_is version older)) (got_behind (added_forms (version + 1)) (later_forms (version + 1)) i form is));
+  counted = free.counted;
+}
+
+-- the names of what a schema adds are not those of later tables
+tables_apart : (version : ℕ) → IsOlder version → AreApart (added_forms (version + 1) ++ later_forms (version + 1))
+tables_apart = by_older (λ v. AreApart (added_forms (v + 1) ++ later_forms (v + 1))) later_apart receipt_apart
+
+indexes_apart : (version : ℕ) → IsOlder version → are_named_apart (added_indexes (version + 1)) (later_forms (version + 1)) ≡ true
+indexes_apart = by_older (λ v. are_named_apart (added_indexes (v + 1)) (later_forms (v + 1)) ≡ true) indexes_apart_of_receipts refl
+
+-- ---- tables of an older schema have no rows of those that are added
+
+no_edges : (t : Tables) → LacksLater 1 t → (j : ℕ) (form : Form) → slice_get (edge_form ∷ []) j ≡ Some form → contents_of t (13 + j) ≡ []
+no_edges t lacks zero form is = ap (map row_of_edge) (lacks.edges refl)
+no_edges t lacks (suc j) form is = absurd cc
+
+no_receipts : (t : Tables) → LacksLater 2 t → (j : ℕ) (form : Form) → slice_get (receipt_form ∷ []) j ≡ Some form → contents_of t (14 + j) ≡ []
+no_receipts t lacks zero form is = ap (map row_of_receipt) (lacks.receipts refl)
+no_receipts t lacks (suc j) form is = absurd cc
+
+abbrev HasNoAdded : Tables → ℕ → Type 0
+HasNoAdded t version = LacksLater version t → (j : ℕ) (form : Form) → slice_get (added_forms (version + 1)) j ≡ Some form → contents_of t (length (forms_of version) + j) ≡ []
+
+none_added : (t : Tables) (version : ℕ) → IsOlder version → HasNoAdded t version
+none_added t = by_older (HasNoAdded t) (no_edges t) (no_receipts t)
+
+-- The tables that stand, and the added ones, which were made and are empty, are those of the next schema.
+module _ (version : ℕ) (older : IsOlder version) (a b : State) (t : Tables) (founds : Founds (added_forms (version + 1)) a b) (lacks : LacksLater version t) (free : AreFree (later_forms version) a.now.schema) (holds : HoldsTablesOf version a.now t) where
+  can_make : AreFree (added_forms (version + 1)) a.now.schema
+  can_make = free_next version older a.now.schema free
+
+  each_stands : (i : ℕ) (form : Form) → slice_get (forms_of version ++ added_forms (version + 1)) i ≡ Some form → Stands b.now form (contents_of t i)
+  each_stands i form is = elim (parted (forms_of version) (added_forms (version + 1)) i form is) [
+    | inl early ↦ founds.kept holds.sound can_make form (contents_of t i) (holds.each i form early)
+    | inr late ↦
+        let empty : contents_of t i ≡ [] = ap (contents_of t) late.1 ∙ none_added t version older lacks late.0 form late.2 in
+        subst (Stands b.now form) (sym empty) ((founds.stands holds.sound can_make).each late.0 form late.2)
   ]
 
-  pub all_stand : HoldsTables b.now t
-  all_stand = record { sound = (founds.stands holds.sound free).sound; each = each_stands }
-
-  others_stand : KeepsOthers desk_forms a.now b.now
-  others_stand = record {
-    kept = λ x listed foreign. (founds.others holds.sound free).kept x listed (among_last first_forms (edge_form ∷ []) x.name foreign);
+  pub all_stand : HoldsTablesOf (version + 1) b.now t
+  all_stand = record {
+    sound = (founds.stands holds.sound can_make).sound;
+    each = λ i form is. each_stands i form (subst (λ fs. slice_get fs i ≡ Some form) (next_is version older) is);
   }
 
-  pub rises : (cs : List RowChange) (c : State) → HoldsTables c.now (changed_all cs t) × KeepsOthers desk_forms b.now c.now → HoldsTables c.now (changed_all cs t) × KeepsOthers desk_forms a.now c.now
-  rises cs c it = (it.0, others_then desk_forms a.now b.now c.now others_stand it.1)
+  pub others_stand : KeepsOthers desk_forms a.now b.now
+  others_stand = record { kept = λ x listed foreign. (founds.others holds.sound can_make).kept x listed (foreign_added version older x.name foreign) }
 
-pub raised : {X E : Type 0} (cs : List RowChange) (a b c d : State) (r : Result X E) → Founds (later_forms 1) a b → AddsIndexes desk_forms desk_indexes b c → OnOk r (MovesTables cs c.now d.now) → OnOk r (RaisesTables cs a.now d.now)
-raised cs a b c d (Err e) founds adds moves = tt
-raised cs a b c d (Ok x) founds adds moves = λ t keyed lacks fresh free holds.
-    let stood : HoldsTables b.now t = all_stand a b t founds lacks free holds in
-    let it = moves t keyed fresh (adds.stands (contents_of t) stood) in
-    rises a b t founds lacks free holds cs d (it.0, others_then desk_forms b.now c.now d.now (adds.others (contents_of t) stood) it.1)
+-- tables of names that are none of the next schema's are kept, and so are those of names that are none of the desk's
+keeps_desk : (version : ℕ) → IsOlder version → (a b : Database) → KeepsOthers (forms_of (version + 1)) a b → KeepsOthers desk_forms a b
+keeps_desk version older a b kept = record { kept = λ x listed foreign. kept.kept x listed (foreign_next version older x.name foreign) }
 
--- ---- how it ends
+-- ---- the rows that are added, and the next schema
 
-pub raised_at : {X E : Type 0} (cs : List RowChange) (old new : State) (t : Tables) (r : Result X E) → CanRise old t → AreFresh cs t → OnOk r (IsSettled new × RaisesTables cs old.now new.now)
-    → OnOk r (IsAt new (changed_all cs t) × KeepsOthers desk_forms old.now new.now)
-raised_at cs old new t r can fresh done = ended_at 1 (RaisesTables cs) old new t (changed_all cs t) can.at (λ db made. made t can.keyed can.lacks fresh can.free can.at.holds) r done
+fresh_then : (cs : List RowChange) (t : Tables) (m : RowChange) → AreFresh cs t → ((u : Tables) → AreFresh (m ∷ []) u) → AreFresh (cs ++ m ∷ []) t
+fresh_then [] t m fresh last = last t
+fresh_then (c ∷ cs) t m fresh last = (fresh.0, fresh_then cs (changed c t) m fresh.1 last)
 
-pub unraised_at : {X E : Type 0} (cs : List RowChange) (old new : State) (t : Tables) (r : Result X E) → CanRise old t → AreFresh cs t → OnErr r (IsUndone (RaisesTables cs) old new)
-    → OnErr r (IsCutShortOf 1 old new t (changed_all cs t))
-unraised_at cs old new t r can fresh undone = cut_at 1 (RaisesTables cs) old new t (changed_all cs t) can.at (λ db made. made t can.keyed can.lacks fresh can.free can.at.holds) r undone
+module _ (version : ℕ) (position : Position) (added : List RowChange) where
+  abbrev meta : RowChange
+  meta = change.Meta (record { schema = version + 1; position = position })
+
+  pub fresh_raising : (t : Tables) → AreFresh added t → AreFresh (raising version position added) t
+  fresh_raising t fresh = fresh_then added t meta fresh (λ u. (tt, tt))
+
+  rows_then_meta : (c d e : State) → Moves (forms_of (version + 1)) c d (all_rows_changed added) → Moves (forms_of (version + 1)) d e (rows_changed meta) → Moves (forms_of (version + 1)) c e (λ u. rows_changed meta (all_rows_changed added u))
+  rows_then_meta c d e rows last = moves_then (forms_of (version + 1)) c d e (all_rows_changed added) (rows_changed meta) rows last
+
+  meta_then : (c d e : State) → Moves (forms_of (version + 1)) c d (all_rows_changed added) → Moves (forms_of (version + 1)) d e (rows_changed meta) → MovesTablesOf (version + 1) (raising version position added) c.now e.now
+  meta_then c d e rows last =
+      let both = rows_then_meta c d e rows last in
+      tables_moved (version + 1) (raising version position added) c e (moves_as (forms_of (version + 1)) c e _ _ (λ (u : Contents). one_more_change added meta u) both)
+
+  -- the tables that later schemas add can still be made
+  spared : (a b c d e : State) (t : Tables) (older : IsOlder version) (can : AreRisable version added a.now t) → LeavesFree (added_forms (version + 1)) a.now b.now → HoldsTablesOf (version + 1) b.now t
+      → AddsIndexes (forms_of (version + 1)) (added_indexes (version + 1)) b c → Moves (forms_of (version + 1)) c d (all_rows_changed added) → Moves (forms_of (version + 1)) d e (rows_changed meta) → AreFree (later_forms (version + 1)) e.now.schema
+  spared a b c d e t older can leaves stood adds rows last =
+      let later = later_forms (version + 1) in
+      let schema = a.now.schema in
+      let made : AreFree later b.now.schema = leaves can.holds.sound (free_next version older schema can.free) later (tables_apart version older) (free_after version older schema can.free) in
+      let indexed : AreFree later c.now.schema = adds.free (contents_of t) stood later (indexes_apart version older) made in
+      subst (AreFree later) (sym ((rows_then_meta c d e rows last).schema (contents_of t) (adds.stands (contents_of t) stood))) indexed
+
+  pub raised : {X E : Type 0} (a b c d e : State) (r : Result X E) → Founds (added_forms (version + 1)) a b → LeavesFree (added_forms (version + 1)) a.now b.now → AddsIndexes (forms_of (version + 1)) (added_indexes (version + 1)) b c
+      → (AreOfSchema (version + 1) added → Moves (forms_of (version + 1)) c d (all_rows_changed added)) → OnOk r (Moves (forms_of (version + 1)) d e (rows_changed meta))
+      → OnOk r (RaisesTables version position added a.now e.now)
+  raised a b c d e (Err x) founds leaves adds rows last = tt
+  raised a b c d e (Ok x) founds leaves adds rows last = λ older t can.
+      let stood : HoldsTablesOf (version + 1) b.now t = all_stand version older a b t founds can.lacks can.free can.holds in
+      let others = others_stand version older a b t founds can.lacks can.free can.holds in
+      let it = meta_then c d e (rows can.kept) last t can.keyed (fresh_raising t can.fresh) (adds.stands (contents_of t) stood) in (
+        it.0,
+        others_then desk_forms a.now b.now e.now others (others_then desk_forms b.now c.now e.now (keeps_desk version older b.now c.now (adds.others (contents_of t) stood)) (keeps_desk version older c.now e.now it.1)),
+        spared a b c d e t older can leaves stood adds (rows can.kept) last,
+      )
+
+  -- ---- how it ends
+
+  module _ (older : IsOlder version) (old new : State) (t : Tables) (settled : IsSettled old) (can : AreRisable version added old.now t) where
+    at : IsAtOf version old t
+    at = record { settled = settled; holds = can.holds }
+
+    leads : (db : Database) → RaisesTables version position added old.now db → HoldsTablesOf (version + 1) db (changed_all (raising version position added) t) × KeepsOthers desk_forms old.now db
+    leads db made = let it = made older t can in (it.0, it.1)
+
+    pub spared_at : {X E : Type 0} (r : Result X E) → OnOk r (IsSettled new × RaisesTables version position added old.now new.now) → OnOk r (AreFree (later_forms (version + 1)) new.now.schema)
+    spared_at (Ok x) done = (done.1 older t can).2
+    spared_at (Err e) done = tt
+
+    pub raised_at : {X E : Type 0} (r : Result X E) → OnOk r (IsSettled new × RaisesTables version position added old.now new.now)
+        → OnOk r (IsAtOf (version + 1) new (changed_all (raising version position added) t) × KeepsOthers desk_forms old.now new.now)
+    raised_at r done = ended_at version (version + 1) (RaisesTables version position added) old new t (changed_all (raising version position added) t) at leads r done
+
+    pub unraised_at : {X E : Type 0} (r : Result X E) → OnErr r (IsUndone (RaisesTables version position added) old new)
+        → OnErr r (IsCutShortOf version (version + 1) old new t (changed_all (raising version position added) t))
+    unraised_at r undone = cut_at version (version + 1) (RaisesTables version position added) old new t (changed_all (raising version position added) t) at leads r undone

@@ -30,16 +30,16 @@ pub record FindsOf (version : ℕ) (before : Database) (trees : Trees) (t : Tabl
 abbrev pub Finds : Database → Trees → Tables → Type 0
 Finds = FindsOf newest_schema
 
--- A transaction that leads from tables of a schema to tables of the newest was cut short: a stop leaves at least one, and
+-- A transaction that leads from tables of one schema to those of another was cut short: a stop leaves at least one, and
 -- nothing else than the tables before or after it, and the store, where it is still open, shows those before.
-pub record IsCutShortOf (version : ℕ) (old new : State) (before after : Tables) : Type 0 where
+pub record IsCutShortOf (version later : ℕ) (old new : State) (before after : Tables) : Type 0 where
   pub leaves : ∥ ((db : Trees) × new.may_leave db) ∥₁
-  pub nothing_else : (db : Trees) → new.may_leave db → FindsOf version old.now db before ⊎ Finds old.now db after
+  pub nothing_else : (db : Trees) → new.may_leave db → FindsOf version old.now db before ⊎ FindsOf later old.now db after
   pub shows : IsTrue new.is_open → IsAtOf version new before × (new.now ≡ old.now)
 
 -- one between tables of the newest
 abbrev pub IsCutShort : State → State → Tables → Tables → Type 0
-IsCutShort = IsCutShortOf newest_schema
+IsCutShort = IsCutShortOf newest_schema newest_schema
 
 -- ---- the making of the tables
 

@@ -4,12 +4,12 @@ use Rattle.std.specs.List.{AllByRecursion}
 use Rattle.std.specs.List.Sorted.{IsStrictlySortedBy}
 use Rattle.sqlite.specs.Effect.{Database}
 use Rattle.plant_base.specs.Edges.{edge_order}
-use Rattle.plant_base.specs.State.{newest_schema, same, class_order, definition_order, recipe_order, master_line_order, job_order, control_line_order, lot_order, hold_order}
+use Rattle.plant_base.specs.State.{newest_schema, same, class_order, definition_order, recipe_order, master_line_order, job_order, control_line_order, lot_order, hold_order, receipt_order}
 use Rattle.plant_view.specs.Tables.{Tables, batch_row_order, sublot_order, changed, changed_all}
 use Rattle.plant_view.specs.declared.change.RowChange.{RowChange}
 use Rattle.plant_view.specs.declared.change.RowChange.TheVariants as change
 use Rattle.table_forms.specs.Standing.{StandIn, KeepsOthers}
-use Rattle.plant_tables.specs.DeskForms.{forms_of, desk_forms}
+use Rattle.plant_tables.specs.DeskForms.{forms_of}
 use Rattle.plant_tables.specs.DeskTables.{contents_of}
 
 -- The database is sound, and each table of the schema is declared as its form says and has these rows.
@@ -21,8 +21,9 @@ abbrev pub HoldsTables : Database → Tables → Type 0
 HoldsTables = HoldsTablesOf newest_schema
 
 -- there are no rows of tables that a later schema adds
-abbrev pub LacksLater : ℕ → Tables → Type 0
-LacksLater schema t = nat_le 2 schema ≡ false → t.edges ≡ []
+pub record LacksLater (schema : ℕ) (t : Tables) : Type 0 where
+  pub edges : nat_le 2 schema ≡ false → t.edges ≡ []
+  pub receipts : nat_le 3 schema ≡ false → t.receipts ≡ []
 
 -- The rows that are put by their keys stand in the order of their keys, none with the key of another.
 pub record AreKeyed (t : Tables) : Type 0 where
@@ -37,6 +38,7 @@ pub record AreKeyed (t : Tables) : Type 0 where
   pub sublots : IsStrictlySortedBy sublot_order t.sublots
   pub holds : IsStrictlySortedBy hold_order t.holds
   pub edges : IsStrictlySortedBy edge_order t.edges
+  pub receipts : IsStrictlySortedBy receipt_order t.receipts
 
 -- A row that is added at the end has a key that no row has, and a batch is of an order that no other batch is of.
 abbrev pub IsFresh : RowChange → Tables → Type 0
@@ -50,7 +52,22 @@ abbrev pub AreFresh : List RowChange → Tables → Type 0
 AreFresh [] t = ⊤
 AreFresh (c ∷ more) t = IsFresh c t × AreFresh more (changed c t)
 
--- The changes were written, in one transaction or in part of one: from any tables that the one database holds, with keys
--- as above, the other holds the changed ones, and tables of other names stand as they did.
+-- the schema has the change's table
+abbrev pub IsOfSchema : ℕ → RowChange → Type 0
+IsOfSchema schema (change.Edge r) = nat_le 2 schema ≡ true
+IsOfSchema schema (change.Receipt r) = nat_le 3 schema ≡ true
+IsOfSchema schema _ = ⊤
+
+-- it has that of each change
+abbrev pub AreOfSchema : ℕ → List RowChange → Type 0
+AreOfSchema schema changes = AllByRecursion (IsOfSchema schema) changes
+
+-- The changes were written, in one transaction or in part of one: from any tables of the schema that the one database
+-- holds, with keys as above, the other holds the changed ones, and tables of other names stand as they did.
+abbrev pub MovesTablesOf : ℕ → List RowChange → Database → Database → Type 0
+MovesTablesOf schema changes old new =
+    (t : Tables) → AreKeyed t → AreFresh changes t → HoldsTablesOf schema old t → HoldsTablesOf schema new (changed_all changes t) × KeepsOthers (forms_of schema) old new
+
+-- those of the newest schema
 abbrev pub MovesTables : List RowChange → Database → Database → Type 0
-MovesTables changes old new = (t : Tables) → AreKeyed t → AreFresh changes t → HoldsTables old t → HoldsTables new (changed_all changes t) × KeepsOthers desk_forms old new
+MovesTables = MovesTablesOf newest_schema

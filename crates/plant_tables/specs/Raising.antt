@@ -1,23 +1,35 @@
--- The raising of the tables of the first schema to the newest.
-use Rattle.std.specs.Prelude.{List}
+-- The raising of the tables of a schema to the next.
+use Rattle.std.specs.Prelude.{ℕ, ◌+◌, ◌≤◌, ◌<◌, List, [], ◌∷◌, ◌++◌}
 use Rattle.sqlite.specs.Effect.{Database}
-use Rattle.sqlite.specs.State.{State}
+use Rattle.plant_base.specs.State.{newest_schema}
+use Rattle.plant_base.specs.declared.rows.Position.{Position}
 use Rattle.plant_view.specs.Tables.{Tables, changed_all}
 use Rattle.plant_view.specs.declared.change.RowChange.{RowChange}
+use Rattle.plant_view.specs.declared.change.RowChange.TheVariants as change
 use Rattle.table_forms.specs.Standing.{KeepsOthers, AreFree}
 use Rattle.plant_tables.specs.DeskForms.{desk_forms, later_forms}
-use Rattle.plant_tables.specs.Keyed.{HoldsTablesOf, HoldsTables, LacksLater, AreKeyed, AreFresh}
-use Rattle.plant_tables.specs.DeskStopping.{IsAtOf}
+use Rattle.plant_tables.specs.Keyed.{HoldsTablesOf, LacksLater, AreKeyed, AreFresh, AreOfSchema}
 
--- The store is at tables of the first schema, with keys in their order and no rows of later tables, and those can be made.
-pub record CanRise (s : State) (t : Tables) : Type 0 where
-  pub at : IsAtOf 1 s t
+-- a schema that isn't the newest
+abbrev pub IsOlder : ℕ → Type 0
+IsOlder version = (1 ≤ version) × (version < newest_schema)
+
+-- the rows that are added, and then the next schema at this position
+abbrev pub raising : ℕ → Position → List RowChange → List RowChange
+raising version position added = added ++ change.Meta (record { schema = version + 1; position = position }) ∷ []
+
+-- The database holds these tables of a schema, with keys in their order and no rows of later tables, those can be made, and
+-- the rows can be added to the tables of the next schema.
+pub record AreRisable (version : ℕ) (added : List RowChange) (db : Database) (t : Tables) : Type 0 where
+  pub holds : HoldsTablesOf version db t
   pub keyed : AreKeyed t
-  pub lacks : LacksLater 1 t
-  pub free : AreFree (later_forms 1) s.now.schema
+  pub lacks : LacksLater version t
+  pub free : AreFree (later_forms version) db.schema
+  pub fresh : AreFresh added t
+  pub kept : AreOfSchema (version + 1) added
 
--- From any tables of the first schema that the one database holds, with keys as above, where the later tables can be made,
--- the other holds the changed ones of the newest, and tables of other names stand as they did.
-abbrev pub RaisesTables : List RowChange → Database → Database → Type 0
-RaisesTables changes old new =
-    (t : Tables) → AreKeyed t → LacksLater 1 t → AreFresh changes t → AreFree (later_forms 1) old.schema → HoldsTablesOf 1 old t → HoldsTables new (changed_all changes t) × KeepsOthers desk_forms old new
+-- From any such tables of an older schema that the one database holds, the other holds the raised ones of the next, tables
+-- of other names stand as they did, and those that later ones add can still be made.
+abbrev pub RaisesTables : ℕ → Position → List RowChange → Database → Database → Type 0
+RaisesTables version position added old new =
+    IsOlder version → (t : Tables) → AreRisable version added old t → HoldsTablesOf (version + 1) new (changed_all (raising version position added) t) × KeepsOthers desk_forms old new × AreFree (later_forms (version + 1)) new.schema

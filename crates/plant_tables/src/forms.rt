@@ -289,8 +289,21 @@ pub(crate) const CREATE_EDGE_BY_END: &str = "CREATE INDEX edge_by_end ON edge (k
 pub(crate) const PUT_EDGE: &str =
     "INSERT INTO edge (kind, a, b) VALUES (?1, ?2, ?3) ON CONFLICT (kind, a, b) DO UPDATE SET kind = excluded.kind, a = excluded.a, b = excluded.b";
 
+/// What is kept of accepted commands that had a reference.
+pub const RECEIPT: Form<'static> = Form {
+    name: b"receipt",
+    columns: &[Text(b"id"), Integer(b"seq"), Text(b"content")],
+    keys: &[&[1]],
+};
+
+pub(crate) const CREATE_RECEIPT: &str =
+    "CREATE TABLE receipt (id TEXT NOT NULL, seq INTEGER NOT NULL, content TEXT NOT NULL, UNIQUE (id)) STRICT";
+
+pub(crate) const PUT_RECEIPT: &str =
+    "INSERT INTO receipt (id, seq, content) VALUES (?1, ?2, ?3) ON CONFLICT (id) DO UPDATE SET id = excluded.id, seq = excluded.seq, content = excluded.content";
+
 /// How each table of the newest schema is declared, in the order in which they are made.
-pub fn desk_forms() -> [Form<'static>; 14]
+pub fn desk_forms() -> [Form<'static>; 15]
     ensures { result ≡ desk_forms }
 {
     [
@@ -308,11 +321,12 @@ pub fn desk_forms() -> [Form<'static>; 14]
         MOVEMENT,
         HOLD,
         EDGE,
+        RECEIPT,
     ]
 }
 
 /// The texts that make them, in the same order.
-pub(crate) const CREATE_TABLES: [&str; 14] = [
+pub(crate) const CREATE_TABLES: [&str; 15] = [
     CREATE_META,
     CREATE_CLASS,
     CREATE_DEFINITION,
@@ -327,6 +341,7 @@ pub(crate) const CREATE_TABLES: [&str; 14] = [
     CREATE_MOVEMENT,
     CREATE_HOLD,
     CREATE_EDGE,
+    CREATE_RECEIPT,
 ];
 
 /// The texts that make the indexes of the newest schema.
@@ -341,9 +356,15 @@ pub(crate) const CREATE_INDEXES: [&str; 4] = [
 pub fn tables_in(schema: u64) -> usize
     ensures own { take result desk_forms ≡ forms_of schema }
     ensures later { drop result desk_forms ≡ later_forms schema }
-    ensures few { result ≤ 14 }
+    ensures few { result ≤ 15 }
 {
-    if schema >= 2 { 14 } else { 13 }
+    if schema >= 3 {
+        15
+    } else if schema >= 2 {
+        14
+    } else {
+        13
+    }
 }
 
 /// How many of the indexes, from the first on, are those of a schema: the first schema has none.

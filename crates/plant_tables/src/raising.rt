@@ -1,75 +1,130 @@
-ghost use Rattle.std.specs.Prelude.{◌≡◌, false, OnOk, OnErr, IsOkUnless};
+ghost use Rattle.std.specs.Prelude.{◌≡◌, ◌+◌, false, OnOk, OnErr, IsOkUnless};
 ghost use Rattle.sqlite.specs.Effect.{Database};
 ghost use Rattle.sqlite.specs.State.{HasCleanDisk, Survives, KeepsCommit};
 ghost use Rattle.sqlite.specs.Held.{state};
 ghost use Rattle.plant_view.specs.Tables.{Tables, changed_all};
-ghost use Rattle.table_forms.specs.Moves.{Founds};
-ghost use Rattle.table_forms.specs.Standing.{KeepsOthers};
-ghost use Rattle.plant_tables.specs.DeskForms.{desk_forms, later_forms};
-ghost use Rattle.plant_tables.specs.Keyed.{AreFresh};
-ghost use Rattle.plant_tables.specs.DeskStopping.{IsAt, IsCutShortOf};
-ghost use Rattle.plant_tables.specs.Raising.{CanRise, RaisesTables};
+ghost use Rattle.table_forms.specs.Indexes.{AddsIndexes};
+ghost use Rattle.table_forms.specs.Moves.{Founds, LeavesFree};
+ghost use Rattle.table_forms.specs.Standing.{KeepsOthers, AreFree};
+ghost use Rattle.table_forms.specs.Stopping.{IsSettled};
+ghost use Rattle.plant_tables.specs.DeskForms.{desk_forms, forms_of, added_forms, later_forms};
+ghost use Rattle.plant_tables.specs.DeskIndexes.{added_indexes};
+ghost use Rattle.plant_tables.specs.DeskStopping.{IsAtOf, IsCutShortOf};
+ghost use Rattle.plant_tables.specs.Raising.{IsOlder, AreRisable, RaisesTables, raising};
 
 use crate::forms;
-use crate::write::{create_indexes, write_changes};
-use plant_base::NEWEST_SCHEMA;
+use crate::write::{write_change, write_changes};
+use plant_base::{Meta, Position};
 use plant_view::RowChange;
 use sqlite::{Alter, Connection, Transaction};
-use table_forms::{Fault, Work, in_one, make_tables};
+use table_forms::{Fault, Work, in_one, make_indexes, make_tables};
 
-/// Makes the tables that the newest schema adds to the first, and leaves them empty. The one fault is
+/// Makes the tables that a schema adds to the one before it, and leaves them empty; those of later ones can still be made
+/// where they could. The one fault is
 /// [`Fault::Store`], where the store refuses one, as where its name is taken.
-fn create_later<S: Alter>(tx: &mut Transaction<'_, S>) -> Result<(), Fault>
+fn create_added<S: Alter>(tx: &mut Transaction<'_, S>, schema: u64) -> Result<(), Fault>
     ensures fault { IsOkUnless result Fault.Store }
     ensures same_reference { tx.new.conn.ghost_name ≡ tx.old.conn.ghost_name }
     ensures founded { HasCleanDisk (state S.Store tx.new.conn.now)
-        → OnOk result (Founds (later_forms 1) (state S.Store tx.old.conn.now)
+        → OnOk result (Founds (added_forms schema) (state S.Store tx.old.conn.now)
         (state S.Store tx.new.conn.now)) }
+    ensures spared { HasCleanDisk (state S.Store tx.new.conn.now)
+        → OnOk result (LeavesFree (added_forms schema) (state S.Store tx.old.conn.now).now
+        (state S.Store tx.new.conn.now).now) }
     ensures kept { HasCleanDisk (state S.Store tx.new.conn.now)
         → KeepsCommit (state S.Store tx.old.conn.now) (state S.Store tx.new.conn.now) }
     ensures survives { Survives (state S.Store tx.old.conn.now) (state S.Store tx.new.conn.now) (λ _. ⊥) }
 {
-    make_tables(tx, &[forms::CREATE_EDGE])
+    if schema == 2 {
+        return make_tables(tx, &[forms::CREATE_EDGE]);
+    }
+    if schema == 3 {
+        return make_tables(tx, &[forms::CREATE_RECEIPT]);
+    }
+    make_tables(tx, &[])
 }
 
-/// The making of later tables and of indexes, and the writing of some changes.
+/// Makes the indexes that a schema adds to the one before it, of tables that stand and keep their rows. The one fault is
+/// [`Fault::Store`], where the store refuses one, as where its name is taken.
+fn index_added<S: Alter>(tx: &mut Transaction<'_, S>, schema: u64) -> Result<(), Fault>
+    ensures fault { IsOkUnless result Fault.Store }
+    ensures same_reference { tx.new.conn.ghost_name ≡ tx.old.conn.ghost_name }
+    ensures indexed { HasCleanDisk (state S.Store tx.new.conn.now)
+        → OnOk result (AddsIndexes (forms_of schema) (added_indexes schema)
+        (state S.Store tx.old.conn.now) (state S.Store tx.new.conn.now)) }
+    ensures kept { HasCleanDisk (state S.Store tx.new.conn.now)
+        → KeepsCommit (state S.Store tx.old.conn.now) (state S.Store tx.new.conn.now) }
+    ensures survives { Survives (state S.Store tx.old.conn.now) (state S.Store tx.new.conn.now) (λ _. ⊥) }
+{
+    if schema == 2 {
+        return make_indexes(tx, &forms::CREATE_INDEXES);
+    }
+    make_indexes(tx, &[])
+}
+
+/// The raising of tables of a version to the next, with rows of the tables that this adds.
 #[derive(Clone, Copy)]
 struct Raising<'a> {
-    changes: &'a [RowChange],
+    version: u64,
+    position: Position,
+    added: &'a [RowChange],
 }
 
 impl<'a> Work for Raising<'a> {
-    ghost makes = { λ w. RaisesTables w.changes.now };
+    ghost makes = { λ w. RaisesTables w.version w.position w.added.now };
 
     fn run<S: Alter>(&self, tx: &mut Transaction<'_, S>) -> Result<(), Fault> {
-        create_later(tx)?;
-        create_indexes(tx, NEWEST_SCHEMA)?;
-        write_changes(tx, self.changes)
+        let Some(schema) = self.version.checked_add(1) else {
+            return Err(Fault::Store);
+        };
+        create_added(tx, schema)?;
+        index_added(tx, schema)?;
+        write_changes(tx, self.added)?;
+        let meta = Meta {
+            schema,
+            position: self.position,
+        };
+        write_change(tx, &RowChange::Meta(meta))
     }
 }
 
-/// Makes the tables that the newest schema adds to the first, the indexes, and then the changes, in one transaction,
-/// whose commit is the last call of the store. The one fault is [`Fault::Store`], where the store refuses a table, an
-/// index or a change, or where a number is above 2^63 - 1; then nothing is changed, but a commit that failed may be
-/// found made after a stop.
+/// Raises tables of a version to the next, in one transaction, whose commit is the last call of the store: the tables and
+/// the indexes that the next schema adds are made, the rows are put into these tables, and table meta tells that schema,
+/// at the position that is given; the tables that later ones add can still be made. The one fault is [`Fault::Store`], where the store refuses a table, an index or a row,
+/// or where a number is above 2^63 - 1; then nothing is changed, but a commit that failed may be found made after a stop.
 pub fn commit_raising<S: Alter>(
     conn: &mut Connection<S>,
-    changes: &[RowChange],
+    version: u64,
+    position: Position,
+    added: &[RowChange],
 ) -> Result<(), Fault>
-    requires { conn.old.in_transaction ≡ false }
+    requires mode { conn.old.in_transaction ≡ false }
+    requires older { IsOlder version }
     ensures fault { IsOkUnless result Fault.Store }
     ensures mode { conn.new.in_transaction ≡ false }
-    ensures raised { HasCleanDisk (state S.Store conn.new) → (t : Tables)
-        → CanRise (state S.Store conn.old) t → AreFresh changes.now t
-        → OnOk result (IsAt (state S.Store conn.new) (changed_all changes.now t)
+    ensures raised { HasCleanDisk (state S.Store conn.new) → IsSettled (state S.Store conn.old)
+        → (t : Tables) → AreRisable version added.now (state S.Store conn.old).now t
+        → OnOk result (IsAtOf (version + 1) (state S.Store conn.new)
+        (changed_all (raising version position added.now) t)
         × KeepsOthers desk_forms (state S.Store conn.old).now (state S.Store conn.new).now) }
-    ensures cut_short { HasCleanDisk (state S.Store conn.new) → (t : Tables)
-        → CanRise (state S.Store conn.old) t → AreFresh changes.now t
-        → OnErr result (IsCutShortOf 1 (state S.Store conn.old) (state S.Store conn.new) t
-        (changed_all changes.now t)) }
+    ensures spared { HasCleanDisk (state S.Store conn.new) → IsSettled (state S.Store conn.old)
+        → (t : Tables) → AreRisable version added.now (state S.Store conn.old).now t
+        → OnOk result (AreFree (later_forms (version + 1)) (state S.Store conn.new).now.schema) }
+    ensures cut_short { HasCleanDisk (state S.Store conn.new) → IsSettled (state S.Store conn.old)
+        → (t : Tables) → AreRisable version added.now (state S.Store conn.old).now t
+        → OnErr result (IsCutShortOf version (version + 1) (state S.Store conn.old)
+        (state S.Store conn.new) t (changed_all (raising version position added.now) t)) }
     ensures survives { Survives (state S.Store conn.old) (state S.Store conn.new)
-        (λ trees. (db : Database) × RaisesTables changes.now (state S.Store conn.old).now db
+        (λ trees. (db : Database)
+        × RaisesTables version position added.now (state S.Store conn.old).now db
         × (trees ≡ db.trees)) }
 {
-    in_one(conn, &Raising { changes })
+    in_one(
+        conn,
+        &Raising {
+            version,
+            position,
+            added,
+        },
+    )
 }

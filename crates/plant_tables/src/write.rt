@@ -1,14 +1,14 @@
-ghost use Rattle.std.specs.Prelude.{◌≡◌, ◌≤◌, map, IfOk, OnOk, IsOkUnless};
+ghost use Rattle.std.specs.Prelude.{◌≡◌, ◌≤◌, ℕ, map, IfOk, OnOk, IsOkUnless};
 ghost use Rattle.sqlite.specs.Effect.{IsDatabase};
 ghost use Rattle.sqlite.specs.State.{HasCleanDisk, Survives, KeepsCommit};
 ghost use Rattle.sqlite.specs.Held.{state};
 ghost use Rattle.table_forms.specs.Moves.{Moves, Founds};
 ghost use Rattle.table_forms.specs.Indexes.{AddsIndexes};
 ghost use Rattle.table_forms.specs.Standing.{AreFree};
-ghost use Rattle.plant_tables.specs.DeskForms.{desk_forms, forms_of};
+ghost use Rattle.plant_tables.specs.DeskForms.{forms_of};
 ghost use Rattle.plant_tables.specs.DeskIndexes.{indexes_of, HasIndexes};
 ghost use Rattle.plant_tables.specs.DeskTables.{rows_changed, all_rows_changed};
-ghost use Rattle.plant_tables.specs.Keyed.{MovesTables};
+ghost use Rattle.plant_tables.specs.Keyed.{MovesTablesOf, IsOfSchema, AreOfSchema};
 ghost use Rattle.plant_base.specs.State.{newest_schema};
 
 use crate::forms;
@@ -17,19 +17,20 @@ use plant_tables_columns::storing::{id, large};
 use plant_tables_columns::{
     batch_values, class_values, control_line_values, definition_values, edge_values, event_values,
     hold_values, job_values, lot_values, master_line_values, meta_values, movement_values,
-    recipe_values, sublot_values,
+    receipt_values, recipe_values, sublot_values,
 };
 use plant_view::RowChange;
 use sqlite::{Alter, Transaction};
 use table_forms::{Fault, make_indexes, make_tables, put_row, take_rows};
 
-/// Makes one change inside the transaction, by one statement. The one fault is [`Fault::Store`], where the store
-/// refuses it, or where a number is above 2^63 - 1.
+/// Makes one change inside the transaction, by one statement, in tables of whatever schema has the change's table. The
+/// one fault is [`Fault::Store`], where the store refuses it, or where a number is above 2^63 - 1.
 pub fn write_change<S: Alter>(tx: &mut Transaction<'_, S>, change: &RowChange) -> Result<(), Fault>
     ensures fault { IsOkUnless result Fault.Store }
     ensures same_reference { tx.new.conn.ghost_name ≡ tx.old.conn.ghost_name }
     ensures moved { HasCleanDisk (state S.Store tx.new.conn.now)
-        → OnOk result (Moves desk_forms (state S.Store tx.old.conn.now)
+        → (schema : ℕ) → IsOfSchema schema change.now
+        → OnOk result (Moves (forms_of schema) (state S.Store tx.old.conn.now)
         (state S.Store tx.new.conn.now) (rows_changed change.now)) }
     ensures kept { HasCleanDisk (state S.Store tx.new.conn.now)
         → KeepsCommit (state S.Store tx.old.conn.now) (state S.Store tx.new.conn.now) }
@@ -69,6 +70,10 @@ pub fn write_change<S: Alter>(tx: &mut Transaction<'_, S>, change: &RowChange) -
         }
         RowChange::Hold(row) => put_row(tx, forms::PUT_HOLD, &hold_values(row)),
         RowChange::Edge(row) => put_row(tx, forms::PUT_EDGE, &edge_values(row)),
+        RowChange::Receipt(row) => {
+            let seq = large(row.seq)?;
+            put_row(tx, forms::PUT_RECEIPT, &receipt_values(row, seq))
+        }
         RowChange::Unhold { lot, hold } => { take_rows(tx, forms::TAKE_HOLD, &[id(lot), id(hold)]) }
     }
 }
@@ -82,10 +87,12 @@ pub fn write_changes<S: Alter>(
     ensures fault { IsOkUnless result Fault.Store }
     ensures same_reference { tx.new.conn.ghost_name ≡ tx.old.conn.ghost_name }
     ensures moved { HasCleanDisk (state S.Store tx.new.conn.now)
-        → OnOk result (Moves desk_forms (state S.Store tx.old.conn.now)
+        → (schema : ℕ) → AreOfSchema schema changes.now
+        → OnOk result (Moves (forms_of schema) (state S.Store tx.old.conn.now)
         (state S.Store tx.new.conn.now) (all_rows_changed changes.now)) }
     ensures tables { HasCleanDisk (state S.Store tx.new.conn.now)
-        → OnOk result (MovesTables changes.now (state S.Store tx.old.conn.now).now
+        → (schema : ℕ) → AreOfSchema schema changes.now
+        → OnOk result (MovesTablesOf schema changes.now (state S.Store tx.old.conn.now).now
         (state S.Store tx.new.conn.now).now) }
     ensures kept { HasCleanDisk (state S.Store tx.new.conn.now)
         → KeepsCommit (state S.Store tx.old.conn.now) (state S.Store tx.new.conn.now) }

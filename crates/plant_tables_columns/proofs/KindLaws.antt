@@ -1,19 +1,22 @@
 -- What one value was read from, and what is read of a value that obeys its rule.
-use Rattle.std.proofs.Common.{◌≡◌, refl, sym, ap, ◌∙◌, subst, ℕ, zero, suc, ◌≤◌, ℤ, pos, negsuc, List, ◌∷◌, Bool, true, false, ◌&&◌, ◌==◌, length, [], Option, Some, None, option_map, nat_le, eqb-true, arith}
+use Rattle.std.proofs.Common.{◌≡◌, refl, sym, ap, ◌∙◌, subst, ℕ, zero, suc, ◌≤◌, ℤ, pos, negsuc, List, ◌∷◌, Bool, true, false, [], Option, Some, None, option_map, nat_le, arith}
 use Rattle.std.proofs.lemmas.Bool.{and_parts}
 use Rattle.std.proofs.lemmas.Bool.Decides.{nat_tests}
-use Rattle.std.specs.Prelude.{if◌then◌else◌, option_and_then, unwrap_or}
+use Rattle.std.specs.Prelude.{if◌then◌else◌, unwrap_or}
 use Rattle.std.specs.Bool.{⊤}
+use Rattle.std.specs.Char.{is_ascii}
+use Rattle.std.specs.List.{list_all}
 use Rattle.sqlite.specs.declared.types.Value.{Value}
 use Rattle.sqlite.specs.declared.types.Value.TheVariants.{Null, Int, Real, Text, Blob}
 use Rattle.plant_base.specs.Values.{only, is_id, is_text, is_unit, greatest_sublot}
+use Rattle.plant_base.specs.Content.{is_there}
 use Rattle.plant_base.specs.Dates.{is_due}
 use Rattle.sqlite_schema.specs.declared.schema.Column.{Column}
 use Rattle.table_forms.specs.Forms.{integer, text, integer_or_null, text_or_null}
 use Rattle.table_forms.specs.Rows.{fits_columns}
 use Rattle.plant_tables_columns.specs.Columns.{Kind}
-use Rattle.plant_tables_columns.specs.Kinds.{number, flag, null_or, ids, texts, units, dues, numbers, line_numbers, always_one, flags, ids_or_none, sublot_numbers_or_none}
-use Rattle.plant_tables_columns.specs.Reading.{text_in, integer_in, is_null, by_text, by_number, id_from, text_from, unit_from, due_from, is_in, number_in, number_from, sublot_number_from, line_number, line_number_from, flag_from, or_null, id_or_null, sublot_or_null}
+use Rattle.plant_tables_columns.specs.Kinds.{number, flag, null_or, ids, texts, units, dues, contents, numbers, line_numbers, always_one, flags, ids_or_none, sublot_numbers_or_none}
+use Rattle.plant_tables_columns.specs.Reading.{text_in, integer_in, is_null, by_text, by_number, id_from, text_from, unit_from, due_from, content_in, content_from, is_in, number_in, number_from, sublot_number_from, line_number, line_number_from, flag_from, or_null, id_or_null, sublot_or_null}
 use Rattle.plant_tables_columns.proofs.Options.{bound, mapped, some_same, only_back, only_again}
 
 -- How a kind of value is stored in a column and read of it: it is stored as the column is declared; what was read is what
@@ -67,6 +70,31 @@ unit_kind = only_kind is_unit
 pub due_kind : IsKind dues (λ a. is_due a ≡ true) Any
 unfolding due_from
 due_kind = only_kind is_due
+
+-- a content that isn't empty is what was stored
+content_back : (bytes c : List ℕ) → content_in bytes ≡ c → is_there c ≡ true → bytes ≡ c
+content_back bytes c h there = elim (list_all is_ascii bytes) as (λ b. (if b then bytes else []) ≡ c → bytes ≡ c) [
+  | true ↦ λ e. e
+  | false ↦ λ e. absurd (let none : is_there [] ≡ true = subst (λ x. is_there x ≡ true) (sym e) there in cc)
+] h
+
+content_again : (c : List ℕ) → list_all is_ascii c ≡ true → content_in c ≡ c
+content_again c good = rw good refl
+
+content_keeps : (bytes c : List ℕ) → content_in bytes ≡ c → list_all is_ascii c ≡ true
+content_keeps bytes c h = elim (list_all is_ascii bytes) as (λ b. list_all is_ascii bytes ≡ b → (if b then bytes else []) ≡ c → list_all is_ascii c ≡ true) [
+  | true ↦ λ is e. subst (λ x. list_all is_ascii x ≡ true) e is
+  | false ↦ λ is e. subst (λ x. list_all is_ascii x ≡ true) e refl
+] refl h
+
+pub content_kind : IsKind contents (λ c. list_all is_ascii c ≡ true) (λ c. is_there c ≡ true)
+unfolding content_from
+content_kind = record {
+  fits = λ name c. refl;
+  back = λ v c h there. let p = bound (text_in v) (λ bytes. Some (content_in bytes)) c h in text_is v p.0 p.1 ∙ ap Text (content_back p.0 c (some_same _ _ p.2) there);
+  again = λ c good _. ap Some (content_again c good);
+  keeps = λ v c h. let p = bound (text_in v) (λ bytes. Some (content_in bytes)) c h in content_keeps p.0 c (some_same _ _ p.2);
+}
 
 -- ---- numbers
 

@@ -1,5 +1,5 @@
 -- What a movement's kind asks of its columns, and the movement of a row that has them.
-use Rattle.std.proofs.Common.{◌≡◌, refl, sym, ap, ◌∙◌, subst, ℕ, List, [], ◌∷◌, ◌++◌, true, ◌&&◌, Option, Some, None, eqb-true}
+use Rattle.std.proofs.Common.{◌≡◌, refl, sym, ap, ◌∙◌, subst, ℕ, List, true, ◌&&◌, Option, Some, None, eqb-true}
 use Rattle.std.specs.Prelude.{is_none}
 use Rattle.std.proofs.lemmas.Bool.{and_parts}
 use Rattle.plant_base.specs.declared.rows.MovementKind.{MovementKind}

@@ -1,24 +1,26 @@
 -- Table by table: what whole rows keep.
-use Rattle.std.proofs.Common.{◌≡◌, refl, sym, ap, ◌∙◌, ℕ, ◌≤◌, ◌&&◌, Option, Some, true, nat_le, arith}
+use Rattle.std.proofs.Common.{◌≡◌, refl, ℕ, ◌≤◌, List, [], ◌∷◌, Option, Some, true, nat_le, arith}
 use Rattle.std.proofs.lemmas.Bool.{and_parts}
 use Rattle.std.proofs.lemmas.Bool.Decides.{nat_tests}
+use Rattle.std.specs.Char.{is_ascii}
+use Rattle.std.specs.List.{list_all}
 use Rattle.sqlite.specs.Order.{Row}
-use Rattle.plant_base.specs.Values.{is_id}
+use Rattle.plant_base.specs.Content.{is_content_byte, is_there}
 use Rattle.plant_base.specs.RowValues.{HasClassValues, HasDefinitionValues, HasLotValues, HasHoldValues}
 use Rattle.plant_base.specs.declared.rows.MasterLine.{MasterLine}
 use Rattle.plant_base.specs.declared.rows.ControlLine.{ControlLine}
 use Rattle.plant_base.specs.declared.rows.MovementKind.{MovementKind}
 use Rattle.plant_base.specs.declared.rows.MovementKind.TheVariants as kind
 use Rattle.plant_base.specs.declared.rows.Movement.{Movement}
+use Rattle.plant_base.specs.declared.rows.Receipt.{Receipt}
 use Rattle.plant_tables_columns.specs.Reading.{is_in}
 use Rattle.plant_tables_columns.specs.Columns.{Columns, read_row}
-use Rattle.plant_tables_columns.specs.TableColumns.{row_of_meta, row_of_class, row_of_definition, row_of_recipe, row_of_master_line, row_of_job, row_of_batch, row_of_control_line, row_of_event, row_of_lot, row_of_sublot, row_of_booked, row_of_movement, row_of_hold, row_of_edge, meta_from, class_from, definition_from, recipe_from, master_line_from, control_line_from, job_from, batch_from, batch_event_from, lot_from, sublot_from, booked_from, hold_from, edge_from}
+use Rattle.plant_tables_columns.specs.TableColumns.{row_of_meta, row_of_class, row_of_definition, row_of_recipe, row_of_master_line, row_of_job, row_of_batch, row_of_control_line, row_of_event, row_of_lot, row_of_sublot, row_of_booked, row_of_movement, row_of_hold, row_of_edge, row_of_receipt, meta_from, class_from, definition_from, recipe_from, master_line_from, control_line_from, job_from, batch_from, batch_event_from, lot_from, sublot_from, booked_from, hold_from, edge_from, receipt_from}
 use Rattle.plant_tables_columns.specs.Booked.{booked_of}
-use Rattle.plant_tables_columns.specs.Obeying.{HasMetaValues, HasRecipeValues, HasMasterLineValues, HasControlLineValues, HasJobValues, HasBatchRowValues, HasEventRowValues, HasSublotValues, HasKindRowValues, HasMovementRowValues, HasEdgeValues}
-use Rattle.plant_tables_columns.specs.declared.booked.BookedRow.{BookedRow}
+use Rattle.plant_tables_columns.specs.Obeying.{HasMetaValues, HasRecipeValues, HasMasterLineValues, HasControlLineValues, HasJobValues, HasBatchRowValues, HasEventRowValues, HasSublotValues, HasKindRowValues, HasMovementRowValues, HasEdgeValues, HasReceiptRowValues}
 use Rattle.plant_tables_columns.proofs.KindLaws.{Any, IsNumbered}
 use Rattle.plant_tables_columns.proofs.ColumnLaws.{AreLawful, row_back, row_again, row_keeps}
-use Rattle.plant_tables_columns.proofs.TableLaws.{meta_lawful, class_lawful, definition_lawful, recipe_lawful, HasMasterColumns, master_line_lawful, HasControlColumns, control_line_lawful, job_lawful, batch_lawful, batch_event_lawful, lot_lawful, sublot_lawful, HasBookedColumns, booked_lawful, hold_lawful, edge_lawful}
+use Rattle.plant_tables_columns.proofs.TableLaws.{meta_lawful, class_lawful, definition_lawful, recipe_lawful, HasMasterColumns, master_line_lawful, HasControlColumns, control_line_lawful, job_lawful, batch_lawful, batch_event_lawful, lot_lawful, sublot_lawful, HasBookedColumns, booked_lawful, hold_lawful, edge_lawful, HasReceiptColumns, receipt_lawful}
 
 -- How rows are read and stored: what was read has the columns of the row, but where it isn't whole; a good one that is
 -- whole is read of its own columns; and each that was read is good.
@@ -86,6 +88,10 @@ pub edge_reads : Reads edge_from row_of_edge HasEdgeValues Any
 unfolding edge_from
 edge_reads = reads edge_lawful
 
+pub receipt_reads : Reads receipt_from row_of_receipt HasReceiptColumns (λ r. is_there r.content ≡ true)
+unfolding receipt_from
+receipt_reads = reads receipt_lawful
+
 -- ---- lines that have a number, and movements
 
 number_high : (n : ℕ) → is_in 1 65535 n ≡ true → n ≤ 65535
@@ -115,3 +121,23 @@ booked_good m (kind.Merged to) is named good = record { seq = good.seq; line = n
 
 pub movement_row_again : (m : Movement) → HasMovementRowValues m → booked_from (row_of_movement m) ≡ Some (booked_of m)
 movement_row_again m good = booked_reads.again (booked_of m) (booked_good m m.kind refl good.kind good) (number_low m.line good.line)
+
+-- ---- receipts
+
+content_ascii_byte : (b : ℕ) → is_content_byte b ≡ true → is_ascii b ≡ true
+content_ascii_byte b h = grind (arith, nat_tests)
+
+content_ascii : (bs : List ℕ) → list_all is_content_byte bs ≡ true → list_all is_ascii bs ≡ true
+content_ascii [] h = refl
+content_ascii (b ∷ bs) h =
+    let parts = and_parts (is_content_byte b) (list_all is_content_byte bs) h in
+    rw (content_ascii_byte b parts.0, content_ascii bs parts.1) refl
+
+-- a content that obeys its rule isn't empty
+pub content_there : (r : Receipt) → HasReceiptRowValues r → is_there r.content ≡ true
+content_there r good = (and_parts (is_there r.content) (list_all is_content_byte r.content) good.content).0
+
+pub receipt_again : (r : Receipt) → HasReceiptRowValues r → receipt_from (row_of_receipt r) ≡ Some r
+receipt_again r good =
+    let bytes = (and_parts (is_there r.content) (list_all is_content_byte r.content) good.content).1 in
+    receipt_reads.again r (record { reference = good.reference; seq = good.seq; content = content_ascii r.content bytes }) (content_there r good)

@@ -1,43 +1,33 @@
 -- Table by table: what its columns keep.
-use Rattle.std.proofs.Common.{◌≡◌, refl, ap, ap₂, ◌∙◌, subst, ℕ, suc, ◌+◌, ◌≤◌, ℤ, pos, List, [], ◌∷◌, Bool, true, ◌&&◌, nat_le, option_map, Option, Some, arith}
+use Rattle.std.proofs.Common.{◌≡◌, refl, ap, ap₂, ◌∙◌, subst, ℕ, suc, ◌+◌, ◌≤◌, ℤ, pos, List, Bool, true, ◌&&◌, nat_le, Some, arith}
 use Rattle.std.specs.Prelude.{option_and_then}
+use Rattle.std.specs.Char.{is_ascii}
+use Rattle.std.specs.List.{list_all}
 use Rattle.std.proofs.lemmas.Bool.{and_parts}
 use Rattle.sqlite.specs.declared.types.Value.{Value}
 use Rattle.sqlite.specs.declared.types.Value.TheVariants.{Int, Text}
 use Rattle.sqlite.specs.Order.{Row, column}
+use Rattle.plant_base.specs.Content.{is_there}
 use Rattle.plant_base.specs.Values.{is_id, is_text, is_amount, is_moment, greatest_amount, greatest_moment, greatest_phase, greatest_priority, greatest_seq, greatest_sublot, greatest_version}
 use Rattle.plant_base.specs.Formed.{is_version, is_priority, HasHeaderValues, HasLineValues}
 use Rattle.plant_base.specs.Words.{recipe_state_name, job_state_name, batch_state_name}
-use Rattle.plant_base.specs.declared.rows.Meta.{Meta}
-use Rattle.plant_base.specs.declared.rows.Class.{Class}
-use Rattle.plant_base.specs.declared.rows.Definition.{Definition}
 use Rattle.plant_base.specs.declared.rows.Header.{Header}
-use Rattle.plant_base.specs.declared.rows.Recipe.{Recipe}
 use Rattle.plant_base.specs.declared.rows.MasterLine.{MasterLine}
-use Rattle.plant_base.specs.declared.rows.OrderRow.{OrderRow}
-use Rattle.plant_base.specs.declared.rows.Job.{Job}
-use Rattle.plant_base.specs.declared.rows.Batch.{Batch}
-use Rattle.plant_base.specs.declared.rows.BatchRow.{BatchRow}
 use Rattle.plant_base.specs.declared.rows.ControlLine.{ControlLine}
 use Rattle.plant_base.specs.declared.states.Event.{Event}
-use Rattle.plant_base.specs.declared.rows.BatchEvent.{BatchEvent}
-use Rattle.plant_base.specs.declared.rows.Lot.{Lot}
-use Rattle.plant_base.specs.declared.rows.Sublot.{Sublot}
-use Rattle.plant_base.specs.declared.rows.Hold.{Hold}
-use Rattle.plant_base.specs.declared.rows.EdgeRow.{EdgeRow}
+use Rattle.plant_base.specs.declared.rows.Receipt.{Receipt}
 use Rattle.plant_base.specs.Edges.{edge_kind_number}
 use Rattle.plant_base.specs.RowValues.{HasClassValues, HasDefinitionValues, HasPhaseNumber, HasLotValues, HasHoldValues}
 use Rattle.plant_recipe.specs.Progress.{greatest_attempt}
 use Rattle.plant_view.specs.Production.{HasBatchValues, HasGoodOrder}
 use Rattle.plant_tables_columns.specs.Kinds.{number, recipe_states, job_states, batch_states, movement_sorts, edge_kinds}
 use Rattle.plant_tables_columns.specs.Reading.{text_in, integer_in, greatest_number}
-use Rattle.plant_tables_columns.specs.Naming.{event_name, event_phase, recipe_state_named, recipe_state_from, job_state_named, job_state_from, batch_state_named, batch_state_from, event_named, event_from, movement_sort_number, movement_sort_numbered, movement_sort_from, edge_kind_numbered, edge_kind_from}
-use Rattle.plant_tables_columns.specs.Columns.{Columns}
-use Rattle.plant_tables_columns.specs.TableColumns.{event_columns, meta_columns, class_columns, definition_columns, header_columns, recipe_columns, master_line_columns, control_line_columns, order_columns, job_columns, released_columns, batch_columns, batch_event_columns, lot_columns, sublot_columns, booked_columns, hold_columns, edge_columns}
+use Rattle.plant_tables_columns.specs.Naming.{event_phase, recipe_state_named, recipe_state_from, job_state_named, job_state_from, batch_state_named, batch_state_from, event_named, event_from, movement_sort_number, movement_sort_numbered, movement_sort_from, edge_kind_numbered, edge_kind_from}
+use Rattle.plant_tables_columns.specs.TableColumns.{event_columns, meta_columns, class_columns, definition_columns, header_columns, recipe_columns, master_line_columns, control_line_columns, order_columns, job_columns, released_columns, batch_columns, batch_event_columns, lot_columns, sublot_columns, booked_columns, hold_columns, edge_columns, receipt_columns}
 use Rattle.plant_tables_columns.specs.Obeying.{HasMetaValues, HasRecipeValues, HasJobValues, HasBatchRowValues, HasEventRowValues, HasSublotValues, HasEdgeValues}
 use Rattle.plant_tables_columns.specs.declared.booked.BookedRow.{BookedRow}
 use Rattle.plant_tables_columns.proofs.Options.{bound}
-use Rattle.plant_tables_columns.proofs.KindLaws.{IsKind, Any, GoodOrNone, text_kind, integer_kind, text_is, integer_is, id_kind, text_like, unit_kind, due_kind, number_kind, below_kind, one_kind, line_number_kind, IsNumbered, flag_kind, optional_id_kind, optional_sublot_kind}
+use Rattle.plant_tables_columns.proofs.KindLaws.{IsKind, Any, GoodOrNone, text_kind, integer_kind, text_is, integer_is, id_kind, text_like, unit_kind, due_kind, content_kind, number_kind, below_kind, one_kind, line_number_kind, IsNumbered, flag_kind, optional_id_kind, optional_sublot_kind}
 use Rattle.plant_tables_columns.proofs.NameLemmas.{recipe_state_back, recipe_state_own, job_state_back, job_state_own, batch_state_back, batch_state_own, event_back, event_own, event_keeps, movement_sort_back, movement_sort_own, edge_kind_back, edge_kind_own}
 use Rattle.plant_tables_columns.proofs.LineLaws.{line_lawful}
 use Rattle.plant_tables_columns.proofs.ColumnLaws.{AreLawful, StandFrom, one_lawful, ◌⊕◌, made_lawful, in_words}
@@ -234,3 +224,14 @@ hold_lawful = in_words HasHoldValues Any (λ h g. record { lot = g.0; id = g.1.0
 pub edge_lawful : AreLawful edge_columns HasEdgeValues Any
 edge_lawful = in_words HasEdgeValues Any (λ e g. record { from = g.1.0; to = g.1.1 }) (λ e h. (tt, (h.from, h.to))) (λ e _. (tt, (tt, tt)))
     (made_lawful _ _ (λ e. refl) (λ p. refl) (one_lawful edge_kind_kind ⊕ one_lawful id_kind ⊕ one_lawful id_kind))
+
+-- ---- receipts, whose content has no rule but that the column tells it
+
+pub record HasReceiptColumns (r : Receipt) : Type 0 where
+  pub reference : is_id r.reference ≡ true
+  pub seq : nat_le r.seq greatest_seq ≡ true
+  pub content : list_all is_ascii r.content ≡ true
+
+pub receipt_lawful : AreLawful receipt_columns HasReceiptColumns (λ r. is_there r.content ≡ true)
+receipt_lawful = in_words HasReceiptColumns (λ r. is_there r.content ≡ true) (λ r g. record { reference = g.0; seq = g.1.0; content = g.1.1 }) (λ r h. (h.reference, (h.seq, h.content))) (λ r there. (tt, (tt, there)))
+    (made_lawful _ _ (λ r. refl) (λ p. refl) (one_lawful id_kind ⊕ one_lawful (below_kind greatest_seq) ⊕ one_lawful content_kind))

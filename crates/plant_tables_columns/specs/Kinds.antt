@@ -10,7 +10,7 @@ use Rattle.plant_base.specs.declared.states.RecipeState.{RecipeState}
 use Rattle.plant_base.specs.declared.states.JobState.{JobState}
 use Rattle.plant_base.specs.declared.states.BatchState.{BatchState}
 use Rattle.table_forms.specs.Forms.{integer, text, integer_or_null, text_or_null}
-use Rattle.plant_tables_columns.specs.Reading.{id_from, text_from, unit_from, due_from, number_from, one_from, line_number_from, flag_from, id_or_null, sublot_or_null}
+use Rattle.plant_tables_columns.specs.Reading.{id_from, text_from, unit_from, due_from, content_from, number_from, one_from, line_number_from, flag_from, id_or_null, sublot_or_null}
 use Rattle.plant_tables_columns.specs.Naming.{recipe_state_from, job_state_from, batch_state_from, movement_sort_number, movement_sort_from, edge_kind_from}
 use Rattle.plant_tables_columns.specs.Columns.{Kind}
 use Rattle.plant_tables_columns.specs.declared.booked.MovementSort.{MovementSort}
@@ -43,6 +43,10 @@ units = record { declared = text; stored = Text; read = unit_from }
 
 abbrev pub dues : Kind (List ℕ)
 dues = record { declared = text; stored = Text; read = due_from }
+
+-- what commands said
+abbrev pub contents : Kind (List ℕ)
+contents = record { declared = text; stored = Text; read = content_from }
 
 -- ---- numbers
 

@@ -1,25 +1,23 @@
 -- Rows whose values obey their rules.
 use Rattle.std.specs.Prelude.{◌≡◌, ℕ, true, nat_le, ⊤}
 use Rattle.std.specs.List.{AllByRecursion}
+use Rattle.plant_base.specs.Content.{is_content}
 use Rattle.plant_base.specs.Values.{is_id, is_text, is_amount, is_moment, greatest_amount, greatest_seq, greatest_sublot}
 use Rattle.plant_base.specs.Formed.{is_version, is_phase_number, HasHeaderValues, HasLineValues}
 use Rattle.plant_base.specs.RowValues.{HasClassValues, HasDefinitionValues, HasPhaseNumber, HasLotValues, HasHoldValues}
 use Rattle.plant_base.specs.declared.rows.Meta.{Meta}
-use Rattle.plant_base.specs.declared.rows.Class.{Class}
-use Rattle.plant_base.specs.declared.rows.Definition.{Definition}
 use Rattle.plant_base.specs.declared.rows.Recipe.{Recipe}
 use Rattle.plant_base.specs.declared.rows.MasterLine.{MasterLine}
 use Rattle.plant_base.specs.declared.rows.Job.{Job}
 use Rattle.plant_base.specs.declared.rows.BatchRow.{BatchRow}
 use Rattle.plant_base.specs.declared.rows.ControlLine.{ControlLine}
 use Rattle.plant_base.specs.declared.rows.BatchEvent.{BatchEvent}
-use Rattle.plant_base.specs.declared.rows.Lot.{Lot}
 use Rattle.plant_base.specs.declared.rows.Sublot.{Sublot}
 use Rattle.plant_base.specs.declared.rows.MovementKind.{MovementKind}
 use Rattle.plant_base.specs.declared.rows.MovementKind.TheVariants as kind
 use Rattle.plant_base.specs.declared.rows.Movement.{Movement}
-use Rattle.plant_base.specs.declared.rows.Hold.{Hold}
 use Rattle.plant_base.specs.declared.rows.EdgeRow.{EdgeRow}
+use Rattle.plant_base.specs.declared.rows.Receipt.{Receipt}
 use Rattle.plant_recipe.specs.Progress.{greatest_attempt}
 use Rattle.plant_view.specs.Production.{HasBatchValues, HasGoodOrder}
 use Rattle.plant_view.specs.Tables.{Tables}
@@ -96,6 +94,11 @@ pub record HasEdgeValues (e : EdgeRow) : Type 0 where
   pub from : is_id e.from ≡ true
   pub to : is_id e.to ≡ true
 
+pub record HasReceiptRowValues (r : Receipt) : Type 0 where
+  pub reference : is_id r.reference ≡ true
+  pub seq : nat_le r.seq greatest_seq ≡ true
+  pub content : is_content r.content ≡ true
+
 -- each value of each row
 pub record HasGoodValues (t : Tables) : Type 0 where
   pub meta : HasMetaValues t.meta
@@ -112,3 +115,4 @@ pub record HasGoodValues (t : Tables) : Type 0 where
   pub movements : AllByRecursion HasMovementRowValues t.movements
   pub holds : AllByRecursion HasHoldValues t.holds
   pub edges : AllByRecursion HasEdgeValues t.edges
+  pub receipts : AllByRecursion HasReceiptRowValues t.receipts

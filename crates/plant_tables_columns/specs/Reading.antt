@@ -1,5 +1,7 @@
 -- The value of a column, read by its rule: nothing where it breaks the rule.
-use Rattle.std.specs.Prelude.{ℕ, ◌-◌, ◌^◌, ℤ, pos, negsuc, Bool, true, false, ◌&&◌, ◌==◌, nat_le, List, length, Option, Some, None, option_map, option_and_then, unwrap_or, if◌then◌else◌}
+use Rattle.std.specs.Prelude.{ℕ, ◌-◌, ◌^◌, ℤ, pos, negsuc, Bool, true, false, ◌&&◌, ◌==◌, nat_le, List, [], length, Option, Some, None, option_map, option_and_then, unwrap_or, if◌then◌else◌}
+use Rattle.std.specs.Char.{is_ascii}
+use Rattle.std.specs.List.{list_all}
 use Rattle.std.specs.Ordering.{int_eq}
 use Rattle.sqlite.specs.declared.types.Value.{Value}
 use Rattle.sqlite.specs.declared.types.Value.TheVariants.{Null, Int, Real, Text, Blob}
@@ -46,6 +48,13 @@ unit_from = by_text (only is_unit)
 
 unfoldable pub due_from : Value → Option (List ℕ)
 due_from = by_text (only is_due)
+
+-- any text is a content: one that isn't ASCII is read as the empty one, which the rule on receipts tells
+abbrev pub content_in : List ℕ → List ℕ
+content_in bytes = if list_all is_ascii bytes then bytes else []
+
+unfoldable pub content_from : Value → Option (List ℕ)
+content_from = by_text (λ bytes. Some (content_in bytes))
 
 -- ---- numbers
 

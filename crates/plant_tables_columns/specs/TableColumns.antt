@@ -1,6 +1,6 @@
 -- The columns of each table, what each row of the desk is stored as in them, and the row of the desk that a stored row
 -- stands for: nothing where one of its values breaks its rule.
-use Rattle.std.specs.Prelude.{ℕ, ◌+◌, List, [], ◌∷◌, ◌++◌, Bool, ◌&&◌, Option, Some, None, option_map, codes, if◌then◌else◌}
+use Rattle.std.specs.Prelude.{◌+◌, List, [], ◌∷◌, Bool, ◌&&◌, Option, Some, None, option_map, codes, if◌then◌else◌}
 use Rattle.sqlite.specs.declared.types.Value.{Value}
 use Rattle.sqlite.specs.declared.types.Value.TheVariants.{Null, Text}
 use Rattle.sqlite.specs.Order.{Row, column}
@@ -27,10 +27,11 @@ use Rattle.plant_base.specs.declared.rows.Sublot.{Sublot}
 use Rattle.plant_base.specs.declared.rows.Hold.{Hold}
 use Rattle.plant_base.specs.declared.rows.EdgeRow.{EdgeRow}
 use Rattle.plant_base.specs.declared.rows.Movement.{Movement}
+use Rattle.plant_base.specs.declared.rows.Receipt.{Receipt}
 use Rattle.table_forms.specs.Forms.{integer, text, text_or_null}
 use Rattle.plant_tables_columns.specs.Reading.{id_from, text_from, amount_from, greatest_number, is_null, is_empty, is_zero}
 use Rattle.plant_tables_columns.specs.Columns.{Columns, one, ◌⊗◌, made, read_row}
-use Rattle.plant_tables_columns.specs.Kinds.{number, ids, texts, units, dues, numbers, amounts, stocks, moments, seqs, sublot_numbers, line_numbers, always_one, flags, recipe_states, job_states, batch_states, movement_sorts, edge_kinds, ids_or_none, sublot_numbers_or_none}
+use Rattle.plant_tables_columns.specs.Kinds.{number, ids, texts, units, dues, contents, numbers, amounts, stocks, moments, seqs, sublot_numbers, line_numbers, always_one, flags, recipe_states, job_states, batch_states, movement_sorts, edge_kinds, ids_or_none, sublot_numbers_or_none}
 use Rattle.plant_tables_columns.specs.Naming.{event_name, event_phase, event_from, line_sort_from}
 use Rattle.plant_tables_columns.specs.declared.line.LineSort.{LineSort}
 use Rattle.plant_tables_columns.specs.declared.line.LineSort.TheVariants as line_sort
@@ -307,3 +308,16 @@ row_of_edge = edge_columns.stored
 
 unfoldable pub edge_from : Row → Option EdgeRow
 edge_from = read_row edge_columns
+
+-- ---- receipts
+
+abbrev pub receipt_columns : Columns Receipt
+receipt_columns = made (λ (reference, (seq, content)). record { reference = reference; seq = seq; content = content })
+    (λ r. (r.reference, (r.seq, r.content)))
+    (one (codes "id") ids ⊗ one (codes "seq") seqs ⊗ one (codes "content") contents)
+
+abbrev pub row_of_receipt : Receipt → Row
+row_of_receipt = receipt_columns.stored
+
+unfoldable pub receipt_from : Row → Option Receipt
+receipt_from = read_row receipt_columns

@@ -11,6 +11,7 @@ mod meta;
 mod naming;
 mod orders;
 mod reading;
+mod receipts;
 mod stocks;
 pub mod storing;
 
@@ -20,4 +21,5 @@ pub use judged::{Judged, judge_all};
 pub use masters::{class_values, definition_values, master_line_values, recipe_values};
 pub use meta::meta_values;
 pub use orders::{batch_values, control_line_values, event_values, job_values};
+pub use receipts::{judge_receipts, receipt_values};
 pub use stocks::{hold_values, lot_values, movement_values, sublot_values};

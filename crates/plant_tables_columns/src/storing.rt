@@ -4,7 +4,7 @@ ghost use Rattle.sqlite_value.specs.declared.value.Value.TheVariants.{Int, Text 
 ghost use Rattle.sqlite_value.specs.Value.{owned};
 ghost use Rattle.plant_tables_columns.specs.Kinds.{number, flag};
 
-use plant_base::{Amount, Id, Moment, Text};
+use plant_base::{Amount, Content, Id, Moment, Text};
 use sqlite_value::value::ValueRef;
 use table_forms::Fault;
 
@@ -64,6 +64,13 @@ pub fn text(text: &Text) -> ValueRef<'_>
     ensures { owned result ≡ Bytes text.now }
 {
     ValueRef::Text(text.as_bytes())
+}
+
+/// What a command said.
+pub fn content(content: &Content) -> ValueRef<'_>
+    ensures { owned result ≡ Bytes content.now }
+{
+    ValueRef::Text(content.as_str().as_bytes())
 }
 
 /// A word of the desk's own.

@@ -1,15 +1,16 @@
 -- Rows that were read stand for the tables that were loaded.
-use Rattle.std.proofs.Common.{◌≡◌, refl, sym, ap, ◌∙◌, ℕ, zero, suc, ◌+◌, ◌<◌, ◌≤◌, Bool, true, false, nat_le, if◌then◌else◌, List, [], ◌∷◌, ◌++◌, length, map, Option, Some, None, is_some, slice_get, slice_index_or, arith}
+use Rattle.std.proofs.Common.{◌≡◌, inl, inr, refl, sym, ap, ◌∙◌, ℕ, zero, suc, ◌+◌, ◌<◌, ◌≤◌, true, nat_le, List, [], ◌∷◌, length, map, Option, Some, None, is_some, slice_get, slice_index_or, arith}
 use Rattle.std.specs.Bool.{⊤}
 use Rattle.std.specs.List.{AllByRecursion, filter_map, cons_option}
-use Rattle.std.proofs.lemmas.Bool.{false≢true}
+use Rattle.std.proofs.lemmas.Bool.{cases_Bool, false≢true}
+use Rattle.plant_base.specs.Content.{is_there}
 use Rattle.plant_base.specs.declared.rows.Movement.{Movement}
-use Rattle.plant_tables_columns.specs.TableColumns.{row_of_meta, row_of_class, row_of_definition, row_of_recipe, row_of_master_line, row_of_job, row_of_batch, row_of_control_line, row_of_event, row_of_lot, row_of_sublot, row_of_booked, row_of_movement, row_of_hold, row_of_edge, only_meta, class_from, definition_from, recipe_from, master_line_from, job_from, batch_from, control_line_from, batch_event_from, lot_from, sublot_from, booked_from, hold_from, edge_from}
+use Rattle.plant_tables_columns.specs.TableColumns.{row_of_meta, row_of_class, row_of_definition, row_of_recipe, row_of_master_line, row_of_job, row_of_batch, row_of_control_line, row_of_event, row_of_lot, row_of_sublot, row_of_booked, row_of_movement, row_of_hold, row_of_edge, row_of_receipt, only_meta, class_from, definition_from, recipe_from, master_line_from, job_from, batch_from, control_line_from, batch_event_from, lot_from, sublot_from, booked_from, hold_from, edge_from, receipt_from}
 use Rattle.plant_tables.specs.DeskTables.{rows_of, contents_of}
 use Rattle.sqlite.specs.Order.{Row}
 use Rattle.plant_base.specs.declared.rows.Meta.{Meta}
 use Rattle.table_forms.specs.Forms.{Form}
-use Rattle.plant_tables.specs.DeskForms.{first_forms, edge_form, forms_of}
+use Rattle.plant_tables.specs.DeskForms.{forms_of}
 use Rattle.std.proofs.lemmas.Option.{slice_get_within}
 use Rattle.plant_tables_stored.specs.Loading.{contents_loaded}
 use Rattle.plant_tables_stored.specs.declared.loaded.Loaded.{Loaded}
@@ -19,7 +20,7 @@ use Rattle.plant_tables_judged.specs.Collecting.{Rows, MasterRows, OrderRows, St
 use Rattle.plant_tables_columns.specs.declared.booked.BookedRow.{BookedRow}
 use Rattle.plant_tables_columns.proofs.Options.{bound, some_same}
 use Rattle.plant_tables_columns.proofs.KindLemmas.{movement_back}
-use Rattle.plant_tables_columns.proofs.RowLaws.{meta_reads, class_reads, definition_reads, recipe_reads, master_line_reads, job_reads, batch_reads, control_line_reads, event_reads, lot_reads, sublot_reads, booked_reads, hold_reads, edge_reads}
+use Rattle.plant_tables_columns.proofs.RowLaws.{meta_reads, class_reads, definition_reads, recipe_reads, master_line_reads, job_reads, batch_reads, control_line_reads, event_reads, lot_reads, sublot_reads, booked_reads, hold_reads, edge_reads, receipt_reads}
 use Rattle.plant_tables_judged.proofs.TableLemmas.{every, all_back}
 
 -- what each table of these is read as
@@ -121,6 +122,7 @@ pub record AreStored (x : Loaded) (r : Rows) : Type 0 where
   pub movements : contents_loaded x 11 ≡ map row_of_movement (filter_map movement_from r.movements)
   pub holds : contents_loaded x 12 ≡ map row_of_hold r.holds
   pub edges : contents_loaded x 13 ≡ map row_of_edge r.edges
+  pub receipts : contents_loaded x 14 ≡ map row_of_receipt r.receipts
 
 meta_back : (rows : List Row) (r : Meta) → only_meta rows ≡ Some r → rows ≡ row_of_meta r ∷ []
 unfolding only_meta
@@ -135,7 +137,8 @@ are_stored x r h whole =
     let p2 = bound (masters_from x) _ r p1.2 in
     let p3 = bound (orders_from x) _ r p2.2 in
     let p4 = bound (stocks_from x) _ r p3.2 in
-    let same : rows_joined p1.0 p2.0 p3.0 p4.0 ≡ r = some_same _ _ p4.2 in
+    let p5 = bound (all_from receipt_from (contents_loaded x 14)) _ r p4.2 in
+    let same : rows_joined p1.0 p2.0 p3.0 p4.0 p5.0 ≡ r = some_same _ _ p5.2 in
     let m = masters_back x p2.0 p2.1 in
     let o = orders_back x p3.0 p3.1 in
     let s = stocks_back x p4.0 p4.1 in
@@ -154,6 +157,7 @@ are_stored x r h whole =
       movements = all_back booked_from row_of_booked (λ m. 1 ≤ m.line) booked_reads.back _ r.movements (s.movements ∙ ap (λ (r : Rows). Some r.movements) same) whole.movement_lines ∙ fitted r.movements whole.movements;
       holds = all_back hold_from row_of_hold (λ _. ⊤) hold_reads.back _ r.holds (s.holds ∙ ap (λ (r : Rows). Some r.holds) same) (every r.holds);
       edges = all_back edge_from row_of_edge (λ _. ⊤) edge_reads.back _ r.edges (s.edges ∙ ap (λ (r : Rows). Some r.edges) same) (every r.edges);
+      receipts = all_back receipt_from row_of_receipt (λ r. is_there r.content ≡ true) receipt_reads.back _ r.receipts (p5.1 ∙ ap (λ (r : Rows). Some r.receipts) same) whole.contents;
     }
 
 -- the loaded rows of the first tables are these
@@ -166,16 +170,18 @@ at_place x first [] are place low = absurd (omega (arith, low))
 at_place x first (rows ∷ more) are zero low = let same : first + 0 ≡ first = omega arith in ap (contents_loaded x) same ∙ are.0
 at_place x first (rows ∷ more) are (suc place) low = let same : first + suc place ≡ suc first + place = omega arith in ap (contents_loaded x) same ∙ at_place x (suc first) more are.1 place (omega (arith, low))
 
-few_forms : (b : Bool) → length (first_forms ++ (if b then edge_form ∷ [] else [])) ≤ 14
-few_forms true = omega arith
-few_forms false = omega arith
+few_forms : (schema : ℕ) → length (forms_of schema) ≤ 15
+few_forms schema = elim (cases_Bool (nat_le 3 schema)) [
+  | inl third ↦ rw third (omega arith)
+  | inr below ↦ elim (cases_Bool (nat_le 2 schema)) [ inl second ↦ rw (below, second) (omega arith) | inr first ↦ rw (below, first) (omega arith) ]
+]
 
--- Rows that were read from what was loaded, whose lines have numbers and whose movements have the columns of their
--- kinds, are the tables that were loaded.
+-- Rows that were read from what was loaded, whose lines have numbers, whose movements have the columns of their kinds and
+-- whose receipts have contents, are the tables that were loaded.
 pub stands_for : (x : Loaded) (r : Rows) → rows_from x ≡ Some r → AreWhole r → (schema place : ℕ) (form : Form) → slice_get (forms_of schema) place ≡ Some form → contents_loaded x place ≡ contents_of (tables_in r) place
 stands_for x r h whole schema place form is =
     let s = are_stored x r h whole in
-    let all : AreFrom x 0 (rows_of (tables_in r)) = (s.meta, (s.classes, (s.definitions, (s.recipes, (s.master_lines, (s.jobs, (s.batches, (s.control_lines, (s.events, (s.lots, (s.sublots, (s.movements, (s.holds, (s.edges, tt)))))))))))))) in
-    let low : place < length (rows_of (tables_in r)) = (let within = slice_get_within (forms_of schema) place form is in omega (arith, within, few_forms (nat_le 2 schema))) in
+    let all : AreFrom x 0 (rows_of (tables_in r)) = (s.meta, (s.classes, (s.definitions, (s.recipes, (s.master_lines, (s.jobs, (s.batches, (s.control_lines, (s.events, (s.lots, (s.sublots, (s.movements, (s.holds, (s.edges, (s.receipts, tt))))))))))))))) in
+    let low : place < length (rows_of (tables_in r)) = (let within = slice_get_within (forms_of schema) place form is in omega (arith, within, few_forms schema)) in
     let same : 0 + place ≡ place = omega arith in
     ap (contents_loaded x) (sym same) ∙ at_place x 0 (rows_of (tables_in r)) all place low

@@ -1,18 +1,16 @@
 -- The rows of tables, and the tables of those rows.
-use Rattle.std.proofs.Common.{◌≡◌, refl, ap, ◌∙◌, ℕ, ◌≤◌, true, nat_le, List, [], ◌∷◌, map, is_some, arith}
+use Rattle.std.proofs.Common.{◌≡◌, refl, ap, ◌∙◌, ◌≤◌, true, List, [], ◌∷◌, map, is_some}
 use Rattle.std.specs.List.{AllByRecursion, filter_map, cons_option}
-use Rattle.std.proofs.lemmas.Bool.{and_parts}
-use Rattle.std.proofs.lemmas.Bool.Decides.{nat_tests}
 use Rattle.plant_base.proofs.Put.{all_weaker}
+use Rattle.plant_base.specs.Content.{is_there}
 use Rattle.plant_base.specs.declared.rows.Movement.{Movement}
 use Rattle.plant_view.specs.Tables.{Tables}
-use Rattle.plant_tables_columns.specs.Reading.{is_in}
 use Rattle.plant_tables_columns.specs.Booked.{movement_from, booked_of}
 use Rattle.plant_tables_judged.specs.Collecting.{tables_in, rows_in, AreWhole}
-use Rattle.plant_tables_columns.specs.Obeying.{HasMasterLineValues, HasControlLineValues, HasMovementRowValues, HasGoodValues}
+use Rattle.plant_tables_columns.specs.Obeying.{HasMasterLineValues, HasControlLineValues, HasMovementRowValues, HasReceiptRowValues, HasGoodValues}
 use Rattle.plant_tables_columns.specs.declared.booked.BookedRow.{BookedRow}
 use Rattle.plant_tables_columns.proofs.KindLemmas.{movement_again}
-use Rattle.plant_tables_columns.proofs.RowLaws.{number_low}
+use Rattle.plant_tables_columns.proofs.RowLaws.{number_low, content_there}
 
 booked_back : (ms : List Movement) → filter_map movement_from (map booked_of ms) ≡ ms
 booked_back [] = refl
@@ -31,4 +29,5 @@ whole_rows t good = record {
   control_lines = all_weaker HasControlLineValues (λ l. 1 ≤ l.number) (λ l h. number_low l.number h.number) t.control_lines good.control_lines;
   movement_lines = all_booked (λ r. 1 ≤ r.line) t.movements (all_weaker HasMovementRowValues (λ m. 1 ≤ m.line) (λ m h. number_low m.line h.line) t.movements good.movements);
   movements = all_booked (λ r. is_some (movement_from r) ≡ true) t.movements (all_weaker HasMovementRowValues (λ m. is_some (movement_from (booked_of m)) ≡ true) (λ m h. ap is_some (movement_again m)) t.movements good.movements);
+  contents = all_weaker HasReceiptRowValues (λ r. is_there r.content ≡ true) content_there t.receipts good.receipts;
 }

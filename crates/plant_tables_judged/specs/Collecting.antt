@@ -1,7 +1,8 @@
 -- The rows of the desk that all stored rows stand for.
-use Rattle.std.specs.Prelude.{◌≡◌, ◌≤◌, true, List, [], ◌∷◌, Option, Some, map, is_some}
+use Rattle.std.specs.Prelude.{◌≡◌, ◌≤◌, true, List, Option, Some, map, is_some}
 use Rattle.std.specs.List.{AllByRecursion, filter_map}
 use Rattle.std.specs.List.Sorted.{IsStrictlySortedBy}
+use Rattle.plant_base.specs.Content.{is_there}
 use Rattle.plant_base.specs.Options.{◌>>=◌}
 use Rattle.plant_base.specs.State.{movement_order, event_order}
 use Rattle.plant_base.specs.declared.rows.Meta.{Meta}
@@ -15,23 +16,23 @@ use Rattle.plant_base.specs.declared.rows.ControlLine.{ControlLine}
 use Rattle.plant_base.specs.declared.rows.BatchEvent.{BatchEvent}
 use Rattle.plant_base.specs.declared.rows.Lot.{Lot}
 use Rattle.plant_base.specs.declared.rows.Sublot.{Sublot}
-use Rattle.plant_base.specs.declared.rows.Movement.{Movement}
 use Rattle.plant_base.specs.declared.rows.Hold.{Hold}
 use Rattle.plant_base.specs.declared.rows.EdgeRow.{EdgeRow}
+use Rattle.plant_base.specs.declared.rows.Receipt.{Receipt}
 use Rattle.plant_view.specs.Tables.{Tables}
 use Rattle.plant_tables.specs.Keyed.{AreKeyed}
 use Rattle.plant_tables_columns.specs.All.{all_from}
 use Rattle.plant_tables_stored.specs.Loading.{contents_loaded}
 use Rattle.plant_tables_stored.specs.declared.loaded.Loaded.{Loaded}
 use Rattle.plant_tables_columns.specs.Booked.{movement_from, booked_of}
-use Rattle.plant_tables_columns.specs.TableColumns.{only_meta, class_from, definition_from, recipe_from, master_line_from, job_from, batch_from, control_line_from, batch_event_from, lot_from, sublot_from, booked_from, hold_from, edge_from}
+use Rattle.plant_tables_columns.specs.TableColumns.{only_meta, class_from, definition_from, recipe_from, master_line_from, job_from, batch_from, control_line_from, batch_event_from, lot_from, sublot_from, booked_from, hold_from, edge_from, receipt_from}
 use Rattle.plant_tables_columns.specs.declared.booked.BookedRow.{BookedRow}
 use Rattle.plant_tables_judged.specs.declared.desk_rows.DeskRows.{DeskRows}
 use Rattle.plant_tables_judged.specs.declared.desk_rows.MasterRows as held_masters
 use Rattle.plant_tables_judged.specs.declared.desk_rows.OrderRows as held_orders
 use Rattle.plant_tables_judged.specs.declared.desk_rows.StockRows as held_stocks
 
--- the rows of each table; a movement's columns may be those of another kind, and a line's number 0
+-- the rows of each table; a movement's columns may be those of another kind, a line's number 0, and a content empty
 pub record Rows : Type 0 where
   pub meta : Meta
   pub classes : List Class
@@ -47,6 +48,7 @@ pub record Rows : Type 0 where
   pub movements : List BookedRow
   pub holds : List Hold
   pub edges : List EdgeRow
+  pub receipts : List Receipt
 
 pub record MasterRows : Type 0 where
   pub classes : List Class
@@ -105,8 +107,8 @@ stocks_listed r = record { lots = r.lots.items; sublots = r.sublots.items; movem
 
 -- ---- all tables
 
-abbrev pub rows_joined : Meta → MasterRows → OrderRows → StockRows → Rows
-rows_joined meta m o s = record {
+abbrev pub rows_joined : Meta → MasterRows → OrderRows → StockRows → List Receipt → Rows
+rows_joined meta m o s receipts = record {
   meta = meta;
   classes = m.classes;
   definitions = m.definitions;
@@ -121,6 +123,7 @@ rows_joined meta m o s = record {
   movements = s.movements;
   holds = s.holds;
   edges = s.edges;
+  receipts = receipts;
 }
 
 -- every value of every table obeys its rule, and these are the rows
@@ -130,7 +133,8 @@ rows_from x = do
   m ← masters_from x
   o ← orders_from x
   s ← stocks_from x
-  Some (rows_joined meta m o s)
+  receipts ← all_from receipt_from (contents_loaded x 14)
+  Some (rows_joined meta m o s receipts)
 
 -- the rows as lists
 unfoldable pub rows_listed : DeskRows → Rows
@@ -149,6 +153,7 @@ rows_listed r = record {
   movements = r.movements.items;
   holds = r.holds.items;
   edges = r.edges.items;
+  receipts = r.receipts.items;
 }
 
 -- ---- rows and tables
@@ -170,14 +175,16 @@ tables_in r = record {
   movements = filter_map movement_from r.movements;
   holds = r.holds;
   edges = r.edges;
+  receipts = r.receipts;
 }
 
--- each line has a number, and each movement the columns of its kind
+-- each line has a number, each movement the columns of its kind, and each receipt a content
 pub record AreWhole (r : Rows) : Type 0 where
   pub master_lines : AllByRecursion (λ l. 1 ≤ l.number) r.master_lines
   pub control_lines : AllByRecursion (λ l. 1 ≤ l.number) r.control_lines
   pub movement_lines : AllByRecursion (λ m. 1 ≤ m.line) r.movements
   pub movements : AllByRecursion (λ m. is_some (movement_from m) ≡ true) r.movements
+  pub contents : AllByRecursion (λ r. is_there r.content ≡ true) r.receipts
 
 -- the rows of the tables
 abbrev pub rows_in : Tables → Rows
@@ -196,6 +203,7 @@ rows_in t = record {
   movements = map booked_of t.movements;
   holds = t.holds;
   edges = t.edges;
+  receipts = t.receipts;
 }
 
 -- the rows of each table stand in the order of their keys, none with the key of another

@@ -13,7 +13,8 @@ use Rattle.plant_tables_columns.specs.Booked.{movement_from, booked_of}
 use Rattle.plant_tables_judged.specs.Collecting.{Rows, rows_from, tables_in, rows_in, AreWhole, AreInOrder}
 use Rattle.plant_tables_columns.specs.Obeying.{HasGoodValues}
 
--- Rows whose lines have numbers, and whose movements have the columns of their kinds, are the tables that were loaded.
+-- Rows whose lines have numbers, whose movements have the columns of their kinds and whose receipts have contents are the
+-- tables that were loaded.
 abbrev pub StandFor : Type 0
 StandFor = (x : Loaded) (r : Rows) → rows_from x ≡ Some r → AreWhole r → (schema place : ℕ) (form : Form) → slice_get (forms_of schema) place ≡ Some form
     → contents_loaded x place ≡ contents_of (tables_in r) place
@@ -23,7 +24,7 @@ abbrev pub AreReadAgain : Type 0
 AreReadAgain = (schema : ℕ) (db : Database) (t : Tables) (x : Loaded) → HoldsTablesOf schema db t → LacksLater schema t → AreInOrder t → HasGoodValues t → AreLoaded schema db x
     → rows_from x ≡ Some (rows_in t)
 
--- The rows of good tables have numbers and the columns of their kinds.
+-- The rows of good tables have numbers, the columns of their kinds and contents.
 abbrev pub AreWholeRows : Type 0
 AreWholeRows = (t : Tables) → HasGoodValues t → AreWhole (rows_in t)
 

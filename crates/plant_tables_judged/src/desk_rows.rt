@@ -1,6 +1,7 @@
 ghost use Rattle.std.specs.Prelude.{◌≡◌, IfOk, is_some, option_map};
 ghost use Rattle.plant_tables_stored.specs.Loading.{contents_loaded};
-ghost use Rattle.plant_tables_columns.specs.TableColumns.{only_meta};
+ghost use Rattle.plant_tables_columns.specs.All.{all_from};
+ghost use Rattle.plant_tables_columns.specs.TableColumns.{only_meta, receipt_from};
 ghost use Rattle.plant_tables_judged.specs.Collecting.{masters_listed, masters_from, orders_listed};
 ghost use Rattle.plant_tables_judged.specs.Collecting.{orders_from, stocks_listed, stocks_from, rows_listed};
 ghost use Rattle.plant_tables_judged.specs.Collecting.{rows_from};
@@ -9,14 +10,15 @@ ghost use Rattle.plant_tables_judged.specs.Laws.{IsBookedAgain};
 
 use plant_base::{
     BatchEvent, BatchRow, Class, ControlLine, Definition, EdgeRow, Hold, Job, Lot, MasterLine,
-    Meta, Recipe, Sublot,
+    Meta, Receipt, Recipe, Sublot,
 };
-use plant_tables_columns::{BookedRow, Judged, judge_all};
+use plant_tables_columns::{BookedRow, Judged, judge_all, judge_receipts};
 use plant_tables_stored::Loaded;
 use sqlite::Row;
 use std::alloc::{AllocError, Global};
 
-/// The rows of the desk's tables, each table in the order in which it was read: no edges in the first schema.
+/// The rows of the desk's tables, each table in the order in which it was read: no edges in the first schema, and no
+/// receipts before the third.
 #[derive(Drop)]
 pub struct DeskRows {
     pub meta: Meta,
@@ -33,6 +35,7 @@ pub struct DeskRows {
     pub movements: Vec<BookedRow>,
     pub holds: Vec<Hold>,
     pub edges: Vec<EdgeRow>,
+    pub receipts: Vec<Receipt>,
 }
 
 /// The rows of classes, definitions and master recipes.
@@ -65,7 +68,7 @@ pub struct StockRows {
 
 /// The one row of meta. `None` where there isn't one, or a value of it breaks its rule.
 #[tactic(auto, unfolding(plant_tables_columns::specs::TableColumns::only_meta))]
-fn only_meta(rows: &[Row]) -> Option<Meta>
+pub fn only_meta(rows: &[Row]) -> Option<Meta>
     ensures { result ≡ only_meta rows.now }
 {
     match rows {
@@ -158,6 +161,14 @@ fn stocks_of(alloc: Global, loaded: &Loaded) -> Result<Option<StockRows>, AllocE
     }))
 }
 
+/// The receipts. `None` where a value of them breaks its rule.
+fn receipts_of(alloc: Global, loaded: &Loaded) -> Result<Option<Vec<Receipt>>, AllocError>
+    ensures { IfOk result (λ rows. option_map (λ list. list.items) rows
+        ≡ all_from receipt_from (contents_loaded loaded.now 14)) }
+{
+    judge_receipts(alloc, loaded.rows(14))
+}
+
 /// The rows of the desk that the stored rows stand for. `None` exactly where a value breaks its rule, or meta hasn't
 /// one row; an error where there is no memory.
 #[tactic(auto, unfolding(crate::specs::Collecting::rows_from, crate::specs::Collecting::rows_listed))]
@@ -176,6 +187,9 @@ pub fn rows_of(alloc: Global, loaded: &Loaded) -> Result<Option<DeskRows>, Alloc
     let Some(stocks) = stocks_of(alloc, loaded)? else {
         return Ok(None);
     };
+    let Some(receipts) = receipts_of(alloc, loaded)? else {
+        return Ok(None);
+    };
     Ok(Some(DeskRows {
         meta,
         classes: masters.classes,
@@ -191,16 +205,17 @@ pub fn rows_of(alloc: Global, loaded: &Loaded) -> Result<Option<DeskRows>, Alloc
         movements: stocks.movements,
         holds: stocks.holds,
         edges: stocks.edges,
+        receipts,
     }))
 }
 
 /// What the reading of rows keeps, as laws that a proof above may cite. It does nothing when it runs.
 ///
-/// - `stand_for`: rows whose lines have numbers, and whose movements have the columns of their kinds, are the tables
-///   that were loaded.
+/// - `stand_for`: rows whose lines have numbers, whose movements have the columns of their kinds and whose receipts have
+///   contents are the tables that were loaded.
 /// - `read_again`: what a database holds is read as it was written, where the keys of the tables rise and each value
 ///   obeys its rule.
-/// - `whole`: the rows of such tables have numbers and the columns of their kinds.
+/// - `whole`: the rows of such tables have numbers, the columns of their kinds and contents.
 /// - `tables`: the tables of the rows of tables are those tables.
 /// - `booked`: the row that books a movement books that movement.
 pub fn reading_laws()

@@ -3,5 +3,5 @@
 
 mod desk_rows;
 
-pub use desk_rows::{DeskRows, has_meta, reading_laws, rows_of};
+pub use desk_rows::{DeskRows, has_meta, only_meta, reading_laws, rows_of};
 pub use plant_tables_columns::{BookedRow, MovementSort};

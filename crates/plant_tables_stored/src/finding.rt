@@ -1,6 +1,6 @@
 //! What a store holds of the desk.
 
-ghost use Rattle.std.specs.Prelude.{◌≡◌, ◌≢◌, ◌↔◌, ◌∷◌, [], false, true, All, None, ℤ, IfOk, IfErr, IfSome};
+ghost use Rattle.std.specs.Prelude.{◌≡◌, ◌≢◌, ◌↔◌, ◌∷◌, [], false, true, All, None, ℤ, IfOk, IfErr, IfSome, OnOk};
 ghost use Rattle.std.specs.Prelude.{is_some};
 ghost use Rattle.std.specs.List.{list_any};
 ghost use Rattle.sqlite.specs.Does.{lacks_sequence};
@@ -11,6 +11,7 @@ ghost use Rattle.sqlite.specs.State.{HasCleanDisk, IsLive, IsUnchanged, Survives
 ghost use Rattle.sqlite.specs.declared.types.Value.TheVariants.{Int};
 ghost use Rattle.table_forms.specs.Resting.{Keeps};
 ghost use Rattle.table_forms.specs.Standing.{AreFree, HasTable, IsFree};
+ghost use Rattle.plant_tables_stored.specs.Loading.{Loads};
 ghost use Rattle.plant_tables.specs.DeskForms.{desk_forms, meta_form};
 ghost use Rattle.plant_tables_stored.specs.Version.{row_of, IsGoodMeta, IsVersion};
 
@@ -134,6 +135,26 @@ fn version<S: Alter>(alloc: Global, conn: &mut Connection<S>) -> Result<Option<i
     }
     let list = read_table(alloc, conn, &META, SELECT_META)?;
     Ok(version_in(list.as_slice()))
+}
+
+/// The rows of table meta, as they are stored. Store where it doesn't stand as it is declared, where a transaction is
+/// open, and where the store fails; Memory where there is none. Nothing is changed.
+pub fn read_meta<S: Alter>(alloc: Global, conn: &mut Connection<S>) -> Result<Vec<Row>, Fault>
+    ensures rows { HasCleanDisk (state S.Store conn.new)
+        → IfOk result (λ list. Loads (state S.Store conn.old).now meta_form list.items) }
+    ensures same { HasCleanDisk (state S.Store conn.new)
+        → OnOk result (IsUnchanged (state S.Store conn.old) (state S.Store conn.new)) }
+    ensures kept { HasCleanDisk (state S.Store conn.new)
+        → Keeps (state S.Store conn.old) (state S.Store conn.new) }
+    ensures mode { (state S.Store conn.old).in_transaction ≡ false
+        → (state S.Store conn.new).in_transaction ≡ false }
+    ensures crash { Survives (state S.Store conn.old) (state S.Store conn.new) (λ _. ⊥) }
+    // Memory is wanted for a row of table meta.
+    ensures memory { HasCleanDisk (state S.Store conn.new)
+        → IfErr result (λ fault. fault ≡ Fault.Memory
+        → HasTable (state S.Store conn.old).now.schema meta_form) }
+{
+    read_table(alloc, conn, &META, SELECT_META)
 }
 
 /// Whether a table counts its rowids, as AUTOINCREMENT does.

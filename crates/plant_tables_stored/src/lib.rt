@@ -5,5 +5,5 @@ mod finding;
 mod loaded;
 mod readings;
 
-pub use finding::{FoundTables, found, lacks_counts};
+pub use finding::{FoundTables, found, lacks_counts, read_meta};
 pub use loaded::Loaded;

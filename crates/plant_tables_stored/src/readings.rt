@@ -7,7 +7,7 @@ ghost use Rattle.plant_tables_stored.specs.Readings.{SelectsAll};
 
 use plant_tables::forms::{
     BATCH, BATCH_EVENT, CLASS, CONTROL_LINE, DEFINITION, EDGE, HOLD, JOB, LOT, META, MOVEMENT,
-    RECIPE, RECIPE_LINE, SUBLOT, tables_in,
+    RECEIPT, RECIPE, RECIPE_LINE, SUBLOT, tables_in,
 };
 use table_forms::Form;
 
@@ -91,8 +91,13 @@ const EDGE_READING: Reading = Reading {
     select: "SELECT kind, a, b FROM edge ORDER BY kind, a, b",
 };
 
+const RECEIPT_READING: Reading = Reading {
+    form: RECEIPT,
+    select: "SELECT id, seq, content FROM receipt ORDER BY id",
+};
+
 /// The reading of each of the desk's tables, in the order of their forms.
-pub(crate) fn desk_readings() -> [Reading; 14]
+pub(crate) fn desk_readings() -> [Reading; 15]
     ensures forms { map (λ reading. reading.form) result ≡ desk_forms }
     ensures texts { AllByRecursion SelectsAll result }
 {
@@ -111,6 +116,7 @@ pub(crate) fn desk_readings() -> [Reading; 14]
         MOVEMENT_READING,
         HOLD_READING,
         EDGE_READING,
+        RECEIPT_READING,
     ]
 }
 

@@ -6,7 +6,7 @@ use Rattle.plant_base.specs.declared.command.Command.{Command}
 use Rattle.plant_base.specs.declared.command.Command.TheVariants as body
 use Rattle.plant_base.specs.declared.command.Envelope.{Envelope}
 use Rattle.plant_base.specs.Options.{◌>>=◌}
-use Rattle.plant_text_commands.specs.Fields.{when, string_at, id_at, text_at, unit_at, amount_at, moment_at, sublot_at, note_at, is_command}
+use Rattle.plant_text_commands.specs.Fields.{when, string_at, id_at, text_at, unit_at, amount_at, moment_at, sublot_at, note_at, reference_at, is_command}
 use Rattle.plant_text_commands.specs.Lists.{items_at, part_of}
 use Rattle.plant_text_commands.specs.Batches.{body_on_batch}
 use Rattle.plant_text_commands.specs.Plans.{add_recipe_of, approve_of, withdraw_of, import_orders_of, cancel_order_of, release_of}
@@ -106,6 +106,7 @@ envelope_of d = do
   at ← moment_at (codes "at") d
   by ← text_at (codes "by") d
   note ← note_at d
+  reference ← reference_at d
   word ← string_at (codes "do") d
   body ← body_of word d
-  Some (record { at = at; by = by; note = note; body = body })
+  Some (record { at = at; by = by; note = note; reference = reference; body = body })

@@ -1,5 +1,5 @@
 -- What the members of a JSON object say. An object has a name once: where a text has it twice, the last one counts.
-use Rattle.std.specs.Prelude.{ℕ, ◌==◌, ◌&&◌, List, [], ◌∷◌, ◌++◌, length, Bool, nat_le, if◌then◌else◌, codes, Option, Some, None, option_and_then, is_some}
+use Rattle.std.specs.Prelude.{ℕ, ◌==◌, ◌&&◌, List, [], ◌∷◌, ◌++◌, length, Bool, nat_le, if◌then◌else◌, codes, Option, Some, None, option_map, option_and_then, is_some}
 use Rattle.std.specs.List.{list_all}
 use Rattle.std.specs.Option.{option_map_or}
 use Rattle.serde_json.specs.Data.{Data}
@@ -61,6 +61,14 @@ text_or_empty (Some d) = option_and_then (only is_text) (as_str d)
 abbrev pub note_at : Data → Option (List ℕ)
 note_at d = text_or_empty (get (codes "note") d)
 
+-- an id that may be left out, and is none then; null isn't left out
+abbrev pub id_or_none : Option Data → Option (Option (List ℕ))
+id_or_none None = Some None
+id_or_none (Some d) = option_map Some (option_and_then (only is_id) (as_str d))
+
+abbrev pub reference_at : Data → Option (Option (List ℕ))
+reference_at d = id_or_none (get (codes "ref") d)
+
 -- ---- shapes: the members of an object are those of a list of distinct names
 
 -- how many members the object has
@@ -76,10 +84,13 @@ has_each names d = list_all (λ name. is_some (get name d)) names
 abbrev pub is_shape : List (List ℕ) → Data → Bool
 is_shape names d = (count_of d == length names) && has_each names d
 
--- the members that each command has: at, by, do, and a note where there is one
+-- the name, where the object has a member under it
+abbrev pub name_if_there : List ℕ → Data → List (List ℕ)
+name_if_there name d = if is_some (get name d) then name ∷ [] else []
+
+-- the members that each command has: at, by, do, and a note and a reference where they are there
 abbrev pub shared_names : Data → List (List ℕ)
-shared_names d =
-    if is_some (get (codes "note") d) then codes "at" ∷ codes "by" ∷ codes "do" ∷ codes "note" ∷ [] else codes "at" ∷ codes "by" ∷ codes "do" ∷ []
+shared_names d = codes "at" ∷ codes "by" ∷ codes "do" ∷ (name_if_there (codes "note") d ++ name_if_there (codes "ref") d)
 
 -- a command with these members of its own
 abbrev pub is_command : List (List ℕ) → Data → Bool

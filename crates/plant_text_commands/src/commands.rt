@@ -10,7 +10,7 @@ ghost use Rattle.plant_text_commands.specs.Lists.{Reads};
 use crate::batches::body_on_batch;
 use crate::fault::LineFault;
 use crate::fields::{
-    amount_at, id_at, is_command, moment_at, note_at, sublot_at, text_at, unit_at,
+    amount_at, id_at, is_command, moment_at, note_at, reference_at, sublot_at, text_at, unit_at,
 };
 use crate::lists::items_at;
 use crate::plans::{
@@ -208,7 +208,7 @@ fn word_of(value: &Value) -> Option<&str>
     value.get("do")?.as_str()
 }
 
-/// The command that the value is, with its moment, operator and note.
+/// The command that the value is, with its moment, operator, note and reference.
 ///
 /// - `BadForm`: the value has the shape of no command, or a member of it breaks its rule.
 /// - `Memory`: memory was refused while its lists were read. Nothing is said of the value.
@@ -218,7 +218,14 @@ pub fn envelope_of(alloc: Global, value: &Value) -> Result<Envelope, LineFault>
     let at = moment_at(value, "at").ok_or(LineFault::BadForm)?;
     let by = text_at(value, "by").ok_or(LineFault::BadForm)?;
     let note = note_at(value).ok_or(LineFault::BadForm)?;
+    let reference = reference_at(value).ok_or(LineFault::BadForm)?;
     let word = word_of(value).ok_or(LineFault::BadForm)?;
     let body = body_of(alloc, value, word)?;
-    Ok(Envelope { at, by, note, body })
+    Ok(Envelope {
+        at,
+        by,
+        note,
+        reference,
+        body,
+    })
 }

@@ -6,7 +6,7 @@ ghost use Rattle.serde_json.specs.View.{view};
 ghost use Rattle.plant_base.specs.Values.{is_id, is_text, is_unit, only};
 ghost use Rattle.plant_base.specs.Dates.{is_due};
 ghost use Rattle.plant_text_commands.specs.Fields.{natural_at, id_at, text_at, unit_at, amount_at, moment_at};
-ghost use Rattle.plant_text_commands.specs.Fields.{sublot_at, version_at, priority_at, phase_at, due_at, note_at};
+ghost use Rattle.plant_text_commands.specs.Fields.{sublot_at, version_at, priority_at, phase_at, due_at, note_at, reference_at};
 ghost use Rattle.plant_text_commands.specs.Fields.{count_of, is_shape, shared_names, is_command};
 
 use plant_base::{
@@ -136,6 +136,16 @@ pub(crate) fn note_at(value: &Value) -> Option<Text>
     }
 }
 
+/// The reference, which may be left out.
+pub(crate) fn reference_at(value: &Value) -> Option<Option<Id>>
+    ensures { result ≡ reference_at (view value.now) }
+{
+    match value.get("ref") {
+        None => Some(None),
+        Some(reference) => Some(Some(read_id(reference.as_str()?.as_bytes())?)),
+    }
+}
+
 /// How many members the object has.
 fn count_of(value: &Value) -> usize
     ensures { result ≡ count_of (view value.now) }
@@ -170,10 +180,11 @@ pub fn is_shape(value: &Value, names: &[&str]) -> bool
 fn shared_names(value: &Value) -> &'static [&'static str]
     ensures { map (λ name. name.now) result.now ≡ shared_names (view value.now) }
 {
-    if value.get("note").is_some() {
-        &["at", "by", "do", "note"]
-    } else {
-        &["at", "by", "do"]
+    match (has(value, "note"), has(value, "ref")) {
+        (true, true) => &["at", "by", "do", "note", "ref"],
+        (true, false) => &["at", "by", "do", "note"],
+        (false, true) => &["at", "by", "do", "ref"],
+        (false, false) => &["at", "by", "do"],
     }
 }
 

@@ -1,15 +1,16 @@
 -- Tables made in turn.
-use Rattle.std.proofs.Common.{◌≡◌, inl, inr, ℕ, zero, suc, ◌+◌, ◌<◌, ◌≤◌, List, [], ◌∷◌, length, true, false, Some, refl, sym, ap, subst, ◌∙◌, slice_get, get_or, map, IsTrue, arith}
+use Rattle.std.proofs.Common.{◌≡◌, inl, inr, ℕ, zero, suc, ◌+◌, ◌<◌, ◌≤◌, List, [], ◌∷◌, ◌++◌, length, true, false, Some, refl, sym, ap, subst, ◌∙◌, slice_get, get_or, map, IsTrue, arith}
 use Rattle.sqlite.specs.Order.{Row}
 use Rattle.sqlite.specs.Table.{Table}
 use Rattle.sqlite.specs.Effect.{Database, IsDatabase}
 use Rattle.sqlite.specs.Does.{lacks_sequence}
 use Rattle.sqlite.specs.State.{State, Shows}
 use Rattle.sqlite_rules.specs.Lists.{Has}
+use Rattle.sqlite_rules.proofs.ActionLemmas.{got_still}
 use Rattle.table_forms.specs.Forms.{Form}
 use Rattle.table_forms.specs.Standing.{Stands, IsFree, AreFree}
 use Rattle.table_forms.specs.Texts.{IsMakeText}
-use Rattle.table_forms.specs.Moves.{AreApart, AreMakeTexts, RunsInside, Founds}
+use Rattle.table_forms.specs.Moves.{AreApart, AreMakeTexts, RunsInside, Founds, LeavesFree}
 use Rattle.table_forms.proofs.Listed.{length_mapped}
 use Rattle.table_forms.proofs.Apart.{apart_at, order_of}
 use Rattle.table_forms.proofs.Making.{create_makes, free_still, counted_kept}
@@ -23,10 +24,23 @@ pub record Begun (forms : List Form) (count : ℕ) (old new : Database) : Type 0
   pub free : (i : ℕ) (form : Form) → count ≤ i → slice_get forms i ≡ Some form → IsFree new.schema form
   pub kept : (form : Form) (rows : List Row) → Stands old form rows → Stands new form rows
   pub others : (t : Table) → Has old.schema.tables t → Has new.schema.tables t × (new.trees t.tree ≡ old.trees t.tree)
+  pub further : (more : List Form) → AreApart (forms ++ more) → AreFree more old.schema → AreFree more new.schema
 
 pub record Founding (forms : List Form) (count : ℕ) (old new : State) : Type 0 where
   pub begun : IsDatabase old.now → AreFree forms old.now.schema → Begun forms count old.now new.now
   pub shown : IsTrue old.is_open → IsTrue old.in_transaction → Shows old new new.now old.committed true
+
+-- what is got of the second list is got behind the first
+pub got_behind : {X : Type 0} (xs ys : List X) (j : ℕ) (y : X) → slice_get ys j ≡ Some y → slice_get (xs ++ ys) (length xs + j) ≡ Some y
+got_behind [] ys j y is = let same : j ≡ 0 + j = omega arith in subst (λ k. slice_get ys k ≡ Some y) same is
+got_behind (x ∷ xs) ys j y is =
+    let same : suc (length xs + j) ≡ suc (length xs) + j = omega arith in
+    subst (λ k. slice_get (x ∷ (xs ++ ys)) k ≡ Some y) same (got_behind xs ys j y is)
+
+pub within : {X : Type 0} (xs : List X) (i : ℕ) (x : X) → slice_get xs i ≡ Some x → i < length xs
+within [] i x is = absurd cc
+within (y ∷ ys) zero x is = omega arith
+within (y ∷ ys) (suc i) x is = let more = within ys i x is in omega arith
 
 pub none_made : (forms : List Form) (s : State) → Founding forms 0 s s
 none_made forms s = record {
@@ -37,6 +51,7 @@ none_made forms s = record {
     free = λ i form late is. free.each i form is;
     kept = λ form rows there. there;
     others = λ t listed. (listed, refl);
+    further = λ more clear unused. unused;
   };
   shown = λ live inside. record { was_open = live; is_open = live; now_is = refl; committed_is = refl; mode = inside };
 }
@@ -66,6 +81,13 @@ module _ (forms : List Form) (apart : AreApart forms) (count : ℕ) (first old n
             let before = b.others t listed in
             let after = made.others t before.0 in
             (after.0, after.1 ∙ before.1);
+        further = λ more clear unused. record {
+          each = λ j f there.
+              let late : count < length forms + j = let here = within forms count form is in omega (arith, here) in
+              let differ = apart_at (forms ++ more) clear count (length forms + j) form f late (got_still forms more (forms ++ more) count form refl is) (got_behind forms more j f there) in
+              subst (λ s. IsFree s f) (sym made.schema) (free_still old.now.schema old.now.trees form f b.sound differ ((b.further more clear unused).each j f there));
+          counted = ap lacks_sequence made.schema ∙ counted_kept old.now.schema old.now.trees form b.sound b.counted;
+        };
       }
 
   one_more : Founding forms count first old → Founding forms (count + 1) first new
@@ -93,10 +115,8 @@ as_long [] (f ∷ forms) says = absurd says
 as_long (t ∷ texts) [] says = absurd says
 as_long (t ∷ texts) (f ∷ forms) says = ap suc (as_long texts forms says.1)
 
-pub within : {X : Type 0} (xs : List X) (i : ℕ) (x : X) → slice_get xs i ≡ Some x → i < length xs
-within [] i x is = absurd cc
-within (y ∷ ys) zero x is = omega arith
-within (y ∷ ys) (suc i) x is = let more = within ys i x is in omega arith
+pub all_spared : (forms : List Form) (old new : State) (count : ℕ) → Founding forms count old new → LeavesFree forms old.now new.now
+all_spared forms old new count so_far = λ sound free. (so_far.begun sound free).further
 
 pub all_made : {X : Type 0} (f : X → List ℕ) (texts : List X) (forms : List Form) → AreMakeTexts (map f texts) forms → (old new : State) (count : ℕ) → length texts ≤ count → Founding forms count old new → Founds forms old new
 all_made f texts forms says old new count whole so_far = record {

@@ -1,6 +1,7 @@
 -- What texts that make indexes leave.
 use Rattle.std.proofs.Common.{◌≡◌, ◌⊎◌, inl, inr, ℕ, zero, suc, ◌+◌, ◌<◌, ◌≤◌, List, [], ◌∷◌, ◌++◌, map, drop, length, Bool, true, false, Some, None, Ok, Err, refl, sym, ap, subst, ◌∙◌, slice_get, get_or, is_some, IsTrue, arith, add-zero, if◌then◌else◌}
-use Rattle.std.proofs.lemmas.Bool.{cases_Bool}
+use Rattle.std.proofs.lemmas.Bool.{cases_Bool, and_parts, not-true}
+use Rattle.std.specs.List.{list_all, position_from}
 use Rattle.std.specs.Option.{option_or}
 use Rattle.std.specs.List.Sorted.{IsPermutation}
 use Rattle.sqlite.specs.Order.{Row}
@@ -11,7 +12,7 @@ use Rattle.sqlite.specs.Command.{Command}
 use Rattle.sqlite.specs.Command.TheVariants.{CreateIndex, Nothing}
 use Rattle.sqlite.specs.Effect.{Database, IsDatabase}
 use Rattle.sqlite.specs.State.{State, Shows, Executes, Writes, mode_of}
-use Rattle.sqlite.specs.Does.{Tally, Does, AtPlace, Defines, MakesIndex}
+use Rattle.sqlite.specs.Does.{Tally, Does, AtPlace, Defines, MakesIndex, lacks_sequence}
 use Rattle.sqlite.specs.Listing.{understood}
 use Rattle.sqlite_catalog.specs.Change.{indexed, next_tree, KeepsRows}
 use Rattle.sqlite_ast.specs.declared.CreateIndex as ast
@@ -23,22 +24,24 @@ use Rattle.sqlite_resolve.specs.declared.error.CompileError.TheVariants.{Misuse,
 use Rattle.sqlite_resolve.specs.Define as define
 use Rattle.sqlite_resolve.specs.Compile.{compiled, first, planned, meaning, timed, returning, command, create_index, creates, is_reserved, small, index_defined_by, index_in}
 use Rattle.sqlite_schema.specs.declared.schema.Index.{Index}
-use Rattle.sqlite_schema.specs.Names.{table_named, view_named, index_named}
+use Rattle.sqlite_schema.specs.Names.{same_name, table_named, view_named, index_named}
+use Rattle.sqlite_catalog.proofs.StepLemmas.{no_table, no_index, no_view}
 use Rattle.sqlite_rules.specs.Lists.{Has}
 use Rattle.sqlite_rules.proofs.ListLemmas.{all_has, has_left, has_right, has_either, has_got}
 use Rattle.sqlite_trees.specs.View.{IsShaped}
 use Rattle.sqlite_trees.specs.declared.store.Shape.TheVariants as shape
 use Rattle.sqlite.proofs.Callers.{runs_as, command_of, IsPlain, statement_of}
 use Rattle.table_forms.specs.Forms.{Form, table_of}
-use Rattle.table_forms.specs.Standing.{Contents, IsDeclared, Stands, StandIn}
+use Rattle.table_forms.specs.Standing.{Contents, IsDeclared, Stands, StandIn, IsFree, AreFree}
 use Rattle.table_forms.specs.Moves.{RunsInside, Founds}
-use Rattle.table_forms.specs.Indexes.{IndexForm, index_of, HasIndex, IsIndexText, AreIndexTexts, AreOf, AddsIndexes}
+use Rattle.table_forms.specs.Indexes.{IndexForm, index_of, HasIndex, IsIndexText, AreIndexTexts, AreOf, AddsIndexes, are_named_apart}
 use Rattle.table_forms.proofs.Listed.{length_mapped}
 use Rattle.table_forms.proofs.Texts.{plain_command, compiled_as, IsRefusedBy}
 use Rattle.table_forms.proofs.Turning.{understood_as, not_run}
 use Rattle.table_forms.proofs.Putting.{went, same_value}
 use Rattle.table_forms.proofs.Apart.{order_of}
 use Rattle.table_forms.proofs.Founding.{within}
+use Rattle.table_forms.proofs.Making.{none_more}
 use Rattle.table_forms.proofs.Moving.{others_then, shown_then}
 
 -- ---- what the text compiles to
@@ -127,12 +130,24 @@ declared_still schema form at tree index plain d = record {
   alone = d.alone;
 }
 
+-- a table whose name isn't that of the index can still be made
+still_free : (schema : Schema) (form : Form) (index : Index) → same_name index.name form.name ≡ false → IsFree schema form → IsFree (record schema { indexes = schema.indexes ++ index ∷ [] }) form
+still_free schema form index differs free =
+    let indexes : position_from (λ (i : Index). same_name i.name form.name) 0 (schema.indexes ++ index ∷ []) ≡ None =
+    none_more _ schema.indexes (index ∷ []) 0 (no_index schema form.name free.unused) (rw differs refl) in
+    record {
+      unused = rw (no_table schema form.name free.unused, indexes, no_view schema form.name free.unused) refl;
+      alone = free.alone;
+    }
+
 pub record Indexed (old new : State) (index : IndexForm) : Type 0 where
   pub sound : IsDatabase new.now
   pub made : HasIndex new.now.schema index
   pub kept : (f : Form) (rows : List Row) → Stands old.now f rows → Stands new.now f rows
   pub still : (other : IndexForm) → HasIndex old.now.schema other → HasIndex new.now.schema other
   pub others : (t : Table) → Has old.now.schema.tables t → Has new.now.schema.tables t × (new.now.trees t.tree ≡ old.now.trees t.tree)
+  pub free : (form : Form) → same_name index.name form.name ≡ false → IsFree old.now.schema form → IsFree new.now.schema form
+  pub counted : lacks_sequence new.now.schema ≡ lacks_sequence old.now.schema
 
 -- what the command makes of the database
 added_is : (old new : State) (text : List ℕ) (index : IndexForm) (says : IsIndexText text index) (at tree : ℕ) (tally : Tally) → IsDeclared old.now.schema index.table at tree
@@ -177,6 +192,8 @@ indexed_by text index says old new at tree count d h =
         listed = subst (λ s. Has s.indexes (index_of other there.table there.tree)) (sym is.0) (has_left schema.indexes _ _ there.listed);
       };
       others = λ t listed. (subst (λ s. Has s.tables t) (sym is.0) listed, all_has _ schema.tables t is.1 listed);
+      free = λ form differs unused. subst (λ s. IsFree s form) (sym is.0) (still_free schema form added differs unused);
+      counted = ap lacks_sequence is.0;
     }
 
 -- ---- in turn
@@ -187,6 +204,7 @@ pub record Grown (forms : List Form) (indexes : List IndexForm) (count : ℕ) (c
   pub made : (i : ℕ) (index : IndexForm) → i < count → slice_get indexes i ≡ Some index → HasIndex new.schema index
   pub kept : (form : Form) (rows : List Row) → Stands old form rows → Stands new form rows
   pub others : (t : Table) → Has old.schema.tables t → Has new.schema.tables t × (new.trees t.tree ≡ old.trees t.tree)
+  pub free : (more : List Form) → are_named_apart indexes more ≡ true → AreFree more old.schema → AreFree more new.schema
 
 pub record Indexing (forms : List Form) (indexes : List IndexForm) (count : ℕ) (old new : State) : Type 0 where
   pub grown : (contents : Contents) → StandIn forms old.now contents → Grown forms indexes count contents old.now new.now
@@ -199,9 +217,19 @@ none_indexed forms indexes s = record {
     made = λ i index early is. absurd (omega arith);
     kept = λ form rows there. there;
     others = λ t listed. (listed, refl);
+    free = λ more differ unused. unused;
   };
   shown = λ live inside. record { was_open = live; is_open = live; now_is = refl; committed_is = refl; mode = inside };
 }
+
+-- what every one of a list passes, the one at a place passes
+passed_at : {X : Type 0} (p : X → Bool) (xs : List X) (i : ℕ) (x : X) → list_all p xs ≡ true → slice_get xs i ≡ Some x → p x ≡ true
+passed_at p [] i x all is = absurd cc
+passed_at p (y ∷ ys) zero x all is = let same : y ≡ x = cc in subst (λ z. p z ≡ true) same (and_parts _ _ all).0
+passed_at p (y ∷ ys) (suc i) x all is = passed_at p ys i x (and_parts _ _ all).1 is
+
+named_apart : (indexes : List IndexForm) (more : List Form) (i j : ℕ) (index : IndexForm) (form : Form) → are_named_apart indexes more ≡ true → slice_get indexes i ≡ Some index → slice_get more j ≡ Some form → same_name index.name form.name ≡ false
+named_apart indexes more i j index form apart is at = not-true _ (passed_at _ more j form (passed_at _ indexes i index apart is) at)
 
 -- the place of one of a list
 placed : {X : Type 0} (xs : List X) (x : X) → Has xs x → (i : ℕ) × (slice_get xs i ≡ Some x)
@@ -232,6 +260,12 @@ module _ (forms : List Form) (indexes : List IndexForm) (count : ℕ) (first old
             let before = g.others t listed in
             let after = made.others t before.0 in
             (after.0, after.1 ∙ before.1);
+        free = λ more differ unused.
+            let before = g.free more differ unused in
+            record {
+              each = λ j f at. made.free f (named_apart indexes more count j index f differ is at) (before.each j f at);
+              counted = made.counted ∙ before.counted;
+            };
       }
 
   one_indexed : Indexing forms indexes count first old → Indexing forms indexes (count + 1) first new
@@ -272,6 +306,7 @@ all_indexed f texts forms indexes says old new count whole so_far = record {
   stands = λ contents stand. (so_far.grown contents stand).stands;
   kept = λ contents stand. (so_far.grown contents stand).kept;
   others = λ contents stand. record { kept = λ t listed foreign. (so_far.grown contents stand).others t listed };
+  free = λ contents stand. (so_far.grown contents stand).free;
   shown = so_far.shown;
 }
 

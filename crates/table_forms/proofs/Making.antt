@@ -240,7 +240,7 @@ create_makes text form says old new count sound free counted h =
 
 -- ---- the next table to be made is still free
 
-none_more : {X : Type 0} (q : X → Bool) (xs ys : List X) (from : ℕ) → position_from q from xs ≡ None → list_all (λ y. not (q y)) ys ≡ true → position_from q from (xs ++ ys) ≡ None
+pub none_more : {X : Type 0} (q : X → Bool) (xs ys : List X) (from : ℕ) → position_from q from xs ≡ None → list_all (λ y. not (q y)) ys ≡ true → position_from q from (xs ++ ys) ≡ None
 none_more q [] [] from none clear = refl
 none_more q [] (y ∷ ys) from none clear = let each = and_parts _ _ clear in let miss : q y ≡ false = not-true _ each.0 in rw miss (none_more q [] ys (from + 1) refl each.1)
 none_more q (x ∷ xs) ys from none clear = elim (cases_Bool (q x)) [

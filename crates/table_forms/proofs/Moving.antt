@@ -84,6 +84,7 @@ pub moves_from : (forms : List Form) → AreApart forms → (old new : State) (i
 moves_from forms apart old new i form is become turns shown = record {
   stands = λ contents stand. standing forms apart old new i form is contents stand (become (contents i)) (turns (contents i) stand.sound (stand.each i form is));
   others = λ contents stand. keeping forms apart old new i form is contents stand (become (contents i)) (turns (contents i) stand.sound (stand.each i form is));
+  schema = λ contents stand. (turns (contents i) stand.sound (stand.each i form is)).schema;
   shown = λ _ _. shown;
 }
 
@@ -128,7 +129,7 @@ pub survives_on : (a b c : State) → Survives a b (λ _. ⊥) → Survives b c 
 survives_on a b c = survives_then a b c (λ _. ⊥) (λ _. ⊥) (λ _. ⊥) (λ _ db none. none) (λ _ db none. none)
 
 pub moves_none : (s : State) (forms : List Form) → Moves forms s s (λ t. t)
-moves_none s forms = record { stands = λ t h. h; others = λ t h. record { kept = λ x listed foreign. (listed, refl) }; shown = λ live inside. record { was_open = live; is_open = live; now_is = refl; committed_is = refl; mode = inside } }
+moves_none s forms = record { stands = λ t h. h; others = λ t h. record { kept = λ x listed foreign. (listed, refl) }; schema = λ t h. refl; shown = λ live inside. record { was_open = live; is_open = live; now_is = refl; committed_is = refl; mode = inside } }
 
 pub others_then : (forms : List Form) (a b c : Database) → KeepsOthers forms a b → KeepsOthers forms b c → KeepsOthers forms a c
 others_then forms a b c p q = record {
@@ -149,8 +150,9 @@ pub moves_then : (forms : List Form) (a b c : State) (f g : Contents → Content
 moves_then forms a b c f g p q = record {
   stands = λ t h. q.stands (f t) (p.stands t h);
   others = λ t h. others_then forms a.now b.now c.now (p.others t h) (q.others (f t) (p.stands t h));
+  schema = λ t h. q.schema (f t) (p.stands t h) ∙ p.schema t h;
   shown = shown_then a b c p.shown q.shown;
 }
 
 pub moves_as : (forms : List Form) (a b : State) (f g : Contents → Contents) → ((t : Contents) → f t ≡ g t) → Moves forms a b f → Moves forms a b g
-moves_as forms a b f g same m = record { stands = λ t h. subst (StandIn forms b.now) (same t) (m.stands t h); others = m.others; shown = m.shown }
+moves_as forms a b f g same m = record { stands = λ t h. subst (StandIn forms b.now) (same t) (m.stands t h); others = m.others; schema = m.schema; shown = m.shown }

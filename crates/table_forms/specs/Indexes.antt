@@ -1,10 +1,11 @@
 -- Indexes that serve look-ups, and bar no row: how one is declared, the text that makes it, and what such texts leave.
-use Rattle.std.specs.Prelude.{◌≡◌, ℕ, true, false, List, [], ◌∷◌, slice_range, slice_get, Some, Ok, IsTrue, ⊤}
-use Rattle.std.specs.List.{AllByRecursion}
+use Rattle.std.specs.Prelude.{◌≡◌, ℕ, Bool, true, false, not, List, [], ◌∷◌, slice_range, slice_get, Some, Ok, IsTrue, ⊤}
+use Rattle.std.specs.List.{AllByRecursion, list_all}
 use Rattle.sqlite.specs.Order.{Row}
 use Rattle.sqlite.specs.Schema.{Schema}
 use Rattle.sqlite.specs.State.{State, Shows}
 use Rattle.sqlite_schema.specs.declared.schema.Index.{Index}
+use Rattle.sqlite_schema.specs.Names.{same_name}
 use Rattle.sqlite_value.specs.Keys.{plain}
 use Rattle.sqlite_rules.specs.Lists.{Has}
 use Rattle.sqlite_ast.specs.declared.CreateIndex as ast
@@ -14,7 +15,7 @@ use Rattle.sqlite_syntax.specs.declared.statement.Parsed.{Parsed}
 use Rattle.sqlite_resolve.specs.Define as define
 use Rattle.sqlite_resolve.specs.Compile.{first, is_reserved}
 use Rattle.table_forms.specs.Forms.{Form, table_of}
-use Rattle.table_forms.specs.Standing.{Contents, IsDeclared, Stands, StandIn, KeepsOthers}
+use Rattle.table_forms.specs.Standing.{Contents, IsDeclared, Stands, StandIn, KeepsOthers, AreFree}
 
 -- an index of the form's table, over the columns at these places, the first column being 1
 pub record IndexForm : Type 0 where
@@ -61,13 +62,18 @@ AreIndexTexts (text ∷ texts) (index ∷ indexes) = IsIndexText text index × A
 abbrev pub AreOf : List IndexForm → List Form → Type 0
 AreOf indexes forms = AllByRecursion (λ (index : IndexForm). Has forms index.table) indexes
 
+-- no index bears the name of one of the tables
+abbrev pub are_named_apart : List IndexForm → List Form → Bool
+are_named_apart indexes forms = list_all (λ (index : IndexForm). list_all (λ (form : Form). not (same_name index.name form.name)) forms) indexes
+
 -- Where the forms' tables stand the indexes are made, and each table that stood has the rows that it had. Nothing is
--- committed, and the transaction goes on.
+-- committed, and the transaction goes on. Tables that could be made, and whose names are not those of the indexes, still can.
 pub record AddsIndexes (forms : List Form) (indexes : List IndexForm) (old new : State) : Type 0 where
   pub made : (contents : Contents) → StandIn forms old.now contents → (i : ℕ) (index : IndexForm) → slice_get indexes i ≡ Some index → HasIndex new.now.schema index
   pub stands : (contents : Contents) → StandIn forms old.now contents → StandIn forms new.now contents
   pub kept : (contents : Contents) → StandIn forms old.now contents → (form : Form) (rows : List Row) → Stands old.now form rows → Stands new.now form rows
   pub others : (contents : Contents) → StandIn forms old.now contents → KeepsOthers forms old.now new.now
+  pub free : (contents : Contents) → StandIn forms old.now contents → (more : List Form) → are_named_apart indexes more ≡ true → AreFree more old.now.schema → AreFree more new.now.schema
   pub shown : IsTrue old.is_open → IsTrue old.in_transaction → Shows old new new.now old.committed true
 
 -- The texts were run: where they make indexes of tables of these forms, those are made.

@@ -1,8 +1,8 @@
 -- What a call inside a transaction makes of the tables of some forms.
-use Rattle.std.specs.Prelude.{◌≡◌, ℕ, ◌+◌, ◌==◌, Bool, true, not, ◌&&◌, if◌then◌else◌, List, [], ◌∷◌, slice_get, Some, Ok, IsTrue, ⊤}
+use Rattle.std.specs.Prelude.{◌≡◌, ℕ, ◌+◌, ◌==◌, Bool, true, not, ◌&&◌, if◌then◌else◌, List, [], ◌∷◌, ◌++◌, slice_get, Some, Ok, IsTrue, ⊤}
 use Rattle.std.specs.List.{list_all}
 use Rattle.sqlite.specs.Order.{Row}
-use Rattle.sqlite.specs.Effect.{IsDatabase}
+use Rattle.sqlite.specs.Effect.{Database, IsDatabase}
 use Rattle.sqlite.specs.Change.{automatics}
 use Rattle.sqlite.specs.State.{State, Shows, Executes}
 use Rattle.sqlite_schema.specs.declared.schema.Index.{Index}
@@ -33,10 +33,12 @@ changed_at place form row contents i = if i == place then put form row (contents
 abbrev pub taken_at : ℕ → List ℕ → Row → Contents → Contents
 taken_at place key values contents i = if i == place then take_away key values (contents place) else contents i
 
--- It leads from tables that stand to the changed ones and keeps the others. Nothing is committed, and the transaction goes on.
+-- It leads from tables that stand to the changed ones, keeps the others, and declares nothing. Nothing is committed, and the
+-- transaction goes on.
 pub record Moves (forms : List Form) (old new : State) (step : Contents → Contents) : Type 0 where
   pub stands : (contents : Contents) → StandIn forms old.now contents → StandIn forms new.now (step contents)
   pub others : (contents : Contents) → StandIn forms old.now contents → KeepsOthers forms old.now new.now
+  pub schema : (contents : Contents) → StandIn forms old.now contents → new.now.schema ≡ old.now.schema
   pub shown : IsTrue old.is_open → IsTrue old.in_transaction → Shows old new new.now old.committed true
 
 -- A statement ran, and left the transaction open and the last commit as it was.
@@ -72,3 +74,11 @@ pub record Founds (forms : List Form) (old new : State) : Type 0 where
 -- The texts were run: where they make the tables of these forms, those are made.
 abbrev pub MakesTables : List (List ℕ) → State → State → Type 0
 MakesTables texts old new = (forms : List Form) → AreApart forms → AreMakeTexts texts forms → Founds forms old new
+
+-- Where the tables were free, further ones that were free too, and are apart from them, still are.
+abbrev pub LeavesFree : List Form → Database → Database → Type 0
+LeavesFree forms old new = IsDatabase old → AreFree forms old.schema → (more : List Form) → AreApart (forms ++ more) → AreFree more old.schema → AreFree more new.schema
+
+-- The texts were run: where they make the tables of these forms, further tables can still be made.
+abbrev pub SparesTables : List (List ℕ) → State → State → Type 0
+SparesTables texts old new = (forms : List Form) → AreApart forms → AreMakeTexts texts forms → LeavesFree forms old.now new.now

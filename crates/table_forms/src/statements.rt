@@ -2,7 +2,7 @@ ghost use Rattle.std.specs.Prelude.{◌≡◌, [], map, IfOk, OnOk, IsOkUnless};
 ghost use Rattle.sqlite.specs.State.{HasCleanDisk, Survives, KeepsCommit};
 ghost use Rattle.sqlite.specs.Values.{bound};
 ghost use Rattle.sqlite.specs.Held.{state};
-ghost use Rattle.table_forms.specs.Moves.{RunsInside, PutsRow, TakesRows, MakesTables};
+ghost use Rattle.table_forms.specs.Moves.{RunsInside, PutsRow, TakesRows, MakesTables, SparesTables};
 ghost use Rattle.table_forms.specs.Indexes.{MakesIndexes};
 
 use crate::fault::{Fault, fault_of};
@@ -89,12 +89,16 @@ fn run_plain<S: Alter>(tx: &mut Transaction<'_, S>, sql: &str) -> Result<(), Fau
     }
 }
 
-/// Makes tables, one by each text, up to the first that the store refuses: [`Fault::Store`], the one fault.
+/// Makes tables, one by each text, up to the first that the store refuses: [`Fault::Store`], the one fault. Further tables
+/// that could be made still can.
 pub fn make_tables<S: Alter>(tx: &mut Transaction<'_, S>, texts: &[&str]) -> Result<(), Fault>
     ensures fault { IsOkUnless result Fault.Store }
     ensures same_reference { tx.new.conn.ghost_name ≡ tx.old.conn.ghost_name }
     ensures made { HasCleanDisk (state S.Store tx.new.conn.now)
         → OnOk result (MakesTables (map (λ text. text.now) texts.now)
+        (state S.Store tx.old.conn.now) (state S.Store tx.new.conn.now)) }
+    ensures spared { HasCleanDisk (state S.Store tx.new.conn.now)
+        → OnOk result (SparesTables (map (λ text. text.now) texts.now)
         (state S.Store tx.old.conn.now) (state S.Store tx.new.conn.now)) }
     ensures kept { HasCleanDisk (state S.Store tx.new.conn.now)
         → KeepsCommit (state S.Store tx.old.conn.now) (state S.Store tx.new.conn.now) }

@@ -52,11 +52,12 @@ fn push_loaded(text: &mut String, alloc: Global, loaded: &Loaded) -> Result<(), 
     Ok(())
 }
 
-/// The schema of the desk's tables in a store, the first or the newest; 0 where none of its tables stands.
+/// The schema of the desk's tables in a store, the newest where it isn't known; 0 where none of its tables stands.
 fn schema_of<S: Alter>(alloc: Global, conn: &mut Connection<S>) -> Result<u64, Fail> {
     match found(alloc, conn)? {
         FoundTables::Nothing => Ok(0),
         FoundTables::Version(1) => Ok(1),
+        FoundTables::Version(2) => Ok(2),
         FoundTables::Version(_) => Ok(NEWEST_SCHEMA),
         FoundTables::NoMeta => Err("table meta is damaged")?,
     }

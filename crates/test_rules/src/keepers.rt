@@ -25,6 +25,7 @@ fn told(body: Command) -> Result<Envelope, Fail> {
         at: Moment::zero(),
         by: text(b"anna")?,
         note: text(b"")?,
+        reference: None,
         body,
     })
 }

@@ -11,10 +11,10 @@ use std::test::Fail;
 const DESK: &[u8] = b"GET /v1/desk HTTP/1.1\r\nHost: a\r\n\r\n";
 
 const NEW: &[u8] =
-    b"HTTP/1.1 200 OK\r\nContent-Type: application/json\r\nContent-Length: 20\r\nConnection: close\r\n\r\n{\"schema\":2,\"seq\":0}";
+    b"HTTP/1.1 200 OK\r\nContent-Type: application/json\r\nContent-Length: 20\r\nConnection: close\r\n\r\n{\"schema\":3,\"seq\":0}";
 
 const ONE: &[u8] =
-    b"HTTP/1.1 200 OK\r\nContent-Type: application/json\r\nContent-Length: 20\r\nConnection: close\r\n\r\n{\"schema\":2,\"seq\":1}";
+    b"HTTP/1.1 200 OK\r\nContent-Type: application/json\r\nContent-Length: 20\r\nConnection: close\r\n\r\n{\"schema\":3,\"seq\":1}";
 
 /// A command, and what a new desk answers.
 const CLASS: &[u8] =

@@ -13,6 +13,7 @@ fn classes(alloc: Global, count: u32) -> Result<Vec<Envelope>, Fail> {
             at: Moment::zero(),
             by: Text::read(b"").ok_or("no text")?,
             note: Text::read(b"").ok_or("no text")?,
+            reference: None,
             body: Command::AddClass(AddClass {
                 class: Id::read(b"RAW").ok_or("no id")?,
                 name: Text::read(b"").ok_or("no text")?,

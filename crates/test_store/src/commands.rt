@@ -58,6 +58,18 @@ pub fn ten_commands(alloc: Global) -> Result<Vec<Envelope>, Fail> {
     commands_of(alloc, &LINES[..10])
 }
 
+/// These ten, each under a reference of its own.
+pub fn ten_referred(alloc: Global) -> Result<Vec<Envelope>, Fail> {
+    let mut list = Vec::new(alloc);
+    for (number, line) in LINES[..10].iter().enumerate() {
+        let mut text = Vec::new(alloc);
+        text.extend_from_slice(line.strip_suffix(b"}").ok_or("no object")?)?;
+        text.extend_from_slice(format!(in alloc; ",\"ref\":\"K-{number}\"}}")?.as_bytes())?;
+        list.push(command_of(alloc, text.as_slice())?)?;
+    }
+    Ok(list)
+}
+
 /// The first five of them: the recipe is approved.
 pub fn five_commands(alloc: Global) -> Result<Vec<Envelope>, Fail> {
     commands_of(alloc, &LINES[..5])

@@ -1,5 +1,5 @@
 //! Commands over files, and what the tables hold after none of them and after each.
-use crate::commands::{an_import, five_commands, ten_commands, twenty_commands};
+use crate::commands::{an_import, five_commands, ten_commands, ten_referred, twenty_commands};
 use crate::desks::{accepted, desk_over};
 use crate::raised::lower;
 use plant_base::Envelope;
@@ -66,10 +66,10 @@ fn image_after(rt: &(impl Abort + AllocGlobal), commands: &[Envelope]) -> Result
     Image::of(rt.alloc(), &closed(desk.close()))
 }
 
-/// The same files with their tables in the first schema.
-fn lowered(rt: &impl AllocGlobal, image: &Image) -> Result<Image, Fail> {
+/// The same files with their tables in an older schema.
+fn lowered(rt: &impl AllocGlobal, image: &Image, schema: u64) -> Result<Image, Fail> {
     let mut connection = reopened(rt.alloc(), image.files(rt.alloc(), ALL)?)?;
-    lower(&mut connection)?;
+    lower(&mut connection, schema)?;
     Image::of(rt.alloc(), &closed(connection))
 }
 
@@ -100,6 +100,12 @@ pub fn ten_from_nothing(rt: &(impl Abort + AllocGlobal)) -> Result<Course, Fail>
     course_of(rt, Work::Adopt, Image::empty(rt.alloc()), commands)
 }
 
+/// The same ten, each under a reference, over a desk that has accepted nothing.
+pub fn ten_with_references(rt: &(impl Abort + AllocGlobal)) -> Result<Course, Fail> {
+    let commands = ten_referred(rt.alloc())?;
+    course_of(rt, Work::Adopt, image_after(rt, &[])?, commands)
+}
+
 /// Twenty commands over a desk that has accepted nothing.
 pub fn twenty_of_a_new_desk(rt: &(impl Abort + AllocGlobal)) -> Result<Course, Fail> {
     let commands = twenty_commands(rt.alloc())?;
@@ -112,8 +118,12 @@ pub fn an_import_of_orders(rt: &(impl Abort + AllocGlobal)) -> Result<Course, Fa
     course_of(rt, Work::Adopt, image, an_import(rt.alloc())?)
 }
 
-/// Tables of the first schema, after ten commands.
-pub fn tables_to_raise(rt: &(impl Abort + AllocGlobal), work: Work) -> Result<Course, Fail> {
-    let image = lowered(rt, &image_after(rt, &ten_commands(rt.alloc())?)?)?;
+/// Tables of an older schema, after ten commands.
+pub fn tables_to_raise(
+    rt: &(impl Abort + AllocGlobal),
+    work: Work,
+    schema: u64,
+) -> Result<Course, Fail> {
+    let image = lowered(rt, &image_after(rt, &ten_commands(rt.alloc())?)?, schema)?;
     course_of(rt, work, image, Vec::new(rt.alloc()))
 }

@@ -1,7 +1,8 @@
 //! Commands over files that are stopped after so many calls of one of them, for every number of calls. Opened and adopted
 //! anew, the files hold the tables after the commands that were answered, or after one more.
 use crate::courses::{
-    Course, Work, an_import_of_orders, tables_to_raise, ten_from_nothing, twenty_of_a_new_desk,
+    Course, Work, an_import_of_orders, tables_to_raise, ten_from_nothing, ten_with_references,
+    twenty_of_a_new_desk,
 };
 use crate::desks::{adopted, desk_over};
 use plant_base::{Envelope, NEWEST_SCHEMA};
@@ -287,12 +288,23 @@ fn an_import_is_stopped(rt: HostRuntime) -> Result<(), Fail> {
 
 #[test]
 fn a_raising_adoption_is_stopped(rt: HostRuntime) -> Result<(), Fail> {
-    sweep_both(&rt, &tables_to_raise(&rt, Work::Adopt)?)
+    sweep_both(&rt, &tables_to_raise(&rt, Work::Adopt, 1)?)
 }
 
 #[test]
 fn a_raising_is_stopped(rt: HostRuntime) -> Result<(), Fail> {
-    sweep_both(&rt, &tables_to_raise(&rt, Work::Raise)?)
+    sweep_both(&rt, &tables_to_raise(&rt, Work::Raise, 1)?)
+}
+
+#[test]
+fn a_raising_of_the_second_schema_is_stopped(rt: HostRuntime) -> Result<(), Fail> {
+    sweep_both(&rt, &tables_to_raise(&rt, Work::Adopt, 2)?)?;
+    sweep_both(&rt, &tables_to_raise(&rt, Work::Raise, 2)?)
+}
+
+#[test]
+fn commands_with_references_are_stopped(rt: HostRuntime) -> Result<(), Fail> {
+    sweep_both(&rt, &ten_with_references(&rt)?)
 }
 
 #[test]

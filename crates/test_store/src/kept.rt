@@ -1,7 +1,9 @@
 //! What a desk accepted is there when its store is adopted again.
+use crate::commands::ten_referred;
 use crate::desks::{accepted, desk_over, run_ten};
 use sqlite::{Alter, Connection};
 use std::test::Fail;
+use test_files::tables_told;
 
 #[test]
 fn ten_commands_are_kept(rt: HostRuntime) -> Result<(), Fail> {
@@ -11,6 +13,22 @@ fn ten_commands_are_kept(rt: HostRuntime) -> Result<(), Fail> {
     run_ten(&rt, &mut desk)?;
     let mut again = desk_over(&rt, desk.close())?;
     assert_eq!(rt; accepted(&rt, &mut again)?, 10);
+    Ok(())
+}
+
+#[test]
+fn ten_commands_with_references_act_once(rt: HostRuntime) -> Result<(), Fail> {
+    let commands = ten_referred(rt.alloc())?;
+    let mut desk = desk_over(&rt, Connection::open_in_memory(rt.alloc())?)?;
+    let first = desk.run(&commands);
+    let mut connection = desk.close();
+    let before = tables_told(rt.alloc(), &mut connection)?;
+    let mut again = desk_over(&rt, connection)?;
+    let second = again.run(&commands);
+    assert!(rt; second.end.is_none());
+    assert!(rt; second.replies.as_slice() == first.replies.as_slice());
+    assert_eq!(rt; accepted(&rt, &mut again)?, 10);
+    assert!(rt; tables_told(rt.alloc(), &mut again.close())? == before);
     Ok(())
 }
 

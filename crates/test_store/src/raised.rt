@@ -33,10 +33,16 @@ const LOWER: &str = "
     DROP INDEX movement_by_lot;
     DROP INDEX movement_by_batch;
     DROP TABLE edge;
+    DROP TABLE receipt;
     UPDATE meta SET schema = 1";
 
+/// What takes it back to the second.
+const LOWER_TO_THE_SECOND: &str = "
+    DROP TABLE receipt;
+    UPDATE meta SET schema = 2";
+
 /// What the store holds once it is raised: the edges are new, and the rest stays but for the schema's number.
-const RAISED: &str = "meta|1|2|6|160
+const RAISED: &str = "meta|1|3|6|160
 class|FOOD|
 definition|FLOUR|FOOD||kg
 lot|F-1|FLOUR
@@ -94,22 +100,32 @@ fn the_first_schema_is_raised(rt: HostRuntime) -> Result<(), Fail> {
     Ok(())
 }
 
-/// Takes the tables of a store back to the first schema, and the indexes away.
-pub fn lower<S: Alter>(connection: &mut Connection<S>) -> Result<(), Fail> {
-    connection.execute_batch(LOWER)?;
+/// Takes the tables of a store back to the first schema, and the indexes away, or to the second.
+pub fn lower<S: Alter>(connection: &mut Connection<S>, schema: u64) -> Result<(), Fail> {
+    connection.execute_batch(if schema == 1 {
+        LOWER
+    } else {
+        LOWER_TO_THE_SECOND
+    })?;
     Ok(())
+}
+
+/// Takes a desk of ten commands back to an older schema, and adopts it: it is as it was, with its indexes.
+fn check_raised(rt: &(impl Abort + AllocGlobal), schema: u64) -> Result<(), Fail> {
+    let mut desk = desk_over(rt, Connection::open_in_memory(rt.alloc())?)?;
+    run_ten(rt, &mut desk)?;
+    let mut connection = desk.close();
+    let before = tables_told(rt.alloc(), &mut connection)?;
+    lower(&mut connection, schema)?;
+    let mut again = desk_over(rt, connection)?.close();
+    assert!(rt; tables_told(rt.alloc(), &mut again)? == before);
+    lower(&mut again, 1)
 }
 
 #[test]
 fn ten_commands_are_raised(rt: HostRuntime) -> Result<(), Fail> {
-    let mut desk = desk_over(&rt, Connection::open_in_memory(rt.alloc())?)?;
-    run_ten(&rt, &mut desk)?;
-    let mut connection = desk.close();
-    let before = tables_told(rt.alloc(), &mut connection)?;
-    lower(&mut connection)?;
-    let mut again = desk_over(&rt, connection)?.close();
-    assert!(rt; tables_told(rt.alloc(), &mut again)? == before);
-    lower(&mut again)
+    check_raised(&rt, 1)?;
+    check_raised(&rt, 2)
 }
 
 #[test]

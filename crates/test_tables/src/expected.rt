@@ -4,9 +4,9 @@
 pub const OTHER: &str = "other|7|x\nother|8|NULL\n";
 
 /// A desk that has accepted nothing.
-pub const OPENING: &str = "meta|1|2|0|0\n";
+pub const OPENING: &str = "meta|1|3|0|0\n";
 
-pub const FIRST: &str = "meta|1|2|300|300
+pub const FIRST: &str = "meta|1|3|300|300
 class|RAW|one
 definition|FLOUR|RAW|one|kg
 recipe|CAKE|2|DOUGH|300|1|300|one|approved
@@ -33,10 +33,11 @@ hold|L-1|H-1|300|ben|one
 hold|L-1|H-2|300|ben|one
 edge|1|L-1|B-1
 edge|3|L-1|L-2
+receipt|K-1|300|one
 ";
 
 /// Each row was overwritten, but events and movements were added, the edges stayed, and the first hold was taken away.
-pub const SECOND: &str = "meta|1|2|500|500
+pub const SECOND: &str = "meta|1|3|500|500
 class|RAW|two
 definition|FLOUR|RAW|two|kg
 recipe|CAKE|2|DOUGH|500|1|500|two|approved
@@ -72,4 +73,5 @@ movement|507|1|7|L-1|0|L-3|0|NULL|500|500|ben|two
 hold|L-1|H-2|500|ben|two
 edge|1|L-1|B-1
 edge|3|L-1|L-2
+receipt|K-1|500|two
 ";

@@ -3,8 +3,8 @@
 use plant_base::{
     Amount, Batch, BatchEvent, BatchRow, BatchState, Class, ControlLine, Definition, Due, EdgeKind,
     EdgeRow, Event, Header, Hold, Id, Job, JobState, Lot, MasterLine, Meta, Moment, Movement,
-    MovementKind, NEWEST_SCHEMA, OrderRow, Position, Recipe, RecipeLine, RecipeState, Sublot, Text,
-    Unit, Word,
+    MovementKind, NEWEST_SCHEMA, OrderRow, Position, Receipt, Recipe, RecipeLine, RecipeState,
+    Sublot, Text, Unit, Word,
 };
 use plant_view::RowChange;
 use std::alloc::AllocError;
@@ -256,6 +256,26 @@ fn edges(rt: &(impl Abort + AllocGlobal)) -> [RowChange; 2] {
     [RowChange::Edge(to_lot), RowChange::Edge(to_batch)]
 }
 
+/// The receipt of a command.
+fn receipt(rt: &(impl Abort + AllocGlobal), of: Content<'_>) -> Result<RowChange, AllocError> {
+    let text = text(rt, of.text);
+    Ok(RowChange::Receipt(Receipt {
+        reference: id(rt, b"K-1"),
+        seq: u64::from(of.number),
+        content: plant_base::Content::new(String::from_str(rt.alloc(), text.as_str())?),
+    }))
+}
+
+fn push_all<const N: usize>(
+    changes: &mut Vec<RowChange>,
+    more: [RowChange; N],
+) -> Result<(), AllocError> {
+    for change in more {
+        changes.push(change)?;
+    }
+    Ok(())
+}
+
 /// The first hold of lot L-1 is taken away.
 fn unhold(rt: &(impl Abort + AllocGlobal)) -> RowChange {
     RowChange::Unhold {
@@ -273,11 +293,12 @@ pub fn rows(
     // The checker can't follow row changes, unless the function names these types.
     let _: Option<(RecipeLine, MasterLine, ControlLine, Movement, MovementKind)> = None;
     let mut changes = Vec::new(rt.alloc());
-    changes.extend_from_slice(&masters(rt, of))?;
-    changes.extend_from_slice(&orders(rt, of))?;
-    changes.extend_from_slice(&stocks(rt, of))?;
-    changes.extend_from_slice(&movements(rt, of))?;
-    changes.extend_from_slice(&edges(rt))?;
+    push_all(&mut changes, masters(rt, of))?;
+    push_all(&mut changes, orders(rt, of))?;
+    push_all(&mut changes, stocks(rt, of))?;
+    push_all(&mut changes, movements(rt, of))?;
+    push_all(&mut changes, edges(rt))?;
+    changes.push(receipt(rt, of)?)?;
     Ok(changes)
 }
 

@@ -6,8 +6,8 @@ returns-in-Run g c = rw c.in-Run.is c.perform_run.ensures
 pub returns-in-Import : goal.returns-in-Import
 returns-in-Import g c =
     let told = c.perform_import.ensures in
-    let stamp = c.import_stamp.ensures in
-    rw c.in-Import.is (rw stamp at told)
+    let heading = c.import_heading-heading.ensures in
+    rw c.in-Import.is (rw heading at told)
 
 pub returns-in-Trace : goal.returns-in-Trace
 returns-in-Trace g c = rw c.in-Trace.is c.perform_question.ensures

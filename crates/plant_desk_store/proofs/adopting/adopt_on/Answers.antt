@@ -1,5 +1,5 @@
 use Rattle.std.proofs.Common.{◌≡◌, sym, subst, refl, inl, inr, pos, ℤ, Ok, OnOk, OnErr, IfErr}
-use Rattle.std.proofs.lemmas.Result.{on_err_weaker, IfErr-weaker}
+use Rattle.std.proofs.lemmas.Result.{IfErr-weaker}
 use Rattle.sqlite.specs.Effect.{Database}
 use Rattle.sqlite.specs.Held.{state}
 use Rattle.sqlite.specs.State.{HasCleanDisk}
@@ -12,9 +12,9 @@ use Rattle.plant_tables_stored.specs.Version.{IsVersion}
 use Rattle.plant_tables_stored.specs.declared.finding.FoundTables.TheVariants as tables
 use Rattle.plant_tables_stored.proofs.Versions.{unknown_or_nothing, unknown_or_version}
 use Rattle.plant_desk_store.proofs.Again.{not_free, one_told, pos_le}
-use Rattle.plant_desk_store.proofs.Judging.{IsThere, still_new, stays_good, told_store, none_newer, all_refused, adopts_none, adopts_some, always_ok, always_err}
+use Rattle.plant_desk_store.proofs.Judging.{IsThere, still_new, stays_good, keeps_shows, told_store, none_newer, all_refused, adopts_none, adopts_some, always_ok, always_err}
 use Rattle.plant_desk_store.proofs.Leaving.{opened}
-use Rattle.plant_desk_store.proofs.Raising.{keeps_along, survives_if, keeps_good, still_good, newest_told}
+use Rattle.plant_desk_store.proofs.Raising.{shows_along, survives_if, keeps_good, still_good, newest_told}
 use Rattle.plant_desk_store.proofs.Telling.{IsFoundKnown, nothing_found, known_found, something_found, unfound}
 use Rattle.plant_desk_store.proofs.adopting.adopt_on.Goals as goal
 
@@ -56,7 +56,7 @@ returns-in-Ok-None-clause-shows g c clean newly =
     let free = (rw is at c.found.ensures.nothing).0 refl in
     let sound = (c.found.ensures.live newly.settled.is_open).0 in
     let made = rw ((rw is at c.found.ensures.untouched) refl) at c.make_opening.ensures.shows in
-    made clean newly.settled sound free
+    keeps_shows (state g.S.Store c.args.connection.now) (state g.S.Store c.make_opening.new.connection) c.make_opening.result (made clean newly.settled sound free)
 
 pub returns-in-Ok-None-clause-refused : goal.returns-in-Ok-None-clause-refused
 returns-in-Ok-None-clause-refused g c clean = told_store (state g.S.Store c.args.connection.now).now c.make_opening.result c.make_opening.ensures.store
@@ -76,6 +76,9 @@ returns-in-Ok-None-clause-spared g c whole =
     absurd (whole.taken free)
 
 -- ---- nothing that can be adopted was found
+
+pub returns-in-Err-clause-shows : goal.returns-in-Err-clause-shows
+returns-in-Err-clause-shows g c clean newly = λ live. inl (c.found.ensures.kept clean)
 
 pub returns-in-Err-clause-still : goal.returns-in-Err-clause-still
 returns-in-Err-clause-still g c =
@@ -157,7 +160,7 @@ returns-in-Ok-Some-clause-shows g c clean newly =
     let store : IsStore mid = record { settled = g.met.S.Store.settled held.store; stays = g.met.S.Store.stays held.store; something = g.met.S.Store.survives held.store } in
     let was : HasCleanDisk mid = c.adopt_tables.ensures.clean clean in
     let it : IsFoundKnown old mid c.in-Ok-Some.schema = known_found old mid c.found.result c.in-Ok-Some.schema (rw c.in-Ok-Some.field-0-is at c.in-Ok-Some.ensures) (c.found.ensures.version was) (c.found.ensures.same was) in
-    on_err_weaker c.adopt_tables.result (keeps_along old mid new (c.found.ensures.kept was)) (c.adopt_tables.ensures.shows clean (still_new old mid newly it.same store) it.known)
+    IfErr-weaker c.adopt_tables.result _ _ (λ fault shows. shows_along old mid new fault (c.found.ensures.kept was) it.same.0.now_is shows) (c.adopt_tables.ensures.shows clean (still_new old mid newly it.same store) it.known)
 
 pub returns-in-Ok-Some-clause-refused : goal.returns-in-Ok-Some-clause-refused
 returns-in-Ok-Some-clause-refused g c clean =

@@ -5,6 +5,7 @@ use Rattle.table_forms.specs.Standing.{StandIn}
 use Rattle.plant_tables.specs.DeskForms.{forms_of}
 use Rattle.plant_tables_stored.specs.Loading.{AreLoaded, AreRising, contents_loaded}
 use Rattle.plant_desk_store.specs.Adopting.{NamesFirst}
+use Rattle.plant_desk_store.proofs.Fitting.{all_numbered}
 use Rattle.plant_desk_store.proofs.Judging.{good_rows, told_rows, all_broken, always_ok}
 use Rattle.plant_desk_store.proofs.Telling.{adopted_rows, unread_rows}
 use Rattle.plant_desk_store.proofs.adopting.judge_tables.Goals as goal
@@ -22,7 +23,10 @@ pub returns-in-Ok-clause-told : goal.returns-in-Ok-clause-told
 returns-in-Ok-clause-told g c clean s held =
     let old = state g.S.Store c.args.connection.now in
     let loaded : AreLoaded c.args.schema old.now c.in-Ok.loaded = adopted_rows (AreLoaded c.args.schema old.now) c.read.result c.in-Ok.loaded c.in-Ok.ensures (c.read.ensures.rows clean) in
-    told_rows c.args.schema old.now c.in-Ok.loaded held.0 loaded s c.judge_rows.result held c.judge_rows.ensures.fit
+    told_rows c.args.schema old.now c.in-Ok.loaded held.known loaded s c.judge_rows.result held c.judge_rows.ensures.fit
+
+pub returns-in-Ok-clause-numbered : goal.returns-in-Ok-clause-numbered
+returns-in-Ok-clause-numbered g c = all_numbered c.in-Ok.loaded c.args.schema c.judge_rows.result c.judge_rows.ensures.fit
 
 pub returns-in-Ok-clause-unchanged : goal.returns-in-Ok-clause-unchanged
 returns-in-Ok-clause-unchanged g c clean =

@@ -1,9 +1,10 @@
+use Rattle.std.proofs.Common.{ap}
 use Rattle.sqlite.specs.Held.{state}
 use Rattle.table_forms.proofs.Ending.{IsStore}
 use Rattle.plant_base.specs.State.{newest_schema}
 use Rattle.plant_view.specs.Tables.{tables_of}
 use Rattle.plant_good_keys.proofs.TableKeys.{keyed}
-use Rattle.plant_desk_store.proofs.Judging.{rises, cut_keeps}
+use Rattle.plant_desk_store.proofs.Judging.{rises, told_shows}
 use Rattle.plant_desk_store.proofs.Others.{others_at}
 use Rattle.plant_desk_store.proofs.Resting.{open_at}
 use Rattle.plant_desk_store.proofs.adopting.raise_tables.Goals as goal
@@ -14,12 +15,18 @@ returns-in-Ok-clause-raised g c clean settled s held rows =
     let end = c.raise_rows.new.conn in
     let new = state g.S.Store end in
     let store : IsStore new = record { settled = g.met.S.Store.settled end.store; stays = g.met.S.Store.stays end.store; something = g.met.S.Store.survives end.store } in
-    let done = c.in-Ok.ensures.raised clean s (record { settled = settled; holds = held.2 }) (keyed 1 s held.1.sound) rows in
-    (open_at new s held.1 done.0 clean store, others_at old.now new (tables_of newest_schema s) done.0 done.1)
+    let done = c.in-Ok.ensures.raised clean s (record { settled = settled; holds = held.holds }) (keyed c.args.schema s held.good) held.whole rows in
+    (open_at new s held.good done.0 clean store, others_at old.now new (tables_of newest_schema s) done.0 done.1)
 
 pub returns-in-Err-clause-still : goal.returns-in-Err-clause-still
 returns-in-Err-clause-still g c clean settled s held rows =
     let old = state g.S.Store c.args.connection.now in
     let new = state g.S.Store c.raise_rows.new.conn in
-    let cut = c.in-Err.ensures.cut_short clean s (record { settled = settled; holds = held.2 }) (keyed 1 s held.1.sound) rows in
-    (rises old new s held.1 cut, cut_keeps old new (tables_of 1 s) (tables_of newest_schema s) settled cut)
+    rises c.args.schema old new s held (c.in-Err.ensures.cut_short clean s (record { settled = settled; holds = held.holds }) (keyed c.args.schema s held.good) held.whole rows)
+
+pub returns-in-Err-clause-shows : goal.returns-in-Err-clause-shows
+returns-in-Err-clause-shows g c clean settled s held rows =
+    let old = state g.S.Store c.args.connection.now in
+    let new = state g.S.Store c.raise_rows.new.conn in
+    let cut = c.in-Err.ensures.cut_short clean s (record { settled = settled; holds = held.holds }) (keyed c.args.schema s held.good) held.whole rows in
+    told_shows c.args.schema old new s c.in-Err.fault c.fault_of.result settled held cut (λ memory. ap (λ held. state g.S.Store held) (c.in-Err.ensures.unwritten memory)) c.fault_of.ensures.is

@@ -1,8 +1,9 @@
 use Rattle.sqlite.specs.Held.{state}
-use Rattle.sqlite.specs.State.{HasCleanDisk}
+use Rattle.sqlite.specs.State.{HasCleanDisk, Survives}
 use Rattle.table_forms.proofs.Ending.{IsStore}
 use Rattle.plant_desk_store.proofs.Others.{others_kept}
 use Rattle.plant_desk_store.proofs.Resting.{still_open}
+use Rattle.plant_desk_store.proofs.Stepping.{decided_repeat}
 use Rattle.plant_desk_store.proofs.executing.execute_on.Goals as goal
 
 pub returns-clause-executed : goal.returns-clause-executed
@@ -26,3 +27,13 @@ returns-clause-others g c clean s at before others =
     let stood = still_open old mid s at was (c.decide_on.ensures.kept was) c.decide_on.ensures.crash store in
     ran.ensures.others clean s stood (c.in_ok-decided.ensures.live was) (c.in_ok-decided.ensures.decided was s at.stands) before
     (others_kept before old mid others was (c.decide_on.ensures.kept was) c.decide_on.ensures.crash)
+
+pub returns-clause-repeated : goal.returns-clause-repeated
+returns-clause-repeated g c clean s stands again =
+    let held = c.decide_on.new.connection in
+    let old = state g.S.Store c.args.connection.now in
+    let ran = c.execute_decided in
+    let was : HasCleanDisk (state g.S.Store held) = ran.ensures.clean clean in
+    let new = state g.S.Store ran.new.connection in
+    decided_repeat (Survives old new (λ _. ⊥)) s c.args.envelope.now c.in_ok-decided.decided.decision again (c.in_ok-decided.ensures.decided was s stands).decides
+    (λ n told. rw (ran.ensures.repeated n told).1 c.decide_on.ensures.crash)

@@ -1,9 +1,7 @@
 use Rattle.std.proofs.Common.{◌∙◌, ap, subst}
 use Rattle.sqlite.specs.Held.{state}
 use Rattle.plant_base.specs.State.{State}
-use Rattle.plant_rules.specs.Step.{step}
-use Rattle.plant_rules.specs.Wrong.{wrong}
-use Rattle.plant_view.specs.Tables.{Decides}
+use Rattle.plant_rules.specs.Step.{IsDecision}
 use Rattle.plant_keyed.specs.Keeping.{IsHonest}
 use Rattle.plant_keyed.specs.Remembering.{AreEdgesOf}
 use Rattle.plant_keyed.specs.Shown.{shown}
@@ -22,5 +20,5 @@ returns-clause-decided g c clean s at known =
     let e = c.args.envelope.now in
     record {
       seq = ap (λ p. p.seq) (first.holds (second.before honestly).0) ∙ ap (λ (u : State). u.seq) honest.showed;
-      decides = subst (λ (u : State). Decides (wrong u e) u (step u e) c.in-Ok-decide.decision) honest.shows (second.holds honestly);
+      decides = subst (λ (u : State). IsDecision u e c.in-Ok-decide.decision) honest.shows (second.holds honestly);
     }

@@ -1,4 +1,4 @@
-use Rattle.std.proofs.Common.{◌≡◌, ◌+◌, ◌≤◌, length, true, refl, ap, ◌∙◌, arith}
+use Rattle.std.proofs.Common.{arith}
 use Rattle.std.proofs.lemmas.List.{length-drop}
 use Rattle.plant_http_requests.proofs.InputLemmas.{whole_body, cut_body}
 use Rattle.plant_http_requests.proofs.read.head_job.Goals as goal

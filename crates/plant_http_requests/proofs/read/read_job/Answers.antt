@@ -1,4 +1,4 @@
-use Rattle.std.proofs.Common.{◌≡◌, Some, Err, false, refl, sym, ap, ◌∙◌}
+use Rattle.std.proofs.Common.{◌≡◌, Some, Err, false, refl, ap}
 use Rattle.plant_http_input.specs.declared.reading.HeadEnd.TheVariants as end
 use Rattle.plant_http_input.specs.declared.reading.InputFault.TheVariants as fault
 use Rattle.plant_http_requests.specs.Jobs.{most_reads}

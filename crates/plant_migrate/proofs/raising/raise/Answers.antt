@@ -1,7 +1,6 @@
-use Rattle.std.proofs.Common.{◌≡◌, ◌≤◌, ◌<◌, pos, subst, arith, rules, w64}
+use Rattle.std.proofs.Common.{◌≡◌, ◌≤◌, ◌<◌, pos, subst, rules, w64}
 use mir.Val.{SFits}
 use Rattle.std.specs.Int.Signed.{◌≤ℤ◌}
-use Rattle.sqlite.specs.Effect.{Database}
 use Rattle.sqlite.specs.Held.{state}
 use Rattle.sqlite.specs.State.{HasCleanDisk, IsUnchanged}
 use Rattle.sqlite.proofs.StateLemmas.{survives_then, survives_weaker}
@@ -10,9 +9,8 @@ use Rattle.plant_view.specs.Tables.{tables_of}
 use Rattle.table_forms.proofs.Ending.{IsStore}
 use Rattle.plant_tables_stored.specs.Version.{IsVersion}
 use Rattle.plant_tables_stored.proofs.Versions.{one_version}
-use Rattle.plant_migrate.specs.Standing.{IsFirstRaised, IsRaisedTo}
-use Rattle.plant_migrate.proofs.Kept.{not_raised}
-use Rattle.plant_migrate.proofs.Versions.{version_is, not_below, below, first_told, tells_known, stays_at, rises_to, cut_from}
+use Rattle.plant_migrate.proofs.Kept.{settled_still, not_raised}
+use Rattle.plant_migrate.proofs.Versions.{version_is, not_below, below, tells_known, stays_at, handed_on, rises_to, cut_from, raised_told}
 use Rattle.plant_migrate.proofs.raising.raise.Goals as goal
 
 pub returns-then-version-clause-cut_short : goal.returns-then-version-clause-cut_short
@@ -43,47 +41,96 @@ returns-then-version-to-clause-not_newer g c was n v =
     let known : c.in-Ok-Version.version ≤ℤ pos newest_schema = search rules in
     subst (λ k. k ≤ℤ pos newest_schema) (one_version old.now c.in-Ok-Version.version n told v) known
 
-pub returns-in-Ok-raise_first-clause-raised : goal.returns-in-Ok-raise_first-clause-raised
-returns-in-Ok-raise_first-clause-raised g c clean version s readable =
+pub returns-in-Ok-clause-cut_short : goal.returns-in-Ok-clause-cut_short
+returns-in-Ok-clause-cut_short g c clean version s readable =
     let held = c.found.new.conn in
     let old = state g.S.Store c.args.conn.now in
     let mid = state g.S.Store held in
     let store : IsStore mid = record { settled = g.met.S.Store.settled held.store; stays = g.met.S.Store.stays held.store; something = g.met.S.Store.survives held.store } in
-    let new = state g.S.Store c.raise_first.new.conn in
-    let was : HasCleanDisk mid = c.raise_first.ensures.clean clean in
+    not_raised version c.args.to old mid s readable.at (c.found.ensures.kept clean) store clean c.found.ensures.crash
+
+pub returns-in-Err-clause-cut_short : goal.returns-in-Err-clause-cut_short
+returns-in-Err-clause-cut_short g c clean version s readable =
+    let held = c.found.new.conn in
+    let old = state g.S.Store c.args.conn.now in
+    let mid = state g.S.Store held in
+    let store : IsStore mid = record { settled = g.met.S.Store.settled held.store; stays = g.met.S.Store.stays held.store; something = g.met.S.Store.survives held.store } in
+    not_raised version c.args.to old mid s readable.at (c.found.ensures.kept clean) store clean c.found.ensures.crash
+
+pub returns-then-version-lt1-clause-cut_short : goal.returns-then-version-lt1-clause-cut_short
+returns-then-version-lt1-clause-cut_short g c clean version s readable =
+    let held = c.found.new.conn in
+    let old = state g.S.Store c.args.conn.now in
+    let mid = state g.S.Store held in
+    let store : IsStore mid = record { settled = g.met.S.Store.settled held.store; stays = g.met.S.Store.stays held.store; something = g.met.S.Store.survives held.store } in
+    not_raised version c.args.to old mid s readable.at (c.found.ensures.kept clean) store clean c.found.ensures.crash
+
+pub returns-in-Ok-raise_from-clause-raised : goal.returns-in-Ok-raise_from-clause-raised
+returns-in-Ok-raise_from-clause-raised g c clean version s readable =
+    let held = c.found.new.conn in
+    let old = state g.S.Store c.args.conn.now in
+    let mid = state g.S.Store held in
+    let store : IsStore mid = record { settled = g.met.S.Store.settled held.store; stays = g.met.S.Store.stays held.store; something = g.met.S.Store.survives held.store } in
+    let new = state g.S.Store c.raise_from.new.conn in
+    let was : HasCleanDisk mid = c.raise_from.ensures.clean clean in
     let same : IsUnchanged old mid = c.in-Ok-Version.ensures.same was _ c.in-Ok-Version.field-0-is in
     let told : IsVersion old.now c.in-Ok-Version.version = (c.in-Ok-Version.ensures.version was _).0 c.in-Ok-Version.field-0-is in
     let is : c.in-Ok-Version.version ≡ pos version = version_is version old.now (tables_of version s) c.in-Ok-Version.version readable.at.holds told in
     let fits : SFits w64 c.in-Ok-Version.version = search rules in
     let under : version < c.args.to = below version c.args.to c.in-Ok-Version.version fits is c.requires.known c.if-version-to.false in
-    let first : version ≡ 1 = omega (arith, under, readable.known.0, c.requires.known) in
-    let newest : c.args.to ≡ 2 = omega (arith, under, readable.known.0, c.requires.known) in
-    rises_to version c.args.to old mid new s first newest readable (c.found.ensures.kept was) store same.0.is_open (c.in-Ok-raise_first.ensures.raised clean)
+    rises_to version _ c.args.to old mid new s (handed_on version c.in-Ok-Version.version fits is) under readable (c.found.ensures.kept was) store same.0.is_open (c.in-Ok-raise_from.ensures.raised clean)
 
-pub returns-in-Ok-raise_first-clause-not_newer : goal.returns-in-Ok-raise_first-clause-not_newer
-returns-in-Ok-raise_first-clause-not_newer g c clean n v =
+pub returns-in-Err-raise_from-clause-cut_short : goal.returns-in-Err-raise_from-clause-cut_short
+returns-in-Err-raise_from-clause-cut_short g c clean version s readable =
+    let held = c.found.new.conn in
     let old = state g.S.Store c.args.conn.now in
-    let was : HasCleanDisk (state g.S.Store c.found.new.conn) = c.raise_first.ensures.clean clean in
+    let mid = state g.S.Store held in
+    let store : IsStore mid = record { settled = g.met.S.Store.settled held.store; stays = g.met.S.Store.stays held.store; something = g.met.S.Store.survives held.store } in
+    let new = state g.S.Store c.raise_from.new.conn in
+    let was : HasCleanDisk mid = c.raise_from.ensures.clean clean in
+    let same : IsUnchanged old mid = c.in-Ok-Version.ensures.same was _ c.in-Ok-Version.field-0-is in
+    let told : IsVersion old.now c.in-Ok-Version.version = (c.in-Ok-Version.ensures.version was _).0 c.in-Ok-Version.field-0-is in
+    let is : c.in-Ok-Version.version ≡ pos version = version_is version old.now (tables_of version s) c.in-Ok-Version.version readable.at.holds told in
+    let fits : SFits w64 c.in-Ok-Version.version = search rules in
+    cut_from version _ c.args.to old mid new s (handed_on version c.in-Ok-Version.version fits is) readable (c.found.ensures.kept was) store same.0.is_open (c.in-Err-raise_from.ensures.cut_short clean)
+
+pub returns-in-Ok-raise_from-clause-crash : goal.returns-in-Ok-raise_from-clause-crash
+returns-in-Ok-raise_from-clause-crash g c =
+    let held = c.found.new.conn in
+    let old = state g.S.Store c.args.conn.now in
+    let mid = state g.S.Store held in
+    let store : IsStore mid = record { settled = g.met.S.Store.settled held.store; stays = g.met.S.Store.stays held.store; something = g.met.S.Store.survives held.store } in
+    let new = state g.S.Store c.raise_from.new.conn in
+    survives_then old mid new _ _ _ (λ _ db none. absurd none)
+    (λ clean trees made.
+    let was : HasCleanDisk mid = c.raise_from.ensures.clean clean in
+    let same : IsUnchanged old mid = c.in-Ok-Version.ensures.same was _ c.in-Ok-Version.field-0-is in
+    let told : IsVersion old.now c.in-Ok-Version.version = (c.in-Ok-Version.ensures.version was _).0 c.in-Ok-Version.field-0-is in
+    let fits : SFits w64 c.in-Ok-Version.version = search rules in
+    raised_told c.args.to old mid trees c.in-Ok-Version.version fits told c.requires.known c.if-version-to.false same.0.now_is (λ settled. settled_still old mid settled (c.found.ensures.kept was) store same.0.is_open) made) c.found.ensures.crash c.raise_from.ensures.crash
+
+pub returns-in-Err-raise_from-clause-crash : goal.returns-in-Err-raise_from-clause-crash
+returns-in-Err-raise_from-clause-crash g c =
+    let held = c.found.new.conn in
+    let old = state g.S.Store c.args.conn.now in
+    let mid = state g.S.Store held in
+    let store : IsStore mid = record { settled = g.met.S.Store.settled held.store; stays = g.met.S.Store.stays held.store; something = g.met.S.Store.survives held.store } in
+    let new = state g.S.Store c.raise_from.new.conn in
+    survives_then old mid new _ _ _ (λ _ db none. absurd none)
+    (λ clean trees made.
+    let was : HasCleanDisk mid = c.raise_from.ensures.clean clean in
+    let same : IsUnchanged old mid = c.in-Ok-Version.ensures.same was _ c.in-Ok-Version.field-0-is in
+    let told : IsVersion old.now c.in-Ok-Version.version = (c.in-Ok-Version.ensures.version was _).0 c.in-Ok-Version.field-0-is in
+    let fits : SFits w64 c.in-Ok-Version.version = search rules in
+    raised_told c.args.to old mid trees c.in-Ok-Version.version fits told c.requires.known c.if-version-to.false same.0.now_is (λ settled. settled_still old mid settled (c.found.ensures.kept was) store same.0.is_open) made) c.found.ensures.crash c.raise_from.ensures.crash
+
+pub returns-in-Ok-raise_from-clause-not_newer : goal.returns-in-Ok-raise_from-clause-not_newer
+returns-in-Ok-raise_from-clause-not_newer g c clean n v =
+    let old = state g.S.Store c.args.conn.now in
+    let was : HasCleanDisk (state g.S.Store c.found.new.conn) = c.raise_from.ensures.clean clean in
     let told : IsVersion old.now c.in-Ok-Version.version = (c.in-Ok-Version.ensures.version was _).0 c.in-Ok-Version.field-0-is in
     let known : c.in-Ok-Version.version ≤ℤ pos newest_schema = search rules in
     subst (λ k. k ≤ℤ pos newest_schema) (one_version old.now c.in-Ok-Version.version n told v) known
-
-pub returns-in-Err-raise_first-clause-cut_short : goal.returns-in-Err-raise_first-clause-cut_short
-returns-in-Err-raise_first-clause-cut_short g c clean version s readable =
-    let held = c.found.new.conn in
-    let old = state g.S.Store c.args.conn.now in
-    let mid = state g.S.Store held in
-    let store : IsStore mid = record { settled = g.met.S.Store.settled held.store; stays = g.met.S.Store.stays held.store; something = g.met.S.Store.survives held.store } in
-    let new = state g.S.Store c.raise_first.new.conn in
-    let was : HasCleanDisk mid = c.raise_first.ensures.clean clean in
-    let same : IsUnchanged old mid = c.in-Ok-Version.ensures.same was _ c.in-Ok-Version.field-0-is in
-    let told : IsVersion old.now c.in-Ok-Version.version = (c.in-Ok-Version.ensures.version was _).0 c.in-Ok-Version.field-0-is in
-    let is : c.in-Ok-Version.version ≡ pos version = version_is version old.now (tables_of version s) c.in-Ok-Version.version readable.at.holds told in
-    let fits : SFits w64 c.in-Ok-Version.version = search rules in
-    let under : version < c.args.to = below version c.args.to c.in-Ok-Version.version fits is c.requires.known c.if-version-to.false in
-    let first : version ≡ 1 = omega (arith, under, readable.known.0, c.requires.known) in
-    let newest : c.args.to ≡ 2 = omega (arith, under, readable.known.0, c.requires.known) in
-    cut_from version c.args.to old mid new s first newest readable (c.found.ensures.kept was) store same.0.is_open (c.in-Err-raise_first.ensures.cut_short clean)
 
 pub returns-then-version-clause-crash : goal.returns-then-version-clause-crash
 returns-then-version-clause-crash g c = survives_weaker _ _ _ _ (λ clean db none. absurd none) c.found.ensures.crash
@@ -91,39 +138,9 @@ returns-then-version-clause-crash g c = survives_weaker _ _ _ _ (λ clean db non
 pub returns-then-version-to-clause-crash : goal.returns-then-version-to-clause-crash
 returns-then-version-to-clause-crash g c = survives_weaker _ _ _ _ (λ clean db none. absurd none) c.found.ensures.crash
 
-pub returns-in-Ok-raise_first-clause-crash : goal.returns-in-Ok-raise_first-clause-crash
-returns-in-Ok-raise_first-clause-crash g c =
-    let old = state g.S.Store c.args.conn.now in
-    let mid = state g.S.Store c.found.new.conn in
-    let new = state g.S.Store c.raise_first.new.conn in
-    survives_then old mid new _ _ _ (λ _ db none. absurd none)
-    (λ clean trees raised.
-    let was : HasCleanDisk mid = c.raise_first.ensures.clean clean in
-    let same : IsUnchanged old mid = c.in-Ok-Version.ensures.same was _ c.in-Ok-Version.field-0-is in
-    let told : IsVersion old.now c.in-Ok-Version.version = (c.in-Ok-Version.ensures.version was _).0 c.in-Ok-Version.field-0-is in
-    let fits : SFits w64 c.in-Ok-Version.version = search rules in
-    let first = first_told old.now c.in-Ok-Version.version c.args.to fits told c.requires.known c.if-version-to.false in
-    let to : IsRaisedTo c.args.to old.now trees = record { told = first.0; below = first.1; raised = subst (λ (db : Database). IsFirstRaised db trees) same.0.now_is raised } in
-    to) c.found.ensures.crash c.raise_first.ensures.crash
-
-pub returns-in-Err-raise_first-clause-crash : goal.returns-in-Err-raise_first-clause-crash
-returns-in-Err-raise_first-clause-crash g c =
-    let old = state g.S.Store c.args.conn.now in
-    let mid = state g.S.Store c.found.new.conn in
-    let new = state g.S.Store c.raise_first.new.conn in
-    survives_then old mid new _ _ _ (λ _ db none. absurd none)
-    (λ clean trees raised.
-    let was : HasCleanDisk mid = c.raise_first.ensures.clean clean in
-    let same : IsUnchanged old mid = c.in-Ok-Version.ensures.same was _ c.in-Ok-Version.field-0-is in
-    let told : IsVersion old.now c.in-Ok-Version.version = (c.in-Ok-Version.ensures.version was _).0 c.in-Ok-Version.field-0-is in
-    let fits : SFits w64 c.in-Ok-Version.version = search rules in
-    let first = first_told old.now c.in-Ok-Version.version c.args.to fits told c.requires.known c.if-version-to.false in
-    let to : IsRaisedTo c.args.to old.now trees = record { told = first.0; below = first.1; raised = subst (λ (db : Database). IsFirstRaised db trees) same.0.now_is raised } in
-    to) c.found.ensures.crash c.raise_first.ensures.crash
-
-pub returns-in-Err-raise_first-clause-unwritten : goal.returns-in-Err-raise_first-clause-unwritten
-returns-in-Err-raise_first-clause-unwritten g c other =
-    survives_then _ _ _ _ _ _ (λ _ db none. none) (λ _ db none. none) c.found.ensures.crash (c.in-Err-raise_first.ensures.unwritten (c.fault_of-in-Err-raise_first.ensures.other other))
+pub returns-in-Err-raise_from-clause-unwritten : goal.returns-in-Err-raise_from-clause-unwritten
+returns-in-Err-raise_from-clause-unwritten g c other =
+    survives_then _ _ _ _ _ _ (λ _ db none. none) (λ _ db none. none) c.found.ensures.crash (c.in-Err-raise_from.ensures.unwritten (c.fault_of-in-Err-raise_from.ensures.other other))
 
 pub returns-in-Ok-clause-crash : goal.returns-in-Ok-clause-crash
 returns-in-Ok-clause-crash g c = survives_weaker _ _ _ _ (λ clean db none. absurd none) c.found.ensures.crash
@@ -134,9 +151,9 @@ returns-then-version-to-clause-told g c was =
     let told : IsVersion old.now c.in-Ok-Version.version = (c.in-Ok-Version.ensures.version was _).0 c.in-Ok-Version.field-0-is in
     tells_known old.now c.in-Ok-Version.version told (search rules)
 
-pub returns-in-Ok-raise_first-clause-told : goal.returns-in-Ok-raise_first-clause-told
-returns-in-Ok-raise_first-clause-told g c clean =
+pub returns-in-Ok-raise_from-clause-told : goal.returns-in-Ok-raise_from-clause-told
+returns-in-Ok-raise_from-clause-told g c clean =
     let old = state g.S.Store c.args.conn.now in
-    let was : HasCleanDisk (state g.S.Store c.found.new.conn) = c.raise_first.ensures.clean clean in
+    let was : HasCleanDisk (state g.S.Store c.found.new.conn) = c.raise_from.ensures.clean clean in
     let told : IsVersion old.now c.in-Ok-Version.version = (c.in-Ok-Version.ensures.version was _).0 c.in-Ok-Version.field-0-is in
     tells_known old.now c.in-Ok-Version.version told (search rules)

@@ -1,37 +1,40 @@
 use Rattle.std.proofs.Common.{◌≡◌, Some, sym, subst, arith}
 use Rattle.std.proofs.lemmas.Result.{IfErr-weaker}
-use Rattle.sqlite.specs.Effect.{Database}
 use Rattle.sqlite.specs.Held.{state}
 use Rattle.sqlite.specs.State.{HasCleanDisk, IsUnchanged, Survives}
 use Rattle.sqlite.proofs.StateLemmas.{survives_then, survives_weaker}
-use Rattle.plant_base.specs.State.{newest_schema}
 use Rattle.plant_view.specs.Tables.{tables_of}
 use Rattle.table_forms.proofs.Ending.{IsStore}
 use Rattle.plant_tables.specs.DeskStopping.{IsAtOf}
 use Rattle.plant_tables_judged.specs.Collecting.{rows_from, rows_in, rows_listed}
 use Rattle.plant_tables_stored.specs.Loading.{AreLoaded}
-use Rattle.plant_migrate.specs.Standing.{IsFirstRaised}
-use Rattle.plant_migrate.proofs.Kept.{at_still, not_begun}
-use Rattle.plant_migrate.proofs.Reading.{rows_read, raised_since, unraised_since}
+use Rattle.plant_migrate.proofs.Kept.{at_still, settled_still, not_raised}
+use Rattle.plant_migrate.proofs.Reading.{rows_read, ends_since, cut_since, first_raised}
 use Rattle.plant_migrate.proofs.raising.raise_first.Goals as goal
 
 pub returns-in-Ok-None-clause-cut_short : goal.returns-in-Ok-None-clause-cut_short
 returns-in-Ok-None-clause-cut_short g c clean s readable =
     let held = c.read.new.conn in
     let store : IsStore (state g.S.Store held) = record { settled = g.met.S.Store.settled held.store; stays = g.met.S.Store.stays held.store; something = g.met.S.Store.survives held.store } in
-    not_begun 1 (state g.S.Store c.args.conn.now) (state g.S.Store held) (tables_of 1 s) readable.at (c.read.ensures.kept clean) store (tables_of newest_schema s) clean c.read.ensures.crash
+    not_raised 1 c.args.to (state g.S.Store c.args.conn.now) (state g.S.Store held) s readable.at (c.read.ensures.kept clean) store clean c.read.ensures.crash
 
 pub returns-in-Ok-None-rows_of-clause-cut_short : goal.returns-in-Ok-None-rows_of-clause-cut_short
 returns-in-Ok-None-rows_of-clause-cut_short g c clean s readable =
     let held = c.read.new.conn in
     let store : IsStore (state g.S.Store held) = record { settled = g.met.S.Store.settled held.store; stays = g.met.S.Store.stays held.store; something = g.met.S.Store.survives held.store } in
-    not_begun 1 (state g.S.Store c.args.conn.now) (state g.S.Store held) (tables_of 1 s) readable.at (c.read.ensures.kept clean) store (tables_of newest_schema s) clean c.read.ensures.crash
+    not_raised 1 c.args.to (state g.S.Store c.args.conn.now) (state g.S.Store held) s readable.at (c.read.ensures.kept clean) store clean c.read.ensures.crash
+
+pub returns-in-Err-clause-cut_short : goal.returns-in-Err-clause-cut_short
+returns-in-Err-clause-cut_short g c clean s readable =
+    let held = c.read.new.conn in
+    let store : IsStore (state g.S.Store held) = record { settled = g.met.S.Store.settled held.store; stays = g.met.S.Store.stays held.store; something = g.met.S.Store.survives held.store } in
+    not_raised 1 c.args.to (state g.S.Store c.args.conn.now) (state g.S.Store held) s readable.at (c.read.ensures.kept clean) store clean c.read.ensures.crash
 
 pub returns-clause-cut_short : goal.returns-clause-cut_short
 returns-clause-cut_short g c clean s readable =
     let held = c.read.new.conn in
     let store : IsStore (state g.S.Store held) = record { settled = g.met.S.Store.settled held.store; stays = g.met.S.Store.stays held.store; something = g.met.S.Store.survives held.store } in
-    not_begun 1 (state g.S.Store c.args.conn.now) (state g.S.Store held) (tables_of 1 s) readable.at (c.read.ensures.kept clean) store (tables_of newest_schema s) clean c.read.ensures.crash
+    not_raised 1 c.args.to (state g.S.Store c.args.conn.now) (state g.S.Store held) s readable.at (c.read.ensures.kept clean) store clean c.read.ensures.crash
 
 pub returns-in-Ok-Some-rows_of-clause-raised : goal.returns-in-Ok-Some-rows_of-clause-raised
 returns-in-Ok-Some-rows_of-clause-raised g c clean s readable =
@@ -39,14 +42,14 @@ returns-in-Ok-Some-rows_of-clause-raised g c clean s readable =
     let old = state g.S.Store c.args.conn.now in
     let mid = state g.S.Store held in
     let new = state g.S.Store c.raise_rows.new.conn in
-    let was : HasCleanDisk mid = omega (arith, c.raise_rows.ensures.survives.clean) in
+    let was : HasCleanDisk mid = omega (arith, clean, c.raise_rows.ensures.survives.clean) in
     let store : IsStore mid = record { settled = g.met.S.Store.settled held.store; stays = g.met.S.Store.stays held.store; something = g.met.S.Store.survives held.store } in
     let same : IsUnchanged old mid = rw c.in-Ok-Some.field-0-is at (c.in-Ok-Some.ensures.same was) in
     let loaded : AreLoaded 1 old.now c.in-Ok-Some.loaded = rw c.in-Ok-Some.field-0-is at (c.in-Ok-Some.ensures.rows was) in
     let told : Some (rows_listed c.in-Ok-Some-rows_of.rows) ≡ rows_from c.in-Ok-Some.loaded = rw c.in-Ok-Some-rows_of.field-0-is at c.in-Ok-Some-rows_of.ensures in
-    let are : rows_listed c.in-Ok-Some-rows_of.rows ≡ rows_in (tables_of 1 s) = rows_read old s c.in-Ok-Some.loaded c.in-Ok-Some-rows_of.rows readable loaded told in
+    let are : rows_listed c.in-Ok-Some-rows_of.rows ≡ rows_in (tables_of 1 s) = rows_read 1 old s c.in-Ok-Some.loaded c.in-Ok-Some-rows_of.rows readable loaded told in
     let at : IsAtOf 1 mid (tables_of 1 s) = at_still 1 old mid (tables_of 1 s) readable.at (c.read.ensures.kept was) store same.0.is_open in
-    raised_since old mid new s c.raise_rows.result same.0.now_is (c.raise_rows.ensures.raised clean s at readable.ordered.keyed are)
+    ends_since c.args.to old mid new s c.raise_rows.result same.0.now_is (c.raise_rows.ensures.raised clean s at readable.ordered.keyed readable.whole are)
 
 pub returns-in-Ok-Some-rows_of-clause-cut_short : goal.returns-in-Ok-Some-rows_of-clause-cut_short
 returns-in-Ok-Some-rows_of-clause-cut_short g c clean s readable =
@@ -54,14 +57,14 @@ returns-in-Ok-Some-rows_of-clause-cut_short g c clean s readable =
     let old = state g.S.Store c.args.conn.now in
     let mid = state g.S.Store held in
     let new = state g.S.Store c.raise_rows.new.conn in
-    let was : HasCleanDisk mid = omega (arith, c.raise_rows.ensures.survives.clean) in
+    let was : HasCleanDisk mid = omega (arith, clean, c.raise_rows.ensures.survives.clean) in
     let store : IsStore mid = record { settled = g.met.S.Store.settled held.store; stays = g.met.S.Store.stays held.store; something = g.met.S.Store.survives held.store } in
     let same : IsUnchanged old mid = rw c.in-Ok-Some.field-0-is at (c.in-Ok-Some.ensures.same was) in
     let loaded : AreLoaded 1 old.now c.in-Ok-Some.loaded = rw c.in-Ok-Some.field-0-is at (c.in-Ok-Some.ensures.rows was) in
     let told : Some (rows_listed c.in-Ok-Some-rows_of.rows) ≡ rows_from c.in-Ok-Some.loaded = rw c.in-Ok-Some-rows_of.field-0-is at c.in-Ok-Some-rows_of.ensures in
-    let are : rows_listed c.in-Ok-Some-rows_of.rows ≡ rows_in (tables_of 1 s) = rows_read old s c.in-Ok-Some.loaded c.in-Ok-Some-rows_of.rows readable loaded told in
+    let are : rows_listed c.in-Ok-Some-rows_of.rows ≡ rows_in (tables_of 1 s) = rows_read 1 old s c.in-Ok-Some.loaded c.in-Ok-Some-rows_of.rows readable loaded told in
     let at : IsAtOf 1 mid (tables_of 1 s) = at_still 1 old mid (tables_of 1 s) readable.at (c.read.ensures.kept was) store same.0.is_open in
-    unraised_since old mid new s c.raise_rows.result same.0.now_is (c.raise_rows.ensures.cut_short clean s at readable.ordered.keyed are)
+    cut_since 1 c.args.to old mid new s c.raise_rows.result same.0.now_is (c.raise_rows.ensures.cut_short clean s at readable.ordered.keyed readable.whole are)
 
 pub returns-in-Ok-Some-rows_of-clause-unwritten : goal.returns-in-Ok-Some-rows_of-clause-unwritten
 returns-in-Ok-Some-rows_of-clause-unwritten g c =
@@ -70,17 +73,18 @@ returns-in-Ok-Some-rows_of-clause-unwritten g c =
 
 pub returns-in-Ok-Some-rows_of-clause-crash : goal.returns-in-Ok-Some-rows_of-clause-crash
 returns-in-Ok-Some-rows_of-clause-crash g c =
+    let held = c.read.new.conn in
     let old = state g.S.Store c.args.conn.now in
-    let mid = state g.S.Store c.read.new.conn in
+    let mid = state g.S.Store held in
     let new = state g.S.Store c.raise_rows.new.conn in
+    let store : IsStore mid = record { settled = g.met.S.Store.settled held.store; stays = g.met.S.Store.stays held.store; something = g.met.S.Store.survives held.store } in
     survives_then old mid new _ _ _ (λ _ db none. absurd none)
     (λ clean trees made.
-    let was : HasCleanDisk mid = omega (arith, c.raise_rows.ensures.survives.clean) in
+    let was : HasCleanDisk mid = omega (arith, clean, c.raise_rows.ensures.survives.clean) in
     let same : IsUnchanged old mid = rw c.in-Ok-Some.field-0-is at (c.in-Ok-Some.ensures.same was) in
-    let loaded : AreLoaded 1 mid.now c.in-Ok-Some.loaded = subst (λ (db : Database). AreLoaded 1 db c.in-Ok-Some.loaded) (sym same.0.now_is) (rw c.in-Ok-Some.field-0-is at (c.in-Ok-Some.ensures.rows was)) in
+    let loaded : AreLoaded 1 old.now c.in-Ok-Some.loaded = rw c.in-Ok-Some.field-0-is at (c.in-Ok-Some.ensures.rows was) in
     let told : Some (rows_listed c.in-Ok-Some-rows_of.rows) ≡ rows_from c.in-Ok-Some.loaded = rw c.in-Ok-Some-rows_of.field-0-is at c.in-Ok-Some-rows_of.ensures in
-    let first : IsFirstRaised mid.now trees = record { loaded = c.in-Ok-Some.loaded; are = loaded; rows = c.in-Ok-Some-rows_of.rows; good = sym told; raised = made } in
-    subst (λ (db : Database). IsFirstRaised db trees) same.0.now_is first) c.read.ensures.crash c.raise_rows.ensures.survives
+    first_raised c.args.to old mid trees c.in-Ok-Some.loaded c.in-Ok-Some-rows_of.rows same.0.now_is (λ settled. settled_still old mid settled (c.read.ensures.kept was) store same.0.is_open) loaded told made) c.read.ensures.crash c.raise_rows.ensures.survives
 
 pub returns-in-Ok-None-clause-crash : goal.returns-in-Ok-None-clause-crash
 returns-in-Ok-None-clause-crash g c = survives_weaker _ _ _ _ (λ clean db none. absurd none) c.read.ensures.crash

@@ -1,11 +1,15 @@
 use Rattle.sqlite.specs.Held.{state}
-use Rattle.plant_tables.proofs.Raised.{raised_at, unraised_at}
+use Rattle.plant_tables.proofs.Raised.{raised_at, unraised_at, spared_at}
 use Rattle.plant_tables.proofs.raising.commit_raising.Goals as goal
 
 pub returns-clause-raised : goal.returns-clause-raised
-returns-clause-raised g c clean t can fresh =
-    raised_at c.args.changes.now (state g.S.Store c.args.conn.now) (state g.S.Store c.in_one.new.conn) t c.in_one.result can fresh (c.in_one.ensures.done clean can.at.settled)
+returns-clause-raised g c clean settled t can =
+    raised_at c.args.version c.args.position c.args.added.now c.requires.older (state g.S.Store c.args.conn.now) (state g.S.Store c.in_one.new.conn) t settled can c.in_one.result (c.in_one.ensures.done clean settled)
 
 pub returns-clause-cut_short : goal.returns-clause-cut_short
-returns-clause-cut_short g c clean t can fresh =
-    unraised_at c.args.changes.now (state g.S.Store c.args.conn.now) (state g.S.Store c.in_one.new.conn) t c.in_one.result can fresh (c.in_one.ensures.undone clean can.at.settled)
+returns-clause-cut_short g c clean settled t can =
+    unraised_at c.args.version c.args.position c.args.added.now c.requires.older (state g.S.Store c.args.conn.now) (state g.S.Store c.in_one.new.conn) t settled can c.in_one.result (c.in_one.ensures.undone clean settled)
+
+pub returns-clause-spared : goal.returns-clause-spared
+returns-clause-spared g c clean settled t can =
+    spared_at c.args.version c.args.position c.args.added.now c.requires.older (state g.S.Store c.args.conn.now) (state g.S.Store c.in_one.new.conn) t settled can c.in_one.result (c.in_one.ensures.done clean settled)

@@ -2,11 +2,13 @@ use Rattle.std.proofs.lemmas.List.{take_more, take_all}
 use Rattle.std.proofs.Common.{◌+◌, ◌≡◌, ◌∷◌, [], ◌++◌, take, sym, ap, subst, ◌∙◌, arith, rules}
 use Rattle.sqlite.specs.Held.{state}
 use Rattle.sqlite.specs.State.{HasCleanDisk}
+use Rattle.table_forms.specs.Moves.{Moves}
 use Rattle.table_forms.specs.Standing.{Contents}
 use Rattle.table_forms.proofs.Moving.{survives_on, kept_then, moves_then, moves_as}
-use Rattle.plant_tables.specs.DeskForms.{desk_forms}
+use Rattle.std.proofs.lemmas.List.Elements.{All-from_recursion}
+use Rattle.plant_tables.specs.DeskForms.{forms_of}
 use Rattle.plant_tables.specs.DeskTables.{rows_changed, all_rows_changed}
-use Rattle.plant_tables.specs.Keyed.{MovesTables}
+use Rattle.plant_tables.specs.Keyed.{IsOfSchema, MovesTablesOf}
 use Rattle.plant_tables.proofs.Ended.{tables_moved}
 use Rattle.plant_tables.proofs.DeskMoves.{one_more_change}
 use Rattle.plant_tables.proofs.write.write_changes.Goals as goal
@@ -21,15 +23,21 @@ loop-change-preserved g c =
       same = c.write_change.ensures.same_reference ∙ c.loop-change.invariant.same;
       wrote = survives_on first mid last c.loop-change.invariant.wrote c.write_change.ensures.survives;
       kept = λ clean. kept_then first mid last (c.loop-change.invariant.kept (omega (arith, c.write_change.ensures.survives.clean))) (c.write_change.ensures.kept clean);
-      moved = λ clean.
+      moved = λ clean schema of.
           let was : HasCleanDisk mid = omega (arith, c.write_change.ensures.survives.clean) in
           let more : take (c.loop-change.change-index + 1) c.args.changes.now ≡ front ++ c.change-item.result ∷ [] = search (rules, take_more) in
-          let both = moves_then desk_forms first mid last (all_rows_changed front) (rows_changed c.change-item.result) (c.loop-change.invariant.moved was) (c.in_ok-write_change.ensures.moved clean) in
-          moves_as desk_forms first last _ _ (λ (t : Contents). one_more_change front c.change-item.result t ∙ ap (λ cs. all_rows_changed cs t) (sym more)) both;
+          let item : IsOfSchema schema c.change-item.result = search (rules, All-from_recursion (IsOfSchema schema) c.args.changes.now of) in
+          let both = moves_then (forms_of schema) first mid last (all_rows_changed front) (rows_changed c.change-item.result) (c.loop-change.invariant.moved was schema of) (c.in_ok-write_change.ensures.moved clean schema item) in
+          moves_as (forms_of schema) first last _ _ (λ (t : Contents). one_more_change front c.change-item.result t ∙ ap (λ cs. all_rows_changed cs t) (sym more)) both;
     }
 
-pub returns-clause-tables : goal.returns-clause-tables
-returns-clause-tables g c clean =
+pub returns-clause-moved : goal.returns-clause-moved
+returns-clause-moved g c clean schema of =
     let all : take c.loop-change.change-index c.args.changes.now ≡ c.args.changes.now = search (rules, take_all) in
-    subst (λ cs. MovesTables cs (state g.S.Store c.args.tx.now.conn.now).now (state g.S.Store c.loop-change.tx.conn.now).now) all
-    (tables_moved (take c.loop-change.change-index c.args.changes.now) (state g.S.Store c.args.tx.now.conn.now) (state g.S.Store c.loop-change.tx.conn.now) (c.loop-change.invariant.moved clean))
+    subst (λ cs. Moves (forms_of schema) (state g.S.Store c.args.tx.now.conn.now) (state g.S.Store c.loop-change.tx.conn.now) (all_rows_changed cs)) all (c.loop-change.invariant.moved clean schema of)
+
+pub returns-clause-tables : goal.returns-clause-tables
+returns-clause-tables g c clean schema of =
+    let all : take c.loop-change.change-index c.args.changes.now ≡ c.args.changes.now = search (rules, take_all) in
+    subst (λ cs. MovesTablesOf schema cs (state g.S.Store c.args.tx.now.conn.now).now (state g.S.Store c.loop-change.tx.conn.now).now) all
+    (tables_moved schema (take c.loop-change.change-index c.args.changes.now) (state g.S.Store c.args.tx.now.conn.now) (state g.S.Store c.loop-change.tx.conn.now) (c.loop-change.invariant.moved clean schema of))

@@ -1,4 +1,4 @@
-use Rattle.std.proofs.Common.{rules, ◌≡◌, ◌∙◌, ◌≤◌, List, ap, sym, subst, length, true, false}
+use Rattle.std.proofs.Common.{rules, ◌≡◌, ◌≤◌, List, sym, subst, length, true, false}
 use Rattle.table_forms.specs.Forms.{Form}
 use Rattle.plant_tables_stored.proofs.Parted.{stood, lacked}
 use Rattle.plant_tables_stored.proofs.loaded.has_tables.Goals as goal

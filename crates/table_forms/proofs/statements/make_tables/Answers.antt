@@ -1,6 +1,6 @@
 use Rattle.std.proofs.Common.{rules, ◌≤◌, length, arith, ◌∙◌}
 use Rattle.sqlite.specs.Held.{state}
-use Rattle.table_forms.proofs.Founding.{none_made, next_made, all_made}
+use Rattle.table_forms.proofs.Founding.{none_made, next_made, all_made, all_spared}
 use Rattle.table_forms.proofs.Moving.{survives_none, survives_on, kept_none, kept_then}
 use Rattle.table_forms.proofs.statements.make_tables.Goals as goal
 
@@ -31,3 +31,7 @@ pub returns-clause-made : goal.returns-clause-made
 returns-clause-made g c clean forms apart says =
     let whole : length c.args.texts.now ≤ c.loop-text.text-index = omega (arith, c.loop-text-test.false) in
     all_made _ c.args.texts.now forms says (state g.S.Store c.args.tx.now.conn.now) (state g.S.Store c.loop-text.tx.conn.now) c.loop-text.text-index whole (c.loop-text.invariant.founding clean forms apart says)
+
+pub returns-clause-spared : goal.returns-clause-spared
+returns-clause-spared g c clean forms apart says =
+    all_spared forms (state g.S.Store c.args.tx.now.conn.now) (state g.S.Store c.loop-text.tx.conn.now) c.loop-text.text-index (c.loop-text.invariant.founding clean forms apart says)

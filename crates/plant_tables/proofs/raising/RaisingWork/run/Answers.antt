@@ -1,26 +1,36 @@
-use Rattle.std.proofs.Common.{arith}
+use Rattle.std.proofs.Common.{◌≡◌, ◌+◌, arith, rules}
+use Rattle.std.proofs.lemmas.Result.{on_ok_weaker}
 use Rattle.sqlite.specs.Held.{state}
 use Rattle.sqlite.specs.State.{HasCleanDisk}
-use Rattle.table_forms.proofs.Moving.{kept_then}
+use Rattle.plant_base.specs.State.{newest_schema}
+use Rattle.plant_tables.proofs.DeskMoves.{all_of_newest}
 use Rattle.plant_tables.proofs.Raised.{raised}
 use Rattle.plant_tables.proofs.raising.RaisingWork.run.Goals as goal
 
 pub returns-clause-made : goal.returns-clause-made
 returns-clause-made g c clean =
     let first = state g.S.Store c.args.tx.now.conn.now in
-    let founded = state g.S.Store c.create_later.new.tx.conn.now in
-    let indexed = state g.S.Store c.create_indexes.new.tx.conn.now in
-    let last = state g.S.Store c.write_changes.new.tx.conn.now in
-    let later : HasCleanDisk indexed = omega (arith, c.write_changes.ensures.survives.clean) in
-    let was : HasCleanDisk founded = omega (arith, later, c.create_indexes.ensures.survives.clean) in
-    raised c.args.self.now.changes.now first founded indexed last c.write_changes.result (c.in_ok-create_later.ensures.founded was) (c.in_ok-create_indexes.ensures.indexed later) (c.write_changes.ensures.tables clean)
+    let founded = state g.S.Store c.create_added.new.tx.conn.now in
+    let indexed = state g.S.Store c.index_added.new.tx.conn.now in
+    let written = state g.S.Store c.write_changes.new.tx.conn.now in
+    let last = state g.S.Store c.write_change.new.tx.conn.now in
+    let rows : HasCleanDisk written = omega (arith, c.write_change.ensures.survives.clean) in
+    let later : HasCleanDisk indexed = omega (arith, rows, c.write_changes.ensures.survives.clean) in
+    let was : HasCleanDisk founded = omega (arith, later, c.index_added.ensures.survives.clean) in
+    let version = c.args.self.now.version in
+    let next : c.in-Some.schema ≡ version + 1 = search rules in
+    let founds = rw next at (c.in_ok-create_added.ensures.founded was) in
+    let leaves = rw next at (c.in_ok-create_added.ensures.spared was) in
+    let indexes = rw next at (c.in_ok-index_added.ensures.indexed later) in
+    let meta = rw next at (c.write_change.ensures.moved clean (version + 1) tt) in
+    raised version c.args.self.now.position c.args.self.now.added.now first founded indexed written last c.write_change.result founds leaves indexes (c.in_ok-write_changes.ensures.moved rows (version + 1)) meta
 
-pub returns-clause-kept : goal.returns-clause-kept
-returns-clause-kept g c clean =
-    let first = state g.S.Store c.args.tx.now.conn.now in
-    let founded = state g.S.Store c.create_later.new.tx.conn.now in
-    let indexed = state g.S.Store c.create_indexes.new.tx.conn.now in
-    let last = state g.S.Store c.write_changes.new.tx.conn.now in
-    let later : HasCleanDisk indexed = omega (arith, c.write_changes.ensures.survives.clean) in
-    let was : HasCleanDisk founded = omega (arith, later, c.create_indexes.ensures.survives.clean) in
-    kept_then first indexed last (kept_then first founded indexed (c.create_later.ensures.kept was) (c.create_indexes.ensures.kept later)) (c.write_changes.ensures.kept clean)
+pub returns-clause-inside : goal.returns-clause-inside
+returns-clause-inside g c clean live inside =
+    let rows : HasCleanDisk (state g.S.Store c.write_changes.new.tx.conn.now) = omega (arith, c.write_change.ensures.survives.clean) in
+    let later : HasCleanDisk (state g.S.Store c.index_added.new.tx.conn.now) = omega (arith, rows, c.write_changes.ensures.survives.clean) in
+    let was : HasCleanDisk (state g.S.Store c.create_added.new.tx.conn.now) = omega (arith, later, c.index_added.ensures.survives.clean) in
+    let founded = (c.in_ok-create_added.ensures.founded was).shown live inside in
+    let indexed = (c.in_ok-index_added.ensures.indexed later).shown founded.is_open founded.mode in
+    let written = (c.in_ok-write_changes.ensures.moved rows newest_schema (all_of_newest c.args.self.now.added.now)).shown indexed.is_open indexed.mode in
+    on_ok_weaker c.write_change.result (λ moves. (moves.shown written.is_open written.mode).mode) (c.write_change.ensures.moved clean newest_schema tt)

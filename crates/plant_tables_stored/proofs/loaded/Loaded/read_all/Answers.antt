@@ -1,4 +1,4 @@
-use Rattle.std.proofs.Common.{rules, refl, ◌≡◌, ◌∙◌, sym, ap, subst, length, length-append, List, slice_get, slice_index_or, Some, arith, option_map, [], ◌∷◌, ◌++◌, ◌<◌}
+use Rattle.std.proofs.Common.{rules, refl, ◌≡◌, ◌∙◌, sym, ap, subst, length, length-append, List, slice_get, Some, arith, option_map, [], ◌∷◌, ◌++◌, ◌<◌}
 use Rattle.std.proofs.lemmas.List.{length-map}
 use Rattle.std.proofs.lemmas.Option.{slice_get_read, slice_get-map}
 use Rattle.sqlite.proofs.Callers.{unchanged_then}

@@ -1,0 +1,122 @@
+"""Sends commands under references to a desk that is killed again and again. bench/once.sh calls it.
+
+    once.py PROGRAM FOLDER COMMANDS KILLS
+
+A client sends COMMANDS bookings, each under a reference and after the reply to the one before it, to runs over one file that are killed
+at random moments, some KILLS times, and sends what wasn't answered again. At the end the file is verified, each command has been
+answered its own number, and the tables but receipt are those of a desk that was told each command once and without a reference.
+"""
+import pathlib
+import random
+import sqlite3
+import subprocess
+import sys
+import threading
+import time
+
+SECONDS = 600
+GOODS = (
+    b'{"at":1,"by":"","do":"add_class","class":"RAW","name":""}\n'
+    b'{"at":1,"by":"","do":"add_definition","def":"SUGAR","class":"RAW","name":"","unit":"g"}\n'
+)
+BEFORE = 2
+
+
+class Failed(Exception):
+    """The desk did something twice, or not at all."""
+
+
+def expect(is_so, told):
+    if not is_so:
+        raise Failed(told)
+
+
+def bookings(count):
+    """Returns so many bookings, without the brace that closes each: receipts, and of each lot scraps and a split."""
+    for number in range(count):
+        lot, at = number // 10, 2 + number // 100
+        head = f'{{"at":{at},"by":"ben",'
+        if number % 10 == 0:
+            yield f'{head}"do":"receive","lot":"L-{lot}","def":"SUGAR","amount":1000,"place":"A1"'
+        elif number % 10 == 9:
+            yield f'{head}"do":"split","lot":"L-{lot}","sub":0,"amount":7,"new":"S-{lot}","place":"A2"'
+        else:
+            yield f'{head}"do":"scrap","lot":"L-{lot}","sub":0,"amount":{number % 10}'
+
+
+class Client:
+    """What was answered, and a desk that may be killed while it is asked."""
+
+    def __init__(self, program, file, lines):
+        self.program, self.file, self.lines = program, file, lines
+        self.answered, self.sendings, self.kills = 0, 0, 0
+
+    def send(self):
+        """Sends what isn't answered yet to one run of the desk, until it is killed or all is answered."""
+        with subprocess.Popen([self.program, "run", self.file], stdin=subprocess.PIPE, stdout=subprocess.PIPE) as desk:
+            killer = threading.Timer(self.chance.expovariate(1 / self.mean), desk.kill)
+            killer.start()
+            try:
+                while self.answered < len(self.lines):
+                    desk.stdin.write(self.lines[self.answered])
+                    desk.stdin.flush()
+                    self.sendings += 1
+                    reply = desk.stdout.readline()
+                    if not reply.endswith(b"\n"):
+                        return
+                    wanted = b'{"ok":%d}\n' % (BEFORE + 1 + self.answered)
+                    expect(reply == wanted, f"command {self.answered} was answered {reply}")
+                    self.answered += 1
+            except BrokenPipeError:
+                pass
+            finally:
+                self.kills += killer.finished.is_set()
+                killer.cancel()
+                desk.kill()
+
+    def send_all(self, chance, mean):
+        """Sends all, to as many runs as are needed, each killed after a random time of this mean."""
+        self.chance, self.mean = chance, mean
+        while self.answered < len(self.lines):
+            self.send()
+
+
+def tables(file):
+    """Returns the rows of all tables but receipt, by table."""
+    store = sqlite3.connect(file)
+    names = [it for (it,) in store.execute("SELECT name FROM sqlite_schema WHERE type = 'table' AND name <> 'receipt' ORDER BY 1")]
+    rows = {it: sorted(store.execute(f"SELECT * FROM {it}").fetchall(), key=repr) for it in names}
+    store.close()
+    return rows
+
+
+def run(program, *words, told=b""):
+    ran = subprocess.run([program, *words], input=told, capture_output=True, timeout=SECONDS)
+    expect(ran.returncode == 0, f"{words}: {ran.stdout[-200:]} {ran.stderr}")
+    return ran.stdout
+
+
+def main(program, folder, commands, kills):
+    program, folder = str(pathlib.Path(program).resolve()), pathlib.Path(folder)
+    commands, kills = int(commands), int(kills)
+    bare = list(bookings(commands))
+    once, again = str(folder / "once.db"), str(folder / "again.db")
+    began = time.monotonic()
+    run(program, "run", once, told=GOODS + b"".join(f"{it}}}\n".encode() for it in bare))
+    mean = max(0.002, 2 * (time.monotonic() - began) / max(1, kills))
+    run(program, "run", again, told=GOODS)
+    client = Client(program, again, [f'{it},"ref":"K-{number}"}}\n'.encode() for number, it in enumerate(bare)])
+    client.send_all(random.Random(1), mean)
+    good = b"good schema 3 seq %d\n" % (BEFORE + commands)
+    expect(run(program, "verify", again) == good, "the file isn't good")
+    expect(tables(once) == tables(again), "the tables differ")
+    print(f"{commands} commands in {client.sendings} sendings, {client.kills} kills: each acted once")
+    return 0
+
+
+if __name__ == "__main__":
+    try:
+        sys.exit(main(*sys.argv[1:]))
+    except Failed as failed:
+        print(failed, file=sys.stderr)
+        sys.exit(1)

@@ -1,0 +1,29 @@
+-- The receipts of a good state keep their rule.
+use Rattle.std.proofs.Common.{◌≡◌, ◌≤◌, ℕ, Bool, true, false, List, [], ◌∷◌, refl, arith}
+use Rattle.std.specs.Prelude.{not, ◌&&◌, ◌||◌, ◌==◌, if◌then◌else◌}
+use Rattle.std.specs.List.{AllByRecursion, list_all, list_any}
+use Rattle.std.proofs.lemmas.Bool.Decides.{nat_tests}
+use Rattle.plant_base.specs.declared.rows.Receipt.{Receipt}
+use Rattle.plant_good.specs.Receipts.{HasReceiptValues, AreApart, AreGoodReceipts}
+use Rattle.plant_check_stock.specs.Numbering.{is_given}
+use Rattle.plant_check_stock.specs.Receipts.{is_right_receipt, are_distinct, seqs_of, are_receipts}
+
+given : (greatest n : ℕ) → 1 ≤ n → n ≤ greatest → is_given greatest n ≡ true
+given greatest n low high = grind (arith, nat_tests)
+
+right : (greatest : ℕ) (rs : List Receipt) → AllByRecursion HasReceiptValues rs → AllByRecursion (λ r. (1 ≤ r.seq) × (r.seq ≤ greatest)) rs → list_all (is_right_receipt greatest) rs ≡ true
+right greatest [] v g = refl
+right greatest (r ∷ rs) v g = λ i. (given greatest r.seq g.0.0 g.0.1 i && v.0.content i) && right greatest rs v.1 g.1 i
+
+none_same : (n : ℕ) (rs : List Receipt) → AllByRecursion (λ q. (n == q.seq) ≡ false) rs → list_any (λ m. n == m) (seqs_of rs) ≡ false
+none_same n [] a = refl
+none_same n (r ∷ rs) a = λ i. a.0 i || none_same n rs a.1 i
+
+distinct : (rs : List Receipt) → AreApart rs → are_distinct (seqs_of rs) ≡ true
+distinct [] a = refl
+distinct (r ∷ rs) a = λ i. not (none_same r.seq rs a.0 i) && distinct rs a.1 i
+
+-- and so do none, in a schema that keeps no receipts
+pub receipts_pass : (keeps : Bool) (seq : ℕ) (rs : List Receipt) → AreGoodReceipts seq rs → are_receipts seq (if keeps then rs else []) ≡ true
+receipts_pass true seq rs good = λ i. right seq rs good.values good.given i && distinct rs good.apart i
+receipts_pass false seq rs good = refl

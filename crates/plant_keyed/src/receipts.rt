@@ -1,0 +1,117 @@
+//! The receipt of a reference.
+
+ghost use Rattle.std.specs.Prelude.{◌≡◌, false, ℕ, List, Some, None, Err, IfOk, IfErr, OnOk, slice_get};
+ghost use Rattle.sqlite.specs.State.{HasCleanDisk, IsUnchanged, Survives};
+ghost use Rattle.sqlite.specs.Held.{state};
+ghost use Rattle.sqlite.specs.Values.{bound};
+ghost use Rattle.table_forms.specs.Resting.{Keeps};
+ghost use Rattle.table_reads.specs.Found.{AreGiven};
+ghost use Rattle.table_reads.specs.Selects.{Selects};
+ghost use Rattle.plant_base.specs.State.{receipt_at};
+ghost use Rattle.plant_tables_columns.specs.All.{all_from};
+ghost use Rattle.plant_tables_columns.specs.TableColumns.{receipt_from};
+ghost use Rattle.plant_keyed.specs.Finding.{AreFound};
+ghost use Rattle.plant_keyed.specs.Keeping.{IsSteady, IsTold};
+ghost use Rattle.plant_keyed.specs.Shown.{shown};
+
+use crate::faults::if_memory;
+use crate::keyed::Keyed;
+use crate::texts;
+use plant_base::{Id, Receipt};
+use plant_tables::forms::RECEIPT;
+use plant_tables_columns::judge_receipts;
+use plant_tables_columns::storing::id;
+use sqlite::types::ValueRef;
+use sqlite::{Alter, Connection, Row};
+use std::alloc::Global;
+use table_forms::{Fault, Form};
+use table_reads::find_rows;
+
+/// The receipts that were read. The faults are those of the reading; Store where a value of a row breaks its rule, and
+/// Memory where there is none for the receipts and their contents.
+fn receipts_by(alloc: Global, read: Result<Vec<Row>, Fault>) -> Result<Vec<Receipt>, Fault>
+    ensures handed { IfErr read (λ fault. result ≡ Err fault) }
+    ensures rows { IfOk read (λ stored. IfOk result
+        (λ rows. all_from receipt_from stored.items ≡ Some rows.items)) }
+    ensures broken { IfOk read (λ stored. IfErr result
+        (λ fault. fault ≡ Fault.Store → all_from receipt_from stored.items ≡ None)) }
+{
+    let stored = read?;
+    match if_memory(judge_receipts(alloc, stored.as_slice()))? {
+        Some(rows) => Ok(rows),
+        None => Err(Fault::Store),
+    }
+}
+
+/// The first of the receipts, where there is one.
+fn first_of(receipts: Vec<Receipt>) -> Option<Receipt>
+    ensures { result ≡ slice_get receipts.items 0 }
+{
+    receipts.into_iter().next()
+}
+
+/// The receipts of a table that have the given values, by the first key of the table, as the rows of any other are found.
+fn found_receipts<S: Alter>(
+    alloc: Global,
+    conn: &mut Connection<S>,
+    form: &Form<'_>,
+    sql: &str,
+    values: &[ValueRef<'_>],
+) -> Result<Vec<Receipt>, Fault>
+    requires { (places : List ℕ) × Selects form.now places sql.now }
+    ensures rows { (places : List ℕ) → Selects form.now places sql.now
+        → AreGiven places (bound values.now) → HasCleanDisk (state S.Store conn.new)
+        → IfOk result (λ rows. AreFound (state S.Store conn.old).now form.now receipt_from places
+        (bound values.now) rows.items) }
+    ensures same { HasCleanDisk (state S.Store conn.new)
+        → OnOk result (IsUnchanged (state S.Store conn.old) (state S.Store conn.new)) }
+    ensures kept { HasCleanDisk (state S.Store conn.new)
+        → Keeps (state S.Store conn.old) (state S.Store conn.new) }
+    ensures mode { (state S.Store conn.old).in_transaction ≡ false
+        → (state S.Store conn.new).in_transaction ≡ false }
+    ensures crash { Survives (state S.Store conn.old) (state S.Store conn.new) (λ _. ⊥) }
+{
+    receipts_by(alloc, find_rows(alloc, conn, form, sql, values))
+}
+
+impl<'a, S: Alter> Keyed<'a, S> {
+    /// The receipts of a table that have the given values, by the first key of the table.
+    fn receipts_found(
+        &mut self,
+        form: &Form<'_>,
+        sql: &str,
+        values: &[ValueRef<'_>],
+    ) -> Result<Vec<Receipt>, Fault>
+        requires { (places : List ℕ) × Selects form.now places sql.now }
+        ensures same_reference { self.new.conn.ghost_name ≡ self.old.conn.ghost_name }
+        ensures rows { (places : List ℕ) → Selects form.now places sql.now
+            → AreGiven places (bound values.now)
+            → HasCleanDisk (state S.Store self.new.conn.now)
+            → IfOk result (λ rows. AreFound (state S.Store self.old.conn.now).now form.now
+            receipt_from places (bound values.now) rows.items) }
+        ensures steady { IsSteady (state S.Store self.old.conn.now) (state S.Store self.new.conn.now)
+            self.old.has_failed self.new.has_failed }
+        ensures remembers { self.new.edges.now ≡ self.old.edges.now }
+    {
+        match found_receipts(self.alloc, self.conn, form, sql, values) {
+            Ok(rows) => Ok(rows),
+            Err(fault) => {
+                self.has_failed = true;
+                Err(fault)
+            }
+        }
+    }
+
+    /// The receipt of the command of a reference.
+    pub(crate) fn receipt_of(&mut self, reference: &Id) -> Result<Option<Receipt>, Fault>
+        ensures same_reference { self.new.conn.ghost_name ≡ self.old.conn.ghost_name }
+        ensures told { IsTold (state S.Store self.old.conn.now) (state S.Store self.new.conn.now)
+            self.old.has_failed self.new.has_failed
+            (IfOk result (λ row. row
+            ≡ receipt_at (shown (state S.Store self.old.conn.now).now) reference.now)) }
+        ensures remembers { self.new.edges.now ≡ self.old.edges.now }
+    {
+        let rows = self.receipts_found(&RECEIPT, texts::RECEIPT_BY_ID, &[id(reference)])?;
+        Ok(first_of(rows))
+    }
+}

@@ -1,0 +1,77 @@
+use Rattle.std.proofs.Common.{◌≡◌, ◌∙◌, ◌-◌, [], Some, sym, ap, subst, arith}
+use Rattle.sqlite.specs.Held.{state}
+use Rattle.sqlite.specs.State.{HasCleanDisk, IsUnchanged}
+use Rattle.sqlite.proofs.StateLemmas.{survives_then}
+use Rattle.plant_view.specs.Tables.{tables_of, position_of}
+use Rattle.table_forms.proofs.Ending.{IsStore}
+use Rattle.plant_tables.specs.DeskStopping.{IsAtOf}
+use Rattle.plant_tables_columns.specs.TableColumns.{only_meta}
+use Rattle.plant_migrate.specs.Steps.{IsRaisedBy}
+use Rattle.plant_migrate.proofs.Chains.{none_from}
+use Rattle.plant_migrate.proofs.Ends.{state_risable, state_ends, state_cut}
+use Rattle.plant_migrate.proofs.Kept.{at_still, settled_still, not_raised}
+use Rattle.plant_migrate.proofs.Reading.{meta_read, ends_since, cut_since, later_raised}
+use Rattle.plant_migrate.proofs.StateChanges.{bookings}
+use Rattle.plant_migrate.proofs.raising.raise_later.Goals as goal
+
+pub returns-in-Err-clause-cut_short : goal.returns-in-Err-clause-cut_short
+returns-in-Err-clause-cut_short g c clean s readable =
+    let held = c.read_meta.new.conn in
+    let store : IsStore (state g.S.Store held) = record { settled = g.met.S.Store.settled held.store; stays = g.met.S.Store.stays held.store; something = g.met.S.Store.survives held.store } in
+    not_raised c.args.version c.args.to (state g.S.Store c.args.conn.now) (state g.S.Store held) s readable.at (c.read_meta.ensures.kept clean) store clean c.read_meta.ensures.crash
+
+pub returns-clause-cut_short : goal.returns-clause-cut_short
+returns-clause-cut_short g c clean s readable =
+    let held = c.read_meta.new.conn in
+    let store : IsStore (state g.S.Store held) = record { settled = g.met.S.Store.settled held.store; stays = g.met.S.Store.stays held.store; something = g.met.S.Store.survives held.store } in
+    not_raised c.args.version c.args.to (state g.S.Store c.args.conn.now) (state g.S.Store held) s readable.at (c.read_meta.ensures.kept clean) store clean c.read_meta.ensures.crash
+
+pub returns-in-Some-clause-raised : goal.returns-in-Some-clause-raised
+returns-in-Some-clause-raised g c clean s readable =
+    let version = c.args.version in
+    let held = c.read_meta.new.conn in
+    let old = state g.S.Store c.args.conn.now in
+    let mid = state g.S.Store held in
+    let new = state g.S.Store c.raise_by.new.conn in
+    let was : HasCleanDisk mid = omega (arith, clean, c.raise_by.ensures.survives.clean) in
+    let store : IsStore mid = record { settled = g.met.S.Store.settled held.store; stays = g.met.S.Store.stays held.store; something = g.met.S.Store.survives held.store } in
+    let same : IsUnchanged old mid = c.in-Ok.ensures.same was in
+    let told : Some c.in-Some.meta ≡ only_meta c.in-Ok.stored.items = c.in-Some.ensures ∙ ap only_meta c.as_slice.ensures.value in
+    let placed : c.in-Some.meta.position ≡ position_of s = meta_read version old s c.in-Ok.stored.items c.in-Some.meta readable (c.in-Ok.ensures.rows was) told in
+    let at : IsAtOf version mid (tables_of version s) = at_still version old mid (tables_of version s) readable.at (c.read_meta.ensures.kept was) store same.0.is_open in
+    ends_since c.args.to old mid new s c.raise_by.result same.0.now_is
+    (state_ends version c.args.to s c.in-Some.meta.position [] (omega (arith, c.requires.later)) (omega (arith, c.requires.below)) c.requires.newest readable.whole placed (sym (none_from version (bookings s) c.requires.later)) mid new c.raise_by.result
+    (c.raise_by.ensures.raised clean at.settled (tables_of version s) (state_risable version mid.now s at.holds readable.ordered.keyed)))
+
+pub returns-in-Some-clause-cut_short : goal.returns-in-Some-clause-cut_short
+returns-in-Some-clause-cut_short g c clean s readable =
+    let version = c.args.version in
+    let held = c.read_meta.new.conn in
+    let old = state g.S.Store c.args.conn.now in
+    let mid = state g.S.Store held in
+    let new = state g.S.Store c.raise_by.new.conn in
+    let was : HasCleanDisk mid = omega (arith, clean, c.raise_by.ensures.survives.clean) in
+    let store : IsStore mid = record { settled = g.met.S.Store.settled held.store; stays = g.met.S.Store.stays held.store; something = g.met.S.Store.survives held.store } in
+    let same : IsUnchanged old mid = c.in-Ok.ensures.same was in
+    let told : Some c.in-Some.meta ≡ only_meta c.in-Ok.stored.items = c.in-Some.ensures ∙ ap only_meta c.as_slice.ensures.value in
+    let placed : c.in-Some.meta.position ≡ position_of s = meta_read version old s c.in-Ok.stored.items c.in-Some.meta readable (c.in-Ok.ensures.rows was) told in
+    let at : IsAtOf version mid (tables_of version s) = at_still version old mid (tables_of version s) readable.at (c.read_meta.ensures.kept was) store same.0.is_open in
+    cut_since version c.args.to old mid new s c.raise_by.result same.0.now_is
+    (state_cut version c.args.to s c.in-Some.meta.position [] (omega (arith, c.requires.later)) (omega (arith, c.requires.below)) c.requires.newest readable.whole placed (sym (none_from version (bookings s) c.requires.later)) mid new c.raise_by.result
+    (c.raise_by.ensures.cut_short clean at.settled (tables_of version s) (state_risable version mid.now s at.holds readable.ordered.keyed)))
+
+pub returns-in-Some-clause-crash : goal.returns-in-Some-clause-crash
+returns-in-Some-clause-crash g c =
+    let version = c.args.version in
+    let held = c.read_meta.new.conn in
+    let old = state g.S.Store c.args.conn.now in
+    let mid = state g.S.Store held in
+    let new = state g.S.Store c.raise_by.new.conn in
+    let store : IsStore mid = record { settled = g.met.S.Store.settled held.store; stays = g.met.S.Store.stays held.store; something = g.met.S.Store.survives held.store } in
+    survives_then old mid new _ _ _ (λ _ db none. absurd none)
+    (λ clean trees made.
+    let was : HasCleanDisk mid = omega (arith, clean, c.raise_by.ensures.survives.clean) in
+    let same : IsUnchanged old mid = c.in-Ok.ensures.same was in
+    let told : Some c.in-Some.meta ≡ only_meta c.in-Ok.stored.items = c.in-Some.ensures ∙ ap only_meta c.as_slice.ensures.value in
+    let edged = subst (λ cs. IsRaisedBy version (c.args.to - version) c.in-Some.meta.position cs mid trees) (sym (none_from version [] c.requires.later)) made in
+    later_raised version c.args.to old mid trees c.in-Ok.stored.items c.in-Some.meta c.requires.later same.0.now_is (λ settled. settled_still old mid settled (c.read_meta.ensures.kept was) store same.0.is_open) (c.in-Ok.ensures.rows was) told edged) c.read_meta.ensures.crash c.raise_by.ensures.survives

@@ -1,0 +1,61 @@
+-- Tables of a version that are raised by some versions, each in a transaction of its own, whatever state they stand for.
+use Rattle.std.specs.Prelude.{◌≡◌, ◌⊎◌, ℕ, ◌+◌, ◌≤◌, ◌<◌, List, IsTrue}
+use Rattle.sqlite.specs.Tree.{Trees}
+use Rattle.sqlite.specs.Effect.{Database}
+use Rattle.sqlite.specs.State as store
+use Rattle.plant_base.specs.declared.rows.Position.{Position}
+use Rattle.plant_view.specs.Tables.{Tables}
+use Rattle.plant_view.specs.declared.change.RowChange.{RowChange}
+use Rattle.table_forms.specs.Standing.{AreFree, KeepsOthers}
+use Rattle.table_forms.specs.Stopping.{IsSettled}
+use Rattle.plant_tables.specs.DeskForms.{desk_forms, later_forms}
+use Rattle.plant_tables.specs.DeskStopping.{IsAtOf, FindsOf}
+use Rattle.plant_tables.specs.Keyed.{HoldsTablesOf, LacksLater, AreKeyed}
+use Rattle.plant_tables.specs.Raising.{RaisesTables}
+use Rattle.plant_migrate.specs.Raised.{added_rows, raised_by}
+
+-- The database holds these tables of a version, with keys in their order, and they have no rows of later tables.
+pub record IsRisable (version : ℕ) (db : Database) (t : Tables) : Type 0 where
+  pub holds : HoldsTablesOf version db t
+  pub keyed : AreKeyed t
+  pub lacks : LacksLater version t
+
+-- The later tables could be made in this database, and the trees are those that it has once its tables were raised to the
+-- next version.
+pub record IsRaisedOnce (version : ℕ) (position : Position) (edges : List RowChange) (old : Database) (trees : Trees) : Type 0 where
+  pub free : AreFree (later_forms version) old.schema
+  pub new : Database
+  pub raises : RaisesTables version position (added_rows version edges) old new
+  pub same : trees ≡ new.trees
+
+-- The store is at the tables after some of the steps, and not after all, and tables of other names stand as they did.
+pub record IsWithin (version steps : ℕ) (tables : ℕ → Tables) (old new : store.State) : Type 0 where
+  pub done : ℕ
+  pub some : 0 < done
+  pub few : done < steps
+  pub at : IsAtOf (version + done) new (tables done)
+  pub others : KeepsOthers desk_forms old.now new.now
+
+-- The raising by so many steps was cut short: a stop leaves at least one, and nothing else than the tables after some of
+-- the steps, beside the same tables of other names; and the store, where it is still open, shows what it showed, or the
+-- tables after some of the steps.
+pub record IsCutShortWithin (version steps : ℕ) (tables : ℕ → Tables) (old new : store.State) : Type 0 where
+  pub leaves : ∥ ((db : Trees) × new.may_leave db) ∥₁
+  pub nothing_else : (db : Trees) → new.may_leave db → (done : ℕ) × (done ≤ steps) × FindsOf (version + done) old.now db (tables done)
+  pub shows : IsTrue new.is_open → (IsAtOf version new (tables 0) × (new.now ≡ old.now)) ⊎ IsWithin version steps tables old new
+
+-- What an opening of these trees finds: these tables of a version, those of other names as they stood, and that the tables
+-- that later versions add can still be made.
+pub record FindsRisable (version : ℕ) (before : Database) (trees : Trees) (t : Tables) : Type 0 where
+  pub finds : FindsOf version before trees t
+  pub free : AreFree (later_forms version) finds.schema
+
+-- The later tables could be made in the database that the store showed, and in the trees whatever tables of the version it
+-- held are to be found, raised by some of the steps, beside the same tables of other names, and can be raised further; by
+-- more than one where a stop left of the store what it showed, and nothing else.
+pub record IsRaisedBy (version steps : ℕ) (position : Position) (edges : List RowChange) (old : store.State) (trees : Trees) : Type 0 where
+  pub free : AreFree (later_forms version) old.now.schema
+  pub done : ℕ
+  pub some : 0 < done
+  pub few : done ≤ steps
+  pub finds : (1 < done → IsSettled old) → (t : Tables) → IsRisable version old.now t → FindsRisable (version + done) old.now trees (raised_by done version position edges t)

@@ -1,0 +1,102 @@
+//! The raising of tables by some versions, each in a transaction of its own.
+
+ghost use Rattle.std.specs.Prelude.{◌≡◌, ◌↔◌, ◌+◌, ◌≤◌, true, false, OnOk, OnErr, IsOkUnless};
+ghost use Rattle.sqlite.specs.State.{HasCleanDisk, Survives};
+ghost use Rattle.sqlite.specs.Held.{state};
+ghost use Rattle.plant_base.specs.State.{newest_schema};
+ghost use Rattle.plant_view.specs.Tables.{Tables};
+ghost use Rattle.table_forms.specs.Standing.{AreFree, KeepsOthers};
+ghost use Rattle.table_forms.specs.Stopping.{IsSettled};
+ghost use Rattle.plant_tables.specs.DeskForms.{desk_forms, later_forms};
+ghost use Rattle.plant_tables.specs.DeskStopping.{IsAtOf, IsCutShortOf};
+ghost use Rattle.plant_tables.specs.Raising.{IsOlder};
+ghost use Rattle.plant_migrate.specs.Raised.{AreEdges, raised_once, raised_by};
+ghost use Rattle.plant_migrate.specs.Steps.{IsRisable, IsRaisedOnce, IsCutShortWithin, IsRaisedBy};
+
+use crate::changes::added_rows;
+use plant_base::Position;
+use plant_tables::commit_raising;
+use plant_tables::forms::{desk_forms, tables_in};
+use plant_tables_stored::lacks_counts;
+use plant_view::RowChange;
+use sqlite::{Alter, Connection};
+use sqlite_schema::schema::Schema;
+use table_forms::Fault;
+use table_reads::all_free;
+
+/// Whether the tables that later schemas add to those of this version can be made: their names are free, and no table
+/// still wants SQLite's own table of counts.
+fn can_rise(schema: &Schema, version: u64) -> bool
+    ensures { (result ≡ true) ↔ AreFree (later_forms version) schema.now }
+{
+    let forms = desk_forms();
+    let (_, later) = forms.split_at(tables_in(version));
+    all_free(schema, later) && !lacks_counts(schema)
+}
+
+/// Raises tables of a version to the next, in one transaction: an edge for each movement that makes one, where the next is
+/// the second, and the version. Store where the later tables can't be made, where the store fails, or where a number is
+/// above 2^63 - 1.
+fn raise_one<S: Alter>(
+    conn: &mut Connection<S>,
+    version: u64,
+    position: &Position,
+    edges: &[RowChange],
+) -> Result<(), Fault>
+    requires mode { conn.old.in_transaction ≡ false }
+    requires older { IsOlder version }
+    requires edges { AreEdges edges.now }
+    ensures fault { IsOkUnless result Fault.Store }
+    ensures mode { conn.new.in_transaction ≡ false }
+    ensures raised { HasCleanDisk (state S.Store conn.new) → IsSettled (state S.Store conn.old)
+        → (t : Tables) → IsRisable version (state S.Store conn.old).now t
+        → OnOk result (IsAtOf (version + 1) (state S.Store conn.new)
+        (raised_once version position.now edges.now t)
+        × KeepsOthers desk_forms (state S.Store conn.old).now (state S.Store conn.new).now) }
+    ensures cut_short { HasCleanDisk (state S.Store conn.new) → IsSettled (state S.Store conn.old)
+        → (t : Tables) → IsRisable version (state S.Store conn.old).now t
+        → OnErr result (IsCutShortOf version (version + 1) (state S.Store conn.old)
+        (state S.Store conn.new) t (raised_once version position.now edges.now t)) }
+    ensures could { OnOk result (AreFree (later_forms version) (state S.Store conn.old).now.schema) }
+    ensures survives { Survives (state S.Store conn.old) (state S.Store conn.new)
+        (IsRaisedOnce version position.now edges.now (state S.Store conn.old).now) }
+{
+    if !can_rise(conn.schema(), version) {
+        return Err(Fault::Store);
+    }
+    commit_raising(conn, version, *position, added_rows(version, edges))
+}
+
+/// Raises tables of a version by so many versions, one after the other, each in one transaction. The fault is that of the
+/// first version that they couldn't be raised to: they stay at the one before it.
+pub(crate) fn raise_by<S: Alter>(
+    conn: &mut Connection<S>,
+    version: u64,
+    steps: u64,
+    position: &Position,
+    edges: &[RowChange],
+) -> Result<(), Fault>
+    requires mode { conn.old.in_transaction ≡ false }
+    requires known { 1 ≤ version }
+    requires newest { version + steps ≤ newest_schema }
+    requires edges { AreEdges edges.now }
+    ensures fault { IsOkUnless result Fault.Store }
+    ensures mode { conn.new.in_transaction ≡ false }
+    ensures raised { HasCleanDisk (state S.Store conn.new) → IsSettled (state S.Store conn.old)
+        → (t : Tables) → IsRisable version (state S.Store conn.old).now t
+        → OnOk result (IsAtOf (version + steps) (state S.Store conn.new)
+        (raised_by steps version position.now edges.now t)
+        × KeepsOthers desk_forms (state S.Store conn.old).now (state S.Store conn.new).now) }
+    ensures cut_short { HasCleanDisk (state S.Store conn.new) → IsSettled (state S.Store conn.old)
+        → (t : Tables) → IsRisable version (state S.Store conn.old).now t
+        → OnErr result (IsCutShortWithin version steps
+        (λ done. raised_by done version position.now edges.now t) (state S.Store conn.old)
+        (state S.Store conn.new)) }
+    ensures survives { Survives (state S.Store conn.old) (state S.Store conn.new)
+        (IsRaisedBy version steps position.now edges.now (state S.Store conn.old)) }
+{
+    for done in 0..steps {
+        raise_one(conn, version + done, position, edges)?;
+    }
+    Ok(())
+}

@@ -4,7 +4,8 @@
 
 For each size a desk of so many movements is made in a file, by receipts, scraps, splits and the bookings of batches; then COMMANDS
 commands of each kind are given to one run of the desk, each after the reply to the one before it. What is told of a kind is its commands
-a second and the middle time of one. Beside it stand peers that take the same lines from a pipe, make the same look-ups and writes in
+a second and the middle time of one. As many receipts as movements stand in the file, or as SIZE says behind a `/`, as in 1000/1000000; scraps
+and splits are given with and without references in turn, and the scraps once more, as repeats. Beside it stand peers that take the same lines from a pipe, make the same look-ups and writes in
 the same tables of a copy of the file, commit each command durably before they answer it, and know no rules but those of stock:
 bench/peer.py, in Python over the standard library's sqlite3, and bench/peer.c, which is left out where gcc or sqlite3.h isn't there.
 Each is run three times: over a rollback journal, which is SQLite's default; over a log written ahead; and over such a log with a second
@@ -15,6 +16,7 @@ order, itself, a batch, and where a lot came from, and the greatest size of its 
 import json
 import pathlib
 import shutil
+import sqlite3
 import statistics
 import subprocess
 import sys
@@ -140,13 +142,30 @@ def make(program, path, size):
     return greatest, memory
 
 
+def write_receipts(path, count):
+    """Writes so many receipts into the file of a desk, and lets it have accepted as many commands at least."""
+    store = sqlite3.connect(path)
+    store.executemany("INSERT INTO receipt VALUES (?, ?, ?)", ((f"OLD-{it}", it, f"{AT}\n\n\nsettle\nB-{it}\n") for it in range(1, count + 1)))
+    store.execute("UPDATE meta SET seq = max(seq, ?)", (count,))
+    store.commit()
+    store.close()
+
+
 def kinds(count, last):
-    """Names each kind of command and gives its commands."""
-    yield "receive", [("receive", {"lot": f"N-{k}", "def": "FLOUR", "amount": 500, "place": "A1"}) for k in range(count)]
-    yield "scrap", [("scrap", {"lot": f"N-{k}", "sub": 0, "amount": 1}) for k in range(count)]
-    yield "split", [("split", {"lot": f"N-{k}", "sub": 0, "amount": 1, "new": f"M-{k}", "place": "A1"}) for k in range(count)]
-    yield "consume", [("consume", {"batch": last, "lot": "F", "sub": 0, "amount": 1}) for k in range(count)]
-    yield "produce", [("produce", {"batch": last, "lot": f"P-{k}", "def": "DOUGH", "amount": 1, "place": "A1"}) for k in range(count)]
+    """Gives the commands of each kind, by its name, those together that take turns: with `ref` under a reference, and without."""
+    def booked(do, **fields):
+        return [(do, {name: it.format(k) if isinstance(it, str) else it for name, it in fields.items()}) for k in range(count)]
+
+    scrap = {"lot": "N-{}", "sub": 0, "amount": 1}
+    yield {"receive": booked("receive", lot="N-{}", **{"def": "FLOUR"}, amount=500, place="A1")}
+    yield {"scrap": booked("scrap", **scrap), "scrap, ref": booked("scrap", **scrap, ref="S-{}")}
+    yield {"repeat": booked("scrap", **scrap, ref="S-{}")}
+    yield {
+        "split": booked("split", **scrap, new="M-{}", place="A1"),
+        "split, ref": booked("split", **scrap, new="O-{}", place="A1", ref="T-{}"),
+    }
+    yield {"consume": booked("consume", batch=last, lot="F", sub=0, amount=1)}
+    yield {"produce": booked("produce", batch=last, lot="P-{}", **{"def": "DOUGH"}, amount=1, place="A1")}
 
 
 def peers(folder, path, is_in_memory):
@@ -165,13 +184,13 @@ def peers(folder, path, is_in_memory):
 
 def measured(keepers, count, last):
     """Gives each kind of command to the keepers in turn, and returns how long each command took of each kind and keeper."""
-    took = {}
-    for name, commands in kinds(count, last):
-        step = max(1, len(commands) // ROUNDS)
-        for first in range(0, len(commands), step):
-            for keeper in keepers:
-                times = [keeper.accept(do, **fields) for do, fields in commands[first:first + step]]
-                took.setdefault(name, {}).setdefault(keeper.name, []).extend(times)
+    took, step = {}, max(1, count // ROUNDS)
+    for group in kinds(count, last):
+        for first in range(0, count, step):
+            for name, commands in group.items():
+                for keeper in keepers:
+                    times = [keeper.accept(do, **fields) for do, fields in commands[first:first + step]]
+                    took.setdefault(name, {}).setdefault(keeper.name, []).extend(times)
     return took
 
 
@@ -201,29 +220,47 @@ def opened(program, path, size, is_in_memory):
     return desk
 
 
+def compared(taken):
+    """Tells how many times as long a command with a reference takes as one without, in the middle."""
+    for name, took in taken.items():
+        if ", ref" in name:
+            ours, plain = statistics.median(took["desk"]), statistics.median(taken[name.removesuffix(", ref")]["desk"])
+            print(f"  {name}: {ours / plain:.2f} of one without")
+
+
+def measure(program, folder, count, is_in_memory, size, receipts):
+    """Measures commands over a desk of so many movements and receipts."""
+    path = folder / f"{size}.db"
+    start = time.perf_counter()
+    log, memory = make(program, path, size)
+    took = time.perf_counter() - start
+    print(f"{size} movements, made in {took:.1f} s, with a log of {log} bytes and a memory of {memory} kB at most")
+    if not is_in_memory:
+        write_receipts(path, receipts)
+        print(f"  {receipts} receipts")
+    others = list(peers(folder, path, is_in_memory))
+    start = time.perf_counter()
+    desk = opened(program, path, size, is_in_memory)
+    did = "made once more in memory" if is_in_memory else "opened and adopted"
+    print(f"  {did} in {time.perf_counter() - start:.2f} s, with {desk.memory()} kB at most")
+    taken = measured([desk, *others], count, f"B-{size // 9 - 1}")
+    for name, took in taken.items():
+        print(f"  {name:10} desk {rate(took['desk'])}")
+        for it, times in took.items():
+            if it != "desk":
+                print(f"    {it:14} {rate(times)} {sum(times) / sum(took['desk']):.2f}")
+    compared(taken)
+    asked(desk)
+    for keeper in [desk, *others]:
+        keeper.close()
+    path.unlink()
+
+
 def main():
     program, folder, count, is_in_memory, *sizes = sys.argv[1:]
-    folder, is_in_memory = pathlib.Path(folder), is_in_memory == "memory"
-    for size in map(int, sizes):
-        path = folder / f"{size}.db"
-        start = time.perf_counter()
-        log, memory = make(program, path, size)
-        took = time.perf_counter() - start
-        print(f"{size} movements, made in {took:.1f} s, with a log of {log} bytes and a memory of {memory} kB at most")
-        others = list(peers(folder, path, is_in_memory))
-        start = time.perf_counter()
-        desk = opened(program, path, size, is_in_memory)
-        did = "made once more in memory" if is_in_memory else "opened and adopted"
-        print(f"  {did} in {time.perf_counter() - start:.2f} s, with {desk.memory()} kB at most")
-        for name, took in measured([desk, *others], int(count), f"B-{size // 9 - 1}").items():
-            ours = took.pop("desk")
-            print(f"  {name:8} desk {rate(ours)}")
-            for it, times in took.items():
-                print(f"    {it:14} {rate(times)} {sum(times) / sum(ours):.2f}")
-        asked(desk)
-        for keeper in [desk, *others]:
-            keeper.close()
-        path.unlink()
+    for it in sizes:
+        size, _, receipts = it.partition("/")
+        measure(program, pathlib.Path(folder), int(count), is_in_memory == "memory", int(size), int(receipts or size))
 
 
 main()

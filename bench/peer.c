@@ -3,7 +3,8 @@
  * is answered: with `journal` as SQLite does it where it isn't told otherwise (a rollback journal, synchronous=FULL), with
  * `wal` over a log written ahead, with `twice` likewise, and each commit syncs a second time, what it wrote to a file
  * beside, as the desk's commits sync twice. With `memory` the file is copied into a store in memory, and nothing is written
- * elsewhere. It knows no rules but that a stock is enough, and reads no more of a line than the members it wants.
+ * elsewhere. It knows no rules but that a stock is enough, and reads no more of a line than the members it wants. A command with a
+ * reference is looked up among the receipts, and one is kept of it.
  * bench/commands.py builds it and runs it.
  *
  *     gcc -O2 -o peer bench/peer.c -lsqlite3
@@ -74,6 +75,8 @@ TEXT(sublot_set, "UPDATE sublot SET stock = ? WHERE lot = ? AND no = ?");
 TEXT(hold_at, "SELECT id FROM hold WHERE lot = ?");
 TEXT(edge_at, "SELECT a FROM edge WHERE kind = ? AND b = ?");
 TEXT(edge_add, "INSERT INTO edge VALUES (?, ?, ?) ON CONFLICT DO NOTHING");
+TEXT(receipt_at, "SELECT seq, content FROM receipt WHERE id = ?");
+TEXT(receipt_add, "INSERT INTO receipt VALUES (?, ?, ?)");
 TEXT(movement_add, "INSERT INTO movement VALUES (?, 1, ?, ?, 0, ?, ?, ?, ?, ?, ?, '')");
 
 /* The member of this name in the line, without its quotes: it is cut off there. Null where there is none. */
@@ -141,13 +144,15 @@ static void add_edge(int kind, const char *from, const char *to) {
 }
 
 static sqlite3_int64 book(const char *line) {
-    char do_[64], lot_[64], batch_[64], new_[64], def_[64], place_[256], by_[256], number[64], found[64];
+    char do_[64], lot_[64], batch_[64], new_[64], def_[64], place_[256], by_[256], ref_[64], number[64], found[64];
     char *word = member(line, "do", do_), *lot = member(line, "lot", lot_), *batch = member(line, "batch", batch_);
     char *new = member(line, "new", new_), *definition = member(line, "def", def_), *place = member(line, "place", place_);
-    char *by = member(line, "by", by_);
+    char *by = member(line, "by", by_), *reference = member(line, "ref", ref_);
     sqlite3_int64 amount = atoll(member(line, "amount", number)), at = atoll(member(line, "at", number));
     int kind = strcmp(word, "receive") == 0 ? RECEIVE : strcmp(word, "consume") == 0 ? CONSUME
         : strcmp(word, "produce") == 0 ? PRODUCE : strcmp(word, "scrap") == 0 ? SCRAP : SPLIT;
+    sqlite3_int64 known = reference ? run_with(&receipt_at, reference) : -1;
+    if (known >= 0) return known;
     sqlite3_int64 seq = run(ready(&meta)) + 1;
     run(ready(&begin));
     if (kind == RECEIVE || kind == PRODUCE) {
@@ -175,6 +180,13 @@ static sqlite3_int64 book(const char *line) {
     if (kind == CONSUME) add_edge(1, lot, batch);
     if (kind == PRODUCE) add_edge(2, batch, lot);
     if (kind == SPLIT) add_edge(3, lot, new);
+    if (reference) {
+        it = ready(&receipt_add);
+        put_text(it, 1, reference);
+        sqlite3_bind_int64(it, 2, seq);
+        put_text(it, 3, line);
+        run(it);
+    }
     it = ready(&meta_set);
     sqlite3_bind_int64(it, 1, seq);
     sqlite3_bind_int64(it, 2, at);

@@ -6,7 +6,8 @@ writes by the standard library's sqlite3.
 Each command is committed durably before it is answered: with `journal` as sqlite3 does it where it isn't told otherwise (a rollback
 journal, synchronous=FULL), with `wal` over a log written ahead, with `twice` likewise, and each commit syncs a second time, what it wrote
 to a file beside, as the desk's commits sync twice. With `memory` the file is copied into a store in memory, and nothing is written
-elsewhere. It knows no rules but that a stock is enough. bench/commands.py runs it.
+elsewhere. It knows no rules but that a stock is enough; a command with a reference is looked up among the receipts, and one is kept of it.
+bench/commands.py runs it.
 """
 import json
 import os
@@ -55,7 +56,17 @@ class Store:
         self.rows("UPDATE sublot SET stock = ? WHERE lot = ? AND no = ?", stock - amount, lot, fields["sub"])
         return definition
 
-    def book(self, do, fields):
+    def once(self, do, fields, line):
+        """Executes a command, where it has a reference once, and returns its number."""
+        reference = fields.get("ref")
+        known = reference and self.rows("SELECT seq, content FROM receipt WHERE id = ?", reference)
+        if known:
+            [(seq, content)] = known
+            assert content == line
+            return seq
+        return self.book(do, fields, reference, line)
+
+    def book(self, do, fields, reference, line):
         """Executes a command, and returns its number."""
         [(seq, _)] = self.rows("SELECT seq, at FROM meta WHERE k = 1")
         seq, lot, batch, new = seq + 1, fields["lot"], fields.get("batch"), fields.get("new")
@@ -74,6 +85,8 @@ class Store:
         if do in EDGES:
             ends = {"consume": (lot, batch), "produce": (batch, lot), "split": (lot, new)}[do]
             self.rows("INSERT INTO edge VALUES (?, ?, ?) ON CONFLICT DO NOTHING", EDGES[do], *ends)
+        if reference:
+            self.rows("INSERT INTO receipt VALUES (?, ?, ?)", reference, seq, line)
         self.rows("UPDATE meta SET seq = ?, at = ? WHERE k = 1", seq, fields["at"])
         self.commit(seq)
         return seq
@@ -89,7 +102,7 @@ def main(path, way):
     store = Store(path, way)
     for line in sys.stdin.buffer:
         fields = json.loads(line)
-        sys.stdout.write('{"ok":%d}\n' % store.book(fields["do"], fields))
+        sys.stdout.write('{"ok":%d}\n' % store.once(fields["do"], fields, line.decode()))
         sys.stdout.flush()
 
 

@@ -1,7 +1,8 @@
 #!/usr/bin/env bash
 # The seconds and the peak memory of words of the built program over a file with so many movements: of a run without lines, which opens
 # and adopts it and closes it; of verify, which tests all its tables once more, and how many times those of the file before; of a run
-# that raises it from the first schema, to which Python's sqlite3 has taken it back; and of one question to a file that was empty.
+# that raises it from the first schema, to which Python's sqlite3 has taken it back; of verify once the file has as many receipts; and of
+# one question to a file that was empty.
 # Python's sqlite3 writes the movements into a file that the desk made. Wants the built program (make desk), or another one as DESK.
 # Usage: [DESK=PROGRAM] bench/verify.sh [N ..], by default 1000 10000 100000.
 set -eu
@@ -33,7 +34,13 @@ import sqlite3, sys
 store = sqlite3.connect(sys.argv[1])
 for name in 'movement_by_lot', 'movement_by_batch', 'batch_event_by_batch':
     store.execute(f'DROP INDEX IF EXISTS {name}')
-store.executescript('DROP TABLE edge; UPDATE meta SET schema = 1')
+store.executescript('DROP TABLE edge; DROP TABLE receipt; UPDATE meta SET schema = 1')
+"
+note="
+import sqlite3, sys
+store, count = sqlite3.connect(sys.argv[1]), int(sys.argv[2])
+store.executemany('INSERT INTO receipt VALUES (?, ?, ?)', ((f'K-{it}', it, f'1\n\n\nscrap\nL-{it}\n0\n1\n') for it in range(1, count + 1)))
+store.commit()
 "
 before=
 for count in ${@:-1000 10000 100000}; do
@@ -50,4 +57,10 @@ for count in ${@:-1000 10000 100000}; do
   python3 -c "$lower" "$file"
   timed "$desk" run "$file" < /dev/null
   echo "  raise and adopt: $seconds s, $memory kB at most"
+  timed "$desk" verify "$file" < /dev/null
+  without=$seconds
+  python3 -c "$note" "$file" "$count"
+  timed "$desk" verify "$file" < /dev/null
+  more=$(awk -v s="$seconds" -v w="$without" 'BEGIN { printf "%.2f", s - w }')
+  echo "  adopt and verify with $count receipts: $seconds s, $more s more than without, $memory kB at most"
 done

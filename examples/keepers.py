@@ -3,16 +3,18 @@
 
     examples/keepers.py PROGRAM LISTS
 
-LISTS is the built bench_lists. Both have to print the same, byte for byte.
+LISTS is the built bench_lists. Both have to print the same, byte for byte; and so has the desk once its file was taken back to the first
+schema and is raised again.
 """
 import pathlib
 import re
+import sqlite3
 import subprocess
 import sys
 import tempfile
 
 from hostile import HERE, twenty_of
-from sessions import SECONDS, Check, written
+from sessions import LOWER, SECONDS, Check, written
 
 # What may be asked about an id.
 QUESTIONS = [
@@ -37,6 +39,12 @@ def main(program, lists):
         ran = subprocess.run([pathlib.Path(lists).resolve()], input=told, capture_output=True, timeout=SECONDS)
         check.expect("a desk over a file", (status, answers.startswith(session.wanted), errors), (1, True, b""))
         check.expect("its answers", answers.count(b"\n"), 20 + len(questions))
+        store = sqlite3.connect(check.room / "twenty.db")
+        store.executescript(LOWER)
+        store.close()
+        asked = "".join(it + "\n" for it in questions).encode()
+        answered = b"".join(answers.splitlines(keepends=True)[20:])
+        check.expect("the file raised from the first schema", check.run("run", "twenty.db", told=asked), (1, answered, b""))
         check.expect("the keeper of lists", (ran.returncode, ran.stdout, ran.stderr), (1, answers, b""))
     print(f"keepers: {check.passed} passed, {check.failed} failed, of {len(questions)} questions")
     return 1 if check.failed else 0

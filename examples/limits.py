@@ -140,13 +140,13 @@ class Limits(Check):
         store.commit()
         store.close()
 
-    def a_lot_has_a_hundred_sublots(self, session):
+    def a_lot_has_a_thousand_sublots(self, session):
         """Asks about a lot of as many sublots as a lot has."""
         file = "sublots.db"
-        self.expect("a hundred sublots", self.run("run", file, told=session.told), (1, session.wanted, b""))
-        sublots = [{"no": it, "place": "", "stock": 1 if it else 381} for it in range(100)]
-        answer = compact({"def": "SUGAR", "held": False, "lot": "L-1", "stock": 480, "sublots": sublots})
-        self.answers_alike(file, [("a hundred sublots", '{"ask":"lot","lot":"L-1"}', "/v1/lots/L-1", answer)])
+        self.expect("a thousand sublots", self.run("run", file, told=session.told), (1, session.wanted, b""))
+        sublots = [{"no": it, "place": "", "stock": 1 if it else 1001} for it in range(1000)]
+        answer = compact({"def": "SUGAR", "held": False, "lot": "L-1", "stock": 2000, "sublots": sublots})
+        self.answers_alike(file, [("a thousand sublots", '{"ask":"lot","lot":"L-1"}', "/v1/lots/L-1", answer)])
 
     def a_batch_has_99_attempts(self, session):
         """Asks about a batch of as many attempts as a batch has, and has its record printed."""
@@ -228,6 +228,48 @@ class Limits(Check):
         self.runs("one booking and one scrap more", file, booked(consumed("B-1")) + booked(scrap), replies(seq, 2))
         self.verifies("many bookings", file, seq + 1)
 
+    def amounts_add_up(self):
+        """Has a batch consume lots of the greatest amount, of more in all than 64 bits hold: its record is exact, and so are the tests of
+        the file, by which an amount that is one less is found."""
+        file, lots, most = "amounts.db", [f"F-{it}" for it in range(NODES)], 10**15
+        first = PLANNED + released("B-1", 1)
+        self.runs("a batch of great amounts begins", file, b"".join(booked(it) for it in first), replies(1, len(first)))
+        seq, taken = len(first) + 1, len(first) + 1 + NODES
+        received = [(seq + it, 1, 1, lot, 0, None, None, None, most, 200, "", "") for it, lot in enumerate(lots)]
+        consumed_rows = [(taken + it, 1, 2, lot, 0, None, None, "B-1", most, 200, "", "") for it, lot in enumerate(lots)]
+        self.filled(file, {
+            "lot": [(it, "FLOUR") for it in lots],
+            "sublot": [(it, 0, "", 0) for it in lots],
+            "movement": received + consumed_rows,
+            "edge": [(1, it, "B-1") for it in lots],
+        }, taken + NODES - 1)
+        self.verifies("great amounts", file, taken + NODES - 1)
+        self.records(file, "great amounts", [
+            "BATCH RECORD B-1",
+            "order O-1 due 2027-03-01 priority 5 state released",
+            "recipe CAKE 1 product DOUGH size 300 base 300",
+            "released at 200 by ",
+            "state running attempt 1 phases 0 of 1 open",
+            "CONTROL RECIPE",
+            "  1 in FLOUR 100 kg",
+            "  2 out DOUGH 300 kg",
+            "  3 phase MIX BLEND STIR",
+            "EVENTS",
+            f"{len(first):6} start at 200 by ",
+            "CONSUMED",
+            *[f"{taken + it:6} {lot}/0 FLOUR {most} kg at 200 by " for it, lot in enumerate(lots)],
+            "PRODUCED",
+            "TOTALS",
+            f"in FLOUR asked 100 booked {NODES * most}",
+            "out DOUGH asked 300 booked 0",
+            "END",
+        ])
+        store = sqlite3.connect(self.room / file)
+        store.execute("UPDATE movement SET amount = amount - 1 WHERE seq = ?", (taken,))
+        store.commit()
+        store.close()
+        self.expect("a great amount that is one less", self.run("verify", file), (3, b"", b"fault: damaged G7\n"))
+
     def chained(self, file, nodes):
         """Makes a file of a lot that was split into a chain of so many more, and returns its last command's number."""
         self.run("run", file, told=b"".join(booked(it) for it in GOODS))
@@ -298,7 +340,7 @@ class Limits(Check):
         rows += b"".join(b"P-%d,R,1,1,2027-03-01,5\n" % it for it in range(MOST_ORDERS))
         self.serves(file, [
             ("a command of the longest body", posted("/v1/commands", command), good('{"ok":5}')),
-            ("an order file of 1,000 rows", posted("/v1/orders", rows, "Desk-At: 100"), good('{"ok":6}')),
+            ("an order file of 1,000 rows", posted("/v1/orders", rows, "Desk-At: 100", "Desk-Ref: FILE-1"), good('{"ok":6}')),
             ("a last order", got(f"/v1/orders/P-{MOST_ORDERS - 1}"), good(
                 f'{{"batch":null,"due":"2027-03-01","order":"P-{MOST_ORDERS - 1}","priority":5,"recipe":"R","size":1,"state":"open","version":1}}')),
             ("a command without a byte", posted("/v1/commands", b""), bad('{"name":"BadForm","refused":1}')),
@@ -307,6 +349,15 @@ class Limits(Check):
         words = ["import", file, "--at", "100"]
         self.expect("an order file of 1,000 rows, by the word", self.run(*words, told=rows.replace(b"P-", b"Q-")), (0, b'{"ok":7}\n', b""))
         self.expect("the same by a line", self.run("run", file, told=command + b"\n"), (0, b'{"ok":8}\n', b""))
+        referred = [*words, "--by", "", "--ref", "FILE-1"]
+        self.expect("the file that was posted, under its reference", self.run(*referred, told=rows), (0, b'{"ok":6}\n', b""))
+        reused = (1, b'{"name":"RefReused","refused":31}\n', b"")
+        self.expect("another file under that reference", self.run(*referred, told=rows.replace(b"P-9", b"R-9")), reused)
+        store = sqlite3.connect(self.room / file)
+        orders = "".join(f"P-{it}\nR\n1\n1\n2027-03-01\n5\n" for it in range(MOST_ORDERS))
+        receipts = [("FILE-1", 6, f"100\n\n\nimport_orders\n{MOST_ORDERS}\n{orders}")]
+        self.expect("its receipt", store.execute("SELECT * FROM receipt").fetchall() == receipts, True)
+        store.close()
 
     def what_was_made_costs_nothing(self):
         """Lets a batch that has led to many lots consume what was received, and one that has led to nothing: it takes as long."""
@@ -348,10 +399,11 @@ def main(program):
     attempts, sublots = [it for it in limits() if it.name.startswith(("a batch has", "a lot has"))]
     with tempfile.TemporaryDirectory(dir=MEMORY if MEMORY.is_dir() else None) as room:
         check = Limits(pathlib.Path(program).resolve(), pathlib.Path(room))
-        check.a_lot_has_a_hundred_sublots(sublots)
+        check.a_lot_has_a_thousand_sublots(sublots)
         check.a_batch_has_99_attempts(attempts)
         check.imports_are_large()
         check.bookings_are_many()
+        check.amounts_add_up()
         check.chains_are_long()
         check.a_desk_is_large()
         check.what_was_made_costs_nothing()

@@ -231,13 +231,13 @@ def limits():
     )
 
     sixteen = Session("sixteen lots become one of the greatest amount").accepted(*GOODS)
-    sixteen.accepted(*[received(f"P-{it}", 62_500_000_000) for it in range(16)])
-    sixteen.accepted(merged([(f"P-{it}", 0, 62_500_000_000) for it in range(16)])).asked(
+    sixteen.accepted(*[received(f"P-{it}", 62_500_000_000_000) for it in range(16)])
+    sixteen.accepted(merged([(f"P-{it}", 0, 62_500_000_000_000) for it in range(16)])).asked(
         '{"ask":"lot","lot":"M-1"}',
-        '{"def":"SUGAR","held":false,"lot":"M-1","stock":1000000000000,'
-        '"sublots":[{"no":0,"place":"","stock":1000000000000}]}',
+        '{"def":"SUGAR","held":false,"lot":"M-1","stock":1000000000000000,'
+        '"sublots":[{"no":0,"place":"","stock":1000000000000000}]}',
     )
-    sixteen.accepted(received("L-1", 10**12), f'"do":"scrap","lot":"L-1","sub":0,"amount":{10**12}')
+    sixteen.accepted(received("L-1", 10**15), f'"do":"scrap","lot":"L-1","sub":0,"amount":{10**15}')
     sixteen.refused("TooLittle", 13, '"do":"scrap","lot":"L-1","sub":0,"amount":1')
 
     parts = Session("a merge has sixteen parts at most").accepted(*GOODS, received("L-1", 480))
@@ -253,8 +253,8 @@ def limits():
     attempts.accepted(*again).refused("TooMany", 28, moved("reset"))
 
     divided = '"do":"divide","lot":"L-1","sub":0,"amount":1,"place":""'
-    sublots = Session("a lot has a hundred sublots at most").accepted(*GOODS, received("L-1", 480))
-    sublots.accepted(*[divided] * 99).refused("TooMany", 28, divided)
+    sublots = Session("a lot has a thousand sublots at most").accepted(*GOODS, received("L-1", 2000))
+    sublots.accepted(*[divided] * 999).refused("TooMany", 28, divided)
     return [recipes, sixteen, parts, attempts, sublots]
 
 
@@ -307,9 +307,9 @@ def scraps():
         ("0", "1", "", True),
         ("-0", "1", "", False),
         ("00", "1", "", False),
-        ("100", "1", "", False),
+        ("1000", "1", "", False),
         ("0", "0", "", False),
-        ("0", "1000000000001", "", False),
+        ("0", "1000000000000001", "", False),
         ("0", "18446744073709551616", "", False),
         ("0", "1.0", "", False),
         ("0", "1e2", "", False),

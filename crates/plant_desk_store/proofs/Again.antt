@@ -64,7 +64,7 @@ module _ (version : ℕ) (db : Database) (s : State) (held : HoldsGood version d
   pub version_held : IsVersion db (pos version)
   version_held =
       let meta = holds.each 0 meta_form refl in
-      let known : s.at ≤ 253402300799 = grind (arith, nat_tests, good.values.at) in
+      let known : s.at ≤ greatest_moment = grind (arith, nat_tests, good.values.at) in
       record {
         row = Int (pos 1) ∷ Int (pos version) ∷ Int (pos s.seq) ∷ Int (pos s.at) ∷ [];
         alone = record { at = meta.at; tree = meta.tree; declared = meta.declared; low = low_held db meta_form _ holds.sound meta; same = meta.same };
@@ -75,9 +75,9 @@ module _ (version : ℕ) (db : Database) (s : State) (held : HoldsGood version d
           is = refl;
           schema_low = pos_le 1 version known_version.0;
           seq_low = pos_le 0 s.seq (omega arith);
-          seq_high = pos_le s.seq 1000000000000000 good.values.seq;
+          seq_high = pos_le s.seq greatest_seq good.values.seq;
           at_low = pos_le 0 s.at (omega arith);
-          at_high = pos_le s.at 253402300799 known;
+          at_high = pos_le s.at greatest_moment known;
         };
         tells = refl;
       }

@@ -6,7 +6,7 @@ use Rattle.std.proofs.lemmas.Bool.{false≢true, le-leb, leb-true, eq-eqb, and_f
 use Rattle.std.proofs.lemmas.List.{length-map}
 use Rattle.plant_base.specs.Edges.{edge_order, edge_total}
 use Rattle.plant_base.specs.State.{State, same, newest_schema, batch_at}
-use Rattle.plant_base.specs.Values.{is_id, greatest_seq}
+use Rattle.plant_base.specs.Values.{is_id, greatest_amount, greatest_sublot, greatest_seq}
 use Rattle.plant_base.specs.declared.rows.Header.{Header}
 use Rattle.plant_base.specs.declared.rows.RecipeLine.{RecipeLine}
 use Rattle.plant_base.specs.declared.rows.Recipe.{Recipe}
@@ -82,7 +82,7 @@ kind_values kind.Received h = tt
 kind_values (kind.Consumed batch) h = h
 kind_values (kind.Produced batch) h = h
 kind_values kind.Scrapped h = tt
-kind_values (kind.Divided to) h = le-leb to 99 h
+kind_values (kind.Divided to) h = le-leb to greatest_sublot h
 kind_values (kind.Split to) h = h
 kind_values (kind.Merged to) h = h
 
@@ -187,13 +187,13 @@ module _ (s : State) (good : IsGood s) where
   sublots : AllByRecursion HasSublotValues (map (sublot_row s.movements) s.places)
   sublots =
       let row = sublot_row s.movements in
-      let stocks = all_unmapped (λ (r : Sublot). r.stock ≤ 10 ^ 12) row s.places (columns s good).stocks in
+      let stocks = all_unmapped (λ (r : Sublot). r.stock ≤ greatest_amount) row s.places (columns s good).stocks in
       all_mapped HasSublotValues row s.places
       (all_two kept.HasPlaceValues _ (λ (p : Place). HasSublotValues (row p)) (λ p v small. record {
         lot = v.lot;
-        number = le-leb p.number 99 v.number;
+        number = le-leb p.number greatest_sublot v.number;
         place = v.place;
-        stock = le-leb (row p).stock (10 ^ 12) small;
+        stock = le-leb (row p).stock greatest_amount small;
       }) s.places good.values.places stocks)
 
   line_of_booking : (number : ℕ) → AllByRecursion (λ m. (m.seq == number) ≡ true → IsLineNumber m.line) s.movements
@@ -218,7 +218,7 @@ module _ (s : State) (good : IsGood s) where
     line = given.1;
     kind = kind_values m.kind v.kind;
     lot = v.lot;
-    sub = le-leb m.sub 99 v.sub;
+    sub = le-leb m.sub greatest_sublot v.sub;
     amount = v.amount;
     at = v.at;
     by = v.by;

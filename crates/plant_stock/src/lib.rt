@@ -75,7 +75,7 @@ pub fn left(movements: &[Movement], lot: Id) -> i128
 }
 
 /// The amount of a lot that is merged from these parts, of which there is at least one. `TooMuch` exactly where it is
-/// above the greatest amount, 10^12.
+/// above the greatest amount.
 pub fn merged_total(parts: &[Part]) -> Result<Amount, Refusal>
     requires { 1 ≤ length parts.now }
     ensures { result ≡ merged_total_of parts.now }

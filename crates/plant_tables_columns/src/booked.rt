@@ -83,17 +83,17 @@ pub(crate) fn movement_sort(row: &Row, at: usize) -> Option<MovementSort>
 /// A row of table movement whose values obey their rules, whatever its kind asks of its columns.
 #[derive(Clone, Copy, Debug, PartialEq, Eq)]
 pub struct BookedRow {
-    /// The number of the command that booked it, 0 to 10^15.
+    /// The number of the command that booked it, 0 to [`GREATEST_SEQ`](plant_base::GREATEST_SEQ).
     pub seq: u64,
     /// 1 to 65535, or 0 where no line can have the number that is stored.
     pub line: u16,
     pub sort: MovementSort,
     pub lot: Id,
-    /// 0 to 99.
+    /// 0 to [`GREATEST_SUBLOT`](plant_base::GREATEST_SUBLOT).
     pub sub: u16,
     /// The lot that it brings the amount to, where it names one.
     pub lot2: Option<Id>,
-    /// The sublot that it brings the amount to, 0 to 99, where it names one.
+    /// The sublot that it brings the amount to, where it names one.
     pub sub2: Option<u16>,
     /// The batch that takes or brings the amount, where it names one.
     pub batch: Option<Id>,

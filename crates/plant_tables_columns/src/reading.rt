@@ -138,7 +138,7 @@ pub(crate) fn tiny(row: &Row, at: usize, low: u8, high: u8) -> Option<u8>
     tiny_within(&n, low, high)
 }
 
-/// An amount, 1 to 10^12.
+/// An amount.
 #[tactic(auto, unfolding(crate::specs::Reading::number_from, crate::specs::Reading::number_in))]
 pub(crate) fn amount(row: &Row, at: usize) -> Option<Amount>
     ensures { result ≡ amount_from (column row.now at) }
@@ -156,7 +156,7 @@ pub(crate) fn moment(row: &Row, at: usize) -> Option<Moment>
     Moment::new(u64::try_from(n).ok()?)
 }
 
-/// The number of a sublot, 0 to 99.
+/// The number of a sublot.
 pub(crate) fn sublot_number(row: &Row, at: usize) -> Option<u16>
     ensures { result ≡ sublot_number_from (column row.now at) }
 {

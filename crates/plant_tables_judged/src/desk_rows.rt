@@ -77,7 +77,7 @@ pub fn only_meta(rows: &[Row]) -> Option<Meta>
     }
 }
 
-/// Whether meta has one row, whose values obey their rules: k is 1, the schema at least 1, seq 0 to 10^15, `at` a
+/// Whether meta has one row, whose values obey their rules: k is 1, the schema at least 1, seq 0 to the greatest, `at` a
 /// moment.
 pub fn has_meta(loaded: &Loaded) -> bool
     ensures { result ≡ is_some (only_meta (contents_loaded loaded.now 0)) }

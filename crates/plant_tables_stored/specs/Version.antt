@@ -6,6 +6,7 @@ use Rattle.sqlite.specs.Schema.{Schema}
 use Rattle.sqlite.specs.declared.types.Value.TheVariants.{Int}
 use Rattle.table_reads.specs.Reading.{Lists}
 use Rattle.plant_base.specs.State.{newest_schema}
+use Rattle.plant_base.specs.Values.{greatest_moment, greatest_seq}
 use Rattle.table_forms.specs.Standing.{HasTable, IsFree}
 use Rattle.plant_tables.specs.DeskForms.{meta_form, forms_of, later_forms}
 use Rattle.plant_tables_stored.specs.declared.finding.MetaNumbers.{MetaNumbers}
@@ -14,7 +15,7 @@ use Rattle.plant_tables_stored.specs.declared.finding.MetaNumbers.{MetaNumbers}
 abbrev pub row_of : MetaNumbers → Row
 row_of meta = Int meta.k ∷ Int meta.schema ∷ Int meta.seq ∷ Int meta.at ∷ []
 
--- four numbers: k is 1, the schema is at least 1, seq is 0 to 10^15, and at is a moment
+-- four numbers: k is 1, the schema is at least 1, seq is 0 to the greatest, and at is a moment
 pub record IsGoodMeta (row : Row) : Type 0 where
   pub schema : ℤ
   pub seq : ℤ
@@ -22,9 +23,9 @@ pub record IsGoodMeta (row : Row) : Type 0 where
   pub is : row ≡ Int (pos 1) ∷ Int schema ∷ Int seq ∷ Int at ∷ []
   pub schema_low : pos 1 ≤ℤ schema
   pub seq_low : pos 0 ≤ℤ seq
-  pub seq_high : seq ≤ℤ pos 1000000000000000
+  pub seq_high : seq ≤ℤ pos greatest_seq
   pub at_low : pos 0 ≤ℤ at
-  pub at_high : at ≤ℤ pos 253402300799
+  pub at_high : at ≤ℤ pos greatest_moment
 
 -- table meta has one row, which is good and tells this version
 pub record IsVersion (db : Database) (n : ℤ) : Type 0 where

@@ -56,9 +56,9 @@ const LONGEST_LINE: usize = 262_144;
 /// - `add_class`: `class` (an id), `name` (a text)
 /// - `add_definition`: `def`, `class` (ids), `name` (a text), `unit` (a unit)
 /// - `receive`: `lot`, `def` (ids), `amount` (an amount), `place` (a text)
-/// - `scrap`: `lot` (an id), `sub` (0 to 99), `amount` (an amount)
-/// - `divide`: `lot` (an id), `sub` (0 to 99), `amount` (an amount), `place` (a text)
-/// - `split`: `lot` (an id), `sub` (0 to 99), `amount` (an amount), `new` (an id), `place` (a text)
+/// - `scrap`: `lot` (an id), `sub` (a sublot's number), `amount` (an amount)
+/// - `divide`: `lot` (an id), `sub` (a sublot's number), `amount` (an amount), `place` (a text)
+/// - `split`: `lot` (an id), `sub` (a sublot's number), `amount` (an amount), `new` (an id), `place` (a text)
 /// - `merge`: `new` (an id), `place` (a text), `parts` (objects with exactly `lot`, `sub` and `amount`)
 /// - `hold`, `unhold`: `lot`, `hold` (ids)
 /// - `add_recipe`: `recipe` (an id), `version` (a version), `product` (an id), `base`, `min`, `max` (amounts), `title` (a
@@ -71,7 +71,7 @@ const LONGEST_LINE: usize = 262_144;
 /// - `batch`: `batch` (an id), `word` (`start`, `hold`, `restart`, `stop`, `abort`, `reset`, `pause` or `resume`)
 /// - `settle`, `close_batch`: `batch` (an id)
 /// - `phase_done`: `batch` (an id), `phase` (a phase's number)
-/// - `consume`: `batch`, `lot` (ids), `sub` (0 to 99), `amount` (an amount)
+/// - `consume`: `batch`, `lot` (ids), `sub` (a sublot's number), `amount` (an amount)
 /// - `produce`: `batch`, `lot`, `def` (ids), `amount` (an amount), `place` (a text)
 ///
 /// A question is exactly `{"ask":"desk"}`; `{"ask":"lot","lot":ID}` and likewise with `order` and `batch`; or

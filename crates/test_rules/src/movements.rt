@@ -80,7 +80,7 @@ fn part(lot: &[u8], number: u64) -> Result<Part, Fail> {
 
 #[test]
 fn merged_parts_have_a_limit(rt: HostRuntime) -> Result<(), Fail> {
-    let most = 1_000_000_000_000;
+    let most = 1_000_000_000_000_000;
     let within = [part(b"L-1", most - 1)?, part(b"L-2", 1)?];
     assert_eq!(rt; merged_total(&within), Ok(amount(most)?));
     let above = [part(b"L-1", most)?, part(b"L-2", 1)?];

@@ -300,13 +300,14 @@ fn header(base: u64, least: u64, greatest: u64) -> Result<Header, Fail> {
 
 #[test]
 fn scaled_amounts(rt: HostRuntime) -> Result<(), Fail> {
-    let most = 1_000_000_000_000;
+    let most = 1_000_000_000_000_000;
     for (number, size, base, wanted) in [
         (100, 500, 300, 167),
         (1, 250, 500, 1),
         (1, 100, 500, 0),
-        (most, most, 1, 1_000_000_000_000_000_000_000_000),
-        (most, most, most, 1_000_000_000_000),
+        (most, most, 1, 1_000_000_000_000_000_000_000_000_000_000),
+        (most, most, most, 1_000_000_000_000_000),
+        (most, 900, 900, 1_000_000_000_000_000),
     ] {
         let scaled = scaled(amount(number)?, amount(size)?, amount(base)?);
         assert_eq!(rt; scaled, wanted, "{number} {size} {base}");
@@ -377,7 +378,7 @@ fn is_taken(alloc: Global, header: Header, lines: &[RecipeLine]) -> Result<bool,
 #[test]
 fn forms_of_headers(rt: HostRuntime) -> Result<(), Fail> {
     let lines = [input(b"FLOUR", 2)?, output(b"DOUGH", 2)?, phase()?];
-    let most = 1_000_000_000_000;
+    let most = 1_000_000_000_000_000;
     for (base, least, greatest, wanted) in [
         (500, 100, 900, true),
         (500, 900, 900, true),

@@ -1,9 +1,10 @@
-use Rattle.std.proofs.Common.{◌≡◌, ◌*◌, ◌≤◌, ◌^◌, take}
+use Rattle.std.proofs.Common.{◌≡◌, ◌*◌, ◌≤◌, take}
+use Rattle.plant_base.specs.Values.{greatest_amount}
 use Rattle.plant_stock.specs.Stock.{left_of}
 use Rattle.plant_stock.proofs.left.Given as goal
 
 abbrev pub invariant-loop-movement : goal.invariant-loop-movement
 invariant-loop-movement l = record {
   sum : l.left ≡ left_of (take l.movement-index l.movements) l.lot;
-  small : l.left ≤ 10 ^ 12 * l.movement-index;
+  small : l.left ≤ greatest_amount * l.movement-index;
 }

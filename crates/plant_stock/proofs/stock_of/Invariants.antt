@@ -1,4 +1,5 @@
-use Rattle.std.proofs.Common.{◌≡◌, ◌*◌, ◌≤◌, ◌^◌, take}
+use Rattle.std.proofs.Common.{◌≡◌, ◌*◌, ◌≤◌, take}
+use Rattle.plant_base.specs.Values.{greatest_amount}
 use Rattle.plant_stock.specs.Stock.{entered, left}
 use Rattle.plant_stock.proofs.stock_of.Given as goal
 
@@ -6,6 +7,6 @@ abbrev pub invariant-loop-movement : goal.invariant-loop-movement
 invariant-loop-movement l = record {
   entered : l.entered ≡ entered (take l.movement-index l.movements) l.lot l.number;
   left : l.left ≡ left (take l.movement-index l.movements) l.lot l.number;
-  entered_small : l.entered ≤ 10 ^ 12 * l.movement-index;
-  left_small : l.left ≤ 10 ^ 12 * l.movement-index;
+  entered_small : l.entered ≤ greatest_amount * l.movement-index;
+  left_small : l.left ≤ greatest_amount * l.movement-index;
 }

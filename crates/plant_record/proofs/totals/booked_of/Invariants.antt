@@ -1,9 +1,10 @@
-use Rattle.std.proofs.Common.{◌≡◌, ◌*◌, ◌≤◌, ◌^◌, take}
+use Rattle.std.proofs.Common.{◌≡◌, ◌*◌, ◌≤◌, take}
+use Rattle.plant_base.specs.Values.{greatest_amount}
 use Rattle.plant_record.specs.Record.{booked_of}
 use Rattle.plant_record.proofs.totals.booked_of.Given as goal
 
 abbrev pub invariant-loop-booking : goal.invariant-loop-booking
 invariant-loop-booking l = record {
   sum : l.booked ≡ booked_of l.def (take l.booking-index l.bookings);
-  small : l.booked ≤ 10 ^ 12 * l.booking-index;
+  small : l.booked ≤ greatest_amount * l.booking-index;
 }

@@ -47,26 +47,33 @@ def bookings(count):
 class Client:
     """What was answered, and a desk that may be killed while it is asked."""
 
-    def __init__(self, program, file, lines):
-        self.program, self.file, self.lines = program, file, lines
-        self.answered, self.sendings, self.kills = 0, 0, 0
+    def __init__(self, program, file, lines, chance, mean):
+        self.program, self.file, self.lines, self.chance = program, file, lines, chance
+        self.answered, self.sendings, self.kills, self.mean, self.opening = 0, 0, 0, mean, mean
 
     def send(self):
-        """Sends what isn't answered yet to one run of the desk, until it is killed or all is answered."""
-        with subprocess.Popen([self.program, "run", self.file], stdin=subprocess.PIPE, stdout=subprocess.PIPE) as desk:
-            killer = threading.Timer(self.chance.expovariate(1 / self.mean), desk.kill)
-            killer.start()
+        """Sends what isn't answered yet to one run of the desk, until it is killed or all is answered. One run in ten is killed while it opens
+        and adopts its file, the others some commands behind their first reply."""
+        began, is_early = time.monotonic(), self.chance.random() < 0.1
+        # without a buffer, since one that a killed desk leaves full can't be closed
+        with subprocess.Popen([self.program, "run", self.file], bufsize=0, stdin=subprocess.PIPE, stdout=subprocess.PIPE) as desk:
+            mean = self.opening if is_early else self.mean
+            killer = threading.Timer(self.chance.expovariate(1 / mean), desk.kill)
+            if is_early:
+                killer.start()
             try:
-                while self.answered < len(self.lines):
-                    desk.stdin.write(self.lines[self.answered])
-                    desk.stdin.flush()
+                for line in self.lines[self.answered:]:
                     self.sendings += 1
+                    desk.stdin.write(line)
                     reply = desk.stdout.readline()
                     if not reply.endswith(b"\n"):
                         return
                     wanted = b'{"ok":%d}\n' % (BEFORE + 1 + self.answered)
                     expect(reply == wanted, f"command {self.answered} was answered {reply}")
                     self.answered += 1
+                    if killer.ident is None:
+                        self.opening = time.monotonic() - began
+                        killer.start()
             except BrokenPipeError:
                 pass
             finally:
@@ -74,9 +81,8 @@ class Client:
                 killer.cancel()
                 desk.kill()
 
-    def send_all(self, chance, mean):
-        """Sends all, to as many runs as are needed, each killed after a random time of this mean."""
-        self.chance, self.mean = chance, mean
+    def send_all(self):
+        """Sends all, to as many runs as are needed."""
         while self.answered < len(self.lines):
             self.send()
 
@@ -103,10 +109,11 @@ def main(program, folder, commands, kills):
     once, again = str(folder / "once.db"), str(folder / "again.db")
     began = time.monotonic()
     run(program, "run", once, told=GOODS + b"".join(f"{it}}}\n".encode() for it in bare))
-    mean = max(0.002, 2 * (time.monotonic() - began) / max(1, kills))
+    mean = (time.monotonic() - began) / max(1, kills)
     run(program, "run", again, told=GOODS)
-    client = Client(program, again, [f'{it},"ref":"K-{number}"}}\n'.encode() for number, it in enumerate(bare)])
-    client.send_all(random.Random(1), mean)
+    lines = [f'{it},"ref":"K-{number}"}}\n'.encode() for number, it in enumerate(bare)]
+    client = Client(program, again, lines, random.Random(1), mean)
+    client.send_all()
     good = b"good schema 3 seq %d\n" % (BEFORE + commands)
     expect(run(program, "verify", again) == good, "the file isn't good")
     expect(tables(once) == tables(again), "the tables differ")

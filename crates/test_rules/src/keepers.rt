@@ -1,7 +1,7 @@
 //! A keeper of lists that is handed commands as values.
 use plant_base::{
-    AddClass, AddDefinition, Amount, Command, Envelope, Id, Items, Merge, Moment, Part, Receive,
-    Refusal, Scrap, Text, Unit,
+    AddClass, AddDefinition, Amount, Command, Envelope, Id, Items, Merge, Moment, NEWEST_SCHEMA,
+    Part, Receive, Refusal, Scrap, Text, Unit,
 };
 use plant_desk::{Answer, Keeper, ListKeeper, Question, Reply};
 use std::alloc::Global;
@@ -103,7 +103,7 @@ fn stands_at_480(rt: &(impl Abort + AllocGlobal), keeper: &mut ListKeeper) -> Re
     }
     match &keeper.ask(&Question::Desk)? {
         Answer::Desk { schema, seq } => {
-            assert_eq!(rt; *schema, 2);
+            assert_eq!(rt; *schema, NEWEST_SCHEMA);
             assert_eq!(rt; *seq, 4);
         }
         _ => assert!(rt; false),

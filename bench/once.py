@@ -11,7 +11,6 @@ import random
 import sqlite3
 import subprocess
 import sys
-import threading
 import time
 
 SECONDS = 600
@@ -45,41 +44,36 @@ def bookings(count):
 
 
 class Client:
-    """What was answered, and a desk that may be killed while it is asked."""
+    """What was answered, and a desk that is killed while it is asked."""
 
     def __init__(self, program, file, lines, chance, mean):
         self.program, self.file, self.lines, self.chance = program, file, lines, chance
-        self.answered, self.sendings, self.kills, self.mean, self.opening = 0, 0, 0, mean, mean
+        self.answered, self.sendings, self.kills, self.mean, self.opening, self.took = 0, 0, 0, mean, 0.01, 0.001
 
     def send(self):
-        """Sends what isn't answered yet to one run of the desk, until it is killed or all is answered. One run in ten is killed while it opens
-        and adopts its file, the others some commands behind their first reply."""
-        began, is_early = time.monotonic(), self.chance.random() < 0.1
+        """Sends what isn't answered yet to one run of the desk, until it is killed or all is answered. One run in ten is killed at the first
+        command, for which it opens and adopts its file, the others at one behind that, after `mean` commands in the middle."""
+        left = 0 if self.chance.random() < 0.1 else 1 + int(self.chance.expovariate(1 / self.mean))
         # without a buffer, since one that a killed desk leaves full can't be closed
         with subprocess.Popen([self.program, "run", self.file], bufsize=0, stdin=subprocess.PIPE, stdout=subprocess.PIPE) as desk:
-            mean = self.opening if is_early else self.mean
-            killer = threading.Timer(self.chance.expovariate(1 / mean), desk.kill)
-            if is_early:
-                killer.start()
-            try:
-                for line in self.lines[self.answered:]:
-                    self.sendings += 1
-                    desk.stdin.write(line)
-                    reply = desk.stdout.readline()
-                    if not reply.endswith(b"\n"):
-                        return
-                    wanted = b'{"ok":%d}\n' % (BEFORE + 1 + self.answered)
-                    expect(reply == wanted, f"command {self.answered} was answered {reply}")
-                    self.answered += 1
-                    if killer.ident is None:
-                        self.opening = time.monotonic() - began
-                        killer.start()
-            except BrokenPipeError:
-                pass
-            finally:
-                self.kills += killer.finished.is_set()
-                killer.cancel()
-                desk.kill()
+            for number, line in enumerate(self.lines[self.answered:]):
+                began = time.monotonic()
+                self.sendings += 1
+                desk.stdin.write(line)
+                if number == left:
+                    time.sleep(self.chance.uniform(0, 2 * self.took if number else self.opening))
+                    desk.kill()
+                    self.kills += 1
+                reply = desk.stdout.readline()
+                if not reply.endswith(b"\n"):
+                    return
+                wanted = b'{"ok":%d}\n' % (BEFORE + 1 + self.answered)
+                expect(reply == wanted, f"command {self.answered} was answered {reply}")
+                self.answered += 1
+                if number == left:
+                    return
+                took = time.monotonic() - began
+                self.opening, self.took = (self.opening, took) if number else (took, self.took)
 
     def send_all(self):
         """Sends all, to as many runs as are needed."""
@@ -107,12 +101,10 @@ def main(program, folder, commands, kills):
     commands, kills = int(commands), int(kills)
     bare = list(bookings(commands))
     once, again = str(folder / "once.db"), str(folder / "again.db")
-    began = time.monotonic()
     run(program, "run", once, told=GOODS + b"".join(f"{it}}}\n".encode() for it in bare))
-    mean = (time.monotonic() - began) / max(1, kills)
     run(program, "run", again, told=GOODS)
     lines = [f'{it},"ref":"K-{number}"}}\n'.encode() for number, it in enumerate(bare)]
-    client = Client(program, again, lines, random.Random(1), mean)
+    client = Client(program, again, lines, random.Random(1), max(1, commands / max(1, kills) - 2))
     client.send_all()
     good = b"good schema 3 seq %d\n" % (BEFORE + commands)
     expect(run(program, "verify", again) == good, "the file isn't good")

@@ -5,7 +5,7 @@
 
 In the repository's folder. A crate of crates.txt is begun as soon as those below it are built: as many at once as there are
 processors, and 4 GB of free memory for each. Of those that can be begun, the one with the longest chain of others above it goes first, by
-their lines, and the longest of all gets a second processor. A crate that was built here and has not changed since, nor anything below
+their lines, and the longest of all may use all processors, since the end waits for it. A crate that was built here and has not changed since, nor anything below
 it, is passed over.
 
 rt lets one command at a time into a crate and those below it. So each crate is built in a copy of the repository, of which there are as
@@ -241,7 +241,7 @@ class Work:
         longest = max(self.chains[it] for it in waiting)
         spare = max(1, at_once // len(waiting))
         for name, copy in zip(ready, [it for it in copies if it not in [other.copy for other in self.running]]):
-            jobs = max(spare, min(2, at_once)) if self.chains[name] == longest else spare
+            jobs = at_once if self.chains[name] == longest else spare
             self.running.append(Build(self.listed, name, copy, name in self.programs, jobs))
 
     def note(self, build):

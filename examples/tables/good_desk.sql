@@ -2,7 +2,7 @@
 --
 -- The recipe CAKE takes FLOUR and some DOUGH, and makes DOUGH. Batch B-1, of twice the recipe's base, takes dough of lot D-0 and makes
 -- lot D-1, of which batch B-2 takes some. Of lot F-1 a sublot is divided off, lot F-2 is split off, and F-3 is merged from both.
-INSERT INTO meta VALUES (1, 2, 20, 300);
+INSERT INTO meta VALUES (1, 3, 20, 300);
 INSERT INTO class VALUES ('FOOD', 'What is eaten');
 INSERT INTO definition VALUES
     ('DOUGH', 'FOOD', '', 'kg'),

@@ -1,5 +1,5 @@
 -- Commands with references act once.
-use Rattle.std.proofs.Common.{◌≡◌, ◌∙◌, ℕ, ◌+◌, Bool, true, false, cond, List, [], ◌∷◌, ◌++◌, Option, Some, None, refl, sym, ap, subst, find, append_assoc}
+use Rattle.std.proofs.Common.{◌≡◌, ◌∙◌, ℕ, ◌+◌, Bool, true, false, cond, List, [], ◌∷◌, ◌++◌, Option, Some, None, refl, sym, ap, subst, find}
 use Rattle.std.specs.Prelude.{not, IsSome, is_some, is_none, ◌||◌, nat_lt}
 use Rattle.std.specs.List.{list_any}
 use Rattle.std.proofs.lemmas.Bool.{false≢true}
@@ -13,7 +13,7 @@ use Rattle.plant_base.specs.declared.refusal.Refusal.{Refusal}
 use Rattle.plant_base.specs.declared.refusal.Refusal.TheVariants.{BadForm, MomentBack}
 use Rattle.plant_base.specs.declared.command.Envelope.{Envelope}
 use Rattle.plant_view.specs.Refusing.{refuse}
-use Rattle.plant_rules.specs.Wrong.{is_whole, wrong, wrong_plain, wrong_body, wrong_there, kept_among, kept_for, judged}
+use Rattle.plant_rules.specs.Wrong.{is_whole, wrong, wrong_plain, wrong_there, kept_among, kept_for, judged}
 use Rattle.plant_rules.specs.Step.{step, step_body, step_plain, unless_refused, noted, taken}
 use Rattle.plant_rules.proofs.Noted.{next_receipts, blind_step, blind_wrong}
 use Rattle.plant_desk.specs.Runs.{fold}

@@ -15,7 +15,6 @@ use Rattle.plant_base.specs.declared.rows.MovementKind.{MovementKind}
 use Rattle.plant_base.specs.declared.rows.MovementKind.TheVariants as kind
 use Rattle.plant_base.specs.declared.rows.Place.{Place}
 use Rattle.plant_base.specs.declared.rows.Sublot.{Sublot}
-use Rattle.plant_stock.specs.Stock.{goes_to, is_place}
 use Rattle.plant_stock.specs.Stock as stock
 use Rattle.plant_view.specs.Production.{is_defined}
 use Rattle.plant_view.proofs.Rows.{all_mapped}

@@ -39,7 +39,7 @@ use Rattle.plant_view.specs.Tables.{Tables, batch_row_order, sublot_order, chang
 use Rattle.plant_view.specs.declared.change.RowChange.{RowChange}
 use Rattle.plant_view.specs.declared.change.RowChange.TheVariants as change
 use Rattle.table_forms.specs.Forms.{Form}
-use Rattle.table_forms.specs.Rows.{meets, has_values, take_away, same_key}
+use Rattle.table_forms.specs.Rows.{meets, has_values, take_away}
 use Rattle.table_forms.specs.Rows as rows
 use Rattle.table_forms.specs.Standing.{Contents, StandIn}
 use Rattle.table_forms.specs.Moves.{changed_at, taken_at}

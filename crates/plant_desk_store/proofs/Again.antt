@@ -15,6 +15,7 @@ use Rattle.sqlite_rules.specs.Lists.{Has}
 use Rattle.sqlite_rules.proofs.ListLemmas.{has_got}
 use Rattle.sqlite_catalog.specs.Listing.{IsSound, IsTableRow}
 use Rattle.sqlite_catalog.proofs.LayoutLemmas.{zipped_left}
+use Rattle.plant_base.specs.Values.{greatest_moment, greatest_seq}
 use Rattle.plant_base.specs.State.{State}
 use Rattle.plant_view.specs.Tables.{tables_of}
 use Rattle.table_forms.specs.Forms.{Form, table_of}

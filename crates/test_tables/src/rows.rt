@@ -266,10 +266,7 @@ fn receipt(rt: &(impl Abort + AllocGlobal), of: Content<'_>) -> Result<RowChange
     }))
 }
 
-fn push_all<const N: usize>(
-    changes: &mut Vec<RowChange>,
-    more: [RowChange; N],
-) -> Result<(), AllocError> {
+fn push_all(changes: &mut Vec<RowChange>, more: Vec<RowChange>) -> Result<(), AllocError> {
     for change in more {
         changes.push(change)?;
     }
@@ -293,11 +290,14 @@ pub fn rows(
     // The checker can't follow row changes, unless the function names these types.
     let _: Option<(RecipeLine, MasterLine, ControlLine, Movement, MovementKind)> = None;
     let mut changes = Vec::new(rt.alloc());
-    push_all(&mut changes, masters(rt, of))?;
-    push_all(&mut changes, orders(rt, of))?;
-    push_all(&mut changes, stocks(rt, of))?;
-    push_all(&mut changes, movements(rt, of))?;
-    push_all(&mut changes, edges(rt))?;
+    push_all(&mut changes, Vec::from_array(rt.alloc(), masters(rt, of))?)?;
+    push_all(&mut changes, Vec::from_array(rt.alloc(), orders(rt, of))?)?;
+    push_all(&mut changes, Vec::from_array(rt.alloc(), stocks(rt, of))?)?;
+    push_all(
+        &mut changes,
+        Vec::from_array(rt.alloc(), movements(rt, of))?,
+    )?;
+    push_all(&mut changes, Vec::from_array(rt.alloc(), edges(rt))?)?;
     changes.push(receipt(rt, of)?)?;
     Ok(changes)
 }

@@ -27,6 +27,8 @@ pub struct Course {
     pub commands: Vec<Envelope>,
     /// The rows of the files as they are at first.
     pub first: String,
+    /// The rows in each schema between that of the files and the newest.
+    pub between: Vec<String>,
     /// The rows in the newest schema: after none of the commands, after one, and so on up to all.
     pub texts: Vec<String>,
 }
@@ -73,6 +75,12 @@ fn lowered(rt: &impl AllocGlobal, image: &Image, schema: u64) -> Result<Image, F
     Image::of(rt.alloc(), &closed(connection))
 }
 
+/// The rows of all tables in these files.
+fn text_in(rt: &impl AllocGlobal, image: &Image) -> Result<String, Fail> {
+    let mut connection = reopened(rt.alloc(), image.files(rt.alloc(), ALL)?)?;
+    tables_told(rt.alloc(), &mut connection)
+}
+
 /// The commands over these files.
 fn course_of(
     rt: &(impl Abort + AllocGlobal),
@@ -90,6 +98,7 @@ fn course_of(
         accepted,
         commands,
         first,
+        between: Vec::new(rt.alloc()),
         texts,
     })
 }
@@ -124,6 +133,13 @@ pub fn tables_to_raise(
     work: Work,
     schema: u64,
 ) -> Result<Course, Fail> {
-    let image = lowered(rt, &image_after(rt, &ten_commands(rt.alloc())?)?, schema)?;
-    course_of(rt, work, image, Vec::new(rt.alloc()))
+    let newest = image_after(rt, &ten_commands(rt.alloc())?)?;
+    let image = lowered(rt, &newest, schema)?;
+    let mut course = course_of(rt, work, image, Vec::new(rt.alloc()))?;
+    if schema == 1 {
+        course
+            .between
+            .push(text_in(rt, &lowered(rt, &newest, 2)?)?)?;
+    }
+    Ok(course)
 }

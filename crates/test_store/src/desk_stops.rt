@@ -138,12 +138,17 @@ fn is_after(texts: &[String], count: usize, text: &str) -> bool {
     }
 }
 
+/// Whether these are the rows of an older schema, from that of the files as they were at first.
+fn is_older(course: &Course, text: &str) -> bool {
+    course.first.as_str() == text || course.between.iter().any(|it| it.as_str() == text)
+}
+
 /// Whether these are the rows after the commands that were answered, or after one more; where the store wasn't adopted,
-/// those of the files as they were at first, or after none of the commands.
+/// those of an older schema, or after none of the commands.
 fn may_be_left(course: &Course, answered: Option<usize>, text: &str) -> bool {
     let texts = course.texts.as_slice();
     match answered {
-        None => course.first.as_str() == text || is_after(texts, 0, text),
+        None => is_older(course, text) || is_after(texts, 0, text),
         Some(count) => {
             is_after(texts, count, text) || is_after(texts, count.saturating_add(1), text)
         }
@@ -163,7 +168,8 @@ fn check_left(
     let text = tables_told(rt.alloc(), &mut adopted)?;
     assert!(rt; may_be_left(course, answered, found.as_str()));
     assert!(rt;
-        text == found || (found == course.first && is_after(&course.texts, 0, text.as_str()))
+        text == found
+            || (is_older(course, found.as_str()) && is_after(&course.texts, 0, text.as_str()))
     );
     Ok(())
 }

@@ -407,7 +407,7 @@ class Check:
             (head + b"o-1,cake,0,0,2027-02-29,0\n", "csv row 1 Order"),
             (head + b"O-1,cake,0,0,2027-02-29,0\n", "csv row 1 Recipe"),
             (head + b"O-1,CAKE,0,0,2027-02-29,0\n", "csv row 1 Version"),
-            (head + b"O-1,CAKE,1,1000000000001,2027-02-29,0\n", "csv row 1 Size"),
+            (head + b"O-1,CAKE,1,1000000000000001,2027-02-29,0\n", "csv row 1 Size"),
             (head + b"O-1,CAKE,1,00000000000000500,2027-02-29,0\n", "csv row 1 Size"),
             (head + b"O-1,CAKE,1,+5,2027-02-29,0\n", "csv row 1 Size"),
             (head + b"O-1,CAKE,1,500,2027-03-01,10\n", "csv row 1 Priority"),

@@ -230,7 +230,7 @@ def compared(taken):
 
 def measure(program, folder, count, is_in_memory, size, receipts):
     """Measures commands over a desk of so many movements and receipts."""
-    path = folder / f"{size}.db"
+    path = folder / f"{size}-{receipts}.db"
     start = time.perf_counter()
     log, memory = make(program, path, size)
     took = time.perf_counter() - start

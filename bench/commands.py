@@ -10,7 +10,8 @@ the same tables of a copy of the file, commit each command durably before they a
 bench/peer.py, in Python over the standard library's sqlite3, and bench/peer.c, which is left out where gcc or sqlite3.h isn't there.
 Each is run three times: over a rollback journal, which is SQLite's default; over a log written ahead; and over such a log with a second
 sync at each commit, as the desk's commits have. With `memory` the desk and the peers keep their tables in memory instead, and none
-syncs. The kinds take turns in rounds, so that what else the machine does falls on all alike. At last the desk is asked about a lot, an
+syncs. The kinds take turns in rounds, so that what else the machine does falls on all alike. Then the desk alone is given consumptions
+with no open recall and with 100 open ones, in turns, of which none reaches what is consumed. At last it is asked about a lot, an
 order, itself, a batch, and where a lot came from, and the greatest size of its log is told.
 """
 import json
@@ -30,6 +31,9 @@ HERE = pathlib.Path(__file__).resolve().parent
 
 # How many rounds the commands of a kind are given in.
 ROUNDS = 5
+
+# How many recalls are open beside some of the consumptions.
+OPEN = 100
 
 
 class Keeper:
@@ -194,6 +198,23 @@ def measured(keepers, count, last):
     return took
 
 
+def beside_recalls(desk, count, size):
+    """Gives the desk consumptions with no open recall and with many, in turns, and tells how long each took. A recall reaches a lot of
+    another batch and the one that was split off it."""
+    consumption = {"batch": f"B-{size // 9 - 1}", "lot": "F", "sub": 0, "amount": 1}
+    step, recalls = max(1, count // ROUNDS), range(min(OPEN, size // 9))
+    plain, beside = [], []
+    for turn in range(ROUNDS):
+        plain += [desk.accept("consume", **consumption) for _ in range(step)]
+        for number in recalls:
+            desk.accept("recall", recall=f"R-{turn}-{number}", lot=f"D-{number}-0")
+        beside += [desk.accept("consume", **consumption) for _ in range(step)]
+        for number in recalls:
+            desk.accept("lift", recall=f"R-{turn}-{number}")
+    print(f"  consume  no open recall {rate(plain)}")
+    print(f"           {len(recalls)} open recalls {rate(beside)} {statistics.median(beside) / statistics.median(plain):.2f}")
+
+
 def rate(times):
     return f"{len(times) / sum(times):7.0f}/s {statistics.median(times) * 1e6:7.0f} us"
 
@@ -250,6 +271,7 @@ def measure(program, folder, count, is_in_memory, size, receipts):
             if it != "desk":
                 print(f"    {it:14} {rate(times)} {sum(times) / sum(took['desk']):.2f}")
     compared(taken)
+    beside_recalls(desk, count, size)
     asked(desk)
     for keeper in [desk, *others]:
         keeper.close()

@@ -92,13 +92,17 @@ class Desk:
 
     def trace(self, direction, lot):
         """Returns the nodes of a trace, and how long it took to its answer."""
+        answer, took = self.tell(ask=direction, lot=lot)
+        return [(int("batch" in it), it.get("lot") or it["batch"]) for it in answer["nodes"]], took
+
+    def tell(self, **fields):
+        """Gives a line, and returns what is answered and how long that took."""
         start = time.perf_counter()
-        self.process.stdin.write(json.dumps({"ask": direction, "lot": lot}).encode() + b"\n")
+        self.process.stdin.write(json.dumps(fields).encode() + b"\n")
         self.process.stdin.flush()
         answer = self.process.stdout.readline()
         took = time.perf_counter() - start
-        nodes = json.loads(answer)["nodes"]
-        return [(int("batch" in it), it.get("lot") or it["batch"]) for it in nodes], took
+        return json.loads(answer), took
 
     def close(self):
         self.process.stdin.close()
@@ -140,4 +144,5 @@ def main(program, folder, *sizes):
             desk.close()
 
 
-main(*sys.argv[1:])
+if __name__ == "__main__":
+    main(*sys.argv[1:])

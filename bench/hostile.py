@@ -75,7 +75,7 @@ class Desk:
     def seq(self, file):
         """Verifies a file, and returns how many commands it has accepted."""
         ran = self.run("verify", file)
-        found = re.fullmatch(rb"good schema 3 seq (\d+)\n", ran.stdout)
+        found = re.fullmatch(rb"good schema 4 seq (\d+)\n", ran.stdout)
         expect(ran.returncode == 0 and found, f"{file}: {ran.stdout!r} {ran.stderr!r}")
         return int(found[1])
 

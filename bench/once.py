@@ -106,7 +106,7 @@ def main(program, folder, commands, kills):
     lines = [f'{it},"ref":"K-{number}"}}\n'.encode() for number, it in enumerate(bare)]
     client = Client(program, again, lines, random.Random(1), max(1, commands / max(1, kills) - 2))
     client.send_all()
-    good = b"good schema 3 seq %d\n" % (BEFORE + commands)
+    good = b"good schema 4 seq %d\n" % (BEFORE + commands)
     expect(run(program, "verify", again) == good, "the file isn't good")
     expect(tables(once) == tables(again), "the tables differ")
     print(f"{commands} commands in {client.sendings} sendings, {client.kills} kills: each acted once")

@@ -80,7 +80,7 @@ class Trial:
 
     def seq(self, file):
         ran = subprocess.run([self.program, "verify", file], capture_output=True, timeout=SECONDS)
-        found = re.fullmatch(rb"good schema 3 seq (\d+)\n", ran.stdout)
+        found = re.fullmatch(rb"good schema 4 seq (\d+)\n", ran.stdout)
         if ran.returncode or not found:
             raise Failed(f"the file isn't good: {ran}")
         return int(found[1])

@@ -245,7 +245,7 @@ def main(program, folder, questions, commands):
     body = text.rpartition(b"\r\n\r\n")[2]
     other(client, f"Python's http.server, {len(body)} bytes that it holds", "fixed", body, questions)
     other(client, "bare sockets in Python, the same", "bare", text, questions)
-    side_by_side(client, program, folder / "new.db", b'{"schema":3,"seq":0}')
+    side_by_side(client, program, folder / "new.db", b'{"schema":4,"seq":0}')
 
 
 if __name__ == "__main__":

@@ -4,9 +4,9 @@
     examples/hostile.py PROGRAM
 
 For each rule of good tables a file of twenty commands is changed by one statement, which breaks that rule and none before it: the
-desk has to name the rule, to each word, and to leave the tables as they are. So has it for each statement of
-examples/tables/broken_rules.txt over the rows of good_desk.sql beside it. Each front of two requests is sent to one server, and each
-request that passes a limit, or comes just up to it, to a new desk.
+desk has to name the rule, to each word, and to leave the tables as they are. So has it where a mark is missing behind a recall, or one
+is too many, and for each statement of examples/tables/broken_rules.txt over the rows of good_desk.sql beside it. Each front of two
+requests is sent to one server, and each request that passes a limit, or comes just up to it, to a new desk.
 """
 import pathlib
 import shutil
@@ -42,6 +42,7 @@ DAMAGES = [
     "UPDATE meta SET seq = 17",
     "DELETE FROM edge WHERE kind = 2",
     "INSERT INTO receipt VALUES ('K-1', 99, 'x')",
+    "INSERT INTO recall VALUES ('RC-1', 'F-1', 'open', 300, 'anna', '', NULL, NULL, NULL)",
 ]
 
 # The edges of the twenty commands.
@@ -87,7 +88,7 @@ def padded(size):
 
 
 # What a new desk answers to the command.
-ACCEPTED = NEW[: -len(b'20\r\nConnection: close\r\n\r\n{"schema":3,"seq":0}')] + b'8\r\nConnection: close\r\n\r\n{"ok":1}'
+ACCEPTED = NEW[: -len(b'20\r\nConnection: close\r\n\r\n{"schema":4,"seq":0}')] + b'8\r\nConnection: close\r\n\r\n{"ok":1}'
 
 # Requests to new desks, each with its answer.
 REQUESTS = [
@@ -154,17 +155,36 @@ def damages_are_named(check, session):
         refuses(check, file, number, [("verify",), ("init",), ("run",), ("record", "B-1"), ("trace", "back", "D-1")], statement)
 
 
+def marks_are_held_to_the_recalls(check):
+    """Takes a mark away, and adds one, behind the recall of a lot and a production of the batch that took of it."""
+    session = written(HERE / "sessions" / "a_recall_blocks_what_came_of_a_lot.txt")
+    first, file = check.room / "recalled.db", check.room / "marked.db"
+    told, wanted = (b"".join(lines_of(it)[:12]) for it in (session.told, session.wanted))
+    check.expect("a recall and a production", check.run("run", first.name, told=told), (0, wanted, b""))
+    for statement in [
+        "DELETE FROM mark WHERE id = 'D-1'",
+        "DELETE FROM mark WHERE kind = 2",
+        "INSERT INTO mark VALUES ('RC-1', 2, 'D-1')",
+        "INSERT INTO mark VALUES ('RC-2', 1, 'D-1')",
+    ]:
+        shutil.copyfile(first, file)
+        changed(file, statement)
+        refuses(check, file, 14, [("verify",), ("run",), ("trace", "back", "D-1")], statement)
+
+
 def rules_are_tested(check):
-    """Changes a good desk in each way that is written, and verifies it; and in the older schemas, which have no receipts, and the first no
-    edges."""
+    """Changes a good desk in each way that is written, and verifies it; and in the older schemas, of which the third has no recalls, the
+    second no receipts and the first no edges."""
     first, file = check.room / "good.db", check.room / "changed.db"
     check.run("init", first.name)
     changed(first, "DELETE FROM meta;" + (HERE / "tables/good_desk.sql").read_text())
-    good = (0, b"good schema 3 seq 20\n", b"")
+    good = (0, b"good schema 4 seq 20\n", b"")
     lines = (HERE / "tables/broken_rules.txt").read_text().splitlines()
     cases = [line.split(": ", 1) for line in lines if line and not line.startswith("#")]
     cases += [("0", LOWER), ("12", LOWER + "UPDATE movement SET batch = 'B-1' WHERE seq = 15")]
-    second = "DROP TABLE receipt; UPDATE meta SET schema = 2"
+    third = "DROP TABLE recall; DROP TABLE mark; UPDATE meta SET schema = 3"
+    cases += [("0", third), ("13", third + "; UPDATE receipt SET seq = 21 WHERE id = 'K-1'"), ("1", third + "; CREATE TABLE mark (a INTEGER)")]
+    second = third + "; DROP TABLE receipt; UPDATE meta SET schema = 2"
     cases += [("0", second), ("12", second + "; DELETE FROM edge WHERE a = 'D-0'"), ("1", second + "; CREATE TABLE receipt (a INTEGER)")]
     for number, statement in cases:
         shutil.copyfile(first, file)
@@ -291,6 +311,7 @@ def main(program):
     with tempfile.TemporaryDirectory() as room:
         check = Check(pathlib.Path(program).resolve(), pathlib.Path(room))
         damages_are_named(check, twenty_of(session))
+        marks_are_held_to_the_recalls(check)
         rules_are_tested(check)
         fronts_are_bad(check)
         limits_are_kept(check)

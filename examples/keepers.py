@@ -1,6 +1,6 @@
 #!/usr/bin/env python3
-"""Asks a desk over a file and a run over the keeper of lists every question about every id, after the same twenty commands, each of them
-told twice under a reference.
+"""Asks a desk over a file and a run over the keeper of lists every question about every id, after the same twenty commands and recalls, each
+of them told twice under a reference.
 
     examples/keepers.py PROGRAM LISTS
 
@@ -22,32 +22,57 @@ QUESTIONS = [
     '{"ask":"lot","lot":"%s"}',
     '{"ask":"order","order":"%s"}',
     '{"ask":"batch","batch":"%s"}',
+    '{"ask":"recall","recall":"%s"}',
     '{"ask":"back","lot":"%s"}',
     '{"ask":"forward","lot":"%s"}',
     '{"ask":"back","batch":"%s"}',
     '{"ask":"forward","batch":"%s"}',
 ]
 
+# Two recalls behind the twenty commands, what they refuse, and a lift.
+RECALLS = b"".join(
+    b'{"at":320,"by":"ben",%s}\n' % it
+    for it in [
+        b'"do":"recall","recall":"RC-1","lot":"F-1"',
+        b'"do":"recall","recall":"RC-2","lot":"D-2"',
+        b'"do":"split","lot":"D-3","sub":0,"amount":1,"new":"D-4","place":""',
+        b'"do":"lift","recall":"RC-1"',
+        b'"do":"split","lot":"D-3","sub":0,"amount":1,"new":"D-4","place":""',
+        b'"do":"split","lot":"D-1","sub":0,"amount":1,"new":"D-4","place":""',
+    ]
+)
+TOLD = b"""{"ok":21}
+{"ok":22}
+{"name":"Recalled","refused":32}
+{"ok":23}
+{"name":"Recalled","refused":32}
+{"ok":24}
+"""
+
 
 def main(program, lists):
     session = twenty_of(written(HERE / "sessions" / "a_batch_runs_to_its_close.txt"))
-    ids = sorted(set(re.findall(rb'"([A-Z][A-Z0-9-]*)"', session.told))) + [b"X-9"]
+    commands, replies = session.told + RECALLS, session.wanted + TOLD
+    ids = sorted(set(re.findall(rb'"([A-Z][A-Z0-9-]*)"', commands))) + [b"X-9"]
     questions = ['{"ask":"desk"}'] + [it % name.decode() for name in ids for it in QUESTIONS]
     asked = "".join(it + "\n" for it in questions).encode()
-    lines = enumerate(session.told.splitlines())
+    lines = enumerate(commands.splitlines())
     told = b"".join(2 * (line[:-1] + b',"ref":"K-%d"}\n' % number) for number, line in lines) + asked
-    wanted = b"".join(2 * it for it in session.wanted.splitlines(keepends=True))
+    wanted = b"".join(2 * it for it in replies.splitlines(keepends=True))
     with tempfile.TemporaryDirectory() as room:
         check = Check(pathlib.Path(program).resolve(), pathlib.Path(room))
         status, answers, errors = check.run("run", "twenty.db", told=told)
         ran = subprocess.run([pathlib.Path(lists).resolve()], input=told, capture_output=True, timeout=SECONDS)
         check.expect("a desk over a file", (status, answers.startswith(wanted), errors), (1, True, b""))
-        check.expect("its answers", answers.count(b"\n"), 40 + len(questions))
+        check.expect("its answers", answers.count(b"\n"), wanted.count(b"\n") + len(questions))
         store = sqlite3.connect(check.room / "twenty.db")
         store.executescript(LOWER)
         store.close()
-        answered = b"".join(answers.splitlines(keepends=True)[40:])
-        check.expect("the file raised from the first schema", check.run("run", "twenty.db", told=asked), (1, answered, b""))
+        # the first schema has no recalls
+        pairs = zip(questions, answers.splitlines(keepends=True)[wanted.count(b"\n"):])
+        lasting = [(it.encode() + b"\n", answer) for it, answer in pairs if '"recall"' not in it]
+        found = check.run("run", "twenty.db", told=b"".join(it for it, _ in lasting))
+        check.expect("the file raised from the first schema", found, (1, b"".join(answer for _, answer in lasting), b""))
         check.expect("the keeper of lists", (ran.returncode, ran.stdout, ran.stderr), (1, answers, b""))
     print(f"keepers: {check.passed} passed, {check.failed} failed, of {len(questions)} questions")
     return 1 if check.failed else 0

@@ -128,7 +128,7 @@ class Limits(Check):
     def verifies(self, name, file, seq):
         """Verifies a file, and returns the seconds that it takes."""
         began = time.monotonic()
-        self.expect(f"{name}, verified", self.run("verify", file), (0, b"good schema 3 seq %d\n" % seq, b""))
+        self.expect(f"{name}, verified", self.run("verify", file), (0, b"good schema 4 seq %d\n" % seq, b""))
         return time.monotonic() - began
 
     def filled(self, file, rows, seq):
@@ -293,6 +293,21 @@ class Limits(Check):
         self.answers_alike(whole, [("a long trace", '{"ask":"forward","lot":"C-0"}', "/v1/lots/C-0/forward", traced(lots))])
         text = "".join(f"lot {it}\n" for it in lots)
         self.expect("a long trace, by the word", self.run("trace", whole, "forward", "C-0"), (0, text.encode(), b""))
+        self.a_recall_reaches_many(whole, 3 + NODES, lots, seconds[1])
+
+    def a_recall_reaches_many(self, file, seq, lots, seconds):
+        """Recalls the first lot of a chain that is verified in so many seconds, and lifts the recall: the marks cost no more than the edges."""
+        self.runs("a recall of a chain", file, booked('"do":"recall","recall":"RC-1","lot":"C-0"'), replies(seq + 1, 1))
+        nodes = [{"lot": it} for it in ["C-0", *lots]]
+        answer = compact({"lot": "C-0", "nodes": nodes, "recall": "RC-1", "state": "open"})
+        self.runs("all that it reaches", file, b'{"ask":"recall","recall":"RC-1"}\n', answer.encode() + b"\n")
+        marked = self.verifies("a recalled chain", file, seq + 1)
+        self.expect(f"a recalled chain is verified in the time of both, {[seconds, marked]}", marked < 3 * seconds + 3, True)
+        split = booked(f'"do":"split","lot":"C-{NODES}","sub":0,"amount":1,"new":"E-1","place":""')
+        self.expect("its last lot is blocked", self.run("run", file, told=split), (1, b'{"name":"Recalled","refused":32}\n', b""))
+        lift = booked('"do":"lift","recall":"RC-1"')
+        self.runs("its last lot is free", file, lift + split, replies(seq + 2, 2))
+        self.verifies("a chain whose recall was lifted", file, seq + 3)
 
     def a_desk_is_large(self):
         """Writes the rows of 150,000 movements and 20,000 edges, many of one lot and of one batch, and raises them from the first schema."""

@@ -106,7 +106,7 @@ def refuse_some(check, name, request, whole, follow):
     ends = {"answered": 0, "memory": 0, "store": 0, "nothing": 0}
     for number in numbers_of(check, request):
         with Server(check, number, 3) as server:
-            check.expect(f"{name}, the question before", server.ask(ASK), good('{"schema":3,"seq":%d}' % SEQ))
+            check.expect(f"{name}, the question before", server.ask(ASK), good('{"schema":4,"seq":%d}' % SEQ))
             found = server.ask(request)
             told = {whole: "answered", MEMORY: "memory", STORE: "store", b"": "nothing"}.get(found, "otherwise")
             check.expect(f"{name}, allocation {number}, {found}", told in ends, True)
@@ -128,11 +128,11 @@ def desk_is_as_told(check, name, server, told):
         check.expect(f"{name}, the server", server.end(), (3, b"fault: store\n"))
     else:
         seq = SEQ + (told == "answered")
-        body = f'{{"schema":3,"seq":{seq}}}'
+        body = f'{{"schema":4,"seq":{seq}}}'
         check.expect(f"{name}, the desk", server.ask(ASK), good(body))
         check.expect(f"{name}, the server", server.end(), (0, b""))
     found = check.run("verify", server.file.name)
-    kept = [(0, b"good schema 3 seq %d\n" % it, b"") for it in (SEQ, SEQ + 1)]
+    kept = [(0, b"good schema 4 seq %d\n" % it, b"") for it in (SEQ, SEQ + 1)]
     wanted = kept if told == "store" else [kept[told == "answered"]]
     check.expect(f"{name}, the file {found}", found in wanted, True)
 

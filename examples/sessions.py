@@ -21,7 +21,7 @@ import time
 SECONDS = 300
 BAD_FORM = b'{"name":"BadForm","refused":1}\n'
 DESK = b'{"ask":"desk"}'
-NEW_DESK = b'{"schema":3,"seq":0}\n'
+NEW_DESK = b'{"schema":4,"seq":0}\n'
 LINE_LIMIT = 262_144
 
 # How often a server is started at most where another program has taken its port.
@@ -30,12 +30,13 @@ ATTEMPTS = 3
 # A question over HTTP, and what a desk answers that has no command, and that has one.
 ASK = b"GET /v1/desk HTTP/1.0\n\n"
 NEW = b"HTTP/1.1 200 OK\r\nContent-Type: application/json\r\nContent-Length: 20\r\nConnection: close\r\n\r\n"
-NEW += b'{"schema":3,"seq":0}'
+NEW += b'{"schema":4,"seq":0}'
 ONE = NEW.replace(b'"seq":0', b'"seq":1')
 
 # What takes tables back to the first schema.
 LOWER = """
-    DROP INDEX movement_by_lot; DROP INDEX movement_by_batch; DROP INDEX batch_event_by_batch; DROP TABLE edge; DROP TABLE receipt;
+    DROP INDEX movement_by_lot; DROP INDEX movement_by_batch; DROP INDEX batch_event_by_batch;
+    DROP TABLE edge; DROP TABLE receipt; DROP TABLE recall; DROP TABLE mark;
     UPDATE meta SET schema = 1;
 """
 
@@ -67,7 +68,12 @@ TABLES = {
     "hold": ("lot id at# by_who note", ["lot id"]),
     "edge": ("kind# a b", ["kind a b"]),
     "receipt": ("id seq# content", ["id"]),
+    "recall": ("id lot state at# by_who note lift_at#? lift_by? lift_note?", ["id"]),
+    "mark": ("recall kind# id", ["recall kind id"]),
 }
+
+# The kinds of the nodes that each kind of edge leads from and to.
+ENDS = {1: (1, 2), 2: (2, 1), 3: (1, 1)}
 
 # Commands of each word, with what is kept of each as its content behind its moment, its operator and its note.
 WORDS = [
@@ -105,6 +111,9 @@ WORDS = [
     ),
     ('"do":"hold","lot":"D-1","hold":"H-1"', "hold D-1|H-1"),
     ('"do":"unhold","lot":"D-1","hold":"H-1"', "unhold D-1|H-1"),
+    ('"do":"recall","recall":"RC-1","lot":"D-2"', "recall RC-1|D-2"),
+    ('"do":"recall","recall":"RC-2","lot":"F-1"', "recall RC-2|F-1"),
+    ('"do":"lift","recall":"RC-1"', "lift RC-1"),
     ('"do":"withdraw","recipe":"CAKE","version":1', "withdraw CAKE|1"),
 ]
 
@@ -215,6 +224,12 @@ def traced(lots):
     return json.dumps({"nodes": [{"lot": it} for it in lots]}, separators=(",", ":"))
 
 
+def recalled(lots):
+    """Returns the answer of an open recall of the first of these lots, which are in order, and which are all that it reaches."""
+    nodes = [{"lot": it} for it in lots]
+    return json.dumps({"lot": lots[0], "nodes": nodes, "recall": "RC-1", "state": "open"}, separators=(",", ":"))
+
+
 def merged(parts):
     """Returns a merge of these parts, each a lot, a sublot and an amount."""
     listed = ",".join(f'{{"lot":"{lot}","sub":{sub},"amount":{amount}}}' for lot, sub, amount in parts)
@@ -259,7 +274,8 @@ def limits():
 
 
 def traces():
-    """Returns sessions of traces along more nodes than are looked up one by one: in a chain of splits, and in a fan of them."""
+    """Returns sessions of traces along more nodes than are looked up one by one, and of recalls that reach as many: in a chain of splits,
+    and in a fan of them."""
     lots, more = [f"C-{it:03}" for it in range(600)], [f"D-{it:03}" for it in range(600)]
     chain = Session("a long chain is traced both ways").accepted(*GOODS, received(lots[0], 1000))
     chain.accepted(*[split(lots[it - 1], 1000 - it, lots[it]) for it in range(1, 600)])
@@ -268,6 +284,9 @@ def traces():
     for session, last, forward, back in [(chain, lots[-1], lots[1:], lots[:-1]), (fan, more[-1], more, ["C-000"])]:
         session.asked('{"ask":"forward","lot":"C-000"}', traced(forward))
         session.asked(f'{{"ask":"back","lot":"{last}"}}', traced(back))
+        session.accepted('"do":"recall","recall":"RC-1","lot":"C-000"').refused("Recalled", 32, split(last, 1, "E-000"))
+        session.asked('{"ask":"recall","recall":"RC-1"}', recalled(["C-000", *forward]))
+        session.accepted('"do":"lift","recall":"RC-1"', split(last, 1, "E-000"))
     return [chain, fan]
 
 
@@ -366,8 +385,22 @@ class Check:
         second = self.run("run", file, told=b"".join(told[half:]))
         found = (first[0] | second[0], first[1] + second[1], first[2] + second[2])
         self.expect(f"{session.name}, over a file", found, (int(session.is_refused()), session.wanted, b""))
-        good = b"good schema 3 seq %d\n" % session.count()
+        good = b"good schema 4 seq %d\n" % session.count()
         self.expect(f"{session.name}, verified", self.run("verify", file), (0, good, b""))
+        self.marks_are_what_recalls_reach(session, file)
+
+    def marks_are_what_recalls_reach(self, session, file):
+        """Searches the edges of a file from the lot of each open recall on, and compares what is found with table mark."""
+        store = sqlite3.connect(self.room / file)
+        edges, wanted = {}, []
+        for kind, start, end in store.execute("SELECT kind, a, b FROM edge"):
+            first, second = ENDS[kind]
+            edges.setdefault((first, start), []).append((second, end))
+        for recall, lot in store.execute("SELECT id, lot FROM recall WHERE state = 'open'"):
+            wanted += [(recall, *node) for node in searched(edges, (1, lot))]
+        marks = store.execute("SELECT recall, kind, id FROM mark ORDER BY recall, kind, id").fetchall()
+        store.close()
+        self.expect(f"{session.name}, its marks", marks, sorted(wanted))
 
     def orders_are_imported(self):
         """Imports an order file twice, one that gives an order another size, one without orders, and faulty ones."""
@@ -422,10 +455,10 @@ class Check:
         """Asks for traces and a record, over the file that the session leaves."""
         file = "words.db"
         for words, status, wanted in [
-            (["verify", file], 0, b"good schema 3 seq 0\n"),
-            (["init", file], 0, b"ready schema 3\n"),
+            (["verify", file], 0, b"good schema 4 seq 0\n"),
+            (["init", file], 0, b"ready schema 4\n"),
             (["run", file], int(session.is_refused()), session.wanted),
-            (["init", file], 0, b"ready schema 3\n"),
+            (["init", file], 0, b"ready schema 4\n"),
             (["trace", file, "forward", "F-1"], 0, b"lot D-1\nbatch B-1\n"),
             (["trace", file, "back", "D-1"], 0, b"lot F-1\nbatch B-1\n"),
             (["trace", file, "forward", "F-9"], 1, b'{"name":"UnknownLot","refused":9}\n'),
@@ -445,7 +478,7 @@ class Check:
         store.close()
         for words, wanted in [
             (["trace", file.name, "back", "D-1"], b"lot F-1\nbatch B-1\n"),
-            (["verify", file.name], b"good schema 3 seq %d\n" % session.count()),
+            (["verify", file.name], b"good schema 4 seq %d\n" % session.count()),
         ]:
             self.expect(" ".join(words) + " of the first schema", self.run(*words), (0, wanted, b""))
         store = sqlite3.connect(file)
@@ -510,20 +543,24 @@ class Check:
         store = sqlite3.connect(file)
         names = "SELECT name FROM sqlite_schema WHERE type = 'index' AND sql IS NOT NULL ORDER BY name"
         indexes = [name for (name,) in store.execute(names)]
-        self.expect("indexes", indexes, ["batch_event_by_batch", "edge_by_end", "movement_by_batch", "movement_by_lot"])
+        self.expect("indexes", indexes, ["batch_event_by_batch", "edge_by_end", "mark_by_node", "movement_by_batch", "movement_by_lot"])
         for name in indexes:
             store.execute(f"DROP INDEX {name}")
         store.commit()
         store.close()
         last = session.count()
-        more = b'{"at":400,"by":"","do":"scrap","lot":"D-1","sub":0,"amount":1}\n'
-        for words, told, wanted in [
-            (["verify", file.name], b"", b"good schema 3 seq %d\n" % last),
-            (["trace", file.name, "back", "D-1"], b"", b"lot F-1\nbatch B-1\n"),
-            (["run", file.name], more, b'{"ok":%d}\n' % (last + 1)),
-            (["verify", file.name], b"", b"good schema 3 seq %d\n" % (last + 1)),
+        more = Session("", wanted=session.wanted).accepted(
+            '"do":"scrap","lot":"D-1","sub":0,"amount":1', '"do":"recall","recall":"RC-1","lot":"F-1"'
+        )
+        more.refused("Recalled", 32, split("D-1", 1, "D-2")).accepted('"do":"lift","recall":"RC-1"', split("D-1", 1, "D-2"))
+        told, replies = more.told.replace(b'"at":100', b'"at":400'), more.wanted[len(session.wanted) :]
+        for words, told, status, wanted in [
+            (["verify", file.name], b"", 0, b"good schema 4 seq %d\n" % last),
+            (["trace", file.name, "back", "D-1"], b"", 0, b"lot F-1\nbatch B-1\n"),
+            (["run", file.name], told, 1, replies),
+            (["verify", file.name], b"", 0, b"good schema 4 seq %d\n" % (last + 4)),
         ]:
-            self.expect(" ".join(words) + " without an index", self.run(*words, told=told), (0, wanted, b""))
+            self.expect(" ".join(words) + " without an index", self.run(*words, told=told), (status, wanted, b""))
 
     def commands_are_numbered_up_to_their_limit(self):
         """Tells a desk whose commands have all their numbers but one."""
@@ -536,7 +573,7 @@ class Check:
         told = Session("", wanted=b'{"ok":1000000000000000}\n')
         told.told = b'{"at":1,"by":"","do":"add_class","class":"RAW","name":""}\n'
         told.refused("TooMany", 28, '"do":"add_class","class":"WIP","name":""')
-        told.asked(DESK.decode(), '{"schema":3,"seq":1000000000000000}')
+        told.asked(DESK.decode(), '{"schema":4,"seq":1000000000000000}')
         found = self.run("run", file.name, told=told.told)
         self.expect("commands are numbered up to their limit", found, (1, told.wanted, b""))
 
@@ -557,7 +594,7 @@ class Check:
         store.execute("UPDATE meta SET seq = ?, at = ?", (seq + 10 * len(lots), at))
         store.commit()
         store.close()
-        good = b"good schema 3 seq %d\n" % (seq + 10 * len(lots))
+        good = b"good schema 4 seq %d\n" % (seq + 10 * len(lots))
         self.expect("a desk of 70,000 movements", self.run("verify", file.name), (0, good, b""))
         told = Session("").asked('{"ask":"lot","lot":"L-6999"}', '{"def":"SUGAR","held":false,"lot":"L-6999","stock":91,"sublots":[{"no":0,"place":"A1","stock":91}]}')
         self.expect("its last lot", self.run("run", file.name, told=told.told), (0, told.wanted, b""))
@@ -629,6 +666,17 @@ class Check:
             self.expect(f"keys of {name}", found, sorted(keys))
         self.expect("integrity", store.execute("PRAGMA integrity_check").fetchall(), [("ok",)])
         store.close()
+
+
+def searched(edges, start):
+    """Returns a node and all that edges lead to from it."""
+    found, ahead = {start}, [start]
+    while ahead:
+        for node in edges.get(ahead.pop(), []):
+            if node not in found:
+                found.add(node)
+                ahead.append(node)
+    return found
 
 
 def free_port():

@@ -63,10 +63,10 @@ class Words(Check):
         store = sqlite3.connect(file)
         store.executescript("CREATE TABLE shift (id TEXT); CREATE VIEW shifts AS SELECT id FROM shift; INSERT INTO shift VALUES ('night')")
         store.close()
-        self.expect("init beside a view", self.run("init", file.name), (0, b"ready schema 3\n", b""))
+        self.expect("init beside a view", self.run("init", file.name), (0, b"ready schema 4\n", b""))
         told = b'{"at":1,"by":"","do":"add_class","class":"RAW","name":""}\n'
         self.expect("run beside a view", self.run("run", file.name, told=told), (0, b'{"ok":1}\n', b""))
-        self.expect("verify beside a view", self.run("verify", file.name), (0, b"good schema 3 seq 1\n", b""))
+        self.expect("verify beside a view", self.run("verify", file.name), (0, b"good schema 4 seq 1\n", b""))
         store = sqlite3.connect(file)
         self.expect("the view", store.execute("SELECT * FROM shifts").fetchall(), [("night",)])
         store.close()

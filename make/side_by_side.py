@@ -4,9 +4,9 @@
     make/side_by_side.py PROGRAM...
 
 In the repository's folder. A crate of crates.txt is begun as soon as those below it are built: as many at once as there are
-processors, and 4 GB of free memory for each. Of those that can be begun, the one with the longest chain of others above it goes first, by
-their lines, and the longest of all may use all processors, since the end waits for it. A crate that was built here and has not changed since, nor anything below
-it, is passed over.
+processors, and 4 GB of free memory for each. Those with the longest chain of others above them, by their lines, go first, since the end
+waits for them: they are begun first, the longest may use all processors, the next half of them and so on, and where two want one processor it
+is mostly given to the longer. A crate that was built here and has not changed since, nor anything below it, is passed over.
 
 rt lets one command at a time into a crate and those below it. So each crate is built in a copy of the repository, of which there are as
 many as crates at once, in build/copies/; what it leaves in out/ comes back to the crate's own folder, and the copies are removed.
@@ -34,6 +34,9 @@ ROOM = 4_000_000_000
 
 # After how many seconds without news it is told what is under way.
 SILENCE = 60
+
+# By how much a crate stands back, as `nice` counts, behind the next longer one.
+STEP = 5
 
 # How many of the last lines are shown of a crate that isn't built.
 SHOWN = 20
@@ -154,7 +157,7 @@ class Build:
     """A crate that is being built in a copy."""
 
     def __init__(self, listed, name, copy, is_program, jobs):
-        self.name, self.copy, self.is_program, self.began = name, copy, is_program, time.monotonic()
+        self.name, self.copy, self.is_program, self.began, self.nice = name, copy, is_program, time.monotonic(), 0
         self.own, self.there = f"crates/{name}", f"{copy.folder}/crates/{name}"
         copy.take_libraries(below(listed, name))
         move(f"{self.own}/out", f"{self.there}/out")
@@ -168,6 +171,17 @@ class Build:
 
     def seconds(self):
         return time.monotonic() - self.began
+
+    def stand_back(self, nice):
+        """Has it stand back by so much. It is a session of its own, and Linux shares the processors among these; elsewhere nothing changes."""
+        if nice == self.nice:
+            return
+        try:
+            with open(f"/proc/{self.process.pid}/autogroup", "w") as it:
+                it.write(str(nice))
+            self.nice = nice
+        except OSError:
+            pass
 
     def end(self):
         """Ends what still runs of it, and has the crate's own folder keep what is there of its work."""
@@ -237,12 +251,12 @@ class Work:
 
     def begin(self, copies, at_once):
         ready = self.ready()
-        waiting = [*ready, *(it.name for it in self.running)]
-        longest = max(self.chains[it] for it in waiting)
-        spare = max(1, at_once // len(waiting))
+        longest = sorted([*ready, *(it.name for it in self.running)], key=lambda it: -self.chains[it])
         for name, copy in zip(ready, [it for it in copies if it not in [other.copy for other in self.running]]):
-            jobs = at_once if self.chains[name] == longest else spare
+            jobs = max(1, at_once // (longest.index(name) + 1))
             self.running.append(Build(self.listed, name, copy, name in self.programs, jobs))
+        for place, build in enumerate(sorted(self.running, key=lambda it: -self.chains[it.name])):
+            build.stand_back(STEP * place)
 
     def note(self, build):
         """Notes a crate as built, and leaves a program where it is looked for."""

@@ -1,8 +1,10 @@
 -- The rows of a small desk that obeys every rule of good tables, written by hand.
 --
 -- The recipe CAKE takes FLOUR and some DOUGH, and makes DOUGH. Batch B-1, of twice the recipe's base, takes dough of lot D-0 and makes
--- lot D-1, of which batch B-2 takes some. Of lot F-1 a sublot is divided off, lot F-2 is split off, and F-3 is merged from both.
-INSERT INTO meta VALUES (1, 3, 20, 300);
+-- lot D-1, of which batch B-2 takes some. Of lot F-1 a sublot is divided off, lot F-2 is split off, and F-3 is merged from both. Three
+-- recalls are open: of F-1, from which nearly all else comes; of D-1, which F-1's recall reaches too; and of S-1, of which nothing is left.
+-- An earlier recall of F-1 was lifted.
+INSERT INTO meta VALUES (1, 4, 20, 300);
 INSERT INTO class VALUES ('FOOD', 'What is eaten');
 INSERT INTO definition VALUES
     ('DOUGH', 'FOOD', '', 'kg'),
@@ -94,3 +96,18 @@ FLOUR
 1000
 A1
 ');
+INSERT INTO recall VALUES
+    ('RC-1', 'F-1', 'open', 270, 'anna', 'the supplier called', NULL, NULL, NULL),
+    ('RC-2', 'S-1', 'open', 280, 'anna', '', NULL, NULL, NULL),
+    ('RC-3', 'F-1', 'lifted', 200, 'anna', 'a smell', 210, 'ben', 'nothing found'),
+    ('RC-4', 'D-1', 'open', 280, '', '', NULL, NULL, NULL);
+INSERT INTO mark VALUES
+    ('RC-1', 1, 'D-1'),
+    ('RC-1', 1, 'F-1'),
+    ('RC-1', 1, 'F-2'),
+    ('RC-1', 1, 'F-3'),
+    ('RC-1', 2, 'B-1'),
+    ('RC-1', 2, 'B-2'),
+    ('RC-2', 1, 'S-1'),
+    ('RC-4', 1, 'D-1'),
+    ('RC-4', 2, 'B-2');

@@ -1,6 +1,5 @@
 -- The faults that the program ends with: where they come from, and the exit status of each.
-use Rattle.std.specs.Prelude.{◌≡◌, ℕ, List, Bool, Option, Some, None, Result, Ok, Err, ⊤}
-use Rattle.plant_check.specs.declared.rule.Rule.{Rule}
+use Rattle.std.specs.Prelude.{◌≡◌, ℕ, List, Bool, Option, Result, Ok, Err}
 use Rattle.plant_desk.specs.declared.question.Answer.{Answer}
 use Rattle.plant_desk.specs.declared.question.Answer.TheVariants as A
 use Rattle.plant_desk.specs.declared.reply.DeskFault.{DeskFault}
@@ -52,12 +51,6 @@ outcome_of_turn (Ok refused) = Ok refused
 outcome_of_turn (Err stop.Write) = Err fault.Write
 outcome_of_turn (Err (stop.Fault f)) = Err (desk_fault f)
 
--- what a test of all tables came to: a rule that they break is damage
-abbrev pub outcome_of_test : Result (Option Rule) DeskFault → Result ⊤ Fault
-outcome_of_test (Ok None) = Ok tt
-outcome_of_test (Ok (Some rule)) = Err (fault.Damaged rule)
-outcome_of_test (Err f) = Err (desk_fault f)
-
 -- where a keeper stands by what it answered when it was asked for that; an answer of another kind is a fault of the store
 abbrev pub standing_of : Result Answer DeskFault → Result Standing Fault
 standing_of (Ok (A.Desk schema seq)) = Ok (record { schema = schema; seq = seq })
@@ -65,6 +58,7 @@ standing_of (Ok (A.Lot lot)) = Err fault.Store
 standing_of (Ok (A.Order order)) = Err fault.Store
 standing_of (Ok (A.Batch view)) = Err fault.Store
 standing_of (Ok (A.Trace nodes)) = Err fault.Store
+standing_of (Ok (A.Recall recall)) = Err fault.Store
 standing_of (Ok (A.Unknown refusal)) = Err fault.Store
 standing_of (Err f) = Err (desk_fault f)
 

@@ -77,9 +77,11 @@ fn told_text(alloc: Global, answer: &Answer) -> Result<String, AllocError>
     match answer {
         Answer::Trace(nodes) => TraceText(nodes.as_slice()).to_string(alloc),
         Answer::Batch(view) => record(alloc, view),
-        Answer::Desk { .. } | Answer::Lot(_) | Answer::Order(_) | Answer::Unknown(_) => {
-            line_of(alloc, answer)
-        }
+        Answer::Desk { .. }
+        | Answer::Lot(_)
+        | Answer::Order(_)
+        | Answer::Recall(_)
+        | Answer::Unknown(_) => line_of(alloc, answer),
     }
 }
 

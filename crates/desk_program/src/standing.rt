@@ -27,6 +27,7 @@ fn standing_of(asked: Result<Answer, DeskFault>) -> Result<Standing, Fault>
             | Answer::Order(_)
             | Answer::Batch(_)
             | Answer::Trace(_)
+            | Answer::Recall(_)
             | Answer::Unknown(_),
         ) => Err(Fault::Store),
         Err(fault) => Err(Fault::from(fault)),

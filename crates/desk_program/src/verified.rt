@@ -1,14 +1,13 @@
 //! The word `verify`.
-ghost use Rattle.std.specs.Prelude.{◌≡◌, ◌≢◌, false, IfOk, IfErr, OnOk, MatchResult};
+ghost use Rattle.std.specs.Prelude.{◌≡◌, false, IfOk, OnOk, MatchResult};
 ghost use Rattle.std.specs.Io.KnownBytes.{Appends};
 ghost use Rattle.sqlite.specs.Held.{state};
 ghost use Rattle.sqlite.specs.State.{HasCleanDisk};
 ghost use Rattle.plant_base.specs.State.{State, newest_schema};
 ghost use Rattle.plant_desk.specs.Keeping.{IsSameDesk};
 ghost use Rattle.plant_desk_store.specs.Adopting.{IsNewlyOpened, AdoptedFrom};
-ghost use Rattle.plant_desk_store.specs.Standing.{IsOpenAt, Stands};
+ghost use Rattle.plant_desk_store.specs.Standing.{IsOpenAt};
 ghost use Rattle.plant_text.specs.Writes.{with_lf};
-ghost use Rattle.desk_program.specs.Faults as spec;
 ghost use Rattle.desk_program.specs.Texts.{good_text};
 ghost use Rattle.desk_program.specs.Performing.{IsGoodLine, Printed, Unprinted};
 
@@ -17,38 +16,11 @@ use crate::fault::Fault;
 use crate::lines::good_line;
 use crate::printing::print_line;
 use crate::standing::ask_standing;
-use plant_check::Rule;
-use plant_desk::{DeskFault, Keeper};
+use plant_desk::Keeper;
 use plant_desk_store::Desk;
 use sqlite::{Alter, Connection};
 use std::alloc::Global;
 use std::io::Write;
-
-/// What a test of all tables came to: a rule that they break is a fault.
-fn outcome_of_test(test: Result<Option<Rule>, DeskFault>) -> Result<(), Fault>
-    ensures is { result ≡ spec.outcome_of_test test }
-    ensures unwritten { IfErr result (λ fault. fault ≢ Fault.Write) }
-{
-    match test {
-        Ok(None) => Ok(()),
-        Ok(Some(rule)) => Err(Fault::Damaged(rule)),
-        Err(fault) => Err(Fault::from(fault)),
-    }
-}
-
-/// Tests all tables of an open desk, whose first broken rule is a fault.
-fn check_tables<S: Alter>(desk: &mut Desk<S>) -> Result<(), Fault>
-    requires { desk.old.is_shut ≡ false }
-    ensures honest { HasCleanDisk (state S.Store desk.new.connection)
-        → HasCleanDisk (state S.Store desk.old.connection) }
-    ensures open { desk.new.is_shut ≡ false }
-    ensures stays { HasCleanDisk (state S.Store desk.new.connection) → (s : State)
-        → Stands (state S.Store desk.old.connection) desk.old.is_shut s
-        → Stands (state S.Store desk.new.connection) desk.new.is_shut s }
-    ensures unwritten { IfErr result (λ fault. fault ≢ Fault.Write) }
-{
-    outcome_of_test(desk.verify())
-}
 
 /// Prints `good schema N seq S`: the schema of the keeper's tables, and how many commands it has accepted.
 fn tell_good<W: Write, K: Keeper>(writer: &mut W, keeper: &mut K) -> Result<(), Fault>
@@ -66,32 +38,10 @@ fn tell_good<W: Write, K: Keeper>(writer: &mut W, keeper: &mut K) -> Result<(), 
     print_line(writer, &good_line(at.schema, at.seq))
 }
 
-/// Tests all tables of an open desk, and prints the line of good ones.
-fn tell_tested<S: Alter, W: Write>(writer: &mut W, desk: &mut Desk<S>) -> Result<(), Fault>
-    requires { desk.old.is_shut ≡ false }
-    ensures honest { HasCleanDisk (state S.Store desk.new.connection)
-        → HasCleanDisk (state S.Store desk.old.connection) }
-    ensures open { desk.new.is_shut ≡ false }
-    ensures stays { HasCleanDisk (state S.Store desk.new.connection) → (s : State)
-        → Stands (state S.Store desk.old.connection) desk.old.is_shut s
-        → Stands (state S.Store desk.new.connection) desk.new.is_shut s }
-    ensures told { HasCleanDisk (state S.Store desk.new.connection) → (s : State)
-        → Stands (state S.Store desk.old.connection) desk.old.is_shut s
-        → OnOk result (Appends (W.contents writer.old) (W.contents writer.new)
-        (with_lf (good_text newest_schema s.seq))) }
-    ensures printed { MatchResult result (λ _. Printed IsGoodLine (W.contents writer.old)
-        (W.contents writer.new)) (Unprinted IsGoodLine (W.contents writer.old) (W.contents writer.new)) }
-{
-    match check_tables(desk) {
-        Ok(()) => tell_good(writer, desk),
-        Err(fault) => Err(fault),
-    }
-}
-
-/// Does `verify FILE`: adopts the store, tests all its tables anew, and prints `good schema N seq S` and an LF, S being
+/// Does `verify FILE`: adopts the store, which tests all its tables, and prints `good schema N seq S` and an LF, S being
 /// the number of commands that were accepted.
 ///
-/// Nothing is printed before the tables were tested. At `Write` a front of the line may stand there; at every other fault
+/// Nothing is printed before the store is adopted. At `Write` a front of the line may stand there; at every other fault
 /// nothing does.
 pub fn verify<S: Alter + Drop, W: Write>(
     alloc: Global,
@@ -109,7 +59,7 @@ pub fn verify<S: Alter + Drop, W: Write>(
         (W.contents writer.new) stopped.fault) }
 {
     let mut desk = adopt(alloc, connection)?;
-    match tell_tested(writer, &mut desk) {
+    match tell_good(writer, &mut desk) {
         Ok(()) => Ok(desk),
         Err(fault) => Err(Stopped {
             fault,

@@ -18,7 +18,7 @@ use Rattle.plant_text_commands.specs.Fields.{when, string_at, id_at, text_at, un
 use Rattle.plant_text_commands.specs.Batches.{command_word, batch_of, settle_of, phase_done_of, close_batch_of, consume_of, produce_of, body_on_batch}
 use Rattle.plant_text_commands.specs.Lists.{each_item, items_at, part_of, order_of, input_of, output_of, parameter_of, phase_of, line_for, line_of}
 use Rattle.plant_text_commands.specs.Plans.{header_of, add_recipe_of, approve_of, withdraw_of, import_orders_of, cancel_order_of, release_of}
-use Rattle.plant_text_commands.specs.Commands.{add_class_of, add_definition_of, receive_of, scrap_of, divide_of, split_of, merge_of, hold_of, unhold_of, body_of, envelope_of}
+use Rattle.plant_text_commands.specs.Commands.{add_class_of, add_definition_of, receive_of, scrap_of, divide_of, split_of, merge_of, hold_of, unhold_of, recall_of, lift_of, body_of, envelope_of}
 use Rattle.plant_text.specs.Questions.{named_id, lot_or_batch, traced_node, question_for, question_of}
 use Rattle.plant_text.specs.Lines.{shape_of, longest_line, line_of as line_of_text}
 use Rattle.plant_text.specs.declared.read.Line.{Line}
@@ -325,6 +325,20 @@ unhold-here d shape e =
     let e1 = f1.0 in
     here_when _ _ shape (here_bind _ _ (id_at-here m.Lot d refl refl e0) (λ x0. (here_bind _ _ (id_at-here m.Hold d refl refl e1) (λ x1. tt))))
 
+recall-here : (d : Data) → is_command (codes "recall" ∷ codes "lot" ∷ []) d ≡ true → first_flaw (m.Recall ∷ m.Lot ∷ []) d ≡ None → Here (recall_of d)
+recall-here d shape e =
+    let f0 = none_both (flaw_at m.Recall d) _ e in
+    let e0 = f0.0 in
+    let f1 = none_both (flaw_at m.Lot d) _ f0.1 in
+    let e1 = f1.0 in
+    here_when _ _ shape (here_bind _ _ (id_at-here m.Recall d refl refl e0) (λ x0. (here_bind _ _ (id_at-here m.Lot d refl refl e1) (λ x1. tt))))
+
+lift-here : (d : Data) → is_command (codes "recall" ∷ []) d ≡ true → first_flaw (m.Recall ∷ []) d ≡ None → Here (lift_of d)
+lift-here d shape e =
+    let f0 = none_both (flaw_at m.Recall d) _ e in
+    let e0 = f0.0 in
+    here_when _ _ shape (here_bind _ _ (id_at-here m.Recall d refl refl e0) (λ x0. tt))
+
 approve-here : (d : Data) → is_command (codes "recipe" ∷ codes "version" ∷ []) d ≡ true → first_flaw (m.Recipe ∷ m.Version ∷ []) d ≡ None → Here (approve_of d)
 approve-here d shape e =
     let f0 = none_both (flaw_at m.Recipe d) _ e in
@@ -608,13 +622,15 @@ body-here word d shared list = (either (Tells d) (bytes_eq word (codes "add_clas
     (either_where (Tells d) (bytes_eq word (codes "merge")) _ _ _ _ (λ t h e o. merge-here d (command_whole (m.New ∷ m.Place ∷ m.Parts ∷ []) d refl shared e o) e (merge_list word d t list))
     (λ no_merge. (either (Tells d) (bytes_eq word (codes "hold")) _ _ _ _ (λ h e o. hold-here d (command_whole (m.Lot ∷ m.Hold ∷ []) d refl shared e o) e)
     (either (Tells d) (bytes_eq word (codes "unhold")) _ _ _ _ (λ h e o. unhold-here d (command_whole (m.Lot ∷ m.Hold ∷ []) d refl shared e o) e)
+    (either (Tells d) (bytes_eq word (codes "recall")) _ _ _ _ (λ h e o. recall-here d (command_whole (m.Recall ∷ m.Lot ∷ []) d refl shared e o) e)
+    (either (Tells d) (bytes_eq word (codes "lift")) _ _ _ _ (λ h e o. lift-here d (command_whole (m.Recall ∷ []) d refl shared e o) e)
     (either_where (Tells d) (bytes_eq word (codes "add_recipe")) _ _ _ _ (λ t h e o. add_recipe-here d (command_whole (m.Recipe ∷ m.Version ∷ m.Product ∷ m.Base ∷ m.Least ∷ m.Greatest ∷ m.Title ∷ m.Lines ∷ []) d refl shared e o) e (recipe_list word d no_merge t list))
     (λ no_recipe. (either (Tells d) (bytes_eq word (codes "approve")) _ _ _ _ (λ h e o. approve-here d (command_whole (m.Recipe ∷ m.Version ∷ []) d refl shared e o) e)
     (either (Tells d) (bytes_eq word (codes "withdraw")) _ _ _ _ (λ h e o. withdraw-here d (command_whole (m.Recipe ∷ m.Version ∷ []) d refl shared e o) e)
     (either_where (Tells d) (bytes_eq word (codes "import_orders")) _ _ _ _ (λ t h e o. import_orders-here d (command_whole (m.Orders ∷ []) d refl shared e o) e (orders_list word d no_merge no_recipe t list))
     (λ no_orders. (either (Tells d) (bytes_eq word (codes "cancel_order")) _ _ _ _ (λ h e o. cancel_order-here d (command_whole (m.Order ∷ []) d refl shared e o) e)
     (either (Tells d) (bytes_eq word (codes "release")) _ _ _ _ (λ h e o. release-here d (command_whole (m.Order ∷ m.Batch ∷ []) d refl shared e o) e)
-    (body_on_batch-here word d shared)))))))))))))))))))
+    (body_on_batch-here word d shared)))))))))))))))))))))
 
 body_from : {A : Type 0} (f : Command → Option A) (o : Option (List ℕ)) (d : Data) → first_flaw shared_members d ≡ None → Here (option_and_then members_of_word o)
     → option_and_then (λ list. problem_in_list list d) (option_and_then list_of_word o) ≡ None
@@ -680,7 +696,8 @@ question_by word d =
     (either3 (TellsAsk d) (bytes_eq word (codes "batch")) _ _ _ _ _ _ (λ e k. here_map _ _ (named-here m.Batch d refl refl e))
     (either3 (TellsAsk d) (bytes_eq word (codes "back")) _ _ _ _ _ _ (λ e k. here_map _ _ (traced_by d (is_some (get (codes "lot") d)) e))
     (either3 (TellsAsk d) (bytes_eq word (codes "forward")) _ _ _ _ _ _ (λ e k. here_map _ _ (traced_by d (is_some (get (codes "lot") d)) e))
-    (λ e k. absurd (k (ask_first d e)))))))))
+    (either3 (TellsAsk d) (bytes_eq word (codes "recall")) _ _ _ _ _ _ (λ e k. here_map _ _ (named-here m.Recall d refl refl e))
+    (λ e k. absurd (k (ask_first d e))))))))))
 
 question_from : (o : Option (List ℕ)) (d : Data) → shape_flaw (unwrap_or (option_and_then (λ word. members_of_question word d) o) (m.Ask ∷ [])) d ≡ None
     → (flaw_at m.Ask d ≡ None → Here (option_and_then (λ word. members_of_question word null) o)) → Here (option_and_then (λ word. question_for word d) o)

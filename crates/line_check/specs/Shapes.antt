@@ -47,7 +47,9 @@ members_of_word word =
     if bytes_eq word (codes "merge") then Some (m.New ∷ m.Place ∷ m.Parts ∷ []) else (
     if bytes_eq word (codes "hold") then Some (m.Lot ∷ m.Hold ∷ []) else (
     if bytes_eq word (codes "unhold") then Some (m.Lot ∷ m.Hold ∷ []) else (
-    members_on_plans word)))))))))
+    if bytes_eq word (codes "recall") then Some (m.Recall ∷ m.Lot ∷ []) else (
+    if bytes_eq word (codes "lift") then Some (m.Recall ∷ []) else (
+    members_on_plans word)))))))))))
 
 abbrev pub is_command_word : List ℕ → Bool
 is_command_word word = is_some (members_of_word word)
@@ -71,7 +73,8 @@ members_of_question word d =
     if bytes_eq word (codes "batch") then Some (m.Ask ∷ m.Batch ∷ []) else (
     if bytes_eq word (codes "back") then Some (traced_members d) else (
     if bytes_eq word (codes "forward") then Some (traced_members d) else (
-    None))))))
+    if bytes_eq word (codes "recall") then Some (m.Ask ∷ m.Recall ∷ []) else (
+    None)))))))
 
 abbrev pub is_question_word : List ℕ → Bool
 is_question_word word = is_some (members_of_question word null)

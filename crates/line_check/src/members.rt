@@ -41,6 +41,8 @@ pub(crate) enum Member {
     Parts,
     /// A hold.
     Hold,
+    /// A recall.
+    Recall,
     /// A recipe.
     Recipe,
     /// The version of a recipe.
@@ -112,6 +114,7 @@ impl Member {
             Member::New => "new",
             Member::Parts => "parts",
             Member::Hold => "hold",
+            Member::Recall => "recall",
             Member::Recipe => "recipe",
             Member::Version => "version",
             Member::Product => "product",
@@ -158,6 +161,7 @@ impl Member {
             | Member::Lot
             | Member::New
             | Member::Hold
+            | Member::Recall
             | Member::Recipe
             | Member::Product
             | Member::Order

@@ -122,6 +122,10 @@ fn members_of_word(word: &str) -> Option<&'static [Member]>
         Some(&[Member::New, Member::Place, Member::Parts])
     } else if word == "hold" || word == "unhold" {
         Some(&[Member::Lot, Member::Hold])
+    } else if word == "recall" {
+        Some(&[Member::Recall, Member::Lot])
+    } else if word == "lift" {
+        Some(&[Member::Recall])
     } else {
         members_on_plans(word)
     }
@@ -174,6 +178,8 @@ fn members_of_question(word: &str, value: &Value) -> Option<&'static [Member]>
         Some(traced_members(value))
     } else if word == "forward" {
         Some(traced_members(value))
+    } else if word == "recall" {
+        Some(&[Member::Ask, Member::Recall])
     } else {
         None
     }

@@ -5,6 +5,7 @@ use Rattle.std.specs.Cmp.Lexicographic.{pointwise}
 use Rattle.plant_base.specs.Edges.{edge_eq}
 use Rattle.plant_base.specs.declared.rows.EdgeRow.{EdgeRow}
 use Rattle.plant_base.specs.declared.rows.Movement.{Movement}
+use Rattle.plant_base.specs.declared.rows.Recall.{Recall}
 use Rattle.plant_trace.specs.Reach.{leads}
 use Rattle.plant_trace.specs.declared.node.Node.{Node}
 use Rattle.plant_view.specs.Genealogy.{edges_among}
@@ -14,16 +15,20 @@ use Rattle.plant_check_plans.specs.Recipes.{are_recipes}
 use Rattle.plant_check_plans.specs.Orders.{are_orders}
 use Rattle.plant_check_plans.specs.Batches.{are_batches}
 use Rattle.plant_check_plans.specs.Events.{are_events}
+use Rattle.plant_check_stock.specs.Marks.{are_marks}
 use Rattle.plant_check_stock.specs.Movements.{are_movements}
 use Rattle.plant_check_stock.specs.Numbering.{are_numbers}
+use Rattle.plant_check_stock.specs.Recalls.{are_recalls}
 use Rattle.plant_check_stock.specs.Receipts.{are_receipts}
 use Rattle.plant_check_stock.specs.Times.{are_times}
 use Rattle.plant_tables_stored.specs.Loading.{contents_loaded}
 use Rattle.plant_tables_stored.specs.declared.loaded.Loaded.{Loaded}
 use Rattle.plant_tables_columns.specs.Booked.{movement_from}
+use Rattle.plant_tables_columns.specs.Stated.{recall_from}
 use Rattle.plant_tables_judged.specs.Collecting.{Rows, rows_from}
 use Rattle.plant_tables_columns.specs.TableColumns.{only_meta}
 use Rattle.plant_tables_columns.specs.declared.booked.BookedRow.{BookedRow}
+use Rattle.plant_tables_columns.specs.declared.recalls.StatedRecall.{StatedRecall}
 use Rattle.plant_check.specs.Ends.{are_stocks}
 use Rattle.plant_check.specs.Lots.{are_lots}
 use Rattle.plant_check.specs.declared.rule.Rule.{Rule}
@@ -93,9 +98,27 @@ broken_history r =
 unfoldable pub broken_receipt : Rows → Option Rule
 broken_receipt r = unless (are_receipts r.meta.position.seq r.receipts) rule.Receipts None
 
+-- each row has the columns of a lifting that its state asks for
+abbrev pub are_fitting : List StatedRecall → Bool
+are_fitting rows = list_all (λ r. is_some (recall_from r)) rows
+
+abbrev pub recalls_told : List StatedRecall → List Recall
+recalls_told rows = filter_map recall_from rows
+
+-- the recalls' lots are there and their moments fit, and the marks are those of what the open ones reach
+abbrev pub are_kept_recalls : Rows → List Recall → List Movement → Bool
+are_kept_recalls r recalls ms = are_recalls r.meta.position.at r.lots recalls && are_marks recalls ms r.marks
+
+abbrev pub are_right_recalls : Rows → Bool
+are_right_recalls r = are_fitting r.recalls && are_kept_recalls r (recalls_told r.recalls) (movements_in r.movements)
+
+-- the one on recalls, where it is broken
+unfoldable pub broken_recall : Rows → Option Rule
+broken_recall r = unless (are_right_recalls r) rule.Recalls None
+
 -- the first rule that rows break whose values obey theirs
 unfoldable pub first_broken_of : Rows → Option Rule
-first_broken_of r = or_else (broken_plan r) (or_else (broken_lot r) (or_else (broken_history r) (broken_receipt r)))
+first_broken_of r = or_else (broken_plan r) (or_else (broken_lot r) (or_else (broken_history r) (or_else (broken_receipt r) (broken_recall r))))
 
 abbrev pub broken_rows : Option Rows → Option Rule
 broken_rows None = Some rule.Values

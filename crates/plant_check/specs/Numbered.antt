@@ -17,3 +17,4 @@ rule_number rule.Events = 10
 rule_number rule.Numbers = 11
 rule_number rule.Descent = 12
 rule_number rule.Receipts = 13
+rule_number rule.Recalls = 14

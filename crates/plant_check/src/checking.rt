@@ -2,16 +2,20 @@ ghost use Rattle.std.specs.Prelude.{◌≡◌, IfOk};
 ghost use Rattle.plant_tables_judged.specs.Collecting.{rows_listed};
 ghost use Rattle.plant_check.specs.Broken.{broken_plan, broken_lot, broken_history, are_right_movements};
 ghost use Rattle.plant_check.specs.Broken.{are_right_numbers, are_right_edges, broken_receipt};
+ghost use Rattle.plant_check.specs.Broken.{are_kept_recalls, are_right_recalls, broken_recall};
 ghost use Rattle.plant_check.specs.Broken.{first_broken, first_broken_of};
 
 use crate::edges::are_kept_edges;
 use crate::ends::are_stocks;
 use crate::history::{are_acyclic, are_whole, movements_in};
 use crate::lots::are_lots;
+use crate::recalls::{are_fitting, recalls_told};
 use crate::rule::Rule;
-use plant_base::Movement;
+use plant_base::{Movement, Recall};
 use plant_check_plans::{are_batches, are_classified, are_events, are_orders, are_recipes};
-use plant_check_stock::{are_movements, are_numbers, are_receipts, are_times};
+use plant_check_stock::{
+    are_marks, are_movements, are_numbers, are_recalls, are_receipts, are_times,
+};
 use plant_tables_judged::{DeskRows, has_meta, rows_of};
 use plant_tables_stored::Loaded;
 use std::alloc::{AllocError, Global};
@@ -45,7 +49,10 @@ pub fn check_rows(alloc: Global, rows: &DeskRows) -> Result<Option<Rule>, AllocE
     if let Some(rule) = broken_history(alloc, rows)? {
         return Ok(Some(rule));
     }
-    broken_receipt(alloc, rows)
+    if let Some(rule) = broken_receipt(alloc, rows)? {
+        return Ok(Some(rule));
+    }
+    broken_recall(alloc, rows)
 }
 
 #[tactic(auto, unfolding(plant_tables_judged::specs::Collecting::rows_listed, crate::specs::Broken::broken_plan))]
@@ -189,4 +196,42 @@ fn broken_receipt(alloc: Global, rows: &DeskRows) -> Result<Option<Rule>, AllocE
         return Ok(Some(Rule::Receipts));
     }
     Ok(None)
+}
+
+#[tactic(auto, unfolding(plant_tables_judged::specs::Collecting::rows_listed, crate::specs::Broken::broken_recall))]
+fn broken_recall(alloc: Global, rows: &DeskRows) -> Result<Option<Rule>, AllocError>
+    ensures { IfOk result (λ broken. broken ≡ broken_recall (rows_listed rows.now)) }
+{
+    if !are_right_recalls(alloc, rows)? {
+        return Ok(Some(Rule::Recalls));
+    }
+    Ok(None)
+}
+
+#[tactic(auto, unfolding(plant_tables_judged::specs::Collecting::rows_listed))]
+fn are_right_recalls(alloc: Global, rows: &DeskRows) -> Result<bool, AllocError>
+    ensures { IfOk result (λ b. b ≡ are_right_recalls (rows_listed rows.now)) }
+{
+    let stated = rows.recalls.as_slice();
+    if !are_fitting(stated) {
+        return Ok(false);
+    }
+    let recalls = recalls_told(alloc, stated)?;
+    let movements = movements_in(alloc, rows.movements.as_slice())?;
+    are_kept_recalls(alloc, rows, recalls.as_slice(), movements.as_slice())
+}
+
+#[tactic(auto, unfolding(plant_tables_judged::specs::Collecting::rows_listed))]
+fn are_kept_recalls(
+    alloc: Global,
+    rows: &DeskRows,
+    recalls: &[Recall],
+    movements: &[Movement],
+) -> Result<bool, AllocError>
+    ensures { IfOk result (λ b. b ≡ are_kept_recalls (rows_listed rows.now) recalls.now movements.now) }
+{
+    if !are_recalls(alloc, rows.meta.position.at, rows.lots.as_slice(), recalls)? {
+        return Ok(false);
+    }
+    are_marks(alloc, recalls, movements, rows.marks.as_slice())
 }

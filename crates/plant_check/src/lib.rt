@@ -6,6 +6,7 @@ mod edges;
 mod ends;
 mod history;
 mod lots;
+mod recalls;
 mod rule;
 
 pub use checking::{check, check_rows};

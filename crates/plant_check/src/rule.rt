@@ -33,10 +33,13 @@ pub enum Rule {
     Descent,
     /// Each receipt has a number of its own that was given, and its content is made of what contents are made of.
     Receipts,
+    /// Each recall's lot is there, its lifting fits its state and no moment of it is to come, and the marks that are
+    /// kept are those of what the open ones reach.
+    Recalls,
 }
 
 impl Rule {
-    /// Its number, 1 to 13.
+    /// Its number, 1 to 14.
     pub fn number(self) -> u8
         ensures { result ≡ rule_number self }
     {
@@ -54,6 +57,7 @@ impl Rule {
             Rule::Numbers => 11,
             Rule::Descent => 12,
             Rule::Receipts => 13,
+            Rule::Recalls => 14,
         }
     }
 }

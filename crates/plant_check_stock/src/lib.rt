@@ -1,15 +1,19 @@
-//! The rules that movements and receipts obey in tables that a desk has written, each as a test.
+//! The rules that movements, receipts and recalls obey in tables that a desk has written, each as a test.
 //!
 //! Each goes over its rows once, and looks the others up by their key.
 #![tactic(auto)]
 
 pub mod keys;
+mod marks;
 mod movements;
 mod numbering;
+mod recalls;
 mod receipts;
 mod times;
 
+pub use marks::are_marks;
 pub use movements::are_movements;
 pub use numbering::are_numbers;
+pub use recalls::are_recalls;
 pub use receipts::are_receipts;
 pub use times::are_times;

@@ -18,7 +18,7 @@ use Rattle.table_reads.specs.Ordered.{IsRising}
 use Rattle.plant_tables.specs.DeskForms.{desk_forms, forms_of}
 use Rattle.plant_tables.specs.DeskStopping.{IsUnopened}
 use Rattle.plant_tables.specs.Keyed.{HoldsTablesOf, HoldsTables}
-use Rattle.plant_view.specs.Tables.{Tables, tables_of, receipts_in}
+use Rattle.plant_view.specs.Tables.{Tables, tables_of, IsWholeIn}
 use Rattle.plant_good.specs.Good.{IsGood}
 use Rattle.plant_tables_stored.specs.Loading.{AreLoaded, AreRising, contents_loaded}
 use Rattle.plant_tables_stored.specs.Version.{IsVersion, IsKnown}
@@ -108,7 +108,7 @@ module _ (version : ℕ) (db : Database) (x : Loaded) (known : IsKnown version) 
       let holds : HoldsTablesOf version db (tables_of version s) =
       subst (λ k. HoldsTablesOf k db (tables_of k s)) fit.tells (unbroken_holds db x r unbroken (subst (λ k. StandIn (forms_of k) db (contents_loaded x)) (sym fit.tells) stands)) in
       let found = unbroken_good x r unbroken in
-      let whole : receipts_in version s.receipts ≡ s.receipts = subst (λ k. receipts_in k s.receipts ≡ s.receipts) fit.tells (sym (ap (λ (t : Tables). t.receipts) found.tables)) in
+      let whole : IsWholeIn version s = subst (λ k. IsWholeIn k s) fit.tells (sym (ap (λ (t : Tables). t.receipts) found.tables), sym (ap (λ (t : Tables). t.recalls) found.tables)) in
       let held : HoldsGood version db s = record { known = known; good = found.good; holds = holds; whole = whole } in
       (s, held, rows_of_good s rows held fit)
 
@@ -187,7 +187,7 @@ rises version old new s held cut = record {
         found.0,
         found.1,
         omega (arith, found.2, top),
-        record { good = held.good; schema = found.3.schema; holds = found.3.holds; whole = whole_on version found.0 s.receipts found.1 held.whole },
+        record { good = held.good; schema = found.3.schema; holds = found.3.holds; whole = whole_on version found.0 s found.1 held.whole },
       );
 }
 

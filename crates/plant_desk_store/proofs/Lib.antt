@@ -4,6 +4,7 @@ pub mod Fitting
 pub mod Judging
 pub mod Lasting
 pub mod Leaving
+pub mod Marked
 pub mod OneSchema
 pub mod Others
 pub mod Raising

@@ -68,7 +68,7 @@ module _ (old db : Database) (sound : IsDatabase db) where
       let stands = found_here raised.later (tables_of raised.later s) found.finds in
       let low : 1 ≤ raised.version = raised.stood.1.known.0 in
       let known : IsKnown raised.later = (omega (arith, low, raised.above), raised.known) in
-      let whole = whole_on raised.version raised.later s.receipts (omega (arith, raised.above)) here.whole in
+      let whole = whole_on raised.version raised.later s (omega (arith, raised.above)) here.whole in
       let there : HoldsGood raised.later db s = record { known = known; good = held.good; holds = stands.0; whole = whole } in
       (raised.later, omega (arith, one, raised.above), record { held = there; free = free_here raised.later (tables_of raised.later s) found }, stands.1)
 
@@ -83,7 +83,7 @@ pub opening_adopted : (old : Database) → IsDatabase old → AreFree desk_forms
 opening_adopted old was free db (sound, inl same) = inl (same_database old db was sound same)
 opening_adopted old was free db (sound, inr (inl made)) =
     let stands = found_here old db sound newest_schema (tables_of newest_schema opening) made.finds in
-    let held : HoldsGood newest_schema db opening = record { known = (omega arith, omega arith); good = opening_good; holds = stands.0; whole = refl } in
+    let held : HoldsGood newest_schema db opening = record { known = (omega arith, omega arith); good = opening_good; holds = stands.0; whole = (refl, refl) } in
     inr (record { held = held; free = none_later newest_schema db.schema refl }, stands.1)
 opening_adopted old was free db (sound, inr (inr raised)) = absurd (not_free raised.version old raised.stood.0 raised.stood.1 free)
 

@@ -59,7 +59,7 @@ leaves_at new s good at clean laws = record {
       holds =
           let same : new.now.trees ≡ db = ap (λ (d : Database). d.trees) at.settled.shows ∙ sym (at.settled.nothing_else db left) in
           subst (λ (trees : Trees). HoldsTables (record { schema = new.now.schema; trees = trees }) (tables_of newest_schema s)) same at.holds;
-      whole = refl;
+      whole = (refl, refl);
     },
   );
 }
@@ -68,7 +68,7 @@ pub open_at : (new : store.State) (s : State) → IsGood s → IsAt new (tables_
 open_at new s good at clean laws = record { stands = record { good = good; shows = λ live. at }; leaves = leaves_at new s good at clean laws }
 
 found_in : (old : Database) (db : Trees) (s : State) → IsGood s → Finds old db (tables_of newest_schema s) → FindsState db s
-found_in old db s good finds = record { good = good; schema = finds.schema; holds = finds.holds; whole = refl }
+found_in old db s good finds = record { good = good; schema = finds.schema; holds = finds.holds; whole = (refl, refl) }
 
 pub cut_at : (old new : store.State) (s next : State) → IsGood s → IsGood next → IsCutShort old new (tables_of newest_schema s) (tables_of newest_schema next)
     → StandsAt new s × Leaves new (λ u. (u ≡ s) ⊎ (u ≡ next))

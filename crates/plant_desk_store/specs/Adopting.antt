@@ -5,7 +5,7 @@ use Rattle.sqlite.specs.Effect.{Database}
 use Rattle.sqlite.specs.State as store
 use Rattle.sqlite.specs.State.{HasCleanDisk}
 use Rattle.plant_base.specs.State.{State, opening, newest_schema}
-use Rattle.plant_view.specs.Tables.{tables_of, receipts_in}
+use Rattle.plant_view.specs.Tables.{tables_of, IsWholeIn}
 use Rattle.plant_good.specs.Good.{IsGood}
 use Rattle.table_forms.specs.Standing.{AreFree, IsFree}
 use Rattle.table_forms.specs.Resting.{Keeps}
@@ -31,7 +31,7 @@ pub record HoldsGood (version : ℕ) (db : Database) (s : State) : Type 0 where
   pub known : IsKnown version
   pub good : IsGood s
   pub holds : HoldsTablesOf version db (tables_of version s)
-  pub whole : receipts_in version s.receipts ≡ s.receipts
+  pub whole : IsWholeIn version s
 
 -- the store had none of the desk's tables, and the desk stands at the opening state; or it had those of a good state, of
 -- some version, and the desk stands there

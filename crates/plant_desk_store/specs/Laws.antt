@@ -1,10 +1,18 @@
 -- What follows from where a desk stands, and from what an adoption leaves.
-use Rattle.std.specs.Prelude.{◌≡◌, ◌⊎◌, ◌≤◌, ℕ, All}
+use Rattle.std.specs.Prelude.{◌≡◌, ◌⊎◌, ◌↔◌, ◌≤◌, ℕ, All, List, map, Contains}
+use Rattle.std.specs.List.Sorted.{IsStrictlySortedBy}
 use Rattle.sqlite.specs.Tree.{Trees}
 use Rattle.sqlite.specs.Effect.{Database, IsDatabase}
+use Rattle.plant_base.specs.Recalls.{mark_order}
 use Rattle.plant_base.specs.State.{State, opening, newest_schema}
-use Rattle.table_forms.specs.Standing.{AreFree, IsFree, KeepsOthers}
-use Rattle.plant_tables.specs.DeskForms.{desk_forms, later_forms}
+use Rattle.plant_base.specs.declared.rows.Mark.{Mark}
+use Rattle.plant_view.specs.Genealogy.{edges_of}
+use Rattle.plant_view.specs.Recalls.{Reaches, node_of}
+use Rattle.plant_view.specs.Tables.{tables_of}
+use Rattle.table_forms.specs.Standing.{AreFree, IsFree, KeepsOthers, Stands}
+use Rattle.plant_tables_columns.specs.TableColumns.{row_of_mark}
+use Rattle.plant_tables.specs.DeskForms.{desk_forms, later_forms, mark_form}
+use Rattle.plant_tables.specs.Keyed.{HoldsTables}
 use Rattle.plant_tables_stored.specs.Version.{IsKnown}
 use Rattle.plant_desk_store.specs.Adopting.{HoldsGood, IsAdopted, IsRefusedBy}
 use Rattle.plant_desk_store.specs.Standing.{FindsStateOf}
@@ -44,3 +52,16 @@ OpeningIsAdopted = (old : Database) → IsDatabase old → AreFree desk_forms ol
 -- Where they weren't free and no good state stood in a known version, nothing was changed.
 abbrev pub OthersAreSpared : Type 0
 OthersAreSpared = (old : Database) → IsDatabase old → (AreFree desk_forms old.schema → ⊥) → ((version : ℕ) (s : State) → ¬ HoldsGood version old s) → (db : Database) → IsOpenedAfter old db → db ≡ old
+
+-- ---- marks
+
+-- The rows of table mark are just the pairs of an open recall and a lot or batch that it reaches, each once.
+pub record HasMarks (db : Database) (s : State) : Type 0 where
+  pub rows : List Mark
+  pub stands : Stands db mark_form (map row_of_mark rows)
+  pub once : IsStrictlySortedBy mark_order rows
+  pub pairs : (m : Mark) → Contains rows m ↔ Reaches s.recalls (edges_of s) m.recall (node_of m)
+
+-- So it is in each database that holds the tables of a state.
+abbrev pub MarksAreReached : Type 0
+MarksAreReached = (db : Database) (s : State) → HoldsTables db (tables_of newest_schema s) → HasMarks db s

@@ -7,7 +7,7 @@ use Rattle.sqlite.specs.State as store
 use Rattle.sqlite_catalog.specs.Listing.{IsSound}
 use Rattle.plant_base.specs.State.{State, newest_schema}
 use Rattle.plant_base.specs.declared.command.Envelope.{Envelope}
-use Rattle.plant_view.specs.Tables.{tables_of, receipts_in}
+use Rattle.plant_view.specs.Tables.{tables_of, IsWholeIn}
 use Rattle.plant_rules.specs.Step.{step}
 use Rattle.plant_good.specs.Good.{IsGood}
 use Rattle.table_forms.specs.Standing.{KeepsOthers}
@@ -30,7 +30,7 @@ pub record FindsStateOf (version : ℕ) (trees : Trees) (s : State) : Type 0 whe
   pub good : IsGood s
   pub schema : Schema
   pub holds : HoldsTablesOf version (record { schema = schema; trees = trees }) (tables_of version s)
-  pub whole : receipts_in version s.receipts ≡ s.receipts
+  pub whole : IsWholeIn version s
 
 -- those of the newest
 abbrev pub FindsState : Trees → State → Type 0

@@ -16,7 +16,10 @@ ghost use Rattle.plant_desk_store.specs.Looking.{IsDecidedAt, IsRepeat};
 ghost use Rattle.plant_desk_store.specs.Standing.{StandsAt, Leaves, IsOpenAt, Executed, OthersStand};
 
 use crate::looking::{Decided, decide_on};
-use plant_base::{ControlLine, Envelope, MasterLine, Movement, MovementKind, RecipeLine};
+use plant_base::{
+    ControlLine, Envelope, Lifting, Mark, MarkKind, MasterLine, Movement, MovementKind, Recall,
+    RecipeLine,
+};
 use plant_desk::{DeskFault, Reply};
 use plant_tables::commit_changes;
 use plant_view::{Decision, RowChange};
@@ -89,6 +92,7 @@ fn execute_decided<S: Alter>(
 {
     // The checker can't follow row changes, unless the function names these types.
     let _: Option<(RecipeLine, MasterLine, ControlLine, Movement, MovementKind)> = None;
+    let _: Option<(Lifting, Recall, Mark, MarkKind)> = None;
     envelope.show_values();
     let Decided { seq, decision } = decided;
     match decision {

@@ -2,6 +2,7 @@
 
 ghost use Rattle.plant_desk_store.specs.Laws.{StopsAreReopened, GoodIsUnrefused};
 ghost use Rattle.plant_desk_store.specs.Laws.{GoodIsAdoptedAgain, OpeningIsAdopted, OthersAreSpared};
+ghost use Rattle.plant_desk_store.specs.Laws.{MarksAreReached};
 
 /// What follows from the clauses of a desk, as laws about their words; the function itself does nothing.
 ///
@@ -9,6 +10,8 @@ ghost use Rattle.plant_desk_store.specs.Laws.{GoodIsAdoptedAgain, OpeningIsAdopt
 /// there, in the same schema. So the states that a clause names as those that a stop leaves are those at which a desk is
 /// adopted again.
 /// `unrefused`: the tables of a good state are refused by a fault of the store or for want of memory, and for nothing else.
+/// `marks`: wherever the tables of a state stand, the rows of table mark are just the pairs of an open recall and a lot or
+/// batch that it reaches: the recalled lot, and what one or more edges lead to from it.
 ///
 /// The others are of what an adoption leaves (`crash` of `Desk::adopt`), whatever it answers, once it is opened again.
 /// `adopted_again`: where a good state could be adopted, its tables stand there, in the same schema or a later one, and it
@@ -19,6 +22,7 @@ ghost use Rattle.plant_desk_store.specs.Laws.{GoodIsAdoptedAgain, OpeningIsAdopt
 pub fn desk_laws()
     ensures reopened { StopsAreReopened }
     ensures unrefused { GoodIsUnrefused }
+    ensures marks { MarksAreReached }
     ensures adopted_again { GoodIsAdoptedAgain }
     ensures opening_adopted { OpeningIsAdopted }
     ensures others_spared { OthersAreSpared }

@@ -15,4 +15,5 @@ pub mod Movements
 pub mod Numbers
 pub mod Moments
 pub mod Receipts
+pub mod Recalls
 pub mod Restored

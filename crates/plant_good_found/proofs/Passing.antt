@@ -7,12 +7,14 @@ use Rattle.plant_check_plans.specs.Recipes.{are_recipes}
 use Rattle.plant_check_plans.specs.Orders.{are_orders}
 use Rattle.plant_check_plans.specs.Batches.{are_batches}
 use Rattle.plant_check_plans.specs.Events.{are_events}
+use Rattle.plant_check_stock.specs.Marks.{are_marks}
 use Rattle.plant_check_stock.specs.Movements.{are_movements}
 use Rattle.plant_check_stock.specs.Numbering.{are_numbers}
+use Rattle.plant_check_stock.specs.Recalls.{are_recalls}
 use Rattle.plant_check_stock.specs.Receipts.{are_receipts}
 use Rattle.plant_check_stock.specs.Times.{are_times}
 use Rattle.plant_tables_judged.specs.Collecting.{Rows}
-use Rattle.plant_check.specs.Broken.{unless, or_else, are_whole, movements_in, are_acyclic, are_kept_edges, are_right_edges, broken_plan, broken_lot, broken_history, broken_receipt, are_right_movements, are_right_numbers, first_broken_of}
+use Rattle.plant_check.specs.Broken.{unless, or_else, are_whole, movements_in, are_acyclic, are_kept_edges, are_right_edges, broken_plan, broken_lot, broken_history, broken_receipt, are_fitting, recalls_told, are_kept_recalls, are_right_recalls, broken_recall, are_right_movements, are_right_numbers, first_broken_of}
 use Rattle.plant_check.specs.Ends.{are_stocks}
 use Rattle.plant_check.specs.Lots.{are_lots}
 use Rattle.plant_check.specs.declared.rule.Rule.{Rule}
@@ -32,6 +34,9 @@ pub record PassesAll (r : Rows) : Type 0 where
   pub descent : are_acyclic (edges_among (movements_in r.movements)) ≡ true
   pub edges : are_kept_edges r.meta.schema r.edges (movements_in r.movements) ≡ true
   pub receipts : are_receipts r.meta.position.seq r.receipts ≡ true
+  pub fitting : are_fitting r.recalls ≡ true
+  pub recalls : are_recalls r.meta.position.at r.lots (recalls_told r.recalls) ≡ true
+  pub marks : are_marks (recalls_told r.recalls) (movements_in r.movements) r.marks ≡ true
 
 pub obeyed : (b : Bool) (r : Rule) (rest : Option Rule) → unless b r rest ≡ None → (b ≡ true) × (rest ≡ None)
 obeyed true r rest e = (refl, e)
@@ -42,11 +47,13 @@ neither None rest e = (refl, e)
 neither (Some r) rest e = absurd (cc)
 
 pub passes_all : (r : Rows) → first_broken_of r ≡ None → PassesAll r
-unfolding first_broken_of broken_plan broken_lot broken_history broken_receipt
+unfolding first_broken_of broken_plan broken_lot broken_history broken_receipt broken_recall
 passes_all r none =
-    let plan = neither (broken_plan r) (or_else (broken_lot r) (or_else (broken_history r) (broken_receipt r))) none in
-    let stock = neither (broken_lot r) (or_else (broken_history r) (broken_receipt r)) plan.1 in
-    let history = neither (broken_history r) (broken_receipt r) stock.1 in
+    let kept = or_else (broken_receipt r) (broken_recall r) in
+    let plan = neither (broken_plan r) (or_else (broken_lot r) (or_else (broken_history r) kept)) none in
+    let stock = neither (broken_lot r) (or_else (broken_history r) kept) plan.1 in
+    let history = neither (broken_history r) kept stock.1 in
+    let receipt = neither (broken_receipt r) (broken_recall r) history.1 in
     let p1 = obeyed (are_classified r.classes r.definitions) _ _ plan.0 in
     let p2 = obeyed (are_recipes r.definitions r.recipes r.master_lines) _ _ p1.1 in
     let p3 = obeyed (are_orders r.recipes r.batches r.jobs) _ _ p2.1 in
@@ -57,7 +64,9 @@ passes_all r none =
     let h2 = obeyed (are_events r.control_lines r.events r.batches) _ _ h1.1 in
     let h3 = obeyed (are_right_numbers r (movements_in r.movements)) _ _ h2.1 in
     let h4 = obeyed (are_right_edges r (movements_in r.movements)) _ _ h3.1 in
-    let r1 = obeyed (are_receipts r.meta.position.seq r.receipts) _ _ history.1 in
+    let r1 = obeyed (are_receipts r.meta.position.seq r.receipts) _ _ receipt.0 in
+    let r2 = obeyed (are_right_recalls r) _ _ receipt.1 in
+    let right = and_right (are_fitting r.recalls) (are_kept_recalls r (recalls_told r.recalls) (movements_in r.movements)) r2.0 in
     record {
       classes = p1.0;
       recipes = p2.0;
@@ -73,4 +82,7 @@ passes_all r none =
       descent = and_left (are_acyclic (edges_among (movements_in r.movements))) _ h4.0;
       edges = and_right (are_acyclic (edges_among (movements_in r.movements))) _ h4.0;
       receipts = r1.0;
+      fitting = and_left (are_fitting r.recalls) _ r2.0;
+      recalls = and_left (are_recalls r.meta.position.at r.lots (recalls_told r.recalls)) _ right;
+      marks = and_right (are_recalls r.meta.position.at r.lots (recalls_told r.recalls)) _ right;
     }

@@ -5,11 +5,12 @@ use Rattle.std.specs.Prelude.{if◌then◌else◌}
 use Rattle.plant_base.specs.Values.{greatest_sublot}
 use Rattle.std.specs.List.Sorted.{IsStrictlySortedBy}
 use Rattle.plant_base.specs.Edges.{edge_order}
+use Rattle.plant_base.specs.Recalls.{mark_order}
 use Rattle.plant_base.specs.State.{batch_order, place_order}
 use Rattle.plant_base.specs.declared.rows.Place.{Place}
-use Rattle.plant_base.specs.declared.rows.Receipt.{Receipt}
 use Rattle.plant_base.proofs.Put.{all_weaker}
 use Rattle.plant_view.specs.Genealogy.{edges_among}
+use Rattle.plant_view.specs.Recalls.{recalls_in, marks_in}
 use Rattle.plant_view.specs.Sound.{IsSound}
 use Rattle.plant_view.specs.Tables.{tables_of, edges_in, receipts_in, place_of_row, batch_of_row}
 use Rattle.plant_view.proofs.Rows.{all_mapped, each_passes, sorted_mapped}
@@ -19,11 +20,12 @@ use Rattle.table_forms.specs.Standing.{Stands}
 use Rattle.plant_tables.specs.DeskTables.{contents_of}
 use Rattle.plant_tables_stored.specs.Loading.{contents_loaded}
 use Rattle.plant_tables_columns.specs.Booked.{movement_from, booked_of}
+use Rattle.plant_tables_columns.specs.Stated.{recall_from}
 use Rattle.plant_tables_judged.specs.Collecting.{Rows, rows_from, tables_in, AreWhole, AreInOrder}
 use Rattle.plant_tables_columns.specs.TableColumns.{only_meta}
 use Rattle.plant_tables_columns.specs.declared.booked.BookedRow.{BookedRow}
 use Rattle.plant_tables_judged.proofs.StandLemmas.{are_stored, stands_for}
-use Rattle.plant_check.specs.Broken.{movements_in, broken_rows, first_broken_of, first_broken}
+use Rattle.plant_check.specs.Broken.{movements_in, recalls_told, broken_rows, first_broken_of, first_broken}
 use Rattle.plant_check.specs.Ends.{are_stocks}
 use Rattle.plant_check.specs.Lots.{are_lots}
 use Rattle.plant_check.proofs.Cycles.{to_acyclic}
@@ -42,8 +44,9 @@ use Rattle.plant_good_found.proofs.Orders.{sound_orders}
 use Rattle.plant_good_found.proofs.Passing.{PassesAll, obeyed, passes_all}
 use Rattle.plant_good_found.proofs.Recipes.{sound_recipes}
 use Rattle.plant_good_found.proofs.Recipes as recipes
+use Rattle.plant_good_found.proofs.Recalls.{good_recalls, sorted_marks, kept_marks}
 use Rattle.plant_good_found.proofs.Receipts.{contents_there, good_receipts}
-use Rattle.plant_good_found.proofs.Rising.{in_order, receipts_none}
+use Rattle.plant_good_found.proofs.Rising.{in_order, receipts_none, recalls_none}
 use Rattle.plant_tables_columns.proofs.TableLaws.{HasBookedColumns}
 use Rattle.plant_good_found.proofs.Values.{HaveValues, HasSublotValues, have_values}
 
@@ -68,6 +71,7 @@ module _ (r : Rows) (p : PassesAll r) where
     movement_lines = subst (AllByRecursion (λ (m : BookedRow). 1 ≤ m.line)) (sym booked) (all_mapped (λ (m : BookedRow). 1 ≤ m.line) booked_of (movements_in r.movements) (numbers.lines_numbered r.meta.position.seq r.events (movements_in r.movements) p.numbers));
     movements = whole_movements;
     contents = contents_there r.meta.position.seq r.receipts p.receipts;
+    recalls = each_passes (λ q. is_some (recall_from q)) r.recalls p.fitting;
   }
 
   module _ (v : HaveValues r) where
@@ -97,6 +101,7 @@ module _ (r : Rows) (p : PassesAll r) where
         lots = o.keyed.lots;
         places = sorted_mapped place_order place_of_row r.sublots o.keyed.sublots;
         holds = o.keyed.holds;
+        recalls_sorted = o.keyed.recalls;
         classified = classes_found r.classes r.definitions p.classes;
         defined = lots_defined r.definitions r.lots r.sublots r.holds (movements_in r.movements) lots;
         housed = sublots_housed r.definitions r.lots r.sublots r.holds (movements_in r.movements) lots;
@@ -123,6 +128,7 @@ module _ (r : Rows) (p : PassesAll r) where
         numbers = numbers.sound_numbers r.meta.position.seq r.events (movements_in r.movements) p.numbers o.movements o.events (λ m h. (tested_movement r p.movements m h).merge);
         moments = sound_moments r.meta.position.at (movements_in r.movements) r.events r.batches r.holds p.times;
         receipts = good_receipts r.meta.position.seq r.receipts o.keyed.receipts v.receipts p.receipts;
+        recalls = good_recalls r.meta.position.at r.lots r.recalls v.recalls p.recalls;
       }
 
   -- the edges are those of the movements
@@ -132,14 +138,18 @@ module _ (r : Rows) (p : PassesAll r) where
   sorted_edges : IsStrictlySortedBy edge_order r.edges
   sorted_edges = subst (IsStrictlySortedBy edge_order) (sym edges) (edges_sorted r.meta.schema (movements_in r.movements))
 
-  same_tables : r.receipts ≡ receipts_in r.meta.schema r.receipts → tables_in r ≡ tables_of r.meta.schema (state_in r)
-  same_tables receipts =
+  marks_rise : IsStrictlySortedBy mark_order r.marks
+  marks_rise = sorted_marks (recalls_told r.recalls) (movements_in r.movements) r.marks p.marks
+
+  same_tables : r.receipts ≡ receipts_in r.meta.schema r.receipts → recalls_told r.recalls ≡ recalls_in r.meta.schema (recalls_told r.recalls) → r.marks ≡ marks_in r.meta.schema (recalls_told r.recalls) (movements_in r.movements)
+      → tables_in r ≡ tables_of r.meta.schema (state_in r)
+  same_tables receipts recalls marks =
       let batches = same_batches r.recipes r.master_lines r.jobs r.batches r.control_lines r.events p.batches p.orders p.events in
       let sublots = same_sublots r p.movements stocks in
-      λ i. record (tables_in r) { batches = sym batches i; sublots = sym sublots i; edges = edges i; receipts = receipts i }
+      λ i. record (tables_in r) { batches = sym batches i; sublots = sym sublots i; edges = edges i; receipts = receipts i; recalls = recalls i; marks = marks i }
 
--- receipts that a schema keeps, or none
-kept_in : (keeps : Bool) (rs : List Receipt) → (keeps ≡ false → rs ≡ []) → rs ≡ (if keeps then rs else [])
+-- rows that a schema keeps, or none
+kept_in : {R : Type 0} (keeps : Bool) (rs : List R) → (keeps ≡ false → rs ≡ []) → rs ≡ (if keeps then rs else [])
 kept_in true rs none = refl
 kept_in false rs none = none refl
 
@@ -148,10 +158,15 @@ unbroken_good x r u =
     let p = passes_all r u.unbroken in
     let w = whole r p in
     let stored = are_stored x r u.read w in
+    let schema = r.meta.schema in
+    let recalls = recalls_told r.recalls in
+    let no_receipts = receipts_none schema x r.receipts u.rising stored.receipts in
+    let no_recalls = recalls_none schema x recalls u.rising stored.recalls in
     record {
-      good = good r p (have_values x r u.read) (in_order r.meta.schema x r u.rising u.read w (sorted_edges r p));
+      good = good r p (have_values x r u.read) (in_order schema x r u.rising u.read w (sorted_edges r p) (marks_rise r p));
       whole = w;
-      tables = same_tables r p (kept_in (nat_le 3 r.meta.schema) r.receipts (receipts_none r.meta.schema x r.receipts u.rising stored.receipts));
+      tables = same_tables r p (kept_in (nat_le 3 schema) r.receipts no_receipts) (kept_in (nat_le 4 schema) recalls no_recalls)
+          (kept_marks recalls (movements_in r.movements) r.marks p.marks (nat_le 4 schema) no_recalls);
     }
 
 pub unbroken_holds : UnbrokenHolds

@@ -1,24 +1,25 @@
 -- The rows that were read stand in the order of their keys.
-use Rattle.std.proofs.Common.{◌≡◌, ◌∙◌, ℕ, nat_le, List, [], ◌∷◌, map, Bool, true, false, Some, None, inl, inr, refl, sym, subst}
+use Rattle.std.proofs.Common.{◌≡◌, ◌∙◌, ℕ, nat_le, List, [], ◌∷◌, map, Bool, true, false, Some, None, refl, sym, subst}
 use Rattle.std.specs.Prelude.{slice_get}
-use Rattle.std.proofs.lemmas.Bool.{cases_Bool}
 use Rattle.std.specs.List.{AllByRecursion}
 use Rattle.std.specs.List.Sorted.{IsStrictlySortedBy}
 use Rattle.std.specs.declared.cmp.Ordering.{Ordering}
 use Rattle.std.specs.declared.cmp.Ordering.TheVariants.{Less}
 use Rattle.sqlite.specs.Order.{Row}
 use Rattle.plant_base.specs.Edges.{edge_order}
+use Rattle.plant_base.specs.Recalls.{mark_order}
+use Rattle.plant_base.specs.declared.rows.Recall.{Recall}
 use Rattle.plant_base.specs.declared.rows.Receipt.{Receipt}
-use Rattle.plant_base.specs.State.{class_order, definition_order, recipe_order, master_line_order, job_order, control_line_order, lot_order, hold_order, receipt_order, event_order, movement_order}
+use Rattle.plant_base.specs.State.{class_order, definition_order, recipe_order, master_line_order, job_order, control_line_order, lot_order, hold_order, receipt_order, recall_order, event_order, movement_order}
 use Rattle.plant_view.specs.Tables.{batch_row_order, sublot_order}
 use Rattle.table_reads.specs.Rises.{Rises}
-use Rattle.plant_tables_columns.specs.TableColumns.{row_of_class, row_of_definition, row_of_recipe, row_of_master_line, row_of_job, row_of_batch, row_of_control_line, row_of_event, row_of_lot, row_of_sublot, row_of_movement, row_of_hold, row_of_receipt}
+use Rattle.plant_tables_columns.specs.TableColumns.{row_of_class, row_of_definition, row_of_recipe, row_of_master_line, row_of_job, row_of_batch, row_of_control_line, row_of_event, row_of_lot, row_of_sublot, row_of_movement, row_of_hold, row_of_receipt, row_of_recall}
 use Rattle.table_forms.specs.Forms.{Form}
 use Rattle.table_reads.specs.Keys.{key_order, comes_before}
 use Rattle.table_reads.specs.Selects.{first_of}
 use Rattle.table_reads.proofs.KeyOrder.{key_total}
-use Rattle.plant_tables.specs.DeskForms.{class_form, definition_form, recipe_form, recipe_line_form, job_form, batch_form, control_line_form, batch_event_form, lot_form, sublot_form, movement_form, hold_form, receipt_form, forms_of}
-use Rattle.plant_tables.proofs.DeskMoves.{receipt_place}
+use Rattle.plant_tables.specs.DeskForms.{class_form, definition_form, recipe_form, recipe_line_form, job_form, batch_form, control_line_form, batch_event_form, lot_form, sublot_form, movement_form, hold_form, receipt_form, recall_form, forms_of}
+use Rattle.plant_tables.proofs.DeskMoves.{receipt_place, recall_place, no_receipt_place, no_recall_place}
 use Rattle.plant_tables_stored.specs.Loading.{AreRising, contents_loaded}
 use Rattle.plant_tables_stored.specs.declared.loaded.Loaded.{Loaded}
 use Rattle.plant_tables_judged.specs.Collecting.{Rows, rows_from, tables_in, AreWhole, AreInOrder}
@@ -47,29 +48,34 @@ module _ {R : Type 0} (written : R → Row) (form : Form) (order : R → R → O
       let rising : IsStrictlySortedBy keys rows = subst (IsStrictlySortedBy keys) (map_same rows) (strictly_sorted (λ row. row) (comes_before form) keys (key_total (first_of form.keys)) (λ a b. refl) rows rise) in
       rows_rise written order keys by_key rs (subst (IsStrictlySortedBy keys) same rising)
 
--- ---- receipts
+-- ---- tables that later schemas add
 
-no_place : (schema : ℕ) → nat_le 3 schema ≡ false → slice_get (forms_of schema) 14 ≡ None
-no_place schema below = elim (cases_Bool (nat_le 2 schema)) [ inl second ↦ rw (below, second) refl | inr first ↦ rw (below, first) refl ]
+none_stored : {R : Type 0} (written : R → Row) (rs : List R) → [] ≡ map written rs → rs ≡ []
+none_stored written [] e = refl
+none_stored written (r ∷ rs) e = absurd (cc)
 
-none_stored : (rs : List Receipt) → [] ≡ map row_of_receipt rs → rs ≡ []
-none_stored [] e = refl
-none_stored (r ∷ rs) e = absurd (cc)
+-- where a schema has no table there are no rows
+none_loaded : {R : Type 0} (written : R → Row) (schema : ℕ) (x : Loaded) (place : ℕ) (rs : List R) → AreRising schema x → slice_get (forms_of schema) place ≡ None → contents_loaded x place ≡ map written rs → rs ≡ []
+none_loaded written schema x place rs rising none stored = none_stored written rs (sym (rising.no_more place none) ∙ stored)
 
--- in a schema that keeps none there are none
 pub receipts_none : (schema : ℕ) (x : Loaded) (rs : List Receipt) → AreRising schema x → contents_loaded x 14 ≡ map row_of_receipt rs → nat_le 3 schema ≡ false → rs ≡ []
-receipts_none schema x rs rising stored below = none_stored rs (sym (rising.no_more 14 (no_place schema below)) ∙ stored)
+receipts_none schema x rs rising stored below = none_loaded row_of_receipt schema x 14 rs rising (no_receipt_place schema below) stored
 
-receipts_rise : (schema : ℕ) (x : Loaded) (rs : List Receipt) → AreRising schema x → contents_loaded x 14 ≡ map row_of_receipt rs → (keeps : Bool) → nat_le 3 schema ≡ keeps → IsStrictlySortedBy receipt_order rs
-unfolding IsStrictlySortedBy
-receipts_rise schema x rs rising stored true third =
-    table_rises row_of_receipt receipt_form receipt_order (λ a b. by_text a.reference b.reference) _ rs (rising.tables 14 receipt_form (receipt_place schema third)) stored
-receipts_rise schema x rs rising stored false below = subst (IsStrictlySortedBy receipt_order) (sym (receipts_none schema x rs rising stored below)) tt
+pub recalls_none : (schema : ℕ) (x : Loaded) (rs : List Recall) → AreRising schema x → contents_loaded x 15 ≡ map row_of_recall rs → nat_le 4 schema ≡ false → rs ≡ []
+recalls_none schema x rs rising stored below = none_loaded row_of_recall schema x 15 rs rising (no_recall_place schema below) stored
+
+-- the rows of a table that the schema has, or of one that it hasn't
+module _ {R : Type 0} (written : R → Row) (form : Form) (order : R → R → Ordering) (by_key : (a b : R) → order a b ≡ key_order (first_of form.keys) (written a) (written b)) where
+  added_rises : (schema : ℕ) (x : Loaded) (place : ℕ) (rs : List R) → AreRising schema x → contents_loaded x place ≡ map written rs
+      → (keeps : Bool) → (keeps ≡ true → slice_get (forms_of schema) place ≡ Some form) → (keeps ≡ false → rs ≡ []) → IsStrictlySortedBy order rs
+  unfolding IsStrictlySortedBy
+  added_rises schema x place rs rising stored true at none = table_rises written form order by_key (contents_loaded x place) rs (rising.tables place form (at refl)) stored
+  added_rises schema x place rs rising stored false at none = subst (IsStrictlySortedBy order) (sym (none refl)) tt
 
 -- ---- all tables
 
-pub in_order : (schema : ℕ) (x : Loaded) (r : Rows) → AreRising schema x → rows_from x ≡ Some r → AreWhole r → IsStrictlySortedBy edge_order r.edges → AreInOrder (tables_in r)
-in_order schema x r rising read whole edges =
+pub in_order : (schema : ℕ) (x : Loaded) (r : Rows) → AreRising schema x → rows_from x ≡ Some r → AreWhole r → IsStrictlySortedBy edge_order r.edges → IsStrictlySortedBy mark_order r.marks → AreInOrder (tables_in r)
+in_order schema x r rising read whole edges marks =
     let s = are_stored x r read whole in
     record {
       keyed = record {
@@ -84,7 +90,9 @@ in_order schema x r rising read whole edges =
         sublots = table_rises row_of_sublot sublot_form sublot_order (λ a b. by_text_number a.lot b.lot a.number b.number) _ r.sublots (rising.tables 10 sublot_form refl) s.sublots;
         holds = table_rises row_of_hold hold_form hold_order (λ a b. by_two_texts a.lot b.lot a.id b.id) _ r.holds (rising.tables 12 hold_form refl) s.holds;
         edges = edges;
-        receipts = receipts_rise schema x r.receipts rising s.receipts (nat_le 3 schema) refl;
+        receipts = added_rises row_of_receipt receipt_form receipt_order (λ a b. by_text a.reference b.reference) schema x 14 r.receipts rising s.receipts (nat_le 3 schema) (receipt_place schema) (receipts_none schema x r.receipts rising s.receipts);
+        recalls = added_rises row_of_recall recall_form recall_order (λ a b. by_text a.id b.id) schema x 15 (tables_in r).recalls rising s.recalls (nat_le 4 schema) (recall_place schema) (recalls_none schema x (tables_in r).recalls rising s.recalls);
+        marks = marks;
       };
       events = table_rises row_of_event batch_event_form event_order (λ a b. by_number a.seq b.seq) _ r.events (rising.tables 8 batch_event_form refl) s.events;
       movements = table_rises row_of_movement movement_form movement_order (λ a b. by_two_numbers a.seq b.seq a.line b.line) _ (tables_in r).movements (rising.tables 11 movement_form refl) s.movements;

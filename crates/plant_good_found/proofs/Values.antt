@@ -19,10 +19,10 @@ use Rattle.plant_tables_stored.specs.declared.loaded.Loaded.{Loaded}
 use Rattle.plant_tables_columns.specs.All.{all_from}
 use Rattle.plant_tables_columns.specs.TableColumns.{only_meta, receipt_from}
 use Rattle.plant_tables_columns.proofs.Options.{bound, some_same}
-use Rattle.plant_tables_columns.proofs.TableLaws.{HasBookedColumns}
-use Rattle.plant_tables_columns.proofs.RowLaws.{Reads, meta_reads, class_reads, definition_reads, recipe_reads, master_line_reads, job_reads, batch_reads, control_line_reads, event_reads, lot_reads, sublot_reads, booked_reads, hold_reads, receipt_reads}
-use Rattle.plant_tables_judged.specs.Collecting.{Rows, rows_joined, rows_from, masters_from, orders_from, stocks_from}
-use Rattle.plant_tables_judged.proofs.StandLemmas.{masters_back, orders_back, stocks_back}
+use Rattle.plant_tables_columns.proofs.TableLaws.{HasBookedColumns, HasStatedColumns}
+use Rattle.plant_tables_columns.proofs.RowLaws.{Reads, meta_reads, class_reads, definition_reads, recipe_reads, master_line_reads, job_reads, batch_reads, control_line_reads, event_reads, lot_reads, sublot_reads, booked_reads, hold_reads, receipt_reads, stated_reads}
+use Rattle.plant_tables_judged.specs.Collecting.{Rows, rows_joined, rows_from, masters_from, orders_from, stocks_from, recalls_from}
+use Rattle.plant_tables_judged.proofs.StandLemmas.{masters_back, orders_back, stocks_back, recalls_back}
 
 -- ---- in the words of good states
 
@@ -72,6 +72,7 @@ pub record HaveValues (r : Rows) : Type 0 where
   pub movements : AllByRecursion HasBookedColumns r.movements
   pub holds : AllByRecursion HasHoldValues r.holds
   pub receipts : AllByRecursion (λ (q : Receipt). is_id q.reference ≡ true) r.receipts
+  pub recalls : AllByRecursion HasStatedColumns r.recalls
 
 pub have_values : (x : Loaded) (r : Rows) → rows_from x ≡ Some r → HaveValues r
 unfolding rows_from
@@ -81,10 +82,12 @@ have_values x r h =
     let p3 = bound (orders_from x) _ r p2.2 in
     let p4 = bound (stocks_from x) _ r p3.2 in
     let p5 = bound (all_from receipt_from (contents_loaded x 14)) _ r p4.2 in
+    let p6 = bound (recalls_from x) _ r p5.2 in
     let m = masters_back x p2.0 p2.1 in
     let o = orders_back x p3.0 p3.1 in
     let s = stocks_back x p4.0 p4.1 in
-    subst HaveValues (some_same (rows_joined p1.0 p2.0 p3.0 p4.0 p5.0) r p5.2) (record {
+    let c = recalls_back x p6.0 p6.1 in
+    subst HaveValues (some_same (rows_joined p1.0 p2.0 p3.0 p4.0 p5.0 p6.0) r p6.2) (record {
       meta = only_meta_good (contents_loaded x 0) p1.0 p1.1;
       classes = all_good HasClassValues class_reads (λ r h. h) _ _ m.classes;
       definitions = all_good HasDefinitionValues definition_reads (λ r h. h) _ _ m.definitions;
@@ -99,4 +102,5 @@ have_values x r h =
       movements = all_good HasBookedColumns booked_reads (λ r h. h) _ _ s.movements;
       holds = all_good HasHoldValues hold_reads (λ r h. h) _ _ s.holds;
       receipts = all_good (λ (q : Receipt). is_id q.reference ≡ true) receipt_reads (λ r h. h.reference) _ _ p5.1;
+      recalls = all_good HasStatedColumns stated_reads (λ r h. h) _ _ c.recalls;
     })

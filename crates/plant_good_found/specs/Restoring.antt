@@ -11,6 +11,7 @@ use Rattle.plant_tables.specs.Keyed.{HoldsTablesOf}
 use Rattle.plant_tables_stored.specs.Loading.{AreRising, contents_loaded}
 use Rattle.plant_tables_stored.specs.declared.loaded.Loaded.{Loaded}
 use Rattle.plant_tables_columns.specs.Booked.{movement_from}
+use Rattle.plant_tables_columns.specs.Stated.{recall_from}
 use Rattle.plant_tables_judged.specs.Collecting.{Rows, rows_from, tables_in, AreWhole}
 use Rattle.plant_check.specs.Broken.{first_broken, first_broken_of}
 
@@ -32,6 +33,7 @@ state_in r = record {
   movements = filter_map movement_from r.movements;
   holds = r.holds;
   receipts = r.receipts;
+  recalls = filter_map recall_from r.recalls;
 }
 
 -- the rows are those of a good state's tables, in the schema that they tell

@@ -2,19 +2,23 @@
 use Rattle.std.proofs.Common.{ℕ, Bool, true, false, List, [], nat_le}
 use Rattle.std.specs.Prelude.{if◌then◌else◌}
 use Rattle.std.specs.List.Sorted.{IsStrictlySortedBy}
-use Rattle.plant_base.specs.State.{State, receipt_order}
-use Rattle.plant_base.specs.declared.rows.Receipt.{Receipt}
+use Rattle.std.specs.declared.cmp.Ordering.{Ordering}
+use Rattle.plant_base.specs.Recalls.{mark_order}
+use Rattle.plant_base.specs.State.{State, receipt_order, recall_order}
+use Rattle.plant_view.specs.Genealogy.{edges_of}
+use Rattle.plant_view.specs.Recalls.{marks}
 use Rattle.plant_view.specs.Tables.{tables_of, sublot_order, sublot_row, batch_row_order, batch_row}
 use Rattle.plant_view.proofs.EdgeRows.{edges_sorted}
+use Rattle.plant_view.proofs.MarkRows.{marks_sorted}
 use Rattle.plant_view.proofs.Rows.{sorted_mapped}
 use Rattle.plant_good.specs.Good.{IsGood}
 use Rattle.plant_tables.specs.Keyed.{AreKeyed}
 
--- the receipts, or none in a schema that keeps none
-receipts_sorted : (keeps : Bool) (rs : List Receipt) → IsStrictlySortedBy receipt_order rs → IsStrictlySortedBy receipt_order (if keeps then rs else [])
+-- the rows, or none in a schema that keeps none
+kept_sorted : {R : Type 0} (order : R → R → Ordering) (keeps : Bool) (rows : List R) → IsStrictlySortedBy order rows → IsStrictlySortedBy order (if keeps then rows else [])
 unfolding IsStrictlySortedBy
-receipts_sorted true rs sorted = sorted
-receipts_sorted false rs sorted = tt
+kept_sorted order true rows sorted = sorted
+kept_sorted order false rows sorted = tt
 
 pub keyed : (schema : ℕ) (s : State) → IsGood s → AreKeyed (tables_of schema s)
 keyed schema s good =
@@ -31,5 +35,7 @@ keyed schema s good =
       sublots = sorted_mapped sublot_order (sublot_row s.movements) s.places sound.places;
       holds = sound.holds;
       edges = edges_sorted schema s.movements;
-      receipts = receipts_sorted (nat_le 3 schema) s.receipts good.receipts.sorted;
+      receipts = kept_sorted receipt_order (nat_le 3 schema) s.receipts good.receipts.sorted;
+      recalls = kept_sorted recall_order (nat_le 4 schema) s.recalls sound.recalls_sorted;
+      marks = kept_sorted mark_order (nat_le 4 schema) (marks s.recalls (edges_of s)) (marks_sorted s.recalls (edges_of s));
     }

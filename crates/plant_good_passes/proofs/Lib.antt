@@ -5,6 +5,7 @@ mod Lots
 mod Movements
 mod Numbers
 mod Orders
+mod Recalls
 mod Receipts
 mod Recipes
 mod Stocks

@@ -13,7 +13,7 @@ use Rattle.plant_tables_stored.specs.declared.loaded.Loaded.{Loaded}
 use Rattle.plant_tables_judged.specs.Collecting.{Rows, rows_from, rows_in}
 use Rattle.plant_tables_columns.specs.TableColumns.{only_meta}
 use Rattle.plant_tables_judged.proofs.AgainLemmas.{read_again}
-use Rattle.plant_check.specs.Broken.{unless, or_else, are_right_edges, broken_plan, broken_lot, broken_history, broken_receipt, first_broken_of, are_right_movements, are_right_numbers, broken_rows, first_broken}
+use Rattle.plant_check.specs.Broken.{unless, or_else, are_right_edges, broken_plan, broken_lot, broken_history, broken_receipt, broken_recall, first_broken_of, are_right_movements, are_right_numbers, broken_rows, first_broken}
 use Rattle.plant_check.specs.declared.rule.Rule.{Rule}
 use Rattle.plant_check.specs.declared.rule.Rule.TheVariants as rule
 use Rattle.plant_check.proofs.EdgeSets.{same_itself}
@@ -28,6 +28,7 @@ use Rattle.plant_good_passes.proofs.Movements.{whole_pass, movements_pass}
 use Rattle.plant_good_passes.proofs.Numbers.{numbers_pass}
 use Rattle.plant_good_passes.proofs.Times.{times_pass}
 use Rattle.plant_good_passes.proofs.Descent.{movements_again, descent_passes}
+use Rattle.plant_good_passes.proofs.Recalls.{recalls_pass}
 use Rattle.plant_good_passes.proofs.Receipts.{receipts_pass}
 
 -- a rule that is obeyed is passed over
@@ -63,13 +64,19 @@ module _ (schema : ℕ) (s : State) (good : IsGood s) where
   unfolding broken_receipt
   receipt_unbroken = obeyed _ rule.Receipts _ (receipts_pass (nat_le 3 schema) s.seq s.receipts good.receipts) refl
 
+  recall_unbroken : broken_recall rows ≡ None
+  unfolding broken_recall
+  recall_unbroken = obeyed _ rule.Recalls _ (recalls_pass schema s good) refl
+
   pub good_unbroken : first_broken_of rows ≡ None
   unfolding first_broken_of
   good_unbroken =
-      ap (λ o. or_else o (or_else (broken_lot rows) (or_else (broken_history rows) (broken_receipt rows)))) plan_unbroken
-      ∙ ap (λ o. or_else o (or_else (broken_history rows) (broken_receipt rows))) lot_unbroken
-      ∙ ap (λ o. or_else o (broken_receipt rows)) history_unbroken
-      ∙ receipt_unbroken
+      let kept = or_else (broken_receipt rows) (broken_recall rows) in
+      ap (λ o. or_else o (or_else (broken_lot rows) (or_else (broken_history rows) kept))) plan_unbroken
+      ∙ ap (λ o. or_else o (or_else (broken_history rows) kept)) lot_unbroken
+      ∙ ap (λ o. or_else o kept) history_unbroken
+      ∙ ap (λ o. or_else o (broken_recall rows)) receipt_unbroken
+      ∙ recall_unbroken
 
 -- rows that are read have a meta
 meta_read : (x : Loaded) (r : Rows) → rows_from x ≡ Some r → is_some (only_meta (contents_loaded x 0)) ≡ true
@@ -84,6 +91,11 @@ pub read_good : (schema : ℕ) (db : Database) (s : State) (x : Loaded) → IsKn
     → (rows_from x ≡ Some (rows_in (tables_of schema s))) × (first_broken x ≡ None)
 unfolding first_broken
 read_good schema db s x known good holds loaded =
-    let lacks : LacksLater schema (tables_of schema s) = record { edges = λ none. rw none refl; receipts = λ none. rw none refl } in
+    let lacks : LacksLater schema (tables_of schema s) = record {
+      edges = λ none. rw none refl;
+      receipts = λ none. rw none refl;
+      recalls = λ none. rw none refl;
+      marks = λ none. rw none refl;
+    } in
     let read = read_again schema db (tables_of schema s) holds lacks (in_order schema s good) (good_values s good schema known) x loaded in
     (read, obeyed _ rule.Tables _ (meta_read x (rows_in (tables_of schema s)) read) (ap broken_rows read ∙ good_unbroken schema s good))

@@ -1,10 +1,12 @@
 -- The values of a good state's tables, and the order of their rows.
-use Rattle.std.proofs.Common.{◌≡◌, ◌∙◌, ℕ, ◌+◌, ◌≤◌, true, List, [], ◌∷◌, Option, Some, None, is_some, map, length, refl, sym, ap, subst, arith}
-use Rattle.std.specs.Prelude.{Bool, false, if◌then◌else◌, IfSome, ◌&&◌, ◌==◌, ◌^◌, nat_le}
-use Rattle.std.specs.List.{AllByRecursion, filter_map, cons_option}
+use Rattle.std.proofs.Common.{◌≡◌, ◌∙◌, ℕ, ◌+◌, ◌≤◌, true, List, [], ◌∷◌, ◌++◌, Option, Some, None, is_some, map, length, refl, sym, ap, subst, arith}
+use Rattle.std.specs.Prelude.{Bool, false, if◌then◌else◌, option_map, IfSome, ◌&&◌, ◌==◌, ◌^◌, nat_le}
+use Rattle.std.specs.List.{AllByRecursion, filter_map, cons_option, flat_map}
 use Rattle.std.proofs.lemmas.Bool.{false≢true, le-leb, leb-true, eq-eqb, and_from}
 use Rattle.std.proofs.lemmas.List.{length-map}
 use Rattle.plant_base.specs.Edges.{edge_order, edge_total}
+use Rattle.plant_base.specs.Recalls.{is_open, mark_order, mark_total}
+use Rattle.plant_base.specs.RowValues.{HasRecallValues}
 use Rattle.plant_base.specs.State.{State, same, newest_schema, batch_at}
 use Rattle.plant_base.specs.Values.{is_id, greatest_amount, greatest_sublot, greatest_seq}
 use Rattle.plant_base.specs.declared.rows.Header.{Header}
@@ -15,11 +17,14 @@ use Rattle.plant_base.specs.declared.rows.Job.{Job}
 use Rattle.plant_base.specs.declared.rows.Batch.{Batch}
 use Rattle.plant_base.specs.declared.rows.ControlLine.{ControlLine}
 use Rattle.plant_base.specs.declared.rows.BatchEvent.{BatchEvent}
+use Rattle.plant_base.specs.declared.rows.EdgeKind.{EdgeKind}
+use Rattle.plant_base.specs.declared.rows.EdgeKind.TheVariants as edge
 use Rattle.plant_base.specs.declared.rows.EdgeRow.{EdgeRow}
 use Rattle.plant_base.specs.declared.rows.Movement.{Movement}
 use Rattle.plant_base.specs.declared.rows.MovementKind.{MovementKind}
 use Rattle.plant_base.specs.declared.rows.MovementKind.TheVariants as kind
 use Rattle.plant_base.specs.declared.rows.Place.{Place}
+use Rattle.plant_base.specs.declared.rows.Recall.{Recall}
 use Rattle.plant_base.specs.declared.rows.Receipt.{Receipt}
 use Rattle.plant_base.specs.declared.rows.Sublot.{Sublot}
 use Rattle.plant_base.proofs.Put.{all_weaker}
@@ -28,25 +33,30 @@ use Rattle.plant_base.proofs.Keys.{same_id, same_key, same_itself, key_itself}
 use Rattle.plant_recipe.specs.Form.{is_well_formed, greatest_lines}
 use Rattle.plant_recipe.proofs.Lines.{keeps_procedure}
 use Rattle.plant_view.specs.Production.{headers_of, header_among, orders_of, rows_among, lines_among, master_line, control_line, control_among, IsWholeRecipe, HasGoodOrder, IsSoundBatch, is_batch_among}
-use Rattle.plant_view.specs.Genealogy.{edge_row_by, edge_row_of, edge_rows}
+use Rattle.plant_trace.specs.Reach.{leads}
+use Rattle.plant_trace.specs.declared.node.Node.{Node}
+use Rattle.plant_trace.specs.declared.node.Node.TheVariants as node
+use Rattle.plant_view.specs.Genealogy.{edge_row_by, edge_row_of, edge_rows, ends_by, ends_of, edge_of, edges_of}
+use Rattle.plant_view.specs.Recalls.{mark_on, nodes_from, marks_of, marks}
 use Rattle.plant_view.specs.Rows.{numbered}
 use Rattle.plant_view.specs.Tables.{tables_of, batch_row, sublot_row}
 use Rattle.plant_view.proofs.KeptSound.{all_two}
-use Rattle.plant_view.proofs.Rows.{all_mapped, all_unmapped, all_put_all}
+use Rattle.plant_view.proofs.Rows.{all_mapped, all_unmapped, all_filtered, all_put_all}
 use Rattle.plant_view.proofs.Tests.{and_left, and_right}
 use Rattle.plant_rules_production.proofs.ControlMade.{control_made}
 use Rattle.plant_good.specs.Valued as kept
 use Rattle.plant_good.specs.Bookings.{AreCounted, booked}
 use Rattle.plant_good.specs.Columns.{HasProgressValues}
 use Rattle.plant_good.specs.Good.{IsGood}
+use Rattle.plant_good.specs.Recalls.{IsGoodRecall}
 use Rattle.plant_good.specs.Receipts.{HasReceiptValues}
 use Rattle.plant_good.proofs.KeptColumns.{columns}
-use Rattle.plant_good.proofs.Listing.{all_swap, all_passing}
+use Rattle.plant_good.proofs.Listing.{all_append, all_swap, all_passing}
 use Rattle.plant_good_keys.proofs.TableKeys.{keyed}
 use Rattle.plant_tables_columns.specs.Reading.{is_in, greatest_number}
 use Rattle.plant_tables_stored.specs.Version.{IsKnown}
 use Rattle.plant_tables_judged.specs.Collecting.{AreInOrder}
-use Rattle.plant_tables_columns.specs.Obeying.{HasRecipeValues, IsLineNumber, HasMasterLineValues, HasBatchRowValues, HasControlLineValues, HasEventRowValues, HasSublotValues, HasKindRowValues, HasMovementRowValues, HasEdgeValues, HasReceiptRowValues, HasGoodValues}
+use Rattle.plant_tables_columns.specs.Obeying.{HasRecipeValues, IsLineNumber, HasMasterLineValues, HasBatchRowValues, HasControlLineValues, HasEventRowValues, HasSublotValues, HasKindRowValues, HasMovementRowValues, HasEdgeValues, HasReceiptRowValues, HasMarkValues, HasGoodValues}
 
 -- ---- order
 
@@ -74,6 +84,46 @@ module _ {L R : Type 0} (f : ℕ → L → R) (number_of : R → ℕ) (is_number
 counted_small : (k : ℕ) (ns : List ℕ) → AreCounted k ns → 1 ≤ k → k + length ns ≤ 65536 → AllByRecursion IsLineNumber ns
 counted_small k [] counted low high = tt
 counted_small k (n ∷ ns) counted low high = (ap (is_in 1 65535) counted.0 ∙ in_range 1 65535 k low (omega (arith, high)), counted_small (k + 1) ns counted.1 (omega (arith, low)) (omega (arith, high)))
+
+-- ---- rows that are made of others
+
+-- what holds of what each gives, where it gives something, holds of all that they give
+with_made : {X : Type 0} (P : X → Type 0) (o : Option X) (xs : List X) → IfSome o P → AllByRecursion P xs → AllByRecursion P (cons_option o xs)
+with_made P None xs one all = all
+with_made P (Some x) xs one all = (one, all)
+
+all_made : {X Y : Type 0} (P : Y → Type 0) (f : X → Option Y) (xs : List X) → AllByRecursion (λ x. IfSome (f x) P) xs → AllByRecursion P (filter_map f xs)
+all_made P f [] all = tt
+all_made P f (x ∷ xs) all = with_made P (f x) (filter_map f xs) all.0 (all_made P f xs all.1)
+
+-- and so it is where each gives a list
+all_joined : {X Y : Type 0} (P : Y → Type 0) (f : X → List Y) (xs : List X) → AllByRecursion (λ x. AllByRecursion P (f x)) xs → AllByRecursion P (flat_map f xs)
+all_joined P f [] all = tt
+all_joined P f (x ∷ xs) all = all_append P (f x) (flat_map f xs) all.0 (all_joined P f xs all.1)
+
+-- the rows, or none where none are kept
+all_kept : {X : Type 0} (P : X → Type 0) (keeps : Bool) (xs : List X) → AllByRecursion P xs → AllByRecursion P (if keeps then xs else [])
+all_kept P true xs all = all
+all_kept P false xs all = tt
+
+-- ---- nodes and marks
+
+abbrev HasNodeId : Node → Type 0
+HasNodeId (node.Lot id) = is_id id ≡ true
+HasNodeId (node.Batch id) = is_id id ≡ true
+
+to_named : (k : EdgeKind) (from to : List ℕ) → is_id to ≡ true → HasNodeId (ends_by k from to).1
+to_named edge.LotToBatch from to id = id
+to_named edge.BatchToLot from to id = id
+to_named edge.LotToLot from to id = id
+
+end_named : (o : Option EdgeRow) → IfSome o HasEdgeValues → IfSome (option_map ends_of o) (λ p. HasNodeId p.1)
+end_named None v = tt
+end_named (Some e) v = to_named e.kind e.from e.to v.to
+
+mark_named : (recall : List ℕ) (y : Node) → is_id recall ≡ true → HasNodeId y → HasMarkValues (mark_on recall y)
+mark_named recall (node.Lot id) own named = record { recall = own; id = named }
+mark_named recall (node.Batch id) own named = record { recall = own; id = named }
 
 -- ---- rows
 
@@ -235,25 +285,42 @@ module _ (s : State) (good : IsGood s) where
   ends_good (kind.Split to) lot id named = record { from = id; to = named }
   ends_good (kind.Merged to) lot id named = record { from = id; to = named }
 
-  with_edge : (o : Option EdgeRow) (es : List EdgeRow) → IfSome o HasEdgeValues → AllByRecursion HasEdgeValues es → AllByRecursion HasEdgeValues (cons_option o es)
-  with_edge None es good_one all = all
-  with_edge (Some e) es good_one all = (good_one, all)
+  edges_good : AllByRecursion (λ m. IfSome (edge_row_of m) HasEdgeValues) s.movements
+  edges_good = all_weaker HasMovementRowValues _ (λ (m : Movement) v. ends_good m.kind m.lot v.lot v.kind) s.movements movements
 
-  all_ends : (ms : List Movement) → AllByRecursion HasMovementRowValues ms → AllByRecursion HasEdgeValues (filter_map edge_row_of ms)
-  all_ends [] all = tt
-  all_ends (m ∷ ms) all = with_edge (edge_row_of m) (filter_map edge_row_of ms) (ends_good m.kind m.lot all.0.lot all.0.kind) (all_ends ms all.1)
+  edges : AllByRecursion HasEdgeValues (edge_rows s.movements)
+  edges = all_put_all edge_order edge_total HasEdgeValues (filter_map edge_row_of s.movements) [] (all_made HasEdgeValues edge_row_of s.movements edges_good) tt
 
-  edges : (keeps : Bool) → AllByRecursion HasEdgeValues (if keeps then edge_rows s.movements else [])
-  edges true = all_put_all edge_order edge_total HasEdgeValues (filter_map edge_row_of s.movements) [] (all_ends s.movements movements) tt
-  edges false = tt
-
-  receipts : (keeps : Bool) → AllByRecursion HasReceiptRowValues (if keeps then s.receipts else [])
-  receipts true = all_two HasReceiptValues _ HasReceiptRowValues (λ (r : Receipt) v given. record {
+  receipts : AllByRecursion HasReceiptRowValues s.receipts
+  receipts = all_two HasReceiptValues _ HasReceiptRowValues (λ (r : Receipt) v given. record {
     reference = v.reference;
     seq = seq_values r.seq given.1;
     content = v.content;
   }) s.receipts good.receipts.values good.receipts.given
-  receipts false = tt
+
+  -- ---- recalls
+
+  recalls : AllByRecursion HasRecallValues s.recalls
+  recalls = all_weaker (IsGoodRecall s.at s.lots) HasRecallValues (λ (r : Recall) g. g.values) s.recalls good.recalls
+
+  -- what edges lead to has an id
+  ends_named : AllByRecursion (λ (p : Node × Node). HasNodeId p.1) (edges_of s)
+  ends_named = all_made (λ (p : Node × Node). HasNodeId p.1) edge_of s.movements
+      (all_weaker (λ (m : Movement). IfSome (edge_row_of m) HasEdgeValues) _ (λ (m : Movement) v. end_named (edge_row_of m) v) s.movements edges_good)
+
+  nodes_named : (lot : List ℕ) → is_id lot ≡ true → AllByRecursion HasNodeId (nodes_from (edges_of s) lot)
+  nodes_named lot id = (id, all_filtered HasNodeId (leads (edges_of s) (node.Lot lot)) (map (λ (p : Node × Node). p.1) (edges_of s)) (all_mapped HasNodeId (λ (p : Node × Node). p.1) (edges_of s) ends_named))
+
+  marks_named : (r : Recall) → HasRecallValues r → AllByRecursion HasMarkValues (marks_of (edges_of s) r)
+  marks_named r v = all_kept HasMarkValues (is_open r) (map (mark_on r.id) (nodes_from (edges_of s) r.lot))
+      (all_mapped HasMarkValues (mark_on r.id) (nodes_from (edges_of s) r.lot) (all_weaker HasNodeId _ (λ (y : Node) named. mark_named r.id y v.id named) (nodes_from (edges_of s) r.lot) (nodes_named r.lot v.lot)))
+
+  mark_rows : AllByRecursion HasMarkValues (marks s.recalls (edges_of s))
+  unfolding marks
+  mark_rows = all_put_all mark_order mark_total HasMarkValues (flat_map (marks_of (edges_of s)) s.recalls) []
+      (all_joined HasMarkValues (marks_of (edges_of s)) s.recalls (all_weaker HasRecallValues _ (λ (r : Recall) v. marks_named r v) s.recalls recalls)) tt
+
+  -- ---- all tables
 
   known_schema : (schema : ℕ) → IsKnown schema → is_in 1 greatest_number schema ≡ true
   known_schema schema known = in_range 1 greatest_number schema known.0 (omega (arith, known.1))
@@ -273,6 +340,8 @@ module _ (s : State) (good : IsGood s) where
     sublots = sublots;
     movements = movements;
     holds = good.values.holds;
-    edges = edges (nat_le 2 schema);
-    receipts = receipts (nat_le 3 schema);
+    edges = all_kept HasEdgeValues (nat_le 2 schema) (edge_rows s.movements) edges;
+    receipts = all_kept HasReceiptRowValues (nat_le 3 schema) s.receipts receipts;
+    recalls = all_kept HasRecallValues (nat_le 4 schema) s.recalls recalls;
+    marks = all_kept HasMarkValues (nat_le 4 schema) (marks s.recalls (edges_of s)) mark_rows;
   }

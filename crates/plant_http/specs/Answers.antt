@@ -124,6 +124,7 @@ answer_status (A.Lot lot) = st.Success
 answer_status (A.Order order) = st.Success
 answer_status (A.Batch v) = st.Success
 answer_status (A.Trace nodes) = st.Success
+answer_status (A.Recall recall) = st.Success
 answer_status (A.Unknown r) = st.NotFound
 
 -- only a batch has a record
@@ -133,6 +134,7 @@ form_for form (A.Lot lot) = Json
 form_for form (A.Order order) = Json
 form_for form (A.Batch v) = form
 form_for form (A.Trace nodes) = Json
+form_for form (A.Recall recall) = Json
 form_for form (A.Unknown r) = Json
 
 -- what is known of a batch, in JSON or as its record
@@ -146,6 +148,7 @@ text_in form (A.Lot lot) = text_of_answer (A.Lot lot)
 text_in form (A.Order order) = text_of_answer (A.Order order)
 text_in form (A.Batch v) = batch_in form v
 text_in form (A.Trace nodes) = text_of_answer (A.Trace nodes)
+text_in form (A.Recall recall) = text_of_answer (A.Recall recall)
 text_in form (A.Unknown r) = text_of_answer (A.Unknown r)
 
 abbrev pub answer_out : Form → DeskAnswer → Out

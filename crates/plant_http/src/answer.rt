@@ -123,7 +123,8 @@ fn answer_status(answer: &DeskAnswer) -> Status
         | DeskAnswer::Lot(_)
         | DeskAnswer::Order(_)
         | DeskAnswer::Batch(_)
-        | DeskAnswer::Trace(_) => Status::Success,
+        | DeskAnswer::Trace(_)
+        | DeskAnswer::Recall(_) => Status::Success,
     }
 }
 
@@ -137,7 +138,8 @@ fn form_for(form: Form, answer: &DeskAnswer) -> Form
         | DeskAnswer::Desk { .. }
         | DeskAnswer::Lot(_)
         | DeskAnswer::Order(_)
-        | DeskAnswer::Trace(_) => Form::Json,
+        | DeskAnswer::Trace(_)
+        | DeskAnswer::Recall(_) => Form::Json,
     }
 }
 
@@ -154,7 +156,8 @@ fn text_in(alloc: Global, form: Form, answer: &DeskAnswer) -> Result<String, All
         | DeskAnswer::Desk { .. }
         | DeskAnswer::Lot(_)
         | DeskAnswer::Order(_)
-        | DeskAnswer::Trace(_) => answer_text(alloc, answer),
+        | DeskAnswer::Trace(_)
+        | DeskAnswer::Recall(_) => answer_text(alloc, answer),
     }
 }
 

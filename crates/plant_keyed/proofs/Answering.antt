@@ -1,5 +1,5 @@
 -- What a look-up finds among the tables of a good state.
-use Rattle.std.proofs.Common.{◌≡◌, ◌∙◌, ℕ, Bool, true, false, cond, ◌&&◌, ◌==◌, List, [], ◌∷◌, map, filter, drop, find, Option, Some, refl, sym, ap, subst, slice_get, option_map}
+use Rattle.std.proofs.Common.{◌≡◌, ◌∙◌, ℕ, Bool, true, false, cond, ◌&&◌, ◌==◌, List, [], ◌∷◌, map, filter, find, Option, Some, refl, sym, ap, subst, slice_get, option_map}
 use Rattle.std.specs.List.{AllByRecursion}
 use Rattle.std.specs.List.Sorted.{IsStrictlySortedBy, IsPermutation}
 use Rattle.std.specs.declared.cmp.Ordering.{Ordering}
@@ -10,8 +10,9 @@ use Rattle.sqlite.specs.Order.{Row}
 use Rattle.sqlite.specs.declared.types.Value.TheVariants.{Text}
 use Rattle.sqlite_trees.proofs.ListLemmas.{IsPermutation-filter}
 use Rattle.plant_base.specs.Edges.{edge_kind_number, edge_order}
-use Rattle.plant_base.specs.RowValues.{HasClassValues, HasDefinitionValues, HasLotValues, HasHoldValues}
-use Rattle.plant_base.specs.State.{State, newest_schema, same, class_order, definition_order, recipe_order, master_line_order, job_order, control_line_order, event_order, lot_order, movement_order, hold_order, receipt_order, class_at, definition_at, recipe_at, master_lines_of, job_at, batch_at, batch_of, control_lines_of, lot_at, place_at, hold_at, receipt_at}
+use Rattle.plant_base.specs.Recalls.{mark_kind_number, mark_order}
+use Rattle.plant_base.specs.RowValues.{HasClassValues, HasDefinitionValues, HasLotValues, HasHoldValues, HasRecallValues}
+use Rattle.plant_base.specs.State.{State, newest_schema, same, class_order, definition_order, recipe_order, master_line_order, job_order, control_line_order, event_order, lot_order, movement_order, hold_order, receipt_order, recall_order, class_at, definition_at, recipe_at, master_lines_of, job_at, batch_at, batch_of, control_lines_of, lot_at, place_at, hold_at, receipt_at, recall_at}
 use Rattle.plant_base.specs.declared.rows.Meta.{Meta}
 use Rattle.plant_base.specs.declared.rows.Class.{Class}
 use Rattle.plant_base.specs.declared.rows.Definition.{Definition}
@@ -27,12 +28,18 @@ use Rattle.plant_base.specs.declared.rows.Movement.{Movement}
 use Rattle.plant_base.specs.declared.rows.Hold.{Hold}
 use Rattle.plant_base.specs.declared.rows.EdgeRow.{EdgeRow}
 use Rattle.plant_base.specs.declared.rows.Receipt.{Receipt}
-use Rattle.plant_view.specs.Genealogy.{edge_rows}
+use Rattle.plant_base.specs.declared.rows.Recall.{Recall}
+use Rattle.plant_base.specs.declared.rows.Mark.{Mark}
+use Rattle.plant_base.specs.declared.rows.MarkKind.{MarkKind}
+use Rattle.plant_view.specs.Genealogy.{edge_rows, edges_of}
+use Rattle.plant_view.specs.Recalls.{node_at, is_on, marks_on}
 use Rattle.plant_view.specs.Refusing.{holds_of}
 use Rattle.plant_view.specs.Tables.{Tables, tables_of, batch_row, batch_row_order, sublot_order, sublot_row, sublots_of}
 use Rattle.plant_view.specs.Views.{events_of}
+use Rattle.plant_view.proofs.MarkRows.{are_on_node}
 use Rattle.plant_good.specs.Good.{IsGood}
 use Rattle.table_forms.specs.Forms.{Form}
+use Rattle.table_forms.specs.Rows.{columns_of}
 use Rattle.table_forms.specs.Standing.{Stands}
 use Rattle.table_reads.specs.Found.{has_values}
 use Rattle.table_reads.specs.Keys.{key_order, comes_before}
@@ -40,21 +47,21 @@ use Rattle.table_reads.specs.Selects.{first_of}
 use Rattle.table_reads.proofs.KeyOrder.{key_total}
 use Rattle.table_reads.proofs.Same.{one_tree}
 use Rattle.plant_tables_columns.specs.Kinds.{number}
-use Rattle.plant_tables_columns.specs.TableColumns.{row_of_meta, row_of_class, row_of_definition, row_of_recipe, row_of_master_line, row_of_job, row_of_batch, row_of_control_line, row_of_event, row_of_lot, row_of_sublot, row_of_movement, row_of_hold, row_of_edge, row_of_receipt, meta_from, class_from, definition_from, recipe_from, master_line_from, job_from, batch_from, control_line_from, batch_event_from, lot_from, sublot_from, movement_read, hold_from, edge_from, receipt_from}
-use Rattle.plant_tables.specs.DeskForms.{meta_form, class_form, definition_form, recipe_form, recipe_line_form, job_form, batch_form, control_line_form, batch_event_form, lot_form, sublot_form, movement_form, hold_form, edge_form, receipt_form}
+use Rattle.plant_tables_columns.specs.TableColumns.{row_of_meta, row_of_class, row_of_definition, row_of_recipe, row_of_master_line, row_of_job, row_of_batch, row_of_control_line, row_of_event, row_of_lot, row_of_sublot, row_of_movement, row_of_hold, row_of_edge, row_of_receipt, row_of_recall, row_of_mark, meta_from, class_from, definition_from, recipe_from, master_line_from, job_from, batch_from, control_line_from, batch_event_from, lot_from, sublot_from, movement_read, hold_from, edge_from, receipt_from, recall_read, mark_from}
+use Rattle.plant_tables.specs.DeskForms.{meta_form, class_form, definition_form, recipe_form, recipe_line_form, job_form, batch_form, control_line_form, batch_event_form, lot_form, sublot_form, movement_form, hold_form, edge_form, receipt_form, recall_form, mark_form}
 use Rattle.plant_tables.specs.Keyed.{HoldsTables}
 use Rattle.plant_tables.proofs.Bridge.{all_filter}
 use Rattle.plant_tables_columns.specs.All.{all_from}
-use Rattle.plant_tables_columns.specs.Obeying.{HasMetaValues, HasRecipeValues, HasMasterLineValues, HasJobValues, HasBatchRowValues, HasControlLineValues, HasEventRowValues, HasSublotValues, HasMovementRowValues, HasEdgeValues, HasReceiptRowValues, HasGoodValues}
+use Rattle.plant_tables_columns.specs.Obeying.{HasMetaValues, HasRecipeValues, HasMasterLineValues, HasJobValues, HasBatchRowValues, HasControlLineValues, HasEventRowValues, HasSublotValues, HasMovementRowValues, HasEdgeValues, HasReceiptRowValues, HasMarkValues, HasGoodValues}
 use Rattle.plant_tables_columns.proofs.Options.{some_same}
-use Rattle.plant_tables_columns.proofs.RowLaws.{meta_reads, class_reads, definition_reads, recipe_reads, job_reads, batch_reads, event_reads, lot_reads, sublot_reads, hold_reads, edge_reads, master_line_again, control_line_again, receipt_again}
-use Rattle.plant_tables_judged.proofs.KeyLemmas.{by_text, by_number, by_text_number, by_two_texts, by_two_numbers, by_text_numbers, by_number_two_texts}
+use Rattle.plant_tables_columns.proofs.RowLaws.{meta_reads, class_reads, definition_reads, recipe_reads, job_reads, batch_reads, event_reads, lot_reads, sublot_reads, hold_reads, edge_reads, master_line_again, control_line_again, receipt_again, mark_reads}
+use Rattle.plant_tables_judged.proofs.KeyLemmas.{by_text, by_number, by_text_number, by_two_texts, by_two_numbers, by_text_numbers, by_number_two_texts, by_text_number_text}
 use Rattle.plant_tables_judged.proofs.SortedLemmas.{same_sorted, strictly_sorted, sorted_keys}
 use Rattle.plant_tables_judged.proofs.TableLemmas.{map_same, all_again}
 use Rattle.plant_good_passes.proofs.Values.{in_order, good_values, newest_known}
 use Rattle.plant_keyed.specs.Finding.{AreFound, IsFirstFound}
-use Rattle.plant_keyed.proofs.Shown.{movement_again}
-use Rattle.plant_keyed.proofs.Tests.{one_text, text_number, two_texts}
+use Rattle.plant_keyed.proofs.Shown.{movement_again, recall_again}
+use Rattle.plant_keyed.proofs.Tests.{one_text, text_number, number_text, two_texts}
 
 -- ---- lists
 
@@ -99,9 +106,9 @@ module _ {R : Type 0} (row_from : Row → Option R) (written : R → Row) (P : R
   found_again rows found =
       let key = key_order (first_of form.keys) in
       let total = key_total (first_of form.keys) in
-      let here = map (drop 1) (db.trees stands.tree) in
+      let here = map (columns_of form) (db.trees stands.tree) in
       let test = has_values places values in
-      let there : IsPermutation found.stored (filter test here) = subst (λ tree. IsPermutation found.stored (filter test (map (drop 1) (db.trees tree)))) (one_tree db.schema form found.finds.at found.finds.tree stands.at stands.tree found.finds.declared stands.declared) found.finds.same in
+      let there : IsPermutation found.stored (filter test here) = subst (λ tree. IsPermutation found.stored (filter test (map (columns_of form) (db.trees tree)))) (one_tree db.schema form found.finds.at found.finds.tree stands.at stands.tree found.finds.declared stands.declared) found.finds.same in
       let back : IsPermutation (filter test here) (filter test (map written rs)) = IsPermutation-filter test here (map written rs) (IsPermutation-sym (map written rs) here stands.same) in
       let moved : IsPermutation found.stored (map written (filter p rs)) = subst (IsPermutation found.stored) (filter_mapped written test p tests rs) (IsPermutation-trans found.stored (filter test here) (filter test (map written rs)) there back) in
       let rising : IsStrictlySortedBy key found.stored = subst (IsStrictlySortedBy key) (map_same found.stored) (strictly_sorted (λ row. row) (comes_before form) key total (λ a b. refl) found.stored found.rising) in
@@ -187,3 +194,12 @@ module _ (db : Database) (s : State) (good : IsGood s) (holds : HoldsTables db (
 
   pub receipt_is : (reference : List ℕ) (row : Option Receipt) → IsFirstFound db receipt_form receipt_from (1 ∷ []) (Text reference ∷ []) row → row ≡ receipt_at s reference
   receipt_is reference = first_again receipt_from row_of_receipt HasReceiptRowValues receipt_again receipt_form receipt_order (λ a b. by_text a.reference b.reference) db s.receipts (holds.each 14 receipt_form refl) (in_order newest_schema s good).keyed.receipts values.receipts (1 ∷ []) (Text reference ∷ []) (λ r. same r.reference reference) (λ r. one_text r.reference reference)
+
+  pub recall_is : (id : List ℕ) (row : Option Recall) → IsFirstFound db recall_form recall_read (1 ∷ []) (Text id ∷ []) row → row ≡ recall_at s id
+  recall_is id = first_again recall_read row_of_recall HasRecallValues recall_again recall_form recall_order (λ a b. by_text a.id b.id) db s.recalls (holds.each 15 recall_form refl) (in_order newest_schema s good).keyed.recalls values.recalls (1 ∷ []) (Text id ∷ []) (λ r. same r.id id) (λ r. one_text r.id id)
+
+  -- the marks of this kind and id are those of the open recalls that reach the node
+  pub marks_are : (k : MarkKind) (id : List ℕ) (rows : List Mark) → AreFound db mark_form mark_from (2 ∷ 3 ∷ []) (number (mark_kind_number k) ∷ Text id ∷ []) rows → rows ≡ marks_on s (node_at k id)
+  marks_are k id rows found =
+      found_again mark_from row_of_mark HasMarkValues (λ r h. mark_reads.again r h tt) mark_form mark_order (λ a b. by_text_number_text a.recall b.recall (mark_kind_number a.kind) (mark_kind_number b.kind) a.id b.id) db t.marks (holds.each 16 mark_form refl) (in_order newest_schema s good).keyed.marks values.marks (2 ∷ 3 ∷ []) (number (mark_kind_number k) ∷ Text id ∷ []) (is_on k id) (λ m. number_text (mark_kind_number m.kind) (mark_kind_number k) m.id id) rows found
+      ∙ are_on_node s.recalls (edges_of s) k id (in_order newest_schema s good).keyed.recalls

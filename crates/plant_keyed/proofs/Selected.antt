@@ -2,7 +2,7 @@
 use Rattle.std.proofs.Common.{refl, [], ◌∷◌, codes}
 use Rattle.sqlite_tied.specs.Compute.{everything}
 use Rattle.table_reads.specs.Selects.{Selects}
-use Rattle.plant_tables.specs.DeskForms.{meta_form, class_form, definition_form, recipe_form, recipe_line_form, job_form, batch_form, control_line_form, batch_event_form, lot_form, sublot_form, movement_form, hold_form, edge_form, receipt_form}
+use Rattle.plant_tables.specs.DeskForms.{meta_form, class_form, definition_form, recipe_form, recipe_line_form, job_form, batch_form, control_line_form, batch_event_form, lot_form, sublot_form, movement_form, hold_form, edge_form, receipt_form, recall_form, mark_form}
 
 pub meta : Selects meta_form [] (codes "SELECT k, schema, seq, at FROM meta ORDER BY k")
 unfolding everything
@@ -75,6 +75,14 @@ holds_of_lot = record { readable = refl; compared = refl; parameters = codes "?1
 pub receipt_by_id : Selects receipt_form (1 ∷ []) (codes "SELECT id, seq, content FROM receipt WHERE id = ?1 ORDER BY id")
 unfolding everything
 receipt_by_id = record { readable = refl; compared = refl; parameters = codes "?1" ∷ []; written = refl }
+
+pub recall_by_id : Selects recall_form (1 ∷ []) (codes "SELECT id, lot, state, at, by_who, note, lift_at, lift_by, lift_note FROM recall WHERE id = ?1 ORDER BY id")
+unfolding everything
+recall_by_id = record { readable = refl; compared = refl; parameters = codes "?1" ∷ []; written = refl }
+
+pub marks_on_node : Selects mark_form (2 ∷ 3 ∷ []) (codes "SELECT recall, kind, id FROM mark WHERE kind = ?1 AND id = ?2 ORDER BY recall, kind, id")
+unfolding everything
+marks_on_node = record { readable = refl; compared = refl; parameters = codes "?1" ∷ codes "?2" ∷ []; written = refl }
 
 pub edges_from : Selects edge_form (1 ∷ 2 ∷ []) (codes "SELECT kind, a, b FROM edge WHERE kind = ?1 AND a = ?2 ORDER BY kind, a, b")
 unfolding everything

@@ -1,5 +1,5 @@
 -- A database that holds the tables of a good state shows that state.
-use Rattle.std.proofs.Common.{◌≡◌, refl, sym, ap, ◌∙◌, subst, List, [], ◌∷◌, map, drop, Option, Some, None, arith}
+use Rattle.std.proofs.Common.{◌≡◌, refl, sym, ap, ◌∙◌, subst, List, [], ◌∷◌, map, Option, Some, None, arith}
 use Rattle.std.specs.List.{AllByRecursion, filter_map, cons_option}
 use Rattle.std.specs.Prelude.{option_map}
 use Rattle.std.specs.List.Sorted.{IsStrictlySortedBy, IsPermutation}
@@ -11,23 +11,26 @@ use Rattle.std.proofs.lemmas.List.Sorted.{length_permutation, All-permutation, I
 use Rattle.sqlite.specs.Effect.{Database}
 use Rattle.sqlite.specs.Order.{Row}
 use Rattle.sqlite_trees.proofs.ListLemmas.{along_permutation}
-use Rattle.plant_base.specs.State.{State, newest_schema, class_order, definition_order, recipe_order, master_line_order, job_order, control_line_order, event_order, lot_order, movement_order, hold_order, receipt_order}
+use Rattle.plant_base.specs.State.{State, newest_schema, class_order, definition_order, recipe_order, master_line_order, job_order, control_line_order, event_order, lot_order, movement_order, hold_order, receipt_order, recall_order}
 use Rattle.plant_base.specs.declared.rows.Batch.{Batch}
 use Rattle.plant_base.specs.declared.rows.ControlLine.{ControlLine}
 use Rattle.plant_base.specs.declared.rows.BatchEvent.{BatchEvent}
 use Rattle.plant_base.specs.declared.rows.Movement.{Movement}
 use Rattle.plant_base.specs.declared.rows.Place.{Place}
-use Rattle.plant_base.specs.RowValues.{HasClassValues, HasDefinitionValues, HasLotValues, HasHoldValues}
+use Rattle.plant_base.specs.declared.rows.Recall.{Recall}
+use Rattle.plant_base.specs.RowValues.{HasClassValues, HasDefinitionValues, HasLotValues, HasHoldValues, HasRecallValues}
 use Rattle.plant_view.specs.Tables.{Tables, tables_of, position_of, batch_row, sublot_row, place_of_row, batch_row_order, sublot_order}
 use Rattle.plant_good.specs.Good.{IsGood}
 use Rattle.table_forms.specs.Forms.{Form, table_of}
+use Rattle.table_forms.specs.Rows.{columns_of}
 use Rattle.table_forms.specs.Standing.{Stands}
-use Rattle.plant_tables_columns.specs.TableColumns.{row_of_meta, row_of_class, row_of_definition, row_of_recipe, row_of_master_line, row_of_job, row_of_batch, row_of_control_line, row_of_event, row_of_lot, row_of_sublot, row_of_movement, row_of_hold, row_of_receipt, only_meta, class_from, definition_from, recipe_from, master_line_from, job_from, batch_from, control_line_from, batch_event_from, lot_from, sublot_from, movement_read, hold_from, receipt_from}
-use Rattle.plant_tables.specs.DeskForms.{meta_form, class_form, definition_form, recipe_form, recipe_line_form, job_form, batch_form, control_line_form, batch_event_form, lot_form, sublot_form, movement_form, hold_form, receipt_form}
+use Rattle.plant_tables_columns.specs.TableColumns.{row_of_meta, row_of_class, row_of_definition, row_of_recipe, row_of_master_line, row_of_job, row_of_batch, row_of_control_line, row_of_event, row_of_lot, row_of_sublot, row_of_movement, row_of_hold, row_of_receipt, row_of_recall, only_meta, class_from, definition_from, recipe_from, master_line_from, job_from, batch_from, control_line_from, batch_event_from, lot_from, sublot_from, movement_read, hold_from, receipt_from, recall_read}
+use Rattle.plant_tables.specs.DeskForms.{meta_form, class_form, definition_form, recipe_form, recipe_line_form, job_form, batch_form, control_line_form, batch_event_form, lot_form, sublot_form, movement_form, hold_form, receipt_form, recall_form}
 use Rattle.plant_tables.specs.Keyed.{HoldsTables}
 use Rattle.plant_tables_columns.specs.Obeying.{HasRecipeValues, HasMasterLineValues, HasJobValues, HasBatchRowValues, HasControlLineValues, HasEventRowValues, HasSublotValues, HasMovementRowValues, HasReceiptRowValues, HasGoodValues}
 use Rattle.plant_tables_columns.proofs.KindLemmas as kinds
-use Rattle.plant_tables_columns.proofs.RowLaws.{meta_reads, class_reads, definition_reads, recipe_reads, job_reads, batch_reads, event_reads, lot_reads, sublot_reads, hold_reads, master_line_again, control_line_again, movement_row_again, receipt_again}
+use Rattle.plant_tables_columns.proofs.StatedLemmas as states
+use Rattle.plant_tables_columns.proofs.RowLaws.{meta_reads, class_reads, definition_reads, recipe_reads, job_reads, batch_reads, event_reads, lot_reads, sublot_reads, hold_reads, master_line_again, control_line_again, movement_row_again, receipt_again, recall_row_again}
 use Rattle.plant_good_passes.proofs.Values.{in_order, good_values, newest_known}
 use Rattle.plant_keyed.specs.Shown.{rows_under, table_under, rows_at, rows_shown, position_told, position_shown, shown}
 use Rattle.plant_keyed.specs.Laws.{ShowsItsState}
@@ -37,7 +40,7 @@ rows_stand : (db : Database) (form : Form) (rows : List Row) → Stands db form 
 unfolding rows_at
 rows_stand db form rows stands =
     let there : table_under db (Some stands.at) ≡ Some (table_of form stands.tree) = stands.declared.listed in
-    let same : rows_at db form ≡ map (drop 1) (db.trees stands.tree) = ap (λ o. rows_under db (table_under db o)) stands.declared.named ∙ ap (rows_under db) there in
+    let same : rows_at db form ≡ map (columns_of form) (db.trees stands.tree) = ap (λ o. rows_under db form (table_under db o)) stands.declared.named ∙ ap (rows_under db form) there in
     subst (IsPermutation rows) (sym same) stands.same
 
 module _ {X Y : Type 0} (f : X → Option Y) where
@@ -77,6 +80,11 @@ one_alone m (x ∷ y ∷ more) same = absurd (omega (arith, length_permutation (
 pub movement_again : (m : Movement) → HasMovementRowValues m → movement_read (row_of_movement m) ≡ Some m
 unfolding movement_read
 movement_again m good = rw (movement_row_again m good) (kinds.movement_again m)
+
+-- and a row of recall as the recall that was written
+pub recall_again : (r : Recall) → HasRecallValues r → recall_read (row_of_recall r) ≡ Some r
+unfolding recall_read
+recall_again r good = rw (recall_row_again r good) (states.recall_again r)
 
 pub batch_unread : (lines : List ControlLine) (events : List BatchEvent) (o : Option Batch) → option_map (λ r. r.batch) (option_map (batch_row lines events) o) ≡ o
 batch_unread lines events None = refl
@@ -154,6 +162,9 @@ module _ (db : Database) (s : State) (good : IsGood s) (holds : HoldsTables db (
   receipts_here : rows_shown receipt_order receipt_from db receipt_form ≡ s.receipts
   receipts_here = shown_again receipt_order (on_total (λ r. r.reference) nat_list_cmp_total) row_of_receipt receipt_from HasReceiptRowValues receipt_again db receipt_form s.receipts (holds.each 14 receipt_form refl) (in_order newest_schema s good).keyed.receipts values.receipts
 
+  recalls_here : rows_shown recall_order recall_read db recall_form ≡ s.recalls
+  recalls_here = shown_again recall_order (on_total (λ r. r.id) nat_list_cmp_total) row_of_recall recall_read HasRecallValues recall_again db recall_form s.recalls (holds.each 15 recall_form refl) (in_order newest_schema s good).keyed.recalls values.recalls
+
   shown_here : shown db ≡ s
   unfolding shown
   shown_here = λ i. record {
@@ -172,6 +183,7 @@ module _ (db : Database) (s : State) (good : IsGood s) (holds : HoldsTables db (
     movements = movements_here i;
     holds = holds_here i;
     receipts = receipts_here i;
+    recalls = recalls_here i;
   }
 
 pub shows_its_state : ShowsItsState

@@ -1,23 +1,24 @@
 -- The state that a database shows: the rows of the desk that its tables' rows stand for, whatever order they stand in.
-use Rattle.std.specs.Prelude.{ℕ, List, [], map, drop, Option, Some, None, unwrap_or, slice_get}
+use Rattle.std.specs.Prelude.{ℕ, List, [], map, Option, Some, None, unwrap_or, slice_get}
 use Rattle.std.specs.List.{filter_map}
 use Rattle.std.specs.declared.cmp.Ordering.{Ordering}
 use Rattle.sqlite.specs.Effect.{Database}
 use Rattle.sqlite.specs.Order.{Row}
 use Rattle.sqlite.specs.Table.{Table}
 use Rattle.sqlite_schema.specs.Names.{table_named}
-use Rattle.plant_base.specs.State.{State, newest_schema, class_order, definition_order, recipe_order, master_line_order, job_order, control_line_order, event_order, lot_order, movement_order, hold_order, receipt_order}
+use Rattle.plant_base.specs.State.{State, newest_schema, class_order, definition_order, recipe_order, master_line_order, job_order, control_line_order, event_order, lot_order, movement_order, hold_order, receipt_order, recall_order}
 use Rattle.plant_base.specs.declared.rows.Meta.{Meta}
 use Rattle.plant_base.specs.declared.rows.Position.{Position}
 use Rattle.plant_view.specs.Tables.{batch_row_order, sublot_order, place_of_row}
 use Rattle.table_forms.specs.Forms.{Form}
-use Rattle.plant_tables.specs.DeskForms.{meta_form, class_form, definition_form, recipe_form, recipe_line_form, job_form, batch_form, control_line_form, batch_event_form, lot_form, sublot_form, movement_form, hold_form, receipt_form}
-use Rattle.plant_tables_columns.specs.TableColumns.{only_meta, class_from, definition_from, recipe_from, master_line_from, job_from, batch_from, control_line_from, batch_event_from, lot_from, sublot_from, movement_read, hold_from, receipt_from}
+use Rattle.table_forms.specs.Rows.{columns_of}
+use Rattle.plant_tables.specs.DeskForms.{meta_form, class_form, definition_form, recipe_form, recipe_line_form, job_form, batch_form, control_line_form, batch_event_form, lot_form, sublot_form, movement_form, hold_form, receipt_form, recall_form}
+use Rattle.plant_tables_columns.specs.TableColumns.{only_meta, class_from, definition_from, recipe_from, master_line_from, job_from, batch_from, control_line_from, batch_event_from, lot_from, sublot_from, movement_read, hold_from, receipt_from, recall_read}
 use Rattle.plant_keyed.specs.Sorting.{in_order}
 
-abbrev pub rows_under : Database → Option Table → List Row
-rows_under db None = []
-rows_under db (Some t) = map (drop 1) (db.trees t.tree)
+abbrev pub rows_under : Database → Form → Option Table → List Row
+rows_under db form None = []
+rows_under db form (Some t) = map (columns_of form) (db.trees t.tree)
 
 abbrev pub table_under : Database → Option ℕ → Option Table
 table_under db None = None
@@ -25,7 +26,7 @@ table_under db (Some at) = slice_get db.schema.tables at
 
 -- the rows of the form's table, none where there is no such table
 unfoldable pub rows_at : Database → Form → List Row
-rows_at db form = rows_under db (table_under db (table_named db.schema form.name))
+rows_at db form = rows_under db form (table_under db (table_named db.schema form.name))
 
 -- the rows of the desk that they stand for, by their keys
 abbrev pub rows_shown : {R : Type 0} → (R → R → Ordering) → (Row → Option R) → Database → Form → List R
@@ -57,4 +58,5 @@ shown db = record {
   movements = rows_shown movement_order movement_read db movement_form;
   holds = rows_shown hold_order hold_from db hold_form;
   receipts = rows_shown receipt_order receipt_from db receipt_form;
+  recalls = rows_shown recall_order recall_read db recall_form;
 }

@@ -204,7 +204,7 @@ fn kinds_at(node: &Node, direction: Direction) -> (EdgeKind, Option<EdgeKind>)
 }
 
 // The id of the lot or batch.
-fn id_of(node: &Node) -> &Id
+pub(crate) fn id_of(node: &Node) -> &Id
     ensures { result.now ≡ id_of node.now }
 {
     match node {

@@ -7,6 +7,7 @@ mod faults;
 mod found;
 mod keyed;
 mod laws;
+mod marks;
 mod movements;
 mod receipts;
 mod texts;

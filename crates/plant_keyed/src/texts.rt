@@ -52,6 +52,12 @@ pub(crate) const HOLDS_OF_LOT: &str =
 pub(crate) const RECEIPT_BY_ID: &str =
     "SELECT id, seq, content FROM receipt WHERE id = ?1 ORDER BY id";
 
+pub(crate) const RECALL_BY_ID: &str =
+    "SELECT id, lot, state, at, by_who, note, lift_at, lift_by, lift_note FROM recall WHERE id = ?1 ORDER BY id";
+
+pub(crate) const MARKS_ON_NODE: &str =
+    "SELECT recall, kind, id FROM mark WHERE kind = ?1 AND id = ?2 ORDER BY recall, kind, id";
+
 pub(crate) const EDGES_FROM: &str =
     "SELECT kind, a, b FROM edge WHERE kind = ?1 AND a = ?2 ORDER BY kind, a, b";
 

@@ -13,11 +13,11 @@ ghost use Rattle.plant_keyed.specs.Steadily.{steady_itself, steady_along, stays_
 use crate::keyed::Keyed;
 use crate::texts;
 use plant_base::{
-    Batch, BatchEvent, BatchRow, Class, ControlLine, Definition, Hold, Id, Job, Lot, MasterLine,
-    Movement, Position, Receipt, Recipe, Sublot,
+    Batch, BatchEvent, BatchRow, Class, ControlLine, Definition, Hold, Id, Job, Lot, Mark,
+    MasterLine, Movement, Position, Recall, Receipt, Recipe, Sublot,
 };
 use plant_tables::forms::{
-    BATCH, BATCH_EVENT, CLASS, CONTROL_LINE, DEFINITION, HOLD, JOB, LOT, MOVEMENT, RECIPE,
+    BATCH, BATCH_EVENT, CLASS, CONTROL_LINE, DEFINITION, HOLD, JOB, LOT, MOVEMENT, RECALL, RECIPE,
     RECIPE_LINE, SUBLOT,
 };
 use plant_tables_columns::storing::{id as text_of, small};
@@ -148,6 +148,14 @@ impl<'a, S: Alter> View for Keyed<'a, S> {
 
     fn receipt(&mut self, reference: Id) -> Result<Option<Receipt>, Fault> {
         self.receipt_of(&reference)
+    }
+
+    fn recall(&mut self, id: Id) -> Result<Option<Recall>, Fault> {
+        self.first_found(&RECALL, texts::RECALL_BY_ID, &[text_of(&id)])
+    }
+
+    fn marks(&mut self, node: Node) -> Result<Vec<Mark>, Fault> {
+        self.marks_at(&node)
     }
 
     ghost kept_state = { λ k l a. ap shown a };

@@ -65,10 +65,12 @@ added_kept version edges are = elim (cases_Bool (version == 1)) [
   | inr later ↦ rw later tt
 ]
 
--- no receipt is changed
-receipts_stay : (cs : List RowChange) → AreEdges cs → (m : Meta) (t : Tables) → (changed_all (cs ++ change.Meta m ∷ []) t).receipts ≡ t.receipts
-receipts_stay [] are m t = refl
-receipts_stay (c ∷ cs) are m t = subst (λ d. (changed_all (d ∷ (cs ++ change.Meta m ∷ [])) t).receipts ≡ t.receipts) (sym are.0.1) (receipts_stay cs are.1 m (record t { edges = put edge_order are.0.0 t.edges }))
+-- no rows are changed but edges and that of meta
+others_stay : (cs : List RowChange) → AreEdges cs → (m : Meta) (t : Tables) → (edges : List EdgeRow) × (changed_all (cs ++ change.Meta m ∷ []) t ≡ record t { meta = m; edges = edges })
+others_stay [] are m t = (t.edges, refl)
+others_stay (c ∷ cs) are m t =
+    let rest = others_stay cs are.1 m (record t { edges = put edge_order are.0.0 t.edges }) in
+    (rest.0, subst (λ d. changed_all (d ∷ (cs ++ change.Meta m ∷ [])) t ≡ record t { meta = m; edges = rest.0 }) (sym are.0.1) rest.1)
 
 -- ---- one version
 
@@ -85,16 +87,18 @@ can_rise version edges db t are free can = record {
 -- what is held once they were raised can be raised again
 pub risen : (version : ℕ) (position : Position) (edges : List RowChange) (old new : Database) (t : Tables) → 1 ≤ version → AreEdges edges → IsRisable version old t
     → HoldsTablesOf (version + 1) new (raised_once version position edges t) → IsRisable (version + 1) new (raised_once version position edges t)
-risen version position edges old new t low are can holds = record {
-  holds = holds;
-  keyed = keyed_after_all (raising version position (added_rows version edges)) t can.keyed;
-  lacks = record {
-    edges = λ lacking. absurd (grind (arith, nat_tests));
-    receipts = λ lacking.
-        let below : nat_le 3 version ≡ false = grind (arith, nat_tests) in
-        receipts_stay (added_rows version edges) (added_are version edges are) (record { schema = version + 1; position = position }) t ∙ can.lacks.receipts below;
-  };
-}
+risen version position edges old new t low are can holds =
+    let stay = others_stay (added_rows version edges) (added_are version edges are) (record { schema = version + 1; position = position }) t in
+    record {
+      holds = holds;
+      keyed = keyed_after_all (raising version position (added_rows version edges)) t can.keyed;
+      lacks = record {
+        edges = λ lacking. absurd (grind (arith, nat_tests));
+        receipts = λ lacking. let below : nat_le 3 version ≡ false = grind (arith, nat_tests) in ap (λ (u : Tables). u.receipts) stay.1 ∙ can.lacks.receipts below;
+        recalls = λ lacking. let below : nat_le 4 version ≡ false = grind (arith, nat_tests) in ap (λ (u : Tables). u.recalls) stay.1 ∙ can.lacks.recalls below;
+        marks = λ lacking. let below : nat_le 4 version ≡ false = grind (arith, nat_tests) in ap (λ (u : Tables). u.marks) stay.1 ∙ can.lacks.marks below;
+      };
+    }
 
 -- ---- some versions
 

@@ -7,7 +7,7 @@ use Rattle.sqlite.specs.Effect.{Database}
 use Rattle.sqlite.specs.State as store
 use Rattle.plant_base.specs.State.{State, newest_schema}
 use Rattle.plant_base.specs.declared.rows.Position.{Position}
-use Rattle.plant_view.specs.Tables.{tables_of, receipts_in, position_of}
+use Rattle.plant_view.specs.Tables.{tables_of, IsWholeIn, position_of}
 use Rattle.plant_view.specs.declared.change.RowChange.{RowChange}
 use Rattle.table_forms.specs.Standing.{AreFree, KeepsOthers}
 use Rattle.table_forms.specs.Stopping.{IsSettled}
@@ -23,7 +23,7 @@ use Rattle.plant_migrate.proofs.StateChanges.{bookings, state_raised}
 
 -- the tables of a version have no rows of later tables
 pub lacks_later : (version : ℕ) (s : State) → LacksLater version (tables_of version s)
-lacks_later version s = record { edges = λ lacking. rw lacking refl; receipts = λ lacking. rw lacking refl }
+lacks_later version s = record { edges = λ lacking. rw lacking refl; receipts = λ lacking. rw lacking refl; recalls = λ lacking. rw lacking refl; marks = λ lacking. rw lacking refl }
 
 pub state_risable : (version : ℕ) (db : Database) (s : State) → HoldsTablesOf version db (tables_of version s) → AreKeyed (tables_of version s) → IsRisable version db (tables_of version s)
 state_risable version db s holds keyed = record { holds = holds; keyed = keyed; lacks = lacks_later version s }
@@ -44,7 +44,7 @@ raised_to_is version to low = elim (cases_Bool (nat_le to version)) [
 ]
 
 -- the position and the edges are those of the state
-module _ (version to : ℕ) (s : State) (position : Position) (edges : List RowChange) (low : 1 ≤ version) (upward : version ≤ to) (high : to ≤ newest_schema) (whole : receipts_in version s.receipts ≡ s.receipts)
+module _ (version to : ℕ) (s : State) (position : Position) (edges : List RowChange) (low : 1 ≤ version) (upward : version ≤ to) (high : to ≤ newest_schema) (whole : IsWholeIn version s)
     (placed : position ≡ position_of s) (edged : edges ≡ edges_from version (bookings s)) where
   raised_is : (done : ℕ) → version + done ≤ to → raised_by done version position edges (tables_of version s) ≡ tables_of (version + done) s
   raised_is done few =

@@ -26,7 +26,8 @@ edges_from version booked = if version == 1 then filter_map edge_change booked e
 abbrev pub AreEdges : List RowChange → Type 0
 AreEdges = AllByRecursion (λ c. (e : EdgeRow) × (c ≡ change.Edge e))
 
--- the rows of the tables that the schema after this version adds: the edges are the second's, and receipts there are none
+-- the rows of the tables that the schema after this version adds: the edges are the second's, and receipts, recalls and
+-- marks there are none
 abbrev pub added_rows : ℕ → List RowChange → List RowChange
 added_rows version edges = if version == 1 then edges else []
 

@@ -7,7 +7,7 @@ use Rattle.sqlite.specs.State as store
 use Rattle.plant_base.specs.State.{State}
 use Rattle.plant_base.specs.declared.rows.Meta.{Meta}
 use Rattle.plant_base.specs.declared.rows.Position.{Position}
-use Rattle.plant_view.specs.Tables.{tables_of, receipts_in}
+use Rattle.plant_view.specs.Tables.{tables_of, IsWholeIn}
 use Rattle.table_forms.specs.Standing.{KeepsOthers}
 use Rattle.plant_tables.specs.DeskForms.{desk_forms, meta_form}
 use Rattle.plant_tables.specs.DeskStopping.{IsAtOf, FindsOf}
@@ -26,7 +26,7 @@ use Rattle.plant_migrate.specs.Steps.{IsRaisedBy}
 pub record IsReadable (version : ℕ) (c : store.State) (s : State) : Type 0 where
   pub known : IsKnown version
   pub at : IsAtOf version c (tables_of version s)
-  pub whole : receipts_in version s.receipts ≡ s.receipts
+  pub whole : IsWholeIn version s
   pub ordered : AreInOrder (tables_of version s)
   pub good : HasGoodValues (tables_of version s)
 

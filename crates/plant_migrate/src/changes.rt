@@ -4,7 +4,10 @@ ghost use Rattle.std.specs.Prelude.{◌≡◌, IfOk, IsOkUnless};
 ghost use Rattle.std.specs.List.{filter_map};
 ghost use Rattle.plant_migrate.specs.Raised.{edge_booked, edge_change, edges_from, added_rows, AreEdges};
 
-use plant_base::{ControlLine, EdgeRow, MasterLine, Movement, MovementKind, RecipeLine};
+use plant_base::{
+    ControlLine, EdgeRow, Lifting, Mark, MarkKind, MasterLine, Movement, MovementKind, Recall,
+    RecipeLine,
+};
 use plant_tables_judged::BookedRow;
 use plant_view::{RowChange, edge_row};
 use std::alloc::{AllocError, Global};
@@ -34,6 +37,7 @@ fn edge_changes(alloc: Global, booked: &[BookedRow]) -> Result<Vec<RowChange>, A
 {
     // The checker can't follow row changes, unless the function names these types.
     let _: Option<(RecipeLine, MasterLine, ControlLine, Movement, MovementKind)> = None;
+    let _: Option<(Lifting, Recall, MarkKind, Mark)> = None;
     booked
         .iter()
         .filter_map(|row| edge_change(row))

@@ -4,7 +4,7 @@ ghost use Rattle.std.specs.Prelude.{◌≡◌, ◌≤◌, ◌-◌, false, OnOk, 
 ghost use Rattle.sqlite.specs.State.{HasCleanDisk, Survives};
 ghost use Rattle.sqlite.specs.Held.{state};
 ghost use Rattle.plant_base.specs.State.{State, newest_schema};
-ghost use Rattle.plant_view.specs.Tables.{tables_of, receipts_in};
+ghost use Rattle.plant_view.specs.Tables.{tables_of, IsWholeIn};
 ghost use Rattle.table_forms.specs.Standing.{KeepsOthers};
 ghost use Rattle.plant_tables.specs.DeskForms.{desk_forms};
 ghost use Rattle.plant_tables.specs.Keyed.{AreKeyed};
@@ -39,13 +39,13 @@ pub fn raise_rows<S: Alter>(
     ensures mode { conn.new.in_transaction ≡ false }
     ensures raised { HasCleanDisk (state S.Store conn.new) → (s : State)
         → IsAtOf version (state S.Store conn.old) (tables_of version s)
-        → AreKeyed (tables_of version s) → receipts_in version s.receipts ≡ s.receipts
+        → AreKeyed (tables_of version s) → IsWholeIn version s
         → rows_listed rows.now ≡ rows_in (tables_of version s)
         → OnOk result (IsAtOf to (state S.Store conn.new) (tables_of to s)
         × KeepsOthers desk_forms (state S.Store conn.old).now (state S.Store conn.new).now) }
     ensures cut_short { HasCleanDisk (state S.Store conn.new) → (s : State)
         → IsAtOf version (state S.Store conn.old) (tables_of version s)
-        → AreKeyed (tables_of version s) → receipts_in version s.receipts ≡ s.receipts
+        → AreKeyed (tables_of version s) → IsWholeIn version s
         → rows_listed rows.now ≡ rows_in (tables_of version s)
         → OnErr result (IsCutShortAmid version to (state S.Store conn.old) (state S.Store conn.new) s) }
     ensures unwritten { IfErr result (λ fault. fault ≡ Fault.Memory → conn.new ≡ conn.old) }

@@ -18,7 +18,8 @@ use Rattle.sqlite_value.specs.Order.{Row}
 use Rattle.sqlite_value.specs.declared.value.Value.TheVariants.{Text}
 use Rattle.sqlite_value.specs.Keys.{first_key}
 use Rattle.plant_base.specs.Edges.{edge_kind_number, edge_order, edge_total}
-use Rattle.plant_base.specs.State.{same, put, class_order, definition_order, recipe_order, master_line_order, job_order, control_line_order, lot_order, hold_order, receipt_order}
+use Rattle.plant_base.specs.Recalls.{mark_kind_number, mark_order, mark_total}
+use Rattle.plant_base.specs.State.{same, put, class_order, definition_order, recipe_order, master_line_order, job_order, control_line_order, lot_order, hold_order, receipt_order, recall_order}
 use Rattle.plant_base.proofs.Put.{sorted_put}
 use Rattle.plant_base.specs.declared.rows.Meta.{Meta}
 use Rattle.plant_base.specs.declared.rows.Class.{Class}
@@ -35,6 +36,9 @@ use Rattle.plant_base.specs.declared.rows.Movement.{Movement}
 use Rattle.plant_base.specs.declared.rows.Hold.{Hold}
 use Rattle.plant_base.specs.declared.rows.EdgeRow.{EdgeRow}
 use Rattle.plant_base.specs.declared.rows.Receipt.{Receipt}
+use Rattle.plant_base.specs.declared.rows.Recall.{Recall}
+use Rattle.plant_base.specs.declared.rows.Mark.{Mark}
+use Rattle.plant_view.specs.Recalls.{without_marks}
 use Rattle.plant_view.specs.Tables.{Tables, batch_row_order, sublot_order, changed, changed_all, without_hold}
 use Rattle.plant_view.specs.declared.change.RowChange.{RowChange}
 use Rattle.plant_view.specs.declared.change.RowChange.TheVariants as change
@@ -43,11 +47,11 @@ use Rattle.table_forms.specs.Rows.{meets, has_values, take_away}
 use Rattle.table_forms.specs.Rows as rows
 use Rattle.table_forms.specs.Standing.{Contents, StandIn}
 use Rattle.table_forms.specs.Moves.{changed_at, taken_at}
-use Rattle.plant_tables.specs.DeskForms.{class_form, definition_form, recipe_form, recipe_line_form, job_form, batch_form, control_line_form, batch_event_form, lot_form, sublot_form, movement_form, hold_form, edge_form, receipt_form, meta_form}
+use Rattle.plant_tables.specs.DeskForms.{class_form, definition_form, recipe_form, recipe_line_form, job_form, batch_form, control_line_form, batch_event_form, lot_form, sublot_form, movement_form, hold_form, edge_form, receipt_form, recall_form, mark_form, meta_form}
 use Rattle.plant_tables.specs.DeskTables.{rows_of, contents_of, rows_changed, all_rows_changed}
-use Rattle.plant_tables_columns.specs.TableColumns.{row_of_meta, row_of_class, row_of_definition, row_of_recipe, row_of_master_line, row_of_job, row_of_batch, row_of_control_line, row_of_event, row_of_lot, row_of_sublot, row_of_movement, row_of_hold, row_of_edge, row_of_receipt}
+use Rattle.plant_tables_columns.specs.TableColumns.{row_of_meta, row_of_class, row_of_definition, row_of_recipe, row_of_master_line, row_of_job, row_of_batch, row_of_control_line, row_of_event, row_of_lot, row_of_sublot, row_of_movement, row_of_hold, row_of_edge, row_of_receipt, row_of_recall, row_of_mark}
 use Rattle.plant_tables.specs.Keyed.{AreKeyed, IsFresh, AreFresh}
-use Rattle.plant_tables.proofs.KeyTests.{or_false, one_text, second_text, two_texts, text_number, text_numbers, one_number, two_numbers, number_texts, text_tie, and_true}
+use Rattle.plant_tables.proofs.KeyTests.{or_false, one_text, second_text, two_texts, text_number, text_numbers, one_number, two_numbers, number_texts, text_number_text, text_tie, and_true}
 use Rattle.plant_tables.proofs.Permuted.{put_by_key, put_at_end}
 
 -- ---- the orders
@@ -84,6 +88,9 @@ hold_total = then_total (on_total (λ r. r.lot) nat_list_cmp_total) (on_total (�
 
 receipt_total : IsTotalOrder receipt_order
 receipt_total = on_total (λ r. r.reference) nat_list_cmp_total
+
+recall_total : IsTotalOrder recall_order
+recall_total = on_total (λ r. r.id) nat_list_cmp_total
 
 -- ---- the table at a place
 
@@ -144,6 +151,13 @@ edge_met x r =
 receipt_met : (x r : Receipt) → meets receipt_form (row_of_receipt x) (row_of_receipt r) ≡ is_eq (receipt_order x r)
 receipt_met x r = or_false _ ∙ one_text x.reference r.reference [] []
 
+recall_met : (x r : Recall) → meets recall_form (row_of_recall x) (row_of_recall r) ≡ is_eq (recall_order x r)
+recall_met x r = or_false _ ∙ one_text x.id r.id [] []
+
+mark_met : (x r : Mark) → meets mark_form (row_of_mark x) (row_of_mark r) ≡ is_eq (mark_order x r)
+mark_met x r =
+    or_false _ ∙ text_number_text x.recall r.recall (mark_kind_number x.kind) (mark_kind_number r.kind) x.id r.id
+
 implied_or : (a b : Bool) → (b ≡ true → a ≡ true) → (a || b) ≡ a
 implied_or true b h = refl
 implied_or false true h = sym (h refl)
@@ -152,6 +166,10 @@ implied_or false false h = refl
 holds_values : (h : Hold) (lot hold : List ℕ) → has_values (1 ∷ 2 ∷ []) (Text lot ∷ Text hold ∷ []) (row_of_hold h) ≡ (same h.lot lot && same h.id hold)
 unfolding first_key
 holds_values h lot hold = rw (text_tie h.lot lot, text_tie h.id hold, and_true) (rw (texts_ties h.lot lot, texts_ties h.id hold) refl)
+
+is_of_recall : (m : Mark) (recall : List ℕ) → has_values (1 ∷ []) (Text recall ∷ []) (row_of_mark m) ≡ same m.recall recall
+unfolding first_key
+is_of_recall m recall = rw (text_tie m.recall recall, and_true) (sym (texts_ties m.recall recall))
 
 -- a batch of an order that no other is of meets the one with its id alone
 batch_ties : (r : BatchRow) (xs : List BatchRow) → AllByRecursion (λ b. same b.batch.job r.batch.job ≡ true → same b.batch.id r.batch.id ≡ true) xs
@@ -179,6 +197,13 @@ hold_taken lot hold [] = refl
 hold_taken lot hold (h ∷ hs) = elim (cases_Bool (same h.lot lot && same h.id hold)) [
   | inl hit ↦ rw (holds_values h lot hold, hit) (hold_taken lot hold hs)
   | inr miss ↦ rw (holds_values h lot hold, miss) (ap (λ l. row_of_hold h ∷ l) (hold_taken lot hold hs))
+]
+
+marks_taken : (recall : List ℕ) (ms : List Mark) → take_away (1 ∷ []) (Text recall ∷ []) (map row_of_mark ms) ≡ map row_of_mark (without_marks recall ms)
+marks_taken recall [] = refl
+marks_taken recall (m ∷ ms) = elim (cases_Bool (same m.recall recall)) [
+  | inl hit ↦ rw (is_of_recall m recall, hit) (marks_taken recall ms)
+  | inr miss ↦ rw (is_of_recall m recall, miss) (ap (λ l. row_of_mark m ∷ l) (marks_taken recall ms))
 ]
 
 -- there is one row of meta
@@ -209,6 +234,11 @@ one_changed (change.Receipt r) t keyed fresh = at_place 14 (rows.put receipt_for
 one_changed (change.Unhold lot hold) t keyed fresh =
     at_place 12 (take_away (1 ∷ 2 ∷ []) (Text lot ∷ Text hold ∷ [])) (rows_of t) (map row_of_hold (without_hold lot hold t.holds)) (omega arith)
     (subst (IsPermutation (take_away (1 ∷ 2 ∷ []) (Text lot ∷ Text hold ∷ []) (map row_of_hold t.holds))) (hold_taken lot hold t.holds) (IsPermutation-refl _))
+one_changed (change.Recall r) t keyed fresh = at_place 15 (rows.put recall_form (row_of_recall r)) (rows_of t) (map row_of_recall (put recall_order r t.recalls)) (omega arith) (put_typed recall_order recall_total row_of_recall recall_form recall_met r t.recalls keyed.recalls)
+one_changed (change.Mark r) t keyed fresh = at_place 16 (rows.put mark_form (row_of_mark r)) (rows_of t) (map row_of_mark (put mark_order r t.marks)) (omega arith) (put_typed mark_order mark_total row_of_mark mark_form mark_met r t.marks keyed.marks)
+one_changed (change.Unmark recall) t keyed fresh =
+    at_place 16 (take_away (1 ∷ []) (Text recall ∷ [])) (rows_of t) (map row_of_mark (without_marks recall t.marks)) (omega arith)
+    (subst (IsPermutation (take_away (1 ∷ []) (Text recall ∷ []) (map row_of_mark t.marks))) (marks_taken recall t.marks) (IsPermutation-refl _))
 
 -- ---- the keys stay
 
@@ -228,22 +258,25 @@ sorted_filter order p (x ∷ xs) sorted = elim (cases_Bool (p x)) [
 ]
 
 pub keyed_after : (c : RowChange) (t : Tables) → AreKeyed t → AreKeyed (changed c t)
-keyed_after (change.Meta r) t k = record { classes = k.classes; definitions = k.definitions; recipes = k.recipes; master_lines = k.master_lines; jobs = k.jobs; batches = k.batches; control_lines = k.control_lines; lots = k.lots; sublots = k.sublots; holds = k.holds; edges = k.edges; receipts = k.receipts }
-keyed_after (change.Class r) t k = record { classes = sorted_put class_order class_total r t.classes k.classes; definitions = k.definitions; recipes = k.recipes; master_lines = k.master_lines; jobs = k.jobs; batches = k.batches; control_lines = k.control_lines; lots = k.lots; sublots = k.sublots; holds = k.holds; edges = k.edges; receipts = k.receipts }
-keyed_after (change.Definition r) t k = record { classes = k.classes; definitions = sorted_put definition_order definition_total r t.definitions k.definitions; recipes = k.recipes; master_lines = k.master_lines; jobs = k.jobs; batches = k.batches; control_lines = k.control_lines; lots = k.lots; sublots = k.sublots; holds = k.holds; edges = k.edges; receipts = k.receipts }
-keyed_after (change.Recipe r) t k = record { classes = k.classes; definitions = k.definitions; recipes = sorted_put recipe_order recipe_total r t.recipes k.recipes; master_lines = k.master_lines; jobs = k.jobs; batches = k.batches; control_lines = k.control_lines; lots = k.lots; sublots = k.sublots; holds = k.holds; edges = k.edges; receipts = k.receipts }
-keyed_after (change.MasterLine r) t k = record { classes = k.classes; definitions = k.definitions; recipes = k.recipes; master_lines = sorted_put master_line_order master_line_total r t.master_lines k.master_lines; jobs = k.jobs; batches = k.batches; control_lines = k.control_lines; lots = k.lots; sublots = k.sublots; holds = k.holds; edges = k.edges; receipts = k.receipts }
-keyed_after (change.Job r) t k = record { classes = k.classes; definitions = k.definitions; recipes = k.recipes; master_lines = k.master_lines; jobs = sorted_put job_order job_total r t.jobs k.jobs; batches = k.batches; control_lines = k.control_lines; lots = k.lots; sublots = k.sublots; holds = k.holds; edges = k.edges; receipts = k.receipts }
-keyed_after (change.Batch r) t k = record { classes = k.classes; definitions = k.definitions; recipes = k.recipes; master_lines = k.master_lines; jobs = k.jobs; batches = sorted_put batch_row_order batch_total r t.batches k.batches; control_lines = k.control_lines; lots = k.lots; sublots = k.sublots; holds = k.holds; edges = k.edges; receipts = k.receipts }
-keyed_after (change.ControlLine r) t k = record { classes = k.classes; definitions = k.definitions; recipes = k.recipes; master_lines = k.master_lines; jobs = k.jobs; batches = k.batches; control_lines = sorted_put control_line_order control_line_total r t.control_lines k.control_lines; lots = k.lots; sublots = k.sublots; holds = k.holds; edges = k.edges; receipts = k.receipts }
-keyed_after (change.Event r) t k = record { classes = k.classes; definitions = k.definitions; recipes = k.recipes; master_lines = k.master_lines; jobs = k.jobs; batches = k.batches; control_lines = k.control_lines; lots = k.lots; sublots = k.sublots; holds = k.holds; edges = k.edges; receipts = k.receipts }
-keyed_after (change.Lot r) t k = record { classes = k.classes; definitions = k.definitions; recipes = k.recipes; master_lines = k.master_lines; jobs = k.jobs; batches = k.batches; control_lines = k.control_lines; lots = sorted_put lot_order lot_total r t.lots k.lots; sublots = k.sublots; holds = k.holds; edges = k.edges; receipts = k.receipts }
-keyed_after (change.Sublot r) t k = record { classes = k.classes; definitions = k.definitions; recipes = k.recipes; master_lines = k.master_lines; jobs = k.jobs; batches = k.batches; control_lines = k.control_lines; lots = k.lots; sublots = sorted_put sublot_order sublot_total r t.sublots k.sublots; holds = k.holds; edges = k.edges; receipts = k.receipts }
-keyed_after (change.Movement r) t k = record { classes = k.classes; definitions = k.definitions; recipes = k.recipes; master_lines = k.master_lines; jobs = k.jobs; batches = k.batches; control_lines = k.control_lines; lots = k.lots; sublots = k.sublots; holds = k.holds; edges = k.edges; receipts = k.receipts }
-keyed_after (change.Hold r) t k = record { classes = k.classes; definitions = k.definitions; recipes = k.recipes; master_lines = k.master_lines; jobs = k.jobs; batches = k.batches; control_lines = k.control_lines; lots = k.lots; sublots = k.sublots; holds = sorted_put hold_order hold_total r t.holds k.holds; edges = k.edges; receipts = k.receipts }
-keyed_after (change.Edge r) t k = record { classes = k.classes; definitions = k.definitions; recipes = k.recipes; master_lines = k.master_lines; jobs = k.jobs; batches = k.batches; control_lines = k.control_lines; lots = k.lots; sublots = k.sublots; holds = k.holds; edges = sorted_put edge_order edge_total r t.edges k.edges; receipts = k.receipts }
-keyed_after (change.Receipt r) t k = record { classes = k.classes; definitions = k.definitions; recipes = k.recipes; master_lines = k.master_lines; jobs = k.jobs; batches = k.batches; control_lines = k.control_lines; lots = k.lots; sublots = k.sublots; holds = k.holds; edges = k.edges; receipts = sorted_put receipt_order receipt_total r t.receipts k.receipts }
-keyed_after (change.Unhold lot hold) t k = record { classes = k.classes; definitions = k.definitions; recipes = k.recipes; master_lines = k.master_lines; jobs = k.jobs; batches = k.batches; control_lines = k.control_lines; lots = k.lots; sublots = k.sublots; holds = sorted_filter hold_order _ t.holds k.holds; edges = k.edges; receipts = k.receipts }
+keyed_after (change.Meta r) t k = record { classes = k.classes; definitions = k.definitions; recipes = k.recipes; master_lines = k.master_lines; jobs = k.jobs; batches = k.batches; control_lines = k.control_lines; lots = k.lots; sublots = k.sublots; holds = k.holds; edges = k.edges; receipts = k.receipts; recalls = k.recalls; marks = k.marks }
+keyed_after (change.Class r) t k = record { classes = sorted_put class_order class_total r t.classes k.classes; definitions = k.definitions; recipes = k.recipes; master_lines = k.master_lines; jobs = k.jobs; batches = k.batches; control_lines = k.control_lines; lots = k.lots; sublots = k.sublots; holds = k.holds; edges = k.edges; receipts = k.receipts; recalls = k.recalls; marks = k.marks }
+keyed_after (change.Definition r) t k = record { classes = k.classes; definitions = sorted_put definition_order definition_total r t.definitions k.definitions; recipes = k.recipes; master_lines = k.master_lines; jobs = k.jobs; batches = k.batches; control_lines = k.control_lines; lots = k.lots; sublots = k.sublots; holds = k.holds; edges = k.edges; receipts = k.receipts; recalls = k.recalls; marks = k.marks }
+keyed_after (change.Recipe r) t k = record { classes = k.classes; definitions = k.definitions; recipes = sorted_put recipe_order recipe_total r t.recipes k.recipes; master_lines = k.master_lines; jobs = k.jobs; batches = k.batches; control_lines = k.control_lines; lots = k.lots; sublots = k.sublots; holds = k.holds; edges = k.edges; receipts = k.receipts; recalls = k.recalls; marks = k.marks }
+keyed_after (change.MasterLine r) t k = record { classes = k.classes; definitions = k.definitions; recipes = k.recipes; master_lines = sorted_put master_line_order master_line_total r t.master_lines k.master_lines; jobs = k.jobs; batches = k.batches; control_lines = k.control_lines; lots = k.lots; sublots = k.sublots; holds = k.holds; edges = k.edges; receipts = k.receipts; recalls = k.recalls; marks = k.marks }
+keyed_after (change.Job r) t k = record { classes = k.classes; definitions = k.definitions; recipes = k.recipes; master_lines = k.master_lines; jobs = sorted_put job_order job_total r t.jobs k.jobs; batches = k.batches; control_lines = k.control_lines; lots = k.lots; sublots = k.sublots; holds = k.holds; edges = k.edges; receipts = k.receipts; recalls = k.recalls; marks = k.marks }
+keyed_after (change.Batch r) t k = record { classes = k.classes; definitions = k.definitions; recipes = k.recipes; master_lines = k.master_lines; jobs = k.jobs; batches = sorted_put batch_row_order batch_total r t.batches k.batches; control_lines = k.control_lines; lots = k.lots; sublots = k.sublots; holds = k.holds; edges = k.edges; receipts = k.receipts; recalls = k.recalls; marks = k.marks }
+keyed_after (change.ControlLine r) t k = record { classes = k.classes; definitions = k.definitions; recipes = k.recipes; master_lines = k.master_lines; jobs = k.jobs; batches = k.batches; control_lines = sorted_put control_line_order control_line_total r t.control_lines k.control_lines; lots = k.lots; sublots = k.sublots; holds = k.holds; edges = k.edges; receipts = k.receipts; recalls = k.recalls; marks = k.marks }
+keyed_after (change.Event r) t k = record { classes = k.classes; definitions = k.definitions; recipes = k.recipes; master_lines = k.master_lines; jobs = k.jobs; batches = k.batches; control_lines = k.control_lines; lots = k.lots; sublots = k.sublots; holds = k.holds; edges = k.edges; receipts = k.receipts; recalls = k.recalls; marks = k.marks }
+keyed_after (change.Lot r) t k = record { classes = k.classes; definitions = k.definitions; recipes = k.recipes; master_lines = k.master_lines; jobs = k.jobs; batches = k.batches; control_lines = k.control_lines; lots = sorted_put lot_order lot_total r t.lots k.lots; sublots = k.sublots; holds = k.holds; edges = k.edges; receipts = k.receipts; recalls = k.recalls; marks = k.marks }
+keyed_after (change.Sublot r) t k = record { classes = k.classes; definitions = k.definitions; recipes = k.recipes; master_lines = k.master_lines; jobs = k.jobs; batches = k.batches; control_lines = k.control_lines; lots = k.lots; sublots = sorted_put sublot_order sublot_total r t.sublots k.sublots; holds = k.holds; edges = k.edges; receipts = k.receipts; recalls = k.recalls; marks = k.marks }
+keyed_after (change.Movement r) t k = record { classes = k.classes; definitions = k.definitions; recipes = k.recipes; master_lines = k.master_lines; jobs = k.jobs; batches = k.batches; control_lines = k.control_lines; lots = k.lots; sublots = k.sublots; holds = k.holds; edges = k.edges; receipts = k.receipts; recalls = k.recalls; marks = k.marks }
+keyed_after (change.Hold r) t k = record { classes = k.classes; definitions = k.definitions; recipes = k.recipes; master_lines = k.master_lines; jobs = k.jobs; batches = k.batches; control_lines = k.control_lines; lots = k.lots; sublots = k.sublots; holds = sorted_put hold_order hold_total r t.holds k.holds; edges = k.edges; receipts = k.receipts; recalls = k.recalls; marks = k.marks }
+keyed_after (change.Edge r) t k = record { classes = k.classes; definitions = k.definitions; recipes = k.recipes; master_lines = k.master_lines; jobs = k.jobs; batches = k.batches; control_lines = k.control_lines; lots = k.lots; sublots = k.sublots; holds = k.holds; edges = sorted_put edge_order edge_total r t.edges k.edges; receipts = k.receipts; recalls = k.recalls; marks = k.marks }
+keyed_after (change.Receipt r) t k = record { classes = k.classes; definitions = k.definitions; recipes = k.recipes; master_lines = k.master_lines; jobs = k.jobs; batches = k.batches; control_lines = k.control_lines; lots = k.lots; sublots = k.sublots; holds = k.holds; edges = k.edges; receipts = sorted_put receipt_order receipt_total r t.receipts k.receipts; recalls = k.recalls; marks = k.marks }
+keyed_after (change.Unhold lot hold) t k = record { classes = k.classes; definitions = k.definitions; recipes = k.recipes; master_lines = k.master_lines; jobs = k.jobs; batches = k.batches; control_lines = k.control_lines; lots = k.lots; sublots = k.sublots; holds = sorted_filter hold_order _ t.holds k.holds; edges = k.edges; receipts = k.receipts; recalls = k.recalls; marks = k.marks }
+keyed_after (change.Recall r) t k = record { classes = k.classes; definitions = k.definitions; recipes = k.recipes; master_lines = k.master_lines; jobs = k.jobs; batches = k.batches; control_lines = k.control_lines; lots = k.lots; sublots = k.sublots; holds = k.holds; edges = k.edges; receipts = k.receipts; recalls = sorted_put recall_order recall_total r t.recalls k.recalls; marks = k.marks }
+keyed_after (change.Mark r) t k = record { classes = k.classes; definitions = k.definitions; recipes = k.recipes; master_lines = k.master_lines; jobs = k.jobs; batches = k.batches; control_lines = k.control_lines; lots = k.lots; sublots = k.sublots; holds = k.holds; edges = k.edges; receipts = k.receipts; recalls = k.recalls; marks = sorted_put mark_order mark_total r t.marks k.marks }
+keyed_after (change.Unmark recall) t k = record { classes = k.classes; definitions = k.definitions; recipes = k.recipes; master_lines = k.master_lines; jobs = k.jobs; batches = k.batches; control_lines = k.control_lines; lots = k.lots; sublots = k.sublots; holds = k.holds; edges = k.edges; receipts = k.receipts; recalls = k.recalls; marks = sorted_filter mark_order _ t.marks k.marks }
 
 -- ---- the same rows, changed alike
 
@@ -280,6 +313,9 @@ rows_same (change.Hold r) a b same = changed_same 12 hold_form (row_of_hold r) a
 rows_same (change.Edge r) a b same = changed_same 13 edge_form (row_of_edge r) a b same
 rows_same (change.Receipt r) a b same = changed_same 14 receipt_form (row_of_receipt r) a b same
 rows_same (change.Unhold lot hold) a b same = taken_same 12 (1 ∷ 2 ∷ []) (Text lot ∷ Text hold ∷ []) a b same
+rows_same (change.Recall r) a b same = changed_same 15 recall_form (row_of_recall r) a b same
+rows_same (change.Mark r) a b same = changed_same 16 mark_form (row_of_mark r) a b same
+rows_same (change.Unmark recall) a b same = taken_same 16 (1 ∷ []) (Text recall ∷ []) a b same
 
 all_same : (cs : List RowChange) (a b : Contents) → SameRows a b → SameRows (all_rows_changed cs a) (all_rows_changed cs b)
 all_same [] a b same = same

@@ -1,6 +1,7 @@
 -- What a statement makes of the desk's tables.
-use Rattle.std.proofs.Common.{◌≡◌, inl, inr, refl, sym, ap, ◌∙◌, subst, ℕ, nat_le, List, [], ◌∷◌, ◌++◌, map, take, true, Some, Ok, Err, Result, OnOk, slice_get}
+use Rattle.std.proofs.Common.{◌≡◌, inl, inr, refl, sym, ap, ◌∙◌, subst, ℕ, nat_le, List, [], ◌∷◌, ◌++◌, map, take, true, false, Some, None, Ok, Err, Result, OnOk, slice_get, arith}
 use Rattle.std.proofs.lemmas.Bool.{cases_Bool}
+use Rattle.std.proofs.lemmas.Bool.Decides.{nat_tests}
 use Rattle.std.proofs.lemmas.List.{take-map}
 use Rattle.std.specs.Borrow.{Bor}
 use Rattle.sqlite.specs.Order.{Row}
@@ -19,9 +20,9 @@ use Rattle.plant_view.specs.declared.change.RowChange.{RowChange}
 use Rattle.plant_view.specs.declared.change.RowChange.TheVariants as change
 use Rattle.plant_tables.specs.DeskTables.{rows_changed, all_rows_changed}
 use Rattle.plant_tables.specs.Keyed.{IsOfSchema, AreOfSchema}
-use Rattle.plant_tables.specs.DeskForms.{desk_forms, edge_form, receipt_form, forms_of, added_forms}
+use Rattle.plant_tables.specs.DeskForms.{desk_forms, edge_form, receipt_form, recall_form, mark_form, forms_of, added_forms}
 use Rattle.plant_tables.specs.DeskIndexes.{indexes_of, desk_indexes, added_indexes, HasIndexes}
-use Rattle.plant_tables.proofs.DeskTexts.{create_texts, all_made, apart_of, front_made, index_texts, all_indexed, indexed_of, front_indexed}
+use Rattle.plant_tables.proofs.DeskTexts.{create_texts, all_made, before_fourth, apart_of, front_made, index_texts, all_indexed, indexed_of, front_indexed}
 
 pub put_moved : {X : Type 0} (schema place : ℕ) (form : Form) (text : List ℕ) (row : Row) → slice_get (forms_of schema) place ≡ Some form → IsPutText text form → fits_columns form.columns row ≡ true
     → (old new : State) (r : Result X Fault) → OnOk r (PutsRow text row old new) → OnOk r (Moves (forms_of schema) old new (changed_at place form row))
@@ -35,10 +36,37 @@ take_moved schema place form text key values is says old new (Err e) taken = tt
 
 -- the places of the tables that later schemas add
 pub edge_place : (schema : ℕ) → nat_le 2 schema ≡ true → slice_get (forms_of schema) 13 ≡ Some edge_form
-edge_place schema second = elim (cases_Bool (nat_le 3 schema)) [ inl third ↦ rw third refl | inr below ↦ rw (below, second) refl ]
+edge_place schema second = elim (cases_Bool (nat_le 4 schema)) [
+  | inl fourth ↦ rw fourth refl
+  | inr below ↦ elim (cases_Bool (nat_le 3 schema)) [ inl third ↦ rw (below, third) refl | inr earlier ↦ rw (below, earlier, second) refl ]
+]
 
 pub receipt_place : (schema : ℕ) → nat_le 3 schema ≡ true → slice_get (forms_of schema) 14 ≡ Some receipt_form
-receipt_place schema third = rw third refl
+receipt_place schema third = elim (cases_Bool (nat_le 4 schema)) [ inl fourth ↦ rw fourth refl | inr below ↦ rw (below, third) refl ]
+
+pub recall_place : (schema : ℕ) → nat_le 4 schema ≡ true → slice_get (forms_of schema) 15 ≡ Some recall_form
+recall_place schema fourth = rw fourth refl
+
+pub mark_place : (schema : ℕ) → nat_le 4 schema ≡ true → slice_get (forms_of schema) 16 ≡ Some mark_form
+mark_place schema fourth = rw fourth refl
+
+-- in the schemas before them, nothing stands there
+pub no_edge_place : (schema : ℕ) → nat_le 2 schema ≡ false → slice_get (forms_of schema) 13 ≡ None
+no_edge_place schema first =
+    let third : nat_le 3 schema ≡ false = grind (arith, nat_tests) in
+    let fourth : nat_le 4 schema ≡ false = grind (arith, nat_tests) in
+    rw (fourth, third, first) refl
+
+pub no_receipt_place : (schema : ℕ) → nat_le 3 schema ≡ false → slice_get (forms_of schema) 14 ≡ None
+no_receipt_place schema below =
+    let fourth : nat_le 4 schema ≡ false = grind (arith, nat_tests) in
+    elim (cases_Bool (nat_le 2 schema)) [ inl second ↦ rw (fourth, below, second) refl | inr first ↦ rw (fourth, below, first) refl ]
+
+pub no_recall_place : (schema : ℕ) → nat_le 4 schema ≡ false → slice_get (forms_of schema) 15 ≡ None
+no_recall_place = before_fourth (λ forms. slice_get forms 15 ≡ None) refl refl refl
+
+pub no_mark_place : (schema : ℕ) → nat_le 4 schema ≡ false → slice_get (forms_of schema) 16 ≡ None
+no_mark_place = before_fourth (λ forms. slice_get forms 16 ≡ None) refl refl refl
 
 -- what the texts made that were run for a schema
 pub added_founded : {X : Type 0} (schema : ℕ) (forms : List Form) (texts : List (List ℕ)) → added_forms schema ≡ forms → AreApart forms → AreMakeTexts texts forms
@@ -108,6 +136,9 @@ of_newest (change.Movement r) = tt
 of_newest (change.Hold r) = tt
 of_newest (change.Edge r) = refl
 of_newest (change.Receipt r) = refl
+of_newest (change.Recall r) = refl
+of_newest (change.Mark r) = refl
+of_newest (change.Unmark recall) = refl
 of_newest (change.Unhold lot hold) = tt
 
 pub all_of_newest : (cs : List RowChange) → AreOfSchema newest_schema cs

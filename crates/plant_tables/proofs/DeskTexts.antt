@@ -1,5 +1,5 @@
 -- What the fixed texts say, by computing them.
-use Rattle.std.proofs.Common.{◌≡◌, refl, inl, inr, ℕ, zero, suc, nat_le, true, List, [], ◌∷◌, take, arith}
+use Rattle.std.proofs.Common.{◌≡◌, refl, inl, inr, ℕ, zero, suc, nat_le, true, false, List, [], ◌∷◌, ◌++◌, take, arith}
 use Rattle.std.proofs.lemmas.Bool.{cases_Bool}
 use Rattle.std.proofs.lemmas.Bool.Decides.{nat_tests}
 use Rattle.sqlite_value.specs.Keys.{first_key}
@@ -10,10 +10,10 @@ use Rattle.table_forms.specs.Texts.{IsMakeText, IsPutText, IsUpsertText, IsTakeT
 use Rattle.table_forms.specs.Moves.{AreApart, AreMakeTexts}
 use Rattle.table_forms.specs.Forms.{Form}
 use Rattle.table_forms.specs.Indexes.{IndexForm, IsIndexText, AreIndexTexts, AreOf, index_in, are_named_apart}
-use Rattle.table_forms.proofs.Computed.{takes_two, upserts_row}
-use Rattle.plant_tables.specs.DeskForms.{desk_forms, first_forms, forms_of, meta_form, class_form, definition_form, recipe_form, recipe_line_form, job_form, batch_form, control_line_form, batch_event_form, lot_form, sublot_form, movement_form, hold_form, edge_form, receipt_form}
-use Rattle.plant_tables.specs.DeskIndexes.{batch_event_by_batch, movement_by_lot, movement_by_batch, edge_by_end, second_indexes, indexes_of, desk_indexes}
-use Rattle.plant_tables.specs.declared.forms.TheConstants.{CREATE_META, PUT_META, CREATE_CLASS, PUT_CLASS, CREATE_DEFINITION, PUT_DEFINITION, CREATE_RECIPE, PUT_RECIPE, CREATE_RECIPE_LINE, PUT_RECIPE_LINE, CREATE_JOB, PUT_JOB, CREATE_BATCH, PUT_BATCH, CREATE_CONTROL_LINE, PUT_CONTROL_LINE, CREATE_BATCH_EVENT, PUT_BATCH_EVENT, CREATE_LOT, PUT_LOT, CREATE_SUBLOT, PUT_SUBLOT, CREATE_MOVEMENT, PUT_MOVEMENT, CREATE_HOLD, PUT_HOLD, CREATE_EDGE, PUT_EDGE, CREATE_RECEIPT, PUT_RECEIPT, TAKE_HOLD, CREATE_BATCH_EVENT_BY_BATCH, CREATE_MOVEMENT_BY_LOT, CREATE_MOVEMENT_BY_BATCH, CREATE_EDGE_BY_END}
+use Rattle.table_forms.proofs.Computed.{takes_one, takes_two, upserts_row}
+use Rattle.plant_tables.specs.DeskForms.{desk_forms, first_forms, forms_of, meta_form, class_form, definition_form, recipe_form, recipe_line_form, job_form, batch_form, control_line_form, batch_event_form, lot_form, sublot_form, movement_form, hold_form, edge_form, receipt_form, recall_form, mark_form}
+use Rattle.plant_tables.specs.DeskIndexes.{batch_event_by_batch, movement_by_lot, movement_by_batch, edge_by_end, mark_by_node, second_indexes, fourth_indexes, indexes_of, desk_indexes}
+use Rattle.plant_tables.specs.declared.forms.TheConstants.{CREATE_META, PUT_META, CREATE_CLASS, PUT_CLASS, CREATE_DEFINITION, PUT_DEFINITION, CREATE_RECIPE, PUT_RECIPE, CREATE_RECIPE_LINE, PUT_RECIPE_LINE, CREATE_JOB, PUT_JOB, CREATE_BATCH, PUT_BATCH, CREATE_CONTROL_LINE, PUT_CONTROL_LINE, CREATE_BATCH_EVENT, PUT_BATCH_EVENT, CREATE_LOT, PUT_LOT, CREATE_SUBLOT, PUT_SUBLOT, CREATE_MOVEMENT, PUT_MOVEMENT, CREATE_HOLD, PUT_HOLD, CREATE_EDGE, PUT_EDGE, CREATE_RECEIPT, PUT_RECEIPT, CREATE_RECALL, PUT_RECALL, CREATE_MARK, PUT_MARK, TAKE_HOLD, TAKE_MARKS, CREATE_BATCH_EVENT_BY_BATCH, CREATE_MOVEMENT_BY_LOT, CREATE_MOVEMENT_BY_BATCH, CREATE_EDGE_BY_END, CREATE_MARK_BY_NODE}
 
 makes_meta : IsMakeText CREATE_META.now meta_form
 unfolding everything
@@ -180,20 +180,51 @@ puts_receipt =
     (record { parsed = parse_or (first PUT_RECEIPT.now); reads = refl; columns = names_in (parse_or (first PUT_RECEIPT.now)).statement; rows = rows_in (parse_or (first PUT_RECEIPT.now)).statement; statement = refl; untimed = refl; made = λ schema tree. refl; above = refl })
     refl (record { aims = λ tree. refl; apart = refl; few = refl; some = refl; found = λ tree. refl; set = λ tree. refl; made = λ tree. refl }))
 
+makes_recall : IsMakeText CREATE_RECALL.now recall_form
+unfolding everything
+makes_recall = record { parsed = parse_or (first CREATE_RECALL.now); reads = refl; def = definition_in (parse_or (first CREATE_RECALL.now)).statement; statement = refl; name = refl; unconditional = refl; plain = refl; defines = refl; whole = refl; table_is = refl; own_name = refl }
+
+pub puts_recall : IsPutText PUT_RECALL.now recall_form
+unfolding everything
+puts_recall =
+    inr (upserts_row PUT_RECALL.now recall_form (1 ∷ [])
+    (record { parsed = parse_or (first PUT_RECALL.now); reads = refl; columns = names_in (parse_or (first PUT_RECALL.now)).statement; rows = rows_in (parse_or (first PUT_RECALL.now)).statement; statement = refl; untimed = refl; made = λ schema tree. refl; above = refl })
+    refl (record { aims = λ tree. refl; apart = refl; few = refl; some = refl; found = λ tree. refl; set = λ tree. refl; made = λ tree. refl }))
+
+makes_mark : IsMakeText CREATE_MARK.now mark_form
+unfolding everything
+makes_mark = record { parsed = parse_or (first CREATE_MARK.now); reads = refl; def = definition_in (parse_or (first CREATE_MARK.now)).statement; statement = refl; name = refl; unconditional = refl; plain = refl; defines = refl; whole = refl; table_is = refl; own_name = refl }
+
+pub puts_mark : IsPutText PUT_MARK.now mark_form
+unfolding everything
+puts_mark =
+    inr (upserts_row PUT_MARK.now mark_form (1 ∷ 2 ∷ 3 ∷ [])
+    (record { parsed = parse_or (first PUT_MARK.now); reads = refl; columns = names_in (parse_or (first PUT_MARK.now)).statement; rows = rows_in (parse_or (first PUT_MARK.now)).statement; statement = refl; untimed = refl; made = λ schema tree. refl; above = refl })
+    refl (record { aims = λ tree. refl; apart = refl; few = refl; some = refl; found = λ tree. refl; set = λ tree. refl; made = λ tree. refl }))
+
 pub takes_hold : IsTakeText TAKE_HOLD.now hold_form (1 ∷ 2 ∷ [])
 unfolding everything first_key
 takes_hold = takes_two TAKE_HOLD.now hold_form (parse_or (first TAKE_HOLD.now)) 1 2 refl refl refl (record { above = refl; found = λ tree. (refl, refl, (refl, refl, tt)); tested = λ tree. refl })
     (λ tree. (record { place = refl; strict = refl; named = refl }, record { place = refl; strict = refl; named = refl }))
 
+pub takes_marks : IsTakeText TAKE_MARKS.now mark_form (1 ∷ [])
+unfolding everything first_key
+takes_marks = takes_one TAKE_MARKS.now mark_form (parse_or (first TAKE_MARKS.now)) 1 refl refl refl (record { above = refl; found = λ tree. (refl, refl, tt); tested = λ tree. refl })
+    (λ tree. record { place = refl; strict = refl; named = refl })
+
 abbrev pub create_texts : List (List ℕ)
-create_texts = CREATE_META.now ∷ CREATE_CLASS.now ∷ CREATE_DEFINITION.now ∷ CREATE_RECIPE.now ∷ CREATE_RECIPE_LINE.now ∷ CREATE_JOB.now ∷ CREATE_BATCH.now ∷ CREATE_CONTROL_LINE.now ∷ CREATE_BATCH_EVENT.now ∷ CREATE_LOT.now ∷ CREATE_SUBLOT.now ∷ CREATE_MOVEMENT.now ∷ CREATE_HOLD.now ∷ CREATE_EDGE.now ∷ CREATE_RECEIPT.now ∷ []
+create_texts = CREATE_META.now ∷ CREATE_CLASS.now ∷ CREATE_DEFINITION.now ∷ CREATE_RECIPE.now ∷ CREATE_RECIPE_LINE.now ∷ CREATE_JOB.now ∷ CREATE_BATCH.now ∷ CREATE_CONTROL_LINE.now ∷ CREATE_BATCH_EVENT.now ∷ CREATE_LOT.now ∷ CREATE_SUBLOT.now ∷ CREATE_MOVEMENT.now ∷ CREATE_HOLD.now ∷ CREATE_EDGE.now ∷ CREATE_RECEIPT.now ∷ CREATE_RECALL.now ∷ CREATE_MARK.now ∷ []
 
 pub all_made : AreMakeTexts create_texts desk_forms
-all_made = (makes_meta, (makes_class, (makes_definition, (makes_recipe, (makes_recipe_line, (makes_job, (makes_batch, (makes_control_line, (makes_batch_event, (makes_lot, (makes_sublot, (makes_movement, (makes_hold, (makes_edge, (makes_receipt, tt)))))))))))))))
+all_made = (makes_meta, (makes_class, (makes_definition, (makes_recipe, (makes_recipe_line, (makes_job, (makes_batch, (makes_control_line, (makes_batch_event, (makes_lot, (makes_sublot, (makes_movement, (makes_hold, (makes_edge, (makes_receipt, (makes_recall, (makes_mark, tt)))))))))))))))))
 
 pub desk_apart : AreApart desk_forms
 unfolding everything
 desk_apart = record { apart = λ tree. refl }
+
+third_apart : AreApart (forms_of 3)
+unfolding everything
+third_apart = record { apart = λ tree. refl }
 
 second_apart : AreApart (forms_of 2)
 unfolding everything
@@ -203,11 +234,22 @@ first_apart : AreApart first_forms
 unfolding everything
 first_apart = record { apart = λ tree. refl }
 
-pub apart_of : (schema : ℕ) → AreApart (forms_of schema)
-apart_of schema = elim (cases_Bool (nat_le 3 schema)) [
-  | inl third ↦ rw third desk_apart
-  | inr below ↦ elim (cases_Bool (nat_le 2 schema)) [ inl second ↦ rw (below, second) second_apart | inr first ↦ rw (below, first) first_apart ]
+-- what is so of the tables of each schema before the fourth
+pub before_fourth : (P : List Form → Type 0) → P (forms_of 1) → P (forms_of 2) → P (forms_of 3) → (schema : ℕ) → nat_le 4 schema ≡ false → P (forms_of schema)
+before_fourth P first second third schema before = elim (cases_Bool (nat_le 3 schema)) [
+  | inl at_third ↦ rw (before, at_third) third
+  | inr below ↦ elim (cases_Bool (nat_le 2 schema)) [ inl at_second ↦ rw (before, below, at_second) second | inr at_first ↦ rw (before, below, at_first) first ]
 ]
+
+-- and of each of the four
+pub by_schema : (P : List Form → Type 0) → P (forms_of 1) → P (forms_of 2) → P (forms_of 3) → P (forms_of 4) → (schema : ℕ) → P (forms_of schema)
+by_schema P first second third fourth schema = elim (cases_Bool (nat_le 4 schema)) [
+  | inl at_fourth ↦ rw at_fourth fourth
+  | inr before ↦ before_fourth P first second third schema before
+]
+
+pub apart_of : (schema : ℕ) → AreApart (forms_of schema)
+apart_of = by_schema AreApart first_apart second_apart third_apart desk_apart
 
 -- texts that make the tables of some forms: so many of them make those of as many forms
 pub front_made : (n : ℕ) (texts : List (List ℕ)) (forms : List Form) → AreMakeTexts texts forms → AreMakeTexts (take n texts) (take n forms)
@@ -233,13 +275,26 @@ pub receipt_apart : AreApart (receipt_form ∷ [])
 unfolding everything
 receipt_apart = record { apart = λ tree. refl }
 
-pub later_apart : AreApart (edge_form ∷ receipt_form ∷ [])
-unfolding everything
-later_apart = record { apart = λ tree. refl }
+pub recalls_made : AreMakeTexts (CREATE_RECALL.now ∷ CREATE_MARK.now ∷ []) (recall_form ∷ mark_form ∷ [])
+recalls_made = (makes_recall, (makes_mark, tt))
 
-pub indexes_apart_of_receipts : are_named_apart second_indexes (receipt_form ∷ []) ≡ true
+pub recalls_apart : AreApart (recall_form ∷ mark_form ∷ [])
 unfolding everything
-indexes_apart_of_receipts = refl
+recalls_apart = record { apart = λ tree. refl }
+
+-- ---- and those that the ones after it add
+
+pub after_first_apart : AreApart (edge_form ∷ receipt_form ∷ recall_form ∷ mark_form ∷ [])
+unfolding everything
+after_first_apart = record { apart = λ tree. refl }
+
+pub after_second_apart : AreApart (receipt_form ∷ recall_form ∷ mark_form ∷ [])
+unfolding everything
+after_second_apart = record { apart = λ tree. refl }
+
+pub second_indexes_apart : are_named_apart second_indexes (receipt_form ∷ recall_form ∷ mark_form ∷ []) ≡ true
+unfolding everything
+second_indexes_apart = refl
 
 pub none_apart : AreApart []
 none_apart = record { apart = λ tree. refl }
@@ -262,26 +317,45 @@ indexes_edge_by_end : IsIndexText CREATE_EDGE_BY_END.now edge_by_end
 unfolding everything
 indexes_edge_by_end = record { parsed = parse_or (first CREATE_EDGE_BY_END.now); reads = refl; untimed = refl; whole = refl; def = index_in (parse_or (first CREATE_EDGE_BY_END.now)).statement; statement = refl; unconditional = refl; table_is = refl; own_name = refl; defines = λ tree. refl }
 
+indexes_mark_by_node : IsIndexText CREATE_MARK_BY_NODE.now mark_by_node
+unfolding everything
+indexes_mark_by_node = record { parsed = parse_or (first CREATE_MARK_BY_NODE.now); reads = refl; untimed = refl; whole = refl; def = index_in (parse_or (first CREATE_MARK_BY_NODE.now)).statement; statement = refl; unconditional = refl; table_is = refl; own_name = refl; defines = λ tree. refl }
+
 abbrev pub index_texts : List (List ℕ)
-index_texts = CREATE_BATCH_EVENT_BY_BATCH.now ∷ CREATE_MOVEMENT_BY_LOT.now ∷ CREATE_MOVEMENT_BY_BATCH.now ∷ CREATE_EDGE_BY_END.now ∷ []
+index_texts = CREATE_BATCH_EVENT_BY_BATCH.now ∷ CREATE_MOVEMENT_BY_LOT.now ∷ CREATE_MOVEMENT_BY_BATCH.now ∷ CREATE_EDGE_BY_END.now ∷ CREATE_MARK_BY_NODE.now ∷ []
 
 pub all_indexed : AreIndexTexts index_texts desk_indexes
-all_indexed = (indexes_batch_event_by_batch, (indexes_movement_by_lot, (indexes_movement_by_batch, (indexes_edge_by_end, tt))))
+all_indexed = (indexes_batch_event_by_batch, (indexes_movement_by_lot, (indexes_movement_by_batch, (indexes_edge_by_end, (indexes_mark_by_node, tt)))))
 
-indexes_of_desk : AreOf desk_indexes desk_forms
-indexes_of_desk = (has_got desk_forms 8 batch_event_form refl, (has_got desk_forms 11 movement_form refl, (has_got desk_forms 11 movement_form refl, (has_got desk_forms 13 edge_form refl, tt))))
+pub fourth_indexed : AreIndexTexts (CREATE_MARK_BY_NODE.now ∷ []) fourth_indexes
+fourth_indexed = (indexes_mark_by_node, tt)
+
+-- tables among which are those that the second indexes are of
+second_of : (more : List Form) → AreOf second_indexes (first_forms ++ edge_form ∷ more)
+second_of more =
+    let forms = first_forms ++ edge_form ∷ more in
+    (has_got forms 8 batch_event_form refl, (has_got forms 11 movement_form refl, (has_got forms 11 movement_form refl, (has_got forms 13 edge_form refl, tt))))
 
 pub indexes_of_second : AreOf second_indexes (forms_of 2)
-indexes_of_second = (has_got (forms_of 2) 8 batch_event_form refl, (has_got (forms_of 2) 11 movement_form refl, (has_got (forms_of 2) 11 movement_form refl, (has_got (forms_of 2) 13 edge_form refl, tt))))
+indexes_of_second = second_of []
 
--- the third schema has what the second has
-pub third_second : (schema : ℕ) → nat_le 3 schema ≡ true → nat_le 2 schema ≡ true
-third_second schema third = grind (arith, nat_tests)
+pub indexes_of_fourth : AreOf fourth_indexes (forms_of 4)
+indexes_of_fourth = (has_got (forms_of 4) 16 mark_form refl, tt)
+
+indexes_of_desk : AreOf desk_indexes desk_forms
+indexes_of_desk = let second = second_of (receipt_form ∷ recall_form ∷ mark_form ∷ []) in (second.0, (second.1.0, (second.1.1.0, (second.1.1.1.0, indexes_of_fourth))))
+
+-- a later schema has what the second has
+at_least_second : (schema : ℕ) → nat_le 3 schema ≡ true → nat_le 2 schema ≡ true
+at_least_second schema third = grind (arith, nat_tests)
 
 pub indexed_of : (schema : ℕ) → AreOf (indexes_of schema) (forms_of schema)
-indexed_of schema = elim (cases_Bool (nat_le 3 schema)) [
-  | inl third ↦ rw (third, third_second schema third) indexes_of_desk
-  | inr below ↦ elim (cases_Bool (nat_le 2 schema)) [ inl second ↦ rw (below, second) indexes_of_second | inr first ↦ rw (below, first) tt ]
+indexed_of schema = elim (cases_Bool (nat_le 4 schema)) [
+  | inl fourth ↦ rw fourth indexes_of_desk
+  | inr below ↦ elim (cases_Bool (nat_le 3 schema)) [
+    | inl third ↦ rw (below, third, at_least_second schema third) (second_of (receipt_form ∷ []))
+    | inr earlier ↦ elim (cases_Bool (nat_le 2 schema)) [ inl second ↦ rw (below, earlier, second) indexes_of_second | inr first ↦ rw (below, earlier, first) tt ]
+  ]
 ]
 
 pub front_indexed : (n : ℕ) (texts : List (List ℕ)) (indexes : List IndexForm) → AreIndexTexts texts indexes → AreIndexTexts (take n texts) (take n indexes)

@@ -103,3 +103,7 @@ three_tied p q r = both_tied _ _ p (ordering_then q r) refl (both_tied _ _ q r r
 pub number_texts : (m n : ℕ) (a b c d : List ℕ) → same_key (1 ∷ 2 ∷ 3 ∷ []) (numbered_pair m a c) (numbered_pair n b d) ≡ is_eq (ordering_then (nat_cmp m n) (ordering_then (id_cmp a b) (id_cmp c d)))
 unfolding first_key
 number_texts m n a b c d = rw (number_tie m n, text_tie a b, text_tie c d, and_true) (three_tied (nat_cmp m n) (id_cmp a b) (id_cmp c d))
+
+pub text_number_text : (a b : List ℕ) (m n : ℕ) (c d : List ℕ) → same_key (1 ∷ 2 ∷ 3 ∷ []) (Text a ∷ number m ∷ Text c ∷ []) (Text b ∷ number n ∷ Text d ∷ []) ≡ is_eq (ordering_then (id_cmp a b) (ordering_then (nat_cmp m n) (id_cmp c d)))
+unfolding first_key
+text_number_text a b m n c d = rw (text_tie a b, number_tie m n, text_tie c d, and_true) (three_tied (id_cmp a b) (nat_cmp m n) (id_cmp c d))

@@ -10,6 +10,7 @@ use Rattle.sqlite.specs.Effect.{Database, IsDatabase}
 use Rattle.sqlite.specs.State.{State}
 use Rattle.plant_base.specs.State.{newest_schema}
 use Rattle.plant_base.specs.declared.rows.Meta.{Meta}
+use Rattle.plant_view.specs.Recalls.{marks}
 use Rattle.plant_view.specs.declared.change.RowChange.TheVariants as change
 use Rattle.table_forms.specs.Standing.{AreFree, KeepsOthers}
 use Rattle.table_forms.specs.Stopping.{IsSettled, IsUndone}
@@ -31,10 +32,10 @@ all_empty (l ∷ ls) none (suc k) = all_empty ls none.1 k
 
 -- the one row of meta, and no other row
 one_row : SameRows (rows_changed (change.Meta opening_meta) (λ _. [])) (contents_of opening_tables)
-unfolding rows_changed
+unfolding rows_changed marks
 one_row zero = IsPermutation-refl _
 one_row (suc k) =
-    let empty = all_empty ([] ∷ [] ∷ [] ∷ [] ∷ [] ∷ [] ∷ [] ∷ [] ∷ [] ∷ [] ∷ [] ∷ [] ∷ [] ∷ [] ∷ []) (refl, (refl, (refl, (refl, (refl, (refl, (refl, (refl, (refl, (refl, (refl, (refl, (refl, (refl, tt)))))))))))))) k in
+    let empty = all_empty ([] ∷ [] ∷ [] ∷ [] ∷ [] ∷ [] ∷ [] ∷ [] ∷ [] ∷ [] ∷ [] ∷ [] ∷ [] ∷ [] ∷ [] ∷ [] ∷ []) (refl, (refl, (refl, (refl, (refl, (refl, (refl, (refl, (refl, (refl, (refl, (refl, (refl, (refl, (refl, (refl, tt)))))))))))))))) k in
     let miss : (suc k == 0) ≡ false = false_from_ne_true _ (λ hit. let zero = eqb-true (suc k) 0 hit in absurd (omega arith)) in
     rw miss (subst (IsPermutation []) (sym empty) (IsPermutation-refl []))
 

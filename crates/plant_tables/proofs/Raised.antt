@@ -16,41 +16,36 @@ use Rattle.table_forms.specs.Moves.{Moves, Founds, LeavesFree, AreApart}
 use Rattle.table_forms.specs.Indexes.{AddsIndexes, are_named_apart}
 use Rattle.table_forms.proofs.Founding.{got_behind}
 use Rattle.table_forms.proofs.Moving.{others_then, moves_then, moves_as}
-use Rattle.plant_tables.specs.DeskForms.{edge_form, receipt_form, forms_of, later_forms, added_forms, desk_forms}
+use Rattle.plant_tables.specs.DeskForms.{edge_form, receipt_form, recall_form, mark_form, forms_of, later_forms, added_forms, desk_forms}
 use Rattle.plant_tables.specs.DeskIndexes.{added_indexes}
 use Rattle.plant_tables.specs.DeskTables.{contents_of, rows_changed, all_rows_changed}
 use Rattle.plant_tables.specs.Keyed.{HoldsTablesOf, LacksLater, AreFresh, AreOfSchema, MovesTablesOf}
 use Rattle.plant_tables.specs.DeskStopping.{IsAtOf, IsCutShortOf}
 use Rattle.plant_tables.specs.Raising.{IsOlder, AreRisable, RaisesTables, raising}
-use Rattle.plant_tables.proofs.DeskTexts.{later_apart, receipt_apart, indexes_apart_of_receipts}
+use Rattle.plant_tables.proofs.DeskTexts.{after_first_apart, after_second_apart, recalls_apart, second_indexes_apart}
 use Rattle.plant_tables.proofs.DeskMoves.{one_more_change}
 use Rattle.plant_tables.proofs.Ended.{tables_moved, ended_at, cut_at}
-use Rattle.plant_tables_columns.specs.TableColumns.{row_of_edge, row_of_receipt}
+use Rattle.plant_tables_columns.specs.TableColumns.{row_of_edge, row_of_receipt, row_of_recall, row_of_mark}
 
 -- ---- the older schemas
 
-one_or_two : (version : ℕ) → IsOlder version → (version ≡ 1) ⊎ (version ≡ 2)
-one_or_two zero older = absurd (omega (arith, older.0))
-one_or_two (suc zero) older = inl refl
-one_or_two (suc (suc zero)) older = inr refl
-one_or_two (suc (suc (suc n))) older = absurd (omega (arith, older.1))
-
 -- what is so of each older schema
-pub by_older : (P : ℕ → Type 0) → P 1 → P 2 → (version : ℕ) → IsOlder version → P version
-by_older P first second version older = elim (one_or_two version older) [
-  | inl one ↦ subst P (sym one) first
-  | inr two ↦ subst P (sym two) second
-]
+pub by_older : (P : ℕ → Type 0) → P 1 → P 2 → P 3 → (version : ℕ) → IsOlder version → P version
+by_older P first second third zero older = absurd (omega (arith, older.0))
+by_older P first second third (suc zero) older = first
+by_older P first second third (suc (suc zero)) older = second
+by_older P first second third (suc (suc (suc zero))) older = third
+by_older P first second third (suc (suc (suc (suc n)))) older = absurd (omega (arith, older.1))
 
 -- the tables of the next schema are those of this one, and those that it adds
 next_is : (version : ℕ) → IsOlder version → forms_of (version + 1) ≡ forms_of version ++ added_forms (version + 1)
-next_is = by_older (λ v. forms_of (v + 1) ≡ forms_of v ++ added_forms (v + 1)) refl refl
+next_is = by_older (λ v. forms_of (v + 1) ≡ forms_of v ++ added_forms (v + 1)) refl refl refl
 
 later_is : (version : ℕ) → IsOlder version → later_forms version ≡ added_forms (version + 1) ++ later_forms (version + 1)
-later_is = by_older (λ v. later_forms v ≡ added_forms (v + 1) ++ later_forms (v + 1)) refl refl
+later_is = by_older (λ v. later_forms v ≡ added_forms (v + 1) ++ later_forms (v + 1)) refl refl refl
 
 desk_is : (version : ℕ) → IsOlder version → desk_forms ≡ forms_of (version + 1) ++ later_forms (version + 1)
-desk_is = by_older (λ v. desk_forms ≡ forms_of (v + 1) ++ later_forms (v + 1)) refl refl
+desk_is = by_older (λ v. desk_forms ≡ forms_of (v + 1) ++ later_forms (v + 1)) refl refl refl
 
 -- ---- lists of which one stands behind the other
 
@@ -103,10 +98,10 @@ free_after version older schema free = record {
 
 -- the names of what a schema adds are not those of later tables
 tables_apart : (version : ℕ) → IsOlder version → AreApart (added_forms (version + 1) ++ later_forms (version + 1))
-tables_apart = by_older (λ v. AreApart (added_forms (v + 1) ++ later_forms (v + 1))) later_apart receipt_apart
+tables_apart = by_older (λ v. AreApart (added_forms (v + 1) ++ later_forms (v + 1))) after_first_apart after_second_apart recalls_apart
 
 indexes_apart : (version : ℕ) → IsOlder version → are_named_apart (added_indexes (version + 1)) (later_forms (version + 1)) ≡ true
-indexes_apart = by_older (λ v. are_named_apart (added_indexes (v + 1)) (later_forms (v + 1)) ≡ true) indexes_apart_of_receipts refl
+indexes_apart = by_older (λ v. are_named_apart (added_indexes (v + 1)) (later_forms (v + 1)) ≡ true) second_indexes_apart refl refl
 
 -- ---- tables of an older schema have no rows of those that are added
 
@@ -118,11 +113,16 @@ no_receipts : (t : Tables) → LacksLater 2 t → (j : ℕ) (form : Form) → sl
 no_receipts t lacks zero form is = ap (map row_of_receipt) (lacks.receipts refl)
 no_receipts t lacks (suc j) form is = absurd cc
 
+no_recalls : (t : Tables) → LacksLater 3 t → (j : ℕ) (form : Form) → slice_get (recall_form ∷ mark_form ∷ []) j ≡ Some form → contents_of t (15 + j) ≡ []
+no_recalls t lacks zero form is = ap (map row_of_recall) (lacks.recalls refl)
+no_recalls t lacks (suc zero) form is = ap (map row_of_mark) (lacks.marks refl)
+no_recalls t lacks (suc (suc j)) form is = absurd cc
+
 abbrev HasNoAdded : Tables → ℕ → Type 0
 HasNoAdded t version = LacksLater version t → (j : ℕ) (form : Form) → slice_get (added_forms (version + 1)) j ≡ Some form → contents_of t (length (forms_of version) + j) ≡ []
 
 none_added : (t : Tables) (version : ℕ) → IsOlder version → HasNoAdded t version
-none_added t = by_older (HasNoAdded t) (no_edges t) (no_receipts t)
+none_added t = by_older (HasNoAdded t) (no_edges t) (no_receipts t) (no_recalls t)
 
 -- The tables that stand, and the added ones, which were made and are empty, are those of the next schema.
 module _ (version : ℕ) (older : IsOlder version) (a b : State) (t : Tables) (founds : Founds (added_forms (version + 1)) a b) (lacks : LacksLater version t) (free : AreFree (later_forms version) a.now.schema) (holds : HoldsTablesOf version a.now t) where

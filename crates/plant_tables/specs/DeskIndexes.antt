@@ -1,9 +1,9 @@
 -- The indexes that serve look-ups in tables of the desk.
-use Rattle.std.specs.Prelude.{◌≡◌, ℕ, ◌==◌, nat_le, if◌then◌else◌, List, [], ◌∷◌, slice_get, Some, codes}
+use Rattle.std.specs.Prelude.{◌≡◌, ℕ, ◌==◌, nat_le, if◌then◌else◌, List, [], ◌∷◌, ◌++◌, slice_get, Some, codes}
 use Rattle.sqlite.specs.Schema.{Schema}
 use Rattle.plant_base.specs.State.{newest_schema}
 use Rattle.table_forms.specs.Indexes.{IndexForm, HasIndex}
-use Rattle.plant_tables.specs.DeskForms.{batch_event_form, movement_form, edge_form}
+use Rattle.plant_tables.specs.DeskForms.{batch_event_form, movement_form, edge_form, mark_form}
 
 abbrev pub batch_event_by_batch : IndexForm
 batch_event_by_batch = record { name = codes "batch_event_by_batch"; table = batch_event_form; places = 2 ∷ [] }
@@ -17,17 +17,24 @@ movement_by_batch = record { name = codes "movement_by_batch"; table = movement_
 abbrev pub edge_by_end : IndexForm
 edge_by_end = record { name = codes "edge_by_end"; table = edge_form; places = 1 ∷ 3 ∷ 2 ∷ [] }
 
+abbrev pub mark_by_node : IndexForm
+mark_by_node = record { name = codes "mark_by_node"; table = mark_form; places = 2 ∷ 3 ∷ [] }
+
 -- those that the second schema adds
 abbrev pub second_indexes : List IndexForm
 second_indexes = batch_event_by_batch ∷ movement_by_lot ∷ movement_by_batch ∷ edge_by_end ∷ []
 
--- those of a schema: the first has none
+-- those that the fourth adds
+abbrev pub fourth_indexes : List IndexForm
+fourth_indexes = mark_by_node ∷ []
+
+-- those of a schema: the first has none, and the third those of the second
 abbrev pub indexes_of : ℕ → List IndexForm
-indexes_of schema = if nat_le 2 schema then second_indexes else []
+indexes_of schema = if nat_le 4 schema then second_indexes ++ fourth_indexes else (if nat_le 2 schema then second_indexes else [])
 
 -- those that it adds to the one before it
 abbrev pub added_indexes : ℕ → List IndexForm
-added_indexes schema = if schema == 2 then second_indexes else []
+added_indexes schema = if schema == 2 then second_indexes else (if schema == 4 then fourth_indexes else [])
 
 -- those of the newest
 abbrev pub desk_indexes : List IndexForm

@@ -7,8 +7,8 @@ use Rattle.table_forms.specs.Moves.{changed_at, taken_at}
 use Rattle.plant_view.specs.Tables.{Tables}
 use Rattle.plant_view.specs.declared.change.RowChange.{RowChange}
 use Rattle.plant_view.specs.declared.change.RowChange.TheVariants as change
-use Rattle.plant_tables.specs.DeskForms.{meta_form, class_form, definition_form, recipe_form, recipe_line_form, job_form, batch_form, control_line_form, batch_event_form, lot_form, sublot_form, movement_form, hold_form, edge_form, receipt_form}
-use Rattle.plant_tables_columns.specs.TableColumns.{row_of_meta, row_of_class, row_of_definition, row_of_recipe, row_of_master_line, row_of_job, row_of_batch, row_of_control_line, row_of_event, row_of_lot, row_of_sublot, row_of_movement, row_of_hold, row_of_edge, row_of_receipt}
+use Rattle.plant_tables.specs.DeskForms.{meta_form, class_form, definition_form, recipe_form, recipe_line_form, job_form, batch_form, control_line_form, batch_event_form, lot_form, sublot_form, movement_form, hold_form, edge_form, receipt_form, recall_form, mark_form}
+use Rattle.plant_tables_columns.specs.TableColumns.{row_of_meta, row_of_class, row_of_definition, row_of_recipe, row_of_master_line, row_of_job, row_of_batch, row_of_control_line, row_of_event, row_of_lot, row_of_sublot, row_of_movement, row_of_hold, row_of_edge, row_of_receipt, row_of_recall, row_of_mark}
 
 -- the rows of each table, in the order of the forms
 abbrev pub rows_of : Tables → List (List Row)
@@ -28,6 +28,8 @@ rows_of t =
     ∷ map row_of_hold t.holds
     ∷ map row_of_edge t.edges
     ∷ map row_of_receipt t.receipts
+    ∷ map row_of_recall t.recalls
+    ∷ map row_of_mark t.marks
     ∷ []
 
 -- the rows of each table, by the place of its form
@@ -51,6 +53,9 @@ rows_changed (change.Movement r) = changed_at 11 movement_form (row_of_movement 
 rows_changed (change.Hold r) = changed_at 12 hold_form (row_of_hold r)
 rows_changed (change.Edge r) = changed_at 13 edge_form (row_of_edge r)
 rows_changed (change.Receipt r) = changed_at 14 receipt_form (row_of_receipt r)
+rows_changed (change.Recall r) = changed_at 15 recall_form (row_of_recall r)
+rows_changed (change.Mark r) = changed_at 16 mark_form (row_of_mark r)
+rows_changed (change.Unmark recall) = taken_at 16 (1 ∷ []) (Text recall ∷ [])
 rows_changed (change.Unhold lot hold) = taken_at 12 (1 ∷ 2 ∷ []) (Text lot ∷ Text hold ∷ [])
 
 -- the changes in turn

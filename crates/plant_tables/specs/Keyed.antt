@@ -4,7 +4,8 @@ use Rattle.std.specs.List.{AllByRecursion}
 use Rattle.std.specs.List.Sorted.{IsStrictlySortedBy}
 use Rattle.sqlite.specs.Effect.{Database}
 use Rattle.plant_base.specs.Edges.{edge_order}
-use Rattle.plant_base.specs.State.{newest_schema, same, class_order, definition_order, recipe_order, master_line_order, job_order, control_line_order, lot_order, hold_order, receipt_order}
+use Rattle.plant_base.specs.Recalls.{mark_order}
+use Rattle.plant_base.specs.State.{newest_schema, same, class_order, definition_order, recipe_order, master_line_order, job_order, control_line_order, lot_order, hold_order, receipt_order, recall_order}
 use Rattle.plant_view.specs.Tables.{Tables, batch_row_order, sublot_order, changed, changed_all}
 use Rattle.plant_view.specs.declared.change.RowChange.{RowChange}
 use Rattle.plant_view.specs.declared.change.RowChange.TheVariants as change
@@ -24,6 +25,8 @@ HoldsTables = HoldsTablesOf newest_schema
 pub record LacksLater (schema : ℕ) (t : Tables) : Type 0 where
   pub edges : nat_le 2 schema ≡ false → t.edges ≡ []
   pub receipts : nat_le 3 schema ≡ false → t.receipts ≡ []
+  pub recalls : nat_le 4 schema ≡ false → t.recalls ≡ []
+  pub marks : nat_le 4 schema ≡ false → t.marks ≡ []
 
 -- The rows that are put by their keys stand in the order of their keys, none with the key of another.
 pub record AreKeyed (t : Tables) : Type 0 where
@@ -39,6 +42,8 @@ pub record AreKeyed (t : Tables) : Type 0 where
   pub holds : IsStrictlySortedBy hold_order t.holds
   pub edges : IsStrictlySortedBy edge_order t.edges
   pub receipts : IsStrictlySortedBy receipt_order t.receipts
+  pub recalls : IsStrictlySortedBy recall_order t.recalls
+  pub marks : IsStrictlySortedBy mark_order t.marks
 
 -- A row that is added at the end has a key that no row has, and a batch is of an order that no other batch is of.
 abbrev pub IsFresh : RowChange → Tables → Type 0
@@ -56,6 +61,9 @@ AreFresh (c ∷ more) t = IsFresh c t × AreFresh more (changed c t)
 abbrev pub IsOfSchema : ℕ → RowChange → Type 0
 IsOfSchema schema (change.Edge r) = nat_le 2 schema ≡ true
 IsOfSchema schema (change.Receipt r) = nat_le 3 schema ≡ true
+IsOfSchema schema (change.Recall r) = nat_le 4 schema ≡ true
+IsOfSchema schema (change.Mark r) = nat_le 4 schema ≡ true
+IsOfSchema schema (change.Unmark recall) = nat_le 4 schema ≡ true
 IsOfSchema schema _ = ⊤
 
 -- it has that of each change

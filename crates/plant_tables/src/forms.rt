@@ -302,8 +302,50 @@ pub(crate) const CREATE_RECEIPT: &str =
 pub(crate) const PUT_RECEIPT: &str =
     "INSERT INTO receipt (id, seq, content) VALUES (?1, ?2, ?3) ON CONFLICT (id) DO UPDATE SET id = excluded.id, seq = excluded.seq, content = excluded.content";
 
+/// The recalls of lots.
+pub const RECALL: Form<'static> = Form {
+    name: b"recall",
+    columns: &[
+        Text(b"id"),
+        Text(b"lot"),
+        Text(b"state"),
+        Integer(b"at"),
+        Text(b"by_who"),
+        Text(b"note"),
+        IntegerOrNull(b"lift_at"),
+        TextOrNull(b"lift_by"),
+        TextOrNull(b"lift_note"),
+    ],
+    keys: &[&[1]],
+};
+
+pub(crate) const CREATE_RECALL: &str =
+    "CREATE TABLE recall (id TEXT NOT NULL, lot TEXT NOT NULL, state TEXT NOT NULL, at INTEGER NOT NULL, by_who TEXT NOT NULL, note TEXT NOT NULL, lift_at INTEGER, lift_by TEXT, lift_note TEXT, UNIQUE (id)) STRICT";
+
+pub(crate) const PUT_RECALL: &str =
+    "INSERT INTO recall (id, lot, state, at, by_who, note, lift_at, lift_by, lift_note) VALUES (?1, ?2, ?3, ?4, ?5, ?6, ?7, ?8, ?9) ON CONFLICT (id) DO UPDATE SET id = excluded.id, lot = excluded.lot, state = excluded.state, at = excluded.at, by_who = excluded.by_who, note = excluded.note, lift_at = excluded.lift_at, lift_by = excluded.lift_by, lift_note = excluded.lift_note";
+
+/// The marks on what open recalls reach.
+pub const MARK: Form<'static> = Form {
+    name: b"mark",
+    columns: &[Text(b"recall"), Integer(b"kind"), Text(b"id")],
+    keys: &[&[1, 2, 3]],
+};
+
+pub(crate) const CREATE_MARK: &str =
+    "CREATE TABLE mark (recall TEXT NOT NULL, kind INTEGER NOT NULL, id TEXT NOT NULL, UNIQUE (recall, kind, id)) STRICT";
+
+/// The index that finds the marks on a lot or batch.
+pub(crate) const CREATE_MARK_BY_NODE: &str = "CREATE INDEX mark_by_node ON mark (kind, id)";
+
+pub(crate) const PUT_MARK: &str =
+    "INSERT INTO mark (recall, kind, id) VALUES (?1, ?2, ?3) ON CONFLICT (recall, kind, id) DO UPDATE SET recall = excluded.recall, kind = excluded.kind, id = excluded.id";
+
+/// Takes all marks of a recall away.
+pub(crate) const TAKE_MARKS: &str = "DELETE FROM mark WHERE recall = ?1";
+
 /// How each table of the newest schema is declared, in the order in which they are made.
-pub fn desk_forms() -> [Form<'static>; 15]
+pub fn desk_forms() -> [Form<'static>; 17]
     ensures { result ≡ desk_forms }
 {
     [
@@ -322,11 +364,13 @@ pub fn desk_forms() -> [Form<'static>; 15]
         HOLD,
         EDGE,
         RECEIPT,
+        RECALL,
+        MARK,
     ]
 }
 
 /// The texts that make them, in the same order.
-pub(crate) const CREATE_TABLES: [&str; 15] = [
+pub(crate) const CREATE_TABLES: [&str; 17] = [
     CREATE_META,
     CREATE_CLASS,
     CREATE_DEFINITION,
@@ -342,23 +386,28 @@ pub(crate) const CREATE_TABLES: [&str; 15] = [
     CREATE_HOLD,
     CREATE_EDGE,
     CREATE_RECEIPT,
+    CREATE_RECALL,
+    CREATE_MARK,
 ];
 
 /// The texts that make the indexes of the newest schema.
-pub(crate) const CREATE_INDEXES: [&str; 4] = [
+pub(crate) const CREATE_INDEXES: [&str; 5] = [
     CREATE_BATCH_EVENT_BY_BATCH,
     CREATE_MOVEMENT_BY_LOT,
     CREATE_MOVEMENT_BY_BATCH,
     CREATE_EDGE_BY_END,
+    CREATE_MARK_BY_NODE,
 ];
 
 /// How many of the tables, from the first on, are those of a schema.
 pub fn tables_in(schema: u64) -> usize
     ensures own { take result desk_forms ≡ forms_of schema }
     ensures later { drop result desk_forms ≡ later_forms schema }
-    ensures few { result ≤ 15 }
+    ensures few { result ≤ 17 }
 {
-    if schema >= 3 {
+    if schema >= 4 {
+        17
+    } else if schema >= 3 {
         15
     } else if schema >= 2 {
         14
@@ -367,10 +416,17 @@ pub fn tables_in(schema: u64) -> usize
     }
 }
 
-/// How many of the indexes, from the first on, are those of a schema: the first schema has none.
+/// How many of the indexes, from the first on, are those of a schema: the first schema has none, and the third those of
+/// the second.
 pub(crate) fn indexes_in(schema: u64) -> usize
     ensures own { take result desk_indexes ≡ indexes_of schema }
-    ensures few { result ≤ 4 }
+    ensures few { result ≤ 5 }
 {
-    if schema >= 2 { 4 } else { 0 }
+    if schema >= 4 {
+        5
+    } else if schema >= 2 {
+        4
+    } else {
+        0
+    }
 }

@@ -41,6 +41,9 @@ fn create_added<S: Alter>(tx: &mut Transaction<'_, S>, schema: u64) -> Result<()
     if schema == 3 {
         return make_tables(tx, &[forms::CREATE_RECEIPT]);
     }
+    if schema == 4 {
+        return make_tables(tx, &[forms::CREATE_RECALL, forms::CREATE_MARK]);
+    }
     make_tables(tx, &[])
 }
 
@@ -57,7 +60,11 @@ fn index_added<S: Alter>(tx: &mut Transaction<'_, S>, schema: u64) -> Result<(),
     ensures survives { Survives (state S.Store tx.old.conn.now) (state S.Store tx.new.conn.now) (λ _. ⊥) }
 {
     if schema == 2 {
-        return make_indexes(tx, &forms::CREATE_INDEXES);
+        let (second, _) = forms::CREATE_INDEXES.split_at(forms::indexes_in(2));
+        return make_indexes(tx, second);
+    }
+    if schema == 4 {
+        return make_indexes(tx, &[forms::CREATE_MARK_BY_NODE]);
     }
     make_indexes(tx, &[])
 }

@@ -12,12 +12,12 @@ ghost use Rattle.plant_tables.specs.Keyed.{MovesTablesOf, IsOfSchema, AreOfSchem
 ghost use Rattle.plant_base.specs.State.{newest_schema};
 
 use crate::forms;
-use plant_base::{ControlLine, MasterLine, RecipeLine};
+use plant_base::{ControlLine, Lifting, Mark, MarkKind, MasterLine, Recall, RecipeLine};
 use plant_tables_columns::storing::{id, large};
 use plant_tables_columns::{
     batch_values, class_values, control_line_values, definition_values, edge_values, event_values,
-    hold_values, job_values, lot_values, master_line_values, meta_values, movement_values,
-    receipt_values, recipe_values, sublot_values,
+    hold_values, job_values, lot_values, mark_values, master_line_values, meta_values,
+    movement_values, recall_values, receipt_values, recipe_values, sublot_values,
 };
 use plant_view::RowChange;
 use sqlite::{Alter, Transaction};
@@ -38,6 +38,7 @@ pub fn write_change<S: Alter>(tx: &mut Transaction<'_, S>, change: &RowChange) -
 {
     // The checker can't follow row changes, unless the function names these types.
     let _: Option<(RecipeLine, MasterLine, ControlLine)> = None;
+    let _: Option<(Lifting, Recall, MarkKind, Mark)> = None;
     match change {
         RowChange::Meta(row) => {
             let schema = large(row.schema)?;
@@ -74,7 +75,10 @@ pub fn write_change<S: Alter>(tx: &mut Transaction<'_, S>, change: &RowChange) -
             let seq = large(row.seq)?;
             put_row(tx, forms::PUT_RECEIPT, &receipt_values(row, seq))
         }
+        RowChange::Recall(row) => put_row(tx, forms::PUT_RECALL, &recall_values(row)),
+        RowChange::Mark(row) => put_row(tx, forms::PUT_MARK, &mark_values(row)),
         RowChange::Unhold { lot, hold } => { take_rows(tx, forms::TAKE_HOLD, &[id(lot), id(hold)]) }
+        RowChange::Unmark { recall } => take_rows(tx, forms::TAKE_MARKS, &[id(recall)]),
     }
 }
 

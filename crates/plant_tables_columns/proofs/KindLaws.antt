@@ -8,15 +8,15 @@ use Rattle.std.specs.Char.{is_ascii}
 use Rattle.std.specs.List.{list_all}
 use Rattle.sqlite.specs.declared.types.Value.{Value}
 use Rattle.sqlite.specs.declared.types.Value.TheVariants.{Null, Int, Real, Text, Blob}
-use Rattle.plant_base.specs.Values.{only, is_id, is_text, is_unit, greatest_sublot}
+use Rattle.plant_base.specs.Values.{only, is_id, is_text, is_unit, is_moment, greatest_moment, greatest_sublot}
 use Rattle.plant_base.specs.Content.{is_there}
 use Rattle.plant_base.specs.Dates.{is_due}
 use Rattle.sqlite_schema.specs.declared.schema.Column.{Column}
 use Rattle.table_forms.specs.Forms.{integer, text, integer_or_null, text_or_null}
 use Rattle.table_forms.specs.Rows.{fits_columns}
 use Rattle.plant_tables_columns.specs.Columns.{Kind}
-use Rattle.plant_tables_columns.specs.Kinds.{number, flag, null_or, ids, texts, units, dues, contents, numbers, line_numbers, always_one, flags, ids_or_none, sublot_numbers_or_none}
-use Rattle.plant_tables_columns.specs.Reading.{text_in, integer_in, is_null, by_text, by_number, id_from, text_from, unit_from, due_from, content_in, content_from, is_in, number_in, number_from, sublot_number_from, line_number, line_number_from, flag_from, or_null, id_or_null, sublot_or_null}
+use Rattle.plant_tables_columns.specs.Kinds.{number, flag, null_or, ids, texts, units, dues, contents, numbers, line_numbers, always_one, flags, ids_or_none, sublot_numbers_or_none, moments_or_none, texts_or_none}
+use Rattle.plant_tables_columns.specs.Reading.{text_in, integer_in, is_null, by_text, by_number, id_from, text_from, unit_from, due_from, content_in, content_from, is_in, number_in, number_from, moment_from, sublot_number_from, line_number, line_number_from, flag_from, or_null, id_or_null, sublot_or_null, moment_or_null, readable_or_null}
 use Rattle.plant_tables_columns.proofs.Options.{bound, mapped, some_same, only_back, only_again}
 
 -- How a kind of value is stored in a column and read of it: it is stored as the column is declared; what was read is what
@@ -258,13 +258,13 @@ or_null_kind {A} declared read stored good fit backward again_one keeps_one ther
       | false ↦ λ f. let p = mapped Some (read v) o f in subst (GoodOrNone good) p.2 (keeps_one v p.0 p.1)
     ] h
 
-id_fits : (name : List ℕ) (o : Option (List ℕ)) → fits_columns (text_or_null name ∷ []) (null_or Text o ∷ []) ≡ true
-id_fits name None = refl
-id_fits name (Some id) = refl
+text_fits : (name : List ℕ) (o : Option (List ℕ)) → fits_columns (text_or_null name ∷ []) (null_or Text o ∷ []) ≡ true
+text_fits name None = refl
+text_fits name (Some bytes) = refl
 
 pub optional_id_kind : IsKind ids_or_none (GoodOrNone (λ a. is_id a ≡ true)) Any
 unfolding id_or_null
-optional_id_kind = or_null_kind text_or_null id_from Text (λ a. is_id a ≡ true) id_fits (λ v a h. id_kind.back v a h tt) (λ a is. id_kind.again a is tt) id_kind.keeps (λ a. refl)
+optional_id_kind = or_null_kind text_or_null id_from Text (λ a. is_id a ≡ true) text_fits (λ v a h. id_kind.back v a h tt) (λ a is. id_kind.again a is tt) id_kind.keeps (λ a. refl)
 
 number_fits : (name : List ℕ) (o : Option ℕ) → fits_columns (integer_or_null name ∷ []) (null_or number o ∷ []) ≡ true
 number_fits name None = refl
@@ -273,3 +273,11 @@ number_fits name (Some n) = refl
 pub optional_sublot_kind : IsKind sublot_numbers_or_none (GoodOrNone (λ n. nat_le n greatest_sublot ≡ true)) Any
 unfolding sublot_or_null
 optional_sublot_kind = or_null_kind integer_or_null sublot_number_from number (λ n. nat_le n greatest_sublot ≡ true) number_fits (λ v a h. (below_kind greatest_sublot).back v a h tt) (λ a is. (below_kind greatest_sublot).again a is tt) (below_kind greatest_sublot).keeps (λ a. refl)
+
+pub optional_moment_kind : IsKind moments_or_none (GoodOrNone (λ n. is_moment n ≡ true)) Any
+unfolding moment_or_null
+optional_moment_kind = or_null_kind integer_or_null moment_from number (λ n. is_moment n ≡ true) number_fits (λ v a h. (below_kind greatest_moment).back v a h tt) (λ a is. (below_kind greatest_moment).again a is tt) (below_kind greatest_moment).keeps (λ a. refl)
+
+pub optional_text_kind : IsKind texts_or_none (GoodOrNone (λ a. is_text a ≡ true)) Any
+unfolding readable_or_null
+optional_text_kind = or_null_kind text_or_null text_from Text (λ a. is_text a ≡ true) text_fits (λ v a h. text_like.back v a h tt) (λ a is. text_like.again a is tt) text_like.keeps (λ a. refl)

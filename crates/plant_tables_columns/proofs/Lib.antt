@@ -4,6 +4,7 @@ pub mod ColumnLaws
 pub mod NameLemmas
 pub mod LineLaws
 pub mod KindLemmas
+pub mod StatedLemmas
 pub mod TableLaws
 pub mod RowLaws
 pub mod ListLemmas

@@ -21,15 +21,20 @@ use Rattle.plant_base.specs.declared.states.Event.TheVariants as event
 use Rattle.plant_base.proofs.Find.{found_passes}
 use Rattle.plant_base.proofs.Keys.{same_id}
 use Rattle.plant_tables_columns.specs.Reading.{number_in}
-use Rattle.plant_tables_columns.specs.Naming.{event_name, event_phase, all_recipe_states, recipe_state_named, all_job_states, job_state_named, all_batch_states, batch_state_named, all_words, word_named, plain_event, event_named, line_sort_number, all_line_sorts, line_sort_numbered, movement_sort_number, all_movement_sorts, movement_sort_numbered, all_edge_kinds, edge_kind_numbered}
+use Rattle.plant_tables_columns.specs.Naming.{event_name, event_phase, all_recipe_states, recipe_state_named, all_job_states, job_state_named, all_batch_states, batch_state_named, recall_state_name, all_recall_states, recall_state_named, all_words, word_named, plain_event, event_named, line_sort_number, all_line_sorts, line_sort_numbered, movement_sort_number, all_movement_sorts, movement_sort_numbered, all_edge_kinds, edge_kind_numbered, all_mark_kinds, mark_kind_numbered}
 use Rattle.plant_base.specs.RowValues.{HasPhaseNumber}
 use Rattle.plant_base.specs.Edges.{edge_kind_number}
+use Rattle.plant_base.specs.Recalls.{mark_kind_number}
 use Rattle.plant_base.specs.declared.rows.EdgeKind.{EdgeKind}
 use Rattle.plant_base.specs.declared.rows.EdgeKind.TheVariants as edge_kind
+use Rattle.plant_base.specs.declared.rows.MarkKind.{MarkKind}
+use Rattle.plant_base.specs.declared.rows.MarkKind.TheVariants as mark_kind
 use Rattle.plant_tables_columns.specs.declared.line.LineSort.{LineSort}
 use Rattle.plant_tables_columns.specs.declared.line.LineSort.TheVariants as line_sort
 use Rattle.plant_tables_columns.specs.declared.booked.MovementSort.{MovementSort}
 use Rattle.plant_tables_columns.specs.declared.booked.MovementSort.TheVariants as movement_sort
+use Rattle.plant_tables_columns.specs.declared.recalls.RecallState.{RecallState}
+use Rattle.plant_tables_columns.specs.declared.recalls.RecallState.TheVariants as recall_state
 use Rattle.plant_tables_columns.proofs.Options.{bound, mapped, some_same}
 use Rattle.plant_tables_columns.proofs.KindLaws.{number_back, number_keeps, number_again}
 
@@ -84,6 +89,15 @@ batch_state_own batch_state.Stopping = refl
 batch_state_own batch_state.Stopped = refl
 batch_state_own batch_state.Aborting = refl
 batch_state_own batch_state.Aborted = refl
+
+pub recall_state_back : (bytes : List ℕ) (s : RecallState) → recall_state_named bytes ≡ Some s → bytes ≡ recall_state_name s
+unfolding recall_state_named
+recall_state_back bytes s h = named_back recall_state_name all_recall_states bytes s h
+
+pub recall_state_own : (s : RecallState) → recall_state_named (recall_state_name s) ≡ Some s
+unfolding recall_state_named
+recall_state_own recall_state.Open = refl
+recall_state_own recall_state.Lifted = refl
 
 -- ---- events
 
@@ -190,3 +204,12 @@ unfolding edge_kind_numbered
 edge_kind_own edge_kind.LotToBatch = refl
 edge_kind_own edge_kind.BatchToLot = refl
 edge_kind_own edge_kind.LotToLot = refl
+
+pub mark_kind_back : (number : ℤ) (k : MarkKind) → mark_kind_numbered number ≡ Some k → number ≡ pos (mark_kind_number k)
+unfolding mark_kind_numbered
+mark_kind_back number k h = numbered_back mark_kind_number all_mark_kinds number k h
+
+pub mark_kind_own : (k : MarkKind) → mark_kind_numbered (pos (mark_kind_number k)) ≡ Some k
+unfolding mark_kind_numbered
+mark_kind_own mark_kind.Lot = refl
+mark_kind_own mark_kind.Batch = refl

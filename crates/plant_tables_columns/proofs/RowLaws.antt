@@ -1,26 +1,30 @@
 -- Table by table: what whole rows keep.
-use Rattle.std.proofs.Common.{◌≡◌, refl, ℕ, ◌≤◌, List, [], ◌∷◌, Option, Some, true, nat_le, arith}
+use Rattle.std.proofs.Common.{◌≡◌, refl, ℕ, ◌≤◌, List, [], ◌∷◌, Option, Some, None, true, nat_le, arith}
+use Rattle.std.specs.Prelude.{IfSome}
 use Rattle.std.proofs.lemmas.Bool.{and_parts}
 use Rattle.std.proofs.lemmas.Bool.Decides.{nat_tests}
 use Rattle.std.specs.Char.{is_ascii}
 use Rattle.std.specs.List.{list_all}
 use Rattle.sqlite.specs.Order.{Row}
 use Rattle.plant_base.specs.Content.{is_content_byte, is_there}
-use Rattle.plant_base.specs.RowValues.{HasClassValues, HasDefinitionValues, HasLotValues, HasHoldValues}
+use Rattle.plant_base.specs.RowValues.{HasClassValues, HasDefinitionValues, HasLotValues, HasHoldValues, HasLiftingValues, HasRecallValues}
 use Rattle.plant_base.specs.declared.rows.MasterLine.{MasterLine}
 use Rattle.plant_base.specs.declared.rows.ControlLine.{ControlLine}
 use Rattle.plant_base.specs.declared.rows.MovementKind.{MovementKind}
 use Rattle.plant_base.specs.declared.rows.MovementKind.TheVariants as kind
 use Rattle.plant_base.specs.declared.rows.Movement.{Movement}
 use Rattle.plant_base.specs.declared.rows.Receipt.{Receipt}
+use Rattle.plant_base.specs.declared.rows.Lifting.{Lifting}
+use Rattle.plant_base.specs.declared.rows.Recall.{Recall}
 use Rattle.plant_tables_columns.specs.Reading.{is_in}
 use Rattle.plant_tables_columns.specs.Columns.{Columns, read_row}
-use Rattle.plant_tables_columns.specs.TableColumns.{row_of_meta, row_of_class, row_of_definition, row_of_recipe, row_of_master_line, row_of_job, row_of_batch, row_of_control_line, row_of_event, row_of_lot, row_of_sublot, row_of_booked, row_of_movement, row_of_hold, row_of_edge, row_of_receipt, meta_from, class_from, definition_from, recipe_from, master_line_from, control_line_from, job_from, batch_from, batch_event_from, lot_from, sublot_from, booked_from, hold_from, edge_from, receipt_from}
+use Rattle.plant_tables_columns.specs.TableColumns.{row_of_meta, row_of_class, row_of_definition, row_of_recipe, row_of_master_line, row_of_job, row_of_batch, row_of_control_line, row_of_event, row_of_lot, row_of_sublot, row_of_booked, row_of_movement, row_of_hold, row_of_edge, row_of_receipt, row_of_stated, row_of_recall, row_of_mark, meta_from, class_from, definition_from, recipe_from, master_line_from, control_line_from, job_from, batch_from, batch_event_from, lot_from, sublot_from, booked_from, hold_from, edge_from, receipt_from, stated_from, mark_from}
 use Rattle.plant_tables_columns.specs.Booked.{booked_of}
-use Rattle.plant_tables_columns.specs.Obeying.{HasMetaValues, HasRecipeValues, HasMasterLineValues, HasControlLineValues, HasJobValues, HasBatchRowValues, HasEventRowValues, HasSublotValues, HasKindRowValues, HasMovementRowValues, HasEdgeValues, HasReceiptRowValues}
+use Rattle.plant_tables_columns.specs.Stated.{stated_of}
+use Rattle.plant_tables_columns.specs.Obeying.{HasMetaValues, HasRecipeValues, HasMasterLineValues, HasControlLineValues, HasJobValues, HasBatchRowValues, HasEventRowValues, HasSublotValues, HasKindRowValues, HasMovementRowValues, HasEdgeValues, HasReceiptRowValues, HasMarkValues}
 use Rattle.plant_tables_columns.proofs.KindLaws.{Any, IsNumbered}
 use Rattle.plant_tables_columns.proofs.ColumnLaws.{AreLawful, row_back, row_again, row_keeps}
-use Rattle.plant_tables_columns.proofs.TableLaws.{meta_lawful, class_lawful, definition_lawful, recipe_lawful, HasMasterColumns, master_line_lawful, HasControlColumns, control_line_lawful, job_lawful, batch_lawful, batch_event_lawful, lot_lawful, sublot_lawful, HasBookedColumns, booked_lawful, hold_lawful, edge_lawful, HasReceiptColumns, receipt_lawful}
+use Rattle.plant_tables_columns.proofs.TableLaws.{meta_lawful, class_lawful, definition_lawful, recipe_lawful, HasMasterColumns, master_line_lawful, HasControlColumns, control_line_lawful, job_lawful, batch_lawful, batch_event_lawful, lot_lawful, sublot_lawful, HasBookedColumns, booked_lawful, hold_lawful, edge_lawful, HasReceiptColumns, receipt_lawful, HasStatedColumns, stated_lawful, mark_lawful}
 
 -- How rows are read and stored: what was read has the columns of the row, but where it isn't whole; a good one that is
 -- whole is read of its own columns; and each that was read is good.
@@ -92,6 +96,14 @@ pub receipt_reads : Reads receipt_from row_of_receipt HasReceiptColumns (λ r. i
 unfolding receipt_from
 receipt_reads = reads receipt_lawful
 
+pub stated_reads : Reads stated_from row_of_stated HasStatedColumns Any
+unfolding stated_from
+stated_reads = reads stated_lawful
+
+pub mark_reads : Reads mark_from row_of_mark HasMarkValues Any
+unfolding mark_from
+mark_reads = reads mark_lawful
+
 -- ---- lines that have a number, and movements
 
 number_high : (n : ℕ) → is_in 1 65535 n ≡ true → n ≤ 65535
@@ -141,3 +153,12 @@ pub receipt_again : (r : Receipt) → HasReceiptRowValues r → receipt_from (ro
 receipt_again r good =
     let bytes = (and_parts (is_there r.content) (list_all is_content_byte r.content) good.content).1 in
     receipt_reads.again r (record { reference = good.reference; seq = good.seq; content = content_ascii r.content bytes }) (content_there r good)
+
+-- ---- recalls
+
+stated_good : (r : Recall) (o : Option Lifting) → IfSome o HasLiftingValues → HasRecallValues r → HasStatedColumns (stated_of (record r { lifting = o }))
+stated_good r None told good = record { id = good.id; lot = good.lot; at = good.at; by = good.by; note = good.note; lift_at = tt; lift_by = tt; lift_note = tt }
+stated_good r (Some l) told good = record { id = good.id; lot = good.lot; at = good.at; by = good.by; note = good.note; lift_at = told.at; lift_by = told.by; lift_note = told.note }
+
+pub recall_row_again : (r : Recall) → HasRecallValues r → stated_from (row_of_recall r) ≡ Some (stated_of r)
+recall_row_again r good = stated_reads.again (stated_of r) (stated_good r r.lifting good.lifting good) tt

@@ -17,18 +17,20 @@ use Rattle.plant_base.specs.declared.rows.ControlLine.{ControlLine}
 use Rattle.plant_base.specs.declared.states.Event.{Event}
 use Rattle.plant_base.specs.declared.rows.Receipt.{Receipt}
 use Rattle.plant_base.specs.Edges.{edge_kind_number}
+use Rattle.plant_base.specs.Recalls.{mark_kind_number}
 use Rattle.plant_base.specs.RowValues.{HasClassValues, HasDefinitionValues, HasPhaseNumber, HasLotValues, HasHoldValues}
 use Rattle.plant_recipe.specs.Progress.{greatest_attempt}
 use Rattle.plant_view.specs.Production.{HasBatchValues, HasGoodOrder}
-use Rattle.plant_tables_columns.specs.Kinds.{number, recipe_states, job_states, batch_states, movement_sorts, edge_kinds}
+use Rattle.plant_tables_columns.specs.Kinds.{number, recipe_states, job_states, batch_states, recall_states, movement_sorts, edge_kinds, mark_kinds}
 use Rattle.plant_tables_columns.specs.Reading.{text_in, integer_in, greatest_number}
-use Rattle.plant_tables_columns.specs.Naming.{event_phase, recipe_state_named, recipe_state_from, job_state_named, job_state_from, batch_state_named, batch_state_from, event_named, event_from, movement_sort_number, movement_sort_numbered, movement_sort_from, edge_kind_numbered, edge_kind_from}
-use Rattle.plant_tables_columns.specs.TableColumns.{event_columns, meta_columns, class_columns, definition_columns, header_columns, recipe_columns, master_line_columns, control_line_columns, order_columns, job_columns, released_columns, batch_columns, batch_event_columns, lot_columns, sublot_columns, booked_columns, hold_columns, edge_columns, receipt_columns}
-use Rattle.plant_tables_columns.specs.Obeying.{HasMetaValues, HasRecipeValues, HasJobValues, HasBatchRowValues, HasEventRowValues, HasSublotValues, HasEdgeValues}
+use Rattle.plant_tables_columns.specs.Naming.{event_phase, recipe_state_named, recipe_state_from, job_state_named, job_state_from, batch_state_named, batch_state_from, recall_state_name, recall_state_named, recall_state_from, event_named, event_from, movement_sort_number, movement_sort_numbered, movement_sort_from, edge_kind_numbered, edge_kind_from, mark_kind_numbered, mark_kind_from}
+use Rattle.plant_tables_columns.specs.TableColumns.{event_columns, meta_columns, class_columns, definition_columns, header_columns, recipe_columns, master_line_columns, control_line_columns, order_columns, job_columns, released_columns, batch_columns, batch_event_columns, lot_columns, sublot_columns, booked_columns, hold_columns, edge_columns, receipt_columns, stated_columns, mark_columns}
+use Rattle.plant_tables_columns.specs.Obeying.{HasMetaValues, HasRecipeValues, HasJobValues, HasBatchRowValues, HasEventRowValues, HasSublotValues, HasEdgeValues, HasMarkValues}
 use Rattle.plant_tables_columns.specs.declared.booked.BookedRow.{BookedRow}
+use Rattle.plant_tables_columns.specs.declared.recalls.StatedRecall.{StatedRecall}
 use Rattle.plant_tables_columns.proofs.Options.{bound}
-use Rattle.plant_tables_columns.proofs.KindLaws.{IsKind, Any, GoodOrNone, text_kind, integer_kind, text_is, integer_is, id_kind, text_like, unit_kind, due_kind, content_kind, number_kind, below_kind, one_kind, line_number_kind, IsNumbered, flag_kind, optional_id_kind, optional_sublot_kind}
-use Rattle.plant_tables_columns.proofs.NameLemmas.{recipe_state_back, recipe_state_own, job_state_back, job_state_own, batch_state_back, batch_state_own, event_back, event_own, event_keeps, movement_sort_back, movement_sort_own, edge_kind_back, edge_kind_own}
+use Rattle.plant_tables_columns.proofs.KindLaws.{IsKind, Any, GoodOrNone, text_kind, integer_kind, text_is, integer_is, id_kind, text_like, unit_kind, due_kind, content_kind, number_kind, below_kind, one_kind, line_number_kind, IsNumbered, flag_kind, optional_id_kind, optional_sublot_kind, optional_moment_kind, optional_text_kind}
+use Rattle.plant_tables_columns.proofs.NameLemmas.{recipe_state_back, recipe_state_own, job_state_back, job_state_own, batch_state_back, batch_state_own, recall_state_back, recall_state_own, event_back, event_own, event_keeps, movement_sort_back, movement_sort_own, edge_kind_back, edge_kind_own, mark_kind_back, mark_kind_own}
 use Rattle.plant_tables_columns.proofs.LineLaws.{line_lawful}
 use Rattle.plant_tables_columns.proofs.ColumnLaws.{AreLawful, StandFrom, one_lawful, ◌⊕◌, made_lawful, in_words}
 
@@ -46,6 +48,10 @@ batch_state_kind : IsKind batch_states Any Any
 unfolding batch_state_from
 batch_state_kind = text_kind batch_state_named batch_state_name Any batch_state_back (λ s _. batch_state_own s) (λ bytes s h. tt)
 
+recall_state_kind : IsKind recall_states Any Any
+unfolding recall_state_from
+recall_state_kind = text_kind recall_state_named recall_state_name Any recall_state_back (λ s _. recall_state_own s) (λ bytes s h. tt)
+
 movement_sort_kind : IsKind movement_sorts Any Any
 unfolding movement_sort_from
 movement_sort_kind = integer_kind movement_sort_numbered (λ s. pos (movement_sort_number s)) Any Any (λ n s h _. movement_sort_back n s h) (λ s _ _. movement_sort_own s) (λ n s h. tt)
@@ -53,6 +59,10 @@ movement_sort_kind = integer_kind movement_sort_numbered (λ s. pos (movement_so
 edge_kind_kind : IsKind edge_kinds Any Any
 unfolding edge_kind_from
 edge_kind_kind = integer_kind edge_kind_numbered (λ k. pos (edge_kind_number k)) Any Any (λ n k h _. edge_kind_back n k h) (λ k _ _. edge_kind_own k) (λ n k h. tt)
+
+mark_kind_kind : IsKind mark_kinds Any Any
+unfolding mark_kind_from
+mark_kind_kind = integer_kind mark_kind_numbered (λ k. pos (mark_kind_number k)) Any Any (λ n k h _. mark_kind_back n k h) (λ k _ _. mark_kind_own k) (λ n k h. tt)
 
 record IsEventOfBoth (v w : Value) (e : Event) : Type 0 where
   pub name : List ℕ
@@ -235,3 +245,36 @@ pub record HasReceiptColumns (r : Receipt) : Type 0 where
 pub receipt_lawful : AreLawful receipt_columns HasReceiptColumns (λ r. is_there r.content ≡ true)
 receipt_lawful = in_words HasReceiptColumns (λ r. is_there r.content ≡ true) (λ r g. record { reference = g.0; seq = g.1.0; content = g.1.1 }) (λ r h. (h.reference, (h.seq, h.content))) (λ r there. (tt, (tt, there)))
     (made_lawful _ _ (λ r. refl) (λ p. refl) (one_lawful id_kind ⊕ one_lawful (below_kind greatest_seq) ⊕ one_lawful content_kind))
+
+-- ---- recalls and marks
+
+pub record HasStatedColumns (r : StatedRecall) : Type 0 where
+  pub id : is_id r.id ≡ true
+  pub lot : is_id r.lot ≡ true
+  pub at : is_moment r.at ≡ true
+  pub by : is_text r.by ≡ true
+  pub note : is_text r.note ≡ true
+  pub lift_at : GoodOrNone (λ n. is_moment n ≡ true) r.lift_at
+  pub lift_by : GoodOrNone (λ t. is_text t ≡ true) r.lift_by
+  pub lift_note : GoodOrNone (λ t. is_text t ≡ true) r.lift_note
+
+pub stated_lawful : AreLawful stated_columns HasStatedColumns Any
+stated_lawful = in_words HasStatedColumns Any
+    (λ r g. record {
+      id = g.0;
+      lot = g.1.0;
+      at = g.1.1.1.0;
+      by = g.1.1.1.1.0;
+      note = g.1.1.1.1.1.0;
+      lift_at = g.1.1.1.1.1.1.0;
+      lift_by = g.1.1.1.1.1.1.1.0;
+      lift_note = g.1.1.1.1.1.1.1.1;
+    })
+    (λ r h. (h.id, (h.lot, (tt, (h.at, (h.by, (h.note, (h.lift_at, (h.lift_by, h.lift_note)))))))))
+    (λ r _. (tt, (tt, (tt, (tt, (tt, (tt, (tt, (tt, tt)))))))))
+    (made_lawful _ _ (λ r. refl) (λ p. refl)
+    (one_lawful id_kind ⊕ one_lawful id_kind ⊕ one_lawful recall_state_kind ⊕ one_lawful (below_kind greatest_moment) ⊕ one_lawful text_like ⊕ one_lawful text_like ⊕ one_lawful optional_moment_kind ⊕ one_lawful optional_text_kind ⊕ one_lawful optional_text_kind))
+
+pub mark_lawful : AreLawful mark_columns HasMarkValues Any
+mark_lawful = in_words HasMarkValues Any (λ m g. record { recall = g.0; id = g.1.1 }) (λ m h. (h.recall, (tt, h.id))) (λ m _. (tt, (tt, tt)))
+    (made_lawful _ _ (λ m. refl) (λ p. refl) (one_lawful id_kind ⊕ one_lawful mark_kind_kind ⊕ one_lawful id_kind))

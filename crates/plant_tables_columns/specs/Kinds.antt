@@ -5,15 +5,18 @@ use Rattle.sqlite.specs.declared.types.Value.TheVariants.{Null, Int, Text}
 use Rattle.plant_base.specs.Words.{recipe_state_name, job_state_name, batch_state_name}
 use Rattle.plant_base.specs.Values.{greatest_amount, greatest_moment, greatest_seq, greatest_sublot}
 use Rattle.plant_base.specs.Edges.{edge_kind_number}
+use Rattle.plant_base.specs.Recalls.{mark_kind_number}
 use Rattle.plant_base.specs.declared.rows.EdgeKind.{EdgeKind}
+use Rattle.plant_base.specs.declared.rows.MarkKind.{MarkKind}
 use Rattle.plant_base.specs.declared.states.RecipeState.{RecipeState}
 use Rattle.plant_base.specs.declared.states.JobState.{JobState}
 use Rattle.plant_base.specs.declared.states.BatchState.{BatchState}
 use Rattle.table_forms.specs.Forms.{integer, text, integer_or_null, text_or_null}
-use Rattle.plant_tables_columns.specs.Reading.{id_from, text_from, unit_from, due_from, content_from, number_from, one_from, line_number_from, flag_from, id_or_null, sublot_or_null}
-use Rattle.plant_tables_columns.specs.Naming.{recipe_state_from, job_state_from, batch_state_from, movement_sort_number, movement_sort_from, edge_kind_from}
+use Rattle.plant_tables_columns.specs.Reading.{id_from, text_from, unit_from, due_from, content_from, number_from, one_from, line_number_from, flag_from, id_or_null, sublot_or_null, moment_or_null, readable_or_null}
+use Rattle.plant_tables_columns.specs.Naming.{recipe_state_from, job_state_from, batch_state_from, recall_state_name, recall_state_from, movement_sort_number, movement_sort_from, edge_kind_from, mark_kind_from}
 use Rattle.plant_tables_columns.specs.Columns.{Kind}
 use Rattle.plant_tables_columns.specs.declared.booked.MovementSort.{MovementSort}
+use Rattle.plant_tables_columns.specs.declared.recalls.RecallState.{RecallState}
 
 -- ---- values
 
@@ -90,11 +93,17 @@ job_states = record { declared = text; stored = λ s. Text (job_state_name s); r
 abbrev pub batch_states : Kind BatchState
 batch_states = record { declared = text; stored = λ s. Text (batch_state_name s); read = batch_state_from }
 
+abbrev pub recall_states : Kind RecallState
+recall_states = record { declared = text; stored = λ s. Text (recall_state_name s); read = recall_state_from }
+
 abbrev pub movement_sorts : Kind MovementSort
 movement_sorts = record { declared = integer; stored = λ s. number (movement_sort_number s); read = movement_sort_from }
 
 abbrev pub edge_kinds : Kind EdgeKind
 edge_kinds = record { declared = integer; stored = λ k. number (edge_kind_number k); read = edge_kind_from }
+
+abbrev pub mark_kinds : Kind MarkKind
+mark_kinds = record { declared = integer; stored = λ k. number (mark_kind_number k); read = mark_kind_from }
 
 -- ---- what may be left out
 
@@ -103,3 +112,9 @@ ids_or_none = record { declared = text_or_null; stored = null_or Text; read = id
 
 abbrev pub sublot_numbers_or_none : Kind (Option ℕ)
 sublot_numbers_or_none = record { declared = integer_or_null; stored = null_or number; read = sublot_or_null }
+
+abbrev pub moments_or_none : Kind (Option ℕ)
+moments_or_none = record { declared = integer_or_null; stored = null_or number; read = moment_or_null }
+
+abbrev pub texts_or_none : Kind (Option (List ℕ))
+texts_or_none = record { declared = text_or_null; stored = null_or Text; read = readable_or_null }

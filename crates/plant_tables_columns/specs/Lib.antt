@@ -2,6 +2,7 @@ pub mod Reading
 pub mod Columns
 pub mod Naming
 pub mod Booked
+pub mod Stated
 pub mod Kinds
 pub mod TableColumns
 pub mod All

@@ -4,11 +4,14 @@ use Rattle.std.specs.Ordering.{int_eq}
 use Rattle.sqlite.specs.declared.types.Value.{Value}
 use Rattle.plant_base.specs.Options.{◌>>=◌}
 use Rattle.plant_base.specs.Edges.{edge_kind_number}
+use Rattle.plant_base.specs.Recalls.{mark_kind_number}
 use Rattle.plant_base.specs.State.{same}
 use Rattle.plant_base.specs.Values.{greatest_phase}
 use Rattle.plant_base.specs.Words.{recipe_state_name, job_state_name, batch_state_name, word_name}
 use Rattle.plant_base.specs.declared.rows.EdgeKind.{EdgeKind}
 use Rattle.plant_base.specs.declared.rows.EdgeKind.TheVariants as edge_kind
+use Rattle.plant_base.specs.declared.rows.MarkKind.{MarkKind}
+use Rattle.plant_base.specs.declared.rows.MarkKind.TheVariants as mark_kind
 use Rattle.plant_base.specs.declared.states.RecipeState.{RecipeState}
 use Rattle.plant_base.specs.declared.states.RecipeState.TheVariants as recipe_state
 use Rattle.plant_base.specs.declared.states.JobState.{JobState}
@@ -24,6 +27,8 @@ use Rattle.plant_tables_columns.specs.declared.line.LineSort.{LineSort}
 use Rattle.plant_tables_columns.specs.declared.line.LineSort.TheVariants as line_sort
 use Rattle.plant_tables_columns.specs.declared.booked.MovementSort.{MovementSort}
 use Rattle.plant_tables_columns.specs.declared.booked.MovementSort.TheVariants as movement_sort
+use Rattle.plant_tables_columns.specs.declared.recalls.RecallState.{RecallState}
+use Rattle.plant_tables_columns.specs.declared.recalls.RecallState.TheVariants as recall_state
 
 -- ---- words
 
@@ -56,6 +61,19 @@ batch_state_named name = find (λ s. same (batch_state_name s) name) all_batch_s
 
 unfoldable pub batch_state_from : Value → Option BatchState
 batch_state_from = by_text batch_state_named
+
+abbrev pub recall_state_name : RecallState → List ℕ
+recall_state_name recall_state.Open = codes "open"
+recall_state_name recall_state.Lifted = codes "lifted"
+
+abbrev pub all_recall_states : List RecallState
+all_recall_states = recall_state.Open ∷ recall_state.Lifted ∷ []
+
+unfoldable pub recall_state_named : List ℕ → Option RecallState
+recall_state_named name = find (λ s. same (recall_state_name s) name) all_recall_states
+
+unfoldable pub recall_state_from : Value → Option RecallState
+recall_state_from = by_text recall_state_named
 
 abbrev pub all_words : List Word
 all_words = word.Start ∷ word.Stop ∷ word.Hold ∷ word.Restart ∷ word.Abort ∷ word.Reset ∷ word.Pause ∷ word.Resume ∷ word.Done ∷ []
@@ -142,3 +160,13 @@ edge_kind_numbered number = find (λ k. int_eq (pos (edge_kind_number k)) number
 
 unfoldable pub edge_kind_from : Value → Option EdgeKind
 edge_kind_from = by_number edge_kind_numbered
+
+abbrev pub all_mark_kinds : List MarkKind
+all_mark_kinds = mark_kind.Lot ∷ mark_kind.Batch ∷ []
+
+-- the kind of node of this number
+unfoldable pub mark_kind_numbered : ℤ → Option MarkKind
+mark_kind_numbered number = find (λ k. int_eq (pos (mark_kind_number k)) number) all_mark_kinds
+
+unfoldable pub mark_kind_from : Value → Option MarkKind
+mark_kind_from = by_number mark_kind_numbered

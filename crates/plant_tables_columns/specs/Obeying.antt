@@ -4,7 +4,7 @@ use Rattle.std.specs.List.{AllByRecursion}
 use Rattle.plant_base.specs.Content.{is_content}
 use Rattle.plant_base.specs.Values.{is_id, is_text, is_amount, is_moment, greatest_amount, greatest_seq, greatest_sublot}
 use Rattle.plant_base.specs.Formed.{is_version, is_phase_number, HasHeaderValues, HasLineValues}
-use Rattle.plant_base.specs.RowValues.{HasClassValues, HasDefinitionValues, HasPhaseNumber, HasLotValues, HasHoldValues}
+use Rattle.plant_base.specs.RowValues.{HasClassValues, HasDefinitionValues, HasPhaseNumber, HasLotValues, HasHoldValues, HasRecallValues}
 use Rattle.plant_base.specs.declared.rows.Meta.{Meta}
 use Rattle.plant_base.specs.declared.rows.Recipe.{Recipe}
 use Rattle.plant_base.specs.declared.rows.MasterLine.{MasterLine}
@@ -18,6 +18,7 @@ use Rattle.plant_base.specs.declared.rows.MovementKind.TheVariants as kind
 use Rattle.plant_base.specs.declared.rows.Movement.{Movement}
 use Rattle.plant_base.specs.declared.rows.EdgeRow.{EdgeRow}
 use Rattle.plant_base.specs.declared.rows.Receipt.{Receipt}
+use Rattle.plant_base.specs.declared.rows.Mark.{Mark}
 use Rattle.plant_recipe.specs.Progress.{greatest_attempt}
 use Rattle.plant_view.specs.Production.{HasBatchValues, HasGoodOrder}
 use Rattle.plant_view.specs.Tables.{Tables}
@@ -99,6 +100,10 @@ pub record HasReceiptRowValues (r : Receipt) : Type 0 where
   pub seq : nat_le r.seq greatest_seq ≡ true
   pub content : is_content r.content ≡ true
 
+pub record HasMarkValues (m : Mark) : Type 0 where
+  pub recall : is_id m.recall ≡ true
+  pub id : is_id m.id ≡ true
+
 -- each value of each row
 pub record HasGoodValues (t : Tables) : Type 0 where
   pub meta : HasMetaValues t.meta
@@ -116,3 +121,5 @@ pub record HasGoodValues (t : Tables) : Type 0 where
   pub holds : AllByRecursion HasHoldValues t.holds
   pub edges : AllByRecursion HasEdgeValues t.edges
   pub receipts : AllByRecursion HasReceiptRowValues t.receipts
+  pub recalls : AllByRecursion HasRecallValues t.recalls
+  pub marks : AllByRecursion HasMarkValues t.marks

@@ -113,6 +113,13 @@ id_or_null = or_null id_from
 unfoldable pub sublot_or_null : Value → Option (Option ℕ)
 sublot_or_null = or_null sublot_number_from
 
+unfoldable pub moment_or_null : Value → Option (Option ℕ)
+moment_or_null = or_null moment_from
+
+-- a text that people read, where one stands
+unfoldable pub readable_or_null : Value → Option (Option (List ℕ))
+readable_or_null = or_null text_from
+
 -- the empty text
 abbrev pub is_no_text : List ℕ → Bool
 is_no_text bytes = length bytes == 0

@@ -28,16 +28,20 @@ use Rattle.plant_base.specs.declared.rows.Hold.{Hold}
 use Rattle.plant_base.specs.declared.rows.EdgeRow.{EdgeRow}
 use Rattle.plant_base.specs.declared.rows.Movement.{Movement}
 use Rattle.plant_base.specs.declared.rows.Receipt.{Receipt}
+use Rattle.plant_base.specs.declared.rows.Recall.{Recall}
+use Rattle.plant_base.specs.declared.rows.Mark.{Mark}
 use Rattle.table_forms.specs.Forms.{integer, text, text_or_null}
 use Rattle.plant_tables_columns.specs.Reading.{id_from, text_from, amount_from, greatest_number, is_null, is_empty, is_zero}
 use Rattle.plant_tables_columns.specs.Columns.{Columns, one, ◌⊗◌, made, read_row}
-use Rattle.plant_tables_columns.specs.Kinds.{number, ids, texts, units, dues, contents, numbers, amounts, stocks, moments, seqs, sublot_numbers, line_numbers, always_one, flags, recipe_states, job_states, batch_states, movement_sorts, edge_kinds, ids_or_none, sublot_numbers_or_none}
+use Rattle.plant_tables_columns.specs.Kinds.{number, ids, texts, units, dues, contents, numbers, amounts, stocks, moments, seqs, sublot_numbers, line_numbers, always_one, flags, recipe_states, job_states, batch_states, recall_states, movement_sorts, edge_kinds, mark_kinds, ids_or_none, sublot_numbers_or_none, moments_or_none, texts_or_none}
 use Rattle.plant_tables_columns.specs.Naming.{event_name, event_phase, event_from, line_sort_from}
 use Rattle.plant_tables_columns.specs.declared.line.LineSort.{LineSort}
 use Rattle.plant_tables_columns.specs.declared.line.LineSort.TheVariants as line_sort
 use Rattle.plant_tables_columns.specs.declared.line.Material.{Material}
 use Rattle.plant_tables_columns.specs.declared.booked.BookedRow.{BookedRow}
+use Rattle.plant_tables_columns.specs.declared.recalls.StatedRecall.{StatedRecall}
 use Rattle.plant_tables_columns.specs.Booked.{movement_from, booked_of}
+use Rattle.plant_tables_columns.specs.Stated.{recall_from, stated_of}
 
 -- ---- meta
 
@@ -321,3 +325,48 @@ row_of_receipt = receipt_columns.stored
 
 unfoldable pub receipt_from : Row → Option Receipt
 receipt_from = read_row receipt_columns
+
+-- ---- recalls and marks
+
+-- the columns of a recall, whatever its state asks of those of its lifting
+abbrev pub stated_columns : Columns StatedRecall
+stated_columns = made (λ (id, (lot, (state, (at, (by, (note, (lift_at, (lift_by, lift_note)))))))). record {
+  id = id;
+  lot = lot;
+  state = state;
+  at = at;
+  by = by;
+  note = note;
+  lift_at = lift_at;
+  lift_by = lift_by;
+  lift_note = lift_note;
+})
+    (λ r. (r.id, (r.lot, (r.state, (r.at, (r.by, (r.note, (r.lift_at, (r.lift_by, r.lift_note)))))))))
+    (one (codes "id") ids ⊗ one (codes "lot") ids ⊗ one (codes "state") recall_states ⊗ one (codes "at") moments ⊗ one (codes "by_who") texts ⊗ one (codes "note") texts ⊗ one (codes "lift_at") moments_or_none ⊗ one (codes "lift_by") texts_or_none ⊗ one (codes "lift_note") texts_or_none)
+
+abbrev pub row_of_stated : StatedRecall → Row
+row_of_stated = stated_columns.stored
+
+-- the columns of the row that tells of a recall
+abbrev pub row_of_recall : Recall → Row
+row_of_recall r = row_of_stated (stated_of r)
+
+unfoldable pub stated_from : Row → Option StatedRecall
+stated_from = read_row stated_columns
+
+-- the recall that the row tells of, where the columns of its lifting are those of its state
+unfoldable pub recall_read : Row → Option Recall
+recall_read row = do
+  stated ← stated_from row
+  recall_from stated
+
+abbrev pub mark_columns : Columns Mark
+mark_columns = made (λ (recall, (kind, id)). record { recall = recall; kind = kind; id = id })
+    (λ m. (m.recall, (m.kind, m.id)))
+    (one (codes "recall") ids ⊗ one (codes "kind") mark_kinds ⊗ one (codes "id") ids)
+
+abbrev pub row_of_mark : Mark → Row
+row_of_mark = mark_columns.stored
+
+unfoldable pub mark_from : Row → Option Mark
+mark_from = read_row mark_columns

@@ -7,7 +7,8 @@ ghost use Rattle.plant_tables_columns.specs.Reading.{text_in, integer_in, is_nul
 ghost use Rattle.plant_tables_columns.specs.Reading.{unit_from, due_from, number_in, number_from};
 ghost use Rattle.plant_tables_columns.specs.Reading.{amount_from, moment_from, sublot_number_from};
 ghost use Rattle.plant_tables_columns.specs.Reading.{line_number, line_number_from, flag_from, id_or_null};
-ghost use Rattle.plant_tables_columns.specs.Reading.{sublot_or_null, is_empty, is_zero};
+ghost use Rattle.plant_tables_columns.specs.Reading.{sublot_or_null, moment_or_null, readable_or_null};
+ghost use Rattle.plant_tables_columns.specs.Reading.{is_empty, is_zero};
 
 use plant_base::{Amount, Due, GREATEST_SUBLOT, Id, Moment, Text, Unit};
 use sqlite::Row;
@@ -201,6 +202,28 @@ pub(crate) fn optional_sublot(row: &Row, at: usize) -> Option<Option<u16>>
         return Some(None);
     }
     Some(Some(sublot_number(row, at)?))
+}
+
+/// A moment or none. `None` where a number stands that is no moment.
+#[tactic(auto, unfolding(crate::specs::Reading::moment_or_null))]
+pub(crate) fn optional_moment(row: &Row, at: usize) -> Option<Option<Moment>>
+    ensures { result ≡ moment_or_null (column row.now at) }
+{
+    if is_null(row, at) {
+        return Some(None);
+    }
+    Some(Some(moment(row, at)?))
+}
+
+/// A text that people read, or none. `None` where bytes stand that are no such text.
+#[tactic(auto, unfolding(crate::specs::Reading::readable_or_null))]
+pub(crate) fn optional_text(row: &Row, at: usize) -> Option<Option<Text>>
+    ensures { result ≡ readable_or_null (column row.now at) }
+{
+    if is_null(row, at) {
+        return Some(None);
+    }
+    Some(Some(text(row, at)?))
 }
 
 /// Whether it is the empty text.

@@ -1,33 +1,34 @@
 -- What was loaded of tables that stand in a database is read as the tables' rows.
-use Rattle.std.proofs.Common.{◌≡◌, refl, sym, ap, ◌∙◌, ℕ, List, [], ◌∷◌, map, Bool, true, false, nat_le, Option, Some, None, slice_get, arith}
-use Rattle.std.proofs.lemmas.Bool.Decides.{nat_tests}
+use Rattle.std.proofs.Common.{◌≡◌, refl, sym, ap, ◌∙◌, ℕ, List, [], ◌∷◌, map, Bool, true, false, nat_le, Option, Some, slice_get}
 use Rattle.std.specs.declared.cmp.Ordering.{Ordering}
 use Rattle.std.specs.List.{AllByRecursion}
 use Rattle.std.specs.List.Sorted.{IsStrictlySortedBy}
 use Rattle.sqlite.specs.Effect.{Database}
 use Rattle.sqlite.specs.Order.{Row}
 use Rattle.plant_base.specs.Edges.{edge_kind_number, edge_order}
-use Rattle.plant_base.specs.State.{class_order, definition_order, recipe_order, master_line_order, job_order, control_line_order, lot_order, hold_order, receipt_order, event_order, movement_order}
+use Rattle.plant_base.specs.Recalls.{mark_kind_number, mark_order}
+use Rattle.plant_base.specs.State.{class_order, definition_order, recipe_order, master_line_order, job_order, control_line_order, lot_order, hold_order, receipt_order, recall_order, event_order, movement_order}
 use Rattle.plant_view.specs.Tables.{Tables, batch_row_order, sublot_order}
 use Rattle.table_forms.specs.Forms.{Form}
 use Rattle.table_forms.specs.Standing.{Stands}
-use Rattle.plant_tables_columns.specs.TableColumns.{row_of_meta, row_of_class, row_of_definition, row_of_recipe, row_of_master_line, row_of_job, row_of_batch, row_of_control_line, row_of_event, row_of_lot, row_of_sublot, row_of_movement, row_of_hold, row_of_edge, row_of_receipt, only_meta, class_from, definition_from, recipe_from, master_line_from, job_from, batch_from, control_line_from, batch_event_from, lot_from, sublot_from, booked_from, hold_from, edge_from, receipt_from}
-use Rattle.plant_tables.specs.DeskForms.{meta_form, class_form, definition_form, recipe_form, recipe_line_form, job_form, batch_form, control_line_form, batch_event_form, lot_form, sublot_form, movement_form, hold_form, edge_form, receipt_form, forms_of}
+use Rattle.plant_tables_columns.specs.TableColumns.{row_of_meta, row_of_class, row_of_definition, row_of_recipe, row_of_master_line, row_of_job, row_of_batch, row_of_control_line, row_of_event, row_of_lot, row_of_sublot, row_of_movement, row_of_hold, row_of_edge, row_of_receipt, row_of_recall, row_of_mark, only_meta, class_from, definition_from, recipe_from, master_line_from, job_from, batch_from, control_line_from, batch_event_from, lot_from, sublot_from, booked_from, hold_from, edge_from, receipt_from, stated_from, mark_from}
+use Rattle.plant_tables.specs.DeskForms.{meta_form, class_form, definition_form, recipe_form, recipe_line_form, job_form, batch_form, control_line_form, batch_event_form, lot_form, sublot_form, movement_form, hold_form, edge_form, receipt_form, recall_form, mark_form, forms_of}
 use Rattle.plant_tables.specs.Keyed.{HoldsTablesOf, LacksLater}
 use Rattle.table_reads.specs.Keys.{key_order}
 use Rattle.table_reads.specs.Selects.{first_of}
 use Rattle.plant_tables_stored.specs.Loading.{Loads, AreLoaded, contents_loaded}
 use Rattle.plant_tables_stored.specs.declared.loaded.Loaded.{Loaded}
 use Rattle.plant_tables_columns.specs.Booked.{booked_of}
-use Rattle.plant_base.specs.RowValues.{HasClassValues, HasDefinitionValues, HasLotValues, HasHoldValues}
-use Rattle.plant_tables_columns.specs.Obeying.{HasRecipeValues, HasMasterLineValues, HasJobValues, HasBatchRowValues, HasControlLineValues, HasEventRowValues, HasSublotValues, HasMovementRowValues, HasEdgeValues, HasReceiptRowValues, HasGoodValues}
+use Rattle.plant_tables_columns.specs.Stated.{stated_of}
+use Rattle.plant_base.specs.RowValues.{HasClassValues, HasDefinitionValues, HasLotValues, HasHoldValues, HasRecallValues}
+use Rattle.plant_tables_columns.specs.Obeying.{HasRecipeValues, HasMasterLineValues, HasJobValues, HasBatchRowValues, HasControlLineValues, HasEventRowValues, HasSublotValues, HasMovementRowValues, HasEdgeValues, HasReceiptRowValues, HasMarkValues, HasGoodValues}
 use Rattle.plant_tables_columns.specs.All.{all_from}
-use Rattle.plant_tables.proofs.DeskMoves.{edge_place, receipt_place}
-use Rattle.plant_tables_judged.specs.Collecting.{masters_from, orders_from, stocks_from, rows_from, rows_in, AreInOrder}
-use Rattle.plant_tables_judged.proofs.KeyLemmas.{by_text, by_number, by_text_number, by_two_texts, by_two_numbers, by_text_numbers, by_number_two_texts}
+use Rattle.plant_tables.proofs.DeskMoves.{edge_place, receipt_place, recall_place, mark_place, no_edge_place, no_receipt_place, no_recall_place, no_mark_place}
+use Rattle.plant_tables_judged.specs.Collecting.{masters_from, orders_from, stocks_from, recalls_from, rows_from, rows_in, AreInOrder}
+use Rattle.plant_tables_judged.proofs.KeyLemmas.{by_text, by_number, by_text_number, by_two_texts, by_two_numbers, by_text_numbers, by_number_two_texts, by_text_number_text}
 use Rattle.plant_tables_judged.proofs.SortedLemmas.{sorted_keys}
 use Rattle.plant_tables_judged.proofs.TableLemmas.{map_same, all_again, loaded_rows}
-use Rattle.plant_tables_columns.proofs.RowLaws.{meta_reads, class_reads, definition_reads, recipe_reads, job_reads, batch_reads, event_reads, lot_reads, sublot_reads, hold_reads, edge_reads, master_line_again, control_line_again, movement_row_again, receipt_again}
+use Rattle.plant_tables_columns.proofs.RowLaws.{meta_reads, class_reads, definition_reads, recipe_reads, job_reads, batch_reads, event_reads, lot_reads, sublot_reads, hold_reads, edge_reads, master_line_again, control_line_again, movement_row_again, receipt_again, recall_row_again, mark_reads}
 
 -- ---- one table
 
@@ -62,10 +63,7 @@ module _ (schema : ℕ) (db : Database) (t : Tables) (holds : HoldsTablesOf sche
       let is : slice_get (forms_of schema) 13 ≡ Some edge_form = edge_place schema keeps in
       table_again edge_from row_of_edge (λ r. r) HasEdgeValues (λ r h. edge_reads.again r h tt) edge_form edge_order (λ a b. by_number_two_texts (edge_kind_number a.kind) (edge_kind_number b.kind) a.from b.from a.to b.to)
       db _ t.edges (are.tables 13 edge_form is) (holds.each 13 edge_form is) ordered.keyed.edges good.edges ∙ ap Some (map_same t.edges)
-  edges_again false lacking =
-      let below : nat_le 3 schema ≡ false = grind (arith, nat_tests) in
-      let none : slice_get (forms_of schema) 13 ≡ None = rw (below, lacking) refl in
-      ap (all_from edge_from) (are.no_more 13 none) ∙ ap Some (sym (lacks.edges lacking))
+  edges_again false lacking = ap (all_from edge_from) (are.no_more 13 (no_edge_place schema lacking)) ∙ ap Some (sym (lacks.edges lacking))
 
   -- in a schema that keeps no receipts there are none
   receipts_again : (b : Bool) → nat_le 3 schema ≡ b → all_from receipt_from (contents_loaded x 14) ≡ Some t.receipts
@@ -73,11 +71,26 @@ module _ (schema : ℕ) (db : Database) (t : Tables) (holds : HoldsTablesOf sche
       let is : slice_get (forms_of schema) 14 ≡ Some receipt_form = receipt_place schema keeps in
       table_again receipt_from row_of_receipt (λ r. r) HasReceiptRowValues receipt_again receipt_form receipt_order (λ a b. by_text a.reference b.reference)
       db _ t.receipts (are.tables 14 receipt_form is) (holds.each 14 receipt_form is) ordered.keyed.receipts good.receipts ∙ ap Some (map_same t.receipts)
-  receipts_again false lacking = ap (all_from receipt_from) (are.no_more 14 (none_at (nat_le 2 schema) refl)) ∙ ap Some (sym (lacks.receipts lacking))
-    where
-      none_at : (b : Bool) → nat_le 2 schema ≡ b → slice_get (forms_of schema) 14 ≡ None
-      none_at true second = rw (lacking, second) refl
-      none_at false first = rw (lacking, first) refl
+  receipts_again false lacking = ap (all_from receipt_from) (are.no_more 14 (no_receipt_place schema lacking)) ∙ ap Some (sym (lacks.receipts lacking))
+
+  -- in a schema that keeps no recalls there are none, and no marks
+  stated_again : (b : Bool) → nat_le 4 schema ≡ b → all_from stated_from (contents_loaded x 15) ≡ Some (map stated_of t.recalls)
+  stated_again true keeps =
+      let is : slice_get (forms_of schema) 15 ≡ Some recall_form = recall_place schema keeps in
+      table_again stated_from row_of_recall stated_of HasRecallValues recall_row_again recall_form recall_order (λ a b. by_text a.id b.id)
+      db _ t.recalls (are.tables 15 recall_form is) (holds.each 15 recall_form is) ordered.keyed.recalls good.recalls
+  stated_again false lacking = ap (all_from stated_from) (are.no_more 15 (no_recall_place schema lacking)) ∙ ap (λ rs. Some (map stated_of rs)) (sym (lacks.recalls lacking))
+
+  marks_again : (b : Bool) → nat_le 4 schema ≡ b → all_from mark_from (contents_loaded x 16) ≡ Some t.marks
+  marks_again true keeps =
+      let is : slice_get (forms_of schema) 16 ≡ Some mark_form = mark_place schema keeps in
+      table_again mark_from row_of_mark (λ r. r) HasMarkValues (λ r h. mark_reads.again r h tt) mark_form mark_order (λ a b. by_text_number_text a.recall b.recall (mark_kind_number a.kind) (mark_kind_number b.kind) a.id b.id)
+      db _ t.marks (are.tables 16 mark_form is) (holds.each 16 mark_form is) ordered.keyed.marks good.marks ∙ ap Some (map_same t.marks)
+  marks_again false lacking = ap (all_from mark_from) (are.no_more 16 (no_mark_place schema lacking)) ∙ ap Some (sym (lacks.marks lacking))
+
+  recalls_again : recalls_from x ≡ Some (record { recalls = map stated_of t.recalls; marks = t.marks })
+  unfolding recalls_from
+  recalls_again = rw (stated_again (nat_le 4 schema) refl, marks_again (nat_le 4 schema) refl) refl
 
   stocks_again : stocks_from x ≡ Some (record { lots = t.lots; sublots = t.sublots; movements = map booked_of t.movements; holds = t.holds; edges = t.edges })
   unfolding stocks_from
@@ -95,4 +108,4 @@ module _ (schema : ℕ) (db : Database) (t : Tables) (holds : HoldsTablesOf sche
   -- The rows that a database holds are read as they were written, where their keys rise and each value obeys its rule.
   pub read_again : rows_from x ≡ Some (rows_in t)
   unfolding rows_from
-  read_again = rw (meta_again, masters_again, orders_again, stocks_again, receipts_again (nat_le 3 schema) refl) refl
+  read_again = rw (meta_again, masters_again, orders_again, stocks_again, receipts_again (nat_le 3 schema) refl, recalls_again) refl

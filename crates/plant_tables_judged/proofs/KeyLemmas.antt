@@ -51,3 +51,7 @@ by_text_numbers a b m n k l = then_same (id_cmp a b) (nat_cmp m n) (nat_cmp k l)
 pub by_number_two_texts : (m n : ℕ) (a b c d : List ℕ) → ordering_then (nat_cmp m n) (ordering_then (id_cmp a b) (id_cmp c d))
     ≡ ordering_then (value_order (number m) (number n)) (ordering_then (value_order (Text a) (Text b)) (ordering_then (value_order (Text c) (Text d)) Equal))
 by_number_two_texts m n a b c d = λ i. ordering_then (number_order m n i) (by_two_texts a b c d i)
+
+pub by_text_number_text : (a b : List ℕ) (m n : ℕ) (c d : List ℕ) → ordering_then (id_cmp a b) (ordering_then (nat_cmp m n) (id_cmp c d))
+    ≡ ordering_then (value_order (Text a) (Text b)) (ordering_then (value_order (number m) (number n)) (ordering_then (value_order (Text c) (Text d)) Equal))
+by_text_number_text a b m n c d = ap (ordering_then (id_cmp a b)) (λ i. ordering_then (number_order m n i) (by_text c d i))

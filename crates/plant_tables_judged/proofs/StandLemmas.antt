@@ -1,26 +1,27 @@
 -- Rows that were read stand for the tables that were loaded.
-use Rattle.std.proofs.Common.{◌≡◌, inl, inr, refl, sym, ap, ◌∙◌, ℕ, zero, suc, ◌+◌, ◌<◌, ◌≤◌, true, nat_le, List, [], ◌∷◌, length, map, Option, Some, None, is_some, slice_get, slice_index_or, arith}
+use Rattle.std.proofs.Common.{◌≡◌, sym, ap, ◌∙◌, refl, ℕ, zero, suc, ◌+◌, ◌<◌, ◌≤◌, true, List, [], ◌∷◌, length, map, Option, Some, None, is_some, slice_get, slice_index_or, arith}
 use Rattle.std.specs.Bool.{⊤}
 use Rattle.std.specs.List.{AllByRecursion, filter_map, cons_option}
-use Rattle.std.proofs.lemmas.Bool.{cases_Bool, false≢true}
+use Rattle.std.proofs.lemmas.Bool.{false≢true}
 use Rattle.plant_base.specs.Content.{is_there}
-use Rattle.plant_base.specs.declared.rows.Movement.{Movement}
-use Rattle.plant_tables_columns.specs.TableColumns.{row_of_meta, row_of_class, row_of_definition, row_of_recipe, row_of_master_line, row_of_job, row_of_batch, row_of_control_line, row_of_event, row_of_lot, row_of_sublot, row_of_booked, row_of_movement, row_of_hold, row_of_edge, row_of_receipt, only_meta, class_from, definition_from, recipe_from, master_line_from, job_from, batch_from, control_line_from, batch_event_from, lot_from, sublot_from, booked_from, hold_from, edge_from, receipt_from}
+use Rattle.plant_tables_columns.specs.TableColumns.{row_of_meta, row_of_class, row_of_definition, row_of_recipe, row_of_master_line, row_of_job, row_of_batch, row_of_control_line, row_of_event, row_of_lot, row_of_sublot, row_of_booked, row_of_movement, row_of_hold, row_of_edge, row_of_receipt, row_of_stated, row_of_recall, row_of_mark, only_meta, class_from, definition_from, recipe_from, master_line_from, job_from, batch_from, control_line_from, batch_event_from, lot_from, sublot_from, booked_from, hold_from, edge_from, receipt_from, stated_from, mark_from}
 use Rattle.plant_tables.specs.DeskTables.{rows_of, contents_of}
 use Rattle.sqlite.specs.Order.{Row}
 use Rattle.plant_base.specs.declared.rows.Meta.{Meta}
 use Rattle.table_forms.specs.Forms.{Form}
 use Rattle.plant_tables.specs.DeskForms.{forms_of}
+use Rattle.plant_tables.proofs.DeskTexts.{by_schema}
 use Rattle.std.proofs.lemmas.Option.{slice_get_within}
 use Rattle.plant_tables_stored.specs.Loading.{contents_loaded}
 use Rattle.plant_tables_stored.specs.declared.loaded.Loaded.{Loaded}
 use Rattle.plant_tables_columns.specs.Booked.{movement_from}
+use Rattle.plant_tables_columns.specs.Stated.{recall_from}
 use Rattle.plant_tables_columns.specs.All.{all_from}
-use Rattle.plant_tables_judged.specs.Collecting.{Rows, MasterRows, OrderRows, StockRows, masters_from, orders_from, stocks_from, rows_joined, rows_from, tables_in, AreWhole}
-use Rattle.plant_tables_columns.specs.declared.booked.BookedRow.{BookedRow}
+use Rattle.plant_tables_judged.specs.Collecting.{Rows, MasterRows, OrderRows, StockRows, RecallRows, masters_from, orders_from, stocks_from, recalls_from, rows_joined, rows_from, tables_in, AreWhole}
 use Rattle.plant_tables_columns.proofs.Options.{bound, some_same}
 use Rattle.plant_tables_columns.proofs.KindLemmas.{movement_back}
-use Rattle.plant_tables_columns.proofs.RowLaws.{meta_reads, class_reads, definition_reads, recipe_reads, master_line_reads, job_reads, batch_reads, control_line_reads, event_reads, lot_reads, sublot_reads, booked_reads, hold_reads, edge_reads, receipt_reads}
+use Rattle.plant_tables_columns.proofs.StatedLemmas.{recall_back}
+use Rattle.plant_tables_columns.proofs.RowLaws.{meta_reads, class_reads, definition_reads, recipe_reads, master_line_reads, job_reads, batch_reads, control_line_reads, event_reads, lot_reads, sublot_reads, booked_reads, hold_reads, edge_reads, receipt_reads, stated_reads, mark_reads}
 use Rattle.plant_tables_judged.proofs.TableLemmas.{every, all_back}
 
 -- what each table of these is read as
@@ -90,19 +91,28 @@ stocks_back x r h =
       edges = p5.1 ∙ ap (λ r. Some r.edges) same;
     }
 
--- ---- movements
+pub record AreRecallRows (x : Loaded) (r : RecallRows) : Type 0 where
+  pub recalls : all_from stated_from (contents_loaded x 15) ≡ Some r.recalls
+  pub marks : all_from mark_from (contents_loaded x 16) ≡ Some r.marks
 
-abbrev fits : BookedRow → Type 0
-fits r = is_some (movement_from r) ≡ true
+pub recalls_back : (x : Loaded) (r : RecallRows) → recalls_from x ≡ Some r → AreRecallRows x r
+unfolding recalls_from
+recalls_back x r h =
+    let p1 = bound (all_from stated_from (contents_loaded x 15)) _ r h in
+    let p2 = bound (all_from mark_from (contents_loaded x 16)) _ r p1.2 in
+    let same : record { recalls = p1.0; marks = p2.0 } ≡ r = some_same _ _ p2.2 in
+    record { recalls = p1.1 ∙ ap (λ r. Some r.recalls) same; marks = p2.1 ∙ ap (λ r. Some r.marks) same }
 
-fitted : (rs : List BookedRow) → AllByRecursion fits rs → map row_of_booked rs ≡ map row_of_movement (filter_map movement_from rs)
-fitted [] all = refl
-fitted (r ∷ rs) all = go (movement_from r) refl all.0 (fitted rs all.1)
-  where
-    go : (o : Option Movement) → movement_from r ≡ o → is_some o ≡ true → map row_of_booked rs ≡ map row_of_movement (filter_map movement_from rs)
-        → map row_of_booked (r ∷ rs) ≡ map row_of_movement (cons_option (movement_from r) (filter_map movement_from rs))
-    go None e is more = absurd (false≢true is)
-    go (Some m) e is more = (λ i. row_of_booked (movement_back r m e i) ∷ more i) ∙ ap (λ o. map row_of_movement (cons_option o (filter_map movement_from rs))) (sym e)
+-- ---- rows whose columns fit, as those of movements their kind, and those of recalls their state
+
+module _ {R T : Type 0} (meant : R → Option T) (stored : R → Row) (written : T → Row) (back : (r : R) (t : T) → meant r ≡ Some t → stored r ≡ written t) where
+  fitted : (rs : List R) → AllByRecursion (λ r. is_some (meant r) ≡ true) rs → map stored rs ≡ map written (filter_map meant rs)
+  fitted [] all = refl
+  fitted (r ∷ rs) all = go (meant r) refl all.0 (fitted rs all.1)
+    where
+      go : (o : Option T) → meant r ≡ o → is_some o ≡ true → map stored rs ≡ map written (filter_map meant rs) → map stored (r ∷ rs) ≡ map written (cons_option (meant r) (filter_map meant rs))
+      go None e is more = absurd (false≢true is)
+      go (Some t) e is more = (λ i. back r t e i ∷ more i) ∙ ap (λ o. map written (cons_option o (filter_map meant rs))) (sym e)
 
 -- ---- all tables
 
@@ -123,6 +133,8 @@ pub record AreStored (x : Loaded) (r : Rows) : Type 0 where
   pub holds : contents_loaded x 12 ≡ map row_of_hold r.holds
   pub edges : contents_loaded x 13 ≡ map row_of_edge r.edges
   pub receipts : contents_loaded x 14 ≡ map row_of_receipt r.receipts
+  pub recalls : contents_loaded x 15 ≡ map row_of_recall (filter_map recall_from r.recalls)
+  pub marks : contents_loaded x 16 ≡ map row_of_mark r.marks
 
 meta_back : (rows : List Row) (r : Meta) → only_meta rows ≡ Some r → rows ≡ row_of_meta r ∷ []
 unfolding only_meta
@@ -138,10 +150,12 @@ are_stored x r h whole =
     let p3 = bound (orders_from x) _ r p2.2 in
     let p4 = bound (stocks_from x) _ r p3.2 in
     let p5 = bound (all_from receipt_from (contents_loaded x 14)) _ r p4.2 in
-    let same : rows_joined p1.0 p2.0 p3.0 p4.0 p5.0 ≡ r = some_same _ _ p5.2 in
+    let p6 = bound (recalls_from x) _ r p5.2 in
+    let same : rows_joined p1.0 p2.0 p3.0 p4.0 p5.0 p6.0 ≡ r = some_same _ _ p6.2 in
     let m = masters_back x p2.0 p2.1 in
     let o = orders_back x p3.0 p3.1 in
     let s = stocks_back x p4.0 p4.1 in
+    let c = recalls_back x p6.0 p6.1 in
     record {
       meta = meta_back _ r.meta (p1.1 ∙ ap (λ (r : Rows). Some r.meta) same);
       classes = all_back class_from row_of_class (λ _. ⊤) class_reads.back _ r.classes (m.classes ∙ ap (λ (r : Rows). Some r.classes) same) (every r.classes);
@@ -154,10 +168,12 @@ are_stored x r h whole =
       events = all_back batch_event_from row_of_event (λ _. ⊤) event_reads.back _ r.events (o.events ∙ ap (λ (r : Rows). Some r.events) same) (every r.events);
       lots = all_back lot_from row_of_lot (λ _. ⊤) lot_reads.back _ r.lots (s.lots ∙ ap (λ (r : Rows). Some r.lots) same) (every r.lots);
       sublots = all_back sublot_from row_of_sublot (λ _. ⊤) sublot_reads.back _ r.sublots (s.sublots ∙ ap (λ (r : Rows). Some r.sublots) same) (every r.sublots);
-      movements = all_back booked_from row_of_booked (λ m. 1 ≤ m.line) booked_reads.back _ r.movements (s.movements ∙ ap (λ (r : Rows). Some r.movements) same) whole.movement_lines ∙ fitted r.movements whole.movements;
+      movements = all_back booked_from row_of_booked (λ m. 1 ≤ m.line) booked_reads.back _ r.movements (s.movements ∙ ap (λ (r : Rows). Some r.movements) same) whole.movement_lines ∙ fitted movement_from row_of_booked row_of_movement (λ b m e. ap row_of_booked (movement_back b m e)) r.movements whole.movements;
       holds = all_back hold_from row_of_hold (λ _. ⊤) hold_reads.back _ r.holds (s.holds ∙ ap (λ (r : Rows). Some r.holds) same) (every r.holds);
       edges = all_back edge_from row_of_edge (λ _. ⊤) edge_reads.back _ r.edges (s.edges ∙ ap (λ (r : Rows). Some r.edges) same) (every r.edges);
       receipts = all_back receipt_from row_of_receipt (λ r. is_there r.content ≡ true) receipt_reads.back _ r.receipts (p5.1 ∙ ap (λ (r : Rows). Some r.receipts) same) whole.contents;
+      recalls = all_back stated_from row_of_stated (λ _. ⊤) stated_reads.back _ r.recalls (c.recalls ∙ ap (λ (r : Rows). Some r.recalls) same) (every r.recalls) ∙ fitted recall_from row_of_stated row_of_recall (λ b q e. ap row_of_stated (recall_back b q e)) r.recalls whole.recalls;
+      marks = all_back mark_from row_of_mark (λ _. ⊤) mark_reads.back _ r.marks (c.marks ∙ ap (λ (r : Rows). Some r.marks) same) (every r.marks);
     }
 
 -- the loaded rows of the first tables are these
@@ -170,18 +186,15 @@ at_place x first [] are place low = absurd (omega (arith, low))
 at_place x first (rows ∷ more) are zero low = let same : first + 0 ≡ first = omega arith in ap (contents_loaded x) same ∙ are.0
 at_place x first (rows ∷ more) are (suc place) low = let same : first + suc place ≡ suc first + place = omega arith in ap (contents_loaded x) same ∙ at_place x (suc first) more are.1 place (omega (arith, low))
 
-few_forms : (schema : ℕ) → length (forms_of schema) ≤ 15
-few_forms schema = elim (cases_Bool (nat_le 3 schema)) [
-  | inl third ↦ rw third (omega arith)
-  | inr below ↦ elim (cases_Bool (nat_le 2 schema)) [ inl second ↦ rw (below, second) (omega arith) | inr first ↦ rw (below, first) (omega arith) ]
-]
+few_forms : (schema : ℕ) → length (forms_of schema) ≤ 17
+few_forms = by_schema (λ forms. length forms ≤ 17) (omega arith) (omega arith) (omega arith) (omega arith)
 
--- Rows that were read from what was loaded, whose lines have numbers, whose movements have the columns of their kinds and
--- whose receipts have contents, are the tables that were loaded.
+-- Rows that were read from what was loaded, whose lines have numbers, whose movements have the columns of their kinds, whose
+-- receipts have contents and whose recalls have the columns of their states, are the tables that were loaded.
 pub stands_for : (x : Loaded) (r : Rows) → rows_from x ≡ Some r → AreWhole r → (schema place : ℕ) (form : Form) → slice_get (forms_of schema) place ≡ Some form → contents_loaded x place ≡ contents_of (tables_in r) place
 stands_for x r h whole schema place form is =
     let s = are_stored x r h whole in
-    let all : AreFrom x 0 (rows_of (tables_in r)) = (s.meta, (s.classes, (s.definitions, (s.recipes, (s.master_lines, (s.jobs, (s.batches, (s.control_lines, (s.events, (s.lots, (s.sublots, (s.movements, (s.holds, (s.edges, (s.receipts, tt))))))))))))))) in
+    let all : AreFrom x 0 (rows_of (tables_in r)) = (s.meta, (s.classes, (s.definitions, (s.recipes, (s.master_lines, (s.jobs, (s.batches, (s.control_lines, (s.events, (s.lots, (s.sublots, (s.movements, (s.holds, (s.edges, (s.receipts, (s.recalls, (s.marks, tt))))))))))))))))) in
     let low : place < length (rows_of (tables_in r)) = (let within = slice_get_within (forms_of schema) place form is in omega (arith, within, few_forms schema)) in
     let same : 0 + place ≡ place = omega arith in
     ap (contents_loaded x) (sym same) ∙ at_place x 0 (rows_of (tables_in r)) all place low

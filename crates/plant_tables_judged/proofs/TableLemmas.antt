@@ -1,5 +1,5 @@
 -- All rows of a table: as they are stored, and as they were read.
-use Rattle.std.proofs.Common.{◌≡◌, refl, sym, ap, ◌∙◌, subst, List, [], ◌∷◌, map, drop, Option, Some}
+use Rattle.std.proofs.Common.{◌≡◌, refl, sym, ap, ◌∙◌, subst, List, [], ◌∷◌, map, Option, Some}
 use Rattle.std.specs.Bool.{⊤}
 use Rattle.std.specs.List.{AllByRecursion}
 use Rattle.std.specs.List.Sorted.{IsStrictlySortedBy, IsPermutation}
@@ -7,6 +7,7 @@ use Rattle.std.proofs.lemmas.List.Sorted.{IsPermutation-sym, IsPermutation-trans
 use Rattle.sqlite.specs.Effect.{Database}
 use Rattle.sqlite.specs.Order.{Row}
 use Rattle.table_forms.specs.Forms.{Form}
+use Rattle.table_forms.specs.Rows.{columns_of}
 use Rattle.table_forms.specs.Standing.{Stands}
 use Rattle.table_reads.specs.Reading.{Lists}
 use Rattle.table_reads.specs.Keys.{key_order, comes_before}
@@ -49,8 +50,8 @@ module _ {R T : Type 0} (row_from : Row → Option T) (written : R → Row) (mad
 
 same_rows : (db : Database) (form : Form) (loaded rows : List Row) → Lists db form loaded → Stands db form rows → IsPermutation loaded rows
 same_rows db form loaded rows a b =
-    let there : IsPermutation loaded (map (drop 1) (db.trees b.tree)) = subst (λ tree. IsPermutation loaded (map (drop 1) (db.trees tree))) (one_tree db.schema form a.at a.tree b.at b.tree a.declared b.declared) a.same in
-    IsPermutation-trans loaded (map (drop 1) (db.trees b.tree)) rows there (IsPermutation-sym rows (map (drop 1) (db.trees b.tree)) b.same)
+    let there : IsPermutation loaded (map (columns_of form) (db.trees b.tree)) = subst (λ tree. IsPermutation loaded (map (columns_of form) (db.trees tree))) (one_tree db.schema form a.at a.tree b.at b.tree a.declared b.declared) a.same in
+    IsPermutation-trans loaded (map (columns_of form) (db.trees b.tree)) rows there (IsPermutation-sym rows (map (columns_of form) (db.trees b.tree)) b.same)
 
 -- in the same order
 pub loaded_rows : (db : Database) (form : Form) (loaded rows : List Row) → Loads db form loaded → Stands db form rows → IsStrictlySortedBy (key_order (first_of form.keys)) rows → loaded ≡ rows

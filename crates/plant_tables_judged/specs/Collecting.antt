@@ -19,20 +19,25 @@ use Rattle.plant_base.specs.declared.rows.Sublot.{Sublot}
 use Rattle.plant_base.specs.declared.rows.Hold.{Hold}
 use Rattle.plant_base.specs.declared.rows.EdgeRow.{EdgeRow}
 use Rattle.plant_base.specs.declared.rows.Receipt.{Receipt}
+use Rattle.plant_base.specs.declared.rows.Mark.{Mark}
 use Rattle.plant_view.specs.Tables.{Tables}
 use Rattle.plant_tables.specs.Keyed.{AreKeyed}
 use Rattle.plant_tables_columns.specs.All.{all_from}
 use Rattle.plant_tables_stored.specs.Loading.{contents_loaded}
 use Rattle.plant_tables_stored.specs.declared.loaded.Loaded.{Loaded}
 use Rattle.plant_tables_columns.specs.Booked.{movement_from, booked_of}
-use Rattle.plant_tables_columns.specs.TableColumns.{only_meta, class_from, definition_from, recipe_from, master_line_from, job_from, batch_from, control_line_from, batch_event_from, lot_from, sublot_from, booked_from, hold_from, edge_from, receipt_from}
+use Rattle.plant_tables_columns.specs.Stated.{recall_from, stated_of}
+use Rattle.plant_tables_columns.specs.TableColumns.{only_meta, class_from, definition_from, recipe_from, master_line_from, job_from, batch_from, control_line_from, batch_event_from, lot_from, sublot_from, booked_from, hold_from, edge_from, receipt_from, stated_from, mark_from}
 use Rattle.plant_tables_columns.specs.declared.booked.BookedRow.{BookedRow}
+use Rattle.plant_tables_columns.specs.declared.recalls.StatedRecall.{StatedRecall}
 use Rattle.plant_tables_judged.specs.declared.desk_rows.DeskRows.{DeskRows}
 use Rattle.plant_tables_judged.specs.declared.desk_rows.MasterRows as held_masters
 use Rattle.plant_tables_judged.specs.declared.desk_rows.OrderRows as held_orders
 use Rattle.plant_tables_judged.specs.declared.desk_rows.StockRows as held_stocks
+use Rattle.plant_tables_judged.specs.declared.desk_rows.RecallRows as held_recalls
 
--- the rows of each table; a movement's columns may be those of another kind, a line's number 0, and a content empty
+-- the rows of each table; a movement's columns may be those of another kind, a recall's those of another state, a line's
+-- number 0, and a content empty
 pub record Rows : Type 0 where
   pub meta : Meta
   pub classes : List Class
@@ -49,6 +54,8 @@ pub record Rows : Type 0 where
   pub holds : List Hold
   pub edges : List EdgeRow
   pub receipts : List Receipt
+  pub recalls : List StatedRecall
+  pub marks : List Mark
 
 pub record MasterRows : Type 0 where
   pub classes : List Class
@@ -68,6 +75,10 @@ pub record StockRows : Type 0 where
   pub movements : List BookedRow
   pub holds : List Hold
   pub edges : List EdgeRow
+
+pub record RecallRows : Type 0 where
+  pub recalls : List StatedRecall
+  pub marks : List Mark
 
 unfoldable pub masters_from : Loaded → Option MasterRows
 masters_from x = do
@@ -94,6 +105,12 @@ stocks_from x = do
   edges ← all_from edge_from (contents_loaded x 13)
   Some (record { lots = lots; sublots = sublots; movements = movements; holds = holds; edges = edges })
 
+unfoldable pub recalls_from : Loaded → Option RecallRows
+recalls_from x = do
+  recalls ← all_from stated_from (contents_loaded x 15)
+  marks ← all_from mark_from (contents_loaded x 16)
+  Some (record { recalls = recalls; marks = marks })
+
 -- ---- the rows as lists
 
 abbrev pub masters_listed : held_masters.MasterRows → MasterRows
@@ -105,10 +122,13 @@ orders_listed r = record { jobs = r.jobs.items; batches = r.batches.items; contr
 abbrev pub stocks_listed : held_stocks.StockRows → StockRows
 stocks_listed r = record { lots = r.lots.items; sublots = r.sublots.items; movements = r.movements.items; holds = r.holds.items; edges = r.edges.items }
 
+abbrev pub recalls_listed : held_recalls.RecallRows → RecallRows
+recalls_listed r = record { recalls = r.recalls.items; marks = r.marks.items }
+
 -- ---- all tables
 
-abbrev pub rows_joined : Meta → MasterRows → OrderRows → StockRows → List Receipt → Rows
-rows_joined meta m o s receipts = record {
+abbrev pub rows_joined : Meta → MasterRows → OrderRows → StockRows → List Receipt → RecallRows → Rows
+rows_joined meta m o s receipts r = record {
   meta = meta;
   classes = m.classes;
   definitions = m.definitions;
@@ -124,6 +144,8 @@ rows_joined meta m o s receipts = record {
   holds = s.holds;
   edges = s.edges;
   receipts = receipts;
+  recalls = r.recalls;
+  marks = r.marks;
 }
 
 -- every value of every table obeys its rule, and these are the rows
@@ -134,7 +156,8 @@ rows_from x = do
   o ← orders_from x
   s ← stocks_from x
   receipts ← all_from receipt_from (contents_loaded x 14)
-  Some (rows_joined meta m o s receipts)
+  r ← recalls_from x
+  Some (rows_joined meta m o s receipts r)
 
 -- the rows as lists
 unfoldable pub rows_listed : DeskRows → Rows
@@ -154,11 +177,13 @@ rows_listed r = record {
   holds = r.holds.items;
   edges = r.edges.items;
   receipts = r.receipts.items;
+  recalls = r.recalls.items;
+  marks = r.marks.items;
 }
 
 -- ---- rows and tables
 
--- the tables of rows whose movements have the columns of their kinds
+-- the tables of rows whose movements have the columns of their kinds, and whose recalls have those of their states
 abbrev pub tables_in : Rows → Tables
 tables_in r = record {
   meta = r.meta;
@@ -176,15 +201,19 @@ tables_in r = record {
   holds = r.holds;
   edges = r.edges;
   receipts = r.receipts;
+  recalls = filter_map recall_from r.recalls;
+  marks = r.marks;
 }
 
--- each line has a number, each movement the columns of its kind, and each receipt a content
+-- each line has a number, each movement the columns of its kind, each receipt a content, and each recall the columns of
+-- its state
 pub record AreWhole (r : Rows) : Type 0 where
   pub master_lines : AllByRecursion (λ l. 1 ≤ l.number) r.master_lines
   pub control_lines : AllByRecursion (λ l. 1 ≤ l.number) r.control_lines
   pub movement_lines : AllByRecursion (λ m. 1 ≤ m.line) r.movements
   pub movements : AllByRecursion (λ m. is_some (movement_from m) ≡ true) r.movements
   pub contents : AllByRecursion (λ r. is_there r.content ≡ true) r.receipts
+  pub recalls : AllByRecursion (λ r. is_some (recall_from r) ≡ true) r.recalls
 
 -- the rows of the tables
 abbrev pub rows_in : Tables → Rows
@@ -204,6 +233,8 @@ rows_in t = record {
   holds = t.holds;
   edges = t.edges;
   receipts = t.receipts;
+  recalls = map stated_of t.recalls;
+  marks = t.marks;
 }
 
 -- the rows of each table stand in the order of their keys, none with the key of another

@@ -4,21 +4,21 @@ ghost use Rattle.plant_tables_columns.specs.All.{all_from};
 ghost use Rattle.plant_tables_columns.specs.TableColumns.{only_meta, receipt_from};
 ghost use Rattle.plant_tables_judged.specs.Collecting.{masters_listed, masters_from, orders_listed};
 ghost use Rattle.plant_tables_judged.specs.Collecting.{orders_from, stocks_listed, stocks_from, rows_listed};
-ghost use Rattle.plant_tables_judged.specs.Collecting.{rows_from};
+ghost use Rattle.plant_tables_judged.specs.Collecting.{recalls_listed, recalls_from, rows_from};
 ghost use Rattle.plant_tables_judged.specs.Laws.{StandFor, AreReadAgain, AreWholeRows, AreSameTables};
-ghost use Rattle.plant_tables_judged.specs.Laws.{IsBookedAgain};
+ghost use Rattle.plant_tables_judged.specs.Laws.{IsBookedAgain, IsStatedAgain};
 
 use plant_base::{
-    BatchEvent, BatchRow, Class, ControlLine, Definition, EdgeRow, Hold, Job, Lot, MasterLine,
-    Meta, Receipt, Recipe, Sublot,
+    BatchEvent, BatchRow, Class, ControlLine, Definition, EdgeRow, Hold, Job, Lot, Mark,
+    MasterLine, Meta, Receipt, Recipe, Sublot,
 };
-use plant_tables_columns::{BookedRow, Judged, judge_all, judge_receipts};
+use plant_tables_columns::{BookedRow, Judged, StatedRecall, judge_all, judge_receipts};
 use plant_tables_stored::Loaded;
 use sqlite::Row;
 use std::alloc::{AllocError, Global};
 
-/// The rows of the desk's tables, each table in the order in which it was read: no edges in the first schema, and no
-/// receipts before the third.
+/// The rows of the desk's tables, each table in the order in which it was read: no edges in the first schema, no
+/// receipts before the third, and no recalls and marks before the fourth.
 #[derive(Drop)]
 pub struct DeskRows {
     pub meta: Meta,
@@ -36,6 +36,8 @@ pub struct DeskRows {
     pub holds: Vec<Hold>,
     pub edges: Vec<EdgeRow>,
     pub receipts: Vec<Receipt>,
+    pub recalls: Vec<StatedRecall>,
+    pub marks: Vec<Mark>,
 }
 
 /// The rows of classes, definitions and master recipes.
@@ -64,6 +66,13 @@ pub struct StockRows {
     pub movements: Vec<BookedRow>,
     pub holds: Vec<Hold>,
     pub edges: Vec<EdgeRow>,
+}
+
+/// The rows of recalls, and of the marks on what they reach.
+#[derive(Drop)]
+pub struct RecallRows {
+    pub recalls: Vec<StatedRecall>,
+    pub marks: Vec<Mark>,
 }
 
 /// The one row of meta. `None` where there isn't one, or a value of it breaks its rule.
@@ -169,6 +178,19 @@ fn receipts_of(alloc: Global, loaded: &Loaded) -> Result<Option<Vec<Receipt>>, A
     judge_receipts(alloc, loaded.rows(14))
 }
 
+#[tactic(auto, unfolding(crate::specs::Collecting::recalls_from))]
+fn recalls_of(alloc: Global, loaded: &Loaded) -> Result<Option<RecallRows>, AllocError>
+    ensures { IfOk result (λ rows. option_map recalls_listed rows ≡ recalls_from loaded.now) }
+{
+    let Some(recalls) = judge_all(alloc, loaded.rows(15))? else {
+        return Ok(None);
+    };
+    let Some(marks) = judge_all(alloc, loaded.rows(16))? else {
+        return Ok(None);
+    };
+    Ok(Some(RecallRows { recalls, marks }))
+}
+
 /// The rows of the desk that the stored rows stand for. `None` exactly where a value breaks its rule, or meta hasn't
 /// one row; an error where there is no memory.
 #[tactic(auto, unfolding(crate::specs::Collecting::rows_from, crate::specs::Collecting::rows_listed))]
@@ -190,6 +212,9 @@ pub fn rows_of(alloc: Global, loaded: &Loaded) -> Result<Option<DeskRows>, Alloc
     let Some(receipts) = receipts_of(alloc, loaded)? else {
         return Ok(None);
     };
+    let Some(recalled) = recalls_of(alloc, loaded)? else {
+        return Ok(None);
+    };
     Ok(Some(DeskRows {
         meta,
         classes: masters.classes,
@@ -206,22 +231,26 @@ pub fn rows_of(alloc: Global, loaded: &Loaded) -> Result<Option<DeskRows>, Alloc
         holds: stocks.holds,
         edges: stocks.edges,
         receipts,
+        recalls: recalled.recalls,
+        marks: recalled.marks,
     }))
 }
 
 /// What the reading of rows keeps, as laws that a proof above may cite. It does nothing when it runs.
 ///
-/// - `stand_for`: rows whose lines have numbers, whose movements have the columns of their kinds and whose receipts have
-///   contents are the tables that were loaded.
+/// - `stand_for`: rows whose lines have numbers, whose movements have the columns of their kinds, whose receipts have
+///   contents and whose recalls have the columns of their states are the tables that were loaded.
 /// - `read_again`: what a database holds is read as it was written, where the keys of the tables rise and each value
 ///   obeys its rule.
-/// - `whole`: the rows of such tables have numbers, the columns of their kinds and contents.
+/// - `whole`: the rows of such tables have numbers, the columns of their kinds and states, and contents.
 /// - `tables`: the tables of the rows of tables are those tables.
 /// - `booked`: the row that books a movement books that movement.
+/// - `stated`: the row that tells of a recall tells of that recall.
 pub fn reading_laws()
     ensures stand_for { StandFor }
     ensures read_again { AreReadAgain }
     ensures whole { AreWholeRows }
     ensures tables { AreSameTables }
     ensures booked { IsBookedAgain }
+    ensures stated { IsStatedAgain }
 {}

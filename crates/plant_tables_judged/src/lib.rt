@@ -4,4 +4,4 @@
 mod desk_rows;
 
 pub use desk_rows::{DeskRows, has_meta, only_meta, reading_laws, rows_of};
-pub use plant_tables_columns::{BookedRow, MovementSort};
+pub use plant_tables_columns::{BookedRow, MovementSort, RecallState, StatedRecall};

@@ -2,7 +2,7 @@
 use Rattle.std.proofs.Common.{refl, [], ◌∷◌, codes}
 use Rattle.sqlite_tied.specs.Compute.{everything}
 use Rattle.table_reads.specs.Selects.{Selects}
-use Rattle.plant_tables.specs.DeskForms.{meta_form, class_form, definition_form, recipe_form, recipe_line_form, job_form, batch_form, control_line_form, batch_event_form, lot_form, sublot_form, movement_form, hold_form, edge_form, receipt_form}
+use Rattle.plant_tables.specs.DeskForms.{meta_form, class_form, definition_form, recipe_form, recipe_line_form, job_form, batch_form, control_line_form, batch_event_form, lot_form, sublot_form, movement_form, hold_form, edge_form, receipt_form, recall_form, mark_form}
 
 pub meta_selected : Selects meta_form [] (codes "SELECT k, schema, seq, at FROM meta ORDER BY k")
 unfolding everything
@@ -63,6 +63,14 @@ edge_selected = record { readable = refl; compared = refl; parameters = []; writ
 pub receipt_selected : Selects receipt_form [] (codes "SELECT id, seq, content FROM receipt ORDER BY id")
 unfolding everything
 receipt_selected = record { readable = refl; compared = refl; parameters = []; written = refl }
+
+pub recall_selected : Selects recall_form [] (codes "SELECT id, lot, state, at, by_who, note, lift_at, lift_by, lift_note FROM recall ORDER BY id")
+unfolding everything
+recall_selected = record { readable = refl; compared = refl; parameters = []; written = refl }
+
+pub mark_selected : Selects mark_form [] (codes "SELECT recall, kind, id FROM mark ORDER BY recall, kind, id")
+unfolding everything
+mark_selected = record { readable = refl; compared = refl; parameters = []; written = refl }
 
 -- those of a lot, which a test reads
 pub sublots_selected : Selects sublot_form (1 ∷ []) (codes "SELECT lot, no, place, stock FROM sublot WHERE lot = ?1 ORDER BY lot, no")

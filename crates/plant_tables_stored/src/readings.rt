@@ -6,8 +6,8 @@ ghost use Rattle.plant_tables.specs.DeskForms.{desk_forms, forms_of};
 ghost use Rattle.plant_tables_stored.specs.Readings.{SelectsAll};
 
 use plant_tables::forms::{
-    BATCH, BATCH_EVENT, CLASS, CONTROL_LINE, DEFINITION, EDGE, HOLD, JOB, LOT, META, MOVEMENT,
-    RECEIPT, RECIPE, RECIPE_LINE, SUBLOT, tables_in,
+    BATCH, BATCH_EVENT, CLASS, CONTROL_LINE, DEFINITION, EDGE, HOLD, JOB, LOT, MARK, META,
+    MOVEMENT, RECALL, RECEIPT, RECIPE, RECIPE_LINE, SUBLOT, tables_in,
 };
 use table_forms::Form;
 
@@ -96,8 +96,18 @@ const RECEIPT_READING: Reading = Reading {
     select: "SELECT id, seq, content FROM receipt ORDER BY id",
 };
 
+const RECALL_READING: Reading = Reading {
+    form: RECALL,
+    select: "SELECT id, lot, state, at, by_who, note, lift_at, lift_by, lift_note FROM recall ORDER BY id",
+};
+
+const MARK_READING: Reading = Reading {
+    form: MARK,
+    select: "SELECT recall, kind, id FROM mark ORDER BY recall, kind, id",
+};
+
 /// The reading of each of the desk's tables, in the order of their forms.
-pub(crate) fn desk_readings() -> [Reading; 15]
+pub(crate) fn desk_readings() -> [Reading; 17]
     ensures forms { map (λ reading. reading.form) result ≡ desk_forms }
     ensures texts { AllByRecursion SelectsAll result }
 {
@@ -117,6 +127,8 @@ pub(crate) fn desk_readings() -> [Reading; 15]
         HOLD_READING,
         EDGE_READING,
         RECEIPT_READING,
+        RECALL_READING,
+        MARK_READING,
     ]
 }
 

@@ -26,6 +26,9 @@ order_of d = option_map Q.Order (named_id (codes "order") d)
 abbrev pub batch_of : Data → Option Question
 batch_of d = option_map Q.Batch (named_id (codes "batch") d)
 
+abbrev pub recall_of : Data → Option Question
+recall_of d = option_map Q.Recall (named_id (codes "recall") d)
+
 -- the lot, or else the batch
 abbrev pub lot_or_batch : Option (List ℕ) → Option (List ℕ) → Option Node
 lot_or_batch (Some lot) batch = Some (Lot lot)
@@ -47,7 +50,8 @@ question_for word d =
     if bytes_eq word (codes "batch") then batch_of d else (
     if bytes_eq word (codes "back") then trace_of Back d else (
     if bytes_eq word (codes "forward") then trace_of Forward d else (
-    None))))))
+    if bytes_eq word (codes "recall") then recall_of d else (
+    None)))))))
 
 abbrev pub question_of : Data → Option Question
 question_of d = option_and_then (λ word. question_for word d) (string_at (codes "ask") d)

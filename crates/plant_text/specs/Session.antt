@@ -92,6 +92,7 @@ is_unknown (A.Lot lot) = false
 is_unknown (A.Order order) = false
 is_unknown (A.Batch v) = false
 is_unknown (A.Trace nodes) = false
+is_unknown (A.Recall recall) = false
 is_unknown (A.Unknown r) = true
 
 -- whether the reply is a refusal

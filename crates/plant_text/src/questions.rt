@@ -1,8 +1,8 @@
 //! Questions as JSON: one function a word.
 ghost use Rattle.std.specs.Prelude.{◌≡◌};
 ghost use Rattle.serde_json.specs.View.{view};
-ghost use Rattle.plant_text.specs.Questions.{desk_of, named_id, lot_of, order_of, batch_of, traced_node};
-ghost use Rattle.plant_text.specs.Questions.{trace_of, question_for, question_of};
+ghost use Rattle.plant_text.specs.Questions.{desk_of, named_id, lot_of, order_of, batch_of, recall_of};
+ghost use Rattle.plant_text.specs.Questions.{traced_node, trace_of, question_for, question_of};
 
 use plant_base::Id;
 use plant_desk::Question;
@@ -48,6 +48,12 @@ fn batch_of(value: &Value) -> Option<Question>
     Some(Question::Batch(named_id(value, "batch")?))
 }
 
+fn recall_of(value: &Value) -> Option<Question>
+    ensures { result ≡ recall_of (view value.now) }
+{
+    Some(Question::Recall(named_id(value, "recall")?))
+}
+
 // The lot or the batch that a question names, exactly one of them.
 fn traced_node(value: &Value) -> Option<Node>
     ensures { result ≡ traced_node (view value.now) }
@@ -79,6 +85,8 @@ fn question_for(value: &Value, word: &str) -> Option<Question>
         trace_of(value, Direction::Back)
     } else if word == "forward" {
         trace_of(value, Direction::Forward)
+    } else if word == "recall" {
+        recall_of(value)
     } else {
         None
     }

@@ -51,7 +51,7 @@ const LONGEST_LINE: usize = 262_144;
 ///
 /// The line is a JSON text (RFC 8259) of 262,144 bytes at most, in UTF-8, as serde_json reads it; of members with one
 /// name the last counts. A command is an object with `at` (a moment), `by` (a text), `do` (the word), the fields of the
-/// word, a `note` (a text) or none, and nothing else:
+/// word, a `note` (a text) or none, a `ref` (an id) or none, and nothing else:
 ///
 /// - `add_class`: `class` (an id), `name` (a text)
 /// - `add_definition`: `def`, `class` (ids), `name` (a text), `unit` (a unit)
@@ -61,6 +61,8 @@ const LONGEST_LINE: usize = 262_144;
 /// - `split`: `lot` (an id), `sub` (a sublot's number), `amount` (an amount), `new` (an id), `place` (a text)
 /// - `merge`: `new` (an id), `place` (a text), `parts` (objects with exactly `lot`, `sub` and `amount`)
 /// - `hold`, `unhold`: `lot`, `hold` (ids)
+/// - `recall`: `recall`, `lot` (ids)
+/// - `lift`: `recall` (an id)
 /// - `add_recipe`: `recipe` (an id), `version` (a version), `product` (an id), `base`, `min`, `max` (amounts), `title` (a
 ///   text), `lines` (objects with `kind` and exactly these: `in` and `out` with `def` and `qty`, `par` with `name` and
 ///   `value`, `phase` with `unit`, `oper` and `phase`)
@@ -74,7 +76,7 @@ const LONGEST_LINE: usize = 262_144;
 /// - `consume`: `batch`, `lot` (ids), `sub` (a sublot's number), `amount` (an amount)
 /// - `produce`: `batch`, `lot`, `def` (ids), `amount` (an amount), `place` (a text)
 ///
-/// A question is exactly `{"ask":"desk"}`; `{"ask":"lot","lot":ID}` and likewise with `order` and `batch`; or
+/// A question is exactly `{"ask":"desk"}`; `{"ask":"lot","lot":ID}` and likewise with `order`, `batch` and `recall`; or
 /// `{"ask":"back","lot":ID}` or `{"ask":"back","batch":ID}` and likewise with `forward`. Moments, amounts, versions and
 /// `sub` are whole numbers with no sign, fraction or exponent, within the rules of `plant_base`.
 ///

@@ -54,7 +54,8 @@ pub fn is_unknown(answer: &Answer) -> bool
         | Answer::Lot(_)
         | Answer::Order(_)
         | Answer::Batch(_)
-        | Answer::Trace(_) => false,
+        | Answer::Trace(_)
+        | Answer::Recall(_) => false,
         Answer::Unknown(_) => true,
     }
 }

@@ -6,9 +6,11 @@ use Rattle.plant_desk.specs.declared.question.LotAnswer.{LotAnswer}
 use Rattle.plant_desk.specs.declared.question.OrderAnswer.{OrderAnswer}
 use Rattle.plant_desk.specs.declared.question.BatchView.{BatchView}
 use Rattle.plant_desk.specs.declared.question.Booking.{Booking}
+use Rattle.plant_desk.specs.declared.question.RecallAnswer.{RecallAnswer}
 use Rattle.plant_text_answers.specs.BatchAnswers.{booking_data, bookings_data, batch_data}
 use Rattle.plant_trace.specs.declared.node.Node.{Node}
 use Rattle.plant_trace.specs.declared.node.Node.TheVariants.{Lot, Batch}
+use Rattle.plant_text_answers.specs.RecallAnswers.{recall_data}
 use Rattle.plant_text_answers.specs.TraceAnswers.{nodes_data, trace_data}
 use Rattle.plant_text_answers.specs.Answers.{sublots_data, lot_data, id_or_null, order_data}
 
@@ -44,3 +46,6 @@ no_float_in_nodes (Batch id ∷ nodes) = no_float_in_nodes nodes
 
 pub no_float_in_trace : (nodes : List Node) → has_float (trace_data nodes) ≡ false
 no_float_in_trace nodes = rw (no_float_in_nodes nodes) refl
+
+pub no_float_in_recall : (a : RecallAnswer) → has_float (recall_data a) ≡ false
+no_float_in_recall a = rw (no_float_in_nodes a.nodes) refl

@@ -11,6 +11,7 @@ use Rattle.plant_desk.specs.declared.question.LotAnswer.{LotAnswer}
 use Rattle.plant_desk.specs.declared.question.OrderAnswer.{OrderAnswer}
 use Rattle.plant_text_answers.specs.BatchAnswers.{batch_data}
 use Rattle.plant_text_answers.specs.Natural.{natural}
+use Rattle.plant_text_answers.specs.RecallAnswers.{recall_data}
 use Rattle.plant_text_answers.specs.TraceAnswers.{trace_data}
 use Rattle.plant_text_answers.specs.Replies.{refusal_text}
 
@@ -45,4 +46,5 @@ text_of_answer (A.Lot lot) = compact_text (lot_data lot)
 text_of_answer (A.Order order) = compact_text (order_data order)
 text_of_answer (A.Batch v) = compact_text (batch_data v)
 text_of_answer (A.Trace nodes) = compact_text (trace_data nodes)
+text_of_answer (A.Recall recall) = compact_text (recall_data recall)
 text_of_answer (A.Unknown r) = refusal_text r

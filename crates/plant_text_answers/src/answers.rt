@@ -7,6 +7,7 @@ ghost use Rattle.plant_text_answers.specs.Answers.{desk_data, sublot_data, sublo
 ghost use Rattle.plant_text_answers.specs.Answers.{order_data, text_of_answer};
 
 use crate::batch_answers::batch_text;
+use crate::recall_answers::recall_text;
 use crate::replies::refusal_line;
 use crate::trace_answers::trace_text;
 use plant_base::{Id, Sublot};
@@ -91,6 +92,7 @@ fn order_text(alloc: Global, answer: &OrderAnswer) -> Result<String, AllocError>
 ///   "next":N,"order":ID,"phases":N,"produced":[{"amount":N,"def":ID,"lot":ID,"seq":N}],"recipe":ID,"size":N,
 ///   "state":WORD,"version":N}`
 /// - of a trace `{"nodes":[{"lot":ID},{"batch":ID}]}`
+/// - of a recall `{"lot":ID,"nodes":[{"lot":ID},{"batch":ID}],"recall":ID,"state":WORD}`
 /// - of an unknown id the refusal's text, as [`crate::reply_line`] gives it
 #[tactic(auto, unfolding(crate::specs::Answers::text_of_answer))]
 pub fn answer_text(alloc: Global, answer: &Answer) -> Result<String, AllocError>
@@ -102,6 +104,7 @@ pub fn answer_text(alloc: Global, answer: &Answer) -> Result<String, AllocError>
         Answer::Order(order) => order_text(alloc, order),
         Answer::Batch(batch) => batch_text(alloc, batch),
         Answer::Trace(nodes) => trace_text(alloc, nodes.as_slice()),
+        Answer::Recall(recall) => recall_text(alloc, recall),
         Answer::Unknown(refusal) => String::from_str(alloc, refusal_line(*refusal).as_str()),
     }
 }

@@ -3,6 +3,7 @@
 
 mod answers;
 mod batch_answers;
+mod recall_answers;
 mod replies;
 mod trace_answers;
 

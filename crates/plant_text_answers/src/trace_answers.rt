@@ -18,7 +18,8 @@ fn node_value(alloc: Global, node: &Node) -> Result<Value, AllocError>
     }
 }
 
-fn nodes_value(alloc: Global, nodes: &[Node]) -> Result<Value, AllocError>
+/// The list of the nodes.
+pub(crate) fn nodes_value(alloc: Global, nodes: &[Node]) -> Result<Value, AllocError>
     ensures { IfOk result (λ v. view v ≡ array (nodes_data nodes.now)) }
 {
     let mut list = Vec::new(alloc);

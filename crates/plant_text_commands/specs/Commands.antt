@@ -76,6 +76,17 @@ unhold_of d = when (is_command (codes "lot" ∷ codes "hold" ∷ []) d) (do
   hold ← id_at (codes "hold") d
   Some (body.Unhold (record { lot = lot; hold = hold })))
 
+abbrev pub recall_of : Data → Option Command
+recall_of d = when (is_command (codes "recall" ∷ codes "lot" ∷ []) d) (do
+  recall ← id_at (codes "recall") d
+  lot ← id_at (codes "lot") d
+  Some (body.Recall (record { recall = recall; lot = lot })))
+
+abbrev pub lift_of : Data → Option Command
+lift_of d = when (is_command (codes "recall" ∷ []) d) (do
+  recall ← id_at (codes "recall") d
+  Some (body.Lift (record { recall = recall })))
+
 -- the command of a word on recipes and orders, or else the one on a batch
 abbrev pub body_on_plans : List ℕ → Data → Option Command
 body_on_plans word d =
@@ -99,7 +110,9 @@ body_of word d =
     if bytes_eq word (codes "merge") then merge_of d else (
     if bytes_eq word (codes "hold") then hold_of d else (
     if bytes_eq word (codes "unhold") then unhold_of d else (
-    body_on_plans word d)))))))))
+    if bytes_eq word (codes "recall") then recall_of d else (
+    if bytes_eq word (codes "lift") then lift_of d else (
+    body_on_plans word d)))))))))))
 
 abbrev pub envelope_of : Data → Option Envelope
 envelope_of d = do

@@ -3,8 +3,8 @@ ghost use Rattle.std.specs.Prelude.{◌≡◌, codes, option_map};
 ghost use Rattle.plant_text_commands.specs.Fields.{string_at};
 ghost use Rattle.serde_json.specs.View.{view};
 ghost use Rattle.plant_text_commands.specs.Commands.{add_class_of, add_definition_of, receive_of, scrap_of, divide_of};
-ghost use Rattle.plant_text_commands.specs.Commands.{split_of, merge_of, hold_of, unhold_of, body_on_plans, body_of};
-ghost use Rattle.plant_text_commands.specs.Commands.{envelope_of};
+ghost use Rattle.plant_text_commands.specs.Commands.{split_of, merge_of, hold_of, unhold_of, recall_of, lift_of};
+ghost use Rattle.plant_text_commands.specs.Commands.{body_on_plans, body_of, envelope_of};
 ghost use Rattle.plant_text_commands.specs.Lists.{Reads};
 
 use crate::batches::body_on_batch;
@@ -17,8 +17,8 @@ use crate::plans::{
     add_recipe_of, approve_of, cancel_order_of, import_orders_of, release_of, withdraw_of,
 };
 use plant_base::{
-    AddClass, AddDefinition, Command, Divide, Envelope, HoldLot, Merge, Receive, Scrap, Split,
-    UnholdLot,
+    AddClass, AddDefinition, Command, Divide, Envelope, HoldLot, LiftRecall, Merge, RecallLot,
+    Receive, Scrap, Split, UnholdLot,
 };
 use serde_json::Value;
 use std::alloc::Global;
@@ -154,6 +154,27 @@ fn unhold_of(value: &Value) -> Option<Command>
     Some(Command::Unhold(UnholdLot { lot, hold }))
 }
 
+fn recall_of(value: &Value) -> Option<Command>
+    ensures { result ≡ recall_of (view value.now) }
+{
+    if !is_command(value, &["recall", "lot"]) {
+        return None;
+    }
+    let recall = id_at(value, "recall")?;
+    let lot = id_at(value, "lot")?;
+    Some(Command::Recall(RecallLot { recall, lot }))
+}
+
+fn lift_of(value: &Value) -> Option<Command>
+    ensures { result ≡ lift_of (view value.now) }
+{
+    if !is_command(value, &["recall"]) {
+        return None;
+    }
+    let recall = id_at(value, "recall")?;
+    Some(Command::Lift(LiftRecall { recall }))
+}
+
 /// The command of a word on recipes and orders, or else the one on a batch.
 fn body_on_plans(alloc: Global, value: &Value, word: &str) -> Result<Command, LineFault>
     ensures { Reads result (body_on_plans word.now (view value.now)) }
@@ -197,6 +218,10 @@ fn body_of(alloc: Global, value: &Value, word: &str) -> Result<Command, LineFaul
         hold_of(value).ok_or(LineFault::BadForm)
     } else if word == "unhold" {
         unhold_of(value).ok_or(LineFault::BadForm)
+    } else if word == "recall" {
+        recall_of(value).ok_or(LineFault::BadForm)
+    } else if word == "lift" {
+        lift_of(value).ok_or(LineFault::BadForm)
     } else {
         body_on_plans(alloc, value, word)
     }

@@ -31,14 +31,14 @@ farther (on r) e = more r e
 
 module _ (b : Node) (pairs added : List (Node × Node)) (l : LeadsInto b pairs added) where
   -- a walk of the longer list is one of the shorter, or it comes to a node x that an added pair leaves, and ends beyond b
-  record Crosses (u v : Node) : Type 0 where
-    x : Node
-    y : Node
-    added_edge : HasEdge added x y
-    to : UpTo (HasEdge pairs) u x
-    from : UpTo (HasEdge pairs) b v
+  pub record Crosses (u v : Node) : Type 0 where
+    pub x : Node
+    pub y : Node
+    pub added_edge : HasEdge added x y
+    pub to : UpTo (HasEdge pairs) u x
+    pub from : UpTo (HasEdge pairs) b v
 
-  crosses : {u v : Node} → Reach (HasEdge (pairs ++ added)) u v → Reach (HasEdge pairs) u v ⊎ Crosses u v
+  pub crosses : {u v : Node} → Reach (HasEdge (pairs ++ added)) u v → Reach (HasEdge pairs) u v ⊎ Crosses u v
   crosses (step {a = u} {b = v} e) =
       ⊎_elim
       (λ f. inl (step f))

@@ -22,7 +22,7 @@ rest_in y xs x e = Contains-append_right (y ∷ []) xs x e
 pub first_or_rest : {X : Type 0} (y : X) (xs : List X) (x : X) → Contains (y ∷ xs) x → (y ≡ x) ⊎ Contains xs x
 first_or_rest y xs x e = ⊎_elim (λ f. ⊎_elim (λ n. absurd (none_in x n)) (λ s. inl s) (Contains-push_cases [] y x f)) (λ r. inr r) (Contains-append_cases (y ∷ []) xs x e)
 
-still_or_on : {X : Type 0} {E : X → X → Type 0} {a b : X} → UpTo E a b → (a ≡ b) ⊎ Reach E a b
+pub still_or_on : {X : Type 0} {E : X → X → Type 0} {a b : X} → UpTo E a b → (a ≡ b) ⊎ Reach E a b
 still_or_on here = inl refl
 still_or_on (on r) = inr r
 

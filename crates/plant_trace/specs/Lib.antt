@@ -7,3 +7,4 @@ pub mod Index
 pub mod Ranks
 pub mod Growth
 pub mod Places
+pub mod Recalls

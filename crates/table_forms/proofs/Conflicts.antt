@@ -34,6 +34,7 @@ use Rattle.sqlite_rules.proofs.PlaceLemmas.{tied_same, named_parent}
 use Rattle.sqlite_rules.proofs.TableLemmas.{int_is, has_put, put_all_keeps, without_all_has}
 use Rattle.sqlite_catalog.specs.Listing.{IsGuarded, automatic}
 use Rattle.table_forms.specs.Forms.{Form, table_of, plains}
+use Rattle.table_forms.specs.Rows.{padded}
 use Rattle.table_forms.specs.Standing.{IsDeclared}
 use Rattle.table_forms.proofs.RowFacts.{same_bool, filter_on, without_is}
 
@@ -83,16 +84,24 @@ plains_are [] at = refl
 plains_are (key ∷ keys) zero = refl
 plains_are (key ∷ keys) (suc at) = plains_are keys at
 
-pub column_shift : (a : Row) (p : ℕ) → ltb 0 p ≡ true → column a p ≡ column (Null ∷ drop 1 a) p
-column_shift a zero h = absurd cc
-column_shift [] (suc p) h = refl
-column_shift (x ∷ xs) (suc p) h = refl
+-- a value that a row lacks is NULL already
+pub padded_column : (n : ℕ) (vs : Row) (k : ℕ) → column vs k ≡ column (padded n vs) k
+padded_column zero vs k = refl
+padded_column (suc n) [] zero = refl
+padded_column (suc n) [] (suc k) = padded_column n [] k
+padded_column (suc n) (v ∷ vs) zero = refl
+padded_column (suc n) (v ∷ vs) (suc k) = padded_column n vs k
 
-pub agree_shift : (o : Order) (ps : List ℕ) (a b : Row) → list_all (λ p. ltb 0 p) ps ≡ true → agree o ps a ps b ≡ agree o ps (Null ∷ drop 1 a) ps (Null ∷ drop 1 b)
-agree_shift o [] a b h = refl
-agree_shift o (p ∷ ps) a b h =
+pub column_shift : (n : ℕ) (a : Row) (p : ℕ) → ltb 0 p ≡ true → column a p ≡ column (Null ∷ padded n (drop 1 a)) p
+column_shift n a zero h = absurd cc
+column_shift n [] (suc p) h = padded_column n [] p
+column_shift n (x ∷ xs) (suc p) h = padded_column n xs p
+
+pub agree_shift : (o : Order) (ps : List ℕ) (n m : ℕ) (a b : Row) → list_all (λ p. ltb 0 p) ps ≡ true → agree o ps a ps b ≡ agree o ps (Null ∷ padded n (drop 1 a)) ps (Null ∷ padded m (drop 1 b))
+agree_shift o [] n m a b h = refl
+agree_shift o (p ∷ ps) n m a b h =
     let each = and_parts _ _ h in
-    rw (column_shift a p each.0, column_shift b p each.0, agree_shift (later o) ps a b each.1)
+    rw (column_shift n a p each.0, column_shift m b p each.0, agree_shift (later o) ps n m a b each.1)
 
 equal_ints : (m n : ℤ) → is_eq (value_cmp (Int m) (Int n)) ≡ false → equal (first_key plain).collation (Int m) (Int n) ≡ false
 unfolding binary

@@ -1,5 +1,5 @@
 -- What texts that make indexes leave.
-use Rattle.std.proofs.Common.{◌≡◌, ◌⊎◌, inl, inr, ℕ, zero, suc, ◌+◌, ◌<◌, ◌≤◌, List, [], ◌∷◌, ◌++◌, map, drop, length, Bool, true, false, Some, None, Ok, Err, refl, sym, ap, subst, ◌∙◌, slice_get, get_or, is_some, IsTrue, arith, add-zero, if◌then◌else◌}
+use Rattle.std.proofs.Common.{◌≡◌, ◌⊎◌, inl, inr, ℕ, zero, suc, ◌+◌, ◌<◌, ◌≤◌, List, [], ◌∷◌, ◌++◌, map, length, Bool, true, false, Some, None, Ok, Err, refl, sym, ap, subst, ◌∙◌, slice_get, get_or, is_some, IsTrue, arith, add-zero, if◌then◌else◌}
 use Rattle.std.proofs.lemmas.Bool.{cases_Bool, and_parts, not-true}
 use Rattle.std.specs.List.{list_all, position_from}
 use Rattle.std.specs.Option.{option_or}
@@ -32,6 +32,7 @@ use Rattle.sqlite_trees.specs.View.{IsShaped}
 use Rattle.sqlite_trees.specs.declared.store.Shape.TheVariants as shape
 use Rattle.sqlite.proofs.Callers.{runs_as, command_of, IsPlain, statement_of}
 use Rattle.table_forms.specs.Forms.{Form, table_of}
+use Rattle.table_forms.specs.Rows.{columns_of}
 use Rattle.table_forms.specs.Standing.{Contents, IsDeclared, Stands, StandIn, IsFree, AreFree}
 use Rattle.table_forms.specs.Moves.{RunsInside, Founds}
 use Rattle.table_forms.specs.Indexes.{IndexForm, index_of, HasIndex, IsIndexText, AreIndexTexts, AreOf, AddsIndexes, are_named_apart}
@@ -182,7 +183,7 @@ indexed_by text index says old new at tree count d h =
             tree = there.tree;
             declared = declared f there.at there.tree there.declared;
             shaped = subst (IsShaped shape.Table) (sym same) there.shaped;
-            same = subst (λ (r : List Row). IsPermutation rows (map (drop 1) r)) (sym same) there.same;
+            same = subst (λ (r : List Row). IsPermutation rows (map (columns_of f) r)) (sym same) there.same;
           };
       still = λ other there. record {
         at = there.at;

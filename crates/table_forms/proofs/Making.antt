@@ -1,5 +1,5 @@
 -- What a text that makes a form's table leaves.
-use Rattle.std.proofs.Common.{◌≡◌, inl, inr, ℕ, ◌+◌, ◌<◌, List, [], ◌∷◌, ◌++◌, map, drop, length, Bool, true, false, not, cond, Option, Some, None, Ok, refl, sym, ap, subst, ◌∙◌, slice_get, get_or, codes, is_some, arith, add-zero, option_and_then}
+use Rattle.std.proofs.Common.{◌≡◌, inl, inr, ℕ, ◌+◌, ◌<◌, List, [], ◌∷◌, ◌++◌, map, length, Bool, true, false, not, cond, Option, Some, None, Ok, refl, sym, ap, subst, ◌∙◌, slice_get, get_or, codes, is_some, arith, add-zero, option_and_then}
 use Rattle.std.proofs.lemmas.Bool.{cases_Bool, and_parts, not-false, not-true}
 use Rattle.std.proofs.lemmas.Bool.Decides.{nat_tests}
 use Rattle.std.proofs.lemmas.List.Sorted.{IsPermutation-refl}
@@ -37,6 +37,7 @@ use Rattle.sqlite_trees.specs.View.{IsShaped}
 use Rattle.sqlite_trees.specs.declared.store.Shape.TheVariants as shape
 use Rattle.sqlite.proofs.Callers.{runs_as, command_of, IsPlain, statement_of}
 use Rattle.table_forms.specs.Forms.{Form, table_of}
+use Rattle.table_forms.specs.Rows.{columns_of}
 use Rattle.table_forms.specs.Standing.{IsDeclared, Stands, IsFree}
 use Rattle.table_forms.specs.Texts.{IsMakeText}
 use Rattle.table_forms.proofs.Apart.{Differ}
@@ -223,7 +224,7 @@ create_makes text form says old new count sound free counted h =
         tree = next_tree schema;
         declared = subst (λ s. IsDeclared s form (length schema.tables) (next_tree schema)) (sym is.0) (declared_new schema old.now.trees form sound free);
         shaped = subst (IsShaped shape.Table) (sym is.1) (tt, tt);
-        same = subst (λ (r : List Row). IsPermutation [] (map (drop 1) r)) (sym is.1) (IsPermutation-refl []);
+        same = subst (λ (r : List Row). IsPermutation [] (map (columns_of form) r)) (sym is.1) (IsPermutation-refl []);
       };
       kept = λ f rows there.
           let same = all_has _ schema.tables (table_of f there.tree) is.2 (has_got _ there.at _ there.declared.listed) in
@@ -232,7 +233,7 @@ create_makes text form says old new count sound free counted h =
             tree = there.tree;
             declared = subst (λ s. IsDeclared s f there.at there.tree) (sym is.0) (declared_kept schema old.now.trees form sound f there.at there.tree there.declared);
             shaped = subst (IsShaped shape.Table) (sym same) there.shaped;
-            same = subst (λ (r : List Row). IsPermutation rows (map (drop 1) r)) (sym same) there.same;
+            same = subst (λ (r : List Row). IsPermutation rows (map (columns_of f) r)) (sym same) there.same;
           };
       others = λ t listed. (subst (λ s. Has s.tables t) (sym is.0) (has_left schema.tables _ t listed), all_has _ schema.tables t is.2 listed);
       shown = w.shown;

@@ -1,5 +1,5 @@
 -- From one table to all of them, and from one write to many.
-use Rattle.std.proofs.Common.{◌≡◌, ◌≢◌, ◌⊎◌, inl, inr, ℕ, List, map, drop, true, false, cond, Some, Ok, Err, Result, refl, sym, ap, subst, ◌∙◌, slice_get, eqb, IsTrue, IfOk, arith}
+use Rattle.std.proofs.Common.{◌≡◌, ◌≢◌, ◌⊎◌, inl, inr, ℕ, List, map, true, false, cond, Some, Ok, Err, Result, refl, sym, ap, subst, ◌∙◌, slice_get, eqb, IsTrue, IfOk, arith}
 use Rattle.std.proofs.lemmas.Bool.{cases_Bool}
 use Rattle.std.proofs.lemmas.Bool.Decides.{nat_tests}
 use Rattle.std.specs.List.Sorted.{IsPermutation}
@@ -16,7 +16,7 @@ use Rattle.sqlite_rules.specs.Lists.{Has}
 use Rattle.sqlite_rules.proofs.ListLemmas.{has_got, some_from}
 use Rattle.sqlite_catalog.proofs.StepLemmas.{same_itself}
 use Rattle.table_forms.specs.Forms.{Form, table_of}
-use Rattle.table_forms.specs.Rows.{put, take_away}
+use Rattle.table_forms.specs.Rows.{columns_of, put, take_away}
 use Rattle.table_forms.specs.Standing.{Contents, IsDeclared, Stands, StandIn, KeepsOthers, is_among}
 use Rattle.table_forms.specs.Moves.{AreApart, Moves, RunsInside, PutsRow, TakesRows}
 use Rattle.table_forms.proofs.Apart.{same_place}
@@ -50,7 +50,7 @@ module _ (forms : List Form) (apart : AreApart forms) (old new : State) (i : ℕ
         tree = there.tree;
         declared = subst (λ s. IsDeclared s f there.at there.tree) (sym turns.schema) there.declared;
         shaped = subst (IsShaped shape.Table) (sym same) there.shaped;
-        same = subst (λ (r : List Row). IsPermutation (contents j) (map (drop 1) r)) (sym same) there.same;
+        same = subst (λ (r : List Row). IsPermutation (contents j) (map (columns_of f) r)) (sym same) there.same;
       }
 
   form_same : (j : ℕ) (f : Form) → slice_get forms j ≡ Some f → j ≡ i → form ≡ f

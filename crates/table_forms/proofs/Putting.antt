@@ -46,7 +46,8 @@ use Rattle.sqlite_rules.proofs.ListLemmas.{all_has, test_has, some_from}
 use Rattle.sqlite_rules.proofs.TableLemmas.{int_is, has_put}
 use Rattle.sqlite_rules.proofs.PlaceLemmas.{next_is_free}
 use Rattle.table_forms.specs.Forms.{Form, table_of}
-use Rattle.table_forms.specs.Rows.{fits_columns, meets, put}
+use Rattle.sqlite_schema.specs.declared.schema.Column.{Column}
+use Rattle.table_forms.specs.Rows.{fits_columns, padded, columns_of, meets, put}
 use Rattle.table_forms.specs.Standing.{IsDeclared}
 use Rattle.table_forms.specs.Texts.{parameters_from, updating}
 use Rattle.table_forms.proofs.Texts.{program_of, upserting}
@@ -64,28 +65,35 @@ pub same_value : {B E : Type 0} {a b : B} → ◌≡◌ {A = Result B E} (Ok a) 
 same_value e = cc
 
 -- the form's tree and the others, after a step
-pub record Trees_turn (schema : Schema) (tree : ℕ) (db next : Trees) (rows : List Row) : Type 0 where
+pub record Trees_turn (schema : Schema) (form : Form) (tree : ℕ) (db next : Trees) (rows : List Row) : Type 0 where
   pub shaped : IsShaped shape.Table (next tree)
-  pub same : IsPermutation rows (map (drop 1) (next tree))
+  pub same : IsPermutation rows (map (columns_of form) (next tree))
   pub others : (t : Table) → Has schema.tables t → t.tree ≢ tree → next t.tree ≡ db t.tree
 
 list_any_on : {X : Type 0} (p q : X → Bool) (xs : List X) → ((x : X) → Has xs x → p x ≡ q x) → list_any p xs ≡ list_any q xs
 list_any_on p q [] h = refl
 list_any_on p q (x ∷ xs) h = rw (h x (inl refl), list_any_on p q xs (λ y k. h y (inr k)))
 
-meets_is : (form : Form) (r new : Row) → list_all (list_all (λ p. ltb 0 p)) form.keys ≡ true → list_any (λ key. agree plain key r key new) form.keys ≡ meets form (drop 1 r) (drop 1 new)
-meets_is form r new above = list_any_on _ _ form.keys (λ key there. agree_shift plain key r new (test_has _ form.keys key above there))
+meets_is : (form : Form) (r new : Row) → list_all (list_all (λ p. ltb 0 p)) form.keys ≡ true → list_any (λ key. agree plain key r key new) form.keys ≡ meets form (columns_of form r) (drop 1 new)
+meets_is form r new above = list_any_on _ _ form.keys (λ key there. agree_shift plain key (length form.columns) 0 r new (test_has _ form.keys key above there))
+
+-- a row of all columns lacks none
+whole : (cs : List Column) (vs : Row) → fits_columns cs vs ≡ true → padded (length cs) vs ≡ vs
+whole [] vs h = refl
+whole (c ∷ cs) [] h = absurd (cc)
+whole (c ∷ cs) (v ∷ vs) h = ap (λ row. v ∷ row) (whole cs vs (and_parts _ (fits_columns cs vs) h).1)
 
 -- the columns of the rows once the new one is put
-pub rows_put : (form : Form) (rows : List Row) (given : List Row) (left : List Row) (k : ℤ) (params : Row) → list_all (list_all (λ p. ltb 0 p)) form.keys ≡ true
-    → IsPermutation given (map (drop 1) rows) → left ≡ filter (λ r. not (list_any (λ key. agree plain key r key (Int k ∷ params)) form.keys)) rows → is_taken left (Int k ∷ params) ≡ false
-    → IsPermutation (put form params given) (map (drop 1) (put_row (Int k ∷ params) left))
-rows_put form rows given left k params above same left_is free =
+pub rows_put : (form : Form) (rows : List Row) (given : List Row) (left : List Row) (k : ℤ) (params : Row) → list_all (list_all (λ p. ltb 0 p)) form.keys ≡ true → fits_columns form.columns params ≡ true
+    → IsPermutation given (map (columns_of form) rows) → left ≡ filter (λ r. not (list_any (λ key. agree plain key r key (Int k ∷ params)) form.keys)) rows → is_taken left (Int k ∷ params) ≡ false
+    → IsPermutation (put form params given) (map (columns_of form) (put_row (Int k ∷ params) left))
+rows_put form rows given left k params above fit same left_is free =
     let P = λ (v : Row). not (meets form v params) in
-    let kept : IsPermutation (filter P given) (filter P (map (drop 1) rows)) = IsPermutation-filter P given (map (drop 1) rows) same in
-    let cut : filter P (map (drop 1) rows) ≡ map (drop 1) left =
-    filter-map P (drop 1) rows ∙ ap (map (drop 1)) (filter_on _ _ rows (λ r _. ap not (sym (meets_is form r (Int k ∷ params) above))) ∙ sym left_is) in
-    let moved = IsPermutation-map (drop 1) _ _ (put_moves (Int k ∷ params) left free) in
+    let kept : IsPermutation (filter P given) (filter P (map (columns_of form) rows)) = IsPermutation-filter P given (map (columns_of form) rows) same in
+    let cut : filter P (map (columns_of form) rows) ≡ map (columns_of form) left =
+    filter-map P (columns_of form) rows ∙ ap (map (columns_of form)) (filter_on _ _ rows (λ r _. ap not (sym (meets_is form r (Int k ∷ params) above))) ∙ sym left_is) in
+    let moved : IsPermutation (params ∷ map (columns_of form) left) (map (columns_of form) (put_row (Int k ∷ params) left)) =
+    subst (λ (v : Row). IsPermutation (v ∷ map (columns_of form) left) (map (columns_of form) (put_row (Int k ∷ params) left))) (whole form.columns params fit) (IsPermutation-map (columns_of form) _ _ (put_moves (Int k ∷ params) left free)) in
     IsPermutation-trans _ _ _ (IsPermutation-cons params _ _ (subst (IsPermutation (filter P given)) cut kept)) moved
 
 module _ (limit : Option ℕ) (keys : Keys) (schema : Schema) (form : Form) (at tree : ℕ) (declared : IsDeclared schema form at tree) (params : Row) where
@@ -106,9 +114,9 @@ module _ (limit : Option ℕ) (keys : Keys) (schema : Schema) (form : Form) (at 
   fresh_is db fit = rw (cast_null, cast_columns form.columns params fit)
 
   module _ (above : list_all (list_all (λ p. ltb 0 p)) form.keys ≡ true) (guarded : IsGuarded schema.indexes (table_of form tree)) (fit : fits_columns form.columns params ≡ true)
-      (db : Trees) (shaped : IsShaped shape.Table (db tree)) (rows : List Row) (same : IsPermutation rows (map (drop 1) (db tree))) where
+      (db : Trees) (shaped : IsShaped shape.Table (db tree)) (rows : List Row) (same : IsPermutation rows (map (columns_of form) (db tree))) where
     abbrev Turned : Trees → Type 0
-    Turned next = Trees_turn schema tree db next (put form params rows)
+    Turned next = Trees_turn schema form tree db next (put form params rows)
 
     -- A step takes out only rows that the new row meets, and puts that one in.
     step_turns : (next : Trees) (ids : List ℤ) (k : ℤ) → Applies schema keys db (record { table = table_of form tree; gone = ids; news = (Int k ∷ params) ∷ [] }) next
@@ -122,7 +130,7 @@ module _ (limit : Option ℕ) (keys : Keys) (schema : Schema) (form : Form) (at 
         let stays : IsShaped shape.Table left = subst (IsShaped shape.Table) (sym kept) (IsShaped-filter shape.Table _ (db tree) shaped) in
         record {
           shaped = subst (IsShaped shape.Table) (sym next_is) (IsShaped-put_row new left refl stays);
-          same = subst (λ (r : List Row). IsPermutation (put form params rows) (map (drop 1) r)) (sym next_is) (rows_put form (db tree) rows left k params above same kept free);
+          same = subst (λ (r : List Row). IsPermutation (put form params rows) (map (columns_of form) r)) (sym next_is) (rows_put form (db tree) rows left k params above fit same kept free);
           others = λ t listed away. all_has _ schema.tables t applies.tables listed away;
         }
 

@@ -35,7 +35,7 @@ use Rattle.sqlite_rules.specs.Calls.{ids_of}
 use Rattle.sqlite_rules.specs.Probe.{AreFound, equalities, other_rowid}
 use Rattle.sqlite_rules.proofs.ProbeLemmas.{found_rowids, passes_pair, has_mapped, mapped_has}
 use Rattle.sqlite_rules.proofs.ListLemmas.{all_has, some_has, some_from}
-use Rattle.table_forms.specs.Rows.{places_from, has_values, take_away}
+use Rattle.table_forms.specs.Rows.{padded, columns_of, places_from, has_values, take_away}
 use Rattle.table_forms.specs.Texts.{IsTakeText, taking}
 use Rattle.table_forms.specs.Standing.{IsDeclared, Stands}
 use Rattle.table_forms.proofs.RowFacts.{same_bool, filter_on, without_is}
@@ -96,11 +96,11 @@ module _ (schema : Schema) (p : Parsed) (name : List ℕ) (test : Option Expr) (
 
 -- ---- the rows
 
-agree_left : (o : Order) (ps qs : List ℕ) (a b : Row) → list_all (λ p. ltb 0 p) ps ≡ true → agree o ps a qs b ≡ agree o ps (Null ∷ drop 1 a) qs b
-agree_left o [] [] a b h = refl
-agree_left o [] (q ∷ qs) a b h = refl
-agree_left o (p ∷ ps) [] a b h = refl
-agree_left o (p ∷ ps) (q ∷ qs) a b h = let each = and_parts _ _ h in rw (column_shift a p each.0, agree_left (later o) ps qs a b each.1) refl
+agree_left : (o : Order) (ps qs : List ℕ) (n : ℕ) (a b : Row) → list_all (λ p. ltb 0 p) ps ≡ true → agree o ps a qs b ≡ agree o ps (Null ∷ padded n (drop 1 a)) qs b
+agree_left o [] [] n a b h = refl
+agree_left o [] (q ∷ qs) n a b h = refl
+agree_left o (p ∷ ps) [] n a b h = refl
+agree_left o (p ∷ ps) (q ∷ qs) n a b h = let each = and_parts _ _ h in rw (column_shift n a p each.0, agree_left (later o) ps qs n a b each.1) refl
 
 gone_found : (rows : List Row) → IsShaped shape.Table rows → (tests : List Term) (params : Row) (found : List Row) → AreFound tests rows params found
     → (r : Row) → Has rows r → list_any (λ id. has_rowid id r) (ids_of found) ≡ list_all (holds (params ∷ r ∷ [])) tests
@@ -127,8 +127,8 @@ module _ (limit : Option ℕ) (schema : Schema) (form : Form) (at tree : ℕ) (d
   abbrev tests : List Term
   tests = equalities plain key places ++ other_rowid false
 
-  rows_taken : (db : Trees) (w : Written) (rows : List Row) → IsShaped shape.Table (db tree) → IsPermutation rows (map (drop 1) (db tree))
-      → Deletes (task_of limit Enforced schema form at tree declared params) (program_of (taking tree tests)) db (Ok w) → Trees_turn schema tree db w.trees (take_away key params rows)
+  rows_taken : (db : Trees) (w : Written) (rows : List Row) → IsShaped shape.Table (db tree) → IsPermutation rows (map (columns_of form) (db tree))
+      → Deletes (task_of limit Enforced schema form at tree declared params) (program_of (taking tree tests)) db (Ok w) → Trees_turn schema form tree db w.trees (take_away key params rows)
   rows_taken db w rows shaped same h =
       let queried = went h in
       let a = answer_alone (query_of (taking tree tests)) db params queried.0 queried.1.answer Null in
@@ -138,13 +138,13 @@ module _ (limit : Option ℕ) (schema : Schema) (form : Form) (at tree : ℕ) (d
       let applies = step_leaves limit Enforced schema form at tree declared params db edited.0 (edit_of db (table_of form tree) (ids_of queried.0) Given 0 []) refl edited.1 in
       let now : w.trees ≡ edited.0 = ap (λ (it : Written). it.trees) (same_value edited.2) in
       let P = λ (v : Row). not (has_values key params v) in
-      let test_is = λ (r : Row). passes_pair plain key places r params (places_length 0 key) ∙ agree_left plain key places r params above in
-      let left : without_all (db tree) (ids_of queried.0) ≡ filter (λ r. P (drop 1 r)) (db tree) =
+      let test_is = λ (r : Row). passes_pair plain key places r params (places_length 0 key) ∙ agree_left plain key places (length form.columns) r params above in
+      let left : without_all (db tree) (ids_of queried.0) ≡ filter (λ r. P (columns_of form r)) (db tree) =
       without_is (ids_of queried.0) (db tree) ∙ filter_on _ _ (db tree) (λ r there. ap not (gone_found (db tree) shaped tests params queried.0 found r there ∙ test_is r)) in
-      let tree_is : w.trees tree ≡ filter (λ r. P (drop 1 r)) (db tree) = ap (λ (t : Trees). t tree) now ∙ (applies.rows ∙ left) in
+      let tree_is : w.trees tree ≡ filter (λ r. P (columns_of form r)) (db tree) = ap (λ (t : Trees). t tree) now ∙ (applies.rows ∙ left) in
       record {
         shaped = subst (IsShaped shape.Table) (sym tree_is) (IsShaped-filter shape.Table _ (db tree) shaped);
-        same = subst (λ (r : List Row). IsPermutation (take_away key params rows) (map (drop 1) r)) (sym tree_is) (subst (IsPermutation (filter P rows)) (filter-map P (drop 1) (db tree)) (IsPermutation-filter P rows (map (drop 1) (db tree)) same));
+        same = subst (λ (r : List Row). IsPermutation (take_away key params rows) (map (columns_of form) r)) (sym tree_is) (subst (IsPermutation (filter P rows)) (filter-map P (columns_of form) (db tree)) (IsPermutation-filter P rows (map (columns_of form) (db tree)) same));
         others = λ t listed away. ap (λ (d : Trees). d t.tree) now ∙ all_has _ schema.tables t applies.tables listed away;
       }
 

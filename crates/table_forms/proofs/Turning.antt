@@ -56,7 +56,7 @@ concluded task old command db tally after h =
     (made.0, made.1, ap (λ (p : Tally × Database). p.1) (same_value shown.2))
 
 pub turns_from : (old new : State) (form : Form) (at tree : ℕ) (rows : List Row) → new.now.schema ≡ old.now.schema → IsDatabase new.now → IsDeclared old.now.schema form at tree
-    → Trees_turn old.now.schema tree old.now.trees new.now.trees rows → Shows old new new.now (cond old.in_transaction old.committed new.now) old.in_transaction → Turns old new form tree rows
+    → Trees_turn old.now.schema form tree old.now.trees new.now.trees rows → Shows old new new.now (cond old.in_transaction old.committed new.now) old.in_transaction → Turns old new form tree rows
 turns_from old new form at tree rows schema sound declared turned shown = record {
   schema = schema;
   sound = sound;
@@ -70,7 +70,7 @@ pub turned_by : (old new : State) (form : Form) (params : Row) (rows become : Li
     → AtPlace (λ (table : Table). OnRows (record { limit = old.step_limit; keys = Enforced; schema = old.now.schema; table = table; params = params }) (mode_of old) None command old.now.trees)
     (slice_get old.now.schema.tables stands.at) (Ok (w.tally, new.now))
     → ((it : Written) → WritesRows (task_of old.step_limit Enforced old.now.schema form stands.at stands.tree stands.declared params) old.now.trees command (Ok it)
-    → Trees_turn old.now.schema stands.tree old.now.trees it.trees become)
+    → Trees_turn old.now.schema form stands.tree old.now.trees it.trees become)
     → Turns old new form stands.tree become
 turned_by old new form params rows become stands command text count w changed turned =
     let schema = old.now.schema in
@@ -83,7 +83,7 @@ turned_by old new form params rows become stands command text count w changed tu
     let made = concluded task old command db w.tally new.now on in
     let schema_is : new.now.schema ≡ schema = ap (λ (d : Database). d.schema) made.2 in
     let trees_are : new.now.trees ≡ made.0.trees = ap (λ (d : Database). d.trees) made.2 in
-    turns_from old new form stands.at tree become schema_is w.sound stands.declared (subst (λ (t : Trees). Trees_turn schema tree db t become) (sym trees_are) (turned made.0 made.1)) w.shown
+    turns_from old new form stands.at tree become schema_is w.sound stands.declared (subst (λ (t : Trees). Trees_turn schema form tree db t become) (sym trees_are) (turned made.0 made.1)) w.shown
 
 -- a text that does not compile did not run, unless it names no table of the schema
 not_compiled : (schema : Schema) (text : List ℕ) (e : CompileError) (c : Compiled) → compiled schema text ≡ Err e → misses_table (Err e) ≡ false → understood schema text ≡ Ok c → ⊥

@@ -1,5 +1,5 @@
 -- Rows of a form's table, as lists of the values of their columns, without the rowid.
-use Rattle.std.specs.Prelude.{ℕ, ◌+◌, Bool, true, false, not, ◌&&◌, List, [], ◌∷◌, filter}
+use Rattle.std.specs.Prelude.{ℕ, zero, suc, ◌+◌, Bool, true, false, not, ◌&&◌, List, [], ◌∷◌, drop, filter, length}
 use Rattle.std.specs.List.{list_any}
 use Rattle.sqlite.specs.Order.{Row}
 use Rattle.sqlite.specs.declared.types.Value.{Value}
@@ -11,6 +11,17 @@ use Rattle.sqlite_schema.specs.Rules.{agree}
 use Rattle.sqlite_sql.specs.Ops.{is_null}
 use Rattle.sqlite_value.specs.Keys.{plain}
 use Rattle.table_forms.specs.Forms.{Form}
+
+-- at least so many values: those that a row lacks are NULL
+abbrev pub padded : ℕ → Row → Row
+padded zero row = row
+padded (suc n) [] = Null ∷ padded n []
+padded (suc n) (v ∷ row) = v ∷ padded n row
+
+-- the columns of a stored row of the form's table, without its rowid; a row that stood there before columns were added
+-- lacks the last ones
+abbrev pub columns_of : Form → Row → Row
+columns_of form row = padded (length form.columns) (drop 1 row)
 
 -- the value is of the type, or NULL
 abbrev pub fits_kind : Kind → Value → Bool

@@ -1,5 +1,5 @@
 -- That a form's table stands in a database, and with which rows.
-use Rattle.std.specs.Prelude.{◌≡◌, ℕ, ◌<◌, ◌^◌, Bool, true, false, List, map, drop, slice_get, Some, IsPermutation}
+use Rattle.std.specs.Prelude.{◌≡◌, ℕ, ◌<◌, ◌^◌, Bool, true, false, List, map, slice_get, Some, IsPermutation}
 use Rattle.std.specs.List.{AllByRecursion, list_any}
 use Rattle.sqlite.specs.Order.{Row}
 use Rattle.sqlite.specs.Table.{Table}
@@ -15,6 +15,7 @@ use Rattle.sqlite_trees.specs.View.{IsShaped}
 use Rattle.sqlite_trees.specs.declared.store.Shape.TheVariants as shape
 use Rattle.sqlite_value.specs.Keys.{plain}
 use Rattle.table_forms.specs.Forms.{Form, table_of}
+use Rattle.table_forms.specs.Rows.{columns_of}
 
 -- no foreign key names the form's table
 abbrev pub IsUnnamed : Schema → Form → Type 0
@@ -48,7 +49,7 @@ pub record Stands (db : Database) (form : Form) (rows : List Row) : Type 0 where
   pub declared : IsDeclared db.schema form at tree
   -- the rowids are integers and rise, so none comes twice
   pub shaped : IsShaped shape.Table (db.trees tree)
-  pub same : IsPermutation rows (map (drop 1) (db.trees tree))
+  pub same : IsPermutation rows (map (columns_of form) (db.trees tree))
 
 -- ---- all tables of a list of forms
 

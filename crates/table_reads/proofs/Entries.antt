@@ -9,7 +9,7 @@ use Rattle.sqlite_value.specs.declared.keys.Collation.TheVariants.{Binary}
 use Rattle.sqlite_schema.specs.Names.{column_named}
 use Rattle.table_forms.specs.Forms.{Form, strict_column, table_of}
 use Rattle.sqlite_resolve.specs.Lowering.{max_budget}
-use Rattle.table_reads.specs.Selects.{column_at, names_at, all_places, first_of, is_at, is_named, is_binary, is_plain, ends_needed, is_readable}
+use Rattle.table_reads.specs.Selects.{column_at, names_at, all_places, first_of, is_at, is_named, is_binary, is_plain, is_readable}
 use Rattle.table_forms.proofs.Given.{Entry, AreColumns, IsGiven}
 use Rattle.table_reads.proofs.Body.{names_of}
 use Rattle.table_reads.proofs.Answer.{places_of}
@@ -77,15 +77,13 @@ places_are form tree (p ∷ ps) h =
 pub record Readable (form : Form) : Type 0 where
   pub columns : list_all (is_named form) (all_places form) ≡ true
   pub order : list_all (is_named form) (first_of form.keys) ≡ true
-  pub ends : ends_needed form.columns ≡ true
   pub few : length form.columns + length (first_of form.keys) + 12 < max_budget
 
 pub readable : (form : Form) → is_readable form ≡ true → Readable form
 readable form h =
     let few = nat_lt (length form.columns + length (first_of form.keys) + 12) max_budget in
-    let one = and_parts (list_all (is_named form) (all_places form)) (list_all (is_named form) (first_of form.keys) && (ends_needed form.columns && few)) h in
-    let two = and_parts (list_all (is_named form) (first_of form.keys)) (ends_needed form.columns && few) one.1 in
-    let three = and_parts (ends_needed form.columns) few two.1 in
-    let small : nat_lt (length form.columns + length (first_of form.keys) + 12) max_budget ≡ true = three.1 in
+    let one = and_parts (list_all (is_named form) (all_places form)) (list_all (is_named form) (first_of form.keys) && few) h in
+    let two = and_parts (list_all (is_named form) (first_of form.keys)) few one.1 in
+    let small : nat_lt (length form.columns + length (first_of form.keys) + 12) max_budget ≡ true = two.1 in
     let small_is : length form.columns + length (first_of form.keys) + 12 < max_budget = grind (arith, small) in
-    record { columns = one.0; order = two.0; ends = three.0; few = small_is }
+    record { columns = one.0; order = two.0; few = small_is }

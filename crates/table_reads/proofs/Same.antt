@@ -1,5 +1,5 @@
 -- A table has one list of rows, but for their order.
-use Rattle.std.proofs.Common.{◌≡◌, ap, subst, List, ℕ, map, drop}
+use Rattle.std.proofs.Common.{◌≡◌, ap, subst, List, ℕ, map}
 use Rattle.std.specs.Prelude.{IsPermutation}
 use Rattle.std.proofs.lemmas.List.Sorted.{IsPermutation-sym, IsPermutation-trans}
 use Rattle.sqlite.specs.Effect.{Database}
@@ -7,6 +7,7 @@ use Rattle.sqlite.specs.Order.{Row}
 use Rattle.sqlite.specs.Schema.{Schema}
 use Rattle.sqlite.specs.Table.{Table}
 use Rattle.table_forms.specs.Forms.{Form, table_of}
+use Rattle.table_forms.specs.Rows.{columns_of}
 use Rattle.table_forms.specs.Standing.{IsDeclared, HasTable}
 use Rattle.table_reads.specs.Reading.{Lists}
 
@@ -28,5 +29,5 @@ has_listed db form rows l = record { at = l.at; tree = l.tree; declared = l.decl
 pub lists_same : (db : Database) (form : Form) (xs ys : List Row) → Lists db form xs → Lists db form ys → IsPermutation xs ys
 lists_same db form xs ys p q =
     let same = one_tree db.schema form p.at p.tree q.at q.tree p.declared q.declared in
-    let other : IsPermutation xs (map (drop 1) (db.trees q.tree)) = subst (λ t. IsPermutation xs (map (drop 1) (db.trees t))) same p.same in
+    let other : IsPermutation xs (map (columns_of form) (db.trees q.tree)) = subst (λ t. IsPermutation xs (map (columns_of form) (db.trees t))) same p.same in
     IsPermutation-trans xs _ ys other (IsPermutation-sym ys _ q.same)

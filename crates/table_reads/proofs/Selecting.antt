@@ -1,5 +1,5 @@
 -- What a text reads that selects from a form's table.
-use Rattle.std.proofs.Common.{◌≡◌, ◌⊎◌, inl, inr, refl, sym, ap, ◌∙◌, Ok, Err, List, ℕ, ◌-◌, ◌+◌, ◌<◌, ◌≤◌, [], ◌∷◌, map, drop, true, false, not, nat_le, length, arith, ◌&&◌}
+use Rattle.std.proofs.Common.{◌≡◌, ◌⊎◌, inl, inr, refl, sym, ap, ◌∙◌, Ok, Err, List, ℕ, ◌-◌, ◌+◌, ◌<◌, ◌≤◌, [], ◌∷◌, map, true, false, not, nat_le, length, arith, ◌&&◌}
 use Rattle.std.specs.Prelude.{filter, IsPermutation}
 use Rattle.std.specs.List.{AllByRecursion, list_all}
 use Rattle.std.proofs.lemmas.Bool.{and_parts}
@@ -11,7 +11,7 @@ use Rattle.sqlite_sql.specs.Ops.{is_null}
 use Rattle.sqlite_sql.specs.Term.{Term}
 use Rattle.sqlite_schema.specs.declared.schema.Schema.{Schema}
 use Rattle.sqlite_schema.specs.declared.schema.Table.{Table}
-use Rattle.sqlite_schema.specs.declared.schema.Constraint.TheVariants.{Datatype, NotNull}
+use Rattle.sqlite_schema.specs.declared.schema.Constraint.TheVariants.{Datatype}
 use Rattle.sqlite_schema.specs.Rules.{passes}
 use Rattle.sqlite_rules.proofs.ListLemmas.{has_got, all_has}
 use Rattle.sqlite_resolve.specs.declared.compiled.Compiled.{Compiled}
@@ -27,6 +27,7 @@ use Rattle.sqlite.specs.Listing.{understood, reads_listing}
 use Rattle.sqlite.specs.State.{State, Shown}
 use Rattle.sqlite.proofs.Callers.{IsPlain, command_of, reads_as}
 use Rattle.table_forms.specs.Forms.{Form, table_of}
+use Rattle.table_forms.specs.Rows.{columns_of}
 use Rattle.table_forms.specs.Standing.{IsDeclared, HasTable}
 use Rattle.table_reads.specs.Found.{has_values}
 use Rattle.table_reads.specs.Plain.{OnlyReads}
@@ -187,17 +188,16 @@ module _ (old new : State) (form : Form) (given text : List ℕ) (it : Selects f
         let parts = readable form it.readable in
         let listed = has_got schema.tables has.at table has.declared.listed in
         let typed = all_has (λ (t : Table). AllByRecursion (λ row. passes Datatype schema old.now.trees t row ≡ true) (old.now.trees t.tree)) schema.tables table (sound.obeys.rules Datatype) listed in
-        let present = all_has (λ (t : Table). AllByRecursion (λ row. passes NotNull schema old.now.trees t row ≡ true) (old.now.trees t.tree)) schema.tables table (sound.obeys.rules NotNull) listed in
         let test = passes_all values asked in
         let known = (and_parts (nat_le (length given) 3) (list_all (λ place. is_named form place && is_plain form place) given) it.compared).1 in
         let same = λ (r : Row). pass_all form has.tree 0 given values values r known len some refl in
-        let rows_are = shown_rows schema old.now.trees table refl parts.ends test (has_values given values) same (old.now.trees has.tree) typed present in
+        let rows_are = shown_rows schema old.now.trees table refl test (has_values given values) same (old.now.trees has.tree) typed in
         let shown_are = rw (places_are form has.tree (all_places form) parts.columns, rows_are) at read in
         record { at = has.at; tree = has.tree; declared = has.declared; low = has.low; same = IsPermutation-sym _ _ shown_are }
 
 -- rows with no value asked for are all rows
 pub all_listed : (db : Database) (form : Form) (rows : List Row) → Finds db form [] [] rows → Lists db form rows
-all_listed db form rows found = record { at = found.at; tree = found.tree; declared = found.declared; low = found.low; same = rw (none_asked (map (drop 1) (db.trees found.tree))) at found.same }
+all_listed db form rows found = record { at = found.at; tree = found.tree; declared = found.declared; low = found.low; same = rw (none_asked (map (columns_of form) (db.trees found.tree))) at found.same }
   where
     none_asked : (rs : List Row) → filter (has_values [] []) rs ≡ rs
     none_asked [] = refl

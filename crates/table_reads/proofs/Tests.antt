@@ -1,5 +1,5 @@
 -- A comparison of columns with parameters, and the rows that pass it.
-use Rattle.std.proofs.Common.{◌≡◌, refl, ap₂, List, ℕ, zero, suc, ◌-◌, ◌<◌, Bool, [], ◌∷◌, drop, Some, true, false, arith, length, ◌&&◌, not}
+use Rattle.std.proofs.Common.{◌≡◌, refl, sym, ap₂, List, ℕ, zero, suc, ◌-◌, ◌<◌, Bool, [], ◌∷◌, drop, Some, true, false, arith, length, ◌&&◌, not}
 use Rattle.std.specs.List.{list_all}
 use Rattle.std.specs.Ordering.{is_eq}
 use Rattle.std.proofs.lemmas.Bool.{and_parts, not-true}
@@ -15,6 +15,8 @@ use Rattle.sqlite_schema.specs.declared.schema.Table.{Table}
 use Rattle.sqlite_resolve.specs.Lowering.{nothing, chosen, alone, first_found}
 use Rattle.sqlite_resolve.specs.Scope.{declared}
 use Rattle.table_forms.specs.Forms.{Form, table_of}
+use Rattle.table_forms.specs.Rows.{columns_of}
+use Rattle.table_forms.proofs.Conflicts.{padded_column}
 use Rattle.table_reads.specs.Found.{has_values}
 use Rattle.table_reads.specs.Selects.{column_at, is_named, is_plain}
 use Rattle.table_forms.proofs.Given.{Entry, test_of}
@@ -42,11 +44,11 @@ abbrev pub tests_of : Table → ℕ → List Entry → List Term
 tests_of table n [] = []
 tests_of table n (e ∷ es) = test_of table e n ∷ tests_of table (suc n) es
 
--- after its rowid a row's columns stand as in the row without it
-past_rowid : (row : Row) (place : ℕ) → 0 < place → column (Null ∷ drop 1 row) place ≡ column row place
-past_rowid row zero h = absurd (omega arith)
-past_rowid [] (suc k) h = refl
-past_rowid (v ∷ row) (suc k) h = refl
+-- after its rowid a row's columns stand as in those without it
+past_rowid : (form : Form) (row : Row) (place : ℕ) → 0 < place → column (Null ∷ columns_of form row) place ≡ column row place
+past_rowid form row zero h = absurd (omega arith)
+past_rowid form [] (suc k) h = sym (padded_column (length form.columns) [] k)
+past_rowid form (v ∷ row) (suc k) h = sym (padded_column (length form.columns) row k)
 
 by_bytes : (form : Form) (tree place : ℕ) → is_plain form place ≡ true → chosen (declared (table_of form tree) (place - 1) (column_at form place)) nothing ≡ Binary
 unfolding chosen alone first_found
@@ -54,11 +56,11 @@ by_bytes form tree place h = is_by_bytes _ (and_parts _ _ (and_parts _ _ h).1).1
 
 -- one comparison
 passes : (form : Form) (tree place n : ℕ) (params row : Row) (value : Value) → is_named form place ≡ true → is_plain form place ≡ true → is_null value ≡ false → column params n ≡ value
-    → holds (params ∷ row ∷ []) (test_of (table_of form tree) (entry_at form place) n) ≡ is_eq (value_cmp (column (Null ∷ drop 1 row) place) value)
+    → holds (params ∷ row ∷ []) (test_of (table_of form tree) (entry_at form place) n) ≡ is_eq (value_cmp (column (Null ∷ columns_of form row) place) value)
 passes form tree place n params row value known plain some is =
     let above = (named form place known).above in
     let back : suc (place - 1) ≡ place = omega arith in
-    rw (by_bytes form tree place plain, back, is, past_rowid row place above) (equal_is (column row place) value some)
+    rw (by_bytes form tree place plain, back, is, past_rowid form row place above) (equal_is (column row place) value some)
 
 next_param : (n : ℕ) (params : Row) (v : Value) (vs : Row) → drop n params ≡ v ∷ vs → (column params n ≡ v) × (drop (suc n) params ≡ vs)
 next_param zero [] v vs h = absurd (cc)
@@ -69,7 +71,7 @@ next_param (suc n) (x ∷ xs) v vs h = next_param n xs v vs h
 -- all comparisons
 pub pass_all : (form : Form) (tree n : ℕ) (places : List ℕ) (params values row : Row) → list_all (λ place. is_named form place && is_plain form place) places ≡ true
     → length values ≡ length places → list_all (λ v. not (is_null v)) values ≡ true → drop n params ≡ values
-    → passes_all params (tests_of (table_of form tree) n (entries form places)) row ≡ has_values places values (drop 1 row)
+    → passes_all params (tests_of (table_of form tree) n (entries form places)) row ≡ has_values places values (columns_of form row)
 pass_all form tree n [] params values row known len some from = refl
 pass_all form tree n (p ∷ ps) params [] row known len some from = absurd (omega arith)
 pass_all form tree n (p ∷ ps) params (v ∷ vs) row known len some from =

@@ -44,16 +44,10 @@ is_binary _ = false
 abbrev pub is_plain : Form → ℕ → Bool
 is_plain form place = let column = column_at form place in column.is_strict && (not (is_filler column) && is_binary column.collation)
 
-abbrev pub ends_needed : List Column → Bool
-ends_needed [] = false
-ends_needed (c ∷ []) = c.not_null
-ends_needed (c ∷ d ∷ cs) = ends_needed (d ∷ cs)
-
--- each column and each key is found by its name, and the last column is NOT NULL
+-- each column and each key is found by its name
 abbrev pub is_readable : Form → Bool
 is_readable form =
-    list_all (is_named form) (all_places form) && (list_all (is_named form) (first_of form.keys)
-    && (ends_needed form.columns && nat_lt (length form.columns + length (first_of form.keys) + 12) max_budget))
+    list_all (is_named form) (all_places form) && (list_all (is_named form) (first_of form.keys) && nat_lt (length form.columns + length (first_of form.keys) + 12) max_budget)
 
 -- up to three columns, which can be compared with parameters
 abbrev pub are_given : Form → List ℕ → Bool

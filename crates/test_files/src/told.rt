@@ -58,6 +58,7 @@ fn schema_of<S: Alter>(alloc: Global, conn: &mut Connection<S>) -> Result<u64, F
         FoundTables::Nothing => Ok(0),
         FoundTables::Version(1) => Ok(1),
         FoundTables::Version(2) => Ok(2),
+        FoundTables::Version(3) => Ok(3),
         FoundTables::Version(_) => Ok(NEWEST_SCHEMA),
         FoundTables::NoMeta => Err("table meta is damaged")?,
     }

@@ -98,7 +98,7 @@ fn a_store_may_fail(rt: HostRuntime) -> Result<(), Fail> {
     assert!(rt; end == RunEnd::Fault(DeskFault::Store));
     assert_eq!(rt;
         out.as_slice(),
-        b"{\"ok\":1}\n{\"schema\":3,\"seq\":1}\n{\"name\":\"Exists\",\"refused\":3}\n{\"schema\":3,\"seq\":1}\n{\"fault\":1}\n".as_slice()
+        b"{\"ok\":1}\n{\"schema\":4,\"seq\":1}\n{\"name\":\"Exists\",\"refused\":3}\n{\"schema\":4,\"seq\":1}\n{\"fault\":1}\n".as_slice()
     );
     assert!(rt; matches!(keeper.ask(&Question::Desk), Err(DeskFault::Shut)));
     Ok(())
@@ -141,8 +141,8 @@ fn ends_after(rt: &(impl Abort + AllocGlobal), most: u64, wanted: RunEnd, text: 
 /// The second read tells the end of the input. Before it the part behind the last LF isn't answered.
 #[test]
 fn reads_may_run_out(rt: HostRuntime) {
-    let first = b"{\"schema\":3,\"seq\":0}\n";
-    let both = b"{\"schema\":3,\"seq\":0}\n{\"schema\":3,\"seq\":0}\n";
+    let first = b"{\"schema\":4,\"seq\":0}\n";
+    let both = b"{\"schema\":4,\"seq\":0}\n{\"schema\":4,\"seq\":0}\n";
     ends_after(&rt, 0, RunEnd::Endless, b"");
     ends_after(&rt, 1, RunEnd::Endless, first);
     ends_after(&rt, 2, RunEnd::Done { refused: false }, both);

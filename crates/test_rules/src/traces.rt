@@ -6,7 +6,7 @@ ghost use Rattle.plant_trace.specs.Sources.{same_along};
 use plant_base::Id;
 use plant_trace::{
     Direction, Edges, Indexed, Listed, Node, TraceFault, acyclic, closure, closure_in_rounds,
-    growth_law, neighbours,
+    growth_law, neighbours, reached, recall_law,
 };
 use std::alloc::{AllocError, Global};
 use std::test::Fail;
@@ -263,6 +263,32 @@ fn a_diamond_is_traced_both_ways(rt: HostRuntime) -> Result<(), Fail> {
     assert!(rt; leads_to(alloc, &pairs, "L-4", back, &["L-1", "L-2", "L-3"])?);
     assert!(rt; leads_to(alloc, &pairs, "L-3", back, &["L-1"])?);
     assert!(rt; leads_to(alloc, &pairs, "L-5", back, &[])?);
+    Ok(())
+}
+
+/// Whether a recall of the lot reaches these lots, over both sources.
+fn reaches(
+    alloc: Global,
+    pairs: &[(Node, Node)],
+    recalled: &str,
+    wanted: &[&str],
+) -> Result<bool, Fail> {
+    let recalled = Id::read(recalled.as_bytes()).ok_or("no id")?;
+    let wanted = lots(alloc, wanted)?;
+    let listed = reached(alloc, &mut Listed { alloc, pairs }, recalled)?;
+    let indexed = reached(alloc, &mut Indexed::new(alloc, pairs)?, recalled)?;
+    Ok(listed == wanted && indexed == wanted)
+}
+
+#[test]
+fn a_recall_reaches_its_lot_and_what_came_of_it(rt: HostRuntime) -> Result<(), Fail> {
+    let alloc = rt.alloc();
+    let pairs = diamond()?;
+    assert!(rt; reaches(alloc, &pairs, "L-1", &["L-1", "L-2", "L-3", "L-4"])?);
+    assert!(rt; reaches(alloc, &pairs, "L-3", &["L-3", "L-4"])?);
+    assert!(rt; reaches(alloc, &pairs, "L-4", &["L-4"])?);
+    assert!(rt; reaches(alloc, &pairs, "L-5", &["L-5"])?);
+    recall_law();
     Ok(())
 }
 

@@ -11,10 +11,10 @@ use std::test::Fail;
 const DESK: &[u8] = b"GET /v1/desk HTTP/1.1\r\nHost: a\r\n\r\n";
 
 const NEW: &[u8] =
-    b"HTTP/1.1 200 OK\r\nContent-Type: application/json\r\nContent-Length: 20\r\nConnection: close\r\n\r\n{\"schema\":3,\"seq\":0}";
+    b"HTTP/1.1 200 OK\r\nContent-Type: application/json\r\nContent-Length: 20\r\nConnection: close\r\n\r\n{\"schema\":4,\"seq\":0}";
 
 const ONE: &[u8] =
-    b"HTTP/1.1 200 OK\r\nContent-Type: application/json\r\nContent-Length: 20\r\nConnection: close\r\n\r\n{\"schema\":3,\"seq\":1}";
+    b"HTTP/1.1 200 OK\r\nContent-Type: application/json\r\nContent-Length: 20\r\nConnection: close\r\n\r\n{\"schema\":4,\"seq\":1}";
 
 /// A command, and what a new desk answers.
 const CLASS: &[u8] =
@@ -24,7 +24,7 @@ const ACCEPTED: &[u8] =
     b"HTTP/1.1 200 OK\r\nContent-Type: application/json\r\nContent-Length: 8\r\nConnection: close\r\n\r\n{\"ok\":1}";
 
 /// Requests that a new desk is sent one after the other, each with its answer. No read follows the last of their bytes.
-const REQUESTS: [(&[u8], &[u8]); 14] = [
+const REQUESTS: [(&[u8], &[u8]); 15] = [
     (DESK, NEW),
     (
         b"HEAD /v1/desk HTTP/1.1\r\nHost: a\r\n\r\n",
@@ -40,6 +40,10 @@ const REQUESTS: [(&[u8], &[u8]); 14] = [
     ),
     (
         b"GET /v1/lots/l-1 HTTP/1.1\r\nHost: a\r\n\r\n",
+        b"HTTP/1.1 404 Not Found\r\nContent-Type: application/json\r\nContent-Length: 14\r\nConnection: close\r\n\r\n{\"status\":404}",
+    ),
+    (
+        b"GET /v1/recalls/RC-1 HTTP/1.1\r\nHost: a\r\n\r\n",
         b"HTTP/1.1 404 Not Found\r\nContent-Type: application/json\r\nContent-Length: 14\r\nConnection: close\r\n\r\n{\"status\":404}",
     ),
     (
@@ -145,6 +149,84 @@ fn requests_are_answered_byte_for_byte(rt: HostRuntime) -> Result<(), Fail> {
     answers_all(&rt, &mut ListKeeper::new(rt.alloc()), true)?;
     answers_all(&rt, &mut new_desk(&rt)?, false)?;
     answers_all(&rt, &mut new_desk(&rt)?, true)
+}
+
+/// A lot that is recalled, what is refused while its recall is open, and what once it is lifted: commands that a new desk is told, each
+/// with the status and the body of its answer.
+const RECALLS: [(&str, u16, &str); 9] = [
+    (
+        "{\"at\":1,\"by\":\"\",\"do\":\"add_class\",\"class\":\"RAW\",\"name\":\"\"}",
+        200,
+        "{\"ok\":1}",
+    ),
+    (
+        "{\"at\":1,\"by\":\"\",\"do\":\"add_definition\",\"def\":\"SUGAR\",\"class\":\"RAW\",\"name\":\"\",\"unit\":\"g\"}",
+        200,
+        "{\"ok\":2}",
+    ),
+    (
+        "{\"at\":1,\"by\":\"\",\"do\":\"receive\",\"lot\":\"L-1\",\"def\":\"SUGAR\",\"amount\":500,\"place\":\"\"}",
+        200,
+        "{\"ok\":3}",
+    ),
+    (
+        "{\"at\":1,\"by\":\"\",\"do\":\"lift\",\"recall\":\"RC-1\"}",
+        409,
+        "{\"name\":\"UnknownRecall\",\"refused\":33}",
+    ),
+    (
+        "{\"at\":1,\"by\":\"\",\"do\":\"recall\",\"recall\":\"RC-1\",\"lot\":\"L-1\"}",
+        200,
+        "{\"ok\":4}",
+    ),
+    (
+        "{\"at\":1,\"by\":\"\",\"do\":\"split\",\"lot\":\"L-1\",\"sub\":0,\"amount\":1,\"new\":\"L-2\",\"place\":\"\"}",
+        409,
+        "{\"name\":\"Recalled\",\"refused\":32}",
+    ),
+    (
+        "{\"at\":1,\"by\":\"\",\"do\":\"lift\",\"recall\":\"RC-1\"}",
+        200,
+        "{\"ok\":5}",
+    ),
+    (
+        "{\"at\":1,\"by\":\"\",\"do\":\"lift\",\"recall\":\"RC-1\"}",
+        409,
+        "{\"name\":\"RecallLifted\",\"refused\":34}",
+    ),
+    (
+        "{\"ask\":\"recall\",\"recall\":\"RC-1\"}",
+        400,
+        "{\"name\":\"BadForm\",\"refused\":1}",
+    ),
+];
+
+/// Checks what these are answered.
+fn recalls_are_told<K: Keeper>(
+    rt: &(impl Abort + AllocGlobal),
+    keeper: &mut K,
+) -> Result<(), Fail> {
+    for (body, status, answer) in &RECALLS {
+        let request = format!(in rt.alloc();
+            "POST /v1/commands HTTP/1.1\r\nHost: a\r\nContent-Length: {}\r\n\r\n{body}",
+            body.len()
+        )?;
+        let input = Trickle {
+            rest: request.as_bytes(),
+            most: 512,
+            reads: 1,
+        };
+        let (end, text) = served(rt, keeper, input, ENOUGH)?;
+        assert!(rt; end == Ok(Served::Answered(*status)));
+        assert!(rt; text.ends_with(answer.as_bytes()));
+    }
+    Ok(())
+}
+
+#[test]
+fn refusals_of_recalls_are_conflicts(rt: HostRuntime) -> Result<(), Fail> {
+    recalls_are_told(&rt, &mut ListKeeper::new(rt.alloc()))?;
+    recalls_are_told(&rt, &mut new_desk(&rt)?)
 }
 
 /// The reader fails at its n-th read, for every n: nothing is written, and nothing was executed.

@@ -30,6 +30,17 @@ const COMMANDS: &[u8] =
 {\"at\":240,\"by\":\"ben\",\"do\":\"produce\",\"batch\":\"B-1\",\"lot\":\"D-1\",\"def\":\"DOUGH\",\"amount\":490,\"place\":\"\"}
 {\"at\":240,\"by\":\"ben\",\"do\":\"split\",\"lot\":\"D-1\",\"sub\":0,\"amount\":90,\"new\":\"D-2\",\"place\":\"\"}
 {\"at\":245,\"by\":\"ben\",\"do\":\"consume\",\"batch\":\"B-1\",\"lot\":\"D-2\",\"sub\":0,\"amount\":1}
+{\"at\":245,\"by\":\"anna\",\"do\":\"recall\",\"recall\":\"RC-1\",\"lot\":\"F-2\"}
+{\"at\":245,\"by\":\"anna\",\"do\":\"recall\",\"recall\":\"RC-2\",\"lot\":\"D-1\",\"note\":\"smell\"}
+{\"at\":245,\"by\":\"anna\",\"do\":\"recall\",\"recall\":\"RC-1\",\"lot\":\"D-1\"}
+{\"at\":246,\"by\":\"ben\",\"do\":\"produce\",\"batch\":\"B-1\",\"lot\":\"D-3\",\"def\":\"DOUGH\",\"amount\":5,\"place\":\"\"}
+{\"at\":246,\"by\":\"ben\",\"do\":\"split\",\"lot\":\"D-1\",\"sub\":0,\"amount\":1,\"new\":\"D-4\",\"place\":\"\"}
+{\"at\":246,\"by\":\"ben\",\"do\":\"consume\",\"batch\":\"B-1\",\"lot\":\"F-3\",\"sub\":0,\"amount\":1}
+{\"at\":246,\"by\":\"ben\",\"do\":\"merge\",\"new\":\"D-4\",\"place\":\"\",\"parts\":[{\"lot\":\"D-2\",\"sub\":0,\"amount\":1},{\"lot\":\"D-3\",\"sub\":0,\"amount\":1}]}
+{\"at\":247,\"by\":\"anna\",\"do\":\"lift\",\"recall\":\"RC-2\",\"note\":\"none\"}
+{\"at\":247,\"by\":\"anna\",\"do\":\"lift\",\"recall\":\"RC-2\"}
+{\"at\":247,\"by\":\"anna\",\"do\":\"lift\",\"recall\":\"RC-9\"}
+{\"at\":247,\"by\":\"ben\",\"do\":\"split\",\"lot\":\"D-2\",\"sub\":0,\"amount\":1,\"new\":\"D-4\",\"place\":\"\"}
 {\"at\":250,\"by\":\"ben\",\"do\":\"scrap\",\"lot\":\"D-1\",\"sub\":0,\"amount\":10}
 {\"at\":260,\"by\":\"ben\",\"do\":\"settle\",\"batch\":\"B-1\"}
 {\"at\":300,\"by\":\"anna\",\"do\":\"close_batch\",\"batch\":\"B-1\"}
@@ -38,16 +49,18 @@ const COMMANDS: &[u8] =
 {\"ask\":\"desk\"}
 ";
 
-/// The ids of the lots, batches and orders, and one of none.
-const IDS: [&[u8]; 10] = [
-    b"F-1", b"F-2", b"F-3", b"F-4", b"D-1", b"D-2", b"B-1", b"O-1", b"O-2", b"X-1",
+/// The ids of the lots, batches, orders and recalls, and one of none.
+const IDS: [&[u8]; 13] = [
+    b"F-1", b"F-2", b"F-3", b"F-4", b"D-1", b"D-2", b"D-3", b"B-1", b"O-1", b"O-2", b"RC-1",
+    b"RC-2", b"X-1",
 ];
 
 /// What stands before and behind the id in each question.
-const QUESTIONS: [(&[u8], &[u8]); 7] = [
+const QUESTIONS: [(&[u8], &[u8]); 8] = [
     (b"{\"ask\":\"lot\",\"lot\":\"", b"\"}\n"),
     (b"{\"ask\":\"batch\",\"batch\":\"", b"\"}\n"),
     (b"{\"ask\":\"order\",\"order\":\"", b"\"}\n"),
+    (b"{\"ask\":\"recall\",\"recall\":\"", b"\"}\n"),
     (b"{\"ask\":\"back\",\"lot\":\"", b"\"}\n"),
     (b"{\"ask\":\"forward\",\"lot\":\"", b"\"}\n"),
     (b"{\"ask\":\"back\",\"batch\":\"", b"\"}\n"),
@@ -84,6 +97,6 @@ fn both_keepers_reply_alike(rt: HostRuntime) -> Result<(), Fail> {
     run_lines(rt.alloc(), &mut again, &mut by_store, &mut desk);
     assert!(rt; by_lists.as_slice() == by_store.as_slice());
     // Each line has a reply of its own.
-    assert_eq!(rt; by_lists.iter().filter(|b| **b == b'\n').count(), 99);
+    assert_eq!(rt; by_lists.iter().filter(|b| **b == b'\n').count(), 144);
     Ok(())
 }

@@ -31,6 +31,6 @@ fn connections_are_served_in_turn(rt: HostRuntime) -> Result<(), Fail> {
     assert!(rt; end == Err(ServingFault::Net));
     let mut answer = Vec::new(rt.alloc());
     asking.read_to_end(&mut answer)?;
-    assert!(rt; answer.ends_with(b"\r\n\r\n{\"schema\":3,\"seq\":0}"));
+    assert!(rt; answer.ends_with(b"\r\n\r\n{\"schema\":4,\"seq\":0}"));
     Ok(())
 }

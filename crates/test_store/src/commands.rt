@@ -1,4 +1,4 @@
-//! The commands of a batch, from its class to its closing, and what becomes of its product; and an import of many orders.
+//! The commands of a batch, from its class to its closing, and what becomes of its product; an import of many orders; and recalls.
 use plant_base::Envelope;
 use plant_text::{Line, read_line};
 use std::alloc::Global;
@@ -32,6 +32,16 @@ const LINES: [&[u8]; 20] = [
     b"{\"at\":2,\"by\":\"ben\",\"do\":\"scrap\",\"lot\":\"D-3\",\"sub\":0,\"amount\":10}",
 ];
 
+/// Behind the first ten of them: the flour is recalled, the batch makes dough of it, the dough is recalled too, and both recalls are
+/// lifted.
+const RECALLS: [&[u8]; 5] = [
+    b"{\"at\":0,\"by\":\"anna\",\"do\":\"recall\",\"recall\":\"RC-1\",\"lot\":\"F-1\",\"note\":\"mould\"}",
+    b"{\"at\":1,\"by\":\"ben\",\"do\":\"produce\",\"batch\":\"B-1\",\"lot\":\"D-1\",\"def\":\"DOUGH\",\"amount\":490,\"place\":\"A2\"}",
+    b"{\"at\":1,\"by\":\"anna\",\"do\":\"recall\",\"recall\":\"RC-2\",\"lot\":\"D-1\"}",
+    b"{\"at\":2,\"by\":\"anna\",\"do\":\"lift\",\"recall\":\"RC-1\",\"note\":\"nothing found\"}",
+    b"{\"at\":2,\"by\":\"anna\",\"do\":\"lift\",\"recall\":\"RC-2\"}",
+];
+
 /// The command that a line is.
 fn command_of(alloc: Global, line: &[u8]) -> Result<Envelope, Fail> {
     match read_line(alloc, line) {
@@ -56,6 +66,11 @@ pub fn twenty_commands(alloc: Global) -> Result<Vec<Envelope>, Fail> {
 /// The first ten of them: the batch has taken what it needs.
 pub fn ten_commands(alloc: Global) -> Result<Vec<Envelope>, Fail> {
     commands_of(alloc, &LINES[..10])
+}
+
+/// Five commands behind those ten: two recalls, between them a product of the batch, and their lifts.
+pub fn recalls(alloc: Global) -> Result<Vec<Envelope>, Fail> {
+    commands_of(alloc, &RECALLS)
 }
 
 /// These ten, each under a reference of its own.

@@ -1,8 +1,10 @@
 //! Commands over files, and what the tables hold after none of them and after each.
-use crate::commands::{an_import, five_commands, ten_commands, ten_referred, twenty_commands};
+use crate::commands::{
+    an_import, five_commands, recalls, ten_commands, ten_referred, twenty_commands,
+};
 use crate::desks::{accepted, desk_over};
 use crate::raised::lower;
-use plant_base::Envelope;
+use plant_base::{Envelope, NEWEST_SCHEMA};
 use std::process::Abort;
 use std::test::Fail;
 use test_files::{ALL, Image, closed, reopened, tables_told};
@@ -127,6 +129,12 @@ pub fn an_import_of_orders(rt: &(impl Abort + AllocGlobal)) -> Result<Course, Fa
     course_of(rt, Work::Adopt, image, an_import(rt.alloc())?)
 }
 
+/// Two recalls, between them a product of the batch that they reach, and their lifts, over a desk that has accepted ten commands.
+pub fn recalls_that_are_lifted(rt: &(impl Abort + AllocGlobal)) -> Result<Course, Fail> {
+    let image = image_after(rt, &ten_commands(rt.alloc())?)?;
+    course_of(rt, Work::Adopt, image, recalls(rt.alloc())?)
+}
+
 /// Tables of an older schema, after ten commands.
 pub fn tables_to_raise(
     rt: &(impl Abort + AllocGlobal),
@@ -136,10 +144,9 @@ pub fn tables_to_raise(
     let newest = image_after(rt, &ten_commands(rt.alloc())?)?;
     let image = lowered(rt, &newest, schema)?;
     let mut course = course_of(rt, work, image, Vec::new(rt.alloc()))?;
-    if schema == 1 {
-        course
-            .between
-            .push(text_in(rt, &lowered(rt, &newest, 2)?)?)?;
+    for between in schema.saturating_add(1)..NEWEST_SCHEMA {
+        let text = text_in(rt, &lowered(rt, &newest, between)?)?;
+        course.between.push(text)?;
     }
     Ok(course)
 }

@@ -1,8 +1,8 @@
 //! Commands over files that are stopped after so many calls of one of them, for every number of calls. Opened and adopted
 //! anew, the files hold the tables after the commands that were answered, or after one more.
 use crate::courses::{
-    Course, Work, an_import_of_orders, tables_to_raise, ten_from_nothing, ten_with_references,
-    twenty_of_a_new_desk,
+    Course, Work, an_import_of_orders, recalls_that_are_lifted, tables_to_raise, ten_from_nothing,
+    ten_with_references, twenty_of_a_new_desk,
 };
 use crate::desks::{adopted, desk_over};
 use plant_base::{Envelope, NEWEST_SCHEMA};
@@ -306,6 +306,17 @@ fn a_raising_is_stopped(rt: HostRuntime) -> Result<(), Fail> {
 fn a_raising_of_the_second_schema_is_stopped(rt: HostRuntime) -> Result<(), Fail> {
     sweep_both(&rt, &tables_to_raise(&rt, Work::Adopt, 2)?)?;
     sweep_both(&rt, &tables_to_raise(&rt, Work::Raise, 2)?)
+}
+
+#[test]
+fn a_raising_of_the_third_schema_is_stopped(rt: HostRuntime) -> Result<(), Fail> {
+    sweep_both(&rt, &tables_to_raise(&rt, Work::Adopt, 3)?)?;
+    sweep_both(&rt, &tables_to_raise(&rt, Work::Raise, 3)?)
+}
+
+#[test]
+fn recalls_and_lifts_are_stopped(rt: HostRuntime) -> Result<(), Fail> {
+    sweep_both(&rt, &recalls_that_are_lifted(&rt)?)
 }
 
 #[test]

@@ -34,15 +34,26 @@ const LOWER: &str = "
     DROP INDEX movement_by_batch;
     DROP TABLE edge;
     DROP TABLE receipt;
+    DROP INDEX mark_by_node;
+    DROP TABLE mark;
+    DROP TABLE recall;
     UPDATE meta SET schema = 1";
 
 /// What takes it back to the second.
 const LOWER_TO_THE_SECOND: &str = "
     DROP TABLE receipt;
+    DROP TABLE mark;
+    DROP TABLE recall;
     UPDATE meta SET schema = 2";
 
+/// What takes it back to the third.
+const LOWER_TO_THE_THIRD: &str = "
+    DROP TABLE mark;
+    DROP TABLE recall;
+    UPDATE meta SET schema = 3";
+
 /// What the store holds once it is raised: the edges are new, and the rest stays but for the schema's number.
-const RAISED: &str = "meta|1|3|6|160
+const RAISED: &str = "meta|1|4|6|160
 class|FOOD|
 definition|FLOUR|FOOD||kg
 lot|F-1|FLOUR
@@ -100,12 +111,12 @@ fn the_first_schema_is_raised(rt: HostRuntime) -> Result<(), Fail> {
     Ok(())
 }
 
-/// Takes the tables of a store back to the first schema, and the indexes away, or to the second.
+/// Takes the tables of a store back to the first schema, and the indexes away, or to the second or the third.
 pub fn lower<S: Alter>(connection: &mut Connection<S>, schema: u64) -> Result<(), Fail> {
-    connection.execute_batch(if schema == 1 {
-        LOWER
-    } else {
-        LOWER_TO_THE_SECOND
+    connection.execute_batch(match schema {
+        1 => LOWER,
+        2 => LOWER_TO_THE_SECOND,
+        _ => LOWER_TO_THE_THIRD,
     })?;
     Ok(())
 }
@@ -125,7 +136,8 @@ fn check_raised(rt: &(impl Abort + AllocGlobal), schema: u64) -> Result<(), Fail
 #[test]
 fn ten_commands_are_raised(rt: HostRuntime) -> Result<(), Fail> {
     check_raised(&rt, 1)?;
-    check_raised(&rt, 2)
+    check_raised(&rt, 2)?;
+    check_raised(&rt, 3)
 }
 
 #[test]

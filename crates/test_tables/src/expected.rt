@@ -4,9 +4,9 @@
 pub const OTHER: &str = "other|7|x\nother|8|NULL\n";
 
 /// A desk that has accepted nothing.
-pub const OPENING: &str = "meta|1|3|0|0\n";
+pub const OPENING: &str = "meta|1|4|0|0\n";
 
-pub const FIRST: &str = "meta|1|3|300|300
+pub const FIRST: &str = "meta|1|4|300|300
 class|RAW|one
 definition|FLOUR|RAW|one|kg
 recipe|CAKE|2|DOUGH|300|1|300|one|approved
@@ -34,10 +34,16 @@ hold|L-1|H-2|300|ben|one
 edge|1|L-1|B-1
 edge|3|L-1|L-2
 receipt|K-1|300|one
+recall|RC-1|L-1|open|300|ben|one|NULL|NULL|NULL
+recall|RC-2|L-1|lifted|300|ben|one|300|anna|one
+mark|RC-1|1|L-1
+mark|RC-1|2|B-1
+mark|RC-2|1|L-1
 ";
 
-/// Each row was overwritten, but events and movements were added, the edges stayed, and the first hold was taken away.
-pub const SECOND: &str = "meta|1|3|500|500
+/// Each row was overwritten, but events and movements were added, and the edges stayed; the first hold was taken away, and
+/// the first recall was lifted with its marks.
+pub const SECOND: &str = "meta|1|4|500|500
 class|RAW|two
 definition|FLOUR|RAW|two|kg
 recipe|CAKE|2|DOUGH|500|1|500|two|approved
@@ -74,4 +80,7 @@ hold|L-1|H-2|500|ben|two
 edge|1|L-1|B-1
 edge|3|L-1|L-2
 receipt|K-1|500|two
+recall|RC-1|L-1|lifted|500|ben|two|500|anna|two
+recall|RC-2|L-1|lifted|500|ben|two|500|anna|two
+mark|RC-2|1|L-1
 ";

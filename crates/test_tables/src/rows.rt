@@ -2,9 +2,9 @@
 //! overwrite them. Events and movements are only ever added, so the number counts in their keys.
 use plant_base::{
     Amount, Batch, BatchEvent, BatchRow, BatchState, Class, ControlLine, Definition, Due, EdgeKind,
-    EdgeRow, Event, Header, Hold, Id, Job, JobState, Lot, MasterLine, Meta, Moment, Movement,
-    MovementKind, NEWEST_SCHEMA, OrderRow, Position, Receipt, Recipe, RecipeLine, RecipeState,
-    Sublot, Text, Unit, Word,
+    EdgeRow, Event, Header, Hold, Id, Job, JobState, Lifting, Lot, Mark, MarkKind, MasterLine,
+    Meta, Moment, Movement, MovementKind, NEWEST_SCHEMA, OrderRow, Position, Recall, Receipt,
+    Recipe, RecipeLine, RecipeState, Sublot, Text, Unit, Word,
 };
 use plant_view::RowChange;
 use std::alloc::AllocError;
@@ -266,6 +266,50 @@ fn receipt(rt: &(impl Abort + AllocGlobal), of: Content<'_>) -> Result<RowChange
     }))
 }
 
+fn lifting(rt: &(impl Abort + AllocGlobal), of: Content<'_>) -> Lifting {
+    Lifting {
+        at: moment(rt, of.number),
+        by: text(rt, b"anna"),
+        note: text(rt, of.text),
+    }
+}
+
+/// A recall of lot L-1.
+fn recall(
+    rt: &(impl Abort + AllocGlobal),
+    name: &[u8],
+    lifting: Option<Lifting>,
+    of: Content<'_>,
+) -> RowChange {
+    RowChange::Recall(Recall {
+        id: id(rt, name),
+        lot: id(rt, b"L-1"),
+        at: moment(rt, of.number),
+        by: text(rt, b"ben"),
+        note: text(rt, of.text),
+        lifting,
+    })
+}
+
+fn mark(rt: &(impl Abort + AllocGlobal), recall: &[u8], kind: MarkKind, of_id: &[u8]) -> RowChange {
+    RowChange::Mark(Mark {
+        recall: id(rt, recall),
+        kind,
+        id: id(rt, of_id),
+    })
+}
+
+/// An open recall and a lifted one, and marks of both, on one lot and on a batch.
+fn recalls(rt: &(impl Abort + AllocGlobal), of: Content<'_>) -> [RowChange; 5] {
+    [
+        recall(rt, b"RC-1", None, of),
+        recall(rt, b"RC-2", Some(lifting(rt, of)), of),
+        mark(rt, b"RC-2", MarkKind::Lot, b"L-1"),
+        mark(rt, b"RC-1", MarkKind::Batch, b"B-1"),
+        mark(rt, b"RC-1", MarkKind::Lot, b"L-1"),
+    ]
+}
+
 fn push_all(changes: &mut Vec<RowChange>, more: Vec<RowChange>) -> Result<(), AllocError> {
     for change in more {
         changes.push(change)?;
@@ -273,22 +317,29 @@ fn push_all(changes: &mut Vec<RowChange>, more: Vec<RowChange>) -> Result<(), Al
     Ok(())
 }
 
-/// The first hold of lot L-1 is taken away.
-fn unhold(rt: &(impl Abort + AllocGlobal)) -> RowChange {
-    RowChange::Unhold {
-        lot: id(rt, b"L-1"),
-        hold: id(rt, b"H-1"),
-    }
+/// The first hold of lot L-1 is taken away, and its first recall lifted, whose marks are taken away.
+fn takings(rt: &(impl Abort + AllocGlobal), of: Content<'_>) -> [RowChange; 3] {
+    [
+        RowChange::Unhold {
+            lot: id(rt, b"L-1"),
+            hold: id(rt, b"H-1"),
+        },
+        recall(rt, b"RC-1", Some(lifting(rt, of)), of),
+        RowChange::Unmark {
+            recall: id(rt, b"RC-1"),
+        },
+    ]
 }
 
 /// A change of every kind: each row is added, or put in the place of the one with its key; an event or a movement of
-/// another number is added, and an edge that is known stays.
+/// another number is added, and an edge or a mark that is known stays.
 pub fn rows(
     rt: &(impl Abort + AllocGlobal),
     of: Content<'_>,
 ) -> Result<Vec<RowChange>, AllocError> {
     // The checker can't follow row changes, unless the function names these types.
     let _: Option<(RecipeLine, MasterLine, ControlLine, Movement, MovementKind)> = None;
+    let _: Option<(Lifting, Recall, MarkKind, Mark)> = None;
     let mut changes = Vec::new(rt.alloc());
     push_all(&mut changes, Vec::from_array(rt.alloc(), masters(rt, of))?)?;
     push_all(&mut changes, Vec::from_array(rt.alloc(), orders(rt, of))?)?;
@@ -299,17 +350,19 @@ pub fn rows(
     )?;
     push_all(&mut changes, Vec::from_array(rt.alloc(), edges(rt))?)?;
     changes.push(receipt(rt, of)?)?;
+    push_all(&mut changes, Vec::from_array(rt.alloc(), recalls(rt, of))?)?;
     Ok(changes)
 }
 
-/// The same, and then the first hold is taken away.
-pub fn rows_and_unhold(
+/// The same, and then the first hold is taken away, and the first recall is lifted with its marks.
+pub fn rows_and_takings(
     rt: &(impl Abort + AllocGlobal),
     of: Content<'_>,
 ) -> Result<Vec<RowChange>, AllocError> {
     let _: Option<(RecipeLine, MasterLine, ControlLine, Movement, MovementKind)> = None;
+    let _: Option<(Lifting, Recall, MarkKind, Mark)> = None;
     let mut changes = rows(rt, of)?;
-    changes.push(unhold(rt))?;
+    push_all(&mut changes, Vec::from_array(rt.alloc(), takings(rt, of))?)?;
     Ok(changes)
 }
 
@@ -329,6 +382,7 @@ pub fn rows_and_overfull(
     of: Content<'_>,
 ) -> Result<Vec<RowChange>, AllocError> {
     let _: Option<(RecipeLine, MasterLine, ControlLine, Movement, MovementKind)> = None;
+    let _: Option<(Lifting, Recall, MarkKind, Mark)> = None;
     let mut changes = rows(rt, of)?;
     changes.push(overfull(rt))?;
     Ok(changes)

@@ -1,6 +1,6 @@
 //! What is done to a store: the making of its tables, the writing of rows, and the reading of all that it holds.
 use crate::expected::OTHER;
-use crate::rows::{FIRST, SECOND, rows, rows_and_overfull, rows_and_unhold};
+use crate::rows::{FIRST, SECOND, rows, rows_and_overfull, rows_and_takings};
 use plant_tables::{commit_changes, commit_opening};
 use plant_view::RowChange;
 use sqlite::{Alter, Connection};
@@ -19,7 +19,7 @@ pub enum Step {
     Add,
     /// Adds them, and a row with a number that no column holds, which fails.
     AddTooMuch,
-    /// Overwrites each of them, and takes a hold away.
+    /// Overwrites each of them, takes a hold away, and lifts a recall with its marks.
     Overwrite,
 }
 
@@ -57,7 +57,7 @@ pub fn take<S: Alter>(
         Step::Open => open(conn),
         Step::Add => commit(conn, &rows(rt, FIRST)?),
         Step::AddTooMuch => commit(conn, &rows_and_overfull(rt, FIRST)?),
-        Step::Overwrite => commit(conn, &rows_and_unhold(rt, SECOND)?),
+        Step::Overwrite => commit(conn, &rows_and_takings(rt, SECOND)?),
     })
 }
 

@@ -1,15 +1,24 @@
-use Rattle.std.proofs.Common.{rules, refl, ◌≡◌}
+use Rattle.std.proofs.Common.{rules, refl, sym, subst, OnOk, ◌≡◌, [], ◌∷◌}
 use Rattle.sqlite.specs.Held.{state}
 use Rattle.plant_tables.specs.DeskForms.{forms_of}
-use Rattle.plant_tables.specs.DeskIndexes.{second_indexes, added_indexes}
-use Rattle.table_forms.specs.Indexes.{AreOf}
-use Rattle.plant_tables.proofs.DeskMoves.{added_indexed}
-use Rattle.plant_tables.proofs.DeskTexts.{index_texts, all_indexed, indexes_of_second}
+use Rattle.plant_tables.specs.DeskIndexes.{fourth_indexes, added_indexes}
+use Rattle.plant_tables.specs.declared.forms.TheConstants.{CREATE_MARK_BY_NODE}
+use Rattle.table_forms.specs.Indexes.{AreOf, AddsIndexes}
+use Rattle.plant_tables.proofs.DeskMoves.{added_indexed, indexed_so}
+use Rattle.plant_tables.proofs.DeskTexts.{fourth_indexed, indexes_of_fourth}
 use Rattle.plant_tables.proofs.raising.index_added.Goals as goal
 
 pub returns-then-schema-eq2-clause-indexed : goal.returns-then-schema-eq2-clause-indexed
 returns-then-schema-eq2-clause-indexed g c clean =
     let second : c.args.schema ≡ 2 = search rules in
-    let is : added_indexes c.args.schema ≡ second_indexes = rw second refl in
-    let of : AreOf second_indexes (forms_of c.args.schema) = rw second indexes_of_second in
-    added_indexed c.args.schema second_indexes index_texts is of all_indexed (state g.S.Store c.args.tx.now.conn.now) (state g.S.Store c.make_indexes.new.tx.conn.now) c.make_indexes.result (c.make_indexes.ensures.made clean)
+    let old = state g.S.Store c.args.tx.now.conn.now in
+    let new = state g.S.Store c.make_indexes.new.tx.conn.now in
+    subst (λ schema. OnOk c.make_indexes.result (AddsIndexes (forms_of schema) (added_indexes schema) old new)) (sym second)
+    (indexed_so 2 c.indexes_in.result c.indexes_in.ensures.own _ c.split_at.result.0.now c.split_at.ensures.front refl old new c.make_indexes.result (c.make_indexes.ensures.made clean))
+
+pub returns-then-schema-eq4-clause-indexed : goal.returns-then-schema-eq4-clause-indexed
+returns-then-schema-eq4-clause-indexed g c clean =
+    let fourth : c.args.schema ≡ 4 = search rules in
+    let is : added_indexes c.args.schema ≡ fourth_indexes = rw fourth refl in
+    let of : AreOf fourth_indexes (forms_of c.args.schema) = rw fourth indexes_of_fourth in
+    added_indexed c.args.schema fourth_indexes (CREATE_MARK_BY_NODE.now ∷ []) is of fourth_indexed (state g.S.Store c.args.tx.now.conn.now) (state g.S.Store c.make_indexes-then-schema-eq4.new.tx.conn.now) c.make_indexes-then-schema-eq4.result (c.make_indexes-then-schema-eq4.ensures.made clean)

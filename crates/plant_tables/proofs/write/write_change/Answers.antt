@@ -2,15 +2,16 @@ use Rattle.std.proofs.Common.{refl, sym, subst, OnOk, [], ◌∷◌}
 use Rattle.sqlite.specs.Held.{state}
 use Rattle.sqlite.specs.declared.types.Value.TheVariants.{Text}
 use Rattle.table_forms.specs.Moves.{Moves}
-use Rattle.plant_tables.specs.DeskForms.{forms_of, meta_form, class_form, definition_form, recipe_form, recipe_line_form, job_form, batch_form, control_line_form, batch_event_form, lot_form, sublot_form, movement_form, hold_form, edge_form, receipt_form}
+use Rattle.plant_tables.specs.DeskForms.{forms_of, meta_form, class_form, definition_form, recipe_form, recipe_line_form, job_form, batch_form, control_line_form, batch_event_form, lot_form, sublot_form, movement_form, hold_form, edge_form, receipt_form, recall_form, mark_form}
 use Rattle.plant_tables.specs.DeskTables.{rows_changed}
 use Rattle.plant_tables.specs.Keyed.{IsOfSchema}
-use Rattle.plant_tables_columns.specs.TableColumns.{row_of_meta, row_of_class, row_of_definition, row_of_recipe, row_of_master_line, row_of_job, row_of_batch, row_of_control_line, row_of_event, row_of_lot, row_of_sublot, row_of_movement, row_of_hold, row_of_edge, row_of_receipt}
-use Rattle.plant_tables.specs.declared.forms.TheConstants.{PUT_META, PUT_CLASS, PUT_DEFINITION, PUT_RECIPE, PUT_RECIPE_LINE, PUT_JOB, PUT_BATCH, PUT_CONTROL_LINE, PUT_BATCH_EVENT, PUT_LOT, PUT_SUBLOT, PUT_MOVEMENT, PUT_HOLD, PUT_EDGE, PUT_RECEIPT, TAKE_HOLD}
-use Rattle.plant_tables.proofs.DeskTexts.{puts_meta, puts_class, puts_definition, puts_recipe, puts_recipe_line, puts_job, puts_batch, puts_control_line, puts_batch_event, puts_lot, puts_sublot, puts_movement, puts_hold, puts_edge, puts_receipt, takes_hold}
-use Rattle.plant_tables.proofs.DeskMoves.{put_moved, take_moved, edge_place, receipt_place}
+use Rattle.plant_tables_columns.specs.TableColumns.{row_of_meta, row_of_class, row_of_definition, row_of_recipe, row_of_master_line, row_of_job, row_of_batch, row_of_control_line, row_of_event, row_of_lot, row_of_sublot, row_of_movement, row_of_hold, row_of_edge, row_of_receipt, row_of_recall, row_of_mark}
+use Rattle.plant_tables.specs.declared.forms.TheConstants.{PUT_META, PUT_CLASS, PUT_DEFINITION, PUT_RECIPE, PUT_RECIPE_LINE, PUT_JOB, PUT_BATCH, PUT_CONTROL_LINE, PUT_BATCH_EVENT, PUT_LOT, PUT_SUBLOT, PUT_MOVEMENT, PUT_HOLD, PUT_EDGE, PUT_RECEIPT, PUT_RECALL, PUT_MARK, TAKE_HOLD, TAKE_MARKS}
+use Rattle.plant_tables.proofs.DeskTexts.{puts_meta, puts_class, puts_definition, puts_recipe, puts_recipe_line, puts_job, puts_batch, puts_control_line, puts_batch_event, puts_lot, puts_sublot, puts_movement, puts_hold, puts_edge, puts_receipt, puts_recall, puts_mark, takes_hold, takes_marks}
+use Rattle.plant_tables.proofs.DeskMoves.{put_moved, take_moved, edge_place, receipt_place, recall_place, mark_place}
 use Rattle.plant_tables_columns.specs.Booked.{booked_of}
-use Rattle.plant_tables_columns.proofs.TableLaws.{master_line_lawful, batch_lawful, control_line_lawful, booked_lawful}
+use Rattle.plant_tables_columns.specs.Stated.{stated_of}
+use Rattle.plant_tables_columns.proofs.TableLaws.{master_line_lawful, batch_lawful, control_line_lawful, booked_lawful, stated_lawful}
 use Rattle.plant_tables.proofs.write.write_change.Goals as goal
 
 pub returns-in_ok-seq-in-Meta-clause-moved : goal.returns-in_ok-seq-in-Meta-clause-moved
@@ -156,3 +157,30 @@ returns-in-Unhold-clause-moved g c clean schema of =
     let taken = rw (c.id.ensures, c.id-in-Unhold.ensures) at (c.take_rows.ensures.taken clean) in
     subst (λ x. OnOk c.take_rows.result (Moves (forms_of schema) old new (rows_changed x))) (sym c.in-Unhold.is)
     (take_moved schema 12 hold_form TAKE_HOLD.now (1 ∷ 2 ∷ []) (Text c.in-Unhold.lot ∷ Text c.in-Unhold.hold ∷ []) refl takes_hold old new c.take_rows.result taken)
+
+pub returns-in-Recall-clause-moved : goal.returns-in-Recall-clause-moved
+unfolding rows_changed
+returns-in-Recall-clause-moved g c clean schema of =
+    let old = state g.S.Store c.args.tx.now.conn.now in
+    let new = state g.S.Store c.put_row-in-Recall.new.tx.conn.now in
+    let put = rw c.recall_values.ensures at (c.put_row-in-Recall.ensures.put clean) in
+    subst (λ x. OnOk c.put_row-in-Recall.result (Moves (forms_of schema) old new (rows_changed x))) (sym c.in-Recall.is)
+    (put_moved schema 15 recall_form PUT_RECALL.now (row_of_recall c.in-Recall.row) (recall_place schema (subst (IsOfSchema schema) c.in-Recall.is of)) puts_recall (stated_lawful.fits (stated_of c.in-Recall.row)) old new c.put_row-in-Recall.result put)
+
+pub returns-in-Mark-clause-moved : goal.returns-in-Mark-clause-moved
+unfolding rows_changed
+returns-in-Mark-clause-moved g c clean schema of =
+    let old = state g.S.Store c.args.tx.now.conn.now in
+    let new = state g.S.Store c.put_row-in-Mark.new.tx.conn.now in
+    let put = rw c.mark_values.ensures at (c.put_row-in-Mark.ensures.put clean) in
+    subst (λ x. OnOk c.put_row-in-Mark.result (Moves (forms_of schema) old new (rows_changed x))) (sym c.in-Mark.is)
+    (put_moved schema 16 mark_form PUT_MARK.now (row_of_mark c.in-Mark.row) (mark_place schema (subst (IsOfSchema schema) c.in-Mark.is of)) puts_mark refl old new c.put_row-in-Mark.result put)
+
+pub returns-in-Unmark-clause-moved : goal.returns-in-Unmark-clause-moved
+unfolding rows_changed
+returns-in-Unmark-clause-moved g c clean schema of =
+    let old = state g.S.Store c.args.tx.now.conn.now in
+    let new = state g.S.Store c.take_rows-in-Unmark.new.tx.conn.now in
+    let taken = rw c.id-in-Unmark.ensures at (c.take_rows-in-Unmark.ensures.taken clean) in
+    subst (λ x. OnOk c.take_rows-in-Unmark.result (Moves (forms_of schema) old new (rows_changed x))) (sym c.in-Unmark.is)
+    (take_moved schema 16 mark_form TAKE_MARKS.now (1 ∷ []) (Text c.in-Unmark.recall ∷ []) (mark_place schema (subst (IsOfSchema schema) c.in-Unmark.is of)) takes_marks old new c.take_rows-in-Unmark.result taken)

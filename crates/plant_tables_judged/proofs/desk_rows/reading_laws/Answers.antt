@@ -1,4 +1,5 @@
 use Rattle.plant_tables_columns.proofs.KindLemmas.{movement_again}
+use Rattle.plant_tables_columns.proofs.StatedLemmas.{recall_again}
 use Rattle.plant_tables_judged.proofs.StandLemmas.{stands_for}
 use Rattle.plant_tables_judged.proofs.AgainLemmas.{read_again}
 use Rattle.plant_tables_judged.proofs.WholeLemmas.{same_tables, whole_rows}
@@ -11,4 +12,5 @@ returns c = record {
   whole = whole_rows;
   tables = same_tables;
   booked = movement_again;
+  stated = recall_again;
 }

@@ -9,7 +9,7 @@ use Rattle.plant_tables_stored.proofs.readings.readings_of.Goals as goal
 
 pub split_at-requires : goal.split_at-requires
 split_at-requires c =
-    let many : length c.args.readings.now ≡ 15 = sym (length-map c.args.readings.now (λ reading. reading.form)) ∙ ap (λ (fs : List Form). length fs) c.requires.forms in
+    let many : length c.args.readings.now ≡ 17 = sym (length-map c.args.readings.now (λ reading. reading.form)) ∙ ap (λ (fs : List Form). length fs) c.requires.forms in
     subst (λ n. c.tables_in.result ≤ n) (sym many) c.tables_in.ensures.few
 
 pub returns-clause-forms : goal.returns-clause-forms

@@ -1,0 +1,22 @@
+//! The recalls that rows of table recall tell of.
+
+ghost use Rattle.std.specs.Prelude.{◌≡◌, IfOk};
+ghost use Rattle.plant_check.specs.Broken.{are_fitting, recalls_told};
+
+use plant_base::Recall;
+use plant_tables_judged::StatedRecall;
+use std::alloc::{AllocError, Global};
+
+/// Whether each row has the columns of a lifting that its state asks for.
+pub(crate) fn are_fitting(rows: &[StatedRecall]) -> bool
+    ensures { result ≡ are_fitting rows.now }
+{
+    rows.iter().all(|r| r.recall().is_some())
+}
+
+/// The recalls of the rows that have them.
+pub(crate) fn recalls_told(alloc: Global, rows: &[StatedRecall]) -> Result<Vec<Recall>, AllocError>
+    ensures { IfOk result (λ list. list.items ≡ recalls_told rows.now) }
+{
+    rows.iter().filter_map(|r| r.recall()).collect(alloc)
+}

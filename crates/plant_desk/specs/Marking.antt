@@ -1,0 +1,11 @@
+-- Which recalls reach a node, by what leads to it.
+use Rattle.std.specs.Prelude.{Bool, ◌&&◌, ◌||◌, List}
+use Rattle.std.specs.List.{list_any}
+use Rattle.plant_base.specs.Recalls.{is_open}
+use Rattle.plant_base.specs.declared.rows.Recall.{Recall}
+use Rattle.plant_trace.specs.Nodes.{node_eq}
+use Rattle.plant_trace.specs.declared.node.Node.{Node}
+use Rattle.plant_trace.specs.declared.node.Node.TheVariants as node
+
+abbrev pub reaches_by : List Node → Node → Recall → Bool
+reaches_by before y r = is_open r && (node_eq y (node.Lot r.lot) || list_any (λ x. node_eq x (node.Lot r.lot)) before)

@@ -1,0 +1,50 @@
+-- A recall, and one that is lifted, keep a state sound.
+use Rattle.std.proofs.Common.{◌≡◌, ℕ, List, Option, Some, None}
+use Rattle.std.specs.List.Sorted.{IsStrictlySortedBy}
+use Rattle.std.specs.Cmp.{IsTotalOrder}
+use Rattle.std.proofs.lemmas.Cmp.{on_total, nat_list_cmp_total}
+use Rattle.plant_base.specs.State.{State, recall_order, recall_at}
+use Rattle.plant_base.specs.declared.rows.Recall.{Recall}
+use Rattle.plant_base.specs.declared.command.Stamp.{Stamp}
+use Rattle.plant_base.specs.declared.command.RecallLot.{RecallLot}
+use Rattle.plant_base.specs.declared.command.LiftRecall.{LiftRecall}
+use Rattle.plant_base.proofs.Put.{sorted_put}
+use Rattle.plant_rules.specs.Recalling.{opened, recall, lifted, with_lifted, lift}
+use Rattle.plant_view.specs.Sound.{IsSound}
+
+recall_order_total : IsTotalOrder recall_order
+recall_order_total = on_total (λ r. r.id) nat_list_cmp_total
+
+with_recalls : (s : State) → IsSound s → (seq at : ℕ) (recalls : List Recall) → IsStrictlySortedBy recall_order recalls → IsSound (record s { seq = seq; at = at; recalls = recalls })
+with_recalls s sound seq at recalls sorted = record {
+  classes = sound.classes;
+  definitions = sound.definitions;
+  lots = sound.lots;
+  places = sound.places;
+  holds = sound.holds;
+  recalls_sorted = sorted;
+  classified = sound.classified;
+  defined = sound.defined;
+  housed = sound.housed;
+  placed = sound.placed;
+  numbered = sound.numbered;
+  named = sound.named;
+  one_material = sound.one_material;
+  small = sound.small;
+  covered = sound.covered;
+  recipes = sound.recipes;
+  orders = sound.orders;
+  batches = sound.batches;
+  runs = sound.runs;
+  genealogy = sound.genealogy;
+}
+
+pub sound_recall : (s : State) → IsSound s → (t : Stamp) (c : RecallLot) → IsSound (recall s t c)
+sound_recall s sound t c = with_recalls s sound _ t.at _ (sorted_put recall_order recall_order_total (opened t c) s.recalls sound.recalls_sorted)
+
+still_sorted : (t : Stamp) (o : Option Recall) (rs : List Recall) → IsStrictlySortedBy recall_order rs → IsStrictlySortedBy recall_order (with_lifted t o rs)
+still_sorted t None rs sorted = sorted
+still_sorted t (Some r) rs sorted = sorted_put recall_order recall_order_total (lifted t r) rs sorted
+
+pub sound_lift : (s : State) → IsSound s → (t : Stamp) (c : LiftRecall) → IsSound (lift s t c)
+sound_lift s sound t c = with_recalls s sound _ t.at _ (still_sorted t (recall_at s c.recall) s.recalls sound.recalls_sorted)

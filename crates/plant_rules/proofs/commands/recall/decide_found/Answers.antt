@@ -1,0 +1,15 @@
+use Rattle.std.proofs.Common.{◌∙◌, sym, ap, arith}
+use Rattle.std.specs.Prelude.{is_some}
+use Rattle.std.proofs.lemmas.Grind.{common_steps}
+use Rattle.plant_rules.proofs.OneBatch.{one_recall}
+use Rattle.plant_rules.proofs.RecallTables.{recall_tables}
+use Rattle.plant_rules.proofs.commands.recall.decide_found.Goals as goal
+
+pub returns-clause-decides : goal.returns-clause-decides
+returns-clause-decides c = λ s sound seq lot known lists.
+    let none = ap is_some (sym known) ∙ sym c.is_some.ensures ∙ c.if-is_some.false in
+    let tables = recall_tables s c.args.stamp.now c.args.c.now c.args.nodes.now none lists in
+    (grind (arith, common_steps), rw (c.in_ok-rows.ensures, seq) tables)
+
+pub returns-clause-one_batch : goal.returns-clause-one_batch
+returns-clause-one_batch c = rw c.in_ok-rows.ensures (one_recall c.args.seq c.args.stamp.now c.args.c.now c.args.nodes.now)

@@ -1,0 +1,128 @@
+ghost use Rattle.std.specs.Prelude.{◌≡◌, ◌<◌, IfOk};
+ghost use Rattle.plant_base.specs.Values.{greatest_seq};
+ghost use Rattle.plant_base.specs.State.{State, lot_at, recall_at};
+ghost use Rattle.plant_trace.specs.Reach.{Lists};
+ghost use Rattle.plant_trace.specs.Recalls.{IsRecalled};
+ghost use Rattle.plant_trace.specs.Sources.{Told};
+ghost use Rattle.plant_rules.specs.Recalling.{wrong_recall, recall, recall_rows, opened};
+ghost use Rattle.plant_view.specs.Genealogy.{edges_of};
+ghost use Rattle.plant_view.specs.Recalls.{mark_on};
+ghost use Rattle.plant_view.specs.OneBatch.{PutsOneBatch};
+ghost use Rattle.plant_view.specs.Sound.{IsSound};
+ghost use Rattle.plant_view.specs.Tables.{Decides};
+
+use plant_base::{
+    ControlLine, GREATEST_SEQ, Id, Items, Lifting, Lot, Mark, MarkKind, MasterLine, Recall,
+    RecallLot, RecipeLine, Refusal, Stamp,
+};
+use plant_trace::{Node, reached};
+use plant_view::{Decision, RowChange, View, ViewFault, look, mark_on, meta_after};
+use std::alloc::{AllocError, Global};
+
+pub(crate) fn decide_recall<V: View>(
+    alloc: Global,
+    view: &mut V,
+    seq: u64,
+    stamp: &Stamp,
+    c: &RecallLot,
+) -> Result<Decision, ViewFault<V::Fault>>
+    requires seq { V.honest view.old → seq ≡ (V.state view.old).seq }
+    requires sound { V.honest view.old → IsSound (V.state view.old) }
+    ensures decides { Told V.honest V.kept V.steady view.old view.new
+        (IfOk result (Decides (wrong_recall (V.state view.old) c.now) (V.state view.old)
+        (recall (V.state view.old) stamp.now c.now))) }
+    ensures one_batch { IfOk result PutsOneBatch }
+{
+    let lot = look::lot(view, c.lot)?;
+    let known = look::recall(view, c.recall)?;
+    let nodes = nodes_reached(alloc, view, c.lot)?;
+    Ok(decide_found(alloc, seq, stamp, c, lot, known, nodes.as_slice())?)
+}
+
+// What a recall of the lot reaches.
+fn nodes_reached<V: View>(
+    alloc: Global,
+    view: &mut V,
+    lot: Id,
+) -> Result<Vec<Node>, ViewFault<V::Fault>>
+    ensures { Told V.honest V.kept V.steady view.old view.new
+        (IfOk result (λ nodes. Lists (IsRecalled (edges_of (V.state view.old)) lot) nodes.items)) }
+{
+    match reached(alloc, view, lot) {
+        Ok(nodes) => Ok(nodes),
+        Err(fault) => Err(ViewFault::from(fault)),
+    }
+}
+
+// Decides from what was found.
+fn decide_found(
+    alloc: Global,
+    seq: u64,
+    stamp: &Stamp,
+    c: &RecallLot,
+    lot: Option<Lot>,
+    known: Option<Recall>,
+    nodes: &[Node],
+) -> Result<Decision, AllocError>
+    ensures decides { (s : State) → IsSound s → seq ≡ s.seq → lot ≡ lot_at s c.now.lot
+        → known ≡ recall_at s c.now.recall → Lists (IsRecalled (edges_of s) c.now.lot) nodes.now
+        → IfOk result (Decides (wrong_recall s c.now) s (recall s stamp.now c.now)) }
+    ensures one_batch { IfOk result PutsOneBatch }
+{
+    if lot.is_none() {
+        return Ok(Decision::Refused(Refusal::UnknownLot));
+    }
+    if known.is_some() {
+        return Ok(Decision::Refused(Refusal::Exists));
+    }
+    if seq >= GREATEST_SEQ {
+        return Ok(Decision::Refused(Refusal::TooMany));
+    }
+    let rows = recall_rows(alloc, seq, stamp, c, nodes)?;
+    Ok(Decision::Change(rows))
+}
+
+fn recall_rows(
+    alloc: Global,
+    seq: u64,
+    stamp: &Stamp,
+    c: &RecallLot,
+    nodes: &[Node],
+) -> Result<Items<RowChange>, AllocError>
+    requires { seq < greatest_seq }
+    ensures { IfOk result (λ rows. rows ≡ recall_rows seq stamp.now c.now nodes.now) }
+{
+    // The checker can't follow a list of row changes that grows, unless the function names these types.
+    let _: Option<
+        (
+            RecipeLine,
+            MasterLine,
+            ControlLine,
+            Lifting,
+            Recall,
+            Mark,
+            MarkKind,
+        ),
+    > = None;
+    let mut rows = Vec::from_array(
+        alloc,
+        [meta_after(seq, stamp), RowChange::Recall(opened(stamp, c))],
+    )?;
+    for node in nodes {
+        rows.push(RowChange::Mark(mark_on(c.recall, *node)))?;
+    }
+    Ok(Items::new(rows))
+}
+
+fn opened(stamp: &Stamp, c: &RecallLot) -> Recall
+    ensures { result ≡ opened stamp.now c.now }
+{
+    Recall {
+        id: c.recall,
+        lot: c.lot,
+        at: stamp.at,
+        by: stamp.by,
+        note: stamp.note,
+        lifting: None,
+    }
+}

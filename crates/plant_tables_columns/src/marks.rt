@@ -1,0 +1,65 @@
+//! Rows of the marks on what open recalls reach.
+
+ghost use Rattle.std.specs.Prelude.{◌≡◌};
+ghost use Rattle.sqlite.specs.Order.{column};
+ghost use Rattle.sqlite.specs.Values.{bound};
+ghost use Rattle.plant_tables_columns.specs.Naming.{all_mark_kinds, mark_kind_numbered, mark_kind_from};
+ghost use Rattle.plant_tables_columns.specs.TableColumns.{row_of_mark, mark_from};
+
+use crate::judged::Judged;
+use crate::reading::{id, integer};
+use crate::storing;
+use plant_base::{Mark, MarkKind};
+use sqlite::Row;
+use sqlite_value::value::ValueRef;
+
+fn mark_kinds() -> [MarkKind; 2]
+    ensures { result ≡ all_mark_kinds }
+{
+    [MarkKind::Lot, MarkKind::Batch]
+}
+
+#[tactic(auto, unfolding(crate::specs::Naming::mark_kind_numbered))]
+fn mark_kind_numbered(number: &i64) -> Option<MarkKind>
+    ensures { result ≡ mark_kind_numbered number.now }
+{
+    mark_kinds()
+        .iter()
+        .copied()
+        .find(|kind| i64::from(kind.number()) == *number)
+}
+
+#[tactic(auto, unfolding(crate::specs::Naming::mark_kind_from))]
+fn mark_kind(row: &Row, at: usize) -> Option<MarkKind>
+    ensures { result ≡ mark_kind_from (column row.now at) }
+{
+    let number = integer(row, at)?;
+    mark_kind_numbered(&number)
+}
+
+/// A row of `mark`.
+pub fn mark_values(row: &Mark) -> [ValueRef<'_>; 3]
+    ensures { bound result ≡ row_of_mark row.now }
+{
+    [
+        storing::id(&row.recall),
+        storing::small(row.kind.number()),
+        storing::id(&row.id),
+    ]
+}
+
+impl Judged for Mark {
+    ghost row_from = { mark_from };
+
+    #[tactic(auto, unfolding(crate::specs::TableColumns::mark_from))]
+    fn judge(row: &Row) -> Option<Mark> {
+        if row.column_count() != 3 {
+            return None;
+        }
+        Some(Mark {
+            recall: id(row, 0)?,
+            kind: mark_kind(row, 1)?,
+            id: id(row, 2)?,
+        })
+    }
+}

@@ -3,9 +3,10 @@
 # make desk  leaves the built program at build/desk; the crates that it stands on are proved side by side
 # make order_check  leaves the built check of order files at build/order_check
 # make line_check  leaves the built check of lines at build/line_check
+# make dist  packs the built programs in build/ with pages of the manual, completions and a unit for systemd, as tar.gz and for Debian
 # make test  the gate (gate/test.sh): every proof, must-fail edit, test and program from nothing, then the built programs
 # make edits has the prover try the edits that the gate doesn't, of all crates or of some: make edits NAMES="plant_tables"
-.PHONY: look run desk order_check line_check test edits
+.PHONY: look run desk order_check line_check dist test edits
 
 look:
 	@make/look.py
@@ -18,6 +19,9 @@ run: desk
 
 desk order_check line_check:
 	@make/side_by_side.py $@
+
+dist: desk order_check line_check
+	make/package.py build/desk build/order_check build/line_check build
 
 test:
 	gate/test.sh

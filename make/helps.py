@@ -1,0 +1,107 @@
+"""What the help of a program says, read from its text, and the page of the manual that tells the same.
+
+A help is blocks of lines, as clap prints it: what it is about, a line `Usage: `, lists with a heading such as `Options:`, and notes.
+"""
+import re
+import subprocess
+
+# How a page writes what groff would take for something else.
+GLYPHS = {"\\": r"\e", "-": r"\-", "'": r"\(aq", '"': r"\(dq", "`": r"\(ga", "^": r"\(ha", "~": r"\(ti"}
+
+DOCUMENTS = "FORMATS.md and ERRORS.md, among the documents that come with the programs, tell every text, status and fault."
+
+
+class Wrong(Exception):
+    """Why a help can't be read, or no package be made."""
+
+
+class Item:
+    """A line of a list: a word, an argument or an option, and what is said of it."""
+
+    def __init__(self, line):
+        found = re.fullmatch(r" +(\S+(?: \S+)*)(?: {2,}(.*))?", line)
+        if not found:
+            raise Wrong(f"a help has a line that can't be read: {line}")
+        self.name, self.about = found[1], found[2] or ""
+
+    def flags(self):
+        """The forms of an option, the short one first."""
+        return re.findall(r"(?<!\S)--?[\w-]+", self.name)
+
+    def value(self):
+        """The name of the value that an option takes, or of an argument; none where there is none."""
+        found = re.search(r"<(\w+)>", self.name)
+        return found[1] if found else None
+
+    def choices(self):
+        """The values that are told one by one with what they mean, as in `back: where from; forward: where to`."""
+        found = [re.match(r"(\w+): ", it) for it in self.about.split("; ")]
+        return [it[1] for it in found] if all(found) else []
+
+
+class Help:
+    """A help by its parts."""
+
+    def __init__(self, text):
+        self.about, self.usage, self.lists, self.notes = None, None, {}, []
+        for block in re.split(r"\n{2,}", text.strip("\n")):
+            first, *others = block.split("\n")
+            if first.startswith("Usage: "):
+                self.usage = first[len("Usage: "):]
+            elif re.fullmatch(r"[A-Z][a-z]+:", first):
+                self.lists[first[:-1]] = [Item(it) for it in others]
+            elif self.about is None:
+                self.about = block
+            else:
+                self.notes.append(block)
+        if not self.usage or not self.about:
+            raise Wrong(f"a help doesn't say what it is about, or no usage: {text}")
+
+    def items(self, name):
+        """The items of a list, none where there is no such list."""
+        return self.lists.get(name, [])
+
+
+def said(program, *words):
+    """What the desk prints at these words, under its own name."""
+    return subprocess.run(["desk", *words], executable=program, capture_output=True, check=True, text=True, stdin=subprocess.DEVNULL).stdout
+
+
+def helps_of(program):
+    """The help of the desk, and that of each of its words, by the word."""
+    whole = Help(said(program, "--help"))
+    return whole, {it.name: Help(said(program, it.name, "--help")) for it in whole.items("Commands")}
+
+
+def plain(text):
+    """A text as a page of the manual has it, each of its lines on one of its own."""
+    written = ["".join(GLYPHS.get(c, c) for c in line) for line in text.split("\n")]
+    return "\n.br\n".join(rf"\&{it}" if it.startswith(".") else it for it in written)
+
+
+def usages(helps):
+    return "\n.br\n".join(f".B {plain(it.usage)}" for it in helps)
+
+
+def listed(items):
+    return "".join(f".TP\n.B {plain(it.name)}\n{plain(it.about)}\n" for it in items)
+
+
+def section(word, told):
+    """The section of a page on one word."""
+    parts = [f".SS {word}\n{plain(told.about)}\n.PP\n{usages([told])}\n", listed(told.items("Arguments")), listed(told.items("Options"))]
+    return "".join([*parts, *(f".PP\n{plain(it)}\n" for it in told.notes)])
+
+
+def page(name, version, told, words, others):
+    """The page of a program with this help, the helps of its words, and the names of the other programs."""
+    parts = [f'.TH {name.upper()} 1 "" "desk {version}" "Manufacturing desk"\n']
+    parts += [f".SH NAME\n{plain(name)} \\- {plain(told.about)}\n.SH SYNOPSIS\n{usages([told, *words.values()])}\n"]
+    if told.notes:
+        parts += [".SH DESCRIPTION\n", "\n.PP\n".join(plain(it) for it in told.notes), "\n"]
+    if words:
+        parts += [".SH COMMANDS\n", *(section(*it) for it in words.items())]
+    for heading in [it for it in told.lists if it != "Commands"]:
+        parts += [f".SH {heading.upper()}\n", listed(told.lists[heading])]
+    parts += [".SH SEE ALSO\n", ",\n".join(f".BR {plain(it)} (1)" for it in others), f"\n.PP\n{plain(DOCUMENTS)}\n"]
+    return "".join(parts)

@@ -29,7 +29,7 @@ sys.path.insert(0, str(TOP / "make"))
 from side_by_side import below, lines_listed, most_at_once, stands_on  # noqa: E402
 
 # What is said of a proof file that names what an edit took away.
-BY_FORM = re.compile(r"has no field|is not in scope|has no `|was not admitted")
+BY_FORM = re.compile(r"has no field|\(nearest: |is not in scope|has no `|was not admitted")
 
 
 def spans(text, function):

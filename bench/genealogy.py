@@ -128,20 +128,26 @@ def measure(desk, file, shape, edges):
         print(f"{shape} of {edges} edges, {direction}: {found} nodes in {took * 1000:.1f} ms, by a query {other * 1000:.1f} ms: {took / other:.2f}")
 
 
-def main(program, folder, *sizes):
+def filled(program, folder, sizes):
+    """Makes a desk of each number of edges and each shape, and gives its shape, its edges, its file and the run that is open over it."""
     for edges in map(int, sizes):
         for shape in ("chain", "fan", "mesh"):
             path = pathlib.Path(folder) / f"{shape}-{edges}.db"
             desk = Desk(program, path)
             desk.give_all(commands(shape, edges))
-            desk.close()
-            copy = shutil.copy(path, f"{path}.copy")
-            file = sqlite3.connect(copy)
-            desk = Desk(program, path)
-            desk.trace("forward", name(0))
-            measure(desk, file, shape, edges)
-            file.close()
-            desk.close()
+            yield shape, edges, path, desk
+
+
+def main(program, folder, *sizes):
+    for shape, edges, path, desk in filled(program, folder, sizes):
+        desk.close()
+        copy = shutil.copy(path, f"{path}.copy")
+        file = sqlite3.connect(copy)
+        desk = Desk(program, path)
+        desk.trace("forward", name(0))
+        measure(desk, file, shape, edges)
+        file.close()
+        desk.close()
 
 
 if __name__ == "__main__":

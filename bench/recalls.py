@@ -7,13 +7,12 @@ forward, recalled, asked about and lifted, some times each in turn, every recall
 reached and the middle time of each; of the recall and the lift also how many microseconds a mark they take beyond twice the trace. The
 answers are compared with the trace. At last the file is verified without an open recall, and with one of each of its last 100 lots.
 """
-import pathlib
 import statistics
 import subprocess
 import sys
 import time
 
-from genealogy import TIMES, Desk, commands, last, line, name
+from genealogy import TIMES, Desk, filled, last, line, name
 
 # How many recalls are open while the file is verified.
 OPEN = 100
@@ -70,21 +69,17 @@ def verified(program, path):
 
 
 def main(program, folder, *sizes):
-    for edges in map(int, sizes):
-        for shape in ("chain", "fan", "mesh"):
-            path = pathlib.Path(folder) / f"{shape}-{edges}.db"
-            desk = Desk(program, path)
-            desk.give_all(commands(shape, edges))
-            measure(desk, f"{shape} of {edges} edges")
-            desk.close()
-            before = verified(program, path)
-            desk = Desk(program, path)
-            lots = [name(last(shape, edges) - number) for number in range(OPEN)]
-            desk.give_all([line("recall", recall=f"OPEN-{number}", lot=lot) for number, lot in enumerate(lots)])
-            desk.close()
-            behind = verified(program, path)
-            print(f"  verified in {before:.2f} s, with {OPEN} open recalls in {behind:.2f} s: {behind / before:.2f}")
-            path.unlink()
+    for shape, edges, path, desk in filled(program, folder, sizes):
+        measure(desk, f"{shape} of {edges} edges")
+        desk.close()
+        before = verified(program, path)
+        desk = Desk(program, path)
+        lots = [name(last(shape, edges) - number) for number in range(OPEN)]
+        desk.give_all([line("recall", recall=f"OPEN-{number}", lot=lot) for number, lot in enumerate(lots)])
+        desk.close()
+        behind = verified(program, path)
+        print(f"  verified in {before:.2f} s, with {OPEN} open recalls in {behind:.2f} s: {behind / before:.2f}")
+        path.unlink()
 
 
 main(*sys.argv[1:])

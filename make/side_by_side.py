@@ -3,10 +3,10 @@
 
     make/side_by_side.py PROGRAM...
 
-In the repository's folder. A crate of crates.txt is begun as soon as those below it are built: as many at once as there are
-processors, and 4 GB of free memory for each. Those with the longest chain of others above them, by their lines, go first, since the end
-waits for them: they are begun first, the longest may use all processors, the next half of them and so on, and where two want one processor it
-is mostly given to the longer. A crate that was built here and has not changed since, nor anything below it, is passed over.
+In the repository's folder. A crate of crates.txt is begun as soon as those below it are built: as many at once as free memory has 4 GB for,
+and at most two more than there are processors, so that a longer one that comes late finds a place. Those with the longest chain of others
+above them, by their lines, go first, since the end waits for them: they are begun first, the longest may use all processors, the next half
+of them and so on, and where two want one processor it is mostly given to the longer. A crate that was built here and has not changed since, nor anything below it, is passed over.
 
 rt lets one command at a time into a crate and those below it. So each crate is built in a copy of the repository, of which there are as
 many as crates at once, in build/copies/; what it leaves in out/ comes back to the crate's own folder, and the copies are removed.
@@ -31,6 +31,9 @@ BUILT = "build/built.json"
 
 # The memory that a check may want, in bytes.
 ROOM = 4_000_000_000
+
+# How many more crates than there are processors may be built at once. Those of shorter chains stand back.
+MORE = 2
 
 # After how many seconds without news it is told what is under way.
 SILENCE = 60
@@ -106,11 +109,16 @@ def clock(seconds):
     return f"{int(seconds) // 60}:{int(seconds) % 60:02}"
 
 
+def processors():
+    """How many processors there are."""
+    return len(os.sched_getaffinity(0))
+
+
 def most_at_once():
     """How many crates may be built at once."""
     with open("/proc/meminfo") as it:
         free = next(1024 * int(line.split()[1]) for line in it if line.startswith("MemAvailable"))
-    return max(1, min(len(os.sched_getaffinity(0)), free // ROOM))
+    return max(1, min(processors() + MORE, free // ROOM))
 
 
 def link(one, other):
@@ -249,11 +257,11 @@ class Work:
         found = [it for it in self.needed if it not in begun and self.built.issuperset(self.listed[it])]
         return sorted(found, key=lambda it: -self.chains[it])
 
-    def begin(self, copies, at_once):
+    def begin(self, copies):
         ready = self.ready()
         longest = sorted([*ready, *(it.name for it in self.running)], key=lambda it: -self.chains[it])
         for name, copy in zip(ready, [it for it in copies if it not in [other.copy for other in self.running]]):
-            jobs = max(1, at_once // (longest.index(name) + 1))
+            jobs = max(1, processors() // (longest.index(name) + 1))
             self.running.append(Build(self.listed, name, copy, name in self.programs, jobs))
         for place, build in enumerate(sorted(self.running, key=lambda it: -self.chains[it.name])):
             build.stand_back(STEP * place)
@@ -272,10 +280,10 @@ class Work:
         left = len(self.needed) - len(self.built)
         self.tell(f"{build.name} is built ({clock(build.seconds())}); {len(self.built)} of {len(self.needed)} done, {left} left")
 
-    def build_all(self, copies, at_once):
+    def build_all(self, copies):
         """Builds what isn't built, and tells whether all of it is."""
         while len(self.built) < len(self.needed):
-            self.begin(copies, at_once)
+            self.begin(copies)
             time.sleep(0.1)
             for build in [it for it in self.running if it.process.poll() is not None]:
                 build.end()
@@ -310,7 +318,7 @@ class Work:
             shutil.rmtree(COPIES, ignore_errors=True)
             try:
                 copies = [Copy(number, self.lines) for number in range(1, at_once + 1)]
-                if not self.build_all(copies, at_once):
+                if not self.build_all(copies):
                     return 1
             finally:
                 for build in self.running:

@@ -1,6 +1,5 @@
 mod Adopted
 mod Asked
 mod Imports
-mod KindNames
 mod OneLine
 mod Told

@@ -56,7 +56,7 @@ fn word_and_number(word: &str, number: u64) -> ShortLine
 }
 
 /// The first fault of an order file: `csv row R KIND`
-#[tactic(auto, using(crate::proofs::KindNames::name_is_short))]
+#[tactic(auto, using(plant_orders::proofs::Names::name_is_short))]
 pub(crate) fn csv_line(fault: CsvFault) -> ShortLine
     ensures { result.bytes ≡ csv_text fault }
 {

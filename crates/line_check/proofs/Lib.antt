@@ -1,5 +1,4 @@
-pub mod Flaws
+pub mod Fitting
 pub mod Judging
-pub mod Pieces
+pub mod Places
 pub mod Reports
-pub mod Whole

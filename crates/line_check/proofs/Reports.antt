@@ -1,5 +1,5 @@
 -- Lines that were told, one after the other.
-use Rattle.std.proofs.Common.{◌≡◌, ℕ, ◌+◌, List, [], ◌∷◌, ◌++◌, length, Bool, true, false, nat_eq, cond, Option, Result, Ok, Err, refl, sym, ap, ◌∙◌, subst, append_assoc, arith}
+use Rattle.std.proofs.Common.{◌≡◌, ℕ, ◌+◌, ◌<◌, List, [], ◌∷◌, ◌++◌, length, Bool, true, false, nat_eq, cond, Option, Result, Ok, Err, refl, sym, ap, ◌∙◌, subst, append_assoc, arith}
 use Rattle.std.proofs.lemmas.List.{append-nil, map-append}
 use Rattle.std.proofs.lemmas.Bool.Decides.{nat_tests}
 use Rattle.std.specs.Prelude.{IfOk}
@@ -15,8 +15,9 @@ use Rattle.line_check.specs.declared.lines.Tally.{Tally}
 use Rattle.line_check.specs.declared.lines.Fault.{Fault}
 use Rattle.line_check.specs.Verdicts.{verdict_of}
 use Rattle.line_check.specs.Report.{verdicts, line_text, texts, tally_with, tally_after, end_text, no_lines, report, some_bad, verdicts_after, Told}
-use Rattle.line_check.proofs.Judging.{verdict_empty}
-use Rattle.line_check.proofs.Pieces.{verdicts_after-append, ended_verdicts, last_verdict}
+use Rattle.line_check.proofs.Judging.{verdict_empty, verdict_long}
+use Rattle.plant_text.specs.Lines.{longest_line}
+use Rattle.plant_text.proofs.HeldLemmas.{each-append, each-front, last_as_whole}
 
 -- one verdict counts one line
 tally_with_lines : (t : Tally) (v : Verdict) → (tally_with t v).lines ≡ t.lines + 1
@@ -57,7 +58,7 @@ pub piece_told : (t mid now : Tally) (first held done piece all : List ℕ) (a b
     → Told t (verdicts_after first done) a b mid → held ≡ held_after first done → Told mid (verdicts_after held piece) b c now
     → all ≡ done ++ piece → Told t (verdicts_after first all) a c now
 piece_told t mid now first held done piece all a b c x same_held y e =
-    rw (e, verdicts_after-append first done piece, ← same_held) (told_more t mid now (verdicts_after first done) (verdicts_after held piece) a b c x y)
+    rw (e, each-append verdict_of first done piece, ← same_held) (told_more t mid now (verdicts_after first done) (verdicts_after held piece) a b c x y)
 
 -- ---- the end of an input
 
@@ -91,12 +92,16 @@ ended_last ls x a b now told true e =
 ended_last ls x a b now told false e =
     ended_whole (ls ++ x ∷ []) a b now (subst (λ (vs : List Verdict). Told no_lines vs a b now) (sym (map-append verdict_of ls (x ∷ []))) told)
 
+-- each longer line has one verdict
+longer_alike : (l m : List ℕ) → longest_line < length l → longest_line < length m → verdict_of l ≡ verdict_of m
+longer_alike l m long more = verdict_long l long ∙ sym (verdict_long m more)
+
 ended_lines_told : (bytes line : List ℕ) (a b : Option (List ℕ)) (now : Tally) → line ≡ held_after [] bytes
     → Told no_lines (verdicts_after [] bytes ++ verdict_of line ∷ []) a b now → Ended (lines bytes) a b now
 ended_lines_told bytes line a b now e told =
     let part = part_from [] bytes in
     let same : verdicts_after [] bytes ++ verdict_of line ∷ [] ≡ verdicts (ended_lines bytes) ++ verdict_of part ∷ [] =
-    ap (λ v. verdicts_after [] bytes ++ v ∷ []) (last_verdict bytes line e) ∙ ap (λ vs. vs ++ verdict_of part ∷ []) (ended_verdicts bytes) in
+    ap (λ v. verdicts_after [] bytes ++ v ∷ []) (last_as_whole verdict_of longer_alike bytes line e) ∙ ap (λ vs. vs ++ verdict_of part ∷ []) (each-front verdict_of longer_alike [] bytes) in
     subst (λ (zs : List (List ℕ)). Ended zs a b now) (sym (lines_are bytes))
     (ended_last (ended_lines bytes) part a b now (subst (λ (vs : List Verdict). Told no_lines vs a b now) same told) (nat_eq (length part) 0) refl)
 

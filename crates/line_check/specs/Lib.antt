@@ -1,7 +1,4 @@
 pub mod Endings
-pub mod Members
-pub mod Problems
+pub mod Misfits
 pub mod Report
-pub mod Rules
-pub mod Shapes
 pub mod Verdicts

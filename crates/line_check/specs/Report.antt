@@ -1,15 +1,14 @@
 -- What is told of the lines of an input.
 use Rattle.std.specs.Prelude.{◌≡◌, ℕ, ◌+◌, ◌==◌, List, [], ◌∷◌, ◌++◌, map, Bool, true, false, if◌then◌else◌, codes, decimal, Option}
-use Rattle.std.specs.Str.Lines.{strip_carriage_return, lines}
+use Rattle.std.specs.Str.Lines.{lines}
 use Rattle.std.specs.Io.KnownBytes.{Appends}
-use Rattle.plant_text.specs.Held.{held_with}
+use Rattle.plant_text.specs.Held.{ended_after}
 use Rattle.plant_text.specs.Writes.{with_lf}
 use Rattle.line_check.specs.declared.judge.Verdict.{Verdict}
 use Rattle.line_check.specs.declared.judge.Verdict.TheVariants as verdict
-use Rattle.line_check.specs.declared.problems.Problem.{Problem}
+use Rattle.line_check.specs.declared.judge.Why.{Why}
 use Rattle.line_check.specs.declared.lines.Tally.{Tally}
-use Rattle.line_check.specs.Problems.{problem_text}
-use Rattle.line_check.specs.Verdicts.{verdict_of}
+use Rattle.line_check.specs.Verdicts.{verdict_of, why_text}
 
 -- ---- the report on an input
 
@@ -17,15 +16,15 @@ abbrev pub verdicts : List (List ℕ) → List Verdict
 verdicts ls = map verdict_of ls
 
 -- what is told of the line of a number, without its LF
-abbrev pub told_text : ℕ → Problem → List ℕ
-told_text number p = codes "line " ++ decimal number ++ codes ": " ++ problem_text p
+abbrev pub told_text : ℕ → Why → List ℕ
+told_text number why = codes "line " ++ decimal number ++ codes ": " ++ why_text why
 
 -- a bad line is told, and no other
 abbrev pub line_text : ℕ → Verdict → List ℕ
 line_text number verdict.Nothing = []
 line_text number verdict.Command = []
 line_text number verdict.Question = []
-line_text number (verdict.Bad p) = with_lf (told_text number p)
+line_text number (verdict.Bad why) = with_lf (told_text number why)
 
 -- what is told of the lines behind so many
 abbrev pub texts : ℕ → List Verdict → List ℕ
@@ -37,7 +36,7 @@ abbrev pub tally_with : Tally → Verdict → Tally
 tally_with t verdict.Nothing = record { lines = t.lines + 1; commands = t.commands; questions = t.questions; bad = t.bad }
 tally_with t verdict.Command = record { lines = t.lines + 1; commands = t.commands + 1; questions = t.questions; bad = t.bad }
 tally_with t verdict.Question = record { lines = t.lines + 1; commands = t.commands; questions = t.questions + 1; bad = t.bad }
-tally_with t (verdict.Bad p) = record { lines = t.lines + 1; commands = t.commands; questions = t.questions; bad = true }
+tally_with t (verdict.Bad why) = record { lines = t.lines + 1; commands = t.commands; questions = t.questions; bad = true }
 
 abbrev pub tally_after : Tally → List Verdict → Tally
 tally_after t [] = t
@@ -65,9 +64,8 @@ some_bad bytes = (tally_after no_lines (verdicts (lines bytes))).bad
 -- ---- over bytes that come in pieces
 
 -- the verdicts on the lines that end in the bytes, where so much is held of the first
-unfoldable pub verdicts_after : List ℕ → List ℕ → List Verdict
-verdicts_after held [] = []
-verdicts_after held (b ∷ bs) = if b == 10 then verdict_of (strip_carriage_return held) ∷ verdicts_after [] bs else verdicts_after (held_with held b) bs
+abbrev pub verdicts_after : List ℕ → List ℕ → List Verdict
+verdicts_after held bs = verdicts (ended_after held bs)
 
 -- these verdicts were told and counted
 pub record Told (start : Tally) (vs : List Verdict) (old new : Option (List ℕ)) (now : Tally) : Type 0 where

@@ -9,8 +9,7 @@ ghost use Rattle.line_check.specs.Report.{told_text, line_text, tally_with, coun
 ghost use Rattle.line_check.specs.Report.{report};
 ghost use Rattle.line_check.specs.Report.{some_bad, verdicts_after, Told};
 
-use crate::judge::{NoMemory, Verdict, judge};
-use crate::problems::Problem;
+use crate::judge::{NoMemory, Verdict, Why, judge};
 use plant_text::{Unwritten, write_line};
 use std::alloc::Global;
 use std::fmt;
@@ -50,16 +49,16 @@ const MOST_READS: u64 = 1_000_000_000;
 #[derive(Clone, Copy)]
 struct ToldLine {
     number: u64,
-    problem: Problem,
+    why: Why,
 }
 
 impl fmt::Display for ToldLine {
-    ghost output = { λ told. Some (told_text told.number told.problem) };
+    ghost output = { λ told. Some (told_text told.number told.why) };
 
     fn fmt<W: fmt::Write>(&self, f: &mut fmt::Formatter<W>) -> fmt::Result {
         let number = self.number;
-        let problem = self.problem;
-        write!(f, "line {number}: {problem}")
+        let why = self.why;
+        write!(f, "line {number}: {why}")
     }
 }
 
@@ -85,17 +84,12 @@ fn tell<W: Write>(writer: &mut W, text: &[u8]) -> Result<(), Fault>
     }
 }
 
-/// Tells the problem of the line of a number.
-fn tell_line<W: Write>(
-    alloc: Global,
-    writer: &mut W,
-    number: u64,
-    problem: Problem,
-) -> Result<(), Fault>
+/// Tells why the line of a number is bad.
+fn tell_line<W: Write>(alloc: Global, writer: &mut W, number: u64, why: Why) -> Result<(), Fault>
     ensures { OnOk result (Appends (W.contents writer.old) (W.contents writer.new)
-        (with_lf (told_text number problem))) }
+        (with_lf (told_text number why))) }
 {
-    let told = ToldLine { number, problem };
+    let told = ToldLine { number, why };
     match told.to_string(alloc) {
         Ok(text) => tell(writer, text.as_bytes()),
         Err(_) => Err(Fault::Memory),
@@ -151,7 +145,7 @@ fn take_verdict<W: Write>(
 {
     let now = tally_with(tally, verdict)?;
     match &verdict {
-        Verdict::Bad(problem) => match tell_line(alloc, writer, now.lines, *problem) {
+        Verdict::Bad(why) => match tell_line(alloc, writer, now.lines, *why) {
             Ok(()) => Ok(now),
             Err(fault) => Err(fault),
         },

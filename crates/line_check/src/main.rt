@@ -4,10 +4,7 @@
 mod ending;
 mod judge;
 mod lines;
-mod members;
-mod problems;
-mod rules;
-mod shapes;
+mod misfits;
 
 use ending::{check_alone, status_of};
 use std::process::ExitCode;

@@ -5,10 +5,9 @@ use Rattle.plant_base.specs.declared.rows.Meta.{Meta}
 use Rattle.plant_view.proofs.Tests.{and_left}
 use Rattle.plant_tables_stored.specs.Loading.{contents_loaded}
 use Rattle.plant_tables_stored.specs.declared.loaded.Loaded.{Loaded}
-use Rattle.plant_tables_judged.specs.Collecting.{Rows, rows_from, rows_joined, rows_listed, masters_from, orders_from, stocks_from, recalls_from}
-use Rattle.plant_tables_columns.specs.All.{all_from}
-use Rattle.plant_tables_columns.specs.TableColumns.{only_meta, receipt_from}
-use Rattle.plant_tables_columns.proofs.Options.{bound, some_same}
+use Rattle.plant_tables_judged.specs.Collecting.{Rows, rows_from, rows_listed}
+use Rattle.plant_tables_judged.proofs.StandLemmas.{rows_back}
+use Rattle.plant_tables_columns.specs.TableColumns.{only_meta}
 use Rattle.plant_tables_columns.proofs.RowLaws.{meta_reads}
 use Rattle.plant_tables_judged.specs.declared.desk_rows.DeskRows.{DeskRows}
 use Rattle.plant_check.specs.Broken.{first_broken, first_broken_of, broken_rows, unless}
@@ -67,15 +66,7 @@ meta_numbered (row ∷ []) m h = leb-true 1 m.schema (and_left _ _ (meta_reads.k
 meta_numbered (row ∷ other ∷ rows) m h = absurd (cc)
 
 rows_numbered : (x : Loaded) (r : Rows) → rows_from x ≡ Some r → 1 ≤ r.meta.schema
-unfolding rows_from
-rows_numbered x r h =
-    let p1 = bound (only_meta (contents_loaded x 0)) _ r h in
-    let p2 = bound (masters_from x) _ r p1.2 in
-    let p3 = bound (orders_from x) _ r p2.2 in
-    let p4 = bound (stocks_from x) _ r p3.2 in
-    let p5 = bound (all_from receipt_from (contents_loaded x 14)) _ r p4.2 in
-    let p6 = bound (recalls_from x) _ r p5.2 in
-    subst (λ (q : Rows). 1 ≤ q.meta.schema) (some_same (rows_joined p1.0 p2.0 p3.0 p4.0 p5.0 p6.0) r p6.2) (meta_numbered (contents_loaded x 0) p1.0 p1.1)
+rows_numbered x r h = meta_numbered (contents_loaded x 0) r.meta (rows_back x r h).meta
 
 -- it is the first or a later one
 numbered : (x : Loaded) (schema : ℕ) (rows : DeskRows) → IsFit x schema rows → 1 ≤ schema

@@ -14,15 +14,14 @@ use Rattle.plant_base.specs.declared.rows.Receipt.{Receipt}
 use Rattle.plant_base.specs.declared.rows.Sublot.{Sublot}
 use Rattle.plant_good.specs.Valued.{HasMasterValues, HasControlValues, HasEventValues}
 use Rattle.plant_view.specs.Production.{HasBatchValues, HasGoodOrder}
-use Rattle.plant_tables_stored.specs.Loading.{contents_loaded}
 use Rattle.plant_tables_stored.specs.declared.loaded.Loaded.{Loaded}
 use Rattle.plant_tables_columns.specs.All.{all_from}
-use Rattle.plant_tables_columns.specs.TableColumns.{only_meta, receipt_from}
+use Rattle.plant_tables_columns.specs.TableColumns.{only_meta}
 use Rattle.plant_tables_columns.proofs.Options.{bound, some_same}
 use Rattle.plant_tables_columns.proofs.TableLaws.{HasBookedColumns, HasStatedColumns}
 use Rattle.plant_tables_columns.proofs.RowLaws.{Reads, meta_reads, class_reads, definition_reads, recipe_reads, master_line_reads, job_reads, batch_reads, control_line_reads, event_reads, lot_reads, sublot_reads, booked_reads, hold_reads, receipt_reads, stated_reads}
-use Rattle.plant_tables_judged.specs.Collecting.{Rows, rows_joined, rows_from, masters_from, orders_from, stocks_from, recalls_from}
-use Rattle.plant_tables_judged.proofs.StandLemmas.{masters_back, orders_back, stocks_back, recalls_back}
+use Rattle.plant_tables_judged.specs.Collecting.{Rows, rows_from}
+use Rattle.plant_tables_judged.proofs.StandLemmas.{rows_back}
 
 -- ---- in the words of good states
 
@@ -75,32 +74,22 @@ pub record HaveValues (r : Rows) : Type 0 where
   pub recalls : AllByRecursion HasStatedColumns r.recalls
 
 pub have_values : (x : Loaded) (r : Rows) → rows_from x ≡ Some r → HaveValues r
-unfolding rows_from
 have_values x r h =
-    let p1 = bound (only_meta (contents_loaded x 0)) _ r h in
-    let p2 = bound (masters_from x) _ r p1.2 in
-    let p3 = bound (orders_from x) _ r p2.2 in
-    let p4 = bound (stocks_from x) _ r p3.2 in
-    let p5 = bound (all_from receipt_from (contents_loaded x 14)) _ r p4.2 in
-    let p6 = bound (recalls_from x) _ r p5.2 in
-    let m = masters_back x p2.0 p2.1 in
-    let o = orders_back x p3.0 p3.1 in
-    let s = stocks_back x p4.0 p4.1 in
-    let c = recalls_back x p6.0 p6.1 in
-    subst HaveValues (some_same (rows_joined p1.0 p2.0 p3.0 p4.0 p5.0 p6.0) r p6.2) (record {
-      meta = only_meta_good (contents_loaded x 0) p1.0 p1.1;
-      classes = all_good HasClassValues class_reads (λ r h. h) _ _ m.classes;
-      definitions = all_good HasDefinitionValues definition_reads (λ r h. h) _ _ m.definitions;
-      recipes = all_good (λ (q : Recipe). IsGoodHeader q.header) recipe_reads (λ r h. record { version = h.version; values = h.header }) _ _ m.recipes;
-      master_lines = all_good HasMasterValues master_line_reads (λ r h. record { recipe = h.recipe; version = h.version; line = h.line }) _ _ m.master_lines;
-      jobs = all_good (λ (j : Job). HasGoodOrder j.order) job_reads (λ r h. h) _ _ o.jobs;
-      batches = all_good (λ (b : BatchRow). HasBatchValues b.batch) batch_reads (λ r h. h.batch) _ _ o.batches;
-      control_lines = all_good HasControlValues control_line_reads (λ r h. record { batch = h.batch; line = h.line }) _ _ o.control_lines;
-      events = all_good HasEventValues event_reads (λ r h. record { batch = h.batch; phase = h.phase; at = h.at; by = h.by; note = h.note }) _ _ o.events;
-      lots = all_good HasLotValues lot_reads (λ r h. h) _ _ s.lots;
-      sublots = all_good HasSublotValues sublot_reads (λ r h. record { lot = h.lot; number = leb-true r.number greatest_sublot h.number; place = h.place }) _ _ s.sublots;
-      movements = all_good HasBookedColumns booked_reads (λ r h. h) _ _ s.movements;
-      holds = all_good HasHoldValues hold_reads (λ r h. h) _ _ s.holds;
-      receipts = all_good (λ (q : Receipt). is_id q.reference ≡ true) receipt_reads (λ r h. h.reference) _ _ p5.1;
-      recalls = all_good HasStatedColumns stated_reads (λ r h. h) _ _ c.recalls;
-    })
+    let read = rows_back x r h in
+    record {
+      meta = only_meta_good _ r.meta read.meta;
+      classes = all_good HasClassValues class_reads (λ r h. h) _ r.classes read.classes;
+      definitions = all_good HasDefinitionValues definition_reads (λ r h. h) _ r.definitions read.definitions;
+      recipes = all_good (λ (q : Recipe). IsGoodHeader q.header) recipe_reads (λ r h. record { version = h.version; values = h.header }) _ r.recipes read.recipes;
+      master_lines = all_good HasMasterValues master_line_reads (λ r h. record { recipe = h.recipe; version = h.version; line = h.line }) _ r.master_lines read.master_lines;
+      jobs = all_good (λ (j : Job). HasGoodOrder j.order) job_reads (λ r h. h) _ r.jobs read.jobs;
+      batches = all_good (λ (b : BatchRow). HasBatchValues b.batch) batch_reads (λ r h. h.batch) _ r.batches read.batches;
+      control_lines = all_good HasControlValues control_line_reads (λ r h. record { batch = h.batch; line = h.line }) _ r.control_lines read.control_lines;
+      events = all_good HasEventValues event_reads (λ r h. record { batch = h.batch; phase = h.phase; at = h.at; by = h.by; note = h.note }) _ r.events read.events;
+      lots = all_good HasLotValues lot_reads (λ r h. h) _ r.lots read.lots;
+      sublots = all_good HasSublotValues sublot_reads (λ r h. record { lot = h.lot; number = leb-true r.number greatest_sublot h.number; place = h.place }) _ r.sublots read.sublots;
+      movements = all_good HasBookedColumns booked_reads (λ r h. h) _ r.movements read.movements;
+      holds = all_good HasHoldValues hold_reads (λ r h. h) _ r.holds read.holds;
+      receipts = all_good (λ (q : Receipt). is_id q.reference ≡ true) receipt_reads (λ r h. h.reference) _ r.receipts read.receipts;
+      recalls = all_good HasStatedColumns stated_reads (λ r h. h) _ r.recalls read.recalls;
+    }

@@ -1,3 +1,2 @@
-pub mod Short
 pub mod Performing
 pub mod Serving

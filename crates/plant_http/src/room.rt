@@ -88,7 +88,7 @@ pub(crate) fn status_text(status: Status) -> Room
     text
 }
 
-#[tactic(auto, using(crate::proofs::Short::kind_name_short))]
+#[tactic(auto, using(plant_orders::proofs::Names::name_is_short))]
 fn kind_name(kind: CsvKind) -> &'static str
     ensures value { result.now ≡ kind_name kind }
     ensures short { length result.now ≤ 12 }

@@ -45,15 +45,7 @@ pub fault_reads : (kind : CsvKind) (e : CsvFault) (heading : Heading) (read : Re
     → Reads (fault_job_of kind e) (file_job heading read)
 fault_reads csv.Memory e heading read h = file_is_of_body heading read
 fault_reads csv.TooLong e heading read h = ap (file_job heading) (sym h)
-fault_reads csv.Header e heading read h = ap (file_job heading) (sym h)
-fault_reads csv.Shape e heading read h = ap (file_job heading) (sym h)
-fault_reads csv.Order e heading read h = ap (file_job heading) (sym h)
-fault_reads csv.Recipe e heading read h = ap (file_job heading) (sym h)
-fault_reads csv.Version e heading read h = ap (file_job heading) (sym h)
-fault_reads csv.Size e heading read h = ap (file_job heading) (sym h)
-fault_reads csv.Due e heading read h = ap (file_job heading) (sym h)
-fault_reads csv.Priority e heading read h = ap (file_job heading) (sym h)
-fault_reads csv.TooManyRows e heading read h = ap (file_job heading) (sym h)
+fault_reads _ e heading read h = ap (file_job heading) (sym h)
 
 -- ---- an input asks for one thing
 

@@ -65,13 +65,15 @@ fn has_sizes(header: &Header) -> bool
     header.least.get() <= header.greatest.get()
 }
 
-fn has_some_phase(lines: &[RecipeLine]) -> bool
+/// Whether one of the lines is a phase.
+pub fn has_some_phase(lines: &[RecipeLine]) -> bool
     ensures { result ≡ has_phase lines.now }
 {
     lines.iter().any(|&line| is_phase_line(line))
 }
 
-fn has_output_of(product: Id, lines: &[RecipeLine]) -> bool
+/// Whether one of the lines is an output of the product.
+pub fn has_output_of(product: Id, lines: &[RecipeLine]) -> bool
     ensures { result ≡ has_product product lines.now }
 {
     lines.iter().any(|&line| is_output_of(product, line))
@@ -134,7 +136,8 @@ fn is_parameter_named(wanted: Id, line: RecipeLine) -> bool
     }
 }
 
-fn is_repeated_by(line: RecipeLine, other: RecipeLine) -> bool
+/// Whether both are inputs of one definition, outputs of one definition or parameters of one name.
+pub fn is_repeated_by(line: RecipeLine, other: RecipeLine) -> bool
     ensures { result ≡ repeats line other }
 {
     match line {
@@ -145,7 +148,8 @@ fn is_repeated_by(line: RecipeLine, other: RecipeLine) -> bool
     }
 }
 
-fn scales_within(base: Amount, size: Amount, line: RecipeLine) -> bool
+/// Whether an input or output, scaled from the base to the size, is at most [`GREATEST_AMOUNT`]. Other lines have no amount.
+pub fn scales_within(base: Amount, size: Amount, line: RecipeLine) -> bool
     ensures { result ≡ fits base size line }
 {
     match line {

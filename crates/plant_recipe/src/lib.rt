@@ -9,7 +9,10 @@ mod scaling;
 mod table;
 
 pub use control_recipe::{RecipeFault, control, control_law};
-pub use form::{GREATEST_LINES, form_laws, is_well_formed, phase_count};
+pub use form::{
+    GREATEST_LINES, form_laws, has_output_of, has_some_phase, is_repeated_by, is_well_formed,
+    phase_count, scales_within,
+};
 pub use master::Master;
 pub use progress::{GREATEST_ATTEMPT, GREATEST_PHASES, Progress, progress_laws};
 pub use scaling::{scaled, scaling_laws};

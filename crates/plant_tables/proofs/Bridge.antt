@@ -22,21 +22,10 @@ use Rattle.plant_base.specs.Recalls.{mark_kind_number, mark_order, mark_total}
 use Rattle.plant_base.specs.State.{same, put, class_order, definition_order, recipe_order, master_line_order, job_order, control_line_order, lot_order, hold_order, receipt_order, recall_order}
 use Rattle.plant_base.proofs.Put.{sorted_put}
 use Rattle.plant_base.specs.declared.rows.Meta.{Meta}
-use Rattle.plant_base.specs.declared.rows.Class.{Class}
-use Rattle.plant_base.specs.declared.rows.Definition.{Definition}
-use Rattle.plant_base.specs.declared.rows.Recipe.{Recipe}
-use Rattle.plant_base.specs.declared.rows.MasterLine.{MasterLine}
-use Rattle.plant_base.specs.declared.rows.Job.{Job}
 use Rattle.plant_base.specs.declared.rows.BatchRow.{BatchRow}
-use Rattle.plant_base.specs.declared.rows.ControlLine.{ControlLine}
 use Rattle.plant_base.specs.declared.rows.BatchEvent.{BatchEvent}
-use Rattle.plant_base.specs.declared.rows.Lot.{Lot}
-use Rattle.plant_base.specs.declared.rows.Sublot.{Sublot}
 use Rattle.plant_base.specs.declared.rows.Movement.{Movement}
 use Rattle.plant_base.specs.declared.rows.Hold.{Hold}
-use Rattle.plant_base.specs.declared.rows.EdgeRow.{EdgeRow}
-use Rattle.plant_base.specs.declared.rows.Receipt.{Receipt}
-use Rattle.plant_base.specs.declared.rows.Recall.{Recall}
 use Rattle.plant_base.specs.declared.rows.Mark.{Mark}
 use Rattle.plant_view.specs.Recalls.{without_marks}
 use Rattle.plant_view.specs.Tables.{Tables, batch_row_order, sublot_order, changed, changed_all, without_hold}
@@ -54,44 +43,6 @@ use Rattle.plant_tables.specs.Keyed.{AreKeyed, IsFresh, AreFresh}
 use Rattle.plant_tables.proofs.KeyTests.{or_false, one_text, second_text, two_texts, text_number, text_numbers, one_number, two_numbers, number_texts, text_number_text, text_tie, and_true}
 use Rattle.plant_tables.proofs.Permuted.{put_by_key, put_at_end}
 
--- ---- the orders
-
-class_total : IsTotalOrder class_order
-class_total = on_total (λ r. r.id) nat_list_cmp_total
-
-definition_total : IsTotalOrder definition_order
-definition_total = on_total (λ r. r.id) nat_list_cmp_total
-
-recipe_total : IsTotalOrder recipe_order
-recipe_total = then_total (on_total (λ r. r.header.recipe) nat_list_cmp_total) (on_total (λ r. r.header.version) nat_cmp_total)
-
-master_line_total : IsTotalOrder master_line_order
-master_line_total = then_total (then_total (on_total (λ r. r.recipe) nat_list_cmp_total) (on_total (λ r. r.version) nat_cmp_total)) (on_total (λ r. r.number) nat_cmp_total)
-
-job_total : IsTotalOrder job_order
-job_total = on_total (λ r. r.order.order) nat_list_cmp_total
-
-batch_total : IsTotalOrder batch_row_order
-batch_total = on_total (λ r. r.batch.id) nat_list_cmp_total
-
-control_line_total : IsTotalOrder control_line_order
-control_line_total = then_total (on_total (λ r. r.batch) nat_list_cmp_total) (on_total (λ r. r.number) nat_cmp_total)
-
-lot_total : IsTotalOrder lot_order
-lot_total = on_total (λ r. r.id) nat_list_cmp_total
-
-sublot_total : IsTotalOrder sublot_order
-sublot_total = then_total (on_total (λ r. r.lot) nat_list_cmp_total) (on_total (λ r. r.number) nat_cmp_total)
-
-hold_total : IsTotalOrder hold_order
-hold_total = then_total (on_total (λ r. r.lot) nat_list_cmp_total) (on_total (λ r. r.id) nat_list_cmp_total)
-
-receipt_total : IsTotalOrder receipt_order
-receipt_total = on_total (λ r. r.reference) nat_list_cmp_total
-
-recall_total : IsTotalOrder recall_order
-recall_total = on_total (λ r. r.id) nat_list_cmp_total
-
 -- ---- the table at a place
 
 -- as many rows in some order, in each table
@@ -105,58 +56,60 @@ at_place place become l new low same i = elim (cases_Bool (i == place)) [
   | inr miss ↦ let away : i ≢ place = λ e. absurd (grind (arith, nat_tests)) in rw (miss, get_or-set_other l place i new [] away) (IsPermutation-refl (get_or l i []))
 ]
 
--- the test of a key turned round, for each row
-ties : {R : Type 0} (order : R → R → Ordering) → IsTotalOrder order → (enc : R → Row) (form : Form) → ((x r : R) → meets form (enc x) (enc r) ≡ is_eq (order x r)) → (r : R) (xs : List R)
-    → AllByRecursion (λ x. meets form (enc x) (enc r) ≡ is_eq (order r x)) xs
-ties order total enc form met r [] = tt
-ties order total enc form met r (x ∷ xs) = (met x r ∙ (eq_by_cmp_equiv total).symm x r, ties order total enc form met r xs)
+-- rows meet by the keys of the form where the order ties them
+record IsKey {R : Type 0} (order : R → R → Ordering) (enc : R → Row) (form : Form) : Type 0 where
+  total : IsTotalOrder order
+  met : (x r : R) → meets form (enc x) (enc r) ≡ is_eq (order x r)
 
-put_typed : {R : Type 0} (order : R → R → Ordering) → IsTotalOrder order → (enc : R → Row) (form : Form) → ((x r : R) → meets form (enc x) (enc r) ≡ is_eq (order x r)) → (r : R) (xs : List R) → IsStrictlySortedBy order xs
-    → IsPermutation (rows.put form (enc r) (map enc xs)) (map enc (put order r xs))
-put_typed order total enc form met r xs sorted = put_by_key enc form r order total xs sorted (ties order total enc form met r xs)
+module _ {R : Type 0} {order : R → R → Ordering} {enc : R → Row} {form : Form} (key : IsKey order enc form) where
+  -- the test of a key turned round, for each row
+  ties : (r : R) (xs : List R) → AllByRecursion (λ x. meets form (enc x) (enc r) ≡ is_eq (order r x)) xs
+  ties r [] = tt
+  ties r (x ∷ xs) = (key.met x r ∙ (eq_by_cmp_equiv key.total).symm x r, ties r xs)
+
+  put_typed : (r : R) (xs : List R) → IsStrictlySortedBy order xs → IsPermutation (rows.put form (enc r) (map enc xs)) (map enc (put order r xs))
+  put_typed r xs sorted = put_by_key enc form r order key.total xs sorted (ties r xs)
 
 -- ---- the keys of the tables
 
-class_met : (x r : Class) → meets class_form (row_of_class x) (row_of_class r) ≡ is_eq (class_order x r)
-class_met x r = or_false _ ∙ one_text x.id r.id [] []
+class_key : IsKey class_order row_of_class class_form
+class_key = record { total = on_total (λ r. r.id) nat_list_cmp_total; met = λ x r. or_false _ ∙ one_text x.id r.id [] [] }
 
-definition_met : (x r : Definition) → meets definition_form (row_of_definition x) (row_of_definition r) ≡ is_eq (definition_order x r)
-definition_met x r = or_false _ ∙ one_text x.id r.id [] []
+definition_key : IsKey definition_order row_of_definition definition_form
+definition_key = record { total = on_total (λ r. r.id) nat_list_cmp_total; met = λ x r. or_false _ ∙ one_text x.id r.id [] [] }
 
-recipe_met : (x r : Recipe) → meets recipe_form (row_of_recipe x) (row_of_recipe r) ≡ is_eq (recipe_order x r)
-recipe_met x r = or_false _ ∙ text_number x.header.recipe r.header.recipe x.header.version r.header.version [] []
+recipe_key : IsKey recipe_order row_of_recipe recipe_form
+recipe_key = record { total = then_total (on_total (λ r. r.header.recipe) nat_list_cmp_total) (on_total (λ r. r.header.version) nat_cmp_total); met = λ x r. or_false _ ∙ text_number x.header.recipe r.header.recipe x.header.version r.header.version [] [] }
 
-master_line_met : (x r : MasterLine) → meets recipe_line_form (row_of_master_line x) (row_of_master_line r) ≡ is_eq (master_line_order x r)
-master_line_met x r = or_false _ ∙ text_numbers x.recipe r.recipe x.version r.version x.number r.number [] []
+master_line_key : IsKey master_line_order row_of_master_line recipe_line_form
+master_line_key = record { total = then_total (then_total (on_total (λ r. r.recipe) nat_list_cmp_total) (on_total (λ r. r.version) nat_cmp_total)) (on_total (λ r. r.number) nat_cmp_total); met = λ x r. or_false _ ∙ text_numbers x.recipe r.recipe x.version r.version x.number r.number [] [] }
 
-job_met : (x r : Job) → meets job_form (row_of_job x) (row_of_job r) ≡ is_eq (job_order x r)
-job_met x r = or_false _ ∙ one_text x.order.order r.order.order [] []
+job_key : IsKey job_order row_of_job job_form
+job_key = record { total = on_total (λ r. r.order.order) nat_list_cmp_total; met = λ x r. or_false _ ∙ one_text x.order.order r.order.order [] [] }
 
-control_line_met : (x r : ControlLine) → meets control_line_form (row_of_control_line x) (row_of_control_line r) ≡ is_eq (control_line_order x r)
-control_line_met x r = or_false _ ∙ text_number x.batch r.batch x.number r.number [] []
+control_line_key : IsKey control_line_order row_of_control_line control_line_form
+control_line_key = record { total = then_total (on_total (λ r. r.batch) nat_list_cmp_total) (on_total (λ r. r.number) nat_cmp_total); met = λ x r. or_false _ ∙ text_number x.batch r.batch x.number r.number [] [] }
 
-lot_met : (x r : Lot) → meets lot_form (row_of_lot x) (row_of_lot r) ≡ is_eq (lot_order x r)
-lot_met x r = or_false _ ∙ one_text x.id r.id [] []
+lot_key : IsKey lot_order row_of_lot lot_form
+lot_key = record { total = on_total (λ r. r.id) nat_list_cmp_total; met = λ x r. or_false _ ∙ one_text x.id r.id [] [] }
 
-sublot_met : (x r : Sublot) → meets sublot_form (row_of_sublot x) (row_of_sublot r) ≡ is_eq (sublot_order x r)
-sublot_met x r = or_false _ ∙ text_number x.lot r.lot x.number r.number [] []
+sublot_key : IsKey sublot_order row_of_sublot sublot_form
+sublot_key = record { total = then_total (on_total (λ r. r.lot) nat_list_cmp_total) (on_total (λ r. r.number) nat_cmp_total); met = λ x r. or_false _ ∙ text_number x.lot r.lot x.number r.number [] [] }
 
-hold_met : (x r : Hold) → meets hold_form (row_of_hold x) (row_of_hold r) ≡ is_eq (hold_order x r)
-hold_met x r = or_false _ ∙ two_texts x.lot r.lot x.id r.id [] []
+hold_key : IsKey hold_order row_of_hold hold_form
+hold_key = record { total = then_total (on_total (λ r. r.lot) nat_list_cmp_total) (on_total (λ r. r.id) nat_list_cmp_total); met = λ x r. or_false _ ∙ two_texts x.lot r.lot x.id r.id [] [] }
 
-edge_met : (x r : EdgeRow) → meets edge_form (row_of_edge x) (row_of_edge r) ≡ is_eq (edge_order x r)
-edge_met x r =
-    or_false _ ∙ number_texts (edge_kind_number x.kind) (edge_kind_number r.kind) x.from r.from x.to r.to
+edge_key : IsKey edge_order row_of_edge edge_form
+edge_key = record { total = edge_total; met = λ x r. or_false _ ∙ number_texts (edge_kind_number x.kind) (edge_kind_number r.kind) x.from r.from x.to r.to }
 
-receipt_met : (x r : Receipt) → meets receipt_form (row_of_receipt x) (row_of_receipt r) ≡ is_eq (receipt_order x r)
-receipt_met x r = or_false _ ∙ one_text x.reference r.reference [] []
+receipt_key : IsKey receipt_order row_of_receipt receipt_form
+receipt_key = record { total = on_total (λ r. r.reference) nat_list_cmp_total; met = λ x r. or_false _ ∙ one_text x.reference r.reference [] [] }
 
-recall_met : (x r : Recall) → meets recall_form (row_of_recall x) (row_of_recall r) ≡ is_eq (recall_order x r)
-recall_met x r = or_false _ ∙ one_text x.id r.id [] []
+recall_key : IsKey recall_order row_of_recall recall_form
+recall_key = record { total = on_total (λ r. r.id) nat_list_cmp_total; met = λ x r. or_false _ ∙ one_text x.id r.id [] [] }
 
-mark_met : (x r : Mark) → meets mark_form (row_of_mark x) (row_of_mark r) ≡ is_eq (mark_order x r)
-mark_met x r =
-    or_false _ ∙ text_number_text x.recall r.recall (mark_kind_number x.kind) (mark_kind_number r.kind) x.id r.id
+mark_key : IsKey mark_order row_of_mark mark_form
+mark_key = record { total = mark_total; met = λ x r. or_false _ ∙ text_number_text x.recall r.recall (mark_kind_number x.kind) (mark_kind_number r.kind) x.id r.id }
 
 implied_or : (a b : Bool) → (b ≡ true → a ≡ true) → (a || b) ≡ a
 implied_or true b h = refl
@@ -170,6 +123,9 @@ holds_values h lot hold = rw (text_tie h.lot lot, text_tie h.id hold, and_true) 
 is_of_recall : (m : Mark) (recall : List ℕ) → has_values (1 ∷ []) (Text recall ∷ []) (row_of_mark m) ≡ same m.recall recall
 unfolding first_key
 is_of_recall m recall = rw (text_tie m.recall recall, and_true) (sym (texts_ties m.recall recall))
+
+batch_total : IsTotalOrder batch_row_order
+batch_total = on_total (λ r. r.batch.id) nat_list_cmp_total
 
 -- a batch of an order that no other is of meets the one with its id alone
 batch_ties : (r : BatchRow) (xs : List BatchRow) → AllByRecursion (λ b. same b.batch.job r.batch.job ≡ true → same b.batch.id r.batch.id ≡ true) xs
@@ -217,25 +173,25 @@ meta_put r old =
 pub one_changed : (c : RowChange) (t : Tables) → AreKeyed t → IsFresh c t → SameRows (rows_changed c (contents_of t)) (contents_of (changed c t))
 unfolding rows_changed
 one_changed (change.Meta r) t keyed fresh = at_place 0 (rows.put meta_form (row_of_meta r)) (rows_of t) (row_of_meta r ∷ []) (omega arith) (meta_put r t.meta)
-one_changed (change.Class r) t keyed fresh = at_place 1 (rows.put class_form (row_of_class r)) (rows_of t) (map row_of_class (put class_order r t.classes)) (omega arith) (put_typed class_order class_total row_of_class class_form class_met r t.classes keyed.classes)
-one_changed (change.Definition r) t keyed fresh = at_place 2 (rows.put definition_form (row_of_definition r)) (rows_of t) (map row_of_definition (put definition_order r t.definitions)) (omega arith) (put_typed definition_order definition_total row_of_definition definition_form definition_met r t.definitions keyed.definitions)
-one_changed (change.Recipe r) t keyed fresh = at_place 3 (rows.put recipe_form (row_of_recipe r)) (rows_of t) (map row_of_recipe (put recipe_order r t.recipes)) (omega arith) (put_typed recipe_order recipe_total row_of_recipe recipe_form recipe_met r t.recipes keyed.recipes)
-one_changed (change.MasterLine r) t keyed fresh = at_place 4 (rows.put recipe_line_form (row_of_master_line r)) (rows_of t) (map row_of_master_line (put master_line_order r t.master_lines)) (omega arith) (put_typed master_line_order master_line_total row_of_master_line recipe_line_form master_line_met r t.master_lines keyed.master_lines)
-one_changed (change.Job r) t keyed fresh = at_place 5 (rows.put job_form (row_of_job r)) (rows_of t) (map row_of_job (put job_order r t.jobs)) (omega arith) (put_typed job_order job_total row_of_job job_form job_met r t.jobs keyed.jobs)
+one_changed (change.Class r) t keyed fresh = at_place 1 (rows.put class_form (row_of_class r)) (rows_of t) (map row_of_class (put class_order r t.classes)) (omega arith) (put_typed class_key r t.classes keyed.classes)
+one_changed (change.Definition r) t keyed fresh = at_place 2 (rows.put definition_form (row_of_definition r)) (rows_of t) (map row_of_definition (put definition_order r t.definitions)) (omega arith) (put_typed definition_key r t.definitions keyed.definitions)
+one_changed (change.Recipe r) t keyed fresh = at_place 3 (rows.put recipe_form (row_of_recipe r)) (rows_of t) (map row_of_recipe (put recipe_order r t.recipes)) (omega arith) (put_typed recipe_key r t.recipes keyed.recipes)
+one_changed (change.MasterLine r) t keyed fresh = at_place 4 (rows.put recipe_line_form (row_of_master_line r)) (rows_of t) (map row_of_master_line (put master_line_order r t.master_lines)) (omega arith) (put_typed master_line_key r t.master_lines keyed.master_lines)
+one_changed (change.Job r) t keyed fresh = at_place 5 (rows.put job_form (row_of_job r)) (rows_of t) (map row_of_job (put job_order r t.jobs)) (omega arith) (put_typed job_key r t.jobs keyed.jobs)
 one_changed (change.Batch r) t keyed fresh = at_place 6 (rows.put batch_form (row_of_batch r)) (rows_of t) (map row_of_batch (put batch_row_order r t.batches)) (omega arith) (put_by_key row_of_batch batch_form r batch_row_order batch_total t.batches keyed.batches (batch_ties r t.batches fresh))
-one_changed (change.ControlLine r) t keyed fresh = at_place 7 (rows.put control_line_form (row_of_control_line r)) (rows_of t) (map row_of_control_line (put control_line_order r t.control_lines)) (omega arith) (put_typed control_line_order control_line_total row_of_control_line control_line_form control_line_met r t.control_lines keyed.control_lines)
+one_changed (change.ControlLine r) t keyed fresh = at_place 7 (rows.put control_line_form (row_of_control_line r)) (rows_of t) (map row_of_control_line (put control_line_order r t.control_lines)) (omega arith) (put_typed control_line_key r t.control_lines keyed.control_lines)
 one_changed (change.Event r) t keyed fresh = at_place 8 (rows.put batch_event_form (row_of_event r)) (rows_of t) (map row_of_event (t.events ++ r ∷ [])) (omega arith) (put_at_end row_of_event batch_event_form r t.events (events_apart r t.events fresh))
-one_changed (change.Lot r) t keyed fresh = at_place 9 (rows.put lot_form (row_of_lot r)) (rows_of t) (map row_of_lot (put lot_order r t.lots)) (omega arith) (put_typed lot_order lot_total row_of_lot lot_form lot_met r t.lots keyed.lots)
-one_changed (change.Sublot r) t keyed fresh = at_place 10 (rows.put sublot_form (row_of_sublot r)) (rows_of t) (map row_of_sublot (put sublot_order r t.sublots)) (omega arith) (put_typed sublot_order sublot_total row_of_sublot sublot_form sublot_met r t.sublots keyed.sublots)
+one_changed (change.Lot r) t keyed fresh = at_place 9 (rows.put lot_form (row_of_lot r)) (rows_of t) (map row_of_lot (put lot_order r t.lots)) (omega arith) (put_typed lot_key r t.lots keyed.lots)
+one_changed (change.Sublot r) t keyed fresh = at_place 10 (rows.put sublot_form (row_of_sublot r)) (rows_of t) (map row_of_sublot (put sublot_order r t.sublots)) (omega arith) (put_typed sublot_key r t.sublots keyed.sublots)
 one_changed (change.Movement r) t keyed fresh = at_place 11 (rows.put movement_form (row_of_movement r)) (rows_of t) (map row_of_movement (t.movements ++ r ∷ [])) (omega arith) (put_at_end row_of_movement movement_form r t.movements (movements_apart r t.movements fresh))
-one_changed (change.Hold r) t keyed fresh = at_place 12 (rows.put hold_form (row_of_hold r)) (rows_of t) (map row_of_hold (put hold_order r t.holds)) (omega arith) (put_typed hold_order hold_total row_of_hold hold_form hold_met r t.holds keyed.holds)
-one_changed (change.Edge r) t keyed fresh = at_place 13 (rows.put edge_form (row_of_edge r)) (rows_of t) (map row_of_edge (put edge_order r t.edges)) (omega arith) (put_typed edge_order edge_total row_of_edge edge_form edge_met r t.edges keyed.edges)
-one_changed (change.Receipt r) t keyed fresh = at_place 14 (rows.put receipt_form (row_of_receipt r)) (rows_of t) (map row_of_receipt (put receipt_order r t.receipts)) (omega arith) (put_typed receipt_order receipt_total row_of_receipt receipt_form receipt_met r t.receipts keyed.receipts)
+one_changed (change.Hold r) t keyed fresh = at_place 12 (rows.put hold_form (row_of_hold r)) (rows_of t) (map row_of_hold (put hold_order r t.holds)) (omega arith) (put_typed hold_key r t.holds keyed.holds)
+one_changed (change.Edge r) t keyed fresh = at_place 13 (rows.put edge_form (row_of_edge r)) (rows_of t) (map row_of_edge (put edge_order r t.edges)) (omega arith) (put_typed edge_key r t.edges keyed.edges)
+one_changed (change.Receipt r) t keyed fresh = at_place 14 (rows.put receipt_form (row_of_receipt r)) (rows_of t) (map row_of_receipt (put receipt_order r t.receipts)) (omega arith) (put_typed receipt_key r t.receipts keyed.receipts)
 one_changed (change.Unhold lot hold) t keyed fresh =
     at_place 12 (take_away (1 ∷ 2 ∷ []) (Text lot ∷ Text hold ∷ [])) (rows_of t) (map row_of_hold (without_hold lot hold t.holds)) (omega arith)
     (subst (IsPermutation (take_away (1 ∷ 2 ∷ []) (Text lot ∷ Text hold ∷ []) (map row_of_hold t.holds))) (hold_taken lot hold t.holds) (IsPermutation-refl _))
-one_changed (change.Recall r) t keyed fresh = at_place 15 (rows.put recall_form (row_of_recall r)) (rows_of t) (map row_of_recall (put recall_order r t.recalls)) (omega arith) (put_typed recall_order recall_total row_of_recall recall_form recall_met r t.recalls keyed.recalls)
-one_changed (change.Mark r) t keyed fresh = at_place 16 (rows.put mark_form (row_of_mark r)) (rows_of t) (map row_of_mark (put mark_order r t.marks)) (omega arith) (put_typed mark_order mark_total row_of_mark mark_form mark_met r t.marks keyed.marks)
+one_changed (change.Recall r) t keyed fresh = at_place 15 (rows.put recall_form (row_of_recall r)) (rows_of t) (map row_of_recall (put recall_order r t.recalls)) (omega arith) (put_typed recall_key r t.recalls keyed.recalls)
+one_changed (change.Mark r) t keyed fresh = at_place 16 (rows.put mark_form (row_of_mark r)) (rows_of t) (map row_of_mark (put mark_order r t.marks)) (omega arith) (put_typed mark_key r t.marks keyed.marks)
 one_changed (change.Unmark recall) t keyed fresh =
     at_place 16 (take_away (1 ∷ []) (Text recall ∷ [])) (rows_of t) (map row_of_mark (without_marks recall t.marks)) (omega arith)
     (subst (IsPermutation (take_away (1 ∷ []) (Text recall ∷ []) (map row_of_mark t.marks))) (marks_taken recall t.marks) (IsPermutation-refl _))
@@ -259,23 +215,23 @@ sorted_filter order p (x ∷ xs) sorted = elim (cases_Bool (p x)) [
 
 pub keyed_after : (c : RowChange) (t : Tables) → AreKeyed t → AreKeyed (changed c t)
 keyed_after (change.Meta r) t k = record { classes = k.classes; definitions = k.definitions; recipes = k.recipes; master_lines = k.master_lines; jobs = k.jobs; batches = k.batches; control_lines = k.control_lines; lots = k.lots; sublots = k.sublots; holds = k.holds; edges = k.edges; receipts = k.receipts; recalls = k.recalls; marks = k.marks }
-keyed_after (change.Class r) t k = record { classes = sorted_put class_order class_total r t.classes k.classes; definitions = k.definitions; recipes = k.recipes; master_lines = k.master_lines; jobs = k.jobs; batches = k.batches; control_lines = k.control_lines; lots = k.lots; sublots = k.sublots; holds = k.holds; edges = k.edges; receipts = k.receipts; recalls = k.recalls; marks = k.marks }
-keyed_after (change.Definition r) t k = record { classes = k.classes; definitions = sorted_put definition_order definition_total r t.definitions k.definitions; recipes = k.recipes; master_lines = k.master_lines; jobs = k.jobs; batches = k.batches; control_lines = k.control_lines; lots = k.lots; sublots = k.sublots; holds = k.holds; edges = k.edges; receipts = k.receipts; recalls = k.recalls; marks = k.marks }
-keyed_after (change.Recipe r) t k = record { classes = k.classes; definitions = k.definitions; recipes = sorted_put recipe_order recipe_total r t.recipes k.recipes; master_lines = k.master_lines; jobs = k.jobs; batches = k.batches; control_lines = k.control_lines; lots = k.lots; sublots = k.sublots; holds = k.holds; edges = k.edges; receipts = k.receipts; recalls = k.recalls; marks = k.marks }
-keyed_after (change.MasterLine r) t k = record { classes = k.classes; definitions = k.definitions; recipes = k.recipes; master_lines = sorted_put master_line_order master_line_total r t.master_lines k.master_lines; jobs = k.jobs; batches = k.batches; control_lines = k.control_lines; lots = k.lots; sublots = k.sublots; holds = k.holds; edges = k.edges; receipts = k.receipts; recalls = k.recalls; marks = k.marks }
-keyed_after (change.Job r) t k = record { classes = k.classes; definitions = k.definitions; recipes = k.recipes; master_lines = k.master_lines; jobs = sorted_put job_order job_total r t.jobs k.jobs; batches = k.batches; control_lines = k.control_lines; lots = k.lots; sublots = k.sublots; holds = k.holds; edges = k.edges; receipts = k.receipts; recalls = k.recalls; marks = k.marks }
+keyed_after (change.Class r) t k = record { classes = sorted_put class_order class_key.total r t.classes k.classes; definitions = k.definitions; recipes = k.recipes; master_lines = k.master_lines; jobs = k.jobs; batches = k.batches; control_lines = k.control_lines; lots = k.lots; sublots = k.sublots; holds = k.holds; edges = k.edges; receipts = k.receipts; recalls = k.recalls; marks = k.marks }
+keyed_after (change.Definition r) t k = record { classes = k.classes; definitions = sorted_put definition_order definition_key.total r t.definitions k.definitions; recipes = k.recipes; master_lines = k.master_lines; jobs = k.jobs; batches = k.batches; control_lines = k.control_lines; lots = k.lots; sublots = k.sublots; holds = k.holds; edges = k.edges; receipts = k.receipts; recalls = k.recalls; marks = k.marks }
+keyed_after (change.Recipe r) t k = record { classes = k.classes; definitions = k.definitions; recipes = sorted_put recipe_order recipe_key.total r t.recipes k.recipes; master_lines = k.master_lines; jobs = k.jobs; batches = k.batches; control_lines = k.control_lines; lots = k.lots; sublots = k.sublots; holds = k.holds; edges = k.edges; receipts = k.receipts; recalls = k.recalls; marks = k.marks }
+keyed_after (change.MasterLine r) t k = record { classes = k.classes; definitions = k.definitions; recipes = k.recipes; master_lines = sorted_put master_line_order master_line_key.total r t.master_lines k.master_lines; jobs = k.jobs; batches = k.batches; control_lines = k.control_lines; lots = k.lots; sublots = k.sublots; holds = k.holds; edges = k.edges; receipts = k.receipts; recalls = k.recalls; marks = k.marks }
+keyed_after (change.Job r) t k = record { classes = k.classes; definitions = k.definitions; recipes = k.recipes; master_lines = k.master_lines; jobs = sorted_put job_order job_key.total r t.jobs k.jobs; batches = k.batches; control_lines = k.control_lines; lots = k.lots; sublots = k.sublots; holds = k.holds; edges = k.edges; receipts = k.receipts; recalls = k.recalls; marks = k.marks }
 keyed_after (change.Batch r) t k = record { classes = k.classes; definitions = k.definitions; recipes = k.recipes; master_lines = k.master_lines; jobs = k.jobs; batches = sorted_put batch_row_order batch_total r t.batches k.batches; control_lines = k.control_lines; lots = k.lots; sublots = k.sublots; holds = k.holds; edges = k.edges; receipts = k.receipts; recalls = k.recalls; marks = k.marks }
-keyed_after (change.ControlLine r) t k = record { classes = k.classes; definitions = k.definitions; recipes = k.recipes; master_lines = k.master_lines; jobs = k.jobs; batches = k.batches; control_lines = sorted_put control_line_order control_line_total r t.control_lines k.control_lines; lots = k.lots; sublots = k.sublots; holds = k.holds; edges = k.edges; receipts = k.receipts; recalls = k.recalls; marks = k.marks }
+keyed_after (change.ControlLine r) t k = record { classes = k.classes; definitions = k.definitions; recipes = k.recipes; master_lines = k.master_lines; jobs = k.jobs; batches = k.batches; control_lines = sorted_put control_line_order control_line_key.total r t.control_lines k.control_lines; lots = k.lots; sublots = k.sublots; holds = k.holds; edges = k.edges; receipts = k.receipts; recalls = k.recalls; marks = k.marks }
 keyed_after (change.Event r) t k = record { classes = k.classes; definitions = k.definitions; recipes = k.recipes; master_lines = k.master_lines; jobs = k.jobs; batches = k.batches; control_lines = k.control_lines; lots = k.lots; sublots = k.sublots; holds = k.holds; edges = k.edges; receipts = k.receipts; recalls = k.recalls; marks = k.marks }
-keyed_after (change.Lot r) t k = record { classes = k.classes; definitions = k.definitions; recipes = k.recipes; master_lines = k.master_lines; jobs = k.jobs; batches = k.batches; control_lines = k.control_lines; lots = sorted_put lot_order lot_total r t.lots k.lots; sublots = k.sublots; holds = k.holds; edges = k.edges; receipts = k.receipts; recalls = k.recalls; marks = k.marks }
-keyed_after (change.Sublot r) t k = record { classes = k.classes; definitions = k.definitions; recipes = k.recipes; master_lines = k.master_lines; jobs = k.jobs; batches = k.batches; control_lines = k.control_lines; lots = k.lots; sublots = sorted_put sublot_order sublot_total r t.sublots k.sublots; holds = k.holds; edges = k.edges; receipts = k.receipts; recalls = k.recalls; marks = k.marks }
+keyed_after (change.Lot r) t k = record { classes = k.classes; definitions = k.definitions; recipes = k.recipes; master_lines = k.master_lines; jobs = k.jobs; batches = k.batches; control_lines = k.control_lines; lots = sorted_put lot_order lot_key.total r t.lots k.lots; sublots = k.sublots; holds = k.holds; edges = k.edges; receipts = k.receipts; recalls = k.recalls; marks = k.marks }
+keyed_after (change.Sublot r) t k = record { classes = k.classes; definitions = k.definitions; recipes = k.recipes; master_lines = k.master_lines; jobs = k.jobs; batches = k.batches; control_lines = k.control_lines; lots = k.lots; sublots = sorted_put sublot_order sublot_key.total r t.sublots k.sublots; holds = k.holds; edges = k.edges; receipts = k.receipts; recalls = k.recalls; marks = k.marks }
 keyed_after (change.Movement r) t k = record { classes = k.classes; definitions = k.definitions; recipes = k.recipes; master_lines = k.master_lines; jobs = k.jobs; batches = k.batches; control_lines = k.control_lines; lots = k.lots; sublots = k.sublots; holds = k.holds; edges = k.edges; receipts = k.receipts; recalls = k.recalls; marks = k.marks }
-keyed_after (change.Hold r) t k = record { classes = k.classes; definitions = k.definitions; recipes = k.recipes; master_lines = k.master_lines; jobs = k.jobs; batches = k.batches; control_lines = k.control_lines; lots = k.lots; sublots = k.sublots; holds = sorted_put hold_order hold_total r t.holds k.holds; edges = k.edges; receipts = k.receipts; recalls = k.recalls; marks = k.marks }
-keyed_after (change.Edge r) t k = record { classes = k.classes; definitions = k.definitions; recipes = k.recipes; master_lines = k.master_lines; jobs = k.jobs; batches = k.batches; control_lines = k.control_lines; lots = k.lots; sublots = k.sublots; holds = k.holds; edges = sorted_put edge_order edge_total r t.edges k.edges; receipts = k.receipts; recalls = k.recalls; marks = k.marks }
-keyed_after (change.Receipt r) t k = record { classes = k.classes; definitions = k.definitions; recipes = k.recipes; master_lines = k.master_lines; jobs = k.jobs; batches = k.batches; control_lines = k.control_lines; lots = k.lots; sublots = k.sublots; holds = k.holds; edges = k.edges; receipts = sorted_put receipt_order receipt_total r t.receipts k.receipts; recalls = k.recalls; marks = k.marks }
+keyed_after (change.Hold r) t k = record { classes = k.classes; definitions = k.definitions; recipes = k.recipes; master_lines = k.master_lines; jobs = k.jobs; batches = k.batches; control_lines = k.control_lines; lots = k.lots; sublots = k.sublots; holds = sorted_put hold_order hold_key.total r t.holds k.holds; edges = k.edges; receipts = k.receipts; recalls = k.recalls; marks = k.marks }
+keyed_after (change.Edge r) t k = record { classes = k.classes; definitions = k.definitions; recipes = k.recipes; master_lines = k.master_lines; jobs = k.jobs; batches = k.batches; control_lines = k.control_lines; lots = k.lots; sublots = k.sublots; holds = k.holds; edges = sorted_put edge_order edge_key.total r t.edges k.edges; receipts = k.receipts; recalls = k.recalls; marks = k.marks }
+keyed_after (change.Receipt r) t k = record { classes = k.classes; definitions = k.definitions; recipes = k.recipes; master_lines = k.master_lines; jobs = k.jobs; batches = k.batches; control_lines = k.control_lines; lots = k.lots; sublots = k.sublots; holds = k.holds; edges = k.edges; receipts = sorted_put receipt_order receipt_key.total r t.receipts k.receipts; recalls = k.recalls; marks = k.marks }
 keyed_after (change.Unhold lot hold) t k = record { classes = k.classes; definitions = k.definitions; recipes = k.recipes; master_lines = k.master_lines; jobs = k.jobs; batches = k.batches; control_lines = k.control_lines; lots = k.lots; sublots = k.sublots; holds = sorted_filter hold_order _ t.holds k.holds; edges = k.edges; receipts = k.receipts; recalls = k.recalls; marks = k.marks }
-keyed_after (change.Recall r) t k = record { classes = k.classes; definitions = k.definitions; recipes = k.recipes; master_lines = k.master_lines; jobs = k.jobs; batches = k.batches; control_lines = k.control_lines; lots = k.lots; sublots = k.sublots; holds = k.holds; edges = k.edges; receipts = k.receipts; recalls = sorted_put recall_order recall_total r t.recalls k.recalls; marks = k.marks }
-keyed_after (change.Mark r) t k = record { classes = k.classes; definitions = k.definitions; recipes = k.recipes; master_lines = k.master_lines; jobs = k.jobs; batches = k.batches; control_lines = k.control_lines; lots = k.lots; sublots = k.sublots; holds = k.holds; edges = k.edges; receipts = k.receipts; recalls = k.recalls; marks = sorted_put mark_order mark_total r t.marks k.marks }
+keyed_after (change.Recall r) t k = record { classes = k.classes; definitions = k.definitions; recipes = k.recipes; master_lines = k.master_lines; jobs = k.jobs; batches = k.batches; control_lines = k.control_lines; lots = k.lots; sublots = k.sublots; holds = k.holds; edges = k.edges; receipts = k.receipts; recalls = sorted_put recall_order recall_key.total r t.recalls k.recalls; marks = k.marks }
+keyed_after (change.Mark r) t k = record { classes = k.classes; definitions = k.definitions; recipes = k.recipes; master_lines = k.master_lines; jobs = k.jobs; batches = k.batches; control_lines = k.control_lines; lots = k.lots; sublots = k.sublots; holds = k.holds; edges = k.edges; receipts = k.receipts; recalls = k.recalls; marks = sorted_put mark_order mark_key.total r t.marks k.marks }
 keyed_after (change.Unmark recall) t k = record { classes = k.classes; definitions = k.definitions; recipes = k.recipes; master_lines = k.master_lines; jobs = k.jobs; batches = k.batches; control_lines = k.control_lines; lots = k.lots; sublots = k.sublots; holds = k.holds; edges = k.edges; receipts = k.receipts; recalls = k.recalls; marks = sorted_filter mark_order _ t.marks k.marks }
 
 -- ---- the same rows, changed alike

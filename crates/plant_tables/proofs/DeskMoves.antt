@@ -121,25 +121,12 @@ one_more_change (d ∷ cs) c t = one_more_change cs c (rows_changed d t)
 -- ---- the newest schema has every table
 
 of_newest : (c : RowChange) → IsOfSchema newest_schema c
-of_newest (change.Meta r) = tt
-of_newest (change.Class r) = tt
-of_newest (change.Definition r) = tt
-of_newest (change.Recipe r) = tt
-of_newest (change.MasterLine r) = tt
-of_newest (change.Job r) = tt
-of_newest (change.Batch r) = tt
-of_newest (change.ControlLine r) = tt
-of_newest (change.Event r) = tt
-of_newest (change.Lot r) = tt
-of_newest (change.Sublot r) = tt
-of_newest (change.Movement r) = tt
-of_newest (change.Hold r) = tt
 of_newest (change.Edge r) = refl
 of_newest (change.Receipt r) = refl
 of_newest (change.Recall r) = refl
 of_newest (change.Mark r) = refl
 of_newest (change.Unmark recall) = refl
-of_newest (change.Unhold lot hold) = tt
+of_newest _ = tt
 
 pub all_of_newest : (cs : List RowChange) → AreOfSchema newest_schema cs
 all_of_newest [] = tt

@@ -78,17 +78,7 @@ batch_state_back bytes s h = named_back batch_state_name all_batch_states bytes 
 pub batch_state_own : (s : BatchState) → batch_state_named (batch_state_name s) ≡ Some s
 unfolding batch_state_named
 batch_state_own batch_state.Idle = refl
-batch_state_own batch_state.Running = refl
-batch_state_own batch_state.Complete = refl
-batch_state_own batch_state.Pausing = refl
-batch_state_own batch_state.Paused = refl
-batch_state_own batch_state.Holding = refl
-batch_state_own batch_state.Held = refl
-batch_state_own batch_state.Restarting = refl
-batch_state_own batch_state.Stopping = refl
-batch_state_own batch_state.Stopped = refl
-batch_state_own batch_state.Aborting = refl
-batch_state_own batch_state.Aborted = refl
+batch_state_own _ = refl
 
 pub recall_state_back : (bytes : List ℕ) (s : RecallState) → recall_state_named bytes ≡ Some s → bytes ≡ recall_state_name s
 unfolding recall_state_named
@@ -153,14 +143,7 @@ event_keeps name phase e h = elim (same name (codes "phase")) as (λ b. (if b th
 moved_own : (w : Word) → event_named (word_name w) (pos 0) ≡ Some (event.Moved w)
 unfolding event_named plain_event word_named number_in
 moved_own word.Start = refl
-moved_own word.Stop = refl
-moved_own word.Hold = refl
-moved_own word.Restart = refl
-moved_own word.Abort = refl
-moved_own word.Reset = refl
-moved_own word.Pause = refl
-moved_own word.Resume = refl
-moved_own word.Done = refl
+moved_own _ = refl
 
 pub event_own : (e : Event) → HasPhaseNumber e → event_named (event_name e) (pos (event_phase e)) ≡ Some e
 unfolding event_named plain_event number_in
@@ -188,12 +171,7 @@ movement_sort_back kind s h = numbered_back movement_sort_number all_movement_so
 pub movement_sort_own : (s : MovementSort) → movement_sort_numbered (pos (movement_sort_number s)) ≡ Some s
 unfolding movement_sort_numbered
 movement_sort_own movement_sort.Received = refl
-movement_sort_own movement_sort.Consumed = refl
-movement_sort_own movement_sort.Produced = refl
-movement_sort_own movement_sort.Scrapped = refl
-movement_sort_own movement_sort.Divided = refl
-movement_sort_own movement_sort.Split = refl
-movement_sort_own movement_sort.Merged = refl
+movement_sort_own _ = refl
 
 pub edge_kind_back : (number : ℤ) (k : EdgeKind) → edge_kind_numbered number ≡ Some k → number ≡ pos (edge_kind_number k)
 unfolding edge_kind_numbered

@@ -31,10 +31,6 @@ use Rattle.plant_tables_columns.specs.TableColumns.{only_meta, class_from, defin
 use Rattle.plant_tables_columns.specs.declared.booked.BookedRow.{BookedRow}
 use Rattle.plant_tables_columns.specs.declared.recalls.StatedRecall.{StatedRecall}
 use Rattle.plant_tables_judged.specs.declared.desk_rows.DeskRows.{DeskRows}
-use Rattle.plant_tables_judged.specs.declared.desk_rows.MasterRows as held_masters
-use Rattle.plant_tables_judged.specs.declared.desk_rows.OrderRows as held_orders
-use Rattle.plant_tables_judged.specs.declared.desk_rows.StockRows as held_stocks
-use Rattle.plant_tables_judged.specs.declared.desk_rows.RecallRows as held_recalls
 
 -- the rows of each table; a movement's columns may be those of another kind, a recall's those of another state, a line's
 -- number 0, and a content empty
@@ -57,107 +53,45 @@ pub record Rows : Type 0 where
   pub recalls : List StatedRecall
   pub marks : List Mark
 
-pub record MasterRows : Type 0 where
-  pub classes : List Class
-  pub definitions : List Definition
-  pub recipes : List Recipe
-  pub master_lines : List MasterLine
-
-pub record OrderRows : Type 0 where
-  pub jobs : List Job
-  pub batches : List BatchRow
-  pub control_lines : List ControlLine
-  pub events : List BatchEvent
-
-pub record StockRows : Type 0 where
-  pub lots : List Lot
-  pub sublots : List Sublot
-  pub movements : List BookedRow
-  pub holds : List Hold
-  pub edges : List EdgeRow
-
-pub record RecallRows : Type 0 where
-  pub recalls : List StatedRecall
-  pub marks : List Mark
-
-unfoldable pub masters_from : Loaded → Option MasterRows
-masters_from x = do
+-- every value of every table obeys its rule, and these are the rows
+unfoldable pub rows_from : Loaded → Option Rows
+rows_from x = do
+  meta ← only_meta (contents_loaded x 0)
   classes ← all_from class_from (contents_loaded x 1)
   definitions ← all_from definition_from (contents_loaded x 2)
   recipes ← all_from recipe_from (contents_loaded x 3)
   master_lines ← all_from master_line_from (contents_loaded x 4)
-  Some (record { classes = classes; definitions = definitions; recipes = recipes; master_lines = master_lines })
-
-unfoldable pub orders_from : Loaded → Option OrderRows
-orders_from x = do
   jobs ← all_from job_from (contents_loaded x 5)
   batches ← all_from batch_from (contents_loaded x 6)
   control_lines ← all_from control_line_from (contents_loaded x 7)
   events ← all_from batch_event_from (contents_loaded x 8)
-  Some (record { jobs = jobs; batches = batches; control_lines = control_lines; events = events })
-
-unfoldable pub stocks_from : Loaded → Option StockRows
-stocks_from x = do
   lots ← all_from lot_from (contents_loaded x 9)
   sublots ← all_from sublot_from (contents_loaded x 10)
   movements ← all_from booked_from (contents_loaded x 11)
   holds ← all_from hold_from (contents_loaded x 12)
   edges ← all_from edge_from (contents_loaded x 13)
-  Some (record { lots = lots; sublots = sublots; movements = movements; holds = holds; edges = edges })
-
-unfoldable pub recalls_from : Loaded → Option RecallRows
-recalls_from x = do
+  receipts ← all_from receipt_from (contents_loaded x 14)
   recalls ← all_from stated_from (contents_loaded x 15)
   marks ← all_from mark_from (contents_loaded x 16)
-  Some (record { recalls = recalls; marks = marks })
-
--- ---- the rows as lists
-
-abbrev pub masters_listed : held_masters.MasterRows → MasterRows
-masters_listed r = record { classes = r.classes.items; definitions = r.definitions.items; recipes = r.recipes.items; master_lines = r.lines.items }
-
-abbrev pub orders_listed : held_orders.OrderRows → OrderRows
-orders_listed r = record { jobs = r.jobs.items; batches = r.batches.items; control_lines = r.control_lines.items; events = r.events.items }
-
-abbrev pub stocks_listed : held_stocks.StockRows → StockRows
-stocks_listed r = record { lots = r.lots.items; sublots = r.sublots.items; movements = r.movements.items; holds = r.holds.items; edges = r.edges.items }
-
-abbrev pub recalls_listed : held_recalls.RecallRows → RecallRows
-recalls_listed r = record { recalls = r.recalls.items; marks = r.marks.items }
-
--- ---- all tables
-
-abbrev pub rows_joined : Meta → MasterRows → OrderRows → StockRows → List Receipt → RecallRows → Rows
-rows_joined meta m o s receipts r = record {
-  meta = meta;
-  classes = m.classes;
-  definitions = m.definitions;
-  recipes = m.recipes;
-  master_lines = m.master_lines;
-  jobs = o.jobs;
-  batches = o.batches;
-  control_lines = o.control_lines;
-  events = o.events;
-  lots = s.lots;
-  sublots = s.sublots;
-  movements = s.movements;
-  holds = s.holds;
-  edges = s.edges;
-  receipts = receipts;
-  recalls = r.recalls;
-  marks = r.marks;
-}
-
--- every value of every table obeys its rule, and these are the rows
-unfoldable pub rows_from : Loaded → Option Rows
-rows_from x = do
-  meta ← only_meta (contents_loaded x 0)
-  m ← masters_from x
-  o ← orders_from x
-  s ← stocks_from x
-  receipts ← all_from receipt_from (contents_loaded x 14)
-  r ← recalls_from x
-  Some (rows_joined meta m o s receipts r)
+  Some (record {
+    meta = meta;
+    classes = classes;
+    definitions = definitions;
+    recipes = recipes;
+    master_lines = master_lines;
+    jobs = jobs;
+    batches = batches;
+    control_lines = control_lines;
+    events = events;
+    lots = lots;
+    sublots = sublots;
+    movements = movements;
+    holds = holds;
+    edges = edges;
+    receipts = receipts;
+    recalls = recalls;
+    marks = marks;
+  })
 
 -- the rows as lists
 unfoldable pub rows_listed : DeskRows → Rows

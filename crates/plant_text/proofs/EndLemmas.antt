@@ -1,5 +1,5 @@
 -- How a run ends.
-use Rattle.std.proofs.Common.{◌≡◌, ℕ, List, [], ◌∷◌, ◌++◌, Bool, false, Option, sym, ap, ◌∙◌, subst, inl, inr}
+use Rattle.std.proofs.Common.{◌≡◌, ℕ, ◌<◌, length, List, [], ◌∷◌, ◌++◌, Bool, false, Option, sym, ap, ◌∙◌, subst, inl, inr}
 use Rattle.std.proofs.lemmas.List.{map-append}
 use Rattle.std.specs.Io.KnownBytes.{IsAtEnd}
 use Rattle.plant_base.specs.State.{State}
@@ -11,21 +11,27 @@ use Rattle.plant_text.specs.Turns.{LastEnds, end_of}
 use Rattle.plant_text.specs.declared.run.RunEnd.{RunEnd}
 use Rattle.plant_text.specs.declared.run.RunEnd.TheVariants as E
 use Rattle.plant_text.specs.Held.{held_after, entries_after}
-use Rattle.plant_text.proofs.HeldLemmas.{entries_after-front, held_after-front, last_entry_front}
+use Rattle.plant_text.proofs.HeldLemmas.{each-front, last_as_whole}
 use Rattle.std.specs.Str.Lines.{lines}
+use Rattle.plant_text.specs.Lines.{longest_line}
+use Rattle.plant_text.proofs.TurnLemmas.{entry_long}
 use Rattle.plant_text.proofs.RunLemmas.{told_more, told_stops}
 use Rattle.plant_text.proofs.LineLemmas.{told_lines}
 
 -- ---- the lines of bytes
 
+-- each longer line is one bad entry
+longer_alike : (l m : List ℕ) → longest_line < length l → longest_line < length m → entry_of l ≡ entry_of m
+longer_alike l m long more = entry_long l long ∙ sym (entry_long m more)
+
 pub ended_entries : (bytes : List ℕ) → entries_after [] bytes ≡ entries (ended_lines bytes)
-ended_entries bytes = entries_after-front [] bytes
+ended_entries bytes = each-front entry_of longer_alike [] bytes
 
 pub all_entries : (bytes : List ℕ) → entries_after [] bytes ++ entry_of (part_from [] bytes) ∷ [] ≡ entries (all_lines bytes)
 all_entries bytes = ap (λ es. es ++ entry_of (part_from [] bytes) ∷ []) (ended_entries bytes) ∙ sym (map-append entry_of (ended_lines bytes) (part_from [] bytes ∷ []))
 
 last_entry : (bytes held : List ℕ) → held ≡ held_after [] bytes → entry_of held ≡ entry_of (part_from [] bytes)
-last_entry bytes held e = ap entry_of (e ∙ held_after-front [] bytes) ∙ last_entry_front (part_from [] bytes)
+last_entry bytes held e = last_as_whole entry_of longer_alike bytes held e
 
 -- ---- how a run ends
 

@@ -1,48 +1,89 @@
 -- What a line says, by what its bytes read as.
-use Rattle.std.proofs.Common.{◌≡◌, ℕ, ◌<◌, ◌≤◌, List, length, nat_lt, Bool, true, false, Option, Some, None, Result, Ok, Err, refl, option_and_then, cond, ap, arith}
+use Rattle.std.proofs.Common.{◌≡◌, ℕ, ◌<◌, ◌≤◌, List, [], ◌∷◌, length, nat_lt, Bool, true, false, Option, Some, None, Result, Ok, Err, refl, cond, codes, ap, arith}
 use Rattle.std.proofs.lemmas.Bool.Decides.{nat_tests}
-use Rattle.std.specs.Prelude.{IfOk, IsErrOf}
+use Rattle.std.specs.Prelude.{⊤, is_some, IfErr}
 use Rattle.std.specs.Str.{IsUtf8, is_utf8}
 use Rattle.std.proofs.lemmas.Str.{IsUtf8-from_is_utf8, is_utf8-from_IsUtf8}
+use Rattle.std.specs.Result.{result_ok}
 use Rattle.serde_json.specs.Data.{Data}
+use Rattle.serde_json.specs.Find.{get}
 use Rattle.serde_json.specs.Read.{read}
-use Rattle.plant_text.specs.declared.read.Line.{Line}
-use Rattle.plant_text_commands.specs.declared.fault.LineFault.{LineFault}
-use Rattle.plant_text_commands.specs.declared.fault.LineFault.TheVariants.{BadForm, Memory}
-use Rattle.plant_text_commands.specs.Lists.{Reads}
-use Rattle.plant_text.specs.Lines.{shape_of, longest_line, read_shape, line_of}
+use Rattle.plant_desk.specs.declared.question.Question.{Question}
+use Rattle.plant_desk.specs.declared.question.Question.TheVariants as Q
+use Rattle.plant_shapes.specs.declared.members.Member.{Member}
+use Rattle.plant_shapes.specs.declared.members.Member.TheVariants as m
+use Rattle.plant_shapes.specs.declared.words.QuestionKind.{QuestionKind}
+use Rattle.plant_shapes.specs.declared.words.QuestionKind.TheVariants as q
+use Rattle.plant_shapes.specs.declared.problems.Flaw.TheVariants as flaw
+use Rattle.plant_shapes.specs.declared.problems.Problem.{Problem}
+use Rattle.plant_shapes.specs.declared.problems.Problem.TheVariants as problem
+use Rattle.plant_shapes.specs.Problems.{◌>>=◌, object, or_no_form, is_told, problem_told}
+use Rattle.plant_shapes.specs.Fields.{fields_of, exactly}
+use Rattle.plant_shapes.specs.Laws.{Values, fields_in}
+use Rattle.plant_shapes.proofs.Typed.{Good, good_bind, good_map, good_object, exactly_typed, only_fails, ask_fails}
+use Rattle.plant_text.specs.Lines.{value_says, longest_line, text_says, line_says, line_of}
+use Rattle.plant_text.specs.Questions.{one_id, id_named, node_named, question_for, kind_at, question_by, question_of}
 
-pub at_value : (bytes : List ℕ) (d : Data) → length bytes ≤ longest_line → IsUtf8 bytes → read bytes ≡ Some d → line_of bytes ≡ shape_of d
-unfolding line_of
+pub at_value : (bytes : List ℕ) (d : Data) → length bytes ≤ longest_line → IsUtf8 bytes → read bytes ≡ Some d → line_says bytes ≡ value_says d
+unfolding line_says
 at_value bytes d l u e =
     let short : nat_lt longest_line (length bytes) ≡ false = grind (arith, nat_tests) in
     rw (short, is_utf8-from_IsUtf8 bytes u, e) refl
 
-pub line_long : (bytes : List ℕ) → longest_line < length bytes → line_of bytes ≡ None
-unfolding line_of
-line_long bytes h =
+pub says_long : (bytes : List ℕ) → longest_line < length bytes → line_says bytes ≡ Err problem.TooLong
+unfolding line_says
+says_long bytes h =
     let long : nat_lt longest_line (length bytes) ≡ true = grind (arith, nat_tests) in
     rw long refl
 
-by_case : (b : Bool) (o : Option Data) → (b ≡ true → o ≡ None) → cond b (option_and_then shape_of o) None ≡ None
-by_case true o h = ap (option_and_then shape_of) (h refl)
+by_case : (b : Bool) (o : Option Data) → (b ≡ true → o ≡ None) → text_says (cond b o None) ≡ Err problem.NoJson
+by_case true o h = ap text_says (h refl)
 by_case false o h = refl
 
-none_either : (b : Bool) (o : Option Line) → o ≡ None → cond b None o ≡ None
-none_either true o e = refl
-none_either false o e = e
+pub at_refusal : (bytes : List ℕ) → length bytes ≤ longest_line → (IsUtf8 bytes → read bytes ≡ None) → line_says bytes ≡ Err problem.NoJson
+unfolding line_says
+at_refusal bytes l h =
+    let short : nat_lt longest_line (length bytes) ≡ false = grind (arith, nat_tests) in
+    rw short (by_case (is_utf8 bytes) (read bytes) (λ u. h (IsUtf8-from_is_utf8 bytes u)))
 
-pub at_refusal : (bytes : List ℕ) → (IsUtf8 bytes → read bytes ≡ None) → line_of bytes ≡ None
-unfolding line_of
-at_refusal bytes h = none_either (nat_lt longest_line (length bytes)) (read_shape bytes) (by_case (is_utf8 bytes) (read bytes) (λ u. h (IsUtf8-from_is_utf8 bytes u)))
+pub line_long : (bytes : List ℕ) → longest_line < length bytes → line_of bytes ≡ None
+line_long bytes h = ap result_ok (says_long bytes h)
 
--- ---- what is read of a value that was read
+-- ---- questions
 
-pub read_ok : (o : Option Line) (r : Result Line LineFault) → Reads r o → IfOk r (λ line. o ≡ Some line)
-read_ok o (Ok line) h = h
-read_ok o (Err fault) h = tt
+id_total : (which : Member) (d : Data) → ((v : Values (m.Ask ∷ which ∷ [])) → Good is_told (λ x. ⊤) (or_no_form (one_id (fields_in (m.Ask ∷ which ∷ []) v)))) → Good problem_told (λ x. ⊤) (id_named which d)
+id_total which d total = good_object _ (exactly (m.Ask ∷ which ∷ []) d >>= (λ fs. or_no_form (one_id fs))) (good_bind is_told _ (exactly (m.Ask ∷ which ∷ []) d) _ (exactly_typed (m.Ask ∷ which ∷ []) d _ total))
 
-pub read_bad_form : (o : Option Line) (r : Result Line LineFault) → Reads r o → IsErrOf r BadForm → o ≡ None
-read_bad_form o (Ok line) h e = absurd cc
-read_bad_form o (Err BadForm) h e = h
-read_bad_form o (Err Memory) h e = absurd cc
+then_made : {A B : Type 0} (r : Result A Problem) (f : A → B) → Good problem_told (λ x. ⊤) r → Good problem_told (λ x. ⊤) (r >>= (λ x. Ok (f x)))
+then_made r f h = good_bind problem_told _ r _ (good_map problem_told (λ x. ⊤) _ r (λ x z. tt) h)
+
+either_good : {A : Type 0} (b : Bool) (r s : Result A Problem) → Good problem_told (λ x. ⊤) r → Good problem_told (λ x. ⊤) s → Good problem_told (λ x. ⊤) (cond b r s)
+either_good true r s h g = h
+either_good false r s h g = g
+
+node_good : (d : Data) → Good problem_told (λ x. ⊤) (node_named d)
+node_good d =
+    either_good (is_some (get (codes "lot") d)) _ _ (then_made (id_named m.Lot d) _ (id_total m.Lot d (λ v. tt))) (
+    either_good (is_some (get (codes "batch") d)) _ _ (then_made (id_named m.Batch d) _ (id_total m.Batch d (λ v. tt))) refl)
+
+for_good : (kind : QuestionKind) (d : Data) → Good problem_told (λ x. ⊤) (question_for kind d)
+for_good q.Desk d = then_made (object (exactly (m.Ask ∷ []) d)) (λ fs. Q.Desk) (good_object (λ fs. ⊤) (exactly (m.Ask ∷ []) d) (exactly_typed (m.Ask ∷ []) d (λ fs. ⊤) (λ v. tt)))
+for_good q.Lot d = then_made (id_named m.Lot d) _ (id_total m.Lot d (λ v. tt))
+for_good q.Order d = then_made (id_named m.Order d) _ (id_total m.Order d (λ v. tt))
+for_good q.Batch d = then_made (id_named m.Batch d) _ (id_total m.Batch d (λ v. tt))
+for_good q.Recall d = then_made (id_named m.Recall d) _ (id_total m.Recall d (λ v. tt))
+for_good q.Back d = then_made (node_named d) _ (node_good d)
+for_good q.Forward d = then_made (node_named d) _ (node_good d)
+
+by_good : (d : Data) (o : Option QuestionKind) → kind_at d ≡ o → Good problem_told (λ x. ⊤) (question_by o d)
+by_good d None e = good_object {A = Question} (λ x. ⊤) (fields_of (m.Ask ∷ []) d >>= (λ fs. Err flaw.NoForm)) (good_bind is_told (λ x. ⊤) (fields_of (m.Ask ∷ []) d) (λ fs. Err flaw.NoForm)
+    (good_map is_told (λ fs. ⊥) (λ fs. Good {A = Question} is_told (λ x. ⊤) (Err flaw.NoForm)) (fields_of (m.Ask ∷ []) d) (λ fs z. absurd z) (only_fails m.Ask d (ask_fails (get (codes "ask") d) e))))
+by_good d (Some kind) e = for_good kind d
+
+told_err : (r : Result Question Problem) → Good problem_told (λ x. ⊤) r → IfErr r (λ p. problem_told p ≡ true)
+told_err (Ok x) h = tt
+told_err (Err p) h = h
+
+-- where an object is no question, its problem says what is wrong
+pub question_told : (d : Data) → IfErr (question_of d) (λ p. problem_told p ≡ true)
+question_told d = told_err (question_of d) (by_good d (kind_at d) refl)

@@ -5,12 +5,12 @@ use Rattle.std.proofs.Math.Bool.{or_assoc}
 use Rattle.plant_base.specs.State.{State}
 use Rattle.plant_desk.specs.Keeping.{States}
 use Rattle.plant_text.specs.declared.turns.Stop.{Stop}
-use Rattle.plant_text.specs.Session.{Entry, entry_text, after, is_refused, texts, fold, some_refused, Told, StopsAt, Stopped}
+use Rattle.plant_text.specs.Session.{entry_of, Entry, entry_text, after, is_refused, texts, fold, some_refused, Told, StopsAt, Stopped}
 use Rattle.plant_text.specs.Turns.{TurnEnds, FaultWritten}
 use Rattle.plant_desk.specs.declared.reply.DeskFault.TheVariants.{Memory}
 use Rattle.plant_text.proofs.Known.{Appends-nil, Appends-append}
 use Rattle.plant_text.specs.Held.{held_after, entries_after}
-use Rattle.plant_text.proofs.HeldLemmas.{entries_after-append}
+use Rattle.plant_text.proofs.HeldLemmas.{each-append}
 use Rattle.plant_text.proofs.TurnLemmas.{stops_by_fault}
 
 pub texts-append : (k : ℕ) (s : State) (xs ys : List Entry) → texts k s (xs ++ ys) ≡ texts k s xs ++ texts k (fold s xs) ys
@@ -107,7 +107,7 @@ pub piece_told : (k j : ℕ) (s : State) (mid now : States) (first held done pie
     → Told k s (entries_after first done) a b mid p q → j ≡ k → held ≡ held_after first done → ((t : State) → mid t → Told j t (entries_after held piece) b c now q r)
     → all ≡ done ++ piece → Told k s (entries_after first all) a c now p r
 piece_told k j s mid now first held done piece all a b c p q r x same_k same_held y e =
-    rw (e, entries_after-append first done piece, ← same_held) (told_more k s mid now (entries_after first done) (entries_after held piece) a b c p q r x (λ t stood. rw (← same_k) (y t stood)))
+    rw (e, each-append entry_of first done piece, ← same_held) (told_more k s mid now (entries_after first done) (entries_after held piece) a b c p q r x (λ t stood. rw (← same_k) (y t stood)))
 
 -- the run stopped in a piece
 pub piece_stops : (k j : ℕ) (s : State) (mid now : States) (first held done piece rest all : List ℕ) (a b c : Option (List ℕ)) (p q : Bool) (shut : Bool) (leaves : States → Type 0) (stop : Stop)
@@ -116,8 +116,8 @@ pub piece_stops : (k j : ℕ) (s : State) (mid now : States) (first held done pi
     → all ≡ done ++ (piece ++ rest) → (e : Entry) → Stopped k s (entries_after first all ++ e ∷ []) a c now shut leaves stop
 piece_stops k j s mid now first held done piece rest all a b c p q shut leaves stop x same_k same_held y e d =
     let parts : entries_after first all ≡ entries_after first done ++ (entries_after held piece ++ entries_after (held_after held piece) rest) =
-    ap (entries_after first) e ∙ entries_after-append first done (piece ++ rest) ∙ ap (λ h. entries_after first done ++ entries_after h (piece ++ rest)) (sym same_held)
-    ∙ ap (λ es. entries_after first done ++ es) (entries_after-append held piece rest) in
+    ap (entries_after first) e ∙ each-append entry_of first done (piece ++ rest) ∙ ap (λ h. entries_after first done ++ entries_after h (piece ++ rest)) (sym same_held)
+    ∙ ap (λ es. entries_after first done ++ es) (each-append entry_of held piece rest) in
     let here : (t : State) → mid t → Stopped k t ((entries_after held piece ++ entries_after (held_after held piece) rest) ++ d ∷ []) b c now shut leaves stop =
     λ t stood. subst (λ (n : ℕ). Stopped n t ((entries_after held piece ++ entries_after (held_after held piece) rest) ++ d ∷ []) b c now shut leaves stop) same_k
     (stopped_more j t (entries_after held piece) (entries_after (held_after held piece) rest) b c now shut leaves stop (y t stood) d) in

@@ -1,26 +1,43 @@
--- What a line says.
-use Rattle.std.specs.Prelude.{ℕ, List, length, nat_lt, if◌then◌else◌, codes, Option, None, option_map, option_and_then, is_some}
+-- What a line says, and what is wrong with one that says nothing.
+use Rattle.std.specs.Prelude.{ℕ, List, length, nat_lt, if◌then◌else◌, codes, Option, Some, None, is_some, Result, Ok, Err}
+use Rattle.std.specs.Result.{result_ok}
 use Rattle.std.specs.Str.{is_utf8}
 use Rattle.serde_json.specs.Data.{Data}
-use Rattle.serde_json.specs.Find.{get}
+use Rattle.serde_json.specs.Find.{get, as_object}
 use Rattle.serde_json.specs.Read.{read}
+use Rattle.plant_shapes.specs.declared.problems.Flaw.TheVariants as flaw
+use Rattle.plant_shapes.specs.declared.problems.Problem.{Problem}
+use Rattle.plant_shapes.specs.declared.problems.Problem.TheVariants as problem
+use Rattle.plant_shapes.specs.Problems.{◌>>=◌}
+use Rattle.plant_text_commands.specs.Commands.{command_of}
 use Rattle.plant_text.specs.declared.read.Line.{Line}
 use Rattle.plant_text.specs.declared.read.Line.TheVariants as L
-use Rattle.plant_text_commands.specs.Commands.{envelope_of}
 use Rattle.plant_text.specs.Questions.{question_of}
 
--- the command or the question that a JSON value is; with `do` and `ask` it would have a member too many for either
-abbrev pub shape_of : Data → Option Line
-shape_of d = if is_some (get (codes "do") d) then option_map L.Command (envelope_of d) else option_map L.Question (question_of d)
+-- the command or the question that an object is; with `do` and `ask` it would have a member too many for either
+abbrev pub object_says : Data → Result Line Problem
+object_says d =
+    if is_some (get (codes "do") d) then command_of d >>= (λ c. Ok (L.Command c)) else (
+    if is_some (get (codes "ask") d) then question_of d >>= (λ q. Ok (L.Question q)) else
+    Err problem.Neither)
+
+-- what a JSON value says, or its first problem
+abbrev pub value_says : Data → Result Line Problem
+value_says d = if is_some (as_object d) then object_says d else Err (problem.Object flaw.NoObject)
 
 -- the bytes of the longest line that is read, its LF and the one CR before it not counted
 abbrev pub longest_line : ℕ
 longest_line = 262144
 
--- the shape of the value that serde_json reads from the bytes, which are UTF-8
-abbrev pub read_shape : List ℕ → Option Line
-read_shape bytes = if is_utf8 bytes then option_and_then shape_of (read bytes) else None
+-- by what serde_json reads from a text
+abbrev pub text_says : Option Data → Result Line Problem
+text_says None = Err problem.NoJson
+text_says (Some d) = value_says d
 
--- what a line says; one that is too long says nothing
-unfoldable pub line_of : List ℕ → Option Line
-line_of bytes = if nat_lt longest_line (length bytes) then None else read_shape bytes
+-- what a line says, which is a text in UTF-8, or its first problem
+unfoldable pub line_says : List ℕ → Result Line Problem
+line_says bytes = if nat_lt longest_line (length bytes) then Err problem.TooLong else text_says (if is_utf8 bytes then read bytes else None)
+
+-- what a line says; one that has a problem says nothing
+abbrev pub line_of : List ℕ → Option Line
+line_of bytes = result_ok (line_says bytes)

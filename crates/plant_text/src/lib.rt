@@ -9,9 +9,9 @@ mod turns;
 mod writes;
 
 pub use plant_record::record;
+pub use plant_shapes::{Fault, LineFault, Problem};
 pub use plant_text_answers::{ReplyText, answer_text, fault_line, reply_line};
-pub use plant_text_commands::LineFault;
-pub use read::{Line, read_line};
+pub use read::{Line, read_line, read_told};
 pub use run::{RunEnd, run_lines, run_lines_within};
 pub use turns::{Stop, is_unknown, take_command, tell_fault};
 pub use writes::{Unwritten, write_both, write_line, write_text};

@@ -1,100 +1,110 @@
-//! Questions as JSON: one function a word.
-ghost use Rattle.std.specs.Prelude.{◌≡◌};
+//! Questions as JSON: which objects are questions, and what is wrong with the others.
+ghost use Rattle.std.specs.Prelude.{◌≡◌, true, IfErr};
 ghost use Rattle.serde_json.specs.View.{view};
-ghost use Rattle.plant_text.specs.Questions.{desk_of, named_id, lot_of, order_of, batch_of, recall_of};
-ghost use Rattle.plant_text.specs.Questions.{traced_node, trace_of, question_for, question_of};
+ghost use Rattle.plant_shapes.specs.Problems.{problem_told};
+ghost use Rattle.plant_text.specs.Questions.{asked_alone, id_named, node_named, trace_of, question_for, kind_at, question_of};
 
 use plant_base::Id;
 use plant_desk::Question;
-use plant_text_commands::{id_at, is_shape};
+use plant_shapes::{Field, Flaw, Member, Problem, QuestionKind, exactly, fields_of, question_kind};
 use plant_trace::{Direction, Node};
 use serde_json::Value;
 
-fn desk_of(value: &Value) -> Option<Question>
-    ensures { result ≡ desk_of (view value.now) }
+/// The question about the desk, which names nothing.
+fn asked_alone(value: &Value) -> Result<Question, Problem>
+    ensures { result ≡ asked_alone (view value.now) }
 {
-    if is_shape(value, &["ask"]) {
-        Some(Question::Desk)
+    match exactly(value, &[Member::Ask]) {
+        Ok(_) => Ok(Question::Desk),
+        Err(flaw) => Err(Problem::Object(flaw)),
+    }
+}
+
+/// The id that a question names, which with its word is all that it has.
+fn id_named(value: &Value, member: Member) -> Result<Id, Problem>
+    ensures { result ≡ id_named member (view value.now) }
+{
+    match exactly(value, &[Member::Ask, member]) {
+        Ok(fields) => match fields.as_slice() {
+            &[Field::Chosen, Field::Id(id)] => Ok(id),
+            _ => Err(Problem::Object(Flaw::NoForm)),
+        },
+        Err(flaw) => Err(Problem::Object(flaw)),
+    }
+}
+
+/// The lot or the batch that a question about a trace names.
+fn node_named(value: &Value) -> Result<Node, Problem>
+    ensures { result ≡ node_named (view value.now) }
+{
+    if value.get("lot").is_some() {
+        Ok(Node::Lot(id_named(value, Member::Lot)?))
+    } else if value.get("batch").is_some() {
+        Ok(Node::Batch(id_named(value, Member::Batch)?))
     } else {
-        None
+        Err(Problem::NothingTraced)
     }
 }
 
-// The one id that a question names.
-fn named_id(value: &Value, name: &str) -> Option<Id>
-    ensures { result ≡ named_id name.now (view value.now) }
-{
-    if !is_shape(value, &["ask", name]) {
-        return None;
-    }
-    id_at(value, name)
-}
-
-fn lot_of(value: &Value) -> Option<Question>
-    ensures { result ≡ lot_of (view value.now) }
-{
-    Some(Question::Lot(named_id(value, "lot")?))
-}
-
-fn order_of(value: &Value) -> Option<Question>
-    ensures { result ≡ order_of (view value.now) }
-{
-    Some(Question::Order(named_id(value, "order")?))
-}
-
-fn batch_of(value: &Value) -> Option<Question>
-    ensures { result ≡ batch_of (view value.now) }
-{
-    Some(Question::Batch(named_id(value, "batch")?))
-}
-
-fn recall_of(value: &Value) -> Option<Question>
-    ensures { result ≡ recall_of (view value.now) }
-{
-    Some(Question::Recall(named_id(value, "recall")?))
-}
-
-// The lot or the batch that a question names, exactly one of them.
-fn traced_node(value: &Value) -> Option<Node>
-    ensures { result ≡ traced_node (view value.now) }
-{
-    match named_id(value, "lot") {
-        Some(lot) => Some(Node::Lot(lot)),
-        None => Some(Node::Batch(named_id(value, "batch")?)),
-    }
-}
-
-fn trace_of(value: &Value, direction: Direction) -> Option<Question>
+/// The question about a trace in a direction.
+fn trace_of(value: &Value, direction: Direction) -> Result<Question, Problem>
     ensures { result ≡ trace_of direction (view value.now) }
 {
-    Some(Question::Trace(direction, traced_node(value)?))
-}
-
-fn question_for(value: &Value, word: &str) -> Option<Question>
-    ensures { result ≡ question_for word.now (view value.now) }
-{
-    if word == "desk" {
-        desk_of(value)
-    } else if word == "lot" {
-        lot_of(value)
-    } else if word == "order" {
-        order_of(value)
-    } else if word == "batch" {
-        batch_of(value)
-    } else if word == "back" {
-        trace_of(value, Direction::Back)
-    } else if word == "forward" {
-        trace_of(value, Direction::Forward)
-    } else if word == "recall" {
-        recall_of(value)
-    } else {
-        None
+    match node_named(value) {
+        Ok(node) => Ok(Question::Trace(direction, node)),
+        Err(problem) => Err(problem),
     }
 }
 
-/// The question that the value is.
-pub(crate) fn question_of(value: &Value) -> Option<Question>
+/// The question of a kind.
+fn question_for(value: &Value, kind: QuestionKind) -> Result<Question, Problem>
+    ensures { result ≡ question_for kind (view value.now) }
+{
+    match kind {
+        QuestionKind::Desk => asked_alone(value),
+        QuestionKind::Lot => match id_named(value, Member::Lot) {
+            Ok(lot) => Ok(Question::Lot(lot)),
+            Err(problem) => Err(problem),
+        },
+        QuestionKind::Order => match id_named(value, Member::Order) {
+            Ok(order) => Ok(Question::Order(order)),
+            Err(problem) => Err(problem),
+        },
+        QuestionKind::Batch => match id_named(value, Member::Batch) {
+            Ok(batch) => Ok(Question::Batch(batch)),
+            Err(problem) => Err(problem),
+        },
+        QuestionKind::Recall => match id_named(value, Member::Recall) {
+            Ok(recall) => Ok(Question::Recall(recall)),
+            Err(problem) => Err(problem),
+        },
+        QuestionKind::Back => trace_of(value, Direction::Back),
+        QuestionKind::Forward => trace_of(value, Direction::Forward),
+    }
+}
+
+fn kind_at(value: &Value) -> Option<QuestionKind>
+    ensures { result ≡ kind_at (view value.now) }
+{
+    question_kind(value.get("ask")?.as_str()?)
+}
+
+fn read_question(value: &Value) -> Result<Question, Problem>
     ensures { result ≡ question_of (view value.now) }
 {
-    question_for(value, value.get("ask")?.as_str()?)
+    match kind_at(value) {
+        Some(kind) => question_for(value, kind),
+        None => match fields_of(value, &[Member::Ask]) {
+            Ok(_) => Err(Problem::Object(Flaw::NoForm)),
+            Err(flaw) => Err(Problem::Object(flaw)),
+        },
+    }
+}
+
+/// The question that the object is, or its first problem.
+pub(crate) fn question_of(value: &Value) -> Result<Question, Problem>
+    ensures reads { result ≡ question_of (view value.now) }
+    ensures told { IfErr result (λ problem. problem_told problem ≡ true) }
+{
+    read_question(value)
 }

@@ -1,14 +1,16 @@
-//! What a line says.
-ghost use Rattle.std.specs.Prelude.{◌≡◌, ◌<◌, length, Some, None, IfOk, IsErrOf};
+//! What a line says, or what is wrong with it.
+ghost use Rattle.std.specs.Prelude.{◌≡◌, ◌<◌, length, true, false, Some, None, Err, IfOk, IsErrOf};
 ghost use Rattle.serde_json.specs.Errors.{IsMemory};
 ghost use Rattle.serde_json.specs.View.{view};
-ghost use Rattle.plant_text.specs.Lines.{longest_line, shape_of, line_of};
-ghost use Rattle.plant_text_commands.specs.Lists.{Reads};
+ghost use Rattle.plant_shapes.specs.Problems.{Tells, IsTold};
+ghost use Rattle.plant_shapes.specs.declared.problems.Problem.TheVariants as problem;
+ghost use Rattle.plant_text.specs.Lines.{longest_line, object_says, value_says, line_says, line_of};
 
 use crate::questions::question_of;
 use plant_base::Envelope;
 use plant_desk::Question;
-use plant_text_commands::{LineFault, envelope_of};
+use plant_shapes::{Fault, Flaw, LineFault, Problem};
+use plant_text_commands::command_of;
 use serde_json::Value;
 use std::alloc::Global;
 
@@ -21,78 +23,92 @@ pub enum Line {
     Question(Question),
 }
 
-fn fault_of(error: &serde_json::Error) -> LineFault
-    ensures bad_form { result ≡ LineFault.BadForm → ¬ IsMemory error.now }
-    ensures memory { result ≡ LineFault.Memory → IsMemory error.now }
+/// Whether a read failed for its text, and not for want of memory.
+fn is_refusal(error: &serde_json::Error) -> bool
+    ensures refusal { result ≡ true → ¬ IsMemory error.now }
+    ensures memory { result ≡ false → IsMemory error.now }
 {
-    if error.is_memory() {
-        LineFault::Memory
+    if error.is_memory() { false } else { true }
+}
+
+/// The command or the question that an object is, or its first problem.
+fn object_says(alloc: Global, value: &Value) -> Result<Line, Fault>
+    ensures reads { Tells result (object_says (view value.now)) }
+    ensures told { IsTold result }
+{
+    if value.get("do").is_some() {
+        match command_of(alloc, value) {
+            Ok(envelope) => Ok(Line::Command(envelope)),
+            Err(fault) => Err(fault),
+        }
+    } else if value.get("ask").is_some() {
+        match question_of(value) {
+            Ok(question) => Ok(Line::Question(question)),
+            Err(problem) => Err(Fault::Told(problem)),
+        }
     } else {
-        LineFault::BadForm
+        Err(Fault::Told(Problem::Neither))
     }
 }
 
-fn shape_of(alloc: Global, value: &Value) -> Result<Line, LineFault>
-    ensures { Reads result (shape_of (view value.now)) }
+/// What a value says, or its first problem.
+fn value_says(alloc: Global, value: &Value) -> Result<Line, Fault>
+    ensures reads { Tells result (value_says (view value.now)) }
+    ensures told { IsTold result }
 {
-    if value.get("do").is_some() {
-        let envelope = envelope_of(alloc, value)?;
-        Ok(Line::Command(envelope))
+    if value.as_object().is_some() {
+        object_says(alloc, value)
     } else {
-        let question = question_of(value).ok_or(LineFault::BadForm)?;
-        Ok(Line::Question(question))
+        Err(Fault::Told(Problem::Object(Flaw::NoObject)))
     }
 }
 
 /// The bytes of the longest line that is read, its LF and the one CR before it not counted.
 const LONGEST_LINE: usize = 262_144;
 
-/// Reads a line, which is given without its LF.
+/// Reads a line, which is given without its LF: what it says, or what is wrong with it.
 ///
-/// The line is a JSON text (RFC 8259) of 262,144 bytes at most, in UTF-8, as serde_json reads it; of members with one
-/// name the last counts. A command is an object with `at` (a moment), `by` (a text), `do` (the word), the fields of the
-/// word, a `note` (a text) or none, a `ref` (an id) or none, and nothing else:
+/// The line is a JSON text (RFC 8259) of 262,144 bytes at most, in UTF-8, as serde_json reads it; of members with one name the last
+/// counts. An object with `do` is a command where it has the members that each command has (of which the note and the reference may be
+/// left out), those of its word and no other, and in its list objects with exactly the members of their kind; which members these are, and
+/// what each may be, stands in the tables of `plant_shapes`. Another with `ask` is a question: exactly `{"ask":"desk"}`;
+/// `{"ask":"lot","lot":ID}` and likewise with `order`, `batch` and `recall`; or `{"ask":"back","lot":ID}` or
+/// `{"ask":"back","batch":ID}` and likewise with `forward`.
 ///
-/// - `add_class`: `class` (an id), `name` (a text)
-/// - `add_definition`: `def`, `class` (ids), `name` (a text), `unit` (a unit)
-/// - `receive`: `lot`, `def` (ids), `amount` (an amount), `place` (a text)
-/// - `scrap`: `lot` (an id), `sub` (a sublot's number), `amount` (an amount)
-/// - `divide`: `lot` (an id), `sub` (a sublot's number), `amount` (an amount), `place` (a text)
-/// - `split`: `lot` (an id), `sub` (a sublot's number), `amount` (an amount), `new` (an id), `place` (a text)
-/// - `merge`: `new` (an id), `place` (a text), `parts` (objects with exactly `lot`, `sub` and `amount`)
-/// - `hold`, `unhold`: `lot`, `hold` (ids)
-/// - `recall`: `recall`, `lot` (ids)
-/// - `lift`: `recall` (an id)
-/// - `add_recipe`: `recipe` (an id), `version` (a version), `product` (an id), `base`, `min`, `max` (amounts), `title` (a
-///   text), `lines` (objects with `kind` and exactly these: `in` and `out` with `def` and `qty`, `par` with `name` and
-///   `value`, `phase` with `unit`, `oper` and `phase`)
-/// - `approve`, `withdraw`: `recipe` (an id), `version` (a version)
-/// - `import_orders`: `orders` (objects with exactly `order`, `recipe`, `version`, `size`, `due` and `priority`)
-/// - `cancel_order`: `order` (an id)
-/// - `release`: `order`, `batch` (ids)
-/// - `batch`: `batch` (an id), `word` (`start`, `hold`, `restart`, `stop`, `abort`, `reset`, `pause` or `resume`)
-/// - `settle`, `close_batch`: `batch` (an id)
-/// - `phase_done`: `batch` (an id), `phase` (a phase's number)
-/// - `consume`: `batch`, `lot` (ids), `sub` (a sublot's number), `amount` (an amount)
-/// - `produce`: `batch`, `lot`, `def` (ids), `amount` (an amount), `place` (a text)
+/// - `Told`: the line is longer or has none of these shapes, and this is the first thing that is wrong with it, in the order of the
+///   formats, with a text of its own.
+/// - `Memory`: memory was refused. It may come for any line that isn't longer, since serde_json asks for memory first.
+pub fn read_told(alloc: Global, bytes: &[u8]) -> Result<Line, Fault>
+    ensures reads { Tells result (line_says bytes.now) }
+    ensures told { IsTold result }
+    ensures long { longest_line < length bytes.now → IsErrOf result (Fault.Told problem.TooLong) }
+{
+    if bytes.len() > LONGEST_LINE {
+        return Err(Fault::Told(Problem::TooLong));
+    }
+    match Value::from_slice(alloc, bytes) {
+        Ok(value) => value_says(alloc, &value),
+        Err(error) => {
+            if is_refusal(&error) {
+                Err(Fault::Told(Problem::NoJson))
+            } else {
+                Err(Fault::Memory)
+            }
+        }
+    }
+}
+
+/// Reads a line, as [`read_told`] does, without its problem.
 ///
-/// A question is exactly `{"ask":"desk"}`; `{"ask":"lot","lot":ID}` and likewise with `order`, `batch` and `recall`; or
-/// `{"ask":"back","lot":ID}` or `{"ask":"back","batch":ID}` and likewise with `forward`. Moments, amounts, versions and
-/// `sub` are whole numbers with no sign, fraction or exponent, within the rules of `plant_base`.
-///
-/// `BadForm` comes exactly from a line that is longer or has none of these shapes. `Memory` may come for any line that
-/// isn't longer, since serde_json asks for memory first.
+/// `BadForm` comes exactly from a line that is longer or has none of the shapes. `Memory` may come for any line that isn't longer.
 pub fn read_line(alloc: Global, bytes: &[u8]) -> Result<Line, LineFault>
     ensures ok { IfOk result (λ line. line_of bytes.now ≡ Some line) }
     ensures bad_form { IsErrOf result LineFault.BadForm → line_of bytes.now ≡ None }
     ensures long { longest_line < length bytes.now → IsErrOf result LineFault.BadForm }
 {
-    if bytes.len() > LONGEST_LINE {
-        return Err(LineFault::BadForm);
+    match read_told(alloc, bytes) {
+        Ok(line) => Ok(line),
+        Err(Fault::Told(_)) => Err(LineFault::BadForm),
+        Err(Fault::Memory) => Err(LineFault::Memory),
     }
-    let value = match Value::from_slice(alloc, bytes) {
-        Ok(value) => value,
-        Err(error) => return Err(fault_of(&error)),
-    };
-    shape_of(alloc, &value)
 }

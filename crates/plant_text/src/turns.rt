@@ -10,8 +10,8 @@ use crate::read::{Line, read_line};
 use crate::writes::write_line;
 use plant_base::{Envelope, Refusal};
 use plant_desk::{Answer, DeskFault, Keeper, Question, Reply};
+use plant_shapes::LineFault;
 use plant_text_answers::{answer_text, fault_line, reply_line};
-use plant_text_commands::LineFault;
 use std::alloc::Global;
 use std::io::Write;
 

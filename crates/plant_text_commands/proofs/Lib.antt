@@ -1,3 +1,1 @@
-pub mod Each
-pub mod Listed
-pub mod Shapes
+pub mod Told

@@ -1,5 +1,5 @@
 pub mod Batches
 pub mod Commands
-pub mod Fields
+pub mod Goods
 pub mod Lists
 pub mod Plans

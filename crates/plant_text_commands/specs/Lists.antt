@@ -1,85 +1,72 @@
--- Lists inside commands, and readings that may want memory.
-use Rattle.std.specs.Prelude.{◌≡◌, ℕ, List, [], ◌∷◌, if◌then◌else◌, codes, Option, Some, None, option_map, option_and_then, Result, Ok, Err, ⊤}
-use Rattle.std.specs.Str.{bytes_eq}
+-- Lists inside commands: the rows of each, and what their values make.
+use Rattle.std.specs.Prelude.{ℕ, ◌+◌, List, [], ◌∷◌, codes, if◌then◌else◌, Option, Some, None, option_and_then, is_some, Result, Ok, Err}
 use Rattle.serde_json.specs.Data.{Data, Items, no_items, item}
-use Rattle.serde_json.specs.Find.{get, as_array}
+use Rattle.serde_json.specs.Find.{get, as_str, as_array, as_object}
 use Rattle.plant_base.specs.declared.command.Part.{Part}
 use Rattle.plant_base.specs.declared.rows.OrderRow.{OrderRow}
 use Rattle.plant_base.specs.declared.rows.RecipeLine.{RecipeLine}
 use Rattle.plant_base.specs.declared.rows.RecipeLine.TheVariants as line
-use Rattle.plant_text_commands.specs.declared.fault.LineFault.{LineFault}
-use Rattle.plant_text_commands.specs.declared.fault.LineFault.TheVariants.{BadForm, Memory}
-use Rattle.plant_base.specs.Options.{◌>>=◌}
-use Rattle.plant_text_commands.specs.Fields.{when, string_at, is_shape, id_at, text_at, sublot_at, amount_at, due_at, version_at, priority_at}
+use Rattle.plant_shapes.specs.declared.members.Member.{Member}
+use Rattle.plant_shapes.specs.declared.members.Member.TheVariants as m
+use Rattle.plant_shapes.specs.declared.words.Row.{Row}
+use Rattle.plant_shapes.specs.declared.words.Row.TheVariants as row
+use Rattle.plant_shapes.specs.declared.fields.Field.{Field}
+use Rattle.plant_shapes.specs.declared.fields.Field.TheVariants as field
+use Rattle.plant_shapes.specs.declared.problems.Flaw.{Flaw}
+use Rattle.plant_shapes.specs.declared.problems.Flaw.TheVariants as flaw
+use Rattle.plant_shapes.specs.declared.problems.Problem.{Problem}
+use Rattle.plant_shapes.specs.declared.problems.Problem.TheVariants as problem
+use Rattle.plant_shapes.specs.Members.{name_of}
+use Rattle.plant_shapes.specs.Words.{line_kind}
+use Rattle.plant_shapes.specs.Tables.{row_own}
+use Rattle.plant_shapes.specs.Problems.{◌>>=◌, or_no_form}
+use Rattle.plant_shapes.specs.Fields.{fields_of, exactly}
 
--- what was read is this, where it is something; nothing is said where memory was refused
-abbrev pub Reads : {T : Type 0} → Result T LineFault → Option T → Type 0
-Reads (Ok v) o = o ≡ Some v
-Reads (Err BadForm) o = o ≡ None
-Reads (Err Memory) o = ⊤
+-- ---- what the values of a row make
 
--- what each item is, where every one is something
-abbrev pub each_item : {T : Type 0} → (Data → Option T) → Items → Option (List T)
-each_item f no_items = Some []
-each_item f (item d ds) = option_and_then (λ x. option_map (λ xs. x ∷ xs) (each_item f ds)) (f d)
+abbrev pub part_of : Row → List Field → Option Part
+part_of row.Part (field.Id lot ∷ field.Number sub ∷ field.Amount amount ∷ []) = Some (record { lot = lot; sub = sub; amount = amount })
+part_of _ _ = None
 
--- the list of a member
-abbrev pub items_at : {T : Type 0} → (Data → Option T) → List ℕ → Data → Option (List T)
-items_at f name d = option_and_then (each_item f) (option_and_then as_array (get name d))
+abbrev pub order_of : Row → List Field → Option OrderRow
+order_of row.Order (field.Id order ∷ field.Id recipe ∷ field.Number version ∷ field.Amount size ∷ field.Due due ∷ field.Small priority ∷ []) =
+    Some (record { order = order; recipe = recipe; version = version; size = size; due = due; priority = priority })
+order_of _ _ = None
 
--- a part of a merge
-abbrev pub part_of : Data → Option Part
-part_of d = when (is_shape (codes "lot" ∷ codes "sub" ∷ codes "amount" ∷ []) d) (do
-  lot ← id_at (codes "lot") d
-  sub ← sublot_at (codes "sub") d
-  amount ← amount_at (codes "amount") d
-  Some (record { lot = lot; sub = sub; amount = amount }))
+abbrev pub line_of : Row → List Field → Option RecipeLine
+line_of row.In (field.Chosen ∷ field.Id def ∷ field.Amount qty ∷ []) = Some (line.In def qty)
+line_of row.Out (field.Chosen ∷ field.Id def ∷ field.Amount qty ∷ []) = Some (line.Out def qty)
+line_of row.Parameter (field.Chosen ∷ field.Id name ∷ field.Text value ∷ []) = Some (line.Parameter name value)
+line_of row.Phase (field.Chosen ∷ field.Id unit ∷ field.Id oper ∷ field.Id phase ∷ []) = Some (line.Phase unit oper phase)
+line_of _ _ = None
 
--- an order
-abbrev pub order_of : Data → Option OrderRow
-order_of d = when (is_shape (codes "order" ∷ codes "recipe" ∷ codes "version" ∷ codes "size" ∷ codes "due" ∷ codes "priority" ∷ []) d) (do
-  order ← id_at (codes "order") d
-  recipe ← id_at (codes "recipe") d
-  version ← version_at (codes "version") d
-  size ← amount_at (codes "size") d
-  due ← due_at (codes "due") d
-  priority ← priority_at (codes "priority") d
-  Some (record { order = order; recipe = recipe; version = version; size = size; due = due; priority = priority }))
+-- which line of a recipe an object is
+abbrev pub line_row : Data → Option Row
+line_row d = option_and_then line_kind (option_and_then as_str (get (codes "kind") d))
 
--- ---- the lines of a recipe, by their kind
+-- ---- rows and lists, by which row an object is and what its values make
 
-abbrev pub input_of : Data → Option RecipeLine
-input_of d = when (is_shape (codes "kind" ∷ codes "def" ∷ codes "qty" ∷ []) d) (do
-  def ← id_at (codes "def") d
-  qty ← amount_at (codes "qty") d
-  Some (line.In def qty))
+-- an object of no kind has at least that flaw
+abbrev pub item_by : {T : Type 0} → (Row → List Field → Option T) → Option Row → Data → Result T Flaw
+item_by make None d = fields_of (m.Kind ∷ []) d >>= (λ fs. Err flaw.NoForm)
+item_by make (Some r) d = exactly (row_own r) d >>= (λ fs. or_no_form (make r fs))
 
-abbrev pub output_of : Data → Option RecipeLine
-output_of d = when (is_shape (codes "kind" ∷ codes "def" ∷ codes "qty" ∷ []) d) (do
-  def ← id_at (codes "def") d
-  qty ← amount_at (codes "qty") d
-  Some (line.Out def qty))
+abbrev pub item_of : {T : Type 0} → (Row → List Field → Option T) → (Data → Option Row) → Data → Result T Flaw
+item_of make row_at d = if is_some (as_object d) then item_by make (row_at d) d else Err flaw.NoObject
 
-abbrev pub parameter_of : Data → Option RecipeLine
-parameter_of d = when (is_shape (codes "kind" ∷ codes "name" ∷ codes "value" ∷ []) d) (do
-  name ← id_at (codes "name") d
-  value ← text_at (codes "value") d
-  Some (line.Parameter name value))
+abbrev pub numbered : {T : Type 0} → Member → ℕ → Result T Flaw → Result T Problem
+numbered list n (Ok x) = Ok x
+numbered list n (Err f) = Err (problem.Item list n f)
 
-abbrev pub phase_of : Data → Option RecipeLine
-phase_of d = when (is_shape (codes "kind" ∷ codes "unit" ∷ codes "oper" ∷ codes "phase" ∷ []) d) (do
-  unit ← id_at (codes "unit") d
-  oper ← id_at (codes "oper") d
-  phase ← id_at (codes "phase") d
-  Some (line.Phase unit oper phase))
+-- the items, or the problem of the first that has one; they are counted, here from n on
+abbrev pub items_from : {T : Type 0} → (Row → List Field → Option T) → (Data → Option Row) → Member → ℕ → Items → Result (List T) Problem
+items_from make row_at list n no_items = Ok []
+items_from make row_at list n (item d ds) = numbered list n (item_of make row_at d) >>= (λ x. items_from make row_at list (n + 1) ds >>= (λ xs. Ok (x ∷ xs)))
 
-abbrev pub line_for : List ℕ → Data → Option RecipeLine
-line_for kind d =
-    if bytes_eq kind (codes "in") then input_of d else (
-    if bytes_eq kind (codes "out") then output_of d else (
-    if bytes_eq kind (codes "par") then parameter_of d else (
-    if bytes_eq kind (codes "phase") then phase_of d else (
-    None))))
+abbrev pub items_where : {T : Type 0} → (Row → List Field → Option T) → (Data → Option Row) → Member → Option Items → Result (List T) Problem
+items_where make row_at list None = Err (problem.Object (flaw.Breaks list))
+items_where make row_at list (Some ds) = items_from make row_at list 1 ds
 
-abbrev pub line_of : Data → Option RecipeLine
-line_of d = option_and_then (λ kind. line_for kind d) (string_at (codes "kind") d)
+-- the items of the list under a member
+abbrev pub items_at : {T : Type 0} → (Row → List Field → Option T) → (Data → Option Row) → Member → Data → Result (List T) Problem
+items_at make row_at list d = items_where make row_at list (option_and_then as_array (get (name_of list) d))

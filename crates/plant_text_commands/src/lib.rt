@@ -1,13 +1,10 @@
-//! Commands as JSON (RFC 8259): which objects are commands, and with what values.
+//! Commands as JSON (RFC 8259): which objects are commands, and with what values, or what is wrong with one.
 #![tactic(auto)]
 
 mod batches;
 mod commands;
-mod fault;
-mod fields;
+mod goods;
 mod lists;
 mod plans;
 
-pub use commands::envelope_of;
-pub use fault::LineFault;
-pub use fields::{id_at, is_shape};
+pub use commands::command_of;

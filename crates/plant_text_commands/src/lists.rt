@@ -1,173 +1,196 @@
-//! The lists of commands as JSON: the parts of a merge, the lines of a recipe, orders.
+//! The lists of commands: the parts of a merge, the lines of a recipe, orders.
+ghost use Rattle.std.specs.Prelude.{◌≡◌, Some};
 ghost use Rattle.serde_json.specs.View.{view, items_view};
-ghost use Rattle.std.specs.Prelude.{◌≡◌, option_and_then};
-ghost use Rattle.serde_json.specs.Find.{get, as_array};
-ghost use Rattle.plant_text_commands.specs.Lists.{Reads, each_item, input_of, output_of, parameter_of, phase_of};
-ghost use Rattle.plant_text_commands.specs.Lists.{line_for, line_of, part_of, order_of};
+ghost use Rattle.plant_shapes.specs.Problems.{Tells};
+ghost use Rattle.plant_shapes.specs.declared.members.Member.TheVariants as m;
+ghost use Rattle.plant_shapes.specs.declared.words.Row.TheVariants as row;
+ghost use Rattle.plant_text_commands.specs.Lists.{line_row, item_of, items_from, items_at, part_of, order_of, line_of};
 
-use crate::fault::LineFault;
-use crate::fields::{
-    amount_at, due_at, id_at, is_shape, priority_at, sublot_at, text_at, version_at,
-};
 use plant_base::{Items, OrderRow, Part, RecipeLine};
+use plant_shapes::Field::{self, Amount, Chosen, Due, Id, Number, Small, Text};
+use plant_shapes::{
+    Fault, Flaw, Member, Problem, Row, exactly, fields_of, line_kind, made, row_own,
+};
 use serde_json::Value;
 use std::alloc::Global;
 
 /// What a list in a command holds.
 pub(crate) trait Item: Sized + Drop {
-    ghost use Rattle.std.specs.Prelude.{Option};
+    ghost use Rattle.std.specs.Prelude.{Option, List};
     ghost use Rattle.serde_json.specs.Data.{Data};
+    ghost use Rattle.plant_shapes.specs.declared.members.Member.{Member};
+    ghost use Rattle.plant_shapes.specs.declared.words.Row.{Row};
+    ghost use Rattle.plant_shapes.specs.declared.fields.Field.{Field};
 
-    /// Which JSON values are one.
-    ghost item: { Data → Option Self };
+    /// The member under which the list stands.
+    ghost list: { Member };
 
-    /// The one that the value is.
-    fn item_of(value: &Value) -> Option<Self>
-        ensures { result ≡ item (view value.now) };
+    /// Which row an object is.
+    ghost row_at: { Data → Option Row };
+
+    /// The one that a row's values make.
+    ghost make: { Row → List Field → Option Self };
+
+    /// The member under which the list stands.
+    fn list() -> Member
+        ensures { result ≡ list };
+
+    /// Which row an object is.
+    fn row_at(value: &Value) -> Option<Row>
+        ensures { result ≡ row_at (view value.now) };
+
+    /// The one that a row's values make.
+    fn make(row: Row, fields: &[Field]) -> Option<Self>
+        ensures { result ≡ make row fields.now };
 }
 
-fn items_of<T: Item>(alloc: Global, values: &[Value]) -> Result<Items<T>, LineFault>
-    ensures { Reads result (each_item T.item (items_view values.now)) }
+impl Item for Part {
+    ghost list = { m.Parts };
+
+    ghost row_at = { λ d. Some row.Part };
+
+    ghost make = { part_of };
+
+    fn list() -> Member {
+        Member::Parts
+    }
+
+    fn row_at(_value: &Value) -> Option<Row> {
+        Some(Row::Part)
+    }
+
+    fn make(row: Row, fields: &[Field]) -> Option<Part> {
+        match (row, fields) {
+            (Row::Part, &[Id(lot), Number(sub), Amount(amount)]) => {
+                Some(Part { lot, sub, amount })
+            }
+            _ => None,
+        }
+    }
+}
+
+impl Item for OrderRow {
+    ghost list = { m.Orders };
+
+    ghost row_at = { λ d. Some row.Order };
+
+    ghost make = { order_of };
+
+    fn list() -> Member {
+        Member::Orders
+    }
+
+    fn row_at(_value: &Value) -> Option<Row> {
+        Some(Row::Order)
+    }
+
+    fn make(row: Row, fields: &[Field]) -> Option<OrderRow> {
+        match (row, fields) {
+            (
+                Row::Order,
+                &[
+                    Id(order),
+                    Id(recipe),
+                    Number(version),
+                    Amount(size),
+                    Due(due),
+                    Small(priority),
+                ],
+            ) => Some(OrderRow {
+                order,
+                recipe,
+                version,
+                size,
+                due,
+                priority,
+            }),
+            _ => None,
+        }
+    }
+}
+
+impl Item for RecipeLine {
+    ghost list = { m.Lines };
+
+    ghost row_at = { line_row };
+
+    ghost make = { line_of };
+
+    fn list() -> Member {
+        Member::Lines
+    }
+
+    fn row_at(value: &Value) -> Option<Row> {
+        line_kind(value.get("kind")?.as_str()?)
+    }
+
+    fn make(row: Row, fields: &[Field]) -> Option<RecipeLine> {
+        match (row, fields) {
+            (Row::In, &[Chosen, Id(def), Amount(amount)]) => {
+                Some(RecipeLine::In { def, amount })
+            }
+            (Row::Out, &[Chosen, Id(def), Amount(amount)]) => {
+                Some(RecipeLine::Out { def, amount })
+            }
+            (Row::Parameter, &[Chosen, Id(name), Text(value)]) => {
+                Some(RecipeLine::Parameter { name, value })
+            }
+            (Row::Phase, &[Chosen, Id(unit_procedure), Id(operation), Id(phase)]) => Some(
+                RecipeLine::Phase {
+                    unit_procedure,
+                    operation,
+                    phase,
+                },
+            ),
+            _ => None,
+        }
+    }
+}
+
+/// The item of a list that a value is, or its first flaw.
+fn item_of<T: Item>(value: &Value) -> Result<T, Flaw>
+    ensures { result ≡ item_of T.make T.row_at (view value.now) }
 {
+    if value.as_object().is_none() {
+        return Err(Flaw::NoObject);
+    }
+    match T::row_at(value) {
+        Some(row) => {
+            let fields = exactly(value, row_own(row))?;
+            made(T::make(row, fields.as_slice()))
+        }
+        None => match fields_of(value, &[Member::Kind]) {
+            Ok(_) => Err(Flaw::NoForm),
+            Err(flaw) => Err(flaw),
+        },
+    }
+}
+
+/// The items of a list, or the problem of the first that has one.
+fn items_of<T: Item>(alloc: Global, values: &[Value]) -> Result<Items<T>, Fault>
+    ensures { Tells result (items_from T.make T.row_at T.list 1 (items_view values.now)) }
+{
+    let list = T::list();
     let mut items = Vec::new(alloc);
+    let mut number = 1;
     for value in values {
-        match T::item_of(value) {
-            Some(item) => match items.push(item) {
-                Ok(()) => {}
-                Err(_) => return Err(LineFault::Memory),
+        match item_of(value) {
+            Ok(item) => match items.push(item) {
+                Ok(()) => number += 1,
+                Err(_) => return Err(Fault::Memory),
             },
-            None => return Err(LineFault::BadForm),
+            Err(flaw) => return Err(Fault::Told(Problem::Item { list, number, flaw })),
         }
     }
     Ok(Items::new(items))
 }
 
-/// The list of a member.
-pub(crate) fn items_at<T: Item>(
-    alloc: Global,
-    value: &Value,
-    name: &str,
-) -> Result<Items<T>, LineFault>
-    ensures { Reads result (option_and_then (each_item T.item)
-        (option_and_then as_array (get name.now (view value.now)))) }
+/// The items of the command's list, or the problem of the first that has one.
+pub(crate) fn items_at<T: Item>(alloc: Global, value: &Value) -> Result<Items<T>, Fault>
+    ensures { Tells result (items_at T.make T.row_at T.list (view value.now)) }
 {
-    match value.get(name).and_then(Value::as_array) {
+    match value.get(T::list().name()).and_then(Value::as_array) {
         Some(values) => items_of(alloc, values),
-        None => Err(LineFault::BadForm),
+        None => Err(Fault::Told(Problem::Object(Flaw::Breaks(T::list())))),
     }
-}
-
-impl Item for Part {
-    ghost item = { part_of };
-
-    fn item_of(value: &Value) -> Option<Part> {
-        if !is_shape(value, &["lot", "sub", "amount"]) {
-            return None;
-        }
-        let lot = id_at(value, "lot")?;
-        let sub = sublot_at(value, "sub")?;
-        let amount = amount_at(value, "amount")?;
-        Some(Part { lot, sub, amount })
-    }
-}
-
-impl Item for OrderRow {
-    ghost item = { order_of };
-
-    fn item_of(value: &Value) -> Option<OrderRow> {
-        if !is_shape(
-            value,
-            &["order", "recipe", "version", "size", "due", "priority"],
-        ) {
-            return None;
-        }
-        let order = id_at(value, "order")?;
-        let recipe = id_at(value, "recipe")?;
-        let version = version_at(value, "version")?;
-        let size = amount_at(value, "size")?;
-        let due = due_at(value, "due")?;
-        let priority = priority_at(value, "priority")?;
-        Some(OrderRow {
-            order,
-            recipe,
-            version,
-            size,
-            due,
-            priority,
-        })
-    }
-}
-
-impl Item for RecipeLine {
-    ghost item = { line_of };
-
-    fn item_of(value: &Value) -> Option<RecipeLine> {
-        line_for(value, value.get("kind")?.as_str()?)
-    }
-}
-
-// The line of a kind.
-fn line_for(value: &Value, kind: &str) -> Option<RecipeLine>
-    ensures { result ≡ line_for kind.now (view value.now) }
-{
-    if kind == "in" {
-        input_of(value)
-    } else if kind == "out" {
-        output_of(value)
-    } else if kind == "par" {
-        parameter_of(value)
-    } else if kind == "phase" {
-        phase_of(value)
-    } else {
-        None
-    }
-}
-
-fn input_of(value: &Value) -> Option<RecipeLine>
-    ensures { result ≡ input_of (view value.now) }
-{
-    if !is_shape(value, &["kind", "def", "qty"]) {
-        return None;
-    }
-    let def = id_at(value, "def")?;
-    let amount = amount_at(value, "qty")?;
-    Some(RecipeLine::In { def, amount })
-}
-
-fn output_of(value: &Value) -> Option<RecipeLine>
-    ensures { result ≡ output_of (view value.now) }
-{
-    if !is_shape(value, &["kind", "def", "qty"]) {
-        return None;
-    }
-    let def = id_at(value, "def")?;
-    let amount = amount_at(value, "qty")?;
-    Some(RecipeLine::Out { def, amount })
-}
-
-fn parameter_of(value: &Value) -> Option<RecipeLine>
-    ensures { result ≡ parameter_of (view value.now) }
-{
-    if !is_shape(value, &["kind", "name", "value"]) {
-        return None;
-    }
-    let name = id_at(value, "name")?;
-    let text = text_at(value, "value")?;
-    Some(RecipeLine::Parameter { name, value: text })
-}
-
-fn phase_of(value: &Value) -> Option<RecipeLine>
-    ensures { result ≡ phase_of (view value.now) }
-{
-    if !is_shape(value, &["kind", "unit", "oper", "phase"]) {
-        return None;
-    }
-    let unit_procedure = id_at(value, "unit")?;
-    let operation = id_at(value, "oper")?;
-    let phase = id_at(value, "phase")?;
-    Some(RecipeLine::Phase {
-        unit_procedure,
-        operation,
-        phase,
-    })
 }

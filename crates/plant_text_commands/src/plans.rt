@@ -1,105 +1,102 @@
-//! Commands on recipes and orders as JSON: one function a word.
+//! What the values of a command on recipes and orders make: one function a word.
 ghost use Rattle.std.specs.Prelude.{◌≡◌};
 ghost use Rattle.serde_json.specs.View.{view};
-ghost use Rattle.plant_text_commands.specs.Lists.{Reads};
-ghost use Rattle.plant_text_commands.specs.Plans.{header_of, add_recipe_of, approve_of, withdraw_of, import_orders_of};
-ghost use Rattle.plant_text_commands.specs.Plans.{cancel_order_of, release_of};
+ghost use Rattle.plant_shapes.specs.Problems.{Tells};
+ghost use Rattle.plant_text_commands.specs.Plans.{add_recipe_of, approve_of, withdraw_of, import_orders_of, cancel_order_of, release_of};
 
-use crate::fault::LineFault;
-use crate::fields::{amount_at, id_at, is_command, text_at, version_at};
 use crate::lists::items_at;
 use plant_base::{
     AddRecipe, Approve, CancelOrder, Command, Header, ImportOrders, Release, Withdraw,
 };
+use plant_shapes::Field::{self, Amount, Id, List, Number, Text};
+use plant_shapes::{Fault, Flaw, Problem};
 use serde_json::Value;
 use std::alloc::Global;
 
-fn header_of(value: &Value) -> Option<Header>
-    ensures { result ≡ header_of (view value.now) }
+pub(crate) fn add_recipe_of(
+    alloc: Global,
+    fields: &[Field],
+    value: &Value,
+) -> Result<Command, Fault>
+    ensures { Tells result (add_recipe_of fields.now (view value.now)) }
 {
-    let recipe = id_at(value, "recipe")?;
-    let version = version_at(value, "version")?;
-    let product = id_at(value, "product")?;
-    let base = amount_at(value, "base")?;
-    let least = amount_at(value, "min")?;
-    let greatest = amount_at(value, "max")?;
-    let title = text_at(value, "title")?;
-    Some(Header {
-        recipe,
-        version,
-        product,
-        base,
-        least,
-        greatest,
-        title,
-    })
-}
-
-pub(crate) fn add_recipe_of(alloc: Global, value: &Value) -> Result<Command, LineFault>
-    ensures { Reads result (add_recipe_of (view value.now)) }
-{
-    if !is_command(
-        value,
+    match fields {
         &[
-            "recipe", "version", "product", "base", "min", "max", "title", "lines",
-        ],
-    ) {
-        return Err(LineFault::BadForm);
+            Id(recipe),
+            Number(version),
+            Id(product),
+            Amount(base),
+            Amount(least),
+            Amount(greatest),
+            Text(title),
+            List,
+        ] => {
+            let lines = items_at(alloc, value)?;
+            Ok(Command::AddRecipe(AddRecipe {
+                header: Header {
+                    recipe,
+                    version,
+                    product,
+                    base,
+                    least,
+                    greatest,
+                    title,
+                },
+                lines,
+            }))
+        }
+        _ => Err(Fault::Told(Problem::Object(Flaw::NoForm))),
     }
-    let header = header_of(value).ok_or(LineFault::BadForm)?;
-    let lines = items_at(alloc, value, "lines")?;
-    Ok(Command::AddRecipe(AddRecipe { header, lines }))
 }
 
-pub(crate) fn approve_of(value: &Value) -> Option<Command>
-    ensures { result ≡ approve_of (view value.now) }
+pub(crate) fn approve_of(fields: &[Field]) -> Option<Command>
+    ensures { result ≡ approve_of fields.now }
 {
-    if !is_command(value, &["recipe", "version"]) {
-        return None;
+    match fields {
+        &[Id(recipe), Number(version)] => Some(Command::Approve(Approve { recipe, version })),
+        _ => None,
     }
-    let recipe = id_at(value, "recipe")?;
-    let version = version_at(value, "version")?;
-    Some(Command::Approve(Approve { recipe, version }))
 }
 
-pub(crate) fn withdraw_of(value: &Value) -> Option<Command>
-    ensures { result ≡ withdraw_of (view value.now) }
+pub(crate) fn withdraw_of(fields: &[Field]) -> Option<Command>
+    ensures { result ≡ withdraw_of fields.now }
 {
-    if !is_command(value, &["recipe", "version"]) {
-        return None;
+    match fields {
+        &[Id(recipe), Number(version)] => Some(Command::Withdraw(Withdraw { recipe, version })),
+        _ => None,
     }
-    let recipe = id_at(value, "recipe")?;
-    let version = version_at(value, "version")?;
-    Some(Command::Withdraw(Withdraw { recipe, version }))
 }
 
-pub(crate) fn import_orders_of(alloc: Global, value: &Value) -> Result<Command, LineFault>
-    ensures { Reads result (import_orders_of (view value.now)) }
+pub(crate) fn import_orders_of(
+    alloc: Global,
+    fields: &[Field],
+    value: &Value,
+) -> Result<Command, Fault>
+    ensures { Tells result (import_orders_of fields.now (view value.now)) }
 {
-    if !is_command(value, &["orders"]) {
-        return Err(LineFault::BadForm);
+    match fields {
+        &[List] => {
+            let orders = items_at(alloc, value)?;
+            Ok(Command::ImportOrders(ImportOrders { orders }))
+        }
+        _ => Err(Fault::Told(Problem::Object(Flaw::NoForm))),
     }
-    let orders = items_at(alloc, value, "orders")?;
-    Ok(Command::ImportOrders(ImportOrders { orders }))
 }
 
-pub(crate) fn cancel_order_of(value: &Value) -> Option<Command>
-    ensures { result ≡ cancel_order_of (view value.now) }
+pub(crate) fn cancel_order_of(fields: &[Field]) -> Option<Command>
+    ensures { result ≡ cancel_order_of fields.now }
 {
-    if !is_command(value, &["order"]) {
-        return None;
+    match fields {
+        &[Id(order)] => Some(Command::CancelOrder(CancelOrder { order })),
+        _ => None,
     }
-    let order = id_at(value, "order")?;
-    Some(Command::CancelOrder(CancelOrder { order }))
 }
 
-pub(crate) fn release_of(value: &Value) -> Option<Command>
-    ensures { result ≡ release_of (view value.now) }
+pub(crate) fn release_of(fields: &[Field]) -> Option<Command>
+    ensures { result ≡ release_of fields.now }
 {
-    if !is_command(value, &["order", "batch"]) {
-        return None;
+    match fields {
+        &[Id(order), Id(batch)] => Some(Command::Release(Release { order, batch })),
+        _ => None,
     }
-    let order = id_at(value, "order")?;
-    let batch = id_at(value, "batch")?;
-    Some(Command::Release(Release { order, batch }))
 }

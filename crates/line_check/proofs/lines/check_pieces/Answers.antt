@@ -1,13 +1,13 @@
 use Rattle.std.proofs.Common.{◌≡◌, ◌<◌, [], ◌++◌, length, refl, sym, ◌∙◌, arith}
 use Rattle.std.proofs.lemmas.Bool.Decides.{nat_tests}
 use Rattle.plant_text.proofs.Known.{Consumes-nil, Consumes-append, Consumes-none}
-use Rattle.plant_text.proofs.HeldLemmas.{held_more, held_after_none}
-use Rattle.line_check.proofs.Pieces.{verdicts_after_none}
+use Rattle.plant_text.proofs.HeldLemmas.{held_more, held_after_none, each_none}
+use Rattle.line_check.specs.Verdicts.{verdict_of}
 use Rattle.line_check.proofs.Reports.{told_same, piece_told, input_ends}
 use Rattle.line_check.proofs.lines.check_pieces.Goals as goal
 
 pub reads-init : goal.reads-init
-reads-init g c = ([], Consumes-nil _, c.new-held.ensures.items ∙ sym (held_after_none []), told_same _ _ _ _ (verdicts_after_none []) refl)
+reads-init g c = ([], Consumes-nil _, c.new-held.ensures.items ∙ sym (held_after_none []), told_same _ _ _ _ (each_none verdict_of []) refl)
 
 pub returns-in-Ok-eq0 : goal.returns-in-Ok-eq0
 returns-in-Ok-eq0 g c =

@@ -1,8 +1,8 @@
 use Rattle.std.proofs.Common.{◌≡◌, true, false, nat_eq, refl, sym, ◌∙◌, arith}
 use Rattle.std.proofs.lemmas.Bool.Decides.{nat_tests}
 use Rattle.std.proofs.lemmas.Result.{on_ok_weaker}
-use Rattle.plant_text.proofs.HeldLemmas.{held_after_lf, held_after_byte}
-use Rattle.line_check.proofs.Pieces.{verdicts_after_lf, verdicts_after_byte}
+use Rattle.plant_text.proofs.HeldLemmas.{held_after_lf, held_after_byte, each_lf, each_byte}
+use Rattle.line_check.specs.Verdicts.{verdict_of}
 use Rattle.line_check.proofs.Reports.{told_same}
 use Rattle.line_check.proofs.lines.take_byte.Goals as goal
 
@@ -14,7 +14,7 @@ returns-then-b-eq10-clause-held g c =
 pub returns-then-b-eq10-clause-told : goal.returns-then-b-eq10-clause-told
 returns-then-b-eq10-clause-told g c =
     let lf : nat_eq c.args.b 10 ≡ true = grind (arith, nat_tests) in
-    rw (verdicts_after_lf c.args.held.now.items c.args.b lf) c.end_line.ensures.told
+    rw (each_lf verdict_of c.args.held.now.items c.args.b lf) c.end_line.ensures.told
 
 pub returns-in-Ok-clause-held : goal.returns-in-Ok-clause-held
 returns-in-Ok-clause-held g c =
@@ -24,4 +24,4 @@ returns-in-Ok-clause-held g c =
 pub returns-in-Ok-clause-told : goal.returns-in-Ok-clause-told
 returns-in-Ok-clause-told g c =
     let other : nat_eq c.args.b 10 ≡ false = grind (arith, nat_tests) in
-    told_same _ _ _ _ (verdicts_after_byte c.args.held.now.items c.args.b other) refl
+    told_same _ _ _ _ (each_byte verdict_of c.args.held.now.items c.args.b other) refl

@@ -1,14 +1,14 @@
 use Rattle.std.proofs.Common.{◌≡◌, ◌+◌, ◌<◌, [], ◌∷◌, ◌++◌, get_or, take, length, refl, sym, arith}
 use Rattle.std.proofs.lemmas.List.{take_more}
-use Rattle.plant_text.proofs.HeldLemmas.{held_more, held_after_none}
-use Rattle.line_check.proofs.Pieces.{verdicts_after_none}
+use Rattle.plant_text.proofs.HeldLemmas.{held_more, held_after_none, each_none}
+use Rattle.line_check.specs.Verdicts.{verdict_of}
 use Rattle.line_check.proofs.Reports.{told_same, piece_told}
 use Rattle.line_check.proofs.lines.take_piece.Goals as goal
 
 pub loop-b-init : goal.loop-b-init
 loop-b-init g c = record {
   held = sym (held_after_none c.args.held.now.items);
-  told = told_same _ _ _ _ (verdicts_after_none c.args.held.now.items) refl;
+  told = told_same _ _ _ _ (each_none verdict_of c.args.held.now.items) refl;
 }
 
 pub loop-b-preserved : goal.loop-b-preserved

@@ -2,7 +2,8 @@ use Rattle.std.proofs.Common.{◌≡◌, ◌<◌, [], ◌++◌, length, length-a
 use Rattle.std.proofs.lemmas.List.{append-nil}
 use Rattle.std.proofs.lemmas.Bool.Decides.{nat_tests}
 use Rattle.plant_text.proofs.Known.{Consumes-nil, Consumes-append, Consumes-keeps, Consumes-none}
-use Rattle.plant_text.proofs.HeldLemmas.{held_more, held_after_none, entries_after_none}
+use Rattle.plant_text.specs.Session.{entry_of}
+use Rattle.plant_text.proofs.HeldLemmas.{held_more, held_after_none, each_none}
 use Rattle.plant_desk.proofs.Same.{same_itself, same_after}
 use Rattle.plant_text.proofs.RunLemmas.{told_same, piece_told, piece_stops}
 use Rattle.plant_text.proofs.EndLemmas.{last_ends, read_ends, stopped_ends}
@@ -12,7 +13,7 @@ pub reads-init : goal.reads-init
 reads-init g c = record {
   not_shut = c.requires.open;
   same = same_itself _ _ _ _;
-  so_far = ([], Consumes-nil _, c.new-held.ensures.items ∙ sym (held_after_none []), omega arith, λ h s stood. told_same _ _ _ _ _ _ false (entries_after_none []) refl stood);
+  so_far = ([], Consumes-nil _, c.new-held.ensures.items ∙ sym (held_after_none []), omega arith, λ h s stood. told_same _ _ _ _ _ _ false (each_none entry_of []) refl stood);
 }
 
 pub returns-in-Ok-eq0-clause-ends : goal.returns-in-Ok-eq0-clause-ends

@@ -1,7 +1,8 @@
 use Rattle.std.proofs.Common.{◌≡◌, true, false, nat_eq, sym, ◌∙◌, arith}
 use Rattle.std.proofs.lemmas.Bool.Decides.{nat_tests}
 use Rattle.std.proofs.lemmas.Result.{on_ok_weaker}
-use Rattle.plant_text.proofs.HeldLemmas.{held_after_lf, held_after_byte, entries_after_lf, entries_after_byte}
+use Rattle.plant_text.specs.Session.{entry_of}
+use Rattle.plant_text.proofs.HeldLemmas.{held_after_lf, held_after_byte, each_lf, each_byte}
 use Rattle.plant_text.proofs.RunLemmas.{told_same, memory_stops_at}
 use Rattle.plant_text.proofs.run.take_byte.Goals as goal
 
@@ -13,7 +14,7 @@ returns-then-b-eq10-clause-held g c =
 pub returns-then-b-eq10-clause-ends : goal.returns-then-b-eq10-clause-ends
 returns-then-b-eq10-clause-ends g c = λ honest s stood.
     let lf : nat_eq c.args.b 10 ≡ true = grind (arith, nat_tests) in
-    rw (entries_after_lf c.args.held.now.items c.args.b lf) (c.end_line.ensures.ends honest s stood)
+    rw (each_lf entry_of c.args.held.now.items c.args.b lf) (c.end_line.ensures.ends honest s stood)
 
 pub returns-in-Ok-clause-held : goal.returns-in-Ok-clause-held
 returns-in-Ok-clause-held g c =
@@ -23,9 +24,9 @@ returns-in-Ok-clause-held g c =
 pub returns-in-Ok-clause-ends : goal.returns-in-Ok-clause-ends
 returns-in-Ok-clause-ends g c = λ honest s stood.
     let other : nat_eq c.args.b 10 ≡ false = grind (arith, nat_tests) in
-    told_same _ _ _ _ _ _ c.args.refused (entries_after_byte c.args.held.now.items c.args.b other) c.in-Ok.ensures.same stood
+    told_same _ _ _ _ _ _ c.args.refused (each_byte entry_of c.args.held.now.items c.args.b other) c.in-Ok.ensures.same stood
 
 pub returns-in-Err-clause-ends : goal.returns-in-Err-clause-ends
 returns-in-Err-clause-ends g c = λ honest s stood e.
     let other : nat_eq c.args.b 10 ≡ false = grind (arith, nat_tests) in
-    memory_stops_at _ _ _ e _ _ _ _ _ c.in-Err.stop (entries_after_byte c.args.held.now.items c.args.b other) c.in-Err.ensures.stops stood c.requires
+    memory_stops_at _ _ _ e _ _ _ _ _ c.in-Err.stop (each_byte entry_of c.args.held.now.items c.args.b other) c.in-Err.ensures.stops stood c.requires

@@ -1,6 +1,7 @@
 use Rattle.std.proofs.Common.{◌≡◌, ◌+◌, ◌<◌, [], ◌∷◌, ◌++◌, get_or, take, drop, length, sym, ap, add-one, drop-cons, take-append-drop, ◌∙◌, refl, arith}
 use Rattle.std.proofs.lemmas.List.{take_more}
-use Rattle.plant_text.proofs.HeldLemmas.{held_more, held_after_none, entries_after_none}
+use Rattle.plant_text.specs.Session.{entry_of}
+use Rattle.plant_text.proofs.HeldLemmas.{held_more, held_after_none, each_none}
 use Rattle.plant_desk.proofs.Same.{same_itself, same_after}
 use Rattle.plant_text.proofs.RunLemmas.{told_same, piece_told, piece_stops}
 use Rattle.plant_text.proofs.run.take_piece.Goals as goal
@@ -10,7 +11,7 @@ loop-b-init g c = record {
   not_shut = c.requires;
   same = same_itself _ _ _ _;
   held = sym (held_after_none c.args.held.now.items);
-  told = λ h s stood. told_same _ _ _ _ _ _ c.args.refused (entries_after_none c.args.held.now.items) refl stood;
+  told = λ h s stood. told_same _ _ _ _ _ _ c.args.refused (each_none entry_of c.args.held.now.items) refl stood;
 }
 
 pub returns-in-Err-clause-ends : goal.returns-in-Err-clause-ends

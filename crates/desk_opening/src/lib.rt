@@ -1,0 +1,6 @@
+//! The file of a desk: opened by its name, worked over, and closed.
+#![tactic(auto)]
+
+mod working;
+
+pub use working::{Ended, StoreWork, Worked, work_over};

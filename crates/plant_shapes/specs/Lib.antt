@@ -1,0 +1,6 @@
+pub mod Fields
+pub mod Laws
+pub mod Members
+pub mod Problems
+pub mod Tables
+pub mod Words

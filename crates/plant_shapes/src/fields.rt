@@ -1,0 +1,268 @@
+//! The typed values of an object's members, or its first flaw.
+ghost use Rattle.std.specs.Prelude.{◌≡◌, ◌≤◌, length, ◌||◌, true, IfOk, IfErr};
+ghost use Rattle.serde_json.specs.View.{view, members_view};
+ghost use Rattle.plant_base.specs.Dates.{is_due};
+ghost use Rattle.plant_base.specs.Values.{is_id, is_text, is_unit, only};
+ghost use Rattle.plant_shapes.specs.Fields.{field_of, member_of, fields_of, is_listed};
+ghost use Rattle.plant_shapes.specs.Fields.{chosen, first_other, other_where, none_other, exactly};
+ghost use Rattle.plant_shapes.specs.Laws.{Values, fields_in};
+ghost use Rattle.plant_shapes.specs.Problems.{is_told};
+ghost use Rattle.plant_shapes.specs.Tables.{most_members};
+ghost use Rattle.plant_shapes.specs.declared.members.Rule.TheVariants as rule;
+
+use crate::members::{Member, Rule};
+use crate::problems::Flaw;
+use crate::words::{batch_word, command_kind, line_kind, question_kind};
+use arrayvec::ArrayVec;
+use plant_base::{Amount, Due, Id, Moment, Text, Unit, Word};
+use serde_json::{Map, Value};
+use std::marker::Model;
+
+/// A typed value.
+#[derive(Clone, Copy)]
+pub enum Field {
+    /// An id.
+    Id(Id),
+    /// A text.
+    Text(Text),
+    /// A unit.
+    Unit(Unit),
+    /// A due date.
+    Due(Due),
+    /// An amount.
+    Amount(Amount),
+    /// A moment.
+    Moment(Moment),
+    /// A whole number.
+    Number(u16),
+    /// A whole number that fits in eight bits.
+    Small(u8),
+    /// A word for a batch.
+    Word(Word),
+    /// A word that chose the object's shape.
+    Chosen,
+    /// A list is there, whose rows are read behind the other members.
+    List,
+    /// Nothing is there.
+    Absent,
+}
+
+impl Default for Field {
+    fn default() -> Self {
+        Field::Absent
+    }
+}
+
+/// No object has more members of its own.
+const MOST_MEMBERS: usize = 8;
+
+/// The typed values of members, in the order of the members.
+#[derive(Drop)]
+pub struct Fields {
+    fields: ArrayVec<Field, MOST_MEMBERS>,
+}
+
+impl Model for Fields {
+    ghost use Rattle.std.specs.Prelude.{List};
+    ghost use Rattle.plant_shapes.specs.declared.fields.Field.{Field};
+
+    ghost Value = { List Field };
+
+    ghost view = { λ f. f.fields.items };
+}
+
+impl Fields {
+    /// The values as a slice.
+    pub fn as_slice(&self) -> &[Field]
+        ensures { result.now ≡ self.now }
+    {
+        self.fields.as_slice()
+    }
+}
+
+// ---- values
+
+fn read_id(bytes: &[u8]) -> Option<Id>
+    ensures { result ≡ only is_id bytes.now }
+{
+    Id::read(bytes)
+}
+
+fn read_text(bytes: &[u8]) -> Option<Text>
+    ensures { result ≡ only is_text bytes.now }
+{
+    Text::read(bytes)
+}
+
+fn read_unit(bytes: &[u8]) -> Option<Unit>
+    ensures { result ≡ only is_unit bytes.now }
+{
+    Unit::read(bytes)
+}
+
+fn read_due(bytes: &[u8]) -> Option<Due>
+    ensures { result ≡ only is_due bytes.now }
+{
+    Due::read(bytes).ok()
+}
+
+/// The whole number of a range that a value is.
+fn number_of(value: &Value, least: u16, greatest: u16) -> Option<Field>
+    ensures { result ≡ field_of (rule.Number least greatest) (view value.now) }
+{
+    let number = value.as_u64()?;
+    if number >= u64::from(least) && number <= u64::from(greatest) {
+        Some(Field::Number(number as u16))
+    } else {
+        None
+    }
+}
+
+/// The whole number of a range below 256 that a value is.
+fn small_of(value: &Value, least: u8, greatest: u8) -> Option<Field>
+    ensures { result ≡ field_of (rule.Small least greatest) (view value.now) }
+{
+    let number = value.as_u64()?;
+    if number >= u64::from(least) && number <= u64::from(greatest) {
+        Some(Field::Small(number as u8))
+    } else {
+        None
+    }
+}
+
+fn list_of(value: &Value) -> Option<Field>
+    ensures { result ≡ field_of rule.List (view value.now) }
+{
+    match value.as_array() {
+        Some(_) => Some(Field::List),
+        None => None,
+    }
+}
+
+/// The field of a word that chooses a shape, where it chooses one.
+fn chosen<T: Copy>(kind: Option<T>) -> Option<Field>
+    ensures { result ≡ chosen kind }
+{
+    match kind {
+        Some(_) => Some(Field::Chosen),
+        None => None,
+    }
+}
+
+/// The typed value that a value is by a rule.
+fn field_of(rule: Rule, value: &Value) -> Option<Field>
+    ensures { result ≡ field_of rule (view value.now) }
+{
+    match rule {
+        Rule::Id => Some(Field::Id(read_id(value.as_str()?.as_bytes())?)),
+        Rule::Text => Some(Field::Text(read_text(value.as_str()?.as_bytes())?)),
+        Rule::Unit => Some(Field::Unit(read_unit(value.as_str()?.as_bytes())?)),
+        Rule::Due => Some(Field::Due(read_due(value.as_str()?.as_bytes())?)),
+        Rule::Amount => Some(Field::Amount(Amount::new(value.as_u64()?)?)),
+        Rule::Moment => Some(Field::Moment(Moment::new(value.as_u64()?)?)),
+        Rule::Number(least, greatest) => number_of(value, least, greatest),
+        Rule::Small(least, greatest) => small_of(value, least, greatest),
+        Rule::Word => Some(Field::Word(batch_word(value.as_str()?)?)),
+        Rule::Command => chosen(command_kind(value.as_str()?)),
+        Rule::Question => chosen(question_kind(value.as_str()?)),
+        Rule::Kind => chosen(line_kind(value.as_str()?)),
+        Rule::List => list_of(value),
+    }
+}
+
+// ---- members
+
+/// The typed value of a member, or what is wrong with it.
+fn member_of(value: &Value, member: Member) -> Result<Field, Flaw>
+    ensures { result ≡ member_of member (view value.now) }
+{
+    match value.get(member.name()) {
+        None => {
+            if member.is_needed() {
+                Err(Flaw::Missing(member))
+            } else {
+                Ok(Field::Absent)
+            }
+        }
+        Some(inner) => match field_of(member.rule(), inner) {
+            Some(field) => Ok(field),
+            None => Err(Flaw::Breaks(member)),
+        },
+    }
+}
+
+fn each_field(value: &Value, members: &[Member]) -> Result<Fields, Flaw>
+    requires { length members.now ≤ most_members }
+    ensures { result ≡ fields_of members.now (view value.now) }
+{
+    let mut fields = ArrayVec::<Field, MOST_MEMBERS>::new();
+    for member in members {
+        match member_of(value, *member) {
+            Ok(field) => fields.push(field),
+            Err(flaw) => return Err(flaw),
+        }
+    }
+    Ok(Fields { fields })
+}
+
+/// The typed values of the members, or the first flaw in their order. No memory is taken.
+///
+/// Whatever the members, what is read has the types of their rules, and a flaw says what is wrong.
+pub fn fields_of(value: &Value, members: &[Member]) -> Result<Fields, Flaw>
+    requires { length members.now ≤ most_members }
+    ensures reads { result ≡ fields_of members.now (view value.now) }
+    ensures typed { IfOk result (λ fs. (v : Values members.now) × (fs ≡ fields_in members.now v)) }
+    ensures told { IfErr result (λ flaw. is_told flaw ≡ true) }
+{
+    each_field(value, members)
+}
+
+/// Whether the name is that of one of the members.
+fn is_listed(members: &[Member], name: &str) -> bool
+    ensures { result ≡ is_listed members.now name.now }
+{
+    members.iter().any(|member| name == member.name())
+}
+
+/// Whether the name is that of a member of either list.
+fn is_expected(some: &[Member], more: &[Member], name: &str) -> bool
+    ensures { result ≡ is_listed some.now name.now || is_listed more.now name.now }
+{
+    is_listed(some, name) || is_listed(more, name)
+}
+
+/// The flaw of the first name that no listed member has.
+fn first_other(map: &Map<String, Value>, some: &[Member], more: &[Member]) -> Result<(), Flaw>
+    ensures { result ≡ other_where (first_other some.now more.now (members_view map.now.entries)) }
+{
+    for (name, _) in map.iter() {
+        if !is_expected(some, more, name.as_str()) {
+            return Err(Flaw::Other(read_text(name.as_bytes())));
+        }
+    }
+    Ok(())
+}
+
+/// Sees that the object has no member of another name than the listed ones have.
+///
+/// `Other` is the flaw where it has one.
+pub fn none_other(value: &Value, some: &[Member], more: &[Member]) -> Result<(), Flaw>
+    ensures { result ≡ none_other some.now more.now (view value.now) }
+{
+    match value.as_object() {
+        Some(map) => first_other(map, some, more),
+        None => Ok(()),
+    }
+}
+
+/// The typed values of an object that has these members and no other, or its first flaw.
+pub fn exactly(value: &Value, members: &[Member]) -> Result<Fields, Flaw>
+    requires { length members.now ≤ most_members }
+    ensures { result ≡ exactly members.now (view value.now) }
+{
+    let fields = fields_of(value, members)?;
+    match none_other(value, members, &[]) {
+        Ok(()) => Ok(fields),
+        Err(flaw) => Err(flaw),
+    }
+}

@@ -1,0 +1,15 @@
+//! The shapes of what a line of JSON (RFC 8259) may say, as data: which members an object of each kind has, what each of them may be, and
+//! one reading that gives their values or tells the first problem.
+#![tactic(auto)]
+
+mod fields;
+mod members;
+mod problems;
+mod tables;
+mod words;
+
+pub use fields::{Field, Fields, exactly, fields_of, none_other};
+pub use members::{Member, Rule};
+pub use problems::{Fault, Flaw, LineFault, Problem, made, object};
+pub use tables::{own_of, row_own, shared_members};
+pub use words::{CommandKind, QuestionKind, Row, command_kind, line_kind, question_kind};

@@ -19,6 +19,11 @@ O-1,CAKE,1,500,2027-03-01,5
 O-2,CAKE,1,500,2027-02-29,5
 """
 
+HEADER = b"""csv row 0 Header: the first line isn't order,recipe,version,size,due,priority, with commas between and neither semicolons nor tabs
+"""
+
+TOO_LONG = b"csv row 0 TooLong: the file is longer than 262144 bytes\n"
+
 GOOD_LINES = b"""{"ask":"desk"}
 
 {"at":1,"by":"","do":"settle","batch":"B"}
@@ -74,10 +79,10 @@ class Check:
 
 
 def check_orders(check):
-    check.tells("a fault in words", FAULTY_ORDERS, 1, b"csv row 2 Due\n")
-    check.tells("a longest file", b"\n" * LONGEST, 1, b"csv row 0 Header\n")
-    check.tells("a file of more than 4 MB", b"\n" * (5 << 20), 1, b"csv row 0 TooLong\n")
-    check.tells_of_an_endless_input(1, b"csv row 0 TooLong\n")
+    check.tells("a fault in words", FAULTY_ORDERS, 1, b"csv row 2 Due: due is not a date like 2027-03-01, of the years 2000 to 2099\n")
+    check.tells("a longest file", b"\n" * LONGEST, 1, HEADER)
+    check.tells("a file of more than 4 MB", b"\n" * (5 << 20), 1, TOO_LONG)
+    check.tells_of_an_endless_input(1, TOO_LONG)
     check.takes_no_word()
     check.tells_a_failed_read()
     check.tells_a_failed_write(FAULTY_ORDERS)

@@ -12,6 +12,7 @@ import sqlite3
 import subprocess
 import sys
 import tempfile
+import time
 
 from sessions import SECONDS, Check
 
@@ -25,7 +26,7 @@ USAGES = {
     "trace": "trace <FILE> <DIRECTION> <LOT>",
     "record": "record <FILE> <BATCH>",
     "verify": "verify <FILE>",
-    "serve": "serve <FILE> <PORT> <COUNT>",
+    "serve": "serve [OPTIONS] <FILE> <PORT> <COUNT>",
 }
 
 # Words whose values are out of their range, or are none.
@@ -41,6 +42,23 @@ WRONG_VALUES = [
     ["trace", "wrong.db", "up", "L-1"],
     ["trace", "wrong.db", "back", "l-1"],
     ["record", "wrong.db", "b-1"],
+]
+
+# The rule that is told where clap takes the words and a value breaks it: that of the first such value.
+BROKEN_RULES = [
+    (["import", "wrong.db", "--at", "1", "--by", "a" * 61, "--ref", "r-1"], b"TEXT of --by is at most 60 characters from the space to ~"),
+    (["import", "wrong.db", "--at", "1", "--ref", "r-1"], b"ID of --ref is 1 to 24 of A to Z, 0 to 9 and -, the first a letter"),
+    (["trace", "wrong.db", "up", "l-1"], b"DIRECTION is back or forward"),
+    (["trace", "wrong.db", "back", "l-1"], b"LOT is 1 to 24 of A to Z, 0 to 9 and -, the first a letter"),
+    (["record", "wrong.db", "b-1"], b"BATCH is 1 to 24 of A to Z, 0 to 9 and -, the first a letter"),
+]
+
+# What connections send, and how each is noted behind its moment.
+NOTED = [
+    (b"GET /v1/desk HTTP/1.1\r\nHost: desk\r\n\r\n", b'"GET /v1/desk HTTP/1.1" 200'),
+    (b"GET /" + b"A" * 200 + b" HTTP/1.1\r\nHost: desk\r\n\r\n", b'"GET /' + b"A" * 115 + b'" 404'),
+    (b'GET "\xff HTTP/1.1\r\n\r\n', b'"GET " 400'),
+    (b"", b'"" 0'),
 ]
 
 
@@ -100,6 +118,31 @@ class Words(Check):
             self.expect(f"{words}, {errors}", (status, output, told), (2, b"", True))
         self.expect("no file is made", (self.room / "wrong.db").exists(), False)
 
+    def broken_rules_are_told(self):
+        """Gives values that break a rule of the desk: the first one's rule is told, and no other."""
+        for words, rule in BROKEN_RULES:
+            told = b"error: %s\n\nFor more information, try '--help'.\n" % rule
+            self.expect(f"{words}", self.run(*words), (2, b"", told))
+
+    def requests_may_be_noted(self):
+        """Serves without and with --log: only then a line stands on standard error for each request, and one before them."""
+        for log in [], ["--log"]:
+            with socket.socket() as free:
+                free.bind(("127.0.0.1", 0))
+                port = free.getsockname()[1]
+            began = int(time.time())
+            words = [self.program, "serve", "noted.db", str(port), str(len(NOTED)), *log]
+            with subprocess.Popen(words, stdout=subprocess.PIPE, stderr=subprocess.PIPE, cwd=self.room) as serving:
+                for sent, _ in NOTED:
+                    send(port, sent)
+                output, errors = serving.communicate(timeout=SECONDS)
+            lines = errors.splitlines()
+            wanted = [b"serving 127.0.0.1:%d" % port, *(line for _, line in NOTED)] if log else []
+            found = [re.fullmatch(rb"(\d+) (.*) \d+", it) for it in lines[1:]]
+            self.expect(f"the end of {words}", (serving.returncode, output), (0, b""))
+            self.expect(f"the lines of {words}", lines[:1] + [it and it[2] for it in found], wanted)
+            self.expect(f"the moments of {words}", all(began <= int(it[1]) <= time.time() for it in found), True)
+
     def help_is_true(self):
         """Asks each word for help: its arguments stand in their order, and its example is understood."""
         name = os.path.basename(self.program)
@@ -125,6 +168,20 @@ class Words(Check):
         self.expect(f"the example of {word}, {errors}", status, {"serve": 2, "trace": 1, "record": 1}.get(word, 0))
 
 
+def send(port, sent):
+    """Sends bytes over a connection to the port, as soon as it is listened on, and reads to the end of the answer."""
+    for _ in range(100 * SECONDS):
+        try:
+            with socket.create_connection(("127.0.0.1", port), timeout=SECONDS) as it:
+                it.sendall(sent)
+                it.shutdown(socket.SHUT_WR)
+                while it.recv(4096):
+                    pass
+            return
+        except ConnectionRefusedError:
+            time.sleep(0.01)
+
+
 def listed(text):
     """Returns the arguments that a help lists, in their order."""
     found = re.search(r"^Arguments:\n((?:  .*\n)+)", text, re.M)
@@ -140,6 +197,8 @@ def main(program):
         check.a_port_may_be_taken()
         check.input_may_fail()
         check.values_have_ranges()
+        check.broken_rules_are_told()
+        check.requests_may_be_noted()
         check.help_is_true()
     print(f"words: {check.passed} passed, {check.failed} failed")
     return 1 if check.failed else 0

@@ -5,7 +5,7 @@ ghost use Rattle.desk.specs.Served.{outcome_of};
 ghost use Rattle.desk_server.specs.Serving.{EndsServing};
 
 use desk_program::{Fault, Performed, adopt, perform_task, performed_of};
-use desk_server::{ServingFault, listen_at, local_at, serve_listener};
+use desk_server::{AccessLog, ServingFault, listen_at, local_at, serve_listener};
 use desk_words::{Serving, Work};
 use plant_desk_store::Desk;
 use sqlite::{Alter, Connection};
@@ -74,6 +74,15 @@ fn outcome_of(served: Result<(), ServingFault>) -> Result<bool, Fault>
     }
 }
 
+/// Where requests are noted: on standard error where that is asked for.
+fn log_of(rt: &HostRuntime, is_logged: bool) -> AccessLog<'_> {
+    if is_logged {
+        AccessLog::StandardError(rt)
+    } else {
+        AccessLog::Nowhere
+    }
+}
+
 /// Listens on the port of 127.0.0.1, and serves the connections that come in.
 fn serve_at<S: Alter + Drop>(
     rt: &HostRuntime,
@@ -83,8 +92,12 @@ fn serve_at<S: Alter + Drop>(
     requires { desk.old.is_shut ≡ false }
     ensures ends { EndsServing desk.new.is_shut result }
 {
+    let log = log_of(rt, serving.is_logged);
     let listening = listen_at(rt, local_at(serving.port));
-    serve_listening(rt.alloc(), listening, serving.count, desk)
+    if listening.is_ok() {
+        log.note_serving(serving.port);
+    }
+    serve_listening(rt.alloc(), listening, serving.count, desk, log)
 }
 
 /// Serves the connections that come in where a port is listened on. The fault of one that isn't is handed on.
@@ -93,6 +106,7 @@ fn serve_listening<S: Alter + Drop>(
     listening: Result<TcpListener, ServingFault>,
     count: u32,
     desk: &mut Desk<S>,
+    log: AccessLog<'_>,
 ) -> Result<(), ServingFault>
     requires { desk.old.is_shut ≡ false }
     ensures ends { OnOk listening (EndsServing desk.new.is_shut result) }
@@ -100,7 +114,7 @@ fn serve_listening<S: Alter + Drop>(
     ensures still { OnErr listening (desk.new ≡ desk.old) }
 {
     match listening {
-        Ok(listener) => serve_listener(alloc, &listener, count, desk),
+        Ok(listener) => serve_listener(alloc, &listener, count, desk, log),
         Err(fault) => Err(fault),
     }
 }

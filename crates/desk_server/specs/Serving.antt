@@ -1,5 +1,5 @@
 -- How the serving of connections ends.
-use Rattle.std.specs.Prelude.{◌≡◌, Bool, true, false, Result, Ok, Err}
+use Rattle.std.specs.Prelude.{◌≡◌, ℕ, Bool, true, false, Option, Some, None, Result, Ok, Err}
 use Rattle.sqlite.specs.Effect.{Database}
 use Rattle.sqlite.specs.Held.{state}
 use Rattle.sqlite.specs.State.{HasCleanDisk}
@@ -8,8 +8,17 @@ use Rattle.plant_base.specs.State.{newest_schema}
 use Rattle.plant_desk.specs.Keeping.{IsSameDesk}
 use Rattle.plant_desk_store.specs.Standing.{IsBeside}
 use Rattle.plant_desk_store.specs.declared.stored.Desk.{Desk}
+use Rattle.plant_http.specs.declared.serve.Served.{Served}
+use Rattle.plant_http.specs.declared.serve.Served.TheVariants.{Answered, Nothing}
+use Rattle.plant_http.specs.declared.serve.ServeFault.{ServeFault}
 use Rattle.desk_server.specs.declared.fault.ServingFault.{ServingFault}
 use Rattle.desk_server.specs.declared.fault.ServingFault.TheVariants as fault
+
+-- the status by which a request was answered, whole
+abbrev pub status_of : Result Served ServeFault → Option ℕ
+status_of (Ok (Answered status)) = Some status
+status_of (Ok Nothing) = None
+status_of (Err f) = None
 
 -- the desk is one and the same: what it stood on has kept its word, and what stands beside its tables stands there still
 abbrev pub IsSameStore : {S : Type 0} (g : Ghosts S) → Desk S g → Desk S g → Type 0

@@ -2,9 +2,11 @@
 ghost use Rattle.std.specs.Prelude.{◌≡◌, ◌*◌, false};
 ghost use Rattle.std.specs.Duration.{as_nanos};
 ghost use Rattle.plant_desk.specs.Keeping.{IsSameDesk};
+ghost use Rattle.desk_server.specs.Serving.{status_of};
 
+use crate::log::{AccessLog, Heard};
 use plant_desk::Keeper;
-use plant_http::{Served, serve_one};
+use plant_http::{ServeFault, Served, serve_one};
 use plant_http_routes::Routes;
 use std::alloc::Global;
 use std::io::Read;
@@ -78,6 +80,16 @@ fn end_answer(stream: TcpStream, status: u16) -> Option<TcpStream> {
     None
 }
 
+/// The status by which a request was answered.
+fn status_of(served: &Result<Served, ServeFault>) -> Option<u16>
+    ensures { result ≡ status_of served.now }
+{
+    match served {
+        Ok(Served::Answered(status)) => Some(*status),
+        Ok(Served::Nothing) | Err(_) => None,
+    }
+}
+
 /// Serves the request of one connection. What becomes of it is the connection's affair: the keeper is what it is told of.
 ///
 /// The connection comes back where its client has all that it needs to end it. Where nothing was answered, for a fault of the connection or
@@ -87,17 +99,22 @@ pub(crate) fn serve_stream<K: Keeper>(
     routes: &Routes,
     stream: TcpStream,
     keeper: &mut K,
+    log: AccessLog<'_>,
 ) -> Option<TcpStream>
     ensures { IsSameDesk K.honest K.schema K.beside keeper.old keeper.new }
 {
     bound_waits(&stream);
-    let served = {
-        let mut input = &stream;
+    let arrival = log.arrival();
+    let status = {
+        let mut input = Heard::new(&stream);
         let mut output = &stream;
-        serve_one(alloc, routes, &mut input, &mut output, keeper)
+        let served = serve_one(alloc, routes, &mut input, &mut output, keeper);
+        let status = status_of(&served);
+        log.note_request(arrival, input.front(), status);
+        status
     };
-    match served {
-        Ok(Served::Answered(status)) => end_answer(stream, status),
-        Ok(Served::Nothing) | Err(_) => None,
+    match status {
+        Some(status) => end_answer(stream, status),
+        None => None,
     }
 }

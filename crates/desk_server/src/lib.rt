@@ -5,7 +5,9 @@ mod address;
 mod connection;
 mod fault;
 mod listening;
+mod log;
 
 pub use address::{listen_at, local_at};
 pub use fault::ServingFault;
 pub use listening::serve_listener;
+pub use log::AccessLog;

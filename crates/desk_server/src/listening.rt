@@ -6,6 +6,7 @@ ghost use Rattle.desk_server.specs.Serving.{EndsServing, IsSameStore};
 
 use crate::connection::{read_on, read_rest, serve_stream};
 use crate::fault::ServingFault;
+use crate::log::AccessLog;
 use plant_desk_store::Desk;
 use plant_http_routes::{Routes, RoutesFault};
 use sqlite::Alter;
@@ -20,6 +21,7 @@ fn serve_each<S: Alter + Drop>(
     count: u32,
     routes: &Routes,
     desk: &mut Desk<S>,
+    log: AccessLog<'_>,
     answered: &mut Option<TcpStream>,
 ) -> Result<(), ServingFault>
     requires { desk.old.is_shut ≡ false }
@@ -31,7 +33,7 @@ fn serve_each<S: Alter + Drop>(
         let Ok((stream, _)) = listener.accept() else {
             return Err(ServingFault::Net);
         };
-        let next = serve_stream(alloc, routes, stream, desk);
+        let next = serve_stream(alloc, routes, stream, desk, log);
         if let Some(former) = &*answered {
             read_rest(former);
         }
@@ -55,7 +57,7 @@ fn routes_of(made: Result<Routes, RoutesFault>) -> Result<Routes, ServingFault>
 }
 
 /// Serves so many connections of a listener, one after the other, by an open desk. What is answered to a request ends nothing,
-/// and neither does a fault of a connection; one without a byte counts too.
+/// and neither does a fault of a connection; one without a byte counts too. Each is noted in the log where there is one.
 ///
 /// `Store`: a fault of the store has shut the desk; no further connection is taken. `Net`: no connection could be taken.
 /// `Memory`: memory was refused for the routes, before the first connection. No other fault comes.
@@ -64,6 +66,7 @@ pub fn serve_listener<S: Alter + Drop>(
     listener: &TcpListener,
     count: u32,
     desk: &mut Desk<S>,
+    log: AccessLog<'_>,
 ) -> Result<(), ServingFault>
     requires { desk.old.is_shut ≡ false }
     ensures same { IsSameStore S.Store desk.old desk.new }
@@ -71,7 +74,7 @@ pub fn serve_listener<S: Alter + Drop>(
 {
     let routes = routes_of(Routes::new(alloc))?;
     let mut answered = None;
-    let end = serve_each(alloc, listener, count, &routes, desk, &mut answered);
+    let end = serve_each(alloc, listener, count, &routes, desk, log, &mut answered);
     if let Some(last) = &answered {
         read_on(last);
     }

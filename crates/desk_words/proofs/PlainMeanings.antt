@@ -7,8 +7,9 @@ use Rattle.clap.proofs.OnLiterals.{clap_on_literals}
 use Rattle.plant_base.specs.Values.{is_id}
 use Rattle.plant_trace.specs.declared.direction.Direction.TheVariants.{Back, Forward}
 use Rattle.desk_words.specs.Meaning.{number_in, work_in}
-use Rattle.desk_words.specs.PlainWords.{AreWrong, AskHelp, MeanNothing, PlainWords, Tell, TellsFile, TellsTrace, WantsFile, begins_with_dash, is_word}
+use Rattle.desk_words.specs.PlainWords.{AreWrong, AskHelp, Break, PlainWords, Tell, TellsFile, TellsTrace, WantsFile, begins_with_dash, is_word}
 use Rattle.desk_words.specs.CommandLine.{the_program}
+use Rattle.desk_words.specs.declared.argument.Argument.TheVariants as argument
 use Rattle.desk_words.specs.declared.meaning.Work.TheVariants as work
 use Rattle.desk_words.specs.declared.meaning.Task.TheVariants as task
 use Rattle.clap.specs.Words.{fault_of}
@@ -116,7 +117,7 @@ unfolding clap_on_literals work_in number_in
 import_ref name file h = rw (not_dashes file h, not_long file h, not_short file h) (refl, refl)
 
 no_reference : (name file : Text) → begins_with_dash file ≡ false
-    → MeanNothing (name ∷ codes "import" ∷ file ∷ codes "--at" ∷ codes "100" ∷ codes "--ref" ∷ codes "r-1" ∷ [])
+    → Break (name ∷ codes "import" ∷ file ∷ codes "--at" ∷ codes "100" ∷ codes "--ref" ∷ codes "r-1" ∷ []) argument.Reference
 unfolding clap_on_literals work_in number_in
 no_reference name file h = rw (not_dashes file h, not_long file h, not_short file h) refl
 
@@ -126,9 +127,15 @@ import_wants name file h = rw (not_dashes file h, not_long file h, not_short fil
 
 serve_port : (name file : Text) → begins_with_dash file ≡ false
     → Tell (name ∷ codes "serve" ∷ file ∷ codes "8080" ∷ codes "1000" ∷ [])
-    (file, work.Serve (record { port = 8080; count = 1000 }))
+    (file, work.Serve (record { port = 8080; count = 1000; is_logged = false }))
 unfolding clap_on_literals work_in number_in
 serve_port name file h = rw (not_dashes file h, not_long file h, not_short file h) (refl, refl)
+
+serve_logged : (name file : Text) → begins_with_dash file ≡ false
+    → Tell (name ∷ codes "serve" ∷ file ∷ codes "8080" ∷ codes "1000" ∷ codes "--log" ∷ [])
+    (file, work.Serve (record { port = 8080; count = 1000; is_logged = true }))
+unfolding clap_on_literals work_in number_in
+serve_logged name file h = rw (not_dashes file h, not_long file h, not_short file h) (refl, refl)
 
 no_port : (name file : Text) → begins_with_dash file ≡ false
     → AreWrong (name ∷ codes "serve" ∷ file ∷ codes "0" ∷ codes "1" ∷ [])
@@ -185,6 +192,7 @@ plain_words = record {
   no_reference = no_reference;
   import_wants = import_wants;
   serve_port = serve_port;
+  serve_logged = serve_logged;
   no_port = no_port;
   high_port = high_port;
   no_connection = no_connection;

@@ -1,5 +1,5 @@
 -- Which refusals clap's kinds lead to.
-use Rattle.std.proofs.Common.{◌≡◌, Bool, true, false, List, [], ◌∷◌, inl, inr, None, ap, sym, ◌∙◌, refl, subst, rules}
+use Rattle.std.proofs.Common.{◌≡◌, Bool, true, false, List, [], ◌∷◌, inl, inr, Err, ap, sym, ◌∙◌, refl, subst, rules}
 use Rattle.std.specs.List.{list_any}
 use Rattle.clap.specs.Kinds.{HasKind, IsAmong, Kinds}
 use Rattle.clap.specs.Words.{Text, fault_of, kind_of, subcommand_of}
@@ -7,7 +7,8 @@ use Rattle.clap.specs.declared.error.Error.{Error}
 use Rattle.clap.specs.declared.error.kind.ErrorKind.{ErrorKind}
 use Rattle.clap.specs.declared.error.kind.ErrorKind.TheVariants as kind
 use Rattle.desk_words.specs.CommandLine.{the_program}
-use Rattle.desk_words.specs.Meaning.{IsFaultOf, IsNotHelp, IsRefusedBy, asks_help, is_mistake, meant_in, told_as}
+use Rattle.desk_words.specs.Meaning.{IsFaultOf, IsRefusedBy, TellsBroken, asks_help, is_mistake, meant_in, told_as}
+use Rattle.desk_words.specs.declared.argument.Argument.{Argument}
 use Rattle.desk_words.specs.declared.meaning.WordsFault.{WordsFault}
 use Rattle.desk_words.specs.declared.meaning.WordsFault.TheVariants.{Usage, Help, Memory}
 
@@ -33,9 +34,9 @@ refused_by words (Help text) e (inl memory) h = let bad : false ≡ true = sym (
 refused_by words (Help text) e (inr among) h = any_among asks_help (kind_of e) (fault_of the_program words) among h
 refused_by words Memory e k h = tt
 
--- words that mean nothing are refused by no help
-pub meaningless : (words : List Text) (fault : WordsFault) → meant_in (subcommand_of the_program words) ≡ None
-    → IsNotHelp fault → IsRefusedBy words fault
-meaningless words (Usage text) none h = inr none
-meaningless words (Help text) none h = absurd h
-meaningless words Memory none h = tt
+-- words of which a value breaks its rule are refused by that, or for want of memory
+pub broken : (words : List Text) (a : Argument) (fault : WordsFault) → meant_in (subcommand_of the_program words) ≡ Err a
+    → TellsBroken a fault → IsRefusedBy words fault
+broken words a (Usage text) none h = inr (a, none, h)
+broken words a (Help text) none h = absurd h
+broken words a Memory none h = tt

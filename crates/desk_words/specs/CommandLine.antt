@@ -2,6 +2,7 @@
 use Rattle.std.specs.Prelude.{◌≡◌, ℕ, true, false, [], ◌∷◌, Some, codes, pos}
 use Rattle.clap.specs.declared.builder.command.Command.{Command}
 use Rattle.clap.specs.declared.builder.command.Command.TheViews.{out-Command}
+use Rattle.clap.specs.declared.builder.action.ArgAction.TheVariants.{SetTrue}
 use Rattle.clap.specs.declared.builder.value_parser.ValueParser.{ValueParser}
 use Rattle.clap.specs.declared.builder.value_parser.ValueParser.TheVariants as parser
 use Rattle.clap.specs.Words.{App, Rule, Text, new_app, new_rule, with_rule, with_subcommand}
@@ -53,6 +54,13 @@ port_rule = number_rule (codes "port") (parser.Signed (pos 1) (pos greatest_port
 abbrev pub count_rule : Rule
 count_rule = number_rule (codes "count") (parser.Signed (pos 1) (pos most_connections))
 
+-- whether requests are noted
+abbrev pub log_rule : Rule
+log_rule = record (new_rule (codes "log")) {
+  long = Some (codes "log");
+  action = Some SetTrue;
+}
+
 -- ---- words
 
 -- a word that takes a file
@@ -69,7 +77,7 @@ abbrev pub record_app : App
 record_app = with_rule (word_app (codes "record")) (required_rule (codes "batch"))
 
 abbrev pub serve_app : App
-serve_app = with_rule (with_rule (word_app (codes "serve")) port_rule) count_rule
+serve_app = with_rule (with_rule (with_rule (word_app (codes "serve")) port_rule) count_rule) log_rule
 
 -- the program's name alone: the word `help` has no meaning of its own
 abbrev pub bare_program : App

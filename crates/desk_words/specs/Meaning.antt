@@ -1,17 +1,19 @@
 -- What the words of the command line mean.
-use Rattle.std.specs.Prelude.{◌≡◌, ◌⊎◌, ℕ, ◌&&◌, nat_le, Bool, true, false, List, length, codes, Option, Some, None}
-use Rattle.std.specs.Prelude.{option_map, option_and_then, if◌then◌else◌}
+use Rattle.std.specs.Prelude.{◌≡◌, ◌⊎◌, ℕ, ◌&&◌, nat_le, Bool, true, false, List, length, codes, Option, Some, None, Result, Ok, Err, ok_or}
+use Rattle.std.specs.Prelude.{option_and_then, if◌then◌else◌, string_bytes}
 use Rattle.std.specs.List.{list_any}
 use Rattle.std.specs.Str.{all_ascii_digits, bytes_eq}
 use Rattle.std.specs.Str.Parse.{digits_value, without_leading_plus}
 use Rattle.clap.specs.Words.{Kinds, Row, Text, fault_of, first_of, subcommand_of}
 use Rattle.clap.specs.declared.error.kind.ErrorKind.{ErrorKind}
 use Rattle.clap.specs.declared.error.kind.ErrorKind.TheVariants as kind
-use Rattle.plant_base.specs.Options.{◌>>=◌}
 use Rattle.plant_base.specs.Values.{greatest_moment, is_id, is_text, only}
 use Rattle.plant_trace.specs.declared.direction.Direction.{Direction}
 use Rattle.plant_trace.specs.declared.direction.Direction.TheVariants.{Back, Forward}
+use Rattle.desk_words.specs.Arguments.{name_of, refusal_text}
 use Rattle.desk_words.specs.CommandLine.{the_program, greatest_port, most_connections}
+use Rattle.desk_words.specs.declared.argument.Argument.{Argument}
+use Rattle.desk_words.specs.declared.argument.Argument.TheVariants as argument
 use Rattle.desk_words.specs.declared.meaning.Words.{Words}
 use Rattle.desk_words.specs.declared.meaning.Work.{Work}
 use Rattle.desk_words.specs.declared.meaning.Work.TheVariants as work
@@ -27,6 +29,15 @@ Meant = Text × Work
 
 abbrev pub words_meant : Words → Meant
 words_meant words = (words.file.now, words.work)
+
+-- the one, and then the other, where no value breaks its rule
+infixl 10 ◌>>=◌
+abbrev pub ◌>>=◌ : {A B E : Type 0} → Result A E → (A → Result B E) → Result B E
+Ok a >>= f = f a
+Err e >>= f = Err e
+
+abbrev pub all_meant : Result Words Argument → Result Meant Argument
+all_meant read = read >>= λ words. Ok (words_meant words)
 
 -- ---- values
 
@@ -45,59 +56,71 @@ abbrev pub direction_of : Text → Option Direction
 direction_of text = if bytes_eq text (codes "back") then Some Back
     else (if bytes_eq text (codes "forward") then Some Forward else None)
 
--- ---- arguments, by their names
+-- ---- arguments: what each is, or the first whose value breaks its rule
 
--- the value of this name, read so
-abbrev pub value_in : {A : Type 0} → Text → (Text → Option A) → List Row → Option A
-value_in name read rows = option_and_then read (first_of name rows)
+abbrev pub value_in : {A : Type 0} → Argument → (Text → Option A) → List Row → Result A Argument
+value_in a read rows = ok_or (option_and_then read (first_of (name_of a) rows)) a
 
 -- a value that may be left out
-abbrev pub if_named : {A : Type 0} → (Text → Option A) → Option Text → Option (Option A)
-if_named read None = Some None
-if_named read (Some text) = option_map Some (read text)
+abbrev pub if_named : {A : Type 0} → Argument → (Text → Option A) → Option Text → Result (Option A) Argument
+if_named a read None = Ok None
+if_named a read (Some text) = ok_or (read text) a >>= λ found. Ok (Some found)
 
-abbrev pub import_in : List Row → Option Task
+abbrev pub import_in : List Row → Result Task Argument
 import_in rows = do
-  at ← value_in (codes "at") (number_in 0 greatest_moment) rows
-  by ← value_in (codes "by") (only is_text) rows
-  reference ← if_named (only is_id) (first_of (codes "ref") rows)
-  Some (task.Import at by reference)
+  at ← value_in argument.At (number_in 0 greatest_moment) rows
+  by ← value_in argument.By (only is_text) rows
+  reference ← if_named argument.Reference (only is_id) (first_of (codes "ref") rows)
+  Ok (task.Import at by reference)
 
-abbrev pub trace_in : List Row → Option Task
-trace_in rows =
-    option_and_then (λ direction. option_map (λ lot. task.Trace direction lot) (value_in (codes "lot") (only is_id) rows))
-    (value_in (codes "direction") direction_of rows)
+abbrev pub trace_in : List Row → Result Task Argument
+trace_in rows = do
+  direction ← value_in argument.Direction direction_of rows
+  lot ← value_in argument.Lot (only is_id) rows
+  Ok (task.Trace direction lot)
 
-abbrev pub record_in : List Row → Option Task
-record_in rows = option_map (λ batch. task.Record batch) (value_in (codes "batch") (only is_id) rows)
+abbrev pub record_in : List Row → Result Task Argument
+record_in rows = do
+  batch ← value_in argument.Batch (only is_id) rows
+  Ok (task.Record batch)
 
-abbrev pub serving_in : List Row → Option Serving
-serving_in rows =
-    option_and_then (λ port. option_map (λ count. record { port = port; count = count })
-    (value_in (codes "count") (number_in 1 most_connections) rows))
-    (value_in (codes "port") (number_in 1 greatest_port) rows)
+-- a flag that is given
+abbrev pub is_set : Option Text → Bool
+is_set None = false
+is_set (Some text) = bytes_eq text (codes "true")
+
+abbrev pub serving_in : List Row → Result Serving Argument
+serving_in rows = do
+  port ← value_in argument.Port (number_in 1 greatest_port) rows
+  count ← value_in argument.Count (number_in 1 most_connections) rows
+  Ok (record { port = port; count = count; is_logged = is_set (first_of (codes "log") rows) })
 
 -- ---- words
 
+abbrev pub task_work : Result Task Argument → Result Work Argument
+task_work read = read >>= λ t. Ok (work.Task t)
+
 -- what a word and its arguments tell to do over the file
-unfoldable pub work_in : Text → List Row → Option Work
-work_in name rows = if bytes_eq name (codes "init") then Some (work.Task task.Init)
-    else (if bytes_eq name (codes "run") then Some (work.Task task.Run)
-    else (if bytes_eq name (codes "import") then option_map (λ t. work.Task t) (import_in rows)
-    else (if bytes_eq name (codes "trace") then option_map (λ t. work.Task t) (trace_in rows)
-    else (if bytes_eq name (codes "record") then option_map (λ t. work.Task t) (record_in rows)
-    else (if bytes_eq name (codes "verify") then Some (work.Task task.Verify)
-    else (if bytes_eq name (codes "serve") then option_map (λ s. work.Serve s) (serving_in rows)
-    else None))))))
+unfoldable pub work_in : Text → List Row → Result Work Argument
+work_in name rows = if bytes_eq name (codes "init") then Ok (work.Task task.Init)
+    else (if bytes_eq name (codes "run") then Ok (work.Task task.Run)
+    else (if bytes_eq name (codes "import") then task_work (import_in rows)
+    else (if bytes_eq name (codes "trace") then task_work (trace_in rows)
+    else (if bytes_eq name (codes "record") then task_work (record_in rows)
+    else (if bytes_eq name (codes "verify") then Ok (work.Task task.Verify)
+    else (if bytes_eq name (codes "serve") then (serving_in rows >>= λ s. Ok (work.Serve s))
+    else Err argument.Word))))))
 
 -- a word and its arguments
-abbrev pub meant_by : Text → List Row → Option Meant
-meant_by name rows =
-    option_and_then (λ file. option_map (λ w. (file, w)) (work_in name rows)) (first_of (codes "file") rows)
+abbrev pub meant_by : Text → List Row → Result Meant Argument
+meant_by name rows = do
+  file ← ok_or (first_of (codes "file") rows) argument.File
+  w ← work_in name rows
+  Ok (file, w)
 
 -- no word is a run over memory
-abbrev pub meant_in : Option (Text × List Row) → Option Meant
-meant_in None = Some (codes ":memory:", work.Task task.Run)
+abbrev pub meant_in : Option (Text × List Row) → Result Meant Argument
+meant_in None = Ok (codes ":memory:", work.Task task.Run)
 meant_in (Some p) = meant_by p.0 p.1
 
 -- ---- refusals
@@ -135,14 +158,19 @@ told_as kind.DisplayHelp usage help = help
 told_as kind.DisplayVersion usage help = help
 told_as _ usage help = usage
 
-abbrev pub IsNotHelp : WordsFault → Type 0
-IsNotHelp (Help text) = ⊥
-IsNotHelp _ = Unit {0}
+-- the fault that tells the argument whose value breaks its rule, or want of memory for that
+abbrev pub TellsBroken : Argument → WordsFault → Type 0
+TellsBroken a (Usage text) = string_bytes text ≡ refusal_text a
+TellsBroken a (Help text) = ⊥
+TellsBroken a Memory = Unit {0}
 
--- the words are refused by this fault only where there is a mistake in them or they mean nothing,
+-- clap takes the words, and this tells the first value that breaks its rule
+abbrev pub IsBroken : List Text → List ℕ → Type 0
+IsBroken words told = (a : Argument) × (meant_in (subcommand_of the_program words) ≡ Err a) × (told ≡ refusal_text a)
+
+-- the words are refused by this fault only where there is a mistake in them or it tells a value that breaks its rule,
 -- only where they ask for help or for the version, or for want of memory
 abbrev pub IsRefusedBy : List Text → WordsFault → Type 0
-IsRefusedBy words (Usage text) =
-    (has_mistake (fault_of the_program words) ≡ true) ⊎ (meant_in (subcommand_of the_program words) ≡ None)
+IsRefusedBy words (Usage text) = (has_mistake (fault_of the_program words) ≡ true) ⊎ IsBroken words (string_bytes text)
 IsRefusedBy words (Help text) = has_request (fault_of the_program words) ≡ true
 IsRefusedBy words Memory = Unit {0}

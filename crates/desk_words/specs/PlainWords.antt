@@ -1,11 +1,13 @@
 -- What plain words tell, whatever the program, the file and the batch are called.
-use Rattle.std.specs.Prelude.{◌≡◌, ◌==◌, ◌||◌, Bool, true, false, List, [], ◌∷◌, codes, Some, None}
+use Rattle.std.specs.Prelude.{◌≡◌, ◌==◌, ◌||◌, Bool, true, false, List, [], ◌∷◌, codes, Some, None, Ok, Err}
 use Rattle.std.specs.Str.{bytes_eq}
 use Rattle.clap.specs.Words.{Text, fault_of, subcommand_of}
 use Rattle.clap.specs.declared.error.kind.ErrorKind.TheVariants as kind
 use Rattle.plant_base.specs.Values.{is_id}
 use Rattle.plant_trace.specs.declared.direction.Direction.{Direction}
 use Rattle.plant_trace.specs.declared.direction.Direction.TheVariants.{Back, Forward}
+use Rattle.desk_words.specs.declared.argument.Argument.{Argument}
+use Rattle.desk_words.specs.declared.argument.Argument.TheVariants as argument
 use Rattle.desk_words.specs.CommandLine.{the_program}
 use Rattle.desk_words.specs.Meaning.{Meant, has_mistake, meant_in}
 use Rattle.desk_words.specs.declared.meaning.Work.{Work}
@@ -25,7 +27,7 @@ is_word word = bytes_eq (codes "init") word || (bytes_eq (codes "run") word || (
 
 -- the words are taken, and tell this
 abbrev pub Tell : List Text → Meant → Type 0
-Tell words meant = (fault_of the_program words ≡ []) × (meant_in (subcommand_of the_program words) ≡ Some meant)
+Tell words meant = (fault_of the_program words ≡ []) × (meant_in (subcommand_of the_program words) ≡ Ok meant)
 
 -- the words ask for help, and no mistake is in them
 abbrev pub AskHelp : List Text → Type 0
@@ -35,9 +37,9 @@ AskHelp words = fault_of the_program words ≡ kind.DisplayHelp ∷ []
 abbrev pub AreWrong : List Text → Type 0
 AreWrong words = has_mistake (fault_of the_program words) ≡ true
 
--- clap takes the words, and a value breaks a rule of the desk
-abbrev pub MeanNothing : List Text → Type 0
-MeanNothing words = meant_in (subcommand_of the_program words) ≡ None
+-- clap takes the words, and the value of this argument is the first that breaks a rule of the desk
+abbrev pub Break : List Text → Argument → Type 0
+Break words a = meant_in (subcommand_of the_program words) ≡ Err a
 
 -- a word with a file
 abbrev pub TellsFile : Text → Work → Type 0
@@ -78,11 +80,15 @@ pub record PlainWords : Type 0 where
       (file, work.Task (task.Import 100 (codes "desk") (Some (codes "R-1"))))
   -- a reference is an id
   pub no_reference : (name file : Text) → begins_with_dash file ≡ false
-      → MeanNothing (name ∷ codes "import" ∷ file ∷ codes "--at" ∷ codes "100" ∷ codes "--ref" ∷ codes "r-1" ∷ [])
+      → Break (name ∷ codes "import" ∷ file ∷ codes "--at" ∷ codes "100" ∷ codes "--ref" ∷ codes "r-1" ∷ []) argument.Reference
   pub import_wants : (name file : Text) → begins_with_dash file ≡ false → AreWrong (name ∷ codes "import" ∷ file ∷ [])
   pub serve_port : (name file : Text) → begins_with_dash file ≡ false
       → Tell (name ∷ codes "serve" ∷ file ∷ codes "8080" ∷ codes "1000" ∷ [])
-      (file, work.Serve (record { port = 8080; count = 1000 }))
+      (file, work.Serve (record { port = 8080; count = 1000; is_logged = false }))
+  -- each request is noted only where that is asked for
+  pub serve_logged : (name file : Text) → begins_with_dash file ≡ false
+      → Tell (name ∷ codes "serve" ∷ file ∷ codes "8080" ∷ codes "1000" ∷ codes "--log" ∷ [])
+      (file, work.Serve (record { port = 8080; count = 1000; is_logged = true }))
   -- ports are 1 to 65535, and connections 1 to 1000000
   pub no_port : (name file : Text) → begins_with_dash file ≡ false
       → AreWrong (name ∷ codes "serve" ∷ file ∷ codes "0" ∷ codes "1" ∷ [])

@@ -1,17 +1,22 @@
 //! The command line, as clap is told it.
 ghost use Rattle.std.specs.Prelude.{◌≡◌, IfOk, codes, false};
 ghost use Rattle.clap.specs.Words.{app_of, rule_of, shape_of, with_subcommand};
-ghost use Rattle.desk_words.specs.CommandLine.{bare_program, import_app, count_rule, port_rule, record_app};
+ghost use Rattle.desk_words.specs.CommandLine.{bare_program, import_app, count_rule, log_rule, port_rule, record_app};
 ghost use Rattle.desk_words.specs.CommandLine.{serve_app, the_program, trace_app, required_rule, word_app};
 ghost use Rattle.desk_words.specs.CommandLine.{at_rule, by_rule, reference_rule, with_taking, with_telling};
 ghost use Rattle.desk_words.specs.CommandLine.{IsLocal};
 
-use clap::{Arg, Command, value_parser};
+use clap::{Arg, ArgAction, Command, value_parser};
 use plant_base::GREATEST_MOMENT;
 use std::alloc::{AllocError, Global};
 
 /// The version of the program. The schema of a desk's tables has a number of its own, which `init` prints.
 const VERSION: &str = "1.0.0";
+
+/// What the exit status tells.
+const STATUSES: &str =
+    "Exit status: 0 where all went well; 1 where a reply is a refusal, or an order file has a fault; 2 where the words
+aren't understood; 3 where the store, the port, a read or a write failed; 4 where memory was refused.";
 
 /// An argument that has to be there.
 fn required_argument<'a>(alloc: Global, id: &'a str, name: &'a str, help: &'a str) -> Arg<'a>
@@ -59,6 +64,17 @@ fn count_argument<'a>(alloc: Global) -> Arg<'a>
         .value_name("COUNT")
         .help("How many connections are served, 1 to 1000000, one after the other")
         .value_parser(value_parser!(u32).range(1..=1_000_000))
+}
+
+/// `--log`, whether `serve` notes each request.
+fn log_argument<'a>(alloc: Global) -> Arg<'a>
+    ensures rule { rule_of result ≡ log_rule }
+    ensures local { result.global ≡ false }
+{
+    Arg::new(alloc, "log")
+        .long("log")
+        .action(ArgAction::SetTrue)
+        .help("Note each request on standard error, in a line of its own")
 }
 
 /// The word `name`, which takes the name of a file alone.
@@ -178,7 +194,8 @@ fn serve_command<'a>(alloc: Global) -> Result<Command<'a>, AllocError>
         "Example: desk serve plant.db 8080 1000\nThen: curl http://127.0.0.1:8080/v1/desk",
     )?
     .arg(port_argument(alloc))?
-    .arg(count_argument(alloc))
+    .arg(count_argument(alloc))?
+    .arg(log_argument(alloc))
 }
 
 /// The program with no word.
@@ -188,6 +205,7 @@ fn bare_command<'a>(alloc: Global) -> Command<'a>
     Command::new(alloc, "desk")
         .about("The manufacturing desk of a batch plant; alone it does run :memory:")
         .version(VERSION)
+        .after_help(STATUSES)
         .disable_help_subcommand(true)
 }
 

@@ -62,6 +62,8 @@ pub struct Serving {
     pub port: u16,
     /// How many connections, 1 to 1,000,000, one after the other.
     pub count: u32,
+    /// Whether each request is noted on standard error.
+    pub is_logged: bool,
 }
 
 /// Why the words tell nothing to do.

@@ -1,24 +1,31 @@
 //! The reading of the words.
-ghost use Rattle.std.specs.Prelude.{◌≡◌, IfErr, IfOk, Some, [], map};
+ghost use Rattle.std.specs.Prelude.{◌≡◌, IfErr, IfOk, Some, Ok, [], map};
 ghost use Rattle.clap.specs.Words.{fault_of, kind_of, subcommand_of};
 ghost use Rattle.desk_words.specs.CommandLine.{the_program};
-ghost use Rattle.desk_words.specs.Meaning.{IsFaultOf, IsNotHelp, IsRefusedBy, meant_in, told_as, words_meant};
+ghost use Rattle.desk_words.specs.Arguments.{refusal_text};
+ghost use Rattle.desk_words.specs.Meaning.{IsFaultOf, IsRefusedBy, TellsBroken, meant_in, told_as, words_meant};
 
+use crate::argument::Argument;
 use crate::command_line::command_line;
 use crate::matched::words_in;
 use crate::meaning::{Words, WordsFault};
 use clap::Error;
 use clap::error::ErrorKind;
 use std::alloc::Global;
+use std::fmt;
 
-/// What is told where clap takes the words and a value breaks a rule of the desk.
-const BROKEN_RULE: &str = "error: a value breaks its rule
-DIRECTION is back or forward
-ID, LOT and BATCH are 1 to 24 of A to Z, 0 to 9 and -, the first a letter
-TEXT is at most 60 characters from the space to ~
+/// What is told where clap takes the words and the value of an argument breaks its rule.
+#[derive(Clone, Copy)]
+struct BrokenRule(Argument);
 
-For more information, try '--help'.
-";
+impl fmt::Display for BrokenRule {
+    ghost output = { λ broken. Some (refusal_text broken.0) };
+
+    fn fmt<W: fmt::Write>(&self, f: &mut fmt::Formatter<W>) -> fmt::Result {
+        let rule = self.0;
+        write!(f, "error: {rule}\n\nFor more information, try '--help'.\n")
+    }
+}
 
 /// clap's refusal of the words, with its text.
 fn refusal_of(alloc: Global, error: Error) -> WordsFault
@@ -44,11 +51,11 @@ fn told_as(kind: ErrorKind, text: String) -> WordsFault
 
 /// Reads the words of a command line, the program's name first.
 ///
-/// `Usage` comes where they aren't understood or a value breaks its rule, `Help` where they ask for help or for the
+/// `Usage` comes where they aren't understood or a value breaks its rule, of which the text tells the first, `Help` where they ask for help or for the
 /// version, and `Memory` for want of memory.
 pub fn read_words<'a>(alloc: Global, words: &'a [&'a str]) -> Result<Words<'a>, WordsFault>
     ensures meant { IfOk result (λ w. meant_in (subcommand_of the_program
-        (map (λ s. s.now) words.entry.now)) ≡ Some (words_meant w)) }
+        (map (λ s. s.now) words.entry.now)) ≡ Ok (words_meant w)) }
     ensures taken { IfOk result (λ _. fault_of the_program (map (λ s. s.now) words.entry.now) ≡ []) }
     ensures refused { IfErr result (λ fault. IsRefusedBy (map (λ s. s.now) words.entry.now) fault) }
 {
@@ -57,18 +64,18 @@ pub fn read_words<'a>(alloc: Global, words: &'a [&'a str]) -> Result<Words<'a>, 
     };
     match command.try_get_matches_from(words) {
         Ok(matches) => match words_in(&matches) {
-            Some(found) => Ok(found),
-            None => Err(no_meaning(alloc)),
+            Ok(found) => Ok(found),
+            Err(argument) => Err(broken(alloc, argument)),
         },
         Err(error) => Err(refusal_of(alloc, error)),
     }
 }
 
-/// The refusal of words that clap takes and that mean nothing.
-fn no_meaning(alloc: Global) -> WordsFault
-    ensures { IsNotHelp result }
+/// The refusal of words that clap takes and of which an argument's value breaks its rule.
+fn broken(alloc: Global, argument: Argument) -> WordsFault
+    ensures { TellsBroken argument result }
 {
-    match String::from_str(alloc, BROKEN_RULE) {
+    match BrokenRule(argument).to_string(alloc) {
         Ok(text) => WordsFault::Usage(text),
         Err(_) => WordsFault::Memory,
     }

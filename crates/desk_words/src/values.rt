@@ -1,9 +1,11 @@
 //! The values of the words' arguments, each by its rule.
-ghost use Rattle.std.specs.Prelude.{◌≡◌, ◌<◌, ◌^◌, ◌≤◌, IfSome, option_and_then, option_map};
+ghost use Rattle.std.specs.Prelude.{◌≡◌, ◌<◌, ◌^◌, ◌≤◌, IfOk, option_map};
 ghost use Rattle.clap.specs.Words.{first_of, found_of, rows_of};
 ghost use Rattle.plant_base.specs.Values.{greatest_moment, is_id, is_text, only};
-ghost use Rattle.desk_words.specs.Meaning.{direction_of, if_named, number_in};
+ghost use Rattle.desk_words.specs.Arguments.{name_of};
+ghost use Rattle.desk_words.specs.Meaning.{direction_of, if_named, number_in, value_in};
 
+use crate::argument::Argument;
 use clap::ArgMatches;
 use plant_base::{GREATEST_MOMENT, Id, Moment, Text};
 use plant_trace::Direction;
@@ -23,35 +25,39 @@ fn read_id(text: &str) -> Option<Id>
 }
 
 /// The id that an argument is.
-pub(crate) fn id_at(matches: &ArgMatches<'_>, id: &str) -> Option<Id>
-    ensures { result ≡ option_and_then (only is_id) (first_of id.now (rows_of (found_of matches.now))) }
+pub(crate) fn id_at(matches: &ArgMatches<'_>, argument: Argument) -> Result<Id, Argument>
+    ensures { result ≡ value_in argument (only is_id) (rows_of (found_of matches.now)) }
 {
-    match value_of(matches, id) {
-        Some(text) => read_id(text),
-        None => None,
+    match value_of(matches, argument.name()) {
+        Some(text) => read_id(text).ok_or(argument),
+        None => Err(argument),
     }
 }
 
 /// The id that an argument is, where it is named.
-pub(crate) fn optional_id_at(matches: &ArgMatches<'_>, id: &str) -> Option<Option<Id>>
-    ensures { result ≡ if_named (only is_id) (first_of id.now (rows_of (found_of matches.now))) }
+pub(crate) fn optional_id_at(
+    matches: &ArgMatches<'_>,
+    argument: Argument,
+) -> Result<Option<Id>, Argument>
+    ensures { result ≡ if_named argument (only is_id)
+        (first_of (name_of argument) (rows_of (found_of matches.now))) }
 {
-    match value_of(matches, id) {
+    match value_of(matches, argument.name()) {
         Some(text) => match read_id(text) {
-            Some(found) => Some(Some(found)),
-            None => None,
+            Some(found) => Ok(Some(found)),
+            None => Err(argument),
         },
-        None => Some(None),
+        None => Ok(None),
     }
 }
 
 /// The text that an argument is.
-pub(crate) fn text_at(matches: &ArgMatches<'_>, id: &str) -> Option<Text>
-    ensures { result ≡ option_and_then (only is_text) (first_of id.now (rows_of (found_of matches.now))) }
+pub(crate) fn text_at(matches: &ArgMatches<'_>, argument: Argument) -> Result<Text, Argument>
+    ensures { result ≡ value_in argument (only is_text) (rows_of (found_of matches.now)) }
 {
-    match value_of(matches, id) {
-        Some(text) => Text::read(text.as_bytes()),
-        None => None,
+    match value_of(matches, argument.name()) {
+        Some(text) => Text::read(text.as_bytes()).ok_or(argument),
+        None => Err(argument),
     }
 }
 
@@ -75,28 +81,29 @@ fn number_in(text: &str, least: u64, greatest: u64) -> Option<u64>
 /// The number that an argument is, where it is one of these.
 pub(crate) fn number_at(
     matches: &ArgMatches<'_>,
-    id: &str,
+    argument: Argument,
     least: u64,
     greatest: u64,
-) -> Option<u64>
-    ensures value { result ≡ option_and_then (number_in least greatest)
-        (first_of id.now (rows_of (found_of matches.now))) }
-    ensures greatest { IfSome result (λ number. number ≤ greatest) }
+) -> Result<u64, Argument>
+    ensures value { result ≡ value_in argument (number_in least greatest) (rows_of (found_of matches.now)) }
+    ensures greatest { IfOk result (λ number. number ≤ greatest) }
 {
-    match value_of(matches, id) {
-        Some(text) => number_in(text, least, greatest),
-        None => None,
+    match value_of(matches, argument.name()) {
+        Some(text) => match number_in(text, least, greatest) {
+            Some(number) => Ok(number),
+            None => Err(argument),
+        },
+        None => Err(argument),
     }
 }
 
 /// The moment that an argument is.
-pub(crate) fn moment_at(matches: &ArgMatches<'_>, id: &str) -> Option<Moment>
-    ensures { result ≡ option_and_then (number_in 0 greatest_moment)
-        (first_of id.now (rows_of (found_of matches.now))) }
+pub(crate) fn moment_at(matches: &ArgMatches<'_>, argument: Argument) -> Result<Moment, Argument>
+    ensures { result ≡ value_in argument (number_in 0 greatest_moment) (rows_of (found_of matches.now)) }
 {
-    match number_at(matches, id, 0, GREATEST_MOMENT) {
-        Some(seconds) => Moment::new(seconds),
-        None => None,
+    match number_at(matches, argument, 0, GREATEST_MOMENT) {
+        Ok(seconds) => Moment::new(seconds).ok_or(argument),
+        Err(argument) => Err(argument),
     }
 }
 
@@ -114,11 +121,14 @@ fn direction_of(text: &str) -> Option<Direction>
 }
 
 /// The direction that an argument names.
-pub(crate) fn direction_at(matches: &ArgMatches<'_>, id: &str) -> Option<Direction>
-    ensures { result ≡ option_and_then direction_of (first_of id.now (rows_of (found_of matches.now))) }
+pub(crate) fn direction_at(
+    matches: &ArgMatches<'_>,
+    argument: Argument,
+) -> Result<Direction, Argument>
+    ensures { result ≡ value_in argument direction_of (rows_of (found_of matches.now)) }
 {
-    match value_of(matches, id) {
-        Some(text) => direction_of(text),
-        None => None,
+    match value_of(matches, argument.name()) {
+        Some(text) => direction_of(text).ok_or(argument),
+        None => Err(argument),
     }
 }

@@ -2,6 +2,7 @@
 #![tactic(auto)]
 
 mod ending;
+mod reason;
 mod verdict;
 
 use ending::{end_of, judge_alone, status_of};

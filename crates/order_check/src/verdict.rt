@@ -5,6 +5,7 @@ ghost use Rattle.order_check.specs.Endings.{judged_as};
 ghost use Rattle.order_check.specs.Verdicts.{verdict_of, verdict_text};
 
 use crate::ending::Fault;
+use crate::reason::reason_of;
 use plant_orders::{CsvFault, OrdersFault, orders_from};
 use std::alloc::Global;
 use std::fmt;
@@ -25,7 +26,10 @@ impl fmt::Display for Verdict {
     fn fmt<W: fmt::Write>(&self, f: &mut fmt::Formatter<W>) -> fmt::Result {
         match self {
             Verdict::Orders(count) => write!(f, "{count} orders"),
-            Verdict::Fault(fault) => write!(f, "{fault}"),
+            Verdict::Fault(fault) => {
+                let reason = reason_of(fault.kind);
+                write!(f, "{fault}: {reason}")
+            }
         }
     }
 }

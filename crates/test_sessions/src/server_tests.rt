@@ -1,6 +1,6 @@
 //! Connections that come in on a listener.
 use crate::session::new_desk;
-use desk_server::{ServingFault, serve_listener};
+use desk_server::{AccessLog, ServingFault, serve_listener};
 use std::io::{Read, Write};
 use std::net::{Shutdown, SocketAddr, TcpListener, TcpStream};
 use std::test::Fail;
@@ -27,7 +27,7 @@ fn connections_are_served_in_turn(rt: HostRuntime) -> Result<(), Fail> {
     if desk.is_shut() {
         return Err(Fail::from("a new desk is shut"));
     }
-    let end = serve_listener(rt.alloc(), &listener, 4, &mut desk);
+    let end = serve_listener(rt.alloc(), &listener, 4, &mut desk, AccessLog::Nowhere);
     assert!(rt; end == Err(ServingFault::Net));
     let mut answer = Vec::new(rt.alloc());
     asking.read_to_end(&mut answer)?;

@@ -1,9 +1,9 @@
-use Rattle.std.proofs.Common.{◌≡◌, ◌∙◌, List, [], true, None, Some, map, subst, sym, ap, refl, option_map}
+use Rattle.std.proofs.Common.{◌≡◌, ◌∙◌, List, [], true, Ok, Err, map, subst, sym, ap, refl}
 use Rattle.clap.specs.Kinds.{HasKind}
 use Rattle.clap.specs.Words.{App, HasMatchesOf, Text, app_of, fault_of, is_simple_and_free, subcommand_of, subcommand_rows_of}
 use Rattle.desk_words.specs.CommandLine.{the_program}
-use Rattle.desk_words.specs.Meaning.{meant_in, words_meant}
-use Rattle.desk_words.proofs.Refusals.{meaningless, refused_by}
+use Rattle.desk_words.specs.Meaning.{all_meant, meant_in, words_meant}
+use Rattle.desk_words.proofs.Refusals.{broken, refused_by}
 use Rattle.desk_words.proofs.read.read_words.Goals as goal
 
 pub returns-clause-refused : goal.returns-clause-refused
@@ -21,23 +21,23 @@ returns-in-Ok-try_get_matches_from-clause-refused c =
     let Has : App → Type 0 = λ a. HasMatchesOf a words m in
     let same : subcommand_rows_of m ≡ subcommand_of the_program words
     = (subst Has app c.in-Ok-try_get_matches_from.ensures.matches refl).1 in
-    let meant : None ≡ meant_in (subcommand_rows_of m) = ap (λ r. option_map words_meant r) (sym c.in-None.is) ∙ c.words_in.ensures in
-    meaningless words c.no_meaning.result (sym (meant ∙ ap meant_in same)) c.no_meaning.ensures
+    let meant : Err c.in-Err-words_in.argument ≡ meant_in (subcommand_rows_of m) = ap all_meant (sym c.in-Err-words_in.is) ∙ c.words_in.ensures in
+    broken words c.in-Err-words_in.argument c.broken.result (sym (meant ∙ ap meant_in same)) c.broken.ensures
 
-pub returns-in-Some-clause-meant : goal.returns-in-Some-clause-meant
-returns-in-Some-clause-meant c =
+pub returns-in-Ok-words_in-clause-meant : goal.returns-in-Ok-words_in-clause-meant
+returns-in-Ok-words_in-clause-meant c =
     let words : List Text = map (λ s. s.now) c.args.words.now in
     let app : app_of c.in-Ok.command ≡ the_program = c.in-Ok.ensures in
     let m = c.in-Ok-try_get_matches_from.matches in
     let Has : App → Type 0 = λ a. HasMatchesOf a words m in
     let same : subcommand_rows_of m ≡ subcommand_of the_program words
     = (subst Has app c.in-Ok-try_get_matches_from.ensures.matches refl).1 in
-    let meant : Some (words_meant c.in-Some.found) ≡ meant_in (subcommand_rows_of m)
-    = ap (λ r. option_map words_meant r) (sym c.in-Some.is) ∙ c.words_in.ensures in
+    let meant : Ok (words_meant c.in-Ok-words_in.found) ≡ meant_in (subcommand_rows_of m)
+    = ap all_meant (sym c.in-Ok-words_in.is) ∙ c.words_in.ensures in
     sym (meant ∙ ap meant_in same)
 
-pub returns-in-Some-clause-taken : goal.returns-in-Some-clause-taken
-returns-in-Some-clause-taken c =
+pub returns-in-Ok-words_in-clause-taken : goal.returns-in-Ok-words_in-clause-taken
+returns-in-Ok-words_in-clause-taken c =
     let words : List Text = map (λ s. s.now) c.args.words.now in
     let app : app_of c.in-Ok.command ≡ the_program = c.in-Ok.ensures in
     let Fails : App → Type 0 = λ a. is_simple_and_free a ≡ true → fault_of a words ≡ [] in

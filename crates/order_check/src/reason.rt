@@ -1,0 +1,60 @@
+//! Why an order file has a fault, in words.
+ghost use Rattle.std.specs.Prelude.{◌≡◌, Some};
+ghost use Rattle.order_check.specs.Verdicts.{reason_of, reason_text};
+
+use plant_orders::CsvKind;
+use plant_shapes::{Flaw, Member};
+use std::fmt;
+
+/// Why a file has a fault.
+#[derive(Clone, Copy, Debug, PartialEq, Eq)]
+pub(crate) enum Reason {
+    /// It is longer than 262,144 bytes.
+    TooLong,
+    /// Its first line isn't the header: also where semicolons or tabs stand between the fields.
+    Header,
+    /// A row hasn't six fields.
+    Shape,
+    /// A field of a row breaks its rule, which is that of the member of a line.
+    Field(Flaw),
+    /// It has more than 1,000 orders.
+    TooManyRows,
+    /// Memory was refused, which is no fault of a file.
+    Memory,
+}
+
+impl fmt::Display for Reason {
+    ghost output = { λ reason. Some (reason_text reason) };
+
+    fn fmt<W: fmt::Write>(&self, f: &mut fmt::Formatter<W>) -> fmt::Result {
+        match self {
+            Reason::TooLong => f.write_str("the file is longer than 262144 bytes"),
+            Reason::Header => f.write_str(
+                "the first line isn't order,recipe,version,size,due,priority, with commas between and neither semicolons nor tabs",
+            ),
+            Reason::Shape => f.write_str("the row hasn't six fields with commas between"),
+            Reason::Field(flaw) => write!(f, "{flaw}"),
+            Reason::TooManyRows => f.write_str("the file has more than 1000 orders"),
+            Reason::Memory => f.write_str("memory was refused"),
+        }
+    }
+}
+
+/// Why a file has a fault of this kind.
+pub(crate) fn reason_of(kind: CsvKind) -> Reason
+    ensures { result ≡ reason_of kind }
+{
+    match kind {
+        CsvKind::TooLong => Reason::TooLong,
+        CsvKind::Header => Reason::Header,
+        CsvKind::Shape => Reason::Shape,
+        CsvKind::Order => Reason::Field(Flaw::Breaks(Member::Order)),
+        CsvKind::Recipe => Reason::Field(Flaw::Breaks(Member::Recipe)),
+        CsvKind::Version => Reason::Field(Flaw::Breaks(Member::Version)),
+        CsvKind::Size => Reason::Field(Flaw::Breaks(Member::Size)),
+        CsvKind::Due => Reason::Field(Flaw::Breaks(Member::Due)),
+        CsvKind::Priority => Reason::Field(Flaw::Breaks(Member::Priority)),
+        CsvKind::TooManyRows => Reason::TooManyRows,
+        CsvKind::Memory => Reason::Memory,
+    }
+}

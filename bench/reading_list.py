@@ -1,28 +1,37 @@
 #!/usr/bin/env python3
 """Prints docs/READING.md: the definitions that the headline rests on, file by file, each behind those that it builds on.
 
-It begins at the words that the headline's clauses name, and follows each definition to those that it names, through the
-files of definitions of this repository. Usage: bench/reading_list.py > docs/READING.md, at the root of the repository."""
+It begins at the law that is the headline, and follows each definition to those that it names, through the files of definitions of
+this repository. It doesn't follow the relations that are the contracts of the calls: the law supposes them as the calls ensure
+them, and says of them nothing else. It leaves out how columns are read, the fields `read`, which no definition on the list takes.
+Usage: bench/reading_list.py > docs/READING.md, at the root of the repository."""
 
 import glob
 import re
 
-# The words of the headline's clauses, by the file of definitions in which they stand.
-WORDS = {
-    "plant_desk.Keeping": ["IsSameDesk", "States", "Executes", "Asks", "shuts", "writes_nothing"],
-    "plant_desk_store.Standing": ["Leaves", "Stands", "IsOpenAt", "FindsState", "OthersStand", "IsBeside"],
-    "plant_desk_store.Adopting": ["AdoptedFrom", "Adopts"],
-    "plant_desk_store.Laws": ["StopsAreReopened", "GoodIsAdoptedAgain", "OpeningIsAdopted", "OthersAreSpared"],
-    "plant_trace.Reach": ["IsReached", "Lists"],
-}
+LAW = ("plant_desk_store.specs.Headline", "Headline")
+CONTRACTS = ["HasAdopted", "HasRefused", "HasExecuted", "HasAsked", "HasRun", "HasVerified"]
+CALLS = "plant_desk_store.specs.Calls"
 
 HEAD = """# What to read to believe the headline
 
-The headline's contracts ([PROMISES](PROMISES.md)) say what they say in the words of definitions. Whoever agrees with the
+The headline is one law, the clause of `headline_law` of plant_desk_store: `Headline`, at the end of the list. Whoever agrees with the
 definitions below and with the premises in [ASSUMPTIONS](ASSUMPTIONS.md) needs to read neither code nor proofs. The files stand
 in the order in which each builds on those before it; lines are those of the definitions with their comments, without imports.
 A file's other definitions are those of other contracts. Made by bench/reading_list.py.
+
+Not on the list are the relations of plant_desk_store/specs/Calls, `HasAdopted`, `HasRefused`, `HasExecuted`, `HasAsked`, `HasRun` and
+`HasVerified`: the law supposes of each call of a desk one of them, and the call ensures it word for word (`Desk::adopt`, `Desk::run`,
+`Desk::verify`, and `execute_told` and `ask_told`, which do nothing but call `execute` and `ask`). Whatever they say, what follows from
+them is the law. Nor is how columns are read again (the fields `read` of `Kind` and `Columns`), which the law doesn't speak of.
 """
+
+
+def without_reading(block):
+    """A definition without how columns are read."""
+    for field in (r"\n  pub read : .*", r"\n  read = [^;}]*;", r"; read = [^;}]*(?= })"):
+        block = re.sub(field, "", block)
+    return block
 
 
 class File:
@@ -36,8 +45,9 @@ class File:
             self.imports.update({name.strip(): module for name in names.split(",")})
         self.aliases.update({name: module for module, name in re.findall(r"^use Rattle\.(\S+) as (\w+)", text, re.M)})
         for block in re.split(r"\n\n+", text):
-            found = re.search(r"^(?:pub )?(?:abbrev|record|unfoldable)(?: pub)? (\S+)", block, re.M)
+            found = re.search(r"^(?:pub )?(?:abbrev|record|unfoldable|data)(?: pub)? (\S+)", block, re.M)
             if found:
+                block = without_reading(block) if "/plant_tables_columns/" in path else block
                 lines = [it for it in block.split("\n") if not it.startswith(("use ", "-- ----", "infix"))]
                 self.defined[found[1]] = ("\n".join(lines), len(lines))
 
@@ -79,16 +89,15 @@ def in_order(modules, files, crates):
 
 def main():
     files = read_files()
-    todo = [(f"{crate}.specs.{file}", name) for key, names in WORDS.items() for crate, file in [key.split(".")] for name in names]
-    lost = [it for it in todo if it[1] not in files[it[0]].defined]
-    if lost:
-        raise SystemExit(f"no definition: {lost}")
-    found = set()
+    todo, found = [LAW], set()
     while todo:
         it = todo.pop()
-        if it not in found:
+        if it not in found and it not in [(CALLS, name) for name in CONTRACTS]:
             found.add(it)
             todo += named_in(files, *it)
+    taken = [it for it in found if re.search(r"\.read\b", files[it[0]].defined[it[1]][0])]
+    if taken:
+        raise SystemExit(f"these take how columns are read: {taken}")
     with open("crates.txt", encoding="utf-8") as it:
         crates = [line.split(":")[0] for line in it if ":" in line and not line.startswith("#")]
     rows = []

@@ -1,9 +1,11 @@
 pub mod Again
+pub mod Answered
 pub mod Finding
 pub mod Fitting
 pub mod Judging
 pub mod Lasting
 pub mod Leaving
+pub mod Living
 pub mod Marked
 pub mod OneSchema
 pub mod Others

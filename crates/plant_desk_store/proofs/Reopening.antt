@@ -27,7 +27,7 @@ abbrev database_of : Schema → Trees → Database
 database_of schema trees = record { schema = schema; trees = trees }
 
 -- sound databases over the same trees are one
-same_database : (a b : Database) → IsDatabase a → IsDatabase b → b.trees ≡ a.trees → b ≡ a
+pub same_database : (a b : Database) → IsDatabase a → IsDatabase b → b.trees ≡ a.trees → b ≡ a
 same_database a b sound other same =
     let listed : b.schema ≡ a.schema = one_schema b.schema a.schema a.trees (subst (IsSound b.schema) same other) sound in
     ap₂ database_of listed same
@@ -40,7 +40,7 @@ reopened version trees s known finds db same sound =
     (record { known = known; good = finds.good; holds = holds; whole = finds.whole }, ap (λ (d : Database). d.schema) is)
 
 -- no table is added after the newest schema
-none_later : (later : ℕ) (schema : Schema) → later ≡ newest_schema → All (IsFree schema) (later_forms later)
+pub none_later : (later : ℕ) (schema : Schema) → later ≡ newest_schema → All (IsFree schema) (later_forms later)
 none_later later schema newest = subst (λ k. All (IsFree schema) (later_forms k)) (sym newest) (λ i d low. let none : i < 0 = low in absurd (omega (arith, none)))
 
 -- ---- adopted, stopped, opened again

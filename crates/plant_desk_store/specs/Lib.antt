@@ -1,7 +1,10 @@
 pub mod Adopting
+pub mod Calls
 pub mod Faults
+pub mod Headline
 pub mod Laws
 pub mod Left
+pub mod Life
 pub mod Looking
 pub mod Running
 pub mod Standing

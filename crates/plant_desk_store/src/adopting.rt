@@ -1,6 +1,6 @@
 //! The adoption of a store.
 
-ghost use Rattle.std.specs.Prelude.{◌≡◌, ◌≢◌, ◌⊎◌, ◌≤◌, ◌<◌, ◌-◌, ℕ, false, pos, IfOk, IfErr, OnOk, OnErr, MatchResult};
+ghost use Rattle.std.specs.Prelude.{◌≡◌, ◌≢◌, ◌⊎◌, ◌≤◌, ◌<◌, ◌-◌, ℕ, false, pos, IfOk, IfErr, OnOk, OnErr};
 ghost use Rattle.sqlite.specs.Held.{state};
 ghost use Rattle.sqlite.specs.State.{HasCleanDisk, IsUnchanged, Survives};
 ghost use Rattle.sqlite.specs.Effect.{IsDatabase};
@@ -17,6 +17,7 @@ ghost use Rattle.plant_desk_store.specs.Faults as spec;
 ghost use Rattle.plant_desk_store.specs.Adopting.{IsNewlyOpened, AdoptedFrom, HoldsGood, KeepsGood};
 ghost use Rattle.plant_desk_store.specs.Adopting.{StillGood, IsRisingAt, IsRefusedBy, NamesFirst, BrokenBy};
 ghost use Rattle.plant_desk_store.specs.Adopting.{ShowsStill};
+ghost use Rattle.plant_desk_store.specs.Calls.{HasAdopted, HasRefused};
 ghost use Rattle.plant_desk_store.specs.Adopting.{AreMade, IsRaised, Adopts, IsUnraised};
 ghost use Rattle.plant_migrate.specs.Raised.{edges_from};
 ghost use Rattle.plant_migrate.specs.Steps.{IsRaisedBy};
@@ -86,6 +87,8 @@ impl<S: Alter> Desk<S> {
     /// Adopts a store in which no transaction is open. One that has none of the desk's tables gets them, with the
     /// opening state, in one transaction; good tables of an older schema are raised to the newest, one schema after the
     /// other, each in a transaction of its own; tables of other names aren't read and stay.
+    /// What a stop leaves is then that state, and after a fault what it left before, the opening state, or the good state that
+    /// was there, in its schema or a later one.
     ///
     /// - `Newer`: the tables are of a schema above the newest. Nothing is changed.
     /// - `Damaged`: some of the tables are there, of no schema above the newest, and they break this rule, and none before
@@ -95,48 +98,11 @@ impl<S: Alter> Desk<S> {
     ///   good and of an older schema, raised, to the newest or to one between.
     pub fn adopt(alloc: Global, mut connection: Connection<S>) -> Result<Desk<S>, AdoptRefused<S>>
         requires { (state S.Store connection).in_transaction ≡ false }
-        ensures adopted { IfOk result (λ desk. HasCleanDisk (state S.Store desk.connection)
-            → IsNewlyOpened (state S.Store connection)
-            → AdoptedFrom (state S.Store connection) (IsOpenAt (state S.Store desk.connection))) }
-        ensures open { IfOk result (λ desk. desk.is_shut ≡ false) }
-
-        // Over the tables of a good state the desk stands at this state, and a stop leaves that state alone; at a fault the
-        // tables are as they were, or of a schema between theirs and the newest, and a stop leaves those of some schema from
-        // theirs to the newest, of the same state.
-        ensures again { IfOk result (λ desk. KeepsGood (state S.Store connection)
+        ensures adopted { IfOk result (λ desk. HasAdopted (state S.Store connection)
             (state S.Store desk.connection)) }
-        ensures still { IfErr result (λ refused. StillGood (state S.Store connection)
+        ensures open { IfOk result (λ desk. desk.is_shut ≡ false) }
+        ensures refused { IfErr result (λ refused. HasRefused refused.fault (state S.Store connection)
             (state S.Store refused.connection)) }
-
-        // Tables of other names stand as they did.
-        ensures others { IfOk result (λ desk. HasCleanDisk (state S.Store desk.connection)
-            → IsNewlyOpened (state S.Store connection)
-            → OthersStand (state S.Store connection).now (state S.Store desk.connection)) }
-
-        // A fault has its cause; no transaction is open then, and the store, while it is open, shows what it showed, or, at
-        // Store, good tables of an older schema that were raised to one below the newest.
-        ensures refused { IfErr result (λ refused. HasCleanDisk (state S.Store refused.connection)
-            → IsRefusedBy (state S.Store connection).now refused.fault) }
-        ensures rests { IfErr result (λ refused. (state S.Store refused.connection).in_transaction
-            ≡ false) }
-        ensures shows { IfErr result (λ refused. HasCleanDisk (state S.Store refused.connection)
-            → IsNewlyOpened (state S.Store connection)
-            → ShowsStill refused.fault (state S.Store connection) (state S.Store refused.connection)) }
-
-        // What a stop leaves: what it left before, and only that where the store has some of the desk's tables, of no older
-        // schema, and at each fault but Store. Else, of a store as it was just opened, also the tables of the opening state,
-        // only where the names of the desk's tables were free, or those of the good state that stood there in an older
-        // schema, in a later one; each beside the same tables of other names.
-        ensures spared { IsUnraised (state S.Store connection).now
-            → MatchResult result (λ desk. Survives (state S.Store connection)
-            (state S.Store desk.connection) (λ _. ⊥))
-            (λ refused. Survives (state S.Store connection) (state S.Store refused.connection) (λ _. ⊥)) }
-        ensures unmade { IfErr result (λ refused. refused.fault ≢ AdoptFault.Store
-            → Survives (state S.Store connection) (state S.Store refused.connection) (λ _. ⊥)) }
-        ensures crash { MatchResult result (λ desk. Survives (state S.Store connection)
-            (state S.Store desk.connection) (Adopts (state S.Store connection)))
-            (λ refused. Survives (state S.Store connection) (state S.Store refused.connection)
-            (Adopts (state S.Store connection))) }
     {
         match adopt_on(alloc, &mut connection) {
             Ok(()) => Ok(Desk {

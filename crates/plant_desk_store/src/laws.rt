@@ -1,8 +1,46 @@
 //! Laws of a desk over its store.
 
+ghost use Rattle.std.specs.Prelude.{◌≡◌, false};
+ghost use Rattle.sqlite.specs.Held.{state};
+ghost use Rattle.plant_desk_store.specs.Calls.{HasExecuted, HasAsked};
+ghost use Rattle.plant_desk_store.specs.Headline.{Headline};
 ghost use Rattle.plant_desk_store.specs.Laws.{StopsAreReopened, GoodIsUnrefused};
 ghost use Rattle.plant_desk_store.specs.Laws.{GoodIsAdoptedAgain, OpeningIsAdopted, OthersAreSpared};
 ghost use Rattle.plant_desk_store.specs.Laws.{MarksAreReached};
+
+use crate::stored::Desk;
+use plant_base::Envelope;
+use plant_desk::{Answer, DeskFault, Keeper, Question, Reply};
+use sqlite::Alter;
+
+/// The headline: stopped before or within any write, however often, reopening gives the tables of all acknowledged commands,
+/// or of those and the ones under way; there each trace is exactly the least relation closed under recorded consumption,
+/// production, split and merge, and every lot's stock is what entered less what left.
+///
+/// What it supposes of a call is what the call ensures: [`Desk::adopt`], [`Desk::run`], [`Desk::verify`], and `execute` and
+/// `ask` of a desk, as [`execute_told`] and [`ask_told`] tell them.
+pub fn headline_law<S: Alter>()
+    ensures { Headline S.Store }
+{}
+
+/// Executes a command over a desk that isn't shut: what comes of it, in the words of the headline.
+pub fn execute_told<S: Alter>(desk: &mut Desk<S>, envelope: &Envelope) -> Result<Reply, DeskFault>
+    requires { desk.old.is_shut ≡ false }
+    ensures { HasExecuted (state S.Store desk.old.connection) (state S.Store desk.new.connection)
+        desk.new.is_shut envelope.now result }
+{
+    desk.execute(envelope)
+}
+
+/// Asks a desk that isn't shut: what comes of it, in the words of the headline.
+pub fn ask_told<S: Alter>(desk: &mut Desk<S>, question: &Question) -> Result<Answer, DeskFault>
+    requires { desk.old.is_shut ≡ false }
+    ensures told { HasAsked (state S.Store desk.old.connection) (state S.Store desk.new.connection)
+        question.now result }
+    ensures open { desk.new.is_shut ≡ false }
+{
+    desk.ask(question)
+}
 
 /// What follows from the clauses of a desk, as laws about their words; the function itself does nothing.
 ///

@@ -12,5 +12,5 @@ mod stored;
 mod verifying;
 
 pub use adopting::{AdoptFault, AdoptRefused};
-pub use laws::desk_laws;
+pub use laws::{ask_told, desk_laws, execute_told, headline_law};
 pub use stored::Desk;

@@ -24,51 +24,18 @@ pub struct Desk<S: Alter> {
 }
 
 impl<S: Alter> Desk<S> {
-    ghost use Rattle.std.specs.Prelude.{◌≡◌, ◌≢◌, ◌≤◌, [], true, false, Some, None, IfOk, IfErr, IsErrOf};
-    ghost use Rattle.std.specs.Prelude.{length, take};
-    ghost use Rattle.sqlite.specs.Effect.{Database};
+    ghost use Rattle.std.specs.Prelude.{◌≡◌, [], true, false, Some, IsErrOf};
     ghost use Rattle.sqlite.specs.Held.{state};
-    ghost use Rattle.sqlite.specs.State.{HasCleanDisk, Survives};
-    ghost use Rattle.plant_base.specs.State.{State};
-    ghost use Rattle.plant_desk.specs.Runs.{fold};
-    ghost use Rattle.plant_trace.specs.Reach.{IsAcyclic};
-    ghost use Rattle.plant_view.specs.Conserve.{IsConserved, IsBalanced};
-    ghost use Rattle.plant_view.specs.Genealogy.{edges_of};
-    ghost use Rattle.plant_desk_store.specs.Standing.{Leaves, Stands, IsBeside};
-    ghost use Rattle.plant_desk_store.specs.Running.{Ran};
-    ghost use Rattle.plant_desk_store.specs.Testing.{IsTested};
+    ghost use Rattle.plant_desk_store.specs.Calls.{HasRun, HasVerified};
 
     /// Executes commands in order, up to the first fault. Room for the replies is taken first; where it is refused,
     /// nothing is executed. A desk that is shut gives no replies, ends `Shut` and stays as it is; no other ends so.
     pub fn run(&mut self, list: &[Envelope]) -> RunReport
-        ensures honest { HasCleanDisk (state S.Store self.new.connection)
-            → HasCleanDisk (state S.Store self.old.connection) }
-        ensures within { length result.replies ≤ length list.now }
-        ensures ran { HasCleanDisk (state S.Store self.new.connection) → self.old.is_shut ≡ false
-            → (s : State) → Stands (state S.Store self.old.connection) self.old.is_shut s
-            → Ran s list.now result.replies result.end
-            (Stands (state S.Store self.new.connection) self.new.is_shut)
-            (Leaves (state S.Store self.new.connection)) self.new.is_shut }
-        ensures live { self.old.is_shut ≡ false → result.end ≢ Some DeskFault.Shut }
+        ensures ran { self.old.is_shut ≡ false → HasRun (state S.Store self.old.connection)
+            (state S.Store self.new.connection) self.new.is_shut list.now result.replies result.end }
         ensures shut { self.old.is_shut ≡ true
             → (result.replies ≡ []) × (result.end ≡ Some DeskFault.Shut) }
         ensures still { self.old.is_shut ≡ true → self.new ≡ self.old }
-
-        // Nothing is lost and nothing made, of each definition and in each lot, and nothing was made from itself.
-        ensures conserved { HasCleanDisk (state S.Store self.new.connection)
-            → self.old.is_shut ≡ false → (s : State)
-            → Stands (state S.Store self.old.connection) self.old.is_shut s
-            → IsConserved (fold s (take (length result.replies) list.now))
-            × IsBalanced (fold s (take (length result.replies) list.now)) }
-        ensures acyclic { HasCleanDisk (state S.Store self.new.connection)
-            → self.old.is_shut ≡ false → (s : State)
-            → Stands (state S.Store self.old.connection) self.old.is_shut s
-            → IsAcyclic (edges_of (fold s (take (length result.replies) list.now))) }
-
-        // Tables of other names stand as they did, also in what a stop leaves.
-        ensures others { HasCleanDisk (state S.Store self.new.connection) → (before : Database)
-            → IsBeside (state S.Store self.old.connection) self.old.is_shut before
-            → IsBeside (state S.Store self.new.connection) self.new.is_shut before }
     {
         if self.is_shut {
             return RunReport {
@@ -83,22 +50,11 @@ impl<S: Alter> Desk<S> {
     /// fault: `Store` where a table doesn't stand any more as it is declared, and where the store fails; `Memory`; `Shut`
     /// exactly from a desk that is shut. Nothing is changed, and an open desk stays open.
     pub fn verify(&mut self) -> Result<Option<Rule>, DeskFault>
-        ensures honest { HasCleanDisk (state S.Store self.new.connection)
-            → HasCleanDisk (state S.Store self.old.connection) }
+        ensures verified { self.old.is_shut ≡ false → HasVerified (state S.Store self.old.connection)
+            (state S.Store self.new.connection) result }
         ensures open { self.new.is_shut ≡ self.old.is_shut }
-        ensures live { self.old.is_shut ≡ false → IfErr result (λ fault. fault ≢ DeskFault.Shut) }
         ensures shut { self.old.is_shut ≡ true → IsErrOf result DeskFault.Shut }
         ensures still { self.old.is_shut ≡ true → self.new ≡ self.old }
-        // The rule is the first that the rows of the store's tables break.
-        ensures tested { HasCleanDisk (state S.Store self.new.connection)
-            → IfOk result (IsTested (state S.Store self.old.connection).now) }
-        ensures unbroken { HasCleanDisk (state S.Store self.new.connection)
-            → self.old.is_shut ≡ false → (s : State)
-            → Stands (state S.Store self.old.connection) self.old.is_shut s
-            → IfOk result (λ broken. broken ≡ None)
-            × Stands (state S.Store self.new.connection) self.new.is_shut s }
-        ensures crash { Survives (state S.Store self.old.connection)
-            (state S.Store self.new.connection) (λ _. ⊥) }
     {
         if self.is_shut {
             return Err(DeskFault::Shut);

@@ -1,20 +1,23 @@
+use Rattle.std.proofs.Common.{Bool, false, sym, subst}
 use Rattle.sqlite.specs.Held.{state}
-use Rattle.plant_view.proofs.Balanced.{balanced}
-use Rattle.plant_view.proofs.Conserved.{conserved}
-use Rattle.plant_desk_store.specs.Standing.{Leaves}
-use Rattle.plant_desk_store.proofs.Lasting.{ends_good}
+use Rattle.sqlite.specs.State.{HasCleanDisk}
+use Rattle.plant_base.specs.State.{State}
+use Rattle.plant_desk_store.specs.Running.{Ran}
+use Rattle.plant_desk_store.specs.Standing.{Stands, Leaves, IsBeside}
+use Rattle.plant_desk_store.proofs.Lasting.{accounted}
 use Rattle.plant_desk_store.proofs.stored.Desk.run.Goals as goal
 
-pub returns-clause-conserved : goal.returns-clause-conserved
-returns-clause-conserved g c clean live s stood =
-    let new = c.run_over.new.keeper in
-    let now = state g.S.Store new.connection in
-    let good = ends_good now s c.args.list.now c.run_over.result.replies c.run_over.result.end (Leaves now) new.is_shut (c.run_over.ensures.ran clean s stood) in
-    (conserved _ good.sound, balanced _ good.sound)
-
-pub returns-clause-acyclic : goal.returns-clause-acyclic
-returns-clause-acyclic g c clean live s stood =
-    let new = c.run_over.new.keeper in
-    let now = state g.S.Store new.connection in
-    let good = ends_good now s c.args.list.now c.run_over.result.replies c.run_over.result.end (Leaves now) new.is_shut (c.run_over.ensures.ran clean s stood) in
-    good.sound.genealogy.acyclic
+pub returns-clause-ran : goal.returns-clause-ran
+returns-clause-ran g c live =
+    let old = state g.S.Store c.args.self.now.connection in
+    let desk = c.run_over.new.keeper in
+    let new = state g.S.Store desk.connection in
+    let ran : HasCleanDisk new → (s : State) → Stands old false s → Ran s c.args.list.now c.run_over.result.replies c.run_over.result.end (Stands new desk.is_shut) (Leaves new) desk.is_shut = λ clean s stood. c.run_over.ensures.ran clean s (subst (λ (b : Bool). Stands old b s) (sym live) stood) in
+    record {
+      honest = c.run_over.ensures.same.honest;
+      within = c.run_over.ensures.within;
+      live = c.run_over.ensures.live;
+      ran = ran;
+      accounted = λ clean s stood. accounted new s c.args.list.now c.run_over.result.replies c.run_over.result.end desk.is_shut (ran clean s stood);
+      others = λ clean before stood. c.run_over.ensures.same.beside clean before (subst (λ (b : Bool). IsBeside old b before) (sym live) stood);
+    }

@@ -1,0 +1,49 @@
+-- What is answered of a state is what its movements say.
+use Rattle.std.proofs.Common.{◌≡◌, ◌∙◌, ◌+◌, ◌-◌, ℕ, List, Option, Some, None, refl, sym, ap, subst, arith}
+use Rattle.std.specs.Prelude.{filter}
+use Rattle.std.specs.List.{AllByRecursion}
+use Rattle.plant_base.specs.State.{State, same, lot_at, newest_schema}
+use Rattle.plant_base.specs.declared.refusal.Refusal.{Refusal}
+use Rattle.plant_base.specs.declared.rows.Lot.{Lot}
+use Rattle.plant_base.specs.declared.rows.Place.{Place}
+use Rattle.plant_base.specs.declared.rows.Sublot.{Sublot}
+use Rattle.plant_base.proofs.Find.{found_passes}
+use Rattle.plant_base.proofs.Keys.{same_id}
+use Rattle.plant_stock.specs.Stock.{entered, left, left_of, born_of}
+use Rattle.plant_trace.specs.declared.direction.Direction.{Direction}
+use Rattle.plant_trace.specs.declared.node.Node.{Node}
+use Rattle.plant_view.specs.Conserve.{lot_stock}
+use Rattle.plant_view.specs.Genealogy.{edges_of}
+use Rattle.plant_view.specs.Sound.{IsSound}
+use Rattle.plant_view.specs.Tables.{sublot_row}
+use Rattle.plant_view.proofs.Balanced.{balanced}
+use Rattle.plant_view.proofs.Rows.{all_of, all_mapped}
+use Rattle.plant_desk.specs.Answers.{answer, answer_lot}
+use Rattle.plant_desk.specs.Traces.{missing, answer_trace}
+use Rattle.plant_desk.specs.declared.question.Question.{Question}
+use Rattle.plant_desk.specs.declared.question.Question.TheVariants as Q
+use Rattle.plant_desk.proofs.Reaching.{trace_lists}
+use Rattle.plant_desk_store.specs.Headline.{IsTraceIn, IsLotIn, IsToldIn}
+
+trace_told : (s : State) (direction : Direction) (start : Node) (o : Option Refusal) → missing s start ≡ o → IsTraceIn s direction start (answer_trace s direction start o)
+trace_told s direction start None e = trace_lists (edges_of s) direction start
+trace_told s direction start (Some r) e = λ there. let both : Some r ≡ None = sym e ∙ there in absurd (cc)
+
+lot_told : (s : State) → IsSound s → (lot : List ℕ) (o : Option Lot) → lot_at s lot ≡ o → IsLotIn s lot (answer_lot s o)
+lot_told s sound lot None e = e
+lot_told s sound lot (Some l) e =
+    let named : l.id ≡ lot = same_id l.id lot (found_passes (λ (r : Lot). same r.id lot) s.lots l e) in
+    record {
+      named = named;
+      stock = subst (λ (id : List ℕ). lot_stock s id + left_of s.movements lot ≡ born_of s.movements lot) (sym named) (balanced s sound lot);
+      each = all_mapped _ (sublot_row s.movements) (filter (λ (p : Place). same p.lot l.id) s.places) (all_of _ (λ (p : Place). let low = sound.covered p.lot p.number in omega (arith, low)) _);
+    }
+
+pub answered : (s : State) → IsSound s → (q : Question) → IsToldIn s q (answer newest_schema s q)
+unfolding answer
+answered s sound Q.Desk = tt
+answered s sound (Q.Lot lot) = lot_told s sound lot (lot_at s lot) refl
+answered s sound (Q.Order order) = tt
+answered s sound (Q.Batch batch) = tt
+answered s sound (Q.Trace direction start) = trace_told s direction start (missing s start) refl
+answered s sound (Q.Recall recall) = tt

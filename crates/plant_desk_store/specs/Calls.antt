@@ -1,0 +1,91 @@
+-- What comes of each call of a desk over its store: the contracts of the calls, one relation a call.
+use Rattle.std.specs.Prelude.{◌≡◌, ◌≢◌, ◌≤◌, Bool, false, List, length, take, Option, Some, None, Result, IfOk, IfErr}
+use Rattle.sqlite.specs.Tree.{Trees}
+use Rattle.sqlite.specs.Effect.{Database}
+use Rattle.sqlite.specs.State as store
+use Rattle.sqlite.specs.State.{HasCleanDisk, Survives}
+use Rattle.plant_base.specs.State.{State, newest_schema}
+use Rattle.plant_base.specs.declared.command.Envelope.{Envelope}
+use Rattle.plant_trace.specs.Reach.{IsAcyclic}
+use Rattle.plant_view.specs.Conserve.{IsConserved, IsBalanced}
+use Rattle.plant_view.specs.Genealogy.{edges_of}
+use Rattle.plant_check.specs.declared.rule.Rule.{Rule}
+use Rattle.plant_desk.specs.Keeping.{Executes, Asks, shuts}
+use Rattle.plant_desk.specs.Runs.{fold}
+use Rattle.plant_desk.specs.declared.question.Question.{Question}
+use Rattle.plant_desk.specs.declared.question.Answer.{Answer}
+use Rattle.plant_desk.specs.declared.reply.Reply.{Reply}
+use Rattle.plant_desk.specs.declared.reply.DeskFault.{DeskFault}
+use Rattle.plant_desk.specs.declared.reply.DeskFault.TheVariants.{Shut}
+use Rattle.plant_desk_store.specs.Adopting.{IsNewlyOpened, AdoptedFrom, KeepsGood, StillGood, ShowsStill, IsRefusedBy, IsUnraised, Adopts}
+use Rattle.plant_desk_store.specs.Running.{Ran}
+use Rattle.plant_desk_store.specs.Standing.{IsOpenAt, OthersStand, Stands, Leaves, IsBeside}
+use Rattle.plant_desk_store.specs.Testing.{IsTested}
+use Rattle.plant_desk_store.specs.declared.adopting.AdoptFault.{AdoptFault}
+use Rattle.plant_desk_store.specs.declared.adopting.AdoptFault.TheVariants as fault
+
+-- ---- adoption
+
+-- The store was adopted.
+pub record HasAdopted (old new : store.State) : Type 0 where
+  pub adopted : HasCleanDisk new → IsNewlyOpened old → AdoptedFrom old (IsOpenAt new)
+  -- over the tables of a good state the desk stands at this state, and a stop leaves that state alone
+  pub again : KeepsGood old new
+  -- tables of other names stand as they did
+  pub others : HasCleanDisk new → IsNewlyOpened old → OthersStand old.now new
+  -- a stop leaves what it left before, and only that where there were tables that aren't raised
+  pub spared : IsUnraised old.now → Survives old new (λ _. ⊥)
+  pub crash : Survives old new (Adopts old)
+
+-- The store wasn't adopted, for this fault.
+pub record HasRefused (f : AdoptFault) (old new : store.State) : Type 0 where
+  -- the fault has its cause, and no transaction is open
+  pub refused : HasCleanDisk new → IsRefusedBy old.now f
+  pub rests : new.in_transaction ≡ false
+  -- the store, while it is open, shows what it showed, or good tables that were raised in part
+  pub shows : HasCleanDisk new → IsNewlyOpened old → ShowsStill f old new
+  -- a stop leaves the tables of a good state as they were, or of a later schema
+  pub still : StillGood old new
+  -- it leaves what it left before, and only that where there were tables that aren't raised, and at each fault but Store
+  pub spared : IsUnraised old.now → Survives old new (λ _. ⊥)
+  pub unmade : f ≢ fault.Store → Survives old new (λ _. ⊥)
+  pub crash : Survives old new (Adopts old)
+  pub something : HasCleanDisk new → ∥ ((trees : Trees) × new.may_leave trees) ∥₁
+
+-- ---- commands and questions to a desk that isn't shut
+
+-- A command was executed, which came to this.
+pub record HasExecuted (old new : store.State) (shut : Bool) (e : Envelope) (r : Result Reply DeskFault) : Type 0 where
+  pub honest : HasCleanDisk new → HasCleanDisk old
+  pub executes : HasCleanDisk new → (s : State) → Stands old false s → Executes s (Stands new shut) (Leaves new) e r
+  pub is_shut : shut ≡ shuts r
+
+-- A question was asked, which came to this.
+pub record HasAsked (old new : store.State) (q : Question) (r : Result Answer DeskFault) : Type 0 where
+  pub honest : HasCleanDisk new → HasCleanDisk old
+  pub asks : HasCleanDisk new → (s : State) → Stands old false s → Asks newest_schema s (Stands new false) q r
+
+-- Nothing is lost and nothing made, of each definition and in each lot, and nothing was made from itself.
+pub record IsAccounted (s : State) : Type 0 where
+  pub conserved : IsConserved s
+  pub balanced : IsBalanced s
+  pub acyclic : IsAcyclic (edges_of s)
+
+-- Commands were executed in order: so many were answered, and then this came.
+pub record HasRun (old new : store.State) (shut : Bool) (list : List Envelope) (answered : List Reply) (end : Option DeskFault) : Type 0 where
+  pub honest : HasCleanDisk new → HasCleanDisk old
+  pub within : length answered ≤ length list
+  pub live : end ≢ Some Shut
+  pub ran : HasCleanDisk new → (s : State) → Stands old false s → Ran s list answered end (Stands new shut) (Leaves new) shut
+  pub accounted : HasCleanDisk new → (s : State) → Stands old false s → IsAccounted (fold s (take (length answered) list))
+  -- tables of other names stand as they did, also in what a stop leaves
+  pub others : HasCleanDisk new → (before : Database) → IsBeside old false before → IsBeside new shut before
+
+-- All tables were tested: the first rule that they break is told, which none does where the desk stood at a state.
+pub record HasVerified (old new : store.State) (r : Result (Option Rule) DeskFault) : Type 0 where
+  pub honest : HasCleanDisk new → HasCleanDisk old
+  pub live : IfErr r (λ f. f ≢ Shut)
+  pub tested : HasCleanDisk new → IfOk r (IsTested old.now)
+  pub unbroken : HasCleanDisk new → (s : State) → Stands old false s → IfOk r (λ broken. broken ≡ None) × Stands new false s
+  -- a stop leaves what it left before
+  pub crash : Survives old new (λ _. ⊥)

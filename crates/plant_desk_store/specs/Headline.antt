@@ -1,0 +1,90 @@
+-- The headline: what a store holds and what is told of it, whatever stops came.
+use Rattle.std.specs.Prelude.{◌≡◌, ◌⊎◌, ℕ, ◌+◌, true, false, List, Option, Some, None, Ok, IsTrue, ⊤}
+use Rattle.std.specs.List.{AllByRecursion}
+use Rattle.sqlite.specs.Tree.{Trees}
+use Rattle.sqlite.specs.Effect.{Database}
+use Rattle.sqlite.specs.Held.{Held, state}
+use Rattle.sqlite.specs.State as store
+use Rattle.sqlite.specs.State.{HasCleanDisk}
+use Rattle.sqlite_trees.specs.declared.store.Store.{Ghosts}
+use Rattle.plant_base.specs.State.{State, opening, newest_schema, lot_at}
+use Rattle.plant_base.specs.declared.rows.Sublot.{Sublot}
+use Rattle.plant_stock.specs.Stock.{entered, left, born_of, left_of}
+use Rattle.plant_trace.specs.Reach.{IsReached, Lists}
+use Rattle.plant_trace.specs.declared.direction.Direction.{Direction}
+use Rattle.plant_trace.specs.declared.node.Node.{Node}
+use Rattle.plant_view.specs.Genealogy.{edges_of}
+use Rattle.plant_view.specs.Tables.{tables_of, IsWholeIn}
+use Rattle.table_forms.specs.Standing.{AreFree}
+use Rattle.plant_tables.specs.DeskForms.{desk_forms}
+use Rattle.plant_tables.specs.Keyed.{HoldsTablesOf, HoldsTables}
+use Rattle.plant_desk.specs.Traces.{missing}
+use Rattle.plant_desk.specs.declared.question.Question.{Question}
+use Rattle.plant_desk.specs.declared.question.Question.TheVariants as Q
+use Rattle.plant_desk.specs.declared.question.Answer.{Answer}
+use Rattle.plant_desk.specs.declared.question.Answer.TheVariants as A
+use Rattle.plant_desk.specs.declared.question.LotAnswer.{LotAnswer}
+use Rattle.plant_desk_store.specs.Calls.{HasRefused, HasAsked}
+use Rattle.plant_desk_store.specs.Life.{Sent, MayLeadTo, IsOpened, Place, opened, desk, refused, Lived}
+use Rattle.plant_desk_store.specs.declared.adopting.AdoptFault.{AdoptFault}
+use Rattle.plant_desk_store.specs.declared.adopting.AdoptFault.TheVariants.{Store, Memory}
+
+-- ---- what is told
+
+-- the trace lists just what the least relation reaches, or the lot or batch that it starts from isn't there
+abbrev pub IsTraceIn : State → Direction → Node → Answer → Type 0
+IsTraceIn s direction start (A.Trace nodes) = Lists (IsReached direction (edges_of s) start) nodes
+IsTraceIn s direction start _ = ¬ (missing s start ≡ None)
+
+-- The stock of the lot is what entered it less what left it, and that of each sublot likewise.
+pub record IsStockIn (s : State) (lot : List ℕ) (a : LotAnswer) : Type 0 where
+  pub named : a.lot ≡ lot
+  pub stock : a.stock + left_of s.movements lot ≡ born_of s.movements lot
+  pub each : AllByRecursion (λ (r : Sublot). r.stock + left s.movements r.lot r.number ≡ entered s.movements r.lot r.number) a.sublots
+
+-- its stock is told, or the lot isn't there
+abbrev pub IsLotIn : State → List ℕ → Answer → Type 0
+IsLotIn s lot (A.Lot a) = IsStockIn s lot a
+IsLotIn s lot _ = lot_at s lot ≡ None
+
+-- what is answered of a trace or a lot
+abbrev pub IsToldIn : State → Question → Answer → Type 0
+IsToldIn s (Q.Trace direction start) a = IsTraceIn s direction start a
+IsToldIn s (Q.Lot lot) a = IsLotIn s lot a
+IsToldIn s _ a = ⊤
+
+-- ---- what stands
+
+-- the database holds the tables of the state, in a schema that lacks no row of it; or the names of the desk's tables are
+-- free, and the state is the opening one
+abbrev pub IsAtState : State → Database → Type 0
+IsAtState s db = (AreFree desk_forms db.schema × (s ≡ opening)) ⊎ ((version : ℕ) × HoldsTablesOf version db (tables_of version s) × IsWholeIn version s)
+
+-- A store that was opened is at the state, and an adoption refuses it by a fault of the store or for want of memory alone.
+pub record IsFoundAt {S : Type 0} (g : Ghosts S) (c : Held S) (s : State) : Type 0 where
+  pub tables : IsAtState s (state g c).now
+  pub accepted : (f : AdoptFault) (new : Held S) → HasRefused f (state g c) (state g new) → HasCleanDisk (state g new) → (f ≡ Store) ⊎ (f ≡ Memory)
+
+-- The store of a desk that isn't shut, while it is open, holds the tables of the state, and what is asked is told of it.
+pub record IsKeptAt {S : Type 0} (g : Ghosts S) (c : Held S) (s : State) : Type 0 where
+  pub tables : IsTrue (state g c).is_open → HoldsTables (state g c).now (tables_of newest_schema s)
+  pub told : (q : Question) (a : Answer) (new : Held S) → HasAsked (state g c) (state g new) q (Ok a) → HasCleanDisk (state g new) → IsToldIn s q a
+
+-- a stop leaves something that can be opened
+abbrev pub LeavesSomething : store.State → Type 0
+LeavesSomething c = ∥ ((trees : Trees) × c.may_leave trees) ∥₁
+
+-- what is so at each place; of a desk that is shut and of a store that was given back nothing is told but by the next opening
+abbrev pub IsSoAt : {S : Type 0} → Ghosts S → Held S → State → Place → Type 0
+IsSoAt g c s opened = IsFoundAt g c s
+IsSoAt g c s (desk false) = IsKeptAt g c s
+IsSoAt g c s (desk true) = ⊤
+IsSoAt g c s refused = ⊤
+
+-- Whatever a store has been through since its first opening, calls and stops at any moment: it was at some state first, and
+-- is now at the state to which all acknowledged commands lead, or these and some of those that were under way, each at a stop
+-- of its own; and a stop leaves something. There each trace is exactly the least relation that is closed under recorded consumption, production, split and
+-- merge, and every lot's stock is what entered it less what left it.
+abbrev pub Headline : {S : Type 0} → Ghosts S → Type 0
+Headline {S} g = (first c : Held S) (place : Place) (sent : List Sent) → IsOpened (state g first) → Lived g first c place sent → HasCleanDisk (state g c)
+    → (s : State) × IsAtState s (state g first).now × ((now : State) × MayLeadTo s sent now × IsSoAt g c now place) × LeavesSomething (state g c)

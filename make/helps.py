@@ -62,9 +62,9 @@ class Help:
         return self.lists.get(name, [])
 
 
-def said(program, *words):
-    """What the desk prints at these words, under its own name."""
-    return subprocess.run(["desk", *words], executable=program, capture_output=True, check=True, text=True, stdin=subprocess.DEVNULL).stdout
+def said(program, *words, name="desk"):
+    """What a program prints at these words, under its own name."""
+    return subprocess.run([name, *words], executable=program, capture_output=True, check=True, text=True, stdin=subprocess.DEVNULL).stdout
 
 
 def helps_of(program):

@@ -123,7 +123,7 @@ def pages(programs, version, whole, words):
     """The pages of the manual, by their places."""
     told = {"desk": (whole, words)}
     for name in [it for it in programs if it != "desk"]:
-        told[name] = (helps.Help((BESIDE / f"{name}.txt").read_text()), {})
+        told[name] = (helps.Help(helps.said(programs[name], "--help", name=name)), {})
     texts = {name: helps.page(name, version, *it, [other for other in programs if other != name]) for name, it in told.items()}
     return {f"share/man/man1/{name}.1.gz": (pressed(text.encode()), 0o644) for name, text in texts.items()}
 

@@ -2,13 +2,11 @@
 //! records go out on standard output; requests of HTTP come in on a port of 127.0.0.1.
 #![tactic(auto)]
 
-mod arguments;
 mod opening;
 mod working;
 
-use arguments::{read_arguments, texts_of};
 use desk_program::tell_words;
-use desk_words::{WordsFault, read_words};
+use desk_words::{WordsFault, read_arguments, read_words, texts_of};
 use opening::perform_over;
 use sqlite::Wary;
 use std::io;

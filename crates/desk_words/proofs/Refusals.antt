@@ -7,7 +7,7 @@ use Rattle.clap.specs.declared.error.Error.{Error}
 use Rattle.clap.specs.declared.error.kind.ErrorKind.{ErrorKind}
 use Rattle.clap.specs.declared.error.kind.ErrorKind.TheVariants as kind
 use Rattle.desk_words.specs.CommandLine.{the_program}
-use Rattle.desk_words.specs.Meaning.{IsFaultOf, IsRefusedBy, TellsBroken, asks_help, is_mistake, meant_in, told_as}
+use Rattle.desk_words.specs.Meaning.{IsFaultOf, IsRefusalOf, IsRefusedBy, TellsBroken, asks_help, is_mistake, meant_in, told_as}
 use Rattle.desk_words.specs.declared.argument.Argument.{Argument}
 use Rattle.desk_words.specs.declared.meaning.WordsFault.{WordsFault}
 use Rattle.desk_words.specs.declared.meaning.WordsFault.TheVariants.{Usage, Help, Memory}
@@ -26,13 +26,18 @@ told_fault kind.DisplayHelp usage help fault is mistake helps = subst (IsFaultOf
 told_fault kind.DisplayVersion usage help fault is mistake helps = subst (IsFaultOf kind.DisplayVersion) (sym is) (helps refl)
 told_fault k usage help fault is mistake helps = rw is (mistake refl)
 
-pub refused_by : (words : List Text) (fault : WordsFault) (e : Error) → HasKind (fault_of the_program words) e
-    → IsFaultOf (kind_of e) fault → IsRefusedBy words fault
-refused_by words (Usage text) e (inl memory) h = let bad : false ≡ true = sym (ap is_mistake memory) ∙ h in cc bad
-refused_by words (Usage text) e (inr among) h = inl (any_among is_mistake (kind_of e) (fault_of the_program words) among h)
-refused_by words (Help text) e (inl memory) h = let bad : false ≡ true = sym (ap asks_help memory) ∙ h in cc bad
-refused_by words (Help text) e (inr among) h = any_among asks_help (kind_of e) (fault_of the_program words) among h
-refused_by words Memory e k h = tt
+-- a refusal of clap's has its kind among those that it found
+pub refusal_by : (ks : Kinds) (fault : WordsFault) (e : Error) → HasKind ks e → IsFaultOf (kind_of e) fault → IsRefusalOf ks fault
+refusal_by ks (Usage text) e (inl memory) h = let bad : false ≡ true = sym (ap is_mistake memory) ∙ h in cc bad
+refusal_by ks (Usage text) e (inr among) h = any_among is_mistake (kind_of e) ks among h
+refusal_by ks (Help text) e (inl memory) h = let bad : false ≡ true = sym (ap asks_help memory) ∙ h in cc bad
+refusal_by ks (Help text) e (inr among) h = any_among asks_help (kind_of e) ks among h
+refusal_by ks Memory e k h = tt
+
+pub refused_by : (words : List Text) (fault : WordsFault) → IsRefusalOf (fault_of the_program words) fault → IsRefusedBy words fault
+refused_by words (Usage text) h = inl h
+refused_by words (Help text) h = h
+refused_by words Memory h = h
 
 -- words of which a value breaks its rule are refused by that, or for want of memory
 pub broken : (words : List Text) (a : Argument) (fault : WordsFault) → meant_in (subcommand_of the_program words) ≡ Err a

@@ -2,3 +2,5 @@ pub mod Arguments
 pub mod CommandLine
 pub mod Meaning
 pub mod PlainWords
+pub mod Taken
+pub mod Checking

@@ -164,13 +164,18 @@ TellsBroken a (Usage text) = string_bytes text ≡ refusal_text a
 TellsBroken a (Help text) = ⊥
 TellsBroken a Memory = Unit {0}
 
+-- the words are refused by this fault only where one of these kinds is a mistake, only where one asks for help or for the version, or for
+-- want of memory
+abbrev pub IsRefusalOf : Kinds → WordsFault → Type 0
+IsRefusalOf ks (Usage text) = has_mistake ks ≡ true
+IsRefusalOf ks (Help text) = has_request ks ≡ true
+IsRefusalOf ks Memory = Unit {0}
+
 -- clap takes the words, and this tells the first value that breaks its rule
 abbrev pub IsBroken : List Text → List ℕ → Type 0
 IsBroken words told = (a : Argument) × (meant_in (subcommand_of the_program words) ≡ Err a) × (told ≡ refusal_text a)
 
--- the words are refused by this fault only where there is a mistake in them or it tells a value that breaks its rule,
--- only where they ask for help or for the version, or for want of memory
+-- the words are refused by this fault as clap refuses them, or since it tells a value that breaks its rule
 abbrev pub IsRefusedBy : List Text → WordsFault → Type 0
-IsRefusedBy words (Usage text) = (has_mistake (fault_of the_program words) ≡ true) ⊎ IsBroken words (string_bytes text)
-IsRefusedBy words (Help text) = has_request (fault_of the_program words) ≡ true
-IsRefusedBy words Memory = Unit {0}
+IsRefusedBy words (Usage text) = IsRefusalOf (fault_of the_program words) (Usage text) ⊎ IsBroken words (string_bytes text)
+IsRefusedBy words fault = IsRefusalOf (fault_of the_program words) fault

@@ -11,7 +11,7 @@ use plant_base::GREATEST_MOMENT;
 use std::alloc::{AllocError, Global};
 
 /// The version of the program. The schema of a desk's tables has a number of its own, which `init` prints.
-const VERSION: &str = "1.0.0";
+pub(crate) const VERSION: &str = "1.0.0";
 
 /// What the exit status tells.
 const STATUSES: &str =

@@ -2,14 +2,18 @@
 #![tactic(auto)]
 
 mod argument;
+mod checking;
 mod command_line;
 mod laws;
 mod matched;
 mod meaning;
 mod read;
+mod taken;
 mod values;
 
 pub use argument::Argument;
+pub use checking::{CheckProgram, read_checked_file};
 pub use laws::plain_words_law;
 pub use meaning::{Serving, Task, Words, WordsFault, Work};
 pub use read::read_words;
+pub use taken::{read_arguments, tell_refused, texts_of};

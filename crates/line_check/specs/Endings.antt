@@ -5,7 +5,7 @@ use Rattle.line_check.specs.declared.lines.Fault.TheVariants as fault
 
 -- what a fault says on standard error, without its LF
 abbrev pub fault_text : Fault → List ℕ
-fault_text fault.Usage = codes "usage: line_check < FILE"
+fault_text fault.Open = codes "fault: open"
 fault_text fault.Read = codes "fault: read"
 fault_text fault.Write = codes "fault: write"
 fault_text fault.Memory = codes "fault: memory"
@@ -14,7 +14,7 @@ fault_text fault.Memory = codes "fault: memory"
 abbrev pub status_of : Result Bool Fault → ℕ
 status_of (Ok false) = 0
 status_of (Ok true) = 1
-status_of (Err fault.Usage) = 2
+status_of (Err fault.Open) = 3
 status_of (Err fault.Read) = 3
 status_of (Err fault.Write) = 3
 status_of (Err fault.Memory) = 4

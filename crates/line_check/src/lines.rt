@@ -29,8 +29,8 @@ pub(crate) struct Tally {
 /// Why a check ends before it has told all.
 #[derive(Clone, Copy, Debug, PartialEq, Eq)]
 pub(crate) enum Fault {
-    /// A word stands on the command line behind the program's name.
-    Usage,
+    /// The file can't be opened.
+    Open,
     /// A read failed, or the input had not ended after 10^9 reads.
     Read,
     /// A text couldn't be written whole.

@@ -1,4 +1,4 @@
-//! Checks lines on standard input before they are sent: what is wrong with each that is no command and no question.
+//! Checks lines before they are sent: what is wrong with each that the desk would answer BadForm.
 #![tactic(auto)]
 
 mod ending;
@@ -6,27 +6,43 @@ mod judge;
 mod lines;
 mod misfits;
 
-use ending::{check_alone, status_of};
+use desk_words::{
+    CheckProgram, WordsFault, read_arguments, read_checked_file, tell_refused, texts_of,
+};
+use ending::status_of;
+use lines::{Fault, check_lines};
+use std::fs::File;
+use std::io;
 use std::process::ExitCode;
-use std::{env, io};
 
 fn main(rt: HostRuntime) -> ExitCode {
-    let end = check_alone(
-        rt.alloc(),
-        word_count(&rt),
-        &mut rt.reader(),
-        &mut io::writer(&rt),
-    );
+    let status = match check_named(&rt) {
+        Ok(status) => status,
+        Err(fault) => tell_refused(&rt, &fault),
+    };
+    ExitCode::from(status)
+}
+
+/// Checks the lines of the file that the words of the command line name, and gives the exit status.
+fn check_named(rt: &HostRuntime) -> Result<u8, WordsFault> {
+    let arguments = read_arguments(rt)?;
+    let texts = texts_of(rt.alloc(), arguments.as_slice())?;
+    let file = read_checked_file(rt.alloc(), CheckProgram::Lines, texts.as_slice())?;
+    let end = check_file(rt, file);
     if let Err(fault) = &end {
         let _ = eprintln!(rt; "{fault}");
     }
-    ExitCode::from(status_of(&end))
+    Ok(status_of(&end))
 }
 
-/// How many words the command line has, the program's name among them, and 0 where they can't be read.
-fn word_count(rt: &HostRuntime) -> usize {
-    match env::args(rt) {
-        Ok(words) => words.count(),
-        Err(_) => 0,
+/// Checks the lines of the file of a name, of standard input where there is none.
+fn check_file(rt: &HostRuntime, file: Option<&str>) -> Result<bool, Fault> {
+    let mut writer = io::writer(rt);
+    match file {
+        None => check_lines(rt.alloc(), &mut rt.reader(), &mut writer),
+        Some(name) => match File::open(rt, name) {
+            Ok(mut opened) => check_lines(rt.alloc(), &mut opened, &mut writer),
+            Err(_) => Err(Fault::Open),
+        },
     }
 }

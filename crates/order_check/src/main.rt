@@ -1,29 +1,48 @@
-//! Checks an order file on standard input before it is sent: how many orders it holds, or its first fault.
+//! Checks an order file before it is sent: how many orders it holds, or its first fault.
 #![tactic(auto)]
 
 mod ending;
 mod reason;
 mod verdict;
 
-use ending::{end_of, judge_alone, status_of};
-use std::env;
+use desk_words::{
+    CheckProgram, WordsFault, read_arguments, read_checked_file, tell_refused, texts_of,
+};
+use ending::{Fault, end_of, status_of};
+use std::fs::File;
 use std::process::ExitCode;
+use verdict::{Verdict, judge};
 
 fn main(rt: HostRuntime) -> ExitCode {
-    let end = match judge_alone(rt.alloc(), word_count(&rt), &mut rt.reader()) {
+    let status = match check_named(&rt) {
+        Ok(status) => status,
+        Err(fault) => tell_refused(&rt, &fault),
+    };
+    ExitCode::from(status)
+}
+
+/// Checks the file that the words of the command line name, and gives the exit status.
+fn check_named(rt: &HostRuntime) -> Result<u8, WordsFault> {
+    let arguments = read_arguments(rt)?;
+    let texts = texts_of(rt.alloc(), arguments.as_slice())?;
+    let file = read_checked_file(rt.alloc(), CheckProgram::Orders, texts.as_slice())?;
+    let end = match judge_file(rt, file) {
         Ok(verdict) => end_of(verdict, println!(rt; "{verdict}").is_ok()),
         Err(fault) => Err(fault),
     };
     if let Err(fault) = &end {
         let _ = eprintln!(rt; "{fault}");
     }
-    ExitCode::from(status_of(&end))
+    Ok(status_of(&end))
 }
 
-/// How many words the command line has, the program's name among them, and 0 where they can't be read.
-fn word_count(rt: &HostRuntime) -> usize {
-    match env::args(rt) {
-        Ok(words) => words.count(),
-        Err(_) => 0,
+/// The verdict on the file of a name, on standard input where there is none.
+fn judge_file(rt: &HostRuntime, file: Option<&str>) -> Result<Verdict, Fault> {
+    match file {
+        None => judge(rt.alloc(), &mut rt.reader()),
+        Some(name) => match File::open(rt, name) {
+            Ok(mut opened) => judge(rt.alloc(), &mut opened),
+            Err(_) => Err(Fault::Open),
+        },
     }
 }

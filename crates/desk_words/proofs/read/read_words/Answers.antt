@@ -3,7 +3,7 @@ use Rattle.clap.specs.Kinds.{HasKind}
 use Rattle.clap.specs.Words.{App, HasMatchesOf, Text, app_of, fault_of, is_simple_and_free, subcommand_of, subcommand_rows_of}
 use Rattle.desk_words.specs.CommandLine.{the_program}
 use Rattle.desk_words.specs.Meaning.{all_meant, meant_in, words_meant}
-use Rattle.desk_words.proofs.Refusals.{broken, refused_by}
+use Rattle.desk_words.proofs.Refusals.{broken, refusal_by, refused_by}
 use Rattle.desk_words.proofs.read.read_words.Goals as goal
 
 pub returns-clause-refused : goal.returns-clause-refused
@@ -11,7 +11,7 @@ returns-clause-refused c =
     let words : List Text = map (λ s. s.now) c.args.words.now in
     let app : app_of c.in-Ok.command ≡ the_program = c.in-Ok.ensures in
     let Fails : App → Type 0 = λ a. is_simple_and_free a ≡ true → HasKind (fault_of a words) c.in-Err.error in
-    refused_by words c.refusal_of.result c.in-Err.error (subst Fails app c.in-Err.ensures.kinds refl) c.refusal_of.ensures
+    refused_by words c.refusal_of.result (refusal_by (fault_of the_program words) c.refusal_of.result c.in-Err.error (subst Fails app c.in-Err.ensures.kinds refl) c.refusal_of.ensures)
 
 pub returns-in-Ok-try_get_matches_from-clause-refused : goal.returns-in-Ok-try_get_matches_from-clause-refused
 returns-in-Ok-try_get_matches_from-clause-refused c =

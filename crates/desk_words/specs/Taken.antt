@@ -1,5 +1,5 @@
 -- What is told where the words of the command line can't be read.
-use Rattle.std.specs.Prelude.{◌≡◌, codes, string_bytes, ⊤}
+use Rattle.std.specs.Prelude.{◌≡◌, ◌⊎◌, ℕ, codes, string_bytes, ⊤}
 use Rattle.std.specs.declared.io.ErrorKind.{ErrorKind}
 use Rattle.std.specs.declared.io.ErrorKind.TheVariants as kind
 use Rattle.desk_words.specs.declared.meaning.WordsFault.{WordsFault}
@@ -15,3 +15,9 @@ abbrev pub IsNotUtf8 : WordsFault → Type 0
 IsNotUtf8 (fault.Usage text) = string_bytes text ≡ codes "error: a word is not UTF-8\n"
 IsNotUtf8 (fault.Help text) = ⊥
 IsNotUtf8 fault.Memory = ⊤
+
+-- the exit status of words that give nothing to do
+abbrev pub IsStatusOf : WordsFault → ℕ → Type 0
+IsStatusOf (fault.Usage text) status = status ≡ 2
+IsStatusOf (fault.Help text) status = (status ≡ 0) ⊎ (status ≡ 3)
+IsStatusOf fault.Memory status = status ≡ 4

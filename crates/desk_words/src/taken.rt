@@ -1,9 +1,9 @@
 //! The words of the command line as they come from the system.
 ghost use Rattle.std.specs.Prelude.{◌≡◌, IfErr, IfOk, OnErr, Ok, Err, map, string_bytes};
 ghost use Rattle.std.specs.IoError.{error_kind};
-ghost use Rattle.desk.specs.Arguments.{IsNotUtf8, fault_of_kind};
+ghost use Rattle.desk_words.specs.Taken.{IsNotUtf8, IsStatusOf, fault_of_kind};
 
-use desk_words::WordsFault;
+use crate::meaning::WordsFault;
 use std::alloc::{AllocError, Global};
 use std::env;
 use std::io::{Error, ErrorKind};
@@ -11,7 +11,7 @@ use std::io::{Error, ErrorKind};
 /// The words of the command line, the program's name first.
 ///
 /// `Usage` comes where one of them isn't UTF-8, `Memory` for want of memory.
-pub(crate) fn read_arguments(rt: &HostRuntime) -> Result<Vec<String>, WordsFault> {
+pub fn read_arguments(rt: &HostRuntime) -> Result<Vec<String>, WordsFault> {
     match env::args(rt) {
         Ok(words) => list_of(words.collect(rt.alloc())),
         Err(error) => Err(fault_of(&error, not_utf8(rt.alloc()))),
@@ -60,7 +60,7 @@ fn usage_of(text: Result<String, AllocError>) -> WordsFault
 /// The words as texts.
 ///
 /// `Memory` comes for want of memory, and no other fault.
-pub(crate) fn texts_of<'a>(alloc: Global, words: &'a [String]) -> Result<Vec<&'a str>, WordsFault>
+pub fn texts_of<'a>(alloc: Global, words: &'a [String]) -> Result<Vec<&'a str>, WordsFault>
     ensures texts { IfOk result (λ texts. map (λ s. s.now) texts.items ≡ map string_bytes words.now) }
     ensures memory { IfErr result (λ fault. fault ≡ WordsFault.Memory) }
 {
@@ -71,4 +71,28 @@ pub(crate) fn texts_of<'a>(alloc: Global, words: &'a [String]) -> Result<Vec<&'a
         }
     }
     Ok(texts)
+}
+
+/// Tells why words give nothing to do, and gives the exit status: the help that they ask for on standard output with 0, or 3 where it can't
+/// be written; a mistake on standard error with 2; want of memory there with 4.
+pub fn tell_refused(rt: &HostRuntime, fault: &WordsFault) -> u8
+    ensures { IsStatusOf fault.now result }
+{
+    match fault {
+        WordsFault::Help(text) => match print!(rt; "{text}") {
+            Ok(()) => 0,
+            Err(_) => {
+                let _ = eprintln!(rt; "fault: write");
+                3
+            }
+        },
+        WordsFault::Usage(text) => {
+            let _ = eprint!(rt; "{text}");
+            2
+        }
+        WordsFault::Memory => {
+            let _ = eprintln!(rt; "fault: memory");
+            4
+        }
+    }
 }

@@ -1,5 +1,5 @@
 -- Recalls: when they are refused, and what they add and lift.
-use Rattle.std.specs.Prelude.{ℕ, ◌+◌, Bool, false, not, List, [], ◌∷◌, Option, Some, None, is_some, is_none, map, filter}
+use Rattle.std.specs.Prelude.{ℕ, ◌+◌, ◌&&◌, nat_lt, Bool, false, not, List, [], ◌∷◌, Option, Some, None, is_some, is_none, map, filter}
 use Rattle.plant_base.specs.Recalls.{is_open}
 use Rattle.plant_base.specs.State.{State, newest_schema, put, recall_order, lot_at, recall_at}
 use Rattle.plant_base.specs.declared.refusal.Refusal.{Refusal}
@@ -7,6 +7,8 @@ use Rattle.plant_base.specs.declared.refusal.Refusal.TheVariants.{Exists, Unknow
 use Rattle.plant_base.specs.declared.command.Stamp.{Stamp}
 use Rattle.plant_base.specs.declared.command.RecallLot.{RecallLot}
 use Rattle.plant_base.specs.declared.command.LiftRecall.{LiftRecall}
+use Rattle.plant_base.specs.Values.{greatest_seq}
+use Rattle.plant_base.specs.declared.rows.Lot.{Lot}
 use Rattle.plant_base.specs.declared.rows.Recall.{Recall}
 use Rattle.plant_trace.specs.declared.node.Node.{Node}
 use Rattle.plant_view.specs.Recalls.{mark_on}
@@ -21,6 +23,10 @@ wrong_recall s c =
     refuse (is_none (lot_at s c.lot)) UnknownLot
     (refuse (is_some (recall_at s c.recall)) Exists
     (refuse (at_limit s) TooMany None))
+
+-- nothing bars the recall, by what was found of it
+abbrev pub may_open : ℕ → Option Lot → Option Recall → Bool
+may_open seq lot known = is_some lot && is_none known && nat_lt seq greatest_seq
 
 abbrev pub opened : Stamp → RecallLot → Recall
 opened t c = record { id = c.recall; lot = c.lot; at = t.at; by = t.by; note = t.note; lifting = None }

@@ -1,10 +1,10 @@
-ghost use Rattle.std.specs.Prelude.{◌≡◌, ◌<◌, IfOk};
+ghost use Rattle.std.specs.Prelude.{◌≡◌, ◌<◌, true, IfOk};
 ghost use Rattle.plant_base.specs.Values.{greatest_seq};
 ghost use Rattle.plant_base.specs.State.{State, lot_at, recall_at};
 ghost use Rattle.plant_trace.specs.Reach.{Lists};
 ghost use Rattle.plant_trace.specs.Recalls.{IsRecalled};
 ghost use Rattle.plant_trace.specs.Sources.{Told};
-ghost use Rattle.plant_rules.specs.Recalling.{wrong_recall, recall, recall_rows, opened};
+ghost use Rattle.plant_rules.specs.Recalling.{may_open, wrong_recall, recall, recall_rows, opened};
 ghost use Rattle.plant_view.specs.Genealogy.{edges_of};
 ghost use Rattle.plant_view.specs.Recalls.{mark_on};
 ghost use Rattle.plant_view.specs.OneBatch.{PutsOneBatch};
@@ -35,19 +35,31 @@ pub(crate) fn decide_recall<V: View>(
 {
     let lot = look::lot(view, c.lot)?;
     let known = look::recall(view, c.recall)?;
-    let nodes = nodes_reached(alloc, view, c.lot)?;
+    let nodes = nodes_reached(alloc, view, c.lot, may_open(seq, &lot, &known))?;
     Ok(decide_found(alloc, seq, stamp, c, lot, known, nodes.as_slice())?)
 }
 
-// What a recall of the lot reaches.
+// Whether nothing bars the recall.
+fn may_open(seq: u64, lot: &Option<Lot>, known: &Option<Recall>) -> bool
+    ensures { result ≡ may_open seq lot.now known.now }
+{
+    lot.is_some() && known.is_none() && seq < GREATEST_SEQ
+}
+
+// What a recall of the lot reaches, which is searched only where that is wanted.
 fn nodes_reached<V: View>(
     alloc: Global,
     view: &mut V,
     lot: Id,
+    is_wanted: bool,
 ) -> Result<Vec<Node>, ViewFault<V::Fault>>
     ensures { Told V.honest V.kept V.steady view.old view.new
-        (IfOk result (λ nodes. Lists (IsRecalled (edges_of (V.state view.old)) lot) nodes.items)) }
+        (IfOk result (λ nodes. is_wanted ≡ true
+        → Lists (IsRecalled (edges_of (V.state view.old)) lot) nodes.items)) }
 {
+    if !is_wanted {
+        return Ok(Vec::new(alloc));
+    }
     match reached(alloc, view, lot) {
         Ok(nodes) => Ok(nodes),
         Err(fault) => Err(ViewFault::from(fault)),
@@ -65,7 +77,8 @@ fn decide_found(
     nodes: &[Node],
 ) -> Result<Decision, AllocError>
     ensures decides { (s : State) → IsSound s → seq ≡ s.seq → lot ≡ lot_at s c.now.lot
-        → known ≡ recall_at s c.now.recall → Lists (IsRecalled (edges_of s) c.now.lot) nodes.now
+        → known ≡ recall_at s c.now.recall
+        → (may_open seq lot known ≡ true → Lists (IsRecalled (edges_of s) c.now.lot) nodes.now)
         → IfOk result (Decides (wrong_recall s c.now) s (recall s stamp.now c.now)) }
     ensures one_batch { IfOk result PutsOneBatch }
 {

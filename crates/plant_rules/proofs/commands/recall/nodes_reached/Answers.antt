@@ -8,5 +8,5 @@ use Rattle.plant_rules.proofs.commands.recall.nodes_reached.Goals as goal
 pub returns-in-Ok : goal.returns-in-Ok
 returns-in-Ok g c =
     Told-weaker
-    (λ (listed : Lists (IsRecalled (g.V.Edges.pairs c.args.view.now) c.args.lot) c.in-Ok.nodes.items). subst (λ (pairs : List (Node × Node)). Lists (IsRecalled pairs c.args.lot) c.in-Ok.nodes.items) (g.met.V.View.pairs_of_state c.args.view.now) listed)
+    (λ (listed : Lists (IsRecalled (g.V.Edges.pairs c.args.view.now) c.args.lot) c.in-Ok.nodes.items). λ wanted. subst (λ (pairs : List (Node × Node)). Lists (IsRecalled pairs c.args.lot) c.in-Ok.nodes.items) (g.met.V.View.pairs_of_state c.args.view.now) listed)
     (rw c.in-Ok.is at c.reached.ensures.told)

@@ -1,6 +1,6 @@
 #!/usr/bin/env python3
-"""Asks a desk over a file and a run over the keeper of lists every question about every id, after the same twenty commands and recalls, each
-of them told twice under a reference.
+"""Asks a desk over a file and a run over the keeper of lists every question about every id, and each list from behind it, after the same twenty
+commands and recalls, each of them told twice under a reference; and has both answer lists of several pages.
 
     examples/keepers.py PROGRAM LISTS
 
@@ -15,7 +15,7 @@ import sys
 import tempfile
 
 from hostile import HERE, twenty_of
-from sessions import LOWER, SECONDS, Check, written
+from sessions import LOWER, SECONDS, Check, pages, written
 
 # What may be asked about an id.
 QUESTIONS = [
@@ -27,6 +27,16 @@ QUESTIONS = [
     '{"ask":"forward","lot":"%s"}',
     '{"ask":"back","batch":"%s"}',
     '{"ask":"forward","batch":"%s"}',
+    '{"ask":"orders","state":"open","above":"%s"}',
+    '{"ask":"orders","state":"finished","above":"%s"}',
+    '{"ask":"batches","above":"%s"}',
+    '{"ask":"lots","def":"%s"}',
+    '{"ask":"lots","def":"DOUGH","above":"%s"}',
+    '{"ask":"holds","lot":"%s"}',
+    '{"ask":"holds","lot":"D-1","above":"%s"}',
+    '{"ask":"recalls","above":"%s"}',
+    '{"ask":"definitions","class":"%s"}',
+    '{"ask":"definitions","class":"RAW","above":"%s"}',
 ]
 
 # Two recalls behind the twenty commands, what they refuse, and a lift.
@@ -54,7 +64,7 @@ def main(program, lists):
     session = twenty_of(written(HERE / "sessions" / "a_batch_runs_to_its_close.txt"))
     commands, replies = session.told + RECALLS, session.wanted + TOLD
     ids = sorted(set(re.findall(rb'"([A-Z][A-Z0-9-]*)"', commands))) + [b"X-9"]
-    questions = ['{"ask":"desk"}'] + [it % name.decode() for name in ids for it in QUESTIONS]
+    questions = ['{"ask":"desk"}', '{"ask":"moment"}', '{"ask":"batches"}', '{"ask":"recalls"}'] + [it % name.decode() for name in ids for it in QUESTIONS]
     asked = "".join(it + "\n" for it in questions).encode()
     lines = enumerate(commands.splitlines())
     told = b"".join(2 * (line[:-1] + b',"ref":"K-%d"}\n' % number) for number, line in lines) + asked
@@ -70,10 +80,14 @@ def main(program, lists):
         store.close()
         # the first schema has no recalls
         pairs = zip(questions, answers.splitlines(keepends=True)[wanted.count(b"\n"):])
-        lasting = [(it.encode() + b"\n", answer) for it, answer in pairs if '"recall"' not in it]
+        lasting = [(it.encode() + b"\n", answer) for it, answer in pairs if '"recall' not in it]
         found = check.run("run", "twenty.db", told=b"".join(it for it, _ in lasting))
         check.expect("the file raised from the first schema", found, (1, b"".join(answer for _, answer in lasting), b""))
         check.expect("the keeper of lists", (ran.returncode, ran.stdout, ran.stderr), (1, answers, b""))
+        for session in pages() + [written(HERE / "sessions" / "lists_are_told_by_the_page.txt")]:
+            ran = subprocess.run([pathlib.Path(lists).resolve()], input=session.told, capture_output=True, timeout=SECONDS)
+            found = (ran.returncode, ran.stdout, ran.stderr)
+            check.expect(f"{session.name}, by lists", found, (int(session.is_refused()), session.wanted, b""))
     print(f"keepers: {check.passed} passed, {check.failed} failed, of {len(questions)} questions")
     return 1 if check.failed else 0
 

@@ -290,6 +290,59 @@ def traces():
     return [chain, fan]
 
 
+def listed(name, items):
+    """Returns the answer of a page of these items, all that come behind a place, in their order."""
+    page = {"more": len(items) > 100, name: items[:100]}
+    return json.dumps(page, separators=(",", ":"), sort_keys=True)
+
+
+def pages():
+    """Returns sessions of lists of 99, 100, 101 and 201 items, asked for by the page and from each place around its ends."""
+    sessions = []
+    for count in (99, 100, 101, 201):
+        session = Session(f"a list of {count} is told by the page").accepted(*GOODS, recipe(1))
+        session.accepted('"do":"approve","recipe":"R","version":1', imported(count))
+        session.accepted(*[received(f"L-{it}", it % 2 + 1) for it in range(count)])
+        session.accepted(*[f'"do":"scrap","lot":"L-{it}","sub":0,"amount":1' for it in range(count)])
+        session.accepted(*[f'"do":"hold","lot":"L-0","hold":"H-{it}"' for it in range(count)])
+        session.accepted(*[f'"do":"recall","recall":"RC-{it}","lot":"L-{it}"' for it in range(count)])
+        orders = sorted(f"O-{it}" for it in range(count))
+        lots, holds, recalls = (sorted(f"{it}-{n}" for n in range(count)) for it in ("L", "H", "RC"))
+        places = [None, "A", "Z", *(it for at in (0, 97, 98, 99, 100, 199, 200) if at < count for it in [orders[at], orders[at] + "-"])]
+        order = {"due": "2027-03-01", "priority": 5, "recipe": "R", "size": 1, "version": 1}
+        for at in places:
+            rest = [{**order, "order": it} for it in orders if at is None or it > at]
+            session.asked(question("orders", at, state="open"), listed("orders", rest))
+        for at in [None, *holds[96:102]]:
+            rest = [{"at": 100, "by": "", "hold": it, "note": ""} for it in holds if at is None or it > at]
+            session.asked(question("holds", at, lot="L-0"), listed("holds", rest))
+        for at in [None, *recalls[96:102]]:
+            rest = [{"at": 100, "by": "", "lot": "L" + it[2:], "note": "", "recall": it} for it in recalls]
+            session.asked(question("recalls", at), listed("recalls", [it for it in rest if at is None or it["recall"] > at]))
+        for at in [None, *lots[96:102]]:
+            rest = [it for it in lots if at is None or it > at]
+            session.asked(question("lots", at, **{"def": "SUGAR"}), of_lots(rest))
+        sessions.append(session)
+    return sessions
+
+
+def question(word, above, **members):
+    """Returns a question for a page that goes on behind a place, or for the front of the list."""
+    place = {} if above is None else {"above": above}
+    return json.dumps({"ask": word, **place, **members}, separators=(",", ":"))
+
+
+def of_lots(lots):
+    """Returns the answer of a page of these lots, of which those with an odd number have one gram left."""
+    page = [
+        {"held": False, "lot": it, "stock": 1, "sublots": [{"no": 0, "place": "", "stock": 1}]}
+        for it in lots[:100]
+        if int(it[2:]) % 2
+    ]
+    last = lots[:100][-1] if lots else None
+    return json.dumps({"last": last, "lots": page, "more": len(lots) > 100}, separators=(",", ":"), sort_keys=True)
+
+
 def lines():
     """Returns the sessions of bytes that are a line, a bad one, or none."""
     nested = b"[" * 200 + b"]" * 200 + b"\n"
@@ -725,7 +778,7 @@ def shown(value):
 
 def main(program):
     folder = pathlib.Path(__file__).resolve().parent / "sessions"
-    sessions = [written(it) for it in sorted(folder.glob("*.txt"))] + limits() + traces() + lines() + [scraps()]
+    sessions = [written(it) for it in sorted(folder.glob("*.txt"))] + limits() + traces() + pages() + lines() + [scraps()]
     with tempfile.TemporaryDirectory() as room:
         check = Check(pathlib.Path(program).resolve(), pathlib.Path(room))
         for number, session in enumerate(sessions):

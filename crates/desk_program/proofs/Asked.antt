@@ -38,6 +38,8 @@ stands_where k s stands (Ok (A.Order order)) h = tt
 stands_where k s stands (Ok (A.Batch view)) h = tt
 stands_where k s stands (Ok (A.Trace nodes)) h = tt
 stands_where k s stands (Ok (A.Recall recall)) h = tt
+stands_where k s stands (Ok (A.Moment at)) h = tt
+stands_where k s stands (Ok (A.List page)) h = tt
 stands_where k s stands (Ok (A.Unknown refusal)) h = tt
 stands_where k s stands (Err f) h = tt
 

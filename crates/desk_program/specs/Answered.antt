@@ -39,6 +39,8 @@ told_text (A.Order order) = with_lf (text_of_answer (A.Order order))
 told_text (A.Batch view) = record_text view
 told_text (A.Trace nodes) = trace_text nodes
 told_text (A.Recall recall) = with_lf (text_of_answer (A.Recall recall))
+told_text (A.Moment at) = with_lf (text_of_answer (A.Moment at))
+told_text (A.List page) = with_lf (text_of_answer (A.List page))
 told_text (A.Unknown r) = with_lf (text_of_answer (A.Unknown r))
 
 -- how the printing of an answer ended: its text was written, or a front of it where the writer failed; or memory was

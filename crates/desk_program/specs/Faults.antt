@@ -59,6 +59,8 @@ standing_of (Ok (A.Order order)) = Err fault.Store
 standing_of (Ok (A.Batch view)) = Err fault.Store
 standing_of (Ok (A.Trace nodes)) = Err fault.Store
 standing_of (Ok (A.Recall recall)) = Err fault.Store
+standing_of (Ok (A.Moment at)) = Err fault.Store
+standing_of (Ok (A.List page)) = Err fault.Store
 standing_of (Ok (A.Unknown refusal)) = Err fault.Store
 standing_of (Err f) = Err (desk_fault f)
 

@@ -81,6 +81,8 @@ fn told_text(alloc: Global, answer: &Answer) -> Result<String, AllocError>
         | Answer::Lot(_)
         | Answer::Order(_)
         | Answer::Recall(_)
+        | Answer::Moment { .. }
+        | Answer::List(_)
         | Answer::Unknown(_) => line_of(alloc, answer),
     }
 }

@@ -28,6 +28,8 @@ fn standing_of(asked: Result<Answer, DeskFault>) -> Result<Standing, Fault>
             | Answer::Batch(_)
             | Answer::Trace(_)
             | Answer::Recall(_)
+            | Answer::Moment { .. }
+            | Answer::List(_)
             | Answer::Unknown(_),
         ) => Err(Fault::Store),
         Err(fault) => Err(Fault::from(fault)),

@@ -15,5 +15,5 @@ pub use argument::Argument;
 pub use checking::{CheckProgram, read_checked_file};
 pub use laws::plain_words_law;
 pub use meaning::{Serving, Task, Words, WordsFault, Work};
-pub use read::read_words;
+pub use read::{read_words, refusal_of};
 pub use taken::{read_arguments, tell_refused, texts_of};

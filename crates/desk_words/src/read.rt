@@ -28,7 +28,7 @@ impl fmt::Display for BrokenRule {
 }
 
 /// clap's refusal of the words, with its text.
-pub(crate) fn refusal_of(alloc: Global, error: Error) -> WordsFault
+pub fn refusal_of(alloc: Global, error: Error) -> WordsFault
     ensures { IsFaultOf (kind_of error) result }
 {
     let kind = error.kind();

@@ -1,4 +1,5 @@
 pub mod Broken
+pub mod Damaged
 pub mod Ends
 pub mod Lots
 pub mod Numbered

@@ -155,8 +155,9 @@ fn are_movements_of(
     )
 }
 
+/// Whether numbers and lines are those of commands, and moments don't fall. The only error is that memory was refused.
 #[tactic(auto, unfolding(plant_tables_judged::specs::Collecting::rows_listed))]
-fn are_numbers_of(
+pub fn are_numbers_of(
     alloc: Global,
     rows: &DeskRows,
     movements: &[Movement],
@@ -178,8 +179,14 @@ fn are_numbers_of(
     )
 }
 
+/// Whether nothing was made from itself, and the edges that are kept are those of the movements. The only error is that memory
+/// was refused.
 #[tactic(auto, unfolding(plant_tables_judged::specs::Collecting::rows_listed))]
-fn are_edges_of(alloc: Global, rows: &DeskRows, movements: &[Movement]) -> Result<bool, AllocError>
+pub fn are_edges_of(
+    alloc: Global,
+    rows: &DeskRows,
+    movements: &[Movement],
+) -> Result<bool, AllocError>
     ensures { IfOk result (λ b. b ≡ are_right_edges (rows_listed rows.now) movements.now) }
 {
     if !are_acyclic(alloc, movements)? {
@@ -208,8 +215,10 @@ fn broken_recall(alloc: Global, rows: &DeskRows) -> Result<Option<Rule>, AllocEr
     Ok(None)
 }
 
+/// Whether each recall's lot is there, its lifting fits its state and no moment of it is to come, and the marks are those of what
+/// the open ones reach. The only error is that memory was refused.
 #[tactic(auto, unfolding(plant_tables_judged::specs::Collecting::rows_listed))]
-fn are_right_recalls(alloc: Global, rows: &DeskRows) -> Result<bool, AllocError>
+pub fn are_right_recalls(alloc: Global, rows: &DeskRows) -> Result<bool, AllocError>
     ensures { IfOk result (λ b. b ≡ are_right_recalls (rows_listed rows.now)) }
 {
     let stated = rows.recalls.as_slice();

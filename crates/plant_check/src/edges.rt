@@ -15,7 +15,7 @@ use std::collections::BTreeSet;
 
 /// Whether these are the edges that the movements make, in a schema that keeps them, and none in another. The only error
 /// is that memory was refused.
-pub(crate) fn are_kept_edges(
+pub fn are_kept_edges(
     alloc: Global,
     schema: u64,
     rows: &[EdgeRow],
@@ -27,7 +27,13 @@ pub(crate) fn are_kept_edges(
     Ok(rows == edges.as_slice())
 }
 
-fn edges_in(alloc: Global, schema: u64, movements: &[Movement]) -> Result<Vec<EdgeRow>, AllocError>
+/// The edges that the movements make, each once and by their order, in a schema that keeps them, and none in another. The
+/// only error is that memory was refused.
+pub fn edges_in(
+    alloc: Global,
+    schema: u64,
+    movements: &[Movement],
+) -> Result<Vec<EdgeRow>, AllocError>
     ensures { IfOk result (λ rows. rows.items ≡ edges_in schema movements.now) }
 {
     if schema >= 2 {

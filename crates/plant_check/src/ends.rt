@@ -10,7 +10,7 @@ use plant_tables_judged::{BookedRow, MovementSort};
 use std::alloc::{AllocError, Global};
 
 /// Rows by the sublot that they bring their amount to.
-pub(crate) struct EnteredPlaces;
+pub struct EnteredPlaces;
 
 impl Grouping for EnteredPlaces {
     ghost use Rattle.plant_check.specs.Ends.{entered_by};
@@ -27,7 +27,7 @@ impl Grouping for EnteredPlaces {
 }
 
 /// Rows by the sublot that they take their amount from.
-pub(crate) struct LeftPlaces;
+pub struct LeftPlaces;
 
 impl Grouping for LeftPlaces {
     ghost use Rattle.plant_check.specs.Ends.{left_by};
@@ -76,24 +76,22 @@ fn left_by(row: &BookedRow) -> Option<(Id, u16)>
     }
 }
 
-pub(crate) fn entries<'a>(
-    entered: &'a Grouped<EnteredPlaces>,
-    lot: Id,
-    number: u16,
-) -> &'a [BookedRow]
+/// The rows that bring their amount to the sublot.
+pub fn entries<'a>(entered: &'a Grouped<EnteredPlaces>, lot: Id, number: u16) -> &'a [BookedRow]
     ensures { result.now ≡ entries entered.now.rows.now lot number }
 {
     entered.at((lot, number))
 }
 
-fn exits<'a>(left: &'a Grouped<LeftPlaces>, lot: Id, number: u16) -> &'a [BookedRow]
+/// The rows that take their amount from the sublot.
+pub fn exits<'a>(left: &'a Grouped<LeftPlaces>, lot: Id, number: u16) -> &'a [BookedRow]
     ensures { result.now ≡ exits left.now.rows.now lot number }
 {
     left.at((lot, number))
 }
 
 /// The amounts of the rows in all.
-pub(crate) fn total_booked(rows: &[BookedRow]) -> u128
+pub fn total_booked(rows: &[BookedRow]) -> u128
     ensures total { result ≡ total_booked rows.now }
     ensures small { result < 2 ^ 127 }
 {

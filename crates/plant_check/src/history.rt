@@ -19,14 +19,14 @@ pub(crate) fn are_whole(rows: &[BookedRow]) -> bool
 }
 
 /// The movements of the rows that have the columns of their kinds.
-pub(crate) fn movements_in(alloc: Global, rows: &[BookedRow]) -> Result<Vec<Movement>, AllocError>
+pub fn movements_in(alloc: Global, rows: &[BookedRow]) -> Result<Vec<Movement>, AllocError>
     ensures { IfOk result (λ list. list.items ≡ movements_in rows.now) }
 {
     rows.iter().filter_map(|r| r.movement()).collect(alloc)
 }
 
 /// Whether nothing was made from itself. The only error is that memory was refused.
-pub(crate) fn are_acyclic(alloc: Global, movements: &[Movement]) -> Result<bool, AllocError>
+pub fn are_acyclic(alloc: Global, movements: &[Movement]) -> Result<bool, AllocError>
     ensures { IfOk result (λ b. b ≡ are_acyclic (edges_among movements.now)) }
 {
     let pairs = edges(alloc, movements)?;

@@ -17,7 +17,7 @@ use plant_tables_judged::{BookedRow, MovementSort};
 use std::alloc::{AllocError, Global};
 
 /// Sublots by their lot.
-struct SublotsOfLots;
+pub struct SublotsOfLots;
 
 impl Grouping for SublotsOfLots {
     ghost use Rattle.std.specs.Prelude.{Some};
@@ -33,13 +33,15 @@ impl Grouping for SublotsOfLots {
     }
 }
 
-fn sublots_of<'a>(sublots: &'a Grouped<SublotsOfLots>, lot: Id) -> &'a [Sublot]
+/// The sublots of the lot, in the order of the rows.
+pub fn sublots_of<'a>(sublots: &'a Grouped<SublotsOfLots>, lot: Id) -> &'a [Sublot]
     ensures { result.now ≡ sublots_among sublots.now.rows.now lot }
 {
     sublots.at(lot)
 }
 
-fn has_lot(lots: &Grouped<Lots>, id: Id) -> bool
+/// Whether a lot has the id.
+pub fn has_lot(lots: &Grouped<Lots>, id: Id) -> bool
     ensures { result ≡ is_lot_among lots.now.rows.now id }
 {
     lots.has(id)
@@ -112,7 +114,8 @@ fn is_right_lot(
     has_definition(definitions, lot.def) && are_from_zero(sublots_of(sublots, lot.id))
 }
 
-fn are_from_zero(sublots: &[Sublot]) -> bool
+/// Whether there are sublots, numbered from 0 on.
+pub fn are_from_zero(sublots: &[Sublot]) -> bool
     ensures { result ≡ are_from_zero (map (λ s. s.number) sublots.now) }
 {
     sublots.len() >= 1 && are_numbered(0, sublots)
@@ -135,7 +138,8 @@ fn is_right_sublot(lots: &Grouped<Lots>, entered: &Grouped<EnteredPlaces>, sublo
     has_lot(lots, sublot.lot) && is_born(entered, sublot)
 }
 
-fn is_born(entered: &Grouped<EnteredPlaces>, sublot: &Sublot) -> bool
+/// Whether the sublot came to be: sublot 0 with its lot, each other one by one division.
+pub fn is_born(entered: &Grouped<EnteredPlaces>, sublot: &Sublot) -> bool
     ensures { result ≡ is_born entered.now.rows.now sublot.now }
 {
     let rows = entries(entered, sublot.lot, sublot.number);

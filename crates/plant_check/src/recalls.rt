@@ -15,7 +15,7 @@ pub(crate) fn are_fitting(rows: &[StatedRecall]) -> bool
 }
 
 /// The recalls of the rows that have them.
-pub(crate) fn recalls_told(alloc: Global, rows: &[StatedRecall]) -> Result<Vec<Recall>, AllocError>
+pub fn recalls_told(alloc: Global, rows: &[StatedRecall]) -> Result<Vec<Recall>, AllocError>
     ensures { IfOk result (λ list. list.items ≡ recalls_told rows.now) }
 {
     rows.iter().filter_map(|r| r.recall()).collect(alloc)

@@ -25,10 +25,10 @@ use std::alloc::{AllocError, Global};
 
 /// What the control recipes of batches come from.
 #[derive(Drop)]
-struct Plans<'a> {
-    recipes: Grouped<'a, Recipes>,
-    lines: Grouped<'a, RecipeLines>,
-    jobs: Grouped<'a, Orders>,
+pub struct Plans<'a> {
+    pub recipes: Grouped<'a, Recipes>,
+    pub lines: Grouped<'a, RecipeLines>,
+    pub jobs: Grouped<'a, Orders>,
 }
 
 /// Whether each batch is the only one of its order, that order and its recipe are there, its lines, numbered from 1
@@ -54,7 +54,8 @@ pub fn are_batches(
 }
 
 impl<'a> Plans<'a> {
-    fn new(
+    /// Groups the recipes, their lines and the orders by their keys. The only error is that memory was refused.
+    pub fn new(
         alloc: Global,
         recipes: &'a [Recipe],
         rows: &'a [MasterLine],
@@ -73,8 +74,9 @@ impl<'a> Plans<'a> {
         })
     }
 
-    // The control recipe that an order asks for.
-    fn control_asked_for(
+    /// The control recipe that an order asks for, where it and its recipe are there and it comes to one. The only error is that
+    /// memory was refused.
+    pub fn control_asked_for(
         &self,
         alloc: Global,
         job: Option<Job>,
@@ -186,13 +188,15 @@ fn is_right(
     )
 }
 
-fn lines_among(alloc: Global, rows: &[ControlLine]) -> Result<Vec<RecipeLine>, AllocError>
+/// The lines of the rows. The only error is that memory was refused.
+pub fn lines_among(alloc: Global, rows: &[ControlLine]) -> Result<Vec<RecipeLine>, AllocError>
     ensures { IfOk result (λ lines. lines.items ≡ map (λ r. r.line) rows.now) }
 {
     rows.iter().map(|r| r.line).collect(alloc)
 }
 
-fn is_control(wanted: &Option<Items<RecipeLine>>, lines: &[RecipeLine]) -> bool
+/// Whether the lines are those of the control recipe that is wanted.
+pub fn is_control(wanted: &Option<Items<RecipeLine>>, lines: &[RecipeLine]) -> bool
     ensures { result ≡ is_control wanted.now lines.now }
 {
     match wanted {

@@ -66,7 +66,8 @@ fn is_right(
     Ok(is_run(run, batch))
 }
 
-fn events_in(alloc: Global, rows: &[BatchEvent]) -> Result<Vec<Event>, AllocError>
+/// The events of the rows. The only error is that memory was refused.
+pub fn events_in(alloc: Global, rows: &[BatchEvent]) -> Result<Vec<Event>, AllocError>
     ensures { IfOk result (λ events. events.items ≡ map (λ e. e.event) rows.now) }
 {
     rows.iter().map(|row| row.event).collect(alloc)
@@ -82,7 +83,8 @@ fn is_run(run: Result<Progress, Refusal>, batch: &BatchRow) -> bool
     }
 }
 
-fn kept_progress(batch: &BatchRow) -> Progress
+/// How far the columns of a batch say that it has come.
+pub fn kept_progress(batch: &BatchRow) -> Progress
     ensures { result ≡ kept_progress batch.now }
 {
     Progress {
@@ -93,9 +95,9 @@ fn kept_progress(batch: &BatchRow) -> Progress
     }
 }
 
-// How many phases the control recipe of a batch has, as far as a progress counts them.
+/// How many phases the control recipe of a batch has, as far as a progress counts them.
 #[tactic(auto, using(crate::proofs::Counting::counted_among))]
-fn phases_of(controls: &Grouped<ControlLines>, batch: Id) -> u8
+pub fn phases_of(controls: &Grouped<ControlLines>, batch: Id) -> u8
     ensures { result ≡ min (phases_among controls.now.rows.now batch) greatest_phases }
 {
     cap_phases(phases_in(control_of(controls, batch)))

@@ -3,13 +3,13 @@
 //! Each goes over its rows once, and looks the others up by their key.
 #![tactic(auto)]
 
-mod batches;
+pub mod batches;
 mod catalogue;
-mod events;
+pub mod events;
 pub mod keys;
 pub mod numbered;
-mod orders;
-mod recipes;
+pub mod orders;
+pub mod recipes;
 
 pub use batches::are_batches;
 pub use catalogue::are_classified;

@@ -36,7 +36,8 @@ fn is_right(recipes: &Grouped<Recipes>, batches: &Grouped<BatchesOfOrders>, job:
         && is_started(job.state, batch_of(batches, order.order))
 }
 
-fn is_size_of(recipe: Option<Recipe>, size: Amount) -> bool
+/// Whether the recipe is there with the size among its sizes.
+pub fn is_size_of(recipe: Option<Recipe>, size: Amount) -> bool
     ensures { result ≡ is_size_of_recipe recipe size }
 {
     match recipe {
@@ -51,7 +52,9 @@ pub(crate) fn is_size_by(header: &Header, size: Amount) -> bool
     header.least.get() <= size.get() && size.get() <= header.greatest.get()
 }
 
-fn is_started(state: JobState, batch: Option<BatchRow>) -> bool
+/// Whether an order in this state has such a batch: an open one where it was released, a closed one where it is finished, and
+/// else none.
+pub fn is_started(state: JobState, batch: Option<BatchRow>) -> bool
     ensures { result ≡ is_started state batch }
 {
     match state {

@@ -99,13 +99,15 @@ fn are_known(definitions: &Grouped<Definitions>, lines: &[RecipeLine]) -> bool
     lines.iter().all(|line| is_known(definitions, line))
 }
 
-pub(crate) fn lines_in(alloc: Global, rows: &[MasterLine]) -> Result<Vec<RecipeLine>, AllocError>
+/// The lines of the rows. The only error is that memory was refused.
+pub fn lines_in(alloc: Global, rows: &[MasterLine]) -> Result<Vec<RecipeLine>, AllocError>
     ensures { IfOk result (λ lines. lines.items ≡ map (λ r. r.line) rows.now) }
 {
     rows.iter().map(|r| r.line).collect(alloc)
 }
 
-fn is_known(definitions: &Grouped<Definitions>, line: &RecipeLine) -> bool
+/// Whether the definition that a line names is there, where it names one.
+pub fn is_known(definitions: &Grouped<Definitions>, line: &RecipeLine) -> bool
     ensures { result ≡ is_known definitions.now.rows.now line.now }
 {
     match line {

@@ -5,10 +5,10 @@
 
 pub mod keys;
 mod marks;
-mod movements;
-mod numbering;
-mod recalls;
-mod receipts;
+pub mod movements;
+pub mod numbering;
+pub mod recalls;
+pub mod receipts;
 mod times;
 
 pub use marks::are_marks;

@@ -22,11 +22,11 @@ const GREATEST_PARTS: usize = 16;
 
 /// What movements name.
 #[derive(Drop)]
-struct Named<'a> {
-    lots: Grouped<'a, Lots>,
-    sublots: Grouped<'a, Sublots>,
-    batches: Grouped<'a, Batches>,
-    controls: Grouped<'a, ControlLines>,
+pub struct Named<'a> {
+    pub lots: Grouped<'a, Lots>,
+    pub sublots: Grouped<'a, Sublots>,
+    pub batches: Grouped<'a, Batches>,
+    pub controls: Grouped<'a, ControlLines>,
 }
 
 /// Whether the sublots and the batch that each movement names are there, what it splits off or merges is of the
@@ -58,7 +58,8 @@ fn are_right(named: &Named, parts: &Grouped<Parts>, movements: &[Movement]) -> b
 }
 
 impl<'a> Named<'a> {
-    fn new(
+    /// Groups the lots, sublots, batches and control lines by their keys. The only error is that memory was refused.
+    pub fn new(
         alloc: Global,
         lots: &'a [Lot],
         sublots: &'a [Sublot],
@@ -90,7 +91,8 @@ impl<'a> Named<'a> {
             && self.has_batch(batch_by(movement))
     }
 
-    fn has_batch(&self, batch: Option<Id>) -> bool
+    /// Whether the batch, where one is named, is there.
+    pub fn has_batch(&self, batch: Option<Id>) -> bool
         ensures { result ≡ is_batch_there self.now.batches.rows.now batch }
     {
         match batch {
@@ -99,8 +101,8 @@ impl<'a> Named<'a> {
         }
     }
 
-    // Whether what goes from lot to lot is of one definition, and a batch takes and makes what its recipe says.
-    fn allows(&self, movement: &Movement) -> bool
+    /// Whether what goes from lot to lot is of one definition, and a batch takes and makes what its recipe says.
+    pub fn allows(&self, movement: &Movement) -> bool
         ensures { result ≡ is_of_right_definition self.now.lots.rows.now self.now.controls.rows.now
             movement.now.kind movement.now.lot }
     {
@@ -127,8 +129,8 @@ fn is_right(named: &Named, parts: &Grouped<Parts>, movement: &Movement) -> bool
     named.knows(movement) && named.allows(movement) && is_of_right_merge(parts, movement)
 }
 
-// The sublot that the movement brings its amount to.
-pub(crate) fn target(movement: &Movement) -> Option<(Id, u16)>
+/// The sublot that the movement brings its amount to.
+pub fn target(movement: &Movement) -> Option<(Id, u16)>
     ensures { result ≡ goes_to movement.now.kind movement.now.lot movement.now.sub }
 {
     match movement.kind {
@@ -142,8 +144,8 @@ pub(crate) fn target(movement: &Movement) -> Option<(Id, u16)>
     }
 }
 
-// The sublot that the movement takes its amount from.
-pub(crate) fn source(movement: &Movement) -> Option<(Id, u16)>
+/// The sublot that the movement takes its amount from.
+pub fn source(movement: &Movement) -> Option<(Id, u16)>
     ensures { result ≡ comes_from movement.now.kind movement.now.lot movement.now.sub }
 {
     match movement.kind {
@@ -152,8 +154,8 @@ pub(crate) fn source(movement: &Movement) -> Option<(Id, u16)>
     }
 }
 
-// The batch that the movement names.
-fn batch_by(movement: &Movement) -> Option<Id>
+/// The batch that the movement names.
+pub fn batch_by(movement: &Movement) -> Option<Id>
     ensures { result ≡ batch_by movement.now.kind }
 {
     match movement.kind {
@@ -219,7 +221,8 @@ fn makes(wanted: Id, line: RecipeLine) -> bool
     }
 }
 
-fn is_of_right_merge(parts: &Grouped<Parts>, movement: &Movement) -> bool
+/// Whether the parts of its merge, where it is one, are at most 16, of distinct pairs of lot and sublot.
+pub fn is_of_right_merge(parts: &Grouped<Parts>, movement: &Movement) -> bool
     ensures { result ≡ is_of_right_merge parts.now.rows.now movement.now }
 {
     !is_merged(movement.kind) || are_parts(parts_of(parts, movement.seq))

@@ -71,14 +71,19 @@ fn are_given(greatest: u64, events: &[BatchEvent]) -> bool
     events.iter().all(|e| is_given(greatest, e.seq))
 }
 
-// Whether it is the number of an accepted command, `greatest` being the last one.
-pub(crate) fn is_given(greatest: u64, seq: u64) -> bool
+/// Whether it is the number of an accepted command, `greatest` being the last one.
+pub fn is_given(greatest: u64, seq: u64) -> bool
     ensures { result ≡ is_given greatest seq }
 {
     1 <= seq && seq <= greatest
 }
 
-fn is_entered_before(entered: &Grouped<EnteredSublots>, seq: u64, place: Option<(Id, u16)>) -> bool
+/// Whether each movement that enters the sublot, where one is named, has a lower number.
+pub fn is_entered_before(
+    entered: &Grouped<EnteredSublots>,
+    seq: u64,
+    place: Option<(Id, u16)>,
+) -> bool
     ensures { result ≡ is_entered_before entered.now.rows.now seq place }
 {
     match place {
@@ -107,7 +112,8 @@ fn are_lines(movements: &[Movement]) -> bool
     true
 }
 
-fn is_next_line(before: Option<Movement>, movement: &Movement) -> bool
+/// Whether it is line 1 of a number, or the next part of the merge before it.
+pub fn is_next_line(before: Option<Movement>, movement: &Movement) -> bool
     ensures { result ≡ is_next_line before movement.now }
 {
     match before {

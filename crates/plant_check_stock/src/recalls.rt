@@ -29,7 +29,8 @@ fn is_right(at: Moment, lots: &Grouped<Lots>, recall: &Recall) -> bool
     lot_at(lots, recall.lot).is_some() && is_timely(at, recall)
 }
 
-fn is_timely(at: Moment, recall: &Recall) -> bool
+/// Whether the recall is no later than the desk's moment, and its lifting stands between the two.
+pub fn is_timely(at: Moment, recall: &Recall) -> bool
     ensures { result ≡ is_timely at recall.now }
 {
     recall.at.get() <= at.get() && is_lifted_between(recall.at, at, recall.lifting)

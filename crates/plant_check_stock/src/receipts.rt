@@ -35,7 +35,8 @@ fn is_right(greatest: u64, receipt: &Receipt) -> bool
     is_given(greatest, receipt.seq) && is_content(receipt.content.as_str().as_bytes())
 }
 
-fn is_content(bytes: &[u8]) -> bool
+/// Whether a content is made of what contents are made of: one or more bytes from the space to `~` and LFs.
+pub fn is_content(bytes: &[u8]) -> bool
     ensures { result ≡ is_content bytes.now }
 {
     is_there(bytes) && are_content_bytes(bytes)

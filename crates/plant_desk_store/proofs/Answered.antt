@@ -1,15 +1,13 @@
 -- What is answered of a state is what its movements say.
-use Rattle.std.proofs.Common.{◌≡◌, ◌∙◌, ◌+◌, ◌-◌, ℕ, List, Option, Some, None, refl, sym, ap, subst, arith}
+use Rattle.std.proofs.Common.{◌≡◌, ◌∙◌, ◌+◌, ℕ, List, Option, Some, None, refl, sym, subst, arith}
 use Rattle.std.specs.Prelude.{filter}
-use Rattle.std.specs.List.{AllByRecursion}
 use Rattle.plant_base.specs.State.{State, same, lot_at, newest_schema}
 use Rattle.plant_base.specs.declared.refusal.Refusal.{Refusal}
 use Rattle.plant_base.specs.declared.rows.Lot.{Lot}
 use Rattle.plant_base.specs.declared.rows.Place.{Place}
-use Rattle.plant_base.specs.declared.rows.Sublot.{Sublot}
 use Rattle.plant_base.proofs.Find.{found_passes}
 use Rattle.plant_base.proofs.Keys.{same_id}
-use Rattle.plant_stock.specs.Stock.{entered, left, left_of, born_of}
+use Rattle.plant_stock.specs.Stock.{left_of, born_of}
 use Rattle.plant_trace.specs.declared.direction.Direction.{Direction}
 use Rattle.plant_trace.specs.declared.node.Node.{Node}
 use Rattle.plant_view.specs.Conserve.{lot_stock}
@@ -18,7 +16,8 @@ use Rattle.plant_view.specs.Sound.{IsSound}
 use Rattle.plant_view.specs.Tables.{sublot_row}
 use Rattle.plant_view.proofs.Balanced.{balanced}
 use Rattle.plant_view.proofs.Rows.{all_of, all_mapped}
-use Rattle.plant_desk.specs.Answers.{answer, answer_lot}
+use Rattle.plant_desk.specs.Answers.{answer}
+use Rattle.plant_desk.specs.LotAnswers.{answer_lot}
 use Rattle.plant_desk.specs.Traces.{missing, answer_trace}
 use Rattle.plant_desk.specs.declared.question.Question.{Question}
 use Rattle.plant_desk.specs.declared.question.Question.TheVariants as Q
@@ -47,3 +46,5 @@ answered s sound (Q.Order order) = tt
 answered s sound (Q.Batch batch) = tt
 answered s sound (Q.Trace direction start) = trace_told s direction start (missing s start) refl
 answered s sound (Q.Recall recall) = tt
+answered s sound Q.Moment = tt
+answered s sound (Q.List which above) = tt

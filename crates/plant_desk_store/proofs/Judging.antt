@@ -1,14 +1,14 @@
 -- What is judged of loaded rows, and of the store that they were loaded of.
-use Rattle.std.proofs.Common.{◌≡◌, ◌∙◌, Result, Ok, Err, IfErr, IfOk, OnOk, OnErr, IsTrue, refl, sym, ap, subst, inl, inr, ℕ, ◌<◌, ℤ, pos, arith}
-use Rattle.std.specs.Prelude.{◌≢◌, All}
+use Rattle.std.proofs.Common.{◌≡◌, ◌∙◌, Result, Ok, Err, IfErr, IfOk, OnOk, IsTrue, refl, sym, ap, subst, inl, inr, ℕ, ◌<◌, ℤ, pos, arith}
+use Rattle.std.specs.Prelude.{◌≢◌, ◌⊎◌, All}
 use Rattle.std.specs.Int.Signed.{◌≤ℤ◌}
 use lib.Dec.{leb→le}
 use Rattle.sqlite.specs.Tree.{Trees}
 use Rattle.sqlite.specs.Effect.{Database, IsDatabase}
 use Rattle.sqlite.specs.State as store
 use Rattle.sqlite.specs.State.{HasCleanDisk, IsUnchanged, Survives}
-use Rattle.plant_base.specs.State.{State, opening, newest_schema}
-use Rattle.table_forms.specs.Standing.{StandIn, AreFree, IsFree, KeepsOthers}
+use Rattle.plant_base.specs.State.{State, newest_schema}
+use Rattle.table_forms.specs.Standing.{StandIn, IsFree, KeepsOthers}
 use Rattle.table_forms.specs.Resting.{Keeps}
 use Rattle.table_forms.specs.Stopping.{IsSettled}
 use Rattle.table_forms.proofs.Ending.{IsStore}
@@ -28,7 +28,7 @@ use Rattle.plant_tables_judged.specs.Collecting.{rows_in, rows_listed}
 use Rattle.plant_tables_judged.specs.declared.desk_rows.DeskRows.{DeskRows}
 use Rattle.plant_migrate.specs.Standing.{IsCutShortAmid}
 use Rattle.plant_migrate.proofs.Ends.{raised_to_is}
-use Rattle.plant_desk_store.specs.Adopting.{IsNewlyOpened, AdoptedFrom, HoldsGood, StillGood, IsRisingAt, ShowsStill, NamesFirst, BrokenBy, IsRefusedBy}
+use Rattle.plant_desk_store.specs.Adopting.{IsNewlyOpened, HoldsGood, StillGood, IsRisingAt, ShowsStill, NamesFirst, BrokenBy, IsRefusedBy}
 use Rattle.plant_desk_store.specs.Faults.{adopt_fault}
 use Rattle.plant_good_found.specs.Restoring.{state_in, AreUnbroken}
 use Rattle.plant_desk_store.specs.Standing.{IsOpenAt, OthersStand}
@@ -59,24 +59,11 @@ pub record IsThere (db : Database) : Type 0 where
   pub taken : ¬ All (IsFree db.schema) desk_forms
   pub known : (n : ℕ) → newest_schema < n → ¬ IsVersion db (pos n)
 
-refused_so : (db : Database) (f : AdoptFault) → IsThere db → NamesFirst db f → IsRefusedBy db f
+pub refused_so : (db : Database) (f : AdoptFault) → IsThere db → NamesFirst db f → IsRefusedBy db f
 refused_so db fault.Store there h = tt
 refused_so db (fault.Newer n) there h = absurd h
 refused_so db (fault.Damaged r) there h = record { taken = there.taken; known = there.known; broken = h }
 refused_so db fault.Memory there h = tt
-
-pub all_refused : (db : Database) (judged : Result (Unit {0}) AdoptFault) → IsThere db → IfErr judged (NamesFirst db) → IfErr judged (IsRefusedBy db)
-all_refused db (Ok u) there h = tt
-all_refused db (Err f) there h = refused_so db f there h
-
-pub told_store : (db : Database) (made : Result (Unit {0}) AdoptFault) → IfErr made (λ f. f ≡ fault.Store) → IfErr made (IsRefusedBy db)
-told_store db (Ok u) h = tt
-told_store db (Err f) h = subst (IsRefusedBy db) (sym h) tt
-
--- what holds at every exit holds at each fault but Store
-pub at_others : (P : Type 0) (judged : Result (Unit {0}) AdoptFault) → P → IfErr judged (λ f. f ≢ fault.Store → P)
-at_others P (Ok u) h = tt
-at_others P (Err f) h = λ other. h
 
 -- a version that is found and isn't above the newest is the only one
 pub none_newer : (db : Database) (v : ℤ) → IsVersion db v → v ≤ℤ pos newest_schema → (n : ℕ) → newest_schema < n → ¬ IsVersion db (pos n)
@@ -162,14 +149,6 @@ unopened_keeps old new settled undone = record {
   committed = λ live. let shown = undone.shows live in sym shown.0.shows ∙ shown.1 ∙ settled.shows;
 }
 
-pub adopts_none : (c new : store.State) (made : Result (Unit {0}) AdoptFault) → AreFree desk_forms c.now.schema → OnOk made (IsOpenAt new opening) → OnOk made (AdoptedFrom c (IsOpenAt new))
-adopts_none c new (Err f) free h = tt
-adopts_none c new (Ok u) free h = inl (free, h)
-
-pub adopts_some : (c new : store.State) (version : ℕ) (db : Database) (judged : Result (Unit {0}) AdoptFault) → db ≡ c.now → OnOk judged ((s : State) × HoldsGood version db s × IsOpenAt new s) → OnOk judged (AdoptedFrom c (IsOpenAt new))
-adopts_some c new version db (Err f) same h = tt
-adopts_some c new version db (Ok u) same h = inr (version, (h.0, subst (λ (d : Database). HoldsGood version d h.0) same h.1, h.2))
-
 -- ---- what was raised
 
 -- the raising was cut short
@@ -206,10 +185,22 @@ cut_shows version old new s below.Memory settled held cut unwritten = λ live. i
 pub told_shows : (version : ℕ) (old new : store.State) (s : State) (f : Fault) (told : AdoptFault) → IsSettled old → HoldsGood version old.now s → IsCutShortAmid version newest_schema old new s → (f ≡ below.Memory → new ≡ old) → told ≡ adopt_fault f → ShowsStill told old new
 told_shows version old new s f told settled held cut unwritten is = subst (λ x. ShowsStill x old new) (sym is) (cut_shows version old new s f settled held cut unwritten)
 
--- where nothing was raised it shows what it showed
-pub keeps_shows : (old new : store.State) (made : Result (Unit {0}) AdoptFault) → OnErr made (Keeps old new) → IfErr made (λ f. ShowsStill f old new)
-keeps_shows old new (Ok u) kept = tt
-keeps_shows old new (Err f) kept = λ live. inl kept
+-- it is told as a fault of the store or as want of memory
+pub told_known : (f : Fault) (told : AdoptFault) → told ≡ adopt_fault f → (told ≡ fault.Store) ⊎ (told ≡ fault.Memory)
+told_known below.Store told is = inl is
+told_known below.Memory told is = inr is
+
+-- at want of memory nothing was written
+pub told_unmade : (old new : store.State) (f : Fault) (told : AdoptFault) → told ≡ adopt_fault f → (f ≡ below.Memory → new ≡ old) → told ≢ fault.Store → Survives old new (λ _. ⊥)
+told_unmade old new below.Store told is unwritten other = absurd (other is)
+told_unmade old new below.Memory told is unwritten other = subst (λ (c : store.State). Survives old c (λ _. ⊥)) (sym (unwritten refl)) (record {
+  clean = omega arith;
+  shield = λ shielded. shielded;
+  counts = omega arith;
+  limit = refl;
+  closes = λ clean live. inl live;
+  crash = λ clean db left. inl left;
+})
 
 -- tables of other names stand in a store that is unchanged
 pub others_unchanged : (old new : store.State) → IsNewlyOpened new → new.now ≡ old.now → IsDatabase old.now → OthersStand old.now new
@@ -220,7 +211,3 @@ others_unchanged old new newly same sound = others_settled old.now new newly.set
 pub always_ok : {X E P : Type 0} (r : Result X E) → P → OnOk r P
 always_ok (Ok x) h = h
 always_ok (Err e) h = tt
-
-pub always_err : {X E P : Type 0} (r : Result X E) → P → OnErr r P
-always_err (Ok x) h = tt
-always_err (Err e) h = h

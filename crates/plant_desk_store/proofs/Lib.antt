@@ -1,5 +1,7 @@
+pub mod Adoptions
 pub mod Again
 pub mod Answered
+pub mod Asking
 pub mod Finding
 pub mod Fitting
 pub mod Judging
@@ -14,4 +16,5 @@ pub mod Reopening
 pub mod Resting
 pub mod Showing
 pub mod Stepping
+pub mod Taking
 pub mod Telling

@@ -1,5 +1,5 @@
 -- Where a store stands after what it has been through.
-use Rattle.std.proofs.Common.{◌≡◌, ◌∙◌, ℕ, pos, ◌≤◌, Bool, true, false, List, [], ◌∷◌, ◌++◌, length, map, take, Option, Some, None, Result, Ok, Err, refl, sym, ap, subst, inl, inr, arith}
+use Rattle.std.proofs.Common.{◌≡◌, ◌∙◌, ℕ, pos, Bool, true, false, List, [], ◌∷◌, ◌++◌, length, map, take, Option, Some, None, Result, Ok, Err, refl, sym, ap, subst, inl, inr, arith}
 use Rattle.std.specs.Prelude.{◌⊎◌, slice_get}
 use Rattle.std.proofs.lemmas.List.{append_assoc}
 use Rattle.sqlite.specs.Tree.{Trees}
@@ -21,11 +21,11 @@ use Rattle.plant_desk.specs.declared.reply.Reply.{Reply}
 use Rattle.plant_desk.specs.declared.reply.DeskFault.{DeskFault}
 use Rattle.plant_desk.specs.declared.reply.DeskFault.TheVariants.{Store, Memory, Shut}
 use Rattle.plant_desk_store.specs.Adopting.{AdoptedFrom, Adopts, IsRefusedBy}
-use Rattle.plant_desk_store.specs.Calls.{HasAdopted, HasRefused, HasExecuted, HasAsked, HasRun}
+use Rattle.plant_desk_store.specs.Calls.{HasAdopted, HasRefused}
 use Rattle.plant_desk_store.specs.Headline.{IsAtState, IsFoundAt, IsKeptAt, IsSoAt, IsToldIn, LeavesSomething, Headline}
 use Rattle.plant_desk_store.specs.Laws.{IsAdoptable, IsOpenedAfter}
-use Rattle.plant_desk_store.specs.Life.{Sent, acknowledged, under_way, MayLeadTo, sent_as, cut_off, sent_of, IsOpened, Place, opened, desk, refused, Lived, begun, found, adopted, unadopted, executed, ran, asked, verified, stopped}
-use Rattle.plant_desk_store.specs.Running.{Ran, RunEnds}
+use Rattle.plant_desk_store.specs.Life.{Sent, acknowledged, under_way, MayLeadTo, sent_as, cut_off, IsOpened, Place, opened, desk, refused, Lived, begun, found, adopted, unadopted, executed, ran, asked, verified, stopped}
+use Rattle.plant_desk_store.specs.Running.{RunEnds}
 use Rattle.plant_desk_store.specs.Standing.{IsOpenAt, Stands, Leaves}
 use Rattle.plant_desk_store.specs.declared.adopting.AdoptFault.{AdoptFault}
 use Rattle.plant_desk_store.specs.declared.adopting.AdoptFault.TheVariants as fault

@@ -1,18 +1,17 @@
 -- What comes of the tables of a schema that are judged, and of good ones that are raised.
-use Rattle.std.proofs.Common.{◌≡◌, ◌∙◌, ℕ, ◌≤◌, pos, Result, Ok, Err, OnOk, OnErr, IfErr, sym, subst, inl, inr}
+use Rattle.std.proofs.Common.{◌≡◌, ◌∙◌, ℕ, ◌≤◌, pos, sym, subst, inl, inr}
 use Rattle.std.specs.Prelude.{◌⊎◌}
 use Rattle.std.proofs.Math.Nat.{eq-or-lt_of_le}
 use Rattle.sqlite.specs.Tree.{Trees}
 use Rattle.sqlite.specs.Effect.{Database}
 use Rattle.sqlite.specs.State as store
 use Rattle.sqlite.specs.State.{HasCleanDisk, Survives}
-use Rattle.plant_base.specs.State.{State, newest_schema}
+use Rattle.plant_base.specs.State.{newest_schema}
 use Rattle.table_forms.specs.Resting.{Keeps}
 use Rattle.table_forms.specs.Standing.{KeepsOthers}
 use Rattle.plant_tables.specs.DeskForms.{desk_forms}
 use Rattle.plant_tables_stored.specs.Version.{IsVersion}
-use Rattle.plant_desk_store.specs.Adopting.{IsNewlyOpened, HoldsGood, KeepsGood, StillGood, IsRisingAt, ShowsStill, IsUnraised, NamesFirst}
-use Rattle.plant_desk_store.specs.Standing.{IsOpenAt, OthersStand}
+use Rattle.plant_desk_store.specs.Adopting.{HoldsGood, ShowsStill, IsUnraised, NamesFirst}
 use Rattle.plant_desk_store.specs.declared.adopting.AdoptFault.{AdoptFault}
 use Rattle.plant_desk_store.specs.declared.adopting.AdoptFault.TheVariants as fault
 
@@ -59,20 +58,9 @@ survives_if old new P R always clean_one = record {
   crash = λ clean db left. (clean_one clean).crash clean db left;
 }
 
--- ---- what is told of a result
-
-pub keeps_good : (old new : store.State) (done : Result (Unit {0}) AdoptFault) → (HasCleanDisk new → IsNewlyOpened old → (version : ℕ) (s : State) → HoldsGood version old.now s → OnOk done (IsOpenAt new s)) → OnOk done (KeepsGood old new)
-keeps_good old new (Ok u) h = h
-keeps_good old new (Err f) h = tt
-
-pub still_good : (old new : store.State) (done : Result (Unit {0}) AdoptFault) → (HasCleanDisk new → IsNewlyOpened old → (version : ℕ) (s : State) → HoldsGood version old.now s → OnErr done (IsRisingAt version new s)) → OnErr done (StillGood old new)
-still_good old new (Ok u) h = tt
-still_good old new (Err f) h = h
-
 -- a fault of a raising names no rule
-pub names_none : (db : Database) (done : Result (Unit {0}) AdoptFault) → IfErr done (λ f. (f ≡ fault.Store) ⊎ (f ≡ fault.Memory)) → IfErr done (NamesFirst db)
-names_none db (Ok u) known = tt
-names_none db (Err f) known = elim known [
+pub names_none : (db : Database) (f : AdoptFault) → (f ≡ fault.Store) ⊎ (f ≡ fault.Memory) → NamesFirst db f
+names_none db f known = elim known [
   | inl store_fault ↦ subst (NamesFirst db) (sym store_fault) tt
   | inr memory ↦ subst (NamesFirst db) (sym memory) tt
 ]
@@ -85,12 +73,3 @@ newest_told db version whole told low = elim (eq-or-lt_of_le low) [
   | inl same ↦ same
   | inr under ↦ absurd (whole.newest version under told)
 ]
-
--- ---- good tables that were read and are raised
-
-module _ (schema : ℕ) (old mid new : store.State) (raised : Result (Unit {0}) AdoptFault) (same : mid.now ≡ old.now) (s : State) (held : HoldsGood schema old.now s) where
-  pub held_here : HoldsGood schema mid.now s
-  held_here = subst (λ (db : Database). HoldsGood schema db s) (sym same) held
-
-  pub open_raised : (HoldsGood schema mid.now s → OnOk raised (IsOpenAt new s × OthersStand mid.now new)) → OnOk raised (IsOpenAt new s × OthersStand old.now new)
-  open_raised done = subst (λ (db : Database). OnOk raised (IsOpenAt new s × OthersStand db new)) same (done held_here)

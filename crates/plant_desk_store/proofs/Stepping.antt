@@ -1,8 +1,9 @@
 -- What a command over a store comes to.
-use Rattle.std.proofs.Common.{◌≡◌, ◌≢◌, ◌∙◌, ℕ, ◌+◌, true, List, Option, None, Some, Result, Ok, Err, IfOk, IfErr, OnOk, OnErr, refl, sym, ap, subst}
-use Rattle.std.specs.Prelude.{◌⊎◌}
+use Rattle.std.proofs.Common.{◌≡◌, ◌≢◌, ◌∙◌, ℕ, ◌+◌, true, List, Option, None, Some, Result, Ok, Err, IfErr, false, refl, sym, ap, subst, arith}
+use Rattle.std.specs.Prelude.{MatchResult}
 use Rattle.sqlite.specs.State as store
 use Rattle.plant_base.specs.State.{State}
+use Rattle.table_forms.proofs.Ending.{IsStore}
 use Rattle.plant_base.specs.Content.{content_of}
 use Rattle.plant_base.specs.Formed.{stamp_of}
 use Rattle.plant_base.specs.declared.command.Envelope.{Envelope}
@@ -19,8 +20,10 @@ use Rattle.plant_desk.specs.declared.reply.DeskFault.{DeskFault}
 use Rattle.plant_desk.specs.declared.reply.DeskFault.TheVariants.{Store, Memory, Shut}
 use Rattle.plant_desk.proofs.Kept.{refused_step, repeated, answered_new}
 use Rattle.plant_desk_store.specs.Looking.{IsRepeat}
-use Rattle.plant_desk_store.specs.Standing.{StandsAt, Leaves, IsOpenAt, Executed}
-use Rattle.plant_desk_store.proofs.Resting.{before_only}
+use Rattle.plant_desk_store.specs.Parts.{IsCommitted, HasDecided, HasStepped}
+use Rattle.plant_desk_store.specs.Standing.{IsOpenAt, Executed}
+use Rattle.plant_desk_store.proofs.Others.{others_kept}
+use Rattle.plant_desk_store.proofs.Resting.{before_only, still_open}
 
 -- a receipt that is kept changes no number
 noted_number : (o : Option (List ℕ)) (content : List ℕ) (t : State) → (noted o content t).seq ≡ t.seq
@@ -48,16 +51,37 @@ refused s new e r w at = (refused_reply s e r w, subst (IsOpenAt new) (refused_s
 pub repeats : (s : State) (new : store.State) (e : Envelope) (n : ℕ) → is_whole e.body ≡ true → IsRepeated (content_of e) n (kept_for s e) → IsOpenAt new s → Executed s new e (Ok (Accepted n))
 repeats s new e n whole again at = let both = repeated s e n whole again in (both.0, subst (IsOpenAt new) both.1 at)
 
-pub committed : (s : State) (new : store.State) (e : Envelope) (r : Result Reply DeskFault) → wrong s e ≡ None → kept_for s e ≡ None → IfOk r (λ x. x ≡ Accepted (s.seq + 1)) → IfErr r (λ f. f ≡ Store)
-    → OnOk r (IsOpenAt new (step s e)) → OnErr r (StandsAt new s × Leaves new (λ u. (u ≡ s) ⊎ (u ≡ step s e))) → Executed s new e r
-committed s new e (Ok x) w first told fault done cut = (told ∙ accepted_reply s e w first, done)
-committed s new e (Err f) w first told fault done cut = subst (λ (g : DeskFault). Executed s new e (Err g)) (sym fault) cut
+pub committed : (s : State) (new : store.State) (e : Envelope) (r : Result Reply DeskFault) → wrong s e ≡ None → kept_for s e ≡ None → MatchResult r (λ x. x ≡ Accepted (s.seq + 1)) (λ f. f ≡ Store)
+    → IsCommitted s (step s e) new r → Executed s new e r
+committed s new e (Ok x) w first told done = (told ∙ accepted_reply s e w first, done)
+committed s new e (Err f) w first told done = subst (λ (g : DeskFault). Executed s new e (Err g)) (sym told) done
 
 -- nothing was begun
 pub unbegun : (s : State) (new : store.State) (e : Envelope) (f : DeskFault) → f ≢ Shut → IsOpenAt new s → Executed s new e (Err f)
 unbegun s new e Store h at = before_only new s (step s e) at
 unbegun s new e Memory h at = at
 unbegun s new e Shut h at = h refl
+
+-- the fault of a commit
+pub told_store : (r : Result Reply DeskFault) (x : Reply) → MatchResult r (λ y. y ≡ x) (λ f. f ≡ Store) → IfErr r (λ f. f ≡ Store)
+told_store (Ok y) x told = tt
+told_store (Err f) x told = told
+
+pub store_unshut : (r : Result Reply DeskFault) → IfErr r (λ f. f ≡ Store) → IfErr r (λ f. f ≢ Shut)
+store_unshut (Ok y) told = tt
+store_unshut (Err f) told = λ shut. let both : Store ≡ Shut = sym told ∙ shut in absurd (cc)
+
+-- it wasn't decided
+pub undecided : (old new : store.State) (e : Envelope) (f : DeskFault) → IsStore new → old.in_transaction ≡ false → HasDecided old new e (Err f) → HasStepped e old new (Err f)
+undecided old new e f laws rest read = record {
+  rests = read.reads.rests rest;
+  clean = λ clean. omega (arith, read.reads.crash.clean, clean);
+  executed = λ clean s at. unbegun s new e f read.unshut (still_open old new s at clean (read.reads.kept clean) read.reads.crash laws);
+  others = λ clean s at before others. others_kept before old new others clean (read.reads.kept clean) read.reads.crash;
+  unshut = read.unshut;
+  spared = λ nothing. read.reads.crash;
+  repeated = λ clean s stands again. read.reads.crash;
+}
 
 -- ---- a command that was accepted before
 

@@ -18,7 +18,7 @@ use Rattle.plant_view.specs.declared.fault.ViewFault.TheVariants as view
 use Rattle.plant_tables_stored.specs.declared.loaded.Loaded.{Loaded}
 use Rattle.plant_check.specs.declared.rule.Rule.TheVariants as rule
 use Rattle.plant_desk.specs.declared.reply.DeskFault.{DeskFault}
-use Rattle.plant_desk.specs.declared.reply.DeskFault.TheVariants.{Shut}
+use Rattle.plant_desk.specs.declared.reply.DeskFault.TheVariants.{Store, Memory, Shut}
 use Rattle.plant_desk_store.specs.Faults.{looked, rows_to_test, rows_to_adopt, schema_told, schema_found}
 use Rattle.plant_desk_store.specs.declared.adopting.AdoptFault.{AdoptFault}
 use Rattle.plant_desk_store.specs.declared.adopting.AdoptFault.TheVariants as fault
@@ -60,6 +60,17 @@ pub adopted_rows : (P : Loaded → Type 0) (r : Result (Option Loaded) Fault) (x
 adopted_rows P (Ok (Some y)) x is h = let same : y ≡ x = cc in subst P same h
 adopted_rows P (Ok None) x is h = absurd (cc)
 adopted_rows P (Err f) x is h = absurd (cc)
+
+-- no fault of a reading or of a test is that of a desk that is shut
+pub untested_unshut : (r : Result (Option Loaded) Fault) (f : DeskFault) → Err f ≡ rows_to_test r → f ≢ Shut
+untested_unshut (Ok (Some y)) f is = absurd (cc)
+untested_unshut (Ok None) f is = λ shut. (let same : f ≡ Store = cc in let both : Store ≡ Shut = cc in absurd (cc))
+untested_unshut (Err below.Store) f is = λ shut. (let same : f ≡ Store = cc in let both : Store ≡ Shut = cc in absurd (cc))
+untested_unshut (Err below.Memory) f is = λ shut. (let same : f ≡ Memory = cc in let both : Memory ≡ Shut = cc in absurd (cc))
+
+pub tested_unshut : {A : Type 0} (r : Result A DeskFault) → IfErr r (λ f. f ≡ Memory) → IfErr r (λ f. f ≢ Shut)
+tested_unshut (Ok a) told = tt
+tested_unshut (Err f) told = λ shut. (let both : Memory ≡ Shut = cc in absurd (cc))
 
 -- a fault of the reading names the first rule, where a table doesn't stand, or is none that names one
 pub unread_rows : (P : AdoptFault → Type 0) (r : Result (Option Loaded) Fault) (f : AdoptFault) → Err f ≡ rows_to_adopt r → (r ≡ Ok None → P (fault.Damaged rule.Tables)) → P fault.Store → P fault.Memory → P f

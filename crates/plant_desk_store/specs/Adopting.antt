@@ -1,5 +1,5 @@
 -- How a store that was opened is adopted.
-use Rattle.std.specs.Prelude.{◌≡◌, ◌⊎◌, ◌<◌, ◌≤◌, ℕ, ℤ, pos, All, Option, Some, None, IsTrue, ⊤}
+use Rattle.std.specs.Prelude.{◌≡◌, ◌⊎◌, ◌<◌, ◌≤◌, ℕ, pos, Option, Some, None, IsTrue, ⊤}
 use Rattle.sqlite.specs.Tree.{Trees}
 use Rattle.sqlite.specs.Effect.{Database}
 use Rattle.sqlite.specs.State as store
@@ -7,20 +7,19 @@ use Rattle.sqlite.specs.State.{HasCleanDisk}
 use Rattle.plant_base.specs.State.{State, opening, newest_schema}
 use Rattle.plant_view.specs.Tables.{tables_of, IsWholeIn}
 use Rattle.plant_good.specs.Good.{IsGood}
-use Rattle.table_forms.specs.Standing.{AreFree, IsFree}
+use Rattle.table_forms.specs.Standing.{AreFree}
 use Rattle.table_forms.specs.Resting.{Keeps}
 pub use Rattle.table_reads.specs.Opened.{IsNewlyOpened}
+pub use Rattle.plant_check.specs.Damaged.{LacksTables, AreFirstBroken, IsFirstBroken, IsDamaged}
 use Rattle.plant_tables.specs.DeskForms.{desk_forms, later_forms}
 use Rattle.plant_tables.specs.DeskStopping.{MakesDesk, IsAtOf, Finds, opening_tables}
 use Rattle.plant_tables.specs.Keyed.{HoldsTablesOf}
-use Rattle.plant_tables_stored.specs.Loading.{AreLoaded}
-use Rattle.plant_tables_stored.specs.Version.{IsVersion, IsKnown, HasTablesOf}
+use Rattle.plant_tables_stored.specs.Version.{IsVersion, IsKnown}
 use Rattle.plant_tables_stored.specs.declared.loaded.Loaded.{Loaded}
 use Rattle.plant_migrate.specs.Standing.{IsBetween}
 use Rattle.plant_migrate.specs.Steps.{FindsRisable}
 use Rattle.plant_check.specs.Broken.{first_broken}
 use Rattle.plant_check.specs.declared.rule.Rule.{Rule}
-use Rattle.plant_check.specs.declared.rule.Rule.TheVariants as rule
 use Rattle.plant_desk.specs.Keeping.{States}
 use Rattle.plant_desk_store.specs.Standing.{IsOpenAt, FindsStateOf}
 use Rattle.plant_desk_store.specs.declared.adopting.AdoptFault.{AdoptFault}
@@ -69,26 +68,6 @@ pub record HasRisen (old new : store.State) : Type 0 where
 -- The store, where it is open, shows what it showed; or, after a fault of the store and no other, what was raised.
 abbrev pub ShowsStill : AdoptFault → store.State → store.State → Type 0
 ShowsStill f old new = IsTrue new.is_open → Keeps old new ⊎ ((f ≡ fault.Store) × HasRisen old new)
-
--- table meta doesn't stand with one good row, or the tables of its version don't stand as they are declared, or one that a
--- later version adds is there
-abbrev pub LacksTables : Database → Type 0
-LacksTables db = ((n : ℤ) → ¬ IsVersion db n) ⊎ ((version : ℕ) × IsVersion db (pos version) × ¬ HasTablesOf version db.schema)
-
--- the rows of the tables, of the version that meta tells, break this rule first
-abbrev pub AreFirstBroken : Database → Rule → Type 0
-AreFirstBroken db r = (version : ℕ) × IsVersion db (pos version) × ((x : Loaded) × AreLoaded version db x × (first_broken x ≡ Some r))
-
--- this is the first rule that the tables break
-abbrev pub IsFirstBroken : Database → Rule → Type 0
-IsFirstBroken db r = ((r ≡ rule.Tables) × LacksTables db) ⊎ AreFirstBroken db r
-
--- There is something of the desk, for not all of its tables' names are free; table meta tells no version above the
--- newest; and this is the first rule that the tables break.
-pub record IsDamaged (db : Database) (r : Rule) : Type 0 where
-  pub taken : ¬ All (IsFree db.schema) desk_forms
-  pub known : (n : ℕ) → newest_schema < n → ¬ IsVersion db (pos n)
-  pub broken : IsFirstBroken db r
 
 -- where a rule is named, it is this one, and where one is broken, it isn't told as a fault of the store
 abbrev pub IsBroken : Option Rule → AdoptFault → Type 0

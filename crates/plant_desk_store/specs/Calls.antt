@@ -28,6 +28,7 @@ use Rattle.plant_desk_store.specs.declared.adopting.AdoptFault.TheVariants as fa
 
 -- The store was adopted.
 pub record HasAdopted (old new : store.State) : Type 0 where
+  pub rests : new.in_transaction ≡ false
   pub adopted : HasCleanDisk new → IsNewlyOpened old → AdoptedFrom old (IsOpenAt new)
   -- over the tables of a good state the desk stands at this state, and a stop leaves that state alone
   pub again : KeepsGood old new

@@ -6,6 +6,7 @@ pub mod Laws
 pub mod Left
 pub mod Life
 pub mod Looking
+pub mod Parts
 pub mod Running
 pub mod Standing
 pub mod Testing

@@ -1,27 +1,13 @@
 //! The adoption of a store.
 
-ghost use Rattle.std.specs.Prelude.{◌≡◌, ◌≢◌, ◌⊎◌, ◌≤◌, ◌<◌, ◌-◌, ℕ, false, pos, IfOk, IfErr, OnOk, OnErr};
+ghost use Rattle.std.specs.Prelude.{◌≡◌, ◌≤◌, ◌<◌, false, IfOk, IfErr, MatchResult};
 ghost use Rattle.sqlite.specs.Held.{state};
-ghost use Rattle.sqlite.specs.State.{HasCleanDisk, IsUnchanged, Survives};
-ghost use Rattle.sqlite.specs.Effect.{IsDatabase};
-ghost use Rattle.plant_view.specs.Tables.{tables_of};
-ghost use Rattle.table_forms.specs.Resting.{Keeps};
-ghost use Rattle.table_forms.specs.Stopping.{IsSettled};
-ghost use Rattle.plant_base.specs.State.{State, opening, newest_schema};
-ghost use Rattle.table_forms.specs.Standing.{AreFree};
-ghost use Rattle.plant_tables.specs.DeskForms.{desk_forms};
-ghost use Rattle.plant_tables_stored.specs.Version.{IsKnown, IsVersion};
-ghost use Rattle.plant_tables_judged.specs.Collecting.{rows_in, rows_listed};
-ghost use Rattle.plant_desk_store.specs.Testing.{IsFit};
-ghost use Rattle.plant_desk_store.specs.Faults as spec;
-ghost use Rattle.plant_desk_store.specs.Adopting.{IsNewlyOpened, AdoptedFrom, HoldsGood, KeepsGood};
-ghost use Rattle.plant_desk_store.specs.Adopting.{StillGood, IsRisingAt, IsRefusedBy, NamesFirst, BrokenBy};
-ghost use Rattle.plant_desk_store.specs.Adopting.{ShowsStill};
+ghost use Rattle.plant_base.specs.State.{newest_schema};
+ghost use Rattle.plant_desk_store.specs.Adopting.{BrokenBy};
 ghost use Rattle.plant_desk_store.specs.Calls.{HasAdopted, HasRefused};
-ghost use Rattle.plant_desk_store.specs.Adopting.{AreMade, IsRaised, Adopts, IsUnraised};
-ghost use Rattle.plant_migrate.specs.Raised.{edges_from};
-ghost use Rattle.plant_migrate.specs.Steps.{IsRaisedBy};
-ghost use Rattle.plant_desk_store.specs.Standing.{IsOpenAt, OthersStand};
+ghost use Rattle.plant_desk_store.specs.Faults as spec;
+ghost use Rattle.plant_desk_store.specs.Parts.{HasMade, HasJudged, HasRaised, HasTaken};
+ghost use Rattle.plant_desk_store.specs.Testing.{IsFit};
 
 use crate::fitness::{Unfit, judge};
 use crate::stored::Desk;
@@ -60,10 +46,7 @@ pub struct AdoptRefused<S: Alter> {
 }
 
 fn fault_of(fault: Fault) -> AdoptFault
-    ensures known { (result ≡ AdoptFault.Store) ⊎ (result ≡ AdoptFault.Memory) }
-    ensures store { fault ≡ Fault.Store → result ≡ AdoptFault.Store }
-    ensures memory { fault ≡ Fault.Memory → result ≡ AdoptFault.Memory }
-    ensures is { result ≡ spec.adopt_fault fault }
+    ensures { result ≡ spec.adopt_fault fault }
 {
     match fault {
         Fault::Store => AdoptFault::Store,
@@ -118,28 +101,9 @@ impl<S: Alter> Desk<S> {
 /// Makes the desk's tables where the store has none of them, else tests those that are there, and raises older ones.
 fn adopt_on<S: Alter>(alloc: Global, connection: &mut Connection<S>) -> Result<(), AdoptFault>
     requires { (state S.Store connection.old).in_transaction ≡ false }
-    ensures mode { (state S.Store connection.new).in_transaction ≡ false }
-    ensures adopted { HasCleanDisk (state S.Store connection.new)
-        → IsNewlyOpened (state S.Store connection.old)
-        → OnOk result (AdoptedFrom (state S.Store connection.old)
-        (IsOpenAt (state S.Store connection.new))) }
-    ensures again { OnOk result (KeepsGood (state S.Store connection.old) (state S.Store connection.new)) }
-    ensures still { OnErr result (StillGood (state S.Store connection.old) (state S.Store connection.new)) }
-    ensures others { HasCleanDisk (state S.Store connection.new)
-        → IsNewlyOpened (state S.Store connection.old)
-        → OnOk result (OthersStand (state S.Store connection.old).now (state S.Store connection.new)) }
-    ensures refused { HasCleanDisk (state S.Store connection.new)
-        → IfErr result (IsRefusedBy (state S.Store connection.old).now) }
-    ensures shows { HasCleanDisk (state S.Store connection.new)
-        → IsNewlyOpened (state S.Store connection.old)
-        → IfErr result (λ fault. ShowsStill fault (state S.Store connection.old)
+    ensures { MatchResult result (λ _. HasAdopted (state S.Store connection.old)
+        (state S.Store connection.new)) (λ fault. HasRefused fault (state S.Store connection.old)
         (state S.Store connection.new)) }
-    ensures unmade { IfErr result (λ fault. fault ≢ AdoptFault.Store
-        → Survives (state S.Store connection.old) (state S.Store connection.new) (λ _. ⊥)) }
-    ensures spared { IsUnraised (state S.Store connection.old).now
-        → Survives (state S.Store connection.old) (state S.Store connection.new) (λ _. ⊥) }
-    ensures crash { Survives (state S.Store connection.old) (state S.Store connection.new)
-        (Adopts (state S.Store connection.old)) }
 {
     match schema_found(found(alloc, connection)) {
         Ok(None) => make_opening(connection),
@@ -181,38 +145,7 @@ fn adopt_tables<S: Alter>(
     schema: u64,
 ) -> Result<(), AdoptFault>
     requires { (state S.Store connection.old).in_transaction ≡ false }
-    ensures mode { (state S.Store connection.new).in_transaction ≡ false }
-    ensures clean { HasCleanDisk (state S.Store connection.new)
-        → HasCleanDisk (state S.Store connection.old) }
-    ensures good { HasCleanDisk (state S.Store connection.new)
-        → IsNewlyOpened (state S.Store connection.old) → IsKnown schema
-        → OnOk result ((s : State) × HoldsGood schema (state S.Store connection.old).now s
-        × IsOpenAt (state S.Store connection.new) s) }
-    ensures again { HasCleanDisk (state S.Store connection.new)
-        → IsNewlyOpened (state S.Store connection.old) → (s : State)
-        → HoldsGood schema (state S.Store connection.old).now s
-        → OnOk result (IsOpenAt (state S.Store connection.new) s) }
-    ensures still { HasCleanDisk (state S.Store connection.new)
-        → IsNewlyOpened (state S.Store connection.old) → (s : State)
-        → HoldsGood schema (state S.Store connection.old).now s
-        → OnErr result (IsRisingAt schema (state S.Store connection.new) s) }
-    ensures others { HasCleanDisk (state S.Store connection.new)
-        → IsNewlyOpened (state S.Store connection.old) → IsKnown schema
-        → OnOk result (OthersStand (state S.Store connection.old).now (state S.Store connection.new)) }
-    ensures shows { HasCleanDisk (state S.Store connection.new)
-        → IsNewlyOpened (state S.Store connection.old) → IsKnown schema
-        → IfErr result (λ fault. ShowsStill fault (state S.Store connection.old)
-        (state S.Store connection.new)) }
-    ensures named { HasCleanDisk (state S.Store connection.new)
-        → IsVersion (state S.Store connection.old).now (pos schema)
-        → IfErr result (NamesFirst (state S.Store connection.old).now) }
-    ensures unmade { IfErr result (λ fault. fault ≢ AdoptFault.Store
-        → Survives (state S.Store connection.old) (state S.Store connection.new) (λ _. ⊥)) }
-    ensures newest { schema ≡ newest_schema
-        → Survives (state S.Store connection.old) (state S.Store connection.new) (λ _. ⊥) }
-    ensures crash { Survives (state S.Store connection.old) (state S.Store connection.new)
-        (λ trees. IsNewlyOpened (state S.Store connection.old) → IsKnown schema
-        → IsRaised (state S.Store connection.old).now trees) }
+    ensures { HasTaken schema (state S.Store connection.old) (state S.Store connection.new) result }
 {
     let rows = judge_tables(alloc, connection, schema)?;
     if schema < NEWEST_SCHEMA {
@@ -225,24 +158,7 @@ fn adopt_tables<S: Alter>(
 /// Makes the desk's tables, with the opening state.
 fn make_opening<S: Alter>(connection: &mut Connection<S>) -> Result<(), AdoptFault>
     requires { (state S.Store connection.old).in_transaction ≡ false }
-    ensures mode { (state S.Store connection.new).in_transaction ≡ false }
-    ensures clean { HasCleanDisk (state S.Store connection.new)
-        → HasCleanDisk (state S.Store connection.old) }
-    ensures opening { HasCleanDisk (state S.Store connection.new)
-        → IsSettled (state S.Store connection.old) → IsDatabase (state S.Store connection.old).now
-        → AreFree desk_forms (state S.Store connection.old).now.schema
-        → OnOk result (IsOpenAt (state S.Store connection.new) opening) }
-    ensures others { HasCleanDisk (state S.Store connection.new)
-        → IsSettled (state S.Store connection.old) → IsDatabase (state S.Store connection.old).now
-        → AreFree desk_forms (state S.Store connection.old).now.schema
-        → OnOk result (OthersStand (state S.Store connection.old).now (state S.Store connection.new)) }
-    ensures shows { HasCleanDisk (state S.Store connection.new)
-        → IsSettled (state S.Store connection.old) → IsDatabase (state S.Store connection.old).now
-        → AreFree desk_forms (state S.Store connection.old).now.schema
-        → OnErr result (Keeps (state S.Store connection.old) (state S.Store connection.new)) }
-    ensures store { IfErr result (λ fault. fault ≡ AdoptFault.Store) }
-    ensures crash { Survives (state S.Store connection.old) (state S.Store connection.new)
-        (AreMade (state S.Store connection.old).now) }
+    ensures { HasMade (state S.Store connection.old) (state S.Store connection.new) result }
 {
     match commit_opening(connection) {
         Ok(()) => Ok(()),
@@ -256,26 +172,7 @@ fn judge_tables<S: Alter>(
     connection: &mut Connection<S>,
     schema: u64,
 ) -> Result<DeskRows, AdoptFault>
-    requires { (state S.Store connection.old).in_transaction ≡ false }
-    ensures mode { (state S.Store connection.new).in_transaction ≡ false }
-    ensures clean { HasCleanDisk (state S.Store connection.new)
-        → HasCleanDisk (state S.Store connection.old) }
-    ensures good { HasCleanDisk (state S.Store connection.new)
-        → IsNewlyOpened (state S.Store connection.old) → IsKnown schema
-        → IfOk result (λ rows. (s : State) × HoldsGood schema (state S.Store connection.old).now s
-        × (rows_listed rows ≡ rows_in (tables_of schema s))) }
-    ensures told { HasCleanDisk (state S.Store connection.new) → (s : State)
-        → HoldsGood schema (state S.Store connection.old).now s
-        → IfOk result (λ rows. rows_listed rows ≡ rows_in (tables_of schema s)) }
-    ensures numbered { OnOk result (1 ≤ schema) }
-    ensures unchanged { HasCleanDisk (state S.Store connection.new)
-        → OnOk result (IsUnchanged (state S.Store connection.old) (state S.Store connection.new)) }
-    ensures kept { HasCleanDisk (state S.Store connection.new)
-        → Keeps (state S.Store connection.old) (state S.Store connection.new) }
-    ensures named { HasCleanDisk (state S.Store connection.new)
-        → IsVersion (state S.Store connection.old).now (pos schema)
-        → IfErr result (NamesFirst (state S.Store connection.old).now) }
-    ensures crash { Survives (state S.Store connection.old) (state S.Store connection.new) (λ _. ⊥) }
+    ensures { HasJudged schema (state S.Store connection.old) (state S.Store connection.new) result }
 {
     match rows_to_adopt(Loaded::read(alloc, connection, schema)) {
         Ok(loaded) => judge_rows(alloc, &loaded, schema),
@@ -307,32 +204,8 @@ fn raise_tables<S: Alter>(
     requires rest { (state S.Store connection.old).in_transaction ≡ false }
     requires numbered { 1 ≤ schema }
     requires older { schema < newest_schema }
-    ensures mode { (state S.Store connection.new).in_transaction ≡ false }
-    ensures clean { HasCleanDisk (state S.Store connection.new)
-        → HasCleanDisk (state S.Store connection.old) }
-    ensures raised { HasCleanDisk (state S.Store connection.new)
-        → IsSettled (state S.Store connection.old) → (s : State)
-        → HoldsGood schema (state S.Store connection.old).now s
-        → rows_listed rows.now ≡ rows_in (tables_of schema s)
-        → OnOk result (IsOpenAt (state S.Store connection.new) s
-        × OthersStand (state S.Store connection.old).now (state S.Store connection.new)) }
-    ensures still { HasCleanDisk (state S.Store connection.new)
-        → IsSettled (state S.Store connection.old) → (s : State)
-        → HoldsGood schema (state S.Store connection.old).now s
-        → rows_listed rows.now ≡ rows_in (tables_of schema s)
-        → OnErr result (IsRisingAt schema (state S.Store connection.new) s) }
-    ensures shows { HasCleanDisk (state S.Store connection.new)
-        → IsSettled (state S.Store connection.old) → (s : State)
-        → HoldsGood schema (state S.Store connection.old).now s
-        → rows_listed rows.now ≡ rows_in (tables_of schema s)
-        → IfErr result (λ fault. ShowsStill fault (state S.Store connection.old)
-        (state S.Store connection.new)) }
-    ensures known { IfErr result (λ fault. (fault ≡ AdoptFault.Store) ⊎ (fault ≡ AdoptFault.Memory)) }
-    ensures unmade { IfErr result (λ fault. fault ≢ AdoptFault.Store
-        → Survives (state S.Store connection.old) (state S.Store connection.new) (λ _. ⊥)) }
-    ensures crash { Survives (state S.Store connection.old) (state S.Store connection.new)
-        (IsRaisedBy schema (newest_schema - schema) rows.now.meta.position
-        (edges_from schema rows.now.movements.items) (state S.Store connection.old)) }
+    ensures { HasRaised schema rows.now (state S.Store connection.old) (state S.Store connection.new)
+        result }
 {
     match raise_rows(alloc, connection, schema, NEWEST_SCHEMA, rows) {
         Ok(()) => Ok(()),

@@ -1,19 +1,11 @@
 //! Commands over a store.
 
-ghost use Rattle.std.specs.Prelude.{◌≡◌, ◌≢◌, ◌⊎◌, ◌+◌, ◌<◌, ◌≤◌, ◌^◌, ℕ, false, true, Ok, IfOk, IfErr, OnOk, OnErr};
-ghost use Rattle.std.specs.Prelude.{IsTrue};
-ghost use Rattle.sqlite.specs.Effect.{Database};
+ghost use Rattle.std.specs.Prelude.{◌≡◌, ◌+◌, ◌<◌, ◌≤◌, ◌^◌, ℕ, false, true, Ok};
 ghost use Rattle.sqlite.specs.Held.{state};
-ghost use Rattle.sqlite.specs.State.{HasCleanDisk, Survives};
-ghost use Rattle.plant_base.specs.State.{State, newest_schema};
-ghost use Rattle.plant_view.specs.Tables.{tables_of, changed_all};
-ghost use Rattle.plant_tables.specs.Keyed.{AreFresh};
-ghost use Rattle.plant_good.specs.Good.{IsGood};
 ghost use Rattle.plant_base.specs.Values.{greatest_seq};
 ghost use Rattle.plant_view.specs.OneBatch.{PutsOneBatch};
 ghost use Rattle.plant_desk.specs.Keeping.{writes_nothing};
-ghost use Rattle.plant_desk_store.specs.Looking.{IsDecidedAt, IsRepeat};
-ghost use Rattle.plant_desk_store.specs.Standing.{StandsAt, Leaves, IsOpenAt, Executed, OthersStand};
+ghost use Rattle.plant_desk_store.specs.Parts.{HasCommitted, HasStepped, HasWritten};
 
 use crate::looking::{Decided, decide_on};
 use plant_base::{
@@ -34,26 +26,8 @@ pub(crate) fn execute_on<S: Alter>(
     envelope: &Envelope,
 ) -> Result<Reply, DeskFault>
     requires { (state S.Store connection.old).in_transaction ≡ false }
-    ensures mode { (state S.Store connection.new).in_transaction ≡ false }
-    ensures clean { HasCleanDisk (state S.Store connection.new)
-        → HasCleanDisk (state S.Store connection.old) }
-    ensures executed { HasCleanDisk (state S.Store connection.new) → (s : State)
-        → IsOpenAt (state S.Store connection.old) s
-        → Executed s (state S.Store connection.new) envelope.now result }
-    ensures open { IfErr result (λ fault. fault ≢ DeskFault.Shut) }
-    ensures others { HasCleanDisk (state S.Store connection.new) → (s : State)
-        → IsOpenAt (state S.Store connection.old) s → (before : Database)
-        → OthersStand before (state S.Store connection.old)
-        → OthersStand before (state S.Store connection.new) }
-
-    // Where nothing was to be written, a stop leaves what it left before.
-    ensures spared { writes_nothing result ≡ true
-        → Survives (state S.Store connection.old) (state S.Store connection.new) (λ _. ⊥) }
-
-    // Nothing is to be written for a command that was accepted before, whatever it is answered now.
-    ensures repeated { HasCleanDisk (state S.Store connection.new) → (s : State)
-        → StandsAt (state S.Store connection.old) s → IsRepeat s envelope.now
-        → Survives (state S.Store connection.old) (state S.Store connection.new) (λ _. ⊥) }
+    ensures { HasStepped envelope.now (state S.Store connection.old) (state S.Store connection.new)
+        result }
 {
     let decided = decide_on(alloc, connection, envelope)?;
     execute_decided(connection, decided, envelope)
@@ -68,27 +42,13 @@ fn execute_decided<S: Alter>(
     requires rest { (state S.Store connection.old).in_transaction ≡ false }
     requires one_batch { PutsOneBatch decided.decision }
     requires small { decided.seq ≤ greatest_seq }
-    ensures mode { (state S.Store connection.new).in_transaction ≡ false }
-    ensures clean { HasCleanDisk (state S.Store connection.new)
-        → HasCleanDisk (state S.Store connection.old) }
-    ensures executed { HasCleanDisk (state S.Store connection.new) → (s : State)
-        → IsOpenAt (state S.Store connection.old) s → IsTrue (state S.Store connection.old).is_open
-        → IsDecidedAt s envelope.now decided
-        → Executed s (state S.Store connection.new) envelope.now result }
-    ensures open { IfErr result (λ fault. fault ≢ DeskFault.Shut) }
-    ensures others { HasCleanDisk (state S.Store connection.new) → (s : State)
-        → IsOpenAt (state S.Store connection.old) s → IsTrue (state S.Store connection.old).is_open
-        → IsDecidedAt s envelope.now decided
-        → (before : Database) → OthersStand before (state S.Store connection.old)
-        → OthersStand before (state S.Store connection.new) }
+    ensures written { HasWritten decided envelope.now (state S.Store connection.old)
+        (state S.Store connection.new) result }
     ensures untouched { writes_nothing result ≡ true → connection.new ≡ connection.old }
 
     // A command that was accepted before is answered the number that it got then, and nothing is written.
     ensures repeated { (n : ℕ) → decided.decision ≡ Decision.Repeat n
         → (result ≡ Ok (Reply.Accepted n)) × (connection.new ≡ connection.old) }
-
-    // Store comes of the commit of a command that is accepted.
-    ensures fault { IfErr result (λ fault. fault ≡ DeskFault.Store) }
 {
     // The checker can't follow row changes, unless the function names these types.
     let _: Option<(RecipeLine, MasterLine, ControlLine, Movement, MovementKind)> = None;
@@ -110,31 +70,8 @@ fn commit_on<S: Alter>(
 ) -> Result<Reply, DeskFault>
     requires rest { (state S.Store connection.old).in_transaction ≡ false }
     requires fits { seq + 1 < 2 ^ 64 }
-    ensures mode { (state S.Store connection.new).in_transaction ≡ false }
-    ensures clean { HasCleanDisk (state S.Store connection.new)
-        → HasCleanDisk (state S.Store connection.old) }
-    ensures reply { IfOk result (λ r. r ≡ Reply.Accepted (seq + 1)) }
-    ensures fault { IfErr result (λ f. f ≡ DeskFault.Store) }
-    ensures accepted { HasCleanDisk (state S.Store connection.new) → (s next : State)
-        → IsOpenAt (state S.Store connection.old) s → IsTrue (state S.Store connection.old).is_open
-        → IsGood next
-        → changed_all changes.now (tables_of newest_schema s) ≡ tables_of newest_schema next
-        → AreFresh changes.now (tables_of newest_schema s)
-        → OnOk result (IsOpenAt (state S.Store connection.new) next) }
-    ensures cut_short { HasCleanDisk (state S.Store connection.new) → (s next : State)
-        → IsOpenAt (state S.Store connection.old) s → IsTrue (state S.Store connection.old).is_open
-        → IsGood next
-        → changed_all changes.now (tables_of newest_schema s) ≡ tables_of newest_schema next
-        → AreFresh changes.now (tables_of newest_schema s)
-        → OnErr result (StandsAt (state S.Store connection.new) s
-        × Leaves (state S.Store connection.new) (λ u. (u ≡ s) ⊎ (u ≡ next))) }
-    ensures others { HasCleanDisk (state S.Store connection.new) → (s next : State)
-        → IsOpenAt (state S.Store connection.old) s → IsTrue (state S.Store connection.old).is_open
-        → IsGood next
-        → changed_all changes.now (tables_of newest_schema s) ≡ tables_of newest_schema next
-        → AreFresh changes.now (tables_of newest_schema s)
-        → (before : Database) → OthersStand before (state S.Store connection.old)
-        → OthersStand before (state S.Store connection.new) }
+    ensures { HasCommitted seq changes.now (state S.Store connection.old) (state S.Store connection.new)
+        result }
 {
     match commit_changes(connection, changes) {
         Ok(()) => Ok(Reply::Accepted(seq + 1)),

@@ -1,16 +1,16 @@
 //! Decisions and answers by look-ups: of a store only the rows are read that a command or a question names.
 
-ghost use Rattle.std.specs.Prelude.{◌≡◌, ◌≢◌, ◌≤◌, false, IfOk, IfErr, OnOk, IsTrue};
+ghost use Rattle.std.specs.Prelude.{◌≡◌, ◌≤◌, IfOk, OnOk, IsTrue};
 ghost use Rattle.sqlite.specs.Held.{state};
-ghost use Rattle.sqlite.specs.State.{HasCleanDisk, Survives};
+ghost use Rattle.sqlite.specs.State.{HasCleanDisk};
 ghost use Rattle.plant_base.specs.State.{State, newest_schema};
 ghost use Rattle.plant_base.specs.Values.{greatest_seq};
-ghost use Rattle.table_forms.specs.Resting.{Keeps};
 ghost use Rattle.plant_view.specs.OneBatch.{PutsOneBatch};
 ghost use Rattle.plant_desk.specs.Answers.{answer};
 ghost use Rattle.plant_keyed.specs.Keeping.{IsSteady};
 ghost use Rattle.plant_keyed.specs.Remembering.{AreEdgesOf};
 ghost use Rattle.plant_desk_store.specs.Looking.{IsDecidedAt};
+ghost use Rattle.plant_desk_store.specs.Parts.{HasDecided, HasAnswered};
 ghost use Rattle.plant_desk_store.specs.Standing.{StandsAt};
 
 use crate::faults::looked;
@@ -37,19 +37,8 @@ pub(crate) fn decide_on<S: Alter>(
     connection: &mut Connection<S>,
     envelope: &Envelope,
 ) -> Result<Decided, DeskFault>
-    ensures decided { HasCleanDisk (state S.Store connection.new) → (s : State)
-        → StandsAt (state S.Store connection.old) s
-        → IfOk result (IsDecidedAt s envelope.now) }
-    ensures one_batch { IfOk result (λ d. PutsOneBatch d.decision) }
-    ensures small { IfOk result (λ d. d.seq ≤ greatest_seq) }
-    ensures live { HasCleanDisk (state S.Store connection.new)
-        → OnOk result (IsTrue (state S.Store connection.new).is_open) }
-    ensures open { IfErr result (λ fault. fault ≢ DeskFault.Shut) }
-    ensures kept { HasCleanDisk (state S.Store connection.new)
-        → Keeps (state S.Store connection.old) (state S.Store connection.new) }
-    ensures mode { (state S.Store connection.old).in_transaction ≡ false
-        → (state S.Store connection.new).in_transaction ≡ false }
-    ensures crash { Survives (state S.Store connection.old) (state S.Store connection.new) (λ _. ⊥) }
+    ensures { HasDecided (state S.Store connection.old) (state S.Store connection.new) envelope.now
+        result }
 {
     let mut edges = Directed::unread(alloc);
     let mut view = Keyed::new(alloc, connection, &mut edges);
@@ -97,15 +86,8 @@ pub(crate) fn answer_on<S: Alter>(
     connection: &mut Connection<S>,
     question: &Question,
 ) -> Result<Answer, DeskFault>
-    ensures answers { HasCleanDisk (state S.Store connection.new) → (s : State)
-        → StandsAt (state S.Store connection.old) s
-        → IfOk result (λ a. a ≡ answer newest_schema s question.now) }
-    ensures open { IfErr result (λ fault. fault ≢ DeskFault.Shut) }
-    ensures kept { HasCleanDisk (state S.Store connection.new)
-        → Keeps (state S.Store connection.old) (state S.Store connection.new) }
-    ensures mode { (state S.Store connection.old).in_transaction ≡ false
-        → (state S.Store connection.new).in_transaction ≡ false }
-    ensures crash { Survives (state S.Store connection.old) (state S.Store connection.new) (λ _. ⊥) }
+    ensures { HasAnswered (state S.Store connection.old) (state S.Store connection.new) question.now
+        result }
 {
     let mut edges = Directed::unread(alloc);
     let mut view = Keyed::new(alloc, connection, &mut edges);

@@ -1,13 +1,9 @@
 //! The test of all tables.
 
-ghost use Rattle.std.specs.Prelude.{◌≡◌, ◌≢◌, false, None, IfOk, IfErr};
+ghost use Rattle.std.specs.Prelude.{◌≡◌, IfOk, IfErr};
 ghost use Rattle.sqlite.specs.Held.{state};
-ghost use Rattle.sqlite.specs.State.{HasCleanDisk, Survives};
-ghost use Rattle.plant_base.specs.State.{State};
-ghost use Rattle.table_forms.specs.Resting.{Keeps};
 ghost use Rattle.plant_check.specs.Broken.{first_broken};
-ghost use Rattle.plant_desk_store.specs.Standing.{StandsAt};
-ghost use Rattle.plant_desk_store.specs.Testing.{IsTested};
+ghost use Rattle.plant_desk_store.specs.Parts.{HasTested};
 
 use crate::faults::rows_to_test;
 use crate::fitness::{Unfit, judge};
@@ -24,17 +20,7 @@ pub(crate) fn verify_on<S: Alter>(
     alloc: Global,
     connection: &mut Connection<S>,
 ) -> Result<Option<Rule>, DeskFault>
-    // The rule is the first that the rows of the store's tables break.
-    ensures tested { HasCleanDisk (state S.Store connection.new)
-        → IfOk result (IsTested (state S.Store connection.old).now) }
-    ensures unbroken { HasCleanDisk (state S.Store connection.new) → (s : State)
-        → StandsAt (state S.Store connection.old) s → IfOk result (λ broken. broken ≡ None) }
-    ensures open { IfErr result (λ fault. fault ≢ DeskFault.Shut) }
-    ensures kept { HasCleanDisk (state S.Store connection.new)
-        → Keeps (state S.Store connection.old) (state S.Store connection.new) }
-    ensures mode { (state S.Store connection.old).in_transaction ≡ false
-        → (state S.Store connection.new).in_transaction ≡ false }
-    ensures crash { Survives (state S.Store connection.old) (state S.Store connection.new) (λ _. ⊥) }
+    ensures { HasTested (state S.Store connection.old) (state S.Store connection.new) result }
 {
     match rows_to_test(Loaded::read(alloc, connection, NEWEST_SCHEMA)) {
         Ok(loaded) => broken_rule(alloc, &loaded),

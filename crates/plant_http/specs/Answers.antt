@@ -125,6 +125,8 @@ answer_status (A.Order order) = st.Success
 answer_status (A.Batch v) = st.Success
 answer_status (A.Trace nodes) = st.Success
 answer_status (A.Recall recall) = st.Success
+answer_status (A.Moment at) = st.Success
+answer_status (A.List page) = st.Success
 answer_status (A.Unknown r) = st.NotFound
 
 -- only a batch has a record
@@ -135,6 +137,8 @@ form_for form (A.Order order) = Json
 form_for form (A.Batch v) = form
 form_for form (A.Trace nodes) = Json
 form_for form (A.Recall recall) = Json
+form_for form (A.Moment at) = Json
+form_for form (A.List page) = Json
 form_for form (A.Unknown r) = Json
 
 -- what is known of a batch, in JSON or as its record
@@ -149,6 +153,8 @@ text_in form (A.Order order) = text_of_answer (A.Order order)
 text_in form (A.Batch v) = batch_in form v
 text_in form (A.Trace nodes) = text_of_answer (A.Trace nodes)
 text_in form (A.Recall recall) = text_of_answer (A.Recall recall)
+text_in form (A.Moment at) = text_of_answer (A.Moment at)
+text_in form (A.List page) = text_of_answer (A.List page)
 text_in form (A.Unknown r) = text_of_answer (A.Unknown r)
 
 abbrev pub answer_out : Form → DeskAnswer → Out

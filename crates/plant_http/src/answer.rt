@@ -124,7 +124,9 @@ fn answer_status(answer: &DeskAnswer) -> Status
         | DeskAnswer::Order(_)
         | DeskAnswer::Batch(_)
         | DeskAnswer::Trace(_)
-        | DeskAnswer::Recall(_) => Status::Success,
+        | DeskAnswer::Recall(_)
+        | DeskAnswer::Moment { .. }
+        | DeskAnswer::List(_) => Status::Success,
     }
 }
 
@@ -139,7 +141,9 @@ fn form_for(form: Form, answer: &DeskAnswer) -> Form
         | DeskAnswer::Lot(_)
         | DeskAnswer::Order(_)
         | DeskAnswer::Trace(_)
-        | DeskAnswer::Recall(_) => Form::Json,
+        | DeskAnswer::Recall(_)
+        | DeskAnswer::Moment { .. }
+        | DeskAnswer::List(_) => Form::Json,
     }
 }
 
@@ -157,7 +161,9 @@ fn text_in(alloc: Global, form: Form, answer: &DeskAnswer) -> Result<String, All
         | DeskAnswer::Lot(_)
         | DeskAnswer::Order(_)
         | DeskAnswer::Trace(_)
-        | DeskAnswer::Recall(_) => answer_text(alloc, answer),
+        | DeskAnswer::Recall(_)
+        | DeskAnswer::Moment { .. }
+        | DeskAnswer::List(_) => answer_text(alloc, answer),
     }
 }
 

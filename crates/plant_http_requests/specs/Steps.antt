@@ -70,9 +70,11 @@ asked_step question form method =
 
 abbrev pub target_step : Target → List ℕ → Option ℕ → Fields → HeadStep
 target_step target.Desk method length fs = asked_step Q.Desk Json method
+target_step target.Moment method length fs = asked_step Q.Moment Json method
 target_step target.Commands method length fs = posted_step content.Command method length
 target_step target.Orders method length fs = posted_step (content.Orders (heading_in fs)) method length
 target_step (target.Named k id) method length fs = asked_step (question_of k id) (form_of k) method
+target_step (target.List list above) method length fs = asked_step (Q.List list above) Json method
 
 abbrev pub routed_step : Option Target → List ℕ → Option ℕ → Fields → HeadStep
 routed_step None method length fs = fails NotFound (is_head method)

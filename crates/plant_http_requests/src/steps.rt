@@ -116,9 +116,11 @@ fn target_step(
 {
     match target {
         Target::Desk => asked_step(Question::Desk, Form::Json, method),
+        Target::Moment => asked_step(Question::Moment, Form::Json, method),
         Target::Commands => posted_step(Content::Command, method, size),
         Target::Orders => posted_step(Content::Orders(heading_in(head, fields)), method, size),
         Target::Named(kind, id) => asked_step(question_of(kind, id), form_of(kind), method),
+        Target::List(list, above) => { asked_step(Question::List(list, above), Form::Json, method) }
     }
 }
 

@@ -2,6 +2,8 @@
 use Rattle.std.proofs.Common.{◌≡◌, Some, None, codes, refl}
 use Rattle.matchit.proofs.OnLiterals.{matchit_on_literals}
 use Rattle.plant_http_routes.specs.Routes.{target_of, found_in}
+use Rattle.plant_base.specs.declared.states.JobState.TheVariants.{Open}
+use Rattle.plant_worklists.specs.declared.list.Worklist.TheVariants as list
 use Rattle.plant_http_routes.specs.declared.routes.Kind.TheVariants as kind
 use Rattle.plant_http_routes.specs.declared.routes.Target.TheVariants as target
 
@@ -20,3 +22,15 @@ lower_case = refl
 pub slash : target_of (codes "/v1/desk/") ≡ None
 unfolding matchit_on_literals found_in
 slash = refl
+
+pub open_orders : target_of (codes "/v1/lists/orders/open") ≡ Some (target.List (list.Orders Open) None)
+unfolding matchit_on_literals found_in
+open_orders = refl
+
+pub further_lots : target_of (codes "/v1/lists/lots/FLOUR/F-9") ≡ Some (target.List (list.Lots (codes "FLOUR")) (Some (codes "F-9")))
+unfolding matchit_on_literals found_in
+further_lots = refl
+
+pub no_such_state : target_of (codes "/v1/lists/orders/late") ≡ None
+unfolding matchit_on_literals found_in
+no_such_state = refl

@@ -30,11 +30,16 @@ part_is_text path a b h = by (leb a b && leb b (length path))
     by true = IsUtf8-from_ascii _ (IsAscii-take _ _ (IsAscii-drop _ _ h))
     by false = IsUtf8-from_ascii [] (λ i. lit< tt)
 
-same_part : (a p : List ℕ × List ℕ) (s t : List (List ℕ × List ℕ)) → a ∷ s ≡ p ∷ t → a.1 ≡ p.1
-same_part a p s t e = cc
+-- each part is a text
+abbrev pub AreTexts : List (List ℕ × List ℕ) → Type 0
+AreTexts [] = Unit {0}
+AreTexts (p ∷ rest) = IsUtf8 p.1 × AreTexts rest
 
--- the first part of a walk along a path of ASCII is a text
-pub first_is_text : (pattern text path : List ℕ) (names : List (ℕ × ℕ)) (p : List ℕ × List ℕ) (rest : List (List ℕ × List ℕ))
-    → walk pattern text path names 0 0 ≡ p ∷ rest → IsAscii path → IsUtf8 p.1
-first_is_text pattern text path [] p rest e h = absurd (cc)
-first_is_text pattern text path (name ∷ names) p rest e h = subst (λ x. IsUtf8 x) (same_part _ p _ rest e) (part_is_text path _ _ h)
+-- the parts of a walk along a path of ASCII are texts
+pub walk_texts : (pattern text path : List ℕ) (names : List (ℕ × ℕ)) (token at : ℕ) → IsAscii path → AreTexts (walk pattern text path names token at)
+walk_texts pattern text path [] token at h = tt
+walk_texts pattern text path (name ∷ names) token at h = (part_is_text path _ _ h, walk_texts pattern text path names _ _ h)
+
+-- so are those of a walk that is known
+pub texts_of : (pattern text path : List ℕ) (names : List (ℕ × ℕ)) (parts : List (List ℕ × List ℕ)) → walk pattern text path names 0 0 ≡ parts → IsAscii path → AreTexts parts
+texts_of pattern text path names parts e h = subst AreTexts e (walk_texts pattern text path names 0 0 h)

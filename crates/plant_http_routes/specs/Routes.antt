@@ -8,6 +8,11 @@ use Rattle.matchit.specs.Order.{placed}
 use Rattle.matchit.specs.Params.{walk}
 use Rattle.matchit.specs.Seek.{first}
 use Rattle.plant_base.specs.Values.{is_id, only}
+use Rattle.plant_shapes.specs.Words.{order_state}
+use Rattle.plant_shapes.specs.declared.words.ListKind.{ListKind}
+use Rattle.plant_shapes.specs.declared.words.ListKind.TheVariants as k
+use Rattle.plant_worklists.specs.declared.list.Worklist.{Worklist}
+use Rattle.plant_worklists.specs.declared.list.Worklist.TheVariants as list
 use Rattle.plant_http_routes.specs.declared.routes.Kind.{Kind}
 use Rattle.plant_http_routes.specs.declared.routes.Kind.TheVariants as kind
 use Rattle.plant_http_routes.specs.declared.routes.Route.{Route}
@@ -19,13 +24,26 @@ use Rattle.plant_http_routes.specs.declared.routes.Target.TheVariants as target
 abbrev pub plain : List ℕ → Route → RouteOf Route
 plain text value = record { pattern = text; text = text; names = []; value = value }
 
--- a route with an id between two texts; the name stands in braces in its place
-abbrev pub with_id : List ℕ → List ℕ → List ℕ → Kind → RouteOf Route
-with_id before name after value = record {
+-- a route with a parameter between two texts; its name stands in braces in its place
+abbrev pub with_part : List ℕ → List ℕ → List ℕ → Route → RouteOf Route
+with_part before name after value = record {
   pattern = before ++ param_token ∷ after;
   text = before ++ codes "{" ++ name ++ codes "}" ++ after;
   names = (length before + 1, length before + 1 + length name) ∷ [];
-  value = route.Named value;
+  value = value;
+}
+
+-- one with an id in the place of the parameter
+abbrev pub with_id : List ℕ → List ℕ → List ℕ → Kind → RouteOf Route
+with_id before name after value = with_part before name after (route.Named value)
+
+-- a route with two parameters at its end
+abbrev pub with_two : List ℕ → List ℕ → List ℕ → Route → RouteOf Route
+with_two before first second value = record {
+  pattern = before ++ param_token ∷ (codes "/" ++ param_token ∷ []);
+  text = before ++ codes "{" ++ first ++ codes "}/{" ++ second ++ codes "}";
+  names = (length before + 1, length before + 1 + length first) ∷ (length before + length first + 4, length before + length first + 4 + length second) ∷ [];
+  value = value;
 }
 
 abbrev pub adds : RouteOf Route → RowsOf (RouteOf Route) → RowsOf (RouteOf Route)
@@ -47,29 +65,87 @@ batch_routes rows =
     (adds (with_id (codes "/v1/batches/") (codes "batch") (codes "/back") kind.BatchBack)
     (adds (with_id (codes "/v1/batches/") (codes "batch") [] kind.Batch) rows)))
 
+-- the routes of a list that is of something
+abbrev pub routes_of : List ℕ → List ℕ → ListKind → RowsOf (RouteOf Route) → RowsOf (RouteOf Route)
+routes_of before name kind rows =
+    adds (with_two before name (codes "above") (route.List kind))
+    (adds (with_part before name [] (route.List kind)) rows)
+
+-- the routes of a list that is of nothing
+abbrev pub whole_routes : List ℕ → ListKind → RowsOf (RouteOf Route) → RowsOf (RouteOf Route)
+whole_routes text kind rows =
+    adds (with_part (text ++ codes "/") (codes "above") [] (route.List kind))
+    (adds (plain text (route.List kind)) rows)
+
+-- the routes of lists
+abbrev pub list_routes : RowsOf (RouteOf Route) → RowsOf (RouteOf Route)
+list_routes rows =
+    routes_of (codes "/v1/lists/definitions/") (codes "class") k.Definitions
+    (whole_routes (codes "/v1/lists/recalls") k.Recalls
+    (routes_of (codes "/v1/lists/holds/") (codes "lot") k.Holds
+    (routes_of (codes "/v1/lists/lots/") (codes "def") k.Lots
+    (whole_routes (codes "/v1/lists/batches") k.Batches
+    (routes_of (codes "/v1/lists/orders/") (codes "state") k.Orders rows)))))
+
 -- all routes
 abbrev pub the_routes : RowsOf (RouteOf Route)
 the_routes =
-    batch_routes (lot_routes (order_routes
+    list_routes (adds (plain (codes "/v1/moment") route.Moment)
+    (batch_routes (lot_routes (order_routes
     (adds (plain (codes "/v1/orders") route.Orders)
     (adds (plain (codes "/v1/commands") route.Commands)
-    (adds (plain (codes "/v1/desk") route.Desk) [])))))
+    (adds (plain (codes "/v1/desk") route.Desk) [])))))))
 
 -- what stands in the place of the first parameter
 abbrev pub first_part : List (List ℕ × List ℕ) → Option (List ℕ)
 first_part [] = None
 first_part (p ∷ rest) = Some p.1
 
--- what a route makes of the id in the path
-abbrev pub target_with : Route → Option (List ℕ) → Option Target
-target_with route.Desk part = Some target.Desk
-target_with route.Commands part = Some target.Commands
-target_with route.Orders part = Some target.Orders
-target_with (route.Named k) part = option_map (λ id. target.Named k id) (option_and_then (only is_id) part)
+-- what stands in the place of the second
+abbrev pub second_part : List (List ℕ × List ℕ) → Option (List ℕ)
+second_part [] = None
+second_part (p ∷ rest) = first_part rest
+
+-- the place that a page goes on from, none where none is given
+abbrev pub place_at : Option (List ℕ) → Option (Option (List ℕ))
+place_at None = Some None
+place_at (Some part) = option_map Some (only is_id part)
+
+-- the list of a kind that is of what this part names
+abbrev pub list_named : ListKind → List ℕ → Option Worklist
+list_named k.Orders part = option_map list.Orders (order_state part)
+list_named k.Batches part = None
+list_named k.Lots part = option_map list.Lots (only is_id part)
+list_named k.Holds part = option_map list.Holds (only is_id part)
+list_named k.Recalls part = None
+list_named k.Definitions part = option_map list.Definitions (only is_id part)
+
+-- a page of a list, from a place that is named or from its front
+abbrev pub page_at : Option Worklist → Option (List ℕ) → Option Target
+page_at None above = None
+page_at (Some w) above = option_map (target.List w) (place_at above)
+
+-- the page that the parts of a path name: what the list is of, where it is of something, and the place to go on from
+abbrev pub listed_at : ListKind → Option (List ℕ) → Option (List ℕ) → Option Target
+listed_at k.Orders first second = page_at (option_and_then (list_named k.Orders) first) second
+listed_at k.Batches first second = page_at (Some list.OpenBatches) first
+listed_at k.Lots first second = page_at (option_and_then (list_named k.Lots) first) second
+listed_at k.Holds first second = page_at (option_and_then (list_named k.Holds) first) second
+listed_at k.Recalls first second = page_at (Some list.OpenRecalls) first
+listed_at k.Definitions first second = page_at (option_and_then (list_named k.Definitions) first) second
+
+-- what a route makes of the parts of a path in the place of its parameters
+abbrev pub target_with : Route → List (List ℕ × List ℕ) → Option Target
+target_with route.Desk parts = Some target.Desk
+target_with route.Moment parts = Some target.Moment
+target_with route.Commands parts = Some target.Commands
+target_with route.Orders parts = Some target.Orders
+target_with (route.Named kind) parts = option_map (λ id. target.Named kind id) (option_and_then (only is_id) (first_part parts))
+target_with (route.List kind) parts = listed_at kind (first_part parts) (second_part parts)
 
 -- what a path asks for by a route
 abbrev pub target_by : List ℕ → RouteOf Route → Option Target
-target_by path r = target_with r.value (first_part (walk r.pattern r.text path r.names 0 0))
+target_by path r = target_with r.value (walk r.pattern r.text path r.names 0 0)
 
 -- a path past ASCII has no route
 unfoldable pub found_in : RowsOf (RouteOf Route) → List ℕ → Option Target

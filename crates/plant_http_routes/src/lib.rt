@@ -1,6 +1,7 @@
 //! The routes of the desk's HTTP server: which path asks for what.
 #![tactic(auto)]
 
+mod lists;
 mod path;
 mod routes;
 

@@ -1,12 +1,12 @@
 //! Paths of ASCII, and the id in a path.
-ghost use Rattle.std.specs.Prelude.{◌≡◌, IfSome, is_some, option_and_then};
+ghost use Rattle.std.specs.Prelude.{◌≡◌, IfSome, is_some, option_and_then, option_copied};
 ghost use Rattle.std.specs.Bool.{OnTrue};
 ghost use Rattle.std.specs.Char.{is_ascii};
 ghost use Rattle.std.specs.List.{list_all};
 ghost use Rattle.std.specs.Str.{IsAscii};
 ghost use Rattle.matchit.specs.Params.{walk};
 ghost use Rattle.plant_base.specs.Values.{is_id, only};
-ghost use Rattle.plant_http_routes.specs.Routes.{first_part};
+ghost use Rattle.plant_http_routes.specs.Routes.{first_part, second_part};
 
 use matchit::Params;
 use plant_base::Id;
@@ -42,7 +42,7 @@ pub(crate) fn ascii_text(path: &[u8]) -> Option<&str>
     Some(ascii_str(path))
 }
 
-fn read_id(bytes: &[u8]) -> Option<Id>
+pub(crate) fn read_id(bytes: &[u8]) -> Option<Id>
     ensures { result ≡ only is_id bytes.now }
 {
     Id::read(bytes)
@@ -57,6 +57,35 @@ pub(crate) fn id_in(params: &Params<'_, '_>) -> Option<Id>
     let mut parts = params.iter();
     match parts.next() {
         Some((_, part)) => read_id(part.as_bytes()),
+        None => None,
+    }
+}
+
+/// What stands in a path in the place of the route's first parameter.
+pub(crate) fn first_in<'v>(params: &Params<'_, 'v>) -> Option<&'v str>
+    requires { IsAscii params.now.path.now }
+    ensures { option_copied result ≡ first_part (walk params.now.pattern.now
+        params.now.text.now params.now.path.now params.now.names.now 0 0) }
+{
+    let mut parts = params.iter();
+    match parts.next() {
+        Some((_, part)) => Some(part),
+        None => None,
+    }
+}
+
+/// What stands in a path in the place of the route's second parameter.
+pub(crate) fn second_in<'v>(params: &Params<'_, 'v>) -> Option<&'v str>
+    requires { IsAscii params.now.path.now }
+    ensures { option_copied result ≡ second_part (walk params.now.pattern.now
+        params.now.text.now params.now.path.now params.now.names.now 0 0) }
+{
+    let mut parts = params.iter();
+    match parts.next() {
+        Some(_) => match parts.next() {
+            Some((_, part)) => Some(part),
+            None => None,
+        },
         None => None,
     }
 }

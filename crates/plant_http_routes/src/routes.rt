@@ -1,12 +1,15 @@
 //! The routes, and what a path asks for by them.
-ghost use Rattle.std.specs.Prelude.{◌≡◌, IfOk, option_and_then};
+ghost use Rattle.std.specs.Prelude.{◌≡◌, IfOk, OnOk, option_and_then};
 ghost use Rattle.std.specs.Str.{IsAscii};
 ghost use Rattle.matchit.specs.Seek.{first};
-ghost use Rattle.plant_http_routes.specs.Routes.{the_routes, target_by, found_in, target_of};
+ghost use Rattle.plant_http_routes.specs.Routes.{the_routes, list_routes, target_by, found_in, target_of};
 
+use crate::lists::list_at;
 use crate::path::{ascii_text, id_in};
 use matchit::{InsertError, Router};
 use plant_base::Id;
+use plant_shapes::ListKind;
+use plant_worklists::Worklist;
 use std::alloc::Global;
 use std::marker::Model;
 use thiserror::Error;
@@ -32,13 +35,15 @@ pub enum Kind {
     Record,
 }
 
-/// A route, without the id that a path gives it.
+/// A route, without what a path gives it.
 #[derive(Clone, Copy, Debug, PartialEq, Eq)]
 pub enum Route {
     Desk,
+    Moment,
     Commands,
     Orders,
     Named(Kind),
+    List(ListKind),
 }
 
 /// What a path asks for.
@@ -46,12 +51,17 @@ pub enum Route {
 pub enum Target {
     /// `/v1/desk`: where the desk stands.
     Desk,
+    /// `/v1/moment`: when the last accepted command was given.
+    Moment,
     /// `/v1/commands`: the desk is to execute a command.
     Commands,
     /// `/v1/orders`: the desk is to take an order file.
     Orders,
     /// The thing of this id.
     Named(Kind, Id),
+    /// A page of a list: of what comes after this id, or of its front where none is given. The path is `/v1/lists/`, the word of the question
+    /// for the list, what it is of where it is of something, and the id where one is given, each behind a `/`.
+    List(Worklist, Option<Id>),
 }
 
 /// Memory was refused for the routes.
@@ -99,7 +109,34 @@ fn desk_router(alloc: Global) -> Result<Router<Route>, InsertError>
         Route::Named(Kind::BatchForward),
     )?;
     router.insert("/v1/batches/{batch}/record", Route::Named(Kind::Record))?;
+    router.insert("/v1/moment", Route::Moment)?;
+    add_lists(&mut router)?;
     Ok(router)
+}
+
+/// Adds the routes of lists.
+fn add_lists(router: &mut Router<Route>) -> Result<(), InsertError>
+    ensures { OnOk result (router.new ≡ list_routes router.old) }
+{
+    let orders = Route::List(ListKind::Orders);
+    let batches = Route::List(ListKind::Batches);
+    let lots = Route::List(ListKind::Lots);
+    let holds = Route::List(ListKind::Holds);
+    let recalls = Route::List(ListKind::Recalls);
+    let definitions = Route::List(ListKind::Definitions);
+    router.insert("/v1/lists/orders/{state}", orders)?;
+    router.insert("/v1/lists/orders/{state}/{above}", orders)?;
+    router.insert("/v1/lists/batches", batches)?;
+    router.insert("/v1/lists/batches/{above}", batches)?;
+    router.insert("/v1/lists/lots/{def}", lots)?;
+    router.insert("/v1/lists/lots/{def}/{above}", lots)?;
+    router.insert("/v1/lists/holds/{lot}", holds)?;
+    router.insert("/v1/lists/holds/{lot}/{above}", holds)?;
+    router.insert("/v1/lists/recalls", recalls)?;
+    router.insert("/v1/lists/recalls/{above}", recalls)?;
+    router.insert("/v1/lists/definitions/{class}", definitions)?;
+    router.insert("/v1/lists/definitions/{class}/{above}", definitions)?;
+    Ok(())
 }
 
 fn find_text(router: &Router<Route>, text: &str) -> Option<Target>
@@ -111,12 +148,14 @@ fn find_text(router: &Router<Route>, text: &str) -> Option<Target>
     };
     match *found.value {
         Route::Desk => Some(Target::Desk),
+        Route::Moment => Some(Target::Moment),
         Route::Commands => Some(Target::Commands),
         Route::Orders => Some(Target::Orders),
         Route::Named(kind) => match id_in(&found.params) {
             Some(id) => Some(Target::Named(kind, id)),
             None => None,
         },
+        Route::List(kind) => list_at(kind, &found.params),
     }
 }
 

@@ -74,7 +74,7 @@ first_passing p (r ∷ rs) = elim (p r) as (λ b. slice_get (cond b (r ∷ filte
 ]
 
 module _ {X Y : Type 0} (f : X → Y) (p : Y → Bool) (q : X → Bool) (tests : (x : X) → p (f x) ≡ q x) where
-  filter_mapped : (xs : List X) → filter p (map f xs) ≡ map f (filter q xs)
+  pub filter_mapped : (xs : List X) → filter p (map f xs) ≡ map f (filter q xs)
   filter_mapped [] = refl
   filter_mapped (x ∷ xs) =
       ap (λ b. cond b (f x ∷ filter p (map f xs)) (filter p (map f xs))) (tests x)

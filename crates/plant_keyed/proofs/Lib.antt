@@ -3,6 +3,8 @@ mod Directing
 mod EdgesAt
 mod Judging
 mod Keeping
+mod Listing
+mod Paged
 mod Selected
 pub mod Shown
 mod Sorting

@@ -1,6 +1,7 @@
 -- The texts of the look-ups, by computing what the parser reads.
 use Rattle.std.proofs.Common.{refl, [], ◌∷◌, codes}
 use Rattle.sqlite_tied.specs.Compute.{everything}
+use Rattle.table_reads.specs.Paging.{SelectsPage}
 use Rattle.table_reads.specs.Selects.{Selects}
 use Rattle.plant_tables.specs.DeskForms.{meta_form, class_form, definition_form, recipe_form, recipe_line_form, job_form, batch_form, control_line_form, batch_event_form, lot_form, sublot_form, movement_form, hold_form, edge_form, receipt_form, recall_form, mark_form}
 
@@ -95,3 +96,29 @@ edges_to = record { readable = refl; compared = refl; parameters = codes "?1" �
 pub edges : Selects edge_form [] (codes "SELECT kind, a, b FROM edge ORDER BY kind, a, b")
 unfolding everything
 edges = record { readable = refl; compared = refl; parameters = []; written = refl }
+
+-- ---- pages
+
+pub orders_in_state : SelectsPage job_form (7 ∷ []) 1 (codes "SELECT id, recipe, version, size, due, priority, state FROM job WHERE state = ?1 AND id > ?2 ORDER BY id LIMIT ?3")
+unfolding everything
+orders_in_state = record { readable = refl; compared = refl; bounded = refl; ordered = refl; parameters = codes "?1" ∷ codes "?2" ∷ codes "?3" ∷ []; written = refl }
+
+pub batches_by_closed : SelectsPage batch_form (9 ∷ []) 1 (codes "SELECT id, job, at, by_who, note, state, attempt, next, closed FROM batch WHERE closed = ?1 AND id > ?2 ORDER BY id LIMIT ?3")
+unfolding everything
+batches_by_closed = record { readable = refl; compared = refl; bounded = refl; ordered = refl; parameters = codes "?1" ∷ codes "?2" ∷ codes "?3" ∷ []; written = refl }
+
+pub lots_of_definition : SelectsPage lot_form (2 ∷ []) 1 (codes "SELECT id, def FROM lot WHERE def = ?1 AND id > ?2 ORDER BY id LIMIT ?3")
+unfolding everything
+lots_of_definition = record { readable = refl; compared = refl; bounded = refl; ordered = refl; parameters = codes "?1" ∷ codes "?2" ∷ codes "?3" ∷ []; written = refl }
+
+pub holds_on_lot : SelectsPage hold_form (1 ∷ []) 2 (codes "SELECT lot, id, at, by_who, note FROM hold WHERE lot = ?1 AND id > ?2 ORDER BY lot, id LIMIT ?3")
+unfolding everything
+holds_on_lot = record { readable = refl; compared = refl; bounded = refl; ordered = refl; parameters = codes "?1" ∷ codes "?2" ∷ codes "?3" ∷ []; written = refl }
+
+pub recalls_in_state : SelectsPage recall_form (3 ∷ []) 1 (codes "SELECT id, lot, state, at, by_who, note, lift_at, lift_by, lift_note FROM recall WHERE state = ?1 AND id > ?2 ORDER BY id LIMIT ?3")
+unfolding everything
+recalls_in_state = record { readable = refl; compared = refl; bounded = refl; ordered = refl; parameters = codes "?1" ∷ codes "?2" ∷ codes "?3" ∷ []; written = refl }
+
+pub definitions_of_class : SelectsPage definition_form (2 ∷ []) 1 (codes "SELECT id, class, name, unit FROM definition WHERE class = ?1 AND id > ?2 ORDER BY id LIMIT ?3")
+unfolding everything
+definitions_of_class = record { readable = refl; compared = refl; bounded = refl; ordered = refl; parameters = codes "?1" ∷ codes "?2" ∷ codes "?3" ∷ []; written = refl }

@@ -2,6 +2,7 @@ pub mod Edges
 pub mod Finding
 pub mod Keeping
 pub mod Laws
+pub mod Paging
 pub mod Remembering
 pub mod Shown
 pub mod Sorting

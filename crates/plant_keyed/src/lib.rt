@@ -9,9 +9,11 @@ mod keyed;
 mod laws;
 mod marks;
 mod movements;
+mod pages;
 mod receipts;
 mod texts;
 mod view;
+mod worklists;
 
 pub use directed::Directed;
 pub use keyed::Keyed;

@@ -65,3 +65,23 @@ pub(crate) const EDGES_TO: &str =
     "SELECT kind, a, b FROM edge WHERE kind = ?1 AND b = ?2 ORDER BY kind, a, b";
 
 pub(crate) const EDGES: &str = "SELECT kind, a, b FROM edge ORDER BY kind, a, b";
+
+// ---- pages: the value that a list is of, the id that its rows come after, and one more than a page has
+
+pub(crate) const ORDERS_IN_STATE: &str =
+    "SELECT id, recipe, version, size, due, priority, state FROM job WHERE state = ?1 AND id > ?2 ORDER BY id LIMIT ?3";
+
+pub(crate) const BATCHES_BY_CLOSED: &str =
+    "SELECT id, job, at, by_who, note, state, attempt, next, closed FROM batch WHERE closed = ?1 AND id > ?2 ORDER BY id LIMIT ?3";
+
+pub(crate) const LOTS_OF_DEFINITION: &str =
+    "SELECT id, def FROM lot WHERE def = ?1 AND id > ?2 ORDER BY id LIMIT ?3";
+
+pub(crate) const HOLDS_ON_LOT: &str =
+    "SELECT lot, id, at, by_who, note FROM hold WHERE lot = ?1 AND id > ?2 ORDER BY lot, id LIMIT ?3";
+
+pub(crate) const RECALLS_IN_STATE: &str =
+    "SELECT id, lot, state, at, by_who, note, lift_at, lift_by, lift_note FROM recall WHERE state = ?1 AND id > ?2 ORDER BY id LIMIT ?3";
+
+pub(crate) const DEFINITIONS_OF_CLASS: &str =
+    "SELECT id, class, name, unit FROM definition WHERE class = ?1 AND id > ?2 ORDER BY id LIMIT ?3";

@@ -14,7 +14,7 @@ use Rattle.plant_shapes.specs.declared.fields.Field.TheVariants as field
 use Rattle.plant_shapes.specs.declared.problems.Flaw.{Flaw}
 use Rattle.plant_shapes.specs.declared.problems.Flaw.TheVariants as flaw
 use Rattle.plant_shapes.specs.Members.{name_of, rule_of, is_needed}
-use Rattle.plant_shapes.specs.Words.{command_kind, question_kind, line_kind, batch_word}
+use Rattle.plant_shapes.specs.Words.{command_kind, question_kind, line_kind, batch_word, order_state}
 use Rattle.plant_shapes.specs.Problems.{◌>>=◌}
 
 -- ---- values
@@ -41,6 +41,7 @@ field_of rule.Moment d = option_map field.Moment (option_and_then (only is_momen
 field_of (rule.Number least greatest) d = option_map field.Number (option_and_then (only (is_between least greatest)) (natural d))
 field_of (rule.Small least greatest) d = option_map field.Small (option_and_then (only (is_between least greatest)) (natural d))
 field_of rule.Word d = option_map field.Word (option_and_then batch_word (as_str d))
+field_of rule.OrderState d = option_map field.OrderState (option_and_then order_state (as_str d))
 field_of rule.Command d = chosen (option_and_then command_kind (as_str d))
 field_of rule.Question d = chosen (option_and_then question_kind (as_str d))
 field_of rule.Kind d = chosen (option_and_then line_kind (as_str d))

@@ -1,5 +1,6 @@
 -- What the typed values of members are.
 use Rattle.std.specs.Prelude.{⊤, ℕ, List, [], ◌∷◌, Bool, true, false, Option, Some, None}
+use Rattle.plant_base.specs.declared.states.JobState.{JobState}
 use Rattle.plant_base.specs.declared.states.Word.{Word}
 use Rattle.plant_shapes.specs.declared.members.Member.{Member}
 use Rattle.plant_shapes.specs.declared.members.Rule.{Rule}
@@ -19,6 +20,7 @@ Means rule.Moment = ℕ
 Means (rule.Number least greatest) = ℕ
 Means (rule.Small least greatest) = ℕ
 Means rule.Word = Word
+Means rule.OrderState = JobState
 Means rule.Command = ⊤
 Means rule.Question = ⊤
 Means rule.Kind = ⊤
@@ -34,6 +36,7 @@ field_in rule.Moment x = field.Moment x
 field_in (rule.Number least greatest) x = field.Number x
 field_in (rule.Small least greatest) x = field.Small x
 field_in rule.Word x = field.Word x
+field_in rule.OrderState x = field.OrderState x
 field_in rule.Command x = field.Chosen
 field_in rule.Question x = field.Chosen
 field_in rule.Kind x = field.Chosen

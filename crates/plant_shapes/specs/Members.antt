@@ -49,6 +49,8 @@ entry_of m.Value = (codes "value", rule.Text)
 entry_of m.UnitProcedure = (codes "unit", rule.Id)
 entry_of m.Operation = (codes "oper", rule.Id)
 entry_of m.PhaseName = (codes "phase", rule.Id)
+entry_of m.State = (codes "state", rule.OrderState)
+entry_of m.Above = (codes "above", rule.Id)
 
 abbrev pub name_of : Member → List ℕ
 name_of which = (entry_of which).0
@@ -60,6 +62,7 @@ rule_of which = (entry_of which).1
 abbrev pub is_needed : Member → Bool
 is_needed m.Note = false
 is_needed m.Reference = false
+is_needed m.Above = false
 is_needed _ = true
 
 -- what a value is that obeys the rule
@@ -76,6 +79,7 @@ rule_text rule.Moment = codes "a whole number from 0 to " ++ decimal greatest_mo
 rule_text (rule.Number least greatest) = number_text least greatest
 rule_text (rule.Small least greatest) = number_text least greatest
 rule_text rule.Word = codes "one of start, hold, restart, stop, abort, reset, pause and resume"
+rule_text rule.OrderState = codes "one of open, cancelled, released and finished"
 rule_text rule.Command = codes "the word of a command"
 rule_text rule.Question = codes "the word of a question"
 rule_text rule.Kind = codes "one of in, out, par and phase"

@@ -1,9 +1,11 @@
--- Which members commands and the rows of lists have, in the order in which problems are told.
+-- Which members commands, questions for lists and the rows of lists have, in the order in which problems are told.
 use Rattle.std.specs.Prelude.{ℕ, List, [], ◌∷◌}
 use Rattle.plant_shapes.specs.declared.members.Member.{Member}
 use Rattle.plant_shapes.specs.declared.members.Member.TheVariants as m
 use Rattle.plant_shapes.specs.declared.words.CommandKind.{CommandKind}
 use Rattle.plant_shapes.specs.declared.words.CommandKind.TheVariants as c
+use Rattle.plant_shapes.specs.declared.words.ListKind.{ListKind}
+use Rattle.plant_shapes.specs.declared.words.ListKind.TheVariants as list
 use Rattle.plant_shapes.specs.declared.words.Row.{Row}
 use Rattle.plant_shapes.specs.declared.words.Row.TheVariants as row
 
@@ -40,6 +42,15 @@ own_of c.PhaseDone = m.Batch ∷ m.Phase ∷ []
 own_of c.CloseBatch = m.Batch ∷ []
 own_of c.Consume = m.Batch ∷ m.Lot ∷ m.Sub ∷ m.Amount ∷ []
 own_of c.Produce = m.Batch ∷ m.Lot ∷ m.Definition ∷ m.Amount ∷ m.Place ∷ []
+
+-- the members of a question for a page of a list: its word, what the list is of, and the place to go on from
+abbrev pub list_members : ListKind → List Member
+list_members list.Orders = m.Ask ∷ m.State ∷ m.Above ∷ []
+list_members list.Batches = m.Ask ∷ m.Above ∷ []
+list_members list.Lots = m.Ask ∷ m.Definition ∷ m.Above ∷ []
+list_members list.Holds = m.Ask ∷ m.Lot ∷ m.Above ∷ []
+list_members list.Recalls = m.Ask ∷ m.Above ∷ []
+list_members list.Definitions = m.Ask ∷ m.Class ∷ m.Above ∷ []
 
 -- the members of a row of a list
 abbrev pub row_own : Row → List Member

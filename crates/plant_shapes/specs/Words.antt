@@ -1,10 +1,13 @@
--- The words that choose a shape, and those for a batch.
+-- The words that choose a shape, those for a batch, and the states of orders.
 use Rattle.std.specs.Prelude.{ℕ, List, if◌then◌else◌, codes, Option, Some, None}
 use Rattle.std.specs.Str.{bytes_eq}
+use Rattle.plant_base.specs.declared.states.JobState.{JobState}
+use Rattle.plant_base.specs.declared.states.JobState.TheVariants as job_state
 use Rattle.plant_base.specs.declared.states.Word.{Word}
 use Rattle.plant_base.specs.declared.states.Word.TheVariants.{Start, Stop, Hold, Restart, Abort, Reset, Pause, Resume}
 use Rattle.plant_shapes.specs.declared.words.CommandKind.{CommandKind}
 use Rattle.plant_shapes.specs.declared.words.CommandKind.TheVariants as c
+use Rattle.plant_shapes.specs.declared.words.ListKind.TheVariants as list
 use Rattle.plant_shapes.specs.declared.words.QuestionKind.{QuestionKind}
 use Rattle.plant_shapes.specs.declared.words.QuestionKind.TheVariants as q
 use Rattle.plant_shapes.specs.declared.words.Row.{Row}
@@ -48,7 +51,14 @@ question_kind word =
     if bytes_eq word (codes "recall") then Some q.Recall else (
     if bytes_eq word (codes "back") then Some q.Back else (
     if bytes_eq word (codes "forward") then Some q.Forward else (
-    None)))))))
+    if bytes_eq word (codes "moment") then Some q.Moment else (
+    if bytes_eq word (codes "orders") then Some (q.List list.Orders) else (
+    if bytes_eq word (codes "batches") then Some (q.List list.Batches) else (
+    if bytes_eq word (codes "lots") then Some (q.List list.Lots) else (
+    if bytes_eq word (codes "holds") then Some (q.List list.Holds) else (
+    if bytes_eq word (codes "recalls") then Some (q.List list.Recalls) else (
+    if bytes_eq word (codes "definitions") then Some (q.List list.Definitions) else (
+    None))))))))))))))
 
 -- the recipe's line of a kind
 abbrev pub line_kind : List ℕ → Option Row
@@ -71,3 +81,12 @@ batch_word text =
     if bytes_eq text (codes "pause") then Some Pause else (
     if bytes_eq text (codes "resume") then Some Resume else (
     None))))))))
+
+-- the state of an order that a text names
+abbrev pub order_state : List ℕ → Option JobState
+order_state text =
+    if bytes_eq text (codes "open") then Some job_state.Open else (
+    if bytes_eq text (codes "cancelled") then Some job_state.Cancelled else (
+    if bytes_eq text (codes "released") then Some job_state.Released else (
+    if bytes_eq text (codes "finished") then Some job_state.Finished else (
+    None))))

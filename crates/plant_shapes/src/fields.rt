@@ -12,9 +12,9 @@ ghost use Rattle.plant_shapes.specs.declared.members.Rule.TheVariants as rule;
 
 use crate::members::{Member, Rule};
 use crate::problems::Flaw;
-use crate::words::{batch_word, command_kind, line_kind, question_kind};
+use crate::words::{batch_word, command_kind, line_kind, order_state, question_kind};
 use arrayvec::ArrayVec;
-use plant_base::{Amount, Due, Id, Moment, Text, Unit, Word};
+use plant_base::{Amount, Due, Id, JobState, Moment, Text, Unit, Word};
 use serde_json::{Map, Value};
 use std::marker::Model;
 
@@ -39,6 +39,8 @@ pub enum Field {
     Small(u8),
     /// A word for a batch.
     Word(Word),
+    /// The state of an order.
+    OrderState(JobState),
     /// A word that chose the object's shape.
     Chosen,
     /// A list is there, whose rows are read behind the other members.
@@ -163,6 +165,7 @@ fn field_of(rule: Rule, value: &Value) -> Option<Field>
         Rule::Number(least, greatest) => number_of(value, least, greatest),
         Rule::Small(least, greatest) => small_of(value, least, greatest),
         Rule::Word => Some(Field::Word(batch_word(value.as_str()?)?)),
+        Rule::OrderState => Some(Field::OrderState(order_state(value.as_str()?)?)),
         Rule::Command => chosen(command_kind(value.as_str()?)),
         Rule::Question => chosen(question_kind(value.as_str()?)),
         Rule::Kind => chosen(line_kind(value.as_str()?)),

@@ -11,5 +11,7 @@ mod words;
 pub use fields::{Field, Fields, exactly, fields_of, none_other};
 pub use members::{Member, Rule};
 pub use problems::{Fault, Flaw, LineFault, Problem, made, object};
-pub use tables::{own_of, row_own, shared_members};
-pub use words::{CommandKind, QuestionKind, Row, command_kind, line_kind, question_kind};
+pub use tables::{list_members, own_of, row_own, shared_members};
+pub use words::{
+    CommandKind, ListKind, QuestionKind, Row, command_kind, line_kind, order_state, question_kind,
+};

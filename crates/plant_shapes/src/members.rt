@@ -29,6 +29,8 @@ pub enum Rule {
     Small(u8, u8),
     /// A word for a batch.
     Word,
+    /// The state of an order.
+    OrderState,
     /// The word of a command.
     Command,
     /// The word of a question.
@@ -63,6 +65,7 @@ impl fmt::Display for Rule {
             Rule::Word => {
                 f.write_str("one of start, hold, restart, stop, abort, reset, pause and resume")
             }
+            Rule::OrderState => f.write_str("one of open, cancelled, released and finished"),
             Rule::Command => f.write_str("the word of a command"),
             Rule::Question => f.write_str("the word of a question"),
             Rule::Kind => f.write_str("one of in, out, par and phase"),
@@ -156,6 +159,10 @@ pub enum Member {
     Operation,
     /// The name of a phase.
     PhaseName,
+    /// The state of the orders of a list.
+    State,
+    /// The id that the rows of a page come after, which may be left out.
+    Above,
 }
 
 impl Member {
@@ -206,6 +213,8 @@ impl Member {
             Member::UnitProcedure => ("unit", Rule::Id),
             Member::Operation => ("oper", Rule::Id),
             Member::PhaseName => ("phase", Rule::Id),
+            Member::State => ("state", Rule::OrderState),
+            Member::Above => ("above", Rule::Id),
         }
     }
 
@@ -228,7 +237,7 @@ impl Member {
         ensures { result ≡ is_needed self }
     {
         match self {
-            Member::Note | Member::Reference => false,
+            Member::Note | Member::Reference | Member::Above => false,
             _ => true,
         }
     }

@@ -1,14 +1,14 @@
-//! Which members commands and the rows of lists have, in the order in which problems are told.
+//! Which members commands, questions for lists and the rows of lists have, in the order in which problems are told.
 ghost use Rattle.std.specs.Prelude.{◌≡◌, ◌≤◌, length};
-ghost use Rattle.plant_shapes.specs.Tables.{shared_members, own_of, row_own, most_members};
+ghost use Rattle.plant_shapes.specs.Tables.{shared_members, own_of, list_members, row_own, most_members};
 
 use crate::members::Member::{
-    self, Amount, At, Base, Batch, By, Class, Definition, Do, Due, Greatest, Hold, Kind, Least,
-    Lines, Lot, Name, New, Note, Operation, Order, Orders, Parameter, Parts, Phase, PhaseName,
-    Place, Priority, Product, Quantity, Recall, Recipe, Reference, Size, Sub, Title, Unit,
-    UnitProcedure, Value, Version, Word,
+    self, Above, Amount, Ask, At, Base, Batch, By, Class, Definition, Do, Due, Greatest, Hold,
+    Kind, Least, Lines, Lot, Name, New, Note, Operation, Order, Orders, Parameter, Parts, Phase,
+    PhaseName, Place, Priority, Product, Quantity, Recall, Recipe, Reference, Size, State, Sub,
+    Title, Unit, UnitProcedure, Value, Version, Word,
 };
-use crate::words::{CommandKind, Row};
+use crate::words::{CommandKind, ListKind, Row};
 
 /// The members that each command has.
 pub fn shared_members() -> &'static [Member]
@@ -49,6 +49,21 @@ pub fn own_of(kind: CommandKind) -> &'static [Member]
         CommandKind::CloseBatch => &[Batch],
         CommandKind::Consume => &[Batch, Lot, Sub, Amount],
         CommandKind::Produce => &[Batch, Lot, Definition, Amount, Place],
+    }
+}
+
+/// The members of a question for a page of a list: its word, what the list is of, and the place to go on from.
+pub fn list_members(kind: ListKind) -> &'static [Member]
+    ensures members { result.now ≡ list_members kind }
+    ensures few { length result.now ≤ most_members }
+{
+    match kind {
+        ListKind::Orders => &[Ask, State, Above],
+        ListKind::Batches => &[Ask, Above],
+        ListKind::Lots => &[Ask, Definition, Above],
+        ListKind::Holds => &[Ask, Lot, Above],
+        ListKind::Recalls => &[Ask, Above],
+        ListKind::Definitions => &[Ask, Class, Above],
     }
 }
 

@@ -1,8 +1,8 @@
-//! The words that choose a shape, and those for a batch.
+//! The words that choose a shape, those for a batch, and the states of orders.
 ghost use Rattle.std.specs.Prelude.{◌≡◌};
-ghost use Rattle.plant_shapes.specs.Words.{command_kind, question_kind, line_kind, batch_word};
+ghost use Rattle.plant_shapes.specs.Words.{command_kind, question_kind, line_kind, batch_word, order_state};
 
-use plant_base::Word;
+use plant_base::{JobState, Word};
 
 /// Which command an object is.
 #[derive(Clone, Copy, Debug, PartialEq, Eq)]
@@ -42,6 +42,26 @@ pub enum QuestionKind {
     Recall,
     Back,
     Forward,
+    Moment,
+    /// A page of a list.
+    List(ListKind),
+}
+
+/// Which list an object asks for.
+#[derive(Clone, Copy, Debug, PartialEq, Eq)]
+pub enum ListKind {
+    /// The orders in a state.
+    Orders,
+    /// The batches that aren't closed.
+    Batches,
+    /// The lots of a definition.
+    Lots,
+    /// The holds of a lot.
+    Holds,
+    /// The recalls that weren't lifted.
+    Recalls,
+    /// The definitions of a class.
+    Definitions,
 }
 
 /// Which row of a list an object is.
@@ -105,6 +125,13 @@ pub fn question_kind(word: &str) -> Option<QuestionKind>
         "recall" => Some(QuestionKind::Recall),
         "back" => Some(QuestionKind::Back),
         "forward" => Some(QuestionKind::Forward),
+        "moment" => Some(QuestionKind::Moment),
+        "orders" => Some(QuestionKind::List(ListKind::Orders)),
+        "batches" => Some(QuestionKind::List(ListKind::Batches)),
+        "lots" => Some(QuestionKind::List(ListKind::Lots)),
+        "holds" => Some(QuestionKind::List(ListKind::Holds)),
+        "recalls" => Some(QuestionKind::List(ListKind::Recalls)),
+        "definitions" => Some(QuestionKind::List(ListKind::Definitions)),
         _ => None,
     }
 }
@@ -135,6 +162,19 @@ pub(crate) fn batch_word(text: &str) -> Option<Word>
         "reset" => Some(Word::Reset),
         "pause" => Some(Word::Pause),
         "resume" => Some(Word::Resume),
+        _ => None,
+    }
+}
+
+/// The state of an order that a text names.
+pub fn order_state(text: &str) -> Option<JobState>
+    ensures { result ≡ order_state text.now }
+{
+    match text {
+        "open" => Some(JobState::Open),
+        "cancelled" => Some(JobState::Cancelled),
+        "released" => Some(JobState::Released),
+        "finished" => Some(JobState::Finished),
         _ => None,
     }
 }

@@ -8,10 +8,15 @@ use Rattle.std.specs.Result.{result_ok}
 use Rattle.serde_json.specs.Data.{Data}
 use Rattle.serde_json.specs.Find.{get}
 use Rattle.serde_json.specs.Read.{read}
+use Rattle.plant_worklists.specs.declared.list.Worklist.{Worklist}
+use Rattle.plant_worklists.specs.declared.list.Worklist.TheVariants as list
 use Rattle.plant_desk.specs.declared.question.Question.{Question}
 use Rattle.plant_desk.specs.declared.question.Question.TheVariants as Q
 use Rattle.plant_shapes.specs.declared.members.Member.{Member}
 use Rattle.plant_shapes.specs.declared.members.Member.TheVariants as m
+use Rattle.plant_shapes.specs.declared.members.Rule.TheVariants as rule
+use Rattle.plant_shapes.specs.declared.words.ListKind.{ListKind}
+use Rattle.plant_shapes.specs.declared.words.ListKind.TheVariants as k
 use Rattle.plant_shapes.specs.declared.words.QuestionKind.{QuestionKind}
 use Rattle.plant_shapes.specs.declared.words.QuestionKind.TheVariants as q
 use Rattle.plant_shapes.specs.declared.problems.Flaw.TheVariants as flaw
@@ -19,10 +24,11 @@ use Rattle.plant_shapes.specs.declared.problems.Problem.{Problem}
 use Rattle.plant_shapes.specs.declared.problems.Problem.TheVariants as problem
 use Rattle.plant_shapes.specs.Problems.{◌>>=◌, object, or_no_form, is_told, problem_told}
 use Rattle.plant_shapes.specs.Fields.{fields_of, exactly}
-use Rattle.plant_shapes.specs.Laws.{Values, fields_in}
+use Rattle.plant_shapes.specs.Laws.{Values, fields_in, may_in}
+use Rattle.plant_shapes.specs.Tables.{list_members}
 use Rattle.plant_shapes.proofs.Typed.{Good, good_bind, good_map, good_object, exactly_typed, only_fails, ask_fails}
 use Rattle.plant_text.specs.Lines.{value_says, longest_line, text_says, line_says, line_of}
-use Rattle.plant_text.specs.Questions.{one_id, id_named, node_named, question_for, kind_at, question_by, question_of}
+use Rattle.plant_text.specs.Questions.{asked_alone, one_id, id_named, node_named, page_asked, list_in, list_asked, question_for, kind_at, question_by, question_of}
 
 pub at_value : (bytes : List ℕ) (d : Data) → length bytes ≤ longest_line → IsUtf8 bytes → read bytes ≡ Some d → line_says bytes ≡ value_says d
 unfolding line_says
@@ -61,13 +67,37 @@ either_good : {A : Type 0} (b : Bool) (r s : Result A Problem) → Good problem_
 either_good true r s h g = h
 either_good false r s h g = g
 
+-- ---- lists
+
+place_total : (w : Worklist) (o : Option (List ℕ)) → Good is_told (λ x. ⊤) (or_no_form (page_asked (Some w) (may_in false rule.Id o)))
+place_total w None = tt
+place_total w (Some id) = tt
+
+list_made : (kind : ListKind) (v : Values (list_members kind)) → Good is_told (λ x. ⊤) (or_no_form (list_in kind (fields_in (list_members kind) v)))
+list_made k.Orders v = place_total (list.Orders v.1.0) v.1.1.0
+list_made k.Batches v = place_total list.OpenBatches v.1.0
+list_made k.Lots v = place_total (list.Lots v.1.0) v.1.1.0
+list_made k.Holds v = place_total (list.Holds v.1.0) v.1.1.0
+list_made k.Recalls v = place_total list.OpenRecalls v.1.0
+list_made k.Definitions v = place_total (list.Definitions v.1.0) v.1.1.0
+
+list_total : (kind : ListKind) (d : Data) → Good problem_told (λ x. ⊤) (list_asked kind d)
+list_total kind d = good_object _ (exactly (list_members kind) d >>= (λ fs. or_no_form (list_in kind fs))) (good_bind is_told _ (exactly (list_members kind) d) _ (exactly_typed (list_members kind) d _ (list_made kind)))
+
+-- ---- all questions
+
+alone_good : (question : Question) (d : Data) → Good problem_told (λ x. ⊤) (asked_alone question d)
+alone_good question d = then_made (object (exactly (m.Ask ∷ []) d)) (λ fs. question) (good_object (λ fs. ⊤) (exactly (m.Ask ∷ []) d) (exactly_typed (m.Ask ∷ []) d (λ fs. ⊤) (λ v. tt)))
+
 node_good : (d : Data) → Good problem_told (λ x. ⊤) (node_named d)
 node_good d =
     either_good (is_some (get (codes "lot") d)) _ _ (then_made (id_named m.Lot d) _ (id_total m.Lot d (λ v. tt))) (
     either_good (is_some (get (codes "batch") d)) _ _ (then_made (id_named m.Batch d) _ (id_total m.Batch d (λ v. tt))) refl)
 
 for_good : (kind : QuestionKind) (d : Data) → Good problem_told (λ x. ⊤) (question_for kind d)
-for_good q.Desk d = then_made (object (exactly (m.Ask ∷ []) d)) (λ fs. Q.Desk) (good_object (λ fs. ⊤) (exactly (m.Ask ∷ []) d) (exactly_typed (m.Ask ∷ []) d (λ fs. ⊤) (λ v. tt)))
+for_good q.Desk d = alone_good Q.Desk d
+for_good q.Moment d = alone_good Q.Moment d
+for_good (q.List kind) d = list_total kind d
 for_good q.Lot d = then_made (id_named m.Lot d) _ (id_total m.Lot d (λ v. tt))
 for_good q.Order d = then_made (id_named m.Order d) _ (id_total m.Order d (λ v. tt))
 for_good q.Batch d = then_made (id_named m.Batch d) _ (id_total m.Batch d (λ v. tt))

@@ -1,15 +1,19 @@
 -- Which objects are questions, and what is wrong with the others. They have no note and no reference.
-use Rattle.std.specs.Prelude.{ℕ, List, [], ◌∷◌, if◌then◌else◌, codes, Option, Some, None, option_and_then, is_some, Result, Ok, Err}
+use Rattle.std.specs.Prelude.{ℕ, List, [], ◌∷◌, if◌then◌else◌, codes, Option, Some, None, option_and_then, option_map, is_some, Result, Ok, Err}
 use Rattle.serde_json.specs.Data.{Data}
 use Rattle.serde_json.specs.Find.{get, as_str}
 use Rattle.plant_trace.specs.declared.direction.Direction.{Direction}
 use Rattle.plant_trace.specs.declared.direction.Direction.TheVariants.{Forward, Back}
 use Rattle.plant_trace.specs.declared.node.Node.{Node}
 use Rattle.plant_trace.specs.declared.node.Node.TheVariants.{Lot, Batch}
+use Rattle.plant_worklists.specs.declared.list.Worklist.{Worklist}
+use Rattle.plant_worklists.specs.declared.list.Worklist.TheVariants as list
 use Rattle.plant_desk.specs.declared.question.Question.{Question}
 use Rattle.plant_desk.specs.declared.question.Question.TheVariants as Q
 use Rattle.plant_shapes.specs.declared.members.Member.{Member}
 use Rattle.plant_shapes.specs.declared.members.Member.TheVariants as m
+use Rattle.plant_shapes.specs.declared.words.ListKind.{ListKind}
+use Rattle.plant_shapes.specs.declared.words.ListKind.TheVariants as k
 use Rattle.plant_shapes.specs.declared.words.QuestionKind.{QuestionKind}
 use Rattle.plant_shapes.specs.declared.words.QuestionKind.TheVariants as q
 use Rattle.plant_shapes.specs.declared.fields.Field.{Field}
@@ -20,10 +24,11 @@ use Rattle.plant_shapes.specs.declared.problems.Problem.TheVariants as problem
 use Rattle.plant_shapes.specs.Words.{question_kind}
 use Rattle.plant_shapes.specs.Problems.{◌>>=◌, object, or_no_form}
 use Rattle.plant_shapes.specs.Fields.{fields_of, exactly}
+use Rattle.plant_shapes.specs.Tables.{list_members}
 
--- the question about the desk names nothing
-abbrev pub asked_alone : Data → Result Question Problem
-asked_alone d = object (exactly (m.Ask ∷ []) d) >>= (λ fs. Ok Q.Desk)
+-- a question that names nothing
+abbrev pub asked_alone : Question → Data → Result Question Problem
+asked_alone question d = object (exactly (m.Ask ∷ []) d) >>= (λ fs. Ok question)
 
 abbrev pub one_id : List Field → Option (List ℕ)
 one_id (field.Chosen ∷ field.Id id ∷ []) = Some id
@@ -43,8 +48,47 @@ node_named d =
 abbrev pub trace_of : Direction → Data → Result Question Problem
 trace_of direction d = node_named d >>= (λ node. Ok (Q.Trace direction node))
 
+-- the place that a page goes on from, none where none is given
+abbrev pub place_in : Field → Option (Option (List ℕ))
+place_in field.Absent = Some None
+place_in (field.Id id) = Some (Some id)
+place_in _ = None
+
+-- the list of a kind that is of nothing
+abbrev pub whole_list : ListKind → Option Worklist
+whole_list k.Orders = None
+whole_list k.Batches = Some list.OpenBatches
+whole_list k.Lots = None
+whole_list k.Holds = None
+whole_list k.Recalls = Some list.OpenRecalls
+whole_list k.Definitions = None
+
+-- the list of a kind that is of this
+abbrev pub list_of : ListKind → Field → Option Worklist
+list_of k.Orders (field.OrderState state) = Some (list.Orders state)
+list_of k.Lots (field.Id def) = Some (list.Lots def)
+list_of k.Holds (field.Id lot) = Some (list.Holds lot)
+list_of k.Definitions (field.Id class) = Some (list.Definitions class)
+list_of _ _ = None
+
+abbrev pub page_asked : Option Worklist → Field → Option Question
+page_asked None above = None
+page_asked (Some w) above = option_map (Q.List w) (place_in above)
+
+-- the question for a page by the values of its members
+abbrev pub list_in : ListKind → List Field → Option Question
+list_in kind (field.Chosen ∷ above ∷ []) = page_asked (whole_list kind) above
+list_in kind (field.Chosen ∷ of ∷ above ∷ []) = page_asked (list_of kind of) above
+list_in kind _ = None
+
+-- the question for a page of a list of a kind
+abbrev pub list_asked : ListKind → Data → Result Question Problem
+list_asked kind d = object (exactly (list_members kind) d >>= (λ fs. or_no_form (list_in kind fs)))
+
 abbrev pub question_for : QuestionKind → Data → Result Question Problem
-question_for q.Desk d = asked_alone d
+question_for q.Desk d = asked_alone Q.Desk d
+question_for q.Moment d = asked_alone Q.Moment d
+question_for (q.List kind) d = list_asked kind d
 question_for q.Lot d = id_named m.Lot d >>= (λ id. Ok (Q.Lot id))
 question_for q.Order d = id_named m.Order d >>= (λ id. Ok (Q.Order id))
 question_for q.Batch d = id_named m.Batch d >>= (λ id. Ok (Q.Batch id))

@@ -93,6 +93,8 @@ is_unknown (A.Order order) = false
 is_unknown (A.Batch v) = false
 is_unknown (A.Trace nodes) = false
 is_unknown (A.Recall recall) = false
+is_unknown (A.Moment at) = false
+is_unknown (A.List page) = false
 is_unknown (A.Unknown r) = true
 
 -- whether the reply is a refusal

@@ -2,20 +2,25 @@
 ghost use Rattle.std.specs.Prelude.{◌≡◌, true, IfErr};
 ghost use Rattle.serde_json.specs.View.{view};
 ghost use Rattle.plant_shapes.specs.Problems.{problem_told};
-ghost use Rattle.plant_text.specs.Questions.{asked_alone, id_named, node_named, trace_of, question_for, kind_at, question_of};
+ghost use Rattle.plant_text.specs.Questions.{asked_alone, id_named, node_named, trace_of, place_in, whole_list, list_of, list_in};
+ghost use Rattle.plant_text.specs.Questions.{list_asked, question_for, kind_at, question_of};
 
 use plant_base::Id;
 use plant_desk::Question;
-use plant_shapes::{Field, Flaw, Member, Problem, QuestionKind, exactly, fields_of, question_kind};
+use plant_shapes::{
+    Field, Flaw, ListKind, Member, Problem, QuestionKind, exactly, fields_of, list_members,
+    question_kind,
+};
 use plant_trace::{Direction, Node};
+use plant_worklists::Worklist;
 use serde_json::Value;
 
-/// The question about the desk, which names nothing.
-fn asked_alone(value: &Value) -> Result<Question, Problem>
-    ensures { result ≡ asked_alone (view value.now) }
+/// A question that names nothing.
+fn asked_alone(value: &Value, question: Question) -> Result<Question, Problem>
+    ensures { result ≡ asked_alone question (view value.now) }
 {
     match exactly(value, &[Member::Ask]) {
-        Ok(_) => Ok(Question::Desk),
+        Ok(_) => Ok(question),
         Err(flaw) => Err(Problem::Object(flaw)),
     }
 }
@@ -56,12 +61,73 @@ fn trace_of(value: &Value, direction: Direction) -> Result<Question, Problem>
     }
 }
 
+/// The place that a page goes on from, nothing where none is given.
+fn place_in(field: Field) -> Option<Option<Id>>
+    ensures { result ≡ place_in field }
+{
+    match field {
+        Field::Absent => Some(None),
+        Field::Id(id) => Some(Some(id)),
+        _ => None,
+    }
+}
+
+/// The list of a kind that is of nothing.
+fn whole_list(kind: ListKind) -> Option<Worklist>
+    ensures { result ≡ whole_list kind }
+{
+    match kind {
+        ListKind::Batches => Some(Worklist::OpenBatches),
+        ListKind::Recalls => Some(Worklist::OpenRecalls),
+        ListKind::Orders | ListKind::Lots | ListKind::Holds | ListKind::Definitions => None,
+    }
+}
+
+/// The list of a kind that is of this.
+fn list_of(kind: ListKind, of: Field) -> Option<Worklist>
+    ensures { result ≡ list_of kind of }
+{
+    match (kind, of) {
+        (ListKind::Orders, Field::OrderState(state)) => Some(Worklist::Orders(state)),
+        (ListKind::Lots, Field::Id(def)) => Some(Worklist::Lots(def)),
+        (ListKind::Holds, Field::Id(lot)) => Some(Worklist::Holds(lot)),
+        (ListKind::Definitions, Field::Id(class)) => Some(Worklist::Definitions(class)),
+        _ => None,
+    }
+}
+
+/// The question for a page by the values of its members.
+fn list_in(kind: ListKind, fields: &[Field]) -> Option<Question>
+    ensures { result ≡ list_in kind fields.now }
+{
+    match fields {
+        &[Field::Chosen, above] => Some(Question::List(whole_list(kind)?, place_in(above)?)),
+        &[Field::Chosen, of, above] => Some(Question::List(list_of(kind, of)?, place_in(above)?)),
+        _ => None,
+    }
+}
+
+/// The question for a page of a list of a kind.
+fn list_asked(value: &Value, kind: ListKind) -> Result<Question, Problem>
+    ensures { result ≡ list_asked kind (view value.now) }
+{
+    match exactly(value, list_members(kind)) {
+        Ok(fields) => match list_in(kind, fields.as_slice()) {
+            Some(question) => Ok(question),
+            None => Err(Problem::Object(Flaw::NoForm)),
+        },
+        Err(flaw) => Err(Problem::Object(flaw)),
+    }
+}
+
 /// The question of a kind.
 fn question_for(value: &Value, kind: QuestionKind) -> Result<Question, Problem>
     ensures { result ≡ question_for kind (view value.now) }
 {
     match kind {
-        QuestionKind::Desk => asked_alone(value),
+        QuestionKind::Desk => asked_alone(value, Question::Desk),
+        QuestionKind::Moment => asked_alone(value, Question::Moment),
+        QuestionKind::List(list) => list_asked(value, list),
         QuestionKind::Lot => match id_named(value, Member::Lot) {
             Ok(lot) => Ok(Question::Lot(lot)),
             Err(problem) => Err(problem),

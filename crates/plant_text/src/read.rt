@@ -72,8 +72,9 @@ const LONGEST_LINE: usize = 262_144;
 /// counts. An object with `do` is a command where it has the members that each command has (of which the note and the reference may be
 /// left out), those of its word and no other, and in its list objects with exactly the members of their kind; which members these are, and
 /// what each may be, stands in the tables of `plant_shapes`. Another with `ask` is a question: exactly `{"ask":"desk"}`;
-/// `{"ask":"lot","lot":ID}` and likewise with `order`, `batch` and `recall`; or `{"ask":"back","lot":ID}` or
-/// `{"ask":"back","batch":ID}` and likewise with `forward`.
+/// `{"ask":"lot","lot":ID}` and likewise with `order`, `batch` and `recall`; `{"ask":"back","lot":ID}` or
+/// `{"ask":"back","batch":ID}` and likewise with `forward`; `{"ask":"moment"}`; or one for a page of a list, with its word and what it is of, and
+/// with the id that it goes on from where one is given.
 ///
 /// - `Told`: the line is longer or has none of these shapes, and this is the first thing that is wrong with it, in the order of the
 ///   formats, with a text of its own.

@@ -55,7 +55,9 @@ pub fn is_unknown(answer: &Answer) -> bool
         | Answer::Order(_)
         | Answer::Batch(_)
         | Answer::Trace(_)
-        | Answer::Recall(_) => false,
+        | Answer::Recall(_)
+        | Answer::Moment { .. }
+        | Answer::List(_) => false,
         Answer::Unknown(_) => true,
     }
 }

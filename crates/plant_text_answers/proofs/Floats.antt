@@ -1,7 +1,12 @@
 -- Answers have no floats.
-use Rattle.std.proofs.Common.{◌≡◌, List, [], ◌∷◌, ℕ, Bool, true, Option, Some, None, false, refl}
+use Rattle.std.proofs.Common.{◌≡◌, List, [], ◌∷◌, map, ℕ, Bool, true, Option, Some, None, false, refl}
+use Rattle.serde_json.specs.Data.{Data}
+use Rattle.serde_json.specs.View.{items_of}
 use Rattle.serde_json.specs.Written.{has_float, items_have_float}
 use Rattle.plant_base.specs.declared.rows.Sublot.{Sublot}
+use Rattle.plant_desk.specs.declared.listed.Listed.{Listed}
+use Rattle.plant_desk.specs.declared.listed.Listed.TheVariants as listed
+use Rattle.plant_desk.specs.declared.listed.OpenBatch.{OpenBatch}
 use Rattle.plant_desk.specs.declared.question.LotAnswer.{LotAnswer}
 use Rattle.plant_desk.specs.declared.question.OrderAnswer.{OrderAnswer}
 use Rattle.plant_desk.specs.declared.question.BatchView.{BatchView}
@@ -12,7 +17,9 @@ use Rattle.plant_trace.specs.declared.node.Node.{Node}
 use Rattle.plant_trace.specs.declared.node.Node.TheVariants.{Lot, Batch}
 use Rattle.plant_text_answers.specs.RecallAnswers.{recall_data}
 use Rattle.plant_text_answers.specs.TraceAnswers.{nodes_data, trace_data}
-use Rattle.plant_text_answers.specs.Answers.{sublots_data, lot_data, id_or_null, order_data}
+use Rattle.plant_text_answers.specs.Answers.{lot_data, order_data}
+use Rattle.plant_text_answers.specs.ListAnswers.{order_item, batch_item, lot_item, hold_item, recall_item, definition_item, listed_data}
+use Rattle.plant_text_answers.specs.Parts.{sublots_data, id_or_null}
 
 no_float_in_sublots : (sublots : List Sublot) → items_have_float (sublots_data sublots) ≡ false
 no_float_in_sublots [] = refl
@@ -49,3 +56,23 @@ no_float_in_trace nodes = rw (no_float_in_nodes nodes) refl
 
 pub no_float_in_recall : (a : RecallAnswer) → has_float (recall_data a) ≡ false
 no_float_in_recall a = rw (no_float_in_nodes a.nodes) refl
+
+-- ---- pages
+
+no_float_in_rows : {R : Type 0} (item : R → Data) → ((r : R) → has_float (item r) ≡ false) → (rows : List R) → items_have_float (items_of (map item rows)) ≡ false
+no_float_in_rows item none [] = refl
+no_float_in_rows item none (r ∷ rows) = rw (none r) (no_float_in_rows item none rows)
+
+no_float_in_open : (b : OpenBatch) → has_float (batch_item b) ≡ false
+no_float_in_open b = rw (no_float_in_id b.next_phase) refl
+
+no_float_in_stocked : (a : LotAnswer) → has_float (lot_item a) ≡ false
+no_float_in_stocked a = rw (no_float_in_sublots a.sublots) refl
+
+pub no_float_in_listed : (l : Listed) → has_float (listed_data l) ≡ false
+no_float_in_listed (listed.Orders page) = rw (no_float_in_rows order_item (λ j. refl) page.rows) refl
+no_float_in_listed (listed.Batches page) = rw (no_float_in_rows batch_item no_float_in_open page.rows) refl
+no_float_in_listed (listed.Lots page) = rw (no_float_in_id page.last, no_float_in_rows lot_item no_float_in_stocked page.lots) refl
+no_float_in_listed (listed.Holds page) = rw (no_float_in_rows hold_item (λ h. refl) page.rows) refl
+no_float_in_listed (listed.Recalls page) = rw (no_float_in_rows recall_item (λ r. refl) page.rows) refl
+no_float_in_listed (listed.Definitions page) = rw (no_float_in_rows definition_item (λ d. refl) page.rows) refl

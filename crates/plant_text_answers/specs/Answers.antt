@@ -1,16 +1,16 @@
 -- The JSON trees of answers, and their texts with no blanks.
-use Rattle.std.specs.Prelude.{ℕ, List, map, codes, Option, Some, None}
-use Rattle.serde_json.specs.Data.{Data, Items, null, boolean, string, array, object, member, no_members}
-use Rattle.serde_json.specs.View.{items_of}
+use Rattle.std.specs.Prelude.{ℕ, List, codes}
+use Rattle.serde_json.specs.Data.{Data, boolean, string, array, object, member, no_members}
 use Rattle.serde_json.specs.Written.{compact_text}
 use Rattle.plant_base.specs.Words.{job_state_name}
-use Rattle.plant_base.specs.declared.rows.Sublot.{Sublot}
 use Rattle.plant_desk.specs.declared.question.Answer.{Answer}
 use Rattle.plant_desk.specs.declared.question.Answer.TheVariants as A
 use Rattle.plant_desk.specs.declared.question.LotAnswer.{LotAnswer}
 use Rattle.plant_desk.specs.declared.question.OrderAnswer.{OrderAnswer}
 use Rattle.plant_text_answers.specs.BatchAnswers.{batch_data}
+use Rattle.plant_text_answers.specs.ListAnswers.{listed_data}
 use Rattle.plant_text_answers.specs.Natural.{natural}
+use Rattle.plant_text_answers.specs.Parts.{sublots_data, id_or_null}
 use Rattle.plant_text_answers.specs.RecallAnswers.{recall_data}
 use Rattle.plant_text_answers.specs.TraceAnswers.{trace_data}
 use Rattle.plant_text_answers.specs.Replies.{refusal_text}
@@ -18,21 +18,12 @@ use Rattle.plant_text_answers.specs.Replies.{refusal_text}
 abbrev pub desk_data : ℕ → ℕ → Data
 desk_data schema seq = object (member (codes "schema") (natural schema) (member (codes "seq") (natural seq) no_members))
 
-abbrev pub sublot_data : Sublot → Data
-sublot_data s = object (member (codes "no") (natural s.number) (member (codes "place") (string s.place)
-    (member (codes "stock") (natural s.stock) no_members)))
-
-abbrev pub sublots_data : List Sublot → Items
-sublots_data sublots = items_of (map sublot_data sublots)
+abbrev pub moment_data : ℕ → Data
+moment_data at = object (member (codes "at") (natural at) no_members)
 
 abbrev pub lot_data : LotAnswer → Data
 lot_data a = object (member (codes "def") (string a.def) (member (codes "held") (boolean a.held) (member (codes "lot") (string a.lot)
     (member (codes "stock") (natural a.stock) (member (codes "sublots") (array (sublots_data a.sublots)) no_members)))))
-
--- the id, or null where there is none
-abbrev pub id_or_null : Option (List ℕ) → Data
-id_or_null None = null
-id_or_null (Some id) = string id
 
 abbrev pub order_data : OrderAnswer → Data
 order_data a = object (member (codes "batch") (id_or_null a.batch) (member (codes "due") (string a.job.order.due) (member (codes "order") (string a.job.order.order)
@@ -47,4 +38,6 @@ text_of_answer (A.Order order) = compact_text (order_data order)
 text_of_answer (A.Batch v) = compact_text (batch_data v)
 text_of_answer (A.Trace nodes) = compact_text (trace_data nodes)
 text_of_answer (A.Recall recall) = compact_text (recall_data recall)
+text_of_answer (A.Moment at) = compact_text (moment_data at)
+text_of_answer (A.List page) = compact_text (listed_data page)
 text_of_answer (A.Unknown r) = refusal_text r

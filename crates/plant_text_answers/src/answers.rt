@@ -1,16 +1,16 @@
 //! The texts of answers.
 ghost use Rattle.std.specs.Prelude.{◌≡◌, IfOk, string_bytes};
-ghost use Rattle.serde_json.specs.Data.{array};
 ghost use Rattle.serde_json.specs.View.{view};
 ghost use Rattle.serde_json.specs.Written.{compact_text};
-ghost use Rattle.plant_text_answers.specs.Answers.{desk_data, sublot_data, sublots_data, lot_data, id_or_null};
-ghost use Rattle.plant_text_answers.specs.Answers.{order_data, text_of_answer};
+ghost use Rattle.plant_text_answers.specs.Answers.{desk_data, moment_data, lot_data, order_data, text_of_answer};
 
 use crate::batch_answers::batch_text;
+use crate::list_answers::listed_text;
+use crate::parts::{id_value, sublots_value};
 use crate::recall_answers::recall_text;
 use crate::replies::refusal_line;
 use crate::trace_answers::trace_text;
-use plant_base::{Id, Sublot};
+use plant_base::Moment;
 use plant_desk::{Answer, LotAnswer, OrderAnswer};
 use serde_json::{Value, json};
 use std::alloc::{AllocError, Global};
@@ -21,21 +21,10 @@ fn desk_value(alloc: Global, schema: u64, seq: u64) -> Result<Value, AllocError>
     json!(in alloc; {"schema": schema, "seq": seq})
 }
 
-fn sublot_value(alloc: Global, sublot: &Sublot) -> Result<Value, AllocError>
-    ensures { IfOk result (λ v. view v ≡ sublot_data sublot.now) }
+fn moment_value(alloc: Global, at: Moment) -> Result<Value, AllocError>
+    ensures { IfOk result (λ v. view v ≡ moment_data at) }
 {
-    json!(in alloc; {"no": (sublot.number), "place": (sublot.place.as_str()), "stock": (sublot.stock)})
-}
-
-fn sublots_value(alloc: Global, sublots: &[Sublot]) -> Result<Value, AllocError>
-    ensures { IfOk result (λ v. view v ≡ array (sublots_data sublots.now)) }
-{
-    let mut list = Vec::new(alloc);
-    for sublot in sublots {
-        let value = sublot_value(alloc, sublot)?;
-        list.push(value)?;
-    }
-    Ok(Value::Array(list))
+    json!(in alloc; {"at": (at.get())})
 }
 
 fn lot_value(alloc: Global, lot: &LotAnswer) -> Result<Value, AllocError>
@@ -55,20 +44,11 @@ fn lot_text(alloc: Global, lot: &LotAnswer) -> Result<String, AllocError>
     value.to_string(alloc)
 }
 
-fn batch_value(alloc: Global, batch: Option<Id>) -> Result<Value, AllocError>
-    ensures { IfOk result (λ v. view v ≡ id_or_null batch) }
-{
-    match batch {
-        None => Ok(Value::Null),
-        Some(id) => json!(in alloc; (id.as_str())),
-    }
-}
-
 fn order_value(alloc: Global, answer: &OrderAnswer) -> Result<Value, AllocError>
     ensures { IfOk result (λ v. view v ≡ order_data answer.now) }
 {
     let order = answer.job.order;
-    let batch = batch_value(alloc, answer.batch)?;
+    let batch = id_value(alloc, answer.batch)?;
     json!(in alloc; {
         "batch": batch, "due": (order.due.as_str()), "order": (order.order.as_str()), "priority": (order.priority),
         "recipe": (order.recipe.as_str()), "size": (order.size.get()), "state": (answer.job.state.name()),
@@ -93,6 +73,13 @@ fn order_text(alloc: Global, answer: &OrderAnswer) -> Result<String, AllocError>
 ///   "state":WORD,"version":N}`
 /// - of a trace `{"nodes":[{"lot":ID},{"batch":ID}]}`
 /// - of a recall `{"lot":ID,"nodes":[{"lot":ID},{"batch":ID}],"recall":ID,"state":WORD}`
+/// - of the desk's moment `{"at":N}`
+/// - of a page of orders `{"more":BOOL,"orders":[{"due":"YYYY-MM-DD","order":ID,"priority":N,"recipe":ID,"size":N,"version":N}]}`
+/// - of one of open batches `{"batches":[{"attempt":N,"batch":ID,"next":N,"order":ID,"phase":ID or null,"phases":N,"state":WORD}],"more":BOOL}`
+/// - of one of lots `{"last":ID or null,"lots":[{"held":BOOL,"lot":ID,"stock":N,"sublots":[{"no":N,"place":TEXT,"stock":N}]}],"more":BOOL}`
+/// - of one of holds `{"holds":[{"at":N,"by":TEXT,"hold":ID,"note":TEXT}],"more":BOOL}`
+/// - of one of open recalls `{"more":BOOL,"recalls":[{"at":N,"by":TEXT,"lot":ID,"note":TEXT,"recall":ID}]}`
+/// - of one of definitions `{"definitions":[{"def":ID,"name":TEXT,"unit":UNIT}],"more":BOOL}`
 /// - of an unknown id the refusal's text, as [`crate::reply_line`] gives it
 #[tactic(auto, unfolding(crate::specs::Answers::text_of_answer))]
 pub fn answer_text(alloc: Global, answer: &Answer) -> Result<String, AllocError>
@@ -105,6 +92,8 @@ pub fn answer_text(alloc: Global, answer: &Answer) -> Result<String, AllocError>
         Answer::Batch(batch) => batch_text(alloc, batch),
         Answer::Trace(nodes) => trace_text(alloc, nodes.as_slice()),
         Answer::Recall(recall) => recall_text(alloc, recall),
+        Answer::Moment { at } => moment_value(alloc, *at)?.to_string(alloc),
+        Answer::List(listed) => listed_text(alloc, listed),
         Answer::Unknown(refusal) => String::from_str(alloc, refusal_line(*refusal).as_str()),
     }
 }

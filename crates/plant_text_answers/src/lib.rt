@@ -3,6 +3,9 @@
 
 mod answers;
 mod batch_answers;
+mod list_answers;
+mod listed_rows;
+mod parts;
 mod recall_answers;
 mod replies;
 mod trace_answers;

@@ -23,16 +23,16 @@ use Rattle.table_forms.proofs.Given.{same_either}
 abbrev pub places_of : Table → List Entry → List ℕ
 places_of table = map (λ (e : Entry). place_of table e.at)
 
-no_overlay : (db : Trees) (t : ℕ) → overlay db [] t ≡ db t
+pub no_overlay : (db : Trees) (t : ℕ) → overlay db [] t ≡ db t
 no_overlay db t =
     let none : Option (List Row) = None in
     rw (same_either (nat_le (2 ^ 31) t) none) refl
 
-shows : (table : Table) (params row : Row) (es : List Entry) → eval_all (map (λ (o : Shown). o.term) (outputs_of table es)) (params ∷ row ∷ []) ≡ at_places (places_of table es) row
+pub shows : (table : Table) (params row : Row) (es : List Entry) → eval_all (map (λ (o : Shown). o.term) (outputs_of table es)) (params ∷ row ∷ []) ≡ at_places (places_of table es) row
 shows table params row [] = refl
 shows table params row (e ∷ es) = ap (λ more. column row (place_of table e.at) ∷ more) (shows table params row es)
 
-one_or_none : {X Y : Type 0} (test : X → Bool) (f : X → Y) (xs : List X) → flat_map (λ x. if test x then f x ∷ [] else []) xs ≡ map f (filter test xs)
+pub one_or_none : {X Y : Type 0} (test : X → Bool) (f : X → Y) (xs : List X) → flat_map (λ x. if test x then f x ∷ [] else []) xs ≡ map f (filter test xs)
 one_or_none test f [] = refl
 one_or_none test f (x ∷ xs) = go (test x) (one_or_none test f xs)
   where

@@ -14,3 +14,6 @@ pub mod KeyOrder
 pub mod Laws
 pub mod Rising
 pub mod Same
+pub mod Above
+pub mod PageOrder
+pub mod Paging

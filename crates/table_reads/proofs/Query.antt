@@ -1,5 +1,5 @@
 -- The query that SELECT of columns of one table stands for, whatever else the schema has.
-use Rattle.std.proofs.Common.{◌≡◌, refl, ◌∙◌, ◌⊎◌, inl, inr, Ok, Err, List, ℕ, negsuc, ◌-◌, ◌+◌, ◌<◌, [], ◌∷◌, ◌++◌, map, None, Some, Option, true, false, slice_get, arith, nat_lt, length, append-nil, ◌&&◌}
+use Rattle.std.proofs.Common.{◌≡◌, refl, ◌∙◌, ◌⊎◌, inl, inr, Ok, Err, List, ℕ, suc, negsuc, ◌-◌, ◌+◌, ◌<◌, [], ◌∷◌, ◌++◌, map, None, Some, Option, true, false, slice_get, arith, nat_lt, length, append-nil, ◌&&◌}
 use Rattle.std.proofs.lemmas.List.{append_assoc}
 use Rattle.std.proofs.lemmas.Bool.{cases_Bool}
 use Rattle.std.specs.List.{position_from}
@@ -20,23 +20,22 @@ use Rattle.sqlite_typing.specs.Types.{accepts_program}
 use Rattle.sqlite_resolve.specs.declared.scope.Output.{Output}
 use Rattle.sqlite_resolve.specs.declared.state.State.{State}
 use Rattle.sqlite_resolve.specs.declared.state.Carried.{Carried}
-use Rattle.sqlite_resolve.specs.Lowering.{nothing, fresh, alone, max_budget}
+use Rattle.sqlite_resolve.specs.Lowering.{nothing, fresh, alone, max_budget, spend, begin, finish}
 use Rattle.sqlite_resolve.specs.Scope.{Name, declared}
-use Rattle.sqlite_resolve.specs.Expr.{lower_to}
+use Rattle.sqlite_resolve.specs.Expr.{lower_to, node, opened, passes}
 use Rattle.sqlite_resolve.specs.Terms.{number}
 use Rattle.sqlite_resolve.specs.Body.{tests}
 use Rattle.sqlite_resolve.specs.Body as body
 use Rattle.sqlite_resolve.specs.Order as order
 use Rattle.sqlite_resolve.specs.Order.{key, keys, sort, sorts, placed, peeled, alias_in, collation_of, written_on, is_numeral, is_integer}
-use Rattle.sqlite_resolve.specs.Select.{outermost, parts, having, ungrouped, assembled, named, paging, constant_or}
+use Rattle.sqlite_resolve.specs.Select.{outermost, parts, having, ungrouped, assembled, named, paging, constant_or, constant, stepless}
 use Rattle.sqlite_resolve.specs.Program as whole
 use Rattle.sqlite_resolve.specs.Program.{query, query_to, level, with, viewing, single, source, sources, program}
 use Rattle.sqlite_resolve.specs.Compile.{read, first, compiled, planned, meaning, command, returning, timed}
 use Rattle.sqlite_resolve.specs.declared.compiled.Compiled.{Compiled}
 use Rattle.sqlite_resolve.specs.declared.error.CompileError.TheVariants.{Mismatch}
 use Rattle.sqlite.specs.Listing.{understood, reads_listing}
-use Rattle.table_forms.specs.Written.{filter_of}
-use Rattle.table_reads.specs.Written.{sort_by, from_table, core_of, select_of, parsed_as}
+use Rattle.table_reads.specs.Written.{sort_by, from_table, core_of, select_where, up_to, parsed_as}
 use Rattle.table_forms.specs.Views.{ast_views}
 use Rattle.table_forms.proofs.Column.{the_bound, context_of, state_at, lower_column}
 use Rattle.table_forms.proofs.Given.{Entry, AreColumns}
@@ -52,8 +51,12 @@ no_alias : (table : Table) (name : Name) (n : ℕ) (es : List Entry) → positio
 no_alias table name n [] = refl
 no_alias table name n (e ∷ es) = no_alias table name (n + 1) es
 
-abbrev pub draft_of : Table → List Entry → List Entry → List Term → Draft
-draft_of table shown by terms = record {
+-- LIMIT where none is written
+abbrev pub no_limit : Term
+no_limit = lit (Int (negsuc 0))
+
+abbrev pub draft_up_to : Table → List Entry → List Entry → List Term → Term → Draft
+draft_up_to table shown by terms limit = record {
   from = inner table.tree end;
   filter = terms;
   group = None;
@@ -61,9 +64,27 @@ draft_of table shown by terms = record {
   distinct = false;
   collations = [];
   order = map (key_for table) by;
-  limit = lit (Int (negsuc 0));
+  limit = limit;
   offset = number 0;
 }
+
+abbrev pub draft_of : Table → List Entry → List Entry → List Term → Draft
+draft_of table shown by terms = draft_up_to table shown by terms no_limit
+
+pub no_limit_read : (s : Schema) → constant_or s no_limit None ≡ Ok no_limit
+unfolding constant_or
+no_limit_read s = refl
+
+no_offset : (s : Schema) → constant_or s (number 0) None ≡ Ok (number 0)
+unfolding constant_or
+no_offset s = refl
+
+-- LIMIT ?n
+pub limit_read : (s : Schema) (m : ℕ) → constant_or s no_limit (up_to (suc m)) ≡ Ok (col 0 m)
+unfolding constant_or constant stepless lower_to node opened spend begin finish passes ast_views
+limit_read s m =
+    let back : suc m - 1 ≡ m = omega arith in
+    rw back refl
 
 module _ (s : Schema) (table : Table) (name : Name) (at : ℕ) (is : slice_get s.tables at ≡ Some table) where
   sort_read : (done : List (Term × Key)) (es : List Entry) (e : Entry) (next budget : ℕ) (last : Carried) → AreColumns table (e ∷ []) → nat_lt 1 budget ≡ true
@@ -116,45 +137,46 @@ module _ (s : Schema) (table : Table) (name : Name) (at : ℕ) (is : slice_get s
   parts_read test es by after later terms found are sorted enough enough' tested =
       rw (body_read test es max_budget after nothing later terms found are enough tested, core_opens name (names_of es) test, sorts_read [] es by 2 after later sorted enough') refl
 
-  named_read : (test : Option Expr) (es by : List Entry) (after : ℕ) (later : Carried) (terms : List Term) → table_named s name ≡ Some at → AreColumns table es → AreColumns table by
+  named_read : (test : Option Expr) (es by : List Entry) (after : ℕ) (later : Carried) (terms : List Term) (limit : Term) → table_named s name ≡ Some at → AreColumns table es → AreColumns table by
       → length es < max_budget → length by < after → tests (lower_to 700) (context_of s name at (outputs_of table es) false) [] test (after_shown es) ≡ Ok (terms, state_at 2 after later)
-      → named s (core_of name (names_of es) test) (map sort_by (names_of by)) (lit (Int (negsuc 0)), number 0)
-      ≡ Ok (draft_of table es by terms, map (λ (o : Output). o.name) (outputs_of table es), map (λ (o : Output). o.carried.collation) (outputs_of table es))
+      → named s (core_of name (names_of es) test) (map sort_by (names_of by)) (limit, number 0)
+      ≡ Ok (draft_up_to table es by terms limit, map (λ (o : Output). o.name) (outputs_of table es), map (λ (o : Output). o.carried.collation) (outputs_of table es))
   unfolding named assembled ungrouped
-  named_read test es by after later terms found are sorted enough enough' tested =
+  named_read test es by after later terms limit found are sorted enough enough' tested =
       rw (parts_read test es by after later terms found are sorted enough enough' tested, core_opens name (names_of es) test) refl
 
-  select_opens : (columns given keys : List Name) → out-Select (select_of name columns given keys)
-      ≡ record { with = []; first = core_of name columns (filter_of given); others = []; order = map sort_by keys; limit = None; offset = None }
-  select_opens columns given keys = out-roll-Select _
+  select_opens : (columns : List Name) (test : Option Expr) (keys : List Name) (limit : Option Expr) → out-Select (select_where name columns test keys limit)
+      ≡ record { with = []; first = core_of name columns test; others = []; order = map sort_by keys; limit = limit; offset = None }
+  select_opens columns test keys limit = out-roll-Select _
 
   source_stays : sources (query_to 15) s (from_table name ∷ []) [] ≡ Ok (s, [])
   unfolding sources source ast_views
   source_stays = refl
 
-  paging_plain : (columns given keys : List Name) → paging s (select_of name columns given keys) ≡ Ok (lit (Int (negsuc 0)), number 0)
-  unfolding paging constant_or
-  paging_plain columns given keys = rw (select_opens columns given keys) refl
+  paging_read : (columns : List Name) (test : Option Expr) (keys : List Name) (limit : Option Expr) (count : Term) → constant_or s no_limit limit ≡ Ok count
+      → paging s (select_where name columns test keys limit) ≡ Ok (count, number 0)
+  unfolding paging
+  paging_read columns test keys limit count read = rw (select_opens columns test keys limit, read, no_offset s) refl
 
-  -- the shown columns, those that are given by parameters, and those of ORDER BY
-  module _ (es given by : List Entry) (after : ℕ) (later : Carried) (terms : List Term) (found : table_named s name ≡ Some at) (are : AreColumns table es) (sorted : AreColumns table by)
+  -- the shown columns, WHERE, the columns of ORDER BY, and LIMIT
+  module _ (es : List Entry) (test : Option Expr) (by : List Entry) (limit : Option Expr) (count : Term) (counted : constant_or s no_limit limit ≡ Ok count) (after : ℕ) (later : Carried) (terms : List Term) (found : table_named s name ≡ Some at) (are : AreColumns table es) (sorted : AreColumns table by)
       (enough : length es < max_budget) (enough' : length by < after)
-      (tested : tests (lower_to 700) (context_of s name at (outputs_of table es) false) [] (filter_of (names_of given)) (after_shown es) ≡ Ok (terms, state_at 2 after later)) where
-    query_read : query s (select_of name (names_of es) (names_of given) (names_of by))
-        ≡ Ok ((draft_of table es by terms, map (λ (o : Output). o.name) (outputs_of table es), map (λ (o : Output). o.carried.collation) (outputs_of table es)), [])
+      (tested : tests (lower_to 700) (context_of s name at (outputs_of table es) false) [] test (after_shown es) ≡ Ok (terms, state_at 2 after later)) where
+    query_read : query s (select_where name (names_of es) test (names_of by) limit)
+        ≡ Ok ((draft_up_to table es by terms count, map (λ (o : Output). o.name) (outputs_of table es), map (λ (o : Output). o.carried.collation) (outputs_of table es)), [])
     unfolding query query_to level with whole.whole whole.alone single viewing
     query_read =
         rw (
-          select_opens (names_of es) (names_of given) (names_of by),
-          paging_plain (names_of es) (names_of given) (names_of by),
-          core_opens name (names_of es) (filter_of (names_of given)),
+          select_opens (names_of es) test (names_of by) limit,
+          paging_read (names_of es) test (names_of by) limit count counted,
+          core_opens name (names_of es) test,
           source_stays,
-          named_read (filter_of (names_of given)) es by after later terms found are sorted enough enough' tested,
+          named_read test es by after later terms count found are sorted enough enough' tested,
         ) refl
 
     abbrev pub compiled_to : List Name → ℕ → Compiled
     compiled_to parameters len = record {
-      command = Select (record { lets = []; body = query_of (draft_of table es by terms) }) (map (λ (o : Output). o.name) (outputs_of table es));
+      command = Select (record { lets = []; body = query_of (draft_up_to table es by terms count) }) (map (λ (o : Output). o.name) (outputs_of table es));
       returning = None;
       names = parameters;
       formats = [];
@@ -164,11 +186,11 @@ module _ (s : Schema) (table : Table) (name : Name) (at : ℕ) (is : slice_get s
     }
 
     module _ (text : List ℕ) (parameters : List Name) (len : ℕ)
-        (written : first text ≡ Ok (parsed_as (select_of name (names_of es) (names_of given) (names_of by)) parameters len)) where
+        (written : first text ≡ Ok (parsed_as (select_where name (names_of es) test (names_of by) limit) parameters len)) where
       -- the text is this command, or the types of the columns are refused
       pub text_compiled : (compiled s text ≡ Ok (compiled_to parameters len)) ⊎ (compiled s text ≡ Err Mismatch)
       unfolding compiled planned meaning command returning timed read program
-      text_compiled = elim (cases_Bool (accepts_program s [] (query_of (draft_of table es by terms)) [])) [
+      text_compiled = elim (cases_Bool (accepts_program s [] (query_of (draft_up_to table es by terms count)) [])) [
         | inl typed ↦ inl (rw (written, query_read, typed) refl)
         | inr untyped ↦ inr (rw (written, query_read, untyped) refl)
       ]

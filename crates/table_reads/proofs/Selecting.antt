@@ -1,5 +1,5 @@
 -- What a text reads that selects from a form's table.
-use Rattle.std.proofs.Common.{◌≡◌, ◌⊎◌, inl, inr, refl, sym, ap, ◌∙◌, Ok, Err, List, ℕ, ◌-◌, ◌+◌, ◌<◌, ◌≤◌, [], ◌∷◌, map, true, false, not, nat_le, length, arith, ◌&&◌}
+use Rattle.std.proofs.Common.{◌≡◌, ◌⊎◌, inl, inr, refl, sym, ap, ◌∙◌, Ok, Err, List, ℕ, ◌-◌, ◌+◌, ◌<◌, ◌≤◌, [], ◌∷◌, map, None, true, false, not, nat_le, length, arith, ◌&&◌}
 use Rattle.std.specs.Prelude.{filter, IsPermutation}
 use Rattle.std.specs.List.{AllByRecursion, list_all}
 use Rattle.std.proofs.lemmas.Bool.{and_parts}
@@ -39,14 +39,14 @@ use Rattle.table_forms.proofs.Given.{Entry, AreColumns, IsGiven, one_given, two_
 use Rattle.table_reads.proofs.Three.{three_given}
 use Rattle.table_reads.proofs.Body.{names_of, last_after, budget_after}
 use Rattle.table_forms.proofs.Column.{context_of, state_at}
-use Rattle.table_reads.proofs.Query.{outputs_of, compiled_to, text_understood, text_unlisted}
+use Rattle.table_reads.proofs.Query.{outputs_of, no_limit, no_limit_read, compiled_to, text_understood, text_unlisted}
 use Rattle.table_reads.proofs.Shown.{at_places, passes_all}
 use Rattle.table_reads.proofs.Answer.{places_of, reads_rows}
 use Rattle.table_reads.proofs.Entries.{entry_at, entries, names_are, are_columns, is_given, places_are, Readable, readable}
 use Rattle.table_reads.proofs.Stored.{shown_rows}
 use Rattle.table_reads.proofs.Tests.{tests_of, pass_all}
 
-budget_is : (budget : ℕ) (es : List Entry) → length es ≤ budget → budget_after budget es + length es ≡ budget
+pub budget_is : (budget : ℕ) (es : List Entry) → length es ≤ budget → budget_after budget es + length es ≡ budget
 budget_is budget [] h = omega arith
 budget_is budget (e ∷ es) h = omega (arith, budget_is (budget - 1) es (omega arith))
 
@@ -135,15 +135,15 @@ module _ (s : Schema) (form : Form) (at tree : ℕ) (declared : IsDeclared s for
     read_as = rw (names_are form (all_places form), names_are form given, names_are form (first_of form.keys)) it.written
 
     abbrev command : Compiled
-    command = compiled_to s (table_of form tree) form.name at declared.listed shown (entries form given) sorting where_read.after where_read.later (tests_of (table_of form tree) 0 (entries form given)) declared.named
+    command = compiled_to s (table_of form tree) form.name at declared.listed shown (filter_of (names_of (entries form given))) sorting None no_limit (no_limit_read s) where_read.after where_read.later (tests_of (table_of form tree) 0 (entries form given)) declared.named
         (are_columns form tree (all_places form) formed.columns) (are_columns form tree (first_of form.keys) formed.order) enough enough_left where_read.tested it.parameters (length text)
 
     text_is : (understood s text ≡ Ok command) ⊎ (understood s text ≡ Err Mismatch)
-    text_is = text_understood s (table_of form tree) form.name at declared.listed shown (entries form given) sorting where_read.after where_read.later (tests_of (table_of form tree) 0 (entries form given)) declared.named
+    text_is = text_understood s (table_of form tree) form.name at declared.listed shown (filter_of (names_of (entries form given))) sorting None no_limit (no_limit_read s) where_read.after where_read.later (tests_of (table_of form tree) 0 (entries form given)) declared.named
         (are_columns form tree (all_places form) formed.columns) (are_columns form tree (first_of form.keys) formed.order) enough enough_left where_read.tested text it.parameters (length text) read_as
 
     unlisted : reads_listing s text ≡ false
-    unlisted = text_unlisted s (table_of form tree) form.name at declared.listed shown (entries form given) sorting where_read.after where_read.later (tests_of (table_of form tree) 0 (entries form given)) declared.named
+    unlisted = text_unlisted s (table_of form tree) form.name at declared.listed shown (filter_of (names_of (entries form given))) sorting None no_limit (no_limit_read s) where_read.after where_read.later (tests_of (table_of form tree) 0 (entries form given)) declared.named
         (are_columns form tree (all_places form) formed.columns) (are_columns form tree (first_of form.keys) formed.order) enough enough_left where_read.tested text it.parameters (length text) read_as
 
     -- it only reads
@@ -154,7 +154,7 @@ module _ (s : Schema) (form : Form) (at tree : ℕ) (declared : IsDeclared s for
     ]
 
 -- a text that was refused has shown nothing
-refused : {X : Type 0} (old new : State) (text : List ℕ) (values : Row) (rows : List Row) → understood old.now.schema text ≡ Err Mismatch → Shown text values old new rows → X
+pub refused : {X : Type 0} (old new : State) (text : List ℕ) (values : Row) (rows : List Row) → understood old.now.schema text ≡ Err Mismatch → Shown text values old new rows → X
 unfolding Shown
 refused old new text values rows no_text h = absurd (let both = sym no_text ∙ h.1.is in cc)
 

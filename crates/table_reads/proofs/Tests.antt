@@ -23,7 +23,7 @@ use Rattle.table_forms.proofs.Given.{Entry, test_of}
 use Rattle.table_reads.proofs.Shown.{passes_all}
 use Rattle.table_reads.proofs.Entries.{entry_at, entries, named, binary as is_by_bytes}
 
-true_is : (b : Bool) → is_true (from_truth (Some b)) ≡ b
+pub true_is : (b : Bool) → is_true (from_truth (Some b)) ≡ b
 true_is true = refl
 true_is false = refl
 
@@ -45,24 +45,24 @@ tests_of table n [] = []
 tests_of table n (e ∷ es) = test_of table e n ∷ tests_of table (suc n) es
 
 -- after its rowid a row's columns stand as in those without it
-past_rowid : (form : Form) (row : Row) (place : ℕ) → 0 < place → column (Null ∷ columns_of form row) place ≡ column row place
+pub past_rowid : (form : Form) (row : Row) (place : ℕ) → 0 < place → column (Null ∷ columns_of form row) place ≡ column row place
 past_rowid form row zero h = absurd (omega arith)
 past_rowid form [] (suc k) h = sym (padded_column (length form.columns) [] k)
 past_rowid form (v ∷ row) (suc k) h = sym (padded_column (length form.columns) row k)
 
-by_bytes : (form : Form) (tree place : ℕ) → is_plain form place ≡ true → chosen (declared (table_of form tree) (place - 1) (column_at form place)) nothing ≡ Binary
+pub by_bytes : (form : Form) (tree place : ℕ) → is_plain form place ≡ true → chosen (declared (table_of form tree) (place - 1) (column_at form place)) nothing ≡ Binary
 unfolding chosen alone first_found
 by_bytes form tree place h = is_by_bytes _ (and_parts _ _ (and_parts _ _ h).1).1
 
 -- one comparison
-passes : (form : Form) (tree place n : ℕ) (params row : Row) (value : Value) → is_named form place ≡ true → is_plain form place ≡ true → is_null value ≡ false → column params n ≡ value
+pub passes : (form : Form) (tree place n : ℕ) (params row : Row) (value : Value) → is_named form place ≡ true → is_plain form place ≡ true → is_null value ≡ false → column params n ≡ value
     → holds (params ∷ row ∷ []) (test_of (table_of form tree) (entry_at form place) n) ≡ is_eq (value_cmp (column (Null ∷ columns_of form row) place) value)
 passes form tree place n params row value known plain some is =
     let above = (named form place known).above in
     let back : suc (place - 1) ≡ place = omega arith in
     rw (by_bytes form tree place plain, back, is, past_rowid form row place above) (equal_is (column row place) value some)
 
-next_param : (n : ℕ) (params : Row) (v : Value) (vs : Row) → drop n params ≡ v ∷ vs → (column params n ≡ v) × (drop (suc n) params ≡ vs)
+pub next_param : (n : ℕ) (params : Row) (v : Value) (vs : Row) → drop n params ≡ v ∷ vs → (column params n ≡ v) × (drop (suc n) params ≡ vs)
 next_param zero [] v vs h = absurd (cc)
 next_param zero (x ∷ xs) v vs h = let same : x ≡ v = cc in let rest : xs ≡ vs = cc in (same, rest)
 next_param (suc n) [] v vs h = absurd (cc)

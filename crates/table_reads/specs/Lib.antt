@@ -3,6 +3,7 @@ pub mod Given
 pub mod Keys
 pub mod Opened
 pub mod Ordered
+pub mod Paging
 pub mod Plain
 pub mod Reading
 pub mod Rises

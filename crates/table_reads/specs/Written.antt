@@ -1,5 +1,5 @@
 -- SELECT of columns of one table, with a parameter for each of some columns, in an order, as it is written.
-use Rattle.std.specs.Prelude.{ℕ, List, [], ◌∷◌, map, Option, None, false}
+use Rattle.std.specs.Prelude.{ℕ, ◌+◌, List, [], ◌∷◌, map, length, Option, Some, None, false}
 use Rattle.sqlite_ast.specs.declared.Expr.{Expr}
 use Rattle.sqlite_ast.specs.declared.Shown.{Shown}
 use Rattle.sqlite_ast.specs.declared.Shown.TheVariants.{One}
@@ -10,7 +10,9 @@ use Rattle.sqlite_ast.specs.declared.Sort.{Sort, roll-Sort}
 use Rattle.sqlite_ast.specs.declared.Select.{Select, roll-Select}
 use Rattle.sqlite_ast.specs.declared.Statement.TheVariants as written
 use Rattle.sqlite_syntax.specs.declared.statement.Parsed.{Parsed}
-use Rattle.table_forms.specs.Written.{Name, column_expr, filter_of}
+use Rattle.sqlite_ast.specs.declared.Expr.TheVariants as e
+use Rattle.sqlite_ast.specs.declared.Binary.TheVariants as op
+use Rattle.table_forms.specs.Written.{Name, column_expr, equals, equals_from, filter_of}
 
 abbrev pub shown_column : Name → Shown
 shown_column name = One (column_expr name) None name
@@ -24,8 +26,24 @@ from_table table = roll-Source (record { is_left = false; origin = Table table; 
 abbrev pub core_of : Name → List Name → Option Expr → Core
 core_of table columns test = roll-Core (record { distinct = false; shown = map shown_column columns; from = from_table table ∷ []; filter = test; group = []; having = None })
 
+abbrev pub select_where : Name → List Name → Option Expr → List Name → Option Expr → Select
+select_where table columns test order limit = roll-Select (record { with = []; first = core_of table columns test; others = []; order = map sort_by order; limit = limit; offset = None })
+
 abbrev pub select_of : Name → List Name → List Name → List Name → Select
-select_of table columns given order = roll-Select (record { with = []; first = core_of table columns (filter_of given); others = []; order = map sort_by order; limit = None; offset = None })
+select_of table columns given order = select_where table columns (filter_of given) order None
+
+-- name > ?n
+abbrev pub greater : Name → ℕ → Expr
+greater name n = e.Binary op.Gt (column_expr name) (e.Parameter n)
+
+-- a = ?1 AND .. AND above > ?n
+abbrev pub filter_above : List Name → Name → Option Expr
+filter_above [] above = Some (greater above 1)
+filter_above (name ∷ more) above = Some (e.Binary op.And (equals_from (equals name 1) 2 more) (greater above (length more + 2)))
+
+-- LIMIT ?n
+abbrev pub up_to : ℕ → Option Expr
+up_to n = Some (e.Parameter n)
 
 -- one statement, which fills a text of this length
 abbrev pub parsed_as : Select → List Name → ℕ → Parsed

@@ -3,9 +3,11 @@
 
 mod keys;
 mod opening;
+mod page;
 mod reading;
 mod table;
 
 pub use opening::{open_file, open_in_memory, open_over, reopen};
+pub use page::{Page, find_page};
 pub use reading::read_rows;
 pub use table::{all_free, all_stand, find_rows, read_table};

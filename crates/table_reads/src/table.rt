@@ -19,7 +19,7 @@ use std::alloc::Global;
 use table_forms::{Fault, Form, Stand, stand_of};
 
 /// Whether the table stands as it is declared.
-fn stands(schema: &Schema, form: &Form<'_>) -> bool
+pub(crate) fn stands(schema: &Schema, form: &Form<'_>) -> bool
     ensures { (result ≡ true) ↔ HasTable schema.now form.now }
 {
     stand_of(schema, form) == Stand::Declared

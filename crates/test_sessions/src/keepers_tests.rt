@@ -1,4 +1,4 @@
-//! A keeper of lists and a desk over a store reply alike, and answer each question about each id alike.
+//! A keeper of lists and a desk over a store reply alike, and answer each question about each id, and each page behind it, alike.
 use crate::session::new_desk;
 use plant_desk::ListKeeper;
 use plant_text::run_lines;
@@ -49,14 +49,14 @@ const COMMANDS: &[u8] =
 {\"ask\":\"desk\"}
 ";
 
-/// The ids of the lots, batches, orders and recalls, and one of none.
-const IDS: [&[u8]; 13] = [
+/// The ids of the lots, batches, orders and recalls, of a definition and a class, and one of none.
+const IDS: [&[u8]; 15] = [
     b"F-1", b"F-2", b"F-3", b"F-4", b"D-1", b"D-2", b"D-3", b"B-1", b"O-1", b"O-2", b"RC-1",
-    b"RC-2", b"X-1",
+    b"RC-2", b"FLOUR", b"RAW", b"X-1",
 ];
 
 /// What stands before and behind the id in each question.
-const QUESTIONS: [(&[u8], &[u8]); 8] = [
+const QUESTIONS: [(&[u8], &[u8]); 14] = [
     (b"{\"ask\":\"lot\",\"lot\":\"", b"\"}\n"),
     (b"{\"ask\":\"batch\",\"batch\":\"", b"\"}\n"),
     (b"{\"ask\":\"order\",\"order\":\"", b"\"}\n"),
@@ -65,6 +65,15 @@ const QUESTIONS: [(&[u8], &[u8]); 8] = [
     (b"{\"ask\":\"forward\",\"lot\":\"", b"\"}\n"),
     (b"{\"ask\":\"back\",\"batch\":\"", b"\"}\n"),
     (b"{\"ask\":\"forward\",\"batch\":\"", b"\"}\n"),
+    (
+        b"{\"ask\":\"orders\",\"state\":\"cancelled\",\"above\":\"",
+        b"\"}\n",
+    ),
+    (b"{\"ask\":\"batches\",\"above\":\"", b"\"}\n"),
+    (b"{\"ask\":\"lots\",\"def\":\"", b"\"}\n"),
+    (b"{\"ask\":\"holds\",\"lot\":\"", b"\"}\n"),
+    (b"{\"ask\":\"recalls\",\"above\":\"", b"\"}\n"),
+    (b"{\"ask\":\"definitions\",\"class\":\"", b"\"}\n"),
 ];
 
 /// The commands, and behind them each question about each id.
@@ -97,6 +106,6 @@ fn both_keepers_reply_alike(rt: HostRuntime) -> Result<(), Fail> {
     run_lines(rt.alloc(), &mut again, &mut by_store, &mut desk);
     assert!(rt; by_lists.as_slice() == by_store.as_slice());
     // Each line has a reply of its own.
-    assert_eq!(rt; by_lists.iter().filter(|b| **b == b'\n').count(), 144);
+    assert_eq!(rt; by_lists.iter().filter(|b| **b == b'\n').count(), 250);
     Ok(())
 }

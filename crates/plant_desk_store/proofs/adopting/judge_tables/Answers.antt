@@ -1,6 +1,6 @@
-use Rattle.std.proofs.Common.{refl, inl, inr}
+use Rattle.std.proofs.Common.{refl, inl, inr, rules}
 use Rattle.sqlite.specs.Held.{state}
-use Rattle.sqlite.specs.State.{IsUnchanged}
+use Rattle.sqlite.specs.State.{HasCleanDisk, IsUnchanged}
 use Rattle.table_forms.specs.Standing.{StandIn}
 use Rattle.plant_tables.specs.DeskForms.{forms_of}
 use Rattle.plant_tables_stored.specs.Loading.{AreLoaded, AreRising, contents_loaded}
@@ -10,37 +10,34 @@ use Rattle.plant_desk_store.proofs.Judging.{good_rows, told_rows, all_broken, al
 use Rattle.plant_desk_store.proofs.Telling.{adopted_rows, unread_rows}
 use Rattle.plant_desk_store.proofs.adopting.judge_tables.Goals as goal
 
-pub returns-in-Ok-clause-good : goal.returns-in-Ok-clause-good
-returns-in-Ok-clause-good g c clean newly known =
-    let old = state g.S.Store c.args.connection.now in
-    let loaded : AreLoaded c.args.schema old.now c.in-Ok.loaded = adopted_rows (AreLoaded c.args.schema old.now) c.read.result c.in-Ok.loaded c.in-Ok.ensures (c.read.ensures.rows clean) in
-    let rising : AreRising c.args.schema c.in-Ok.loaded = adopted_rows (AreRising c.args.schema) c.read.result c.in-Ok.loaded c.in-Ok.ensures c.read.ensures.ordered in
-    let stands : StandIn (forms_of c.args.schema) old.now (contents_loaded c.in-Ok.loaded) =
-    adopted_rows (λ x. StandIn (forms_of c.args.schema) old.now (contents_loaded x)) c.read.result c.in-Ok.loaded c.in-Ok.ensures (c.read.ensures.stands clean newly.rising) in
-    good_rows c.args.schema old.now c.in-Ok.loaded known loaded c.judge_rows.result rising stands c.judge_rows.ensures.fit
-
-pub returns-in-Ok-clause-told : goal.returns-in-Ok-clause-told
-returns-in-Ok-clause-told g c clean s held =
-    let old = state g.S.Store c.args.connection.now in
-    let loaded : AreLoaded c.args.schema old.now c.in-Ok.loaded = adopted_rows (AreLoaded c.args.schema old.now) c.read.result c.in-Ok.loaded c.in-Ok.ensures (c.read.ensures.rows clean) in
-    told_rows c.args.schema old.now c.in-Ok.loaded held.known loaded s c.judge_rows.result held c.judge_rows.ensures.fit
-
-pub returns-in-Ok-clause-numbered : goal.returns-in-Ok-clause-numbered
-returns-in-Ok-clause-numbered g c = all_numbered c.in-Ok.loaded c.args.schema c.judge_rows.result c.judge_rows.ensures.fit
-
-pub returns-in-Ok-clause-unchanged : goal.returns-in-Ok-clause-unchanged
-returns-in-Ok-clause-unchanged g c clean =
+pub returns-in-Ok : goal.returns-in-Ok
+returns-in-Ok g c =
     let old = state g.S.Store c.args.connection.now in
     let new = state g.S.Store c.read.new.conn in
-    always_ok c.judge_rows.result (adopted_rows (λ _. IsUnchanged old new) c.read.result c.in-Ok.loaded c.in-Ok.ensures (c.read.ensures.same clean))
+    let version = c.args.schema in
+    let read = c.read.result in
+    let x = c.in-Ok.loaded in
+    let is = c.in-Ok.ensures in
+    let judged = c.judge_rows.result in
+    let loaded : HasCleanDisk new → AreLoaded version old.now x = λ clean. adopted_rows (AreLoaded version old.now) read x is (c.read.ensures.rows clean) in
+    record {
+      reads = record { rests = c.read.ensures.mode; kept = c.read.ensures.kept; crash = c.read.ensures.crash };
+      good = λ clean newly known. good_rows version old.now x known (loaded clean) judged (adopted_rows (AreRising version) read x is c.read.ensures.ordered)
+          (adopted_rows (λ x. StandIn (forms_of version) old.now (contents_loaded x)) read x is (c.read.ensures.stands clean newly.rising)) c.judge_rows.ensures.fit;
+      told = λ clean s held. told_rows version old.now x held.known (loaded clean) s judged held c.judge_rows.ensures.fit;
+      numbered = all_numbered x version judged c.judge_rows.ensures.fit;
+      unchanged = λ clean. always_ok judged (adopted_rows (λ _. IsUnchanged old new) read x is (c.read.ensures.same clean));
+      named = λ clean told. all_broken version old.now x judged told (loaded clean) c.judge_rows.ensures.broken;
+    }
 
-pub returns-in-Ok-clause-named : goal.returns-in-Ok-clause-named
-returns-in-Ok-clause-named g c clean told =
+pub returns-in-Err : goal.returns-in-Err
+returns-in-Err g c =
     let old = state g.S.Store c.args.connection.now in
-    let loaded : AreLoaded c.args.schema old.now c.in-Ok.loaded = adopted_rows (AreLoaded c.args.schema old.now) c.read.result c.in-Ok.loaded c.in-Ok.ensures (c.read.ensures.rows clean) in
-    all_broken c.args.schema old.now c.in-Ok.loaded c.judge_rows.result told loaded c.judge_rows.ensures.broken
-
-pub returns-in-Err-clause-named : goal.returns-in-Err-clause-named
-returns-in-Err-clause-named g c clean told =
-    let old = state g.S.Store c.args.connection.now in
-    unread_rows (NamesFirst old.now) c.read.result c.in-Err.fault c.in-Err.ensures (λ none. inl (refl, inr (c.args.schema, told, (rw none at c.read.ensures.missing) refl))) tt tt
+    record {
+      reads = record { rests = c.read.ensures.mode; kept = c.read.ensures.kept; crash = c.read.ensures.crash };
+      good = λ clean newly known. tt;
+      told = λ clean s held. tt;
+      numbered = tt;
+      unchanged = λ clean. tt;
+      named = λ clean told. unread_rows (NamesFirst old.now) c.read.result c.in-Err.fault c.in-Err.ensures (λ none. inl (refl, inr (c.args.schema, told, (rw none at c.read.ensures.missing) refl))) tt tt;
+    }

@@ -1,32 +1,42 @@
-use Rattle.std.proofs.Common.{ap}
+use Rattle.std.proofs.Common.{ap, rules}
 use Rattle.sqlite.specs.Held.{state}
 use Rattle.table_forms.proofs.Ending.{IsStore}
 use Rattle.plant_base.specs.State.{newest_schema}
 use Rattle.plant_view.specs.Tables.{tables_of}
 use Rattle.plant_good_keys.proofs.TableKeys.{keyed}
-use Rattle.plant_desk_store.proofs.Judging.{rises, told_shows}
+use Rattle.plant_desk_store.proofs.Judging.{rises, told_shows, told_known, told_unmade}
 use Rattle.plant_desk_store.proofs.Others.{others_at}
 use Rattle.plant_desk_store.proofs.Resting.{open_at}
 use Rattle.plant_desk_store.proofs.adopting.raise_tables.Goals as goal
 
-pub returns-in-Ok-clause-raised : goal.returns-in-Ok-clause-raised
-returns-in-Ok-clause-raised g c clean settled s held rows =
+pub returns-in-Ok : goal.returns-in-Ok
+returns-in-Ok g c =
     let old = state g.S.Store c.args.connection.now in
     let end = c.raise_rows.new.conn in
     let new = state g.S.Store end in
-    let store : IsStore new = record { settled = g.met.S.Store.settled end.store; stays = g.met.S.Store.stays end.store; something = g.met.S.Store.survives end.store } in
-    let done = c.in-Ok.ensures.raised clean s (record { settled = settled; holds = held.holds }) (keyed c.args.schema s held.good) held.whole rows in
-    (open_at new s held.good done.0 clean store, others_at old.now new (tables_of newest_schema s) done.0 done.1)
+    let laws : IsStore new = record { settled = g.met.S.Store.settled end.store; stays = g.met.S.Store.stays end.store; something = g.met.S.Store.survives end.store } in
+    record {
+      rests = search rules;
+      raised = λ clean settled s held are.
+          let done = c.in-Ok.ensures.raised clean s (record { settled = settled; holds = held.holds }) (keyed c.args.schema s held.good) held.whole are in
+          (open_at new s held.good done.0 clean laws, others_at old.now new (tables_of newest_schema s) done.0 done.1);
+      told = tt;
+      unmade = tt;
+      crash = search rules;
+    }
 
-pub returns-in-Err-clause-still : goal.returns-in-Err-clause-still
-returns-in-Err-clause-still g c clean settled s held rows =
+pub returns-in-Err : goal.returns-in-Err
+returns-in-Err g c =
     let old = state g.S.Store c.args.connection.now in
     let new = state g.S.Store c.raise_rows.new.conn in
-    rises c.args.schema old new s held (c.in-Err.ensures.cut_short clean s (record { settled = settled; holds = held.holds }) (keyed c.args.schema s held.good) held.whole rows)
-
-pub returns-in-Err-clause-shows : goal.returns-in-Err-clause-shows
-returns-in-Err-clause-shows g c clean settled s held rows =
-    let old = state g.S.Store c.args.connection.now in
-    let new = state g.S.Store c.raise_rows.new.conn in
-    let cut = c.in-Err.ensures.cut_short clean s (record { settled = settled; holds = held.holds }) (keyed c.args.schema s held.good) held.whole rows in
-    told_shows c.args.schema old new s c.in-Err.fault c.fault_of.result settled held cut (λ memory. ap (λ held. state g.S.Store held) (c.in-Err.ensures.unwritten memory)) c.fault_of.ensures.is
+    record {
+      rests = search rules;
+      raised = λ clean settled s held are.
+          let cut = c.in-Err.ensures.cut_short clean s (record { settled = settled; holds = held.holds }) (keyed c.args.schema s held.good) held.whole are in (
+            rises c.args.schema old new s held cut,
+            told_shows c.args.schema old new s c.in-Err.fault c.fault_of.result settled held cut (λ memory. ap (λ held. state g.S.Store held) (c.in-Err.ensures.unwritten memory)) c.fault_of.ensures,
+          );
+      told = told_known c.in-Err.fault c.fault_of.result c.fault_of.ensures;
+      unmade = told_unmade old new c.in-Err.fault c.fault_of.result c.fault_of.ensures (λ memory. ap (λ held. state g.S.Store held) (c.in-Err.ensures.unwritten memory));
+      crash = search rules;
+    }

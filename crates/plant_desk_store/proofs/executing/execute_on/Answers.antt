@@ -1,39 +1,43 @@
+use Rattle.std.proofs.Common.{◌≡◌, Err, sym, subst, rules, arith}
 use Rattle.sqlite.specs.Held.{state}
 use Rattle.sqlite.specs.State.{HasCleanDisk, Survives}
+use Rattle.plant_base.specs.State.{State}
 use Rattle.table_forms.proofs.Ending.{IsStore}
+use Rattle.plant_desk_store.specs.Parts.{HasStepped}
+use Rattle.plant_desk_store.specs.Standing.{IsOpenAt}
 use Rattle.plant_desk_store.proofs.Others.{others_kept}
 use Rattle.plant_desk_store.proofs.Resting.{still_open}
-use Rattle.plant_desk_store.proofs.Stepping.{decided_repeat}
+use Rattle.plant_desk_store.proofs.Stepping.{decided_repeat, store_unshut, undecided}
 use Rattle.plant_desk_store.proofs.executing.execute_on.Goals as goal
 
-pub returns-clause-executed : goal.returns-clause-executed
-returns-clause-executed g c clean s at =
-    let held = c.decide_on.new.connection in
-    let mid = state g.S.Store held in
-    let ran = c.execute_decided in
-    let store : IsStore mid = record { settled = g.met.S.Store.settled held.store; stays = g.met.S.Store.stays held.store; something = g.met.S.Store.survives held.store } in
-    let was : HasCleanDisk mid = ran.ensures.clean clean in
-    let stood = still_open (state g.S.Store c.args.connection.now) mid s at was (c.decide_on.ensures.kept was) c.decide_on.ensures.crash store in
-    ran.ensures.executed clean s stood (c.in_ok-decided.ensures.live was) (c.in_ok-decided.ensures.decided was s at.stands)
-
-pub returns-clause-others : goal.returns-clause-others
-returns-clause-others g c clean s at before others =
-    let held = c.decide_on.new.connection in
-    let mid = state g.S.Store held in
-    let ran = c.execute_decided in
-    let store : IsStore mid = record { settled = g.met.S.Store.settled held.store; stays = g.met.S.Store.stays held.store; something = g.met.S.Store.survives held.store } in
-    let was : HasCleanDisk mid = ran.ensures.clean clean in
+pub returns-in_err-decided : goal.returns-in_err-decided
+returns-in_err-decided g c =
+    let end = c.decide_on.new.connection in
     let old = state g.S.Store c.args.connection.now in
-    let stood = still_open old mid s at was (c.decide_on.ensures.kept was) c.decide_on.ensures.crash store in
-    ran.ensures.others clean s stood (c.in_ok-decided.ensures.live was) (c.in_ok-decided.ensures.decided was s at.stands) before
-    (others_kept before old mid others was (c.decide_on.ensures.kept was) c.decide_on.ensures.crash)
+    let new = state g.S.Store end in
+    let laws : IsStore new = record { settled = g.met.S.Store.settled end.store; stays = g.met.S.Store.stays end.store; something = g.met.S.Store.survives end.store } in
+    let is : c.from_residual.result ≡ Err c.in_err-decided.field-0.0 = search rules in
+    subst (HasStepped c.args.envelope.now old new) (sym is) (undecided old new c.args.envelope.now c.in_err-decided.field-0.0 laws c.requires c.in_err-decided.ensures)
 
-pub returns-clause-repeated : goal.returns-clause-repeated
-returns-clause-repeated g c clean s stands again =
+pub returns : goal.returns
+returns g c =
     let held = c.decide_on.new.connection in
     let old = state g.S.Store c.args.connection.now in
-    let ran = c.execute_decided in
-    let was : HasCleanDisk (state g.S.Store held) = ran.ensures.clean clean in
-    let new = state g.S.Store ran.new.connection in
-    decided_repeat (Survives old new (λ _. ⊥)) s c.args.envelope.now c.in_ok-decided.decided.decision again (c.in_ok-decided.ensures.decided was s stands).decides
-    (λ n told. rw (ran.ensures.repeated n told).1 c.decide_on.ensures.crash)
+    let mid = state g.S.Store held in
+    let new = state g.S.Store c.execute_decided.new.connection in
+    let reads = c.decide_on.ensures.reads in
+    let decided = c.in_ok-decided.ensures in
+    let did = c.execute_decided.ensures.written in
+    let laws : IsStore mid = record { settled = g.met.S.Store.settled held.store; stays = g.met.S.Store.stays held.store; something = g.met.S.Store.survives held.store } in
+    let stood : HasCleanDisk new → (s : State) → IsOpenAt old s → IsOpenAt mid s = λ clean s at. still_open old mid s at (did.clean clean) (reads.kept (did.clean clean)) reads.crash laws in
+    record {
+      rests = did.rests;
+      clean = λ clean. omega (arith, reads.crash.clean, did.clean clean);
+      executed = λ clean s at. did.executed clean s (stood clean s at) (decided.live (did.clean clean)) (decided.decided (did.clean clean) s at.stands);
+      others = λ clean s at before others.
+          did.others clean s (stood clean s at) (decided.live (did.clean clean)) (decided.decided (did.clean clean) s at.stands) before (others_kept before old mid others (did.clean clean) (reads.kept (did.clean clean)) reads.crash);
+      unshut = store_unshut c.execute_decided.result did.told;
+      spared = λ nothing. rw (c.execute_decided.ensures.untouched nothing) reads.crash;
+      repeated = λ clean s stands again. decided_repeat (Survives old new (λ _. ⊥)) s c.args.envelope.now c.in_ok-decided.decided.decision again (decided.decided (did.clean clean) s stands).decides
+          (λ n told. rw (c.execute_decided.ensures.repeated n told).1 reads.crash);
+    }

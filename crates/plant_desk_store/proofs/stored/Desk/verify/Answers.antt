@@ -1,7 +1,7 @@
-use Rattle.std.proofs.Common.{◌≡◌, arith}
+use Rattle.std.proofs.Common.{false, arith}
 use Rattle.sqlite.specs.Held.{state}
 use Rattle.table_forms.proofs.Ending.{IsStore}
-use Rattle.plant_desk_store.proofs.Resting.{still_stands, still_leaves}
+use Rattle.plant_desk_store.proofs.Asking.{read_stands}
 use Rattle.plant_desk_store.proofs.stored.Desk.verify.Goals as goal
 
 pub returns-clause-verified : goal.returns-clause-verified
@@ -12,9 +12,9 @@ returns-clause-verified g c live =
     let did = c.verify_on.ensures in
     let store : IsStore new = record { settled = g.met.S.Store.settled end.store; stays = g.met.S.Store.stays end.store; something = g.met.S.Store.survives end.store } in
     record {
-      honest = λ clean. omega (arith, did.crash.clean, clean);
-      live = did.open;
+      honest = λ clean. omega (arith, did.reads.crash.clean, clean);
+      live = did.unshut;
       tested = did.tested;
-      unbroken = λ clean s stood. (did.unbroken clean s stood.0, (still_stands old new s stood.0 (did.kept clean) store, λ still. still_leaves old new (λ u. u ≡ s) (stood.1 still) clean did.crash store));
-      crash = did.crash;
+      unbroken = λ clean s stood. (did.unbroken clean s stood.0, read_stands old new false s did.reads store clean stood);
+      crash = did.reads.crash;
     }

@@ -3,8 +3,8 @@ use Rattle.std.proofs.lemmas.List.{take_all}
 use Rattle.serde_json.specs.Data.{array}
 use Rattle.serde_json.specs.View.{items_of}
 use Rattle.serde_json.proofs.Views.{view-Array}
-use Rattle.plant_text_answers.specs.Answers.{sublot_data}
-use Rattle.plant_text_answers.proofs.answers.sublots_value.Goals as goal
+use Rattle.plant_text_answers.specs.Parts.{sublot_data}
+use Rattle.plant_text_answers.proofs.parts.sublots_value.Goals as goal
 
 pub returns : goal.returns
 returns c =

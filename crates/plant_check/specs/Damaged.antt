@@ -1,0 +1,32 @@
+-- Tables that break a rule, in a database.
+use Rattle.std.specs.Prelude.{◌≡◌, ◌⊎◌, ◌<◌, ℕ, ℤ, pos, All, Some}
+use Rattle.sqlite.specs.Effect.{Database}
+use Rattle.plant_base.specs.State.{newest_schema}
+use Rattle.table_forms.specs.Standing.{IsFree}
+use Rattle.plant_tables.specs.DeskForms.{desk_forms}
+use Rattle.plant_tables_stored.specs.Loading.{AreLoaded}
+use Rattle.plant_tables_stored.specs.Version.{IsVersion, HasTablesOf}
+use Rattle.plant_tables_stored.specs.declared.loaded.Loaded.{Loaded}
+use Rattle.plant_check.specs.Broken.{first_broken}
+use Rattle.plant_check.specs.declared.rule.Rule.{Rule}
+use Rattle.plant_check.specs.declared.rule.Rule.TheVariants as rule
+
+-- table meta doesn't stand with one good row, or the tables of its version don't stand as they are declared, or one that a
+-- later version adds is there
+abbrev pub LacksTables : Database → Type 0
+LacksTables db = ((n : ℤ) → ¬ IsVersion db n) ⊎ ((version : ℕ) × IsVersion db (pos version) × ¬ HasTablesOf version db.schema)
+
+-- the rows of the tables, of the version that meta tells, break this rule first
+abbrev pub AreFirstBroken : Database → Rule → Type 0
+AreFirstBroken db r = (version : ℕ) × IsVersion db (pos version) × ((x : Loaded) × AreLoaded version db x × (first_broken x ≡ Some r))
+
+-- this is the first rule that the tables break
+abbrev pub IsFirstBroken : Database → Rule → Type 0
+IsFirstBroken db r = ((r ≡ rule.Tables) × LacksTables db) ⊎ AreFirstBroken db r
+
+-- There is something of the desk, for not all of its tables' names are free; table meta tells no version above the
+-- newest; and this is the first rule that the tables break.
+pub record IsDamaged (db : Database) (r : Rule) : Type 0 where
+  pub taken : ¬ All (IsFree db.schema) desk_forms
+  pub known : (n : ℕ) → newest_schema < n → ¬ IsVersion db (pos n)
+  pub broken : IsFirstBroken db r

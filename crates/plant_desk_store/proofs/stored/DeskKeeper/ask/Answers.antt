@@ -1,0 +1,24 @@
+use Rattle.std.proofs.Common.{refl, arith}
+use Rattle.sqlite.specs.Held.{state}
+use Rattle.table_forms.proofs.Ending.{IsStore}
+use Rattle.plant_desk_store.proofs.Asking.{asked_stands, asked_beside}
+use Rattle.plant_desk_store.proofs.stored.DeskKeeper.ask.Goals as goal
+
+pub returns-clause-same : goal.returns-clause-same
+returns-clause-same g c =
+    let old = state g.S.Store c.args.self.now.connection in
+    let end = c.answer_on.new.connection in
+    let reads = c.answer_on.ensures.reads in
+    let laws : IsStore (state g.S.Store end) = record { settled = g.met.S.Store.settled end.store; stays = g.met.S.Store.stays end.store; something = g.met.S.Store.survives end.store } in
+    record {
+      honest = λ clean. omega (arith, reads.crash.clean, clean);
+      schema = λ clean. refl;
+      beside = λ clean before stood. asked_beside before old (state g.S.Store end) c.args.self.now.is_shut reads laws clean stood;
+    }
+
+pub returns-clause-asks : goal.returns-clause-asks
+returns-clause-asks g c clean live s stood =
+    let end = c.answer_on.new.connection in
+    let did = c.answer_on.ensures in
+    let laws : IsStore (state g.S.Store end) = record { settled = g.met.S.Store.settled end.store; stays = g.met.S.Store.stays end.store; something = g.met.S.Store.survives end.store } in
+    asked_stands (state g.S.Store c.args.self.now.connection) (state g.S.Store end) c.args.self.now.is_shut s c.args.question.now c.answer_on.result did laws clean stood

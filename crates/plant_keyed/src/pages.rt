@@ -1,0 +1,114 @@
+//! Pages of the rows that a query finds, judged by the rules of their values.
+
+ghost use Rattle.std.specs.Prelude.{◌≡◌, ◌+◌, [], ◌∷◌, false, ℕ, List, Some, IfOk, OnOk};
+ghost use Rattle.sqlite.specs.State.{HasCleanDisk, IsUnchanged, Survives};
+ghost use Rattle.sqlite.specs.Held.{state};
+ghost use Rattle.sqlite.specs.Values.{bound, bound_value};
+ghost use Rattle.sqlite.specs.declared.types.Value.TheVariants.{Text};
+ghost use Rattle.sqlite_sql.specs.Ops.{is_null};
+ghost use Rattle.sqlite_value.specs.Value.{owned};
+ghost use Rattle.table_forms.specs.Resting.{Keeps};
+ghost use Rattle.table_reads.specs.Paging.{SelectsPage, AreBounds};
+ghost use Rattle.plant_tables_columns.specs.Kinds.{number};
+ghost use Rattle.plant_worklists.specs.Pages.{page_size};
+ghost use Rattle.plant_worklists.specs.Worklists.{text_above};
+ghost use Rattle.plant_keyed.specs.Keeping.{IsSteady};
+ghost use Rattle.plant_keyed.specs.Paging.{IsPaged};
+
+use crate::keyed::Keyed;
+use plant_base::{Id, Items};
+use plant_tables_columns::storing::{small, word};
+use plant_tables_columns::{Judged, judge_all};
+use plant_worklists::{PAGE_SIZE, Page, text_above};
+use sqlite::types::ValueRef;
+use sqlite::{Alter, Connection};
+use std::alloc::Global;
+use table_forms::{Fault, Form};
+use table_reads::find_page;
+
+/// A page of the rows of a table. Store where a value of a row breaks its rule, and as `find_page`; Memory where there is
+/// none. Nothing is changed.
+fn page_over<S: Alter, R: Judged>(
+    alloc: Global,
+    conn: &mut Connection<S>,
+    form: &Form<'_>,
+    sql: &str,
+    values: &[ValueRef<'_>],
+) -> Result<Page<R>, Fault>
+    requires { (places : List ℕ) × (next : ℕ) × SelectsPage form.now places next sql.now }
+    ensures rows { (places : List ℕ) (next : ℕ) → SelectsPage form.now places next sql.now
+        → AreBounds places page_size (bound values.now) → HasCleanDisk (state S.Store conn.new)
+        → IfOk result (IsPaged (state S.Store conn.old).now form.now R.row_from places next
+        (bound values.now)) }
+    ensures same { HasCleanDisk (state S.Store conn.new)
+        → OnOk result (IsUnchanged (state S.Store conn.old) (state S.Store conn.new)) }
+    ensures kept { HasCleanDisk (state S.Store conn.new)
+        → Keeps (state S.Store conn.old) (state S.Store conn.new) }
+    ensures mode { (state S.Store conn.old).in_transaction ≡ false
+        → (state S.Store conn.new).in_transaction ≡ false }
+    ensures crash { Survives (state S.Store conn.old) (state S.Store conn.new) (λ _. ⊥) }
+{
+    let page = find_page(alloc, conn, form, sql, values, usize::from(PAGE_SIZE))?;
+    match judge_all(alloc, page.rows.as_slice()) {
+        Ok(Some(rows)) => Ok(Page {
+            rows: Items::new(rows),
+            has_more: page.has_more,
+        }),
+        Ok(None) => Err(Fault::Store),
+        Err(_) => Err(Fault::Memory),
+    }
+}
+
+impl<'a, S: Alter> Keyed<'a, S> {
+    /// The same over the lent connection: whether the look-up failed is kept.
+    fn page_found<R: Judged>(
+        &mut self,
+        form: &Form<'_>,
+        sql: &str,
+        values: &[ValueRef<'_>],
+    ) -> Result<Page<R>, Fault>
+        requires { (places : List ℕ) × (next : ℕ) × SelectsPage form.now places next sql.now }
+        ensures same_reference { self.new.conn.ghost_name ≡ self.old.conn.ghost_name }
+        ensures rows { (places : List ℕ) (next : ℕ) → SelectsPage form.now places next sql.now
+            → AreBounds places page_size (bound values.now)
+            → HasCleanDisk (state S.Store self.new.conn.now)
+            → IfOk result (IsPaged (state S.Store self.old.conn.now).now form.now R.row_from
+            places next (bound values.now)) }
+        ensures steady { IsSteady (state S.Store self.old.conn.now) (state S.Store self.new.conn.now)
+            self.old.has_failed self.new.has_failed }
+        ensures remembers { self.new.edges.now ≡ self.old.edges.now }
+    {
+        match page_over(self.alloc, self.conn, form, sql, values) {
+            Ok(page) => Ok(page),
+            Err(fault) => {
+                self.has_failed = true;
+                Err(fault)
+            }
+        }
+    }
+
+    /// A page of the rows that have this value in one column, and after this id one in another.
+    pub(crate) fn page_with<'v, R: Judged>(
+        &mut self,
+        form: &Form<'_>,
+        sql: &str,
+        given: ValueRef<'v>,
+        above: &'v Option<Id>,
+    ) -> Result<Page<R>, Fault>
+        requires { (place : ℕ) × (next : ℕ) × SelectsPage form.now (place ∷ []) next sql.now }
+        ensures same_reference { self.new.conn.ghost_name ≡ self.old.conn.ghost_name }
+        ensures rows { (place next : ℕ) → SelectsPage form.now (place ∷ []) next sql.now
+            → is_null (bound_value (owned given.entry)) ≡ false
+            → HasCleanDisk (state S.Store self.new.conn.now)
+            → IfOk result (IsPaged (state S.Store self.old.conn.now).now form.now R.row_from
+            (place ∷ []) next
+            (bound_value (owned given.entry) ∷ Text (text_above above.now)
+            ∷ number (page_size + 1) ∷ [])) }
+        ensures steady { IsSteady (state S.Store self.old.conn.now) (state S.Store self.new.conn.now)
+            self.old.has_failed self.new.has_failed }
+        ensures remembers { self.new.edges.now ≡ self.old.edges.now }
+    {
+        let bounds = [given, word(text_above(above)), small(PAGE_SIZE + 1)];
+        self.page_found(form, sql, &bounds)
+    }
+}

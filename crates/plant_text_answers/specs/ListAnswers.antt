@@ -1,0 +1,72 @@
+-- The JSON trees of pages of worklists.
+use Rattle.std.specs.Prelude.{ℕ, List, map, codes}
+use Rattle.serde_json.specs.Data.{Data, boolean, string, array, object, member, no_members}
+use Rattle.serde_json.specs.View.{items_of}
+use Rattle.plant_base.specs.Words.{batch_state_name}
+use Rattle.plant_base.specs.declared.rows.Definition.{Definition}
+use Rattle.plant_base.specs.declared.rows.Hold.{Hold}
+use Rattle.plant_base.specs.declared.rows.Job.{Job}
+use Rattle.plant_base.specs.declared.rows.Recall.{Recall}
+use Rattle.plant_worklists.specs.declared.page.Page.{Page}
+use Rattle.plant_desk.specs.declared.listed.Listed.{Listed}
+use Rattle.plant_desk.specs.declared.listed.Listed.TheVariants as listed
+use Rattle.plant_desk.specs.declared.listed.LotPage.{LotPage}
+use Rattle.plant_desk.specs.declared.listed.OpenBatch.{OpenBatch}
+use Rattle.plant_desk.specs.declared.question.LotAnswer.{LotAnswer}
+use Rattle.plant_text_answers.specs.Natural.{natural}
+use Rattle.plant_text_answers.specs.Parts.{id_or_null, sublots_data}
+
+-- what is shown of rows, in their order
+abbrev pub rows_data : {R : Type 0} → (R → Data) → List R → Data
+rows_data item rows = array (items_of (map item rows))
+
+abbrev pub order_item : Job → Data
+order_item j = object (member (codes "due") (string j.order.due) (member (codes "order") (string j.order.order) (member (codes "priority") (natural j.order.priority)
+    (member (codes "recipe") (string j.order.recipe) (member (codes "size") (natural j.order.size) (member (codes "version") (natural j.order.version) no_members))))))
+
+abbrev pub batch_item : OpenBatch → Data
+batch_item b = object (member (codes "attempt") (natural b.row.attempt) (member (codes "batch") (string b.row.batch.id) (member (codes "next") (natural b.row.next)
+    (member (codes "order") (string b.row.batch.job) (member (codes "phase") (id_or_null b.next_phase) (member (codes "phases") (natural b.phases)
+    (member (codes "state") (string (batch_state_name b.row.state)) no_members)))))))
+
+abbrev pub lot_item : LotAnswer → Data
+lot_item a = object (member (codes "held") (boolean a.held) (member (codes "lot") (string a.lot) (member (codes "stock") (natural a.stock)
+    (member (codes "sublots") (array (sublots_data a.sublots)) no_members))))
+
+abbrev pub hold_item : Hold → Data
+hold_item h = object (member (codes "at") (natural h.at) (member (codes "by") (string h.by) (member (codes "hold") (string h.id) (member (codes "note") (string h.note) no_members))))
+
+abbrev pub recall_item : Recall → Data
+recall_item r = object (member (codes "at") (natural r.at) (member (codes "by") (string r.by) (member (codes "lot") (string r.lot) (member (codes "note") (string r.note)
+    (member (codes "recall") (string r.id) no_members)))))
+
+abbrev pub definition_item : Definition → Data
+definition_item d = object (member (codes "def") (string d.id) (member (codes "name") (string d.name) (member (codes "unit") (string d.unit) no_members)))
+
+-- ---- pages
+
+abbrev pub orders_data : Page Job → Data
+orders_data page = object (member (codes "more") (boolean page.has_more) (member (codes "orders") (rows_data order_item page.rows) no_members))
+
+abbrev pub batches_data : Page OpenBatch → Data
+batches_data page = object (member (codes "batches") (rows_data batch_item page.rows) (member (codes "more") (boolean page.has_more) no_members))
+
+abbrev pub lots_data : LotPage → Data
+lots_data page = object (member (codes "last") (id_or_null page.last) (member (codes "lots") (rows_data lot_item page.lots) (member (codes "more") (boolean page.has_more) no_members)))
+
+abbrev pub holds_data : Page Hold → Data
+holds_data page = object (member (codes "holds") (rows_data hold_item page.rows) (member (codes "more") (boolean page.has_more) no_members))
+
+abbrev pub recalls_data : Page Recall → Data
+recalls_data page = object (member (codes "more") (boolean page.has_more) (member (codes "recalls") (rows_data recall_item page.rows) no_members))
+
+abbrev pub definitions_data : Page Definition → Data
+definitions_data page = object (member (codes "definitions") (rows_data definition_item page.rows) (member (codes "more") (boolean page.has_more) no_members))
+
+abbrev pub listed_data : Listed → Data
+listed_data (listed.Orders page) = orders_data page
+listed_data (listed.Batches page) = batches_data page
+listed_data (listed.Lots page) = lots_data page
+listed_data (listed.Holds page) = holds_data page
+listed_data (listed.Recalls page) = recalls_data page
+listed_data (listed.Definitions page) = definitions_data page

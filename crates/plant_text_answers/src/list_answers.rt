@@ -1,0 +1,91 @@
+//! The texts of pages of worklists.
+ghost use Rattle.std.specs.Prelude.{◌≡◌, map, IfOk, string_bytes};
+ghost use Rattle.serde_json.specs.Data.{array};
+ghost use Rattle.serde_json.specs.View.{view, items_of};
+ghost use Rattle.serde_json.specs.Written.{compact_text};
+ghost use Rattle.plant_text_answers.specs.ListAnswers.{orders_data, batches_data, lots_data, holds_data, recalls_data};
+ghost use Rattle.plant_text_answers.specs.ListAnswers.{definitions_data, listed_data};
+
+use crate::listed_rows::Shown;
+use crate::parts::id_value;
+use plant_base::{Definition, Hold, Job, Recall};
+use plant_desk::{Listed, LotPage, OpenBatch};
+use plant_worklists::Page;
+use serde_json::{Value, json};
+use std::alloc::{AllocError, Global};
+
+/// The list of what is shown of rows.
+fn rows_value<R: Shown>(alloc: Global, rows: &[R]) -> Result<Value, AllocError>
+    ensures { IfOk result (λ v. view v ≡ array (items_of (map R.shows rows.now))) }
+{
+    let mut list = Vec::new(alloc);
+    for row in rows {
+        let value = row.value(alloc)?;
+        list.push(value)?;
+    }
+    Ok(Value::Array(list))
+}
+
+fn orders_value(alloc: Global, page: &Page<Job>) -> Result<Value, AllocError>
+    ensures { IfOk result (λ v. view v ≡ orders_data page.now) }
+{
+    let rows = rows_value(alloc, page.rows.as_slice())?;
+    json!(in alloc; {"more": (page.has_more), "orders": rows})
+}
+
+fn batches_value(alloc: Global, page: &Page<OpenBatch>) -> Result<Value, AllocError>
+    ensures { IfOk result (λ v. view v ≡ batches_data page.now) }
+{
+    let rows = rows_value(alloc, page.rows.as_slice())?;
+    json!(in alloc; {"batches": rows, "more": (page.has_more)})
+}
+
+fn lots_value(alloc: Global, page: &LotPage) -> Result<Value, AllocError>
+    ensures { IfOk result (λ v. view v ≡ lots_data page.now) }
+{
+    let last = id_value(alloc, page.last)?;
+    let rows = rows_value(alloc, page.lots.as_slice())?;
+    json!(in alloc; {"last": last, "lots": rows, "more": (page.has_more)})
+}
+
+fn holds_value(alloc: Global, page: &Page<Hold>) -> Result<Value, AllocError>
+    ensures { IfOk result (λ v. view v ≡ holds_data page.now) }
+{
+    let rows = rows_value(alloc, page.rows.as_slice())?;
+    json!(in alloc; {"holds": rows, "more": (page.has_more)})
+}
+
+fn recalls_value(alloc: Global, page: &Page<Recall>) -> Result<Value, AllocError>
+    ensures { IfOk result (λ v. view v ≡ recalls_data page.now) }
+{
+    let rows = rows_value(alloc, page.rows.as_slice())?;
+    json!(in alloc; {"more": (page.has_more), "recalls": rows})
+}
+
+fn definitions_value(alloc: Global, page: &Page<Definition>) -> Result<Value, AllocError>
+    ensures { IfOk result (λ v. view v ≡ definitions_data page.now) }
+{
+    let rows = rows_value(alloc, page.rows.as_slice())?;
+    json!(in alloc; {"definitions": rows, "more": (page.has_more)})
+}
+
+fn listed_value(alloc: Global, listed: &Listed) -> Result<Value, AllocError>
+    ensures { IfOk result (λ v. view v ≡ listed_data listed.now) }
+{
+    match listed {
+        Listed::Orders(page) => orders_value(alloc, page),
+        Listed::Batches(page) => batches_value(alloc, page),
+        Listed::Lots(page) => lots_value(alloc, page),
+        Listed::Holds(page) => holds_value(alloc, page),
+        Listed::Recalls(page) => recalls_value(alloc, page),
+        Listed::Definitions(page) => definitions_value(alloc, page),
+    }
+}
+
+/// The text of a page of a worklist.
+pub(crate) fn listed_text(alloc: Global, listed: &Listed) -> Result<String, AllocError>
+    ensures { IfOk result (λ s. string_bytes s ≡ compact_text (listed_data listed.now)) }
+{
+    let value = listed_value(alloc, listed)?;
+    value.to_string(alloc)
+}

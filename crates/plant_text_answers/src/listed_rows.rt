@@ -1,0 +1,89 @@
+//! What is shown of a row in a page of a worklist.
+ghost use Rattle.plant_text_answers.specs.ListAnswers.{order_item, batch_item, lot_item, hold_item, recall_item, definition_item};
+
+use crate::parts::{id_value, sublots_value};
+use plant_base::{Definition, Hold, Job, Recall};
+use plant_desk::{LotAnswer, OpenBatch};
+use serde_json::{Value, json};
+use std::alloc::{AllocError, Global};
+
+/// A row that is shown in a list.
+pub(crate) trait Shown {
+    ghost use Rattle.std.specs.Prelude.{◌≡◌, IfOk};
+    ghost use Rattle.serde_json.specs.Data.{Data};
+    ghost use Rattle.serde_json.specs.View.{view};
+
+    // What is shown of it.
+    ghost shows: { Self → Data };
+
+    /// What is shown of it, as a value. The only error is that memory was refused.
+    fn value(&self, alloc: Global) -> Result<Value, AllocError>
+        ensures { IfOk result (λ v. view v ≡ shows self.now) };
+}
+
+impl Shown for Job {
+    ghost shows = { order_item };
+
+    fn value(&self, alloc: Global) -> Result<Value, AllocError> {
+        let order = self.order;
+        json!(in alloc; {
+            "due": (order.due.as_str()), "order": (order.order.as_str()), "priority": (order.priority),
+            "recipe": (order.recipe.as_str()), "size": (order.size.get()), "version": (order.version)
+        })
+    }
+}
+
+impl Shown for OpenBatch {
+    ghost shows = { batch_item };
+
+    fn value(&self, alloc: Global) -> Result<Value, AllocError> {
+        let row = &self.row;
+        let phase = id_value(alloc, self.next_phase)?;
+        json!(in alloc; {
+            "attempt": (row.attempt), "batch": (row.batch.id.as_str()), "next": (row.next), "order": (row.batch.job.as_str()),
+            "phase": phase, "phases": (self.phases), "state": (row.state.name())
+        })
+    }
+}
+
+impl Shown for LotAnswer {
+    ghost shows = { lot_item };
+
+    fn value(&self, alloc: Global) -> Result<Value, AllocError> {
+        let sublots = sublots_value(alloc, self.sublots.as_slice())?;
+        json!(in alloc; {
+            "held": (self.held), "lot": (self.lot.as_str()), "stock": (self.stock), "sublots": sublots
+        })
+    }
+}
+
+impl Shown for Hold {
+    ghost shows = { hold_item };
+
+    fn value(&self, alloc: Global) -> Result<Value, AllocError> {
+        json!(in alloc; {
+            "at": (self.at.get()), "by": (self.by.as_str()), "hold": (self.id.as_str()), "note": (self.note.as_str())
+        })
+    }
+}
+
+impl Shown for Recall {
+    ghost shows = { recall_item };
+
+    fn value(&self, alloc: Global) -> Result<Value, AllocError> {
+        json!(in alloc; {
+            "at": (self.at.get()), "by": (self.by.as_str()), "lot": (self.lot.as_str()), "note": (self.note.as_str()),
+            "recall": (self.id.as_str())
+        })
+    }
+}
+
+impl Shown for Definition {
+    ghost shows = { definition_item };
+
+    fn value(&self, alloc: Global) -> Result<Value, AllocError> {
+        json!(in alloc; {
+            "def": (self.id.as_str()), "name": (self.name.as_str()), "unit": (self.unit.as_str())
+        })
+    }
+}

@@ -1,0 +1,65 @@
+-- Which rows of a state each list means, in the order of their keys.
+use Rattle.std.specs.Prelude.{ℕ, Bool, not, ◌&&◌, List, [], Option, Some, None, filter, map}
+use Rattle.std.specs.Ordering.{is_gt}
+use Rattle.plant_base.specs.Recalls.{is_open}
+use Rattle.plant_base.specs.State.{State, id_cmp, same}
+use Rattle.plant_base.specs.Words.{job_state_name}
+use Rattle.plant_base.specs.declared.rows.BatchRow.{BatchRow}
+use Rattle.plant_base.specs.declared.rows.Definition.{Definition}
+use Rattle.plant_base.specs.declared.rows.Hold.{Hold}
+use Rattle.plant_base.specs.declared.rows.Job.{Job}
+use Rattle.plant_base.specs.declared.rows.Lot.{Lot}
+use Rattle.plant_base.specs.declared.rows.Recall.{Recall}
+use Rattle.plant_base.specs.declared.states.JobState.{JobState}
+use Rattle.plant_view.specs.Tables.{batch_row}
+
+-- the text that a list's ids are to come after: where none is given the empty one, which each id comes after
+abbrev pub text_above : Option (List ℕ) → List ℕ
+text_above None = []
+text_above (Some id) = id
+
+-- the id comes after this one
+abbrev pub is_above : Option (List ℕ) → List ℕ → Bool
+is_above above id = is_gt (id_cmp id (text_above above))
+
+abbrev pub is_order_in : JobState → Option (List ℕ) → Job → Bool
+is_order_in state above j = same (job_state_name j.state) (job_state_name state) && is_above above j.order.order
+
+-- the orders in a state
+abbrev pub orders_in : State → JobState → Option (List ℕ) → List Job
+orders_in s state above = filter (is_order_in state above) s.jobs
+
+abbrev pub is_open_batch : Option (List ℕ) → BatchRow → Bool
+is_open_batch above r = not r.closed && is_above above r.batch.id
+
+-- the batches that aren't closed, with what their events made of them
+abbrev pub open_batches : State → Option (List ℕ) → List BatchRow
+open_batches s above = filter (is_open_batch above) (map (batch_row s.control_lines s.events) s.batches)
+
+abbrev pub is_lot_of : List ℕ → Option (List ℕ) → Lot → Bool
+is_lot_of def above l = same l.def def && is_above above l.id
+
+-- the lots of a definition
+abbrev pub lots_of : State → List ℕ → Option (List ℕ) → List Lot
+lots_of s def above = filter (is_lot_of def above) s.lots
+
+abbrev pub is_hold_on : List ℕ → Option (List ℕ) → Hold → Bool
+is_hold_on lot above h = same h.lot lot && is_above above h.id
+
+-- the holds of a lot
+abbrev pub holds_on : State → List ℕ → Option (List ℕ) → List Hold
+holds_on s lot above = filter (is_hold_on lot above) s.holds
+
+abbrev pub is_open_recall : Option (List ℕ) → Recall → Bool
+is_open_recall above r = is_open r && is_above above r.id
+
+-- the recalls that weren't lifted
+abbrev pub open_recalls : State → Option (List ℕ) → List Recall
+open_recalls s above = filter (is_open_recall above) s.recalls
+
+abbrev pub is_definition_in : List ℕ → Option (List ℕ) → Definition → Bool
+is_definition_in class above d = same d.class class && is_above above d.id
+
+-- the definitions of a class
+abbrev pub definitions_in : State → List ℕ → Option (List ℕ) → List Definition
+definitions_in s class above = filter (is_definition_in class above) s.definitions

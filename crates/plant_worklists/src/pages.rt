@@ -1,0 +1,98 @@
+//! The look-ups of pages, each with the fault of a decision: `ViewFault::View` where the view failed.
+ghost use Rattle.std.specs.Prelude.{◌≡◌, IfOk};
+ghost use Rattle.plant_trace.specs.Sources.{Told};
+ghost use Rattle.plant_worklists.specs.Pages.{page_of};
+ghost use Rattle.plant_worklists.specs.Worklists.{orders_in, open_batches, lots_of, holds_on, open_recalls, definitions_in};
+
+use crate::page::Page;
+use crate::view::Worklists;
+use plant_base::{BatchRow, Definition, Hold, Id, Job, JobState, Lot, Recall};
+use plant_view::ViewFault;
+
+/// A page of the orders in a state.
+pub fn orders_in<V: Worklists>(
+    view: &mut V,
+    state: JobState,
+    above: Option<Id>,
+) -> Result<Page<Job>, ViewFault<V::Fault>>
+    ensures { Told V.honest V.kept V.steady view.old view.new
+        (IfOk result (λ page. page ≡ page_of (orders_in (V.state view.old) state above))) }
+{
+    match view.orders_in(state, above) {
+        Ok(page) => Ok(page),
+        Err(fault) => Err(ViewFault::View(fault)),
+    }
+}
+
+/// A page of the batches that aren't closed.
+pub fn open_batches<V: Worklists>(
+    view: &mut V,
+    above: Option<Id>,
+) -> Result<Page<BatchRow>, ViewFault<V::Fault>>
+    ensures { Told V.honest V.kept V.steady view.old view.new
+        (IfOk result (λ page. page ≡ page_of (open_batches (V.state view.old) above))) }
+{
+    match view.open_batches(above) {
+        Ok(page) => Ok(page),
+        Err(fault) => Err(ViewFault::View(fault)),
+    }
+}
+
+/// A page of the lots of a definition.
+pub fn lots_of<V: Worklists>(
+    view: &mut V,
+    def: Id,
+    above: Option<Id>,
+) -> Result<Page<Lot>, ViewFault<V::Fault>>
+    ensures { Told V.honest V.kept V.steady view.old view.new
+        (IfOk result (λ page. page ≡ page_of (lots_of (V.state view.old) def above))) }
+{
+    match view.lots_of(def, above) {
+        Ok(page) => Ok(page),
+        Err(fault) => Err(ViewFault::View(fault)),
+    }
+}
+
+/// A page of the holds of a lot.
+pub fn holds_on<V: Worklists>(
+    view: &mut V,
+    lot: Id,
+    above: Option<Id>,
+) -> Result<Page<Hold>, ViewFault<V::Fault>>
+    ensures { Told V.honest V.kept V.steady view.old view.new
+        (IfOk result (λ page. page ≡ page_of (holds_on (V.state view.old) lot above))) }
+{
+    match view.holds_on(lot, above) {
+        Ok(page) => Ok(page),
+        Err(fault) => Err(ViewFault::View(fault)),
+    }
+}
+
+/// A page of the recalls that weren't lifted.
+pub fn open_recalls<V: Worklists>(
+    view: &mut V,
+    above: Option<Id>,
+) -> Result<Page<Recall>, ViewFault<V::Fault>>
+    ensures { Told V.honest V.kept V.steady view.old view.new
+        (IfOk result (λ page. page ≡ page_of (open_recalls (V.state view.old) above))) }
+{
+    match view.open_recalls(above) {
+        Ok(page) => Ok(page),
+        Err(fault) => Err(ViewFault::View(fault)),
+    }
+}
+
+/// A page of the definitions of a class.
+pub fn definitions_in<V: Worklists>(
+    view: &mut V,
+    class: Id,
+    above: Option<Id>,
+) -> Result<Page<Definition>, ViewFault<V::Fault>>
+    ensures { Told V.honest V.kept V.steady view.old view.new
+        (IfOk result (λ page. page ≡ page_of (definitions_in (V.state view.old) class above))) }
+{
+    match view.definitions_in(class, above) {
+        Ok(page) => Ok(page),
+        Err(fault) => Err(ViewFault::View(fault)),
+    }
+}

@@ -1,0 +1,48 @@
+use crate::page::Page;
+use plant_base::{BatchRow, Definition, Hold, Id, Job, JobState, Lot, Recall};
+use plant_view::View;
+
+/// The rows of a state, and pages of its lists: of each list what comes after an id, or its front where none is given. The
+/// id needn't be there.
+///
+/// A page is told as every look-up of a [`View`] is. So it is in every state.
+pub trait Worklists: View {
+    ghost use Rattle.std.specs.Prelude.{◌≡◌, IfOk};
+    ghost use Rattle.plant_trace.specs.Sources.{Told};
+    ghost use Rattle.plant_worklists.specs.Pages.{page_of};
+    ghost use Rattle.plant_worklists.specs.Worklists.{orders_in, open_batches, lots_of, holds_on, open_recalls, definitions_in};
+
+    /// The orders in a state, by their ids.
+    fn orders_in(&mut self, state: JobState, above: Option<Id>) -> Result<Page<Job>, Self::Fault>
+        ensures { Told Self.honest Self.kept Self.steady self.old self.new
+            (IfOk result (λ page. page ≡ page_of (orders_in (Self.state self.old) state above))) };
+
+    /// The batches that aren't closed, with the columns that are the fold of their events, by their ids.
+    fn open_batches(&mut self, above: Option<Id>) -> Result<Page<BatchRow>, Self::Fault>
+        ensures { Told Self.honest Self.kept Self.steady self.old self.new
+            (IfOk result (λ page. page ≡ page_of (open_batches (Self.state self.old) above))) };
+
+    /// The lots of a definition, by their ids.
+    fn lots_of(&mut self, def: Id, above: Option<Id>) -> Result<Page<Lot>, Self::Fault>
+        ensures { Told Self.honest Self.kept Self.steady self.old self.new
+            (IfOk result (λ page. page ≡ page_of (lots_of (Self.state self.old) def above))) };
+
+    /// The holds of a lot, by their ids.
+    fn holds_on(&mut self, lot: Id, above: Option<Id>) -> Result<Page<Hold>, Self::Fault>
+        ensures { Told Self.honest Self.kept Self.steady self.old self.new
+            (IfOk result (λ page. page ≡ page_of (holds_on (Self.state self.old) lot above))) };
+
+    /// The recalls that weren't lifted, by their ids.
+    fn open_recalls(&mut self, above: Option<Id>) -> Result<Page<Recall>, Self::Fault>
+        ensures { Told Self.honest Self.kept Self.steady self.old self.new
+            (IfOk result (λ page. page ≡ page_of (open_recalls (Self.state self.old) above))) };
+
+    /// The definitions of a class, by their ids.
+    fn definitions_in(
+        &mut self,
+        class: Id,
+        above: Option<Id>,
+    ) -> Result<Page<Definition>, Self::Fault>
+        ensures { Told Self.honest Self.kept Self.steady self.old self.new
+            (IfOk result (λ page. page ≡ page_of (definitions_in (Self.state self.old) class above))) };
+}

@@ -1,0 +1,108 @@
+-- WHERE with a parameter for each of up to two columns, and one that a further column is above.
+use Rattle.std.proofs.Common.{◌≡◌, refl, Ok, List, ℕ, suc, ◌-◌, ◌<◌, [], ◌∷◌, Some, true, false, slice_get, arith, nat_lt, ◌==◌}
+use Rattle.sqlite_value.specs.declared.keys.Collation.{Collation}
+use Rattle.sqlite_sql.specs.declared.ops.BinaryOp.TheVariants as by
+use Rattle.sqlite_sql.specs.declared.ops.CompareOp.TheVariants.{Gt}
+use Rattle.sqlite_sql.specs.Term.{Term, col, op2}
+use Rattle.sqlite_schema.specs.declared.schema.Schema.{Schema}
+use Rattle.sqlite_schema.specs.declared.schema.Table.{Table}
+use Rattle.sqlite_schema.specs.declared.schema.Kind.{Kind}
+use Rattle.sqlite_schema.specs.declared.schema.Kind.TheVariants as kind
+use Rattle.sqlite_ast.specs.declared.Expr.{Expr}
+use Rattle.sqlite_ast.specs.declared.Expr.TheVariants as e
+use Rattle.sqlite_ast.specs.declared.Binary.TheVariants as op
+use Rattle.sqlite_resolve.specs.declared.scope.Output.{Output}
+use Rattle.sqlite_resolve.specs.declared.state.Carried.{Carried}
+use Rattle.sqlite_resolve.specs.declared.compare.Affinity.TheVariants as affinity
+use Rattle.sqlite_resolve.specs.Compare.{of_kind, compared, of_column, affinity_of, converted, may_be_text, spelled}
+use Rattle.sqlite_resolve.specs.Lowering.{nothing, spend, begin, finish, chosen}
+use Rattle.sqlite_resolve.specs.Scope.{Name, declared}
+use Rattle.sqlite_resolve.specs.Expr.{lower_to, node, opened, passes, operation, wanted_truth, both, tests_truth, tests_alias, combine}
+use Rattle.sqlite_resolve.specs.Body.{tests}
+use Rattle.table_forms.specs.Written.{equals, equals_from}
+use Rattle.table_reads.specs.Written.{greater, filter_above}
+use Rattle.table_forms.specs.Views.{ast_views}
+use Rattle.table_forms.proofs.Column.{context_of, state_at, lower_column}
+use Rattle.table_forms.proofs.Given.{Entry, AreColumns, IsGiven, test_of, same_either, lower_equals, lower_both}
+
+-- column > ?n
+abbrev pub above_test : Table → Entry → ℕ → Term
+above_test table e n = op2 (by.Compare Gt (chosen (declared table e.at e.column) nothing)) (col 1 (suc e.at)) (col 0 n)
+
+unconverted : (k : Kind) (how : Collation) (p m : ℕ)
+    → op2 (by.Compare Gt how) (converted (of_kind k) affinity.None (col 1 (suc p))) (converted affinity.None (of_kind k) (col 0 m)) ≡ op2 (by.Compare Gt how) (col 1 (suc p)) (col 0 m)
+unfolding converted may_be_text spelled
+unconverted kind.Integer how p m = refl
+unconverted kind.Real how p m = refl
+unconverted kind.Text how p m = refl
+unconverted kind.Blob how p m = refl
+unconverted kind.Any how p m = refl
+
+module _ (s : Schema) (table : Table) (name : Name) (at : ℕ) (is : slice_get s.tables at ≡ Some table) where
+  no_affinity : (outs : List Output) (m : ℕ) → affinity_of (context_of s name at outs false) (col 0 m) ≡ affinity.None
+  unfolding affinity_of of_column
+  no_affinity outs m = same_either (m == 0) affinity.None
+
+  its_affinity : (outs : List Output) (e : Entry) → slice_get table.columns e.at ≡ Some e.column → IsGiven table e → affinity_of (context_of s name at outs false) (col 1 (suc e.at)) ≡ of_kind e.column.kind
+  unfolding affinity_of of_column
+  its_affinity outs e got g = rw (is, got, g.named, g.strict) refl
+
+  compared_above : (outs : List Output) (how : Collation) (e : Entry) (m : ℕ) → slice_get table.columns e.at ≡ Some e.column → IsGiven table e
+      → compared (context_of s name at outs false) (by.Compare Gt how) (col 1 (suc e.at)) (col 0 m) ≡ op2 (by.Compare Gt how) (col 1 (suc e.at)) (col 0 m)
+  unfolding compared
+  compared_above outs how e m got g = rw (no_affinity outs m, its_affinity outs e got g) (unconverted e.column.kind how e.at m)
+
+  pub lower_greater : (outs : List Output) (e : Entry) (m next budget : ℕ) (last : Carried) → AreColumns table (e ∷ []) → IsGiven table e → 3 < budget → (depth : ℕ)
+      → lower_to (suc (suc depth)) (context_of s name at outs false) (greater e.name (suc m)) (state_at next budget last)
+      ≡ Ok (above_test table e m, state_at next (budget - 1 - 1 - 1) nothing)
+  unfolding lower_to node opened spend begin finish passes operation wanted_truth both tests_truth tests_alias combine ast_views
+  lower_greater outs e m next budget last are g enough depth =
+      let one : nat_lt 1 budget ≡ true = grind (arith) in
+      let two : nat_lt 1 (budget - 1) ≡ true = grind (arith) in
+      let back : suc m - 1 ≡ m = omega arith in
+      let three : nat_lt 1 (budget - 1 - 1) ≡ true = grind (arith) in
+      rw (
+        one,
+        lower_column s table name at is outs false e.name e.at e.column next (budget - 1) nothing are.0 are.1 two depth,
+        three,
+        g.place,
+        back,
+        compared_above outs (chosen (declared table e.at e.column) nothing) e m are.1 g,
+      ) refl
+
+  -- a comparison after what is lowered already
+  lower_then : (outs : List Output) (a : Expr) (t : Term) (f : Entry) (m next budget left : ℕ) (last : Carried) → AreColumns table (f ∷ []) → IsGiven table f → 1 < budget → 3 < left → (depth : ℕ)
+      → lower_to (suc (suc depth)) (context_of s name at outs false) a (state_at next (budget - 1) nothing) ≡ Ok (t, state_at next left nothing)
+      → lower_to (suc (suc (suc depth))) (context_of s name at outs false) (e.Binary op.And a (greater f.name (suc m))) (state_at next budget last)
+      ≡ Ok (op2 by.And t (above_test table f m), state_at next (left - 1 - 1 - 1) nothing)
+  unfolding lower_to node opened spend begin finish passes operation wanted_truth both tests_truth tests_alias combine ast_views
+  lower_then outs a t f m next budget left last are g some enough depth before =
+      let one : nat_lt 1 budget ≡ true = grind (arith) in
+      rw (one, before, lower_greater outs f m next left nothing are g enough depth) refl
+
+  -- WHERE above > ?1
+  pub none_above : (outs : List Output) (f : Entry) (budget : ℕ) (last : Carried) → AreColumns table (f ∷ []) → IsGiven table f → 3 < budget
+      → tests (lower_to 700) (context_of s name at outs false) [] (filter_above [] f.name) (state_at 2 budget last)
+      ≡ Ok (above_test table f 0 ∷ [], state_at 2 (budget - 1 - 1 - 1) nothing)
+  unfolding tests
+  none_above outs f budget last are g enough = rw (lower_greater outs f 0 2 budget last are g enough 698) refl
+
+  -- WHERE a = ?1 AND above > ?2
+  pub one_above : (outs : List Output) (a f : Entry) (budget : ℕ) (last : Carried) → AreColumns table (a ∷ f ∷ []) → IsGiven table a → IsGiven table f → 7 < budget
+      → tests (lower_to 700) (context_of s name at outs false) [] (filter_above (a.name ∷ []) f.name) (state_at 2 budget last)
+      ≡ Ok (test_of table a 0 ∷ above_test table f 1 ∷ [], state_at 2 (budget - 1 - 1 - 1 - 1 - 1 - 1 - 1) nothing)
+  unfolding tests
+  one_above outs a f budget last are g k enough =
+      let first = lower_equals s table name at is outs a 0 2 (budget - 1) nothing (are.0, are.1, tt) g (omega arith) 697 in
+      let all = lower_then outs (equals a.name 1) (test_of table a 0) f 1 2 budget (budget - 1 - 1 - 1 - 1) last are.2 k (omega arith) (omega arith) 697 first in
+      rw all refl
+
+  -- WHERE a = ?1 AND b = ?2 AND above > ?3
+  pub two_above : (outs : List Output) (a b f : Entry) (budget : ℕ) (last : Carried) → AreColumns table (a ∷ b ∷ f ∷ []) → IsGiven table a → IsGiven table b → IsGiven table f → 11 < budget
+      → tests (lower_to 700) (context_of s name at outs false) [] (filter_above (a.name ∷ b.name ∷ []) f.name) (state_at 2 budget last)
+      ≡ Ok (test_of table a 0 ∷ test_of table b 1 ∷ above_test table f 2 ∷ [], state_at 2 (budget - 1 - 1 - 1 - 1 - 1 - 1 - 1 - 1 - 1 - 1 - 1) nothing)
+  unfolding tests
+  two_above outs a b f budget last are g k l enough =
+      let pair = lower_both s table name at is outs a b 2 (budget - 1) nothing (are.0, are.1, (are.2.0, are.2.1, tt)) g k (omega arith) 696 in
+      let all = lower_then outs (equals_from (equals a.name 1) 2 (b.name ∷ [])) (op2 by.And (test_of table a 0) (test_of table b 1)) f 2 2 budget (budget - 1 - 1 - 1 - 1 - 1 - 1 - 1 - 1) last are.2.2 l (omega arith) (omega arith) 697 pair in
+      rw all refl

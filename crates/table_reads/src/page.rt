@@ -1,0 +1,67 @@
+//! Pages of a table's rows.
+
+ghost use Rattle.std.specs.Prelude.{◌≡◌, ◌≤◌, false, ℕ, List, length, IfOk, IfErr, OnOk};
+ghost use Rattle.sqlite.specs.State.{HasCleanDisk, IsUnchanged, Survives};
+ghost use Rattle.sqlite.specs.Held.{state};
+ghost use Rattle.sqlite.specs.Values.{bound};
+ghost use Rattle.table_forms.specs.Resting.{Keeps};
+ghost use Rattle.table_forms.specs.Standing.{HasTable};
+ghost use Rattle.table_reads.specs.Given.{HasGivenRow};
+ghost use Rattle.table_reads.specs.Keys.{comes_before};
+ghost use Rattle.table_reads.specs.Paging.{SelectsPage, AreBounds, IsPage};
+ghost use Rattle.table_reads.specs.Rises.{Rises};
+
+use crate::reading::read_rows;
+use crate::table::stands;
+use sqlite::types::ValueRef;
+use sqlite::{Alter, Connection, Row};
+use std::alloc::Global;
+use table_forms::{Fault, Form};
+
+/// Rows of a table, and whether more of those that were asked for stand behind them.
+#[derive(Drop)]
+pub struct Page {
+    pub rows: Vec<Row>,
+    pub has_more: bool,
+}
+
+/// The first rows in the order of the table's first key, so many at most, of those that have the given values and one
+/// above another in a further column, from a fixed text that selects them; the last value is one more than so many. Store
+/// where the table doesn't stand as it is declared, where a transaction is open, and where the store fails; Memory where
+/// there is none. Nothing is changed.
+pub fn find_page<S: Alter>(
+    alloc: Global,
+    conn: &mut Connection<S>,
+    form: &Form<'_>,
+    sql: &str,
+    values: &[ValueRef<'_>],
+    most: usize,
+) -> Result<Page, Fault>
+    requires { (places : List ℕ) × (next : ℕ) × SelectsPage form.now places next sql.now }
+    ensures page { (places : List ℕ) (next : ℕ) → SelectsPage form.now places next sql.now
+        → AreBounds places most (bound values.now) → HasCleanDisk (state S.Store conn.new)
+        → IfOk result (λ page. IsPage (state S.Store conn.old).now form.now places next
+        (bound values.now) most page.rows.items page.has_more) }
+    ensures few { IfOk result (λ page. length page.rows.items ≤ most) }
+    ensures rising { IfOk result (λ page. Rises (comes_before form.now) page.rows.items) }
+    ensures same { HasCleanDisk (state S.Store conn.new)
+        → OnOk result (IsUnchanged (state S.Store conn.old) (state S.Store conn.new)) }
+    ensures kept { HasCleanDisk (state S.Store conn.new)
+        → Keeps (state S.Store conn.old) (state S.Store conn.new) }
+    ensures mode { (state S.Store conn.old).in_transaction ≡ false
+        → (state S.Store conn.new).in_transaction ≡ false }
+    ensures crash { Survives (state S.Store conn.old) (state S.Store conn.new) (λ _. ⊥) }
+    // Memory is wanted for a row that was given, of a table that stands.
+    ensures memory { HasCleanDisk (state S.Store conn.new)
+        → IfErr result (λ fault. fault ≡ Fault.Memory
+        → HasTable conn.old.schema form.now
+        × HasGivenRow S.Store sql.now (bound values.now) conn.new) }
+{
+    if !conn.is_autocommit() || !stands(conn.schema(), form) {
+        return Err(Fault::Store);
+    }
+    let mut rows = read_rows(alloc, conn, form, sql, values)?;
+    let has_more = rows.len() > most;
+    rows.truncate(most);
+    Ok(Page { rows, has_more })
+}

@@ -20,10 +20,11 @@ definitions below and with the premises in [ASSUMPTIONS](ASSUMPTIONS.md) needs t
 in the order in which each builds on those before it; lines are those of the definitions with their comments, without imports.
 A file's other definitions are those of other contracts. Made by bench/reading_list.py.
 
-Not on the list are the relations of plant_desk_store/specs/Calls, `HasAdopted`, `HasRefused`, `HasExecuted`, `HasAsked`, `HasRun` and
-`HasVerified`: the law supposes of each call of a desk one of them, and the call ensures it word for word (`Desk::adopt`, `Desk::run`,
-`Desk::verify`, and `execute_told` and `ask_told`, which do nothing but call `execute` and `ask`). Whatever they say, what follows from
-them is the law. Nor is how columns are read again (the fields `read` of `Kind` and `Columns`), which the law doesn't speak of.
+Not on the list are the relations of plant_desk_store/specs/Calls, `HasAdopted`, `HasRefused`, `HasExecuted`, `HasAsked`, `HasRun`,
+`HasVerified` and `HasIndexed`: the law supposes of each call of a desk one of them, and the call ensures it word for word (`Desk::adopt`,
+`Desk::run`, `Desk::verify`, `Desk::add_indexes`, and `execute_told` and `ask_told`, which do nothing but call `execute` and `ask`). Whatever
+they say, what follows from them is the law. Nor is how columns are read again (the fields `read` of `Kind` and `Columns`), which the law
+doesn't speak of.
 """
 
 

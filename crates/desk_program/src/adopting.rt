@@ -3,7 +3,8 @@ ghost use Rattle.std.specs.Prelude.{◌≡◌, ◌≢◌, false, Err, IfOk, IfEr
 ghost use Rattle.sqlite.specs.Held.{state};
 ghost use Rattle.sqlite.specs.State.{HasCleanDisk};
 ghost use Rattle.plant_desk_store.specs.Adopting.{IsNewlyOpened, AdoptedFrom};
-ghost use Rattle.plant_desk_store.specs.Standing.{IsOpenAt};
+ghost use Rattle.plant_base.specs.State.{State};
+ghost use Rattle.plant_desk_store.specs.Standing.{IsOpenAt, Stands};
 ghost use Rattle.desk_program.specs.Faults.{adopt_fault};
 ghost use Rattle.desk_program.specs.Running.{IsRefused};
 
@@ -52,7 +53,22 @@ fn stopped_by<S: Alter + Drop>(refused: AdoptRefused<S>) -> Stopped<S>
     }
 }
 
-/// Adopts a store, as [`Desk::adopt`] does.
+/// The desk, with the indexes that its tables lacked, where they can be made: they are there for speed alone, so that it stands where it
+/// stood without them, too.
+fn with_indexes<S: Alter>(mut desk: Desk<S>) -> Desk<S>
+    requires { desk.is_shut ≡ false }
+    ensures honest { HasCleanDisk (state S.Store result.connection)
+        → HasCleanDisk (state S.Store desk.connection) }
+    ensures stands { HasCleanDisk (state S.Store result.connection) → (s : State)
+        → Stands (state S.Store desk.connection) false s
+        → Stands (state S.Store result.connection) false s }
+    ensures open { result.is_shut ≡ false }
+{
+    let _added = desk.add_indexes();
+    desk
+}
+
+/// Adopts a store, as [`Desk::adopt`] does, and makes the indexes that its tables lack, as [`Desk::add_indexes`] does.
 pub fn adopt<S: Alter + Drop>(
     alloc: Global,
     connection: Connection<S>,
@@ -67,7 +83,7 @@ pub fn adopt<S: Alter + Drop>(
     ensures unwritten { IfErr result (λ stopped. stopped.fault ≢ Fault.Write) }
 {
     match Desk::adopt(alloc, connection) {
-        Ok(desk) => Ok(desk),
+        Ok(desk) => Ok(with_indexes(desk)),
         Err(refused) => Err(stopped_by(refused)),
     }
 }

@@ -80,6 +80,8 @@ fn told_text(alloc: Global, answer: &Answer) -> Result<String, AllocError>
         Answer::Desk { .. }
         | Answer::Lot(_)
         | Answer::Order(_)
+        | Answer::Stands(_)
+        | Answer::Edges(_)
         | Answer::Recall(_)
         | Answer::Moment { .. }
         | Answer::List(_)

@@ -27,6 +27,8 @@ fn standing_of(asked: Result<Answer, DeskFault>) -> Result<Standing, Fault>
             | Answer::Order(_)
             | Answer::Batch(_)
             | Answer::Trace(_)
+            | Answer::Stands(_)
+            | Answer::Edges(_)
             | Answer::Recall(_)
             | Answer::Moment { .. }
             | Answer::List(_)

@@ -16,17 +16,23 @@ use Rattle.plant_view.specs.Sound.{IsSound}
 use Rattle.plant_view.specs.Tables.{sublot_row}
 use Rattle.plant_view.proofs.Balanced.{balanced}
 use Rattle.plant_view.proofs.Rows.{all_of, all_mapped}
+use Rattle.plant_desk.specs.Around.{answer_stands}
 use Rattle.plant_desk.specs.Answers.{answer}
 use Rattle.plant_desk.specs.LotAnswers.{answer_lot}
 use Rattle.plant_desk.specs.Traces.{missing, answer_trace}
 use Rattle.plant_desk.specs.declared.question.Question.{Question}
 use Rattle.plant_desk.specs.declared.question.Question.TheVariants as Q
+use Rattle.plant_desk.proofs.GoodsReached.{standing_only, standing_all}
 use Rattle.plant_desk.proofs.Reaching.{trace_lists}
-use Rattle.plant_desk_store.specs.Headline.{IsTraceIn, IsLotIn, IsToldIn}
+use Rattle.plant_desk_store.specs.Headline.{IsTraceIn, AreStandingIn, IsLotIn, IsToldIn}
 
 trace_told : (s : State) (direction : Direction) (start : Node) (o : Option Refusal) → missing s start ≡ o → IsTraceIn s direction start (answer_trace s direction start o)
 trace_told s direction start None e = trace_lists (edges_of s) direction start
 trace_told s direction start (Some r) e = λ there. let both : Some r ≡ None = sym e ∙ there in absurd (cc)
+
+stands_told : (s : State) (start : Node) (o : Option Refusal) → missing s start ≡ o → AreStandingIn s start (answer_stands s start o)
+stands_told s start None e = λ a. (standing_only s start a, standing_all s start a)
+stands_told s start (Some r) e = λ there. let both : Some r ≡ None = sym e ∙ there in absurd (cc)
 
 lot_told : (s : State) → IsSound s → (lot : List ℕ) (o : Option Lot) → lot_at s lot ≡ o → IsLotIn s lot (answer_lot s o)
 lot_told s sound lot None e = e
@@ -45,6 +51,8 @@ answered s sound (Q.Lot lot) = lot_told s sound lot (lot_at s lot) refl
 answered s sound (Q.Order order) = tt
 answered s sound (Q.Batch batch) = tt
 answered s sound (Q.Trace direction start) = trace_told s direction start (missing s start) refl
+answered s sound (Q.Stands start) = stands_told s start (missing s start) refl
+answered s sound (Q.Edges direction start) = tt
 answered s sound (Q.Recall recall) = tt
 answered s sound Q.Moment = tt
 answered s sound (Q.List which above) = tt

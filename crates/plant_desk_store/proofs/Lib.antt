@@ -9,6 +9,7 @@ pub mod Lasting
 pub mod Leaving
 pub mod Living
 pub mod Marked
+pub mod Mending
 pub mod OneSchema
 pub mod Others
 pub mod Raising

@@ -24,7 +24,7 @@ use Rattle.plant_desk_store.specs.Adopting.{AdoptedFrom, Adopts, IsRefusedBy}
 use Rattle.plant_desk_store.specs.Calls.{HasAdopted, HasRefused}
 use Rattle.plant_desk_store.specs.Headline.{IsAtState, IsFoundAt, IsKeptAt, IsSoAt, IsToldIn, LeavesSomething, Headline}
 use Rattle.plant_desk_store.specs.Laws.{IsAdoptable, IsOpenedAfter}
-use Rattle.plant_desk_store.specs.Life.{Sent, acknowledged, under_way, MayLeadTo, sent_as, cut_off, IsOpened, Place, opened, desk, refused, Lived, begun, found, adopted, unadopted, executed, ran, asked, verified, stopped}
+use Rattle.plant_desk_store.specs.Life.{Sent, acknowledged, under_way, MayLeadTo, sent_as, cut_off, IsOpened, Place, opened, desk, refused, Lived, begun, found, adopted, unadopted, executed, ran, asked, verified, indexed, stopped}
 use Rattle.plant_desk_store.specs.Running.{RunEnds}
 use Rattle.plant_desk_store.specs.Standing.{IsOpenAt, Stands, Leaves}
 use Rattle.plant_desk_store.specs.declared.adopting.AdoptFault.{AdoptFault}
@@ -224,6 +224,10 @@ module _ {S : Type 0} (g : Ghosts S) where
       let was = lived first newly before (did.honest clean) in
       let at = was.2 in
       (was.0, was.1, (at.0, at.1, open_at (state g new) at.0 (did.unbroken clean at.0 (at.2.stands, λ _. at.2.leaves)).1))
+  lived first newly (indexed old new sent r before did) clean =
+      let was = lived first newly before (did.honest clean) in
+      let at = was.2 in
+      (was.0, was.1, (at.0, at.1, open_at (state g new) at.0 (did.stands clean at.0 (at.2.stands, λ _. at.2.leaves))))
   lived first newly (stopped old new place sent before kept left again) clean =
       let was = lived first newly before kept in
       (was.0, was.1, (again, leaves_ready was.0 sent (state g old) place was.2 (state g new).now.trees left (state g new).now refl (sound (state g new) again)))

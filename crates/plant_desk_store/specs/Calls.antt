@@ -1,5 +1,5 @@
 -- What comes of each call of a desk over its store: the contracts of the calls, one relation a call.
-use Rattle.std.specs.Prelude.{◌≡◌, ◌≢◌, ◌≤◌, Bool, false, List, length, take, Option, Some, None, Result, IfOk, IfErr}
+use Rattle.std.specs.Prelude.{◌≡◌, ◌≢◌, ◌≤◌, Bool, false, List, length, take, Option, Some, None, Result, IfOk, IfErr, OnOk}
 use Rattle.sqlite.specs.Tree.{Trees}
 use Rattle.sqlite.specs.Effect.{Database}
 use Rattle.sqlite.specs.State as store
@@ -9,6 +9,7 @@ use Rattle.plant_base.specs.declared.command.Envelope.{Envelope}
 use Rattle.plant_trace.specs.Reach.{IsAcyclic}
 use Rattle.plant_view.specs.Conserve.{IsConserved, IsBalanced}
 use Rattle.plant_view.specs.Genealogy.{edges_of}
+use Rattle.plant_tables.specs.Missing.{AddsMissing, AreAllTaken}
 use Rattle.plant_check.specs.declared.rule.Rule.{Rule}
 use Rattle.plant_desk.specs.Keeping.{Executes, Asks, shuts}
 use Rattle.plant_desk.specs.Runs.{fold}
@@ -81,6 +82,19 @@ pub record HasRun (old new : store.State) (shut : Bool) (list : List Envelope) (
   pub accounted : HasCleanDisk new → (s : State) → Stands old false s → IsAccounted (fold s (take (length answered) list))
   -- tables of other names stand as they did, also in what a stop leaves
   pub others : HasCleanDisk new → (before : Database) → IsBeside old false before → IsBeside new shut before
+
+-- The indexes were made that the tables lacked, or weren't for this fault; the desk stands where it stood, and so does what a
+-- stop leaves.
+pub record HasIndexed (old new : store.State) (r : Result (Unit {0}) DeskFault) : Type 0 where
+  pub honest : HasCleanDisk new → HasCleanDisk old
+  pub live : IfErr r (λ f. f ≢ Shut)
+  pub stands : HasCleanDisk new → (s : State) → Stands old false s → Stands new false s
+  -- each index whose name was free is there
+  pub made : HasCleanDisk new → (s : State) → Stands old false s → OnOk r (AddsMissing old.now new.now)
+  -- tables of other names stand as they did, also in what a stop leaves
+  pub others : HasCleanDisk new → (before : Database) → IsBeside old false before → IsBeside new false before
+  -- where no name is free, a stop leaves what it left before
+  pub spared : HasCleanDisk new → AreAllTaken old.now.schema → (trees : Trees) → new.may_leave trees → old.may_leave trees
 
 -- All tables were tested: the first rule that they break is told, which none does where the desk stood at a state.
 pub record HasVerified (old new : store.State) (r : Result (Option Rule) DeskFault) : Type 0 where

@@ -1,5 +1,5 @@
 -- The headline: what a store holds and what is told of it, whatever stops came.
-use Rattle.std.specs.Prelude.{◌≡◌, ◌⊎◌, ℕ, ◌+◌, true, false, List, None, Ok, IsTrue, ⊤}
+use Rattle.std.specs.Prelude.{◌≡◌, ◌⊎◌, ◌↔◌, ℕ, ◌+◌, true, false, List, None, Ok, IsTrue, ⊤, Contains}
 use Rattle.std.specs.List.{AllByRecursion}
 use Rattle.sqlite.specs.Tree.{Trees}
 use Rattle.sqlite.specs.Effect.{Database}
@@ -18,6 +18,7 @@ use Rattle.plant_view.specs.Tables.{tables_of, IsWholeIn}
 use Rattle.table_forms.specs.Standing.{AreFree}
 use Rattle.plant_tables.specs.DeskForms.{desk_forms}
 use Rattle.plant_tables.specs.Keyed.{HoldsTablesOf, HoldsTables}
+use Rattle.plant_desk.specs.Laws.{StandsFrom}
 use Rattle.plant_desk.specs.Traces.{missing}
 use Rattle.plant_desk.specs.declared.question.Question.{Question}
 use Rattle.plant_desk.specs.declared.question.Question.TheVariants as Q
@@ -36,6 +37,11 @@ abbrev pub IsTraceIn : State → Direction → Node → Answer → Type 0
 IsTraceIn s direction start (A.Trace nodes) = Lists (IsReached direction (edges_of s) start) nodes
 IsTraceIn s direction start _ = ¬ (missing s start ≡ None)
 
+-- the lots that are told are just those with stock that the start is or leads to, or it isn't there
+abbrev pub AreStandingIn : State → Node → Answer → Type 0
+AreStandingIn s start (A.Stands lots) = (a : LotAnswer) → Contains lots a ↔ StandsFrom s start a
+AreStandingIn s start _ = ¬ (missing s start ≡ None)
+
 -- The stock of the lot is what entered it less what left it, and that of each sublot likewise.
 pub record IsStockIn (s : State) (lot : List ℕ) (a : LotAnswer) : Type 0 where
   pub named : a.lot ≡ lot
@@ -47,9 +53,10 @@ abbrev pub IsLotIn : State → List ℕ → Answer → Type 0
 IsLotIn s lot (A.Lot a) = IsStockIn s lot a
 IsLotIn s lot _ = lot_at s lot ≡ None
 
--- what is answered of a trace or a lot
+-- what is answered of a trace, of where goods stand or of a lot
 abbrev pub IsToldIn : State → Question → Answer → Type 0
 IsToldIn s (Q.Trace direction start) a = IsTraceIn s direction start a
+IsToldIn s (Q.Stands start) a = AreStandingIn s start a
 IsToldIn s (Q.Lot lot) a = IsLotIn s lot a
 IsToldIn s _ a = ⊤
 

@@ -16,7 +16,7 @@ use Rattle.plant_desk.specs.declared.question.Answer.{Answer}
 use Rattle.plant_desk.specs.declared.reply.Reply.{Reply}
 use Rattle.plant_desk.specs.declared.reply.DeskFault.{DeskFault}
 use Rattle.plant_desk.specs.declared.reply.DeskFault.TheVariants.{Store, Memory, Shut}
-use Rattle.plant_desk_store.specs.Calls.{HasAdopted, HasRefused, HasExecuted, HasAsked, HasRun, HasVerified}
+use Rattle.plant_desk_store.specs.Calls.{HasAdopted, HasRefused, HasExecuted, HasAsked, HasRun, HasVerified, HasIndexed}
 use Rattle.plant_desk_store.specs.declared.adopting.AdoptFault.{AdoptFault}
 
 -- ---- commands that were sent
@@ -71,4 +71,5 @@ pub data Lived {S : Type 0} (g : Ghosts S) (first : Held S) : Held S → Place �
   ran : (old new : Held S) (shut : Bool) (sent : List Sent) (list : List Envelope) (answered : List Reply) (end : Option DeskFault) → Lived g first old (desk false) sent → HasRun (state g old) (state g new) shut list answered end → Lived g first new (desk shut) (sent ++ sent_of list answered end)
   asked : (old new : Held S) (sent : List Sent) (q : Question) (r : Result Answer DeskFault) → Lived g first old (desk false) sent → HasAsked (state g old) (state g new) q r → Lived g first new (desk false) sent
   verified : (old new : Held S) (sent : List Sent) (r : Result (Option Rule) DeskFault) → Lived g first old (desk false) sent → HasVerified (state g old) (state g new) r → Lived g first new (desk false) sent
+  indexed : (old new : Held S) (sent : List Sent) (r : Result (Unit {0}) DeskFault) → Lived g first old (desk false) sent → HasIndexed (state g old) (state g new) r → Lived g first new (desk false) sent
   stopped : (old new : Held S) (place : Place) (sent : List Sent) → Lived g first old place sent → HasCleanDisk (state g old) → (state g old).may_leave (state g new).now.trees → IsOpened (state g new) → Lived g first new opened sent

@@ -1,5 +1,6 @@
 -- What comes of the parts that the calls of a desk are made of: the contracts of private functions, one relation a function.
 use Rattle.std.specs.Prelude.{◌≡◌, ◌≢◌, ◌⊎◌, ◌+◌, ◌-◌, ◌≤◌, ℕ, pos, true, false, List, Option, None, Result, IfOk, IfErr, OnOk, MatchResult, IsTrue}
+use Rattle.sqlite.specs.Tree.{Trees}
 use Rattle.sqlite.specs.Effect.{Database, IsDatabase}
 use Rattle.sqlite.specs.State as store
 use Rattle.sqlite.specs.State.{HasCleanDisk, IsUnchanged, Survives}
@@ -15,6 +16,7 @@ use Rattle.table_forms.specs.Standing.{AreFree}
 use Rattle.table_forms.specs.Stopping.{IsSettled}
 use Rattle.plant_tables.specs.DeskForms.{desk_forms}
 use Rattle.plant_tables.specs.Keyed.{AreFresh}
+use Rattle.plant_tables.specs.Missing.{AddsMissing, AreAllTaken}
 use Rattle.plant_tables_stored.specs.Version.{IsKnown, IsVersion}
 use Rattle.plant_tables_judged.specs.Collecting.{rows_in, rows_listed}
 use Rattle.plant_tables_judged.specs.declared.desk_rows.DeskRows.{DeskRows}
@@ -110,6 +112,18 @@ pub record HasStepped (e : Envelope) (old new : store.State) (r : Result Reply D
   -- where nothing was to be written, and for a command that was accepted before, a stop leaves what it left
   pub spared : writes_nothing r ≡ true → Survives old new (λ _. ⊥)
   pub repeated : HasCleanDisk new → (s : State) → StandsAt old s → IsRepeat s e → Survives old new (λ _. ⊥)
+
+-- ---- indexes
+
+-- The indexes were made that the tables lacked, or weren't.
+pub record HasMended (old new : store.State) (r : Result (Unit {0}) DeskFault) : Type 0 where
+  pub rests : new.in_transaction ≡ false
+  pub clean : HasCleanDisk new → HasCleanDisk old
+  pub unshut : IfErr r (λ f. f ≢ Shut)
+  pub stands : HasCleanDisk new → (s : State) → IsOpenAt old s → IsOpenAt new s
+  pub made : HasCleanDisk new → (s : State) → IsOpenAt old s → OnOk r (AddsMissing old.now new.now)
+  pub others : HasCleanDisk new → (s : State) → IsOpenAt old s → KeepsBeside old new
+  pub spared : HasCleanDisk new → AreAllTaken old.now.schema → (trees : Trees) → new.may_leave trees → old.may_leave trees
 
 -- ---- adoption
 

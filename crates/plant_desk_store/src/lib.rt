@@ -5,6 +5,7 @@ mod adopting;
 mod executing;
 mod faults;
 mod fitness;
+mod indexing;
 mod laws;
 mod looking;
 mod running;

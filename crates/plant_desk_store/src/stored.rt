@@ -2,6 +2,7 @@ ghost use Rattle.std.specs.Prelude.{◌≡◌, false};
 ghost use Rattle.plant_desk.specs.Keeping.{shuts};
 
 use crate::executing::execute_on;
+use crate::indexing::index_on;
 use crate::looking::answer_on;
 use crate::running::run_over;
 use crate::verifying::verify_on;
@@ -26,7 +27,7 @@ pub struct Desk<S: Alter> {
 impl<S: Alter> Desk<S> {
     ghost use Rattle.std.specs.Prelude.{◌≡◌, [], true, false, Some, IsErrOf};
     ghost use Rattle.sqlite.specs.Held.{state};
-    ghost use Rattle.plant_desk_store.specs.Calls.{HasRun, HasVerified};
+    ghost use Rattle.plant_desk_store.specs.Calls.{HasRun, HasVerified, HasIndexed};
 
     /// Executes commands in order, up to the first fault. Room for the replies is taken first; where it is refused,
     /// nothing is executed. A desk that is shut gives no replies, ends `Shut` and stays as it is; no other ends so.
@@ -60,6 +61,23 @@ impl<S: Alter> Desk<S> {
             return Err(DeskFault::Shut);
         }
         verify_on(self.alloc, &mut self.connection)
+    }
+
+    /// Makes the indexes that the tables lack whose names are free, in one transaction: those of a file that was made
+    /// before there were such. They are there for speed alone, so that a desk stands where it stood, and is as open as it
+    /// was, also where they can't be made: `Store` where the store fails; `Memory` where there is none; `Shut` exactly from
+    /// a desk that is shut. Where no name is free nothing is written.
+    pub fn add_indexes(&mut self) -> Result<(), DeskFault>
+        ensures indexed { self.old.is_shut ≡ false → HasIndexed (state S.Store self.old.connection)
+            (state S.Store self.new.connection) result }
+        ensures open { self.new.is_shut ≡ self.old.is_shut }
+        ensures shut { self.old.is_shut ≡ true → IsErrOf result DeskFault.Shut }
+        ensures still { self.old.is_shut ≡ true → self.new ≡ self.old }
+    {
+        if self.is_shut {
+            return Err(DeskFault::Shut);
+        }
+        index_on(self.alloc, &mut self.connection)
     }
 
     /// Whether a fault of the store has shut the desk: then each command and question is answered `Shut`.

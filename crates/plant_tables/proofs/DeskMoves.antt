@@ -1,5 +1,5 @@
 -- What a statement makes of the desk's tables.
-use Rattle.std.proofs.Common.{◌≡◌, inl, inr, refl, sym, ap, ◌∙◌, subst, ℕ, nat_le, List, [], ◌∷◌, ◌++◌, map, take, true, false, Some, None, Ok, Err, Result, OnOk, slice_get, arith}
+use Rattle.std.proofs.Common.{◌≡◌, inl, inr, refl, sym, ap, ◌∙◌, subst, ℕ, zero, suc, nat_le, List, [], ◌∷◌, ◌++◌, map, take, drop, true, false, Some, None, Ok, Err, Result, OnOk, slice_get, arith}
 use Rattle.std.proofs.lemmas.Bool.{cases_Bool}
 use Rattle.std.proofs.lemmas.Bool.Decides.{nat_tests}
 use Rattle.std.proofs.lemmas.List.{take-map}
@@ -8,6 +8,7 @@ use Rattle.sqlite.specs.Order.{Row}
 use Rattle.sqlite.specs.Effect.{IsDatabase}
 use Rattle.sqlite.specs.State.{State}
 use Rattle.table_forms.specs.declared.fault.Fault.{Fault}
+use Rattle.table_forms.specs.declared.form.IndexText.{IndexText}
 use Rattle.table_forms.specs.Forms.{Form}
 use Rattle.table_forms.specs.Rows.{fits_columns}
 use Rattle.table_forms.specs.Texts.{IsPutText, IsTakeText}
@@ -21,8 +22,8 @@ use Rattle.plant_view.specs.declared.change.RowChange.TheVariants as change
 use Rattle.plant_tables.specs.DeskTables.{rows_changed, all_rows_changed}
 use Rattle.plant_tables.specs.Keyed.{IsOfSchema, AreOfSchema}
 use Rattle.plant_tables.specs.DeskForms.{desk_forms, edge_form, receipt_form, recall_form, mark_form, forms_of, added_forms}
-use Rattle.plant_tables.specs.DeskIndexes.{indexes_of, desk_indexes, added_indexes, HasIndexes}
-use Rattle.plant_tables.proofs.DeskTexts.{create_texts, all_made, before_fourth, apart_of, front_made, index_texts, all_indexed, indexed_of, front_indexed}
+use Rattle.plant_tables.specs.DeskIndexes.{indexes_of, desk_indexes, fourth_indexes, HasIndexes}
+use Rattle.plant_tables.proofs.DeskTexts.{create_texts, all_made, before_fourth, apart_of, front_made, index_texts, all_indexed, indexed_of, indexes_of_fourth, front_indexed, behind_indexed}
 
 pub put_moved : {X : Type 0} (schema place : ℕ) (form : Form) (text : List ℕ) (row : Row) → slice_get (forms_of schema) place ≡ Some form → IsPutText text form → fits_columns form.columns row ≡ true
     → (old new : State) (r : Result X Fault) → OnOk r (PutsRow text row old new) → OnOk r (Moves (forms_of schema) old new (changed_at place form row))
@@ -79,28 +80,44 @@ pub added_spared : {X : Type 0} (schema : ℕ) (forms : List Form) (texts : List
 added_spared schema forms texts is apart texts_make old new (Ok x) spares = subst (λ fs. LeavesFree fs old.now new.now) (sym is) (spares forms apart texts_make)
 added_spared schema forms texts is apart texts_make old new (Err e) spares = tt
 
-pub added_indexed : {X : Type 0} (schema : ℕ) (indexes : List IndexForm) (texts : List (List ℕ)) → added_indexes schema ≡ indexes → AreOf indexes (forms_of schema) → AreIndexTexts texts indexes
-    → (old new : State) (r : Result X Fault) → OnOk r (MakesIndexes texts old new) → OnOk r (AddsIndexes (forms_of schema) (added_indexes schema) old new)
-added_indexed schema indexes texts is of texts_make old new (Ok x) made = subst (λ xs. AddsIndexes (forms_of schema) xs old new) (sym is) (made (forms_of schema) indexes of texts_make)
-added_indexed schema indexes texts is of texts_make old new (Err e) made = tt
-
 -- the texts in front of some are those in front of their texts
-texts_front : (n : ℕ) (all front : List (Bor (List ℕ))) → front ≡ take n all → map (λ text. text.now) front ≡ take n (map (λ text. text.now) all)
-texts_front n all front is = ap (map (λ text. text.now)) is ∙ sym (take-map (λ text. text.now) n all)
+texts_front : {X : Type 0} (text : X → List ℕ) (n : ℕ) (all front : List X) → front ≡ take n all → map text front ≡ take n (map text all)
+texts_front text n all front is = ap (map text) is ∙ sym (take-map text n all)
+
+drop_map : {X : Type 0} (text : X → List ℕ) (n : ℕ) (all : List X) → drop n (map text all) ≡ map text (drop n all)
+drop_map text zero all = refl
+drop_map text (suc n) [] = refl
+drop_map text (suc n) (x ∷ all) = drop_map text n all
+
+-- and those behind them
+texts_behind : {X : Type 0} (text : X → List ℕ) (n : ℕ) (all behind : List X) → behind ≡ drop n all → map text behind ≡ drop n (map text all)
+texts_behind text n all behind is = ap (map text) is ∙ sym (drop_map text n all)
+
+-- the text of an index
+abbrev pub sql_of : IndexText → List ℕ
+sql_of index = index.sql.now
 
 -- As many texts as a schema has indexes were run, and made them.
-pub indexed_so : {X : Type 0} (schema n : ℕ) → take n desk_indexes ≡ indexes_of schema → (all front : List (Bor (List ℕ))) → front ≡ take n all → map (λ text. text.now) all ≡ index_texts
-    → (old new : State) (r : Result X Fault) → OnOk r (MakesIndexes (map (λ text. text.now) front) old new) → OnOk r (AddsIndexes (forms_of schema) (indexes_of schema) old new)
+pub indexed_so : {X : Type 0} (schema n : ℕ) → take n desk_indexes ≡ indexes_of schema → (all front : List IndexText) → front ≡ take n all → map sql_of all ≡ index_texts
+    → (old new : State) (r : Result X Fault) → OnOk r (MakesIndexes (map sql_of front) old new) → OnOk r (AddsIndexes (forms_of schema) (indexes_of schema) old new)
 indexed_so schema n own all front is texts old new (Ok x) made =
-    let own_texts : map (λ text. text.now) front ≡ take n index_texts = texts_front n all front is ∙ ap (take n) texts in
+    let own_texts : map sql_of front ≡ take n index_texts = texts_front sql_of n all front is ∙ ap (take n) texts in
     made (forms_of schema) (indexes_of schema) (indexed_of schema) (subst (λ ts. AreIndexTexts ts (indexes_of schema)) (sym own_texts) (subst (AreIndexTexts (take n index_texts)) own (front_indexed n index_texts desk_indexes all_indexed)))
 indexed_so schema n own all front is texts old new (Err e) made = tt
+
+-- The texts behind those of the second schema were run, and made what the fourth adds.
+pub indexed_later : {X : Type 0} (n : ℕ) → drop n desk_indexes ≡ fourth_indexes → (all behind : List IndexText) → behind ≡ drop n all → map sql_of all ≡ index_texts
+    → (old new : State) (r : Result X Fault) → OnOk r (MakesIndexes (map sql_of behind) old new) → OnOk r (AddsIndexes (forms_of 4) fourth_indexes old new)
+indexed_later n own all behind is texts old new (Ok x) made =
+    let own_texts : map sql_of behind ≡ drop n index_texts = texts_behind sql_of n all behind is ∙ ap (drop n) texts in
+    made (forms_of 4) fourth_indexes indexes_of_fourth (subst (λ ts. AreIndexTexts ts fourth_indexes) (sym own_texts) (subst (AreIndexTexts (drop n index_texts)) own (behind_indexed n index_texts desk_indexes all_indexed)))
+indexed_later n own all behind is texts old new (Err e) made = tt
 
 -- As many texts as a schema has tables were run, and made them.
 pub founded_so : (schema n : ℕ) → take n desk_forms ≡ forms_of schema → (all front : List (Bor (List ℕ))) → front ≡ take n all → map (λ text. text.now) all ≡ create_texts
     → (old new : State) → MakesTables (map (λ text. text.now) front) old new → Founds (forms_of schema) old new
 founded_so schema n own all front is texts old new made =
-    let own_texts : map (λ text. text.now) front ≡ take n create_texts = texts_front n all front is ∙ ap (take n) texts in
+    let own_texts : map (λ text. text.now) front ≡ take n create_texts = texts_front (λ (text : Bor (List ℕ)). text.now) n all front is ∙ ap (take n) texts in
     made (forms_of schema) (apart_of schema) (subst (λ ts. AreMakeTexts ts (forms_of schema)) (sym own_texts) (subst (AreMakeTexts (take n create_texts)) own (front_made n create_texts desk_forms all_made)))
 
 -- the tables were made, and then the indexes

@@ -7,3 +7,4 @@ pub mod Ended
 pub mod Opened
 pub mod Fresh
 pub mod Raised
+pub mod Missing

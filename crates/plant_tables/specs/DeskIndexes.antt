@@ -3,7 +3,7 @@ use Rattle.std.specs.Prelude.{◌≡◌, ℕ, ◌==◌, nat_le, if◌then◌else
 use Rattle.sqlite.specs.Schema.{Schema}
 use Rattle.plant_base.specs.State.{newest_schema}
 use Rattle.table_forms.specs.Indexes.{IndexForm, HasIndex}
-use Rattle.plant_tables.specs.DeskForms.{batch_event_form, movement_form, edge_form, mark_form}
+use Rattle.plant_tables.specs.DeskForms.{definition_form, job_form, batch_form, batch_event_form, lot_form, movement_form, edge_form, recall_form, mark_form}
 
 abbrev pub batch_event_by_batch : IndexForm
 batch_event_by_batch = record { name = codes "batch_event_by_batch"; table = batch_event_form; places = 2 ∷ [] }
@@ -20,13 +20,28 @@ edge_by_end = record { name = codes "edge_by_end"; table = edge_form; places = 1
 abbrev pub mark_by_node : IndexForm
 mark_by_node = record { name = codes "mark_by_node"; table = mark_form; places = 2 ∷ 3 ∷ [] }
 
+abbrev pub definition_by_class : IndexForm
+definition_by_class = record { name = codes "definition_by_class"; table = definition_form; places = 2 ∷ 1 ∷ [] }
+
+abbrev pub job_by_state : IndexForm
+job_by_state = record { name = codes "job_by_state"; table = job_form; places = 7 ∷ 1 ∷ [] }
+
+abbrev pub batch_by_closed : IndexForm
+batch_by_closed = record { name = codes "batch_by_closed"; table = batch_form; places = 9 ∷ 1 ∷ [] }
+
+abbrev pub lot_by_def : IndexForm
+lot_by_def = record { name = codes "lot_by_def"; table = lot_form; places = 2 ∷ 1 ∷ [] }
+
+abbrev pub recall_by_state : IndexForm
+recall_by_state = record { name = codes "recall_by_state"; table = recall_form; places = 3 ∷ 1 ∷ [] }
+
 -- those that the second schema adds
 abbrev pub second_indexes : List IndexForm
 second_indexes = batch_event_by_batch ∷ movement_by_lot ∷ movement_by_batch ∷ edge_by_end ∷ []
 
 -- those that the fourth adds
 abbrev pub fourth_indexes : List IndexForm
-fourth_indexes = mark_by_node ∷ []
+fourth_indexes = mark_by_node ∷ definition_by_class ∷ job_by_state ∷ batch_by_closed ∷ lot_by_def ∷ recall_by_state ∷ []
 
 -- those of a schema: the first has none, and the third those of the second
 abbrev pub indexes_of : ℕ → List IndexForm
@@ -35,6 +50,10 @@ indexes_of schema = if nat_le 4 schema then second_indexes ++ fourth_indexes els
 -- those that it adds to the one before it
 abbrev pub added_indexes : ℕ → List IndexForm
 added_indexes schema = if schema == 2 then second_indexes else (if schema == 4 then fourth_indexes else [])
+
+-- those that later ones add
+abbrev pub later_indexes : ℕ → List IndexForm
+later_indexes schema = if nat_le 4 schema then [] else (if nat_le 2 schema then fourth_indexes else second_indexes ++ fourth_indexes)
 
 -- those of the newest
 abbrev pub desk_indexes : List IndexForm

@@ -5,3 +5,4 @@ pub mod Keyed
 pub mod DeskStopping
 pub mod PutTexts
 pub mod Raising
+pub mod Missing

@@ -3,10 +3,10 @@
 //! Tables that are looked up by other columns than those of their keys have indexes for it, which bar no row.
 ghost use Rattle.std.specs.Prelude.{◌≡◌, ◌≤◌, take, drop};
 ghost use Rattle.plant_tables.specs.DeskForms.{desk_forms, forms_of, later_forms};
-ghost use Rattle.plant_tables.specs.DeskIndexes.{desk_indexes, indexes_of};
+ghost use Rattle.plant_tables.specs.DeskIndexes.{desk_indexes, indexes_of, later_indexes};
 
 use table_forms::ColumnForm::{Integer, IntegerOrNull, Text, TextOrNull};
-use table_forms::Form;
+use table_forms::{Form, IndexText};
 
 /// The one row that tells the schema of the tables and where the desk stands.
 pub const META: Form<'static> = Form {
@@ -48,6 +48,10 @@ pub const DEFINITION: Form<'static> = Form {
 
 pub(crate) const CREATE_DEFINITION: &str =
     "CREATE TABLE definition (id TEXT NOT NULL, class TEXT NOT NULL, name TEXT NOT NULL, unit TEXT NOT NULL, UNIQUE (id)) STRICT";
+
+/// The index that finds the definitions of a class, by their ids.
+pub(crate) const CREATE_DEFINITION_BY_CLASS: &str =
+    "CREATE INDEX definition_by_class ON definition (class, id)";
 
 pub(crate) const PUT_DEFINITION: &str =
     "INSERT INTO definition (id, class, name, unit) VALUES (?1, ?2, ?3, ?4) ON CONFLICT (id) DO UPDATE SET id = excluded.id, class = excluded.class, name = excluded.name, unit = excluded.unit";
@@ -115,6 +119,9 @@ pub const JOB: Form<'static> = Form {
 pub(crate) const CREATE_JOB: &str =
     "CREATE TABLE job (id TEXT NOT NULL, recipe TEXT NOT NULL, version INTEGER NOT NULL, size INTEGER NOT NULL, due TEXT NOT NULL, priority INTEGER NOT NULL, state TEXT NOT NULL, UNIQUE (id)) STRICT";
 
+/// The index that finds the orders in a state, by their ids.
+pub(crate) const CREATE_JOB_BY_STATE: &str = "CREATE INDEX job_by_state ON job (state, id)";
+
 pub(crate) const PUT_JOB: &str =
     "INSERT INTO job (id, recipe, version, size, due, priority, state) VALUES (?1, ?2, ?3, ?4, ?5, ?6, ?7) ON CONFLICT (id) DO UPDATE SET id = excluded.id, recipe = excluded.recipe, version = excluded.version, size = excluded.size, due = excluded.due, priority = excluded.priority, state = excluded.state";
 
@@ -137,6 +144,10 @@ pub const BATCH: Form<'static> = Form {
 
 pub(crate) const CREATE_BATCH: &str =
     "CREATE TABLE batch (id TEXT NOT NULL, job TEXT NOT NULL, at INTEGER NOT NULL, by_who TEXT NOT NULL, note TEXT NOT NULL, state TEXT NOT NULL, attempt INTEGER NOT NULL, next INTEGER NOT NULL, closed INTEGER NOT NULL, UNIQUE (id), UNIQUE (job)) STRICT";
+
+/// The index that finds the batches that aren't closed, by their ids.
+pub(crate) const CREATE_BATCH_BY_CLOSED: &str =
+    "CREATE INDEX batch_by_closed ON batch (closed, id)";
 
 pub(crate) const PUT_BATCH: &str =
     "INSERT INTO batch (id, job, at, by_who, note, state, attempt, next, closed) VALUES (?1, ?2, ?3, ?4, ?5, ?6, ?7, ?8, ?9) ON CONFLICT (id) DO UPDATE SET id = excluded.id, job = excluded.job, at = excluded.at, by_who = excluded.by_who, note = excluded.note, state = excluded.state, attempt = excluded.attempt, next = excluded.next, closed = excluded.closed";
@@ -197,6 +208,9 @@ pub const LOT: Form<'static> = Form {
 
 pub(crate) const CREATE_LOT: &str =
     "CREATE TABLE lot (id TEXT NOT NULL, def TEXT NOT NULL, UNIQUE (id)) STRICT";
+
+/// The index that finds the lots of a definition, by their ids.
+pub(crate) const CREATE_LOT_BY_DEF: &str = "CREATE INDEX lot_by_def ON lot (def, id)";
 
 pub(crate) const PUT_LOT: &str =
     "INSERT INTO lot (id, def) VALUES (?1, ?2) ON CONFLICT (id) DO UPDATE SET id = excluded.id, def = excluded.def";
@@ -322,6 +336,10 @@ pub const RECALL: Form<'static> = Form {
 pub(crate) const CREATE_RECALL: &str =
     "CREATE TABLE recall (id TEXT NOT NULL, lot TEXT NOT NULL, state TEXT NOT NULL, at INTEGER NOT NULL, by_who TEXT NOT NULL, note TEXT NOT NULL, lift_at INTEGER, lift_by TEXT, lift_note TEXT, UNIQUE (id)) STRICT";
 
+/// The index that finds the recalls that weren't lifted, by their ids.
+pub(crate) const CREATE_RECALL_BY_STATE: &str =
+    "CREATE INDEX recall_by_state ON recall (state, id)";
+
 pub(crate) const PUT_RECALL: &str =
     "INSERT INTO recall (id, lot, state, at, by_who, note, lift_at, lift_by, lift_note) VALUES (?1, ?2, ?3, ?4, ?5, ?6, ?7, ?8, ?9) ON CONFLICT (id) DO UPDATE SET id = excluded.id, lot = excluded.lot, state = excluded.state, at = excluded.at, by_who = excluded.by_who, note = excluded.note, lift_at = excluded.lift_at, lift_by = excluded.lift_by, lift_note = excluded.lift_note";
 
@@ -390,13 +408,48 @@ pub(crate) const CREATE_TABLES: [&str; 17] = [
     CREATE_MARK,
 ];
 
-/// The texts that make the indexes of the newest schema.
-pub(crate) const CREATE_INDEXES: [&str; 5] = [
-    CREATE_BATCH_EVENT_BY_BATCH,
-    CREATE_MOVEMENT_BY_LOT,
-    CREATE_MOVEMENT_BY_BATCH,
-    CREATE_EDGE_BY_END,
-    CREATE_MARK_BY_NODE,
+/// The indexes of the newest schema, each with the text that makes it.
+pub(crate) const DESK_INDEXES: [IndexText<'static>; 10] = [
+    IndexText {
+        name: b"batch_event_by_batch",
+        sql: CREATE_BATCH_EVENT_BY_BATCH,
+    },
+    IndexText {
+        name: b"movement_by_lot",
+        sql: CREATE_MOVEMENT_BY_LOT,
+    },
+    IndexText {
+        name: b"movement_by_batch",
+        sql: CREATE_MOVEMENT_BY_BATCH,
+    },
+    IndexText {
+        name: b"edge_by_end",
+        sql: CREATE_EDGE_BY_END,
+    },
+    IndexText {
+        name: b"mark_by_node",
+        sql: CREATE_MARK_BY_NODE,
+    },
+    IndexText {
+        name: b"definition_by_class",
+        sql: CREATE_DEFINITION_BY_CLASS,
+    },
+    IndexText {
+        name: b"job_by_state",
+        sql: CREATE_JOB_BY_STATE,
+    },
+    IndexText {
+        name: b"batch_by_closed",
+        sql: CREATE_BATCH_BY_CLOSED,
+    },
+    IndexText {
+        name: b"lot_by_def",
+        sql: CREATE_LOT_BY_DEF,
+    },
+    IndexText {
+        name: b"recall_by_state",
+        sql: CREATE_RECALL_BY_STATE,
+    },
 ];
 
 /// How many of the tables, from the first on, are those of a schema.
@@ -420,10 +473,11 @@ pub fn tables_in(schema: u64) -> usize
 /// the second.
 pub(crate) fn indexes_in(schema: u64) -> usize
     ensures own { take result desk_indexes ≡ indexes_of schema }
-    ensures few { result ≤ 5 }
+    ensures later { drop result desk_indexes ≡ later_indexes schema }
+    ensures few { result ≤ 10 }
 {
     if schema >= 4 {
-        5
+        10
     } else if schema >= 2 {
         4
     } else {

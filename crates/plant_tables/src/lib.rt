@@ -3,11 +3,13 @@
 
 mod commit;
 pub mod forms;
+mod indexing;
 mod laws;
 mod raising;
 mod write;
 
 pub use commit::{commit_changes, commit_opening};
+pub use indexing::commit_missing;
 pub use laws::put_law;
 pub use raising::commit_raising;
 pub use write::{create, write_change, write_changes};

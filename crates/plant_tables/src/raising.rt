@@ -59,12 +59,12 @@ fn index_added<S: Alter>(tx: &mut Transaction<'_, S>, schema: u64) -> Result<(),
         → KeepsCommit (state S.Store tx.old.conn.now) (state S.Store tx.new.conn.now) }
     ensures survives { Survives (state S.Store tx.old.conn.now) (state S.Store tx.new.conn.now) (λ _. ⊥) }
 {
+    let (second, fourth) = forms::DESK_INDEXES.split_at(forms::indexes_in(2));
     if schema == 2 {
-        let (second, _) = forms::CREATE_INDEXES.split_at(forms::indexes_in(2));
         return make_indexes(tx, second);
     }
     if schema == 4 {
-        return make_indexes(tx, &[forms::CREATE_MARK_BY_NODE]);
+        return make_indexes(tx, fourth);
     }
     make_indexes(tx, &[])
 }

@@ -123,7 +123,7 @@ pub(crate) fn create_indexes<S: Alter>(
         → KeepsCommit (state S.Store tx.old.conn.now) (state S.Store tx.new.conn.now) }
     ensures survives { Survives (state S.Store tx.old.conn.now) (state S.Store tx.new.conn.now) (λ _. ⊥) }
 {
-    let (own, _) = forms::CREATE_INDEXES.split_at(forms::indexes_in(schema));
+    let (own, _) = forms::DESK_INDEXES.split_at(forms::indexes_in(schema));
     make_indexes(tx, own)
 }
 

@@ -233,7 +233,7 @@ named_apart : (indexes : List IndexForm) (more : List Form) (i j : ℕ) (index :
 named_apart indexes more i j index form apart is at = not-true _ (passed_at _ more j form (passed_at _ indexes i index apart is) at)
 
 -- the place of one of a list
-placed : {X : Type 0} (xs : List X) (x : X) → Has xs x → (i : ℕ) × (slice_get xs i ≡ Some x)
+pub placed : {X : Type 0} (xs : List X) (x : X) → Has xs x → (i : ℕ) × (slice_get xs i ≡ Some x)
 placed [] x none = absurd none
 placed (y ∷ ys) x (inl is) = (zero, ap Some (sym is))
 placed (y ∷ ys) x (inr more) = let it = placed ys x more in (suc it.0, it.1)

@@ -18,6 +18,13 @@ pub struct Form<'a> {
     pub keys: &'a [&'a [usize]],
 }
 
+/// The text that makes an index which bars no row, and the index's name.
+#[derive(Clone, Copy, Debug)]
+pub struct IndexText<'a> {
+    pub name: &'a [u8],
+    pub sql: &'a str,
+}
+
 impl<'a> Model for Form<'a> {
     ghost use Rattle.std.specs.Prelude.{map};
     ghost use Rattle.table_forms.specs.Forms as form;

@@ -169,7 +169,7 @@ fn is_parent(schema: &Schema, name: &[u8]) -> bool
 }
 
 /// Whether a table, an index or a view bears the name.
-fn is_taken(schema: &Schema, name: &[u8]) -> bool
+pub fn is_taken(schema: &Schema, name: &[u8]) -> bool
     ensures { result ≡ is_used schema.now name.now }
 {
     schema.table_named(name).is_some()

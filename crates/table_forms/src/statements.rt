@@ -1,4 +1,4 @@
-ghost use Rattle.std.specs.Prelude.{◌≡◌, [], map, IfOk, OnOk, IsOkUnless};
+ghost use Rattle.std.specs.Prelude.{◌≡◌, [], map, IfOk, OnOk, IsOkUnless, IsTrue};
 ghost use Rattle.sqlite.specs.State.{HasCleanDisk, Survives, KeepsCommit};
 ghost use Rattle.sqlite.specs.Values.{bound};
 ghost use Rattle.sqlite.specs.Held.{state};
@@ -6,6 +6,7 @@ ghost use Rattle.table_forms.specs.Moves.{RunsInside, PutsRow, TakesRows, MakesT
 ghost use Rattle.table_forms.specs.Indexes.{MakesIndexes};
 
 use crate::fault::{Fault, fault_of};
+use crate::form::IndexText;
 use sqlite::{Alter, Error, Transaction};
 use sqlite_value::value::ValueRef;
 
@@ -112,18 +113,26 @@ pub fn make_tables<S: Alter>(tx: &mut Transaction<'_, S>, texts: &[&str]) -> Res
 
 /// Makes indexes of tables, one by each text, up to the first that the store refuses: [`Fault::Store`], the one
 /// fault. The tables keep their rows.
-pub fn make_indexes<S: Alter>(tx: &mut Transaction<'_, S>, texts: &[&str]) -> Result<(), Fault>
+pub fn make_indexes<S: Alter>(
+    tx: &mut Transaction<'_, S>,
+    texts: &[IndexText<'_>],
+) -> Result<(), Fault>
     ensures fault { IsOkUnless result Fault.Store }
     ensures same_reference { tx.new.conn.ghost_name ≡ tx.old.conn.ghost_name }
     ensures made { HasCleanDisk (state S.Store tx.new.conn.now)
-        → OnOk result (MakesIndexes (map (λ text. text.now) texts.now)
+        → OnOk result (MakesIndexes (map (λ text. text.sql.now) texts.now)
         (state S.Store tx.old.conn.now) (state S.Store tx.new.conn.now)) }
+    // Whatever the texts are, the transaction goes on.
+    ensures inside { HasCleanDisk (state S.Store tx.new.conn.now)
+        → IsTrue (state S.Store tx.old.conn.now).is_open
+        → IsTrue (state S.Store tx.old.conn.now).in_transaction
+        → OnOk result (IsTrue (state S.Store tx.new.conn.now).in_transaction) }
     ensures kept { HasCleanDisk (state S.Store tx.new.conn.now)
         → KeepsCommit (state S.Store tx.old.conn.now) (state S.Store tx.new.conn.now) }
     ensures survives { Survives (state S.Store tx.old.conn.now) (state S.Store tx.new.conn.now) (λ _. ⊥) }
 {
-    for sql in texts {
-        run_plain(tx, sql)?;
+    for text in texts {
+        run_plain(tx, text.sql)?;
     }
     Ok(())
 }

@@ -10,8 +10,11 @@ use std::test::Fail;
 /// A log and a database file, each with its fuse.
 pub type InMemory = Files<Fuse<Memory>>;
 
+/// A store over the two.
+pub type FusedStore = FileStore<Fuse<Memory>>;
+
 /// A connection to the two.
-pub type Fused = Connection<FileStore<Fuse<Memory>>>;
+pub type Fused = Connection<FusedStore>;
 
 /// What stands in the two files.
 #[derive(Drop, PartialEq, Eq)]

@@ -6,7 +6,7 @@ mod session;
 mod told;
 
 pub use files::{
-    ALL, Calls, Fused, Image, InMemory, Stopped, are_running, closed, crashed, opened,
+    ALL, Calls, Fused, FusedStore, Image, InMemory, Stopped, are_running, closed, crashed, opened,
     opened_with_log_of, reopened,
 };
 pub use session::{REPLIES, SESSION};

@@ -16,6 +16,8 @@ pub enum Work {
     Adopt,
     /// Their tables are raised to the newest schema, and nothing else.
     Raise,
+    /// A desk adopts them, and makes the indexes that they lack.
+    Index,
 }
 
 /// Commands over files, each of which is accepted, with the rows of all tables as text.
@@ -135,7 +137,7 @@ pub fn recalls_that_are_lifted(rt: &(impl Abort + AllocGlobal)) -> Result<Course
     course_of(rt, Work::Adopt, image, recalls(rt.alloc())?)
 }
 
-/// Tables of an older schema, after ten commands.
+/// Tables of an older schema, after ten commands; of the newest those without indexes.
 pub fn tables_to_raise(
     rt: &(impl Abort + AllocGlobal),
     work: Work,

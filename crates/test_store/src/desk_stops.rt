@@ -7,14 +7,14 @@ use crate::courses::{
 use crate::desks::{adopted, desk_over};
 use plant_base::{Envelope, NEWEST_SCHEMA};
 use plant_desk::{DeskFault, Keeper, Question, Reply};
-use plant_desk_store::{AdoptFault, Desk};
+use plant_desk_store::{AdoptFault, AdoptRefused, Desk};
 use plant_migrate::{RaiseFault, raise};
 use sqlite::Alter;
 use std::process::Abort;
 use std::test::Fail;
 use test_files::{
-    ALL, Calls, Fused, Image, InMemory, Stopped, are_running, closed, crashed, opened_with_log_of,
-    reopened, tables_told,
+    ALL, Calls, Fused, FusedStore, Image, InMemory, Stopped, are_running, closed, crashed,
+    opened_with_log_of, reopened, tables_told,
 };
 
 /// No run has so many calls of a file.
@@ -84,13 +84,40 @@ fn run_over(
                 files: closed(desk.close()),
             })
         }
-        Err(refused) => {
-            assert!(rt; refused.fault == AdoptFault::Store);
+        Err(refused) => unadopted(rt, refused),
+    }
+}
+
+/// What is left of a store that the store's fault kept from being adopted.
+fn unadopted(
+    rt: &(impl Abort + AllocGlobal),
+    refused: AdoptRefused<FusedStore>,
+) -> Result<Ended, Fail> {
+    assert!(rt; refused.fault == AdoptFault::Store);
+    Ok(Ended {
+        answered: None,
+        files: closed(refused.connection),
+    })
+}
+
+/// Adopts the store, and makes the indexes that its tables lack: the desk isn't shut where they can't be made.
+fn index_over(rt: &(impl Abort + AllocGlobal), connection: Fused) -> Result<Ended, Fail> {
+    match adopted(rt, connection)? {
+        Ok(mut desk) => {
+            let answered = match desk.add_indexes() {
+                Ok(()) => Some(0),
+                Err(fault) => {
+                    assert!(rt; fault == DeskFault::Store);
+                    None
+                }
+            };
+            assert!(rt; !desk.is_shut());
             Ok(Ended {
-                answered: None,
-                files: closed(refused.connection),
+                answered,
+                files: closed(desk.close()),
             })
         }
+        Err(refused) => unadopted(rt, refused),
     }
 }
 
@@ -122,6 +149,7 @@ fn run(
 ) -> Result<Ended, Fail> {
     match opened_with_log_of(rt.alloc(), image.files(rt.alloc(), calls)?, FRAMES) {
         Ok(connection) if course.work == Work::Raise => raise_over(rt, connection),
+        Ok(connection) if course.work == Work::Index => index_over(rt, connection),
         Ok(connection) => run_over(rt, connection, course.accepted, commands),
         Err(files) => Ok(Ended {
             answered: None,
@@ -312,6 +340,11 @@ fn a_raising_of_the_second_schema_is_stopped(rt: HostRuntime) -> Result<(), Fail
 fn a_raising_of_the_third_schema_is_stopped(rt: HostRuntime) -> Result<(), Fail> {
     sweep_both(&rt, &tables_to_raise(&rt, Work::Adopt, 3)?)?;
     sweep_both(&rt, &tables_to_raise(&rt, Work::Raise, 3)?)
+}
+
+#[test]
+fn a_making_of_indexes_is_stopped(rt: HostRuntime) -> Result<(), Fail> {
+    sweep_both(&rt, &tables_to_raise(&rt, Work::Index, NEWEST_SCHEMA)?)
 }
 
 #[test]

@@ -1,7 +1,7 @@
 //! A store of the first schema is raised to the newest when it is adopted, and answers as before. Its rows were written by
 //! hand.
 use crate::desks::{accepted, adopted, desk_over, run_ten};
-use plant_base::Id;
+use plant_base::{Id, NEWEST_SCHEMA};
 use plant_check::Rule;
 use plant_desk::{Answer, Keeper, Question};
 use plant_desk_store::AdoptFault;
@@ -32,6 +32,10 @@ const LOWER: &str = "
     DROP INDEX batch_event_by_batch;
     DROP INDEX movement_by_lot;
     DROP INDEX movement_by_batch;
+    DROP INDEX definition_by_class;
+    DROP INDEX job_by_state;
+    DROP INDEX batch_by_closed;
+    DROP INDEX lot_by_def;
     DROP TABLE edge;
     DROP TABLE receipt;
     DROP INDEX mark_by_node;
@@ -41,6 +45,10 @@ const LOWER: &str = "
 
 /// What takes it back to the second.
 const LOWER_TO_THE_SECOND: &str = "
+    DROP INDEX definition_by_class;
+    DROP INDEX job_by_state;
+    DROP INDEX batch_by_closed;
+    DROP INDEX lot_by_def;
     DROP TABLE receipt;
     DROP TABLE mark;
     DROP TABLE recall;
@@ -48,9 +56,26 @@ const LOWER_TO_THE_SECOND: &str = "
 
 /// What takes it back to the third.
 const LOWER_TO_THE_THIRD: &str = "
+    DROP INDEX definition_by_class;
+    DROP INDEX job_by_state;
+    DROP INDEX batch_by_closed;
+    DROP INDEX lot_by_def;
     DROP TABLE mark;
     DROP TABLE recall;
     UPDATE meta SET schema = 3";
+
+/// What takes the indexes of the newest schema away: it fails where one is missing.
+const WITHOUT_INDEXES: &str = "
+    DROP INDEX batch_event_by_batch;
+    DROP INDEX movement_by_lot;
+    DROP INDEX movement_by_batch;
+    DROP INDEX edge_by_end;
+    DROP INDEX mark_by_node;
+    DROP INDEX definition_by_class;
+    DROP INDEX job_by_state;
+    DROP INDEX batch_by_closed;
+    DROP INDEX lot_by_def;
+    DROP INDEX recall_by_state";
 
 /// What the store holds once it is raised: the edges are new, and the rest stays but for the schema's number.
 const RAISED: &str = "meta|1|4|6|160
@@ -111,12 +136,14 @@ fn the_first_schema_is_raised(rt: HostRuntime) -> Result<(), Fail> {
     Ok(())
 }
 
-/// Takes the tables of a store back to the first schema, and the indexes away, or to the second or the third.
+/// Takes the tables of a store back to the first schema, and the indexes away, or to the second or the third; or the
+/// indexes of the newest alone.
 pub fn lower<S: Alter>(connection: &mut Connection<S>, schema: u64) -> Result<(), Fail> {
     connection.execute_batch(match schema {
         1 => LOWER,
         2 => LOWER_TO_THE_SECOND,
-        _ => LOWER_TO_THE_THIRD,
+        3 => LOWER_TO_THE_THIRD,
+        _ => WITHOUT_INDEXES,
     })?;
     Ok(())
 }
@@ -138,6 +165,20 @@ fn ten_commands_are_raised(rt: HostRuntime) -> Result<(), Fail> {
     check_raised(&rt, 1)?;
     check_raised(&rt, 2)?;
     check_raised(&rt, 3)
+}
+
+#[test]
+fn missing_indexes_are_made(rt: HostRuntime) -> Result<(), Fail> {
+    let mut desk = desk_over(&rt, Connection::open_in_memory(rt.alloc())?)?;
+    run_ten(&rt, &mut desk)?;
+    let mut connection = desk.close();
+    let told = tables_told(rt.alloc(), &mut connection)?;
+    lower(&mut connection, NEWEST_SCHEMA)?;
+    let mut bare = desk_over(&rt, connection)?;
+    assert!(rt; bare.add_indexes() == Ok(()));
+    let mut connection = bare.close();
+    assert!(rt; tables_told(rt.alloc(), &mut connection)? == told);
+    lower(&mut connection, NEWEST_SCHEMA)
 }
 
 #[test]

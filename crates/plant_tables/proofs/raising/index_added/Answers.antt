@@ -1,11 +1,9 @@
-use Rattle.std.proofs.Common.{rules, refl, sym, subst, OnOk, ◌≡◌, [], ◌∷◌}
+use Rattle.std.proofs.Common.{rules, refl, sym, subst, OnOk, ◌≡◌}
 use Rattle.sqlite.specs.Held.{state}
 use Rattle.plant_tables.specs.DeskForms.{forms_of}
-use Rattle.plant_tables.specs.DeskIndexes.{fourth_indexes, added_indexes}
-use Rattle.plant_tables.specs.declared.forms.TheConstants.{CREATE_MARK_BY_NODE}
-use Rattle.table_forms.specs.Indexes.{AreOf, AddsIndexes}
-use Rattle.plant_tables.proofs.DeskMoves.{added_indexed, indexed_so}
-use Rattle.plant_tables.proofs.DeskTexts.{fourth_indexed, indexes_of_fourth}
+use Rattle.plant_tables.specs.DeskIndexes.{added_indexes}
+use Rattle.table_forms.specs.Indexes.{AddsIndexes}
+use Rattle.plant_tables.proofs.DeskMoves.{indexed_so, indexed_later}
 use Rattle.plant_tables.proofs.raising.index_added.Goals as goal
 
 pub returns-then-schema-eq2-clause-indexed : goal.returns-then-schema-eq2-clause-indexed
@@ -19,6 +17,8 @@ returns-then-schema-eq2-clause-indexed g c clean =
 pub returns-then-schema-eq4-clause-indexed : goal.returns-then-schema-eq4-clause-indexed
 returns-then-schema-eq4-clause-indexed g c clean =
     let fourth : c.args.schema ≡ 4 = search rules in
-    let is : added_indexes c.args.schema ≡ fourth_indexes = rw fourth refl in
-    let of : AreOf fourth_indexes (forms_of c.args.schema) = rw fourth indexes_of_fourth in
-    added_indexed c.args.schema fourth_indexes (CREATE_MARK_BY_NODE.now ∷ []) is of fourth_indexed (state g.S.Store c.args.tx.now.conn.now) (state g.S.Store c.make_indexes-then-schema-eq4.new.tx.conn.now) c.make_indexes-then-schema-eq4.result (c.make_indexes-then-schema-eq4.ensures.made clean)
+    let old = state g.S.Store c.args.tx.now.conn.now in
+    let made = c.make_indexes-then-schema-eq4 in
+    let new = state g.S.Store made.new.tx.conn.now in
+    subst (λ schema. OnOk made.result (AddsIndexes (forms_of schema) (added_indexes schema) old new)) (sym fourth)
+    (indexed_later c.indexes_in.result c.indexes_in.ensures.later _ c.split_at.result.1.now c.split_at.ensures.back refl old new made.result (made.ensures.made clean))

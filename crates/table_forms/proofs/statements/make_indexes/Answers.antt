@@ -1,34 +1,43 @@
-use Rattle.std.proofs.Common.{rules, ◌≤◌, length, arith, ◌∙◌}
+use Rattle.std.proofs.Common.{rules, refl, ◌≤◌, ℕ, List, length, arith, ◌∙◌}
 use Rattle.sqlite.specs.Held.{state}
+use Rattle.table_forms.specs.declared.form.IndexText.{IndexText}
 use Rattle.table_forms.proofs.Indexing.{none_indexed, next_indexed, all_indexed}
-use Rattle.table_forms.proofs.Moving.{survives_none, survives_on, kept_none, kept_then}
+use Rattle.table_forms.proofs.Moving.{survives_none, survives_on, kept_none, kept_then, shown_then}
 use Rattle.table_forms.proofs.statements.make_indexes.Goals as goal
 
-pub loop-sql-init : goal.loop-sql-init
-loop-sql-init g c = record {
+abbrev sql_of : IndexText → List ℕ
+sql_of text = text.sql.now
+
+pub loop-text-init : goal.loop-text-init
+loop-text-init g c = record {
   same = search rules;
   wrote = survives_none (state g.S.Store c.args.tx.now.conn.now);
   kept = λ clean. kept_none (state g.S.Store c.args.tx.now.conn.now);
+  inside = λ clean live inside. record { was_open = live; is_open = live; now_is = refl; committed_is = refl; mode = inside };
   indexing = λ clean forms indexes of_these says. none_indexed forms indexes (state g.S.Store c.args.tx.now.conn.now);
 }
 
-pub loop-sql-preserved : goal.loop-sql-preserved
-loop-sql-preserved g c =
+pub loop-text-preserved : goal.loop-text-preserved
+loop-text-preserved g c =
     let first = state g.S.Store c.args.tx.now.conn.now in
-    let mid = state g.S.Store c.loop-sql.tx.conn.now in
+    let mid = state g.S.Store c.loop-text.tx.conn.now in
     let last = state g.S.Store c.run_plain.new.tx.conn.now in
-    let before = c.loop-sql.invariant in
+    let before = c.loop-text.invariant in
     record {
       same = c.run_plain.ensures.same_reference ∙ before.same;
       wrote = survives_on first mid last before.wrote c.run_plain.ensures.survives;
       kept = λ clean. kept_then first mid last (before.kept (omega (arith, c.run_plain.ensures.survives.clean))) (c.run_plain.ensures.kept clean);
+      inside = λ clean. shown_then first mid last (before.inside (omega (arith, c.run_plain.ensures.survives.clean))) (λ _ _. (c.in_ok-run_plain.ensures.runs clean).1.shown);
       indexing = λ clean forms indexes of_these says.
-          next_indexed _ c.args.texts.now forms indexes of_these says c.loop-sql.sql-index _ c.loop-sql-test.true first mid last (c.in_ok-run_plain.ensures.runs clean)
+          next_indexed sql_of c.args.texts.now forms indexes of_these says c.loop-text.text-index _ c.loop-text-test.true first mid last (c.in_ok-run_plain.ensures.runs clean)
           (before.indexing (omega (arith, c.run_plain.ensures.survives.clean)) forms indexes of_these says);
     }
 
 pub returns-clause-made : goal.returns-clause-made
 returns-clause-made g c clean forms indexes of_these says =
-    let whole : length c.args.texts.now ≤ c.loop-sql.sql-index = omega (arith, c.loop-sql-test.false) in
-    all_indexed _ c.args.texts.now forms indexes says (state g.S.Store c.args.tx.now.conn.now) (state g.S.Store c.loop-sql.tx.conn.now) c.loop-sql.sql-index whole
-    (c.loop-sql.invariant.indexing clean forms indexes of_these says)
+    let whole : length c.args.texts.now ≤ c.loop-text.text-index = omega (arith, c.loop-text-test.false) in
+    all_indexed sql_of c.args.texts.now forms indexes says (state g.S.Store c.args.tx.now.conn.now) (state g.S.Store c.loop-text.tx.conn.now) c.loop-text.text-index whole
+    (c.loop-text.invariant.indexing clean forms indexes of_these says)
+
+pub returns-clause-inside : goal.returns-clause-inside
+returns-clause-inside g c clean live inside = (c.loop-text.invariant.inside clean live inside).mode

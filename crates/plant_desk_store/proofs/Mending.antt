@@ -1,0 +1,110 @@
+-- The indexes that tables lack are made, or aren't, and the desk stands where it stood.
+use Rattle.std.proofs.Common.{◌≡◌, ◌≢◌, ◌⊎◌, false, inl, inr, refl, sym, ap, subst, Result, Ok, Err, OnOk, IfErr, IsTrue, arith}
+use Rattle.sqlite.specs.Tree.{Trees}
+use Rattle.sqlite.specs.Effect.{Database}
+use Rattle.sqlite.specs.State as store
+use Rattle.sqlite.specs.State.{HasCleanDisk, IsUnchanged, Survives}
+use Rattle.plant_base.specs.State.{State, newest_schema}
+use Rattle.plant_view.specs.Tables.{tables_of}
+use Rattle.table_forms.specs.declared.fault.Fault.{Fault}
+use Rattle.table_forms.specs.declared.fault.Fault.TheVariants as fault
+use Rattle.table_forms.specs.Resting.{Keeps}
+use Rattle.table_forms.proofs.Ending.{IsStore}
+use Rattle.plant_tables.specs.DeskStopping.{IsAt}
+use Rattle.plant_tables.specs.Missing.{AddsMissing, AreAllTaken, HasGained}
+use Rattle.plant_desk.specs.declared.reply.DeskFault.{DeskFault}
+use Rattle.plant_desk.specs.declared.reply.DeskFault.TheVariants.{Shut}
+use Rattle.plant_desk_store.specs.Calls.{HasIndexed}
+use Rattle.plant_desk_store.specs.Faults.{desk_fault}
+use Rattle.plant_desk_store.specs.Parts.{HasMended}
+use Rattle.plant_desk_store.specs.Standing.{StandsAt, FindsState, Leaves, IsOpenAt}
+use Rattle.plant_desk_store.proofs.Others.{others_kept, others_committed, others_cut, open_beside}
+use Rattle.plant_desk_store.proofs.Resting.{open_at, cut_at, still_open}
+
+-- no fault of a store tells that a desk is shut
+never_shut : (f : Fault) → desk_fault f ≢ Shut
+never_shut fault.Store same = absurd cc
+never_shut fault.Memory same = absurd cc
+
+-- a stop that leaves the one state or the same leaves the one
+same_left : (c : store.State) (s : State) → Leaves c (λ u. (u ≡ s) ⊎ (u ≡ s)) → Leaves c (λ u. u ≡ s)
+same_left c s leaves = record {
+  something = leaves.something;
+  nothing_else = λ db left. let it = leaves.nothing_else db left in (it.0, elim it.1 [ inl is ↦ is | inr is ↦ is ], it.2);
+}
+
+-- ---- a store that was read, which shows that it is open, and then written
+
+module _ (old mid new : store.State) (early : IsStore mid) (same : HasCleanDisk mid → IsUnchanged old mid) (rests : new.in_transaction ≡ false) (kept : HasCleanDisk mid → Keeps old mid) (crash : Survives old mid (λ _. ⊥)) where
+  stood : HasCleanDisk mid → (s : State) → IsOpenAt old s → IsOpenAt mid s
+  stood clean s at = still_open old mid s at clean (kept clean) crash early
+
+  live : HasCleanDisk mid → IsTrue mid.is_open
+  live clean = (same clean).0.is_open
+
+  -- the tables that the store shows before it is written
+  shown : HasCleanDisk mid → (s : State) → IsOpenAt old s → IsAt mid (tables_of newest_schema s)
+  shown clean s at = (stood clean s at).stands.shows (live clean)
+
+  left_before : (r : Result (Unit {0}) Fault) → HasGained mid new r → HasCleanDisk new → AreAllTaken old.now.schema → (trees : Trees) → new.may_leave trees → old.may_leave trees
+  left_before r did clean taken trees left =
+      let taken_still = subst (λ (d : Database). AreAllTaken d.schema) (sym (same (did.honest clean)).0.now_is) taken in
+      elim ((did.spared taken_still).crash clean trees left) [
+        | inl between ↦ elim (crash.crash (did.honest clean) trees between) [ inl before ↦ before | inr none ↦ absurd none ]
+        | inr none ↦ absurd none
+      ]
+
+  pub mended : IsStore new → HasGained mid new (Ok tt) → HasMended old new (Ok tt)
+  mended late did = record {
+    rests = rests;
+    clean = λ clean. omega (arith, crash.clean, did.honest clean);
+    unshut = tt;
+    stands = λ clean s at. open_at new s at.stands.good (did.gained clean (tables_of newest_schema s) (shown (did.honest clean) s at)).0 clean late;
+    made = λ clean s at. subst (λ (d : Database). AddsMissing d new.now) (same (did.honest clean)).0.now_is (did.gained clean (tables_of newest_schema s) (shown (did.honest clean) s at)).1;
+    others = λ clean s at before others.
+        let done = did.gained clean (tables_of newest_schema s) (shown (did.honest clean) s at) in
+        let still = others_kept before old mid others (did.honest clean) (kept (did.honest clean)) crash in
+        others_committed before mid new (tables_of newest_schema s) still (live (did.honest clean)) done.0 done.1.others;
+    spared = left_before (Ok tt) did;
+  }
+
+  pub unmended : (f : Fault) → HasGained mid new (Err f) → HasMended old new (Err (desk_fault f))
+  unmended f did = record {
+    rests = rests;
+    clean = λ clean. omega (arith, crash.clean, did.honest clean);
+    unshut = never_shut f;
+    stands = λ clean s at.
+        let cut = cut_at mid new s s at.stands.good at.stands.good (did.gained clean (tables_of newest_schema s) (shown (did.honest clean) s at)) in
+        record { stands = cut.0; leaves = same_left new s cut.1 };
+    made = λ clean s at. tt;
+    others = λ clean s at before others.
+        let still = others_kept before old mid others (did.honest clean) (kept (did.honest clean)) crash in
+        others_cut before mid new (tables_of newest_schema s) (tables_of newest_schema s) still (live (did.honest clean)) (did.gained clean (tables_of newest_schema s) (shown (did.honest clean) s at));
+    spared = left_before (Err f) did;
+  }
+
+-- where it couldn't be read
+pub unread : (old new : store.State) (f : Fault) → IsStore new → new.in_transaction ≡ false → (HasCleanDisk new → Keeps old new) → Survives old new (λ _. ⊥) → HasMended old new (Err (desk_fault f))
+unread old new f laws rests kept crash = record {
+  rests = rests;
+  clean = λ clean. omega (arith, crash.clean, clean);
+  unshut = never_shut f;
+  stands = λ clean s at. still_open old new s at clean (kept clean) crash laws;
+  made = λ clean s at. tt;
+  others = λ clean s at before others. others_kept before old new others clean (kept clean) crash;
+  spared = λ clean taken trees left. elim (crash.crash clean trees left) [ inl before ↦ before | inr none ↦ absurd none ];
+}
+
+-- ---- a desk
+
+pub indexed : (old new : store.State) (r : Result (Unit {0}) DeskFault) → HasMended old new r → HasIndexed old new r
+indexed old new r did = record {
+  honest = did.clean;
+  live = did.unshut;
+  stands = λ clean s stood. let at = did.stands clean s (record { stands = stood.0; leaves = stood.1 refl }) in (at.stands, λ _. at.leaves);
+  made = λ clean s stood. did.made clean s (record { stands = stood.0; leaves = stood.1 refl });
+  others = λ clean before beside.
+      let at : IsOpenAt old beside.state = record { stands = beside.stands.0; leaves = beside.stands.1 refl } in
+      open_beside before new false beside.state (did.stands clean beside.state at) (did.others clean beside.state at before beside.others);
+  spared = did.spared;
+}

@@ -1,0 +1,127 @@
+-- What the making of missing indexes comes to.
+use Rattle.std.proofs.Common.{◌≡◌, ◌≢◌, ◌∙◌, inl, inr, refl, sym, ap, subst, ℕ, true, false, List, [], ◌∷◌, map, length, arith, Option, Some, None, Ok, Err, Result, OnOk, OnErr, MatchResult}
+use Rattle.std.proofs.lemmas.Bool.{cases_Bool}
+use Rattle.std.specs.Prelude.{filter}
+use Rattle.std.specs.List.{filter_map}
+use Rattle.sqlite.specs.Change.{is_used}
+use Rattle.sqlite.specs.Effect.{Database}
+use Rattle.sqlite.specs.Schema.{Schema}
+use Rattle.sqlite.specs.State.{State}
+use Rattle.sqlite_rules.specs.Lists.{Has}
+use Rattle.plant_base.specs.State.{newest_schema}
+use Rattle.plant_view.specs.Tables.{Tables}
+use Rattle.table_forms.specs.declared.fault.Fault.{Fault}
+use Rattle.table_forms.specs.declared.form.IndexText.{IndexText}
+use Rattle.table_forms.specs.Forms.{Form}
+use Rattle.table_forms.specs.Indexes.{IndexForm, AreOf, AreIndexTexts, MakesIndexes}
+use Rattle.table_forms.specs.Stopping.{IsSettled, IsUndone}
+use Rattle.table_forms.proofs.Indexing.{placed}
+use Rattle.plant_tables.specs.DeskForms.{desk_forms}
+use Rattle.plant_tables.specs.DeskIndexes.{desk_indexes}
+use Rattle.plant_tables.specs.DeskStopping.{IsAt, IsCutShort}
+use Rattle.plant_tables.specs.DeskTables.{contents_of}
+use Rattle.plant_tables.specs.Keyed.{HoldsTables}
+use Rattle.plant_tables.specs.Missing.{missing_in, is_missing, lacking, MakeLacking, AreAllTaken, GainsIndexes, AddsMissing, GainsMissing}
+use Rattle.plant_tables.proofs.DeskMoves.{sql_of}
+use Rattle.plant_tables.proofs.DeskTexts.{indexes_of_desk}
+use Rattle.plant_tables.proofs.Ended.{ended_at, cut_at, finds_same}
+
+-- ---- which are missing
+
+abbrev pub name_of : IndexText → List ℕ
+name_of text = text.name.now
+
+-- each text names the index at its place
+abbrev pub AreNamed : List IndexText → List IndexForm → Type 0
+AreNamed texts indexes = map name_of texts ≡ map (λ (index : IndexForm). index.name) indexes
+
+missing_made : (schema : Schema) (texts : List IndexText) (indexes : List IndexForm) → AreNamed texts indexes → AreIndexTexts (map sql_of texts) indexes
+    → AreIndexTexts (map sql_of (filter_map (missing_in schema) texts)) (filter (is_missing schema) indexes)
+missing_made schema [] [] named says = tt
+missing_made schema [] (x ∷ indexes) named says = absurd says
+missing_made schema (t ∷ texts) [] named says = absurd says
+missing_made schema (t ∷ texts) (x ∷ indexes) named says =
+    let same : name_of t ≡ x.name = cc in
+    let rest : AreNamed texts indexes = cc in
+    let more = missing_made schema texts indexes rest says.1 in
+    elim (cases_Bool (is_used schema x.name)) [ inl taken ↦ rw (same, taken) more | inr free ↦ rw (same, free) (says.0, more) ]
+
+-- those of all indexes of the desk
+pub desk_missing : (schema : Schema) (all missing : List IndexText) → missing ≡ filter_map (missing_in schema) all → AreNamed all desk_indexes → AreIndexTexts (map sql_of all) desk_indexes → MakeLacking schema missing
+desk_missing schema all missing is named says = subst (MakeLacking schema) (sym is) (missing_made schema all desk_indexes named says)
+
+-- where each is taken, none is missing
+none_missing : (schema : Schema) (indexes : List IndexForm) → ((index : IndexForm) → Has indexes index → is_used schema index.name ≡ true) → filter (is_missing schema) indexes ≡ []
+none_missing schema [] taken = refl
+none_missing schema (x ∷ indexes) taken = rw (taken x (inl refl)) (none_missing schema indexes (λ index has. taken index (inr has)))
+
+no_texts : (texts : List IndexText) → AreIndexTexts (map sql_of texts) [] → texts ≡ []
+no_texts [] says = refl
+no_texts (t ∷ texts) says = absurd says
+
+pub none_lacking : (schema : Schema) (texts : List IndexText) → MakeLacking schema texts → AreAllTaken schema → texts ≡ []
+none_lacking schema texts makes taken = no_texts texts (subst (AreIndexTexts (map sql_of texts)) (none_missing schema desk_indexes taken) makes)
+
+missing_of : (schema : Schema) (forms : List Form) (indexes : List IndexForm) → AreOf indexes forms → AreOf (filter (is_missing schema) indexes) forms
+missing_of schema forms [] of_these = tt
+missing_of schema forms (x ∷ indexes) of_these =
+    let more = missing_of schema forms indexes of_these.1 in
+    elim (cases_Bool (is_used schema x.name)) [ inl taken ↦ rw taken more | inr free ↦ rw free (of_these.0, more) ]
+
+missing_has : (schema : Schema) (indexes : List IndexForm) (index : IndexForm) → Has indexes index → is_used schema index.name ≡ false → Has (filter (is_missing schema) indexes) index
+missing_has schema [] index has free = absurd has
+missing_has schema (x ∷ indexes) index (inl same) free =
+    let unused : is_used schema x.name ≡ false = subst (λ (i : IndexForm). is_used schema i.name ≡ false) same free in
+    rw unused (inl same)
+missing_has schema (x ∷ indexes) index (inr more) free =
+    let later = missing_has schema indexes index more free in
+    elim (cases_Bool (is_used schema x.name)) [ inl taken ↦ rw taken later | inr unused ↦ rw unused (inr later) ]
+
+-- ---- what is gained
+
+pub gained : {X : Type 0} (texts : List (List ℕ)) (old new : State) (r : Result X Fault) → OnOk r (MakesIndexes texts old new) → OnOk r (GainsIndexes texts old.now new.now)
+gained texts old new (Err e) made = tt
+gained texts old new (Ok x) made = λ indexes of_these says t holds.
+    let adds = made desk_forms indexes of_these says in
+    (adds.stands (contents_of t) holds, adds.others (contents_of t) holds, adds.made (contents_of t) holds)
+
+-- where no text was run
+none_gained : (db : Database) → GainsIndexes [] db db
+none_gained db [] of_these says t holds = (holds, record { kept = λ x listed foreign. (listed, refl) }, λ i index is. absurd cc)
+none_gained db (x ∷ indexes) of_these says t holds = absurd says
+
+pub gains_missing : (old new : Database) (texts : List IndexText) → MakeLacking old.schema texts → GainsIndexes (map sql_of texts) old new → GainsMissing old new
+gains_missing old new texts makes gains t holds =
+    let it = gains (lacking old.schema) (missing_of old.schema desk_forms desk_indexes indexes_of_desk) makes t holds in (
+      it.0,
+      record {
+        made = λ index has free. let place = placed (lacking old.schema) index (missing_has old.schema desk_indexes index has free) in it.2 place.0 index place.1;
+        others = it.1;
+      },
+    )
+
+pub nothing_missing : (db : Database) (texts : List IndexText) → MakeLacking db.schema texts → texts ≡ [] → GainsMissing db db
+nothing_missing db texts makes none = gains_missing db db texts makes (subst (λ (them : List IndexText). GainsIndexes (map sql_of them) db db) (sym none) (none_gained db))
+
+pub none_there : {X : Type 0} (xs : List X) → length xs ≡ 0 → xs ≡ []
+none_there [] none = refl
+none_there (x ∷ xs) none = absurd (omega arith)
+
+-- ---- how it ends
+
+-- a store that is as it was
+pub cut_at_rest : (s : State) (t : Tables) → IsAt s t → IsCutShort s s t t
+cut_at_rest s t at = record {
+  leaves = ∣ (s.committed.trees, at.settled.leaves) ∣₁;
+  nothing_else = λ db left. inl (finds_same newest_schema s.now db t at.holds (at.settled.nothing_else db left ∙ ap (λ (d : Database). d.trees) (sym at.settled.shows)));
+  shows = λ live. (at, refl);
+}
+
+module _ (old new : State) (texts : List IndexText) (makes : MakeLacking old.now.schema texts) (t : Tables) (at : IsAt old t) where
+  leads : (db : Database) → GainsIndexes (map sql_of texts) old.now db → HoldsTables db t × AddsMissing old.now db
+  leads db gains = gains_missing old.now db texts makes gains t at.holds
+
+  pub gained_at : (r : Result (Unit {0}) Fault) → OnOk r (IsSettled new × GainsIndexes (map sql_of texts) old.now new.now) → OnErr r (IsUndone (GainsIndexes (map sql_of texts)) old new)
+      → MatchResult r (λ _. IsAt new t × AddsMissing old.now new.now) (λ _. IsCutShort old new t t)
+  gained_at (Ok x) done undone = let it = leads new.now done.1 in (record { settled = done.0; holds = it.0 }, it.1)
+  gained_at (Err e) done undone = cut_at newest_schema newest_schema (GainsIndexes (map sql_of texts)) old new t t at (λ db gains. let it = leads db gains in (it.0, it.1.others)) {X = Unit {0}} {E = Fault} (Err e) undone

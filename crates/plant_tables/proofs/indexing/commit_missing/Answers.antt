@@ -1,0 +1,17 @@
+use Rattle.std.proofs.Common.{refl}
+use Rattle.sqlite.specs.Held.{state}
+use Rattle.sqlite.proofs.StateLemmas.{survives_weaker}
+use Rattle.table_forms.proofs.Moving.{survives_none}
+use Rattle.plant_tables.proofs.Missing.{cut_at_rest}
+use Rattle.plant_tables.proofs.indexing.commit_missing.Goals as goal
+
+pub returns-in-Err-clause-gained : goal.returns-in-Err-clause-gained
+returns-in-Err-clause-gained g c =
+    let old = state g.S.Store c.args.conn.now in
+    record {
+      honest = λ clean. clean;
+      gained = λ clean t at. cut_at_rest old t at;
+      spared = λ taken. survives_none old;
+      unmade = λ other. survives_none old;
+      survives = survives_weaker _ _ _ _ (λ clean db none. absurd none) (survives_none old);
+    }

@@ -1,0 +1,99 @@
+//! The making of indexes that a desk's tables lack.
+
+ghost use Rattle.std.specs.Prelude.{◌≡◌, false, map, IfOk};
+ghost use Rattle.std.specs.List.{filter_map};
+ghost use Rattle.sqlite.specs.Held.{state};
+ghost use Rattle.table_forms.specs.Indexes.{AreIndexTexts};
+ghost use Rattle.plant_tables.specs.DeskIndexes.{desk_indexes};
+ghost use Rattle.plant_tables.specs.Missing.{missing_in, MakeLacking, GainsIndexes, HasGained};
+
+use crate::forms;
+use sqlite::{Alter, Connection, Transaction};
+use sqlite_schema::schema::Schema;
+use std::alloc::{AllocError, Global};
+use table_forms::{Fault, IndexText, Work, in_one, is_taken, make_indexes};
+
+/// The index, where its name is free.
+fn missing_in(schema: &Schema, index: &IndexText<'static>) -> Option<IndexText<'static>>
+    ensures { result ≡ missing_in schema.now index.now }
+{
+    if is_taken(schema, index.name) {
+        None
+    } else {
+        Some(*index)
+    }
+}
+
+/// Those of some indexes whose names are free. The only error is that memory was refused.
+fn missing_among(
+    alloc: Global,
+    schema: &Schema,
+    indexes: &[IndexText<'static>],
+) -> Result<Vec<IndexText<'static>>, AllocError>
+    ensures { IfOk result (λ missing. missing.items ≡ filter_map (missing_in schema.now) indexes.now) }
+{
+    indexes
+        .iter()
+        .filter_map(|index| missing_in(schema, index))
+        .collect(alloc)
+}
+
+/// The indexes of the newest schema whose names are free. The only error is that memory was refused.
+fn all_missing(alloc: Global, schema: &Schema) -> Result<Vec<IndexText<'static>>, AllocError>
+    ensures { IfOk result (λ missing. MakeLacking schema.now missing.items) }
+{
+    missing_among(alloc, schema, all_indexes())
+}
+
+/// The indexes of the newest schema.
+fn all_indexes() -> &'static [IndexText<'static>]
+    ensures named { map (λ text. text.name.now) result.now ≡ map (λ index. index.name) desk_indexes }
+    ensures made { AreIndexTexts (map (λ text. text.sql.now) result.now) desk_indexes }
+{
+    &forms::DESK_INDEXES
+}
+
+/// The making of some indexes.
+#[derive(Clone, Copy)]
+struct Indexing<'a> {
+    texts: &'a [IndexText<'a>],
+}
+
+impl<'a> Work for Indexing<'a> {
+    ghost makes = { λ w. GainsIndexes (map (λ text. text.sql.now) w.texts.now) };
+
+    fn run<S: Alter>(&self, tx: &mut Transaction<'_, S>) -> Result<(), Fault> {
+        make_indexes(tx, self.texts)
+    }
+}
+
+/// Makes the indexes of the newest schema that tables of it lack, in one transaction, whose commit is the last call of the
+/// store: those whose names are free. The tables keep their rows, and where all names are taken nothing is written.
+/// Store where the store refuses one, and then nothing is changed, but a commit that failed may be found made after a
+/// stop; Memory where there is none, and then nothing was written.
+pub fn commit_missing<S: Alter>(alloc: Global, conn: &mut Connection<S>) -> Result<(), Fault>
+    requires { conn.old.in_transaction ≡ false }
+    ensures gained { HasGained (state S.Store conn.old) (state S.Store conn.new) result }
+    ensures mode { conn.new.in_transaction ≡ false }
+{
+    match all_missing(alloc, conn.schema()) {
+        Ok(missing) => commit_these(conn, missing.as_slice()),
+        Err(_) => Err(Fault::Memory),
+    }
+}
+
+/// Makes these indexes, which are those that the tables lack, in one transaction. The one fault is [`Fault::Store`].
+fn commit_these<S: Alter>(
+    conn: &mut Connection<S>,
+    missing: &[IndexText<'static>],
+) -> Result<(), Fault>
+    requires rest { conn.old.in_transaction ≡ false }
+    requires lacked { MakeLacking (state S.Store conn.old).now.schema missing.now }
+    ensures gained { HasGained (state S.Store conn.old) (state S.Store conn.new) result }
+    ensures mode { conn.new.in_transaction ≡ false }
+{
+    if missing.is_empty() {
+        return Ok(());
+    }
+    in_one(conn, &Indexing { texts: missing })
+}

@@ -5,7 +5,8 @@
 For each number and shape a desk is made in a file: in a chain each lot is split off the one before it, in a fan all are split off one,
 and in a mesh each is merged of the two before it. Then a run of the desk is asked for the trace forward from the first lot and the
 one back from the last, some times each, and SQLite's recursive query for the same over table edge of a copy of the file. What is told
-is the nodes found, the middle time of each, and their quotient. The answers are compared.
+is the nodes found, the middle time of each, and their quotient. The answers are compared. Beside a trace is told how long the questions
+take that go on from it: where goods stand, and the genealogy with amounts.
 """
 import json
 import pathlib
@@ -28,6 +29,9 @@ QUERY = """WITH RECURSIVE reached (sort, id) AS (
     UNION SELECT 0, {far} FROM reached JOIN edge ON kind = 3 AND {near} = id WHERE sort = 0
     UNION SELECT 0, {far} FROM reached JOIN edge ON kind = {to_lot} AND {near} = id WHERE sort = 1
 ) SELECT sort, id FROM reached ORDER BY sort, id"""
+
+# The questions that go on from a trace, by its direction.
+AROUND = {"forward": ["stands", "forward_edges"], "back": ["back_edges"]}
 
 FORWARD = QUERY.format(near="a", far="b", to_batch=1, to_lot=2)
 BACK = QUERY.format(near="b", far="a", to_batch=2, to_lot=1)
@@ -126,6 +130,11 @@ def measure(desk, file, shape, edges):
         took, other = (statistics.median(seconds for _, seconds in it) for it in (ours, theirs))
         found = len(ours[0][0])
         print(f"{shape} of {edges} edges, {direction}: {found} nodes in {took * 1000:.1f} ms, by a query {other * 1000:.1f} ms: {took / other:.2f}")
+        for question in AROUND[direction]:
+            told = [desk.tell(ask=question, lot=lot) for _ in range(TIMES)]
+            counts = ", ".join(f"{len(it)} {kind}" for kind, it in told[0][0].items())
+            more = statistics.median(seconds for _, seconds in told)
+            print(f"{shape} of {edges} edges, {question}: {counts} in {more * 1000:.1f} ms: {more / took:.2f} traces")
 
 
 def filled(program, folder, sizes):

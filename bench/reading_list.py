@@ -10,7 +10,7 @@ import glob
 import re
 
 LAW = ("plant_desk_store.specs.Headline", "Headline")
-CONTRACTS = ["HasAdopted", "HasRefused", "HasExecuted", "HasAsked", "HasRun", "HasVerified"]
+CONTRACTS = ["HasAdopted", "HasRefused", "HasExecuted", "HasAsked", "HasRun", "HasVerified", "HasIndexed"]
 CALLS = "plant_desk_store.specs.Calls"
 
 HEAD = """# What to read to believe the headline

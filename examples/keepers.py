@@ -27,6 +27,12 @@ QUESTIONS = [
     '{"ask":"forward","lot":"%s"}',
     '{"ask":"back","batch":"%s"}',
     '{"ask":"forward","batch":"%s"}',
+    '{"ask":"stands","lot":"%s"}',
+    '{"ask":"stands","batch":"%s"}',
+    '{"ask":"back_edges","lot":"%s"}',
+    '{"ask":"back_edges","batch":"%s"}',
+    '{"ask":"forward_edges","lot":"%s"}',
+    '{"ask":"forward_edges","batch":"%s"}',
     '{"ask":"orders","state":"open","above":"%s"}',
     '{"ask":"orders","state":"finished","above":"%s"}',
     '{"ask":"batches","above":"%s"}',
@@ -38,6 +44,9 @@ QUESTIONS = [
     '{"ask":"definitions","class":"%s"}',
     '{"ask":"definitions","class":"RAW","above":"%s"}',
 ]
+
+# The sessions that the keeper of lists has to answer too.
+BY_LISTS = ["lists_are_told_by_the_page", "goods_stand_where_they_went"]
 
 # Two recalls behind the twenty commands, what they refuse, and a lift.
 RECALLS = b"".join(
@@ -78,13 +87,13 @@ def main(program, lists):
         store = sqlite3.connect(check.room / "twenty.db")
         store.executescript(LOWER)
         store.close()
-        # the first schema has no recalls
+        # the first schema has no recalls, which the genealogy tells too
         pairs = zip(questions, answers.splitlines(keepends=True)[wanted.count(b"\n"):])
-        lasting = [(it.encode() + b"\n", answer) for it, answer in pairs if '"recall' not in it]
+        lasting = [(it.encode() + b"\n", answer) for it, answer in pairs if '"recall' not in it and '_edges"' not in it]
         found = check.run("run", "twenty.db", told=b"".join(it for it, _ in lasting))
         check.expect("the file raised from the first schema", found, (1, b"".join(answer for _, answer in lasting), b""))
         check.expect("the keeper of lists", (ran.returncode, ran.stdout, ran.stderr), (1, answers, b""))
-        for session in pages() + [written(HERE / "sessions" / "lists_are_told_by_the_page.txt")]:
+        for session in pages() + [written(HERE / "sessions" / f"{name}.txt") for name in BY_LISTS]:
             ran = subprocess.run([pathlib.Path(lists).resolve()], input=session.told, capture_output=True, timeout=SECONDS)
             found = (ran.returncode, ran.stdout, ran.stderr)
             check.expect(f"{session.name}, by lists", found, (int(session.is_refused()), session.wanted, b""))

@@ -33,12 +33,32 @@ NEW = b"HTTP/1.1 200 OK\r\nContent-Type: application/json\r\nContent-Length: 20\
 NEW += b'{"schema":4,"seq":0}'
 ONE = NEW.replace(b'"seq":0', b'"seq":1')
 
-# What takes tables back to the first schema.
-LOWER = """
+# What takes tables back to the third schema, to the second and to the first.
+LOWER_TO_THE_THIRD = """
+    DROP INDEX definition_by_class; DROP INDEX job_by_state; DROP INDEX batch_by_closed; DROP INDEX lot_by_def;
+    DROP TABLE recall; DROP TABLE mark;
+    UPDATE meta SET schema = 3;
+"""
+LOWER_TO_THE_SECOND = LOWER_TO_THE_THIRD + "DROP TABLE receipt; UPDATE meta SET schema = 2;"
+LOWER = LOWER_TO_THE_SECOND + """
     DROP INDEX movement_by_lot; DROP INDEX movement_by_batch; DROP INDEX batch_event_by_batch;
-    DROP TABLE edge; DROP TABLE receipt; DROP TABLE recall; DROP TABLE mark;
+    DROP TABLE edge;
     UPDATE meta SET schema = 1;
 """
+
+# The indexes of a desk, with what they find.
+INDEXES = {
+    "batch_event_by_batch": "batch_event (batch)",
+    "movement_by_lot": "movement (lot)",
+    "movement_by_batch": "movement (batch)",
+    "edge_by_end": "edge (kind, b, a)",
+    "mark_by_node": "mark (kind, id)",
+    "definition_by_class": "definition (class, id)",
+    "job_by_state": "job (state, id)",
+    "batch_by_closed": "batch (closed, id)",
+    "lot_by_def": "lot (def, id)",
+    "recall_by_state": "recall (state, id)",
+}
 
 # A command over HTTP.
 POST = b"POST /v1/commands HTTP/1.1\r\nHost: a\r\nContent-Length: 59\r\n\r\n"
@@ -590,15 +610,17 @@ class Check:
             server.communicate()
 
     def a_desk_needs_no_index(self, session):
-        """Takes the indexes of the file that the session leaves away: it is as good, and answers and accepts as before."""
+        """Takes the indexes of the file that the session leaves away: it is as good, answers and accepts as before, and gets them again when
+        it is opened, but for one whose name a view has by then."""
         file = self.room / "plain.db"
         self.run("run", file.name, told=session.told)
         store = sqlite3.connect(file)
         names = "SELECT name FROM sqlite_schema WHERE type = 'index' AND sql IS NOT NULL ORDER BY name"
-        indexes = [name for (name,) in store.execute(names)]
-        self.expect("indexes", indexes, ["batch_event_by_batch", "edge_by_end", "mark_by_node", "movement_by_batch", "movement_by_lot"])
-        for name in indexes:
+        made = store.execute("SELECT name, sql FROM sqlite_schema WHERE type = 'index' AND sql IS NOT NULL").fetchall()
+        self.expect("indexes", sorted(made), sorted((name, f"CREATE INDEX {name} ON {of}") for name, of in INDEXES.items()))
+        for name in INDEXES:
             store.execute(f"DROP INDEX {name}")
+        store.execute("CREATE VIEW lot_by_def AS SELECT id FROM lot")
         store.commit()
         store.close()
         last = session.count()
@@ -614,6 +636,10 @@ class Check:
             (["verify", file.name], b"", 0, b"good schema 4 seq %d\n" % (last + 4)),
         ]:
             self.expect(" ".join(words) + " without an index", self.run(*words, told=told), (status, wanted, b""))
+        store = sqlite3.connect(file)
+        self.expect("indexes made again", [name for (name,) in store.execute(names)], sorted(set(INDEXES) - {"lot_by_def"}))
+        self.expect("what is in their way", store.execute("SELECT type, name FROM sqlite_schema WHERE name = 'lot_by_def'").fetchall(), [("view", "lot_by_def")])
+        store.close()
 
     def commands_are_numbered_up_to_their_limit(self):
         """Tells a desk whose commands have all their numbers but one."""

@@ -1,5 +1,5 @@
 -- Commands with references act once.
-use Rattle.std.proofs.Common.{◌≡◌, ◌∙◌, ℕ, ◌+◌, Bool, true, false, cond, List, [], ◌∷◌, ◌++◌, Option, Some, None, refl, sym, ap, subst, find}
+use Rattle.std.proofs.Common.{◌≡◌, ◌∙◌, ℕ, Bool, true, false, cond, List, [], ◌∷◌, ◌++◌, Option, Some, None, refl, sym, ap, subst, find}
 use Rattle.std.specs.Prelude.{not, IsSome, is_some, is_none, ◌||◌, nat_lt}
 use Rattle.std.specs.List.{list_any}
 use Rattle.std.proofs.lemmas.Bool.{false≢true}
@@ -18,7 +18,7 @@ use Rattle.plant_rules.specs.Step.{step, step_body, step_plain, unless_refused, 
 use Rattle.plant_rules.proofs.Noted.{next_receipts, blind_step, blind_wrong}
 use Rattle.plant_desk.specs.Runs.{fold}
 use Rattle.plant_desk.specs.Sendings.{Outcome, answered, stopped_before, stopped_after, Sending, after, sent, with_answer, answered_of, BeginsWith, IsSentAgain, IsPersistent}
-use Rattle.plant_desk.specs.Once.{accepted, is_same_reference, is_known, once_after, once, plain, but_receipts, ActOnce}
+use Rattle.plant_desk.specs.Once.{accepted, is_same_reference, is_known, once_after, plain, but_receipts, ActOnce}
 
 -- ---- a command whose reference is kept changes nothing
 

@@ -1,6 +1,5 @@
 -- A list of what a recall reaches is the one that is answered.
 use Rattle.std.proofs.Common.{◌≡◌, ℕ, List, []}
-use Rattle.std.specs.Prelude.{Contains}
 use Rattle.std.specs.List.Sorted.{IsStrictlySortedBy}
 use Rattle.plant_trace.specs.Nodes.{node_cmp, node_total}
 use Rattle.plant_trace.specs.Reach.{Lists}

@@ -1,5 +1,5 @@
 -- What is answered of a recall.
-use Rattle.std.specs.Prelude.{Bool, ℕ, List, [], Option, Some, None, if◌then◌else◌}
+use Rattle.std.specs.Prelude.{ℕ, List, [], Option, Some, None, if◌then◌else◌}
 use Rattle.plant_base.specs.Recalls.{is_open}
 use Rattle.plant_base.specs.State.{State}
 use Rattle.plant_base.specs.declared.refusal.Refusal.TheVariants.{UnknownRecall}

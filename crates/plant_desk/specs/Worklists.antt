@@ -1,5 +1,5 @@
 -- What is answered of a worklist.
-use Rattle.std.specs.Prelude.{ℕ, ◌-◌, Bool, List, Option, Some, None, length, map, nat_lt, option_map, slice_get, if◌then◌else◌}
+use Rattle.std.specs.Prelude.{ℕ, ◌-◌, List, Option, Some, None, length, map, nat_lt, option_map, slice_get, if◌then◌else◌}
 use Rattle.std.specs.List.{filter_map}
 use Rattle.plant_base.specs.State.{State, class_at, control_lines_of, definition_at, lot_at}
 use Rattle.plant_base.specs.declared.refusal.Refusal.TheVariants.{UnknownClass, UnknownDefinition, UnknownLot}

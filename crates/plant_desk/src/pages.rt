@@ -1,12 +1,14 @@
-// Pages of the lists: what comes after an id, by the order in which the rows stand.
+// Pages of the lists: what comes after an id, by the order in which the rows stand; and the movements of a lot.
 ghost use Rattle.std.specs.Prelude.{◌≡◌, filter, map, IfOk};
 ghost use Rattle.plant_view.specs.Tables.{batch_row};
 ghost use Rattle.plant_worklists.specs.Worklists.{is_order_in, is_open_batch, is_lot_of, is_hold_on, is_open_recall, is_definition_in};
 
 use crate::batches::batch_row;
+use crate::lots::lot_movements;
 use crate::view::ListsView;
 use plant_base::{
-    Batch, BatchEvent, BatchRow, ControlLine, Definition, Hold, Id, Job, JobState, Lot, Recall,
+    Batch, BatchEvent, BatchRow, ControlLine, Definition, Hold, Id, Job, JobState, Lot, Movement,
+    Recall,
 };
 use plant_worklists::{Page, Worklists, first_page, is_above};
 use std::alloc::{AllocError, Global};
@@ -51,6 +53,10 @@ impl<'a> Worklists for ListsView<'a> {
     ) -> Result<Page<Definition>, AllocError> {
         let rows = definitions_among(self.lists.alloc, &self.lists.definitions, class, above)?;
         Ok(first_page(rows))
+    }
+
+    fn lot_movements(&mut self, lot: Id) -> Result<Vec<Movement>, AllocError> {
+        lot_movements(self.lists.alloc, &self.lists.movements, lot)
     }
 }
 

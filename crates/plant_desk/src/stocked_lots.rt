@@ -92,7 +92,8 @@ fn stocked_lots<V: View>(
     Ok(rows)
 }
 
-fn if_stocked(answer: LotAnswer) -> Option<LotAnswer>
+/// What is known of a lot, where it has stock.
+pub(crate) fn if_stocked(answer: LotAnswer) -> Option<LotAnswer>
     ensures { result ≡ if_stocked answer }
 {
     if answer.stock > 0 { Some(answer) } else { None }

@@ -124,6 +124,8 @@ fn answer_status(answer: &DeskAnswer) -> Status
         | DeskAnswer::Order(_)
         | DeskAnswer::Batch(_)
         | DeskAnswer::Trace(_)
+        | DeskAnswer::Stands(_)
+        | DeskAnswer::Edges(_)
         | DeskAnswer::Recall(_)
         | DeskAnswer::Moment { .. }
         | DeskAnswer::List(_) => Status::Success,
@@ -141,6 +143,8 @@ fn form_for(form: Form, answer: &DeskAnswer) -> Form
         | DeskAnswer::Lot(_)
         | DeskAnswer::Order(_)
         | DeskAnswer::Trace(_)
+        | DeskAnswer::Stands(_)
+        | DeskAnswer::Edges(_)
         | DeskAnswer::Recall(_)
         | DeskAnswer::Moment { .. }
         | DeskAnswer::List(_) => Form::Json,
@@ -161,6 +165,8 @@ fn text_in(alloc: Global, form: Form, answer: &DeskAnswer) -> Result<String, All
         | DeskAnswer::Lot(_)
         | DeskAnswer::Order(_)
         | DeskAnswer::Trace(_)
+        | DeskAnswer::Stands(_)
+        | DeskAnswer::Edges(_)
         | DeskAnswer::Recall(_)
         | DeskAnswer::Moment { .. }
         | DeskAnswer::List(_) => answer_text(alloc, answer),

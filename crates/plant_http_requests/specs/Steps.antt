@@ -41,6 +41,12 @@ question_of kind.Batch id = Q.Batch id
 question_of kind.BatchBack id = Q.Trace Back (node.Batch id)
 question_of kind.BatchForward id = Q.Trace Forward (node.Batch id)
 question_of kind.Record id = Q.Batch id
+question_of kind.LotStands id = Q.Stands (node.Lot id)
+question_of kind.BatchStands id = Q.Stands (node.Batch id)
+question_of kind.LotBackEdges id = Q.Edges Back (node.Lot id)
+question_of kind.LotForwardEdges id = Q.Edges Forward (node.Lot id)
+question_of kind.BatchBackEdges id = Q.Edges Back (node.Batch id)
+question_of kind.BatchForwardEdges id = Q.Edges Forward (node.Batch id)
 
 abbrev pub form_of : Kind → Form
 form_of kind.Order = Json
@@ -51,6 +57,12 @@ form_of kind.Batch = Json
 form_of kind.BatchBack = Json
 form_of kind.BatchForward = Json
 form_of kind.Record = Record
+form_of kind.LotStands = Json
+form_of kind.BatchStands = Json
+form_of kind.LotBackEdges = Json
+form_of kind.LotForwardEdges = Json
+form_of kind.BatchBackEdges = Json
+form_of kind.BatchForwardEdges = Json
 
 -- a POST has a length
 abbrev pub post_step : Content → Option ℕ → HeadStep

@@ -50,6 +50,12 @@ fn question_of(kind: Kind, id: Id) -> Question
         Kind::Batch | Kind::Record => Question::Batch(id),
         Kind::BatchBack => Question::Trace(Direction::Back, Node::Batch(id)),
         Kind::BatchForward => Question::Trace(Direction::Forward, Node::Batch(id)),
+        Kind::LotStands => Question::Stands(Node::Lot(id)),
+        Kind::BatchStands => Question::Stands(Node::Batch(id)),
+        Kind::LotBackEdges => Question::Edges(Direction::Back, Node::Lot(id)),
+        Kind::LotForwardEdges => Question::Edges(Direction::Forward, Node::Lot(id)),
+        Kind::BatchBackEdges => Question::Edges(Direction::Back, Node::Batch(id)),
+        Kind::BatchForwardEdges => Question::Edges(Direction::Forward, Node::Batch(id)),
     }
 }
 
@@ -64,7 +70,13 @@ fn form_of(kind: Kind) -> Form
         | Kind::LotForward
         | Kind::Batch
         | Kind::BatchBack
-        | Kind::BatchForward => Form::Json,
+        | Kind::BatchForward
+        | Kind::LotStands
+        | Kind::BatchStands
+        | Kind::LotBackEdges
+        | Kind::LotForwardEdges
+        | Kind::BatchBackEdges
+        | Kind::BatchForwardEdges => Form::Json,
     }
 }
 

@@ -65,6 +65,16 @@ batch_routes rows =
     (adds (with_id (codes "/v1/batches/") (codes "batch") (codes "/back") kind.BatchBack)
     (adds (with_id (codes "/v1/batches/") (codes "batch") [] kind.Batch) rows)))
 
+-- the routes of what lies around a lot or batch
+abbrev pub around_routes : RowsOf (RouteOf Route) → RowsOf (RouteOf Route)
+around_routes rows =
+    adds (with_id (codes "/v1/batches/") (codes "batch") (codes "/forward_edges") kind.BatchForwardEdges)
+    (adds (with_id (codes "/v1/batches/") (codes "batch") (codes "/back_edges") kind.BatchBackEdges)
+    (adds (with_id (codes "/v1/batches/") (codes "batch") (codes "/stands") kind.BatchStands)
+    (adds (with_id (codes "/v1/lots/") (codes "lot") (codes "/forward_edges") kind.LotForwardEdges)
+    (adds (with_id (codes "/v1/lots/") (codes "lot") (codes "/back_edges") kind.LotBackEdges)
+    (adds (with_id (codes "/v1/lots/") (codes "lot") (codes "/stands") kind.LotStands) rows)))))
+
 -- the routes of a list that is of something
 abbrev pub routes_of : List ℕ → List ℕ → ListKind → RowsOf (RouteOf Route) → RowsOf (RouteOf Route)
 routes_of before name kind rows =
@@ -90,11 +100,11 @@ list_routes rows =
 -- all routes
 abbrev pub the_routes : RowsOf (RouteOf Route)
 the_routes =
-    list_routes (adds (plain (codes "/v1/moment") route.Moment)
+    list_routes (around_routes (adds (plain (codes "/v1/moment") route.Moment)
     (batch_routes (lot_routes (order_routes
     (adds (plain (codes "/v1/orders") route.Orders)
     (adds (plain (codes "/v1/commands") route.Commands)
-    (adds (plain (codes "/v1/desk") route.Desk) [])))))))
+    (adds (plain (codes "/v1/desk") route.Desk) []))))))))
 
 -- what stands in the place of the first parameter
 abbrev pub first_part : List (List ℕ × List ℕ) → Option (List ℕ)

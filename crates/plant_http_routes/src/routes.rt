@@ -2,7 +2,7 @@
 ghost use Rattle.std.specs.Prelude.{◌≡◌, IfOk, OnOk, option_and_then};
 ghost use Rattle.std.specs.Str.{IsAscii};
 ghost use Rattle.matchit.specs.Seek.{first};
-ghost use Rattle.plant_http_routes.specs.Routes.{the_routes, list_routes, target_by, found_in, target_of};
+ghost use Rattle.plant_http_routes.specs.Routes.{the_routes, around_routes, list_routes, target_by, found_in, target_of};
 
 use crate::lists::list_at;
 use crate::path::{ascii_text, id_in};
@@ -33,6 +33,18 @@ pub enum Kind {
     BatchForward,
     /// `/v1/batches/{batch}/record`: the batch record.
     Record,
+    /// `/v1/lots/{lot}/stands`: where the goods of the lot stand.
+    LotStands,
+    /// `/v1/batches/{batch}/stands`: where the goods of the batch stand.
+    BatchStands,
+    /// `/v1/lots/{lot}/back_edges`: the genealogy back from the lot.
+    LotBackEdges,
+    /// `/v1/lots/{lot}/forward_edges`: the genealogy forward from the lot.
+    LotForwardEdges,
+    /// `/v1/batches/{batch}/back_edges`: the genealogy back from the batch.
+    BatchBackEdges,
+    /// `/v1/batches/{batch}/forward_edges`: the genealogy forward from the batch.
+    BatchForwardEdges,
 }
 
 /// A route, without what a path gives it.
@@ -110,8 +122,28 @@ fn desk_router(alloc: Global) -> Result<Router<Route>, InsertError>
     )?;
     router.insert("/v1/batches/{batch}/record", Route::Named(Kind::Record))?;
     router.insert("/v1/moment", Route::Moment)?;
+    add_around(&mut router)?;
     add_lists(&mut router)?;
     Ok(router)
+}
+
+/// Adds the routes of what lies around a lot or batch.
+fn add_around(router: &mut Router<Route>) -> Result<(), InsertError>
+    ensures { OnOk result (router.new ≡ around_routes router.old) }
+{
+    let lot_stands = Route::Named(Kind::LotStands);
+    let lot_back = Route::Named(Kind::LotBackEdges);
+    let lot_forward = Route::Named(Kind::LotForwardEdges);
+    let batch_stands = Route::Named(Kind::BatchStands);
+    let batch_back = Route::Named(Kind::BatchBackEdges);
+    let batch_forward = Route::Named(Kind::BatchForwardEdges);
+    router.insert("/v1/lots/{lot}/stands", lot_stands)?;
+    router.insert("/v1/lots/{lot}/back_edges", lot_back)?;
+    router.insert("/v1/lots/{lot}/forward_edges", lot_forward)?;
+    router.insert("/v1/batches/{batch}/stands", batch_stands)?;
+    router.insert("/v1/batches/{batch}/back_edges", batch_back)?;
+    router.insert("/v1/batches/{batch}/forward_edges", batch_forward)?;
+    Ok(())
 }
 
 /// Adds the routes of lists.

@@ -55,6 +55,19 @@ batch_is m batch = by m.kind
     by (kind.Split to) = refl
     by (kind.Merged to) = refl
 
+-- a movement that names the lot first
+pub lot_is : (m : Movement) (lot : List ℕ) → has_values (4 ∷ []) (Text lot ∷ []) (row_of_movement m) ≡ same m.lot lot
+lot_is m lot = by m.kind
+  where
+    by : (k : MovementKind) → has_values (4 ∷ []) (Text lot ∷ []) (row_of_movement (record m { kind = k })) ≡ same m.lot lot
+    by kind.Received = one_text m.lot lot
+    by (kind.Consumed batch) = one_text m.lot lot
+    by (kind.Produced batch) = one_text m.lot lot
+    by kind.Scrapped = one_text m.lot lot
+    by (kind.Divided to) = one_text m.lot lot
+    by (kind.Split to) = one_text m.lot lot
+    by (kind.Merged to) = one_text m.lot lot
+
 both : (a b : Bool) → (a && (b && true)) ≡ (b && a)
 both true true = refl
 both true false = refl

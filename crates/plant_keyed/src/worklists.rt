@@ -1,9 +1,10 @@
-// Pages of the desk's lists, each by a query with the value that the list is of, the place to go on from, and a limit.
+// Pages of the desk's lists, each by a query with the value that the list is of, the place to go on from, and a limit; and the
+// movements of a lot.
 
 use crate::keyed::Keyed;
 use crate::texts;
-use plant_base::{BatchRow, Definition, Hold, Id, Job, JobState, Lot, Recall};
-use plant_tables::forms::{BATCH, DEFINITION, HOLD, JOB, LOT, RECALL};
+use plant_base::{BatchRow, Definition, Hold, Id, Job, JobState, Lot, Movement, Recall};
+use plant_tables::forms::{BATCH, DEFINITION, HOLD, JOB, LOT, MOVEMENT, RECALL};
 use plant_tables_columns::RecallState;
 use plant_tables_columns::storing::{id as text_of, truth, word};
 use plant_worklists::{Page, Worklists};
@@ -43,5 +44,9 @@ impl<'a, S: Alter> Worklists for Keyed<'a, S> {
             text_of(&class),
             &above,
         )
+    }
+
+    fn lot_movements(&mut self, lot: Id) -> Result<Vec<Movement>, Fault> {
+        self.found(&MOVEMENT, texts::MOVEMENTS_OF_LOT, &[text_of(&lot)])
     }
 }

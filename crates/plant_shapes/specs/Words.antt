@@ -51,6 +51,9 @@ question_kind word =
     if bytes_eq word (codes "recall") then Some q.Recall else (
     if bytes_eq word (codes "back") then Some q.Back else (
     if bytes_eq word (codes "forward") then Some q.Forward else (
+    if bytes_eq word (codes "stands") then Some q.Stands else (
+    if bytes_eq word (codes "back_edges") then Some q.BackEdges else (
+    if bytes_eq word (codes "forward_edges") then Some q.ForwardEdges else (
     if bytes_eq word (codes "moment") then Some q.Moment else (
     if bytes_eq word (codes "orders") then Some (q.List list.Orders) else (
     if bytes_eq word (codes "batches") then Some (q.List list.Batches) else (
@@ -58,7 +61,7 @@ question_kind word =
     if bytes_eq word (codes "holds") then Some (q.List list.Holds) else (
     if bytes_eq word (codes "recalls") then Some (q.List list.Recalls) else (
     if bytes_eq word (codes "definitions") then Some (q.List list.Definitions) else (
-    None))))))))))))))
+    None)))))))))))))))))
 
 -- the recipe's line of a kind
 abbrev pub line_kind : List ℕ → Option Row

@@ -57,7 +57,7 @@ pub enum Problem {
     NoJson,
     /// Its object has neither `do` nor `ask`.
     Neither,
-    /// It asks for a trace and names neither a lot nor a batch.
+    /// It asks about the genealogy of a lot or batch and names neither.
     NothingTraced,
     /// Its object has this flaw.
     Object(Flaw),

@@ -38,7 +38,7 @@ one_id _ = None
 abbrev pub id_named : Member → Data → Result (List ℕ) Problem
 id_named which d = object (exactly (m.Ask ∷ which ∷ []) d >>= (λ fs. or_no_form (one_id fs)))
 
--- the lot or the batch that a question about a trace names
+-- the lot or the batch that a question about the genealogy names
 abbrev pub node_named : Data → Result Node Problem
 node_named d =
     if is_some (get (codes "lot") d) then id_named m.Lot d >>= (λ id. Ok (Lot id)) else (
@@ -47,6 +47,9 @@ node_named d =
 
 abbrev pub trace_of : Direction → Data → Result Question Problem
 trace_of direction d = node_named d >>= (λ node. Ok (Q.Trace direction node))
+
+abbrev pub edges_of : Direction → Data → Result Question Problem
+edges_of direction d = node_named d >>= (λ node. Ok (Q.Edges direction node))
 
 -- the place that a page goes on from, none where none is given
 abbrev pub place_in : Field → Option (Option (List ℕ))
@@ -93,6 +96,9 @@ question_for q.Lot d = id_named m.Lot d >>= (λ id. Ok (Q.Lot id))
 question_for q.Order d = id_named m.Order d >>= (λ id. Ok (Q.Order id))
 question_for q.Batch d = id_named m.Batch d >>= (λ id. Ok (Q.Batch id))
 question_for q.Recall d = id_named m.Recall d >>= (λ id. Ok (Q.Recall id))
+question_for q.Stands d = node_named d >>= (λ node. Ok (Q.Stands node))
+question_for q.BackEdges d = edges_of Back d
+question_for q.ForwardEdges d = edges_of Forward d
 question_for q.Back d = trace_of Back d
 question_for q.Forward d = trace_of Forward d
 

@@ -2,7 +2,7 @@
 ghost use Rattle.std.specs.Prelude.{◌≡◌, true, IfErr};
 ghost use Rattle.serde_json.specs.View.{view};
 ghost use Rattle.plant_shapes.specs.Problems.{problem_told};
-ghost use Rattle.plant_text.specs.Questions.{asked_alone, id_named, node_named, trace_of, place_in, whole_list, list_of, list_in};
+ghost use Rattle.plant_text.specs.Questions.{asked_alone, id_named, node_named, trace_of, edges_of, place_in, whole_list, list_of, list_in};
 ghost use Rattle.plant_text.specs.Questions.{list_asked, question_for, kind_at, question_of};
 
 use plant_base::Id;
@@ -38,7 +38,7 @@ fn id_named(value: &Value, member: Member) -> Result<Id, Problem>
     }
 }
 
-/// The lot or the batch that a question about a trace names.
+/// The lot or the batch that a question about the genealogy names.
 fn node_named(value: &Value) -> Result<Node, Problem>
     ensures { result ≡ node_named (view value.now) }
 {
@@ -57,6 +57,16 @@ fn trace_of(value: &Value, direction: Direction) -> Result<Question, Problem>
 {
     match node_named(value) {
         Ok(node) => Ok(Question::Trace(direction, node)),
+        Err(problem) => Err(problem),
+    }
+}
+
+/// The question about the edges in a direction.
+fn edges_of(value: &Value, direction: Direction) -> Result<Question, Problem>
+    ensures { result ≡ edges_of direction (view value.now) }
+{
+    match node_named(value) {
+        Ok(node) => Ok(Question::Edges(direction, node)),
         Err(problem) => Err(problem),
     }
 }
@@ -144,6 +154,12 @@ fn question_for(value: &Value, kind: QuestionKind) -> Result<Question, Problem>
             Ok(recall) => Ok(Question::Recall(recall)),
             Err(problem) => Err(problem),
         },
+        QuestionKind::Stands => match node_named(value) {
+            Ok(node) => Ok(Question::Stands(node)),
+            Err(problem) => Err(problem),
+        },
+        QuestionKind::BackEdges => edges_of(value, Direction::Back),
+        QuestionKind::ForwardEdges => edges_of(value, Direction::Forward),
         QuestionKind::Back => trace_of(value, Direction::Back),
         QuestionKind::Forward => trace_of(value, Direction::Forward),
     }

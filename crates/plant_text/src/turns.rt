@@ -55,6 +55,8 @@ pub fn is_unknown(answer: &Answer) -> bool
         | Answer::Order(_)
         | Answer::Batch(_)
         | Answer::Trace(_)
+        | Answer::Stands(_)
+        | Answer::Edges(_)
         | Answer::Recall(_)
         | Answer::Moment { .. }
         | Answer::List(_) => false,

@@ -4,6 +4,11 @@ use Rattle.serde_json.specs.Data.{Data}
 use Rattle.serde_json.specs.View.{items_of}
 use Rattle.serde_json.specs.Written.{has_float, items_have_float}
 use Rattle.plant_base.specs.declared.rows.Sublot.{Sublot}
+use Rattle.plant_view.specs.Genealogy.{ends_of}
+use Rattle.plant_desk.specs.declared.genealogy.BookedEdge.{BookedEdge}
+use Rattle.plant_desk.specs.declared.genealogy.Genealogy.{Genealogy}
+use Rattle.plant_desk.specs.declared.genealogy.NodeAnswer.{NodeAnswer}
+use Rattle.plant_desk.specs.declared.genealogy.NodeAnswer.TheVariants as known
 use Rattle.plant_desk.specs.declared.listed.Listed.{Listed}
 use Rattle.plant_desk.specs.declared.listed.Listed.TheVariants as listed
 use Rattle.plant_desk.specs.declared.listed.OpenBatch.{OpenBatch}
@@ -16,8 +21,10 @@ use Rattle.plant_text_answers.specs.BatchAnswers.{booking_data, bookings_data, b
 use Rattle.plant_trace.specs.declared.node.Node.{Node}
 use Rattle.plant_trace.specs.declared.node.Node.TheVariants.{Lot, Batch}
 use Rattle.plant_text_answers.specs.RecallAnswers.{recall_data}
-use Rattle.plant_text_answers.specs.TraceAnswers.{nodes_data, trace_data}
-use Rattle.plant_text_answers.specs.Answers.{lot_data, order_data}
+use Rattle.plant_text_answers.specs.EdgeAnswers.{node_item, edge_item, genealogy_data}
+use Rattle.plant_text_answers.specs.TraceAnswers.{node_data, nodes_data, trace_data}
+use Rattle.plant_text_answers.specs.Answers.{order_data}
+use Rattle.plant_text_answers.specs.LotAnswers.{lot_data, stands_data}
 use Rattle.plant_text_answers.specs.ListAnswers.{order_item, batch_item, lot_item, hold_item, recall_item, definition_item, listed_data}
 use Rattle.plant_text_answers.specs.Parts.{sublots_data, id_or_null}
 
@@ -57,11 +64,32 @@ no_float_in_trace nodes = rw (no_float_in_nodes nodes) refl
 pub no_float_in_recall : (a : RecallAnswer) → has_float (recall_data a) ≡ false
 no_float_in_recall a = rw (no_float_in_nodes a.nodes) refl
 
--- ---- pages
+-- ---- lists
 
 no_float_in_rows : {R : Type 0} (item : R → Data) → ((r : R) → has_float (item r) ≡ false) → (rows : List R) → items_have_float (items_of (map item rows)) ≡ false
 no_float_in_rows item none [] = refl
 no_float_in_rows item none (r ∷ rows) = rw (none r) (no_float_in_rows item none rows)
+
+pub no_float_in_stands : (lots : List LotAnswer) → has_float (stands_data lots) ≡ false
+no_float_in_stands lots = rw (no_float_in_rows lot_data no_float_in_lot lots) refl
+
+-- ---- genealogy
+
+no_float_in_node : (n : Node) → has_float (node_data n) ≡ false
+no_float_in_node (Lot id) = refl
+no_float_in_node (Batch id) = refl
+
+no_float_in_known : (n : NodeAnswer) → has_float (node_item n) ≡ false
+no_float_in_known (known.Lot l) = refl
+no_float_in_known (known.Batch id) = refl
+
+no_float_in_edge : (b : BookedEdge) → has_float (edge_item b) ≡ false
+no_float_in_edge b = rw (no_float_in_node (ends_of b.edge).0, no_float_in_node (ends_of b.edge).1) refl
+
+pub no_float_in_genealogy : (g : Genealogy) → has_float (genealogy_data g) ≡ false
+no_float_in_genealogy g = rw (no_float_in_rows edge_item no_float_in_edge g.edges, no_float_in_rows node_item no_float_in_known g.nodes) refl
+
+-- ---- pages
 
 no_float_in_open : (b : OpenBatch) → has_float (batch_item b) ≡ false
 no_float_in_open b = rw (no_float_in_id b.next_phase) refl

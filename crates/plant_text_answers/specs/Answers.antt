@@ -1,16 +1,17 @@
 -- The JSON trees of answers, and their texts with no blanks.
 use Rattle.std.specs.Prelude.{ℕ, List, codes}
-use Rattle.serde_json.specs.Data.{Data, boolean, string, array, object, member, no_members}
+use Rattle.serde_json.specs.Data.{Data, string, object, member, no_members}
 use Rattle.serde_json.specs.Written.{compact_text}
 use Rattle.plant_base.specs.Words.{job_state_name}
 use Rattle.plant_desk.specs.declared.question.Answer.{Answer}
 use Rattle.plant_desk.specs.declared.question.Answer.TheVariants as A
-use Rattle.plant_desk.specs.declared.question.LotAnswer.{LotAnswer}
 use Rattle.plant_desk.specs.declared.question.OrderAnswer.{OrderAnswer}
 use Rattle.plant_text_answers.specs.BatchAnswers.{batch_data}
+use Rattle.plant_text_answers.specs.EdgeAnswers.{genealogy_data}
 use Rattle.plant_text_answers.specs.ListAnswers.{listed_data}
+use Rattle.plant_text_answers.specs.LotAnswers.{lot_data, stands_data}
 use Rattle.plant_text_answers.specs.Natural.{natural}
-use Rattle.plant_text_answers.specs.Parts.{sublots_data, id_or_null}
+use Rattle.plant_text_answers.specs.Parts.{id_or_null}
 use Rattle.plant_text_answers.specs.RecallAnswers.{recall_data}
 use Rattle.plant_text_answers.specs.TraceAnswers.{trace_data}
 use Rattle.plant_text_answers.specs.Replies.{refusal_text}
@@ -20,10 +21,6 @@ desk_data schema seq = object (member (codes "schema") (natural schema) (member 
 
 abbrev pub moment_data : ℕ → Data
 moment_data at = object (member (codes "at") (natural at) no_members)
-
-abbrev pub lot_data : LotAnswer → Data
-lot_data a = object (member (codes "def") (string a.def) (member (codes "held") (boolean a.held) (member (codes "lot") (string a.lot)
-    (member (codes "stock") (natural a.stock) (member (codes "sublots") (array (sublots_data a.sublots)) no_members)))))
 
 abbrev pub order_data : OrderAnswer → Data
 order_data a = object (member (codes "batch") (id_or_null a.batch) (member (codes "due") (string a.job.order.due) (member (codes "order") (string a.job.order.order)
@@ -37,6 +34,8 @@ text_of_answer (A.Lot lot) = compact_text (lot_data lot)
 text_of_answer (A.Order order) = compact_text (order_data order)
 text_of_answer (A.Batch v) = compact_text (batch_data v)
 text_of_answer (A.Trace nodes) = compact_text (trace_data nodes)
+text_of_answer (A.Stands lots) = compact_text (stands_data lots)
+text_of_answer (A.Edges genealogy) = compact_text (genealogy_data genealogy)
 text_of_answer (A.Recall recall) = compact_text (recall_data recall)
 text_of_answer (A.Moment at) = compact_text (moment_data at)
 text_of_answer (A.List page) = compact_text (listed_data page)

@@ -1,6 +1,8 @@
 pub mod Answers
 pub mod BatchAnswers
+pub mod EdgeAnswers
 pub mod ListAnswers
+pub mod LotAnswers
 pub mod Natural
 pub mod Parts
 pub mod RecallAnswers

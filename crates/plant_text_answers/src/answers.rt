@@ -2,16 +2,18 @@
 ghost use Rattle.std.specs.Prelude.{◌≡◌, IfOk, string_bytes};
 ghost use Rattle.serde_json.specs.View.{view};
 ghost use Rattle.serde_json.specs.Written.{compact_text};
-ghost use Rattle.plant_text_answers.specs.Answers.{desk_data, moment_data, lot_data, order_data, text_of_answer};
+ghost use Rattle.plant_text_answers.specs.Answers.{desk_data, moment_data, order_data, text_of_answer};
 
 use crate::batch_answers::batch_text;
+use crate::edge_answers::genealogy_text;
 use crate::list_answers::listed_text;
-use crate::parts::{id_value, sublots_value};
+use crate::lot_answers::{lot_text, stands_text};
+use crate::parts::id_value;
 use crate::recall_answers::recall_text;
 use crate::replies::refusal_line;
 use crate::trace_answers::trace_text;
 use plant_base::Moment;
-use plant_desk::{Answer, LotAnswer, OrderAnswer};
+use plant_desk::{Answer, OrderAnswer};
 use serde_json::{Value, json};
 use std::alloc::{AllocError, Global};
 
@@ -25,23 +27,6 @@ fn moment_value(alloc: Global, at: Moment) -> Result<Value, AllocError>
     ensures { IfOk result (λ v. view v ≡ moment_data at) }
 {
     json!(in alloc; {"at": (at.get())})
-}
-
-fn lot_value(alloc: Global, lot: &LotAnswer) -> Result<Value, AllocError>
-    ensures { IfOk result (λ v. view v ≡ lot_data lot.now) }
-{
-    let sublots = sublots_value(alloc, lot.sublots.as_slice())?;
-    json!(in alloc; {
-        "def": (lot.def.as_str()), "held": (lot.held), "lot": (lot.lot.as_str()), "stock": (lot.stock),
-        "sublots": sublots
-    })
-}
-
-fn lot_text(alloc: Global, lot: &LotAnswer) -> Result<String, AllocError>
-    ensures { IfOk result (λ s. string_bytes s ≡ compact_text (lot_data lot.now)) }
-{
-    let value = lot_value(alloc, lot)?;
-    value.to_string(alloc)
 }
 
 fn order_value(alloc: Global, answer: &OrderAnswer) -> Result<Value, AllocError>
@@ -72,6 +57,9 @@ fn order_text(alloc: Global, answer: &OrderAnswer) -> Result<String, AllocError>
 ///   "next":N,"order":ID,"phases":N,"produced":[{"amount":N,"def":ID,"lot":ID,"seq":N}],"recipe":ID,"size":N,
 ///   "state":WORD,"version":N}`
 /// - of a trace `{"nodes":[{"lot":ID},{"batch":ID}]}`
+/// - of where goods stand `{"lots":[LOT]}`, each lot as that of a lot
+/// - of the genealogy around a lot or batch `{"edges":[{"amount":N,"from":{"lot":ID},"to":{"batch":ID}}],
+///   "nodes":[{"def":ID,"held":BOOL,"lot":ID,"recalled":BOOL,"stock":N,"unit":UNIT},{"batch":ID}]}`
 /// - of a recall `{"lot":ID,"nodes":[{"lot":ID},{"batch":ID}],"recall":ID,"state":WORD}`
 /// - of the desk's moment `{"at":N}`
 /// - of a page of orders `{"more":BOOL,"orders":[{"due":"YYYY-MM-DD","order":ID,"priority":N,"recipe":ID,"size":N,"version":N}]}`
@@ -91,6 +79,8 @@ pub fn answer_text(alloc: Global, answer: &Answer) -> Result<String, AllocError>
         Answer::Order(order) => order_text(alloc, order),
         Answer::Batch(batch) => batch_text(alloc, batch),
         Answer::Trace(nodes) => trace_text(alloc, nodes.as_slice()),
+        Answer::Stands(lots) => stands_text(alloc, lots.as_slice()),
+        Answer::Edges(genealogy) => genealogy_text(alloc, genealogy),
         Answer::Recall(recall) => recall_text(alloc, recall),
         Answer::Moment { at } => moment_value(alloc, *at)?.to_string(alloc),
         Answer::List(listed) => listed_text(alloc, listed),

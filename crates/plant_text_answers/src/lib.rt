@@ -3,8 +3,10 @@
 
 mod answers;
 mod batch_answers;
+mod edge_answers;
 mod list_answers;
 mod listed_rows;
+mod lot_answers;
 mod parts;
 mod recall_answers;
 mod replies;

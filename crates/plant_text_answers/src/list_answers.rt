@@ -15,7 +15,7 @@ use serde_json::{Value, json};
 use std::alloc::{AllocError, Global};
 
 /// The list of what is shown of rows.
-fn rows_value<R: Shown>(alloc: Global, rows: &[R]) -> Result<Value, AllocError>
+pub(crate) fn rows_value<R: Shown>(alloc: Global, rows: &[R]) -> Result<Value, AllocError>
     ensures { IfOk result (λ v. view v ≡ array (items_of (map R.shows rows.now))) }
 {
     let mut list = Vec::new(alloc);

@@ -9,7 +9,8 @@ use plant_trace::Node;
 use serde_json::{Value, json};
 use std::alloc::{AllocError, Global};
 
-fn node_value(alloc: Global, node: &Node) -> Result<Value, AllocError>
+/// A lot or batch by its id.
+pub(crate) fn node_value(alloc: Global, node: &Node) -> Result<Value, AllocError>
     ensures { IfOk result (λ v. view v ≡ node_data node.now) }
 {
     match node {

@@ -9,6 +9,7 @@ use Rattle.plant_base.specs.declared.rows.Definition.{Definition}
 use Rattle.plant_base.specs.declared.rows.Hold.{Hold}
 use Rattle.plant_base.specs.declared.rows.Job.{Job}
 use Rattle.plant_base.specs.declared.rows.Lot.{Lot}
+use Rattle.plant_base.specs.declared.rows.Movement.{Movement}
 use Rattle.plant_base.specs.declared.rows.Recall.{Recall}
 use Rattle.plant_base.specs.declared.states.JobState.{JobState}
 use Rattle.plant_view.specs.Tables.{batch_row}
@@ -63,3 +64,7 @@ is_definition_in class above d = same d.class class && is_above above d.id
 -- the definitions of a class
 abbrev pub definitions_in : State → List ℕ → Option (List ℕ) → List Definition
 definitions_in s class above = filter (is_definition_in class above) s.definitions
+
+-- the movements that name a lot first: what it was received or produced by, what was divided in it and what left it
+abbrev pub lot_movements : State → List ℕ → List Movement
+lot_movements s lot = filter (λ m. same m.lot lot) s.movements

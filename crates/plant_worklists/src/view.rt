@@ -1,9 +1,9 @@
 use crate::page::Page;
-use plant_base::{BatchRow, Definition, Hold, Id, Job, JobState, Lot, Recall};
+use plant_base::{BatchRow, Definition, Hold, Id, Job, JobState, Lot, Movement, Recall};
 use plant_view::View;
 
-/// The rows of a state, and pages of its lists: of each list what comes after an id, or its front where none is given. The
-/// id needn't be there.
+/// The rows of a state, and what questions alone look up: pages of its lists, of each list what comes after an id, or its front
+/// where none is given, and the movements of a lot. The id needn't be there.
 ///
 /// A page is told as every look-up of a [`View`] is. So it is in every state.
 pub trait Worklists: View {
@@ -11,6 +11,7 @@ pub trait Worklists: View {
     ghost use Rattle.plant_trace.specs.Sources.{Told};
     ghost use Rattle.plant_worklists.specs.Pages.{page_of};
     ghost use Rattle.plant_worklists.specs.Worklists.{orders_in, open_batches, lots_of, holds_on, open_recalls, definitions_in};
+    ghost use Rattle.plant_worklists.specs.Worklists.{lot_movements};
 
     /// The orders in a state, by their ids.
     fn orders_in(&mut self, state: JobState, above: Option<Id>) -> Result<Page<Job>, Self::Fault>
@@ -45,4 +46,10 @@ pub trait Worklists: View {
     ) -> Result<Page<Definition>, Self::Fault>
         ensures { Told Self.honest Self.kept Self.steady self.old self.new
             (IfOk result (λ page. page ≡ page_of (definitions_in (Self.state self.old) class above))) };
+
+    /// The movements that name a lot first, in their order: what it was received or produced by, what was divided in it and
+    /// what left it.
+    fn lot_movements(&mut self, lot: Id) -> Result<Vec<Movement>, Self::Fault>
+        ensures { Told Self.honest Self.kept Self.steady self.old self.new
+            (IfOk result (λ rows. rows.items ≡ lot_movements (Self.state self.old) lot)) };
 }

@@ -56,7 +56,7 @@ const IDS: [&[u8]; 15] = [
 ];
 
 /// What stands before and behind the id in each question.
-const QUESTIONS: [(&[u8], &[u8]); 14] = [
+const QUESTIONS: [(&[u8], &[u8]); 20] = [
     (b"{\"ask\":\"lot\",\"lot\":\"", b"\"}\n"),
     (b"{\"ask\":\"batch\",\"batch\":\"", b"\"}\n"),
     (b"{\"ask\":\"order\",\"order\":\"", b"\"}\n"),
@@ -65,6 +65,12 @@ const QUESTIONS: [(&[u8], &[u8]); 14] = [
     (b"{\"ask\":\"forward\",\"lot\":\"", b"\"}\n"),
     (b"{\"ask\":\"back\",\"batch\":\"", b"\"}\n"),
     (b"{\"ask\":\"forward\",\"batch\":\"", b"\"}\n"),
+    (b"{\"ask\":\"stands\",\"lot\":\"", b"\"}\n"),
+    (b"{\"ask\":\"stands\",\"batch\":\"", b"\"}\n"),
+    (b"{\"ask\":\"back_edges\",\"lot\":\"", b"\"}\n"),
+    (b"{\"ask\":\"back_edges\",\"batch\":\"", b"\"}\n"),
+    (b"{\"ask\":\"forward_edges\",\"lot\":\"", b"\"}\n"),
+    (b"{\"ask\":\"forward_edges\",\"batch\":\"", b"\"}\n"),
     (
         b"{\"ask\":\"orders\",\"state\":\"cancelled\",\"above\":\"",
         b"\"}\n",
@@ -106,6 +112,6 @@ fn both_keepers_reply_alike(rt: HostRuntime) -> Result<(), Fail> {
     run_lines(rt.alloc(), &mut again, &mut by_store, &mut desk);
     assert!(rt; by_lists.as_slice() == by_store.as_slice());
     // Each line has a reply of its own.
-    assert_eq!(rt; by_lists.iter().filter(|b| **b == b'\n').count(), 250);
+    assert_eq!(rt; by_lists.iter().filter(|b| **b == b'\n').count(), 340);
     Ok(())
 }

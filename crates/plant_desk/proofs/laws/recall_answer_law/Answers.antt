@@ -1,4 +1,4 @@
-use Rattle.std.proofs.Common.{◌≡◌, Bool, List, [], cond, refl, sym, ap, subst}
+use Rattle.std.proofs.Common.{Bool, List, [], cond, refl, sym, ap, subst}
 use Rattle.plant_trace.specs.Reach.{Lists}
 use Rattle.plant_trace.specs.Recalls.{IsRecalled}
 use Rattle.plant_trace.specs.declared.node.Node.{Node}

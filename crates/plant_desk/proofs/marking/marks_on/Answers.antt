@@ -1,7 +1,6 @@
-use Rattle.std.proofs.Common.{◌≡◌, ◌∙◌, ap, sym, map, List}
+use Rattle.std.proofs.Common.{◌∙◌, ap, sym, map, List}
 use Rattle.plant_trace.proofs.Sources.{Told-weaker}
 use Rattle.plant_view.specs.Recalls.{mark_on}
-use Rattle.plant_base.specs.declared.rows.Mark.{Mark}
 use Rattle.plant_base.specs.declared.rows.Recall.{Recall}
 use Rattle.plant_desk.proofs.Recalled.{on_by_back, none_on}
 use Rattle.plant_desk.proofs.marking.marks_on.Goals as goal

@@ -1,0 +1,67 @@
+-- What the movements of nodes book along the edges that lead from them, edge by edge.
+use Rattle.std.specs.Prelude.{◌≡◌, ◌+◌, ◌<◌, ◌^◌, ℕ, Bool, ◌&&◌, if◌then◌else◌, List, [], Option, Some, None, map, min, sum_by, unwrap_or}
+use Rattle.std.specs.List.{filter_map, flat_map, list_any}
+use Rattle.std.specs.BTreeSet.{BTreeSet, contains}
+use Rattle.plant_base.specs.Edges.{edge_eq, edge_order}
+use Rattle.plant_base.specs.State.{State}
+use Rattle.plant_base.specs.declared.rows.EdgeRow.{EdgeRow}
+use Rattle.plant_base.specs.declared.rows.Movement.{Movement}
+use Rattle.plant_trace.specs.Nodes.{node_cmp, node_eq}
+use Rattle.plant_trace.specs.declared.node.Node.{Node}
+use Rattle.plant_trace.specs.declared.node.Node.TheVariants as node
+use Rattle.plant_view.specs.Genealogy.{edge_row_of, ends_of}
+use Rattle.plant_view.specs.Rows.{put_all}
+use Rattle.plant_view.specs.Views.{movements_of}
+use Rattle.plant_worklists.specs.Worklists.{lot_movements}
+use Rattle.plant_desk.specs.Genealogy.{is_among}
+use Rattle.plant_desk.specs.declared.genealogy.BookedEdge.{BookedEdge}
+
+-- an amount along an edge, where that leads from this node to one of these
+abbrev pub booked_if : List Node → Node → ℕ → Option EdgeRow → Option BookedEdge
+booked_if nodes from amount None = None
+booked_if nodes from amount (Some e) = if node_eq from (ends_of e).0 && is_among nodes (ends_of e).1 then Some (record { edge = e; amount = amount }) else None
+
+-- what a movement books
+abbrev pub booked_from : List Node → Node → Movement → Option BookedEdge
+booked_from nodes from m = booked_if nodes from m.amount (edge_row_of m)
+
+-- the movements of a batch, or those that name a lot first
+abbrev pub movements_at : State → Node → List Movement
+movements_at s (node.Lot id) = lot_movements s id
+movements_at s (node.Batch id) = movements_of s id
+
+-- the set has just these nodes
+abbrev pub IsSetOf : List Node → BTreeSet Node → Type 0
+IsSetOf nodes set = (y : Node) → contains node_cmp set y ≡ is_among nodes y
+
+-- what all movements book along the edges that lead from one of the nodes to another, node by node
+abbrev pub bookings_around : List Movement → List Node → List BookedEdge
+bookings_around movements nodes = flat_map (λ x. filter_map (booked_from nodes x) movements) nodes
+
+-- ---- sums
+
+abbrev pub counted : EdgeRow → BookedEdge → ℕ
+counted e b = if edge_eq b.edge e then b.amount else 0
+
+-- the amounts along an edge in all
+abbrev pub total_along : List BookedEdge → EdgeRow → ℕ
+total_along bookings e = sum_by (counted e) bookings
+
+-- they fit the number that tells them
+abbrev pub Fits : List BookedEdge → Type 0
+Fits bookings = (e : EdgeRow) → total_along bookings e < 2 ^ 64
+
+-- each edge once, in the order of table edge, with the amounts along it in all
+abbrev pub summed : List BookedEdge → List BookedEdge
+summed bookings = map (λ e. record { edge = e; amount = total_along bookings e }) (put_all edge_order (map (λ b. b.edge) bookings) [])
+
+-- the sum at an edge, where one is booked
+abbrev pub is_booked : List BookedEdge → EdgeRow → Bool
+is_booked bookings e = list_any (λ b. edge_eq b.edge e) bookings
+
+abbrev pub sum_at : List BookedEdge → EdgeRow → Option ℕ
+sum_at bookings e = if is_booked bookings e then Some (total_along bookings e) else None
+
+-- with one amount more, as far as it fits
+abbrev pub sum_with : Option ℕ → ℕ → ℕ
+sum_with sum amount = min (unwrap_or sum 0 + amount) 18446744073709551615

@@ -1,0 +1,15 @@
+-- The JSON trees of answers about lots.
+use Rattle.std.specs.Prelude.{List, map, codes}
+use Rattle.serde_json.specs.Data.{Data, boolean, string, array, object, member, no_members}
+use Rattle.serde_json.specs.View.{items_of}
+use Rattle.plant_desk.specs.declared.question.LotAnswer.{LotAnswer}
+use Rattle.plant_text_answers.specs.Natural.{natural}
+use Rattle.plant_text_answers.specs.Parts.{sublots_data}
+
+abbrev pub lot_data : LotAnswer → Data
+lot_data a = object (member (codes "def") (string a.def) (member (codes "held") (boolean a.held) (member (codes "lot") (string a.lot)
+    (member (codes "stock") (natural a.stock) (member (codes "sublots") (array (sublots_data a.sublots)) no_members)))))
+
+-- where goods stand: each lot as in the answer about it
+abbrev pub stands_data : List LotAnswer → Data
+stands_data lots = object (member (codes "lots") (array (items_of (map lot_data lots))) no_members)

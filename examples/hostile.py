@@ -16,7 +16,7 @@ import sys
 import tempfile
 import time
 
-from sessions import ASK, LOWER, NEW, POST, Check, Session, answered, connected, lines_of, rest_of, written
+from sessions import ASK, LOWER, LOWER_TO_THE_SECOND, LOWER_TO_THE_THIRD, NEW, POST, Check, Session, answered, connected, lines_of, rest_of, written
 
 # What is done with the product of the batch of the session a_batch_runs_to_its_close, behind its fifteen commands.
 MORE = [
@@ -182,10 +182,9 @@ def rules_are_tested(check):
     lines = (HERE / "tables/broken_rules.txt").read_text().splitlines()
     cases = [line.split(": ", 1) for line in lines if line and not line.startswith("#")]
     cases += [("0", LOWER), ("12", LOWER + "UPDATE movement SET batch = 'B-1' WHERE seq = 15")]
-    third = "DROP TABLE recall; DROP TABLE mark; UPDATE meta SET schema = 3"
-    cases += [("0", third), ("13", third + "; UPDATE receipt SET seq = 21 WHERE id = 'K-1'"), ("1", third + "; CREATE TABLE mark (a INTEGER)")]
-    second = third + "; DROP TABLE receipt; UPDATE meta SET schema = 2"
-    cases += [("0", second), ("12", second + "; DELETE FROM edge WHERE a = 'D-0'"), ("1", second + "; CREATE TABLE receipt (a INTEGER)")]
+    third, second = LOWER_TO_THE_THIRD, LOWER_TO_THE_SECOND
+    cases += [("0", third), ("13", third + "UPDATE receipt SET seq = 21 WHERE id = 'K-1'"), ("1", third + "CREATE TABLE mark (a INTEGER)")]
+    cases += [("0", second), ("12", second + "DELETE FROM edge WHERE a = 'D-0'"), ("1", second + "CREATE TABLE receipt (a INTEGER)")]
     for number, statement in cases:
         shutil.copyfile(first, file)
         changed(file, statement)

@@ -1,7 +1,7 @@
 #!/usr/bin/env python3
 """Makes the packages of the built programs, unpacks them, and looks at what stands in them.
 
-    examples/package.py DESK ORDER_CHECK LINE_CHECK
+    examples/package.py DESK ORDER_CHECK LINE_CHECK DESK_CHECK GENEALOGY_PICTURE
 
 The programs are those that were built; make/package.py puts them together twice, and the same bytes have to come of it. What was unpacked
 runs the batch of examples in a folder of its own, with no toolchain on its PATH. Pages, completions and the unit are looked at by groff,
@@ -23,7 +23,7 @@ import tempfile
 from sessions import SECONDS, Check
 
 TOP = pathlib.Path(__file__).resolve().parent.parent
-PROGRAMS = ("desk", "order_check", "line_check")
+PROGRAMS = ("desk", "order_check", "line_check", "desk_check", "genealogy_picture")
 
 # Folders that are on every machine.
 COMMON = [pathlib.Path(it) for it in ("/", "/usr", "/usr/bin", "/usr/local", "/usr/local/bin")]
@@ -155,9 +155,12 @@ class Package(Check):
         self.expect(f"{name}: the batch", of("desk", examples / "batch.jsonl", "run", "plant.db"), (0, wanted, ""))
         verified = f"good schema {end['schema']} seq {end['seq']}\n"
         self.expect(f"{name}: the file", of("desk", os.devnull, "verify", "plant.db"), (0, verified, ""))
+        status, output, errors = of("desk_check", os.devnull, "plant.db")
+        self.expect(f"{name}: desk_check, {output}", (status, output.endswith("\nNo rule is broken.\n"), errors), (0, True, ""))
         self.expect(f"{name}: order_check", of("order_check", examples / "orders.csv"), (0, "3 orders\n", ""))
         counted = f"{end['seq']} commands, {len(wanted.splitlines()) - end['seq']} questions\n"
         self.expect(f"{name}: line_check", of("line_check", examples / "batch.jsonl"), (0, counted, ""))
+        self.expect(f"{name}: genealogy_picture", of("genealogy_picture", os.devnull, "--dot"), (0, "digraph genealogy {\n  rankdir=LR;\n}\n", ""))
 
     def names_no_place(self):
         """Looks for places of this machine in all files but the programs."""
@@ -209,6 +212,21 @@ class Package(Check):
             if shutil.which(shell):
                 self.expect(f"{shell} reads its completion", ran(shell, "-n", share / place), (0, "", ""))
 
+    def completes_alone(self, program, known):
+        """Looks at what is completed behind a program that has no words, and has this option."""
+        share, options = self.tops["deb"] / "share", long_options(ran(program, "--help", executable=self.programs[program])[1])
+        self.expect(f"the options of {program}", known in options, True)
+        for shell, place, form in (
+            ("bash", f"bash-completion/completions/{program}", r"[' ]{option}[' ]"),
+            ("zsh", f"zsh/vendor-completions/_{program}", r"{option}\["),
+            ("fish", f"fish/vendor_completions.d/{program}.fish", r" -l {bare} "),
+        ):
+            text = (share / place).read_text()
+            missing = [it for it in options if not re.search(form.format(option=it, bare=it[2:]), text)]
+            self.expect(f"what the completion of {shell} doesn't name", missing, [])
+            if shutil.which(shell):
+                self.expect(f"{shell} reads the completion of {program}", ran(shell, "-n", share / place), (0, "", ""))
+
     def has_a_unit(self):
         """Has systemd look at the unit with the unpacked program in the place of the installed one, and gives that program its words."""
         text = self.files["lib/systemd/system/desk@.service"][0].decode()
@@ -241,6 +259,8 @@ class Package(Check):
         self.names_no_place()
         self.has_pages()
         self.completes()
+        self.completes_alone("desk_check", "--json")
+        self.completes_alone("genealogy_picture", "--dot")
         self.has_a_unit()
         self.has_a_changelog()
 

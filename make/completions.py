@@ -1,4 +1,4 @@
-"""What bash, zsh and fish complete behind the name of the desk, made from its help.
+"""What bash, zsh and fish complete behind the name of the desk, made from its help; and behind that of a program without words.
 
 Behind `desk` stand its words and options. Behind a word stand its options and, in the place of each argument, what may be there: a file for
 FILE, the choices that the help names one by one, or nothing.
@@ -69,6 +69,21 @@ FISH = """\
 complete -c desk -f
 """
 
+BASH_ALONE = """\
+# Completion of %(name)s for bash.
+complete -o default -W '%(options)s' %(name)s
+"""
+
+ZSH_ALONE = """\
+#compdef %(name)s
+# Completion of %(name)s for zsh.
+_arguments%(options)s%(arguments)s
+"""
+
+FISH_ALONE = """\
+# Completion of %(name)s for fish.
+"""
+
 
 def flags_of(told):
     """All options of a help, in one line."""
@@ -96,11 +111,12 @@ def zsh_text(text):
 
 
 def zsh_option(option):
-    """The words that tell `_arguments` of an option; one without a value is asked for alone."""
+    """The words that tell `_arguments` of an option; help and the version are asked for alone."""
     about = f"[{zsh_text(option.about)}]"
     if option.value():
         return "".join(f" '{it}={about}:{option.value()}:'" for it in option.flags())
-    return "".join(f" '(- *){it}{about}'" for it in option.flags())
+    alone = "(- *)" if {"--help", "--version"} & set(option.flags()) else ""
+    return "".join(f" '{alone}{it}{about}'" for it in option.flags())
 
 
 def zsh_argument(number, argument):
@@ -151,3 +167,24 @@ def fish(whole, words):
         lines += [fish_option(where, it) for it in told.items("Options")]
         lines += [fish_argument(where, it) for it in told.items("Arguments")]
     return FISH + "".join(lines)
+
+
+def bash_alone(name, told):
+    """The completion for bash of a program that has no words: its options, and else files."""
+    return BASH_ALONE % {"name": name, "options": flags_of(told)}
+
+
+def zsh_alone(name, told):
+    """The completion for zsh of a program that has no words."""
+    options = "".join(zsh_option(it) for it in told.items("Options"))
+    arguments = "".join(zsh_argument(*it) for it in enumerate(told.items("Arguments"), 1))
+    return ZSH_ALONE % {"name": name, "options": options, "arguments": arguments}
+
+
+def fish_alone(name, told):
+    """The completion for fish of a program that has no words, behind which files may stand."""
+    options = ""
+    for it in told.items("Options"):
+        forms = " ".join(f"-l {flag[2:]}" if flag.startswith("--") else f"-s {flag[1:]}" for flag in it.flags())
+        options += f"complete -c {name} {forms} -d {fish_text(it.about)}\n"
+    return FISH_ALONE % {"name": name} + options

@@ -29,9 +29,9 @@ class Item:
         return re.findall(r"(?<!\S)--?[\w-]+", self.name)
 
     def value(self):
-        """The name of the value that an option takes, or of an argument; none where there is none."""
-        found = re.search(r"<(\w+)>", self.name)
-        return found[1] if found else None
+        """The name of the value that an option takes, or of an argument, which may be left out; none where there is none."""
+        found = re.search(r"<(\w+)>|^\[(\w+)\]$", self.name)
+        return found[1] or found[2] if found else None
 
     def choices(self):
         """The values that are told one by one with what they mean, as in `back: where from; forward: where to`."""

@@ -1,11 +1,11 @@
 #!/usr/bin/env python3
 """Puts the built programs together with what belongs to them, as an archive and as a package for Debian.
 
-    make/package.py DESK ORDER_CHECK LINE_CHECK FOLDER
+    make/package.py DESK ORDER_CHECK LINE_CHECK DESK_CHECK GENEALOGY_PICTURE FOLDER
 
 Leaves FOLDER/desk-VERSION.tar.gz and FOLDER/desk_VERSION_amd64.deb, VERSION being what `desk --version` prints. In both stand the programs,
-pages of the manual and completions, which are made from the help of the desk, a unit for systemd, the documents and the examples. The
-same programs and texts give the same bytes, whenever and wherever it is done. Ends with status 1 where something isn't as it has to be.
+pages of the manual and completions, which are made from the helps of the desk, of desk_check and of genealogy_picture, a unit for systemd, the documents
+and the examples. The same programs and texts give the same bytes, whenever and wherever it is done. Ends with status 1 where something isn't as it has to be.
 """
 import gzip
 import hashlib
@@ -23,6 +23,10 @@ from helps import Wrong
 
 TOP = pathlib.Path(__file__).resolve().parent.parent
 BESIDE = TOP / "make" / "packaged"
+
+# The programs, and those of them that tell of themselves at --help.
+PROGRAMS = ("desk", "order_check", "line_check", "desk_check", "genealogy_picture")
+TELLING = ("desk_check", "genealogy_picture")
 
 # Where documents and examples stand.
 DOC = "share/doc/desk"
@@ -141,6 +145,7 @@ def tree(programs, version):
     files = {f"bin/{name}": (path.read_bytes(), 0o755) for name, path in programs.items()}
     files.update(pages(programs, version, whole, words))
     files.update(documents())
+    alone = {it: helps.Help(helps.said(programs[it], "--help", name=it)) for it in TELLING}
     texts = {
         "share/bash-completion/completions/desk": completions.bash(whole, words),
         "share/fish/vendor_completions.d/desk.fish": completions.fish(whole, words),
@@ -148,6 +153,10 @@ def tree(programs, version):
         "lib/systemd/system/desk@.service": (BESIDE / "desk@.service").read_text(),
         f"{DOC}/desk.conf": (BESIDE / "desk.conf").read_text(),
     }
+    for name, told in alone.items():
+        texts[f"share/bash-completion/completions/{name}"] = completions.bash_alone(name, told)
+        texts[f"share/fish/vendor_completions.d/{name}.fish"] = completions.fish_alone(name, told)
+        texts[f"share/zsh/vendor-completions/_{name}"] = completions.zsh_alone(name, told)
     files.update({name: (text.encode(), 0o644) for name, text in texts.items()})
     return files
 
@@ -206,10 +215,10 @@ def write(path, content):
 
 
 def main(words):
-    if len(words) != 4:
+    if len(words) != len(PROGRAMS) + 1:
         sys.exit(__doc__)
-    programs = dict(zip(("desk", "order_check", "line_check"), (pathlib.Path(it).resolve() for it in words)))
-    folder = pathlib.Path(words[3])
+    programs = dict(zip(PROGRAMS, (pathlib.Path(it).resolve() for it in words)))
+    folder = pathlib.Path(words[-1])
     try:
         version = version_of(programs["desk"])
         files = tree(programs, version)

@@ -45,7 +45,7 @@ STEP = 5
 SHOWN = 20
 
 # The files of a crate on which it depends how it is built.
-PARTS = ("src", "specs", "proofs", "stdin", "status")
+PARTS = ("src", "specs", "proofs", "stdin", "args", "status")
 
 
 class Wrong(Exception):
@@ -161,6 +161,15 @@ class Copy:
                 shutil.copytree(library, to, copy_function=link)
 
 
+def words_of(name):
+    """The words that a program is to be run with, one a line of its args, as rt takes them."""
+    try:
+        with open(f"crates/{name}/args") as it:
+            return ["--", *it.read().splitlines()]
+    except FileNotFoundError:
+        return []
+
+
 class Build:
     """A crate that is being built in a copy."""
 
@@ -172,7 +181,7 @@ class Build:
         if is_program and os.path.exists(f"{self.there}/out/{name}"):
             os.remove(f"{self.there}/out/{name}")
         given = f"{self.there}/stdin" if is_program else os.devnull
-        words = ["rt", "run" if is_program else "lib", "--jobs", str(jobs)]
+        words = ["rt", "run" if is_program else "lib", "--jobs", str(jobs), *(words_of(name) if is_program else [])]
         with open(f"build/{name}.log", "wb") as log, open(given, "rb") as it:
             how = {"cwd": self.there, "stdin": it, "stdout": log, "stderr": log}
             self.process = subprocess.Popen(words, start_new_session=True, **how)

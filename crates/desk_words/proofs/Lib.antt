@@ -1,3 +1,4 @@
 mod Numerals
 mod Refusals
 mod PlainMeanings
+mod Unchecked

@@ -12,8 +12,12 @@ program_name program.Lines = codes "line_check"
 abbrev pub checked_rule : Rule
 checked_rule = record (new_rule (codes "file")) { value_names = 1 }
 
--- a program of this name that has a version and takes a file
-abbrev pub check_app : Text → App
-check_app name =
+-- a program of this name that has a version
+abbrev pub told_app : Text → App
+told_app name =
     let plain = new_app name in
-    with_rule (record plain { top = record plain.top { has_version = true } }) checked_rule
+    record plain { top = record plain.top { has_version = true } }
+
+-- one that takes a file as well
+abbrev pub check_app : Text → App
+check_app name = with_rule (told_app name) checked_rule

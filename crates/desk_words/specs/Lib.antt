@@ -4,3 +4,4 @@ pub mod Meaning
 pub mod PlainWords
 pub mod Taken
 pub mod Checking
+pub mod DeskChecking

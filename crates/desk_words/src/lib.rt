@@ -4,6 +4,7 @@
 mod argument;
 mod checking;
 mod command_line;
+mod desk_checking;
 mod laws;
 mod matched;
 mod meaning;
@@ -13,6 +14,7 @@ mod values;
 
 pub use argument::Argument;
 pub use checking::{CheckProgram, read_checked_file};
+pub use desk_checking::{DeskCheck, read_desk_check};
 pub use laws::plain_words_law;
 pub use meaning::{Serving, Task, Words, WordsFault, Work};
 pub use read::{read_words, refusal_of};

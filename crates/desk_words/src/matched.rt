@@ -46,7 +46,7 @@ fn record_in(matches: &ArgMatches<'_>) -> Result<Task, Argument>
 }
 
 /// Whether the flag of this name is given.
-fn is_set(matches: &ArgMatches<'_>, name: &str) -> bool
+pub(crate) fn is_set(matches: &ArgMatches<'_>, name: &str) -> bool
     ensures { result ≡ is_set (first_of name.now (rows_of (found_of matches.now))) }
 {
     match value_of(matches, name) {

@@ -72,7 +72,7 @@ pub fn read_words<'a>(alloc: Global, words: &'a [&'a str]) -> Result<Words<'a>, 
 }
 
 /// The refusal of words that clap takes and of which an argument's value breaks its rule.
-fn broken(alloc: Global, argument: Argument) -> WordsFault
+pub(crate) fn broken(alloc: Global, argument: Argument) -> WordsFault
     ensures { TellsBroken argument result }
 {
     match BrokenRule(argument).to_string(alloc) {

@@ -1,0 +1,4 @@
+pub mod Surveying
+pub mod Reporting
+mod Floatless
+mod Listing

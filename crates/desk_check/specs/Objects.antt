@@ -1,0 +1,132 @@
+-- What is told of a file, as one JSON object.
+use Rattle.std.specs.Prelude.{ℕ, Bool, List, [], ◌∷◌, ◌++◌, codes, Option, Some, None, is_none}
+use Rattle.serde_json.specs.Data.{Data, Members, null, boolean, number, unsigned, string, array, object, member, no_members}
+use Rattle.serde_json.specs.View.{items_of}
+use Rattle.plant_check.specs.Numbered.{rule_number}
+use Rattle.plant_check.specs.declared.rule.Rule.{Rule}
+use Rattle.plant_check.specs.declared.rule.Rule.TheVariants as rule
+use Rattle.plant_check_rows.specs.Findings.{rule_text}
+use Rattle.plant_check_rows.specs.Naming.{column_name, table_name}
+use Rattle.plant_check_rows.specs.Texts.{found_text, wanted_text}
+use Rattle.plant_check_rows.specs.declared.fault.Column.{Column}
+use Rattle.plant_check_rows.specs.declared.fault.Key.{Key}
+use Rattle.plant_check_rows.specs.declared.fault.Key.TheVariants as key
+use Rattle.plant_check_rows.specs.declared.fault.RowFault.{RowFault}
+use Rattle.plant_check_rows.specs.declared.finding.Finding.{Finding}
+use Rattle.plant_check_rows.specs.declared.finding.Findings.{Findings}
+use Rattle.plant_check_rows.specs.declared.finding.Findings.TheVariants as findings
+use Rattle.plant_check_rows.specs.declared.finding.Tested.{Tested}
+use Rattle.desk_check.specs.Barred.{index_name}
+use Rattle.desk_check.specs.Obstacles.{obstacle_name, cause_text, advice_text}
+use Rattle.desk_check.specs.Reports.{found_in}
+use Rattle.desk_check.specs.declared.barred.DeskIndex.{DeskIndex}
+use Rattle.desk_check.specs.declared.obstacle.Obstacle.{Obstacle}
+use Rattle.desk_check.specs.declared.outcome.Outcome.{Outcome}
+use Rattle.desk_check.specs.declared.survey.Standing.{Standing}
+use Rattle.desk_check.specs.declared.survey.Survey.{Survey}
+use Rattle.desk_check.specs.declared.survey.Survey.TheVariants as survey
+
+abbrev pub count : ℕ → Data
+count n = number (unsigned n)
+
+abbrev pub list : List Data → Data
+list ds = array (items_of ds)
+
+-- ---- rows
+
+-- the values of a key, in the order of its columns; or the place of the row
+abbrev pub key_data : Key → Data
+key_data (key.Id id) = list (string id ∷ [])
+key_data (key.Number n) = list (count n ∷ [])
+key_data (key.Ids a b) = list (string a ∷ string b ∷ [])
+key_data (key.Numbers m n) = list (count m ∷ count n ∷ [])
+key_data (key.IdNumber id n) = list (string id ∷ count n ∷ [])
+key_data (key.IdNumbers id m n) = list (string id ∷ count m ∷ count n ∷ [])
+key_data (key.NumberIds n a b) = list (count n ∷ string a ∷ string b ∷ [])
+key_data (key.Place place) = object (member (codes "place") (count place) no_members)
+
+abbrev pub column_data : Option Column → Data
+column_data None = null
+column_data (Some c) = string (column_name c)
+
+abbrev pub row_data : Option RowFault → Data
+row_data None = null
+row_data (Some f) = object
+    (member (codes "column") (column_data f.column)
+    (member (codes "found") (string (found_text f.found))
+    (member (codes "key") (key_data f.key)
+    (member (codes "table") (string (table_name f.table))
+    (member (codes "wanted") (string (wanted_text f.wanted)) no_members)))))
+
+-- ---- rules
+
+abbrev pub broken_data : Rule → Option RowFault → Data
+broken_data r told = object
+    (member (codes "row") (row_data told)
+    (member (codes "rule") (count (rule_number r))
+    (member (codes "says") (string (rule_text r)) no_members)))
+
+abbrev pub found_data : Option Finding → List Data
+found_data None = []
+found_data (Some f) = broken_data f.rule f.row ∷ []
+
+abbrev pub each_data : Tested → List Rule → List Data
+each_data t [] = []
+each_data t (r ∷ rs) = found_data (found_in t r) ++ each_data t rs
+
+abbrev pub findings_data : Findings → Data
+findings_data findings.NoMeta = list (broken_data rule.Tables None ∷ [])
+findings_data (findings.Values told) = list (broken_data rule.Values told ∷ [])
+findings_data (findings.Rows t) = list (each_data t t.rules.items)
+
+-- ---- the desk
+
+abbrev pub desk_data : Standing → Findings → Data
+desk_data s found = object
+    (member (codes "at") (count s.at)
+    (member (codes "batches") (count s.batches)
+    (member (codes "broken") (findings_data found)
+    (member (codes "lots") (count s.lots)
+    (member (codes "movements") (count s.movements)
+    (member (codes "orders") (count s.orders)
+    (member (codes "schema") (count s.schema)
+    (member (codes "seq") (count s.seq) no_members))))))))
+
+abbrev pub survey_data : Option Survey → Data
+survey_data None = null
+survey_data (Some (survey.Nothing barred)) = null
+survey_data (Some (survey.Newer n)) = object (member (codes "newer") (count n) no_members)
+survey_data (Some survey.Lacking) = object (member (codes "broken") (findings_data findings.NoMeta) no_members)
+survey_data (Some (survey.Desk standing barred found)) = desk_data standing found
+
+abbrev pub index_data : Option DeskIndex → Data
+index_data None = null
+index_data (Some i) = string (index_name i)
+
+abbrev pub taken_data : Option Survey → Data
+taken_data None = null
+taken_data (Some (survey.Nothing barred)) = index_data barred
+taken_data (Some (survey.Newer n)) = null
+taken_data (Some survey.Lacking) = null
+taken_data (Some (survey.Desk standing barred found)) = index_data barred
+
+-- ---- the whole, with the toolkit's own sentence, where there is one
+
+abbrev pub sentence_data : Option (List ℕ) → Data
+sentence_data None = null
+sentence_data (Some text) = string text
+
+abbrev pub obstacle_data : Option Obstacle → Option (List ℕ) → Data
+obstacle_data None told = null
+obstacle_data (Some o) told = object
+    (member (codes "advice") (string (advice_text o))
+    (member (codes "cause") (string (obstacle_name o))
+    (member (codes "error") (sentence_data told)
+    (member (codes "says") (string (cause_text o)) no_members))))
+
+abbrev pub outcome_data : Outcome → Option (List ℕ) → Data
+outcome_data o told = object
+    (member (codes "desk") (survey_data o.survey)
+    (member (codes "obstacle") (obstacle_data o.obstacle told)
+    (member (codes "opens") (boolean (is_none o.obstacle))
+    (member (codes "taken") (taken_data o.survey) no_members))))

@@ -1,0 +1,87 @@
+-- What is told of a file, in sentences.
+use Rattle.std.specs.Prelude.{ℕ, List, [], ◌∷◌, ◌++◌, codes, decimal, Option, Some, None}
+use Rattle.plant_text.specs.Writes.{with_lf}
+use Rattle.plant_check.specs.Numbered.{rule_number}
+use Rattle.plant_check.specs.declared.rule.Rule.{Rule}
+use Rattle.plant_check.specs.declared.rule.Rule.TheVariants as rule
+use Rattle.plant_tables_judged.specs.Collecting.{rows_listed}
+use Rattle.plant_check_rows.specs.Findings.{rule_text, finding_of}
+use Rattle.plant_check_rows.specs.Texts.{fault_text}
+use Rattle.plant_check_rows.specs.declared.fault.RowFault.{RowFault}
+use Rattle.plant_check_rows.specs.declared.finding.Finding.{Finding}
+use Rattle.plant_check_rows.specs.declared.finding.Findings.{Findings}
+use Rattle.plant_check_rows.specs.declared.finding.Findings.TheVariants as findings
+use Rattle.plant_check_rows.specs.declared.finding.Tested.{Tested}
+use Rattle.desk_check.specs.Barred.{index_name}
+use Rattle.desk_check.specs.Obstacles.{cause_text, advice_text}
+use Rattle.desk_check.specs.declared.barred.DeskIndex.{DeskIndex}
+use Rattle.desk_check.specs.declared.obstacle.Obstacle.{Obstacle}
+use Rattle.desk_check.specs.declared.survey.Standing.{Standing}
+use Rattle.desk_check.specs.declared.survey.Survey.{Survey}
+use Rattle.desk_check.specs.declared.survey.Survey.TheVariants as survey
+
+abbrev pub rule_line : Rule → List ℕ
+rule_line r = codes "Rule " ++ (decimal (rule_number r) ++ (codes " is broken: " ++ (rule_text r ++ codes ".")))
+
+abbrev pub standing_text : Standing → List ℕ
+standing_text s = codes "It holds a desk of schema " ++ decimal s.schema ++ codes " and " ++ decimal s.seq ++ codes " commands, the last at " ++ decimal s.at ++ codes "."
+
+abbrev pub counts_text : Standing → List ℕ
+counts_text s =
+    codes "Orders: " ++ decimal s.orders ++ codes ", batches: " ++ decimal s.batches ++ codes ", lots: " ++ decimal s.lots
+    ++ codes ", movements: " ++ decimal s.movements ++ codes "."
+
+abbrev pub newer_text : ℕ → List ℕ
+newer_text schema = codes "Its tables are of schema " ++ decimal schema ++ codes ", as a later program writes them: run that program."
+
+abbrev pub row_text : Option RowFault → List ℕ
+row_text None = []
+row_text (Some f) = with_lf (fault_text f)
+
+abbrev pub broken_text : Rule → Option RowFault → List ℕ
+broken_text r told = with_lf (rule_line r) ++ row_text told
+
+abbrev pub found_text : Option Finding → List ℕ
+found_text None = []
+found_text (Some f) = broken_text f.rule f.row
+
+-- what is found of a rule in rows that were tested
+abbrev pub found_in : Tested → Rule → Option Finding
+found_in t r = finding_of r (rows_listed t.rows) t.movements.items
+
+abbrev pub each_text : Tested → List Rule → List ℕ
+each_text t [] = []
+each_text t (r ∷ rs) = found_text (found_in t r) ++ each_text t rs
+
+abbrev pub tested_text : Tested → List Rule → List ℕ
+tested_text t [] = with_lf (codes "No rule is broken.")
+tested_text t (r ∷ rs) = each_text t (r ∷ rs)
+
+abbrev pub findings_text : Findings → List ℕ
+findings_text findings.NoMeta = broken_text rule.Tables None
+findings_text (findings.Values told) = broken_text rule.Values told
+findings_text (findings.Rows t) = tested_text t t.rules.items
+
+-- that something else bears the name of an index
+abbrev pub index_text : DeskIndex → List ℕ
+index_text i = codes "Something else has the name " ++ index_name i ++ codes ", which the desk needs for an index: give it another name with sqlite3."
+
+abbrev pub barred_text : Option DeskIndex → List ℕ
+barred_text None = []
+barred_text (Some i) = with_lf (index_text i)
+
+abbrev pub nothing_text : Option DeskIndex → List ℕ
+nothing_text None = with_lf (codes "It holds no desk: the next word of the desk over it makes one.")
+nothing_text (Some i) = with_lf (codes "It holds no desk, and none can be made in it.") ++ with_lf (index_text i)
+
+abbrev pub desk_text : Standing → List ℕ
+desk_text s = with_lf (standing_text s) ++ with_lf (counts_text s)
+
+abbrev pub survey_text : Survey → List ℕ
+survey_text (survey.Nothing barred) = nothing_text barred
+survey_text (survey.Newer schema) = with_lf (newer_text schema)
+survey_text survey.Lacking = with_lf (rule_line rule.Tables)
+survey_text (survey.Desk standing barred found) = desk_text standing ++ (findings_text found ++ barred_text barred)
+
+abbrev pub obstacle_text : Obstacle → List ℕ
+obstacle_text o = cause_text o ++ codes " " ++ advice_text o

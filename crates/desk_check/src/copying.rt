@@ -1,0 +1,168 @@
+//! The bytes of a file and of its log, read into memory. Nothing is made, and nothing is written.
+use crate::obstacle::{Obstacle, obstacle_at};
+use os::RangeLock;
+use std::fs::{self, File, Metadata, OpenOptions};
+use std::io::{self, ErrorKind, Read};
+use std::os::fd::AsRawFd;
+use std::os::unix::fs::MetadataExt;
+
+/// The bytes of a file and of its log, and whether this user may write both.
+#[derive(Drop)]
+pub(crate) struct Copied {
+    pub(crate) log: Vec<u8>,
+    pub(crate) db: Vec<u8>,
+    pub(crate) writable: bool,
+}
+
+/// The obstacle that an error of the system is.
+fn obstacle_by(error: &io::Error) -> Obstacle {
+    obstacle_at(error.kind())
+}
+
+/// The folder of a file, as the name tells it.
+fn folder_of(file: &str) -> &str {
+    match file.rsplit_once('/') {
+        None => ".",
+        Some((folder, _)) => { if folder.is_empty() { "/" } else { folder } }
+    }
+}
+
+/// Why a file isn't found.
+fn unfound(rt: &HostRuntime, file: &str) -> Obstacle {
+    if fs::symlink_metadata(rt, file).is_ok() {
+        return Obstacle::NoFile;
+    }
+    match fs::metadata(rt, folder_of(file)) {
+        Ok(found) if found.is_dir() => Obstacle::Missing,
+        _ => Obstacle::NoFolder,
+    }
+}
+
+/// Whether there is such a file, which is a regular one with no second name, by what the system says of it.
+fn is_there(found: io::Result<Metadata>) -> Result<bool, Obstacle> {
+    match found {
+        Ok(found) if !found.is_file() => Err(Obstacle::NoFile),
+        Ok(found) if found.nlink() != 1 => Err(Obstacle::Linked),
+        Ok(_) => Ok(true),
+        Err(error) if error.kind() == ErrorKind::NotFound => Ok(false),
+        Err(error) => Err(obstacle_by(&error)),
+    }
+}
+
+/// Opens a file that is there, for writing as well where this user may write it; and whether that is so. Nothing is written.
+fn open_there(rt: &HostRuntime, file: &str) -> Result<(File, bool), Obstacle> {
+    match OpenOptions::new().read(true).write(true).open(rt, file) {
+        Ok(opened) => Ok((apart(opened)?, true)),
+        Err(_) => match fs::open(rt, file) {
+            Ok(opened) => Ok((apart(opened)?, false)),
+            Err(error) => Err(obstacle_by(&error)),
+        },
+    }
+}
+
+/// An open file that isn't in the place of a standard stream: what is written to a stream that was closed must not land in it.
+fn apart(file: File) -> Result<File, Obstacle> {
+    if file.as_raw_fd() > 2 {
+        return Ok(file);
+    }
+    match file.try_clone() {
+        Ok(copy) => Ok(copy),
+        Err(error) => Err(obstacle_by(&error)),
+    }
+}
+
+/// Locks an open file as the desk does, until it is closed; where it may only be read, so that others may still read it.
+fn lock(file: &File, writable: bool) -> Result<(), Obstacle> {
+    let kind = if writable {
+        RangeLock::Exclusive
+    } else {
+        RangeLock::Shared
+    };
+    // SQLite's pending, reserved and shared locks.
+    if os::try_lock_range(file.as_raw_fd(), kind, 1 << 30, 512) == 0 {
+        return Ok(());
+    }
+    let error = io::Error::from_raw_os_error(os::errno());
+    if error.kind() == ErrorKind::WouldBlock {
+        Err(Obstacle::Locked)
+    } else {
+        Err(obstacle_by(&error))
+    }
+}
+
+/// All bytes of an open file.
+fn bytes_of(rt: &HostRuntime, file: &mut File) -> Result<Vec<u8>, Obstacle> {
+    let mut bytes = Vec::new(rt.alloc());
+    match file.read_to_end(&mut bytes) {
+        Ok(_) => Ok(bytes),
+        Err(error) => Err(obstacle_by(&error)),
+    }
+}
+
+/// Whether there is a first byte, and that isn't 0.
+fn begins_with_something(bytes: &[u8]) -> bool {
+    match bytes {
+        [first, ..] => *first != 0,
+        [] => false,
+    }
+}
+
+/// The name of what stands beside a file.
+fn beside(rt: &HostRuntime, file: &str, end: &str) -> Result<String, Obstacle> {
+    match format!(in rt.alloc(); "{file}{end}") {
+        Ok(name) => Ok(name),
+        Err(_) => Err(Obstacle::Memory),
+    }
+}
+
+/// Whether SQLite left a journal of this name, which has something to play back.
+fn has_journal(rt: &HostRuntime, file: &str) -> Result<bool, Obstacle> {
+    match fs::symlink_metadata(rt, file) {
+        Ok(found) if found.is_file() => {}
+        Ok(_) => return Ok(true),
+        Err(error) if error.kind() == ErrorKind::NotFound => return Ok(false),
+        Err(error) => return Err(obstacle_by(&error)),
+    }
+    match fs::read(rt, file) {
+        Ok(bytes) => Ok(begins_with_something(bytes.as_slice())),
+        Err(error) => Err(obstacle_by(&error)),
+    }
+}
+
+/// The bytes of the log, and whether it may be written; no bytes where there is none.
+fn log_of(rt: &HostRuntime, file: &str) -> Result<(Vec<u8>, bool), Obstacle> {
+    // No link is followed to a log.
+    if !is_there(fs::symlink_metadata(rt, file))? {
+        return Ok((Vec::new(rt.alloc()), true));
+    }
+    let (mut log, writable) = open_there(rt, file)?;
+    let bytes = bytes_of(rt, &mut log)?;
+    Ok((bytes, writable))
+}
+
+/// Reads a file and its log into memory, while no other program has them open. Nothing is made, and nothing is written.
+///
+/// `Missing`, `NoFolder`, `NoFile`, `Linked`, `Unreadable`, `Locked`, `Journal`: as these say; `Unread` where a read failed;
+/// `Memory` where there is none.
+pub(crate) fn copy_file(rt: &HostRuntime, file: &str) -> Result<Copied, Obstacle> {
+    if !is_there(fs::metadata(rt, file))? {
+        return Err(unfound(rt, file));
+    }
+    let real = match fs::canonicalize(rt, file) {
+        Ok(real) => real,
+        Err(error) => return Err(obstacle_by(&error)),
+    };
+    let (mut db, writable) = open_there(rt, real.as_str())?;
+    lock(&db, writable)?;
+    let journal = beside(rt, real.as_str(), "-journal")?;
+    if has_journal(rt, journal.as_str())? {
+        return Err(Obstacle::Journal);
+    }
+    let log = beside(rt, real.as_str(), "-wal")?;
+    let (log_bytes, log_writable) = log_of(rt, log.as_str())?;
+    Ok(Copied {
+        log: log_bytes,
+        db: bytes_of(rt, &mut db)?,
+        writable: writable && log_writable,
+    })
+}

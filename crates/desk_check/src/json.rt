@@ -1,0 +1,263 @@
+//! What is told of a file, as one JSON object.
+ghost use Rattle.std.specs.Prelude.{◌≡◌, ◌∷◌, ◌++◌, [], ℕ, List, Option, IfOk, OnOk, Some, map, string_bytes};
+ghost use Rattle.std.specs.Io.KnownBytes.{Appends};
+ghost use Rattle.serde_json.specs.View.{view};
+ghost use Rattle.serde_json.specs.Written.{compact_text};
+ghost use Rattle.plant_text.specs.Writes.{with_lf};
+ghost use Rattle.desk_check.specs.Reports.{found_in};
+ghost use Rattle.desk_check.specs.Objects as spec;
+
+use crate::barred::DeskIndex;
+use crate::ending::Untold;
+use crate::obstacle::Obstacle;
+use crate::outcome::Outcome;
+use crate::report::tell;
+use crate::survey::{Standing, Survey};
+use plant_check::Rule;
+use plant_check_rows::{Column, Findings, Key, RowFault, Tested, rule_text};
+use serde_json::{Value, json};
+use sqlite::Error;
+use std::alloc::{AllocError, Global};
+use std::io::Write;
+
+/// The values of a key, in the order of its columns; or the place of the row.
+fn key_value(alloc: Global, key: Key) -> Result<Value, AllocError>
+    ensures { IfOk result (λ v. view v ≡ spec.key_data key) }
+{
+    match key {
+        Key::Id(id) => json!(in alloc; [(id.as_str())]),
+        Key::Number(number) => json!(in alloc; [number]),
+        Key::Ids(a, b) => json!(in alloc; [(a.as_str()), (b.as_str())]),
+        Key::Numbers(m, n) => json!(in alloc; [m, n]),
+        Key::IdNumber(id, n) => json!(in alloc; [(id.as_str()), n]),
+        Key::IdNumbers(id, m, n) => json!(in alloc; [(id.as_str()), m, n]),
+        Key::NumberIds(n, a, b) => json!(in alloc; [n, (a.as_str()), (b.as_str())]),
+        Key::Place(place) => json!(in alloc; {"place": place}),
+    }
+}
+
+fn column_value(alloc: Global, column: Option<Column>) -> Result<Value, AllocError>
+    ensures { IfOk result (λ v. view v ≡ spec.column_data column) }
+{
+    match column {
+        None => Ok(Value::Null),
+        Some(column) => json!(in alloc; (column.name())),
+    }
+}
+
+fn fault_value(alloc: Global, fault: RowFault) -> Result<Value, AllocError>
+    ensures { IfOk result (λ v. view v ≡ spec.row_data (Some fault)) }
+{
+    let key = key_value(alloc, fault.key)?;
+    let column = column_value(alloc, fault.column)?;
+    let found = fault.found.to_string(alloc)?;
+    let wanted = fault.wanted.to_string(alloc)?;
+    json!(in alloc; {
+        "column": column, "found": (found.as_str()), "key": key, "table": (fault.table.name()), "wanted": (wanted.as_str())
+    })
+}
+
+fn row_value(alloc: Global, row: &Option<RowFault>) -> Result<Value, AllocError>
+    ensures { IfOk result (λ v. view v ≡ spec.row_data row.now) }
+{
+    match row {
+        None => Ok(Value::Null),
+        Some(fault) => fault_value(alloc, *fault),
+    }
+}
+
+fn broken_value(alloc: Global, rule: Rule, row: &Option<RowFault>) -> Result<Value, AllocError>
+    ensures { IfOk result (λ v. view v ≡ spec.broken_data rule row.now) }
+{
+    let row = row_value(alloc, row)?;
+    json!(in alloc; {"row": row, "rule": (rule.number()), "says": (rule_text(rule))})
+}
+
+/// A list of this one.
+#[tactic(auto, using(crate::proofs::Listing::listed))]
+fn alone(alloc: Global, value: Value) -> Result<Value, AllocError>
+    ensures { IfOk result (λ v. view v ≡ spec.list (view value ∷ [])) }
+{
+    let mut list = Vec::new(alloc);
+    list.push(value)?;
+    Ok(Value::Array(list))
+}
+
+/// Puts a rule that is broken behind the others.
+fn add_broken(
+    alloc: Global,
+    list: &mut Vec<Value>,
+    rule: Rule,
+    row: &Option<RowFault>,
+) -> Result<(), AllocError>
+    ensures { OnOk result (map view list.new.items ≡ map view list.old.items ++ spec.broken_data rule row.now ∷ []) }
+{
+    let value = broken_value(alloc, rule, row)?;
+    list.push(value)?;
+    Ok(())
+}
+
+/// Puts what is found of a rule behind the others, where something is.
+fn add_found(
+    alloc: Global,
+    list: &mut Vec<Value>,
+    tested: &Tested,
+    rule: Rule,
+) -> Result<(), AllocError>
+    ensures { OnOk result (map view list.new.items ≡ map view list.old.items ++ spec.found_data (found_in tested.now rule)) }
+{
+    match tested.of_rule(alloc, rule) {
+        Ok(None) => Ok(()),
+        Ok(Some(finding)) => add_broken(alloc, list, finding.rule, &finding.row),
+        Err(error) => Err(error),
+    }
+}
+
+fn each_value(alloc: Global, tested: &Tested, rules: &[Rule]) -> Result<Vec<Value>, AllocError>
+    ensures { IfOk result (λ list. map view list.items ≡ spec.each_data tested.now rules.now) }
+{
+    let mut list = Vec::new(alloc);
+    for rule in rules {
+        add_found(alloc, &mut list, tested, *rule)?;
+    }
+    Ok(list)
+}
+
+#[tactic(auto, using(crate::proofs::Listing::listed))]
+fn findings_value(alloc: Global, findings: &Findings) -> Result<Value, AllocError>
+    ensures { IfOk result (λ v. view v ≡ spec.findings_data findings.now) }
+{
+    match findings {
+        Findings::NoMeta => alone(alloc, broken_value(alloc, Rule::Tables, &None)?),
+        Findings::Values(row) => alone(alloc, broken_value(alloc, Rule::Values, row)?),
+        Findings::Rows(tested) => Ok(Value::Array(each_value(
+            alloc,
+            tested,
+            tested.rules.as_slice(),
+        )?)),
+    }
+}
+
+fn desk_value(alloc: Global, standing: &Standing, findings: &Findings) -> Result<Value, AllocError>
+    ensures { IfOk result (λ v. view v ≡ spec.desk_data standing.now findings.now) }
+{
+    let broken = findings_value(alloc, findings)?;
+    json!(in alloc; {
+        "at": (standing.at), "batches": (standing.batches), "broken": broken, "lots": (standing.lots),
+        "movements": (standing.movements), "orders": (standing.orders), "schema": (standing.schema), "seq": (standing.seq)
+    })
+}
+
+/// What is told of a desk whose tables don't stand.
+fn lacking_value(alloc: Global) -> Result<Value, AllocError>
+    ensures { IfOk result (λ v. view v ≡ spec.survey_data (Some Survey.Lacking)) }
+{
+    let broken = findings_value(alloc, &Findings::NoMeta)?;
+    json!(in alloc; {"broken": broken})
+}
+
+fn survey_value(alloc: Global, survey: &Option<Survey>) -> Result<Value, AllocError>
+    ensures { IfOk result (λ v. view v ≡ spec.survey_data survey.now) }
+{
+    match survey {
+        None | Some(Survey::Nothing(_)) => Ok(Value::Null),
+        Some(Survey::Newer(schema)) => json!(in alloc; {"newer": (*schema)}),
+        Some(Survey::Lacking) => lacking_value(alloc),
+        Some(
+            Survey::Desk {
+                standing,
+                findings,
+                ..
+            },
+        ) => desk_value(alloc, standing, findings),
+    }
+}
+
+fn index_value(alloc: Global, index: Option<DeskIndex>) -> Result<Value, AllocError>
+    ensures { IfOk result (λ v. view v ≡ spec.index_data index) }
+{
+    match index {
+        None => Ok(Value::Null),
+        Some(index) => json!(in alloc; (index.name())),
+    }
+}
+
+/// The name of the index that can't be made, where there is one.
+fn taken_value(alloc: Global, survey: &Option<Survey>) -> Result<Value, AllocError>
+    ensures { IfOk result (λ v. view v ≡ spec.taken_data survey.now) }
+{
+    match survey {
+        Some(Survey::Nothing(barred)) => index_value(alloc, *barred),
+        Some(Survey::Desk { barred, .. }) => index_value(alloc, *barred),
+        None | Some(Survey::Newer(_)) | Some(Survey::Lacking) => Ok(Value::Null),
+    }
+}
+
+fn text_value(alloc: Global, text: &str) -> Result<Value, AllocError>
+    ensures { IfOk result (λ v. view v ≡ spec.sentence_data (Some text.now)) }
+{
+    json!(in alloc; text)
+}
+
+/// The toolkit's own sentence, where it has one.
+fn error_value(alloc: Global, error: Option<Error>) -> Result<Value, AllocError>
+    ensures { IfOk result (λ v. (told : Option (List ℕ)) × (view v ≡ spec.sentence_data told)) }
+{
+    match error {
+        None => Ok(Value::Null),
+        Some(error) => {
+            let text = error.to_string(alloc)?;
+            text_value(alloc, text.as_str())
+        }
+    }
+}
+
+fn cause_value(alloc: Global, obstacle: Obstacle) -> Result<Value, AllocError>
+    ensures { IfOk result (λ v. (told : Option (List ℕ)) × (view v ≡ spec.obstacle_data (Some obstacle) told)) }
+{
+    let error = error_value(alloc, obstacle.error())?;
+    json!(in alloc; {
+        "advice": (obstacle.advice()), "cause": (obstacle.name()), "error": error, "says": (obstacle.cause())
+    })
+}
+
+fn obstacle_value(alloc: Global, obstacle: &Option<Obstacle>) -> Result<Value, AllocError>
+    ensures { IfOk result (λ v. (told : Option (List ℕ)) × (view v ≡ spec.obstacle_data obstacle.now told)) }
+{
+    match obstacle {
+        None => Ok(Value::Null),
+        Some(obstacle) => cause_value(alloc, *obstacle),
+    }
+}
+
+fn outcome_value(alloc: Global, outcome: &Outcome) -> Result<Value, AllocError>
+    ensures { IfOk result (λ v. (told : Option (List ℕ)) × (view v ≡ spec.outcome_data outcome.now told)) }
+{
+    let desk = survey_value(alloc, &outcome.survey)?;
+    let obstacle = obstacle_value(alloc, &outcome.obstacle)?;
+    let taken = taken_value(alloc, &outcome.survey)?;
+    let opens = outcome.obstacle.is_none();
+    json!(in alloc; {"desk": desk, "obstacle": obstacle, "opens": opens, "taken": taken})
+}
+
+fn object_text(alloc: Global, outcome: &Outcome) -> Result<String, AllocError>
+    ensures { IfOk result (λ text. (told : Option (List ℕ)) × (string_bytes text ≡ compact_text (spec.outcome_data outcome.now told))) }
+{
+    let value = outcome_value(alloc, outcome)?;
+    value.to_string(alloc)
+}
+
+/// Tells an outcome as one JSON object, in a line.
+pub(crate) fn tell_object<W: Write>(
+    alloc: Global,
+    writer: &mut W,
+    outcome: &Outcome,
+) -> Result<(), Untold>
+    ensures { OnOk result ((told : Option (List ℕ)) × Appends (W.contents writer.old) (W.contents writer.new)
+        (with_lf (compact_text (spec.outcome_data outcome.now told)))) }
+{
+    match object_text(alloc, outcome) {
+        Ok(text) => tell(writer, text.as_bytes()),
+        Err(_) => Err(Untold::Memory),
+    }
+}

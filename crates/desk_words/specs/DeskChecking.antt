@@ -1,0 +1,35 @@
+-- The command line of the program that checks a desk's file.
+use Rattle.std.specs.Prelude.{◌≡◌, ◌⊎◌, ℕ, List, codes, Option, Some, None, string_bytes}
+use Rattle.clap.specs.declared.builder.action.ArgAction.TheVariants.{SetTrue}
+use Rattle.clap.specs.Words.{App, Rule, Text, fault_of, first_of, matches_of, new_rule, with_rule}
+use Rattle.desk_words.specs.Arguments.{refusal_text}
+use Rattle.desk_words.specs.Checking.{told_app}
+use Rattle.desk_words.specs.CommandLine.{file_rule}
+use Rattle.desk_words.specs.Meaning.{IsRefusalOf}
+use Rattle.desk_words.specs.declared.argument.Argument.TheVariants as argument
+use Rattle.desk_words.specs.declared.meaning.WordsFault.{WordsFault}
+use Rattle.desk_words.specs.declared.meaning.WordsFault.TheVariants.{Usage}
+
+-- whether one JSON object is told
+abbrev pub json_rule : Rule
+json_rule = record (new_rule (codes "json")) {
+  long = Some (codes "json");
+  action = Some SetTrue;
+}
+
+-- a program that has a version and takes a file, which has to be there, and this
+abbrev pub desk_check_app : App
+desk_check_app = with_rule (with_rule (told_app (codes "desk_check")) file_rule) json_rule
+
+-- what the words give for an argument
+abbrev pub given : List Text → Text → Option Text
+given words id = first_of id (matches_of desk_check_app words)
+
+-- clap takes the words, and they give no file: this tells so
+abbrev pub LacksFile : List Text → List ℕ → Type 0
+LacksFile words told = (given words (codes "file") ≡ None) × (told ≡ refusal_text argument.File)
+
+-- the words are refused by this fault as clap refuses them, or since they give no file
+abbrev pub IsUnchecked : List Text → WordsFault → Type 0
+IsUnchecked words (Usage text) = IsRefusalOf (fault_of desk_check_app words) (Usage text) ⊎ LacksFile words (string_bytes text)
+IsUnchecked words fault = IsRefusalOf (fault_of desk_check_app words) fault

@@ -1,0 +1,9 @@
+use Rattle.plant_check_rows.proofs.Obeyed.{found_where_broken}
+use Rattle.plant_check_rows.proofs.FirstFound.{first_found}
+use Rattle.plant_check_rows.proofs.finding.findings_law.Goals as goal
+
+pub returns : goal.returns
+returns c = record {
+  broken = found_where_broken;
+  first = first_found;
+}

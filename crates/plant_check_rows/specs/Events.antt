@@ -1,0 +1,78 @@
+-- Batches and events that break a rule.
+use Rattle.std.specs.Prelude.{ℕ, Bool, true, false, not, ◌==◌, if◌then◌else◌, List, Option, Some, Result, Ok, Err}
+use Rattle.plant_base.specs.declared.refusal.Refusal.{Refusal}
+use Rattle.plant_base.specs.declared.rows.BatchEvent.{BatchEvent}
+use Rattle.plant_base.specs.declared.rows.BatchRow.{BatchRow}
+use Rattle.plant_base.specs.declared.rows.ControlLine.{ControlLine}
+use Rattle.plant_recipe.specs.contracts.progress.ProgressPartialEq.TheImpl.{ghosts as equal}
+use Rattle.plant_recipe.specs.declared.progress.Progress.{Progress}
+use Rattle.plant_recipe.specs.Progress.{run_of}
+use Rattle.plant_view.specs.Tables.{phases_among, events_among}
+use Rattle.plant_check_plans.specs.Batches.{is_row_among}
+use Rattle.plant_check_plans.specs.Events.{kept_progress}
+use Rattle.plant_check_rows.specs.Keys.{id_key, number_key}
+use Rattle.plant_check_rows.specs.declared.fault.Column.{Column}
+use Rattle.plant_check_rows.specs.declared.fault.Found.{Found}
+use Rattle.plant_check_rows.specs.declared.fault.Wanted.{Wanted}
+use Rattle.plant_check_rows.specs.First.{told_unless, or_told, first_told}
+use Rattle.plant_check_rows.specs.declared.fault.RowFault.{RowFault}
+use Rattle.plant_check_rows.specs.declared.fault.Table.TheVariants as table
+use Rattle.plant_check_rows.specs.declared.fault.Column.TheVariants as column
+use Rattle.plant_check_rows.specs.declared.fault.Found.TheVariants as found
+use Rattle.plant_check_rows.specs.declared.fault.Wanted.TheVariants as wanted
+
+-- the batch, where this stands in a column and that is wanted
+abbrev pub batch_as : BatchRow → Column → Found → Wanted → RowFault
+batch_as b c f w = record {
+  table = table.Batch;
+  key = id_key b.batch.id;
+  column = Some c;
+  found = f;
+  wanted = w;
+}
+
+abbrev pub number_as : BatchRow → Column → ℕ → ℕ → RowFault
+number_as b c m n = batch_as b c (found.Number m) (wanted.Number n)
+
+abbrev pub refused_event : BatchRow → Refusal → RowFault
+refused_event b refusal = batch_as b column.State (found.State b.state) (wanted.Allowed refusal)
+
+abbrev pub differ : Bool → Bool → Bool
+differ true b = not b
+differ false b = b
+
+abbrev pub closed_number : Bool → ℕ
+closed_number true = 1
+closed_number false = 0
+
+-- the first column, of attempt, next, closed and state, in which a batch has come elsewhere than its events lead to
+abbrev pub progress_fault : Progress → BatchRow → RowFault
+progress_fault p b =
+    if not (p.attempt == b.attempt) then number_as b column.Attempt b.attempt p.attempt
+    else (if not (p.next == b.next) then number_as b column.Next b.next p.next
+    else (if differ p.closed b.closed then number_as b column.Closed (closed_number b.closed) (closed_number p.closed)
+    else batch_as b column.State (found.State b.state) (wanted.State p.state)))
+
+-- the batch, where one of its events was refused, or it has come elsewhere than they lead to
+abbrev pub run_told : Result Progress Refusal → BatchRow → Option RowFault
+run_told (Err refusal) b = Some (refused_event b refusal)
+run_told (Ok p) b = told_unless (equal.eq p (kept_progress b)) (progress_fault p b)
+
+abbrev pub run_fault : List ControlLine → List BatchEvent → BatchRow → Option RowFault
+run_fault control events b = run_told (run_of (phases_among control b.batch.id) (events_among events b.batch.id)) b
+
+abbrev pub stray_event : BatchEvent → RowFault
+stray_event e = record {
+  table = table.BatchEvent;
+  key = number_key e.seq;
+  column = Some column.Batch;
+  found = found.Id e.batch;
+  wanted = wanted.Key table.Batch;
+}
+
+-- the event, where its batch isn't there
+abbrev pub event_fault : List BatchRow → BatchEvent → Option RowFault
+event_fault batches e = told_unless (is_row_among batches e.batch) (stray_event e)
+
+abbrev pub event_fault_in : List ControlLine → List BatchEvent → List BatchRow → Option RowFault
+event_fault_in control events batches = or_told (first_told (run_fault control events) batches) (first_told (event_fault batches) events)

@@ -1,0 +1,16 @@
+pub mod Naming
+pub mod Texts
+pub mod First
+pub mod Keys
+pub mod Plans
+pub mod Recipes
+pub mod Stocks
+pub mod Lots
+pub mod Movements
+pub mod Events
+pub mod Numbers
+pub mod Edges
+pub mod Receipts
+pub mod Recalls
+pub mod Values
+pub mod Findings

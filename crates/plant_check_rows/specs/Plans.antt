@@ -1,0 +1,139 @@
+-- Definitions, orders, batches and their lines that break a rule.
+use Rattle.std.specs.Prelude.{◌==◌, List, length, map, filter, Option, Some, None}
+use Rattle.plant_base.specs.State.{same}
+use Rattle.plant_base.specs.declared.rows.BatchRow.{BatchRow}
+use Rattle.plant_base.specs.declared.rows.Class.{Class}
+use Rattle.plant_base.specs.declared.rows.ControlLine.{ControlLine}
+use Rattle.plant_base.specs.declared.rows.Definition.{Definition}
+use Rattle.plant_base.specs.declared.rows.Job.{Job}
+use Rattle.plant_base.specs.declared.rows.MasterLine.{MasterLine}
+use Rattle.plant_base.specs.declared.rows.Recipe.{Recipe}
+use Rattle.plant_base.specs.declared.states.JobState.{JobState}
+use Rattle.plant_base.specs.declared.states.JobState.TheVariants.{Open, Cancelled, Released, Finished}
+use Rattle.plant_view.specs.Production.{is_size_of_recipe, control_among, job_among}
+use Rattle.plant_check_plans.specs.Batches.{control_asked_for, is_control, is_row_among}
+use Rattle.plant_check_plans.specs.Catalogue.{is_class_among}
+use Rattle.plant_check_plans.specs.Orders.{recipe_among, row_of_order, is_started}
+use Rattle.plant_check_plans.specs.Recipes.{are_numbered}
+use Rattle.plant_check_rows.specs.Keys.{id_key, control_line_key}
+use Rattle.plant_check_rows.specs.First.{told_unless, or_told, first_told}
+use Rattle.plant_check_rows.specs.declared.fault.RowFault.{RowFault}
+use Rattle.plant_check_rows.specs.declared.fault.Table.TheVariants as table
+use Rattle.plant_check_rows.specs.declared.fault.Column.TheVariants as column
+use Rattle.plant_check_rows.specs.declared.fault.Found.TheVariants as found
+use Rattle.plant_check_rows.specs.declared.fault.Wanted.{Wanted}
+use Rattle.plant_check_rows.specs.declared.fault.Wanted.TheVariants as wanted
+
+-- ---- definitions
+
+abbrev pub missing_class : Definition → RowFault
+missing_class d = record {
+  table = table.Definition;
+  key = id_key d.id;
+  column = Some column.Class;
+  found = found.Id d.class;
+  wanted = wanted.Key table.Class;
+}
+
+-- the definition, where its class isn't there
+abbrev pub class_fault : List Class → Definition → Option RowFault
+class_fault classes d = told_unless (is_class_among classes d.class) (missing_class d)
+
+abbrev pub class_fault_in : List Class → List Definition → Option RowFault
+class_fault_in classes definitions = first_told (class_fault classes) definitions
+
+-- ---- orders
+
+abbrev pub missing_recipe : Job → RowFault
+missing_recipe j = record {
+  table = table.Job;
+  key = id_key j.order.order;
+  column = Some column.Recipe;
+  found = found.Id j.order.recipe;
+  wanted = wanted.Key table.Recipe;
+}
+
+abbrev pub wrong_size : Recipe → Job → RowFault
+wrong_size r j = record {
+  table = table.Job;
+  key = id_key j.order.order;
+  column = Some column.Size;
+  found = found.Number j.order.size;
+  wanted = wanted.Size r.header.least r.header.greatest;
+}
+
+-- the order, where its recipe isn't there, or its size is none of that
+abbrev pub size_fault : Option Recipe → Job → Option RowFault
+size_fault None j = Some (missing_recipe j)
+size_fault (Some r) j = told_unless (is_size_of_recipe (Some r) j.order.size) (wrong_size r j)
+
+-- the batch that an order in this state has
+abbrev pub batch_wanted : JobState → Wanted
+batch_wanted Open = wanted.NoBatch
+batch_wanted Cancelled = wanted.NoBatch
+batch_wanted Released = wanted.OpenBatch
+batch_wanted Finished = wanted.ClosedBatch
+
+abbrev pub wrong_start : Job → RowFault
+wrong_start j = record {
+  table = table.Job;
+  key = id_key j.order.order;
+  column = Some column.State;
+  found = found.Order j.state;
+  wanted = batch_wanted j.state;
+}
+
+-- the order, where it has another batch than its state asks for
+abbrev pub start_fault : Option BatchRow → Job → Option RowFault
+start_fault b j = told_unless (is_started j.state b) (wrong_start j)
+
+abbrev pub order_fault : List Recipe → List BatchRow → Job → Option RowFault
+order_fault recipes batches j = or_told (size_fault (recipe_among recipes j.order.recipe j.order.version) j) (start_fault (row_of_order batches j.order.order) j)
+
+abbrev pub order_fault_in : List Recipe → List BatchRow → List Job → Option RowFault
+order_fault_in recipes batches jobs = first_told (order_fault recipes batches) jobs
+
+-- ---- batches
+
+-- the batch, where this is wanted of the row as a whole
+abbrev pub batch_as_a_whole : BatchRow → Wanted → RowFault
+batch_as_a_whole b w = record {
+  table = table.Batch;
+  key = id_key b.batch.id;
+  column = None;
+  found = found.Row;
+  wanted = w;
+}
+
+abbrev pub shared_order : BatchRow → RowFault
+shared_order b = record {
+  table = table.Batch;
+  key = id_key b.batch.id;
+  column = Some column.Job;
+  found = found.Id b.batch.job;
+  wanted = wanted.OneBatch;
+}
+
+-- the batch, where another has its order, or its lines aren't the control recipe that this asks for, numbered from 1 on
+abbrev pub batch_fault : List Recipe → List MasterLine → List Job → List BatchRow → List ControlLine → BatchRow → Option RowFault
+batch_fault recipes rows jobs batches control b =
+    or_told (told_unless (length (filter (λ x. same x.batch.job b.batch.job) batches) == 1) (shared_order b))
+    (or_told (told_unless (are_numbered 1 (map (λ l. l.number) (control_among control b.batch.id))) (batch_as_a_whole b (wanted.NumberedFrom table.ControlLine 1)))
+    (told_unless (is_control (control_asked_for recipes rows (job_among jobs b.batch.job)) (map (λ l. l.line) (control_among control b.batch.id))) (batch_as_a_whole b wanted.Control)))
+
+abbrev pub stray_control_line : ControlLine → RowFault
+stray_control_line l = record {
+  table = table.ControlLine;
+  key = control_line_key l;
+  column = Some column.Batch;
+  found = found.Id l.batch;
+  wanted = wanted.Key table.Batch;
+}
+
+-- the line, where its batch isn't there
+abbrev pub control_line_fault : List BatchRow → ControlLine → Option RowFault
+control_line_fault batches l = told_unless (is_row_among batches l.batch) (stray_control_line l)
+
+abbrev pub batch_fault_in : List Recipe → List MasterLine → List Job → List BatchRow → List ControlLine → Option RowFault
+batch_fault_in recipes rows jobs batches control =
+    or_told (first_told (batch_fault recipes rows jobs batches control) batches) (first_told (control_line_fault batches) control)

@@ -1,0 +1,33 @@
+-- Sublots whose stock isn't what entered them less what left them.
+use Rattle.std.specs.Prelude.{ℕ, ◌+◌, ◌==◌, List, Option, Some}
+use Rattle.plant_base.specs.declared.rows.Sublot.{Sublot}
+use Rattle.plant_tables_columns.specs.declared.booked.BookedRow.{BookedRow}
+use Rattle.plant_check.specs.Ends.{entries, exits, total_booked}
+use Rattle.plant_check_rows.specs.First.{told_unless, first_told}
+use Rattle.plant_check_rows.specs.Keys.{sublot_key}
+use Rattle.plant_check_rows.specs.declared.fault.RowFault.{RowFault}
+use Rattle.plant_check_rows.specs.declared.fault.Table.TheVariants as table
+use Rattle.plant_check_rows.specs.declared.fault.Column.TheVariants as column
+use Rattle.plant_check_rows.specs.declared.fault.Found.TheVariants as found
+use Rattle.plant_check_rows.specs.declared.fault.Wanted.TheVariants as wanted
+
+-- the sublot, where so much entered and so much left
+abbrev pub wrong_stock : ℕ → ℕ → Sublot → RowFault
+wrong_stock entered left s = record {
+  table = table.Sublot;
+  key = sublot_key s;
+  column = Some column.Stock;
+  found = found.Number s.stock;
+  wanted = wanted.Stock entered left;
+}
+
+-- the sublot, where its stock isn't what entered less what left
+abbrev pub stock_told : ℕ → ℕ → Sublot → Option RowFault
+stock_told entered left s = told_unless (s.stock + left == entered) (wrong_stock entered left s)
+
+abbrev pub stock_fault : List BookedRow → List BookedRow → Sublot → Option RowFault
+stock_fault entering leaving s = stock_told (total_booked (entries entering s.lot s.number)) (total_booked (exits leaving s.lot s.number)) s
+
+-- the first of them
+abbrev pub stock_fault_in : List BookedRow → List Sublot → Option RowFault
+stock_fault_in rows sublots = first_told (stock_fault rows rows) sublots

@@ -1,0 +1,92 @@
+-- The texts of rows that break rules.
+use Rattle.std.specs.Prelude.{ℕ, ◌-◌, nat_lt, if◌then◌else◌, List, ◌++◌, codes, decimal, Option, Some, None}
+use Rattle.plant_base.specs.Refusals.{name_of}
+use Rattle.plant_base.specs.Words.{batch_state_name, job_state_name}
+use Rattle.plant_tables_columns.specs.declared.booked.MovementSort.{MovementSort}
+use Rattle.plant_tables_columns.specs.declared.booked.MovementSort.TheVariants as sort
+use Rattle.plant_check_rows.specs.Naming.{table_name, column_name}
+use Rattle.plant_check_rows.specs.declared.fault.Key.{Key}
+use Rattle.plant_check_rows.specs.declared.fault.Key.TheVariants as key
+use Rattle.plant_check_rows.specs.declared.fault.Column.{Column}
+use Rattle.plant_check_rows.specs.declared.fault.Found.{Found}
+use Rattle.plant_check_rows.specs.declared.fault.Found.TheVariants as found
+use Rattle.plant_check_rows.specs.declared.fault.Wanted.{Wanted}
+use Rattle.plant_check_rows.specs.declared.fault.Wanted.TheVariants as wanted
+use Rattle.plant_check_rows.specs.declared.fault.RowFault.{RowFault}
+
+abbrev pub key_text : Key → List ℕ
+key_text (key.Id id) = id
+key_text (key.Number n) = decimal n
+key_text (key.Ids a b) = a ++ codes " " ++ b
+key_text (key.Numbers m n) = decimal m ++ codes " " ++ decimal n
+key_text (key.IdNumber id n) = id ++ codes " " ++ decimal n
+key_text (key.IdNumbers id m n) = id ++ codes " " ++ decimal m ++ codes " " ++ decimal n
+key_text (key.NumberIds n a b) = decimal n ++ codes " " ++ a ++ codes " " ++ b
+key_text (key.Place place) = codes "number " ++ decimal place ++ codes " by its key"
+
+abbrev pub sort_name : MovementSort → List ℕ
+sort_name sort.Received = codes "a receipt"
+sort_name sort.Consumed = codes "a consumption"
+sort_name sort.Produced = codes "a production"
+sort_name sort.Scrapped = codes "a scrapping"
+sort_name sort.Divided = codes "a division"
+sort_name sort.Split = codes "a split"
+sort_name sort.Merged = codes "a merge"
+
+abbrev pub found_text : Found → List ℕ
+found_text (found.Id id) = id
+found_text (found.Number n) = decimal n
+found_text (found.Order s) = job_state_name s
+found_text (found.State s) = batch_state_name s
+found_text (found.Sort s) = sort_name s
+found_text found.Row = codes "the row"
+found_text found.Nothing = codes "no row"
+
+-- what is wanted, where that is always the same
+abbrev pub plain_wanted : Wanted → List ℕ
+plain_wanted wanted.NoRow = codes "no such row"
+plain_wanted wanted.NoBatch = codes "an order without a batch"
+plain_wanted wanted.OpenBatch = codes "an order with a batch that isn't closed"
+plain_wanted wanted.ClosedBatch = codes "an order with a closed batch"
+plain_wanted wanted.OneBatch = codes "one batch of the order"
+plain_wanted wanted.WellFormed = codes "a well-formed recipe"
+plain_wanted wanted.Control = codes "the control recipe that its order asks for"
+plain_wanted wanted.Birth = codes "movements of one number and kind that make it, of at most 10^15 in all, or one division"
+plain_wanted wanted.Columns = codes "the columns that its kind or state asks for"
+plain_wanted wanted.RightDefinition = codes "a definition that the other lot, or the control recipe of the batch, has too"
+plain_wanted wanted.Parts = codes "at most 16 parts, of distinct sublots"
+plain_wanted wanted.Apart = codes "a number that no event of a batch has"
+plain_wanted wanted.Later = codes "a number above those that brought what it takes"
+plain_wanted wanted.NextLine = codes "line 1 of a number, or the next part of the merge before it"
+plain_wanted wanted.Between = codes "a moment no later than that of its lifting, and both no later than the desk's"
+plain_wanted wanted.OwnNumber = codes "a number that no other receipt has"
+plain_wanted wanted.Content = codes "a content of one or more bytes from the space to ~ and LFs"
+plain_wanted wanted.Values = codes "values that each obey their rule"
+plain_wanted _ = codes ""
+
+-- a stock as the difference of what entered and what left
+abbrev pub stock_text : ℕ → ℕ → List ℕ
+stock_text entered left = if nat_lt entered left
+    then codes "no less to have left than entered: " ++ decimal entered ++ codes " entered and " ++ decimal left ++ codes " left"
+    else decimal (entered - left) ++ codes ", for " ++ decimal entered ++ codes " entered and " ++ decimal left ++ codes " left"
+
+abbrev pub wanted_text : Wanted → List ℕ
+wanted_text (wanted.Key t) = codes "the key of a row of table " ++ table_name t ++ codes ", one that fits"
+wanted_text (wanted.Stock entered left) = stock_text entered left
+wanted_text (wanted.State s) = batch_state_name s
+wanted_text (wanted.Number n) = decimal n
+wanted_text (wanted.Allowed r) = codes "events that are allowed: one is refused as " ++ name_of r
+wanted_text (wanted.Size least greatest) = codes "a size from " ++ decimal least ++ codes " to " ++ decimal greatest
+wanted_text (wanted.NumberedFrom t first) = codes "rows of table " ++ table_name t ++ codes " numbered from " ++ decimal first ++ codes " on"
+wanted_text (wanted.Given greatest) = codes "the number of a command, 1 to " ++ decimal greatest
+wanted_text (wanted.NotAfter at) = codes "no moment after " ++ decimal at ++ codes ", which is the desk's"
+wanted_text (wanted.NotBefore at) = codes "no moment before " ++ decimal at ++ codes ", which stands with a lower number"
+wanted_text (wanted.EdgeOf seq line) = codes "the edge that movement " ++ decimal seq ++ codes " " ++ decimal line ++ codes " makes"
+wanted_text w = plain_wanted w
+
+abbrev pub column_text : Option Column → List ℕ
+column_text None = codes ""
+column_text (Some c) = codes ", column " ++ column_name c
+
+abbrev pub fault_text : RowFault → List ℕ
+fault_text f = codes "table " ++ table_name f.table ++ codes ", row " ++ key_text f.key ++ column_text f.column ++ codes ": " ++ found_text f.found ++ codes " stands there, wanted is " ++ wanted_text f.wanted

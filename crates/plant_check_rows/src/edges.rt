@@ -1,0 +1,142 @@
+//! Edges that no movement makes, and edges that are missing.
+ghost use Rattle.std.specs.Prelude.{◌≡◌, IfOk, Option};
+ghost use Rattle.plant_check_rows.specs.Edges.{edge_fault_in, is_edge_among, missing_edge, missing_edge_fault};
+ghost use Rattle.plant_check_rows.specs.Edges.{stray_edge_fault};
+ghost use Rattle.plant_check_rows.specs.First.{first_told};
+
+use crate::fault::{Found, RowFault, Table, Wanted};
+use crate::first::{RowRule, first_fault, or_told, told_unless};
+use crate::keys::edge_key;
+use plant_base::{EdgeRow, Movement};
+use plant_check::edges::edges_in;
+use plant_check_groups::{Grouped, Grouping};
+use plant_view::edge_row;
+use std::alloc::{AllocError, Global};
+
+/// Edges, each under itself.
+#[derive(Clone, Copy)]
+struct Kept;
+
+impl Grouping for Kept {
+    ghost use Rattle.std.specs.Prelude.{Some};
+
+    type Row = EdgeRow;
+
+    type Key = EdgeRow;
+
+    ghost key_of = { λ e. Some e };
+
+    fn key(row: &EdgeRow) -> Option<EdgeRow> {
+        Some(*row)
+    }
+}
+
+fn has_edge(edges: &Grouped<Kept>, edge: EdgeRow) -> bool
+    ensures { result ≡ is_edge_among edges.now.rows.now edge }
+{
+    edges.has(edge)
+}
+
+/// That an edge is one that a movement makes.
+#[derive(Drop)]
+struct Made<'a> {
+    made: Grouped<'a, Kept>,
+}
+
+impl<'a> RowRule for Made<'a> {
+    type Row = EdgeRow;
+
+    ghost fault_of = { λ t e. stray_edge_fault t.made.rows.now e };
+
+    fn fault(&self, _alloc: Global, row: &EdgeRow) -> Result<Option<RowFault>, AllocError> {
+        let fault = RowFault {
+            table: Table::Edge,
+            key: edge_key(row),
+            column: None,
+            found: Found::Row,
+            wanted: Wanted::NoRow,
+        };
+        Ok(told_unless(has_edge(&self.made, *row), fault))
+    }
+}
+
+/// That the edge that a movement makes is there, in a schema that keeps edges.
+#[derive(Drop)]
+struct Keeping<'a> {
+    schema: u64,
+    edges: Grouped<'a, Kept>,
+}
+
+impl<'a> Keeping<'a> {
+    fn missing_edge(&self, movement: &Movement, edge: Option<EdgeRow>) -> Option<RowFault>
+        ensures { result ≡ missing_edge self.now.schema self.now.edges.rows.now movement.now edge }
+    {
+        match edge {
+            None => None,
+            Some(edge) => {
+                let fault = RowFault {
+                    table: Table::Edge,
+                    key: edge_key(&edge),
+                    column: None,
+                    found: Found::Nothing,
+                    wanted: Wanted::EdgeOf {
+                        seq: movement.seq,
+                        line: movement.line,
+                    },
+                };
+                told_unless(self.schema < 2 || has_edge(&self.edges, edge), fault)
+            }
+        }
+    }
+}
+
+impl<'a> RowRule for Keeping<'a> {
+    type Row = Movement;
+
+    ghost fault_of = { λ t m. missing_edge_fault t.schema t.edges.rows.now m };
+
+    fn fault(&self, _alloc: Global, row: &Movement) -> Result<Option<RowFault>, AllocError> {
+        Ok(self.missing_edge(row, edge_row(row)))
+    }
+}
+
+fn stray_edge(
+    alloc: Global,
+    made: &[EdgeRow],
+    rows: &[EdgeRow],
+) -> Result<Option<RowFault>, AllocError>
+    ensures { IfOk result (λ told. told ≡ first_told (stray_edge_fault made.now) rows.now) }
+{
+    let made = Grouped::<Kept>::new(alloc, made)?;
+    let making = Made { made };
+    first_fault(alloc, &making, rows)
+}
+
+fn unkept_edge(
+    alloc: Global,
+    schema: u64,
+    rows: &[EdgeRow],
+    movements: &[Movement],
+) -> Result<Option<RowFault>, AllocError>
+    ensures { IfOk result (λ told. told ≡ first_told (missing_edge_fault schema rows.now) movements.now) }
+{
+    let edges = Grouped::<Kept>::new(alloc, rows)?;
+    let keeping = Keeping { schema, edges };
+    first_fault(alloc, &keeping, movements)
+}
+
+/// The first edge that no movement makes, or else the first that a movement makes and that isn't there, in a schema that keeps
+/// edges. The only error is that memory was refused.
+pub(crate) fn edge_fault(
+    alloc: Global,
+    schema: u64,
+    rows: &[EdgeRow],
+    movements: &[Movement],
+) -> Result<Option<RowFault>, AllocError>
+    ensures { IfOk result (λ told. told ≡ edge_fault_in schema rows.now movements.now) }
+{
+    let made = edges_in(alloc, schema, movements)?;
+    let stray = stray_edge(alloc, made.as_slice(), rows)?;
+    let missing = unkept_edge(alloc, schema, rows, movements)?;
+    Ok(or_told(stray, missing))
+}

@@ -1,0 +1,173 @@
+//! Batches and events that break a rule.
+ghost use Rattle.std.specs.Prelude.{◌≡◌, IfOk, Result};
+ghost use Rattle.plant_check_rows.specs.Events.{batch_as, closed_number, differ, event_fault, event_fault_in};
+ghost use Rattle.plant_check_rows.specs.Events.{number_as, progress_fault, refused_event, run_fault, run_told};
+ghost use Rattle.plant_check_rows.specs.First.{first_told};
+
+use crate::fault::{Column, Found, RowFault, Table, Wanted};
+use crate::first::{RowRule, first_fault, or_told, told_unless};
+use crate::keys::{id_key, number_key};
+use plant_base::{BatchEvent, BatchRow, ControlLine, Refusal};
+use plant_check_groups::Grouped;
+use plant_check_plans::events::{events_in, kept_progress, phases_of};
+use plant_check_plans::keys::{Batches, ControlLines, Events, events_of, has_batch};
+use plant_recipe::Progress;
+use std::alloc::{AllocError, Global};
+
+/// The batch, where this stands in a column and that is wanted.
+fn batch_as(batch: &BatchRow, column: Column, found: Found, wanted: Wanted) -> RowFault
+    ensures { result ≡ batch_as batch.now column found wanted }
+{
+    RowFault {
+        table: Table::Batch,
+        key: id_key(batch.batch.id),
+        column: Some(column),
+        found,
+        wanted,
+    }
+}
+
+fn refused_event(batch: &BatchRow, refusal: Refusal) -> RowFault
+    ensures { result ≡ refused_event batch.now refusal }
+{
+    let found = Found::State(batch.state);
+    batch_as(batch, Column::State, found, Wanted::Allowed(refusal))
+}
+
+fn differ(a: bool, b: bool) -> bool
+    ensures { result ≡ differ a b }
+{
+    if a { !b } else { b }
+}
+
+/// How the file tells whether a batch is closed.
+fn closed_number(closed: bool) -> u64
+    ensures { result ≡ closed_number closed }
+{
+    if closed { 1 } else { 0 }
+}
+
+/// The batch, where a column has another number than its events lead to.
+fn number_as(batch: &BatchRow, column: Column, found: u64, wanted: u64) -> RowFault
+    ensures { result ≡ number_as batch.now column found wanted }
+{
+    batch_as(batch, column, Found::Number(found), Wanted::Number(wanted))
+}
+
+/// The first column, of attempt, next, closed and state, in which a batch has come elsewhere than its events lead to.
+fn progress_fault(progress: &Progress, batch: &BatchRow) -> RowFault
+    ensures { result ≡ progress_fault progress.now batch.now }
+{
+    if progress.attempt != batch.attempt {
+        let (found, wanted) = (u64::from(batch.attempt), u64::from(progress.attempt));
+        return number_as(batch, Column::Attempt, found, wanted);
+    }
+    if progress.next != batch.next {
+        let (found, wanted) = (u64::from(batch.next), u64::from(progress.next));
+        return number_as(batch, Column::Next, found, wanted);
+    }
+    if differ(progress.closed, batch.closed) {
+        let found = closed_number(batch.closed);
+        return number_as(batch, Column::Closed, found, closed_number(progress.closed));
+    }
+    let found = Found::State(batch.state);
+    batch_as(batch, Column::State, found, Wanted::State(progress.state))
+}
+
+/// The batch, where one of its events was refused, or it has come elsewhere than they lead to.
+fn run_told(run: Result<Progress, Refusal>, batch: &BatchRow) -> Option<RowFault>
+    ensures { result ≡ run_told run batch.now }
+{
+    match run {
+        Err(refusal) => Some(refused_event(batch, refusal)),
+        Ok(progress) => {
+            let is_kept = progress == kept_progress(batch);
+            told_unless(is_kept, progress_fault(&progress, batch))
+        }
+    }
+}
+
+/// That a batch has come as far as its events say, each of which was allowed.
+#[derive(Drop)]
+struct Runs<'a> {
+    controls: Grouped<'a, ControlLines>,
+    events: Grouped<'a, Events>,
+}
+
+impl<'a> RowRule for Runs<'a> {
+    type Row = BatchRow;
+
+    ghost fault_of = { λ t b. run_fault t.controls.rows.now t.events.rows.now b };
+
+    #[tactic(auto, using(plant_recipe::proofs::Runs::run_capped))]
+    fn fault(&self, alloc: Global, row: &BatchRow) -> Result<Option<RowFault>, AllocError> {
+        let id = row.batch.id;
+        let list = events_in(alloc, events_of(&self.events, id))?;
+        let run = Progress::of_events(list.as_slice(), phases_of(&self.controls, id));
+        Ok(run_told(run, row))
+    }
+}
+
+/// That the batch of an event is there.
+#[derive(Drop)]
+struct Happened<'a> {
+    batches: Grouped<'a, Batches>,
+}
+
+impl<'a> RowRule for Happened<'a> {
+    type Row = BatchEvent;
+
+    ghost fault_of = { λ t e. event_fault t.batches.rows.now e };
+
+    fn fault(&self, _alloc: Global, row: &BatchEvent) -> Result<Option<RowFault>, AllocError> {
+        let fault = RowFault {
+            table: Table::BatchEvent,
+            key: number_key(row.seq),
+            column: Some(Column::Batch),
+            found: Found::Id(row.batch),
+            wanted: Wanted::Key(Table::Batch),
+        };
+        Ok(told_unless(has_batch(&self.batches, row.batch), fault))
+    }
+}
+
+fn wrong_run(
+    alloc: Global,
+    control: &[ControlLine],
+    events: &[BatchEvent],
+    batches: &[BatchRow],
+) -> Result<Option<RowFault>, AllocError>
+    ensures { IfOk result (λ told. told ≡ first_told (run_fault control.now events.now) batches.now) }
+{
+    let controls = Grouped::<ControlLines>::new(alloc, control)?;
+    let events = Grouped::<Events>::new(alloc, events)?;
+    let runs = Runs { controls, events };
+    first_fault(alloc, &runs, batches)
+}
+
+fn stray_event(
+    alloc: Global,
+    batches: &[BatchRow],
+    events: &[BatchEvent],
+) -> Result<Option<RowFault>, AllocError>
+    ensures { IfOk result (λ told. told ≡ first_told (event_fault batches.now) events.now) }
+{
+    let batches = Grouped::<Batches>::new(alloc, batches)?;
+    let happened = Happened { batches };
+    first_fault(alloc, &happened, events)
+}
+
+/// The first batch that hasn't come as far as its columns say, or else the first event without its batch. The only error is
+/// that memory was refused.
+pub(crate) fn event_fault(
+    alloc: Global,
+    control: &[ControlLine],
+    events: &[BatchEvent],
+    batches: &[BatchRow],
+) -> Result<Option<RowFault>, AllocError>
+    ensures { IfOk result (λ told. told ≡ event_fault_in control.now events.now batches.now) }
+{
+    let run = wrong_run(alloc, control, events, batches)?;
+    let stray = stray_event(alloc, batches, events)?;
+    Ok(or_told(run, stray))
+}

@@ -1,0 +1,214 @@
+//! A row that breaks a rule.
+ghost use Rattle.std.specs.Prelude.{◌≡◌};
+ghost use Rattle.plant_check_rows.specs.Naming.{column_name, table_name};
+
+use plant_base::{Amount, BatchState, Id, JobState, Refusal};
+use plant_tables_judged::MovementSort;
+
+/// A table of the desk.
+#[derive(Clone, Copy, Debug, PartialEq, Eq)]
+pub enum Table {
+    Class,
+    Definition,
+    Recipe,
+    RecipeLine,
+    Job,
+    Batch,
+    ControlLine,
+    BatchEvent,
+    Lot,
+    Sublot,
+    Movement,
+    Hold,
+    Edge,
+    Receipt,
+    Recall,
+    Mark,
+}
+
+impl Table {
+    /// Its name in the file.
+    pub fn name(self) -> &'static str
+        ensures { result.now ≡ table_name self }
+    {
+        match self {
+            Table::Class => "class",
+            Table::Definition => "definition",
+            Table::Recipe => "recipe",
+            Table::RecipeLine => "recipe_line",
+            Table::Job => "job",
+            Table::Batch => "batch",
+            Table::ControlLine => "control_line",
+            Table::BatchEvent => "batch_event",
+            Table::Lot => "lot",
+            Table::Sublot => "sublot",
+            Table::Movement => "movement",
+            Table::Hold => "hold",
+            Table::Edge => "edge",
+            Table::Receipt => "receipt",
+            Table::Recall => "recall",
+            Table::Mark => "mark",
+        }
+    }
+}
+
+/// A column of the desk's tables, of those that rules speak of alone.
+#[derive(Clone, Copy, Debug, PartialEq, Eq)]
+pub enum Column {
+    At,
+    Attempt,
+    Batch,
+    Class,
+    Closed,
+    Content,
+    Def,
+    Job,
+    Kind,
+    Line,
+    Lot,
+    Next,
+    Product,
+    Recipe,
+    Seq,
+    Size,
+    State,
+    Stock,
+}
+
+impl Column {
+    /// Its name in the file.
+    pub fn name(self) -> &'static str
+        ensures { result.now ≡ column_name self }
+    {
+        match self {
+            Column::At => "at",
+            Column::Attempt => "attempt",
+            Column::Batch => "batch",
+            Column::Class => "class",
+            Column::Closed => "closed",
+            Column::Content => "content",
+            Column::Def => "def",
+            Column::Job => "job",
+            Column::Kind => "kind",
+            Column::Line => "line",
+            Column::Lot => "lot",
+            Column::Next => "next",
+            Column::Product => "product",
+            Column::Recipe => "recipe",
+            Column::Seq => "seq",
+            Column::Size => "size",
+            Column::State => "state",
+            Column::Stock => "stock",
+        }
+    }
+}
+
+/// The values of a row's key, in the order of its columns; or its place in the order of the key.
+#[derive(Clone, Copy, Debug, PartialEq, Eq)]
+pub enum Key {
+    Id(Id),
+    Number(u64),
+    Ids(Id, Id),
+    Numbers(u64, u64),
+    IdNumber(Id, u64),
+    IdNumbers(Id, u64, u64),
+    NumberIds(u64, Id, Id),
+    /// The place of a row whose key can't be read, counted from 1 on.
+    Place(u64),
+}
+
+/// What stands there.
+#[derive(Clone, Copy, Debug, PartialEq, Eq)]
+pub enum Found {
+    Id(Id),
+    Number(u64),
+    /// The state of an order.
+    Order(JobState),
+    /// The state of a batch.
+    State(BatchState),
+    /// The kind of a movement.
+    Sort(MovementSort),
+    /// The row as a whole.
+    Row,
+    /// No row.
+    Nothing,
+}
+
+/// What the rule wants there.
+#[derive(Clone, Copy, Debug, PartialEq, Eq)]
+pub enum Wanted {
+    /// The key of a row of this table, one that fits.
+    Key(Table),
+    /// No such row.
+    NoRow,
+    /// The amounts that entered less those that left.
+    Stock { entered: u128, left: u128 },
+    /// The state that the events of the batch lead to.
+    State(BatchState),
+    /// The number that the events of the batch lead to.
+    Number(u64),
+    /// Events that are each allowed at their place: one is refused so.
+    Allowed(Refusal),
+    /// A size from the recipe's least to its greatest.
+    Size { least: Amount, greatest: Amount },
+    /// No batch of the order.
+    NoBatch,
+    /// A batch of the order that isn't closed.
+    OpenBatch,
+    /// A batch of the order that is closed.
+    ClosedBatch,
+    /// No other batch of the order.
+    OneBatch,
+    /// A well-formed recipe.
+    WellFormed,
+    /// Rows of the table that are numbered from this number on.
+    NumberedFrom(Table, u8),
+    /// The control recipe that the order of the batch asks for.
+    Control,
+    /// Movements of one number and one kind that bring the sublot its first amount, at most 10^15 in all; of another sublot
+    /// than 0 one division.
+    Birth,
+    /// The columns that the kind of the row asks for.
+    Columns,
+    /// What the definitions of the lots, or the control recipe of the batch, allow.
+    RightDefinition,
+    /// At most 16 parts, of distinct pairs of lot and sublot.
+    Parts,
+    /// The number of an accepted command, which is at most this.
+    Given(u64),
+    /// A number that no event has.
+    Apart,
+    /// A number above those of the movements that brought what this one takes.
+    Later,
+    /// Line 1, or the next part of the merge before it.
+    NextLine,
+    /// No moment after this one, which is the desk's.
+    NotAfter(u64),
+    /// No moment before this one, which stands with a lower number.
+    NotBefore(u64),
+    /// A moment of the recall that isn't after that of its lifting, and neither of them after the desk's.
+    Between,
+    /// The edge that this movement makes.
+    EdgeOf { seq: u64, line: u16 },
+    /// A number of its own.
+    OwnNumber,
+    /// One or more bytes from the space to `~` and LFs.
+    Content,
+    /// Values that each obey their rule.
+    Values,
+}
+
+/// A row that breaks a rule.
+#[derive(Clone, Copy, Debug, PartialEq, Eq)]
+pub struct RowFault {
+    /// The table in which it stands, or is missing.
+    pub table: Table,
+    /// Its key.
+    pub key: Key,
+    /// The column that is wrong, where it is one.
+    pub column: Option<Column>,
+    /// What stands there.
+    pub found: Found,
+    /// What the rule wants there.
+    pub wanted: Wanted,
+}

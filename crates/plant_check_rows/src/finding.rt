@@ -1,0 +1,422 @@
+//! The broken rules, each with the first row that breaks it.
+ghost use Rattle.std.specs.Prelude.{◌≡◌, [], IfOk, filter};
+ghost use Rattle.plant_tables_judged.specs.Collecting.{rows_listed};
+ghost use Rattle.plant_check.specs.declared.rule.Rule.TheVariants as broken;
+ghost use Rattle.plant_check_rows.specs.Findings as spec;
+ghost use Rattle.plant_check_rows.specs.Findings.{AreFindingsOf, IsFoundWhereBroken, IsFirstFound, IsTestOf};
+ghost use Rattle.plant_check_rows.specs.Findings.{numbered_fault_in};
+
+use crate::edges::edge_fault;
+use crate::events::event_fault;
+use crate::fault::RowFault;
+use crate::first::or_told;
+use crate::lots::lot_fault;
+use crate::movements::movement_fault;
+use crate::numbers::{falling_event, falling_movement, late_fault, number_fault};
+use crate::plans::{batch_fault, class_fault, order_fault};
+use crate::recalls::recall_fault;
+use crate::receipts::receipt_fault;
+use crate::recipes::recipe_fault;
+use crate::stocks::stock_fault;
+use crate::values::value_fault_in;
+use plant_base::Movement;
+use plant_check::Rule;
+use plant_check::checking::{are_edges_of, are_numbers_of, are_right_recalls};
+use plant_check::history::movements_in;
+use plant_check::recalls::recalls_told;
+use plant_check_stock::are_receipts;
+use plant_tables_judged::{DeskRows, has_meta, rows_of};
+use plant_tables_stored::Loaded;
+use std::alloc::{AllocError, Global};
+
+/// A rule that is broken.
+#[derive(Clone, Copy, Debug, PartialEq, Eq)]
+pub struct Finding {
+    pub rule: Rule,
+    /// The first row that breaks it, where one is told.
+    pub row: Option<RowFault>,
+}
+
+/// What a rule says.
+pub fn rule_text(rule: Rule) -> &'static str
+    ensures { result.now ≡ spec.rule_text rule }
+{
+    match rule {
+        Rule::Tables => "each table stands with its columns, and meta has one row",
+        Rule::Values => "each value obeys its rule",
+        Rule::Classes => "each definition's class is there",
+        Rule::Recipes => "each recipe is well formed, and what it names is there",
+        Rule::Orders => {
+            "each order has its recipe, its size and the batch that its state asks for"
+        }
+        Rule::Batches => "each batch has its order and the control recipe that this asks for",
+        Rule::Stocks => "each sublot's stock is what entered it less what left it",
+        Rule::Lots => {
+            "each lot has its definition and its sublots, and each of these came to be once"
+        }
+        Rule::Movements => "each movement has the columns of its kind, and what it names is there",
+        Rule::Events => {
+            "each event was allowed, and each batch has come as far as its columns say"
+        }
+        Rule::Numbers => "numbers are those of commands, and moments don't fall",
+        Rule::Descent => {
+            "nothing was made from itself, and the edges are those of the movements"
+        }
+        Rule::Receipts => "each receipt has a number of its own that was given",
+        Rule::Recalls => {
+            "each recall has its lot, and the marks are those of what the open ones reach"
+        }
+    }
+}
+
+/// The rules that rows are tested by whose values obey theirs, in their order.
+fn tested_rules() -> [Rule; 12]
+    ensures { result ≡ spec.tested_rules }
+{
+    [
+        Rule::Classes,
+        Rule::Recipes,
+        Rule::Orders,
+        Rule::Batches,
+        Rule::Stocks,
+        Rule::Lots,
+        Rule::Movements,
+        Rule::Events,
+        Rule::Numbers,
+        Rule::Descent,
+        Rule::Receipts,
+        Rule::Recalls,
+    ]
+}
+
+/// The rule, where a row breaks it.
+fn found_by_row(rule: Rule, row: Option<RowFault>) -> Option<Finding>
+    ensures { result ≡ spec.found_by_row rule row }
+{
+    match row {
+        None => None,
+        Some(row) => Some(Finding {
+            rule,
+            row: Some(row),
+        }),
+    }
+}
+
+/// The rule, where it isn't obeyed, with the row where one is told.
+fn found_by_test(rule: Rule, obeyed: bool, row: Option<RowFault>) -> Option<Finding>
+    ensures { result ≡ spec.found_by_test rule obeyed row }
+{
+    if obeyed {
+        None
+    } else {
+        Some(Finding { rule, row })
+    }
+}
+
+#[tactic(auto, unfolding(plant_tables_judged::specs::Collecting::rows_listed))]
+fn classes_found(alloc: Global, rows: &DeskRows) -> Result<Option<Finding>, AllocError>
+    ensures { IfOk result (λ found. found ≡ spec.finding_of broken.Classes (rows_listed rows.now) []) }
+{
+    let told = class_fault(alloc, rows.classes.as_slice(), rows.definitions.as_slice())?;
+    Ok(found_by_row(Rule::Classes, told))
+}
+
+#[tactic(auto, unfolding(plant_tables_judged::specs::Collecting::rows_listed))]
+fn recipes_found(alloc: Global, rows: &DeskRows) -> Result<Option<Finding>, AllocError>
+    ensures { IfOk result (λ found. found ≡ spec.finding_of broken.Recipes (rows_listed rows.now) []) }
+{
+    let told = recipe_fault(
+        alloc,
+        rows.definitions.as_slice(),
+        rows.recipes.as_slice(),
+        rows.master_lines.as_slice(),
+    )?;
+    Ok(found_by_row(Rule::Recipes, told))
+}
+
+#[tactic(auto, unfolding(plant_tables_judged::specs::Collecting::rows_listed))]
+fn orders_found(alloc: Global, rows: &DeskRows) -> Result<Option<Finding>, AllocError>
+    ensures { IfOk result (λ found. found ≡ spec.finding_of broken.Orders (rows_listed rows.now) []) }
+{
+    let told = order_fault(
+        alloc,
+        rows.recipes.as_slice(),
+        rows.batches.as_slice(),
+        rows.jobs.as_slice(),
+    )?;
+    Ok(found_by_row(Rule::Orders, told))
+}
+
+#[tactic(auto, unfolding(plant_tables_judged::specs::Collecting::rows_listed))]
+fn batches_found(alloc: Global, rows: &DeskRows) -> Result<Option<Finding>, AllocError>
+    ensures { IfOk result (λ found. found ≡ spec.finding_of broken.Batches (rows_listed rows.now) []) }
+{
+    let told = batch_fault(
+        alloc,
+        rows.recipes.as_slice(),
+        rows.master_lines.as_slice(),
+        rows.jobs.as_slice(),
+        rows.batches.as_slice(),
+        rows.control_lines.as_slice(),
+    )?;
+    Ok(found_by_row(Rule::Batches, told))
+}
+
+#[tactic(auto, unfolding(plant_tables_judged::specs::Collecting::rows_listed))]
+fn stocks_found(alloc: Global, rows: &DeskRows) -> Result<Option<Finding>, AllocError>
+    ensures { IfOk result (λ found. found ≡ spec.finding_of broken.Stocks (rows_listed rows.now) []) }
+{
+    let told = stock_fault(alloc, rows.movements.as_slice(), rows.sublots.as_slice())?;
+    Ok(found_by_row(Rule::Stocks, told))
+}
+
+#[tactic(auto, unfolding(plant_tables_judged::specs::Collecting::rows_listed))]
+fn lots_found(alloc: Global, rows: &DeskRows) -> Result<Option<Finding>, AllocError>
+    ensures { IfOk result (λ found. found ≡ spec.finding_of broken.Lots (rows_listed rows.now) []) }
+{
+    let told = lot_fault(
+        alloc,
+        rows.definitions.as_slice(),
+        rows.lots.as_slice(),
+        rows.sublots.as_slice(),
+        rows.holds.as_slice(),
+        rows.movements.as_slice(),
+    )?;
+    Ok(found_by_row(Rule::Lots, told))
+}
+
+#[tactic(auto, unfolding(plant_tables_judged::specs::Collecting::rows_listed))]
+fn movements_found(
+    alloc: Global,
+    rows: &DeskRows,
+    movements: &[Movement],
+) -> Result<Option<Finding>, AllocError>
+    ensures { IfOk result (λ found. found ≡ spec.finding_of broken.Movements (rows_listed rows.now) movements.now) }
+{
+    let told = movement_fault(
+        alloc,
+        rows.movements.as_slice(),
+        rows.lots.as_slice(),
+        rows.sublots.as_slice(),
+        rows.batches.as_slice(),
+        rows.control_lines.as_slice(),
+        movements,
+    )?;
+    Ok(found_by_row(Rule::Movements, told))
+}
+
+#[tactic(auto, unfolding(plant_tables_judged::specs::Collecting::rows_listed))]
+fn events_found(alloc: Global, rows: &DeskRows) -> Result<Option<Finding>, AllocError>
+    ensures { IfOk result (λ found. found ≡ spec.finding_of broken.Events (rows_listed rows.now) []) }
+{
+    let told = event_fault(
+        alloc,
+        rows.control_lines.as_slice(),
+        rows.events.as_slice(),
+        rows.batches.as_slice(),
+    )?;
+    Ok(found_by_row(Rule::Events, told))
+}
+
+#[tactic(auto, unfolding(plant_tables_judged::specs::Collecting::rows_listed))]
+fn numbered_fault(
+    alloc: Global,
+    rows: &DeskRows,
+    movements: &[Movement],
+) -> Result<Option<RowFault>, AllocError>
+    ensures { IfOk result (λ told. told ≡ numbered_fault_in (rows_listed rows.now) movements.now) }
+{
+    let position = rows.meta.position;
+    let events = rows.events.as_slice();
+    let number = number_fault(alloc, position.seq, events, movements)?;
+    let late = late_fault(
+        alloc,
+        position.at,
+        movements,
+        events,
+        rows.batches.as_slice(),
+        rows.holds.as_slice(),
+    )?;
+    let fall = or_told(falling_movement(movements), falling_event(events));
+    Ok(or_told(number, or_told(late, fall)))
+}
+
+#[tactic(auto, unfolding(plant_tables_judged::specs::Collecting::rows_listed))]
+fn numbers_found(
+    alloc: Global,
+    rows: &DeskRows,
+    movements: &[Movement],
+) -> Result<Option<Finding>, AllocError>
+    ensures { IfOk result (λ found. found ≡ spec.finding_of broken.Numbers (rows_listed rows.now) movements.now) }
+{
+    let obeyed = are_numbers_of(alloc, rows, movements)?;
+    let told = numbered_fault(alloc, rows, movements)?;
+    Ok(found_by_test(Rule::Numbers, obeyed, told))
+}
+
+#[tactic(auto, unfolding(plant_tables_judged::specs::Collecting::rows_listed))]
+fn descent_found(
+    alloc: Global,
+    rows: &DeskRows,
+    movements: &[Movement],
+) -> Result<Option<Finding>, AllocError>
+    ensures { IfOk result (λ found. found ≡ spec.finding_of broken.Descent (rows_listed rows.now) movements.now) }
+{
+    let obeyed = are_edges_of(alloc, rows, movements)?;
+    let told = edge_fault(alloc, rows.meta.schema, rows.edges.as_slice(), movements)?;
+    Ok(found_by_test(Rule::Descent, obeyed, told))
+}
+
+#[tactic(auto, unfolding(plant_tables_judged::specs::Collecting::rows_listed))]
+fn receipts_found(alloc: Global, rows: &DeskRows) -> Result<Option<Finding>, AllocError>
+    ensures { IfOk result (λ found. found ≡ spec.finding_of broken.Receipts (rows_listed rows.now) []) }
+{
+    let seq = rows.meta.position.seq;
+    let receipts = rows.receipts.as_slice();
+    let obeyed = are_receipts(alloc, seq, receipts)?;
+    let told = receipt_fault(alloc, seq, receipts)?;
+    Ok(found_by_test(Rule::Receipts, obeyed, told))
+}
+
+#[tactic(auto, unfolding(plant_tables_judged::specs::Collecting::rows_listed))]
+fn recalls_found(alloc: Global, rows: &DeskRows) -> Result<Option<Finding>, AllocError>
+    ensures { IfOk result (λ found. found ≡ spec.finding_of broken.Recalls (rows_listed rows.now) []) }
+{
+    let stated = rows.recalls.as_slice();
+    let obeyed = are_right_recalls(alloc, rows)?;
+    let recalls = recalls_told(alloc, stated)?;
+    let told = recall_fault(
+        alloc,
+        rows.meta.position.at,
+        stated,
+        rows.lots.as_slice(),
+        recalls.as_slice(),
+    )?;
+    Ok(found_by_test(Rule::Recalls, obeyed, told))
+}
+
+/// What is found of a rule.
+fn finding_of(
+    alloc: Global,
+    rule: Rule,
+    rows: &DeskRows,
+    movements: &[Movement],
+) -> Result<Option<Finding>, AllocError>
+    ensures { IfOk result (λ found. found ≡ spec.finding_of rule (rows_listed rows.now) movements.now) }
+{
+    match rule {
+        Rule::Tables | Rule::Values => Ok(None),
+        Rule::Classes => classes_found(alloc, rows),
+        Rule::Recipes => recipes_found(alloc, rows),
+        Rule::Orders => orders_found(alloc, rows),
+        Rule::Batches => batches_found(alloc, rows),
+        Rule::Stocks => stocks_found(alloc, rows),
+        Rule::Lots => lots_found(alloc, rows),
+        Rule::Movements => movements_found(alloc, rows, movements),
+        Rule::Events => events_found(alloc, rows),
+        Rule::Numbers => numbers_found(alloc, rows, movements),
+        Rule::Descent => descent_found(alloc, rows, movements),
+        Rule::Receipts => receipts_found(alloc, rows),
+        Rule::Recalls => recalls_found(alloc, rows),
+    }
+}
+
+/// Rows whose values obey their rules, with the rules that they break.
+#[derive(Drop)]
+pub struct Tested {
+    rows: DeskRows,
+    movements: Vec<Movement>,
+    /// The broken rules, in their order.
+    pub rules: Vec<Rule>,
+}
+
+impl Tested {
+    /// What is found of a rule: nothing where the rows obey it. The only error is that memory was refused.
+    pub fn of_rule(&self, alloc: Global, rule: Rule) -> Result<Option<Finding>, AllocError>
+        ensures { IfOk result (λ found. found
+            ≡ spec.finding_of rule (rows_listed self.now.rows) self.now.movements.items) }
+    {
+        finding_of(alloc, rule, &self.rows, self.movements.as_slice())
+    }
+}
+
+/// Whether the rows break the rule. The only error is that memory was refused.
+fn is_broken(
+    alloc: Global,
+    rule: Rule,
+    rows: &DeskRows,
+    movements: &[Movement],
+) -> Result<bool, AllocError>
+    ensures { IfOk result (λ b. b ≡ spec.is_broken rule (rows_listed rows.now) movements.now) }
+{
+    match finding_of(alloc, rule, rows, movements) {
+        Ok(None) => Ok(false),
+        Ok(Some(_)) => Ok(true),
+        Err(refused) => Err(refused),
+    }
+}
+
+fn broken_among(
+    alloc: Global,
+    rules: &[Rule],
+    rows: &DeskRows,
+    movements: &[Movement],
+) -> Result<Vec<Rule>, AllocError>
+    ensures { IfOk result (λ list. list.items
+        ≡ filter (λ r. spec.is_broken r (rows_listed rows.now) movements.now) rules.now) }
+{
+    let mut list = Vec::new(alloc);
+    for rule in rules {
+        if is_broken(alloc, *rule, rows, movements)? {
+            list.push(*rule)?;
+        }
+    }
+    Ok(list)
+}
+
+/// Tests rows whose values obey theirs by each other rule. The only error is that memory was refused.
+#[tactic(auto, unfolding(plant_tables_judged::specs::Collecting::rows_listed))]
+pub fn test_rows(alloc: Global, rows: DeskRows) -> Result<Tested, AllocError>
+    ensures { IfOk result (IsTestOf rows) }
+{
+    let movements = movements_in(alloc, rows.movements.as_slice())?;
+    let rules = broken_among(alloc, &tested_rules(), &rows, movements.as_slice())?;
+    Ok(Tested {
+        rows,
+        movements,
+        rules,
+    })
+}
+
+/// What is found of all rows that were loaded.
+#[derive(Drop)]
+pub enum Findings {
+    /// Meta hasn't one good row.
+    NoMeta,
+    /// A value breaks its rule; and the first row of which one does, where it is told.
+    Values(Option<RowFault>),
+    /// All values obey their rules, and the rows were tested by the others.
+    Rows(Tested),
+}
+
+/// Tests all rows that were loaded. The only error is that memory was refused.
+pub fn test_loaded(alloc: Global, loaded: &Loaded) -> Result<Findings, AllocError>
+    ensures { IfOk result (AreFindingsOf loaded.now) }
+{
+    if !has_meta(loaded) {
+        return Ok(Findings::NoMeta);
+    }
+    match rows_of(alloc, loaded)? {
+        None => Ok(Findings::Values(value_fault_in(alloc, loaded)?)),
+        Some(rows) => Ok(Findings::Rows(test_rows(alloc, rows)?)),
+    }
+}
+
+/// What findings tell, as laws that a proof above may cite. It does nothing when it runs.
+///
+/// - `broken`: of rows whose values obey their rules each other rule is found exactly where they don't obey it.
+/// - `first`: the first rule that is found of loaded rows is the first that they break.
+pub fn findings_law()
+    ensures broken { IsFoundWhereBroken }
+    ensures first { IsFirstFound }
+{}

@@ -1,0 +1,64 @@
+//! The keys of rows.
+ghost use Rattle.std.specs.Prelude.{◌≡◌};
+ghost use Rattle.plant_check_rows.specs.Keys.{booked_key, control_line_key, edge_key, hold_key, id_key};
+ghost use Rattle.plant_check_rows.specs.Keys.{number_key, recipe_key, recipe_line_key, sublot_key};
+
+use crate::fault::Key;
+use plant_base::{ControlLine, EdgeRow, Header, Hold, Id, MasterLine, Sublot};
+
+pub(crate) fn id_key(id: Id) -> Key
+    ensures { result ≡ id_key id }
+{
+    Key::Id(id)
+}
+
+pub(crate) fn number_key(number: u64) -> Key
+    ensures { result ≡ number_key number }
+{
+    Key::Number(number)
+}
+
+pub(crate) fn recipe_key(header: &Header) -> Key
+    ensures { result ≡ recipe_key header.now }
+{
+    Key::IdNumber(header.recipe, u64::from(header.version))
+}
+
+pub(crate) fn recipe_line_key(line: &MasterLine) -> Key
+    ensures { result ≡ recipe_line_key line.now }
+{
+    let version = u64::from(line.version);
+    let number = u64::from(line.number);
+    Key::IdNumbers(line.recipe, version, number)
+}
+
+pub(crate) fn control_line_key(line: &ControlLine) -> Key
+    ensures { result ≡ control_line_key line.now }
+{
+    Key::IdNumber(line.batch, u64::from(line.number))
+}
+
+pub(crate) fn sublot_key(sublot: &Sublot) -> Key
+    ensures { result ≡ sublot_key sublot.now }
+{
+    Key::IdNumber(sublot.lot, u64::from(sublot.number))
+}
+
+pub(crate) fn hold_key(hold: &Hold) -> Key
+    ensures { result ≡ hold_key hold.now }
+{
+    Key::Ids(hold.lot, hold.id)
+}
+
+/// The key of a movement.
+pub(crate) fn booked_key(seq: u64, line: u16) -> Key
+    ensures { result ≡ booked_key seq line }
+{
+    Key::Numbers(seq, u64::from(line))
+}
+
+pub(crate) fn edge_key(edge: &EdgeRow) -> Key
+    ensures { result ≡ edge_key edge.now }
+{
+    Key::NumberIds(u64::from(edge.kind.number()), edge.from, edge.to)
+}

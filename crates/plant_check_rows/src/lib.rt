@@ -1,0 +1,22 @@
+//! The rows that break the rules of good tables: of each rule the first of them, with what stands there and what the rule wants.
+#![tactic(auto)]
+
+mod edges;
+mod events;
+mod fault;
+mod finding;
+mod first;
+mod keys;
+mod lots;
+mod movements;
+mod numbers;
+mod plans;
+mod recalls;
+mod receipts;
+mod recipes;
+mod stocks;
+mod texts;
+mod values;
+
+pub use fault::{Column, Found, Key, RowFault, Table, Wanted};
+pub use finding::{Finding, Findings, Tested, findings_law, rule_text, test_loaded, test_rows};

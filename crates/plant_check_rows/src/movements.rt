@@ -1,0 +1,173 @@
+//! Movements that break a rule.
+ghost use Rattle.std.specs.Prelude.{◌≡◌, IfOk};
+ghost use Rattle.plant_check_rows.specs.Movements.{batch_named_fault, id_found, movement_as, movement_fault_in};
+ghost use Rattle.plant_check_rows.specs.Movements.{movement_fault, naming_fault, source_fault, target_fault};
+ghost use Rattle.plant_check_rows.specs.First.{first_told};
+
+use crate::fault::{Column, Found, RowFault, Table, Wanted};
+use crate::first::{RowRule, first_fault, or_told, told_unless};
+use crate::keys::booked_key;
+use plant_base::{BatchRow, ControlLine, Id, Lot, Movement, Sublot};
+use plant_check_groups::Grouped;
+use plant_check_stock::keys::{Parts, is_there};
+use plant_check_stock::movements::{Named, batch_by, is_of_right_merge, source, target};
+use plant_tables_judged::BookedRow;
+use std::alloc::{AllocError, Global};
+
+/// That the columns of a row are those of its kind.
+#[derive(Clone, Copy)]
+struct Kinds;
+
+impl RowRule for Kinds {
+    ghost use Rattle.plant_check_rows.specs.Movements.{kind_fault};
+
+    type Row = BookedRow;
+
+    ghost fault_of = { λ _ r. kind_fault r };
+
+    fn fault(&self, _alloc: Global, row: &BookedRow) -> Result<Option<RowFault>, AllocError> {
+        let fault = RowFault {
+            table: Table::Movement,
+            key: booked_key(row.seq, row.line),
+            column: Some(Column::Kind),
+            found: Found::Sort(row.sort),
+            wanted: Wanted::Columns,
+        };
+        Ok(told_unless(row.movement().is_some(), fault))
+    }
+}
+
+/// The movement, where this stands in a column, or in the row as a whole, and that is wanted.
+pub(crate) fn movement_as(
+    movement: &Movement,
+    column: Option<Column>,
+    found: Found,
+    wanted: Wanted,
+) -> RowFault
+    ensures { result ≡ movement_as movement.now column found wanted }
+{
+    RowFault {
+        table: Table::Movement,
+        key: booked_key(movement.seq, movement.line),
+        column,
+        found,
+        wanted,
+    }
+}
+
+fn id_found(id: Option<Id>) -> Found
+    ensures { result ≡ id_found id }
+{
+    match id {
+        None => Found::Row,
+        Some(id) => Found::Id(id),
+    }
+}
+
+/// The movement, where the sublot that it brings its amount to isn't there.
+fn target_fault(named: &Named, movement: &Movement) -> Option<RowFault>
+    ensures { result ≡ target_fault named.now.sublots.rows.now movement.now }
+{
+    let fault = movement_as(movement, None, Found::Row, Wanted::Key(Table::Sublot));
+    told_unless(is_there(&named.sublots, target(movement)), fault)
+}
+
+/// The movement, where the sublot that it takes its amount from isn't there.
+fn source_fault(named: &Named, movement: &Movement) -> Option<RowFault>
+    ensures { result ≡ source_fault named.now.sublots.rows.now movement.now }
+{
+    let fault = movement_as(
+        movement,
+        Some(Column::Lot),
+        Found::Id(movement.lot),
+        Wanted::Key(Table::Sublot),
+    );
+    told_unless(is_there(&named.sublots, source(movement)), fault)
+}
+
+/// The movement, where the batch that it names isn't there.
+fn batch_named_fault(named: &Named, movement: &Movement) -> Option<RowFault>
+    ensures { result ≡ batch_named_fault named.now.batches.rows.now movement.now }
+{
+    let fault = movement_as(
+        movement,
+        Some(Column::Batch),
+        id_found(batch_by(movement)),
+        Wanted::Key(Table::Batch),
+    );
+    told_unless(named.has_batch(batch_by(movement)), fault)
+}
+
+/// The movement, where a sublot or the batch that it names isn't there.
+fn naming_fault(named: &Named, movement: &Movement) -> Option<RowFault>
+    ensures { result ≡ naming_fault named.now.sublots.rows.now named.now.batches.rows.now movement.now }
+{
+    let rest = or_told(
+        source_fault(named, movement),
+        batch_named_fault(named, movement),
+    );
+    or_told(target_fault(named, movement), rest)
+}
+
+/// That a movement names what is there, of the right definition.
+#[derive(Drop)]
+struct Moving<'a> {
+    named: Named<'a>,
+    parts: Grouped<'a, Parts>,
+}
+
+impl<'a> RowRule for Moving<'a> {
+    type Row = Movement;
+
+    ghost fault_of = { λ t m. movement_fault t.named.lots.rows.now t.named.sublots.rows.now
+        t.named.batches.rows.now t.named.controls.rows.now t.parts.rows.now m };
+
+    fn fault(&self, _alloc: Global, row: &Movement) -> Result<Option<RowFault>, AllocError> {
+        let of_lot = Found::Id(row.lot);
+        let other = movement_as(row, Some(Column::Lot), of_lot, Wanted::RightDefinition);
+        let merge = movement_as(row, None, Found::Row, Wanted::Parts);
+        Ok(or_told(
+            naming_fault(&self.named, row),
+            or_told(
+                told_unless(self.named.allows(row), other),
+                told_unless(is_of_right_merge(&self.parts, row), merge),
+            ),
+        ))
+    }
+}
+
+fn wrong_movement(
+    alloc: Global,
+    lots: &[Lot],
+    sublots: &[Sublot],
+    batches: &[BatchRow],
+    control: &[ControlLine],
+    movements: &[Movement],
+) -> Result<Option<RowFault>, AllocError>
+    ensures { IfOk result (λ told. told ≡ first_told
+        (movement_fault lots.now sublots.now batches.now control.now movements.now) movements.now) }
+{
+    let named = Named::new(alloc, lots, sublots, batches, control)?;
+    let parts = Grouped::<Parts>::new(alloc, movements)?;
+    let moving = Moving { named, parts };
+    first_fault(alloc, &moving, movements)
+}
+
+/// The first row whose columns aren't those of its kind, or else the first movement that breaks its rule. The only error is
+/// that memory was refused.
+pub(crate) fn movement_fault(
+    alloc: Global,
+    rows: &[BookedRow],
+    lots: &[Lot],
+    sublots: &[Sublot],
+    batches: &[BatchRow],
+    control: &[ControlLine],
+    movements: &[Movement],
+) -> Result<Option<RowFault>, AllocError>
+    ensures { IfOk result
+        (λ told. told ≡ movement_fault_in rows.now lots.now sublots.now batches.now control.now movements.now) }
+{
+    let kind = first_fault(alloc, &Kinds, rows)?;
+    let wrong = wrong_movement(alloc, lots, sublots, batches, control, movements)?;
+    Ok(or_told(kind, wrong))
+}

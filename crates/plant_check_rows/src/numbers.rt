@@ -1,0 +1,322 @@
+//! Movements, events, batches and holds whose number or moment breaks a rule.
+ghost use Rattle.std.specs.Prelude.{◌≡◌, IfOk, None};
+ghost use Rattle.plant_check_rows.specs.Numbers.{event_as, event_fall_fault, event_fall_fault_in, fall_fault};
+ghost use Rattle.plant_check_rows.specs.Numbers.{fall_fault_in, late_fault_in, line_fault, line_fault_in};
+ghost use Rattle.plant_check_rows.specs.Numbers.{moment_fault, number_as, number_fault, number_fault_in};
+ghost use Rattle.plant_check_rows.specs.First.{first_told};
+
+use crate::fault::{Column, Found, Key, RowFault, Table, Wanted};
+use crate::first::{RowRule, first_fault, or_told, told_unless};
+use crate::keys::{hold_key, id_key, number_key};
+use crate::movements::movement_as;
+use plant_base::{BatchEvent, BatchRow, Hold, Moment, Movement};
+use plant_check_groups::Grouped;
+use plant_check_stock::keys::{EnteredSublots, EventNumbers, has_event};
+use plant_check_stock::movements::source;
+use plant_check_stock::numbering::{is_entered_before, is_given, is_next_line};
+use std::alloc::{AllocError, Global};
+
+/// The movement, where it isn't the next line behind the one before it.
+fn line_fault(before: Option<Movement>, movement: &Movement) -> Option<RowFault>
+    ensures { result ≡ line_fault before movement.now }
+{
+    let fault = movement_as(
+        movement,
+        Some(Column::Line),
+        Found::Number(u64::from(movement.line)),
+        Wanted::NextLine,
+    );
+    told_unless(is_next_line(before, movement), fault)
+}
+
+/// The first movement that isn't the next line behind the one before it.
+fn first_line_fault(movements: &[Movement]) -> Option<RowFault>
+    ensures { result ≡ line_fault_in None movements.now }
+{
+    let mut before = None;
+    for movement in movements {
+        if let Some(fault) = line_fault(before, movement) {
+            return Some(fault);
+        }
+        before = Some(*movement);
+    }
+    None
+}
+
+/// The movement, where another number is wanted.
+fn number_as(movement: &Movement, wanted: Wanted) -> RowFault
+    ensures { result ≡ number_as movement.now wanted }
+{
+    movement_as(
+        movement,
+        Some(Column::Seq),
+        Found::Number(movement.seq),
+        wanted,
+    )
+}
+
+/// That the number of a movement was given, to no event, and above those of what entered its sublot.
+#[derive(Drop)]
+struct NumberedMovements<'a> {
+    greatest: u64,
+    events: Grouped<'a, EventNumbers>,
+    entered: Grouped<'a, EnteredSublots>,
+}
+
+impl<'a> RowRule for NumberedMovements<'a> {
+    type Row = Movement;
+
+    ghost fault_of = { λ t m. number_fault t.greatest t.events.rows.now t.entered.rows.now m };
+
+    fn fault(&self, _alloc: Global, row: &Movement) -> Result<Option<RowFault>, AllocError> {
+        let is_after = is_entered_before(&self.entered, row.seq, source(row));
+        let shared = told_unless(
+            !has_event(&self.events, row.seq),
+            number_as(row, Wanted::Apart),
+        );
+        let early = told_unless(is_after, number_as(row, Wanted::Later));
+        Ok(or_told(
+            told_unless(
+                is_given(self.greatest, row.seq),
+                number_as(row, Wanted::Given(self.greatest)),
+            ),
+            or_told(shared, early),
+        ))
+    }
+}
+
+fn event_as(event: &BatchEvent, column: Column, found: Found, wanted: Wanted) -> RowFault
+    ensures { result ≡ event_as event.now column found wanted }
+{
+    RowFault {
+        table: Table::BatchEvent,
+        key: number_key(event.seq),
+        column: Some(column),
+        found,
+        wanted,
+    }
+}
+
+/// That the number of an event was given.
+#[derive(Clone, Copy)]
+struct NumberedEvents {
+    greatest: u64,
+}
+
+impl RowRule for NumberedEvents {
+    ghost use Rattle.plant_check_rows.specs.Numbers.{given_fault};
+
+    type Row = BatchEvent;
+
+    ghost fault_of = { λ t e. given_fault t.greatest e };
+
+    fn fault(&self, _alloc: Global, row: &BatchEvent) -> Result<Option<RowFault>, AllocError> {
+        let fault = event_as(
+            row,
+            Column::Seq,
+            Found::Number(row.seq),
+            Wanted::Given(self.greatest),
+        );
+        Ok(told_unless(is_given(self.greatest, row.seq), fault))
+    }
+}
+
+fn wrong_number(
+    alloc: Global,
+    greatest: u64,
+    events: &[BatchEvent],
+    movements: &[Movement],
+) -> Result<Option<RowFault>, AllocError>
+    ensures { IfOk result (λ told. told ≡ first_told (number_fault greatest events.now movements.now) movements.now) }
+{
+    let events = Grouped::<EventNumbers>::new(alloc, events)?;
+    let entered = Grouped::<EnteredSublots>::new(alloc, movements)?;
+    let numbered = NumberedMovements {
+        greatest,
+        events,
+        entered,
+    };
+    first_fault(alloc, &numbered, movements)
+}
+
+/// The first movement or event whose number breaks the rule of numbers, `greatest` being the last one that was given. The only
+/// error is that memory was refused.
+pub(crate) fn number_fault(
+    alloc: Global,
+    greatest: u64,
+    events: &[BatchEvent],
+    movements: &[Movement],
+) -> Result<Option<RowFault>, AllocError>
+    ensures { IfOk result (λ told. told ≡ number_fault_in greatest events.now movements.now) }
+{
+    let number = wrong_number(alloc, greatest, events, movements)?;
+    let given = first_fault(alloc, &NumberedEvents { greatest }, events)?;
+    Ok(or_told(first_line_fault(movements), or_told(number, given)))
+}
+
+/// The row of the table, where its moment is later than the desk's.
+fn moment_fault(at: Moment, table: Table, key: Key, moment: Moment) -> Option<RowFault>
+    ensures { result ≡ moment_fault at table key moment }
+{
+    let fault = RowFault {
+        table,
+        key,
+        column: Some(Column::At),
+        found: Found::Number(moment.get()),
+        wanted: Wanted::NotAfter(at.get()),
+    };
+    told_unless(moment.get() <= at.get(), fault)
+}
+
+/// That a movement is no later than the desk.
+#[derive(Clone, Copy)]
+struct TimelyMovements {
+    at: Moment,
+}
+
+impl RowRule for TimelyMovements {
+    ghost use Rattle.plant_check_rows.specs.Numbers.{late_movement};
+
+    type Row = Movement;
+
+    ghost fault_of = { λ t m. late_movement t.at m };
+
+    fn fault(&self, _alloc: Global, row: &Movement) -> Result<Option<RowFault>, AllocError> {
+        let fault = movement_as(
+            row,
+            Some(Column::At),
+            Found::Number(row.at.get()),
+            Wanted::NotAfter(self.at.get()),
+        );
+        Ok(told_unless(row.at.get() <= self.at.get(), fault))
+    }
+}
+
+/// That an event is no later than the desk.
+#[derive(Clone, Copy)]
+struct TimelyEvents {
+    at: Moment,
+}
+
+impl RowRule for TimelyEvents {
+    ghost use Rattle.plant_check_rows.specs.Numbers.{late_event};
+
+    type Row = BatchEvent;
+
+    ghost fault_of = { λ t e. late_event t.at e };
+
+    fn fault(&self, _alloc: Global, row: &BatchEvent) -> Result<Option<RowFault>, AllocError> {
+        let key = number_key(row.seq);
+        Ok(moment_fault(self.at, Table::BatchEvent, key, row.at))
+    }
+}
+
+/// That a batch is no later than the desk.
+#[derive(Clone, Copy)]
+struct TimelyBatches {
+    at: Moment,
+}
+
+impl RowRule for TimelyBatches {
+    ghost use Rattle.plant_check_rows.specs.Numbers.{late_batch};
+
+    type Row = BatchRow;
+
+    ghost fault_of = { λ t b. late_batch t.at b };
+
+    fn fault(&self, _alloc: Global, row: &BatchRow) -> Result<Option<RowFault>, AllocError> {
+        let key = id_key(row.batch.id);
+        Ok(moment_fault(self.at, Table::Batch, key, row.batch.at))
+    }
+}
+
+/// That a hold is no later than the desk.
+#[derive(Clone, Copy)]
+struct TimelyHolds {
+    at: Moment,
+}
+
+impl RowRule for TimelyHolds {
+    ghost use Rattle.plant_check_rows.specs.Numbers.{late_hold};
+
+    type Row = Hold;
+
+    ghost fault_of = { λ t h. late_hold t.at h };
+
+    fn fault(&self, _alloc: Global, row: &Hold) -> Result<Option<RowFault>, AllocError> {
+        Ok(moment_fault(self.at, Table::Hold, hold_key(row), row.at))
+    }
+}
+
+/// The first movement, event, batch or hold that is later than the desk's moment. The only error is that memory was refused.
+pub(crate) fn late_fault(
+    alloc: Global,
+    at: Moment,
+    movements: &[Movement],
+    events: &[BatchEvent],
+    batches: &[BatchRow],
+    holds: &[Hold],
+) -> Result<Option<RowFault>, AllocError>
+    ensures { IfOk result
+        (λ told. told ≡ late_fault_in at movements.now events.now batches.now holds.now) }
+{
+    let movement = first_fault(alloc, &TimelyMovements { at }, movements)?;
+    let event = first_fault(alloc, &TimelyEvents { at }, events)?;
+    let batch = first_fault(alloc, &TimelyBatches { at }, batches)?;
+    let hold = first_fault(alloc, &TimelyHolds { at }, holds)?;
+    Ok(or_told(movement, or_told(event, or_told(batch, hold))))
+}
+
+/// The movement, where it is earlier than this moment, which stands with a lower number.
+fn fall_fault(latest: u64, movement: &Movement) -> Option<RowFault>
+    ensures { result ≡ fall_fault latest movement.now }
+{
+    let fault = movement_as(
+        movement,
+        Some(Column::At),
+        Found::Number(movement.at.get()),
+        Wanted::NotBefore(latest),
+    );
+    told_unless(latest <= movement.at.get(), fault)
+}
+
+/// The first movement that is earlier than the one before it.
+pub(crate) fn falling_movement(movements: &[Movement]) -> Option<RowFault>
+    ensures { result ≡ fall_fault_in 0 movements.now }
+{
+    let mut latest = 0;
+    for movement in movements {
+        if let Some(fault) = fall_fault(latest, movement) {
+            return Some(fault);
+        }
+        latest = movement.at.get();
+    }
+    None
+}
+
+/// The event, where it is earlier than this moment, which stands with a lower number.
+fn event_fall_fault(latest: u64, event: &BatchEvent) -> Option<RowFault>
+    ensures { result ≡ event_fall_fault latest event.now }
+{
+    let fault = event_as(
+        event,
+        Column::At,
+        Found::Number(event.at.get()),
+        Wanted::NotBefore(latest),
+    );
+    told_unless(latest <= event.at.get(), fault)
+}
+
+/// The first event that is earlier than the one before it.
+pub(crate) fn falling_event(events: &[BatchEvent]) -> Option<RowFault>
+    ensures { result ≡ event_fall_fault_in 0 events.now }
+{
+    let mut latest = 0;
+    for event in events {
+        if let Some(fault) = event_fall_fault(latest, event) {
+            return Some(fault);
+        }
+        latest = event.at.get();
+    }
+    None
+}

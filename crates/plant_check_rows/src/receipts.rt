@@ -1,0 +1,106 @@
+//! Receipts that break a rule.
+ghost use Rattle.std.specs.Prelude.{◌≡◌, ◌==◌, IfOk, filter, length};
+ghost use Rattle.plant_check_stock.specs.Receipts.{seqs_of};
+ghost use Rattle.plant_check_rows.specs.Receipts.{receipt_fault_in};
+
+use crate::fault::{Column, Found, RowFault, Table, Wanted};
+use crate::first::{RowRule, first_fault, or_told, told_unless};
+use crate::keys::id_key;
+use plant_base::Receipt;
+use plant_check_groups::{Grouped, Grouping};
+use plant_check_stock::numbering::is_given;
+use plant_check_stock::receipts::is_content;
+use std::alloc::{AllocError, Global};
+
+/// Numbers, each under itself.
+#[derive(Clone, Copy)]
+struct Numbers;
+
+impl Grouping for Numbers {
+    ghost use Rattle.std.specs.Prelude.{Some};
+
+    type Row = u64;
+
+    type Key = u64;
+
+    ghost key_of = { λ n. Some n };
+
+    fn key(row: &u64) -> Option<u64> {
+        Some(*row)
+    }
+}
+
+/// Whether the number is there once.
+fn is_once(numbers: &Grouped<Numbers>, number: u64) -> bool
+    ensures { result ≡ (length (filter (λ n. n == number) numbers.now.rows.now) == 1) }
+{
+    numbers.at(number).len() == 1
+}
+
+/// The numbers of the receipts. The only error is that memory was refused.
+fn seqs_of(alloc: Global, receipts: &[Receipt]) -> Result<Vec<u64>, AllocError>
+    ensures { IfOk result (λ list. list.items ≡ seqs_of receipts.now) }
+{
+    receipts.iter().map(|r| r.seq).collect(alloc)
+}
+
+/// That the number of a receipt was given, to no other receipt, and its content is made of what contents are made of.
+#[derive(Drop)]
+struct Receiving<'a> {
+    greatest: u64,
+    seqs: Grouped<'a, Numbers>,
+}
+
+impl<'a> RowRule for Receiving<'a> {
+    ghost use Rattle.plant_check_rows.specs.Receipts.{receipt_fault};
+
+    type Row = Receipt;
+
+    ghost fault_of = { λ t r. receipt_fault t.greatest t.seqs.rows.now r };
+
+    fn fault(&self, _alloc: Global, row: &Receipt) -> Result<Option<RowFault>, AllocError> {
+        let not_given = RowFault {
+            table: Table::Receipt,
+            key: id_key(row.reference),
+            column: Some(Column::Seq),
+            found: Found::Number(row.seq),
+            wanted: Wanted::Given(self.greatest),
+        };
+        let unmade = RowFault {
+            table: Table::Receipt,
+            key: id_key(row.reference),
+            column: Some(Column::Content),
+            found: Found::Row,
+            wanted: Wanted::Content,
+        };
+        let shared = RowFault {
+            table: Table::Receipt,
+            key: id_key(row.reference),
+            column: Some(Column::Seq),
+            found: Found::Number(row.seq),
+            wanted: Wanted::OwnNumber,
+        };
+        let is_made = is_content(row.content.as_str().as_bytes());
+        Ok(or_told(
+            told_unless(is_given(self.greatest, row.seq), not_given),
+            or_told(
+                told_unless(is_made, unmade),
+                told_unless(is_once(&self.seqs, row.seq), shared),
+            ),
+        ))
+    }
+}
+
+/// The first receipt whose number wasn't given, `greatest` being the last one, or to another as well, or whose content isn't made
+/// of what contents are made of. The only error is that memory was refused.
+pub(crate) fn receipt_fault(
+    alloc: Global,
+    greatest: u64,
+    receipts: &[Receipt],
+) -> Result<Option<RowFault>, AllocError>
+    ensures { IfOk result (λ told. told ≡ receipt_fault_in greatest receipts.now) }
+{
+    let numbers = seqs_of(alloc, receipts)?;
+    let seqs = Grouped::<Numbers>::new(alloc, numbers.as_slice())?;
+    first_fault(alloc, &Receiving { greatest, seqs }, receipts)
+}

@@ -1,0 +1,224 @@
+//! The texts of rows that break rules.
+ghost use Rattle.std.specs.Prelude.{◌≡◌, Some};
+ghost use Rattle.plant_check_rows.specs.Texts.{fault_text, found_text, key_text, plain_wanted};
+ghost use Rattle.plant_check_rows.specs.Texts.{sort_name, stock_text, wanted_text};
+
+use crate::fault::{Found, Key, RowFault, Wanted};
+use plant_tables_judged::MovementSort;
+use std::fmt;
+
+impl fmt::Display for Key {
+    ghost output = { λ key. Some (key_text key) };
+
+    fn fmt<W: fmt::Write>(&self, f: &mut fmt::Formatter<W>) -> fmt::Result {
+        match self {
+            Key::Id(id) => f.write_str(id.as_str()),
+            Key::Number(number) => {
+                let number = *number;
+                write!(f, "{number}")
+            }
+            Key::Ids(first, second) => {
+                let first = first.as_str();
+                let second = second.as_str();
+                write!(f, "{first} {second}")
+            }
+            Key::Numbers(first, second) => {
+                let first = *first;
+                let second = *second;
+                write!(f, "{first} {second}")
+            }
+            Key::IdNumber(id, number) => {
+                let id = id.as_str();
+                let number = *number;
+                write!(f, "{id} {number}")
+            }
+            Key::IdNumbers(id, first, second) => {
+                let id = id.as_str();
+                let first = *first;
+                let second = *second;
+                write!(f, "{id} {first} {second}")
+            }
+            Key::NumberIds(number, first, second) => {
+                let number = *number;
+                let first = first.as_str();
+                let second = second.as_str();
+                write!(f, "{number} {first} {second}")
+            }
+            Key::Place(place) => {
+                let place = *place;
+                write!(f, "number {place} by its key")
+            }
+        }
+    }
+}
+
+/// The name of a movement's kind.
+pub(crate) fn sort_name(sort: MovementSort) -> &'static str
+    ensures { result.now ≡ sort_name sort }
+{
+    match sort {
+        MovementSort::Received => "a receipt",
+        MovementSort::Consumed => "a consumption",
+        MovementSort::Produced => "a production",
+        MovementSort::Scrapped => "a scrapping",
+        MovementSort::Divided => "a division",
+        MovementSort::Split => "a split",
+        MovementSort::Merged => "a merge",
+    }
+}
+
+impl fmt::Display for Found {
+    ghost output = { λ found. Some (found_text found) };
+
+    fn fmt<W: fmt::Write>(&self, f: &mut fmt::Formatter<W>) -> fmt::Result {
+        match self {
+            Found::Id(id) => f.write_str(id.as_str()),
+            Found::Number(number) => {
+                let number = *number;
+                write!(f, "{number}")
+            }
+            Found::Order(state) => f.write_str(state.name()),
+            Found::State(state) => f.write_str(state.name()),
+            Found::Sort(sort) => f.write_str(sort_name(*sort)),
+            Found::Row => f.write_str("the row"),
+            Found::Nothing => f.write_str("no row"),
+        }
+    }
+}
+
+/// What is wanted, where that is always the same.
+fn plain_wanted(wanted: &Wanted) -> &'static str
+    ensures { result.now ≡ plain_wanted wanted.now }
+{
+    match wanted {
+        Wanted::NoRow => "no such row",
+        Wanted::NoBatch => "an order without a batch",
+        Wanted::OpenBatch => "an order with a batch that isn't closed",
+        Wanted::ClosedBatch => "an order with a closed batch",
+        Wanted::OneBatch => "one batch of the order",
+        Wanted::WellFormed => "a well-formed recipe",
+        Wanted::Control => "the control recipe that its order asks for",
+        Wanted::Birth => {
+            "movements of one number and kind that make it, of at most 10^15 in all, or one division"
+        }
+        Wanted::Columns => "the columns that its kind or state asks for",
+        Wanted::RightDefinition => {
+            "a definition that the other lot, or the control recipe of the batch, has too"
+        }
+        Wanted::Parts => "at most 16 parts, of distinct sublots",
+        Wanted::Apart => "a number that no event of a batch has",
+        Wanted::Later => "a number above those that brought what it takes",
+        Wanted::NextLine => "line 1 of a number, or the next part of the merge before it",
+        Wanted::Between =>
+            "a moment no later than that of its lifting, and both no later than the desk's",
+        Wanted::OwnNumber => "a number that no other receipt has",
+        Wanted::Content => "a content of one or more bytes from the space to ~ and LFs",
+        Wanted::Values => "values that each obey their rule",
+        _ => "",
+    }
+}
+
+/// A stock as the difference of what entered and what left.
+#[derive(Clone, Copy)]
+struct StockText {
+    entered: u128,
+    left: u128,
+}
+
+impl fmt::Display for StockText {
+    ghost output = { λ told. Some (stock_text told.entered told.left) };
+
+    fn fmt<W: fmt::Write>(&self, f: &mut fmt::Formatter<W>) -> fmt::Result {
+        let entered = self.entered;
+        let left = self.left;
+        if entered < left {
+            return write!(
+                f,
+                "no less to have left than entered: {entered} entered and {left} left"
+            );
+        }
+        let stock = entered - left;
+        write!(f, "{stock}, for {entered} entered and {left} left")
+    }
+}
+
+impl fmt::Display for Wanted {
+    ghost output = { λ wanted. Some (wanted_text wanted) };
+
+    fn fmt<W: fmt::Write>(&self, f: &mut fmt::Formatter<W>) -> fmt::Result {
+        match self {
+            Wanted::Key(table) => {
+                let name = table.name();
+                write!(f, "the key of a row of table {name}, one that fits")
+            }
+            Wanted::Stock { entered, left } => {
+                let stock = StockText {
+                    entered: *entered,
+                    left: *left,
+                };
+                write!(f, "{stock}")
+            }
+            Wanted::State(state) => f.write_str(state.name()),
+            Wanted::Number(number) => {
+                let number = *number;
+                write!(f, "{number}")
+            }
+            Wanted::Allowed(refusal) => {
+                let name = refusal.name();
+                write!(f, "events that are allowed: one is refused as {name}")
+            }
+            Wanted::Size { least, greatest } => {
+                let least = least.get();
+                let greatest = greatest.get();
+                write!(f, "a size from {least} to {greatest}")
+            }
+            Wanted::NumberedFrom(table, first) => {
+                let name = table.name();
+                let first = *first;
+                write!(f, "rows of table {name} numbered from {first} on")
+            }
+            Wanted::Given(greatest) => {
+                let greatest = *greatest;
+                write!(f, "the number of a command, 1 to {greatest}")
+            }
+            Wanted::NotAfter(at) => {
+                let at = *at;
+                write!(f, "no moment after {at}, which is the desk's")
+            }
+            Wanted::NotBefore(at) => {
+                let at = *at;
+                write!(f, "no moment before {at}, which stands with a lower number")
+            }
+            Wanted::EdgeOf { seq, line } => {
+                let seq = *seq;
+                let line = *line;
+                write!(f, "the edge that movement {seq} {line} makes")
+            }
+            plain => f.write_str(plain_wanted(plain)),
+        }
+    }
+}
+
+impl fmt::Display for RowFault {
+    ghost output = { λ fault. Some (fault_text fault) };
+
+    fn fmt<W: fmt::Write>(&self, f: &mut fmt::Formatter<W>) -> fmt::Result {
+        let table = self.table.name();
+        let key = self.key;
+        let found = self.found;
+        let wanted = self.wanted;
+        match self.column {
+            Some(column) => {
+                let name = column.name();
+                write!(
+                    f,
+                    "table {table}, row {key}, column {name}: {found} stands there, wanted is {wanted}"
+                )
+            }
+            None => write!(
+                f,
+                "table {table}, row {key}: {found} stands there, wanted is {wanted}"
+            ),
+        }
+    }
+}

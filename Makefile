@@ -3,10 +3,12 @@
 # make desk  leaves the built program at build/desk; the crates that it stands on are proved side by side
 # make order_check  leaves the built check of order files at build/order_check
 # make line_check  leaves the built check of lines at build/line_check
+# make desk_check  leaves the built check of a desk's file at build/desk_check
+# make genealogy_picture  leaves the built program that draws genealogies at build/genealogy_picture
 # make dist  packs the built programs in build/ with pages of the manual, completions and a unit for systemd, as tar.gz and for Debian
 # make test  the gate (gate/test.sh): every proof, must-fail edit, test and program from nothing, then the built programs
 # make edits has the prover try the edits that the gate doesn't, of all crates or of some: make edits NAMES="plant_tables"
-.PHONY: look run desk order_check line_check dist test edits
+.PHONY: look run desk order_check line_check desk_check genealogy_picture dist test edits
 
 look:
 	@make/look.py
@@ -17,11 +19,11 @@ run: desk
 	build/desk run build/plant.db < crates/desk/stdin
 	build/desk verify build/plant.db
 
-desk order_check line_check:
+desk order_check line_check desk_check genealogy_picture:
 	@make/side_by_side.py $@
 
-dist: desk order_check line_check
-	make/package.py build/desk build/order_check build/line_check build
+dist: desk order_check line_check desk_check genealogy_picture
+	make/package.py build/desk build/order_check build/line_check build/desk_check build/genealogy_picture build
 
 test:
 	gate/test.sh

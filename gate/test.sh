@@ -2,7 +2,7 @@
 # The gate: that the programs are run on what stands in examples/ and that each edit can still be applied, then, from nothing,
 # every proof, every test and the programs, then every must-fail edit, and then sessions of the built desk, words that it can't follow,
 # both keepers side by side, its limits, damaged files and broken requests, refused memory, the two built checks on long inputs and streams
-# that fail, the packages, and the examples of the documents.
+# that fail, the built check of files over good, faulty and broken ones, the pictures of genealogies, the packages, and the examples of the documents.
 #
 # It is done in a copy of the repository, build/gate, without the edits: rt ci would prove a crate once more for its first edit, and
 # load the libraries below anew for each; gate/edits.py tries them together, over the libraries that rt ci has built.
@@ -28,7 +28,9 @@ examples/limits.py "$desk"
 examples/hostile.py "$desk"
 examples/refused.py "$desk"
 examples/checks.py "$(built order_check)" "$(built line_check)"
-examples/package.py "$desk" "$(built order_check)" "$(built line_check)"
+examples/desk_check.py "$desk" "$(built desk_check)"
+examples/picture.py "$(built genealogy_picture)"
+examples/package.py "$desk" "$(built order_check)" "$(built line_check)" "$(built desk_check)" "$(built genealogy_picture)"
 examples/run.py "$desk" README.md docs/EXAMPLES.md
 echo "the gate took $(((SECONDS - began) / 60)) minutes on $(nproc) processors: $((proved - began)) seconds of rt ci, $((tried - proved)) of edits, $((SECONDS - tried)) of the programs"
 echo "processor time of the gate, its own and below it that of all it ran:"

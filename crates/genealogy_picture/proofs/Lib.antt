@@ -1,0 +1,4 @@
+pub mod Counting
+pub mod Drawn
+pub mod Refusing
+pub mod Saying

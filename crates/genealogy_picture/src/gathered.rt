@@ -1,0 +1,82 @@
+//! What the answers told so far.
+ghost use Rattle.std.specs.Prelude.{◌≡◌, OnOk};
+ghost use Rattle.genealogy_picture.specs.Gathering.{nothing, with_lot, with_batch, with_node, with_edge};
+
+use crate::members::ToldNode;
+use plant_base::{Id, Items};
+use plant_picture::{PictureLot, Told, ToldEdge};
+use plant_trace::Node;
+use std::alloc::{AllocError, Global};
+use std::marker::Model;
+
+/// What the answers told so far, in the order of the telling.
+#[derive(Debug, Drop)]
+pub(crate) struct Gathered {
+    lots: Vec<PictureLot>,
+    batches: Vec<Id>,
+    edges: Vec<ToldEdge>,
+}
+
+impl Model for Gathered {
+    ghost use Rattle.plant_picture.specs.declared.told.Told.{Told};
+
+    ghost Value = { Told };
+
+    ghost view = { λ g. record { lots = g.lots.items; batches = g.batches.items; edges = g.edges.items } };
+}
+
+impl Gathered {
+    /// Nothing, before the first answer.
+    pub(crate) fn new(alloc: Global) -> Self
+        ensures { result ≡ nothing }
+    {
+        Gathered {
+            lots: Vec::new(alloc),
+            batches: Vec::new(alloc),
+            edges: Vec::new(alloc),
+        }
+    }
+
+    /// A node more. The only error is that memory was refused.
+    pub(crate) fn add_node(&mut self, node: &ToldNode) -> Result<(), AllocError>
+        ensures { OnOk result (self.new ≡ with_node self.old node.now) }
+    {
+        match node {
+            ToldNode::Lot(lot) => self.add_lot(lot),
+            ToldNode::Batch(batch) => self.add_batch(batch),
+        }
+    }
+
+    fn add_lot(&mut self, lot: &PictureLot) -> Result<(), AllocError>
+        ensures { OnOk result (self.new ≡ with_lot self.old lot.now) }
+    {
+        self.lots.push(*lot)?;
+        Ok(())
+    }
+
+    fn add_batch(&mut self, batch: &Id) -> Result<(), AllocError>
+        ensures { OnOk result (self.new ≡ with_batch self.old batch.now) }
+    {
+        self.batches.push(*batch)?;
+        Ok(())
+    }
+
+    /// An edge more. The only error is that memory was refused.
+    pub(crate) fn add_edge(&mut self, from: Node, to: Node, amount: u64) -> Result<(), AllocError>
+        ensures { OnOk result (self.new ≡ with_edge self.old (record { from = from; to = to; amount = amount })) }
+    {
+        self.edges.push(ToldEdge { from, to, amount })?;
+        Ok(())
+    }
+
+    /// All that was told.
+    pub(crate) fn into_told(self) -> Told
+        ensures { result ≡ self }
+    {
+        Told {
+            lots: Items::new(self.lots),
+            batches: Items::new(self.batches),
+            edges: Items::new(self.edges),
+        }
+    }
+}

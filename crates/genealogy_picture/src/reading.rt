@@ -1,0 +1,105 @@
+//! What all lines of an input tell.
+ghost use Rattle.std.specs.Prelude.{◌≡◌, IfOk};
+ghost use Rattle.genealogy_picture.specs.Reading.{start, numbered, line_ended, taken, read_from, told_of, TellsAs};
+
+use crate::answers::{LineFault, Why, line_into};
+use crate::ending::{Refusal, Stop};
+use crate::gathered::Gathered;
+use plant_picture::Told;
+use std::alloc::Global;
+use std::marker::Model;
+
+/// An input that was read so far.
+#[derive(Debug, Drop)]
+struct Reading {
+    gathered: Gathered,
+    /// The number of the line that is coming, counted from 1.
+    number: u64,
+    /// What came of it.
+    held: Vec<u8>,
+}
+
+impl Model for Reading {
+    ghost use Rattle.genealogy_picture.specs.Stand.{Stand};
+
+    ghost Value = { Stand };
+
+    ghost view = { λ r. record { told = r.gathered; number = r.number; held = r.held.items } };
+}
+
+/// What a line of a number is told as, where it isn't taken.
+fn numbered(number: u64, taken: Result<(), LineFault>) -> Result<(), Stop>
+    ensures { result ≡ numbered number taken }
+{
+    match taken {
+        Ok(()) => Ok(()),
+        Err(LineFault::Told(why)) => Err(Stop::Refused(Refusal::Line(number, why))),
+        Err(LineFault::Memory) => Err(Stop::Memory),
+    }
+}
+
+impl Reading {
+    /// An input of which nothing was read.
+    fn new(alloc: Global) -> Self
+        ensures { result ≡ start }
+    {
+        Reading {
+            gathered: Gathered::new(alloc),
+            number: 1,
+            held: Vec::new(alloc),
+        }
+    }
+
+    /// Takes the line that is held.
+    fn end_line(&mut self, alloc: Global) -> Result<(), Stop>
+        ensures { TellsAs (λ _. self.new) result (line_ended self.old) }
+    {
+        numbered(
+            self.number,
+            line_into(alloc, &mut self.gathered, &self.held),
+        )?;
+        self.held.clear();
+        match self.number.checked_add(1) {
+            Some(number) => {
+                self.number = number;
+                Ok(())
+            }
+            None => Err(Stop::Memory),
+        }
+    }
+
+    /// Takes a byte.
+    fn take(&mut self, alloc: Global, b: u8) -> Result<(), Stop>
+        ensures { TellsAs (λ _. self.new) result (taken self.old b) }
+    {
+        if b == b'\n' {
+            return self.end_line(alloc);
+        }
+        match self.held.push(b) {
+            Ok(()) => Ok(()),
+            Err(_) => Err(Stop::Memory),
+        }
+    }
+}
+
+fn read_from(alloc: Global, bytes: &[u8]) -> Result<Reading, Stop>
+    ensures { TellsAs (λ reading. reading) result (read_from start bytes.now) }
+{
+    let mut reading = Reading::new(alloc);
+    for b in bytes {
+        reading.take(alloc, *b)?;
+    }
+    Ok(reading)
+}
+
+/// What the lines tell, each ended by an LF but the last, which may be empty.
+///
+/// `Refused` comes where a line is no answer with edges, with its number and why. `Memory` comes where memory was refused. No other stop comes.
+#[tactic(auto, unfolding(crate::specs::Reading::told_of))]
+pub(crate) fn told_of(alloc: Global, bytes: &[u8]) -> Result<Told, Stop>
+    ensures { TellsAs (λ told. told) result (told_of bytes.now) }
+{
+    let mut reading = read_from(alloc, bytes)?;
+    reading.end_line(alloc)?;
+    Ok(reading.gathered.into_told())
+}

@@ -1,0 +1,122 @@
+//! The words of the command line.
+ghost use Rattle.std.specs.Prelude.{◌≡◌, IfErr, IfOk, [], codes, false, map, option_map};
+ghost use Rattle.clap.specs.Words.{app_of, fault_of, first_of, found_of, matches_of, rows_of, rule_of};
+ghost use Rattle.desk_words.specs.Meaning.{IsRefusalOf, is_set};
+ghost use Rattle.genealogy_picture.specs.Words.{file_rule, format_of, flag_rule, picture_app};
+
+use clap::{Arg, ArgAction, ArgMatches, Command};
+use desk_words::{WordsFault, refusal_of};
+use std::alloc::{AllocError, Global};
+
+/// The version of the program, which is that of the desk.
+const VERSION: &str = "1.0.0";
+
+/// The format of a picture.
+#[derive(Clone, Copy, Debug, PartialEq, Eq)]
+pub(crate) enum Format {
+    /// DOT, which Graphviz draws.
+    Dot,
+    /// SVG, which a browser shows.
+    Svg,
+}
+
+/// What the program is told to do.
+#[derive(Clone, Copy)]
+pub(crate) struct Words<'a> {
+    /// The name of the file, none for standard input.
+    pub(crate) file: Option<&'a str>,
+    /// In which format.
+    pub(crate) format: Format,
+}
+
+fn file_argument<'a>(alloc: Global) -> Arg<'a>
+    ensures rule { rule_of result ≡ file_rule }
+    ensures local { result.global ≡ false }
+{
+    Arg::new(alloc, "file").value_name("FILE").help(
+        "The file of the answers; standard input where none is named",
+    )
+}
+
+/// A flag of this name.
+fn flag_argument<'a>(alloc: Global, name: &'a str, help: &'a str) -> Arg<'a>
+    ensures rule { rule_of result ≡ flag_rule name.entry.now }
+    ensures local { result.global ≡ false }
+{
+    Arg::new(alloc, name)
+        .long(name)
+        .action(ArgAction::SetTrue)
+        .help(help)
+}
+
+fn command_line<'a>(alloc: Global) -> Result<Command<'a>, AllocError>
+    ensures { IfOk result (λ c. app_of c ≡ picture_app) }
+{
+    Command::new(alloc, "genealogy_picture")
+        .about("Draw the genealogy that answers of the desk with edges tell")
+        .version(VERSION)
+        .after_help(
+            "Example: genealogy_picture answers.jsonl > picture.svg\n\
+A line of the file is the answer to back_edges or forward_edges. Several make one picture. SVG is meant for some 300 nodes, DOT for any number;\n\
+where both are asked for, it is DOT.\n\
+Exit status: 0 where the picture is drawn; 1 where the answers make none; 2 where these words aren't understood; 3 where a read or a write failed;\n\
+4 where memory was refused.",
+        )
+        .arg(file_argument(alloc))?
+        .arg(flag_argument(alloc, "dot", "Write DOT, which Graphviz draws"))?
+        .arg(flag_argument(
+            alloc,
+            "svg",
+            "Write SVG, which a browser shows, as without this word",
+        ))
+}
+
+fn value_of<'a>(matches: &ArgMatches<'a>, id: &str) -> Option<&'a str>
+    ensures { option_map (λ s. s.now) result ≡ first_of id.now (rows_of (found_of matches.now)) }
+{
+    matches.get_str(id)
+}
+
+/// Whether the flag of this name is given.
+fn is_set(matches: &ArgMatches<'_>, name: &str) -> bool
+    ensures { result ≡ is_set (first_of name.now (rows_of (found_of matches.now))) }
+{
+    match value_of(matches, name) {
+        Some(text) => text == "true",
+        None => false,
+    }
+}
+
+/// The format that the words ask for: SVG, where they don't ask for DOT.
+fn format_of(matches: &ArgMatches<'_>) -> Format
+    ensures { result ≡ format_of (rows_of (found_of matches.now)) }
+{
+    if is_set(matches, "dot") {
+        Format::Dot
+    } else {
+        Format::Svg
+    }
+}
+
+/// Reads the words of a command line, the program's name first.
+///
+/// `Usage` comes where they aren't understood, `Help` where they ask for help or for the version, and `Memory` for want of memory.
+pub(crate) fn read_words<'a>(alloc: Global, words: &'a [&'a str]) -> Result<Words<'a>, WordsFault>
+    ensures named { IfOk result (λ w. option_map (λ s. s.now) w.file
+        ≡ first_of (codes "file") (matches_of picture_app (map (λ s. s.now) words.entry.now))) }
+    ensures format { IfOk result (λ w. w.format ≡ format_of (matches_of picture_app (map (λ s. s.now) words.entry.now))) }
+    ensures taken { IfOk result (λ _. fault_of picture_app (map (λ s. s.now) words.entry.now) ≡ []) }
+    ensures refused { IfErr result
+        (λ fault. IsRefusalOf (fault_of picture_app (map (λ s. s.now) words.entry.now)) fault) }
+{
+    let Ok(command) = command_line(alloc) else {
+        return Err(WordsFault::Memory);
+    };
+    match command.try_get_matches_from(words) {
+        Ok(matches) => Ok(Words {
+            file: value_of(&matches, "file"),
+            format: format_of(&matches),
+        }),
+        Err(error) => Err(refusal_of(alloc, error)),
+    }
+}

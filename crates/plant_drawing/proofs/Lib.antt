@@ -1,0 +1,5 @@
+pub mod Laying
+pub mod Leading
+pub mod Placing
+pub mod Rising
+pub mod Settling

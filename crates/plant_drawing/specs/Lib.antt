@@ -1,0 +1,4 @@
+pub mod Laid
+pub mod Layers
+pub mod Places
+pub mod Svg

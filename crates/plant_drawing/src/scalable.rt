@@ -1,0 +1,222 @@
+//! A drawing in SVG.
+ghost use Rattle.std.specs.Prelude.{◌≡◌, ◌<◌, ◌^◌, IfOk, Some, string_bytes};
+ghost use Rattle.std.specs.List.{flat_map};
+ghost use Rattle.plant_drawing.specs.Svg.{edge_line, label_x, label_y, edge_label, right_end, lower_end};
+ghost use Rattle.plant_drawing.specs.Svg.{width_of, height_of, head, ground, edge_texts, svg_text};
+
+use crate::boxes::{BatchBoxes, LotBoxes};
+use crate::drawing::{Drawing, DrawnEdge, Place};
+use crate::points::{FirstEnd, LastEnd, Point, Size, left_of, top_of};
+use std::alloc::{AllocError, Global};
+use std::fmt;
+
+// ---- edges
+
+#[derive(Clone, Copy)]
+struct EdgeLine(DrawnEdge);
+
+impl fmt::Display for EdgeLine {
+    ghost output = { λ e. Some (edge_line e.0) };
+
+    #[tactic(auto, unfolding(crate::specs::Svg::edge_line))]
+    fn fmt<W: fmt::Write>(&self, f: &mut fmt::Formatter<W>) -> fmt::Result {
+        let edge = self.0;
+        let first = FirstEnd {
+            x: left_of(edge.from) + 180,
+            y: top_of(edge.from) + 28,
+        };
+        let last = LastEnd {
+            x: left_of(edge.to),
+            y: top_of(edge.to) + 28,
+        };
+        write!(f, "<line{first}{last}/>\n")
+    }
+}
+
+fn label_x(edge: &DrawnEdge) -> u64
+    ensures { result ≡ label_x edge.now }
+{
+    (left_of(edge.from) + 180 + left_of(edge.to)) / 2
+}
+
+fn label_y(edge: &DrawnEdge) -> u64
+    ensures { result ≡ label_y edge.now }
+{
+    (top_of(edge.from) + top_of(edge.to)) / 2 + 24
+}
+
+/// The amount of an edge, at the middle of its line.
+#[derive(Clone, Copy)]
+struct EdgeLabel(DrawnEdge);
+
+impl fmt::Display for EdgeLabel {
+    ghost output = { λ e. Some (edge_label e.0) };
+
+    #[tactic(auto, unfolding(crate::specs::Svg::edge_label))]
+    fn fmt<W: fmt::Write>(&self, f: &mut fmt::Formatter<W>) -> fmt::Result {
+        let edge = self.0;
+        let point = Point {
+            x: label_x(&edge),
+            y: label_y(&edge),
+        };
+        let amount = edge.amount;
+        let unit = edge.unit.as_str();
+        write!(f, "<text{point}>{amount} {unit}</text>\n")
+    }
+}
+
+#[derive(Clone, Copy)]
+struct EdgeLines<'a>(&'a [DrawnEdge]);
+
+impl fmt::Display for EdgeLines<'_> {
+    ghost output = { λ e. Some (flat_map edge_line e.0.now) };
+
+    fn fmt<W: fmt::Write>(&self, f: &mut fmt::Formatter<W>) -> fmt::Result {
+        for edge in self.0 {
+            let line = EdgeLine(*edge);
+            write!(f, "{line}")?;
+        }
+        Ok(())
+    }
+}
+
+#[derive(Clone, Copy)]
+struct EdgeLabels<'a>(&'a [DrawnEdge]);
+
+impl fmt::Display for EdgeLabels<'_> {
+    ghost output = { λ e. Some (flat_map edge_label e.0.now) };
+
+    fn fmt<W: fmt::Write>(&self, f: &mut fmt::Formatter<W>) -> fmt::Result {
+        for edge in self.0 {
+            let label = EdgeLabel(*edge);
+            write!(f, "{label}")?;
+        }
+        Ok(())
+    }
+}
+
+/// The lines of the edges, and their amounts above them.
+#[derive(Clone, Copy)]
+struct EdgeTexts<'a>(&'a [DrawnEdge]);
+
+impl fmt::Display for EdgeTexts<'_> {
+    ghost output = { λ e. Some (edge_texts e.0.now) };
+
+    #[tactic(auto, unfolding(crate::specs::Svg::edge_texts))]
+    fn fmt<W: fmt::Write>(&self, f: &mut fmt::Formatter<W>) -> fmt::Result {
+        let lines = EdgeLines(self.0);
+        let labels = EdgeLabels(self.0);
+        write!(
+            f,
+            "<g stroke=\"#888888\">\n{lines}</g>\n<g stroke=\"#ffffff\" stroke-width=\"3\" paint-order=\"stroke\">\n{labels}</g>\n"
+        )
+    }
+}
+
+// ---- the whole
+
+fn right_end(place: Place) -> u64
+    ensures { result ≡ right_end place }
+{
+    left_of(place) + 200
+}
+
+fn lower_end(place: Place) -> u64
+    ensures { result ≡ lower_end place }
+{
+    top_of(place) + 76
+}
+
+fn width_of(drawing: &Drawing) -> u64
+    ensures { result ≡ width_of drawing.now }
+{
+    let mut width = 220u64;
+    for lot in drawing.lots.as_slice() {
+        width = width.max(right_end(lot.place));
+    }
+    for batch in drawing.batches.as_slice() {
+        width = width.max(right_end(batch.place));
+    }
+    width
+}
+
+fn height_of(drawing: &Drawing) -> u64
+    ensures { result ≡ height_of drawing.now }
+{
+    let mut height = 96u64;
+    for lot in drawing.lots.as_slice() {
+        height = height.max(lower_end(lot.place));
+    }
+    for batch in drawing.batches.as_slice() {
+        height = height.max(lower_end(batch.place));
+    }
+    height
+}
+
+/// The element that holds all others begins.
+#[derive(Clone, Copy)]
+struct Head(Size);
+
+impl fmt::Display for Head {
+    ghost output = { λ h. Some (head h.0.width h.0.height) };
+
+    #[tactic(auto, unfolding(crate::specs::Svg::head))]
+    fn fmt<W: fmt::Write>(&self, f: &mut fmt::Formatter<W>) -> fmt::Result {
+        let size = self.0;
+        let width = size.width;
+        let height = size.height;
+        write!(
+            f,
+            "<svg xmlns=\"http://www.w3.org/2000/svg\"{size} viewBox=\"0 0 {width} {height}\" font-family=\"sans-serif\" font-size=\"12\" text-anchor=\"middle\">\n"
+        )
+    }
+}
+
+/// The title of the whole, and the white on which it is drawn.
+#[derive(Clone, Copy)]
+struct Ground(Size);
+
+impl fmt::Display for Ground {
+    ghost output = { λ g. Some (ground g.0.width g.0.height) };
+
+    #[tactic(auto, unfolding(crate::specs::Svg::ground))]
+    fn fmt<W: fmt::Write>(&self, f: &mut fmt::Formatter<W>) -> fmt::Result {
+        let size = self.0;
+        write!(
+            f,
+            "<title>genealogy</title>\n<rect{size} fill=\"#ffffff\"/>\n"
+        )
+    }
+}
+
+#[derive(Clone, Copy)]
+struct WholeDrawing<'a>(&'a Drawing);
+
+impl fmt::Display for WholeDrawing<'_> {
+    ghost output = { λ d. Some (svg_text d.0.now) };
+
+    #[tactic(auto, unfolding(crate::specs::Svg::svg_text))]
+    fn fmt<W: fmt::Write>(&self, f: &mut fmt::Formatter<W>) -> fmt::Result {
+        let drawing = self.0;
+        let size = Size {
+            width: width_of(drawing),
+            height: height_of(drawing),
+        };
+        let head = Head(size);
+        let ground = Ground(size);
+        let edges = EdgeTexts(drawing.edges.as_slice());
+        let lots = LotBoxes(drawing.lots.as_slice());
+        let batches = BatchBoxes(drawing.batches.as_slice());
+        write!(f, "{head}{ground}{edges}{lots}{batches}</svg>\n")
+    }
+}
+
+/// A drawing in SVG, which a browser shows: a box for each lot and each batch in its place, a straight line for each edge from the right side of one
+/// box to the left side of the other, and at its middle its amount. A lot that is held or recalled is filled and says so. All numbers are whole.
+///
+/// It is meant for some 300 nodes; a bigger one is drawn too. The only error is that memory was refused.
+pub fn svg(alloc: Global, drawing: &Drawing) -> Result<String, AllocError>
+    ensures { IfOk result (λ text. string_bytes text ≡ svg_text drawing.now) }
+{
+    WholeDrawing(drawing).to_string(alloc)
+}

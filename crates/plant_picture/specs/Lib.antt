@@ -1,0 +1,3 @@
+pub mod Dot
+pub mod Telling
+pub mod United

@@ -1,0 +1,118 @@
+//! What answers tell, before it is put together, and what may be wrong with it.
+ghost use Rattle.std.specs.Prelude.{◌≡◌, Some};
+ghost use Rattle.plant_picture.specs.Telling.{problem_text};
+ghost use Rattle.plant_picture.specs.declared.told.UnitedFault.TheVariants as fault;
+
+use crate::model::PictureLot;
+use plant_base::{Id, Items};
+use plant_trace::Node;
+use std::alloc::AllocError;
+use std::fmt;
+
+/// An edge, as an answer tells it.
+#[derive(Clone, Copy, Debug, PartialEq, Eq)]
+pub struct ToldEdge {
+    /// Where it begins.
+    pub from: Node,
+    /// Where it ends.
+    pub to: Node,
+    /// How much.
+    pub amount: u64,
+}
+
+/// What answers tell, in the order of the telling: anything may be told more than once.
+#[derive(Debug, Drop)]
+pub struct Told {
+    /// The lots.
+    pub lots: Items<PictureLot>,
+    /// The batches.
+    pub batches: Items<Id>,
+    /// The edges.
+    pub edges: Items<ToldEdge>,
+}
+
+/// Why what is told makes no picture.
+#[derive(Clone, Copy, Debug, PartialEq, Eq)]
+pub enum Problem {
+    /// A lot is told twice, and not alike.
+    Lot(Id),
+    /// An edge is told twice, with two amounts.
+    Amounts(Node, Node),
+    /// An edge begins or ends at a node that isn't told.
+    Lost(Node),
+    /// An edge leads from a batch to a batch, so it has no unit.
+    Batches(Id, Id),
+}
+
+/// A node in words.
+#[derive(Clone, Copy)]
+pub(crate) struct NodeWords(pub(crate) Node);
+
+impl fmt::Display for NodeWords {
+    ghost use Rattle.plant_picture.specs.Telling.{node_text};
+
+    ghost output = { λ n. Some (node_text n.0) };
+
+    fn fmt<W: fmt::Write>(&self, f: &mut fmt::Formatter<W>) -> fmt::Result {
+        match self.0 {
+            Node::Lot(id) => {
+                let id = id.as_str();
+                write!(f, "lot {id}")
+            }
+            Node::Batch(id) => {
+                let id = id.as_str();
+                write!(f, "batch {id}")
+            }
+        }
+    }
+}
+
+impl fmt::Display for Problem {
+    ghost output = { λ problem. Some (problem_text problem) };
+
+    fn fmt<W: fmt::Write>(&self, f: &mut fmt::Formatter<W>) -> fmt::Result {
+        match self {
+            Problem::Lot(id) => {
+                let id = id.as_str();
+                write!(f, "lot {id} is told twice, and not alike")
+            }
+            Problem::Amounts(from, to) => {
+                let from = NodeWords(*from);
+                let to = NodeWords(*to);
+                write!(
+                    f,
+                    "the edge from {from} to {to} is told twice, with two amounts"
+                )
+            }
+            Problem::Lost(node) => {
+                let node = NodeWords(*node);
+                write!(
+                    f,
+                    "an edge begins or ends at {node}, which is none of the nodes"
+                )
+            }
+            Problem::Batches(from, to) => {
+                let from = from.as_str();
+                let to = to.as_str();
+                write!(f, "an edge leads from batch {from} to batch {to}")
+            }
+        }
+    }
+}
+
+/// Why no picture was made.
+#[derive(Clone, Copy, Debug, PartialEq, Eq)]
+pub enum UnitedFault {
+    /// What is told makes none.
+    Told(Problem),
+    /// Memory was refused.
+    Memory,
+}
+
+impl From<AllocError> for UnitedFault {
+    ghost from_gives = { λ _ made. made ≡ fault.Memory };
+
+    fn from(_error: AllocError) -> Self {
+        UnitedFault::Memory
+    }
+}

@@ -259,6 +259,8 @@ class Package(Check):
         self.names_no_place()
         self.has_pages()
         self.completes()
+        self.completes_alone("order_check", "--version")
+        self.completes_alone("line_check", "--version")
         self.completes_alone("desk_check", "--json")
         self.completes_alone("genealogy_picture", "--dot")
         self.has_a_unit()

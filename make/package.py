@@ -24,9 +24,9 @@ from helps import Wrong
 TOP = pathlib.Path(__file__).resolve().parent.parent
 BESIDE = TOP / "make" / "packaged"
 
-# The programs, and those of them that tell of themselves at --help.
+# The programs, and those of them that have no words.
 PROGRAMS = ("desk", "order_check", "line_check", "desk_check", "genealogy_picture")
-TELLING = ("desk_check", "genealogy_picture")
+ALONE = PROGRAMS[1:]
 
 # Where documents and examples stand.
 DOC = "share/doc/desk"
@@ -145,7 +145,7 @@ def tree(programs, version):
     files = {f"bin/{name}": (path.read_bytes(), 0o755) for name, path in programs.items()}
     files.update(pages(programs, version, whole, words))
     files.update(documents())
-    alone = {it: helps.Help(helps.said(programs[it], "--help", name=it)) for it in TELLING}
+    alone = {it: helps.Help(helps.said(programs[it], "--help", name=it)) for it in ALONE}
     texts = {
         "share/bash-completion/completions/desk": completions.bash(whole, words),
         "share/fish/vendor_completions.d/desk.fish": completions.fish(whole, words),

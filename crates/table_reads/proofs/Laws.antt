@@ -1,10 +1,13 @@
 -- A store whose transaction is not broken has its tables in the order of their rowids.
-use Rattle.std.proofs.Common.{◌≡◌, true, false, refl, ap, subst, Bool, IsTrue, Result, Ok, Err, IfOk}
-use Rattle.sqlite_trees.specs.View.{View, IsShaped, IsOrdered}
+use Rattle.std.proofs.Common.{◌≡◌, ℕ, true, false, refl, ap, subst, Bool, IsTrue, Result, Ok, Err, IfOk}
+use Rattle.sqlite_trees.specs.View.{IsShaped, IsOrdered}
+use Rattle.sqlite_trees.specs.Tree.{Trees}
+use Rattle.sqlite_trees.specs.declared.store.Shape.{Shape}
+use Rattle.sqlite_trees.specs.declared.store.Shape.TheVariants as shape
 use Rattle.sqlite_trees.specs.Objects.{IsListed, catalog_tree}
 use Rattle.sqlite_schema.specs.declared.schema.Schema.{Schema}
 use Rattle.sqlite_catalog.specs.Listing.{IsSound}
-use Rattle.sqlite_catalog.proofs.LayoutLemmas.{objects_rise, table_shape}
+use Rattle.sqlite_catalog.proofs.LayoutLemmas.{table_shape}
 use Rattle.sqlite_trees.specs.declared.memory.MemStore.{MemStore}
 use Rattle.sqlite.specs.Held.{Held, state}
 use Rattle.sqlite.specs.State as store
@@ -14,11 +17,15 @@ use Rattle.table_forms.proofs.Ending.{IsStore}
 use Rattle.table_reads.specs.Opened.{IsNewlyOpened}
 use Rattle.table_reads.specs.Ordered.{IsRising}
 
-pub rising_of : (v : View) (schema : Schema) → IsListed (v.trees catalog_tree) v.shape v.reals → IsOrdered v.shape v.trees → IsSound schema v.trees
-    → IsRising (record { schema = schema; trees = v.trees })
-rising_of v schema listed ordered sound = record {
-  rises = λ t h. subst (λ s. IsShaped s (v.trees t.tree)) (table_shape listed (objects_rise v listed ordered).0 sound.lists.listed t h).0 (ordered t.tree);
+-- the shapes that the list of objects gives order each of the trees
+pub rising_of : (shapes : ℕ → Shape) (reals : ℕ → ℕ) (schema : Schema) (db : Trees) → IsListed (db catalog_tree) shapes reals → IsOrdered shapes db → IsSound schema db
+    → IsRising (record { schema = schema; trees = db })
+rising_of shapes reals schema db listed ordered sound = record {
+  rises = λ t h. subst (λ s. IsShaped s (db t.tree)) (table_shape listed objects.0 sound.lists.listed t h).0 (ordered t.tree);
 }
+  where
+    objects : IsShaped shape.Table (db catalog_tree)
+    objects = subst (λ s. IsShaped s (db catalog_tree)) listed.itself.0 (ordered catalog_tree)
 
 pub ok_three : {A E : Type 0} (r : Result A E) (P Q R T : A → Type 0) → ((x : A) → P x → Q x → R x → T x) → IfOk r P → IfOk r Q → IfOk r R → IfOk r T
 ok_three (Ok x) P Q R T f p q r = f x p q r

@@ -17,3 +17,4 @@ pub mod Same
 pub mod Above
 pub mod PageOrder
 pub mod Paging
+pub mod FileOrder

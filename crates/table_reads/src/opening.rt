@@ -70,20 +70,6 @@ pub fn open_file<S: Start>(
     ensures rests { IfOk result (λ c. (file_state c).in_transaction ≡ false) }
 {
     match Connection::open_from(rt, file, false, start) {
-        Ok(connection) => in_order(rt.alloc(), connection),
-        Err((error, _)) => Err(error),
-    }
-}
-
-/// The same connection opened anew. What it answers where it doesn't open: the store's error.
-fn in_order<S: Alter + Drop>(
-    alloc: Global,
-    connection: Connection<S>,
-) -> Result<Connection<S>, Error>
-    ensures newly { IfOk result (λ c. HasCleanDisk (state S.Store c) → IsNewlyOpened (state S.Store c)) }
-    ensures rests { IfOk result (λ c. (state S.Store c).in_transaction ≡ false) }
-{
-    match reopen(alloc, connection) {
         Ok(connection) => Ok(connection),
         Err((error, _)) => Err(error),
     }

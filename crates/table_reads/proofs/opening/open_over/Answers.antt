@@ -18,7 +18,7 @@ returns-clause-rising g c =
     let opened = opens clean in
     let same = trees clean in
     let sound = subst (λ (t : Trees). IsSound conn.schema t) same (opened.1 opened.0.is_open).0 in
-    let rising = rising_of (g.S.Store.view store) conn.schema (g.met.S.Alter.listed store fresh.sound) (g.met.S.Store.ordered store fresh.sound) sound in
+    let rising = rising_of (g.S.Store.view store).shape (g.S.Store.view store).reals conn.schema (g.S.Store.view store).trees (g.met.S.Alter.listed store fresh.sound) (g.met.S.Store.ordered store fresh.sound) sound in
     subst (λ (t : Trees). IsRising (record { schema = conn.schema; trees = t })) (sym same) rising)
     c.over.ensures.opens c.over.ensures.trees c.over.ensures.clean
 
@@ -32,7 +32,7 @@ returns-clause-newly g c =
     let opened = opens clean in
     let same = trees clean in
     let sound = subst (λ (t : Trees). IsSound conn.schema t) same (opened.1 opened.0.is_open).0 in
-    let rising = rising_of (g.S.Store.view store) conn.schema (g.met.S.Alter.listed store fresh.sound) (g.met.S.Store.ordered store fresh.sound) sound in
+    let rising = rising_of (g.S.Store.view store).shape (g.S.Store.view store).reals conn.schema (g.S.Store.view store).trees (g.met.S.Alter.listed store fresh.sound) (g.met.S.Store.ordered store fresh.sound) sound in
     let laws : IsStore (state g.S.Store conn) = record { settled = g.met.S.Store.settled conn.store; stays = g.met.S.Store.stays conn.store; something = g.met.S.Store.survives conn.store } in
     newly_opened (state g.S.Store conn) opened.0 laws (subst (λ (t : Trees). IsRising (record { schema = conn.schema; trees = t })) (sym same) rising))
     c.over.ensures.opens c.over.ensures.trees c.over.ensures.clean

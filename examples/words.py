@@ -1,10 +1,13 @@
 #!/usr/bin/env python3
-"""Gives the built desk words that it can't follow: files that hold no desk, a port that is taken, numbers out of their range, and help.
+"""Gives the built desk words that it can't follow: files that hold no desk, a port that is taken, numbers out of their range, and help;
+and a file that takes long to open, over a terminal.
 
     examples/words.py PROGRAM
 """
+import contextlib
 import os
 import pathlib
+import pty
 import re
 import shlex
 import socket
@@ -60,6 +63,9 @@ NOTED = [
     (b'GET "\xff HTTP/1.1\r\n\r\n', b'"GET " 400'),
     (b"", b'"" 0'),
 ]
+
+# How far the opening of a file is, as a terminal is told.
+STAGES = [b"opening the file: its pages are tested", b"opened the file: its tables are read and tested"]
 
 
 class Words(Check):
@@ -143,6 +149,32 @@ class Words(Check):
             self.expect(f"the lines of {words}", lines[:1] + [it and it[2] for it in found], wanted)
             self.expect(f"the moments of {words}", all(began <= int(it[1]) <= time.time() for it in found), True)
 
+    def terminals_are_told_how_far_it_is(self):
+        """Verifies a file that takes seconds to open, and one that takes none: of the first it is told how far it is, on a terminal alone."""
+        for name, rows, wanted in [("small.db", 1, []), ("large.db", 500_000, STAGES)]:
+            self.run("init", name)
+            store = sqlite3.connect(self.room / name)
+            store.execute("CREATE TABLE beside (n INTEGER, text TEXT)")
+            store.executemany("INSERT INTO beside VALUES (?, ?)", ((n, "x" * 140) for n in range(rows)))
+            store.commit()
+            store.close()
+            self.expect(f"{name}, verified", self.run("verify", name), (0, b"good schema 4 seq 0\n", b""))
+            self.expect(f"{name}, verified at a terminal", self.at_a_terminal("verify", name), (0, b"good schema 4 seq 0\n", wanted))
+            (self.room / name).unlink()
+
+    def at_a_terminal(self, *words):
+        """Runs the program with a terminal as its standard error; returns its status, its output, and the terminal's lines."""
+        ours, theirs = pty.openpty()
+        with subprocess.Popen([self.program, *words], stdin=subprocess.DEVNULL, stdout=subprocess.PIPE, stderr=theirs, cwd=self.room) as ran:
+            output, _ = ran.communicate(timeout=SECONDS)
+        os.close(theirs)
+        told = b""
+        with contextlib.suppress(OSError):
+            while more := os.read(ours, 4096):
+                told += more
+        os.close(ours)
+        return ran.returncode, output, told.splitlines()
+
     def help_is_true(self):
         """Asks each word for help: its arguments stand in their order, and its example is understood."""
         name = os.path.basename(self.program)
@@ -199,6 +231,7 @@ def main(program):
         check.values_have_ranges()
         check.broken_rules_are_told()
         check.requests_may_be_noted()
+        check.terminals_are_told_how_far_it_is()
         check.help_is_true()
     print(f"words: {check.passed} passed, {check.failed} failed")
     return 1 if check.failed else 0

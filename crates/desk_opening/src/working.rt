@@ -4,6 +4,7 @@ ghost use Rattle.sqlite.specs.Held.{state};
 ghost use Rattle.sqlite.specs.Files.{file_state};
 ghost use Rattle.sqlite.specs.Steps.{over_memory};
 
+use crate::telling::Progress;
 use sqlite::{Alter, Connection, Error, ErrorCode, FileFrom, FileStore, MemStore, Start};
 use std::alloc::AllocError;
 use table_reads::{open_file, open_in_memory};
@@ -50,7 +51,7 @@ pub struct Ended<T: Copy> {
 }
 
 /// Opens the file, does the work over it, and closes it: what stands in its log is copied into it, so that the file alone holds what the
-/// work left. The file `:memory:` is a new store in memory.
+/// work left. The file `:memory:` is a new store in memory. Where the opening takes long a terminal is told how far it is.
 ///
 /// `start` stands for what the file holds before it is opened, whatever that is. The error is that of a store that didn't open; over it
 /// nothing was done.
@@ -66,8 +67,12 @@ pub fn work_over<W: StoreWork, S: Start>(
             Err(refused) => Err(memory_error(refused)),
         };
     }
+    let progress = Progress::begin(rt, file);
     match open_file(rt, file, start) {
-        Ok(connection) => Ok(work_in_file(rt, work, connection)),
+        Ok(connection) => {
+            progress.note_opened();
+            Ok(work_in_file(rt, work, connection))
+        }
         Err(error) => Err(error),
     }
 }

@@ -151,11 +151,13 @@ class Words(Check):
 
     def terminals_are_told_how_far_it_is(self):
         """Verifies a file that takes seconds to open, and one that takes none: of the first it is told how far it is, on a terminal alone."""
-        for name, rows, wanted in [("small.db", 1, []), ("large.db", 500_000, STAGES)]:
+        for name, rows, wanted in [("small.db", 1, []), ("large.db", 700_000, STAGES)]:
             self.run("init", name)
             store = sqlite3.connect(self.room / name)
             store.execute("CREATE TABLE beside (n INTEGER, text TEXT)")
-            store.executemany("INSERT INTO beside VALUES (?, ?)", ((n, "x" * 140) for n in range(rows)))
+            store.executemany("INSERT INTO beside VALUES (?, ?)", ((n, "x" * 400) for n in range(rows)))
+            for index in "first", "second", "third":
+                store.execute(f"CREATE INDEX {index} ON beside (n)")
             store.commit()
             store.close()
             self.expect(f"{name}, verified", self.run("verify", name), (0, b"good schema 4 seq 0\n", b""))

@@ -7,9 +7,9 @@ abbrev pub stage_text : Stage → List ℕ
 stage_text Pages = codes "opening the file: its pages are tested"
 stage_text Tables = codes "opened the file: its tables are read and tested"
 
--- 64 MB or more
+-- 256 MB or more
 abbrev pub is_large : ℕ → Bool
-is_large size = nat_le (2 ^ 26) size
+is_large size = nat_le (2 ^ 28) size
 
 -- a second or more
 abbrev pub is_long : ℕ → Bool

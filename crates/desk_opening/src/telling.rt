@@ -25,11 +25,11 @@ fn stage_text(stage: Stage) -> &'static str
     }
 }
 
-/// Whether the opening of a file of so many bytes takes long on every machine, so that it is told before it is begun.
+/// Whether the opening of a file of so many bytes takes long whatever stands in it, so that it is told before it is begun.
 fn is_large(size: u64) -> bool
     ensures { result ≡ is_large size }
 {
-    size >= 0x400_0000
+    size >= 0x1000_0000
 }
 
 /// Whether so many seconds are long.

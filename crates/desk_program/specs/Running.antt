@@ -26,11 +26,20 @@ IsRefused g old new fault = (f : AdoptFault) × (fault ≡ adopt_fault f) × (Ha
 abbrev pub WasRefused : {S : Type 0} → Ghosts S → Held S → Result Bool Fault → Type 0
 WasRefused g c done = (f : AdoptFault) × (done ≡ Err (adopt_fault f)) × IsRefusedBy (state g c).now f
 
+-- a run over these bytes ended so from the state s, and left the desk over this connection, shut or not
+abbrev pub EndsAt : {S : Type 0} → Ghosts S → State → List ℕ → Option (List ℕ) → Option (List ℕ) → Option (List ℕ) → Held S → Bool → RunEnd → Type 0
+EndsAt g s bytes left old new last shut end =
+    Ends newest_schema s bytes left old new (Stands (state g last) shut) shut (Leaves (state g last)) end
+    × RunLeaves s bytes left (Stands (state g last) shut) (Leaves (state g last)) end
+
+-- a connection that was just opened was adopted, and the run over the bytes that were read ended from there
+abbrev pub HasRun : {S : Type 0} → Ghosts S → Held S → Held S → Bool → Option (List ℕ) → Option (List ℕ) → Option (List ℕ) → Option (List ℕ) → RunEnd → Type 0
+HasRun g c last shut unread left old new end = (bytes : List ℕ) × Consumes unread left bytes
+    × (HasCleanDisk (state g last) → IsNewlyOpened (state g c) → AdoptedFrom (state g c) (λ s. EndsAt g s bytes left old new last shut end))
+
 -- a run over these bytes ended from the state s, at some state of the desk, and this came of it
 abbrev pub RunEnds : {S : Type 0} → Ghosts S → State → List ℕ → Option (List ℕ) → Option (List ℕ) → Option (List ℕ) → Result Bool Fault → Type 0
-RunEnds {S} g s bytes left old new done = (end : RunEnd) × (done ≡ outcome_of end) × (last : Held S) × (shut : Bool)
-    × Ends newest_schema s bytes left old new (Stands (state g last) shut) shut (Leaves (state g last)) end
-    × RunLeaves s bytes left (Stands (state g last) shut) (Leaves (state g last)) end
+RunEnds {S} g s bytes left old new done = (end : RunEnd) × (done ≡ outcome_of end) × (last : Held S) × (shut : Bool) × EndsAt g s bytes left old new last shut end
 
 -- what came of a run over a store that was just opened: the store was adopted, and the run over the bytes that were read
 -- ended from there; or it was refused, and nothing was read or written

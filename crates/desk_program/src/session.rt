@@ -1,14 +1,7 @@
 //! The word `run`.
-ghost use Rattle.std.specs.Prelude.{◌≡◌, ◌≢◌, false, ℕ, List, IfOk, IfErr, OnErr};
-ghost use Rattle.std.specs.Io.KnownBytes.{Consumes};
+ghost use Rattle.std.specs.Prelude.{◌≡◌, false, IfOk, IfErr, OnErr};
 ghost use Rattle.sqlite.specs.Held.{state};
-ghost use Rattle.sqlite.specs.State.{HasCleanDisk};
-ghost use Rattle.plant_base.specs.State.{newest_schema};
-ghost use Rattle.plant_desk_store.specs.Adopting.{IsNewlyOpened, AdoptedFrom};
-ghost use Rattle.plant_desk_store.specs.Standing.{Stands, Leaves};
-ghost use Rattle.plant_text.specs.Session.{Ends};
-ghost use Rattle.plant_text.specs.Leaving.{RunLeaves};
-ghost use Rattle.desk_program.specs.Running.{IsRefused};
+ghost use Rattle.desk_program.specs.Running.{HasRun, IsRefused};
 
 use crate::adopting::{Stopped, adopt};
 use plant_desk_store::Desk;
@@ -36,21 +29,9 @@ pub fn run<S: Alter + Drop, R: Read, W: Write>(
     writer: &mut W,
 ) -> Result<Session<S>, Stopped<S>>
     requires { (state S.Store connection).in_transaction ≡ false }
-    ensures ends { IfOk result (λ session. (bytes : List ℕ)
-        × Consumes (R.remaining reader.old) (R.remaining reader.new) bytes
-        × (HasCleanDisk (state S.Store session.desk.connection)
-        → IsNewlyOpened (state S.Store connection)
-        → AdoptedFrom (state S.Store connection) (λ s.
-        Ends newest_schema s bytes (R.remaining reader.new)
-        (W.contents writer.old) (W.contents writer.new)
-        (Stands (state S.Store session.desk.connection) session.desk.is_shut)
-        session.desk.is_shut
-        (Leaves (state S.Store session.desk.connection))
-        session.end
-        × RunLeaves s bytes (R.remaining reader.new)
-        (Stands (state S.Store session.desk.connection) session.desk.is_shut)
-        (Leaves (state S.Store session.desk.connection))
-        session.end))) }
+    ensures ends { IfOk result (λ session. HasRun S.Store connection session.desk.connection
+        session.desk.is_shut (R.remaining reader.old) (R.remaining reader.new)
+        (W.contents writer.old) (W.contents writer.new) session.end) }
     ensures refused { IfErr result
         (λ stopped. IsRefused S.Store connection stopped.connection stopped.fault) }
     ensures unread { OnErr result (R.remaining reader.new ≡ R.remaining reader.old) }

@@ -56,3 +56,5 @@ answered s sound (Q.Edges direction start) = tt
 answered s sound (Q.Recall recall) = tt
 answered s sound Q.Moment = tt
 answered s sound (Q.List which above) = tt
+answered s sound (Q.Recipes state above) = tt
+answered s sound (Q.Ledger lot above) = tt

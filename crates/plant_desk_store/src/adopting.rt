@@ -175,15 +175,15 @@ fn judge_tables<S: Alter>(
     ensures { HasJudged schema (state S.Store connection.old) (state S.Store connection.new) result }
 {
     match rows_to_adopt(Loaded::read(alloc, connection, schema)) {
-        Ok(loaded) => judge_rows(alloc, &loaded, schema),
+        Ok(loaded) => judge_rows(alloc, loaded, schema),
         Err(fault) => Err(fault),
     }
 }
 
 /// Tests whether the rows that were loaded of the tables of a schema are those of a good state.
-fn judge_rows(alloc: Global, loaded: &Loaded, schema: u64) -> Result<DeskRows, AdoptFault>
-    ensures fit { IfOk result (IsFit loaded.now schema) }
-    ensures broken { IfErr result (BrokenBy loaded.now) }
+fn judge_rows(alloc: Global, loaded: Loaded, schema: u64) -> Result<DeskRows, AdoptFault>
+    ensures fit { IfOk result (IsFit loaded schema) }
+    ensures broken { IfErr result (BrokenBy loaded) }
 {
     match judge(alloc, loaded, schema) {
         Ok(rows) => Ok(rows),

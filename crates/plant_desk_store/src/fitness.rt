@@ -20,15 +20,18 @@ pub(crate) enum Unfit {
 }
 
 /// The rows of a desk of a schema that loaded rows are: their values are judged and their rules checked. The
-/// adoption of a store and its test call this, and nothing else judges what a store holds.
-pub(crate) fn judge(alloc: Global, loaded: &Loaded, schema: u64) -> Result<DeskRows, Unfit>
-    ensures fit { IfOk result (IsFit loaded.now schema) }
-    ensures unfit { IfErr result (IsUnfitBy loaded.now schema) }
+/// adoption of a store and its test call this, and nothing else judges what a store holds. What was loaded is given up once
+/// its values are judged, so that no table is held twice while rules are checked.
+pub(crate) fn judge(alloc: Global, loaded: Loaded, schema: u64) -> Result<DeskRows, Unfit>
+    ensures fit { IfOk result (IsFit loaded schema) }
+    ensures unfit { IfErr result (IsUnfitBy loaded schema) }
 {
-    if !has_meta(loaded) {
+    if !has_meta(&loaded) {
         return Err(Unfit::Broken(Rule::Tables));
     }
-    match rows_of(alloc, loaded) {
+    let rows = rows_of(alloc, &loaded);
+    drop(loaded);
+    match rows {
         Err(_) => Err(Unfit::Memory),
         Ok(None) => Err(Unfit::Broken(Rule::Values)),
         Ok(Some(rows)) => check_all(alloc, rows, schema),

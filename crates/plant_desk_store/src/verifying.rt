@@ -23,14 +23,14 @@ pub(crate) fn verify_on<S: Alter>(
     ensures { HasTested (state S.Store connection.old) (state S.Store connection.new) result }
 {
     match rows_to_test(Loaded::read(alloc, connection, NEWEST_SCHEMA)) {
-        Ok(loaded) => broken_rule(alloc, &loaded),
+        Ok(loaded) => broken_rule(alloc, loaded),
         Err(fault) => Err(fault),
     }
 }
 
 // The first rule that loaded rows break. The only error is that memory was refused.
-fn broken_rule(alloc: Global, loaded: &Loaded) -> Result<Option<Rule>, DeskFault>
-    ensures broken { IfOk result (λ broken. broken ≡ first_broken loaded.now) }
+fn broken_rule(alloc: Global, loaded: Loaded) -> Result<Option<Rule>, DeskFault>
+    ensures broken { IfOk result (λ broken. broken ≡ first_broken loaded) }
     ensures memory { IfErr result (λ fault. fault ≡ DeskFault.Memory) }
 {
     match judge(alloc, loaded, NEWEST_SCHEMA) {

@@ -1,3 +1,4 @@
 pub mod Raised
 pub mod Steps
 pub mod Standing
+pub mod Calls

@@ -1,17 +1,13 @@
 //! The raising of whatever tables a store holds.
 
-ghost use Rattle.std.specs.Prelude.{◌≡◌, ◌≢◌, ◌≤◌, ◌<◌, false, ℕ, ℤ, pos, OnOk, OnErr, IfErr};
+ghost use Rattle.std.specs.Prelude.{◌≡◌, ◌≢◌, ◌≤◌, ◌<◌, false, ℤ, pos, OnOk, IfErr};
 ghost use Rattle.std.specs.Int.Signed.{◌≤ℤ◌, ◌<ℤ◌};
 ghost use Rattle.sqlite.specs.State.{HasCleanDisk, Survives};
 ghost use Rattle.sqlite.specs.Held.{state};
-ghost use Rattle.plant_base.specs.State.{State, newest_schema};
-ghost use Rattle.plant_view.specs.Tables.{tables_of};
-ghost use Rattle.table_forms.specs.Standing.{KeepsOthers};
-ghost use Rattle.plant_tables.specs.DeskForms.{desk_forms};
-ghost use Rattle.plant_tables.specs.DeskStopping.{IsAtOf};
+ghost use Rattle.plant_base.specs.State.{newest_schema};
 ghost use Rattle.plant_tables_stored.specs.Version.{IsVersion};
-ghost use Rattle.plant_migrate.specs.Standing.{IsReadable, raised_to, TellsKnown};
-ghost use Rattle.plant_migrate.specs.Standing.{IsCutShortAmid, IsRaisedFrom, IsRaisedTo};
+ghost use Rattle.plant_migrate.specs.Calls.{CutsFoundShort, CutsShort, Raises, RaisesFound, WritesNothing};
+ghost use Rattle.plant_migrate.specs.Standing.{IsRaisedFrom, IsRaisedTo, TellsKnown};
 
 use crate::rows::raise_rows;
 use crate::steps::raise_by;
@@ -56,15 +52,9 @@ fn raise_first<S: Alter>(alloc: Global, conn: &mut Connection<S>, to: u64) -> Re
     requires below { 1 < to }
     requires newest { to ≤ newest_schema }
     ensures mode { conn.new.in_transaction ≡ false }
-    ensures raised { HasCleanDisk (state S.Store conn.new) → (s : State)
-        → IsReadable 1 (state S.Store conn.old) s
-        → OnOk result (IsAtOf to (state S.Store conn.new) (tables_of to s)
-        × KeepsOthers desk_forms (state S.Store conn.old).now (state S.Store conn.new).now) }
-    ensures cut_short { HasCleanDisk (state S.Store conn.new) → (s : State)
-        → IsReadable 1 (state S.Store conn.old) s
-        → OnErr result (IsCutShortAmid 1 to (state S.Store conn.old) (state S.Store conn.new) s) }
-    ensures unwritten { IfErr result (λ fault. fault ≡ Fault.Memory
-        → Survives (state S.Store conn.old) (state S.Store conn.new) (λ _. ⊥)) }
+    ensures raised { Raises 1 to (state S.Store conn.old) (state S.Store conn.new) result }
+    ensures cut_short { CutsShort 1 to (state S.Store conn.old) (state S.Store conn.new) result }
+    ensures unwritten { WritesNothing (state S.Store conn.old) (state S.Store conn.new) result }
     ensures crash { Survives (state S.Store conn.old) (state S.Store conn.new)
         (IsRaisedFrom 1 to (state S.Store conn.old)) }
 {
@@ -94,15 +84,9 @@ fn raise_later<S: Alter>(
     requires below { version < to }
     requires newest { to ≤ newest_schema }
     ensures mode { conn.new.in_transaction ≡ false }
-    ensures raised { HasCleanDisk (state S.Store conn.new) → (s : State)
-        → IsReadable version (state S.Store conn.old) s
-        → OnOk result (IsAtOf to (state S.Store conn.new) (tables_of to s)
-        × KeepsOthers desk_forms (state S.Store conn.old).now (state S.Store conn.new).now) }
-    ensures cut_short { HasCleanDisk (state S.Store conn.new) → (s : State)
-        → IsReadable version (state S.Store conn.old) s
-        → OnErr result (IsCutShortAmid version to (state S.Store conn.old) (state S.Store conn.new) s) }
-    ensures unwritten { IfErr result (λ fault. fault ≡ Fault.Memory
-        → Survives (state S.Store conn.old) (state S.Store conn.new) (λ _. ⊥)) }
+    ensures raised { Raises version to (state S.Store conn.old) (state S.Store conn.new) result }
+    ensures cut_short { CutsShort version to (state S.Store conn.old) (state S.Store conn.new) result }
+    ensures unwritten { WritesNothing (state S.Store conn.old) (state S.Store conn.new) result }
     ensures crash { Survives (state S.Store conn.old) (state S.Store conn.new)
         (IsRaisedFrom version to (state S.Store conn.old)) }
 {
@@ -129,15 +113,9 @@ fn raise_from<S: Alter>(
     requires newest { to ≤ newest_schema }
     ensures mode { conn.new.in_transaction ≡ false }
     ensures clean { HasCleanDisk (state S.Store conn.new) → HasCleanDisk (state S.Store conn.old) }
-    ensures raised { HasCleanDisk (state S.Store conn.new) → (s : State)
-        → IsReadable version (state S.Store conn.old) s
-        → OnOk result (IsAtOf to (state S.Store conn.new) (tables_of to s)
-        × KeepsOthers desk_forms (state S.Store conn.old).now (state S.Store conn.new).now) }
-    ensures cut_short { HasCleanDisk (state S.Store conn.new) → (s : State)
-        → IsReadable version (state S.Store conn.old) s
-        → OnErr result (IsCutShortAmid version to (state S.Store conn.old) (state S.Store conn.new) s) }
-    ensures unwritten { IfErr result (λ fault. fault ≡ Fault.Memory
-        → Survives (state S.Store conn.old) (state S.Store conn.new) (λ _. ⊥)) }
+    ensures raised { Raises version to (state S.Store conn.old) (state S.Store conn.new) result }
+    ensures cut_short { CutsShort version to (state S.Store conn.old) (state S.Store conn.new) result }
+    ensures unwritten { WritesNothing (state S.Store conn.old) (state S.Store conn.new) result }
     // A stop leaves what it left before, or, only where the rows that were read obey the rules of values and the later tables
     // could be made, the tables raised from those rows.
     ensures crash { Survives (state S.Store conn.old) (state S.Store conn.new)
@@ -159,14 +137,8 @@ pub fn raise<S: Alter>(alloc: Global, conn: &mut Connection<S>, to: u64) -> Resu
     requires mode { conn.old.in_transaction ≡ false }
     requires known { to ≤ newest_schema }
     ensures mode { conn.new.in_transaction ≡ false }
-    ensures raised { HasCleanDisk (state S.Store conn.new) → (version : ℕ) → (s : State)
-        → IsReadable version (state S.Store conn.old) s
-        → OnOk result (IsAtOf (raised_to version to) (state S.Store conn.new)
-        (tables_of (raised_to version to) s)
-        × KeepsOthers desk_forms (state S.Store conn.old).now (state S.Store conn.new).now) }
-    ensures cut_short { HasCleanDisk (state S.Store conn.new) → (version : ℕ) → (s : State)
-        → IsReadable version (state S.Store conn.old) s
-        → OnErr result (IsCutShortAmid version to (state S.Store conn.old) (state S.Store conn.new) s) }
+    ensures raised { RaisesFound to (state S.Store conn.old) (state S.Store conn.new) result }
+    ensures cut_short { CutsFoundShort to (state S.Store conn.old) (state S.Store conn.new) result }
 
     // Of whatever store: a stop leaves what it left before, and nothing else at a fault but Store; else also raised tables,
     // only where table meta tells an older schema than is asked for, the rows that are read obey the rules of values and

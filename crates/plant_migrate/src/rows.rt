@@ -1,17 +1,11 @@
 //! The raising of tables whose rows are at hand.
 
-ghost use Rattle.std.specs.Prelude.{◌≡◌, ◌≤◌, ◌-◌, false, OnOk, OnErr, IfErr};
-ghost use Rattle.sqlite.specs.State.{HasCleanDisk, Survives};
+ghost use Rattle.std.specs.Prelude.{◌≡◌, ◌≤◌, ◌-◌, false, IfErr};
+ghost use Rattle.sqlite.specs.State.{Survives};
 ghost use Rattle.sqlite.specs.Held.{state};
-ghost use Rattle.plant_base.specs.State.{State, newest_schema};
-ghost use Rattle.plant_view.specs.Tables.{tables_of, IsWholeIn};
-ghost use Rattle.table_forms.specs.Standing.{KeepsOthers};
-ghost use Rattle.plant_tables.specs.DeskForms.{desk_forms};
-ghost use Rattle.plant_tables.specs.Keyed.{AreKeyed};
-ghost use Rattle.plant_tables.specs.DeskStopping.{IsAtOf};
-ghost use Rattle.plant_tables_judged.specs.Collecting.{rows_in, rows_listed};
+ghost use Rattle.plant_base.specs.State.{newest_schema};
+ghost use Rattle.plant_migrate.specs.Calls.{CutsRowsShort, RaisesRows};
 ghost use Rattle.plant_migrate.specs.Raised.{edges_from};
-ghost use Rattle.plant_migrate.specs.Standing.{IsCutShortAmid};
 ghost use Rattle.plant_migrate.specs.Steps.{IsRaisedBy};
 
 use crate::changes::edges_from;
@@ -37,17 +31,10 @@ pub fn raise_rows<S: Alter>(
     requires low { version ≤ to }
     requires newest { to ≤ newest_schema }
     ensures mode { conn.new.in_transaction ≡ false }
-    ensures raised { HasCleanDisk (state S.Store conn.new) → (s : State)
-        → IsAtOf version (state S.Store conn.old) (tables_of version s)
-        → AreKeyed (tables_of version s) → IsWholeIn version s
-        → rows_listed rows.now ≡ rows_in (tables_of version s)
-        → OnOk result (IsAtOf to (state S.Store conn.new) (tables_of to s)
-        × KeepsOthers desk_forms (state S.Store conn.old).now (state S.Store conn.new).now) }
-    ensures cut_short { HasCleanDisk (state S.Store conn.new) → (s : State)
-        → IsAtOf version (state S.Store conn.old) (tables_of version s)
-        → AreKeyed (tables_of version s) → IsWholeIn version s
-        → rows_listed rows.now ≡ rows_in (tables_of version s)
-        → OnErr result (IsCutShortAmid version to (state S.Store conn.old) (state S.Store conn.new) s) }
+    ensures raised { RaisesRows version to rows.now (state S.Store conn.old) (state S.Store conn.new)
+        result }
+    ensures cut_short { CutsRowsShort version to rows.now (state S.Store conn.old)
+        (state S.Store conn.new) result }
     ensures unwritten { IfErr result (λ fault. fault ≡ Fault.Memory → conn.new ≡ conn.old) }
     // A stop leaves what it left before, or, only where the later tables could be made, the raised ones.
     ensures survives { Survives (state S.Store conn.old) (state S.Store conn.new)

@@ -10,8 +10,9 @@ ghost use Rattle.table_forms.specs.Stopping.{IsSettled};
 ghost use Rattle.plant_tables.specs.DeskForms.{desk_forms, later_forms};
 ghost use Rattle.plant_tables.specs.DeskStopping.{IsAtOf, IsCutShortOf};
 ghost use Rattle.plant_tables.specs.Raising.{IsOlder};
-ghost use Rattle.plant_migrate.specs.Raised.{AreEdges, raised_once, raised_by};
-ghost use Rattle.plant_migrate.specs.Steps.{IsRisable, IsRaisedOnce, IsCutShortWithin, IsRaisedBy};
+ghost use Rattle.plant_migrate.specs.Calls.{CutsShortBy, RaisesBy};
+ghost use Rattle.plant_migrate.specs.Raised.{AreEdges, raised_once};
+ghost use Rattle.plant_migrate.specs.Steps.{IsRisable, IsRaisedOnce, IsRaisedBy};
 
 use crate::changes::added_rows;
 use plant_base::Position;
@@ -82,16 +83,10 @@ pub(crate) fn raise_by<S: Alter>(
     requires edges { AreEdges edges.now }
     ensures fault { IsOkUnless result Fault.Store }
     ensures mode { conn.new.in_transaction ≡ false }
-    ensures raised { HasCleanDisk (state S.Store conn.new) → IsSettled (state S.Store conn.old)
-        → (t : Tables) → IsRisable version (state S.Store conn.old).now t
-        → OnOk result (IsAtOf (version + steps) (state S.Store conn.new)
-        (raised_by steps version position.now edges.now t)
-        × KeepsOthers desk_forms (state S.Store conn.old).now (state S.Store conn.new).now) }
-    ensures cut_short { HasCleanDisk (state S.Store conn.new) → IsSettled (state S.Store conn.old)
-        → (t : Tables) → IsRisable version (state S.Store conn.old).now t
-        → OnErr result (IsCutShortWithin version steps
-        (λ done. raised_by done version position.now edges.now t) (state S.Store conn.old)
-        (state S.Store conn.new)) }
+    ensures raised { RaisesBy version steps position.now edges.now (state S.Store conn.old)
+        (state S.Store conn.new) result }
+    ensures cut_short { CutsShortBy version steps position.now edges.now (state S.Store conn.old)
+        (state S.Store conn.new) result }
     ensures survives { Survives (state S.Store conn.old) (state S.Store conn.new)
         (IsRaisedBy version steps position.now edges.now (state S.Store conn.old)) }
 {

@@ -9,7 +9,7 @@ returns-in-Ok g c = λ clean opened.
     inl (
       ran.0,
       ran.1,
-      adopted_so _ opened _ _ (λ s ended. (session.end, c.outcome_of.ensures, session.desk.connection, session.desk.is_shut, ended.0, ended.1))
+      adopted_so _ opened _ _ (λ s ended. (session.end, c.outcome_of.ensures, session.desk.connection, session.desk.is_shut, ended))
           (ran.2 (clean session.desk.connection) opened),
     )
 

@@ -7,23 +7,23 @@ use Rattle.plant_desk_store.proofs.fitness.judge.Goals as goal
 
 pub returns-then-not-has_meta-clause-unfit : goal.returns-then-not-has_meta-clause-unfit
 returns-then-not-has_meta-clause-unfit c =
-    let none : is_some (only_meta (contents_loaded c.args.loaded.now 0)) ≡ false = search rules in
-    no_meta c.args.loaded.now none
+    let none : is_some (only_meta (contents_loaded c.args.loaded 0)) ≡ false = search rules in
+    no_meta c.args.loaded none
 
 pub returns-in-Ok-None-clause-unfit : goal.returns-in-Ok-None-clause-unfit
 returns-in-Ok-None-clause-unfit c =
-    let there : is_some (only_meta (contents_loaded c.args.loaded.now 0)) ≡ true = search rules in
-    let nothing : rows_from c.args.loaded.now ≡ None = search rules in
-    no_rows c.args.loaded.now there nothing
+    let there : is_some (only_meta (contents_loaded c.args.loaded 0)) ≡ true = search rules in
+    let nothing : rows_from c.args.loaded ≡ None = search rules in
+    no_rows c.args.loaded there nothing
 
 pub returns-in-Ok-Some-clause-fit : goal.returns-in-Ok-Some-clause-fit
 returns-in-Ok-Some-clause-fit c =
-    let there : is_some (only_meta (contents_loaded c.args.loaded.now 0)) ≡ true = search rules in
-    let from : rows_from c.args.loaded.now ≡ Some (rows_listed c.in-Ok-Some.rows) = search rules in
-    fit_of c.args.loaded.now c.args.schema c.in-Ok-Some.rows c.check_all.result there from c.check_all.ensures.fit
+    let there : is_some (only_meta (contents_loaded c.args.loaded 0)) ≡ true = search rules in
+    let from : rows_from c.args.loaded ≡ Some (rows_listed c.in-Ok-Some.rows) = search rules in
+    fit_of c.args.loaded c.args.schema c.in-Ok-Some.rows c.check_all.result there from c.check_all.ensures.fit
 
 pub returns-in-Ok-Some-clause-unfit : goal.returns-in-Ok-Some-clause-unfit
 returns-in-Ok-Some-clause-unfit c =
-    let there : is_some (only_meta (contents_loaded c.args.loaded.now 0)) ≡ true = search rules in
-    let from : rows_from c.args.loaded.now ≡ Some (rows_listed c.in-Ok-Some.rows) = search rules in
-    unfit_of c.args.loaded.now c.args.schema c.in-Ok-Some.rows c.check_all.result there from c.check_all.ensures.unfit
+    let there : is_some (only_meta (contents_loaded c.args.loaded 0)) ≡ true = search rules in
+    let from : rows_from c.args.loaded ≡ Some (rows_listed c.in-Ok-Some.rows) = search rules in
+    unfit_of c.args.loaded c.args.schema c.in-Ok-Some.rows c.check_all.result there from c.check_all.ensures.unfit

@@ -1,0 +1,66 @@
+-- What the calls that raise tables promise, each of a store before and after it and of its result.
+use Rattle.std.specs.Prelude.{◌≡◌, ℕ, ◌+◌, List, OnOk, OnErr, IfErr, Result}
+use Rattle.sqlite.specs.State as store
+use Rattle.sqlite.specs.State.{HasCleanDisk, Survives}
+use Rattle.plant_base.specs.State.{State}
+use Rattle.plant_base.specs.declared.rows.Position.{Position}
+use Rattle.plant_view.specs.Tables.{Tables, tables_of, IsWholeIn}
+use Rattle.plant_view.specs.declared.change.RowChange.{RowChange}
+use Rattle.table_forms.specs.Standing.{KeepsOthers}
+use Rattle.table_forms.specs.Stopping.{IsSettled}
+use Rattle.table_forms.specs.declared.fault.Fault.{Fault}
+use Rattle.table_forms.specs.declared.fault.Fault.TheVariants as fault
+use Rattle.plant_tables.specs.DeskForms.{desk_forms}
+use Rattle.plant_tables.specs.DeskStopping.{IsAtOf}
+use Rattle.plant_tables.specs.Keyed.{AreKeyed}
+use Rattle.plant_tables_judged.specs.Collecting.{rows_in, rows_listed}
+use Rattle.plant_tables_judged.specs.declared.desk_rows.DeskRows.{DeskRows}
+use Rattle.plant_migrate.specs.Raised.{raised_by}
+use Rattle.plant_migrate.specs.Standing.{IsReadable, IsCutShortAmid, raised_to}
+use Rattle.plant_migrate.specs.Steps.{IsRisable, IsCutShortWithin}
+
+-- the store is at the tables of the state in a version, and tables of other names stand as they did
+abbrev pub IsRaisedAt : ℕ → store.State → store.State → State → Type 0
+IsRaisedAt version old new s = IsAtOf version new (tables_of version s) × KeepsOthers desk_forms old.now new.now
+
+-- readable tables of a version were raised to a later one
+abbrev pub Raises : ℕ → ℕ → store.State → store.State → Result (Unit {0}) Fault → Type 0
+Raises version to old new r = HasCleanDisk new → (s : State) → IsReadable version old s → OnOk r (IsRaisedAt to old new s)
+
+-- or that was cut short
+abbrev pub CutsShort : ℕ → ℕ → store.State → store.State → Result (Unit {0}) Fault → Type 0
+CutsShort version to old new r = HasCleanDisk new → (s : State) → IsReadable version old s → OnErr r (IsCutShortAmid version to old new s)
+
+-- where memory was refused a stop leaves what it left
+abbrev pub WritesNothing : store.State → store.State → Result (Unit {0}) Fault → Type 0
+WritesNothing old new r = IfErr r (λ f. f ≡ fault.Memory → Survives old new (λ _. ⊥))
+
+-- ---- whichever version they are of
+
+abbrev pub RaisesFound : {E : Type 0} → ℕ → store.State → store.State → Result (Unit {0}) E → Type 0
+RaisesFound to old new r = HasCleanDisk new → (version : ℕ) → (s : State) → IsReadable version old s → OnOk r (IsRaisedAt (raised_to version to) old new s)
+
+abbrev pub CutsFoundShort : {E : Type 0} → ℕ → store.State → store.State → Result (Unit {0}) E → Type 0
+CutsFoundShort to old new r = HasCleanDisk new → (version : ℕ) → (s : State) → IsReadable version old s → OnErr r (IsCutShortAmid version to old new s)
+
+-- ---- whose rows are at hand: those of the tables of the state, which are those of its version and whole
+
+abbrev pub RaisesRows : ℕ → ℕ → DeskRows → store.State → store.State → Result (Unit {0}) Fault → Type 0
+RaisesRows version to rows old new r = HasCleanDisk new → (s : State) → IsAtOf version old (tables_of version s)
+    → AreKeyed (tables_of version s) → IsWholeIn version s → rows_listed rows ≡ rows_in (tables_of version s)
+    → OnOk r (IsRaisedAt to old new s)
+
+abbrev pub CutsRowsShort : ℕ → ℕ → DeskRows → store.State → store.State → Result (Unit {0}) Fault → Type 0
+CutsRowsShort version to rows old new r = HasCleanDisk new → (s : State) → IsAtOf version old (tables_of version s)
+    → AreKeyed (tables_of version s) → IsWholeIn version s → rows_listed rows ≡ rows_in (tables_of version s)
+    → OnErr r (IsCutShortAmid version to old new s)
+
+-- ---- tables of a version, whatever state they stand for, by so many versions
+
+abbrev pub RaisesBy : ℕ → ℕ → Position → List RowChange → store.State → store.State → Result (Unit {0}) Fault → Type 0
+RaisesBy version steps position edges old new r = HasCleanDisk new → IsSettled old → (t : Tables) → IsRisable version old.now t
+    → OnOk r (IsAtOf (version + steps) new (raised_by steps version position edges t) × KeepsOthers desk_forms old.now new.now)
+
+abbrev pub CutsShortBy : ℕ → ℕ → Position → List RowChange → store.State → store.State → Result (Unit {0}) Fault → Type 0
+CutsShortBy version steps position edges old new r = HasCleanDisk new → IsSettled old → (t : Tables) → IsRisable version old.now t
+    → OnErr r (IsCutShortWithin version steps (λ done. raised_by done version position edges t) old new)

@@ -31,7 +31,7 @@ Orders: 1, batches: 1, lots: 4, movements: 8.
 No rule is broken.
 """
 
-# What is told of the first row that the statements of DAMAGES break, by the number of the rule; of rules 1 and 14 no row is told.
+# What is told of the first row that the statements of DAMAGES break, by the number of the rule; of rule 1 no row is told.
 ROWS = {
     2: ("batch", {"place": 1}, None, "the row"),
     3: ("definition", ["FLOUR"], "class", "NONE"),
@@ -45,6 +45,7 @@ ROWS = {
     11: ("movement", [18, 1], "seq", "18"),
     12: ("edge", [2, "B-1", "D-1"], None, "no row"),
     13: ("receipt", ["K-1"], "seq", "99"),
+    14: ("mark", ["RC-1", 1, "D-1"], None, "no row"),
 }
 
 # What the rule wants there.
@@ -52,6 +53,7 @@ WANTED = {
     7: "40, for 100 entered and 60 left",
     10: "1",
     12: "the edge that movement 12 1 makes",
+    14: "the mark of an open recall that reaches it",
 }
 
 
@@ -220,6 +222,20 @@ def rights_are_missing(check):
     (check.room / "second.db").unlink()
 
 
+def growth_is_limited(check):
+    """Checks files where the system limits how large a file may become."""
+    def limited(bytes_more):
+        size = (check.room / "twenty.db").stat().st_size + bytes_more
+        return {"preexec_fn": lambda: resource.setrlimit(resource.RLIMIT_FSIZE, (size, size))}
+
+    page = 4096 + 24
+    check.tells_cause("a limit that leaves a page", "twenty.db", None, status=0, opens=True, **limited(page))
+    check.tells_cause("a limit that leaves none", "twenty.db", "limit", opens=True, **limited(page - 1))
+    check.tells_cause("a limit below the file", "twenty.db", "limit", opens=True, **limited(-page))
+    small = {"preexec_fn": lambda: resource.setrlimit(resource.RLIMIT_FSIZE, (0, 0))}
+    check.tells_cause("a limit of no byte", "empty.db", "limit", opens=False, **small)
+
+
 def files_are_no_databases(check):
     """Checks texts, databases that the desk can't read, and damaged ones."""
     (check.room / "text").write_bytes(b"FLOUR 500 kg\n" * 500)
@@ -327,6 +343,7 @@ def main(desk, program):
         files_are_missing(check)
         files_are_locked(check)
         rights_are_missing(check)
+        growth_is_limited(check)
         files_are_no_databases(check)
         memory_is_refused(check)
         rules_are_told(check)

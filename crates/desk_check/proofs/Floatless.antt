@@ -33,6 +33,7 @@ of_key (key.Numbers m n) = refl
 of_key (key.IdNumber id n) = refl
 of_key (key.IdNumbers id m n) = refl
 of_key (key.NumberIds n a b) = refl
+of_key (key.IdNumberId a n b) = refl
 of_key (key.Place place) = refl
 
 of_column : (c : Option Column) → has_float (column_data c) ≡ false

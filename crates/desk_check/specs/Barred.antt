@@ -16,6 +16,8 @@ index_name index.JobByState = codes "job_by_state"
 index_name index.BatchByClosed = codes "batch_by_closed"
 index_name index.LotByDef = codes "lot_by_def"
 index_name index.RecallByState = codes "recall_by_state"
+index_name index.RecipeByState = codes "recipe_by_state"
+index_name index.MovementByLot2 = codes "movement_by_lot2"
 
 -- the schema that adds it
 abbrev pub schema_of : DeskIndex → ℕ
@@ -29,9 +31,11 @@ schema_of index.JobByState = 4
 schema_of index.BatchByClosed = 4
 schema_of index.LotByDef = 4
 schema_of index.RecallByState = 4
+schema_of index.RecipeByState = 4
+schema_of index.MovementByLot2 = 4
 
 abbrev pub all_indexes : List DeskIndex
-all_indexes = index.BatchEventByBatch ∷ index.MovementByLot ∷ index.MovementByBatch ∷ index.EdgeByEnd ∷ index.MarkByNode ∷ index.DefinitionByClass ∷ index.JobByState ∷ index.BatchByClosed ∷ index.LotByDef ∷ index.RecallByState ∷ []
+all_indexes = index.BatchEventByBatch ∷ index.MovementByLot ∷ index.MovementByBatch ∷ index.EdgeByEnd ∷ index.MarkByNode ∷ index.DefinitionByClass ∷ index.JobByState ∷ index.BatchByClosed ∷ index.LotByDef ∷ index.RecallByState ∷ index.RecipeByState ∷ index.MovementByLot2 ∷ []
 
 -- a later schema than this adds the index, and something bears its name
 abbrev pub is_barred : Schema → ℕ → DeskIndex → Bool

@@ -43,6 +43,7 @@ key_data (key.Numbers m n) = list (count m ∷ count n ∷ [])
 key_data (key.IdNumber id n) = list (string id ∷ count n ∷ [])
 key_data (key.IdNumbers id m n) = list (string id ∷ count m ∷ count n ∷ [])
 key_data (key.NumberIds n a b) = list (count n ∷ string a ∷ string b ∷ [])
+key_data (key.IdNumberId a n b) = list (string a ∷ count n ∷ string b ∷ [])
 key_data (key.Place place) = object (member (codes "place") (count place) no_members)
 
 abbrev pub column_data : Option Column → Data

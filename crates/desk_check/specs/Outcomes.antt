@@ -12,14 +12,10 @@ use Rattle.desk_check.specs.declared.outcome.Outcome.{Outcome}
 use Rattle.desk_check.specs.declared.survey.Survey.{Survey}
 use Rattle.desk_check.specs.declared.survey.Survey.TheVariants as survey
 
--- what keeps the desk from a file that may be read
-abbrev pub unwritable : Bool → Option Obstacle
-unwritable true = None
-unwritable false = Some obstacle.Unwritable
-
-abbrev pub outcome_of : Result Survey Obstacle → Bool → Outcome
-outcome_of (Err o) writable = record { obstacle = Some o; survey = None }
-outcome_of (Ok s) writable = record { obstacle = unwritable writable; survey = Some s }
+-- why a file doesn't open, or what it holds and what else keeps the desk from it
+abbrev pub outcome_of : Result Survey Obstacle → Option Obstacle → Outcome
+outcome_of (Err o) hindered = record { obstacle = Some o; survey = None }
+outcome_of (Ok s) hindered = record { obstacle = hindered; survey = Some s }
 
 -- ---- the exit status
 

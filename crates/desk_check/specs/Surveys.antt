@@ -89,18 +89,18 @@ pub record IsDesk (x : Loaded) (standing : Standing) (found : Findings) : Type 0
   pub stands : standing ≡ standing_of (only_meta (contents_loaded x 0)) x
   pub breaks : AreFindingsOf x found
 
-abbrev pub Told : Loaded → Option DeskIndex → Survey → Type 0
-Told x bars (survey.Nothing barred) = ⊥
-Told x bars (survey.Newer n) = ⊥
-Told x bars survey.Lacking = ⊥
-Told x bars (survey.Desk standing barred found) = IsDesk x standing found × (barred ≡ bars)
+abbrev pub TellsDesk : Loaded → Option DeskIndex → Survey → Type 0
+TellsDesk x bars (survey.Nothing barred) = ⊥
+TellsDesk x bars (survey.Newer n) = ⊥
+TellsDesk x bars survey.Lacking = ⊥
+TellsDesk x bars (survey.Desk standing barred found) = IsDesk x standing found × (barred ≡ bars)
 
 -- this is told of what is held
 abbrev pub IsToldOf : Held → Survey → Type 0
 IsToldOf (held.Nothing barred) s = s ≡ survey.Nothing barred
 IsToldOf (held.Newer n) s = s ≡ survey.Newer n
 IsToldOf held.Lacking s = s ≡ survey.Lacking
-IsToldOf (held.Tables x barred) s = Told x barred s
+IsToldOf (held.Tables x barred) s = TellsDesk x barred s
 
 -- the database has such rows
 pub record HoldsDesk (db : Database) (standing : Standing) (barred : Option DeskIndex) (found : Findings) : Type 0 where

@@ -19,6 +19,8 @@ pub(crate) enum DeskIndex {
     BatchByClosed,
     LotByDef,
     RecallByState,
+    RecipeByState,
+    MovementByLot2,
 }
 
 impl DeskIndex {
@@ -37,6 +39,8 @@ impl DeskIndex {
             DeskIndex::BatchByClosed => "batch_by_closed",
             DeskIndex::LotByDef => "lot_by_def",
             DeskIndex::RecallByState => "recall_by_state",
+            DeskIndex::RecipeByState => "recipe_by_state",
+            DeskIndex::MovementByLot2 => "movement_by_lot2",
         }
     }
 
@@ -54,13 +58,15 @@ impl DeskIndex {
             | DeskIndex::JobByState
             | DeskIndex::BatchByClosed
             | DeskIndex::LotByDef
-            | DeskIndex::RecallByState => 4,
+            | DeskIndex::RecallByState
+            | DeskIndex::RecipeByState
+            | DeskIndex::MovementByLot2 => 4,
         }
     }
 }
 
 /// The indexes of the newest schema, in the order in which they are made.
-fn all_indexes() -> [DeskIndex; 10]
+fn all_indexes() -> [DeskIndex; 12]
     ensures all { result ≡ spec.all_indexes }
     ensures named { map spec.index_name result ≡ map (λ i. i.name) desk_indexes }
 {
@@ -75,6 +81,8 @@ fn all_indexes() -> [DeskIndex; 10]
         DeskIndex::BatchByClosed,
         DeskIndex::LotByDef,
         DeskIndex::RecallByState,
+        DeskIndex::RecipeByState,
+        DeskIndex::MovementByLot2,
     ]
 }
 

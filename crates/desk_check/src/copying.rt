@@ -1,17 +1,18 @@
 //! The bytes of a file and of its log, read into memory. Nothing is made, and nothing is written.
 use crate::obstacle::{Obstacle, obstacle_at};
+use crate::room::{growth_limit, hindrance, takes_page};
 use os::RangeLock;
 use std::fs::{self, File, Metadata, OpenOptions};
 use std::io::{self, ErrorKind, Read};
 use std::os::fd::AsRawFd;
 use std::os::unix::fs::MetadataExt;
 
-/// The bytes of a file and of its log, and whether this user may write both.
+/// The bytes of a file and of its log, and what keeps the desk from the file all the same, where something does.
 #[derive(Drop)]
 pub(crate) struct Copied {
     pub(crate) log: Vec<u8>,
     pub(crate) db: Vec<u8>,
-    pub(crate) writable: bool,
+    pub(crate) hindered: Option<Obstacle>,
 }
 
 /// The obstacle that an error of the system is.
@@ -129,18 +130,35 @@ fn has_journal(rt: &HostRuntime, file: &str) -> Result<bool, Obstacle> {
     }
 }
 
-/// The bytes of the log, and whether it may be written; no bytes where there is none.
-fn log_of(rt: &HostRuntime, file: &str) -> Result<(Vec<u8>, bool), Obstacle> {
-    // No link is followed to a log.
-    if !is_there(fs::symlink_metadata(rt, file))? {
-        return Ok((Vec::new(rt.alloc()), true));
-    }
-    let (mut log, writable) = open_there(rt, file)?;
-    let bytes = bytes_of(rt, &mut log)?;
-    Ok((bytes, writable))
+/// A log: its bytes, and whether it may be written, as one may that isn't there.
+#[derive(Drop)]
+struct Log {
+    bytes: Vec<u8>,
+    writable: bool,
 }
 
-/// Reads a file and its log into memory, while no other program has them open. Nothing is made, and nothing is written.
+/// The log of this name.
+fn log_of(rt: &HostRuntime, file: &str) -> Result<Log, Obstacle> {
+    // No link is followed to a log.
+    if !is_there(fs::symlink_metadata(rt, file))? {
+        return Ok(Log {
+            bytes: Vec::new(rt.alloc()),
+            writable: true,
+        });
+    }
+    let (mut opened, writable) = open_there(rt, file)?;
+    let bytes = bytes_of(rt, &mut opened)?;
+    Ok(Log { bytes, writable })
+}
+
+/// What keeps the desk from a file of so many bytes, which may be written or not, with this log, all the same, where something does.
+fn hindered(bytes: usize, writable: bool, log: &Log) -> Option<Obstacle> {
+    let limit = growth_limit();
+    let grows = takes_page(limit, bytes) && takes_page(limit, log.bytes.len());
+    hindrance(writable && log.writable, grows)
+}
+
+/// Reads a file and its log into memory, while no other program has them open, and asks whether they may be written and grow.
 ///
 /// `Missing`, `NoFolder`, `NoFile`, `Linked`, `Unreadable`, `Locked`, `Journal`: as these say; `Unread` where a read failed;
 /// `Memory` where there is none.
@@ -159,10 +177,11 @@ pub(crate) fn copy_file(rt: &HostRuntime, file: &str) -> Result<Copied, Obstacle
         return Err(Obstacle::Journal);
     }
     let log = beside(rt, real.as_str(), "-wal")?;
-    let (log_bytes, log_writable) = log_of(rt, log.as_str())?;
+    let log = log_of(rt, log.as_str())?;
+    let bytes = bytes_of(rt, &mut db)?;
     Ok(Copied {
-        log: log_bytes,
-        db: bytes_of(rt, &mut db)?,
-        writable: writable && log_writable,
+        hindered: hindered(bytes.len(), writable, &log),
+        log: log.bytes,
+        db: bytes,
     })
 }

@@ -32,6 +32,7 @@ fn key_value(alloc: Global, key: Key) -> Result<Value, AllocError>
         Key::IdNumber(id, n) => json!(in alloc; [(id.as_str()), n]),
         Key::IdNumbers(id, m, n) => json!(in alloc; [(id.as_str()), m, n]),
         Key::NumberIds(n, a, b) => json!(in alloc; [n, (a.as_str()), (b.as_str())]),
+        Key::IdNumberId(a, n, b) => json!(in alloc; [(a.as_str()), n, (b.as_str())]),
         Key::Place(place) => json!(in alloc; {"place": place}),
     }
 }

@@ -9,6 +9,7 @@ mod obstacle;
 mod opening;
 mod outcome;
 mod report;
+mod room;
 mod survey;
 
 use desk_words::{WordsFault, read_arguments, read_desk_check, tell_refused, texts_of};

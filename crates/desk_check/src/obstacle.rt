@@ -19,6 +19,8 @@ pub(crate) enum Obstacle {
     Unreadable,
     /// It or its log may not be written by this user, or the file system may only be read.
     Unwritable,
+    /// It or its log may not grow by a page, since the system limits how large a file of this user's may become.
+    Limited,
     /// It or its log has a second name.
     Linked,
     /// SQLite left a journal beside it, which only SQLite can play back.
@@ -46,6 +48,7 @@ impl Obstacle {
             Obstacle::NoFile => "nofile",
             Obstacle::Unreadable => "unreadable",
             Obstacle::Unwritable => "unwritable",
+            Obstacle::Limited => "limit",
             Obstacle::Linked => "linked",
             Obstacle::Journal => "journal",
             Obstacle::Locked => "locked",
@@ -69,6 +72,9 @@ impl Obstacle {
             Obstacle::Unreadable => "This user may not read it, its log or its folder.",
             Obstacle::Unwritable => {
                 "This user may not write it or its log, or its file system may only be read."
+            }
+            Obstacle::Limited => {
+                "It or its log may not grow by a page: how large a file may become is limited."
             }
             Obstacle::Linked => "It or its log has a second name.",
             Obstacle::Journal => "SQLite left a journal beside it.",
@@ -95,6 +101,7 @@ impl Obstacle {
             Obstacle::Unreadable | Obstacle::Unwritable => {
                 "Give the rights to the user that runs the desk; ls -ld of the file, its -wal and its folder, id and findmnt -T show them."
             }
+            Obstacle::Limited => "Raise the limit; ulimit -f shows it.",
             Obstacle::Linked =>
                 "Remove the second name, or copy the file; ls -l shows how many it has.",
             Obstacle::Journal => "Open it with sqlite3 once, which plays the journal back.",
@@ -114,7 +121,7 @@ impl Obstacle {
         ensures { result ≡ spec.error_of self }
     {
         match self {
-            Obstacle::Missing | Obstacle::Failed => None,
+            Obstacle::Missing | Obstacle::Limited | Obstacle::Failed => None,
             Obstacle::NoFolder
             | Obstacle::NoFile
             | Obstacle::Unreadable

@@ -22,9 +22,9 @@ pub(crate) struct Outcome {
     pub(crate) survey: Option<Survey>,
 }
 
-/// The outcome of a check whose bytes were surveyed so, of a file that this user may write or not.
-fn outcome_of(surveyed: Result<Survey, Obstacle>, writable: bool) -> Outcome
-    ensures { result ≡ spec.outcome_of surveyed writable }
+/// The outcome of a check whose bytes were surveyed so, of a file from which else this keeps the desk.
+fn outcome_of(surveyed: Result<Survey, Obstacle>, hindered: Option<Obstacle>) -> Outcome
+    ensures { result ≡ spec.outcome_of surveyed hindered }
 {
     match surveyed {
         Err(obstacle) => Outcome {
@@ -32,30 +32,19 @@ fn outcome_of(surveyed: Result<Survey, Obstacle>, writable: bool) -> Outcome
             survey: None,
         },
         Ok(survey) => Outcome {
-            obstacle: unwritable(writable),
+            obstacle: hindered,
             survey: Some(survey),
         },
-    }
-}
-
-/// What keeps the desk from a file that this user may read, and perhaps not write.
-fn unwritable(writable: bool) -> Option<Obstacle>
-    ensures { result ≡ spec.unwritable writable }
-{
-    if writable {
-        None
-    } else {
-        Some(Obstacle::Unwritable)
     }
 }
 
 /// Checks a file. Nothing is made, and nothing is written.
 pub(crate) fn check_file(rt: &HostRuntime, file: &str) -> Outcome {
     match copy_file(rt, file) {
-        Err(obstacle) => outcome_of(Err(obstacle), true),
+        Err(obstacle) => outcome_of(Err(obstacle), None),
         Ok(copied) => outcome_of(
             survey_bytes(rt.alloc(), copied.log.as_slice(), copied.db.as_slice()),
-            copied.writable,
+            copied.hindered,
         ),
     }
 }

@@ -5,7 +5,7 @@ ghost use Rattle.sqlite.specs.State.{HasCleanDisk, Survives};
 ghost use Rattle.table_forms.specs.Resting.{Keeps};
 ghost use Rattle.plant_check.specs.Damaged.{IsDamaged};
 ghost use Rattle.desk_check.specs.Surveys.{IsHeldBy, IsHeldIn, IsReadAs, IsReadAt, IsSurveyOf, IsToldOf};
-ghost use Rattle.desk_check.specs.Surveys.{Told, first_told, standing_of};
+ghost use Rattle.desk_check.specs.Surveys.{TellsDesk, first_told, standing_of};
 
 use crate::barred::{DeskIndex, barred_index};
 use plant_base::{Meta, NEWEST_SCHEMA};
@@ -177,7 +177,7 @@ fn survey_rows(
     loaded: &Loaded,
     barred: Option<DeskIndex>,
 ) -> Result<Survey, AllocError>
-    ensures { IfOk result (λ survey. Told loaded.now barred survey) }
+    ensures { IfOk result (λ survey. TellsDesk loaded.now barred survey) }
 {
     let meta = only_meta(loaded.rows(0));
     let standing = standing_by(&meta, loaded);

@@ -41,11 +41,10 @@ use Rattle.plant_check.specs.declared.rule.Rule.TheVariants as rule
 use Rattle.plant_check_rows.specs.First.{or_told, first_told}
 use Rattle.plant_check_rows.specs.Edges.{edge_fault_in}
 use Rattle.plant_check_rows.specs.Events.{progress_fault, run_told, run_fault, stray_event, event_fault, event_fault_in}
-use Rattle.plant_check_rows.specs.Findings.{obeys, finding_of, numbered_fault_in}
+use Rattle.plant_check_rows.specs.Findings.{obeys, finding_of, numbered_fault_in, recalled_fault_in}
 use Rattle.plant_check_rows.specs.Lots.{undefined_lot, unnumbered_lot, lot_fault, stray_sublot, unborn_sublot, sublot_fault, stray_hold, hold_fault, lot_fault_in}
 use Rattle.plant_check_rows.specs.Movements.{wrong_columns, kind_fault, no_target, no_source, no_batch, other_definition, wrong_merge, naming_fault, movement_fault, movement_fault_in}
 use Rattle.plant_check_rows.specs.Plans.{missing_class, class_fault, class_fault_in, wrong_size, size_fault, wrong_start, start_fault, order_fault, order_fault_in, shared_order, batch_as_a_whole, batch_fault, stray_control_line, control_line_fault, batch_fault_in}
-use Rattle.plant_check_rows.specs.Recalls.{recall_fault_in}
 use Rattle.plant_check_rows.specs.Receipts.{receipt_fault_in}
 use Rattle.plant_check_rows.specs.Recipes.{recipe_as_a_whole, missing_product, unknown_definition, line_fault, recipe_fault, stray_line, stray_line_fault, recipe_fault_in}
 use Rattle.plant_check_rows.specs.Stocks.{wrong_stock, stock_fault, stock_fault_in}
@@ -204,4 +203,4 @@ found_where_broken rule.Events r = row_none rule.Events (event_fault_in r.contro
 found_where_broken rule.Numbers r = test_none rule.Numbers (are_right_numbers r (movements_in r.movements)) (numbered_fault_in r (movements_in r.movements))
 found_where_broken rule.Descent r = test_none rule.Descent (are_right_edges r (movements_in r.movements)) (edge_fault_in r.meta.schema r.edges (movements_in r.movements))
 found_where_broken rule.Receipts r = test_none rule.Receipts (are_receipts r.meta.position.seq r.receipts) (receipt_fault_in r.meta.position.seq r.receipts)
-found_where_broken rule.Recalls r = test_none rule.Recalls (are_right_recalls r) (recall_fault_in r.meta.position.at r.recalls r.lots (recalls_told r.recalls))
+found_where_broken rule.Recalls r = test_none rule.Recalls (are_right_recalls r) (recalled_fault_in r (recalls_told r.recalls) (movements_in r.movements))

@@ -1,6 +1,7 @@
 -- The broken rules, each with the first row that breaks it.
 use Rattle.std.specs.Prelude.{◌≡◌, ℕ, Bool, true, false, List, [], ◌∷◌, codes, filter, Option, Some, None, is_none, is_some}
 use Rattle.plant_base.specs.declared.rows.Movement.{Movement}
+use Rattle.plant_base.specs.declared.rows.Recall.{Recall}
 use Rattle.plant_tables_columns.specs.TableColumns.{only_meta}
 use Rattle.plant_tables_stored.specs.Loading.{contents_loaded}
 use Rattle.plant_tables_stored.specs.declared.loaded.Loaded.{Loaded}
@@ -21,6 +22,7 @@ use Rattle.plant_check_rows.specs.First.{or_told}
 use Rattle.plant_check_rows.specs.Edges.{edge_fault_in}
 use Rattle.plant_check_rows.specs.Events.{event_fault_in}
 use Rattle.plant_check_rows.specs.Lots.{lot_fault_in}
+use Rattle.plant_check_rows.specs.Marks.{mark_fault_in}
 use Rattle.plant_check_rows.specs.Movements.{movement_fault_in}
 use Rattle.plant_check_rows.specs.Numbers.{number_fault_in, late_fault_in, fall_fault_in, event_fall_fault_in}
 use Rattle.plant_check_rows.specs.Plans.{class_fault_in, order_fault_in, batch_fault_in}
@@ -96,6 +98,10 @@ numbered_fault_in r ms =
     (or_told (late_fault_in r.meta.position.at ms r.events r.batches r.holds)
     (or_told (fall_fault_in 0 ms) (event_fall_fault_in 0 r.events)))
 
+-- the row that breaks the rule of recalls, or the mark that breaks it
+abbrev pub recalled_fault_in : Rows → List Recall → List Movement → Option RowFault
+recalled_fault_in r recalls ms = or_told (recall_fault_in r.meta.position.at r.recalls r.lots recalls) (mark_fault_in recalls ms r.marks)
+
 -- what is found of a rule
 abbrev pub finding_of : Rule → Rows → List Movement → Option Finding
 finding_of rule.Tables r ms = None
@@ -111,7 +117,7 @@ finding_of rule.Events r ms = found_by_row rule.Events (event_fault_in r.control
 finding_of rule.Numbers r ms = found_by_test rule.Numbers (are_right_numbers r ms) (numbered_fault_in r ms)
 finding_of rule.Descent r ms = found_by_test rule.Descent (are_right_edges r ms) (edge_fault_in r.meta.schema r.edges ms)
 finding_of rule.Receipts r ms = found_by_test rule.Receipts (are_receipts r.meta.position.seq r.receipts) (receipt_fault_in r.meta.position.seq r.receipts)
-finding_of rule.Recalls r ms = found_by_test rule.Recalls (are_right_recalls r) (recall_fault_in r.meta.position.at r.recalls r.lots (recalls_told r.recalls))
+finding_of rule.Recalls r ms = found_by_test rule.Recalls (are_right_recalls r) (recalled_fault_in r (recalls_told r.recalls) ms)
 
 -- something is found of the rule
 abbrev pub is_broken : Rule → Rows → List Movement → Bool

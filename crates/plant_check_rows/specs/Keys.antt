@@ -1,10 +1,12 @@
 -- The keys of rows.
 use Rattle.std.specs.Prelude.{ℕ, List}
 use Rattle.plant_base.specs.Edges.{edge_kind_number}
+use Rattle.plant_base.specs.Recalls.{mark_kind_number}
 use Rattle.plant_base.specs.declared.rows.ControlLine.{ControlLine}
 use Rattle.plant_base.specs.declared.rows.EdgeRow.{EdgeRow}
 use Rattle.plant_base.specs.declared.rows.Header.{Header}
 use Rattle.plant_base.specs.declared.rows.Hold.{Hold}
+use Rattle.plant_base.specs.declared.rows.Mark.{Mark}
 use Rattle.plant_base.specs.declared.rows.MasterLine.{MasterLine}
 use Rattle.plant_base.specs.declared.rows.Sublot.{Sublot}
 use Rattle.plant_check_rows.specs.declared.fault.Key.{Key}
@@ -36,3 +38,6 @@ booked_key seq line = key.Numbers seq line
 
 abbrev pub edge_key : EdgeRow → Key
 edge_key e = key.NumberIds (edge_kind_number e.kind) e.from e.to
+
+abbrev pub mark_key : Mark → Key
+mark_key m = key.IdNumberId m.recall (mark_kind_number m.kind) m.id

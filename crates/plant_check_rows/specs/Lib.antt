@@ -6,6 +6,7 @@ pub mod Plans
 pub mod Recipes
 pub mod Stocks
 pub mod Lots
+pub mod Marks
 pub mod Movements
 pub mod Events
 pub mod Numbers

@@ -22,6 +22,7 @@ key_text (key.Numbers m n) = decimal m ++ codes " " ++ decimal n
 key_text (key.IdNumber id n) = id ++ codes " " ++ decimal n
 key_text (key.IdNumbers id m n) = id ++ codes " " ++ decimal m ++ codes " " ++ decimal n
 key_text (key.NumberIds n a b) = decimal n ++ codes " " ++ a ++ codes " " ++ b
+key_text (key.IdNumberId a n b) = a ++ codes " " ++ decimal n ++ codes " " ++ b
 key_text (key.Place place) = codes "number " ++ decimal place ++ codes " by its key"
 
 abbrev pub sort_name : MovementSort → List ℕ
@@ -59,6 +60,7 @@ plain_wanted wanted.Apart = codes "a number that no event of a batch has"
 plain_wanted wanted.Later = codes "a number above those that brought what it takes"
 plain_wanted wanted.NextLine = codes "line 1 of a number, or the next part of the merge before it"
 plain_wanted wanted.Between = codes "a moment no later than that of its lifting, and both no later than the desk's"
+plain_wanted wanted.Mark = codes "the mark of an open recall that reaches it"
 plain_wanted wanted.OwnNumber = codes "a number that no other receipt has"
 plain_wanted wanted.Content = codes "a content of one or more bytes from the space to ~ and LFs"
 plain_wanted wanted.Values = codes "values that each obey their rule"

@@ -113,6 +113,7 @@ pub enum Key {
     IdNumber(Id, u64),
     IdNumbers(Id, u64, u64),
     NumberIds(u64, Id, Id),
+    IdNumberId(Id, u64, Id),
     /// The place of a row whose key can't be read, counted from 1 on.
     Place(u64),
 }
@@ -190,6 +191,8 @@ pub enum Wanted {
     Between,
     /// The edge that this movement makes.
     EdgeOf { seq: u64, line: u16 },
+    /// The mark of an open recall on what it reaches.
+    Mark,
     /// A number of its own.
     OwnNumber,
     /// One or more bytes from the space to `~` and LFs.

@@ -11,6 +11,7 @@ use crate::events::event_fault;
 use crate::fault::RowFault;
 use crate::first::or_told;
 use crate::lots::lot_fault;
+use crate::marks::mark_fault;
 use crate::movements::movement_fault;
 use crate::numbers::{falling_event, falling_movement, late_fault, number_fault};
 use crate::plans::{batch_fault, class_fault, order_fault};
@@ -19,7 +20,7 @@ use crate::receipts::receipt_fault;
 use crate::recipes::recipe_fault;
 use crate::stocks::stock_fault;
 use crate::values::value_fault_in;
-use plant_base::Movement;
+use plant_base::{Movement, Recall};
 use plant_check::Rule;
 use plant_check::checking::{are_edges_of, are_numbers_of, are_right_recalls};
 use plant_check::history::movements_in;
@@ -279,19 +280,37 @@ fn receipts_found(alloc: Global, rows: &DeskRows) -> Result<Option<Finding>, All
 }
 
 #[tactic(auto, unfolding(plant_tables_judged::specs::Collecting::rows_listed))]
-fn recalls_found(alloc: Global, rows: &DeskRows) -> Result<Option<Finding>, AllocError>
-    ensures { IfOk result (λ found. found ≡ spec.finding_of broken.Recalls (rows_listed rows.now) []) }
+fn recalled_fault(
+    alloc: Global,
+    rows: &DeskRows,
+    recalls: &[Recall],
+    movements: &[Movement],
+) -> Result<Option<RowFault>, AllocError>
+    ensures { IfOk result (λ told. told ≡ spec.recalled_fault_in (rows_listed rows.now) recalls.now movements.now) }
+{
+    let by_row = recall_fault(
+        alloc,
+        rows.meta.position.at,
+        rows.recalls.as_slice(),
+        rows.lots.as_slice(),
+        recalls,
+    )?;
+    let by_mark = mark_fault(alloc, recalls, movements, rows.marks.as_slice())?;
+    Ok(or_told(by_row, by_mark))
+}
+
+#[tactic(auto, unfolding(plant_tables_judged::specs::Collecting::rows_listed))]
+fn recalls_found(
+    alloc: Global,
+    rows: &DeskRows,
+    movements: &[Movement],
+) -> Result<Option<Finding>, AllocError>
+    ensures { IfOk result (λ found. found ≡ spec.finding_of broken.Recalls (rows_listed rows.now) movements.now) }
 {
     let stated = rows.recalls.as_slice();
     let obeyed = are_right_recalls(alloc, rows)?;
     let recalls = recalls_told(alloc, stated)?;
-    let told = recall_fault(
-        alloc,
-        rows.meta.position.at,
-        stated,
-        rows.lots.as_slice(),
-        recalls.as_slice(),
-    )?;
+    let told = recalled_fault(alloc, rows, recalls.as_slice(), movements)?;
     Ok(found_by_test(Rule::Recalls, obeyed, told))
 }
 
@@ -317,7 +336,7 @@ fn finding_of(
         Rule::Numbers => numbers_found(alloc, rows, movements),
         Rule::Descent => descent_found(alloc, rows, movements),
         Rule::Receipts => receipts_found(alloc, rows),
-        Rule::Recalls => recalls_found(alloc, rows),
+        Rule::Recalls => recalls_found(alloc, rows, movements),
     }
 }
 

@@ -1,10 +1,10 @@
 //! The keys of rows.
 ghost use Rattle.std.specs.Prelude.{◌≡◌};
 ghost use Rattle.plant_check_rows.specs.Keys.{booked_key, control_line_key, edge_key, hold_key, id_key};
-ghost use Rattle.plant_check_rows.specs.Keys.{number_key, recipe_key, recipe_line_key, sublot_key};
+ghost use Rattle.plant_check_rows.specs.Keys.{mark_key, number_key, recipe_key, recipe_line_key, sublot_key};
 
 use crate::fault::Key;
-use plant_base::{ControlLine, EdgeRow, Header, Hold, Id, MasterLine, Sublot};
+use plant_base::{ControlLine, EdgeRow, Header, Hold, Id, Mark, MasterLine, Sublot};
 
 pub(crate) fn id_key(id: Id) -> Key
     ensures { result ≡ id_key id }
@@ -61,4 +61,10 @@ pub(crate) fn edge_key(edge: &EdgeRow) -> Key
     ensures { result ≡ edge_key edge.now }
 {
     Key::NumberIds(u64::from(edge.kind.number()), edge.from, edge.to)
+}
+
+pub(crate) fn mark_key(mark: &Mark) -> Key
+    ensures { result ≡ mark_key mark.now }
+{
+    Key::IdNumberId(mark.recall, u64::from(mark.kind.number()), mark.id)
 }

@@ -8,6 +8,7 @@ mod finding;
 mod first;
 mod keys;
 mod lots;
+mod marks;
 mod movements;
 mod numbers;
 mod plans;

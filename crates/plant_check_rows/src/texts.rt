@@ -44,6 +44,12 @@ impl fmt::Display for Key {
                 let second = second.as_str();
                 write!(f, "{number} {first} {second}")
             }
+            Key::IdNumberId(first, number, second) => {
+                let first = first.as_str();
+                let number = *number;
+                let second = second.as_str();
+                write!(f, "{first} {number} {second}")
+            }
             Key::Place(place) => {
                 let place = *place;
                 write!(f, "number {place} by its key")
@@ -111,6 +117,7 @@ fn plain_wanted(wanted: &Wanted) -> &'static str
         Wanted::NextLine => "line 1 of a number, or the next part of the merge before it",
         Wanted::Between =>
             "a moment no later than that of its lifting, and both no later than the desk's",
+        Wanted::Mark => "the mark of an open recall that reaches it",
         Wanted::OwnNumber => "a number that no other receipt has",
         Wanted::Content => "a content of one or more bytes from the space to ~ and LFs",
         Wanted::Values => "values that each obey their rule",

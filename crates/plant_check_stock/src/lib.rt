@@ -11,7 +11,7 @@ pub mod recalls;
 pub mod receipts;
 mod times;
 
-pub use marks::are_marks;
+pub use marks::{are_marks, marks_within};
 pub use movements::are_movements;
 pub use numbering::are_numbers;
 pub use recalls::are_recalls;

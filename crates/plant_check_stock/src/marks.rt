@@ -59,14 +59,15 @@ fn are_marks_along(
 ) -> Result<bool, AllocError>
     ensures { IfOk result (λ b. b ≡ are_same_marks rows.now (marks recalls.now pairs.now)) }
 {
-    match expected(alloc, recalls, pairs, rows.len())? {
+    match marks_within(alloc, recalls, pairs, rows.len())? {
         Some(all) => Ok(rows == all.as_slice()),
         None => Ok(false),
     }
 }
 
-// The marks of the recalls, and nothing where they are more than `most`.
-fn expected(
+/// The marks of the open recalls on what they reach over these edges, in the order of their key; nothing where they are more than
+/// `most`. The only error is that memory was refused.
+pub fn marks_within(
     alloc: Global,
     recalls: &[Recall],
     pairs: &[(Node, Node)],

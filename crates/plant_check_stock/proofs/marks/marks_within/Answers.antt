@@ -5,7 +5,7 @@ use Rattle.plant_base.specs.declared.rows.Recall.{Recall}
 use Rattle.plant_trace.specs.declared.node.Node.{Node}
 use Rattle.plant_view.specs.Recalls.{marks}
 use Rattle.plant_check_stock.proofs.Expecting.{marks_longer}
-use Rattle.plant_check_stock.proofs.marks.expected.Goals as goal
+use Rattle.plant_check_stock.proofs.marks.marks_within.Goals as goal
 
 pub loop-recall-init : goal.loop-recall-init
 unfolding marks

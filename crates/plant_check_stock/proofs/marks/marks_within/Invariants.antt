@@ -1,6 +1,6 @@
 use Rattle.std.proofs.Common.{◌≡◌, take}
 use Rattle.plant_view.specs.Recalls.{marks}
-use Rattle.plant_check_stock.proofs.marks.expected.Given as goal
+use Rattle.plant_check_stock.proofs.marks.marks_within.Given as goal
 
 -- the set has the marks of the first recalls
 abbrev pub invariant-loop-recall : goal.invariant-loop-recall

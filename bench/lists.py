@@ -2,9 +2,9 @@
 
     lists.py PROGRAM FOLDER N ..
 
-For each number a desk is made in a file, which Python's sqlite3 gives so many orders, of which one in ten is open, and so many lots, of which
-one in a thousand is of a second definition. Then a run of the desk is asked for the same page some times. What is told is the processor
-time of one: that of the run without that of a run that is asked for nothing.
+For each number a desk is made in a file, which Python's sqlite3 gives so many orders, of which one in ten is open, so many lots, of which one
+in a thousand is of a second definition, and a lot more, from which so many amounts were scrapped. Then a run of the desk is asked for the same
+page some times. What is told is the processor time of one: that of the run without that of a run that is asked for nothing.
 """
 import json
 import pathlib
@@ -14,6 +14,9 @@ import subprocess
 import sys
 
 TIMES = 10_000
+
+# The lot whose ledger is long.
+LONG = "L-LONG"
 
 BASE = [
     {"do": "add_class", "class": "RAW", "name": ""},
@@ -53,9 +56,14 @@ def filled(program, folder, count):
     store.executemany("INSERT INTO job VALUES (?, ?, ?, ?, ?, ?, ?)", orders)
     store.executemany("INSERT INTO lot VALUES (?, ?)", ((f"L-{it:07}", "SUGAR" if it % 1000 else "SALT") for it in range(count)))
     store.executemany("INSERT INTO sublot VALUES (?, 0, 'A1', 100)", ((f"L-{it:07}",) for it in range(count)))
-    received = ((seq + it + 1, 1, 1, f"L-{it:07}", 0, None, None, None, 100, 1, "", "") for it in range(count))
-    store.executemany("INSERT INTO movement VALUES (?, ?, ?, ?, ?, ?, ?, ?, ?, ?, ?, ?)", received)
-    store.execute("UPDATE meta SET seq = ?", (seq + count,))
+    store.execute("INSERT INTO lot VALUES (?, 'SALT')", (LONG,))
+    store.execute("INSERT INTO sublot VALUES (?, 0, 'A1', 1)", (LONG,))
+    moved = [(1, f"L-{it:07}", 100) for it in range(count)] + [(1, LONG, count + 1)] + [(4, LONG, 1)] * count
+    store.executemany(
+        "INSERT INTO movement VALUES (?, 1, ?, ?, 0, NULL, NULL, NULL, ?, 1, '', '')",
+        ((seq + place, kind, lot, amount) for place, (kind, lot, amount) in enumerate(moved, 1)),
+    )
+    store.execute("UPDATE meta SET seq = ?", (seq + len(moved),))
     store.commit()
     store.close()
     return file
@@ -74,6 +82,10 @@ def main(program, folder, counts):
             ("open batches, none", {"ask": "batches"}),
             ("lots of the first", {"ask": "lots", "def": "SUGAR", "above": f"L-{middle}"}),
             ("lots of the second", {"ask": "lots", "def": "SALT"}),
+            ("the ledger of a lot", {"ask": "movements", "lot": f"L-{middle}"}),
+            ("a long ledger", {"ask": "movements", "lot": LONG}),
+            ("a long ledger from its middle", {"ask": "movements", "lot": LONG, "above": f"{len(BASE) + count + count // 2}.1"}),
+            ("approved recipes", {"ask": "recipes", "state": "approved"}),
             ("one order", {"ask": "order", "order": f"O-{middle}"}),
         ]:
             took = (seconds(program, file, lines([question]) * TIMES) - idle) / TIMES

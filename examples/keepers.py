@@ -43,10 +43,13 @@ QUESTIONS = [
     '{"ask":"recalls","above":"%s"}',
     '{"ask":"definitions","class":"%s"}',
     '{"ask":"definitions","class":"RAW","above":"%s"}',
+    '{"ask":"recipes","state":"approved","above":"%s.1"}',
+    '{"ask":"movements","lot":"%s"}',
+    '{"ask":"movements","lot":"%s","above":"9.1"}',
 ]
 
 # The sessions that the keeper of lists has to answer too.
-BY_LISTS = ["lists_are_told_by_the_page", "goods_stand_where_they_went"]
+BY_LISTS = ["lists_are_told_by_the_page", "recipes_and_ledgers_are_listed", "goods_stand_where_they_went"]
 
 # Two recalls behind the twenty commands, what they refuse, and a lift.
 RECALLS = b"".join(

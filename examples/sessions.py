@@ -36,6 +36,7 @@ ONE = NEW.replace(b'"seq":0', b'"seq":1')
 # What takes tables back to the third schema, to the second and to the first.
 LOWER_TO_THE_THIRD = """
     DROP INDEX definition_by_class; DROP INDEX job_by_state; DROP INDEX batch_by_closed; DROP INDEX lot_by_def;
+    DROP INDEX recipe_by_state; DROP INDEX movement_by_lot2;
     DROP TABLE recall; DROP TABLE mark;
     UPDATE meta SET schema = 3;
 """
@@ -49,7 +50,7 @@ LOWER = LOWER_TO_THE_SECOND + """
 # The indexes of a desk, with what they find.
 INDEXES = {
     "batch_event_by_batch": "batch_event (batch)",
-    "movement_by_lot": "movement (lot)",
+    "movement_by_lot": "movement (lot, seq, line)",
     "movement_by_batch": "movement (batch)",
     "edge_by_end": "edge (kind, b, a)",
     "mark_by_node": "mark (kind, id)",
@@ -58,6 +59,8 @@ INDEXES = {
     "batch_by_closed": "batch (closed, id)",
     "lot_by_def": "lot (def, id)",
     "recall_by_state": "recall (state, id)",
+    "recipe_by_state": "recipe (state, id, version)",
+    "movement_by_lot2": "movement (lot2, seq, line)",
 }
 
 # A command over HTTP.
@@ -219,11 +222,11 @@ def received(lot, amount):
     return f'"do":"receive","lot":"{lot}","def":"SUGAR","amount":{amount},"place":""'
 
 
-def recipe(phases):
-    """Returns a recipe of one output and so many phases."""
+def recipe(phases, name="R", version=1):
+    """Returns a version of a recipe of one output and so many phases."""
     phase = ',{"kind":"phase","unit":"U","oper":"O","phase":"P"}'
     return (
-        '"do":"add_recipe","recipe":"R","version":1,"product":"SUGAR","base":1,"min":1,"max":900,"title":"",'
+        f'"do":"add_recipe","recipe":"{name}","version":{version},"product":"SUGAR","base":1,"min":1,"max":900,"title":"",'
         f'"lines":[{{"kind":"out","def":"SUGAR","qty":1}}{phase * phases}]'
     )
 
@@ -310,6 +313,46 @@ def traces():
     return [chain, fan]
 
 
+def standing():
+    """Returns a session of where the goods of a chain of lots stand, and of the genealogy around them: lots that lie close, and lots with more
+    than a page of others between each and the next; some are held, divided or empty."""
+    lots = [f"C-{it:03}" for it in range(260)]
+    session = Session("goods of many lots stand close and apart").accepted(*GOODS, received(lots[0], 1000))
+    session.accepted(*[split(lots[it - 1], 1000 - 3 * it, lots[it]) for it in range(1, 260)])
+    for it in range(200, 212):
+        session.accepted(*[received(f"{lots[it]}-{other}", 7) for other in range(110)])
+    session.accepted(*[f'"do":"divide","lot":"{it}","sub":0,"amount":1,"place":"A1"' for it in lots[::7]])
+    session.accepted(*[f'"do":"scrap","lot":"{it}","sub":0,"amount":2' for it in lots[:259:5]])
+    session.accepted(*[f'"do":"scrap","lot":"{it}","sub":0,"amount":1' for it in lots[:259:5] if it not in lots[::7]])
+    session.accepted(*[f'"do":"hold","lot":"{it}","hold":"H-1"' for it in (*lots[::50], f"{lots[203]}-9")])
+    known = [lot_standing(lots, it) for it in range(260)]
+    for at in (0, 1, 130, 205):
+        session.asked(f'{{"ask":"stands","lot":"{lots[at]}"}}', compact({"lots": [it for it in known[at:] if it["stock"]]}))
+    edges = [{"amount": 1000 - 3 * it, "from": {"lot": lots[it - 1]}, "to": {"lot": lots[it]}} for it in range(1, 260)]
+    nodes = [{**it, "recalled": False, "unit": "g"} for it in known]
+    for it in nodes:
+        del it["sublots"]
+    session.asked(f'{{"ask":"forward_edges","lot":"{lots[0]}"}}', compact({"edges": edges, "nodes": nodes}))
+    session.asked(f'{{"ask":"back_edges","lot":"{lots[-1]}"}}', compact({"edges": edges, "nodes": nodes}))
+    return [session]
+
+
+def lot_standing(lots, at):
+    """Returns what is answered of a lot of that chain: 3 g, and 223 g of the last, of which each seventh had one divided off, each fifth but the
+    last its first sublot scrapped, and each fiftieth is held."""
+    stock = (223 if at == 259 else 3) - (at % 7 == 0)
+    sublots = [{"no": 0, "place": "", "stock": 0 if at % 5 == 0 and at < 259 else stock}]
+    if at % 7 == 0:
+        sublots.append({"no": 1, "place": "A1", "stock": 1})
+    total = sum(it["stock"] for it in sublots)
+    return {"def": "SUGAR", "held": at % 50 == 0, "lot": lots[at], "stock": total, "sublots": sublots}
+
+
+def compact(answer):
+    """Returns an answer as it is written."""
+    return json.dumps(answer, separators=(",", ":"), sort_keys=True)
+
+
 def listed(name, items):
     """Returns the answer of a page of these items, all that come behind a place, in their order."""
     page = {"more": len(items) > 100, name: items[:100]}
@@ -343,7 +386,29 @@ def pages():
             rest = [it for it in lots if at is None or it > at]
             session.asked(question("lots", at, **{"def": "SUGAR"}), of_lots(rest))
         sessions.append(session)
+        sessions.append(pairs(count))
     return sessions
+
+
+def pairs(count):
+    """Returns a session of lists whose places have two values: so many versions of recipes, and a ledger of so many movements."""
+    session = Session(f"recipes and a ledger of {count} are told by the page").accepted(*GOODS)
+    recipes = [(f"R-{it % 7}", it + 1) for it in range(count)]
+    session.accepted(*[recipe(1, *it) for it in recipes])
+    recipes.sort()
+    first = session.count() + 1
+    session.accepted(received("L-1", 900), *['"do":"scrap","lot":"L-1","sub":0,"amount":2'] * (count - 1))
+    shown = {"base": 1, "max": 900, "min": 1, "product": "SUGAR", "title": ""}
+    for at in [None, ("A", 999), ("R-2", 0), ("R-2", 999), ("Z", 0), *recipes[96:102]]:
+        rest = [{**shown, "recipe": name, "version": version} for name, version in recipes if at is None or (name, version) > at]
+        session.asked(question("recipes", at and "%s.%d" % at, state="draft"), listed("recipes", rest))
+    session.asked(question("recipes", None, state="approved"), listed("recipes", []))
+    shown = {"at": 100, "batch": None, "by": "", "line": 1, "lot": "L-1", "note": "", "sub": 0, "to": None, "to_sub": None}
+    moved = [{**shown, "seq": first + it, "kind": "scrapped" if it else "received", "amount": 2 if it else 900} for it in range(count)]
+    for at in [None, (0, 0), (first, 0), (first, 1), (first + 98, 1), (first + 99, 0), (first + 99, 1), (10**15, 999)]:
+        rest = [it for it in moved if at is None or (it["seq"], it["line"]) > at]
+        session.asked(question("movements", at and "%d.%d" % at, lot="L-1"), listed("movements", rest))
+    return session
 
 
 def question(word, above, **members):
@@ -804,7 +869,7 @@ def shown(value):
 
 def main(program):
     folder = pathlib.Path(__file__).resolve().parent / "sessions"
-    sessions = [written(it) for it in sorted(folder.glob("*.txt"))] + limits() + traces() + pages() + lines() + [scraps()]
+    sessions = [written(it) for it in sorted(folder.glob("*.txt"))] + limits() + traces() + standing() + pages() + lines() + [scraps()]
     with tempfile.TemporaryDirectory() as room:
         check = Check(pathlib.Path(program).resolve(), pathlib.Path(room))
         for number, session in enumerate(sessions):

@@ -8,12 +8,15 @@ use Rattle.plant_base.specs.declared.rows.Class.{Class}
 use Rattle.plant_base.specs.declared.rows.Definition.{Definition}
 use Rattle.plant_base.specs.declared.rows.Lot.{Lot}
 use Rattle.plant_base.specs.declared.rows.RecipeLine.{RecipeLine}
+use Rattle.plant_base.specs.declared.states.RecipeState.{RecipeState}
 use Rattle.plant_base.specs.declared.rows.RecipeLine.TheVariants.{In, Out, Parameter, Phase}
 use Rattle.plant_worklists.specs.Pages.{page_of}
-use Rattle.plant_worklists.specs.Worklists.{orders_in, open_batches, lots_of, holds_on, open_recalls, definitions_in}
+use Rattle.plant_worklists.specs.Worklists.{orders_in, open_batches, lots_of, holds_on, open_recalls, definitions_in, recipes_in, ledger_of}
 use Rattle.plant_worklists.specs.declared.list.Worklist.{Worklist}
 use Rattle.plant_worklists.specs.declared.list.Worklist.TheVariants as list
 use Rattle.plant_worklists.specs.declared.page.Page.{Page}
+use Rattle.plant_worklists.specs.declared.place.MovementPlace.{MovementPlace}
+use Rattle.plant_worklists.specs.declared.place.RecipePlace.{RecipePlace}
 use Rattle.plant_desk.specs.LotAnswers.{lot_answer}
 use Rattle.plant_desk.specs.declared.listed.Listed.TheVariants as listed
 use Rattle.plant_desk.specs.declared.listed.LotPage.{LotPage}
@@ -78,3 +81,12 @@ answer_list s (list.Lots def) above = answer_lots s def above (definition_at s d
 answer_list s (list.Holds lot) above = answer_holds s lot above (lot_at s lot)
 answer_list s list.OpenRecalls above = A.List (listed.Recalls (page_of (open_recalls s above)))
 answer_list s (list.Definitions class) above = answer_definitions s class above (class_at s class)
+
+-- a page of the versions of recipes in a state
+abbrev pub answer_recipes : State → RecipeState → Option RecipePlace → Answer
+answer_recipes s state above = A.List (listed.Recipes (page_of (recipes_in s state above)))
+
+-- a page of the ledger of a lot, where the lot is there
+abbrev pub answer_ledger : State → List ℕ → Option MovementPlace → Option Lot → Answer
+answer_ledger s lot above None = A.Unknown UnknownLot
+answer_ledger s lot above (Some l) = A.List (listed.Ledger (page_of (ledger_of s lot above)))

@@ -7,6 +7,7 @@ ghost use Rattle.plant_trace.specs.Sources.{Told};
 ghost use Rattle.plant_view.specs.Recalls.{is_blocked};
 ghost use Rattle.plant_view.specs.Sound.{IsSound};
 ghost use Rattle.plant_desk.specs.Genealogy.{answer_edges, genealogy_around, lot_node, node_answer, node_if};
+ghost use Rattle.plant_desk.specs.KnownLots.{AreKnown};
 ghost use Rattle.plant_desk.specs.LotAnswers.{lot_answer};
 ghost use Rattle.plant_desk.specs.Traces.{missing};
 ghost use Rattle.plant_desk.specs.declared.genealogy.NodeAnswer.TheVariants as node;
@@ -16,12 +17,12 @@ use crate::around::nodes_around;
 use crate::booked::edges_between;
 use crate::bookings::push_found;
 use crate::genealogy::{Genealogy, LotNode, NodeAnswer};
-use crate::lot_answers::found_lot;
+use crate::known_lots::{KnownLots, known_definition, known_lot, known_row};
 use crate::question::{Answer, LotAnswer};
 use crate::traces::missing;
 use plant_base::{Definition, Items, Lot};
 use plant_trace::{Direction, Node};
-use plant_view::{View, ViewFault, look};
+use plant_view::{ViewFault, look};
 use plant_worklists::Worklists;
 use std::alloc::Global;
 
@@ -79,7 +80,7 @@ fn genealogy_around<V: Worklists>(
 }
 
 // What is known of the nodes.
-fn node_answers<V: View>(
+fn node_answers<V: Worklists>(
     alloc: Global,
     view: &mut V,
     nodes: &[Node],
@@ -88,9 +89,10 @@ fn node_answers<V: View>(
         (IsSound (V.state view.old)
         → IfOk result (λ v. v.items ≡ filter_map (node_answer (V.state view.old)) nodes.now)) }
 {
+    let mut known = KnownLots::new(alloc);
     let mut rows = Vec::new(alloc);
     for node in nodes {
-        let found = node_answer(view, *node)?;
+        let found = node_answer(alloc, view, &mut known, *node)?;
         if push_found(&mut rows, found).is_err() {
             return Err(ViewFault::Memory);
         }
@@ -98,45 +100,60 @@ fn node_answers<V: View>(
     Ok(rows)
 }
 
-fn node_answer<V: View>(view: &mut V, node: Node) -> Result<Option<NodeAnswer>, ViewFault<V::Fault>>
+fn node_answer<V: Worklists>(
+    alloc: Global,
+    view: &mut V,
+    known: &mut KnownLots,
+    node: Node,
+) -> Result<Option<NodeAnswer>, ViewFault<V::Fault>>
     ensures { Told V.honest V.kept V.steady view.old view.new
-        (IsSound (V.state view.old)
-        → IfOk result (λ found. found ≡ node_answer (V.state view.old) node)) }
+        (IsSound (V.state view.old) → AreKnown (V.state view.old) known.old
+        → IfOk result (λ found. found ≡ node_answer (V.state view.old) node)
+        × AreKnown (V.state view.old) known.new) }
 {
     match node {
         Node::Lot(id) => {
-            let lot = look::lot(view, id)?;
-            node_if(view, lot)
+            let lot = known_row(view, known, &id)?;
+            node_if(alloc, view, known, lot)
         }
         Node::Batch(id) => Ok(Some(NodeAnswer::Batch(id))),
     }
 }
 
-fn node_if<V: View>(
+fn node_if<V: Worklists>(
+    alloc: Global,
     view: &mut V,
+    known: &mut KnownLots,
     lot: Option<Lot>,
 ) -> Result<Option<NodeAnswer>, ViewFault<V::Fault>>
     ensures { Told V.honest V.kept V.steady view.old view.new
-        (IsSound (V.state view.old)
-        → IfOk result (λ found. found ≡ node_if (V.state view.old) lot)) }
+        (IsSound (V.state view.old) → AreKnown (V.state view.old) known.old
+        → IfOk result (λ found. found ≡ node_if (V.state view.old) lot)
+        × AreKnown (V.state view.old) known.new) }
 {
     let Some(lot) = lot else {
         return Ok(None);
     };
-    lot_node(view, lot)
+    lot_node(alloc, view, known, &lot)
 }
 
 // A lot that is there, with the unit of its definition.
-fn lot_node<V: View>(view: &mut V, lot: Lot) -> Result<Option<NodeAnswer>, ViewFault<V::Fault>>
+fn lot_node<V: Worklists>(
+    alloc: Global,
+    view: &mut V,
+    known: &mut KnownLots,
+    lot: &Lot,
+) -> Result<Option<NodeAnswer>, ViewFault<V::Fault>>
     ensures { Told V.honest V.kept V.steady view.old view.new
-        (IsSound (V.state view.old) → IfOk result (λ found. found
-        ≡ option_map (λ d. node.Lot (lot_node (V.state view.old) lot d))
-        (definition_at (V.state view.old) lot.def))) }
+        (IsSound (V.state view.old) → AreKnown (V.state view.old) known.old
+        → IfOk result (λ found. found ≡ option_map (λ d. node.Lot (lot_node (V.state view.old) lot.now d))
+        (definition_at (V.state view.old) lot.now.def))
+        × AreKnown (V.state view.old) known.new) }
 {
-    let definition = look::definition(view, lot.def)?;
+    let definition = known_definition(view, known, lot.def)?;
     let recalled = look::is_blocked(view, lot.id)?;
-    let known = found_lot(view, lot)?;
-    Ok(node_of_lot(definition, recalled, &known))
+    let told = known_lot(alloc, view, known, lot)?;
+    Ok(node_of_lot(definition, recalled, &told))
 }
 
 // The node by what was found.

@@ -4,8 +4,9 @@ ghost use Rattle.plant_base.specs.State.{State, class_at, lot_at};
 ghost use Rattle.plant_trace.specs.Sources.{Told};
 ghost use Rattle.plant_view.specs.Sound.{IsSound};
 ghost use Rattle.plant_worklists.specs.Pages.{page_of};
-ghost use Rattle.plant_worklists.specs.Worklists.{orders_in, holds_on, open_recalls, definitions_in};
-ghost use Rattle.plant_desk.specs.Worklists.{answer_list, answer_holds, answer_definitions};
+ghost use Rattle.plant_worklists.specs.Worklists.{orders_in, holds_on, open_recalls, definitions_in, ledger_of};
+ghost use Rattle.plant_desk.specs.Worklists.{answer_list, answer_holds, answer_definitions, answer_recipes, answer_ledger};
+ghost use Rattle.plant_worklists.specs.declared.place.MovementPlace.{MovementPlace};
 ghost use Rattle.plant_desk.specs.declared.listed.Listed.TheVariants as listed;
 ghost use Rattle.plant_desk.specs.declared.question.Answer.TheVariants as A;
 
@@ -13,9 +14,9 @@ use crate::listed::Listed;
 use crate::open_batches::batches_answer;
 use crate::question::Answer;
 use crate::stocked_lots::lots_answer;
-use plant_base::{Class, Definition, Hold, Id, JobState, Lot, Refusal};
+use plant_base::{Class, Definition, Hold, Id, JobState, Lot, Movement, RecipeState, Refusal};
 use plant_view::{ViewFault, look};
-use plant_worklists::{Page, Worklist, Worklists, pages};
+use plant_worklists::{MovementPlace, Page, RecipePlace, Worklist, Worklists, pages};
 use std::alloc::Global;
 
 /// A page of a worklist: what comes after an id, or its front where none is given.
@@ -111,5 +112,44 @@ fn answer_of_definitions(known: Option<Class>, page: Page<Definition>) -> Answer
     match known {
         None => Answer::Unknown(Refusal::UnknownClass),
         Some(_) => Answer::List(Listed::Definitions(page)),
+    }
+}
+
+/// A page of the versions of recipes in a state.
+pub(crate) fn recipes_answer<V: Worklists>(
+    view: &mut V,
+    state: RecipeState,
+    above: Option<RecipePlace>,
+) -> Result<Answer, ViewFault<V::Fault>>
+    ensures { Told V.honest V.kept V.steady view.old view.new
+        (IfOk result (λ a. a ≡ answer_recipes (V.state view.old) state above)) }
+{
+    let page = pages::recipes_in(view, state, above)?;
+    Ok(Answer::List(Listed::Recipes(page)))
+}
+
+/// A page of the ledger of a lot.
+pub(crate) fn ledger_answer<V: Worklists>(
+    view: &mut V,
+    lot: Id,
+    above: Option<MovementPlace>,
+) -> Result<Answer, ViewFault<V::Fault>>
+    ensures { Told V.honest V.kept V.steady view.old view.new
+        (IfOk result (λ a. a ≡ answer_ledger (V.state view.old) lot above
+        (lot_at (V.state view.old) lot))) }
+{
+    let known = look::lot(view, lot)?;
+    let page = pages::ledger_of(view, lot, above)?;
+    Ok(answer_of_ledger(known, page))
+}
+
+// The answer by what was found.
+fn answer_of_ledger(known: Option<Lot>, page: Page<Movement>) -> Answer
+    ensures { (s : State) (lot : List ℕ) (above : Option MovementPlace) → page ≡ page_of (ledger_of s lot above)
+        → result ≡ answer_ledger s lot above known }
+{
+    match known {
+        None => Answer::Unknown(Refusal::UnknownLot),
+        Some(_) => Answer::List(Listed::Ledger(page)),
     }
 }

@@ -1,7 +1,7 @@
 //! What is answered of worklists.
 
 use crate::question::LotAnswer;
-use plant_base::{BatchRow, Definition, Hold, Id, Items, Job, Recall};
+use plant_base::{BatchRow, Definition, Hold, Id, Items, Job, Movement, Recall, Recipe};
 use plant_worklists::Page;
 
 /// A page of a worklist.
@@ -19,6 +19,10 @@ pub enum Listed {
     Recalls(Page<Recall>),
     /// Definitions of a class.
     Definitions(Page<Definition>),
+    /// Versions of recipes, all in the state that was asked for.
+    Recipes(Page<Recipe>),
+    /// The ledger of a lot.
+    Ledger(Page<Movement>),
 }
 
 /// A batch that isn't closed, and what is next in it (job response of IEC 62264-4).

@@ -1,16 +1,22 @@
-// Pages of the lists: what comes after an id, by the order in which the rows stand; and the movements of a lot.
-ghost use Rattle.std.specs.Prelude.{◌≡◌, filter, map, IfOk};
+// Pages of the lists: what comes after a place, by the order in which the rows stand; the movements of a lot; and pages of what lots have.
+ghost use Rattle.std.specs.Prelude.{◌≡◌, ◌+◌, filter, map, take, IfOk};
 ghost use Rattle.plant_view.specs.Tables.{batch_row};
-ghost use Rattle.plant_worklists.specs.Worklists.{is_order_in, is_open_batch, is_lot_of, is_hold_on, is_open_recall, is_definition_in};
+ghost use Rattle.plant_view.specs.Views.{is_named};
+ghost use Rattle.plant_worklists.specs.Pages.{page_size};
+ghost use Rattle.plant_worklists.specs.Worklists.{is_above, is_order_in, is_open_batch, is_lot_of, is_hold_on, is_open_recall, is_definition_in};
+ghost use Rattle.plant_worklists.specs.Worklists.{is_recipe_in, is_in_ledger, lot_made};
 
 use crate::batches::batch_row;
-use crate::lots::lot_movements;
+use crate::lots::{lot_movements, stocked};
 use crate::view::ListsView;
 use plant_base::{
     Batch, BatchEvent, BatchRow, ControlLine, Definition, Hold, Id, Job, JobState, Lot, Movement,
-    Recall,
+    MovementKind, Place, Recall, Recipe, RecipeState, Sublot,
 };
-use plant_worklists::{Page, Worklists, first_page, is_above};
+use plant_worklists::{
+    MovementPlace, PAGE_SIZE, Page, RecipePlace, Worklists, first_page, is_above,
+    is_movement_above, is_recipe_above,
+};
 use std::alloc::{AllocError, Global};
 
 impl<'a> Worklists for ListsView<'a> {
@@ -55,8 +61,43 @@ impl<'a> Worklists for ListsView<'a> {
         Ok(first_page(rows))
     }
 
+    fn recipes_in(
+        &mut self,
+        state: RecipeState,
+        above: Option<RecipePlace>,
+    ) -> Result<Page<Recipe>, AllocError> {
+        let rows = recipes_among(self.lists.alloc, &self.lists.recipes, state, above)?;
+        Ok(first_page(rows))
+    }
+
+    fn ledger_of(
+        &mut self,
+        lot: Id,
+        above: Option<MovementPlace>,
+    ) -> Result<Page<Movement>, AllocError> {
+        let rows = ledger_among(self.lists.alloc, &self.lists.movements, lot, above)?;
+        Ok(first_page(rows))
+    }
+
     fn lot_movements(&mut self, lot: Id) -> Result<Vec<Movement>, AllocError> {
         lot_movements(self.lists.alloc, &self.lists.movements, lot)
+    }
+
+    fn lots_after(&mut self, above: Option<Id>) -> Result<Page<Lot>, AllocError> {
+        let rows = lots_beyond(self.lists.alloc, &self.lists.lots, above)?;
+        Ok(first_page(rows))
+    }
+
+    fn sublots_after(&mut self, above: Option<Id>) -> Result<Page<Sublot>, AllocError> {
+        let lists = self.lists;
+        let places = places_beyond(lists.alloc, &lists.places, above)?;
+        let rows = stocked(lists.alloc, places.as_slice(), &lists.movements)?;
+        Ok(first_page(rows))
+    }
+
+    fn holds_after(&mut self, above: Option<Id>) -> Result<Page<Hold>, AllocError> {
+        let rows = holds_beyond(self.lists.alloc, &self.lists.holds, above)?;
+        Ok(first_page(rows))
     }
 }
 
@@ -96,6 +137,28 @@ fn is_definition_in(definition: &Definition, class: Id, above: &Option<Id>) -> b
     ensures { result ≡ is_definition_in class above.now definition.now }
 {
     definition.class == class && is_above(&definition.id, above)
+}
+
+fn is_recipe_in(row: &Recipe, state: RecipeState, above: &Option<RecipePlace>) -> bool
+    ensures { result ≡ is_recipe_in state above.now row.now }
+{
+    row.state.name() == state.name() && is_recipe_above(row, above)
+}
+
+// Whether a split or a part of a merge makes this lot.
+fn makes_lot(kind: MovementKind, lot: Id) -> bool
+    ensures { result ≡ is_named lot (lot_made kind) }
+{
+    match kind {
+        MovementKind::Split { to } | MovementKind::Merged { to } => to == lot,
+        _ => false,
+    }
+}
+
+fn is_in_ledger(row: &Movement, lot: Id, above: &Option<MovementPlace>) -> bool
+    ensures { result ≡ is_in_ledger lot above.now row.now }
+{
+    (row.lot == lot || makes_lot(row.kind, lot)) && is_movement_above(row, above)
 }
 
 // ---- all of them, in their order
@@ -186,5 +249,73 @@ fn definitions_among(
         .iter()
         .copied()
         .filter(|definition| is_definition_in(definition, class, &above))
+        .collect(alloc)
+}
+
+// ---- what is of the lots that come after one
+
+fn lots_beyond(alloc: Global, lots: &[Lot], above: Option<Id>) -> Result<Vec<Lot>, AllocError>
+    ensures { IfOk result (λ v. v.items ≡ filter (λ l. is_above above l.id) lots.now) }
+{
+    lots.iter()
+        .copied()
+        .filter(|lot| is_above(&lot.id, &above))
+        .collect(alloc)
+}
+
+// As many as a page has and one more: the stock of each is counted by all movements.
+fn places_beyond(
+    alloc: Global,
+    places: &[Place],
+    above: Option<Id>,
+) -> Result<Vec<Place>, AllocError>
+    ensures { IfOk result
+        (λ v. v.items ≡ take (page_size + 1) (filter (λ p. is_above above p.lot) places.now)) }
+{
+    places
+        .iter()
+        .copied()
+        .filter(|place| is_above(&place.lot, &above))
+        .take(usize::from(PAGE_SIZE) + 1)
+        .collect(alloc)
+}
+
+fn holds_beyond(alloc: Global, holds: &[Hold], above: Option<Id>) -> Result<Vec<Hold>, AllocError>
+    ensures { IfOk result (λ v. v.items ≡ filter (λ h. is_above above h.lot) holds.now) }
+{
+    holds
+        .iter()
+        .copied()
+        .filter(|hold| is_above(&hold.lot, &above))
+        .collect(alloc)
+}
+
+fn recipes_among(
+    alloc: Global,
+    recipes: &[Recipe],
+    state: RecipeState,
+    above: Option<RecipePlace>,
+) -> Result<Vec<Recipe>, AllocError>
+    ensures { IfOk result (λ v. v.items ≡ filter (is_recipe_in state above) recipes.now) }
+{
+    recipes
+        .iter()
+        .copied()
+        .filter(|row| is_recipe_in(row, state, &above))
+        .collect(alloc)
+}
+
+fn ledger_among(
+    alloc: Global,
+    movements: &[Movement],
+    lot: Id,
+    above: Option<MovementPlace>,
+) -> Result<Vec<Movement>, AllocError>
+    ensures { IfOk result (λ v. v.items ≡ filter (is_in_ledger lot above) movements.now) }
+{
+    movements
+        .iter()
+        .copied()
+        .filter(|row| is_in_ledger(row, lot, &above))
         .collect(alloc)
 }

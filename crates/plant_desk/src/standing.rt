@@ -4,21 +4,23 @@ ghost use Rattle.std.specs.List.{filter_map};
 ghost use Rattle.plant_trace.specs.Sources.{Told};
 ghost use Rattle.plant_view.specs.Sound.{IsSound};
 ghost use Rattle.plant_desk.specs.Around.{answer_stands, lots_standing, stocked_at, stocked_if};
+ghost use Rattle.plant_desk.specs.KnownLots.{AreKnown};
 ghost use Rattle.plant_desk.specs.Traces.{missing};
 
 use crate::around::nodes_around;
 use crate::bookings::push_found;
-use crate::lot_answers::found_lot;
+use crate::known_lots::{KnownLots, known_lot, known_row};
 use crate::question::{Answer, LotAnswer};
 use crate::stocked_lots::if_stocked;
 use crate::traces::missing;
 use plant_base::{Items, Lot};
 use plant_trace::{Direction, Node};
-use plant_view::{View, ViewFault, look};
+use plant_view::ViewFault;
+use plant_worklists::Worklists;
 use std::alloc::Global;
 
 /// The lots that have stock, of a lot or batch and all that it leads to.
-pub(crate) fn stands_answer<V: View>(
+pub(crate) fn stands_answer<V: Worklists>(
     alloc: Global,
     view: &mut V,
     start: Node,
@@ -33,7 +35,7 @@ pub(crate) fn stands_answer<V: View>(
     Ok(Answer::Stands(Items::new(lots_standing(alloc, view, start)?)))
 }
 
-fn lots_standing<V: View>(
+fn lots_standing<V: Worklists>(
     alloc: Global,
     view: &mut V,
     start: Node,
@@ -47,7 +49,7 @@ fn lots_standing<V: View>(
 }
 
 // What is known of those of the nodes that are lots with stock.
-fn stocked_among<V: View>(
+fn stocked_among<V: Worklists>(
     alloc: Global,
     view: &mut V,
     nodes: &[Node],
@@ -56,9 +58,10 @@ fn stocked_among<V: View>(
         (IsSound (V.state view.old)
         → IfOk result (λ v. v.items ≡ filter_map (stocked_at (V.state view.old)) nodes.now)) }
 {
+    let mut known = KnownLots::new(alloc);
     let mut rows = Vec::new(alloc);
     for node in nodes {
-        let found = stocked_at(view, *node)?;
+        let found = stocked_at(alloc, view, &mut known, *node)?;
         if push_found(&mut rows, found).is_err() {
             return Err(ViewFault::Memory);
         }
@@ -66,31 +69,40 @@ fn stocked_among<V: View>(
     Ok(rows)
 }
 
-fn stocked_at<V: View>(view: &mut V, node: Node) -> Result<Option<LotAnswer>, ViewFault<V::Fault>>
+fn stocked_at<V: Worklists>(
+    alloc: Global,
+    view: &mut V,
+    known: &mut KnownLots,
+    node: Node,
+) -> Result<Option<LotAnswer>, ViewFault<V::Fault>>
     ensures { Told V.honest V.kept V.steady view.old view.new
-        (IsSound (V.state view.old)
-        → IfOk result (λ found. found ≡ stocked_at (V.state view.old) node)) }
+        (IsSound (V.state view.old) → AreKnown (V.state view.old) known.old
+        → IfOk result (λ found. found ≡ stocked_at (V.state view.old) node)
+        × AreKnown (V.state view.old) known.new) }
 {
     match node {
         Node::Lot(id) => {
-            let lot = look::lot(view, id)?;
-            stocked_if(view, lot)
+            let lot = known_row(view, known, &id)?;
+            stocked_if(alloc, view, known, lot)
         }
         Node::Batch(_) => Ok(None),
     }
 }
 
-fn stocked_if<V: View>(
+fn stocked_if<V: Worklists>(
+    alloc: Global,
     view: &mut V,
+    known: &mut KnownLots,
     lot: Option<Lot>,
 ) -> Result<Option<LotAnswer>, ViewFault<V::Fault>>
     ensures { Told V.honest V.kept V.steady view.old view.new
-        (IsSound (V.state view.old)
-        → IfOk result (λ found. found ≡ stocked_if (V.state view.old) lot)) }
+        (IsSound (V.state view.old) → AreKnown (V.state view.old) known.old
+        → IfOk result (λ found. found ≡ stocked_if (V.state view.old) lot)
+        × AreKnown (V.state view.old) known.new) }
 {
     let Some(lot) = lot else {
         return Ok(None);
     };
-    let found = found_lot(view, lot)?;
+    let found = known_lot(alloc, view, known, &lot)?;
     Ok(if_stocked(found))
 }

@@ -9,11 +9,11 @@ ghost use Rattle.plant_worklists.specs.Worklists.{lots_of};
 ghost use Rattle.plant_desk.specs.Worklists.{answer_lots, lot_page, if_stocked, stocked_lot};
 
 use crate::bookings::push_found;
+use crate::known_lots::{KnownLots, known_lot};
 use crate::listed::{Listed, LotPage};
-use crate::lot_answers::found_lot;
 use crate::question::{Answer, LotAnswer};
 use plant_base::{Definition, Id, Items, Lot, Refusal};
-use plant_view::{View, ViewFault, look};
+use plant_view::{ViewFault, look};
 use plant_worklists::{Worklists, pages};
 use std::alloc::Global;
 
@@ -73,7 +73,7 @@ fn answer_of_lots(known: Option<Definition>, page: LotPage) -> Answer
 }
 
 // What is known of those of the lots that have stock.
-fn stocked_lots<V: View>(
+fn stocked_lots<V: Worklists>(
     alloc: Global,
     view: &mut V,
     lots: &[Lot],
@@ -82,9 +82,10 @@ fn stocked_lots<V: View>(
         (IsSound (V.state view.old)
         → IfOk result (λ v. v.items ≡ filter_map (stocked_lot (V.state view.old)) lots.now)) }
 {
+    let mut known = KnownLots::new(alloc);
     let mut rows = Vec::new(alloc);
     for lot in lots {
-        let found = found_lot(view, *lot)?;
+        let found = known_lot(alloc, view, &mut known, lot)?;
         if push_found(&mut rows, if_stocked(found)).is_err() {
             return Err(ViewFault::Memory);
         }

@@ -87,6 +87,8 @@ target_step target.Commands method length fs = posted_step content.Command metho
 target_step target.Orders method length fs = posted_step (content.Orders (heading_in fs)) method length
 target_step (target.Named k id) method length fs = asked_step (question_of k id) (form_of k) method
 target_step (target.List list above) method length fs = asked_step (Q.List list above) Json method
+target_step (target.Recipes state above) method length fs = asked_step (Q.Recipes state above) Json method
+target_step (target.Ledger lot above) method length fs = asked_step (Q.Ledger lot above) Json method
 
 abbrev pub routed_step : Option Target → List ℕ → Option ℕ → Fields → HeadStep
 routed_step None method length fs = fails NotFound (is_head method)

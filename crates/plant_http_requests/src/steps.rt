@@ -132,7 +132,11 @@ fn target_step(
         Target::Commands => posted_step(Content::Command, method, size),
         Target::Orders => posted_step(Content::Orders(heading_in(head, fields)), method, size),
         Target::Named(kind, id) => asked_step(question_of(kind, id), form_of(kind), method),
-        Target::List(list, above) => { asked_step(Question::List(list, above), Form::Json, method) }
+        Target::List(list, above) => asked_step(Question::List(list, above), Form::Json, method),
+        Target::Recipes(state, above) => {
+            asked_step(Question::Recipes(state, above), Form::Json, method)
+        }
+        Target::Ledger(lot, above) => asked_step(Question::Ledger(lot, above), Form::Json, method),
     }
 }
 

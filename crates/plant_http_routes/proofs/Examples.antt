@@ -2,7 +2,9 @@
 use Rattle.std.proofs.Common.{◌≡◌, Some, None, codes, refl}
 use Rattle.matchit.proofs.OnLiterals.{matchit_on_literals}
 use Rattle.plant_http_routes.specs.Routes.{target_of, found_in}
+use Rattle.plant_base.specs.Digits.{digits_of}
 use Rattle.plant_base.specs.declared.states.JobState.TheVariants.{Open}
+use Rattle.plant_base.specs.declared.states.RecipeState.TheVariants.{Approved}
 use Rattle.plant_worklists.specs.declared.list.Worklist.TheVariants as list
 use Rattle.plant_http_routes.specs.declared.routes.Kind.TheVariants as kind
 use Rattle.plant_http_routes.specs.declared.routes.Target.TheVariants as target
@@ -34,3 +36,15 @@ further_lots = refl
 pub no_such_state : target_of (codes "/v1/lists/orders/late") ≡ None
 unfolding matchit_on_literals found_in
 no_such_state = refl
+
+pub further_recipes : target_of (codes "/v1/lists/recipes/approved/CAKE.2") ≡ Some (target.Recipes Approved (Some (record { recipe = codes "CAKE"; version = 2 })))
+unfolding matchit_on_literals found_in digits_of
+further_recipes = refl
+
+pub further_movements : target_of (codes "/v1/lists/movements/F-1/12.1") ≡ Some (target.Ledger (codes "F-1") (Some (record { seq = 12; line = 1 })))
+unfolding matchit_on_literals found_in digits_of
+further_movements = refl
+
+pub no_version : target_of (codes "/v1/lists/recipes/approved/CAKE") ≡ None
+unfolding matchit_on_literals found_in digits_of
+no_version = refl

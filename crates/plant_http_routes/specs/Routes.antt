@@ -8,11 +8,14 @@ use Rattle.matchit.specs.Order.{placed}
 use Rattle.matchit.specs.Params.{walk}
 use Rattle.matchit.specs.Seek.{first}
 use Rattle.plant_base.specs.Values.{is_id, only}
-use Rattle.plant_shapes.specs.Words.{order_state}
+use Rattle.plant_shapes.specs.Words.{order_state, recipe_state}
 use Rattle.plant_shapes.specs.declared.words.ListKind.{ListKind}
 use Rattle.plant_shapes.specs.declared.words.ListKind.TheVariants as k
 use Rattle.plant_worklists.specs.declared.list.Worklist.{Worklist}
 use Rattle.plant_worklists.specs.declared.list.Worklist.TheVariants as list
+use Rattle.plant_worklists.specs.declared.place.MovementPlace.{MovementPlace}
+use Rattle.plant_worklists.specs.declared.place.RecipePlace.{RecipePlace}
+use Rattle.plant_worklists.specs.Places.{recipe_place, movement_place}
 use Rattle.plant_http_routes.specs.declared.routes.Kind.{Kind}
 use Rattle.plant_http_routes.specs.declared.routes.Kind.TheVariants as kind
 use Rattle.plant_http_routes.specs.declared.routes.Route.{Route}
@@ -97,14 +100,20 @@ list_routes rows =
     (whole_routes (codes "/v1/lists/batches") k.Batches
     (routes_of (codes "/v1/lists/orders/") (codes "state") k.Orders rows)))))
 
+-- the routes of lists whose places have two values
+abbrev pub placed_routes : RowsOf (RouteOf Route) → RowsOf (RouteOf Route)
+placed_routes rows =
+    routes_of (codes "/v1/lists/movements/") (codes "lot") k.Movements
+    (routes_of (codes "/v1/lists/recipes/") (codes "state") k.Recipes rows)
+
 -- all routes
 abbrev pub the_routes : RowsOf (RouteOf Route)
 the_routes =
-    list_routes (around_routes (adds (plain (codes "/v1/moment") route.Moment)
+    placed_routes (list_routes (around_routes (adds (plain (codes "/v1/moment") route.Moment)
     (batch_routes (lot_routes (order_routes
     (adds (plain (codes "/v1/orders") route.Orders)
     (adds (plain (codes "/v1/commands") route.Commands)
-    (adds (plain (codes "/v1/desk") route.Desk) []))))))))
+    (adds (plain (codes "/v1/desk") route.Desk) [])))))))))
 
 -- what stands in the place of the first parameter
 abbrev pub first_part : List (List ℕ × List ℕ) → Option (List ℕ)
@@ -129,11 +138,31 @@ list_named k.Lots part = option_map list.Lots (only is_id part)
 list_named k.Holds part = option_map list.Holds (only is_id part)
 list_named k.Recalls part = None
 list_named k.Definitions part = option_map list.Definitions (only is_id part)
+list_named k.Recipes part = None
+list_named k.Movements part = None
 
 -- a page of a list, from a place that is named or from its front
 abbrev pub page_at : Option Worklist → Option (List ℕ) → Option Target
 page_at None above = None
 page_at (Some w) above = option_map (target.List w) (place_at above)
+
+-- the place in a list of recipes that a page goes on from, none where none is given
+abbrev pub recipe_place_at : Option (List ℕ) → Option (Option RecipePlace)
+recipe_place_at None = Some None
+recipe_place_at (Some part) = option_map Some (recipe_place part)
+
+-- and in a ledger
+abbrev pub movement_place_at : Option (List ℕ) → Option (Option MovementPlace)
+movement_place_at None = Some None
+movement_place_at (Some part) = option_map Some (movement_place part)
+
+-- a page of the recipes in a state that is named
+abbrev pub recipes_at : List ℕ → Option (List ℕ) → Option Target
+recipes_at state above = option_and_then (λ s. option_map (target.Recipes s) (recipe_place_at above)) (recipe_state state)
+
+-- a page of the ledger of a lot that is named
+abbrev pub ledger_at : List ℕ → Option (List ℕ) → Option Target
+ledger_at lot above = option_and_then (λ id. option_map (target.Ledger id) (movement_place_at above)) (only is_id lot)
 
 -- the page that the parts of a path name: what the list is of, where it is of something, and the place to go on from
 abbrev pub listed_at : ListKind → Option (List ℕ) → Option (List ℕ) → Option Target
@@ -143,6 +172,8 @@ listed_at k.Lots first second = page_at (option_and_then (list_named k.Lots) fir
 listed_at k.Holds first second = page_at (option_and_then (list_named k.Holds) first) second
 listed_at k.Recalls first second = page_at (Some list.OpenRecalls) first
 listed_at k.Definitions first second = page_at (option_and_then (list_named k.Definitions) first) second
+listed_at k.Recipes first second = option_and_then (λ state. recipes_at state second) first
+listed_at k.Movements first second = option_and_then (λ lot. ledger_at lot second) first
 
 -- what a route makes of the parts of a path in the place of its parameters
 abbrev pub target_with : Route → List (List ℕ × List ℕ) → Option Target

@@ -3,13 +3,14 @@ ghost use Rattle.std.specs.Prelude.{◌≡◌, option_copied};
 ghost use Rattle.std.specs.Str.{IsAscii};
 ghost use Rattle.matchit.specs.Params.{walk};
 ghost use Rattle.plant_http_routes.specs.Routes.{first_part, second_part, place_at, list_named, page_at, listed_at};
+ghost use Rattle.plant_http_routes.specs.Routes.{recipe_place_at, movement_place_at, recipes_at, ledger_at};
 
 use crate::path::{first_in, read_id, second_in};
 use crate::routes::Target;
 use matchit::Params;
 use plant_base::Id;
-use plant_shapes::{ListKind, order_state};
-use plant_worklists::Worklist;
+use plant_shapes::{ListKind, order_state, recipe_state};
+use plant_worklists::{MovementPlace, RecipePlace, Worklist};
 
 /// The place that a page goes on from, nothing where none is given.
 fn place_at(part: Option<&str>) -> Option<Option<Id>>
@@ -33,7 +34,7 @@ fn list_named(kind: ListKind, part: &str) -> Option<Worklist>
         ListKind::Lots => Some(Worklist::Lots(read_id(part.as_bytes())?)),
         ListKind::Holds => Some(Worklist::Holds(read_id(part.as_bytes())?)),
         ListKind::Definitions => Some(Worklist::Definitions(read_id(part.as_bytes())?)),
-        ListKind::Batches | ListKind::Recalls => None,
+        ListKind::Batches | ListKind::Recalls | ListKind::Recipes | ListKind::Movements => None,
     }
 }
 
@@ -42,6 +43,48 @@ fn page_at(list: Option<Worklist>, above: Option<&str>) -> Option<Target>
     ensures { result ≡ page_at list (option_copied above.entry) }
 {
     Some(Target::List(list?, place_at(above)?))
+}
+
+/// The place in a list of recipes that a page goes on from, nothing where none is given.
+fn recipe_place_at(part: Option<&str>) -> Option<Option<RecipePlace>>
+    ensures { result ≡ recipe_place_at (option_copied part.entry) }
+{
+    match part {
+        None => Some(None),
+        Some(part) => match RecipePlace::read(part) {
+            Some(place) => Some(Some(place)),
+            None => None,
+        },
+    }
+}
+
+/// The place in a ledger that a page goes on from, nothing where none is given.
+fn movement_place_at(part: Option<&str>) -> Option<Option<MovementPlace>>
+    ensures { result ≡ movement_place_at (option_copied part.entry) }
+{
+    match part {
+        None => Some(None),
+        Some(part) => match MovementPlace::read(part) {
+            Some(place) => Some(Some(place)),
+            None => None,
+        },
+    }
+}
+
+/// A page of the recipes in a state that is named, from a place that is named or from the front.
+fn recipes_at(state: &str, above: Option<&str>) -> Option<Target>
+    ensures { result ≡ recipes_at state.now (option_copied above.entry) }
+{
+    let state = recipe_state(state)?;
+    Some(Target::Recipes(state, recipe_place_at(above)?))
+}
+
+/// A page of the ledger of a lot that is named, from a place that is named or from its front.
+fn ledger_at(lot: &str, above: Option<&str>) -> Option<Target>
+    ensures { result ≡ ledger_at lot.now (option_copied above.entry) }
+{
+    let lot = read_id(lot.as_bytes())?;
+    Some(Target::Ledger(lot, movement_place_at(above)?))
 }
 
 /// The page that the parts of a path name, in the place of the route's parameters.
@@ -54,6 +97,8 @@ fn listed_at(kind: ListKind, first: Option<&str>, second: Option<&str>) -> Optio
         ListKind::Orders | ListKind::Lots | ListKind::Holds | ListKind::Definitions => {
             page_at(list_named(kind, first?), second)
         }
+        ListKind::Recipes => recipes_at(first?, second),
+        ListKind::Movements => ledger_at(first?, second),
     }
 }
 

@@ -2,14 +2,14 @@
 ghost use Rattle.std.specs.Prelude.{◌≡◌, IfOk, OnOk, option_and_then};
 ghost use Rattle.std.specs.Str.{IsAscii};
 ghost use Rattle.matchit.specs.Seek.{first};
-ghost use Rattle.plant_http_routes.specs.Routes.{the_routes, around_routes, list_routes, target_by, found_in, target_of};
+ghost use Rattle.plant_http_routes.specs.Routes.{the_routes, around_routes, list_routes, placed_routes, target_by, found_in, target_of};
 
 use crate::lists::list_at;
 use crate::path::{ascii_text, id_in};
 use matchit::{InsertError, Router};
-use plant_base::Id;
+use plant_base::{Id, RecipeState};
 use plant_shapes::ListKind;
-use plant_worklists::Worklist;
+use plant_worklists::{MovementPlace, RecipePlace, Worklist};
 use std::alloc::Global;
 use std::marker::Model;
 use thiserror::Error;
@@ -74,6 +74,10 @@ pub enum Target {
     /// A page of a list: of what comes after this id, or of its front where none is given. The path is `/v1/lists/`, the word of the question
     /// for the list, what it is of where it is of something, and the id where one is given, each behind a `/`.
     List(Worklist, Option<Id>),
+    /// A page of the versions of recipes in a state, `/v1/lists/recipes/{state}`, and behind it `/` and a place where one is given.
+    Recipes(RecipeState, Option<RecipePlace>),
+    /// A page of the ledger of a lot, `/v1/lists/movements/{lot}`, and behind it `/` and a place where one is given.
+    Ledger(Id, Option<MovementPlace>),
 }
 
 /// Memory was refused for the routes.
@@ -124,6 +128,7 @@ fn desk_router(alloc: Global) -> Result<Router<Route>, InsertError>
     router.insert("/v1/moment", Route::Moment)?;
     add_around(&mut router)?;
     add_lists(&mut router)?;
+    add_placed(&mut router)?;
     Ok(router)
 }
 
@@ -168,6 +173,19 @@ fn add_lists(router: &mut Router<Route>) -> Result<(), InsertError>
     router.insert("/v1/lists/recalls/{above}", recalls)?;
     router.insert("/v1/lists/definitions/{class}", definitions)?;
     router.insert("/v1/lists/definitions/{class}/{above}", definitions)?;
+    Ok(())
+}
+
+/// Adds the routes of lists whose places have two values.
+fn add_placed(router: &mut Router<Route>) -> Result<(), InsertError>
+    ensures { OnOk result (router.new ≡ placed_routes router.old) }
+{
+    let recipes = Route::List(ListKind::Recipes);
+    let movements = Route::List(ListKind::Movements);
+    router.insert("/v1/lists/recipes/{state}", recipes)?;
+    router.insert("/v1/lists/recipes/{state}/{above}", recipes)?;
+    router.insert("/v1/lists/movements/{lot}", movements)?;
+    router.insert("/v1/lists/movements/{lot}/{above}", movements)?;
     Ok(())
 }
 

@@ -59,30 +59,15 @@ use Rattle.plant_tables_judged.proofs.KeyLemmas.{by_text, by_number, by_text_num
 use Rattle.plant_tables_judged.proofs.SortedLemmas.{same_sorted, strictly_sorted, sorted_keys}
 use Rattle.plant_tables_judged.proofs.TableLemmas.{map_same, all_again}
 use Rattle.plant_good_passes.proofs.Values.{in_order, good_values, newest_known}
+use Rattle.plant_worklists.proofs.Found.{first_is, of_mapped}
 use Rattle.plant_keyed.specs.Finding.{AreFound, IsFirstFound}
 use Rattle.plant_keyed.proofs.Shown.{movement_again, recall_again}
 use Rattle.plant_keyed.proofs.Tests.{one_text, text_number, number_text, two_texts}
 
 -- ---- lists
 
--- the first of the rows that pass
-first_passing : {R : Type 0} (p : R → Bool) (rs : List R) → slice_get (filter p rs) 0 ≡ find p rs
-first_passing p [] = refl
-first_passing p (r ∷ rs) = elim (p r) as (λ b. slice_get (cond b (r ∷ filter p rs) (filter p rs)) 0 ≡ cond b (Some r) (find p rs)) [
-  | true ↦ refl
-  | false ↦ first_passing p rs
-]
-
+-- of what is made of each, the first that passes is made of the first that does
 module _ {X Y : Type 0} (f : X → Y) (p : Y → Bool) (q : X → Bool) (tests : (x : X) → p (f x) ≡ q x) where
-  pub filter_mapped : (xs : List X) → filter p (map f xs) ≡ map f (filter q xs)
-  filter_mapped [] = refl
-  filter_mapped (x ∷ xs) =
-      ap (λ b. cond b (f x ∷ filter p (map f xs)) (filter p (map f xs))) (tests x)
-      ∙ elim (q x) as (λ b. cond b (f x ∷ filter p (map f xs)) (filter p (map f xs)) ≡ map f (cond b (x ∷ filter q xs) (filter q xs))) [
-        | true ↦ ap (λ l. f x ∷ l) (filter_mapped xs)
-        | false ↦ filter_mapped xs
-      ]
-
   found_mapped : (xs : List X) → find p (map f xs) ≡ option_map f (find q xs)
   found_mapped [] = refl
   found_mapped (x ∷ xs) =
@@ -110,7 +95,7 @@ module _ {R : Type 0} (row_from : Row → Option R) (written : R → Row) (P : R
       let test = has_values places values in
       let there : IsPermutation found.stored (filter test here) = subst (λ tree. IsPermutation found.stored (filter test (map (columns_of form) (db.trees tree)))) (one_tree db.schema form found.finds.at found.finds.tree stands.at stands.tree found.finds.declared stands.declared) found.finds.same in
       let back : IsPermutation (filter test here) (filter test (map written rs)) = IsPermutation-filter test here (map written rs) (IsPermutation-sym (map written rs) here stands.same) in
-      let moved : IsPermutation found.stored (map written (filter p rs)) = subst (IsPermutation found.stored) (filter_mapped written test p tests rs) (IsPermutation-trans found.stored (filter test here) (filter test (map written rs)) there back) in
+      let moved : IsPermutation found.stored (map written (filter p rs)) = subst (IsPermutation found.stored) (of_mapped written test p tests rs) (IsPermutation-trans found.stored (filter test here) (filter test (map written rs)) there back) in
       let rising : IsStrictlySortedBy key found.stored = subst (IsStrictlySortedBy key) (map_same found.stored) (strictly_sorted (λ row. row) (comes_before form) key total (λ a b. refl) found.stored found.rising) in
       let one : found.stored ≡ map written (filter p rs) = same_sorted key total found.stored (map written (filter p rs)) rising (sorted_keys written order key by_key (filter p rs) (IsStrictlySortedBy-filter order p rs sorted)) moved in
       let told : all_from row_from found.stored ≡ Some (map (λ r. r) (filter p rs)) = ap (all_from row_from) one ∙ all_again row_from written (λ r. r) P again (filter p rs) (all_filter P p rs all) in
@@ -118,7 +103,7 @@ module _ {R : Type 0} (row_from : Row → Option R) (written : R → Row) (P : R
 
   -- and the first of them is the first that has the values
   first_again : (row : Option R) → IsFirstFound db form row_from places values row → row ≡ find p rs
-  first_again row is = is.first ∙ ap (λ rows. slice_get rows 0) (found_again is.rows is.found) ∙ first_passing p rs
+  first_again row is = is.first ∙ ap (λ rows. slice_get rows 0) (found_again is.rows is.found) ∙ first_is p rs
 
 -- ---- the tables of a good state
 
@@ -176,7 +161,7 @@ module _ (db : Database) (s : State) (good : IsGood s) (holds : HoldsTables db (
   pub sublots_are : (lot : List ℕ) (rows : List Sublot) → AreFound db sublot_form sublot_from (1 ∷ []) (Text lot ∷ []) rows → rows ≡ sublots_of s lot
   sublots_are lot rows found =
       found_again sublot_from row_of_sublot HasSublotValues (λ r h. sublot_reads.again r h tt) sublot_form sublot_order (λ a b. by_text_number a.lot b.lot a.number b.number) db t.sublots (holds.each 10 sublot_form refl) (in_order newest_schema s good).keyed.sublots values.sublots (1 ∷ []) (Text lot ∷ []) (λ r. same r.lot lot) (λ r. one_text r.lot lot) rows found
-      ∙ filter_mapped (sublot_row s.movements) (λ r. same r.lot lot) (λ p. same p.lot lot) (λ p. refl) s.places
+      ∙ of_mapped (sublot_row s.movements) (λ r. same r.lot lot) (λ p. same p.lot lot) (λ p. refl) s.places
 
   -- the movements with these values in these columns
   pub movements_are : (places : List ℕ) (given : Row) (p : Movement → Bool) → ((m : Movement) → has_values places given (row_of_movement m) ≡ p m) → (rows : List Movement) → AreFound db movement_form movement_read places given rows → rows ≡ filter p s.movements

@@ -29,6 +29,15 @@ pub told_found : {A E : Type 0} (old new : store.State) (was failed : Bool) (res
 told_found old new was failed result Q P steady found tells =
     told_by old new was failed (IfOk result P) steady (λ clean good holds. IfOk-weaker result Q P (tells good holds) (found clean))
 
+-- what is told of what was found, where the tables of a good state tell more of it
+pub told_good : {A E : Type 0} (old new : store.State) (was failed : Bool) (result : Result A E) (Q : A → Type 0) (P : A → Type 0) → IsTold old new was failed (IfOk result Q)
+    → (IsGood (shown old.now) → HoldsTables old.now (tables_of newest_schema (shown old.now)) → (a : A) → Q a → P a) → IsTold old new was failed (IfOk result P)
+told_good old new was failed result Q P told tells = record {
+  always = told.always;
+  before = told.before;
+  holds = λ honest. let earlier = told.before honest in IfOk-weaker result Q P (tells earlier.good earlier.holds) (told.holds honest);
+}
+
 -- a weaker fact is told as well
 pub told_weaker : (old new : store.State) (was failed : Bool) (P Q : Type 0) → (P → Q) → IsTold old new was failed P → IsTold old new was failed Q
 told_weaker old new was failed P Q weaker told = record { always = told.always; before = told.before; holds = λ honest. weaker (told.holds honest) }

@@ -5,6 +5,7 @@ mod Judging
 mod Keeping
 mod Listing
 mod Paged
+mod Placing
 mod Selected
 pub mod Shown
 mod Sorting

@@ -1,6 +1,6 @@
 -- What a page finds among the tables of a good state.
-use Rattle.std.proofs.Common.{◌≡◌, ◌∙◌, ℕ, ◌+◌, Bool, true, false, not, ◌&&◌, List, [], ◌∷◌, Option, Some, None, refl, sym, ap, ap₂, codes}
-use Rattle.std.specs.Ordering.{is_eq, is_gt, ordering_then}
+use Rattle.std.proofs.Common.{◌≡◌, ◌∙◌, ℕ, ◌+◌, Bool, true, false, not, ◌&&◌, List, [], ◌∷◌, Option, Some, None, refl, sym, ap, ap₂, codes, pos}
+use Rattle.std.specs.Ordering.{is_eq, is_gt, nat_cmp, ordering_then}
 use Rattle.std.specs.declared.cmp.Ordering.{Ordering}
 use Rattle.std.specs.declared.cmp.Ordering.TheVariants.{Less, Equal, Greater}
 use Rattle.sqlite.specs.Effect.{Database}
@@ -8,7 +8,7 @@ use Rattle.sqlite.specs.Order.{Row}
 use Rattle.sqlite.specs.declared.types.Value.{Value}
 use Rattle.sqlite.specs.declared.types.Value.TheVariants.{Text}
 use Rattle.sqlite_value.specs.Order.{value_cmp}
-use Rattle.sqlite_value.proofs.OrderLemmas.{value_cmp-Text}
+use Rattle.sqlite_value.proofs.OrderLemmas.{value_cmp-Int, value_cmp-Text}
 use Rattle.plant_base.specs.Recalls.{is_open}
 use Rattle.plant_base.specs.RowValues.{HasDefinitionValues, HasLotValues, HasHoldValues, HasRecallValues}
 use Rattle.plant_base.specs.State.{State, newest_schema, id_cmp, same, definition_order, job_order, lot_order, hold_order, recall_order}
@@ -20,19 +20,21 @@ use Rattle.plant_base.specs.declared.rows.Job.{Job}
 use Rattle.plant_base.specs.declared.rows.Lifting.{Lifting}
 use Rattle.plant_base.specs.declared.rows.Lot.{Lot}
 use Rattle.plant_base.specs.declared.rows.Recall.{Recall}
+use Rattle.plant_base.specs.declared.rows.Sublot.{Sublot}
 use Rattle.plant_base.specs.declared.states.JobState.{JobState}
-use Rattle.plant_view.specs.Tables.{Tables, tables_of, batch_row_order}
+use Rattle.plant_view.specs.Tables.{Tables, tables_of, batch_row_order, sublot_order}
 use Rattle.plant_good.specs.Good.{IsGood}
-use Rattle.plant_tables.specs.DeskForms.{definition_form, job_form, batch_form, lot_form, hold_form, recall_form}
+use Rattle.plant_tables.specs.DeskForms.{definition_form, job_form, batch_form, lot_form, hold_form, recall_form, sublot_form}
 use Rattle.plant_tables.specs.Keyed.{HoldsTables}
 use Rattle.plant_tables_columns.specs.Kinds.{number, flag}
-use Rattle.plant_tables_columns.specs.Obeying.{HasJobValues, HasBatchRowValues, HasGoodValues}
-use Rattle.plant_tables_columns.specs.TableColumns.{row_of_definition, row_of_job, row_of_batch, row_of_lot, row_of_hold, row_of_recall, definition_from, job_from, batch_from, lot_from, hold_from, recall_read}
-use Rattle.plant_tables_columns.proofs.RowLaws.{definition_reads, job_reads, batch_reads, lot_reads, hold_reads}
+use Rattle.plant_tables_columns.specs.Obeying.{HasJobValues, HasBatchRowValues, HasSublotValues, HasGoodValues}
+use Rattle.plant_tables_columns.specs.TableColumns.{row_of_definition, row_of_job, row_of_batch, row_of_lot, row_of_hold, row_of_recall, row_of_sublot, definition_from, job_from, batch_from, lot_from, hold_from, recall_read, sublot_from}
+use Rattle.plant_tables_columns.proofs.RowLaws.{definition_reads, job_reads, batch_reads, lot_reads, hold_reads, sublot_reads}
+use Rattle.plant_tables_judged.proofs.SortedLemmas.{int_cmp_pos}
 use Rattle.plant_good_passes.proofs.Values.{in_order, good_values, newest_known}
 use Rattle.table_reads.specs.Paging.{is_beyond}
 use Rattle.plant_worklists.specs.Pages.{page_size, page_of}
-use Rattle.plant_worklists.specs.Worklists.{text_above, is_above, is_order_in, orders_in, is_open_batch, open_batches, is_lot_of, lots_of, is_hold_on, holds_on, is_open_recall, open_recalls, is_definition_in, definitions_in}
+use Rattle.plant_worklists.specs.Worklists.{text_above, is_above, is_order_in, orders_in, is_open_batch, open_batches, is_lot_of, lots_of, is_hold_on, holds_on, is_open_recall, open_recalls, is_definition_in, definitions_in, lots_after, sublots_after, holds_after}
 use Rattle.plant_worklists.specs.declared.page.Page.{Page}
 use Rattle.plant_keyed.specs.Paging.{IsPaged}
 use Rattle.plant_keyed.proofs.Paged.{page_again}
@@ -52,6 +54,12 @@ by_text a b = sym (then_equal (value_cmp (Text a) (Text b)) ∙ value_cmp-Text a
 by_two_texts : (a b c d : List ℕ) → ordering_then (id_cmp a b) (id_cmp c d) ≡ ordering_then (value_cmp (Text a) (Text b)) (ordering_then (value_cmp (Text c) (Text d)) Equal)
 by_two_texts a b c d = λ i. ordering_then (sym (value_cmp-Text a b) i) (by_text c d i)
 
+number_cmp : (m n : ℕ) → nat_cmp m n ≡ value_cmp (number m) (number n)
+number_cmp m n = sym (value_cmp-Int (pos m) (pos n) ∙ int_cmp_pos m n)
+
+by_text_number : (a b : List ℕ) (m n : ℕ) → ordering_then (id_cmp a b) (nat_cmp m n) ≡ ordering_then (value_cmp (Text a) (Text b)) (ordering_then (value_cmp (number m) (number n)) Equal)
+by_text_number a b m n = λ i. ordering_then (sym (value_cmp-Text a b) i) ((number_cmp m n ∙ sym (then_equal (value_cmp (number m) (number n)))) i)
+
 -- ---- the value that a list is of, and the place to go on from
 
 above_is : (above : Option (List ℕ)) (id : List ℕ) → is_gt (value_cmp (Text id) (Text (text_above above))) ≡ is_above above id
@@ -65,8 +73,11 @@ open_is true = number_is 1 0
 open_is false = number_is 0 0
 
 -- what a page is asked for
+abbrev pub asked_above : Option (List ℕ) → Row
+asked_above above = Text (text_above above) ∷ number (page_size + 1) ∷ []
+
 abbrev pub asked : Value → Option (List ℕ) → Row
-asked value above = value ∷ Text (text_above above) ∷ number (page_size + 1) ∷ []
+asked value above = value ∷ asked_above above
 
 -- ---- the tables of a good state
 
@@ -110,3 +121,21 @@ module _ (db : Database) (s : State) (good : IsGood s) (holds : HoldsTables db (
   definitions_are class above =
       page_again definition_from row_of_definition HasDefinitionValues (λ r h. definition_reads.again r h tt) definition_form definition_order (λ a b. by_text a.id b.id) db s.definitions (holds.each 2 definition_form refl) (in_order newest_schema s good).keyed.definitions values.definitions (2 ∷ []) 1 (asked (Text class) above)
       (is_definition_in class above) (λ r. of_text above r.class class r.id)
+
+  -- ---- what is of the lots that come after one
+
+  pub lots_after_are : (above : Option (List ℕ)) (page : Page Lot) → IsPaged db lot_form lot_from [] 1 (asked_above above) page → page ≡ page_of (lots_after s above)
+  lots_after_are above =
+      page_again lot_from row_of_lot HasLotValues (λ r h. lot_reads.again r h tt) lot_form lot_order (λ a b. by_text a.id b.id) db s.lots (holds.each 9 lot_form refl) (in_order newest_schema s good).keyed.lots values.lots [] 1 (asked_above above)
+      (λ r. is_above above r.id) (λ r. above_is above r.id)
+
+  -- the stocks are those of the column
+  pub sublots_after_are : (above : Option (List ℕ)) (page : Page Sublot) → IsPaged db sublot_form sublot_from [] 1 (asked_above above) page → page ≡ page_of (sublots_after s above)
+  sublots_after_are above =
+      page_again sublot_from row_of_sublot HasSublotValues (λ r h. sublot_reads.again r h tt) sublot_form sublot_order (λ a b. by_text_number a.lot b.lot a.number b.number) db t.sublots (holds.each 10 sublot_form refl) (in_order newest_schema s good).keyed.sublots values.sublots [] 1 (asked_above above)
+      (λ r. is_above above r.lot) (λ r. above_is above r.lot)
+
+  pub holds_after_are : (above : Option (List ℕ)) (page : Page Hold) → IsPaged db hold_form hold_from [] 1 (asked_above above) page → page ≡ page_of (holds_after s above)
+  holds_after_are above =
+      page_again hold_from row_of_hold HasHoldValues (λ r h. hold_reads.again r h tt) hold_form hold_order (λ a b. by_two_texts a.lot b.lot a.id b.id) db s.holds (holds.each 12 hold_form refl) (in_order newest_schema s good).keyed.holds values.holds [] 1 (asked_above above)
+      (λ r. is_above above r.lot) (λ r. above_is above r.lot)

@@ -31,8 +31,8 @@ use Rattle.plant_tables_judged.proofs.SortedLemmas.{sorted_keys}
 use Rattle.plant_tables_judged.proofs.TableLemmas.{map_same, all_again}
 use Rattle.plant_keyed.specs.Sorting.{in_order}
 use Rattle.plant_keyed.specs.Paging.{IsPaged}
-use Rattle.plant_keyed.proofs.Answering.{filter_mapped}
 use Rattle.plant_keyed.proofs.Sorting.{again_in_order}
+use Rattle.plant_worklists.proofs.Found.{of_mapped, take_mapped}
 use Rattle.plant_worklists.specs.Pages.{page_size, page_of}
 use Rattle.plant_worklists.specs.declared.page.Page.{Page}
 
@@ -78,11 +78,6 @@ module _ {R : Type 0} (order : R → R → Ordering) (total : IsTotalOrder order
       let front : length (put order y ys) ≡ suc (length ys) = rw rest at long in
       rw rest (first_put y ys sorted front)
 
-take_mapped : {X Y : Type 0} (f : X → Y) (n : ℕ) (xs : List X) → take n (map f xs) ≡ map f (take n xs)
-take_mapped f zero xs = refl
-take_mapped f (suc n) [] = refl
-take_mapped f (suc n) (x ∷ xs) = ap (λ l. f x ∷ l) (take_mapped f n xs)
-
 all_take : {X : Type 0} (P : X → Type 0) (n : ℕ) (xs : List X) → AllByRecursion P xs → AllByRecursion P (take n xs)
 all_take P zero xs all = tt
 all_take P (suc n) [] all = tt
@@ -103,7 +98,7 @@ module _ {R : Type 0} (row_from : Row → Option R) (written : R → Row) (P : R
       let there : IsPermutation paged.whole (filter test here) = subst (λ tree. IsPermutation paged.whole (filter test (map (columns_of form) (db.trees tree)))) (one_tree db.schema form paged.at paged.tree stands.at stands.tree paged.declared stands.declared) paged.same in
       let back : IsPermutation (filter test here) (filter test (map written rs)) = IsPermutation-filter test here (map written rs) (IsPermutation-sym (map written rs) here stands.same) in
       let list = map written (filter p rs) in
-      let moved : IsPermutation paged.whole list = subst (IsPermutation paged.whole) (filter_mapped written test p tests rs) (IsPermutation-trans paged.whole (filter test here) (filter test (map written rs)) there back) in
+      let moved : IsPermutation paged.whole list = subst (IsPermutation paged.whole) (of_mapped written test p tests rs) (IsPermutation-trans paged.whole (filter test here) (filter test (map written rs)) there back) in
       let turned : IsPermutation list paged.whole = IsPermutation-sym paged.whole list moved in
       let strict : IsStrictlySortedBy key list = sorted_keys written order key by_key (filter p rs) (IsStrictlySortedBy-filter order p rs sorted) in
       let put_back : in_order key paged.whole ≡ list = again_in_order key total list paged.whole strict turned in

@@ -126,3 +126,43 @@ recalls_in_state = record { readable = refl; compared = refl; bounded = refl; or
 pub definitions_of_class : SelectsPage definition_form (2 ∷ []) 1 (codes "SELECT id, class, name, unit FROM definition WHERE class = ?1 AND id > ?2 ORDER BY id LIMIT ?3")
 unfolding everything
 definitions_of_class = record { readable = refl; compared = refl; bounded = refl; ordered = refl; parameters = codes "?1" ∷ codes "?2" ∷ codes "?3" ∷ []; written = refl }
+
+-- ---- pages of what lots have, lot by lot
+
+pub lots_after : SelectsPage lot_form [] 1 (codes "SELECT id, def FROM lot WHERE id > ?1 ORDER BY id LIMIT ?2")
+unfolding everything
+lots_after = record { readable = refl; compared = refl; bounded = refl; ordered = refl; parameters = codes "?1" ∷ codes "?2" ∷ []; written = refl }
+
+pub sublots_after : SelectsPage sublot_form [] 1 (codes "SELECT lot, no, place, stock FROM sublot WHERE lot > ?1 ORDER BY lot, no LIMIT ?2")
+unfolding everything
+sublots_after = record { readable = refl; compared = refl; bounded = refl; ordered = refl; parameters = codes "?1" ∷ codes "?2" ∷ []; written = refl }
+
+pub holds_after : SelectsPage hold_form [] 1 (codes "SELECT lot, id, at, by_who, note FROM hold WHERE lot > ?1 ORDER BY lot, id LIMIT ?2")
+unfolding everything
+holds_after = record { readable = refl; compared = refl; bounded = refl; ordered = refl; parameters = codes "?1" ∷ codes "?2" ∷ []; written = refl }
+
+-- ---- pages of lists whose keys are of two values
+
+pub recipes_in_state_at : SelectsPage recipe_form (8 ∷ 1 ∷ []) 2 (codes "SELECT id, version, product, base, low, high, title, state FROM recipe WHERE state = ?1 AND id = ?2 AND version > ?3 ORDER BY id, version LIMIT ?4")
+unfolding everything
+recipes_in_state_at = record { readable = refl; compared = refl; bounded = refl; ordered = refl; parameters = codes "?1" ∷ codes "?2" ∷ codes "?3" ∷ codes "?4" ∷ []; written = refl }
+
+pub recipes_in_state : SelectsPage recipe_form (8 ∷ []) 1 (codes "SELECT id, version, product, base, low, high, title, state FROM recipe WHERE state = ?1 AND id > ?2 ORDER BY id, version LIMIT ?3")
+unfolding everything
+recipes_in_state = record { readable = refl; compared = refl; bounded = refl; ordered = refl; parameters = codes "?1" ∷ codes "?2" ∷ codes "?3" ∷ []; written = refl }
+
+pub ledger_at : SelectsPage movement_form (4 ∷ 1 ∷ []) 2 (codes "SELECT seq, line, kind, lot, sub, lot2, sub2, batch, amount, at, by_who, note FROM movement WHERE lot = ?1 AND seq = ?2 AND line > ?3 ORDER BY seq, line LIMIT ?4")
+unfolding everything
+ledger_at = record { readable = refl; compared = refl; bounded = refl; ordered = refl; parameters = codes "?1" ∷ codes "?2" ∷ codes "?3" ∷ codes "?4" ∷ []; written = refl }
+
+pub ledger : SelectsPage movement_form (4 ∷ []) 1 (codes "SELECT seq, line, kind, lot, sub, lot2, sub2, batch, amount, at, by_who, note FROM movement WHERE lot = ?1 AND seq > ?2 ORDER BY seq, line LIMIT ?3")
+unfolding everything
+ledger = record { readable = refl; compared = refl; bounded = refl; ordered = refl; parameters = codes "?1" ∷ codes "?2" ∷ codes "?3" ∷ []; written = refl }
+
+pub ledger_by_second_at : SelectsPage movement_form (6 ∷ 1 ∷ []) 2 (codes "SELECT seq, line, kind, lot, sub, lot2, sub2, batch, amount, at, by_who, note FROM movement WHERE lot2 = ?1 AND seq = ?2 AND line > ?3 ORDER BY seq, line LIMIT ?4")
+unfolding everything
+ledger_by_second_at = record { readable = refl; compared = refl; bounded = refl; ordered = refl; parameters = codes "?1" ∷ codes "?2" ∷ codes "?3" ∷ codes "?4" ∷ []; written = refl }
+
+pub ledger_by_second : SelectsPage movement_form (6 ∷ []) 1 (codes "SELECT seq, line, kind, lot, sub, lot2, sub2, batch, amount, at, by_who, note FROM movement WHERE lot2 = ?1 AND seq > ?2 ORDER BY seq, line LIMIT ?3")
+unfolding everything
+ledger_by_second = record { readable = refl; compared = refl; bounded = refl; ordered = refl; parameters = codes "?1" ∷ codes "?2" ∷ codes "?3" ∷ []; written = refl }

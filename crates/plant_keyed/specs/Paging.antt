@@ -1,11 +1,15 @@
 -- A page of the desk's rows.
-use Rattle.std.specs.Prelude.{◌≡◌, ℕ, List, Option, Some}
+use Rattle.std.specs.Prelude.{◌≡◌, ◌+◌, ℕ, true, List, [], ◌∷◌, Option, Some}
+use Rattle.std.specs.Set.{sorted_merge}
+use Rattle.std.specs.declared.cmp.Ordering.{Ordering}
 use Rattle.sqlite.specs.Effect.{Database}
 use Rattle.sqlite.specs.Order.{Row}
+use Rattle.sqlite.specs.declared.types.Value.{Value}
 use Rattle.table_forms.specs.Forms.{Form}
 use Rattle.table_reads.specs.Paging.{IsPage}
 use Rattle.plant_tables_columns.specs.All.{all_from}
-use Rattle.plant_worklists.specs.Pages.{page_size}
+use Rattle.plant_tables_columns.specs.Kinds.{number}
+use Rattle.plant_worklists.specs.Pages.{page_size, page_of}
 use Rattle.plant_worklists.specs.declared.page.Page.{Page}
 
 -- These rows of the desk were read of a page of the table's rows.
@@ -13,3 +17,18 @@ pub record IsPaged (db : Database) (form : Form) {R : Type 0} (row_from : Row �
   pub stored : List Row
   pub paged : IsPage db form places next values page_size stored page.has_more
   pub read : all_from row_from stored ≡ Some page.rows
+
+-- The page is that of two lists in order as one, of which these are the first pages.
+pub record IsOfBoth {R : Type 0} (order : R → R → Ordering) (is_first is_second : Page R → Type 0) (page : Page R) : Type 0 where
+  pub first : Page R
+  pub second : Page R
+  pub of_first : is_first first
+  pub of_second : is_second second
+  pub as_one : (xs ys : List R) → first ≡ page_of xs → second ≡ page_of ys → page ≡ page_of (sorted_merge order true xs ys)
+
+-- The rows with a given value in one column, and after a place of two values in two others: those with its first value and after its
+-- second, and those after its first.
+abbrev pub IsPagedBeyond : Database → Form → {R : Type 0} → (Row → Option R) → (R → R → Ordering) → ℕ → ℕ → ℕ → Value → Value → Value → Page R → Type 0
+IsPagedBeyond db form row_from order place next last given first second =
+    IsOfBoth order (IsPaged db form row_from (place ∷ next ∷ []) last (given ∷ first ∷ second ∷ number (page_size + 1) ∷ []))
+    (IsPaged db form row_from (place ∷ []) next (given ∷ first ∷ number (page_size + 1) ∷ []))

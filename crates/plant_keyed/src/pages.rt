@@ -13,13 +13,15 @@ ghost use Rattle.plant_tables_columns.specs.Kinds.{number};
 ghost use Rattle.plant_worklists.specs.Pages.{page_size};
 ghost use Rattle.plant_worklists.specs.Worklists.{text_above};
 ghost use Rattle.plant_keyed.specs.Keeping.{IsSteady};
-ghost use Rattle.plant_keyed.specs.Paging.{IsPaged};
+ghost use Rattle.plant_keyed.specs.Keeping.{IsTold};
+ghost use Rattle.plant_keyed.specs.Paging.{IsPaged, IsPagedBeyond};
 
+use crate::faults::if_memory;
 use crate::keyed::Keyed;
 use plant_base::{Id, Items};
 use plant_tables_columns::storing::{small, word};
 use plant_tables_columns::{Judged, judge_all};
-use plant_worklists::{PAGE_SIZE, Page, text_above};
+use plant_worklists::{PAGE_SIZE, Page, Placed, merge_pages, text_above};
 use sqlite::types::ValueRef;
 use sqlite::{Alter, Connection};
 use std::alloc::Global;
@@ -110,5 +112,61 @@ impl<'a, S: Alter> Keyed<'a, S> {
     {
         let bounds = [given, word(text_above(above)), small(PAGE_SIZE + 1)];
         self.page_found(form, sql, &bounds)
+    }
+
+    /// A page of the rows that have an id after this one in a column.
+    pub(crate) fn page_after<R: Judged>(
+        &mut self,
+        form: &Form<'_>,
+        sql: &str,
+        above: &Option<Id>,
+    ) -> Result<Page<R>, Fault>
+        requires { (next : ℕ) × SelectsPage form.now [] next sql.now }
+        ensures same_reference { self.new.conn.ghost_name ≡ self.old.conn.ghost_name }
+        ensures rows { (next : ℕ) → SelectsPage form.now [] next sql.now
+            → HasCleanDisk (state S.Store self.new.conn.now)
+            → IfOk result (IsPaged (state S.Store self.old.conn.now).now form.now R.row_from [] next
+            (Text (text_above above.now) ∷ number (page_size + 1) ∷ [])) }
+        ensures steady { IsSteady (state S.Store self.old.conn.now) (state S.Store self.new.conn.now)
+            self.old.has_failed self.new.has_failed }
+        ensures remembers { self.new.edges.now ≡ self.old.edges.now }
+    {
+        let bounds = [word(text_above(above)), small(PAGE_SIZE + 1)];
+        self.page_found(form, sql, &bounds)
+    }
+
+    /// A page of the rows that have this value in one column, and come after a place of two values in two others: by one text
+    /// those with its first value and after its second, by another those after its first. The faults are those of each
+    /// look-up.
+    pub(crate) fn page_beyond<'v, R: Judged + Placed + Copy + Drop>(
+        &mut self,
+        form: &Form<'_>,
+        at: &str,
+        beyond: &str,
+        given: ValueRef<'v>,
+        first: ValueRef<'v>,
+        second: ValueRef<'v>,
+    ) -> Result<Page<R>, Fault>
+        requires { (place : ℕ) × (next : ℕ) × (last : ℕ)
+            × SelectsPage form.now (place ∷ next ∷ []) last at.now
+            × SelectsPage form.now (place ∷ []) next beyond.now }
+        ensures same_reference { self.new.conn.ghost_name ≡ self.old.conn.ghost_name }
+        ensures told { (place next last : ℕ) → SelectsPage form.now (place ∷ next ∷ []) last at.now
+            → SelectsPage form.now (place ∷ []) next beyond.now
+            → is_null (bound_value (owned given.entry)) ≡ false
+            → is_null (bound_value (owned first.entry)) ≡ false
+            → is_null (bound_value (owned second.entry)) ≡ false
+            → IsTold (state S.Store self.old.conn.now) (state S.Store self.new.conn.now)
+            self.old.has_failed self.new.has_failed
+            (IfOk result (IsPagedBeyond (state S.Store self.old.conn.now).now form.now R.row_from
+            R.order place next last (bound_value (owned given.entry))
+            (bound_value (owned first.entry)) (bound_value (owned second.entry)))) }
+        ensures steady { IsSteady (state S.Store self.old.conn.now) (state S.Store self.new.conn.now)
+            self.old.has_failed self.new.has_failed }
+        ensures remembers { self.new.edges.now ≡ self.old.edges.now }
+    {
+        let near = self.page_found(form, at, &[given, first, second, small(PAGE_SIZE + 1)])?;
+        let far = self.page_found(form, beyond, &[given, first, small(PAGE_SIZE + 1)])?;
+        if_memory(merge_pages(self.alloc, &near, &far))
     }
 }

@@ -88,3 +88,34 @@ pub(crate) const RECALLS_IN_STATE: &str =
 
 pub(crate) const DEFINITIONS_OF_CLASS: &str =
     "SELECT id, class, name, unit FROM definition WHERE class = ?1 AND id > ?2 ORDER BY id LIMIT ?3";
+
+// ---- pages of what lots have, lot by lot
+
+pub(crate) const LOTS_AFTER: &str = "SELECT id, def FROM lot WHERE id > ?1 ORDER BY id LIMIT ?2";
+
+pub(crate) const SUBLOTS_AFTER: &str =
+    "SELECT lot, no, place, stock FROM sublot WHERE lot > ?1 ORDER BY lot, no LIMIT ?2";
+
+pub(crate) const HOLDS_AFTER: &str =
+    "SELECT lot, id, at, by_who, note FROM hold WHERE lot > ?1 ORDER BY lot, id LIMIT ?2";
+
+// ---- pages of lists whose keys are of two values: what the list is of, and a place; by each of the two texts, the rows with the
+// first value of the place and after its second, and those after its first
+
+pub(crate) const RECIPES_IN_STATE_AT: &str =
+    "SELECT id, version, product, base, low, high, title, state FROM recipe WHERE state = ?1 AND id = ?2 AND version > ?3 ORDER BY id, version LIMIT ?4";
+
+pub(crate) const RECIPES_IN_STATE: &str =
+    "SELECT id, version, product, base, low, high, title, state FROM recipe WHERE state = ?1 AND id > ?2 ORDER BY id, version LIMIT ?3";
+
+pub(crate) const LEDGER_AT: &str =
+    "SELECT seq, line, kind, lot, sub, lot2, sub2, batch, amount, at, by_who, note FROM movement WHERE lot = ?1 AND seq = ?2 AND line > ?3 ORDER BY seq, line LIMIT ?4";
+
+pub(crate) const LEDGER: &str =
+    "SELECT seq, line, kind, lot, sub, lot2, sub2, batch, amount, at, by_who, note FROM movement WHERE lot = ?1 AND seq > ?2 ORDER BY seq, line LIMIT ?3";
+
+pub(crate) const LEDGER_BY_SECOND_AT: &str =
+    "SELECT seq, line, kind, lot, sub, lot2, sub2, batch, amount, at, by_who, note FROM movement WHERE lot2 = ?1 AND seq = ?2 AND line > ?3 ORDER BY seq, line LIMIT ?4";
+
+pub(crate) const LEDGER_BY_SECOND: &str =
+    "SELECT seq, line, kind, lot, sub, lot2, sub2, batch, amount, at, by_who, note FROM movement WHERE lot2 = ?1 AND seq > ?2 ORDER BY seq, line LIMIT ?3";

@@ -1,13 +1,20 @@
-// Pages of the desk's lists, each by a query with the value that the list is of, the place to go on from, and a limit; and the
-// movements of a lot.
+// Pages of the desk's lists, each by a query with the value that the list is of, the place to go on from, and a limit; the
+// movements of a lot; and pages of what lots have.
 
+use crate::faults::if_memory;
 use crate::keyed::Keyed;
 use crate::texts;
-use plant_base::{BatchRow, Definition, Hold, Id, Job, JobState, Lot, Movement, Recall};
-use plant_tables::forms::{BATCH, DEFINITION, HOLD, JOB, LOT, MOVEMENT, RECALL};
+use plant_base::{
+    BatchRow, Definition, Hold, Id, Job, JobState, Lot, Movement, Recall, Recipe, RecipeState,
+    Sublot,
+};
+use plant_tables::forms::{BATCH, DEFINITION, HOLD, JOB, LOT, MOVEMENT, RECALL, RECIPE, SUBLOT};
 use plant_tables_columns::RecallState;
-use plant_tables_columns::storing::{id as text_of, truth, word};
-use plant_worklists::{Page, Worklists};
+use plant_tables_columns::storing::{id as text_of, large, small, truth, word};
+use plant_worklists::{
+    MovementPlace, Page, RecipePlace, Worklists, merge_pages, movement_above, recipe_text_above,
+    version_above,
+};
 use sqlite::Alter;
 use table_forms::Fault;
 
@@ -46,7 +53,61 @@ impl<'a, S: Alter> Worklists for Keyed<'a, S> {
         )
     }
 
+    fn recipes_in(
+        &mut self,
+        state: RecipeState,
+        above: Option<RecipePlace>,
+    ) -> Result<Page<Recipe>, Fault> {
+        self.page_beyond(
+            &RECIPE,
+            texts::RECIPES_IN_STATE_AT,
+            texts::RECIPES_IN_STATE,
+            word(state.name()),
+            word(recipe_text_above(&above)),
+            small(version_above(&above)),
+        )
+    }
+
+    fn ledger_of(
+        &mut self,
+        lot: Id,
+        above: Option<MovementPlace>,
+    ) -> Result<Page<Movement>, Fault> {
+        let place = movement_above(&above);
+        let seq = large(place.seq)?;
+        let line = small(place.line);
+        let named = self.page_beyond(
+            &MOVEMENT,
+            texts::LEDGER_AT,
+            texts::LEDGER,
+            text_of(&lot),
+            seq,
+            line,
+        )?;
+        let made = self.page_beyond(
+            &MOVEMENT,
+            texts::LEDGER_BY_SECOND_AT,
+            texts::LEDGER_BY_SECOND,
+            text_of(&lot),
+            seq,
+            line,
+        )?;
+        if_memory(merge_pages(self.alloc, &named, &made))
+    }
+
     fn lot_movements(&mut self, lot: Id) -> Result<Vec<Movement>, Fault> {
         self.found(&MOVEMENT, texts::MOVEMENTS_OF_LOT, &[text_of(&lot)])
+    }
+
+    fn lots_after(&mut self, above: Option<Id>) -> Result<Page<Lot>, Fault> {
+        self.page_after(&LOT, texts::LOTS_AFTER, &above)
+    }
+
+    fn sublots_after(&mut self, above: Option<Id>) -> Result<Page<Sublot>, Fault> {
+        self.page_after(&SUBLOT, texts::SUBLOTS_AFTER, &above)
+    }
+
+    fn holds_after(&mut self, above: Option<Id>) -> Result<Page<Hold>, Fault> {
+        self.page_after(&HOLD, texts::HOLDS_AFTER, &above)
     }
 }

@@ -14,7 +14,8 @@ use Rattle.plant_shapes.specs.declared.fields.Field.TheVariants as field
 use Rattle.plant_shapes.specs.declared.problems.Flaw.{Flaw}
 use Rattle.plant_shapes.specs.declared.problems.Flaw.TheVariants as flaw
 use Rattle.plant_shapes.specs.Members.{name_of, rule_of, is_needed}
-use Rattle.plant_shapes.specs.Words.{command_kind, question_kind, line_kind, batch_word, order_state}
+use Rattle.plant_worklists.specs.Places.{recipe_place, movement_place}
+use Rattle.plant_shapes.specs.Words.{command_kind, question_kind, line_kind, batch_word, order_state, recipe_state}
 use Rattle.plant_shapes.specs.Problems.{◌>>=◌, object, is_told, problem_told}
 use Rattle.plant_shapes.specs.Fields.{natural, is_between, field_of, by_rule, member_where, member_of, fields_of, first_other, other_where, none_other, exactly}
 use Rattle.plant_shapes.specs.Laws.{Means, field_in, May, may_in, Values, fields_in}
@@ -58,6 +59,9 @@ field_typed (rule.Number a b) d Q k = map_some field.Number (option_and_then (on
 field_typed (rule.Small a b) d Q k = map_some field.Small (option_and_then (only (is_between a b)) (natural d)) Q k
 field_typed rule.Word d Q k = map_some field.Word (option_and_then batch_word (as_str d)) Q k
 field_typed rule.OrderState d Q k = map_some field.OrderState (option_and_then order_state (as_str d)) Q k
+field_typed rule.RecipeState d Q k = map_some field.RecipeState (option_and_then recipe_state (as_str d)) Q k
+field_typed rule.RecipePlace d Q k = map_some field.RecipePlace (option_and_then recipe_place (as_str d)) Q k
+field_typed rule.MovementPlace d Q k = map_some field.MovementPlace (option_and_then movement_place (as_str d)) Q k
 field_typed rule.Command d Q k = map_some (λ w. field.Chosen) (option_and_then command_kind (as_str d)) Q (λ w. k tt)
 field_typed rule.Question d Q k = map_some (λ w. field.Chosen) (option_and_then question_kind (as_str d)) Q (λ w. k tt)
 field_typed rule.Kind d Q k = map_some (λ w. field.Chosen) (option_and_then line_kind (as_str d)) Q (λ w. k tt)

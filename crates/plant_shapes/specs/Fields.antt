@@ -6,6 +6,7 @@ use Rattle.serde_json.specs.Data.{Data, Members, no_members, member}
 use Rattle.serde_json.specs.Find.{get, as_number, as_u64, as_str, as_array, as_object}
 use Rattle.plant_base.specs.Dates.{is_due}
 use Rattle.plant_base.specs.Values.{only, is_id, is_text, is_unit, is_amount, is_moment}
+use Rattle.plant_worklists.specs.Places.{recipe_place, movement_place}
 use Rattle.plant_shapes.specs.declared.members.Member.{Member}
 use Rattle.plant_shapes.specs.declared.members.Rule.{Rule}
 use Rattle.plant_shapes.specs.declared.members.Rule.TheVariants as rule
@@ -14,7 +15,7 @@ use Rattle.plant_shapes.specs.declared.fields.Field.TheVariants as field
 use Rattle.plant_shapes.specs.declared.problems.Flaw.{Flaw}
 use Rattle.plant_shapes.specs.declared.problems.Flaw.TheVariants as flaw
 use Rattle.plant_shapes.specs.Members.{name_of, rule_of, is_needed}
-use Rattle.plant_shapes.specs.Words.{command_kind, question_kind, line_kind, batch_word, order_state}
+use Rattle.plant_shapes.specs.Words.{command_kind, question_kind, line_kind, batch_word, order_state, recipe_state}
 use Rattle.plant_shapes.specs.Problems.{◌>>=◌}
 
 -- ---- values
@@ -42,6 +43,9 @@ field_of (rule.Number least greatest) d = option_map field.Number (option_and_th
 field_of (rule.Small least greatest) d = option_map field.Small (option_and_then (only (is_between least greatest)) (natural d))
 field_of rule.Word d = option_map field.Word (option_and_then batch_word (as_str d))
 field_of rule.OrderState d = option_map field.OrderState (option_and_then order_state (as_str d))
+field_of rule.RecipeState d = option_map field.RecipeState (option_and_then recipe_state (as_str d))
+field_of rule.RecipePlace d = option_map field.RecipePlace (option_and_then recipe_place (as_str d))
+field_of rule.MovementPlace d = option_map field.MovementPlace (option_and_then movement_place (as_str d))
 field_of rule.Command d = chosen (option_and_then command_kind (as_str d))
 field_of rule.Question d = chosen (option_and_then question_kind (as_str d))
 field_of rule.Kind d = chosen (option_and_then line_kind (as_str d))

@@ -1,7 +1,10 @@
 -- What the typed values of members are.
 use Rattle.std.specs.Prelude.{⊤, ℕ, List, [], ◌∷◌, Bool, true, false, Option, Some, None}
 use Rattle.plant_base.specs.declared.states.JobState.{JobState}
+use Rattle.plant_base.specs.declared.states.RecipeState.{RecipeState}
 use Rattle.plant_base.specs.declared.states.Word.{Word}
+use Rattle.plant_worklists.specs.declared.place.MovementPlace.{MovementPlace}
+use Rattle.plant_worklists.specs.declared.place.RecipePlace.{RecipePlace}
 use Rattle.plant_shapes.specs.declared.members.Member.{Member}
 use Rattle.plant_shapes.specs.declared.members.Rule.{Rule}
 use Rattle.plant_shapes.specs.declared.members.Rule.TheVariants as rule
@@ -21,6 +24,9 @@ Means (rule.Number least greatest) = ℕ
 Means (rule.Small least greatest) = ℕ
 Means rule.Word = Word
 Means rule.OrderState = JobState
+Means rule.RecipeState = RecipeState
+Means rule.RecipePlace = RecipePlace
+Means rule.MovementPlace = MovementPlace
 Means rule.Command = ⊤
 Means rule.Question = ⊤
 Means rule.Kind = ⊤
@@ -37,6 +43,9 @@ field_in (rule.Number least greatest) x = field.Number x
 field_in (rule.Small least greatest) x = field.Small x
 field_in rule.Word x = field.Word x
 field_in rule.OrderState x = field.OrderState x
+field_in rule.RecipeState x = field.RecipeState x
+field_in rule.RecipePlace x = field.RecipePlace x
+field_in rule.MovementPlace x = field.MovementPlace x
 field_in rule.Command x = field.Chosen
 field_in rule.Question x = field.Chosen
 field_in rule.Kind x = field.Chosen

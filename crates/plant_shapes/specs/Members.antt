@@ -51,6 +51,9 @@ entry_of m.Operation = (codes "oper", rule.Id)
 entry_of m.PhaseName = (codes "phase", rule.Id)
 entry_of m.State = (codes "state", rule.OrderState)
 entry_of m.Above = (codes "above", rule.Id)
+entry_of m.RecipeState = (codes "state", rule.RecipeState)
+entry_of m.AboveRecipe = (codes "above", rule.RecipePlace)
+entry_of m.AboveMovement = (codes "above", rule.MovementPlace)
 
 abbrev pub name_of : Member → List ℕ
 name_of which = (entry_of which).0
@@ -63,6 +66,8 @@ abbrev pub is_needed : Member → Bool
 is_needed m.Note = false
 is_needed m.Reference = false
 is_needed m.Above = false
+is_needed m.AboveRecipe = false
+is_needed m.AboveMovement = false
 is_needed _ = true
 
 -- what a value is that obeys the rule
@@ -80,6 +85,9 @@ rule_text (rule.Number least greatest) = number_text least greatest
 rule_text (rule.Small least greatest) = number_text least greatest
 rule_text rule.Word = codes "one of start, hold, restart, stop, abort, reset, pause and resume"
 rule_text rule.OrderState = codes "one of open, cancelled, released and finished"
+rule_text rule.RecipeState = codes "one of draft, approved and withdrawn"
+rule_text rule.RecipePlace = codes "a recipe and a version of at most 3 digits, with a dot between them"
+rule_text rule.MovementPlace = codes "a number of at most 16 digits and a line of at most 3, with a dot between them"
 rule_text rule.Command = codes "the word of a command"
 rule_text rule.Question = codes "the word of a question"
 rule_text rule.Kind = codes "one of in, out, par and phase"

@@ -51,6 +51,8 @@ list_members list.Lots = m.Ask ∷ m.Definition ∷ m.Above ∷ []
 list_members list.Holds = m.Ask ∷ m.Lot ∷ m.Above ∷ []
 list_members list.Recalls = m.Ask ∷ m.Above ∷ []
 list_members list.Definitions = m.Ask ∷ m.Class ∷ m.Above ∷ []
+list_members list.Recipes = m.Ask ∷ m.RecipeState ∷ m.AboveRecipe ∷ []
+list_members list.Movements = m.Ask ∷ m.Lot ∷ m.AboveMovement ∷ []
 
 -- the members of a row of a list
 abbrev pub row_own : Row → List Member

@@ -1,8 +1,10 @@
--- The words that choose a shape, those for a batch, and the states of orders.
+-- The words that choose a shape, those for a batch, and the states of orders and recipes.
 use Rattle.std.specs.Prelude.{ℕ, List, if◌then◌else◌, codes, Option, Some, None}
 use Rattle.std.specs.Str.{bytes_eq}
 use Rattle.plant_base.specs.declared.states.JobState.{JobState}
 use Rattle.plant_base.specs.declared.states.JobState.TheVariants as job_state
+use Rattle.plant_base.specs.declared.states.RecipeState.{RecipeState}
+use Rattle.plant_base.specs.declared.states.RecipeState.TheVariants as recipe
 use Rattle.plant_base.specs.declared.states.Word.{Word}
 use Rattle.plant_base.specs.declared.states.Word.TheVariants.{Start, Stop, Hold, Restart, Abort, Reset, Pause, Resume}
 use Rattle.plant_shapes.specs.declared.words.CommandKind.{CommandKind}
@@ -61,7 +63,9 @@ question_kind word =
     if bytes_eq word (codes "holds") then Some (q.List list.Holds) else (
     if bytes_eq word (codes "recalls") then Some (q.List list.Recalls) else (
     if bytes_eq word (codes "definitions") then Some (q.List list.Definitions) else (
-    None)))))))))))))))))
+    if bytes_eq word (codes "recipes") then Some (q.List list.Recipes) else (
+    if bytes_eq word (codes "movements") then Some (q.List list.Movements) else (
+    None)))))))))))))))))))
 
 -- the recipe's line of a kind
 abbrev pub line_kind : List ℕ → Option Row
@@ -93,3 +97,11 @@ order_state text =
     if bytes_eq text (codes "released") then Some job_state.Released else (
     if bytes_eq text (codes "finished") then Some job_state.Finished else (
     None))))
+
+-- the state of a recipe that a text names
+abbrev pub recipe_state : List ℕ → Option RecipeState
+recipe_state text =
+    if bytes_eq text (codes "draft") then Some recipe.Draft else (
+    if bytes_eq text (codes "approved") then Some recipe.Approved else (
+    if bytes_eq text (codes "withdrawn") then Some recipe.Withdrawn else (
+    None)))

@@ -12,9 +12,10 @@ ghost use Rattle.plant_shapes.specs.declared.members.Rule.TheVariants as rule;
 
 use crate::members::{Member, Rule};
 use crate::problems::Flaw;
-use crate::words::{batch_word, command_kind, line_kind, order_state, question_kind};
+use crate::words::{batch_word, command_kind, line_kind, order_state, question_kind, recipe_state};
 use arrayvec::ArrayVec;
-use plant_base::{Amount, Due, Id, JobState, Moment, Text, Unit, Word};
+use plant_base::{Amount, Due, Id, JobState, Moment, RecipeState, Text, Unit, Word};
+use plant_worklists::{MovementPlace, RecipePlace};
 use serde_json::{Map, Value};
 use std::marker::Model;
 
@@ -41,6 +42,12 @@ pub enum Field {
     Word(Word),
     /// The state of an order.
     OrderState(JobState),
+    /// The state of a recipe.
+    RecipeState(RecipeState),
+    /// A place in a list of recipes.
+    RecipePlace(RecipePlace),
+    /// A place in a ledger.
+    MovementPlace(MovementPlace),
     /// A word that chose the object's shape.
     Chosen,
     /// A list is there, whose rows are read behind the other members.
@@ -166,6 +173,9 @@ fn field_of(rule: Rule, value: &Value) -> Option<Field>
         Rule::Small(least, greatest) => small_of(value, least, greatest),
         Rule::Word => Some(Field::Word(batch_word(value.as_str()?)?)),
         Rule::OrderState => Some(Field::OrderState(order_state(value.as_str()?)?)),
+        Rule::RecipeState => Some(Field::RecipeState(recipe_state(value.as_str()?)?)),
+        Rule::RecipePlace => Some(Field::RecipePlace(RecipePlace::read(value.as_str()?)?)),
+        Rule::MovementPlace => Some(Field::MovementPlace(MovementPlace::read(value.as_str()?)?)),
         Rule::Command => chosen(command_kind(value.as_str()?)),
         Rule::Question => chosen(question_kind(value.as_str()?)),
         Rule::Kind => chosen(line_kind(value.as_str()?)),

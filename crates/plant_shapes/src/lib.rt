@@ -14,4 +14,5 @@ pub use problems::{Fault, Flaw, LineFault, Problem, made, object};
 pub use tables::{list_members, own_of, row_own, shared_members};
 pub use words::{
     CommandKind, ListKind, QuestionKind, Row, command_kind, line_kind, order_state, question_kind,
+    recipe_state,
 };

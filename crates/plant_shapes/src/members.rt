@@ -31,6 +31,12 @@ pub enum Rule {
     Word,
     /// The state of an order.
     OrderState,
+    /// The state of a recipe.
+    RecipeState,
+    /// A place in a list of recipes.
+    RecipePlace,
+    /// A place in a ledger.
+    MovementPlace,
     /// The word of a command.
     Command,
     /// The word of a question.
@@ -66,6 +72,13 @@ impl fmt::Display for Rule {
                 f.write_str("one of start, hold, restart, stop, abort, reset, pause and resume")
             }
             Rule::OrderState => f.write_str("one of open, cancelled, released and finished"),
+            Rule::RecipeState => f.write_str("one of draft, approved and withdrawn"),
+            Rule::RecipePlace => {
+                f.write_str("a recipe and a version of at most 3 digits, with a dot between them")
+            }
+            Rule::MovementPlace => f.write_str(
+                "a number of at most 16 digits and a line of at most 3, with a dot between them",
+            ),
             Rule::Command => f.write_str("the word of a command"),
             Rule::Question => f.write_str("the word of a question"),
             Rule::Kind => f.write_str("one of in, out, par and phase"),
@@ -163,6 +176,12 @@ pub enum Member {
     State,
     /// The id that the rows of a page come after, which may be left out.
     Above,
+    /// The state of the recipes of a list.
+    RecipeState,
+    /// The place that the recipes of a page come after, which may be left out.
+    AboveRecipe,
+    /// The place that the movements of a page come after, which may be left out.
+    AboveMovement,
 }
 
 impl Member {
@@ -215,6 +234,9 @@ impl Member {
             Member::PhaseName => ("phase", Rule::Id),
             Member::State => ("state", Rule::OrderState),
             Member::Above => ("above", Rule::Id),
+            Member::RecipeState => ("state", Rule::RecipeState),
+            Member::AboveRecipe => ("above", Rule::RecipePlace),
+            Member::AboveMovement => ("above", Rule::MovementPlace),
         }
     }
 
@@ -237,7 +259,8 @@ impl Member {
         ensures { result ≡ is_needed self }
     {
         match self {
-            Member::Note | Member::Reference | Member::Above => false,
+            Member::Note | Member::Reference => false,
+            Member::Above | Member::AboveRecipe | Member::AboveMovement => false,
             _ => true,
         }
     }

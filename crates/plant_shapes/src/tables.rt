@@ -3,10 +3,10 @@ ghost use Rattle.std.specs.Prelude.{◌≡◌, ◌≤◌, length};
 ghost use Rattle.plant_shapes.specs.Tables.{shared_members, own_of, list_members, row_own, most_members};
 
 use crate::members::Member::{
-    self, Above, Amount, Ask, At, Base, Batch, By, Class, Definition, Do, Due, Greatest, Hold,
-    Kind, Least, Lines, Lot, Name, New, Note, Operation, Order, Orders, Parameter, Parts, Phase,
-    PhaseName, Place, Priority, Product, Quantity, Recall, Recipe, Reference, Size, State, Sub,
-    Title, Unit, UnitProcedure, Value, Version, Word,
+    self, Above, AboveMovement, AboveRecipe, Amount, Ask, At, Base, Batch, By, Class, Definition,
+    Do, Due, Greatest, Hold, Kind, Least, Lines, Lot, Name, New, Note, Operation, Order, Orders,
+    Parameter, Parts, Phase, PhaseName, Place, Priority, Product, Quantity, Recall, Recipe,
+    RecipeState, Reference, Size, State, Sub, Title, Unit, UnitProcedure, Value, Version, Word,
 };
 use crate::words::{CommandKind, ListKind, Row};
 
@@ -64,6 +64,8 @@ pub fn list_members(kind: ListKind) -> &'static [Member]
         ListKind::Holds => &[Ask, Lot, Above],
         ListKind::Recalls => &[Ask, Above],
         ListKind::Definitions => &[Ask, Class, Above],
+        ListKind::Recipes => &[Ask, RecipeState, AboveRecipe],
+        ListKind::Movements => &[Ask, Lot, AboveMovement],
     }
 }
 

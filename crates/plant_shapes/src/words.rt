@@ -1,8 +1,8 @@
-//! The words that choose a shape, those for a batch, and the states of orders.
+//! The words that choose a shape, those for a batch, and the states of orders and recipes.
 ghost use Rattle.std.specs.Prelude.{◌≡◌};
-ghost use Rattle.plant_shapes.specs.Words.{command_kind, question_kind, line_kind, batch_word, order_state};
+ghost use Rattle.plant_shapes.specs.Words.{command_kind, question_kind, line_kind, batch_word, order_state, recipe_state};
 
-use plant_base::{JobState, Word};
+use plant_base::{JobState, RecipeState, Word};
 
 /// Which command an object is.
 #[derive(Clone, Copy, Debug, PartialEq, Eq)]
@@ -65,6 +65,10 @@ pub enum ListKind {
     Recalls,
     /// The definitions of a class.
     Definitions,
+    /// The versions of recipes in a state.
+    Recipes,
+    /// The ledger of a lot.
+    Movements,
 }
 
 /// Which row of a list an object is.
@@ -138,6 +142,8 @@ pub fn question_kind(word: &str) -> Option<QuestionKind>
         "holds" => Some(QuestionKind::List(ListKind::Holds)),
         "recalls" => Some(QuestionKind::List(ListKind::Recalls)),
         "definitions" => Some(QuestionKind::List(ListKind::Definitions)),
+        "recipes" => Some(QuestionKind::List(ListKind::Recipes)),
+        "movements" => Some(QuestionKind::List(ListKind::Movements)),
         _ => None,
     }
 }
@@ -181,6 +187,18 @@ pub fn order_state(text: &str) -> Option<JobState>
         "cancelled" => Some(JobState::Cancelled),
         "released" => Some(JobState::Released),
         "finished" => Some(JobState::Finished),
+        _ => None,
+    }
+}
+
+/// The state of a recipe that a text names.
+pub fn recipe_state(text: &str) -> Option<RecipeState>
+    ensures { result ≡ recipe_state text.now }
+{
+    match text {
+        "draft" => Some(RecipeState::Draft),
+        "approved" => Some(RecipeState::Approved),
+        "withdrawn" => Some(RecipeState::Withdrawn),
         _ => None,
     }
 }

@@ -12,8 +12,8 @@ use Rattle.table_forms.specs.Forms.{Form}
 use Rattle.table_forms.specs.Indexes.{IndexForm, IsIndexText, AreIndexTexts, AreOf, index_in, are_named_apart}
 use Rattle.table_forms.proofs.Computed.{takes_one, takes_two, upserts_row}
 use Rattle.plant_tables.specs.DeskForms.{desk_forms, first_forms, forms_of, meta_form, class_form, definition_form, recipe_form, recipe_line_form, job_form, batch_form, control_line_form, batch_event_form, lot_form, sublot_form, movement_form, hold_form, edge_form, receipt_form, recall_form, mark_form}
-use Rattle.plant_tables.specs.DeskIndexes.{batch_event_by_batch, movement_by_lot, movement_by_batch, edge_by_end, mark_by_node, definition_by_class, job_by_state, batch_by_closed, lot_by_def, recall_by_state, second_indexes, fourth_indexes, indexes_of, desk_indexes}
-use Rattle.plant_tables.specs.declared.forms.TheConstants.{CREATE_META, PUT_META, CREATE_CLASS, PUT_CLASS, CREATE_DEFINITION, PUT_DEFINITION, CREATE_RECIPE, PUT_RECIPE, CREATE_RECIPE_LINE, PUT_RECIPE_LINE, CREATE_JOB, PUT_JOB, CREATE_BATCH, PUT_BATCH, CREATE_CONTROL_LINE, PUT_CONTROL_LINE, CREATE_BATCH_EVENT, PUT_BATCH_EVENT, CREATE_LOT, PUT_LOT, CREATE_SUBLOT, PUT_SUBLOT, CREATE_MOVEMENT, PUT_MOVEMENT, CREATE_HOLD, PUT_HOLD, CREATE_EDGE, PUT_EDGE, CREATE_RECEIPT, PUT_RECEIPT, CREATE_RECALL, PUT_RECALL, CREATE_MARK, PUT_MARK, TAKE_HOLD, TAKE_MARKS, CREATE_BATCH_EVENT_BY_BATCH, CREATE_MOVEMENT_BY_LOT, CREATE_MOVEMENT_BY_BATCH, CREATE_EDGE_BY_END, CREATE_MARK_BY_NODE, CREATE_DEFINITION_BY_CLASS, CREATE_JOB_BY_STATE, CREATE_BATCH_BY_CLOSED, CREATE_LOT_BY_DEF, CREATE_RECALL_BY_STATE}
+use Rattle.plant_tables.specs.DeskIndexes.{batch_event_by_batch, movement_by_lot, movement_by_batch, edge_by_end, mark_by_node, definition_by_class, job_by_state, batch_by_closed, lot_by_def, recall_by_state, recipe_by_state, movement_by_lot2, second_indexes, fourth_indexes, indexes_of, desk_indexes}
+use Rattle.plant_tables.specs.declared.forms.TheConstants.{CREATE_META, PUT_META, CREATE_CLASS, PUT_CLASS, CREATE_DEFINITION, PUT_DEFINITION, CREATE_RECIPE, PUT_RECIPE, CREATE_RECIPE_LINE, PUT_RECIPE_LINE, CREATE_JOB, PUT_JOB, CREATE_BATCH, PUT_BATCH, CREATE_CONTROL_LINE, PUT_CONTROL_LINE, CREATE_BATCH_EVENT, PUT_BATCH_EVENT, CREATE_LOT, PUT_LOT, CREATE_SUBLOT, PUT_SUBLOT, CREATE_MOVEMENT, PUT_MOVEMENT, CREATE_HOLD, PUT_HOLD, CREATE_EDGE, PUT_EDGE, CREATE_RECEIPT, PUT_RECEIPT, CREATE_RECALL, PUT_RECALL, CREATE_MARK, PUT_MARK, TAKE_HOLD, TAKE_MARKS, CREATE_BATCH_EVENT_BY_BATCH, CREATE_MOVEMENT_BY_LOT, CREATE_MOVEMENT_BY_BATCH, CREATE_EDGE_BY_END, CREATE_MARK_BY_NODE, CREATE_DEFINITION_BY_CLASS, CREATE_JOB_BY_STATE, CREATE_BATCH_BY_CLOSED, CREATE_LOT_BY_DEF, CREATE_RECALL_BY_STATE, CREATE_RECIPE_BY_STATE, CREATE_MOVEMENT_BY_LOT2}
 
 makes_meta : IsMakeText CREATE_META.now meta_form
 unfolding everything
@@ -341,14 +341,22 @@ indexes_recall_by_state : IsIndexText CREATE_RECALL_BY_STATE.now recall_by_state
 unfolding everything
 indexes_recall_by_state = record { parsed = parse_or (first CREATE_RECALL_BY_STATE.now); reads = refl; untimed = refl; whole = refl; def = index_in (parse_or (first CREATE_RECALL_BY_STATE.now)).statement; statement = refl; unconditional = refl; table_is = refl; own_name = refl; defines = λ tree. refl }
 
+indexes_recipe_by_state : IsIndexText CREATE_RECIPE_BY_STATE.now recipe_by_state
+unfolding everything
+indexes_recipe_by_state = record { parsed = parse_or (first CREATE_RECIPE_BY_STATE.now); reads = refl; untimed = refl; whole = refl; def = index_in (parse_or (first CREATE_RECIPE_BY_STATE.now)).statement; statement = refl; unconditional = refl; table_is = refl; own_name = refl; defines = λ tree. refl }
+
+indexes_movement_by_lot2 : IsIndexText CREATE_MOVEMENT_BY_LOT2.now movement_by_lot2
+unfolding everything
+indexes_movement_by_lot2 = record { parsed = parse_or (first CREATE_MOVEMENT_BY_LOT2.now); reads = refl; untimed = refl; whole = refl; def = index_in (parse_or (first CREATE_MOVEMENT_BY_LOT2.now)).statement; statement = refl; unconditional = refl; table_is = refl; own_name = refl; defines = λ tree. refl }
+
 abbrev pub fourth_texts : List (List ℕ)
-fourth_texts = CREATE_MARK_BY_NODE.now ∷ CREATE_DEFINITION_BY_CLASS.now ∷ CREATE_JOB_BY_STATE.now ∷ CREATE_BATCH_BY_CLOSED.now ∷ CREATE_LOT_BY_DEF.now ∷ CREATE_RECALL_BY_STATE.now ∷ []
+fourth_texts = CREATE_MARK_BY_NODE.now ∷ CREATE_DEFINITION_BY_CLASS.now ∷ CREATE_JOB_BY_STATE.now ∷ CREATE_BATCH_BY_CLOSED.now ∷ CREATE_LOT_BY_DEF.now ∷ CREATE_RECALL_BY_STATE.now ∷ CREATE_RECIPE_BY_STATE.now ∷ CREATE_MOVEMENT_BY_LOT2.now ∷ []
 
 abbrev pub index_texts : List (List ℕ)
 index_texts = CREATE_BATCH_EVENT_BY_BATCH.now ∷ CREATE_MOVEMENT_BY_LOT.now ∷ CREATE_MOVEMENT_BY_BATCH.now ∷ CREATE_EDGE_BY_END.now ∷ fourth_texts
 
 pub fourth_indexed : AreIndexTexts fourth_texts fourth_indexes
-fourth_indexed = (indexes_mark_by_node, (indexes_definition_by_class, (indexes_job_by_state, (indexes_batch_by_closed, (indexes_lot_by_def, (indexes_recall_by_state, tt))))))
+fourth_indexed = (indexes_mark_by_node, (indexes_definition_by_class, (indexes_job_by_state, (indexes_batch_by_closed, (indexes_lot_by_def, (indexes_recall_by_state, (indexes_recipe_by_state, (indexes_movement_by_lot2, tt))))))))
 
 pub all_indexed : AreIndexTexts index_texts desk_indexes
 all_indexed = (indexes_batch_event_by_batch, (indexes_movement_by_lot, (indexes_movement_by_batch, (indexes_edge_by_end, fourth_indexed))))
@@ -365,7 +373,7 @@ indexes_of_second = second_of []
 pub indexes_of_fourth : AreOf fourth_indexes (forms_of 4)
 indexes_of_fourth =
     let forms = forms_of 4 in
-    (has_got forms 16 mark_form refl, (has_got forms 2 definition_form refl, (has_got forms 5 job_form refl, (has_got forms 6 batch_form refl, (has_got forms 9 lot_form refl, (has_got forms 15 recall_form refl, tt))))))
+    (has_got forms 16 mark_form refl, (has_got forms 2 definition_form refl, (has_got forms 5 job_form refl, (has_got forms 6 batch_form refl, (has_got forms 9 lot_form refl, (has_got forms 15 recall_form refl, (has_got forms 3 recipe_form refl, (has_got forms 11 movement_form refl, tt))))))))
 
 pub indexes_of_desk : AreOf desk_indexes desk_forms
 indexes_of_desk = let second = second_of (receipt_form ∷ recall_form ∷ mark_form ∷ []) in (second.0, (second.1.0, (second.1.1.0, (second.1.1.1.0, indexes_of_fourth))))

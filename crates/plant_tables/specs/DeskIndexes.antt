@@ -3,13 +3,13 @@ use Rattle.std.specs.Prelude.{◌≡◌, ℕ, ◌==◌, nat_le, if◌then◌else
 use Rattle.sqlite.specs.Schema.{Schema}
 use Rattle.plant_base.specs.State.{newest_schema}
 use Rattle.table_forms.specs.Indexes.{IndexForm, HasIndex}
-use Rattle.plant_tables.specs.DeskForms.{definition_form, job_form, batch_form, batch_event_form, lot_form, movement_form, edge_form, recall_form, mark_form}
+use Rattle.plant_tables.specs.DeskForms.{definition_form, recipe_form, job_form, batch_form, batch_event_form, lot_form, movement_form, edge_form, recall_form, mark_form}
 
 abbrev pub batch_event_by_batch : IndexForm
 batch_event_by_batch = record { name = codes "batch_event_by_batch"; table = batch_event_form; places = 2 ∷ [] }
 
 abbrev pub movement_by_lot : IndexForm
-movement_by_lot = record { name = codes "movement_by_lot"; table = movement_form; places = 4 ∷ [] }
+movement_by_lot = record { name = codes "movement_by_lot"; table = movement_form; places = 4 ∷ 1 ∷ 2 ∷ [] }
 
 abbrev pub movement_by_batch : IndexForm
 movement_by_batch = record { name = codes "movement_by_batch"; table = movement_form; places = 8 ∷ [] }
@@ -35,13 +35,19 @@ lot_by_def = record { name = codes "lot_by_def"; table = lot_form; places = 2 �
 abbrev pub recall_by_state : IndexForm
 recall_by_state = record { name = codes "recall_by_state"; table = recall_form; places = 3 ∷ 1 ∷ [] }
 
+abbrev pub recipe_by_state : IndexForm
+recipe_by_state = record { name = codes "recipe_by_state"; table = recipe_form; places = 8 ∷ 1 ∷ 2 ∷ [] }
+
+abbrev pub movement_by_lot2 : IndexForm
+movement_by_lot2 = record { name = codes "movement_by_lot2"; table = movement_form; places = 6 ∷ 1 ∷ 2 ∷ [] }
+
 -- those that the second schema adds
 abbrev pub second_indexes : List IndexForm
 second_indexes = batch_event_by_batch ∷ movement_by_lot ∷ movement_by_batch ∷ edge_by_end ∷ []
 
 -- those that the fourth adds
 abbrev pub fourth_indexes : List IndexForm
-fourth_indexes = mark_by_node ∷ definition_by_class ∷ job_by_state ∷ batch_by_closed ∷ lot_by_def ∷ recall_by_state ∷ []
+fourth_indexes = mark_by_node ∷ definition_by_class ∷ job_by_state ∷ batch_by_closed ∷ lot_by_def ∷ recall_by_state ∷ recipe_by_state ∷ movement_by_lot2 ∷ []
 
 -- those of a schema: the first has none, and the third those of the second
 abbrev pub indexes_of : ℕ → List IndexForm

@@ -75,6 +75,10 @@ pub const RECIPE: Form<'static> = Form {
 pub(crate) const CREATE_RECIPE: &str =
     "CREATE TABLE recipe (id TEXT NOT NULL, version INTEGER NOT NULL, product TEXT NOT NULL, base INTEGER NOT NULL, low INTEGER NOT NULL, high INTEGER NOT NULL, title TEXT NOT NULL, state TEXT NOT NULL, UNIQUE (id, version)) STRICT";
 
+/// The index that finds the versions of recipes in a state, in their order.
+pub(crate) const CREATE_RECIPE_BY_STATE: &str =
+    "CREATE INDEX recipe_by_state ON recipe (state, id, version)";
+
 pub(crate) const PUT_RECIPE: &str =
     "INSERT INTO recipe (id, version, product, base, low, high, title, state) VALUES (?1, ?2, ?3, ?4, ?5, ?6, ?7, ?8) ON CONFLICT (id, version) DO UPDATE SET id = excluded.id, version = excluded.version, product = excluded.product, base = excluded.base, low = excluded.low, high = excluded.high, title = excluded.title, state = excluded.state";
 
@@ -256,8 +260,13 @@ pub const MOVEMENT: Form<'static> = Form {
 pub(crate) const CREATE_MOVEMENT: &str =
     "CREATE TABLE movement (seq INTEGER NOT NULL, line INTEGER NOT NULL, kind INTEGER NOT NULL, lot TEXT NOT NULL, sub INTEGER NOT NULL, lot2 TEXT, sub2 INTEGER, batch TEXT, amount INTEGER NOT NULL, at INTEGER NOT NULL, by_who TEXT NOT NULL, note TEXT NOT NULL, UNIQUE (seq, line)) STRICT";
 
-/// The index that finds the bookings of a lot.
-pub(crate) const CREATE_MOVEMENT_BY_LOT: &str = "CREATE INDEX movement_by_lot ON movement (lot)";
+/// The index that finds the bookings that name a lot first, in their order.
+pub(crate) const CREATE_MOVEMENT_BY_LOT: &str =
+    "CREATE INDEX movement_by_lot ON movement (lot, seq, line)";
+
+/// The index that finds those that name it second.
+pub(crate) const CREATE_MOVEMENT_BY_LOT2: &str =
+    "CREATE INDEX movement_by_lot2 ON movement (lot2, seq, line)";
 
 /// The index that finds the bookings for a batch.
 pub(crate) const CREATE_MOVEMENT_BY_BATCH: &str =
@@ -409,7 +418,7 @@ pub(crate) const CREATE_TABLES: [&str; 17] = [
 ];
 
 /// The indexes of the newest schema, each with the text that makes it.
-pub(crate) const DESK_INDEXES: [IndexText<'static>; 10] = [
+pub(crate) const DESK_INDEXES: [IndexText<'static>; 12] = [
     IndexText {
         name: b"batch_event_by_batch",
         sql: CREATE_BATCH_EVENT_BY_BATCH,
@@ -450,6 +459,14 @@ pub(crate) const DESK_INDEXES: [IndexText<'static>; 10] = [
         name: b"recall_by_state",
         sql: CREATE_RECALL_BY_STATE,
     },
+    IndexText {
+        name: b"recipe_by_state",
+        sql: CREATE_RECIPE_BY_STATE,
+    },
+    IndexText {
+        name: b"movement_by_lot2",
+        sql: CREATE_MOVEMENT_BY_LOT2,
+    },
 ];
 
 /// How many of the tables, from the first on, are those of a schema.
@@ -474,10 +491,10 @@ pub fn tables_in(schema: u64) -> usize
 pub(crate) fn indexes_in(schema: u64) -> usize
     ensures own { take result desk_indexes ≡ indexes_of schema }
     ensures later { drop result desk_indexes ≡ later_indexes schema }
-    ensures few { result ≤ 10 }
+    ensures few { result ≤ 12 }
 {
     if schema >= 4 {
-        10
+        12
     } else if schema >= 2 {
         4
     } else {

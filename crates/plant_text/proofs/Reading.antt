@@ -10,6 +10,9 @@ use Rattle.serde_json.specs.Find.{get}
 use Rattle.serde_json.specs.Read.{read}
 use Rattle.plant_worklists.specs.declared.list.Worklist.{Worklist}
 use Rattle.plant_worklists.specs.declared.list.Worklist.TheVariants as list
+use Rattle.plant_worklists.specs.declared.place.MovementPlace.{MovementPlace}
+use Rattle.plant_worklists.specs.declared.place.RecipePlace.{RecipePlace}
+use Rattle.plant_base.specs.declared.states.RecipeState.{RecipeState}
 use Rattle.plant_desk.specs.declared.question.Question.{Question}
 use Rattle.plant_desk.specs.declared.question.Question.TheVariants as Q
 use Rattle.plant_shapes.specs.declared.members.Member.{Member}
@@ -28,7 +31,7 @@ use Rattle.plant_shapes.specs.Laws.{Values, fields_in, may_in}
 use Rattle.plant_shapes.specs.Tables.{list_members}
 use Rattle.plant_shapes.proofs.Typed.{Good, good_bind, good_map, good_object, exactly_typed, only_fails, ask_fails}
 use Rattle.plant_text.specs.Lines.{value_says, longest_line, text_says, line_says, line_of}
-use Rattle.plant_text.specs.Questions.{asked_alone, one_id, id_named, node_named, page_asked, list_in, list_asked, question_for, kind_at, question_by, question_of}
+use Rattle.plant_text.specs.Questions.{asked_alone, one_id, id_named, node_named, page_asked, recipes_asked, ledger_asked, list_in, list_asked, question_for, kind_at, question_by, question_of}
 
 pub at_value : (bytes : List ℕ) (d : Data) → length bytes ≤ longest_line → IsUtf8 bytes → read bytes ≡ Some d → line_says bytes ≡ value_says d
 unfolding line_says
@@ -73,6 +76,14 @@ place_total : (w : Worklist) (o : Option (List ℕ)) → Good is_told (λ x. ⊤
 place_total w None = tt
 place_total w (Some id) = tt
 
+recipes_total : (state : RecipeState) (o : Option RecipePlace) → Good is_told (λ x. ⊤) (or_no_form (recipes_asked (may_in true rule.RecipeState state) (may_in false rule.RecipePlace o)))
+recipes_total state None = tt
+recipes_total state (Some place) = tt
+
+ledger_total : (lot : List ℕ) (o : Option MovementPlace) → Good is_told (λ x. ⊤) (or_no_form (ledger_asked (may_in true rule.Id lot) (may_in false rule.MovementPlace o)))
+ledger_total lot None = tt
+ledger_total lot (Some place) = tt
+
 list_made : (kind : ListKind) (v : Values (list_members kind)) → Good is_told (λ x. ⊤) (or_no_form (list_in kind (fields_in (list_members kind) v)))
 list_made k.Orders v = place_total (list.Orders v.1.0) v.1.1.0
 list_made k.Batches v = place_total list.OpenBatches v.1.0
@@ -80,6 +91,8 @@ list_made k.Lots v = place_total (list.Lots v.1.0) v.1.1.0
 list_made k.Holds v = place_total (list.Holds v.1.0) v.1.1.0
 list_made k.Recalls v = place_total list.OpenRecalls v.1.0
 list_made k.Definitions v = place_total (list.Definitions v.1.0) v.1.1.0
+list_made k.Recipes v = recipes_total v.1.0 v.1.1.0
+list_made k.Movements v = ledger_total v.1.0 v.1.1.0
 
 list_total : (kind : ListKind) (d : Data) → Good problem_told (λ x. ⊤) (list_asked kind d)
 list_total kind d = good_object _ (exactly (list_members kind) d >>= (λ fs. or_no_form (list_in kind fs))) (good_bind is_told _ (exactly (list_members kind) d) _ (exactly_typed (list_members kind) d _ (list_made kind)))

@@ -8,6 +8,8 @@ use Rattle.plant_trace.specs.declared.node.Node.{Node}
 use Rattle.plant_trace.specs.declared.node.Node.TheVariants.{Lot, Batch}
 use Rattle.plant_worklists.specs.declared.list.Worklist.{Worklist}
 use Rattle.plant_worklists.specs.declared.list.Worklist.TheVariants as list
+use Rattle.plant_worklists.specs.declared.place.MovementPlace.{MovementPlace}
+use Rattle.plant_worklists.specs.declared.place.RecipePlace.{RecipePlace}
 use Rattle.plant_desk.specs.declared.question.Question.{Question}
 use Rattle.plant_desk.specs.declared.question.Question.TheVariants as Q
 use Rattle.plant_shapes.specs.declared.members.Member.{Member}
@@ -65,6 +67,8 @@ whole_list k.Lots = None
 whole_list k.Holds = None
 whole_list k.Recalls = Some list.OpenRecalls
 whole_list k.Definitions = None
+whole_list k.Recipes = None
+whole_list k.Movements = None
 
 -- the list of a kind that is of this
 abbrev pub list_of : ListKind → Field → Option Worklist
@@ -78,10 +82,38 @@ abbrev pub page_asked : Option Worklist → Field → Option Question
 page_asked None above = None
 page_asked (Some w) above = option_map (Q.List w) (place_in above)
 
+-- the same of the place in a list of recipes
+abbrev pub recipe_place_in : Field → Option (Option RecipePlace)
+recipe_place_in field.Absent = Some None
+recipe_place_in (field.RecipePlace place) = Some (Some place)
+recipe_place_in _ = None
+
+-- and of the place in a ledger
+abbrev pub movement_place_in : Field → Option (Option MovementPlace)
+movement_place_in field.Absent = Some None
+movement_place_in (field.MovementPlace place) = Some (Some place)
+movement_place_in _ = None
+
+-- the question for a page of the recipes in a state
+abbrev pub recipes_asked : Field → Field → Option Question
+recipes_asked (field.RecipeState state) above = option_map (Q.Recipes state) (recipe_place_in above)
+recipes_asked _ above = None
+
+-- the question for a page of the ledger of a lot
+abbrev pub ledger_asked : Field → Field → Option Question
+ledger_asked (field.Id lot) above = option_map (Q.Ledger lot) (movement_place_in above)
+ledger_asked _ above = None
+
+-- the question for a page of a list that is of this
+abbrev pub of_asked : ListKind → Field → Field → Option Question
+of_asked k.Recipes of above = recipes_asked of above
+of_asked k.Movements of above = ledger_asked of above
+of_asked kind of above = page_asked (list_of kind of) above
+
 -- the question for a page by the values of its members
 abbrev pub list_in : ListKind → List Field → Option Question
 list_in kind (field.Chosen ∷ above ∷ []) = page_asked (whole_list kind) above
-list_in kind (field.Chosen ∷ of ∷ above ∷ []) = page_asked (list_of kind of) above
+list_in kind (field.Chosen ∷ of ∷ above ∷ []) = of_asked kind of above
 list_in kind _ = None
 
 -- the question for a page of a list of a kind

@@ -3,6 +3,7 @@ ghost use Rattle.std.specs.Prelude.{◌≡◌, true, IfErr};
 ghost use Rattle.serde_json.specs.View.{view};
 ghost use Rattle.plant_shapes.specs.Problems.{problem_told};
 ghost use Rattle.plant_text.specs.Questions.{asked_alone, id_named, node_named, trace_of, edges_of, place_in, whole_list, list_of, list_in};
+ghost use Rattle.plant_text.specs.Questions.{recipe_place_in, movement_place_in, recipes_asked, ledger_asked, of_asked};
 ghost use Rattle.plant_text.specs.Questions.{list_asked, question_for, kind_at, question_of};
 
 use plant_base::Id;
@@ -12,7 +13,7 @@ use plant_shapes::{
     question_kind,
 };
 use plant_trace::{Direction, Node};
-use plant_worklists::Worklist;
+use plant_worklists::{MovementPlace, RecipePlace, Worklist};
 use serde_json::Value;
 
 /// A question that names nothing.
@@ -89,7 +90,12 @@ fn whole_list(kind: ListKind) -> Option<Worklist>
     match kind {
         ListKind::Batches => Some(Worklist::OpenBatches),
         ListKind::Recalls => Some(Worklist::OpenRecalls),
-        ListKind::Orders | ListKind::Lots | ListKind::Holds | ListKind::Definitions => None,
+        ListKind::Orders
+        | ListKind::Lots
+        | ListKind::Holds
+        | ListKind::Definitions
+        | ListKind::Recipes
+        | ListKind::Movements => None,
     }
 }
 
@@ -106,13 +112,66 @@ fn list_of(kind: ListKind, of: Field) -> Option<Worklist>
     }
 }
 
+/// The place in a list of recipes that a page goes on from, nothing where none is given.
+fn recipe_place_in(field: Field) -> Option<Option<RecipePlace>>
+    ensures { result ≡ recipe_place_in field }
+{
+    match field {
+        Field::Absent => Some(None),
+        Field::RecipePlace(place) => Some(Some(place)),
+        _ => None,
+    }
+}
+
+/// The place in a ledger that a page goes on from, nothing where none is given.
+fn movement_place_in(field: Field) -> Option<Option<MovementPlace>>
+    ensures { result ≡ movement_place_in field }
+{
+    match field {
+        Field::Absent => Some(None),
+        Field::MovementPlace(place) => Some(Some(place)),
+        _ => None,
+    }
+}
+
+/// The question for a page of the recipes in a state.
+fn recipes_asked(of: Field, above: Field) -> Option<Question>
+    ensures { result ≡ recipes_asked of above }
+{
+    match of {
+        Field::RecipeState(state) => Some(Question::Recipes(state, recipe_place_in(above)?)),
+        _ => None,
+    }
+}
+
+/// The question for a page of the ledger of a lot.
+fn ledger_asked(of: Field, above: Field) -> Option<Question>
+    ensures { result ≡ ledger_asked of above }
+{
+    match of {
+        Field::Id(lot) => Some(Question::Ledger(lot, movement_place_in(above)?)),
+        _ => None,
+    }
+}
+
+/// The question for a page of a list that is of this.
+fn of_asked(kind: ListKind, of: Field, above: Field) -> Option<Question>
+    ensures { result ≡ of_asked kind of above }
+{
+    match kind {
+        ListKind::Recipes => recipes_asked(of, above),
+        ListKind::Movements => ledger_asked(of, above),
+        _ => Some(Question::List(list_of(kind, of)?, place_in(above)?)),
+    }
+}
+
 /// The question for a page by the values of its members.
 fn list_in(kind: ListKind, fields: &[Field]) -> Option<Question>
     ensures { result ≡ list_in kind fields.now }
 {
     match fields {
         &[Field::Chosen, above] => Some(Question::List(whole_list(kind)?, place_in(above)?)),
-        &[Field::Chosen, of, above] => Some(Question::List(list_of(kind, of)?, place_in(above)?)),
+        &[Field::Chosen, of, above] => of_asked(kind, of, above),
         _ => None,
     }
 }

@@ -3,8 +3,9 @@ use Rattle.std.proofs.Common.{◌≡◌, List, [], ◌∷◌, map, ℕ, Bool, tr
 use Rattle.serde_json.specs.Data.{Data}
 use Rattle.serde_json.specs.View.{items_of}
 use Rattle.serde_json.specs.Written.{has_float, items_have_float}
+use Rattle.plant_base.specs.declared.rows.Movement.{Movement}
 use Rattle.plant_base.specs.declared.rows.Sublot.{Sublot}
-use Rattle.plant_view.specs.Genealogy.{ends_of}
+use Rattle.plant_view.specs.Genealogy.{batch_by, ends_of}
 use Rattle.plant_desk.specs.declared.genealogy.BookedEdge.{BookedEdge}
 use Rattle.plant_desk.specs.declared.genealogy.Genealogy.{Genealogy}
 use Rattle.plant_desk.specs.declared.genealogy.NodeAnswer.{NodeAnswer}
@@ -25,8 +26,8 @@ use Rattle.plant_text_answers.specs.EdgeAnswers.{node_item, edge_item, genealogy
 use Rattle.plant_text_answers.specs.TraceAnswers.{node_data, nodes_data, trace_data}
 use Rattle.plant_text_answers.specs.Answers.{order_data}
 use Rattle.plant_text_answers.specs.LotAnswers.{lot_data, stands_data}
-use Rattle.plant_text_answers.specs.ListAnswers.{order_item, batch_item, lot_item, hold_item, recall_item, definition_item, listed_data}
-use Rattle.plant_text_answers.specs.Parts.{sublots_data, id_or_null}
+use Rattle.plant_text_answers.specs.ListAnswers.{order_item, batch_item, lot_item, hold_item, recall_item, definition_item, recipe_item, movement_item, other_lot, other_sub, listed_data}
+use Rattle.plant_text_answers.specs.Parts.{sublots_data, id_or_null, number_or_null}
 
 no_float_in_sublots : (sublots : List Sublot) → items_have_float (sublots_data sublots) ≡ false
 no_float_in_sublots [] = refl
@@ -97,6 +98,13 @@ no_float_in_open b = rw (no_float_in_id b.next_phase) refl
 no_float_in_stocked : (a : LotAnswer) → has_float (lot_item a) ≡ false
 no_float_in_stocked a = rw (no_float_in_sublots a.sublots) refl
 
+no_float_in_number : (n : Option ℕ) → has_float (number_or_null n) ≡ false
+no_float_in_number None = refl
+no_float_in_number (Some n) = refl
+
+no_float_in_movement : (m : Movement) → has_float (movement_item m) ≡ false
+no_float_in_movement m = rw (no_float_in_id (batch_by m.kind), no_float_in_id (other_lot m.kind m.lot), no_float_in_number (other_sub m.kind)) refl
+
 pub no_float_in_listed : (l : Listed) → has_float (listed_data l) ≡ false
 no_float_in_listed (listed.Orders page) = rw (no_float_in_rows order_item (λ j. refl) page.rows) refl
 no_float_in_listed (listed.Batches page) = rw (no_float_in_rows batch_item no_float_in_open page.rows) refl
@@ -104,3 +112,5 @@ no_float_in_listed (listed.Lots page) = rw (no_float_in_id page.last, no_float_i
 no_float_in_listed (listed.Holds page) = rw (no_float_in_rows hold_item (λ h. refl) page.rows) refl
 no_float_in_listed (listed.Recalls page) = rw (no_float_in_rows recall_item (λ r. refl) page.rows) refl
 no_float_in_listed (listed.Definitions page) = rw (no_float_in_rows definition_item (λ d. refl) page.rows) refl
+no_float_in_listed (listed.Recipes page) = rw (no_float_in_rows recipe_item (λ r. refl) page.rows) refl
+no_float_in_listed (listed.Ledger page) = rw (no_float_in_rows movement_item no_float_in_movement page.rows) refl

@@ -1,12 +1,17 @@
 -- The JSON trees of pages of worklists.
-use Rattle.std.specs.Prelude.{ℕ, List, map, codes}
+use Rattle.std.specs.Prelude.{ℕ, List, Option, Some, None, map, codes}
 use Rattle.serde_json.specs.Data.{Data, boolean, string, array, object, member, no_members}
 use Rattle.serde_json.specs.View.{items_of}
 use Rattle.plant_base.specs.Words.{batch_state_name}
 use Rattle.plant_base.specs.declared.rows.Definition.{Definition}
 use Rattle.plant_base.specs.declared.rows.Hold.{Hold}
 use Rattle.plant_base.specs.declared.rows.Job.{Job}
+use Rattle.plant_base.specs.declared.rows.Movement.{Movement}
+use Rattle.plant_base.specs.declared.rows.MovementKind.{MovementKind}
+use Rattle.plant_base.specs.declared.rows.MovementKind.TheVariants as kind
 use Rattle.plant_base.specs.declared.rows.Recall.{Recall}
+use Rattle.plant_base.specs.declared.rows.Recipe.{Recipe}
+use Rattle.plant_view.specs.Genealogy.{batch_by}
 use Rattle.plant_worklists.specs.declared.page.Page.{Page}
 use Rattle.plant_desk.specs.declared.listed.Listed.{Listed}
 use Rattle.plant_desk.specs.declared.listed.Listed.TheVariants as listed
@@ -14,7 +19,7 @@ use Rattle.plant_desk.specs.declared.listed.LotPage.{LotPage}
 use Rattle.plant_desk.specs.declared.listed.OpenBatch.{OpenBatch}
 use Rattle.plant_desk.specs.declared.question.LotAnswer.{LotAnswer}
 use Rattle.plant_text_answers.specs.Natural.{natural}
-use Rattle.plant_text_answers.specs.Parts.{id_or_null, sublots_data}
+use Rattle.plant_text_answers.specs.Parts.{id_or_null, number_or_null, sublots_data}
 
 -- what is shown of rows, in their order
 abbrev pub rows_data : {R : Type 0} → (R → Data) → List R → Data
@@ -43,6 +48,41 @@ recall_item r = object (member (codes "at") (natural r.at) (member (codes "by") 
 abbrev pub definition_item : Definition → Data
 definition_item d = object (member (codes "def") (string d.id) (member (codes "name") (string d.name) (member (codes "unit") (string d.unit) no_members)))
 
+abbrev pub recipe_item : Recipe → Data
+recipe_item r = object (member (codes "base") (natural r.header.base) (member (codes "max") (natural r.header.greatest) (member (codes "min") (natural r.header.least)
+    (member (codes "product") (string r.header.product) (member (codes "recipe") (string r.header.recipe) (member (codes "title") (string r.header.title)
+    (member (codes "version") (natural r.header.version) no_members)))))))
+
+-- the word of what a movement does
+abbrev pub movement_word : MovementKind → List ℕ
+movement_word kind.Received = codes "received"
+movement_word (kind.Consumed batch) = codes "consumed"
+movement_word (kind.Produced batch) = codes "produced"
+movement_word kind.Scrapped = codes "scrapped"
+movement_word (kind.Divided to) = codes "divided"
+movement_word (kind.Split to) = codes "split"
+movement_word (kind.Merged to) = codes "merged"
+
+-- the lot that a movement of this lot brings its amount to from another sublot, its own where it was divided
+abbrev pub other_lot : MovementKind → List ℕ → Option (List ℕ)
+other_lot (kind.Divided to) lot = Some lot
+other_lot (kind.Split to) lot = Some to
+other_lot (kind.Merged to) lot = Some to
+other_lot _ lot = None
+
+-- and the sublot
+abbrev pub other_sub : MovementKind → Option ℕ
+other_sub (kind.Divided to) = Some to
+other_sub (kind.Split to) = Some 0
+other_sub (kind.Merged to) = Some 0
+other_sub _ = None
+
+abbrev pub movement_item : Movement → Data
+movement_item m = object (member (codes "amount") (natural m.amount) (member (codes "at") (natural m.at) (member (codes "batch") (id_or_null (batch_by m.kind))
+    (member (codes "by") (string m.by) (member (codes "kind") (string (movement_word m.kind)) (member (codes "line") (natural m.line)
+    (member (codes "lot") (string m.lot) (member (codes "note") (string m.note) (member (codes "seq") (natural m.seq) (member (codes "sub") (natural m.sub)
+    (member (codes "to") (id_or_null (other_lot m.kind m.lot)) (member (codes "to_sub") (number_or_null (other_sub m.kind)) no_members))))))))))))
+
 -- ---- pages
 
 abbrev pub orders_data : Page Job → Data
@@ -63,6 +103,12 @@ recalls_data page = object (member (codes "more") (boolean page.has_more) (membe
 abbrev pub definitions_data : Page Definition → Data
 definitions_data page = object (member (codes "definitions") (rows_data definition_item page.rows) (member (codes "more") (boolean page.has_more) no_members))
 
+abbrev pub recipes_data : Page Recipe → Data
+recipes_data page = object (member (codes "more") (boolean page.has_more) (member (codes "recipes") (rows_data recipe_item page.rows) no_members))
+
+abbrev pub ledger_data : Page Movement → Data
+ledger_data page = object (member (codes "more") (boolean page.has_more) (member (codes "movements") (rows_data movement_item page.rows) no_members))
+
 abbrev pub listed_data : Listed → Data
 listed_data (listed.Orders page) = orders_data page
 listed_data (listed.Batches page) = batches_data page
@@ -70,3 +116,5 @@ listed_data (listed.Lots page) = lots_data page
 listed_data (listed.Holds page) = holds_data page
 listed_data (listed.Recalls page) = recalls_data page
 listed_data (listed.Definitions page) = definitions_data page
+listed_data (listed.Recipes page) = recipes_data page
+listed_data (listed.Ledger page) = ledger_data page

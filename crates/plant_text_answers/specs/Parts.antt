@@ -16,3 +16,8 @@ sublots_data sublots = items_of (map sublot_data sublots)
 abbrev pub id_or_null : Option (List ℕ) → Data
 id_or_null None = null
 id_or_null (Some id) = string id
+
+-- the number, or null where there is none
+abbrev pub number_or_null : Option ℕ → Data
+number_or_null None = null
+number_or_null (Some n) = natural n

@@ -4,11 +4,11 @@ ghost use Rattle.serde_json.specs.Data.{array};
 ghost use Rattle.serde_json.specs.View.{view, items_of};
 ghost use Rattle.serde_json.specs.Written.{compact_text};
 ghost use Rattle.plant_text_answers.specs.ListAnswers.{orders_data, batches_data, lots_data, holds_data, recalls_data};
-ghost use Rattle.plant_text_answers.specs.ListAnswers.{definitions_data, listed_data};
+ghost use Rattle.plant_text_answers.specs.ListAnswers.{definitions_data, recipes_data, ledger_data, listed_data};
 
 use crate::listed_rows::Shown;
 use crate::parts::id_value;
-use plant_base::{Definition, Hold, Job, Recall};
+use plant_base::{Definition, Hold, Job, Movement, Recall, Recipe};
 use plant_desk::{Listed, LotPage, OpenBatch};
 use plant_worklists::Page;
 use serde_json::{Value, json};
@@ -69,6 +69,20 @@ fn definitions_value(alloc: Global, page: &Page<Definition>) -> Result<Value, Al
     json!(in alloc; {"definitions": rows, "more": (page.has_more)})
 }
 
+fn recipes_value(alloc: Global, page: &Page<Recipe>) -> Result<Value, AllocError>
+    ensures { IfOk result (λ v. view v ≡ recipes_data page.now) }
+{
+    let rows = rows_value(alloc, page.rows.as_slice())?;
+    json!(in alloc; {"more": (page.has_more), "recipes": rows})
+}
+
+fn ledger_value(alloc: Global, page: &Page<Movement>) -> Result<Value, AllocError>
+    ensures { IfOk result (λ v. view v ≡ ledger_data page.now) }
+{
+    let rows = rows_value(alloc, page.rows.as_slice())?;
+    json!(in alloc; {"more": (page.has_more), "movements": rows})
+}
+
 fn listed_value(alloc: Global, listed: &Listed) -> Result<Value, AllocError>
     ensures { IfOk result (λ v. view v ≡ listed_data listed.now) }
 {
@@ -79,6 +93,8 @@ fn listed_value(alloc: Global, listed: &Listed) -> Result<Value, AllocError>
         Listed::Holds(page) => holds_value(alloc, page),
         Listed::Recalls(page) => recalls_value(alloc, page),
         Listed::Definitions(page) => definitions_value(alloc, page),
+        Listed::Recipes(page) => recipes_value(alloc, page),
+        Listed::Ledger(page) => ledger_value(alloc, page),
     }
 }
 

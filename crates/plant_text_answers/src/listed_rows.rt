@@ -1,8 +1,11 @@
 //! What is shown of a row in a page of a worklist.
+ghost use Rattle.std.specs.Prelude.{◌≡◌};
+ghost use Rattle.plant_view.specs.Genealogy.{batch_by};
 ghost use Rattle.plant_text_answers.specs.ListAnswers.{order_item, batch_item, lot_item, hold_item, recall_item, definition_item};
+ghost use Rattle.plant_text_answers.specs.ListAnswers.{recipe_item, movement_item, movement_word, other_lot, other_sub};
 
-use crate::parts::{id_value, sublots_value};
-use plant_base::{Definition, Hold, Job, Recall};
+use crate::parts::{id_value, number_value, sublots_value};
+use plant_base::{Definition, Hold, Id, Job, Movement, MovementKind, Recall, Recipe};
 use plant_desk::{LotAnswer, OpenBatch};
 use serde_json::{Value, json};
 use std::alloc::{AllocError, Global};
@@ -84,6 +87,81 @@ impl Shown for Definition {
     fn value(&self, alloc: Global) -> Result<Value, AllocError> {
         json!(in alloc; {
             "def": (self.id.as_str()), "name": (self.name.as_str()), "unit": (self.unit.as_str())
+        })
+    }
+}
+
+impl Shown for Recipe {
+    ghost shows = { recipe_item };
+
+    fn value(&self, alloc: Global) -> Result<Value, AllocError> {
+        let header = &self.header;
+        json!(in alloc; {
+            "base": (header.base.get()), "max": (header.greatest.get()), "min": (header.least.get()),
+            "product": (header.product.as_str()), "recipe": (header.recipe.as_str()), "title": (header.title.as_str()),
+            "version": (header.version)
+        })
+    }
+}
+
+/// The word of what a movement does.
+fn movement_word(kind: MovementKind) -> &'static str
+    ensures { result.now ≡ movement_word kind }
+{
+    match kind {
+        MovementKind::Received => "received",
+        MovementKind::Consumed { .. } => "consumed",
+        MovementKind::Produced { .. } => "produced",
+        MovementKind::Scrapped => "scrapped",
+        MovementKind::Divided { .. } => "divided",
+        MovementKind::Split { .. } => "split",
+        MovementKind::Merged { .. } => "merged",
+    }
+}
+
+/// The batch that a movement is of.
+fn batch_of(kind: MovementKind) -> Option<Id>
+    ensures { result ≡ batch_by kind }
+{
+    match kind {
+        MovementKind::Consumed { batch } | MovementKind::Produced { batch } => Some(batch),
+        _ => None,
+    }
+}
+
+/// The lot that a movement of this lot brings its amount to from another sublot.
+fn other_lot(kind: MovementKind, lot: Id) -> Option<Id>
+    ensures { result ≡ other_lot kind lot }
+{
+    match kind {
+        MovementKind::Divided { .. } => Some(lot),
+        MovementKind::Split { to } | MovementKind::Merged { to } => Some(to),
+        _ => None,
+    }
+}
+
+/// The sublot that it brings it to.
+fn other_sub(kind: MovementKind) -> Option<u16>
+    ensures { result ≡ other_sub kind }
+{
+    match kind {
+        MovementKind::Divided { to } => Some(to),
+        MovementKind::Split { .. } | MovementKind::Merged { .. } => Some(0),
+        _ => None,
+    }
+}
+
+impl Shown for Movement {
+    ghost shows = { movement_item };
+
+    fn value(&self, alloc: Global) -> Result<Value, AllocError> {
+        let batch = id_value(alloc, batch_of(self.kind))?;
+        let to = id_value(alloc, other_lot(self.kind, self.lot))?;
+        let to_sub = number_value(alloc, other_sub(self.kind))?;
+        json!(in alloc; {
+            "amount": (self.amount.get()), "at": (self.at.get()), "batch": batch, "by": (self.by.as_str()),
+            "kind": (movement_word(self.kind)), "line": (self.line), "lot": (self.lot.as_str()), "note": (self.note.as_str()),
+            "seq": (self.seq), "sub": (self.sub), "to": to, "to_sub": to_sub
         })
     }
 }

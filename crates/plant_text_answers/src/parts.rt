@@ -2,7 +2,7 @@
 ghost use Rattle.std.specs.Prelude.{◌≡◌, IfOk};
 ghost use Rattle.serde_json.specs.Data.{array};
 ghost use Rattle.serde_json.specs.View.{view};
-ghost use Rattle.plant_text_answers.specs.Parts.{sublot_data, sublots_data, id_or_null};
+ghost use Rattle.plant_text_answers.specs.Parts.{sublot_data, sublots_data, id_or_null, number_or_null};
 
 use plant_base::{Id, Sublot};
 use serde_json::{Value, json};
@@ -33,5 +33,15 @@ pub(crate) fn id_value(alloc: Global, id: Option<Id>) -> Result<Value, AllocErro
     match id {
         None => Ok(Value::Null),
         Some(id) => json!(in alloc; (id.as_str())),
+    }
+}
+
+/// A number, null where there is none.
+pub(crate) fn number_value(alloc: Global, number: Option<u16>) -> Result<Value, AllocError>
+    ensures { IfOk result (λ v. view v ≡ number_or_null number) }
+{
+    match number {
+        None => Ok(Value::Null),
+        Some(number) => json!(in alloc; number),
     }
 }

@@ -1,2 +1,5 @@
+pub mod Ahead
 pub mod Pages
+pub mod Rising
+pub mod Places
 pub mod Worklists

@@ -1,18 +1,26 @@
 -- Which rows of a state each list means, in the order of their keys.
-use Rattle.std.specs.Prelude.{ℕ, Bool, not, ◌&&◌, List, [], Option, Some, None, filter, map}
-use Rattle.std.specs.Ordering.{is_gt}
+use Rattle.std.specs.Prelude.{ℕ, Bool, not, ◌&&◌, ◌||◌, List, [], Option, Some, None, filter, map}
+use Rattle.std.specs.Ordering.{is_gt, nat_cmp, ordering_then}
 use Rattle.plant_base.specs.Recalls.{is_open}
-use Rattle.plant_base.specs.State.{State, id_cmp, same}
-use Rattle.plant_base.specs.Words.{job_state_name}
+use Rattle.plant_base.specs.State.{State, id_cmp, numbered_cmp, same}
+use Rattle.plant_base.specs.Words.{job_state_name, recipe_state_name}
 use Rattle.plant_base.specs.declared.rows.BatchRow.{BatchRow}
 use Rattle.plant_base.specs.declared.rows.Definition.{Definition}
 use Rattle.plant_base.specs.declared.rows.Hold.{Hold}
 use Rattle.plant_base.specs.declared.rows.Job.{Job}
 use Rattle.plant_base.specs.declared.rows.Lot.{Lot}
 use Rattle.plant_base.specs.declared.rows.Movement.{Movement}
+use Rattle.plant_base.specs.declared.rows.MovementKind.{MovementKind}
+use Rattle.plant_base.specs.declared.rows.MovementKind.TheVariants as kind
 use Rattle.plant_base.specs.declared.rows.Recall.{Recall}
+use Rattle.plant_base.specs.declared.rows.Recipe.{Recipe}
+use Rattle.plant_base.specs.declared.rows.Sublot.{Sublot}
 use Rattle.plant_base.specs.declared.states.JobState.{JobState}
-use Rattle.plant_view.specs.Tables.{batch_row}
+use Rattle.plant_base.specs.declared.states.RecipeState.{RecipeState}
+use Rattle.plant_view.specs.Tables.{batch_row, sublot_row}
+use Rattle.plant_view.specs.Views.{is_named}
+use Rattle.plant_worklists.specs.declared.place.MovementPlace.{MovementPlace}
+use Rattle.plant_worklists.specs.declared.place.RecipePlace.{RecipePlace}
 
 -- the text that a list's ids are to come after: where none is given the empty one, which each id comes after
 abbrev pub text_above : Option (List ℕ) → List ℕ
@@ -68,3 +76,55 @@ definitions_in s class above = filter (is_definition_in class above) s.definitio
 -- the movements that name a lot first: what it was received or produced by, what was divided in it and what left it
 abbrev pub lot_movements : State → List ℕ → List Movement
 lot_movements s lot = filter (λ m. same m.lot lot) s.movements
+
+-- ---- what is of the lots that come after one
+
+abbrev pub lots_after : State → Option (List ℕ) → List Lot
+lots_after s above = filter (λ l. is_above above l.id) s.lots
+
+abbrev pub sublots_after : State → Option (List ℕ) → List Sublot
+sublots_after s above = filter (λ r. is_above above r.lot) (map (sublot_row s.movements) s.places)
+
+abbrev pub holds_after : State → Option (List ℕ) → List Hold
+holds_after s above = filter (λ h. is_above above h.lot) s.holds
+
+-- ---- lists whose keys are of two values
+
+-- the place that a list of recipes is to come after: where none is given, one that each recipe comes after
+abbrev pub recipe_above : Option RecipePlace → RecipePlace
+recipe_above None = record { recipe = []; version = 0 }
+recipe_above (Some place) = place
+
+-- the version of the recipe comes after this place
+abbrev pub is_recipe_above : Option RecipePlace → Recipe → Bool
+is_recipe_above above r = is_gt (numbered_cmp r.header.recipe r.header.version (recipe_above above).recipe (recipe_above above).version)
+
+abbrev pub is_recipe_in : RecipeState → Option RecipePlace → Recipe → Bool
+is_recipe_in state above r = same (recipe_state_name r.state) (recipe_state_name state) && is_recipe_above above r
+
+-- the versions of recipes in a state
+abbrev pub recipes_in : State → RecipeState → Option RecipePlace → List Recipe
+recipes_in s state above = filter (is_recipe_in state above) s.recipes
+
+-- the place that a ledger is to come after: where none is given, one that each movement comes after
+abbrev pub movement_above : Option MovementPlace → MovementPlace
+movement_above None = record { seq = 0; line = 0 }
+movement_above (Some place) = place
+
+-- the movement comes after this place
+abbrev pub is_movement_above : Option MovementPlace → Movement → Bool
+is_movement_above above m = is_gt (ordering_then (nat_cmp m.seq (movement_above above).seq) (nat_cmp m.line (movement_above above).line))
+
+-- the lot that a split or a part of a merge makes
+abbrev pub lot_made : MovementKind → Option (List ℕ)
+lot_made (kind.Split to) = Some to
+lot_made (kind.Merged to) = Some to
+lot_made _ = None
+
+-- the movement brings to the lot or takes from it, or moves within it
+abbrev pub is_in_ledger : List ℕ → Option MovementPlace → Movement → Bool
+is_in_ledger lot above m = (same m.lot lot || is_named lot (lot_made m.kind)) && is_movement_above above m
+
+-- the ledger of a lot
+abbrev pub ledger_of : State → List ℕ → Option MovementPlace → List Movement
+ledger_of s lot above = filter (is_in_ledger lot above) s.movements

@@ -3,14 +3,30 @@
 #![tactic(auto)]
 
 mod above;
+mod ahead;
 mod list;
+mod lots_ahead;
+mod merging;
 mod movements;
+mod of_lot;
 mod page;
 pub mod pages;
+mod place;
+mod placed;
+mod runs;
 mod view;
 
-pub use above::{is_above, text_above};
+pub use above::{
+    is_above, is_movement_above, is_recipe_above, movement_above, recipe_text_above, text_above,
+    version_above,
+};
+pub use ahead::Ahead;
 pub use list::Worklist;
+pub use lots_ahead::{is_held_ahead, lot_ahead, sublots_ahead};
+pub use merging::merge_pages;
 pub use movements::lot_movements;
+pub use of_lot::OfLot;
 pub use page::{PAGE_SIZE, Page, first_page};
+pub use place::{MovementPlace, RecipePlace};
+pub use placed::Placed;
 pub use view::Worklists;

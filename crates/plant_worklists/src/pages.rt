@@ -2,11 +2,18 @@
 ghost use Rattle.std.specs.Prelude.{◌≡◌, IfOk};
 ghost use Rattle.plant_trace.specs.Sources.{Told};
 ghost use Rattle.plant_worklists.specs.Pages.{page_of};
+ghost use Rattle.plant_view.specs.Sound.{IsSound};
 ghost use Rattle.plant_worklists.specs.Worklists.{orders_in, open_batches, lots_of, holds_on, open_recalls, definitions_in};
+ghost use Rattle.plant_worklists.specs.Worklists.{lots_after, sublots_after, holds_after};
+ghost use Rattle.plant_worklists.specs.Worklists.{recipes_in, ledger_of};
 
 use crate::page::Page;
+use crate::place::{MovementPlace, RecipePlace};
 use crate::view::Worklists;
-use plant_base::{BatchRow, Definition, Hold, Id, Job, JobState, Lot, Recall};
+use plant_base::{
+    BatchRow, Definition, Hold, Id, Job, JobState, Lot, Movement, Recall, Recipe, RecipeState,
+    Sublot,
+};
 use plant_view::ViewFault;
 
 /// A page of the orders in a state.
@@ -92,6 +99,79 @@ pub fn definitions_in<V: Worklists>(
         (IfOk result (λ page. page ≡ page_of (definitions_in (V.state view.old) class above))) }
 {
     match view.definitions_in(class, above) {
+        Ok(page) => Ok(page),
+        Err(fault) => Err(ViewFault::View(fault)),
+    }
+}
+
+/// A page of the lots that come after one.
+pub fn lots_after<V: Worklists>(
+    view: &mut V,
+    above: Option<Id>,
+) -> Result<Page<Lot>, ViewFault<V::Fault>>
+    ensures { Told V.honest V.kept V.steady view.old view.new
+        (IfOk result (λ page. page ≡ page_of (lots_after (V.state view.old) above))) }
+{
+    match view.lots_after(above) {
+        Ok(page) => Ok(page),
+        Err(fault) => Err(ViewFault::View(fault)),
+    }
+}
+
+/// A page of the sublots of the lots that come after one.
+pub fn sublots_after<V: Worklists>(
+    view: &mut V,
+    above: Option<Id>,
+) -> Result<Page<Sublot>, ViewFault<V::Fault>>
+    ensures { Told V.honest V.kept V.steady view.old view.new
+        (IsSound (V.state view.old)
+        → IfOk result (λ page. page ≡ page_of (sublots_after (V.state view.old) above))) }
+{
+    match view.sublots_after(above) {
+        Ok(page) => Ok(page),
+        Err(fault) => Err(ViewFault::View(fault)),
+    }
+}
+
+/// A page of the holds of the lots that come after one.
+pub fn holds_after<V: Worklists>(
+    view: &mut V,
+    above: Option<Id>,
+) -> Result<Page<Hold>, ViewFault<V::Fault>>
+    ensures { Told V.honest V.kept V.steady view.old view.new
+        (IfOk result (λ page. page ≡ page_of (holds_after (V.state view.old) above))) }
+{
+    match view.holds_after(above) {
+        Ok(page) => Ok(page),
+        Err(fault) => Err(ViewFault::View(fault)),
+    }
+}
+
+/// A page of the versions of recipes in a state.
+pub fn recipes_in<V: Worklists>(
+    view: &mut V,
+    state: RecipeState,
+    above: Option<RecipePlace>,
+) -> Result<Page<Recipe>, ViewFault<V::Fault>>
+    ensures { Told V.honest V.kept V.steady view.old view.new
+        (IfOk result (λ page. page ≡ page_of (recipes_in (V.state view.old) state above))) }
+{
+    match view.recipes_in(state, above) {
+        Ok(page) => Ok(page),
+        Err(fault) => Err(ViewFault::View(fault)),
+    }
+}
+
+/// A page of the ledger of a lot.
+pub fn ledger_of<V: Worklists>(
+    view: &mut V,
+    lot: Id,
+    above: Option<MovementPlace>,
+) -> Result<Page<Movement>, ViewFault<V::Fault>>
+    ensures { Told V.honest V.kept V.steady view.old view.new
+        (IfOk result (λ page. page ≡ page_of (ledger_of (V.state view.old) lot above))) }
+{
+    match view.ledger_of(lot, above) {
         Ok(page) => Ok(page),
         Err(fault) => Err(ViewFault::View(fault)),
     }

@@ -1,9 +1,14 @@
 use crate::page::Page;
-use plant_base::{BatchRow, Definition, Hold, Id, Job, JobState, Lot, Movement, Recall};
+use crate::place::{MovementPlace, RecipePlace};
+use plant_base::{
+    BatchRow, Definition, Hold, Id, Job, JobState, Lot, Movement, Recall, Recipe, RecipeState,
+    Sublot,
+};
 use plant_view::View;
 
-/// The rows of a state, and what questions alone look up: pages of its lists, of each list what comes after an id, or its front
-/// where none is given, and the movements of a lot. The id needn't be there.
+/// The rows of a state, and what questions alone look up: pages of its lists, of each list what comes after an id or a place of
+/// two values, or its front where none is given, the movements of a lot, and pages of what lots have, lot by lot. The id or place
+/// needn't be there.
 ///
 /// A page is told as every look-up of a [`View`] is. So it is in every state.
 pub trait Worklists: View {
@@ -11,7 +16,9 @@ pub trait Worklists: View {
     ghost use Rattle.plant_trace.specs.Sources.{Told};
     ghost use Rattle.plant_worklists.specs.Pages.{page_of};
     ghost use Rattle.plant_worklists.specs.Worklists.{orders_in, open_batches, lots_of, holds_on, open_recalls, definitions_in};
-    ghost use Rattle.plant_worklists.specs.Worklists.{lot_movements};
+    ghost use Rattle.plant_worklists.specs.Worklists.{recipes_in, ledger_of, lot_movements};
+    ghost use Rattle.plant_worklists.specs.Worklists.{lots_after, sublots_after, holds_after};
+    ghost use Rattle.plant_view.specs.Sound.{IsSound};
 
     /// The orders in a state, by their ids.
     fn orders_in(&mut self, state: JobState, above: Option<Id>) -> Result<Page<Job>, Self::Fault>
@@ -47,9 +54,45 @@ pub trait Worklists: View {
         ensures { Told Self.honest Self.kept Self.steady self.old self.new
             (IfOk result (λ page. page ≡ page_of (definitions_in (Self.state self.old) class above))) };
 
+    /// The versions of recipes in a state, by their recipes and their numbers: what comes after a place.
+    fn recipes_in(
+        &mut self,
+        state: RecipeState,
+        above: Option<RecipePlace>,
+    ) -> Result<Page<Recipe>, Self::Fault>
+        ensures { Told Self.honest Self.kept Self.steady self.old self.new
+            (IfOk result (λ page. page ≡ page_of (recipes_in (Self.state self.old) state above))) };
+
+    /// The ledger of a lot: the movements that bring to it or take from it, or move within it, by their numbers and lines,
+    /// those into it by a split or a merge among them; what comes after a place.
+    fn ledger_of(
+        &mut self,
+        lot: Id,
+        above: Option<MovementPlace>,
+    ) -> Result<Page<Movement>, Self::Fault>
+        ensures { Told Self.honest Self.kept Self.steady self.old self.new
+            (IfOk result (λ page. page ≡ page_of (ledger_of (Self.state self.old) lot above))) };
+
     /// The movements that name a lot first, in their order: what it was received or produced by, what was divided in it and
     /// what left it.
     fn lot_movements(&mut self, lot: Id) -> Result<Vec<Movement>, Self::Fault>
         ensures { Told Self.honest Self.kept Self.steady self.old self.new
             (IfOk result (λ rows. rows.items ≡ lot_movements (Self.state self.old) lot)) };
+
+    /// The lots that come after one, by their ids.
+    fn lots_after(&mut self, above: Option<Id>) -> Result<Page<Lot>, Self::Fault>
+        ensures { Told Self.honest Self.kept Self.steady self.old self.new
+            (IfOk result (λ page. page ≡ page_of (lots_after (Self.state self.old) above))) };
+
+    /// The sublots of the lots that come after one, with their stock, by lot and number. The stocks are right where the state is
+    /// sound.
+    fn sublots_after(&mut self, above: Option<Id>) -> Result<Page<Sublot>, Self::Fault>
+        ensures { Told Self.honest Self.kept Self.steady self.old self.new
+            (IsSound (Self.state self.old)
+            → IfOk result (λ page. page ≡ page_of (sublots_after (Self.state self.old) above))) };
+
+    /// The holds of the lots that come after one, by lot and id.
+    fn holds_after(&mut self, above: Option<Id>) -> Result<Page<Hold>, Self::Fault>
+        ensures { Told Self.honest Self.kept Self.steady self.old self.new
+            (IfOk result (λ page. page ≡ page_of (holds_after (Self.state self.old) above))) };
 }

@@ -36,6 +36,8 @@ const LOWER: &str = "
     DROP INDEX job_by_state;
     DROP INDEX batch_by_closed;
     DROP INDEX lot_by_def;
+    DROP INDEX recipe_by_state;
+    DROP INDEX movement_by_lot2;
     DROP TABLE edge;
     DROP TABLE receipt;
     DROP INDEX mark_by_node;
@@ -49,6 +51,8 @@ const LOWER_TO_THE_SECOND: &str = "
     DROP INDEX job_by_state;
     DROP INDEX batch_by_closed;
     DROP INDEX lot_by_def;
+    DROP INDEX recipe_by_state;
+    DROP INDEX movement_by_lot2;
     DROP TABLE receipt;
     DROP TABLE mark;
     DROP TABLE recall;
@@ -60,6 +64,8 @@ const LOWER_TO_THE_THIRD: &str = "
     DROP INDEX job_by_state;
     DROP INDEX batch_by_closed;
     DROP INDEX lot_by_def;
+    DROP INDEX recipe_by_state;
+    DROP INDEX movement_by_lot2;
     DROP TABLE mark;
     DROP TABLE recall;
     UPDATE meta SET schema = 3";
@@ -75,6 +81,8 @@ const WITHOUT_INDEXES: &str = "
     DROP INDEX job_by_state;
     DROP INDEX batch_by_closed;
     DROP INDEX lot_by_def;
+    DROP INDEX recipe_by_state;
+    DROP INDEX movement_by_lot2;
     DROP INDEX recall_by_state";
 
 /// What the store holds once it is raised: the edges are new, and the rest stays but for the schema's number.

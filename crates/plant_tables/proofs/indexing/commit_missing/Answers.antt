@@ -1,7 +1,8 @@
-use Rattle.std.proofs.Common.{refl}
+use Rattle.std.proofs.Common.{refl, subst, sym}
 use Rattle.sqlite.specs.Held.{state}
 use Rattle.sqlite.proofs.StateLemmas.{survives_weaker}
 use Rattle.table_forms.proofs.Moving.{survives_none}
+use Rattle.plant_tables.specs.Missing.{MakeLacking}
 use Rattle.plant_tables.proofs.Missing.{cut_at_rest}
 use Rattle.plant_tables.proofs.indexing.commit_missing.Goals as goal
 
@@ -15,3 +16,8 @@ returns-in-Err-clause-gained g c =
       unmade = λ other. survives_none old;
       survives = survives_weaker _ _ _ _ (λ clean db none. absurd none) (survives_none old);
     }
+
+pub commit_these-requires-clause-lacked : goal.commit_these-requires-clause-lacked
+commit_these-requires-clause-lacked g c =
+    let found = subst (λ s. MakeLacking s c.in-Ok.missing.items) c.schema.ensures.value c.in-Ok.ensures in
+    subst (MakeLacking c.args.conn.now.schema) (sym c.as_slice.ensures.value) found

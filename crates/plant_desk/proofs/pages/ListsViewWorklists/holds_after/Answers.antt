@@ -1,0 +1,11 @@
+use Rattle.std.proofs.Common.{◌∙◌, refl, ap}
+use Rattle.plant_worklists.specs.Pages.{page_of}
+use Rattle.plant_desk.proofs.pages.ListsViewWorklists.holds_after.Goals as goal
+
+pub returns : goal.returns
+returns c = record {
+  always = tt;
+  before = λ h. h;
+  same = λ h. refl;
+  holds = λ h. c.first_page.ensures ∙ ap page_of (rw c.deref.ensures.value at c.in_ok-rows.ensures);
+}

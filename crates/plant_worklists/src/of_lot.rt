@@ -1,0 +1,100 @@
+//! The rows of lots.
+
+ghost use Rattle.std.specs.Prelude.{map};
+ghost use Rattle.plant_view.specs.Tables.{sublot_row};
+ghost use Rattle.plant_worklists.specs.Rising.{lots_rise, sublots_rise, holds_rise};
+
+use crate::page::Page;
+use crate::pages;
+use crate::view::Worklists;
+use plant_base::{Hold, Id, Lot, Sublot};
+use plant_view::ViewFault;
+
+/// A row of a lot: the lot itself, or what stands under its id.
+pub trait OfLot: Sized + Copy {
+    ghost use Rattle.std.specs.Prelude.{◌≡◌, ℕ, Bool, List, IfOk, filter};
+    ghost use Rattle.plant_base.specs.State.{State};
+    ghost use Rattle.plant_trace.specs.Sources.{Told};
+    ghost use Rattle.plant_view.specs.Sound.{IsSound};
+    ghost use Rattle.plant_worklists.specs.Ahead.{Rise, rows_after};
+    ghost use Rattle.plant_worklists.specs.Pages.{page_of};
+
+    /// The id of its lot.
+    ghost lot_of: { Self → List ℕ };
+
+    /// All such rows of a state.
+    ghost all: { State → List Self };
+
+    /// In a sound state any of them stand in the order of their lots.
+    ghost rise: { (s : State) (test : Self → Bool) → IsSound s → Rise lot_of (filter test (all s)) };
+
+    /// The id of its lot.
+    fn lot(&self) -> Id
+        ensures { result ≡ lot_of self.now };
+
+    /// A page of the rows of the lots that come after one.
+    fn page_after<V: Worklists>(
+        view: &mut V,
+        above: Option<Id>,
+    ) -> Result<Page<Self>, ViewFault<V::Fault>>
+        ensures { Told V.honest V.kept V.steady view.old view.new
+            (IsSound (V.state view.old)
+            → IfOk result (λ page. page ≡ page_of (rows_after lot_of above (all (V.state view.old))))) };
+}
+
+impl OfLot for Lot {
+    ghost lot_of = { λ l. l.id };
+
+    ghost all = { λ s. s.lots };
+
+    ghost rise = { lots_rise };
+
+    fn lot(&self) -> Id {
+        self.id
+    }
+
+    fn page_after<V: Worklists>(
+        view: &mut V,
+        above: Option<Id>,
+    ) -> Result<Page<Lot>, ViewFault<V::Fault>> {
+        pages::lots_after(view, above)
+    }
+}
+
+impl OfLot for Sublot {
+    ghost lot_of = { λ r. r.lot };
+
+    ghost all = { λ s. map (sublot_row s.movements) s.places };
+
+    ghost rise = { sublots_rise };
+
+    fn lot(&self) -> Id {
+        self.lot
+    }
+
+    fn page_after<V: Worklists>(
+        view: &mut V,
+        above: Option<Id>,
+    ) -> Result<Page<Sublot>, ViewFault<V::Fault>> {
+        pages::sublots_after(view, above)
+    }
+}
+
+impl OfLot for Hold {
+    ghost lot_of = { λ h. h.lot };
+
+    ghost all = { λ s. s.holds };
+
+    ghost rise = { holds_rise };
+
+    fn lot(&self) -> Id {
+        self.lot
+    }
+
+    fn page_after<V: Worklists>(
+        view: &mut V,
+        above: Option<Id>,
+    ) -> Result<Page<Hold>, ViewFault<V::Fault>> {
+        pages::holds_after(view, above)
+    }
+}

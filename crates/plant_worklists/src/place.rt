@@ -1,0 +1,54 @@
+//! Places in lists whose rows have keys of two values, and how such a place is written.
+ghost use Rattle.std.specs.Prelude.{◌≡◌};
+ghost use Rattle.plant_base.specs.Digits.{digits_of};
+ghost use Rattle.plant_worklists.specs.Places.{recipe_place, movement_place};
+
+use plant_base::{Id, read_digits};
+
+/// A version of a recipe as a place in a list of recipes. It needn't be there.
+#[derive(Clone, Copy, Debug, PartialEq, Eq)]
+pub struct RecipePlace {
+    pub recipe: Id,
+    pub version: u16,
+}
+
+/// A movement as a place in the ledger of a lot: the number of its command, and its line. It needn't be there.
+#[derive(Clone, Copy, Debug, PartialEq, Eq)]
+pub struct MovementPlace {
+    pub seq: u64,
+    pub line: u16,
+}
+
+impl RecipePlace {
+    /// The place that a text names: a recipe and a version of at most 3 digits, with a dot between them.
+    pub fn read(text: &str) -> Option<Self>
+        ensures { result ≡ recipe_place text.now }
+    {
+        let (recipe, version) = text.split_once('.')?;
+        Some(RecipePlace {
+            recipe: Id::read(recipe.as_bytes())?,
+            version: read_small(version)?,
+        })
+    }
+}
+
+impl MovementPlace {
+    /// The place that a text names: a number of at most 16 digits and a line of at most 3, with a dot between them.
+    pub fn read(text: &str) -> Option<Self>
+        ensures { result ≡ movement_place text.now }
+    {
+        let (seq, line) = text.split_once('.')?;
+        Some(MovementPlace {
+            seq: read_digits(seq.as_bytes(), 16)?,
+            line: read_small(line)?,
+        })
+    }
+}
+
+/// The number that at most 3 digits spell.
+fn read_small(text: &str) -> Option<u16>
+    ensures { result ≡ digits_of 3 text.now }
+{
+    let number = read_digits(text.as_bytes(), 3)?;
+    Some(number as u16)
+}

@@ -3,10 +3,12 @@
 
     examples/desk_check.py DESK DESK_CHECK
 
-Whatever stands there, the check has to leave every file with its bytes and its moment, and to make none. Of each statement of
+Wants a C compiler, which builds bench/stop.c. Whatever stands there, the check has to leave every file with its bytes and its moment, and no
+other behind. Of each statement of
 examples/tables/broken_rules.txt over the rows of good_desk.sql it has to tell first the rule that `desk verify` names. What it tells of
 a row is looked at for one statement of each rule.
 """
+import errno
 import json
 import os
 import pathlib
@@ -83,20 +85,20 @@ class FileCheck(Check):
         self.expect(f"{words}: what stands there", standing(self.room), before)
         return ran.returncode, ran.stdout, ran.stderr
 
-    def object(self, file, **how):
+    def object(self, file, *words, **how):
         """Returns the status of the check, and the object that it prints."""
-        status, output, errors = self.checked(file, "--json", **how)
+        status, output, errors = self.checked(file, "--json", *words, **how)
         self.expect(f"{file}: {errors}, {output}", (errors, output.count(b"\n")), (b"", 1))
         return status, json.loads(output)
 
-    def tells_cause(self, name, file, cause, status=3, opens=None, **how):
+    def tells_cause(self, name, file, cause, status=3, opens=None, words=(), **how):
         """Checks a file that the desk can't use, for this cause."""
-        found, told = self.object(file, **how)
+        found, told = self.object(file, *words, **how)
         obstacle = told["obstacle"] or {}
         self.expect(f"{name}: {told}", (found, obstacle.get("cause"), told["opens"]), (status, cause, cause is None))
         if cause:
             self.expect(f"{name}: in words", all(obstacle[it] for it in ("says", "advice")), True)
-            _, output, _ = self.checked(file, **how)
+            _, output, _ = self.checked(file, *words, **how)
             self.expect(f"{name}: in sentences", output.decode().splitlines()[1], f"{obstacle['says']} {obstacle['advice']}")
         if opens is not None:
             self.expect(f"{name}: what it holds", bool(told["desk"]), opens)
@@ -216,6 +218,15 @@ def rights_are_missing(check):
     check.tells_cause("no right to read", "rights.db", "unreadable", **as_nobody())
     os.chmod(file, 0o444)
     check.tells_cause("no right to write", "rights.db", "unwritable", opens=True, **as_nobody())
+    os.chmod(file, 0o666)
+    check.tells_cause("no right to make its log", "rights.db", "nolog", opens=True, **as_nobody())
+    (check.room / "rights.db-wal").touch()
+    os.chmod(check.room / "rights.db-wal", 0o666)
+    check.tells_cause("a log that is there", "rights.db", None, status=0, opens=True, **as_nobody())
+    (check.room / "rights.db-wal").unlink()
+    os.chmod(check.room, 0o757)
+    check.tells_cause("a folder of everybody's", "rights.db", None, status=0, opens=True, **as_nobody())
+    os.chmod(check.room, 0o755)
     os.chmod(file, 0o644)
     os.link(file, check.room / "second.db")
     check.tells_cause("two names", "rights.db", "linked")
@@ -234,6 +245,30 @@ def growth_is_limited(check):
     check.tells_cause("a limit below the file", "twenty.db", "limit", opens=True, **limited(-page))
     small = {"preexec_fn": lambda: resource.setrlimit(resource.RLIMIT_FSIZE, (0, 0))}
     check.tells_cause("a limit of no byte", "empty.db", "limit", opens=False, **small)
+
+
+def disks_are_tried(check):
+    """Tries whether the disk has room: where it has, where it is full or fails, and where no file can be made; a library put before the programs
+    makes them see what such a disk tells."""
+    check.tells_cause("a disk with room", "twenty.db", None, status=0, opens=True, words=["--room"])
+    library = check.room / "stop.so"
+    subprocess.run(["cc", "-shared", "-fPIC", "-O1", "-o", library, HERE.parent / "bench/stop.c", "-ldl"], check=True)
+    shutil.copyfile(check.room / "twenty.db", check.room / "disk.db")
+    for error, cause in [(errno.ENOSPC, "full"), (errno.EDQUOT, "full"), (errno.EROFS, "unwritable"), (errno.EIO, "store")]:
+        disk = os.environ | {"LD_PRELOAD": str(library), "STOP_AFTER": "0", "STOP_ERROR": str(error)}
+        room, log = disk | {"STOPPED": "-room"}, disk | {"STOPPED": "-wal"}
+        name = errno.errorcode[error]
+        ran = subprocess.run([check.program, "verify", "disk.db"], env=log, capture_output=True, cwd=check.room, timeout=SECONDS)
+        check.expect(f"the desk where the disk tells {name}", (ran.returncode, ran.stderr), (3, b"fault: store\n"))
+        check.tells_cause(f"a disk that tells {name}, and isn't tried", "disk.db", None, status=0, opens=True, env=room)
+        check.tells_cause(f"a disk that tells {name}", "disk.db", cause, opens=True, words=["--room"], env=room)
+    if os.geteuid() == 0:
+        shutil.copyfile(check.room / "twenty.db", check.room / "group.db")
+        os.chmod(check.room / "group.db", 0o666)
+        os.chmod(check.room, 0o775)
+        check.tells_cause("a folder of a group, which isn't tried", "group.db", None, status=0, opens=True, **as_nobody())
+        check.tells_cause("a folder of a group that the user isn't of", "group.db", "nolog", opens=True, words=["--room"], **as_nobody())
+        os.chmod(check.room, 0o755)
 
 
 def files_are_no_databases(check):
@@ -344,6 +379,7 @@ def main(desk, program):
         files_are_locked(check)
         rights_are_missing(check)
         growth_is_limited(check)
+        disks_are_tried(check)
         files_are_no_databases(check)
         memory_is_refused(check)
         rules_are_told(check)

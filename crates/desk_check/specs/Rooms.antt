@@ -1,7 +1,8 @@
 -- What keeps the desk from a file that opens.
-use Rattle.std.specs.Prelude.{ℕ, ◌+◌, Bool, not, nat_le, if◌then◌else◌, Option, Some, None}
+use Rattle.std.specs.Prelude.{ℕ, ◌+◌, Bool, true, not, ◌||◌, ◌==◌, nat_le, bit_and, if◌then◌else◌, Option, Some, None}
 use Rattle.desk_check.specs.declared.obstacle.Obstacle.{Obstacle}
 use Rattle.desk_check.specs.declared.obstacle.Obstacle.TheVariants as obstacle
+use Rattle.desk_check.specs.declared.room.Rights.{Rights}
 
 -- a page of the log with its head
 abbrev pub page_bytes : ℕ
@@ -11,6 +12,18 @@ page_bytes = 4120
 abbrev pub takes_page : ℕ → ℕ → Bool
 takes_page limit bytes = nat_le (bytes + page_bytes) limit
 
--- what keeps the desk from a file that may be written or not, and may grow with its log or not
-abbrev pub hindrance : Bool → Bool → Option Obstacle
-hindrance writable grows = if not writable then Some obstacle.Unwritable else (if not grows then Some obstacle.Limited else None)
+-- a mode allows all of these rights
+abbrev pub allows : ℕ → ℕ → Bool
+allows mode rights = bit_and mode rights == rights
+
+-- a folder lets this user make a file, by the rights to write and to search of its owner, of its group and of others
+abbrev pub lets_make : Rights → ℕ → Bool
+lets_make folder user = if user == 0 then true
+    else (if folder.owner == user then allows folder.mode 0o300
+    else (allows folder.mode 0o030 || allows folder.mode 0o003))
+
+-- what keeps the desk from a file that may be written or not, may grow with its log or not, and whose log is there or may be made or not
+abbrev pub hindrance : Bool → Bool → Bool → Option Obstacle
+hindrance writable grows logs = if not writable then Some obstacle.Unwritable
+    else (if not grows then Some obstacle.Limited
+    else (if not logs then Some obstacle.NoLog else None))

@@ -1,6 +1,7 @@
-//! The bytes of a file and of its log, read into memory. Nothing is made, and nothing is written.
+//! The bytes of a file and of its log, read into memory. Nothing is written to either.
 use crate::obstacle::{Obstacle, obstacle_at};
-use crate::room::{growth_limit, hindrance, takes_page};
+use crate::room::{Rights, growth_limit, hindrance, lets_make, takes_page};
+use crate::trying::tried_beside;
 use os::RangeLock;
 use std::fs::{self, File, Metadata, OpenOptions};
 use std::io::{self, ErrorKind, Read};
@@ -130,10 +131,11 @@ fn has_journal(rt: &HostRuntime, file: &str) -> Result<bool, Obstacle> {
     }
 }
 
-/// A log: its bytes, and whether it may be written, as one may that isn't there.
+/// A log: its bytes, whether it is there, and whether it may be written, as one may that isn't there.
 #[derive(Drop)]
 struct Log {
     bytes: Vec<u8>,
+    is_there: bool,
     writable: bool,
 }
 
@@ -143,26 +145,70 @@ fn log_of(rt: &HostRuntime, file: &str) -> Result<Log, Obstacle> {
     if !is_there(fs::symlink_metadata(rt, file))? {
         return Ok(Log {
             bytes: Vec::new(rt.alloc()),
+            is_there: false,
             writable: true,
         });
     }
     let (mut opened, writable) = open_there(rt, file)?;
     let bytes = bytes_of(rt, &mut opened)?;
-    Ok(Log { bytes, writable })
+    Ok(Log {
+        bytes,
+        is_there: true,
+        writable,
+    })
+}
+
+/// Whether this user may make a file in a folder, as far as its mode tells.
+fn may_make(rt: &HostRuntime, folder: &str) -> bool {
+    match fs::metadata(rt, folder) {
+        Ok(found) => {
+            let rights = Rights {
+                owner: found.uid(),
+                mode: found.mode(),
+            };
+            lets_make(rights, libc::geteuid())
+        }
+        Err(_) => true,
+    }
 }
 
 /// What keeps the desk from a file of so many bytes, which may be written or not, with this log, all the same, where something does.
-fn hindered(bytes: usize, writable: bool, log: &Log) -> Option<Obstacle> {
+fn hindered(
+    rt: &HostRuntime,
+    real: &str,
+    bytes: usize,
+    writable: bool,
+    log: &Log,
+) -> Option<Obstacle> {
     let limit = growth_limit();
     let grows = takes_page(limit, bytes) && takes_page(limit, log.bytes.len());
-    hindrance(writable && log.writable, grows)
+    let logs = log.is_there || may_make(rt, folder_of(real));
+    hindrance(writable && log.writable, grows, logs)
 }
 
-/// Reads a file and its log into memory, while no other program has them open, and asks whether they may be written and grow.
+/// What keeps the desk from a file where nothing was found to: whether a page can be written beside it, where that is tried.
+fn tried(
+    rt: &HostRuntime,
+    real: &str,
+    hindered: Option<Obstacle>,
+    tries_room: bool,
+) -> Option<Obstacle> {
+    match hindered {
+        None if tries_room => tried_beside(rt, real),
+        found => found,
+    }
+}
+
+/// Reads a file and its log into memory, while no other program has them open, and asks whether they may be written and grow; and
+/// tries whether the disk has room beside them, where that is asked for.
 ///
 /// `Missing`, `NoFolder`, `NoFile`, `Linked`, `Unreadable`, `Locked`, `Journal`: as these say; `Unread` where a read failed;
 /// `Memory` where there is none.
-pub(crate) fn copy_file(rt: &HostRuntime, file: &str) -> Result<Copied, Obstacle> {
+pub(crate) fn copy_file(
+    rt: &HostRuntime,
+    file: &str,
+    tries_room: bool,
+) -> Result<Copied, Obstacle> {
     if !is_there(fs::metadata(rt, file))? {
         return Err(unfound(rt, file));
     }
@@ -179,8 +225,9 @@ pub(crate) fn copy_file(rt: &HostRuntime, file: &str) -> Result<Copied, Obstacle
     let log = beside(rt, real.as_str(), "-wal")?;
     let log = log_of(rt, log.as_str())?;
     let bytes = bytes_of(rt, &mut db)?;
+    let hindered = hindered(rt, real.as_str(), bytes.len(), writable, &log);
     Ok(Copied {
-        hindered: hindered(bytes.len(), writable, &log),
+        hindered: tried(rt, real.as_str(), hindered, tries_room),
         log: log.bytes,
         db: bytes,
     })

@@ -19,6 +19,8 @@ pub(crate) enum Obstacle {
     Unreadable,
     /// It or its log may not be written by this user, or the file system may only be read.
     Unwritable,
+    /// This user may make no file in its folder, where its log is to be made.
+    NoLog,
     /// It or its log may not grow by a page, since the system limits how large a file of this user's may become.
     Limited,
     /// It or its log has a second name.
@@ -48,6 +50,7 @@ impl Obstacle {
             Obstacle::NoFile => "nofile",
             Obstacle::Unreadable => "unreadable",
             Obstacle::Unwritable => "unwritable",
+            Obstacle::NoLog => "nolog",
             Obstacle::Limited => "limit",
             Obstacle::Linked => "linked",
             Obstacle::Journal => "journal",
@@ -72,6 +75,9 @@ impl Obstacle {
             Obstacle::Unreadable => "This user may not read it, its log or its folder.",
             Obstacle::Unwritable => {
                 "This user may not write it or its log, or its file system may only be read."
+            }
+            Obstacle::NoLog => {
+                "This user may make no file in its folder, where the desk makes its log."
             }
             Obstacle::Limited => {
                 "It or its log may not grow by a page: how large a file may become is limited."
@@ -98,7 +104,7 @@ impl Obstacle {
             }
             Obstacle::NoFolder => "Make the folder, or mend the name.",
             Obstacle::NoFile => "Name another file; ls -ld shows what it is.",
-            Obstacle::Unreadable | Obstacle::Unwritable => {
+            Obstacle::Unreadable | Obstacle::Unwritable | Obstacle::NoLog => {
                 "Give the rights to the user that runs the desk; ls -ld of the file, its -wal and its folder, id and findmnt -T show them."
             }
             Obstacle::Limited => "Raise the limit; ulimit -f shows it.",
@@ -126,6 +132,7 @@ impl Obstacle {
             | Obstacle::NoFile
             | Obstacle::Unreadable
             | Obstacle::Unwritable
+            | Obstacle::NoLog
             | Obstacle::Linked
             | Obstacle::Journal => Some(Error::SqliteFailure(ErrorCode::CannotOpen)),
             Obstacle::Locked => Some(Error::SqliteFailure(ErrorCode::DatabaseBusy)),
@@ -209,5 +216,20 @@ pub(crate) fn obstacle_at(kind: ErrorKind) -> Obstacle
         ErrorKind::NotADirectory => Obstacle::NoFolder,
         ErrorKind::OutOfMemory => Obstacle::Memory,
         _ => Obstacle::Unread,
+    }
+}
+
+/// The obstacle that an error of the system is, as a file is made beside and a page written to it.
+pub(crate) fn obstacle_beside(kind: ErrorKind) -> Obstacle
+    ensures { result ≡ spec.obstacle_beside kind }
+{
+    match kind {
+        ErrorKind::StorageFull | ErrorKind::QuotaExceeded => {
+            Obstacle::Closed(Error::SqliteFailure(ErrorCode::DiskFull))
+        }
+        ErrorKind::PermissionDenied => Obstacle::NoLog,
+        ErrorKind::ReadOnlyFilesystem => Obstacle::Unwritable,
+        ErrorKind::OutOfMemory => Obstacle::Memory,
+        _ => Obstacle::Closed(Error::SqliteFailure(ErrorCode::SystemIoFailure)),
     }
 }

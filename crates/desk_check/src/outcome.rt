@@ -38,9 +38,10 @@ fn outcome_of(surveyed: Result<Survey, Obstacle>, hindered: Option<Obstacle>) ->
     }
 }
 
-/// Checks a file. Nothing is made, and nothing is written.
-pub(crate) fn check_file(rt: &HostRuntime, file: &str) -> Outcome {
-    match copy_file(rt, file) {
+/// Checks a file, and whether the disk has room, where that is to be tried by a page that is written beside it. Nothing else is made or
+/// written.
+pub(crate) fn check_file(rt: &HostRuntime, file: &str, tries_room: bool) -> Outcome {
+    match copy_file(rt, file, tries_room) {
         Err(obstacle) => outcome_of(Err(obstacle), None),
         Ok(copied) => outcome_of(
             survey_bytes(rt.alloc(), copied.log.as_slice(), copied.db.as_slice()),

@@ -17,9 +17,16 @@ json_rule = record (new_rule (codes "json")) {
   action = Some SetTrue;
 }
 
--- a program that has a version and takes a file, which has to be there, and this
+-- whether a page is written beside the file
+abbrev pub room_rule : Rule
+room_rule = record (new_rule (codes "room")) {
+  long = Some (codes "room");
+  action = Some SetTrue;
+}
+
+-- a program that has a version and takes a file, which has to be there, and these
 abbrev pub desk_check_app : App
-desk_check_app = with_rule (with_rule (told_app (codes "desk_check")) file_rule) json_rule
+desk_check_app = with_rule (with_rule (with_rule (told_app (codes "desk_check")) file_rule) json_rule) room_rule
 
 -- what the words give for an argument
 abbrev pub given : List Text → Text → Option Text

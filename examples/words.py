@@ -3,6 +3,8 @@
 and a file that takes long to open, over a terminal.
 
     examples/words.py PROGRAM
+
+Wants a C compiler, which builds bench/refuse.c.
 """
 import contextlib
 import os
@@ -17,6 +19,7 @@ import sys
 import tempfile
 import time
 
+from hostile import HERE, changed, rows_of
 from sessions import SECONDS, Check
 
 STORE = (3, b"", b"fault: store\n")
@@ -115,6 +118,37 @@ class Words(Check):
             ran = subprocess.run([self.program, *words], stdin=folder, capture_output=True, cwd=self.room, timeout=SECONDS)
             os.close(folder)
             self.expect(f"{words[0]} of a folder", (ran.returncode, ran.stdout, ran.stderr), (3, b"", b"fault: read\n"))
+
+    def output_may_be_full(self):
+        """Gives a full device as standard output, where that is told; and as standard error too, where the status tells it alone."""
+        told = b'{"at":1,"by":"","do":"add_class","class":"RAW","name":""}\n'
+        for word in "init", "run", "verify":
+            with open("/dev/full", "wb") as full:
+                words = [self.program, word, "full.db"]
+                ran = subprocess.run(words, input=told, stdout=full, stderr=subprocess.PIPE, cwd=self.room, timeout=SECONDS)
+                self.expect(f"{word} to a full device", (ran.returncode, ran.stderr), (3, b"fault: write\n"))
+                ran = subprocess.run(words, input=told, stdout=full, stderr=full, cwd=self.room, timeout=SECONDS)
+                self.expect(f"{word} to two full devices", ran.returncode, 3)
+
+    def memory_may_be_refused(self):
+        """Refuses one of the first allocations, by a library that is put before the program."""
+        library = self.room / "refuse.so"
+        subprocess.run(["cc", "-shared", "-fPIC", "-O1", "-o", library, HERE.parent / "bench/refuse.c", "-ldl"], check=True)
+        for number in "1", "2", "5":
+            room = os.environ | {"LD_PRELOAD": str(library), "REFUSE": number}
+            ran = subprocess.run([self.program, "init", "memory.db"], env=room, capture_output=True, cwd=self.room, timeout=SECONDS)
+            self.expect(f"allocation {number}", (ran.returncode, ran.stdout, ran.stderr), (4, b"", b"fault: memory\n"))
+        self.expect("no file is made without memory", (self.room / "memory.db").exists(), False)
+
+    def a_later_program_may_have_had_it(self):
+        """Names a file whose tables are of a schema that isn't there yet: it stays as it is."""
+        file = self.room / "later.db"
+        self.run("init", file.name)
+        changed(file, "UPDATE meta SET schema = 99")
+        rows = rows_of(file)
+        for words in [["init"], ["run"], ["verify"], ["record", "B-1"], ["trace", "back", "L-1"], ["import", "--at", "1"], ["serve", "8080", "1"]]:
+            self.expect(f"{words[0]} of a later schema", self.run(words[0], file.name, *words[1:]), (3, b"", b"fault: newer 99\n"))
+        self.expect("a later schema stays", rows_of(file), rows)
 
     def values_have_ranges(self):
         """Gives values that are none: the words are told as wrong, and no file is made."""
@@ -230,6 +264,9 @@ def main(program):
         check.words_are_text()
         check.a_port_may_be_taken()
         check.input_may_fail()
+        check.output_may_be_full()
+        check.memory_may_be_refused()
+        check.a_later_program_may_have_had_it()
         check.values_have_ranges()
         check.broken_rules_are_told()
         check.requests_may_be_noted()

@@ -1,10 +1,10 @@
 //! Sessions over readers that give a byte a read and writers that take three bytes a write, and fail.
 use crate::pieces::{ENOUGH, Narrow, Trickle};
+use crate::session::{REPLIES, SESSION};
 use plant_desk::ListKeeper;
 use plant_text::{RunEnd, run_lines};
 use std::process::Abort;
 use std::test::Fail;
-use test_files::{REPLIES, SESSION};
 
 /// What a new desk over lists writes for an input, a byte a read and three bytes a write, up to so many of each; after that
 /// the writer takes nothing, or fails.

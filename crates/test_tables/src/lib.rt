@@ -1,5 +1,4 @@
-//! Tests of the desk's tables over stores: every kind of row is written, overwritten and read back, and a transaction is
-//! stopped at each call of a file in turn.
+//! A test of the desk's tables over a store: every kind of row is written, overwritten and read back.
 #![tactic(auto)]
 
 #[cfg(test)]
@@ -9,6 +8,6 @@ mod round_trip;
 #[cfg(test)]
 mod rows;
 #[cfg(test)]
-mod stops;
-#[cfg(test)]
 mod store;
+#[cfg(test)]
+mod told;

@@ -1,6 +1,7 @@
 //! What is done to a store: the making of its tables, the writing of rows, and the reading of all that it holds.
 use crate::expected::OTHER;
 use crate::rows::{FIRST, SECOND, rows, rows_and_overfull, rows_and_takings};
+use crate::told::{push_row, tables_told};
 use plant_tables::{commit_changes, commit_opening};
 use plant_view::RowChange;
 use sqlite::{Alter, Connection};
@@ -8,7 +9,6 @@ use std::alloc::Global;
 use std::process::Abort;
 use std::test::Fail;
 use table_forms::Fault;
-use test_files::{push_row, tables_told};
 
 /// A transaction over the desk's tables.
 #[derive(Clone, Copy)]

@@ -1,7 +1,7 @@
 // What is known of many lots, which are asked for one after another by their ids.
 ghost use Rattle.std.specs.Prelude.{◌≡◌, IfOk, IfSome, Some};
 ghost use Rattle.plant_base.specs.State.{State, definition_at, lot_at};
-ghost use Rattle.plant_trace.specs.Sources.{Told};
+ghost use Rattle.plant_trace.specs.Sources.{HonestlyTold};
 ghost use Rattle.plant_view.specs.Sound.{IsSound};
 ghost use Rattle.plant_desk.specs.KnownLots.{AreKnown};
 ghost use Rattle.plant_desk.specs.LotAnswers.{lot_answer};
@@ -12,9 +12,6 @@ use plant_base::{Definition, Hold, Id, Lot, Sublot};
 use plant_view::{ViewFault, look};
 use plant_worklists::{Ahead, Worklists, is_held_ahead, lot_ahead, sublots_ahead};
 use std::alloc::Global;
-
-/// So many lots are looked up before the first page is read.
-const FEW: u32 = 8;
 
 /// What was read ahead of the lots that are asked for, and the definition that was looked up last. Holds are few: whether there
 /// are any is asked at once.
@@ -32,9 +29,9 @@ impl KnownLots {
         ensures { (s : State) → AreKnown s result }
     {
         KnownLots {
-            lots: Ahead::unread(alloc, FEW),
-            sublots: Ahead::unread(alloc, FEW),
-            holds: Ahead::unread(alloc, 0),
+            lots: Ahead::unread(alloc, false),
+            sublots: Ahead::unread(alloc, false),
+            holds: Ahead::unread(alloc, true),
             definition: None,
         }
     }
@@ -46,7 +43,7 @@ pub(crate) fn known_row<V: Worklists>(
     known: &mut KnownLots,
     id: &Id,
 ) -> Result<Option<Lot>, ViewFault<V::Fault>>
-    ensures { Told V.honest V.kept V.steady view.old view.new
+    ensures { HonestlyTold V.honest V.kept V.steady view.old view.new
         (IsSound (V.state view.old) → AreKnown (V.state view.old) known.old
         → IfOk result (λ found. found ≡ lot_at (V.state view.old) id.now)
         × AreKnown (V.state view.old) known.new) }
@@ -61,7 +58,7 @@ pub(crate) fn known_lot<V: Worklists>(
     known: &mut KnownLots,
     lot: &Lot,
 ) -> Result<LotAnswer, ViewFault<V::Fault>>
-    ensures { Told V.honest V.kept V.steady view.old view.new
+    ensures { HonestlyTold V.honest V.kept V.steady view.old view.new
         (IsSound (V.state view.old) → AreKnown (V.state view.old) known.old
         → IfOk result (λ a. a ≡ lot_answer (V.state view.old) lot.now)
         × AreKnown (V.state view.old) known.new) }
@@ -77,7 +74,7 @@ pub(crate) fn known_definition<V: Worklists>(
     known: &mut KnownLots,
     id: Id,
 ) -> Result<Option<Definition>, ViewFault<V::Fault>>
-    ensures { Told V.honest V.kept V.steady view.old view.new
+    ensures { HonestlyTold V.honest V.kept V.steady view.old view.new
         (AreKnown (V.state view.old) known.old
         → IfOk result (λ found. found ≡ definition_at (V.state view.old) id)
         × AreKnown (V.state view.old) known.new) }

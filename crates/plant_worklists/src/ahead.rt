@@ -6,17 +6,11 @@ ghost use Rattle.plant_worklists.specs.Pages.{page_of};
 
 use crate::above::is_above;
 use crate::of_lot::OfLot;
+use crate::pace::Pace;
 use crate::page::Page;
 use crate::runs::run_of;
 use plant_base::{Id, Items};
 use std::alloc::Global;
-
-/// A page is read where so much was asked for since the last: reading one takes the time of some twenty look-ups, and where
-/// it answers as many lots the next is read at once.
-const A_PAGE: u32 = 64;
-
-/// What a lot counts that a page answers; one that is looked up counts one.
-const A_HIT: u32 = 4;
 
 /// Rows that were read ahead of the lots that are asked for. A state that is read doesn't change, so they stay true.
 #[derive(Drop)]
@@ -33,14 +27,15 @@ pub struct Ahead<R> {
     pub asked: Option<Id>,
     /// The lot that was asked for before it, behind which a page is read.
     pub last: Option<Id>,
-    /// What was asked for since a page was read.
-    pub count: u32,
+    /// What tells when to read a page.
+    pub pace: Pace,
 }
 
 impl<R: OfLot> Ahead<R> {
-    /// No rows, since none were read. The first page is read after so many look-ups. No memory is taken.
+    /// No rows, since none were read. The first page is read for the first lot, or where something speaks for it. No memory is
+    /// taken.
     #[tactic(auto, using(crate::proofs::Reading::none_read))]
-    pub fn unread(alloc: Global, look_ups: u32) -> Ahead<R>
+    pub fn unread(alloc: Global, at_once: bool) -> Ahead<R>
         ensures { (all : List R) → AreAhead R.lot_of all result }
     {
         Ahead {
@@ -50,7 +45,7 @@ impl<R: OfLot> Ahead<R> {
             before: None,
             asked: None,
             last: None,
-            count: A_PAGE.saturating_sub(look_ups),
+            pace: Pace::new(at_once),
         }
     }
 
@@ -66,15 +61,11 @@ impl<R: OfLot> Ahead<R> {
         ensures { (all : List R) → AreAhead R.lot_of all self.old → AreAhead R.lot_of all self.new }
     {
         if self.is_within(lot) {
-            self.count = self.count.saturating_add(A_HIT);
+            self.pace.hit();
             return false;
         }
-        if self.count < A_PAGE {
-            self.count = self.count.saturating_add(1);
-            return false;
-        }
-        self.count = 0;
-        true
+        let is_near = are_near(lot, &self.last);
+        self.pace.is_due(is_near)
     }
 
     /// Notes the lot that is asked for. No rows are changed.
@@ -109,6 +100,15 @@ impl<R: OfLot> Ahead<R> {
             None
         }
     }
+}
+
+/// Whether a lot's id is that of another but for its last character: such lots mostly stand near each other.
+fn are_near(lot: &Id, other: &Option<Id>) -> bool {
+    let Some(other) = other else {
+        return false;
+    };
+    let (id, other) = (lot.as_bytes(), other.as_bytes());
+    id.len() == other.len() && other.starts_with(&id[..id.len().saturating_sub(1)])
 }
 
 fn is_before(lot: &Id, before: &Option<Id>) -> bool

@@ -2,7 +2,7 @@
 
 ghost use Rattle.std.specs.Prelude.{◌≡◌, IfOk, length, nat_le, slice_get};
 ghost use Rattle.plant_base.specs.State.{lot_at};
-ghost use Rattle.plant_trace.specs.Sources.{Told};
+ghost use Rattle.plant_trace.specs.Sources.{HonestlyTold};
 ghost use Rattle.plant_view.specs.Refusing.{is_held};
 ghost use Rattle.plant_view.specs.Sound.{IsSound};
 ghost use Rattle.plant_view.specs.Tables.{sublots_of};
@@ -21,7 +21,7 @@ fn read_ahead<V: Worklists, R: OfLot>(
     ahead: &mut Ahead<R>,
     lot: &Id,
 ) -> Result<(), ViewFault<V::Fault>>
-    ensures { Told V.honest V.kept V.steady view.old view.new
+    ensures { HonestlyTold V.honest V.kept V.steady view.old view.new
         (IsSound (V.state view.old) → AreAhead R.lot_of (R.all (V.state view.old)) ahead.old
         → AreAhead R.lot_of (R.all (V.state view.old)) ahead.new) }
 {
@@ -40,7 +40,7 @@ pub fn lot_ahead<V: Worklists>(
     ahead: &mut Ahead<Lot>,
     id: &Id,
 ) -> Result<Option<Lot>, ViewFault<V::Fault>>
-    ensures { Told V.honest V.kept V.steady view.old view.new
+    ensures { HonestlyTold V.honest V.kept V.steady view.old view.new
         (IsSound (V.state view.old) → AreLotsAhead (V.state view.old) ahead.old
         → IfOk result (λ found. found ≡ lot_at (V.state view.old) id.now)
         × AreLotsAhead (V.state view.old) ahead.new) }
@@ -58,7 +58,7 @@ pub fn is_held_ahead<V: Worklists>(
     ahead: &mut Ahead<Hold>,
     lot: &Id,
 ) -> Result<bool, ViewFault<V::Fault>>
-    ensures { Told V.honest V.kept V.steady view.old view.new
+    ensures { HonestlyTold V.honest V.kept V.steady view.old view.new
         (IsSound (V.state view.old) → AreHoldsAhead (V.state view.old) ahead.old
         → IfOk result (λ held. held ≡ is_held (V.state view.old) lot.now)
         × AreHoldsAhead (V.state view.old) ahead.new) }
@@ -77,7 +77,7 @@ pub fn sublots_ahead<V: Worklists>(
     ahead: &mut Ahead<Sublot>,
     lot: &Id,
 ) -> Result<Vec<Sublot>, ViewFault<V::Fault>>
-    ensures { Told V.honest V.kept V.steady view.old view.new
+    ensures { HonestlyTold V.honest V.kept V.steady view.old view.new
         (IsSound (V.state view.old) → AreSublotsAhead (V.state view.old) ahead.old
         → IfOk result (λ rows. rows.items ≡ sublots_of (V.state view.old) lot.now)
         × AreSublotsAhead (V.state view.old) ahead.new) }

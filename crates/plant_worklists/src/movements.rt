@@ -1,6 +1,6 @@
 //! The movements of a lot, with the fault of a decision: `ViewFault::View` where the view failed.
 ghost use Rattle.std.specs.Prelude.{◌≡◌, IfOk};
-ghost use Rattle.plant_trace.specs.Sources.{Told};
+ghost use Rattle.plant_trace.specs.Sources.{HonestlyTold};
 ghost use Rattle.plant_worklists.specs.Worklists.{lot_movements};
 
 use crate::view::Worklists;
@@ -12,7 +12,7 @@ pub fn lot_movements<V: Worklists>(
     view: &mut V,
     lot: Id,
 ) -> Result<Vec<Movement>, ViewFault<V::Fault>>
-    ensures { Told V.honest V.kept V.steady view.old view.new
+    ensures { HonestlyTold V.honest V.kept V.steady view.old view.new
         (IfOk result (λ rows. rows.items ≡ lot_movements (V.state view.old) lot)) }
 {
     match view.lot_movements(lot) {

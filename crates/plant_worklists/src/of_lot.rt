@@ -14,7 +14,7 @@ use plant_view::ViewFault;
 pub trait OfLot: Sized + Copy {
     ghost use Rattle.std.specs.Prelude.{◌≡◌, ℕ, Bool, List, IfOk, filter};
     ghost use Rattle.plant_base.specs.State.{State};
-    ghost use Rattle.plant_trace.specs.Sources.{Told};
+    ghost use Rattle.plant_trace.specs.Sources.{HonestlyTold};
     ghost use Rattle.plant_view.specs.Sound.{IsSound};
     ghost use Rattle.plant_worklists.specs.Ahead.{Rise, rows_after};
     ghost use Rattle.plant_worklists.specs.Pages.{page_of};
@@ -37,7 +37,7 @@ pub trait OfLot: Sized + Copy {
         view: &mut V,
         above: Option<Id>,
     ) -> Result<Page<Self>, ViewFault<V::Fault>>
-        ensures { Told V.honest V.kept V.steady view.old view.new
+        ensures { HonestlyTold V.honest V.kept V.steady view.old view.new
             (IsSound (V.state view.old)
             → IfOk result (λ page. page ≡ page_of (rows_after lot_of above (all (V.state view.old))))) };
 }

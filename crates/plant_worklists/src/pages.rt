@@ -1,6 +1,6 @@
 //! The look-ups of pages, each with the fault of a decision: `ViewFault::View` where the view failed.
 ghost use Rattle.std.specs.Prelude.{◌≡◌, IfOk};
-ghost use Rattle.plant_trace.specs.Sources.{Told};
+ghost use Rattle.plant_trace.specs.Sources.{HonestlyTold};
 ghost use Rattle.plant_worklists.specs.Pages.{page_of};
 ghost use Rattle.plant_view.specs.Sound.{IsSound};
 ghost use Rattle.plant_worklists.specs.Worklists.{orders_in, open_batches, lots_of, holds_on, open_recalls, definitions_in};
@@ -22,7 +22,7 @@ pub fn orders_in<V: Worklists>(
     state: JobState,
     above: Option<Id>,
 ) -> Result<Page<Job>, ViewFault<V::Fault>>
-    ensures { Told V.honest V.kept V.steady view.old view.new
+    ensures { HonestlyTold V.honest V.kept V.steady view.old view.new
         (IfOk result (λ page. page ≡ page_of (orders_in (V.state view.old) state above))) }
 {
     match view.orders_in(state, above) {
@@ -36,7 +36,7 @@ pub fn open_batches<V: Worklists>(
     view: &mut V,
     above: Option<Id>,
 ) -> Result<Page<BatchRow>, ViewFault<V::Fault>>
-    ensures { Told V.honest V.kept V.steady view.old view.new
+    ensures { HonestlyTold V.honest V.kept V.steady view.old view.new
         (IfOk result (λ page. page ≡ page_of (open_batches (V.state view.old) above))) }
 {
     match view.open_batches(above) {
@@ -51,7 +51,7 @@ pub fn lots_of<V: Worklists>(
     def: Id,
     above: Option<Id>,
 ) -> Result<Page<Lot>, ViewFault<V::Fault>>
-    ensures { Told V.honest V.kept V.steady view.old view.new
+    ensures { HonestlyTold V.honest V.kept V.steady view.old view.new
         (IfOk result (λ page. page ≡ page_of (lots_of (V.state view.old) def above))) }
 {
     match view.lots_of(def, above) {
@@ -66,7 +66,7 @@ pub fn holds_on<V: Worklists>(
     lot: Id,
     above: Option<Id>,
 ) -> Result<Page<Hold>, ViewFault<V::Fault>>
-    ensures { Told V.honest V.kept V.steady view.old view.new
+    ensures { HonestlyTold V.honest V.kept V.steady view.old view.new
         (IfOk result (λ page. page ≡ page_of (holds_on (V.state view.old) lot above))) }
 {
     match view.holds_on(lot, above) {
@@ -80,7 +80,7 @@ pub fn open_recalls<V: Worklists>(
     view: &mut V,
     above: Option<Id>,
 ) -> Result<Page<Recall>, ViewFault<V::Fault>>
-    ensures { Told V.honest V.kept V.steady view.old view.new
+    ensures { HonestlyTold V.honest V.kept V.steady view.old view.new
         (IfOk result (λ page. page ≡ page_of (open_recalls (V.state view.old) above))) }
 {
     match view.open_recalls(above) {
@@ -95,7 +95,7 @@ pub fn definitions_in<V: Worklists>(
     class: Id,
     above: Option<Id>,
 ) -> Result<Page<Definition>, ViewFault<V::Fault>>
-    ensures { Told V.honest V.kept V.steady view.old view.new
+    ensures { HonestlyTold V.honest V.kept V.steady view.old view.new
         (IfOk result (λ page. page ≡ page_of (definitions_in (V.state view.old) class above))) }
 {
     match view.definitions_in(class, above) {
@@ -109,7 +109,7 @@ pub fn lots_after<V: Worklists>(
     view: &mut V,
     above: Option<Id>,
 ) -> Result<Page<Lot>, ViewFault<V::Fault>>
-    ensures { Told V.honest V.kept V.steady view.old view.new
+    ensures { HonestlyTold V.honest V.kept V.steady view.old view.new
         (IfOk result (λ page. page ≡ page_of (lots_after (V.state view.old) above))) }
 {
     match view.lots_after(above) {
@@ -123,7 +123,7 @@ pub fn sublots_after<V: Worklists>(
     view: &mut V,
     above: Option<Id>,
 ) -> Result<Page<Sublot>, ViewFault<V::Fault>>
-    ensures { Told V.honest V.kept V.steady view.old view.new
+    ensures { HonestlyTold V.honest V.kept V.steady view.old view.new
         (IsSound (V.state view.old)
         → IfOk result (λ page. page ≡ page_of (sublots_after (V.state view.old) above))) }
 {
@@ -138,7 +138,7 @@ pub fn holds_after<V: Worklists>(
     view: &mut V,
     above: Option<Id>,
 ) -> Result<Page<Hold>, ViewFault<V::Fault>>
-    ensures { Told V.honest V.kept V.steady view.old view.new
+    ensures { HonestlyTold V.honest V.kept V.steady view.old view.new
         (IfOk result (λ page. page ≡ page_of (holds_after (V.state view.old) above))) }
 {
     match view.holds_after(above) {
@@ -153,7 +153,7 @@ pub fn recipes_in<V: Worklists>(
     state: RecipeState,
     above: Option<RecipePlace>,
 ) -> Result<Page<Recipe>, ViewFault<V::Fault>>
-    ensures { Told V.honest V.kept V.steady view.old view.new
+    ensures { HonestlyTold V.honest V.kept V.steady view.old view.new
         (IfOk result (λ page. page ≡ page_of (recipes_in (V.state view.old) state above))) }
 {
     match view.recipes_in(state, above) {
@@ -168,7 +168,7 @@ pub fn ledger_of<V: Worklists>(
     lot: Id,
     above: Option<MovementPlace>,
 ) -> Result<Page<Movement>, ViewFault<V::Fault>>
-    ensures { Told V.honest V.kept V.steady view.old view.new
+    ensures { HonestlyTold V.honest V.kept V.steady view.old view.new
         (IfOk result (λ page. page ≡ page_of (ledger_of (V.state view.old) lot above))) }
 {
     match view.ledger_of(lot, above) {

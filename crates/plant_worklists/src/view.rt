@@ -13,7 +13,7 @@ use plant_view::View;
 /// A page is told as every look-up of a [`View`] is. So it is in every state.
 pub trait Worklists: View {
     ghost use Rattle.std.specs.Prelude.{◌≡◌, IfOk};
-    ghost use Rattle.plant_trace.specs.Sources.{Told};
+    ghost use Rattle.plant_trace.specs.Sources.{HonestlyTold};
     ghost use Rattle.plant_worklists.specs.Pages.{page_of};
     ghost use Rattle.plant_worklists.specs.Worklists.{orders_in, open_batches, lots_of, holds_on, open_recalls, definitions_in};
     ghost use Rattle.plant_worklists.specs.Worklists.{recipes_in, ledger_of, lot_movements};
@@ -22,27 +22,27 @@ pub trait Worklists: View {
 
     /// The orders in a state, by their ids.
     fn orders_in(&mut self, state: JobState, above: Option<Id>) -> Result<Page<Job>, Self::Fault>
-        ensures { Told Self.honest Self.kept Self.steady self.old self.new
+        ensures { HonestlyTold Self.honest Self.kept Self.steady self.old self.new
             (IfOk result (λ page. page ≡ page_of (orders_in (Self.state self.old) state above))) };
 
     /// The batches that aren't closed, with the columns that are the fold of their events, by their ids.
     fn open_batches(&mut self, above: Option<Id>) -> Result<Page<BatchRow>, Self::Fault>
-        ensures { Told Self.honest Self.kept Self.steady self.old self.new
+        ensures { HonestlyTold Self.honest Self.kept Self.steady self.old self.new
             (IfOk result (λ page. page ≡ page_of (open_batches (Self.state self.old) above))) };
 
     /// The lots of a definition, by their ids.
     fn lots_of(&mut self, def: Id, above: Option<Id>) -> Result<Page<Lot>, Self::Fault>
-        ensures { Told Self.honest Self.kept Self.steady self.old self.new
+        ensures { HonestlyTold Self.honest Self.kept Self.steady self.old self.new
             (IfOk result (λ page. page ≡ page_of (lots_of (Self.state self.old) def above))) };
 
     /// The holds of a lot, by their ids.
     fn holds_on(&mut self, lot: Id, above: Option<Id>) -> Result<Page<Hold>, Self::Fault>
-        ensures { Told Self.honest Self.kept Self.steady self.old self.new
+        ensures { HonestlyTold Self.honest Self.kept Self.steady self.old self.new
             (IfOk result (λ page. page ≡ page_of (holds_on (Self.state self.old) lot above))) };
 
     /// The recalls that weren't lifted, by their ids.
     fn open_recalls(&mut self, above: Option<Id>) -> Result<Page<Recall>, Self::Fault>
-        ensures { Told Self.honest Self.kept Self.steady self.old self.new
+        ensures { HonestlyTold Self.honest Self.kept Self.steady self.old self.new
             (IfOk result (λ page. page ≡ page_of (open_recalls (Self.state self.old) above))) };
 
     /// The definitions of a class, by their ids.
@@ -51,7 +51,7 @@ pub trait Worklists: View {
         class: Id,
         above: Option<Id>,
     ) -> Result<Page<Definition>, Self::Fault>
-        ensures { Told Self.honest Self.kept Self.steady self.old self.new
+        ensures { HonestlyTold Self.honest Self.kept Self.steady self.old self.new
             (IfOk result (λ page. page ≡ page_of (definitions_in (Self.state self.old) class above))) };
 
     /// The versions of recipes in a state, by their recipes and their numbers: what comes after a place.
@@ -60,7 +60,7 @@ pub trait Worklists: View {
         state: RecipeState,
         above: Option<RecipePlace>,
     ) -> Result<Page<Recipe>, Self::Fault>
-        ensures { Told Self.honest Self.kept Self.steady self.old self.new
+        ensures { HonestlyTold Self.honest Self.kept Self.steady self.old self.new
             (IfOk result (λ page. page ≡ page_of (recipes_in (Self.state self.old) state above))) };
 
     /// The ledger of a lot: the movements that bring to it or take from it, or move within it, by their numbers and lines,
@@ -70,29 +70,29 @@ pub trait Worklists: View {
         lot: Id,
         above: Option<MovementPlace>,
     ) -> Result<Page<Movement>, Self::Fault>
-        ensures { Told Self.honest Self.kept Self.steady self.old self.new
+        ensures { HonestlyTold Self.honest Self.kept Self.steady self.old self.new
             (IfOk result (λ page. page ≡ page_of (ledger_of (Self.state self.old) lot above))) };
 
     /// The movements that name a lot first, in their order: what it was received or produced by, what was divided in it and
     /// what left it.
     fn lot_movements(&mut self, lot: Id) -> Result<Vec<Movement>, Self::Fault>
-        ensures { Told Self.honest Self.kept Self.steady self.old self.new
+        ensures { HonestlyTold Self.honest Self.kept Self.steady self.old self.new
             (IfOk result (λ rows. rows.items ≡ lot_movements (Self.state self.old) lot)) };
 
     /// The lots that come after one, by their ids.
     fn lots_after(&mut self, above: Option<Id>) -> Result<Page<Lot>, Self::Fault>
-        ensures { Told Self.honest Self.kept Self.steady self.old self.new
+        ensures { HonestlyTold Self.honest Self.kept Self.steady self.old self.new
             (IfOk result (λ page. page ≡ page_of (lots_after (Self.state self.old) above))) };
 
     /// The sublots of the lots that come after one, with their stock, by lot and number. The stocks are right where the state is
     /// sound.
     fn sublots_after(&mut self, above: Option<Id>) -> Result<Page<Sublot>, Self::Fault>
-        ensures { Told Self.honest Self.kept Self.steady self.old self.new
+        ensures { HonestlyTold Self.honest Self.kept Self.steady self.old self.new
             (IsSound (Self.state self.old)
             → IfOk result (λ page. page ≡ page_of (sublots_after (Self.state self.old) above))) };
 
     /// The holds of the lots that come after one, by lot and id.
     fn holds_after(&mut self, above: Option<Id>) -> Result<Page<Hold>, Self::Fault>
-        ensures { Told Self.honest Self.kept Self.steady self.old self.new
+        ensures { HonestlyTold Self.honest Self.kept Self.steady self.old self.new
             (IfOk result (λ page. page ≡ page_of (holds_after (Self.state self.old) above))) };
 }

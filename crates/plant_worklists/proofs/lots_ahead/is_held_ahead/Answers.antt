@@ -1,18 +1,18 @@
 use Rattle.std.proofs.Common.{◌∙◌, ap, length}
 use Rattle.std.specs.Prelude.{nat_le}
 use Rattle.std.proofs.lemmas.Result.{IfOk-from_err}
-use Rattle.plant_trace.proofs.Sources.{Told-then, Told-weaker}
+use Rattle.plant_trace.proofs.Sources.{HonestlyTold-then, HonestlyTold-weaker}
 use Rattle.plant_worklists.proofs.lots_ahead.is_held_ahead.Goals as goal
 
 pub returns-in_err-read_ahead : goal.returns-in_err-read_ahead
-returns-in_err-read_ahead g c = Told-weaker (λ q sound ahead. (IfOk-from_err _ _ c.from_residual.ensures.0, q sound ahead)) c.in_err-read_ahead.ensures
+returns-in_err-read_ahead g c = HonestlyTold-weaker (λ q sound ahead. (IfOk-from_err _ _ c.from_residual.ensures.0, q sound ahead)) c.in_err-read_ahead.ensures
 
 pub returns-in-Some : goal.returns-in-Some
 returns-in-Some g c =
     let s = g.V.View.state c.args.view.now in
-    Told-weaker (λ q sound ahead.
+    HonestlyTold-weaker (λ q sound ahead.
     let now = q sound ahead in
     (c.has_rows.ensures ∙ ap (λ l. nat_le 1 (length l)) (c.in-Some.ensures s.holds now), now)) c.in_ok-read_ahead.ensures
 
 pub returns-in-None : goal.returns-in-None
-returns-in-None g c = Told-then g.met.V.Edges.kept_along g.met.V.Edges.steady_along c.in_ok-read_ahead.ensures c.is_held.ensures (λ k p q sound ahead. (rw (g.met.V.View.kept_state _ _ k) at q, p sound ahead))
+returns-in-None g c = HonestlyTold-then g.met.V.Edges.kept_along g.met.V.Edges.steady_along c.in_ok-read_ahead.ensures c.is_held.ensures (λ k p q sound ahead. (rw (g.met.V.View.kept_state _ _ k) at q, p sound ahead))

@@ -13,7 +13,7 @@ use Rattle.plant_desk.specs.declared.question.Answer.{Answer}
 use Rattle.plant_desk.specs.declared.question.Answer.TheVariants as A
 use Rattle.plant_desk.specs.declared.reply.DeskFault.{DeskFault}
 use Rattle.plant_desk_store.specs.Adopting.{AdoptedFrom}
-use Rattle.plant_desk_store.specs.Standing.{IsOpenAt}
+use Rattle.plant_desk_store.specs.DeskStanding.{IsOpenAt}
 use Rattle.plant_text_answers.specs.Answers.{text_of_answer}
 use Rattle.plant_text.specs.Session.{is_unknown}
 use Rattle.plant_text.specs.Writes.{with_lf, AppendsFront}

@@ -8,7 +8,7 @@ use Rattle.plant_base.specs.declared.rows.OrderRow.{OrderRow}
 use Rattle.plant_desk.specs.Keeping.{States}
 use Rattle.plant_desk.specs.declared.reply.DeskFault.TheVariants as desk
 use Rattle.plant_desk_store.specs.Adopting.{AdoptedFrom, IsNewlyOpened}
-use Rattle.plant_desk_store.specs.Standing.{Stands, Leaves}
+use Rattle.plant_desk_store.specs.DeskStanding.{DeskStands, Leaves}
 use Rattle.plant_orders.specs.Importing.{import}
 use Rattle.plant_orders.specs.Orders.{orders_of}
 use Rattle.plant_orders.specs.Telling.{csv_text, TellsOf}
@@ -63,7 +63,7 @@ ImportEnds k s heading says old new stands shut leaves done =
 abbrev pub ImportLeft : {S : Type 0} → Ghosts S → Held S → Held S → Heading → List ℕ → Option (List ℕ) → Option (List ℕ) → Result Bool Fault → Type 0
 ImportLeft g c after heading bytes old new done =
     AdoptedFrom (state g c) (λ s. (shut : Bool)
-    × ImportEnds newest_schema s heading (orders_of bytes) old new (Stands (state g after) shut) shut (Leaves (state g after)) done)
+    × ImportEnds newest_schema s heading (orders_of bytes) old new (DeskStands (state g after) shut) shut (Leaves (state g after)) done)
     ⊎ (WasRefused g c done × (new ≡ old))
 
 -- the same, where every connection of the store keeps its word

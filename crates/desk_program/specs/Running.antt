@@ -6,7 +6,7 @@ use Rattle.sqlite.specs.Held.{Held, state}
 use Rattle.sqlite_trees.specs.declared.store.Store.{Ghosts}
 use Rattle.plant_base.specs.State.{State, newest_schema}
 use Rattle.plant_desk_store.specs.Adopting.{IsNewlyOpened, AdoptedFrom, IsRefusedBy}
-use Rattle.plant_desk_store.specs.Standing.{Stands, Leaves}
+use Rattle.plant_desk_store.specs.DeskStanding.{DeskStands, Leaves}
 use Rattle.plant_desk_store.specs.declared.adopting.AdoptFault.{AdoptFault}
 use Rattle.plant_text.specs.Session.{Ends}
 use Rattle.plant_text.specs.Leaving.{RunLeaves}
@@ -29,8 +29,8 @@ WasRefused g c done = (f : AdoptFault) × (done ≡ Err (adopt_fault f)) × IsRe
 -- a run over these bytes ended so from the state s, and left the desk over this connection, shut or not
 abbrev pub EndsAt : {S : Type 0} → Ghosts S → State → List ℕ → Option (List ℕ) → Option (List ℕ) → Option (List ℕ) → Held S → Bool → RunEnd → Type 0
 EndsAt g s bytes left old new last shut end =
-    Ends newest_schema s bytes left old new (Stands (state g last) shut) shut (Leaves (state g last)) end
-    × RunLeaves s bytes left (Stands (state g last) shut) (Leaves (state g last)) end
+    Ends newest_schema s bytes left old new (DeskStands (state g last) shut) shut (Leaves (state g last)) end
+    × RunLeaves s bytes left (DeskStands (state g last) shut) (Leaves (state g last)) end
 
 -- a connection that was just opened was adopted, and the run over the bytes that were read ended from there
 abbrev pub HasRun : {S : Type 0} → Ghosts S → Held S → Held S → Bool → Option (List ℕ) → Option (List ℕ) → Option (List ℕ) → Option (List ℕ) → RunEnd → Type 0

@@ -4,7 +4,7 @@ ghost use Rattle.sqlite.specs.Held.{state};
 ghost use Rattle.sqlite.specs.State.{HasCleanDisk};
 ghost use Rattle.plant_desk_store.specs.Adopting.{IsNewlyOpened, AdoptedFrom};
 ghost use Rattle.plant_base.specs.State.{State};
-ghost use Rattle.plant_desk_store.specs.Standing.{IsOpenAt, Stands};
+ghost use Rattle.plant_desk_store.specs.DeskStanding.{IsOpenAt, DeskStands};
 ghost use Rattle.desk_program.specs.Faults.{adopt_fault};
 ghost use Rattle.desk_program.specs.Running.{IsRefused};
 
@@ -60,8 +60,8 @@ fn with_indexes<S: Alter>(mut desk: Desk<S>) -> Desk<S>
     ensures honest { HasCleanDisk (state S.Store result.connection)
         → HasCleanDisk (state S.Store desk.connection) }
     ensures stands { HasCleanDisk (state S.Store result.connection) → (s : State)
-        → Stands (state S.Store desk.connection) false s
-        → Stands (state S.Store result.connection) false s }
+        → DeskStands (state S.Store desk.connection) false s
+        → DeskStands (state S.Store result.connection) false s }
     ensures open { result.is_shut ≡ false }
 {
     let _added = desk.add_indexes();

@@ -7,7 +7,7 @@ ghost use Rattle.plant_base.specs.State.{State, newest_schema};
 ghost use Rattle.plant_desk.specs.Answers.{answer};
 ghost use Rattle.plant_desk.specs.Keeping.{IsSameDesk};
 ghost use Rattle.plant_desk_store.specs.Adopting.{IsNewlyOpened};
-ghost use Rattle.plant_desk_store.specs.Standing.{IsOpenAt};
+ghost use Rattle.plant_desk_store.specs.DeskStanding.{IsOpenAt};
 ghost use Rattle.plant_text_answers.specs.Answers.{text_of_answer};
 ghost use Rattle.plant_text.specs.Writes.{with_lf};
 ghost use Rattle.desk_program.specs.Answered.{node_text, told_text, trace_text};

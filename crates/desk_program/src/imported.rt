@@ -5,7 +5,7 @@ ghost use Rattle.sqlite.specs.State.{HasCleanDisk};
 ghost use Rattle.plant_base.specs.State.{State};
 ghost use Rattle.plant_desk.specs.Keeping.{IsSameDesk};
 ghost use Rattle.plant_desk_store.specs.Adopting.{IsNewlyOpened};
-ghost use Rattle.plant_desk_store.specs.Standing.{IsOpenAt, Leaves, Stands};
+ghost use Rattle.plant_desk_store.specs.DeskStanding.{IsOpenAt, Leaves, DeskStands};
 ghost use Rattle.plant_base.specs.State.{newest_schema};
 ghost use Rattle.plant_orders.specs.Orders.{orders_of};
 ghost use Rattle.desk_program.specs.Imported.{CsvTold, ImportEnds, ImportLeft, MemoryTold};
@@ -114,7 +114,7 @@ fn import_into<S: Alter + Drop, R: Read, W: Write>(
         → (s : State) → IsOpenAt (state S.Store desk.connection) s
         → IfSome (R.remaining reader.old) (λ bytes. (shut : Bool) × ImportEnds newest_schema s heading
         (orders_of bytes) (W.contents writer.old) (W.contents writer.new)
-        (Stands (state S.Store result.connection) shut) shut
+        (DeskStands (state S.Store result.connection) shut) shut
         (Leaves (state S.Store result.connection)) result.outcome) }
 {
     let outcome = take_file(alloc, reader, writer, &mut desk, heading);

@@ -6,7 +6,7 @@ ghost use Rattle.sqlite.specs.State.{HasCleanDisk};
 ghost use Rattle.plant_base.specs.State.{State, newest_schema};
 ghost use Rattle.plant_desk.specs.Keeping.{IsSameDesk};
 ghost use Rattle.plant_desk_store.specs.Adopting.{IsNewlyOpened, AdoptedFrom};
-ghost use Rattle.plant_desk_store.specs.Standing.{IsOpenAt};
+ghost use Rattle.plant_desk_store.specs.DeskStanding.{IsOpenAt};
 ghost use Rattle.plant_text.specs.Writes.{with_lf};
 ghost use Rattle.desk_program.specs.Texts.{good_text};
 ghost use Rattle.desk_program.specs.Performing.{IsGoodLine, Printed, Unprinted};

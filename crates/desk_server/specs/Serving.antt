@@ -6,7 +6,7 @@ use Rattle.sqlite.specs.State.{HasCleanDisk}
 use Rattle.sqlite_trees.specs.declared.store.Store.{Ghosts}
 use Rattle.plant_base.specs.State.{newest_schema}
 use Rattle.plant_desk.specs.Keeping.{IsSameDesk}
-use Rattle.plant_desk_store.specs.Standing.{IsBeside}
+use Rattle.plant_desk_store.specs.DeskStanding.{IsBeside}
 use Rattle.plant_desk_store.specs.declared.stored.Desk.{Desk}
 use Rattle.plant_http.specs.declared.serve.Served.{Served}
 use Rattle.plant_http.specs.declared.serve.Served.TheVariants.{Answered, Nothing}

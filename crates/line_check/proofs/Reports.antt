@@ -14,7 +14,7 @@ use Rattle.line_check.specs.declared.judge.Verdict.TheVariants as verdict
 use Rattle.line_check.specs.declared.lines.Tally.{Tally}
 use Rattle.line_check.specs.declared.lines.Fault.{Fault}
 use Rattle.line_check.specs.Verdicts.{verdict_of}
-use Rattle.line_check.specs.Report.{verdicts, line_text, texts, tally_with, tally_after, end_text, no_lines, report, some_bad, verdicts_after, Told}
+use Rattle.line_check.specs.Report.{verdicts, line_text, texts, tally_with, tally_after, end_text, no_lines, report, some_bad, verdicts_after, AreToldAndCounted}
 use Rattle.line_check.proofs.Judging.{verdict_empty, verdict_long}
 use Rattle.plant_text.specs.Lines.{longest_line}
 use Rattle.plant_text.proofs.HeldLemmas.{each-append, each-front, last_as_whole}
@@ -38,25 +38,25 @@ texts-append t (v ∷ xs) ys =
     ∙ ap (λ n. texts n xs ++ texts (tally_after (tally_with t v) xs).lines ys) (tally_with_lines t v))
     ∙ sym (append_assoc (line_text (t.lines + 1) v) (texts (t.lines + 1) xs) (texts (tally_after (tally_with t v) xs).lines ys))
 
-pub told_nothing : (t : Tally) (a : Option (List ℕ)) → Told t [] a a t
+pub told_nothing : (t : Tally) (a : Option (List ℕ)) → AreToldAndCounted t [] a a t
 told_nothing t a = record { text = Appends-nil a; tally = refl }
 
-pub told_one : (t now : Tally) (v : Verdict) (a b : Option (List ℕ)) → now ≡ tally_with t v → Appends a b (line_text (t.lines + 1) v) → Told t (v ∷ []) a b now
+pub told_one : (t now : Tally) (v : Verdict) (a b : Option (List ℕ)) → now ≡ tally_with t v → Appends a b (line_text (t.lines + 1) v) → AreToldAndCounted t (v ∷ []) a b now
 told_one t now v a b e h = record { text = rw (append-nil (line_text (t.lines + 1) v)) h; tally = e }
 
-pub told_more : (t mid now : Tally) (xs ys : List Verdict) (a b c : Option (List ℕ)) → Told t xs a b mid → Told mid ys b c now → Told t (xs ++ ys) a c now
+pub told_more : (t mid now : Tally) (xs ys : List Verdict) (a b c : Option (List ℕ)) → AreToldAndCounted t xs a b mid → AreToldAndCounted mid ys b c now → AreToldAndCounted t (xs ++ ys) a c now
 told_more t mid now xs ys a b c x y = record {
   text = rw (texts-append t xs ys, ← x.tally) (Appends-append a b c _ _ x.text y.text);
   tally = y.tally ∙ ap (λ u. tally_after u ys) x.tally ∙ sym (tally_after-append t xs ys);
 }
 
-pub told_same : (t : Tally) (vs : List Verdict) (a b : Option (List ℕ)) → vs ≡ [] → b ≡ a → Told t vs a b t
+pub told_same : (t : Tally) (vs : List Verdict) (a b : Option (List ℕ)) → vs ≡ [] → b ≡ a → AreToldAndCounted t vs a b t
 told_same t vs a b e f = rw (e, f) (told_nothing t a)
 
 -- a piece more was taken
 pub piece_told : (t mid now : Tally) (first held done piece all : List ℕ) (a b c : Option (List ℕ))
-    → Told t (verdicts_after first done) a b mid → held ≡ held_after first done → Told mid (verdicts_after held piece) b c now
-    → all ≡ done ++ piece → Told t (verdicts_after first all) a c now
+    → AreToldAndCounted t (verdicts_after first done) a b mid → held ≡ held_after first done → AreToldAndCounted mid (verdicts_after held piece) b c now
+    → all ≡ done ++ piece → AreToldAndCounted t (verdicts_after first all) a c now
 piece_told t mid now first held done piece all a b c x same_held y e =
     rw (e, each-append verdict_of first done piece, ← same_held) (told_more t mid now (verdicts_after first done) (verdicts_after held piece) a b c x y)
 
@@ -71,7 +71,7 @@ record Ended (ls : List (List ℕ)) (a b : Option (List ℕ)) (now : Tally) : Ty
   end : end_text now ≡ end_text (tally_after no_lines (verdicts ls))
   bad : now.bad ≡ (tally_after no_lines (verdicts ls)).bad
 
-ended_trim : (ls : List (List ℕ)) (a b : Option (List ℕ)) (now : Tally) → Told no_lines (verdicts ls ++ verdict.Nothing ∷ []) a b now → Ended ls a b now
+ended_trim : (ls : List (List ℕ)) (a b : Option (List ℕ)) (now : Tally) → AreToldAndCounted no_lines (verdicts ls ++ verdict.Nothing ∷ []) a b now → Ended ls a b now
 ended_trim ls a b now x =
     let tally : now ≡ tally_with (tally_after no_lines (verdicts ls)) verdict.Nothing = x.tally ∙ tally_after-append no_lines (verdicts ls) (verdict.Nothing ∷ []) in
     record {
@@ -80,37 +80,37 @@ ended_trim ls a b now x =
       bad = ap (λ (t : Tally). t.bad) tally;
     }
 
-ended_whole : (ls : List (List ℕ)) (a b : Option (List ℕ)) (now : Tally) → Told no_lines (verdicts ls) a b now → Ended ls a b now
+ended_whole : (ls : List (List ℕ)) (a b : Option (List ℕ)) (now : Tally) → AreToldAndCounted no_lines (verdicts ls) a b now → Ended ls a b now
 ended_whole ls a b now x = record { text = x.text; end = ap end_text x.tally; bad = ap (λ (t : Tally). t.bad) x.tally }
 
-ended_last : (ls : List (List ℕ)) (x : List ℕ) (a b : Option (List ℕ)) (now : Tally) → Told no_lines (verdicts ls ++ verdict_of x ∷ []) a b now
+ended_last : (ls : List (List ℕ)) (x : List ℕ) (a b : Option (List ℕ)) (now : Tally) → AreToldAndCounted no_lines (verdicts ls ++ verdict_of x ∷ []) a b now
     → (v : Bool) → nat_eq (length x) 0 ≡ v → Ended (ls ++ cond v [] (x ∷ [])) a b now
 ended_last ls x a b now told true e =
     let empty : length x ≡ 0 = grind (arith, nat_tests) in
     subst (λ (zs : List (List ℕ)). Ended zs a b now) (sym (append-nil ls))
-    (ended_trim ls a b now (subst (λ (v : Verdict). Told no_lines (verdicts ls ++ v ∷ []) a b now) (verdict_empty x empty) told))
+    (ended_trim ls a b now (subst (λ (v : Verdict). AreToldAndCounted no_lines (verdicts ls ++ v ∷ []) a b now) (verdict_empty x empty) told))
 ended_last ls x a b now told false e =
-    ended_whole (ls ++ x ∷ []) a b now (subst (λ (vs : List Verdict). Told no_lines vs a b now) (sym (map-append verdict_of ls (x ∷ []))) told)
+    ended_whole (ls ++ x ∷ []) a b now (subst (λ (vs : List Verdict). AreToldAndCounted no_lines vs a b now) (sym (map-append verdict_of ls (x ∷ []))) told)
 
 -- each longer line has one verdict
 longer_alike : (l m : List ℕ) → longest_line < length l → longest_line < length m → verdict_of l ≡ verdict_of m
 longer_alike l m long more = verdict_long l long ∙ sym (verdict_long m more)
 
 ended_lines_told : (bytes line : List ℕ) (a b : Option (List ℕ)) (now : Tally) → line ≡ held_after [] bytes
-    → Told no_lines (verdicts_after [] bytes ++ verdict_of line ∷ []) a b now → Ended (lines bytes) a b now
+    → AreToldAndCounted no_lines (verdicts_after [] bytes ++ verdict_of line ∷ []) a b now → Ended (lines bytes) a b now
 ended_lines_told bytes line a b now e told =
     let part = part_from [] bytes in
     let same : verdicts_after [] bytes ++ verdict_of line ∷ [] ≡ verdicts (ended_lines bytes) ++ verdict_of part ∷ [] =
     ap (λ v. verdicts_after [] bytes ++ v ∷ []) (last_as_whole verdict_of longer_alike bytes line e) ∙ ap (λ vs. vs ++ verdict_of part ∷ []) (each-front verdict_of longer_alike [] bytes) in
     subst (λ (zs : List (List ℕ)). Ended zs a b now) (sym (lines_are bytes))
-    (ended_last (ended_lines bytes) part a b now (subst (λ (vs : List Verdict). Told no_lines vs a b now) same told) (nat_eq (length part) 0) refl)
+    (ended_last (ended_lines bytes) part a b now (subst (λ (vs : List Verdict). AreToldAndCounted no_lines vs a b now) same told) (nat_eq (length part) 0) refl)
 
 -- what is known of the last line and the end that were told behind a tally
 abbrev pub LastTold : Tally → List ℕ → Option (List ℕ) → Option (List ℕ) → Bool → Type 0
-LastTold mid line b c bad = (now : Tally) × (between : Option (List ℕ)) × Told mid (verdict_of line ∷ []) b between now × Appends between c (end_text now) × (bad ≡ now.bad)
+LastTold mid line b c bad = (now : Tally) × (between : Option (List ℕ)) × AreToldAndCounted mid (verdict_of line ∷ []) b between now × Appends between c (end_text now) × (bad ≡ now.bad)
 
 pub input_ends : (r : Result Bool Fault) (mid : Tally) (bytes line : List ℕ) (from left a b c : Option (List ℕ))
-    → Consumes from left bytes → IsAtEnd left → line ≡ held_after [] bytes → Told no_lines (verdicts_after [] bytes) a b mid → IfOk r (LastTold mid line b c)
+    → Consumes from left bytes → IsAtEnd left → line ≡ held_after [] bytes → AreToldAndCounted no_lines (verdicts_after [] bytes) a b mid → IfOk r (LastTold mid line b c)
     → IfOk r (λ bad. (bytes : List ℕ) × Consumes from left bytes × IsAtEnd left × Appends a c (report bytes) × (bad ≡ some_bad bytes))
 input_ends (Err f) mid bytes line from left a b c consumed at_end same x y = tt
 input_ends (Ok bad) mid bytes line from left a b c consumed at_end same x y =

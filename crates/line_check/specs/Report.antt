@@ -68,6 +68,6 @@ abbrev pub verdicts_after : List ℕ → List ℕ → List Verdict
 verdicts_after held bs = verdicts (ended_after held bs)
 
 -- these verdicts were told and counted
-pub record Told (start : Tally) (vs : List Verdict) (old new : Option (List ℕ)) (now : Tally) : Type 0 where
+pub record AreToldAndCounted (start : Tally) (vs : List Verdict) (old new : Option (List ℕ)) (now : Tally) : Type 0 where
   pub text : Appends old new (texts start.lines vs)
   pub tally : now ≡ tally_after start vs

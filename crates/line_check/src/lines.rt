@@ -7,7 +7,7 @@ ghost use Rattle.plant_text.specs.Writes.{with_lf};
 ghost use Rattle.line_check.specs.Verdicts.{verdict_of};
 ghost use Rattle.line_check.specs.Report.{told_text, line_text, tally_with, counts_text, end_text, no_lines};
 ghost use Rattle.line_check.specs.Report.{report};
-ghost use Rattle.line_check.specs.Report.{some_bad, verdicts_after, Told};
+ghost use Rattle.line_check.specs.Report.{some_bad, verdicts_after, AreToldAndCounted};
 
 use crate::judge::{NoMemory, Verdict, Why, judge};
 use plant_text::{Unwritten, write_line};
@@ -160,7 +160,7 @@ fn take_line<W: Write>(
     tally: Tally,
     line: &[u8],
 ) -> Result<Tally, Fault>
-    ensures { IfOk result (λ now. Told tally (verdict_of line.now ∷ [])
+    ensures { IfOk result (λ now. AreToldAndCounted tally (verdict_of line.now ∷ [])
         (W.contents writer.old) (W.contents writer.new) now) }
 {
     match judge(alloc, line) {
@@ -189,7 +189,7 @@ fn end_line<W: Write>(
     tally: Tally,
 ) -> Result<Tally, Fault>
     ensures held { OnOk result (held.new.items ≡ []) }
-    ensures told { IfOk result (λ now. Told tally
+    ensures told { IfOk result (λ now. AreToldAndCounted tally
         (verdict_of (strip_carriage_return held.old.items) ∷ [])
         (W.contents writer.old) (W.contents writer.new) now) }
 {
@@ -221,7 +221,7 @@ fn take_byte<W: Write>(
     b: u8,
 ) -> Result<Tally, Fault>
     ensures held { OnOk result (held.new.items ≡ held_after held.old.items (b ∷ [])) }
-    ensures told { IfOk result (λ now. Told tally (verdicts_after held.old.items (b ∷ []))
+    ensures told { IfOk result (λ now. AreToldAndCounted tally (verdicts_after held.old.items (b ∷ []))
         (W.contents writer.old) (W.contents writer.new) now) }
 {
     if b == b'\n' {
@@ -242,7 +242,7 @@ fn take_piece<W: Write>(
     piece: &[u8],
 ) -> Result<Tally, Fault>
     ensures held { OnOk result (held.new.items ≡ held_after held.old.items piece.now) }
-    ensures told { IfOk result (λ now. Told tally (verdicts_after held.old.items piece.now)
+    ensures told { IfOk result (λ now. AreToldAndCounted tally (verdicts_after held.old.items piece.now)
         (W.contents writer.old) (W.contents writer.new) now) }
 {
     let mut tally = tally;
@@ -278,7 +278,7 @@ fn end_input<W: Write>(
     tally: Tally,
 ) -> Result<bool, Fault>
     ensures { IfOk result (λ bad. (now : Tally) × (between : Option (List ℕ))
-        × Told tally (verdict_of held.now ∷ []) (W.contents writer.old) between now
+        × AreToldAndCounted tally (verdict_of held.now ∷ []) (W.contents writer.old) between now
         × Appends between (W.contents writer.new) (end_text now) × (bad ≡ now.bad)) }
 {
     match take_line(alloc, writer, tally, held) {

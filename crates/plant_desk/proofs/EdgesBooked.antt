@@ -17,7 +17,7 @@ use Rattle.plant_view.specs.Genealogy.{edge_row_of, edge_rows, ends_of}
 use Rattle.plant_view.proofs.Membership.{all_in, filter_in, filter_from, map_in, map_from, map_sorted, put_all_from, sorted_put_all}
 use Rattle.plant_desk.specs.Around.{nodes_around}
 use Rattle.plant_desk.specs.Genealogy.{booked_edge, edges_between, is_among, is_between}
-use Rattle.plant_desk.specs.Laws.{IsBooked, booked_order}
+use Rattle.plant_desk.specs.AnswerLaws.{IsBooked, booked_order}
 use Rattle.plant_desk.specs.declared.genealogy.BookedEdge.{BookedEdge}
 use Rattle.plant_desk.proofs.Between.{both, together}
 use Rattle.plant_desk.proofs.GoodsReached.{around_lists}

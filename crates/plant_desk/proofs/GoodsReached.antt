@@ -19,7 +19,7 @@ use Rattle.plant_trace.proofs.NodeLemmas.{node_exact}
 use Rattle.plant_view.specs.Genealogy.{edges_of}
 use Rattle.plant_view.proofs.Membership.{put_in, put_from, put_stays}
 use Rattle.plant_desk.specs.Around.{nodes_around, stocked_if, stocked_at, lots_standing}
-use Rattle.plant_desk.specs.Laws.{IsAround, StandsFrom, lot_answer_order}
+use Rattle.plant_desk.specs.AnswerLaws.{IsAround, StandsFrom, lot_answer_order}
 use Rattle.plant_desk.specs.LotAnswers.{lot_answer}
 use Rattle.plant_desk.specs.Traces.{trace_of}
 use Rattle.plant_desk.specs.Worklists.{if_stocked}

@@ -25,7 +25,7 @@ use Rattle.plant_view.specs.Sound.{IsSound, IsThere}
 use Rattle.plant_view.proofs.Membership.{all_at, all_from}
 use Rattle.plant_desk.specs.Around.{nodes_around}
 use Rattle.plant_desk.specs.Genealogy.{lot_node, named, node_answer, node_if}
-use Rattle.plant_desk.specs.Laws.{IsAround}
+use Rattle.plant_desk.specs.AnswerLaws.{IsAround}
 use Rattle.plant_desk.specs.Traces.{missing}
 use Rattle.plant_desk.specs.declared.genealogy.NodeAnswer.{NodeAnswer}
 use Rattle.plant_desk.specs.declared.genealogy.NodeAnswer.TheVariants as known

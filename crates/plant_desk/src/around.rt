@@ -2,7 +2,7 @@
 ghost use Rattle.std.specs.Prelude.{◌≡◌, ◌<◌, IfOk, vec_len, vec_capacity};
 ghost use Rattle.plant_base.specs.State.{put};
 ghost use Rattle.plant_trace.specs.Nodes.{node_cmp};
-ghost use Rattle.plant_trace.specs.Sources.{Told};
+ghost use Rattle.plant_trace.specs.Sources.{HonestlyTold};
 ghost use Rattle.plant_desk.specs.Around.{nodes_around};
 
 use crate::sorted::{Keyed, put_row};
@@ -27,7 +27,7 @@ pub(crate) fn nodes_around<V: View>(
     direction: Direction,
     start: Node,
 ) -> Result<Vec<Node>, ViewFault<V::Fault>>
-    ensures { Told V.honest V.kept V.steady view.old view.new
+    ensures { HonestlyTold V.honest V.kept V.steady view.old view.new
         (IfOk result (λ nodes. nodes.items ≡ nodes_around (V.state view.old) direction start)) }
 {
     let mut nodes = trace(alloc, view, direction, start)?;

@@ -5,7 +5,7 @@ ghost use Rattle.std.specs.List.{filter_map};
 ghost use Rattle.std.specs.List.Sorted.{IsStrictlySortedBy};
 ghost use Rattle.plant_base.specs.Edges.{edge_order};
 ghost use Rattle.plant_trace.specs.Nodes.{node_cmp};
-ghost use Rattle.plant_trace.specs.Sources.{Told};
+ghost use Rattle.plant_trace.specs.Sources.{HonestlyTold};
 ghost use Rattle.plant_trace.specs.declared.node.Node.{Node};
 ghost use Rattle.plant_view.specs.Sound.{IsSound};
 ghost use Rattle.plant_desk.specs.Booked.{Fits, IsSetOf, booked_from, bookings_around, movements_at, sum_with, summed};
@@ -26,7 +26,7 @@ pub(crate) fn edges_between<V: Worklists>(
     view: &mut V,
     nodes: &[Node],
 ) -> Result<Vec<BookedEdge>, ViewFault<V::Fault>>
-    ensures { Told V.honest V.kept V.steady view.old view.new
+    ensures { HonestlyTold V.honest V.kept V.steady view.old view.new
         (IsSound (V.state view.old) → IsStrictlySortedBy node_cmp nodes.now
         → IfOk result (λ v. v.items ≡ edges_between (V.state view.old).movements nodes.now)) }
 {
@@ -45,7 +45,7 @@ fn bookings_around<V: Worklists>(
     view: &mut V,
     nodes: &[Node],
 ) -> Result<Vec<BookedEdge>, ViewFault<V::Fault>>
-    ensures { Told V.honest V.kept V.steady view.old view.new
+    ensures { HonestlyTold V.honest V.kept V.steady view.old view.new
         (IfOk result (λ v. v.items ≡ bookings_around (V.state view.old).movements nodes.now)) }
 {
     let Ok(among) = set_of(alloc, nodes) else {
@@ -76,7 +76,7 @@ fn movements_at<V: Worklists>(
     view: &mut V,
     node: Node,
 ) -> Result<Vec<Movement>, ViewFault<V::Fault>>
-    ensures { Told V.honest V.kept V.steady view.old view.new
+    ensures { HonestlyTold V.honest V.kept V.steady view.old view.new
         (IfOk result (λ v. v.items ≡ movements_at (V.state view.old) node)) }
 {
     match node {

@@ -3,7 +3,7 @@ ghost use Rattle.std.specs.Prelude.{◌≡◌, IfOk, option_map};
 ghost use Rattle.std.specs.List.{filter_map};
 ghost use Rattle.plant_base.specs.State.{State, definition_at};
 ghost use Rattle.plant_base.specs.declared.rows.Lot.{Lot};
-ghost use Rattle.plant_trace.specs.Sources.{Told};
+ghost use Rattle.plant_trace.specs.Sources.{HonestlyTold};
 ghost use Rattle.plant_view.specs.Recalls.{is_blocked};
 ghost use Rattle.plant_view.specs.Sound.{IsSound};
 ghost use Rattle.plant_desk.specs.Genealogy.{answer_edges, genealogy_around, lot_node, node_answer, node_if};
@@ -33,7 +33,7 @@ pub(crate) fn edges_answer<V: Worklists>(
     direction: Direction,
     start: Node,
 ) -> Result<Answer, ViewFault<V::Fault>>
-    ensures { Told V.honest V.kept V.steady view.old view.new
+    ensures { HonestlyTold V.honest V.kept V.steady view.old view.new
         (IsSound (V.state view.old) → IfOk result (λ a. a ≡ answer_edges (V.state view.old) direction start
         (missing (V.state view.old) start))) }
 {
@@ -50,7 +50,7 @@ fn genealogy_answer<V: Worklists>(
     direction: Direction,
     start: &Node,
 ) -> Result<Answer, ViewFault<V::Fault>>
-    ensures { Told V.honest V.kept V.steady view.old view.new
+    ensures { HonestlyTold V.honest V.kept V.steady view.old view.new
         (IsSound (V.state view.old)
         → IfOk result (λ a. a ≡ A.Edges (genealogy_around (V.state view.old) direction start.now))) }
 {
@@ -66,7 +66,7 @@ fn genealogy_around<V: Worklists>(
     direction: Direction,
     start: Node,
 ) -> Result<Genealogy, ViewFault<V::Fault>>
-    ensures { Told V.honest V.kept V.steady view.old view.new
+    ensures { HonestlyTold V.honest V.kept V.steady view.old view.new
         (IsSound (V.state view.old)
         → IfOk result (λ g. g ≡ genealogy_around (V.state view.old) direction start)) }
 {
@@ -85,7 +85,7 @@ fn node_answers<V: Worklists>(
     view: &mut V,
     nodes: &[Node],
 ) -> Result<Vec<NodeAnswer>, ViewFault<V::Fault>>
-    ensures { Told V.honest V.kept V.steady view.old view.new
+    ensures { HonestlyTold V.honest V.kept V.steady view.old view.new
         (IsSound (V.state view.old)
         → IfOk result (λ v. v.items ≡ filter_map (node_answer (V.state view.old)) nodes.now)) }
 {
@@ -106,7 +106,7 @@ fn node_answer<V: Worklists>(
     known: &mut KnownLots,
     node: Node,
 ) -> Result<Option<NodeAnswer>, ViewFault<V::Fault>>
-    ensures { Told V.honest V.kept V.steady view.old view.new
+    ensures { HonestlyTold V.honest V.kept V.steady view.old view.new
         (IsSound (V.state view.old) → AreKnown (V.state view.old) known.old
         → IfOk result (λ found. found ≡ node_answer (V.state view.old) node)
         × AreKnown (V.state view.old) known.new) }
@@ -126,7 +126,7 @@ fn node_if<V: Worklists>(
     known: &mut KnownLots,
     lot: Option<Lot>,
 ) -> Result<Option<NodeAnswer>, ViewFault<V::Fault>>
-    ensures { Told V.honest V.kept V.steady view.old view.new
+    ensures { HonestlyTold V.honest V.kept V.steady view.old view.new
         (IsSound (V.state view.old) → AreKnown (V.state view.old) known.old
         → IfOk result (λ found. found ≡ node_if (V.state view.old) lot)
         × AreKnown (V.state view.old) known.new) }
@@ -144,7 +144,7 @@ fn lot_node<V: Worklists>(
     known: &mut KnownLots,
     lot: &Lot,
 ) -> Result<Option<NodeAnswer>, ViewFault<V::Fault>>
-    ensures { Told V.honest V.kept V.steady view.old view.new
+    ensures { HonestlyTold V.honest V.kept V.steady view.old view.new
         (IsSound (V.state view.old) → AreKnown (V.state view.old) known.old
         → IfOk result (λ found. found ≡ option_map (λ d. node.Lot (lot_node (V.state view.old) lot.now d))
         (definition_at (V.state view.old) lot.now.def))

@@ -1,7 +1,7 @@
 // What is answered of a worklist.
 ghost use Rattle.std.specs.Prelude.{◌≡◌, ℕ, List, Option, IfOk};
 ghost use Rattle.plant_base.specs.State.{State, class_at, lot_at};
-ghost use Rattle.plant_trace.specs.Sources.{Told};
+ghost use Rattle.plant_trace.specs.Sources.{HonestlyTold};
 ghost use Rattle.plant_view.specs.Sound.{IsSound};
 ghost use Rattle.plant_worklists.specs.Pages.{page_of};
 ghost use Rattle.plant_worklists.specs.Worklists.{orders_in, holds_on, open_recalls, definitions_in, ledger_of};
@@ -26,7 +26,7 @@ pub(crate) fn list_answer<V: Worklists>(
     list: Worklist,
     above: Option<Id>,
 ) -> Result<Answer, ViewFault<V::Fault>>
-    ensures { Told V.honest V.kept V.steady view.old view.new
+    ensures { HonestlyTold V.honest V.kept V.steady view.old view.new
         (IsSound (V.state view.old)
         → IfOk result (λ a. a ≡ answer_list (V.state view.old) list above)) }
 {
@@ -45,7 +45,7 @@ fn orders_answer<V: Worklists>(
     state: JobState,
     above: Option<Id>,
 ) -> Result<Answer, ViewFault<V::Fault>>
-    ensures { Told V.honest V.kept V.steady view.old view.new
+    ensures { HonestlyTold V.honest V.kept V.steady view.old view.new
         (IfOk result (λ a. a
         ≡ A.List (listed.Orders (page_of (orders_in (V.state view.old) state above))))) }
 {
@@ -57,7 +57,7 @@ fn recalls_answer<V: Worklists>(
     view: &mut V,
     above: Option<Id>,
 ) -> Result<Answer, ViewFault<V::Fault>>
-    ensures { Told V.honest V.kept V.steady view.old view.new
+    ensures { HonestlyTold V.honest V.kept V.steady view.old view.new
         (IfOk result (λ a. a
         ≡ A.List (listed.Recalls (page_of (open_recalls (V.state view.old) above))))) }
 {
@@ -70,7 +70,7 @@ fn holds_answer<V: Worklists>(
     lot: Id,
     above: Option<Id>,
 ) -> Result<Answer, ViewFault<V::Fault>>
-    ensures { Told V.honest V.kept V.steady view.old view.new
+    ensures { HonestlyTold V.honest V.kept V.steady view.old view.new
         (IfOk result (λ a. a ≡ answer_holds (V.state view.old) lot above
         (lot_at (V.state view.old) lot))) }
 {
@@ -95,7 +95,7 @@ fn definitions_answer<V: Worklists>(
     class: Id,
     above: Option<Id>,
 ) -> Result<Answer, ViewFault<V::Fault>>
-    ensures { Told V.honest V.kept V.steady view.old view.new
+    ensures { HonestlyTold V.honest V.kept V.steady view.old view.new
         (IfOk result (λ a. a ≡ answer_definitions (V.state view.old) class above
         (class_at (V.state view.old) class))) }
 {
@@ -121,7 +121,7 @@ pub(crate) fn recipes_answer<V: Worklists>(
     state: RecipeState,
     above: Option<RecipePlace>,
 ) -> Result<Answer, ViewFault<V::Fault>>
-    ensures { Told V.honest V.kept V.steady view.old view.new
+    ensures { HonestlyTold V.honest V.kept V.steady view.old view.new
         (IfOk result (λ a. a ≡ answer_recipes (V.state view.old) state above)) }
 {
     let page = pages::recipes_in(view, state, above)?;
@@ -134,7 +134,7 @@ pub(crate) fn ledger_answer<V: Worklists>(
     lot: Id,
     above: Option<MovementPlace>,
 ) -> Result<Answer, ViewFault<V::Fault>>
-    ensures { Told V.honest V.kept V.steady view.old view.new
+    ensures { HonestlyTold V.honest V.kept V.steady view.old view.new
         (IfOk result (λ a. a ≡ answer_ledger (V.state view.old) lot above
         (lot_at (V.state view.old) lot))) }
 {

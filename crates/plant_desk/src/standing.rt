@@ -1,7 +1,7 @@
 // Where the goods of a lot or batch stand.
 ghost use Rattle.std.specs.Prelude.{◌≡◌, IfOk};
 ghost use Rattle.std.specs.List.{filter_map};
-ghost use Rattle.plant_trace.specs.Sources.{Told};
+ghost use Rattle.plant_trace.specs.Sources.{HonestlyTold};
 ghost use Rattle.plant_view.specs.Sound.{IsSound};
 ghost use Rattle.plant_desk.specs.Around.{answer_stands, lots_standing, stocked_at, stocked_if};
 ghost use Rattle.plant_desk.specs.KnownLots.{AreKnown};
@@ -25,7 +25,7 @@ pub(crate) fn stands_answer<V: Worklists>(
     view: &mut V,
     start: Node,
 ) -> Result<Answer, ViewFault<V::Fault>>
-    ensures { Told V.honest V.kept V.steady view.old view.new
+    ensures { HonestlyTold V.honest V.kept V.steady view.old view.new
         (IsSound (V.state view.old) → IfOk result (λ a. a ≡ answer_stands (V.state view.old) start
         (missing (V.state view.old) start))) }
 {
@@ -40,7 +40,7 @@ fn lots_standing<V: Worklists>(
     view: &mut V,
     start: Node,
 ) -> Result<Vec<LotAnswer>, ViewFault<V::Fault>>
-    ensures { Told V.honest V.kept V.steady view.old view.new
+    ensures { HonestlyTold V.honest V.kept V.steady view.old view.new
         (IsSound (V.state view.old)
         → IfOk result (λ v. v.items ≡ lots_standing (V.state view.old) start)) }
 {
@@ -54,7 +54,7 @@ fn stocked_among<V: Worklists>(
     view: &mut V,
     nodes: &[Node],
 ) -> Result<Vec<LotAnswer>, ViewFault<V::Fault>>
-    ensures { Told V.honest V.kept V.steady view.old view.new
+    ensures { HonestlyTold V.honest V.kept V.steady view.old view.new
         (IsSound (V.state view.old)
         → IfOk result (λ v. v.items ≡ filter_map (stocked_at (V.state view.old)) nodes.now)) }
 {
@@ -75,7 +75,7 @@ fn stocked_at<V: Worklists>(
     known: &mut KnownLots,
     node: Node,
 ) -> Result<Option<LotAnswer>, ViewFault<V::Fault>>
-    ensures { Told V.honest V.kept V.steady view.old view.new
+    ensures { HonestlyTold V.honest V.kept V.steady view.old view.new
         (IsSound (V.state view.old) → AreKnown (V.state view.old) known.old
         → IfOk result (λ found. found ≡ stocked_at (V.state view.old) node)
         × AreKnown (V.state view.old) known.new) }
@@ -95,7 +95,7 @@ fn stocked_if<V: Worklists>(
     known: &mut KnownLots,
     lot: Option<Lot>,
 ) -> Result<Option<LotAnswer>, ViewFault<V::Fault>>
-    ensures { Told V.honest V.kept V.steady view.old view.new
+    ensures { HonestlyTold V.honest V.kept V.steady view.old view.new
         (IsSound (V.state view.old) → AreKnown (V.state view.old) known.old
         → IfOk result (λ found. found ≡ stocked_if (V.state view.old) lot)
         × AreKnown (V.state view.old) known.new) }

@@ -2,7 +2,7 @@
 ghost use Rattle.std.specs.Prelude.{◌≡◌, ◌-◌, ℕ, List, Option, IfOk, length, option_map, slice_get};
 ghost use Rattle.std.specs.List.{filter_map};
 ghost use Rattle.plant_base.specs.State.{State, definition_at};
-ghost use Rattle.plant_trace.specs.Sources.{Told};
+ghost use Rattle.plant_trace.specs.Sources.{HonestlyTold};
 ghost use Rattle.plant_view.specs.Sound.{IsSound};
 ghost use Rattle.plant_worklists.specs.Pages.{page_of};
 ghost use Rattle.plant_worklists.specs.Worklists.{lots_of};
@@ -24,7 +24,7 @@ pub(crate) fn lots_answer<V: Worklists>(
     def: Id,
     above: Option<Id>,
 ) -> Result<Answer, ViewFault<V::Fault>>
-    ensures { Told V.honest V.kept V.steady view.old view.new
+    ensures { HonestlyTold V.honest V.kept V.steady view.old view.new
         (IsSound (V.state view.old) → IfOk result (λ a. a ≡ answer_lots (V.state view.old) def above
         (definition_at (V.state view.old) def))) }
 {
@@ -39,7 +39,7 @@ fn lot_page<V: Worklists>(
     def: Id,
     above: Option<Id>,
 ) -> Result<LotPage, ViewFault<V::Fault>>
-    ensures { Told V.honest V.kept V.steady view.old view.new
+    ensures { HonestlyTold V.honest V.kept V.steady view.old view.new
         (IsSound (V.state view.old) → IfOk result (λ page. page ≡ lot_page (V.state view.old)
         (page_of (lots_of (V.state view.old) def above)))) }
 {
@@ -78,7 +78,7 @@ fn stocked_lots<V: Worklists>(
     view: &mut V,
     lots: &[Lot],
 ) -> Result<Vec<LotAnswer>, ViewFault<V::Fault>>
-    ensures { Told V.honest V.kept V.steady view.old view.new
+    ensures { HonestlyTold V.honest V.kept V.steady view.old view.new
         (IsSound (V.state view.old)
         → IfOk result (λ v. v.items ≡ filter_map (stocked_lot (V.state view.old)) lots.now)) }
 {

@@ -14,7 +14,7 @@ use Rattle.plant_tables_stored.specs.Version.{IsVersion}
 use Rattle.plant_desk_store.specs.Adopting.{Adopts, HoldsGood, IsRaised, IsRefusedBy, IsRisingAt, IsUnraised, NamesFirst}
 use Rattle.plant_desk_store.specs.Calls.{HasAdopted, HasRefused}
 use Rattle.plant_desk_store.specs.Parts.{HasMade, HasTaken}
-use Rattle.plant_desk_store.specs.Standing.{OthersStand}
+use Rattle.plant_desk_store.specs.DeskStanding.{OthersStand}
 use Rattle.plant_desk_store.specs.declared.adopting.AdoptFault.{AdoptFault}
 use Rattle.plant_desk_store.proofs.Again.{not_free, one_told, pos_le}
 use Rattle.plant_desk_store.proofs.Judging.{IsThere, still_new, none_newer, refused_so}

@@ -28,7 +28,7 @@ use Rattle.plant_tables_stored.specs.Loading.{AreLoaded}
 use Rattle.plant_tables_stored.proofs.Versions.{one_version, each_free, free_tells_nothing}
 use Rattle.plant_good_passes.proofs.Unbroken.{read_good}
 use Rattle.plant_desk_store.specs.Adopting.{HoldsGood, IsRefusedBy, IsFirstBroken}
-use Rattle.plant_desk_store.specs.Laws.{IsAdoptable}
+use Rattle.plant_desk_store.specs.DeskLaws.{IsAdoptable}
 use Rattle.plant_check.specs.declared.rule.Rule.{Rule}
 use Rattle.plant_desk_store.specs.declared.adopting.AdoptFault.{AdoptFault}
 use Rattle.plant_desk_store.specs.declared.adopting.AdoptFault.TheVariants as fault

@@ -11,12 +11,12 @@ use Rattle.plant_desk.specs.declared.question.Answer.{Answer}
 use Rattle.plant_desk.specs.declared.reply.DeskFault.{DeskFault}
 use Rattle.plant_desk.specs.declared.reply.DeskFault.TheVariants.{Store, Memory, Shut}
 use Rattle.plant_desk_store.specs.Parts.{OnlyReads, HasAnswered}
-use Rattle.plant_desk_store.specs.Standing.{Stands, IsBeside}
+use Rattle.plant_desk_store.specs.DeskStanding.{DeskStands, IsBeside}
 use Rattle.plant_desk_store.proofs.Others.{others_kept}
 use Rattle.plant_desk_store.proofs.Resting.{still_stands, still_leaves}
 
 -- a desk whose store was only read stands where it stood
-pub read_stands : (old new : store.State) (shut : Bool) (s : State) → OnlyReads old new → IsStore new → HasCleanDisk new → Stands old shut s → Stands new shut s
+pub read_stands : (old new : store.State) (shut : Bool) (s : State) → OnlyReads old new → IsStore new → HasCleanDisk new → DeskStands old shut s → DeskStands new shut s
 read_stands old new shut s reads laws clean stood =
     (still_stands old new s stood.0 (reads.kept clean) laws, λ still. still_leaves old new (λ u. u ≡ s) (stood.1 still) clean reads.crash laws)
 
@@ -27,7 +27,7 @@ asked_beside before old new shut reads laws clean stood = record {
   others = others_kept before old new stood.others clean (reads.kept clean) reads.crash;
 }
 
-pub asked_stands : (old new : store.State) (shut : Bool) (s : State) (q : Question) (r : Result Answer DeskFault) → HasAnswered old new q r → IsStore new → HasCleanDisk new → Stands old shut s → Asks newest_schema s (Stands new shut) q r
+pub asked_stands : (old new : store.State) (shut : Bool) (s : State) (q : Question) (r : Result Answer DeskFault) → HasAnswered old new q r → IsStore new → HasCleanDisk new → DeskStands old shut s → Asks newest_schema s (DeskStands new shut) q r
 asked_stands old new shut s q (Ok a) did laws clean stood = (did.answers clean s stood.0, read_stands old new shut s did.reads laws clean stood)
 asked_stands old new shut s q (Err Store) did laws clean stood = read_stands old new shut s did.reads laws clean stood
 asked_stands old new shut s q (Err Memory) did laws clean stood = read_stands old new shut s did.reads laws clean stood

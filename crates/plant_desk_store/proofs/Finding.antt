@@ -8,7 +8,7 @@ use Rattle.plant_tables_stored.specs.declared.loaded.Loaded.{Loaded}
 use Rattle.plant_check.specs.Broken.{first_broken}
 use Rattle.plant_check.specs.declared.rule.Rule.{Rule}
 use Rattle.plant_desk.specs.declared.reply.DeskFault.{DeskFault}
-use Rattle.plant_desk_store.specs.Standing.{StandsAt}
+use Rattle.plant_desk_store.specs.DeskStanding.{StandsAt}
 use Rattle.plant_desk_store.specs.Testing.{IsTested}
 use Rattle.plant_good_passes.proofs.Unbroken.{read_good}
 use Rattle.plant_good_passes.proofs.Values.{newest_known}

@@ -26,12 +26,12 @@ use Rattle.plant_tables_stored.specs.declared.loaded.Loaded.{Loaded}
 use Rattle.plant_tables_stored.proofs.Versions.{one_version}
 use Rattle.plant_tables_judged.specs.Collecting.{rows_in, rows_listed}
 use Rattle.plant_tables_judged.specs.declared.desk_rows.DeskRows.{DeskRows}
-use Rattle.plant_migrate.specs.Standing.{IsCutShortAmid}
+use Rattle.plant_migrate.specs.Leaving.{IsCutShortAmid}
 use Rattle.plant_migrate.proofs.Ends.{raised_to_is}
 use Rattle.plant_desk_store.specs.Adopting.{IsNewlyOpened, HoldsGood, StillGood, IsRisingAt, ShowsStill, NamesFirst, BrokenBy, IsRefusedBy}
 use Rattle.plant_desk_store.specs.Faults.{adopt_fault}
 use Rattle.plant_good_found.specs.Restoring.{state_in, AreUnbroken}
-use Rattle.plant_desk_store.specs.Standing.{IsOpenAt, OthersStand}
+use Rattle.plant_desk_store.specs.DeskStanding.{IsOpenAt, OthersStand}
 use Rattle.plant_desk_store.specs.Testing.{IsFit}
 use Rattle.plant_desk_store.specs.declared.adopting.AdoptFault.{AdoptFault}
 use Rattle.plant_desk_store.specs.declared.adopting.AdoptFault.TheVariants as fault

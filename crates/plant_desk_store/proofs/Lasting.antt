@@ -13,16 +13,16 @@ use Rattle.plant_desk.specs.declared.reply.DeskFault.{DeskFault}
 use Rattle.plant_desk.specs.declared.reply.DeskFault.TheVariants.{Store, Memory, Shut}
 use Rattle.plant_desk_store.specs.Calls.{IsAccounted}
 use Rattle.plant_desk_store.specs.Running.{Ran}
-use Rattle.plant_desk_store.specs.Standing.{Stands, Leaves}
+use Rattle.plant_desk_store.specs.DeskStanding.{DeskStands, Leaves}
 
-ends_good : (c : store.State) (s : State) (list : List Envelope) (answered : List Reply) (end : Option DeskFault) (leaves : States → Type 0) (shut : Bool) → Ran s list answered end (Stands c shut) leaves shut
+ends_good : (c : store.State) (s : State) (list : List Envelope) (answered : List Reply) (end : Option DeskFault) (leaves : States → Type 0) (shut : Bool) → Ran s list answered end (DeskStands c shut) leaves shut
     → IsGood (fold s (take (length answered) list))
 ends_good c s list answered None leaves shut ran = ran.ended.1.0.good
 ends_good c s list answered (Some Store) leaves shut ran = ran.ended.0.0.good
 ends_good c s list answered (Some Memory) leaves shut ran = ran.ended.0.0.good
 ends_good c s list answered (Some Shut) leaves shut ran = absurd ran.ended
 
-pub accounted : (c : store.State) (s : State) (list : List Envelope) (answered : List Reply) (end : Option DeskFault) (shut : Bool) → Ran s list answered end (Stands c shut) (Leaves c) shut
+pub accounted : (c : store.State) (s : State) (list : List Envelope) (answered : List Reply) (end : Option DeskFault) (shut : Bool) → Ran s list answered end (DeskStands c shut) (Leaves c) shut
     → IsAccounted (fold s (take (length answered) list))
 accounted c s list answered end shut ran =
     let good = ends_good c s list answered end (Leaves c) shut ran in

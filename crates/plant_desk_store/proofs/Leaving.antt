@@ -8,7 +8,7 @@ use Rattle.plant_view.specs.Tables.{tables_of}
 use Rattle.table_forms.specs.Standing.{AreFree}
 use Rattle.table_forms.specs.Stopping.{IsSettled}
 use Rattle.plant_tables.specs.DeskForms.{desk_forms}
-use Rattle.plant_tables.specs.DeskStopping.{Finds, opening_tables}
+use Rattle.plant_tables.specs.DeskStopping.{FindsTables, opening_tables}
 use Rattle.plant_tables_judged.specs.Collecting.{rows_in, rows_listed}
 use Rattle.plant_tables_judged.specs.declared.desk_rows.DeskRows.{DeskRows}
 use Rattle.plant_good_keys.proofs.TableKeys.{keyed}
@@ -22,7 +22,7 @@ opened old trees free sound are =
     let made = are.1 sound free in
     record {
       free = free;
-      finds = subst (λ (d : Trees). Finds old d opening_tables) (sym are.2) (record { schema = are.0.schema; holds = made.0; others = made.1 });
+      finds = subst (λ (d : Trees). FindsTables old d opening_tables) (sym are.2) (record { schema = are.0.schema; holds = made.0; others = made.1 });
     }
 
 -- good tables were raised from rows that are those of whatever good state stood there

@@ -23,10 +23,10 @@ use Rattle.plant_desk.specs.declared.reply.DeskFault.TheVariants.{Store, Memory,
 use Rattle.plant_desk_store.specs.Adopting.{AdoptedFrom, Adopts, IsRefusedBy}
 use Rattle.plant_desk_store.specs.Calls.{HasAdopted, HasRefused}
 use Rattle.plant_desk_store.specs.Headline.{IsAtState, IsFoundAt, IsKeptAt, IsSoAt, IsToldIn, LeavesSomething, Headline}
-use Rattle.plant_desk_store.specs.Laws.{IsAdoptable, IsOpenedAfter}
+use Rattle.plant_desk_store.specs.DeskLaws.{IsAdoptable, IsOpenedAfter}
 use Rattle.plant_desk_store.specs.Life.{Sent, acknowledged, under_way, MayLeadTo, sent_as, cut_off, IsOpened, Place, opened, desk, refused, Lived, begun, found, adopted, unadopted, executed, ran, asked, verified, indexed, stopped}
 use Rattle.plant_desk_store.specs.Running.{RunEnds}
-use Rattle.plant_desk_store.specs.Standing.{IsOpenAt, Stands, Leaves}
+use Rattle.plant_desk_store.specs.DeskStanding.{IsOpenAt, DeskStands, Leaves}
 use Rattle.plant_desk_store.specs.declared.adopting.AdoptFault.{AdoptFault}
 use Rattle.plant_desk_store.specs.declared.adopting.AdoptFault.TheVariants as fault
 use Rattle.plant_tables_stored.proofs.Versions.{each_free, free_tells_nothing}
@@ -70,7 +70,7 @@ Stood s sent c refused = MayStand s sent × LeavesReady s sent c × LeavesSometh
 sound : (c : store.State) → IsOpened c → IsDatabase c.now
 sound c newly = (newly.1 newly.0.settled.is_open).0
 
-open_at : (c : store.State) (u : State) → Stands c false u → IsOpenAt c u
+open_at : (c : store.State) (u : State) → DeskStands c false u → IsOpenAt c u
 open_at c u stands = record { stands = stands.0; leaves = stands.1 refl }
 
 -- where nothing of the desk is there, only the store or want of memory refuses
@@ -141,7 +141,7 @@ adopted_at s sent old new newly (inl (free, lead)) did clean = elim (did.adopted
 adopted_at s sent old new newly (inr (u, lead, (version, adoptable))) did clean = (u, lead, did.again clean newly.0 version u adoptable.held)
 
 -- a command
-executed_at : (s u : State) (sent : List Sent) (new : store.State) (e : Envelope) (r : Result Reply DeskFault) → MayLeadTo s sent u → Executes u (Stands new (shuts r)) (Leaves new) e r → Stood s (sent ++ sent_as e r) new (desk (shuts r))
+executed_at : (s u : State) (sent : List Sent) (new : store.State) (e : Envelope) (r : Result Reply DeskFault) → MayLeadTo s sent u → Executes u (DeskStands new (shuts r)) (Leaves new) e r → Stood s (sent ++ sent_as e r) new (desk (shuts r))
 executed_at s u sent new e (Ok reply) lead did = (step u e, leads_on s u (step u e) sent (acknowledged e ∷ []) lead refl, open_at new (step u e) did.1)
 executed_at s u sent new e (Err Store) lead did = (
   (u, leads_on s u u sent (under_way e ∷ []) lead (inl refl)),
@@ -152,9 +152,9 @@ executed_at s u sent new e (Err Memory) lead did = (u, leads_on s u u sent [] le
 executed_at s u sent new e (Err Shut) lead did = absurd did
 
 -- a list of commands, of which those before led to t
-ended_at : (s t : State) (sent : List Sent) (list : List Envelope) (n : ℕ) (new : store.State) (shut : Bool) (end : Option DeskFault) → MayLeadTo s sent t → RunEnds t list n (Stands new shut) (Leaves new) shut end
+ended_at : (s t : State) (sent : List Sent) (list : List Envelope) (n : ℕ) (new : store.State) (shut : Bool) (end : Option DeskFault) → MayLeadTo s sent t → RunEnds t list n (DeskStands new shut) (Leaves new) shut end
     → Stood s (sent ++ cut_off end (slice_get list n)) new (desk shut)
-ended_at s t sent list n new shut None lead did = subst (λ (b : Bool). Stood s (sent ++ []) new (desk b)) (sym did.2) (t, leads_on s t t sent [] lead refl, open_at new t (subst (λ (b : Bool). Stands new b t) did.2 did.1))
+ended_at s t sent list n new shut None lead did = subst (λ (b : Bool). Stood s (sent ++ []) new (desk b)) (sym did.2) (t, leads_on s t t sent [] lead refl, open_at new t (subst (λ (b : Bool). DeskStands new b t) did.2 did.1))
 ended_at s t sent list n new shut (Some Store) lead did =
     let e = did.2.0 in
     let more = sent ++ under_way e ∷ [] in
@@ -164,11 +164,11 @@ ended_at s t sent list n new shut (Some Store) lead did =
       did.2.2.something,
     ) in
     subst (λ (o : Option Envelope). Stood s (sent ++ cut_off (Some Store) o) new (desk shut)) (sym did.2.1) (subst (λ (b : Bool). Stood s more new (desk b)) (sym did.1) stood)
-ended_at s t sent list n new shut (Some Memory) lead did = subst (λ (b : Bool). Stood s (sent ++ []) new (desk b)) (sym did.1) (t, leads_on s t t sent [] lead refl, open_at new t (subst (λ (b : Bool). Stands new b t) did.1 did.0))
+ended_at s t sent list n new shut (Some Memory) lead did = subst (λ (b : Bool). Stood s (sent ++ []) new (desk b)) (sym did.1) (t, leads_on s t t sent [] lead refl, open_at new t (subst (λ (b : Bool). DeskStands new b t) did.1 did.0))
 ended_at s t sent list n new shut (Some Shut) lead did = absurd did
 
 -- a question
-asked_at : (s u : State) (sent : List Sent) (new : store.State) (q : Question) (r : Result Answer DeskFault) → MayLeadTo s sent u → Asks newest_schema u (Stands new false) q r → Stood s sent new (desk false)
+asked_at : (s u : State) (sent : List Sent) (new : store.State) (q : Question) (r : Result Answer DeskFault) → MayLeadTo s sent u → Asks newest_schema u (DeskStands new false) q r → Stood s sent new (desk false)
 asked_at s u sent new q (Ok a) lead did = (u, lead, open_at new u did.1)
 asked_at s u sent new q (Err Store) lead did = (u, lead, open_at new u did)
 asked_at s u sent new q (Err Memory) lead did = (u, lead, open_at new u did)
@@ -201,7 +201,7 @@ module _ {S : Type 0} (g : Ghosts S) where
         was.0,
         was.1,
         subst (λ (b : Bool). Stood was.0 (sent ++ sent_as e r) c (desk b)) (sym did.is_shut)
-            (executed_at was.0 at.0 sent c e r at.1 (subst (λ (b : Bool). Executes at.0 (Stands c b) (Leaves c) e r) did.is_shut done)),
+            (executed_at was.0 at.0 sent c e r at.1 (subst (λ (b : Bool). Executes at.0 (DeskStands c b) (Leaves c) e r) did.is_shut done)),
       )
   lived first newly (ran old new shut sent list answered end before did) clean =
       let was = lived first newly before (did.honest clean) in

@@ -5,7 +5,7 @@ use Rattle.plant_view.specs.Genealogy.{edges_of}
 use Rattle.plant_view.specs.Recalls.{marks}
 use Rattle.plant_view.proofs.MarkRows.{are_the_pairs}
 use Rattle.plant_tables.specs.DeskForms.{mark_form}
-use Rattle.plant_desk_store.specs.Laws.{MarksAreReached}
+use Rattle.plant_desk_store.specs.DeskLaws.{MarksAreReached}
 
 pub marks_reached : MarksAreReached
 marks_reached db s holds =

@@ -17,7 +17,7 @@ use Rattle.plant_desk.specs.declared.reply.DeskFault.TheVariants.{Shut}
 use Rattle.plant_desk_store.specs.Calls.{HasIndexed}
 use Rattle.plant_desk_store.specs.Faults.{desk_fault}
 use Rattle.plant_desk_store.specs.Parts.{HasMended}
-use Rattle.plant_desk_store.specs.Standing.{StandsAt, FindsState, Leaves, IsOpenAt}
+use Rattle.plant_desk_store.specs.DeskStanding.{StandsAt, FindsState, Leaves, IsOpenAt}
 use Rattle.plant_desk_store.proofs.Others.{others_kept, others_committed, others_cut, open_beside}
 use Rattle.plant_desk_store.proofs.Resting.{open_at, cut_at, still_open}
 

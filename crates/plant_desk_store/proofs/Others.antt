@@ -11,7 +11,7 @@ use Rattle.table_forms.specs.Standing.{KeepsOthers}
 use Rattle.table_forms.specs.Resting.{Keeps}
 use Rattle.table_forms.specs.Stopping.{IsSettled}
 use Rattle.plant_tables.specs.DeskForms.{desk_forms}
-use Rattle.plant_tables.specs.DeskStopping.{IsAt, Finds, IsCutShort}
+use Rattle.plant_tables.specs.DeskStopping.{IsAt, FindsTables, IsCutShort}
 use Rattle.plant_base.specs.declared.command.Envelope.{Envelope}
 use Rattle.plant_base.specs.State.{State}
 use Rattle.plant_desk.specs.Keeping.{shuts}
@@ -19,7 +19,7 @@ use Rattle.plant_desk.specs.declared.reply.Reply.{Reply}
 use Rattle.plant_desk.specs.declared.reply.DeskFault.{DeskFault}
 use Rattle.plant_desk.specs.declared.reply.DeskFault.TheVariants.{Store, Memory, Shut}
 use Rattle.plant_rules.specs.Step.{step}
-use Rattle.plant_desk_store.specs.Standing.{OthersStand, IsOpenAt, IsBeside, Executed}
+use Rattle.plant_desk_store.specs.DeskStanding.{OthersStand, IsOpenAt, IsBeside, Executed}
 use Rattle.plant_desk_store.proofs.OneSchema.{one_schema}
 
 keeps_then : (a b c : Database) → KeepsOthers desk_forms a b → KeepsOthers desk_forms b c → KeepsOthers desk_forms a c
@@ -72,7 +72,7 @@ others_cut before old new t next others live cut = record {
   ];
 }
   where
-    found : (trees : Trees) (schema : Schema) → IsSound schema trees → (u : Tables) → Finds old.now trees u → KeepsOthers desk_forms before (record { schema = schema; trees = trees })
+    found : (trees : Trees) (schema : Schema) → IsSound schema trees → (u : Tables) → FindsTables old.now trees u → KeepsOthers desk_forms before (record { schema = schema; trees = trees })
     found trees schema sound u finds =
         in_schema before trees finds.schema schema finds.holds.sound sound (keeps_then before old.now (record { schema = finds.schema; trees = trees }) (others.shows live) finds.others)
 

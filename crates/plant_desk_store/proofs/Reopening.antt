@@ -14,8 +14,8 @@ use Rattle.plant_tables.specs.DeskStopping.{FindsOf}
 use Rattle.plant_tables.specs.Keyed.{HoldsTablesOf}
 use Rattle.plant_tables_stored.specs.Version.{IsKnown}
 use Rattle.plant_desk_store.specs.Adopting.{HoldsGood, IsRaised}
-use Rattle.plant_desk_store.specs.Laws.{IsAdoptable, IsOpenedAfter, GoodIsAdoptedAgain}
-use Rattle.plant_desk_store.specs.Standing.{FindsStateOf}
+use Rattle.plant_desk_store.specs.DeskLaws.{IsAdoptable, IsOpenedAfter, GoodIsAdoptedAgain}
+use Rattle.plant_desk_store.specs.DeskStanding.{FindsStateOf}
 use Rattle.plant_desk_store.proofs.Again.{not_free, one_told, version_held}
 use Rattle.plant_desk_store.proofs.OneSchema.{one_schema}
 use Rattle.plant_desk_store.proofs.Others.{keeps_itself}

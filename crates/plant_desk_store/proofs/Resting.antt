@@ -10,11 +10,11 @@ use Rattle.plant_view.specs.Tables.{Tables, tables_of}
 use Rattle.plant_good.specs.Good.{IsGood}
 use Rattle.table_forms.specs.Resting.{Keeps}
 use Rattle.table_forms.proofs.Ending.{IsStore}
-use Rattle.plant_tables.specs.DeskStopping.{IsAt, IsAtOf, Finds, IsCutShort}
+use Rattle.plant_tables.specs.DeskStopping.{IsAt, IsAtOf, FindsTables, IsCutShort}
 use Rattle.plant_tables.specs.Keyed.{HoldsTablesOf, HoldsTables}
 use Rattle.plant_desk.specs.Keeping.{States}
 use Rattle.plant_desk_store.specs.Left.{spared_leaves}
-use Rattle.plant_desk_store.specs.Standing.{StandsAt, FindsState, Leaves, IsOpenAt}
+use Rattle.plant_desk_store.specs.DeskStanding.{StandsAt, FindsState, Leaves, IsOpenAt}
 
 -- ---- a call that only reads
 
@@ -67,7 +67,7 @@ leaves_at new s good at clean laws = record {
 pub open_at : (new : store.State) (s : State) → IsGood s → IsAt new (tables_of newest_schema s) → HasCleanDisk new → IsStore new → IsOpenAt new s
 open_at new s good at clean laws = record { stands = record { good = good; shows = λ live. at }; leaves = leaves_at new s good at clean laws }
 
-found_in : (old : Database) (db : Trees) (s : State) → IsGood s → Finds old db (tables_of newest_schema s) → FindsState db s
+found_in : (old : Database) (db : Trees) (s : State) → IsGood s → FindsTables old db (tables_of newest_schema s) → FindsState db s
 found_in old db s good finds = record { good = good; schema = finds.schema; holds = finds.holds; whole = (refl, refl) }
 
 pub cut_at : (old new : store.State) (s next : State) → IsGood s → IsGood next → IsCutShort old new (tables_of newest_schema s) (tables_of newest_schema next)

@@ -12,7 +12,7 @@ use Rattle.plant_keyed.specs.Remembering.{AreEdgesOf, StaysTrue}
 use Rattle.plant_keyed.specs.declared.directed.Directed.{Directed}
 use Rattle.plant_keyed.specs.Shown.{shown}
 use Rattle.plant_keyed.proofs.Shown.{shows_its_state}
-use Rattle.plant_desk_store.specs.Standing.{StandsAt}
+use Rattle.plant_desk_store.specs.DeskStanding.{StandsAt}
 
 -- after a first look-up over an open store, which left it open, and further ones, none of which failed
 pub record AreHonest (old mid new : store.State) (failed : Bool) (is : Directed) (s : State) : Type 0 where

@@ -21,7 +21,7 @@ use Rattle.plant_desk.specs.declared.reply.DeskFault.TheVariants.{Store, Memory,
 use Rattle.plant_desk.proofs.Kept.{refused_step, repeated, answered_new}
 use Rattle.plant_desk_store.specs.Looking.{IsRepeat}
 use Rattle.plant_desk_store.specs.Parts.{IsCommitted, HasDecided, HasStepped}
-use Rattle.plant_desk_store.specs.Standing.{IsOpenAt, Executed}
+use Rattle.plant_desk_store.specs.DeskStanding.{IsOpenAt, Executed}
 use Rattle.plant_desk_store.proofs.Others.{others_kept}
 use Rattle.plant_desk_store.proofs.Resting.{before_only, still_open}
 

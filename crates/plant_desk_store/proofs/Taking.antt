@@ -11,7 +11,7 @@ use Rattle.plant_tables_judged.specs.declared.desk_rows.DeskRows.{DeskRows}
 use Rattle.plant_migrate.proofs.Ends.{raised_since}
 use Rattle.plant_desk_store.specs.Adopting.{HoldsGood, IsNewlyOpened, IsRaised}
 use Rattle.plant_desk_store.specs.Parts.{HasJudged, HasRaised, HasTaken}
-use Rattle.plant_desk_store.specs.Standing.{OthersStand}
+use Rattle.plant_desk_store.specs.DeskStanding.{OthersStand}
 use Rattle.plant_desk_store.specs.declared.adopting.AdoptFault.{AdoptFault}
 use Rattle.plant_desk_store.proofs.Judging.{still_new, stays_good}
 use Rattle.plant_desk_store.proofs.Leaving.{raised_from}

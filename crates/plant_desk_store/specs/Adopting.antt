@@ -12,16 +12,16 @@ use Rattle.table_forms.specs.Resting.{Keeps}
 pub use Rattle.table_reads.specs.Opened.{IsNewlyOpened}
 pub use Rattle.plant_check.specs.Damaged.{LacksTables, AreFirstBroken, IsFirstBroken, IsDamaged}
 use Rattle.plant_tables.specs.DeskForms.{desk_forms, later_forms}
-use Rattle.plant_tables.specs.DeskStopping.{MakesDesk, IsAtOf, Finds, opening_tables}
+use Rattle.plant_tables.specs.DeskStopping.{MakesDesk, IsAtOf, FindsTables, opening_tables}
 use Rattle.plant_tables.specs.Keyed.{HoldsTablesOf}
 use Rattle.plant_tables_stored.specs.Version.{IsVersion, IsKnown}
 use Rattle.plant_tables_stored.specs.declared.loaded.Loaded.{Loaded}
-use Rattle.plant_migrate.specs.Standing.{IsBetween}
+use Rattle.plant_migrate.specs.Leaving.{IsBetween}
 use Rattle.plant_migrate.specs.Steps.{FindsRisable}
 use Rattle.plant_check.specs.Broken.{first_broken}
 use Rattle.plant_check.specs.declared.rule.Rule.{Rule}
 use Rattle.plant_desk.specs.Keeping.{States}
-use Rattle.plant_desk_store.specs.Standing.{IsOpenAt, FindsStateOf}
+use Rattle.plant_desk_store.specs.DeskStanding.{IsOpenAt, FindsStateOf}
 use Rattle.plant_desk_store.specs.declared.adopting.AdoptFault.{AdoptFault}
 use Rattle.plant_desk_store.specs.declared.adopting.AdoptFault.TheVariants as fault
 
@@ -105,7 +105,7 @@ AreMade old trees = (db : Database) × MakesDesk old db × (trees ≡ db.trees)
 -- tables of other names.
 pub record IsOpened (old : Database) (trees : Trees) : Type 0 where
   pub free : AreFree desk_forms old.schema
-  pub finds : Finds old trees opening_tables
+  pub finds : FindsTables old trees opening_tables
 
 -- The tables of a good state stood there in a schema below the newest, with the names free that later ones add, and in the
 -- trees those of the same state in a later schema are to be found, beside the same tables of other names and with the names

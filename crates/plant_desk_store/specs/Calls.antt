@@ -20,7 +20,7 @@ use Rattle.plant_desk.specs.declared.reply.DeskFault.{DeskFault}
 use Rattle.plant_desk.specs.declared.reply.DeskFault.TheVariants.{Shut}
 use Rattle.plant_desk_store.specs.Adopting.{IsNewlyOpened, AdoptedFrom, KeepsGood, StillGood, ShowsStill, IsRefusedBy, IsUnraised, Adopts}
 use Rattle.plant_desk_store.specs.Running.{Ran}
-use Rattle.plant_desk_store.specs.Standing.{IsOpenAt, OthersStand, Stands, Leaves, IsBeside}
+use Rattle.plant_desk_store.specs.DeskStanding.{IsOpenAt, OthersStand, DeskStands, Leaves, IsBeside}
 use Rattle.plant_desk_store.specs.Testing.{IsTested}
 use Rattle.plant_desk_store.specs.declared.adopting.AdoptFault.{AdoptFault}
 use Rattle.plant_desk_store.specs.declared.adopting.AdoptFault.TheVariants as fault
@@ -59,13 +59,13 @@ pub record HasRefused (f : AdoptFault) (old new : store.State) : Type 0 where
 -- A command was executed, which came to this.
 pub record HasExecuted (old new : store.State) (shut : Bool) (e : Envelope) (r : Result Reply DeskFault) : Type 0 where
   pub honest : HasCleanDisk new → HasCleanDisk old
-  pub executes : HasCleanDisk new → (s : State) → Stands old false s → Executes s (Stands new shut) (Leaves new) e r
+  pub executes : HasCleanDisk new → (s : State) → DeskStands old false s → Executes s (DeskStands new shut) (Leaves new) e r
   pub is_shut : shut ≡ shuts r
 
 -- A question was asked, which came to this.
 pub record HasAsked (old new : store.State) (q : Question) (r : Result Answer DeskFault) : Type 0 where
   pub honest : HasCleanDisk new → HasCleanDisk old
-  pub asks : HasCleanDisk new → (s : State) → Stands old false s → Asks newest_schema s (Stands new false) q r
+  pub asks : HasCleanDisk new → (s : State) → DeskStands old false s → Asks newest_schema s (DeskStands new false) q r
 
 -- Nothing is lost and nothing made, of each definition and in each lot, and nothing was made from itself.
 pub record IsAccounted (s : State) : Type 0 where
@@ -78,8 +78,8 @@ pub record HasRun (old new : store.State) (shut : Bool) (list : List Envelope) (
   pub honest : HasCleanDisk new → HasCleanDisk old
   pub within : length answered ≤ length list
   pub live : end ≢ Some Shut
-  pub ran : HasCleanDisk new → (s : State) → Stands old false s → Ran s list answered end (Stands new shut) (Leaves new) shut
-  pub accounted : HasCleanDisk new → (s : State) → Stands old false s → IsAccounted (fold s (take (length answered) list))
+  pub ran : HasCleanDisk new → (s : State) → DeskStands old false s → Ran s list answered end (DeskStands new shut) (Leaves new) shut
+  pub accounted : HasCleanDisk new → (s : State) → DeskStands old false s → IsAccounted (fold s (take (length answered) list))
   -- tables of other names stand as they did, also in what a stop leaves
   pub others : HasCleanDisk new → (before : Database) → IsBeside old false before → IsBeside new shut before
 
@@ -88,9 +88,9 @@ pub record HasRun (old new : store.State) (shut : Bool) (list : List Envelope) (
 pub record HasIndexed (old new : store.State) (r : Result (Unit {0}) DeskFault) : Type 0 where
   pub honest : HasCleanDisk new → HasCleanDisk old
   pub live : IfErr r (λ f. f ≢ Shut)
-  pub stands : HasCleanDisk new → (s : State) → Stands old false s → Stands new false s
+  pub stands : HasCleanDisk new → (s : State) → DeskStands old false s → DeskStands new false s
   -- each index whose name was free is there
-  pub made : HasCleanDisk new → (s : State) → Stands old false s → OnOk r (AddsMissing old.now new.now)
+  pub made : HasCleanDisk new → (s : State) → DeskStands old false s → OnOk r (AddsMissing old.now new.now)
   -- tables of other names stand as they did, also in what a stop leaves
   pub others : HasCleanDisk new → (before : Database) → IsBeside old false before → IsBeside new false before
   -- where no name is free, a stop leaves what it left before
@@ -101,6 +101,6 @@ pub record HasVerified (old new : store.State) (r : Result (Option Rule) DeskFau
   pub honest : HasCleanDisk new → HasCleanDisk old
   pub live : IfErr r (λ f. f ≢ Shut)
   pub tested : HasCleanDisk new → IfOk r (IsTested old.now)
-  pub unbroken : HasCleanDisk new → (s : State) → Stands old false s → IfOk r (λ broken. broken ≡ None) × Stands new false s
+  pub unbroken : HasCleanDisk new → (s : State) → DeskStands old false s → IfOk r (λ broken. broken ≡ None) × DeskStands new false s
   -- a stop leaves what it left before
   pub crash : Survives old new (λ _. ⊥)

@@ -18,7 +18,7 @@ use Rattle.plant_view.specs.Tables.{tables_of, IsWholeIn}
 use Rattle.table_forms.specs.Standing.{AreFree}
 use Rattle.plant_tables.specs.DeskForms.{desk_forms}
 use Rattle.plant_tables.specs.Keyed.{HoldsTablesOf, HoldsTables}
-use Rattle.plant_desk.specs.Laws.{StandsFrom}
+use Rattle.plant_desk.specs.AnswerLaws.{StandsFrom}
 use Rattle.plant_desk.specs.Traces.{missing}
 use Rattle.plant_desk.specs.declared.question.Question.{Question}
 use Rattle.plant_desk.specs.declared.question.Question.TheVariants as Q

@@ -5,7 +5,7 @@ use Rattle.sqlite.specs.Tree.{Trees}
 use Rattle.sqlite.specs.State as store
 use Rattle.sqlite.specs.State.{HasCleanDisk, Survives}
 use Rattle.plant_desk.specs.Keeping.{States}
-use Rattle.plant_desk_store.specs.Standing.{Leaves}
+use Rattle.plant_desk_store.specs.DeskStanding.{Leaves}
 
 -- what a stop leaves, where it leaves no more than it did
 pub spared_leaves : (old new : store.State) (states : States) → Leaves old states → HasCleanDisk new → Survives old new (λ _. ⊥) → (HasCleanDisk new → ∥ ((db : Trees) × new.may_leave db) ∥₁) → Leaves new states

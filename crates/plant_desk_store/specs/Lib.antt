@@ -2,11 +2,11 @@ pub mod Adopting
 pub mod Calls
 pub mod Faults
 pub mod Headline
-pub mod Laws
+pub mod DeskLaws
 pub mod Left
 pub mod Life
 pub mod Looking
 pub mod Parts
 pub mod Running
-pub mod Standing
+pub mod DeskStanding
 pub mod Testing

@@ -33,7 +33,7 @@ use Rattle.plant_desk.specs.declared.reply.DeskFault.{DeskFault}
 use Rattle.plant_desk.specs.declared.reply.DeskFault.TheVariants.{Store, Shut}
 use Rattle.plant_desk_store.specs.Adopting.{IsNewlyOpened, HoldsGood, IsRisingAt, IsRaised, ShowsStill, NamesFirst, AreMade}
 use Rattle.plant_desk_store.specs.Looking.{IsDecidedAt, IsRepeat}
-use Rattle.plant_desk_store.specs.Standing.{StandsAt, Leaves, IsOpenAt, Executed, OthersStand}
+use Rattle.plant_desk_store.specs.DeskStanding.{StandsAt, Leaves, IsOpenAt, Executed, OthersStand}
 use Rattle.plant_desk_store.specs.Testing.{IsTested}
 use Rattle.plant_desk_store.specs.declared.adopting.AdoptFault.{AdoptFault}
 use Rattle.plant_desk_store.specs.declared.adopting.AdoptFault.TheVariants as fault

@@ -4,9 +4,9 @@ ghost use Rattle.std.specs.Prelude.{◌≡◌, false};
 ghost use Rattle.sqlite.specs.Held.{state};
 ghost use Rattle.plant_desk_store.specs.Calls.{HasExecuted, HasAsked};
 ghost use Rattle.plant_desk_store.specs.Headline.{Headline};
-ghost use Rattle.plant_desk_store.specs.Laws.{StopsAreReopened, GoodIsUnrefused};
-ghost use Rattle.plant_desk_store.specs.Laws.{GoodIsAdoptedAgain, OpeningIsAdopted, OthersAreSpared};
-ghost use Rattle.plant_desk_store.specs.Laws.{MarksAreReached};
+ghost use Rattle.plant_desk_store.specs.DeskLaws.{StopsAreReopened, GoodIsUnrefused};
+ghost use Rattle.plant_desk_store.specs.DeskLaws.{GoodIsAdoptedAgain, OpeningIsAdopted, OthersAreSpared};
+ghost use Rattle.plant_desk_store.specs.DeskLaws.{MarksAreReached};
 
 use crate::stored::Desk;
 use plant_base::Envelope;

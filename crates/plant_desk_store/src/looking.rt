@@ -11,7 +11,7 @@ ghost use Rattle.plant_keyed.specs.Keeping.{IsSteady};
 ghost use Rattle.plant_keyed.specs.Remembering.{AreEdgesOf};
 ghost use Rattle.plant_desk_store.specs.Looking.{IsDecidedAt};
 ghost use Rattle.plant_desk_store.specs.Parts.{HasDecided, HasAnswered};
-ghost use Rattle.plant_desk_store.specs.Standing.{StandsAt};
+ghost use Rattle.plant_desk_store.specs.DeskStanding.{StandsAt};
 
 use crate::faults::looked;
 use plant_base::Envelope;

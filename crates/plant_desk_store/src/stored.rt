@@ -109,12 +109,12 @@ impl<S: Alter> Keeper for Desk<S> {
     ghost use Rattle.sqlite.specs.State.{HasCleanDisk, Survives};
     ghost use Rattle.plant_base.specs.State.{newest_schema};
     ghost use Rattle.sqlite.specs.Effect.{Database};
-    ghost use Rattle.plant_desk_store.specs.Standing.{Stands, Leaves, IsBeside};
+    ghost use Rattle.plant_desk_store.specs.DeskStanding.{DeskStands, Leaves, IsBeside};
     ghost use Rattle.plant_desk_store.specs.Left.{never_nothing, spared_leaves};
 
     ghost honest = { λ d. HasCleanDisk (state S.Store d.connection) };
 
-    ghost stands = { λ d. Stands (state S.Store d.connection) d.is_shut };
+    ghost stands = { λ d. DeskStands (state S.Store d.connection) d.is_shut };
 
     ghost schema = { λ _. newest_schema };
 

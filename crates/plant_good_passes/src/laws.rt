@@ -1,6 +1,6 @@
 //! Laws of the tables of good states.
 
-ghost use Rattle.plant_good_passes.specs.Laws.{GoodIsInOrder, GoodHasValues, GoodIsUnbroken, GoodIsReadAgain};
+ghost use Rattle.plant_good_passes.specs.GoodLaws.{GoodIsInOrder, GoodHasValues, GoodIsUnbroken, GoodIsReadAgain};
 
 /// What the tables of good states have, as laws about them; the function itself does nothing.
 ///

@@ -6,7 +6,7 @@ use Rattle.std.proofs.Math.Seq.{take-append-add}
 use Rattle.std.proofs.lemmas.Bool.Decides.{nat_tests}
 use Rattle.std.proofs.lemmas.List.{append-nil, length-append, take-append-le, take_all, at_drop_more, drop_all}
 use Rattle.plant_http_input.specs.Head.{end_of_head, end_where, head_length, blank_length, or_else}
-use Rattle.plant_http_input.specs.Reading.{Finds}
+use Rattle.plant_http_input.specs.Reading.{FindsHead}
 use Rattle.plant_http_input.specs.declared.reading.HeadEnd.{HeadEnd}
 use Rattle.plant_http_input.specs.declared.reading.HeadEnd.TheVariants.{Found, TooLong, Early, Nothing}
 
@@ -73,7 +73,7 @@ front_more bytes left h =
     let sum : length bytes + (8192 - length bytes) ≡ 8192 = omega arith in
     rw sum at (take-append-add bytes left (8192 - length bytes))
 
-known_end : (e : HeadEnd) (bytes left : List ℕ) → Finds e bytes (Some left) → e ≡ end_of_head (bytes ++ left)
+known_end : (e : HeadEnd) (bytes left : List ℕ) → FindsHead e bytes (Some left) → e ≡ end_of_head (bytes ++ left)
 unfolding end_of_head head_length
 known_end (Found n) bytes left h =
     sym (ap (λ o. end_where o (bytes ++ left)) (ap head_length (front_more bytes left h.1) ∙ same_head bytes (take (8192 - length bytes) left) n h.0))
@@ -91,7 +91,7 @@ known_end Early bytes left h =
 known_end Nothing [] left h = rw h.1 refl
 known_end Nothing (b ∷ bytes) left h = absurd (omega (arith, h.0))
 
-pub known_whole : (start left : Option (List ℕ)) (bytes : List ℕ) (e : HeadEnd) → Consumes start left bytes → Finds e bytes left
+pub known_whole : (start left : Option (List ℕ)) (bytes : List ℕ) (e : HeadEnd) → Consumes start left bytes → FindsHead e bytes left
     → IfSome start (λ whole. e ≡ end_of_head whole)
 known_whole None left bytes e c h = tt
 known_whole (Some whole) None bytes e c h = absurd c

@@ -30,11 +30,11 @@ abbrev pub SpentAll : ℕ → Option (List ℕ) → Option (List ℕ) → Type 0
 SpentAll reads left left' = (taken : List ℕ) × Consumes left left' taken × (reads ≤ length taken)
 
 -- what was found of a head in the bytes that were read, where the reader has these left
-abbrev pub Finds : HeadEnd → List ℕ → Option (List ℕ) → Type 0
-Finds (Found n) bytes left = (head_length bytes ≡ Some n) × (length bytes ≤ longest_head)
-Finds TooLong bytes left = (head_length bytes ≡ None) × (length bytes ≡ longest_head)
-Finds Early bytes left = (head_length bytes ≡ None) × (0 < length bytes) × (length bytes < longest_head) × IsAtEnd left
-Finds Nothing bytes left = (length bytes ≡ 0) × IsAtEnd left
+abbrev pub FindsHead : HeadEnd → List ℕ → Option (List ℕ) → Type 0
+FindsHead (Found n) bytes left = (head_length bytes ≡ Some n) × (length bytes ≤ longest_head)
+FindsHead TooLong bytes left = (head_length bytes ≡ None) × (length bytes ≡ longest_head)
+FindsHead Early bytes left = (head_length bytes ≡ None) × (0 < length bytes) × (length bytes < longest_head) × IsAtEnd left
+FindsHead Nothing bytes left = (length bytes ≡ 0) × IsAtEnd left
 
 -- so many bytes are there, or the input ended before
 abbrev pub FindsBody : Bool → ℕ → List ℕ → Option (List ℕ) → Type 0

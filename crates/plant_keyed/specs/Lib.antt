@@ -1,7 +1,7 @@
 pub mod Edges
 pub mod Finding
 pub mod Keeping
-pub mod Laws
+pub mod ShownLaws
 pub mod Paging
 pub mod Remembering
 pub mod Shown

@@ -1,10 +1,10 @@
 //! Rows that a query finds, judged by the rules of their values.
 
-ghost use Rattle.std.specs.Prelude.{◌≡◌, false, ℕ, List, Some, None, Err, IfOk, IfErr, OnOk};
-ghost use Rattle.sqlite.specs.State.{HasCleanDisk, IsUnchanged, Survives};
+ghost use Rattle.std.specs.Prelude.{◌≡◌, ℕ, List, Some, None, Err, IfOk, IfErr};
+ghost use Rattle.sqlite.specs.State.{HasCleanDisk, Survives};
 ghost use Rattle.sqlite.specs.Held.{state};
 ghost use Rattle.sqlite.specs.Values.{bound};
-ghost use Rattle.table_forms.specs.Resting.{Keeps};
+ghost use Rattle.table_reads.specs.Calls.{AnswersUnchanged, BeginsNone, KeepsShown};
 ghost use Rattle.table_reads.specs.Found.{AreGiven};
 ghost use Rattle.table_reads.specs.Selects.{Selects};
 ghost use Rattle.plant_tables_columns.specs.All.{all_from};
@@ -34,12 +34,9 @@ pub(crate) fn found_rows<S: Alter, R: Judged>(
         → IfOk result (λ rows. AreFound (state S.Store conn.old).now form.now R.row_from places
         (bound values.now) rows.items) }
     ensures judged { IfOk result (λ rows. AreJudged R.row_from rows.items) }
-    ensures same { HasCleanDisk (state S.Store conn.new)
-        → OnOk result (IsUnchanged (state S.Store conn.old) (state S.Store conn.new)) }
-    ensures kept { HasCleanDisk (state S.Store conn.new)
-        → Keeps (state S.Store conn.old) (state S.Store conn.new) }
-    ensures mode { (state S.Store conn.old).in_transaction ≡ false
-        → (state S.Store conn.new).in_transaction ≡ false }
+    ensures same { AnswersUnchanged (state S.Store conn.old) (state S.Store conn.new) result }
+    ensures kept { KeepsShown (state S.Store conn.old) (state S.Store conn.new) }
+    ensures mode { BeginsNone (state S.Store conn.old) (state S.Store conn.new) }
     ensures crash { Survives (state S.Store conn.old) (state S.Store conn.new) (λ _. ⊥) }
 {
     judged_by(alloc, find_rows(alloc, conn, form, sql, values))

@@ -1,13 +1,13 @@
 //! Pages of the rows that a query finds, judged by the rules of their values.
 
-ghost use Rattle.std.specs.Prelude.{◌≡◌, ◌+◌, [], ◌∷◌, false, ℕ, List, Some, IfOk, OnOk};
-ghost use Rattle.sqlite.specs.State.{HasCleanDisk, IsUnchanged, Survives};
+ghost use Rattle.std.specs.Prelude.{◌≡◌, ◌+◌, [], ◌∷◌, false, ℕ, List, Some, IfOk};
+ghost use Rattle.sqlite.specs.State.{HasCleanDisk, Survives};
 ghost use Rattle.sqlite.specs.Held.{state};
 ghost use Rattle.sqlite.specs.Values.{bound, bound_value};
 ghost use Rattle.sqlite.specs.declared.types.Value.TheVariants.{Text};
 ghost use Rattle.sqlite_sql.specs.Ops.{is_null};
 ghost use Rattle.sqlite_value.specs.Value.{owned};
-ghost use Rattle.table_forms.specs.Resting.{Keeps};
+ghost use Rattle.table_reads.specs.Calls.{AnswersUnchanged, BeginsNone, KeepsShown};
 ghost use Rattle.table_reads.specs.Paging.{SelectsPage, AreBounds};
 ghost use Rattle.plant_tables_columns.specs.Kinds.{number};
 ghost use Rattle.plant_worklists.specs.Pages.{page_size};
@@ -42,12 +42,9 @@ fn page_over<S: Alter, R: Judged>(
         → AreBounds places page_size (bound values.now) → HasCleanDisk (state S.Store conn.new)
         → IfOk result (IsPaged (state S.Store conn.old).now form.now R.row_from places next
         (bound values.now)) }
-    ensures same { HasCleanDisk (state S.Store conn.new)
-        → OnOk result (IsUnchanged (state S.Store conn.old) (state S.Store conn.new)) }
-    ensures kept { HasCleanDisk (state S.Store conn.new)
-        → Keeps (state S.Store conn.old) (state S.Store conn.new) }
-    ensures mode { (state S.Store conn.old).in_transaction ≡ false
-        → (state S.Store conn.new).in_transaction ≡ false }
+    ensures same { AnswersUnchanged (state S.Store conn.old) (state S.Store conn.new) result }
+    ensures kept { KeepsShown (state S.Store conn.old) (state S.Store conn.new) }
+    ensures mode { BeginsNone (state S.Store conn.old) (state S.Store conn.new) }
     ensures crash { Survives (state S.Store conn.old) (state S.Store conn.new) (λ _. ⊥) }
 {
     let page = find_page(alloc, conn, form, sql, values, usize::from(PAGE_SIZE))?;

@@ -1,10 +1,10 @@
 //! The receipt of a reference.
 
-ghost use Rattle.std.specs.Prelude.{◌≡◌, false, ℕ, List, Some, None, Err, IfOk, IfErr, OnOk, slice_get};
-ghost use Rattle.sqlite.specs.State.{HasCleanDisk, IsUnchanged, Survives};
+ghost use Rattle.std.specs.Prelude.{◌≡◌, ℕ, List, Some, None, Err, IfOk, IfErr, slice_get};
+ghost use Rattle.sqlite.specs.State.{HasCleanDisk, Survives};
 ghost use Rattle.sqlite.specs.Held.{state};
 ghost use Rattle.sqlite.specs.Values.{bound};
-ghost use Rattle.table_forms.specs.Resting.{Keeps};
+ghost use Rattle.table_reads.specs.Calls.{AnswersUnchanged, BeginsNone, KeepsShown};
 ghost use Rattle.table_reads.specs.Found.{AreGiven};
 ghost use Rattle.table_reads.specs.Selects.{Selects};
 ghost use Rattle.plant_base.specs.State.{receipt_at};
@@ -63,12 +63,9 @@ fn found_receipts<S: Alter>(
         → AreGiven places (bound values.now) → HasCleanDisk (state S.Store conn.new)
         → IfOk result (λ rows. AreFound (state S.Store conn.old).now form.now receipt_from places
         (bound values.now) rows.items) }
-    ensures same { HasCleanDisk (state S.Store conn.new)
-        → OnOk result (IsUnchanged (state S.Store conn.old) (state S.Store conn.new)) }
-    ensures kept { HasCleanDisk (state S.Store conn.new)
-        → Keeps (state S.Store conn.old) (state S.Store conn.new) }
-    ensures mode { (state S.Store conn.old).in_transaction ≡ false
-        → (state S.Store conn.new).in_transaction ≡ false }
+    ensures same { AnswersUnchanged (state S.Store conn.old) (state S.Store conn.new) result }
+    ensures kept { KeepsShown (state S.Store conn.old) (state S.Store conn.new) }
+    ensures mode { BeginsNone (state S.Store conn.old) (state S.Store conn.new) }
     ensures crash { Survives (state S.Store conn.old) (state S.Store conn.new) (λ _. ⊥) }
 {
     receipts_by(alloc, find_rows(alloc, conn, form, sql, values))

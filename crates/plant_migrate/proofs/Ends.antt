@@ -18,7 +18,7 @@ use Rattle.plant_tables_judged.specs.Collecting.{Rows, rows_in, rows_listed}
 use Rattle.plant_tables_judged.specs.declared.desk_rows.DeskRows.{DeskRows}
 use Rattle.plant_migrate.specs.Raised.{edges_from, raised_by}
 use Rattle.plant_migrate.specs.Steps.{IsRisable, IsCutShortWithin, FindsRisable, IsRaisedBy}
-use Rattle.plant_migrate.specs.Standing.{IsCutShortAmid, raised_to}
+use Rattle.plant_migrate.specs.Leaving.{IsCutShortAmid, raised_to}
 use Rattle.plant_migrate.proofs.StateChanges.{bookings, state_raised}
 
 -- the tables of a version have no rows of later tables

@@ -15,7 +15,7 @@ use Rattle.plant_tables.specs.DeskForms.{desk_forms}
 use Rattle.plant_tables.specs.Keyed.{HoldsTablesOf}
 use Rattle.plant_tables.specs.DeskStopping.{IsAtOf, FindsOf, IsCutShortOf}
 use Rattle.plant_tables.proofs.Ended.{finds_same}
-use Rattle.plant_migrate.specs.Standing.{IsCutShortAmid, FindsBetween, raised_to}
+use Rattle.plant_migrate.specs.Leaving.{IsCutShortAmid, FindsBetween, raised_to}
 
 pub keeps_itself : (s : State) → Keeps s s
 keeps_itself s = record { was_open = λ live. live; now = λ _. refl; committed = λ _. refl }

@@ -6,3 +6,4 @@ pub mod Ends
 pub mod Free
 pub mod Reading
 pub mod Versions
+pub mod Faults

@@ -22,7 +22,7 @@ use Rattle.plant_tables_judged.proofs.AgainLemmas.{read_again}
 use Rattle.plant_tables_judged.proofs.TableLemmas.{loaded_rows}
 use Rattle.plant_migrate.specs.Raised.{edges_from}
 use Rattle.plant_migrate.specs.Steps.{IsRaisedBy}
-use Rattle.plant_migrate.specs.Standing.{IsReadable, IsCutShortAmid, IsRead, IsRaisedFrom}
+use Rattle.plant_migrate.specs.Leaving.{IsReadable, IsCutShortAmid, IsRead, IsRaisedFrom}
 use Rattle.plant_migrate.proofs.Ends.{lacks_later, raised_since}
 use Rattle.plant_migrate.proofs.Kept.{amid_since}
 

@@ -1,8 +1,9 @@
 -- What the calls that raise tables promise, each of a store before and after it and of its result.
-use Rattle.std.specs.Prelude.{◌≡◌, ℕ, ◌+◌, List, OnOk, OnErr, IfErr, Result}
+use Rattle.std.specs.Prelude.{◌≡◌, ◌≢◌, ℕ, ◌+◌, ℤ, pos, List, OnOk, OnErr, IfErr, Result}
+use Rattle.std.specs.Int.Signed.{◌≤ℤ◌, ◌<ℤ◌}
 use Rattle.sqlite.specs.State as store
 use Rattle.sqlite.specs.State.{HasCleanDisk, Survives}
-use Rattle.plant_base.specs.State.{State}
+use Rattle.plant_base.specs.State.{State, newest_schema}
 use Rattle.plant_base.specs.declared.rows.Position.{Position}
 use Rattle.plant_view.specs.Tables.{Tables, tables_of, IsWholeIn}
 use Rattle.plant_view.specs.declared.change.RowChange.{RowChange}
@@ -15,13 +16,21 @@ use Rattle.plant_tables.specs.DeskStopping.{IsAtOf}
 use Rattle.plant_tables.specs.Keyed.{AreKeyed}
 use Rattle.plant_tables_judged.specs.Collecting.{rows_in, rows_listed}
 use Rattle.plant_tables_judged.specs.declared.desk_rows.DeskRows.{DeskRows}
+use Rattle.plant_tables_stored.specs.Version.{IsVersion}
 use Rattle.plant_migrate.specs.Raised.{raised_by}
-use Rattle.plant_migrate.specs.Standing.{IsReadable, IsCutShortAmid, raised_to}
+use Rattle.plant_migrate.specs.Leaving.{IsReadable, IsCutShortAmid, TellsKnown, raised_to}
 use Rattle.plant_migrate.specs.Steps.{IsRisable, IsCutShortWithin}
+use Rattle.plant_migrate.specs.declared.raising.RaiseFault.{RaiseFault}
+use Rattle.plant_migrate.specs.declared.raising.RaiseFault.TheVariants as raising
 
 -- the store is at the tables of the state in a version, and tables of other names stand as they did
 abbrev pub IsRaisedAt : ℕ → store.State → store.State → State → Type 0
 IsRaisedAt version old new s = IsAtOf version new (tables_of version s) × KeepsOthers desk_forms old.now new.now
+
+-- the fault of a raising that a fault of its store is
+abbrev pub raise_fault : Fault → RaiseFault
+raise_fault fault.Store = raising.Store
+raise_fault fault.Memory = raising.Memory
 
 -- readable tables of a version were raised to a later one
 abbrev pub Raises : ℕ → ℕ → store.State → store.State → Result (Unit {0}) Fault → Type 0
@@ -42,6 +51,22 @@ RaisesFound to old new r = HasCleanDisk new → (version : ℕ) → (s : State) 
 
 abbrev pub CutsFoundShort : {E : Type 0} → ℕ → store.State → store.State → Result (Unit {0}) E → Type 0
 CutsFoundShort to old new r = HasCleanDisk new → (version : ℕ) → (s : State) → IsReadable version old s → OnErr r (IsCutShortAmid version to old new s)
+
+-- what was raised told a version, and a known one
+abbrev pub RaisesTold : {E : Type 0} → store.State → store.State → Result (Unit {0}) E → Type 0
+RaisesTold old new r = HasCleanDisk new → OnOk r (TellsKnown old.now)
+
+-- none that is above the newest
+abbrev pub RaisesNoNewer : {E : Type 0} → store.State → store.State → Result (Unit {0}) E → Type 0
+RaisesNoNewer old new r = HasCleanDisk new → OnOk r ((n : ℤ) → IsVersion old.now n → n ≤ℤ pos newest_schema)
+
+-- and what is refused as newer is
+abbrev pub RefusesNewer : store.State → store.State → Result (Unit {0}) RaiseFault → Type 0
+RefusesNewer old new r = HasCleanDisk new → IfErr r (λ f. (n : ℤ) → f ≡ raising.Newer n → IsVersion old.now n × (pos newest_schema <ℤ n))
+
+-- at any other fault than the store's a stop leaves what it left
+abbrev pub WritesAtStore : store.State → store.State → Result (Unit {0}) RaiseFault → Type 0
+WritesAtStore old new r = IfErr r (λ f. f ≢ raising.Store → Survives old new (λ _. ⊥))
 
 -- ---- whose rows are at hand: those of the tables of the state, which are those of its version and whole
 

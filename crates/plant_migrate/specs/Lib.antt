@@ -1,4 +1,4 @@
 pub mod Raised
 pub mod Steps
-pub mod Standing
+pub mod Leaving
 pub mod Calls

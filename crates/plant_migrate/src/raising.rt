@@ -1,13 +1,12 @@
 //! The raising of whatever tables a store holds.
 
-ghost use Rattle.std.specs.Prelude.{◌≡◌, ◌≢◌, ◌≤◌, ◌<◌, false, ℤ, pos, OnOk, IfErr};
-ghost use Rattle.std.specs.Int.Signed.{◌≤ℤ◌, ◌<ℤ◌};
+ghost use Rattle.std.specs.Prelude.{◌≡◌, ◌≤◌, ◌<◌, false};
 ghost use Rattle.sqlite.specs.State.{HasCleanDisk, Survives};
 ghost use Rattle.sqlite.specs.Held.{state};
 ghost use Rattle.plant_base.specs.State.{newest_schema};
-ghost use Rattle.plant_tables_stored.specs.Version.{IsVersion};
-ghost use Rattle.plant_migrate.specs.Calls.{CutsFoundShort, CutsShort, Raises, RaisesFound, WritesNothing};
-ghost use Rattle.plant_migrate.specs.Standing.{IsRaisedFrom, IsRaisedTo, TellsKnown};
+ghost use Rattle.plant_migrate.specs.Calls.{CutsFoundShort, CutsShort, Raises, RaisesFound, RaisesNoNewer};
+ghost use Rattle.plant_migrate.specs.Calls.{RaisesTold, RefusesNewer, WritesAtStore, WritesNothing, raise_fault};
+ghost use Rattle.plant_migrate.specs.Leaving.{IsRaisedFrom, IsRaisedTo};
 
 use crate::rows::raise_rows;
 use crate::steps::raise_by;
@@ -32,11 +31,9 @@ pub enum RaiseFault {
     Newer(i64),
 }
 
+/// The fault of a raising that a fault of its store is.
 fn fault_of(fault: Fault) -> RaiseFault
-    ensures store { fault ≡ Fault.Store → result ≡ RaiseFault.Store }
-    ensures memory { fault ≡ Fault.Memory → result ≡ RaiseFault.Memory }
-    ensures other { result ≢ RaiseFault.Store → fault ≡ Fault.Memory }
-    ensures not_newer { (n : ℤ) → result ≢ RaiseFault.Newer n }
+    ensures { result ≡ raise_fault fault }
 {
     match fault {
         Fault::Store => RaiseFault::Store,
@@ -139,21 +136,15 @@ pub fn raise<S: Alter>(alloc: Global, conn: &mut Connection<S>, to: u64) -> Resu
     ensures mode { conn.new.in_transaction ≡ false }
     ensures raised { RaisesFound to (state S.Store conn.old) (state S.Store conn.new) result }
     ensures cut_short { CutsFoundShort to (state S.Store conn.old) (state S.Store conn.new) result }
-
     // Of whatever store: a stop leaves what it left before, and nothing else at a fault but Store; else also raised tables,
     // only where table meta tells an older schema than is asked for, the rows that are read obey the rules of values and
     // the later tables could be made.
-    ensures unwritten { IfErr result (λ fault. fault ≢ RaiseFault.Store
-        → Survives (state S.Store conn.old) (state S.Store conn.new) (λ _. ⊥)) }
+    ensures unwritten { WritesAtStore (state S.Store conn.old) (state S.Store conn.new) result }
     ensures crash { Survives (state S.Store conn.old) (state S.Store conn.new)
         (IsRaisedTo to (state S.Store conn.old)) }
-    ensures told { HasCleanDisk (state S.Store conn.new)
-        → OnOk result (TellsKnown (state S.Store conn.old).now) }
-    ensures newer { HasCleanDisk (state S.Store conn.new) → IfErr result (λ fault. (n : ℤ)
-        → fault ≡ RaiseFault.Newer n
-        → IsVersion (state S.Store conn.old).now n × (pos newest_schema <ℤ n)) }
-    ensures not_newer { HasCleanDisk (state S.Store conn.new) → OnOk result ((n : ℤ)
-        → IsVersion (state S.Store conn.old).now n → n ≤ℤ pos newest_schema) }
+    ensures told { RaisesTold (state S.Store conn.old) (state S.Store conn.new) result }
+    ensures newer { RefusesNewer (state S.Store conn.old) (state S.Store conn.new) result }
+    ensures not_newer { RaisesNoNewer (state S.Store conn.old) (state S.Store conn.new) result }
 {
     let version = match found(alloc, conn) {
         Ok(FoundTables::Version(version)) => version,

@@ -16,7 +16,7 @@ use Rattle.csv.specs.declared.reader.Reader.{Reader}
 use Rattle.plant_orders.specs.Orders.{◌>>=◌, fault, id_of, due_of, order_of, read_fault, Gives, rows_of, file_of, is_header, FailsAs, orders_of}
 use Rattle.plant_base.specs.Values.{greatest_amount, greatest_version, greatest_priority}
 use Rattle.plant_orders.specs.Numbers.{bounded}
-use Rattle.plant_orders.specs.Standing.{Stands, GaveNext}
+use Rattle.plant_orders.specs.ReaderStanding.{ReaderStands, GaveNext}
 use Rattle.plant_base.specs.declared.rows.OrderRow.{OrderRow}
 use Rattle.plant_orders.specs.declared.fault.CsvFault.{CsvFault}
 use Rattle.plant_orders.specs.declared.fault.CsvKind.{CsvKind}
@@ -27,7 +27,7 @@ abbrev pub with_front : List OrderRow → Result (List OrderRow) CsvFault → Re
 with_front front read = read >>= λ rows. Ok (front ++ rows)
 
 pub next_found : (o : Option Read) (found : Bool) (rdr : Reader (Bor (List ℕ))) (fields : List (List ℕ)) → GaveNext o found rdr fields
-    → found ≡ true → (p : Read) × (o ≡ Some p) × (fields ≡ p.0) × Stands rdr p.1 p.2
+    → found ≡ true → (p : Read) × (o ≡ Some p) × (fields ≡ p.0) × ReaderStands rdr p.1 p.2
 next_found None found rdr fields g e = absurd (false≢true (sym g ∙ e))
 next_found (Some p) found rdr fields g e = (p, refl, g.1, g.2)
 

@@ -18,7 +18,7 @@ use Rattle.plant_worklists.specs.Places.{recipe_place, movement_place}
 use Rattle.plant_shapes.specs.Words.{command_kind, question_kind, line_kind, batch_word, order_state, recipe_state}
 use Rattle.plant_shapes.specs.Problems.{◌>>=◌, object, is_told, problem_told}
 use Rattle.plant_shapes.specs.Fields.{natural, is_between, field_of, by_rule, member_where, member_of, fields_of, first_other, other_where, none_other, exactly}
-use Rattle.plant_shapes.specs.Laws.{Means, field_in, May, may_in, Values, fields_in}
+use Rattle.plant_shapes.specs.ValueLaws.{Means, field_in, May, may_in, Values, fields_in}
 
 -- what was read is such, or else the error says what is wrong
 abbrev pub Good : {A E : Type 0} → (E → Bool) → (A → Type 0) → Result A E → Type 0

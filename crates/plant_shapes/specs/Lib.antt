@@ -1,5 +1,5 @@
 pub mod Fields
-pub mod Laws
+pub mod ValueLaws
 pub mod Members
 pub mod Problems
 pub mod Tables

@@ -5,7 +5,7 @@ ghost use Rattle.plant_base.specs.Dates.{is_due};
 ghost use Rattle.plant_base.specs.Values.{is_id, is_text, is_unit, only};
 ghost use Rattle.plant_shapes.specs.Fields.{field_of, member_of, fields_of, is_listed};
 ghost use Rattle.plant_shapes.specs.Fields.{chosen, first_other, other_where, none_other, exactly};
-ghost use Rattle.plant_shapes.specs.Laws.{Values, fields_in};
+ghost use Rattle.plant_shapes.specs.ValueLaws.{Values, fields_in};
 ghost use Rattle.plant_shapes.specs.Problems.{is_told};
 ghost use Rattle.plant_shapes.specs.Tables.{most_members};
 ghost use Rattle.plant_shapes.specs.declared.members.Rule.TheVariants as rule;

@@ -19,7 +19,7 @@ use Rattle.table_forms.proofs.Moving.{others_then}
 use Rattle.plant_tables.specs.DeskForms.{desk_forms}
 use Rattle.plant_tables.specs.DeskTables.{contents_of, rows_changed}
 use Rattle.plant_tables.specs.Keyed.{HoldsTables}
-use Rattle.plant_tables.specs.DeskStopping.{IsAt, Finds, opening_tables, MakesDesk, IsUnopened}
+use Rattle.plant_tables.specs.DeskStopping.{IsAt, FindsTables, opening_tables, MakesDesk, IsUnopened}
 use Rattle.plant_tables.proofs.Bridge.{SameRows, stand_as}
 
 abbrev pub opening_meta : Meta
@@ -53,8 +53,8 @@ pub opened_at : {X E : Type 0} (old new : State) (r : Result X E) → IsDatabase
 opened_at old new (Err e) sound free done = tt
 opened_at old new (Ok x) sound free done = let it = done.1 sound free in (record { settled = done.0; holds = it.0 }, it.1)
 
-found_made : (old after : Database) (trees : Trees) → HoldsTables after opening_tables × KeepsOthers desk_forms old after → trees ≡ after.trees → Finds old trees opening_tables
-found_made old after trees it same = subst (λ d. Finds old d opening_tables) (sym same) (record { schema = after.schema; holds = it.0; others = it.1 })
+found_made : (old after : Database) (trees : Trees) → HoldsTables after opening_tables × KeepsOthers desk_forms old after → trees ≡ after.trees → FindsTables old trees opening_tables
+found_made old after trees it same = subst (λ d. FindsTables old d opening_tables) (sym same) (record { schema = after.schema; holds = it.0; others = it.1 })
 
 pub unopened_at : {X E : Type 0} (old new : State) (r : Result X E) → IsDatabase old.now → AreFree desk_forms old.now.schema → OnErr r (IsUndone MakesDesk old new) → OnErr r (IsUnopened old new)
 unopened_at old new (Ok x) sound free undone = tt

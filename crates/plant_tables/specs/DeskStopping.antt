@@ -27,8 +27,8 @@ pub record FindsOf (version : ℕ) (before : Database) (trees : Trees) (t : Tabl
   pub others : KeepsOthers desk_forms before (record { schema = schema; trees = trees })
 
 -- those of the newest schema
-abbrev pub Finds : Database → Trees → Tables → Type 0
-Finds = FindsOf newest_schema
+abbrev pub FindsTables : Database → Trees → Tables → Type 0
+FindsTables = FindsOf newest_schema
 
 -- A transaction that leads from tables of one schema to those of another was cut short: a stop leaves at least one, and
 -- nothing else than the tables before or after it, and the store, where it is still open, shows those before.
@@ -56,5 +56,5 @@ MakesDesk old new = IsDatabase old → AreFree desk_forms old.schema → HoldsTa
 -- desk that has accepted nothing, and the store, where it is still open, shows what was there before.
 pub record IsUnopened (old new : State) : Type 0 where
   pub leaves : ∥ ((db : Trees) × new.may_leave db) ∥₁
-  pub nothing_else : (db : Trees) → new.may_leave db → (db ≡ old.now.trees) ⊎ Finds old.now db opening_tables
+  pub nothing_else : (db : Trees) → new.may_leave db → (db ≡ old.now.trees) ⊎ FindsTables old.now db opening_tables
   pub shows : IsTrue new.is_open → IsSettled new × (new.now ≡ old.now)

@@ -5,4 +5,5 @@ pub mod Keyed
 pub mod DeskStopping
 pub mod PutTexts
 pub mod Raising
+pub mod Calls
 pub mod Missing

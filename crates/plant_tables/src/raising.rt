@@ -1,16 +1,13 @@
-ghost use Rattle.std.specs.Prelude.{◌≡◌, ◌+◌, false, OnOk, OnErr, IsOkUnless};
+ghost use Rattle.std.specs.Prelude.{◌≡◌, false, OnOk, IsOkUnless};
 ghost use Rattle.sqlite.specs.Effect.{Database};
 ghost use Rattle.sqlite.specs.State.{HasCleanDisk, Survives, KeepsCommit};
 ghost use Rattle.sqlite.specs.Held.{state};
-ghost use Rattle.plant_view.specs.Tables.{Tables, changed_all};
 ghost use Rattle.table_forms.specs.Indexes.{AddsIndexes};
 ghost use Rattle.table_forms.specs.Moves.{Founds, LeavesFree};
-ghost use Rattle.table_forms.specs.Standing.{KeepsOthers, AreFree};
-ghost use Rattle.table_forms.specs.Stopping.{IsSettled};
-ghost use Rattle.plant_tables.specs.DeskForms.{desk_forms, forms_of, added_forms, later_forms};
+ghost use Rattle.plant_tables.specs.DeskForms.{forms_of, added_forms};
 ghost use Rattle.plant_tables.specs.DeskIndexes.{added_indexes};
-ghost use Rattle.plant_tables.specs.DeskStopping.{IsAtOf, IsCutShortOf};
-ghost use Rattle.plant_tables.specs.Raising.{IsOlder, AreRisable, RaisesTables, raising};
+ghost use Rattle.plant_tables.specs.Calls.{RaisesNext, SparesLater, CutsNextShort};
+ghost use Rattle.plant_tables.specs.Raising.{IsOlder, RaisesTables};
 
 use crate::forms;
 use crate::write::{write_change, write_changes};
@@ -97,8 +94,9 @@ impl<'a> Work for Raising<'a> {
 
 /// Raises tables of a version to the next, in one transaction, whose commit is the last call of the store: the tables and
 /// the indexes that the next schema adds are made, the rows are put into these tables, and table meta tells that schema,
-/// at the position that is given; the tables that later ones add can still be made. The one fault is [`Fault::Store`], where the store refuses a table, an index or a row,
-/// or where a number is above 2^63 - 1; then nothing is changed, but a commit that failed may be found made after a stop.
+/// at the position that is given; the tables that later ones add can still be made. The one fault is [`Fault::Store`],
+/// where the store refuses a table, an index or a row, or where a number is above 2^63 - 1; then nothing is changed, but a
+/// commit that failed may be found made after a stop.
 pub fn commit_raising<S: Alter>(
     conn: &mut Connection<S>,
     version: u64,
@@ -109,18 +107,12 @@ pub fn commit_raising<S: Alter>(
     requires older { IsOlder version }
     ensures fault { IsOkUnless result Fault.Store }
     ensures mode { conn.new.in_transaction ≡ false }
-    ensures raised { HasCleanDisk (state S.Store conn.new) → IsSettled (state S.Store conn.old)
-        → (t : Tables) → AreRisable version added.now (state S.Store conn.old).now t
-        → OnOk result (IsAtOf (version + 1) (state S.Store conn.new)
-        (changed_all (raising version position added.now) t)
-        × KeepsOthers desk_forms (state S.Store conn.old).now (state S.Store conn.new).now) }
-    ensures spared { HasCleanDisk (state S.Store conn.new) → IsSettled (state S.Store conn.old)
-        → (t : Tables) → AreRisable version added.now (state S.Store conn.old).now t
-        → OnOk result (AreFree (later_forms (version + 1)) (state S.Store conn.new).now.schema) }
-    ensures cut_short { HasCleanDisk (state S.Store conn.new) → IsSettled (state S.Store conn.old)
-        → (t : Tables) → AreRisable version added.now (state S.Store conn.old).now t
-        → OnErr result (IsCutShortOf version (version + 1) (state S.Store conn.old)
-        (state S.Store conn.new) t (changed_all (raising version position added.now) t)) }
+    ensures raised { RaisesNext version position added.now (state S.Store conn.old)
+        (state S.Store conn.new) result }
+    ensures spared { SparesLater version added.now (state S.Store conn.old)
+        (state S.Store conn.new) result }
+    ensures cut_short { CutsNextShort version position added.now (state S.Store conn.old)
+        (state S.Store conn.new) result }
     ensures survives { Survives (state S.Store conn.old) (state S.Store conn.new)
         (λ trees. (db : Database)
         × RaisesTables version position added.now (state S.Store conn.old).now db

@@ -1,2 +1,2 @@
 pub mod Collecting
-pub mod Laws
+pub mod ReadingLaws

@@ -2,8 +2,8 @@ ghost use Rattle.std.specs.Prelude.{◌≡◌, IfOk, is_some, option_map};
 ghost use Rattle.plant_tables_stored.specs.Loading.{contents_loaded};
 ghost use Rattle.plant_tables_columns.specs.TableColumns.{only_meta};
 ghost use Rattle.plant_tables_judged.specs.Collecting.{rows_listed, rows_from};
-ghost use Rattle.plant_tables_judged.specs.Laws.{StandFor, AreReadAgain, AreWholeRows, AreSameTables};
-ghost use Rattle.plant_tables_judged.specs.Laws.{IsBookedAgain, IsStatedAgain};
+ghost use Rattle.plant_tables_judged.specs.ReadingLaws.{StandFor, AreReadAgain, AreWholeRows, AreSameTables};
+ghost use Rattle.plant_tables_judged.specs.ReadingLaws.{IsBookedAgain, IsStatedAgain};
 
 use plant_base::{
     BatchEvent, BatchRow, Class, ControlLine, Definition, EdgeRow, Hold, Job, Lot, Mark,

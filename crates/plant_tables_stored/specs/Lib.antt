@@ -1,3 +1,4 @@
 pub mod Loading
 pub mod Readings
 pub mod Version
+pub mod Calls

@@ -1,19 +1,20 @@
 //! What a store holds of the desk.
 
-ghost use Rattle.std.specs.Prelude.{◌≡◌, ◌≢◌, ◌↔◌, ◌∷◌, [], false, true, All, None, ℤ, IfOk, IfErr, IfSome, OnOk};
+ghost use Rattle.std.specs.Prelude.{◌≡◌, ◌≢◌, ◌↔◌, ◌∷◌, [], false, true, All, None, ℤ, IfOk, IfErr, IfSome};
 ghost use Rattle.std.specs.Prelude.{is_some};
 ghost use Rattle.std.specs.List.{list_any};
 ghost use Rattle.sqlite.specs.Does.{lacks_sequence};
 ghost use Rattle.sqlite.specs.Held.{state};
 ghost use Rattle.sqlite.specs.Order.{Row as Values, column};
 ghost use Rattle.sqlite.specs.Rows.{sequence};
-ghost use Rattle.sqlite.specs.State.{HasCleanDisk, IsLive, IsUnchanged, Survives};
+ghost use Rattle.sqlite.specs.State.{HasCleanDisk, IsLive, Survives};
 ghost use Rattle.sqlite.specs.declared.types.Value.TheVariants.{Int};
-ghost use Rattle.table_forms.specs.Resting.{Keeps};
-ghost use Rattle.table_forms.specs.Standing.{AreFree, HasTable, IsFree};
+ghost use Rattle.table_forms.specs.Standing.{AreFree, IsFree};
+ghost use Rattle.table_reads.specs.Calls.{AnswersUnchanged, BeginsNone, FindsUnchanged, KeepsShown};
 ghost use Rattle.plant_tables_stored.specs.Loading.{Loads};
 ghost use Rattle.plant_tables.specs.DeskForms.{desk_forms, meta_form};
 ghost use Rattle.plant_tables_stored.specs.Version.{row_of, IsGoodMeta, IsVersion};
+ghost use Rattle.plant_tables_stored.specs.Calls.{FindsVersion, FindsVersionUnchanged, WantsMeta};
 
 use crate::readings::SELECT_META;
 use plant_base::{GREATEST_MOMENT, GREATEST_SEQ};
@@ -117,18 +118,11 @@ fn version<S: Alter>(alloc: Global, conn: &mut Connection<S>) -> Result<Option<i
         → IfOk result (λ found. IfSome found (IsVersion (state S.Store conn.old).now)) }
     ensures none { HasCleanDisk (state S.Store conn.new)
         → IfOk result (λ found. found ≡ None → (n : ℤ) → ¬ IsVersion (state S.Store conn.old).now n) }
-    ensures same { HasCleanDisk (state S.Store conn.new)
-        → IfOk result (λ found. IfSome found (λ _. IsUnchanged (state S.Store conn.old)
-        (state S.Store conn.new))) }
-    ensures kept { HasCleanDisk (state S.Store conn.new)
-        → Keeps (state S.Store conn.old) (state S.Store conn.new) }
-    ensures mode { (state S.Store conn.old).in_transaction ≡ false
-        → (state S.Store conn.new).in_transaction ≡ false }
+    ensures same { FindsUnchanged (state S.Store conn.old) (state S.Store conn.new) result }
+    ensures kept { KeepsShown (state S.Store conn.old) (state S.Store conn.new) }
+    ensures mode { BeginsNone (state S.Store conn.old) (state S.Store conn.new) }
     ensures crash { Survives (state S.Store conn.old) (state S.Store conn.new) (λ _. ⊥) }
-    // Memory is wanted for a row of table meta.
-    ensures memory { HasCleanDisk (state S.Store conn.new)
-        → IfErr result (λ fault. fault ≡ Fault.Memory
-        → HasTable (state S.Store conn.old).now.schema meta_form) }
+    ensures memory { WantsMeta (state S.Store conn.old) (state S.Store conn.new) result }
 {
     if !all_stand(conn.schema(), &[META]) {
         return Ok(None);
@@ -142,17 +136,11 @@ fn version<S: Alter>(alloc: Global, conn: &mut Connection<S>) -> Result<Option<i
 pub fn read_meta<S: Alter>(alloc: Global, conn: &mut Connection<S>) -> Result<Vec<Row>, Fault>
     ensures rows { HasCleanDisk (state S.Store conn.new)
         → IfOk result (λ list. Loads (state S.Store conn.old).now meta_form list.items) }
-    ensures same { HasCleanDisk (state S.Store conn.new)
-        → OnOk result (IsUnchanged (state S.Store conn.old) (state S.Store conn.new)) }
-    ensures kept { HasCleanDisk (state S.Store conn.new)
-        → Keeps (state S.Store conn.old) (state S.Store conn.new) }
-    ensures mode { (state S.Store conn.old).in_transaction ≡ false
-        → (state S.Store conn.new).in_transaction ≡ false }
+    ensures same { AnswersUnchanged (state S.Store conn.old) (state S.Store conn.new) result }
+    ensures kept { KeepsShown (state S.Store conn.old) (state S.Store conn.new) }
+    ensures mode { BeginsNone (state S.Store conn.old) (state S.Store conn.new) }
     ensures crash { Survives (state S.Store conn.old) (state S.Store conn.new) (λ _. ⊥) }
-    // Memory is wanted for a row of table meta.
-    ensures memory { HasCleanDisk (state S.Store conn.new)
-        → IfErr result (λ fault. fault ≡ Fault.Memory
-        → HasTable (state S.Store conn.old).now.schema meta_form) }
+    ensures memory { WantsMeta (state S.Store conn.old) (state S.Store conn.new) result }
 {
     read_table(alloc, conn, &META, SELECT_META)
 }
@@ -191,23 +179,14 @@ pub fn found<S: Alter>(alloc: Global, conn: &mut Connection<S>) -> Result<FoundT
     ensures free { AreFree desk_forms (state S.Store conn.old).now.schema → IfErr result (λ _. ⊥) }
     ensures taken { IfOk result (λ found. found ≢ FoundTables.Nothing
         → ¬ All (IsFree (state S.Store conn.old).now.schema) desk_forms) }
-    ensures version { HasCleanDisk (state S.Store conn.new)
-        → IfOk result (λ found. (n : ℤ)
-        → (found ≡ FoundTables.Version n) ↔ IsVersion (state S.Store conn.old).now n) }
+    ensures version { FindsVersion (state S.Store conn.old) (state S.Store conn.new) result }
     ensures live { IsLive (state S.Store conn.old) }
     ensures untouched { IfOk result (λ found. found ≡ FoundTables.Nothing → conn.new ≡ conn.old) }
-    ensures same { HasCleanDisk (state S.Store conn.new)
-        → IfOk result (λ found. (n : ℤ) → found ≡ FoundTables.Version n
-        → IsUnchanged (state S.Store conn.old) (state S.Store conn.new)) }
-    ensures kept { HasCleanDisk (state S.Store conn.new)
-        → Keeps (state S.Store conn.old) (state S.Store conn.new) }
-    ensures mode { (state S.Store conn.old).in_transaction ≡ false
-        → (state S.Store conn.new).in_transaction ≡ false }
+    ensures same { FindsVersionUnchanged (state S.Store conn.old) (state S.Store conn.new) result }
+    ensures kept { KeepsShown (state S.Store conn.old) (state S.Store conn.new) }
+    ensures mode { BeginsNone (state S.Store conn.old) (state S.Store conn.new) }
     ensures crash { Survives (state S.Store conn.old) (state S.Store conn.new) (λ _. ⊥) }
-    // Memory is wanted for a row of table meta.
-    ensures memory { HasCleanDisk (state S.Store conn.new)
-        → IfErr result (λ fault. fault ≡ Fault.Memory
-        → HasTable (state S.Store conn.old).now.schema meta_form) }
+    ensures memory { WantsMeta (state S.Store conn.old) (state S.Store conn.new) result }
 {
     if all_free(conn.schema(), &desk_forms()) {
         if lacks_counts(conn.schema()) {

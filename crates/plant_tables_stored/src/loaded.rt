@@ -1,13 +1,11 @@
-ghost use Rattle.std.specs.Prelude.{◌≡◌, ◌↔◌, ◌++◌, ◌∷◌, [], true, false, None, IfOk, IfErr, IfSome, OnOk};
+ghost use Rattle.std.specs.Prelude.{◌≡◌, ◌↔◌, ◌++◌, ◌∷◌, [], true, None, IfOk, IfErr, IfSome, OnOk};
 ghost use Rattle.std.specs.Prelude.{IsOkUnless};
 ghost use Rattle.sqlite.specs.Held.{state};
-ghost use Rattle.sqlite.specs.State.{HasCleanDisk, IsUnchanged, Survives};
-ghost use Rattle.table_forms.specs.Resting.{Keeps};
-ghost use Rattle.table_forms.specs.Standing.{StandIn};
-ghost use Rattle.table_reads.specs.Ordered.{IsRising};
-ghost use Rattle.plant_tables.specs.DeskForms.{forms_of};
+ghost use Rattle.sqlite.specs.State.{HasCleanDisk, Survives};
+ghost use Rattle.table_reads.specs.Calls.{AnswersUnchanged, BeginsNone, FindsUnchanged, KeepsShown};
 ghost use Rattle.plant_tables_stored.specs.Loading.{AreLoaded, AreRising, contents_loaded};
 ghost use Rattle.plant_tables_stored.specs.Version.{IsKnown, HasTablesOf};
+ghost use Rattle.plant_tables_stored.specs.Calls.{FindsLoaded, FindsStanding, TellsLacking};
 
 use crate::readings::{desk_readings, readings_of};
 use plant_base::NEWEST_SCHEMA;
@@ -55,25 +53,16 @@ impl Loaded {
         conn: &mut Connection<S>,
         schema: u64,
     ) -> Result<Option<Loaded>, Fault>
-        ensures rows { HasCleanDisk (state S.Store conn.new)
-            → IfOk result (λ found. IfSome found (AreLoaded schema (state S.Store conn.old).now)) }
+        ensures rows { FindsLoaded schema (state S.Store conn.old) (state S.Store conn.new) result }
         ensures ordered { IfOk result (λ found. IfSome found (AreRising schema)) }
-        ensures stands { HasCleanDisk (state S.Store conn.new)
-            → IsRising (state S.Store conn.old).now
-            → IfOk result (λ found. IfSome found (λ loaded. StandIn (forms_of schema)
-            (state S.Store conn.old).now (contents_loaded loaded))) }
+        ensures stands { FindsStanding schema (state S.Store conn.old) (state S.Store conn.new)
+            result }
         ensures missing { IfOk result (λ found. found ≡ None
             → ¬ HasTablesOf schema (state S.Store conn.old).now.schema) }
-        // Where the tables of a known schema don't stand so, that is told, and no fault.
-        ensures lacking { IsKnown schema → ¬ HasTablesOf schema (state S.Store conn.old).now.schema
-            → IfErr result (λ _. ⊥) }
-        ensures same { HasCleanDisk (state S.Store conn.new)
-            → IfOk result (λ found. IfSome found (λ _. IsUnchanged (state S.Store conn.old)
-            (state S.Store conn.new))) }
-        ensures kept { HasCleanDisk (state S.Store conn.new)
-            → Keeps (state S.Store conn.old) (state S.Store conn.new) }
-        ensures mode { (state S.Store conn.old).in_transaction ≡ false
-            → (state S.Store conn.new).in_transaction ≡ false }
+        ensures lacking { TellsLacking schema (state S.Store conn.old) result }
+        ensures same { FindsUnchanged (state S.Store conn.old) (state S.Store conn.new) result }
+        ensures kept { KeepsShown (state S.Store conn.old) (state S.Store conn.new) }
+        ensures mode { BeginsNone (state S.Store conn.old) (state S.Store conn.new) }
         ensures crash { Survives (state S.Store conn.old) (state S.Store conn.new) (λ _. ⊥) }
         // Memory is wanted for the rows of a schema that is known, all tables of which stand.
         ensures known { IfErr result (λ fault. fault ≡ Fault.Memory → IsKnown schema) }
@@ -97,12 +86,9 @@ impl Loaded {
         ensures rows { HasCleanDisk (state S.Store conn.new)
             → IfOk result (AreLoaded schema (state S.Store conn.old).now) }
         ensures rising { IfOk result (AreRising schema) }
-        ensures same { HasCleanDisk (state S.Store conn.new)
-            → OnOk result (IsUnchanged (state S.Store conn.old) (state S.Store conn.new)) }
-        ensures kept { HasCleanDisk (state S.Store conn.new)
-            → Keeps (state S.Store conn.old) (state S.Store conn.new) }
-        ensures mode { (state S.Store conn.old).in_transaction ≡ false
-            → (state S.Store conn.new).in_transaction ≡ false }
+        ensures same { AnswersUnchanged (state S.Store conn.old) (state S.Store conn.new) result }
+        ensures kept { KeepsShown (state S.Store conn.old) (state S.Store conn.new) }
+        ensures mode { BeginsNone (state S.Store conn.old) (state S.Store conn.new) }
         ensures crash { Survives (state S.Store conn.old) (state S.Store conn.new) (λ _. ⊥) }
     {
         let readings = desk_readings();

@@ -6,7 +6,7 @@ use Rattle.plant_base.specs.State.{State}
 use Rattle.plant_desk.specs.Keeping.{States}
 use Rattle.plant_text.specs.declared.turns.Stop.{Stop}
 use Rattle.plant_text.specs.declared.turns.Stop.TheVariants as S
-use Rattle.plant_text.specs.Session.{Entry, fold, Told, Stopped, EndsWithin, nothing, entry_of, entries, ended_lines, all_lines, part_from}
+use Rattle.plant_text.specs.Session.{Entry, fold, AreAnswered, Stopped, EndsWithin, nothing, entry_of, entries, ended_lines, all_lines, part_from}
 use Rattle.plant_text.specs.Turns.{LastEnds, end_of}
 use Rattle.plant_text.specs.declared.run.RunEnd.{RunEnd}
 use Rattle.plant_text.specs.declared.run.RunEnd.TheVariants as E
@@ -35,8 +35,8 @@ last_entry bytes held e = last_as_whole entry_of longer_alike bytes held e
 
 -- ---- how a run ends
 
-pub read_ends : (k : ℕ) (s : State) (bytes : List ℕ) (a b : Option (List ℕ)) (stands : States) (p q : Bool) → Told k s (entries_after [] bytes) a b stands p q → Told k s (entries (ended_lines bytes)) a b stands p q
-read_ends k s bytes a b stands p q x = subst (λ (es : List Entry). Told k s es a b stands p q) (ended_entries bytes) x
+pub read_ends : (k : ℕ) (s : State) (bytes : List ℕ) (a b : Option (List ℕ)) (stands : States) (p q : Bool) → AreAnswered k s (entries_after [] bytes) a b stands p q → AreAnswered k s (entries (ended_lines bytes)) a b stands p q
+read_ends k s bytes a b stands p q x = subst (λ (es : List Entry). AreAnswered k s es a b stands p q) (ended_entries bytes) x
 
 pub stopped_ends : (most k : ℕ) (s : State) (bytes : List ℕ) (left a b : Option (List ℕ)) (stands : States) (shut : Bool) (leaves : States → Type 0) (stop : Stop)
     → ((e : Entry) → Stopped k s (entries_after [] bytes ++ e ∷ []) a b stands shut leaves stop) → EndsWithin most k s bytes left a b stands shut leaves (end_of stop)
@@ -47,20 +47,20 @@ last_entries : (bytes held : List ℕ) → held ≡ held_after [] bytes → entr
 last_entries bytes held e = ap (λ x. entries_after [] bytes ++ x ∷ []) (last_entry bytes held e) ∙ all_entries bytes
 
 last_told : (k j : ℕ) (s : State) (mid now : States) (bytes held : List ℕ) (a b c : Option (List ℕ)) (p q r : Bool)
-    → Told k s (entries_after [] bytes) a b mid p q → j ≡ k → held ≡ held_after [] bytes → ((t : State) → mid t → Told j t (entry_of held ∷ []) b c now q r) → Told k s (entries (lines bytes)) a c now p r
+    → AreAnswered k s (entries_after [] bytes) a b mid p q → j ≡ k → held ≡ held_after [] bytes → ((t : State) → mid t → AreAnswered j t (entry_of held ∷ []) b c now q r) → AreAnswered k s (entries (lines bytes)) a c now p r
 last_told k j s mid now bytes held a b c p q r x same_k same_held y =
-    told_lines k s bytes a c now p r (subst (λ (es : List Entry). Told k s es a c now p r) (last_entries bytes held same_held)
-    (told_more k s mid now (entries_after [] bytes) (entry_of held ∷ []) a b c p q r x (λ t stood. subst (λ (n : ℕ). Told n t (entry_of held ∷ []) b c now q r) same_k (y t stood))))
+    told_lines k s bytes a c now p r (subst (λ (es : List Entry). AreAnswered k s es a c now p r) (last_entries bytes held same_held)
+    (told_more k s mid now (entries_after [] bytes) (entry_of held ∷ []) a b c p q r x (λ t stood. subst (λ (n : ℕ). AreAnswered n t (entry_of held ∷ []) b c now q r) same_k (y t stood))))
 
 last_stops : (k j : ℕ) (s : State) (mid now : States) (bytes held : List ℕ) (a b c : Option (List ℕ)) (p q : Bool) (shut : Bool) (leaves : States → Type 0) (stop : Stop)
-    → Told k s (entries_after [] bytes) a b mid p q → j ≡ k → held ≡ held_after [] bytes → ((t : State) → mid t → Stopped j t (entry_of held ∷ []) b c now shut leaves stop)
+    → AreAnswered k s (entries_after [] bytes) a b mid p q → j ≡ k → held ≡ held_after [] bytes → ((t : State) → mid t → Stopped j t (entry_of held ∷ []) b c now shut leaves stop)
     → Stopped k s (entries (all_lines bytes)) a c now shut leaves stop
 last_stops k j s mid now bytes held a b c p q shut leaves stop x same_k same_held y =
     subst (λ (es : List Entry). Stopped k s es a c now shut leaves stop) (last_entries bytes held same_held)
     (told_stops k s mid now (entries_after [] bytes) (entry_of held ∷ []) a b c p q shut leaves stop x (λ t stood. subst (λ (n : ℕ). Stopped n t (entry_of held ∷ []) b c now shut leaves stop) same_k (y t stood)))
 
 pub last_ends : (most k j : ℕ) (s : State) (mid now : States) (bytes held : List ℕ) (left a b c : Option (List ℕ)) (q : Bool) (shut : Bool) (leaves : States → Type 0) (end : RunEnd)
-    → Told k s (entries_after [] bytes) a b mid false q → j ≡ k → held ≡ held_after [] bytes → IsAtEnd left → ((t : State) → mid t → LastEnds j t (entry_of held) b c now shut leaves q end)
+    → AreAnswered k s (entries_after [] bytes) a b mid false q → j ≡ k → held ≡ held_after [] bytes → IsAtEnd left → ((t : State) → mid t → LastEnds j t (entry_of held) b c now shut leaves q end)
     → EndsWithin most k s bytes left a c now shut leaves end
 last_ends most k j s mid now bytes held left a b c q shut leaves (E.Done r) x same_k same_held l y =
     (l, last_told k j s mid now bytes held a b c false q r x same_k same_held (λ t stood. (y t stood).0), (y (fold s (entries_after [] bytes)) x.state).1)

@@ -7,7 +7,7 @@ use Rattle.std.specs.Io.KnownBytes.{Appends}
 use Rattle.std.specs.Str.Lines.{strip_carriage_return, lines_of_parts, lines}
 use Rattle.plant_base.specs.State.{State}
 use Rattle.plant_desk.specs.Keeping.{States}
-use Rattle.plant_text.specs.Session.{Entry, nothing, entry_of, entries, ended_from, part_from, ended_lines, all_lines, texts, some_refused, Told}
+use Rattle.plant_text.specs.Session.{Entry, nothing, entry_of, entries, ended_from, part_from, ended_lines, all_lines, texts, some_refused, AreAnswered}
 use Rattle.plant_text.proofs.HeldLemmas.{by_bool}
 use Rattle.plant_text.proofs.TurnLemmas.{entry_empty}
 use Rattle.plant_text.proofs.RunLemmas.{texts-append, fold-append, some_refused-append, or_false}
@@ -57,21 +57,21 @@ lines_are bytes = ap lines_of_parts (sym (glue_nothing (slice_split is_lf bytes)
 
 -- ---- an empty last part says nothing
 
-told_trim : (k : ℕ) (s : State) (es : List Entry) (a b : Option (List ℕ)) (stands : States) (p q : Bool) → Told k s (es ++ nothing ∷ []) a b stands p q → Told k s es a b stands p q
+told_trim : (k : ℕ) (s : State) (es : List Entry) (a b : Option (List ℕ)) (stands : States) (p q : Bool) → AreAnswered k s (es ++ nothing ∷ []) a b stands p q → AreAnswered k s es a b stands p q
 told_trim k s es a b stands p q x = record {
   text = subst (λ (text : List ℕ). Appends a b text) (texts-append k s es (nothing ∷ []) ∙ append-nil (texts k s es)) x.text;
   state = subst stands (fold-append s es (nothing ∷ [])) x.state;
   refused = x.refused ∙ ap (λ v. p || v) (some_refused-append k s es (nothing ∷ []) ∙ or_false (some_refused k s es));
 }
 
-told_last : (k : ℕ) (s : State) (ls : List (List ℕ)) (x : List ℕ) (a b : Option (List ℕ)) (stands : States) (p q : Bool) → Told k s (entries ls ++ entry_of x ∷ []) a b stands p q
-    → (v : Bool) → nat_eq (length x) 0 ≡ v → Told k s (entries (ls ++ cond v [] (x ∷ []))) a b stands p q
+told_last : (k : ℕ) (s : State) (ls : List (List ℕ)) (x : List ℕ) (a b : Option (List ℕ)) (stands : States) (p q : Bool) → AreAnswered k s (entries ls ++ entry_of x ∷ []) a b stands p q
+    → (v : Bool) → nat_eq (length x) 0 ≡ v → AreAnswered k s (entries (ls ++ cond v [] (x ∷ []))) a b stands p q
 told_last k s ls x a b stands p q told true e =
     let empty : length x ≡ 0 = grind (arith, nat_tests) in
-    rw (append-nil ls) (told_trim k s (entries ls) a b stands p q (subst (λ (e : Entry). Told k s (entries ls ++ e ∷ []) a b stands p q) (entry_empty x empty) told))
+    rw (append-nil ls) (told_trim k s (entries ls) a b stands p q (subst (λ (e : Entry). AreAnswered k s (entries ls ++ e ∷ []) a b stands p q) (entry_empty x empty) told))
 told_last k s ls x a b stands p q told false e = rw (map-append entry_of ls (x ∷ [])) told
 
-pub told_lines : (k : ℕ) (s : State) (bytes : List ℕ) (a b : Option (List ℕ)) (stands : States) (p q : Bool) → Told k s (entries (all_lines bytes)) a b stands p q → Told k s (entries (lines bytes)) a b stands p q
+pub told_lines : (k : ℕ) (s : State) (bytes : List ℕ) (a b : Option (List ℕ)) (stands : States) (p q : Bool) → AreAnswered k s (entries (all_lines bytes)) a b stands p q → AreAnswered k s (entries (lines bytes)) a b stands p q
 told_lines k s bytes a b stands p q x =
     let parts = rw (map-append entry_of (ended_lines bytes) (part_from [] bytes ∷ [])) at x in
     rw (lines_are bytes) (told_last k s (ended_lines bytes) (part_from [] bytes) a b stands p q parts (nat_eq (length (part_from [] bytes)) 0) refl)

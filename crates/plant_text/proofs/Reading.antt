@@ -27,7 +27,7 @@ use Rattle.plant_shapes.specs.declared.problems.Problem.{Problem}
 use Rattle.plant_shapes.specs.declared.problems.Problem.TheVariants as problem
 use Rattle.plant_shapes.specs.Problems.{◌>>=◌, object, or_no_form, is_told, problem_told}
 use Rattle.plant_shapes.specs.Fields.{fields_of, exactly}
-use Rattle.plant_shapes.specs.Laws.{Values, fields_in, may_in}
+use Rattle.plant_shapes.specs.ValueLaws.{Values, fields_in, may_in}
 use Rattle.plant_shapes.specs.Tables.{list_members}
 use Rattle.plant_shapes.proofs.Typed.{Good, good_bind, good_map, good_object, exactly_typed, only_fails, ask_fails}
 use Rattle.plant_text.specs.Lines.{value_says, longest_line, text_says, line_says, line_of}

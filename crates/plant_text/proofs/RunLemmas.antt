@@ -5,7 +5,7 @@ use Rattle.std.proofs.Math.Bool.{or_assoc}
 use Rattle.plant_base.specs.State.{State}
 use Rattle.plant_desk.specs.Keeping.{States}
 use Rattle.plant_text.specs.declared.turns.Stop.{Stop}
-use Rattle.plant_text.specs.Session.{entry_of, Entry, entry_text, after, is_refused, texts, fold, some_refused, Told, StopsAt, Stopped}
+use Rattle.plant_text.specs.Session.{entry_of, Entry, entry_text, after, is_refused, texts, fold, some_refused, AreAnswered, StopsAt, Stopped}
 use Rattle.plant_text.specs.Turns.{TurnEnds, FaultWritten}
 use Rattle.plant_desk.specs.declared.reply.DeskFault.TheVariants.{Memory}
 use Rattle.plant_text.proofs.Known.{Appends-nil, Appends-append}
@@ -29,13 +29,13 @@ pub or_false : (b : Bool) → (b || false) ≡ b
 or_false true = refl
 or_false false = refl
 
-pub told_nothing : (k : ℕ) (s : State) (a : Option (List ℕ)) (stands : States) (r : Bool) → stands s → Told k s [] a a stands r r
+pub told_nothing : (k : ℕ) (s : State) (a : Option (List ℕ)) (stands : States) (r : Bool) → stands s → AreAnswered k s [] a a stands r r
 told_nothing k s a stands r stood = record { text = Appends-nil a; state = stood; refused = sym (or_false r) }
 
 pub told_more : (k : ℕ) (s : State) (mid now : States) (xs ys : List Entry) (a b c : Option (List ℕ)) (p q r : Bool)
-    → Told k s xs a b mid p q → ((t : State) → mid t → Told k t ys b c now q r) → Told k s (xs ++ ys) a c now p r
+    → AreAnswered k s xs a b mid p q → ((t : State) → mid t → AreAnswered k t ys b c now q r) → AreAnswered k s (xs ++ ys) a c now p r
 told_more k s mid now xs ys a b c p q r x more =
-    let y : Told k (fold s xs) ys b c now q r = more (fold s xs) x.state in
+    let y : AreAnswered k (fold s xs) ys b c now q r = more (fold s xs) x.state in
     record {
       text = rw (texts-append k s xs ys) (Appends-append a b c _ _ x.text y.text);
       state = subst now (sym (fold-append s xs ys)) y.state;
@@ -45,7 +45,7 @@ told_more k s mid now xs ys a b c p q r x more =
 
 -- ---- a turn as a run of one entry
 
-pub turn_told : (k : ℕ) (s : State) (e : Entry) (a b : Option (List ℕ)) (stands : States) (shut : Bool) (leaves : States → Type 0) (p r : Bool) → TurnEnds k s e a b stands shut leaves (Ok r) → Told k s (e ∷ []) a b stands p (p || r)
+pub turn_told : (k : ℕ) (s : State) (e : Entry) (a b : Option (List ℕ)) (stands : States) (shut : Bool) (leaves : States → Type 0) (p r : Bool) → TurnEnds k s e a b stands shut leaves (Ok r) → AreAnswered k s (e ∷ []) a b stands p (p || r)
 turn_told k s e a b stands shut leaves p r h = record {
   text = rw (append-nil (entry_text k s e)) h.0;
   state = h.1;
@@ -63,7 +63,7 @@ memory_stops k s e a b stands shut leaves stop w stood h = record { answered = [
 -- ---- a stop behind what was told, and before what would have come
 
 pub told_stops : (k : ℕ) (s : State) (mid now : States) (xs ys : List Entry) (a b c : Option (List ℕ)) (p q : Bool) (shut : Bool) (leaves : States → Type 0) (stop : Stop)
-    → Told k s xs a b mid p q → ((t : State) → mid t → Stopped k t ys b c now shut leaves stop) → Stopped k s (xs ++ ys) a c now shut leaves stop
+    → AreAnswered k s xs a b mid p q → ((t : State) → mid t → Stopped k t ys b c now shut leaves stop) → Stopped k s (xs ++ ys) a c now shut leaves stop
 told_stops k s mid now xs ys a b c p q shut leaves stop x stopped =
     let y : Stopped k (fold s xs) ys b c now shut leaves stop = stopped (fold s xs) x.state in
     record {
@@ -95,7 +95,7 @@ stopped_more k s xs (y ∷ ys) a b stands shut leaves stop h e = rw (append_asso
 
 -- ---- the entries of bytes
 
-pub told_same : (k : ℕ) (s : State) (es : List Entry) (a b : Option (List ℕ)) (stands : States) (r : Bool) → es ≡ [] → b ≡ a → stands s → Told k s es a b stands r r
+pub told_same : (k : ℕ) (s : State) (es : List Entry) (a b : Option (List ℕ)) (stands : States) (r : Bool) → es ≡ [] → b ≡ a → stands s → AreAnswered k s es a b stands r r
 told_same k s es a b stands r e f stood = rw (e, f) (told_nothing k s a stands r stood)
 
 pub memory_stops_at : (k : ℕ) (s : State) (es : List Entry) (e : Entry) (a b : Option (List ℕ)) (stands : States) (shut : Bool) (leaves : States → Type 0) (stop : Stop)
@@ -104,14 +104,14 @@ memory_stops_at k s es e a b stands shut leaves stop q w stood h = rw q (memory_
 
 -- a piece more was taken
 pub piece_told : (k j : ℕ) (s : State) (mid now : States) (first held done piece all : List ℕ) (a b c : Option (List ℕ)) (p q r : Bool)
-    → Told k s (entries_after first done) a b mid p q → j ≡ k → held ≡ held_after first done → ((t : State) → mid t → Told j t (entries_after held piece) b c now q r)
-    → all ≡ done ++ piece → Told k s (entries_after first all) a c now p r
+    → AreAnswered k s (entries_after first done) a b mid p q → j ≡ k → held ≡ held_after first done → ((t : State) → mid t → AreAnswered j t (entries_after held piece) b c now q r)
+    → all ≡ done ++ piece → AreAnswered k s (entries_after first all) a c now p r
 piece_told k j s mid now first held done piece all a b c p q r x same_k same_held y e =
     rw (e, each-append entry_of first done piece, ← same_held) (told_more k s mid now (entries_after first done) (entries_after held piece) a b c p q r x (λ t stood. rw (← same_k) (y t stood)))
 
 -- the run stopped in a piece
 pub piece_stops : (k j : ℕ) (s : State) (mid now : States) (first held done piece rest all : List ℕ) (a b c : Option (List ℕ)) (p q : Bool) (shut : Bool) (leaves : States → Type 0) (stop : Stop)
-    → Told k s (entries_after first done) a b mid p q → j ≡ k → held ≡ held_after first done
+    → AreAnswered k s (entries_after first done) a b mid p q → j ≡ k → held ≡ held_after first done
     → ((t : State) → mid t → (e : Entry) → Stopped j t (entries_after held piece ++ e ∷ []) b c now shut leaves stop)
     → all ≡ done ++ (piece ++ rest) → (e : Entry) → Stopped k s (entries_after first all ++ e ∷ []) a c now shut leaves stop
 piece_stops k j s mid now first held done piece rest all a b c p q shut leaves stop x same_k same_held y e d =

@@ -126,7 +126,7 @@ session k s bytes = texts k s (entries (lines bytes))
 -- ---- what a run has done
 
 -- these entries have been answered: their replies were written, and the keeper, which stood at s, stands at their fold
-pub record Told (k : ℕ) (s : State) (es : List Entry) (old new : Option (List ℕ)) (stands : States) (before now : Bool) : Type 0 where
+pub record AreAnswered (k : ℕ) (s : State) (es : List Entry) (old new : Option (List ℕ)) (stands : States) (before now : Bool) : Type 0 where
   pub text : Appends old new (texts k s es)
   pub state : stands (fold s es)
   pub refused : now ≡ (before || some_refused k s es)
@@ -179,9 +179,9 @@ StoppedAmong k s bytes left old new stands shut leaves stop =
 -- how a run of so many reads at most over these bytes ended, where `left` is what the reader has left; each read took a
 -- byte at least, so that an endless run has read as many bytes
 abbrev pub EndsWithin : ℕ → ℕ → State → List ℕ → Option (List ℕ) → Option (List ℕ) → Option (List ℕ) → States → Bool → (States → Type 0) → RunEnd → Type 0
-EndsWithin most k s bytes left old new stands shut leaves (E.Done refused) = IsAtEnd left × Told k s (entries (lines bytes)) old new stands false refused × (shut ≡ false)
-EndsWithin most k s bytes left old new stands shut leaves E.Read = (refused : Bool) × Told k s (entries (ended_lines bytes)) old new stands false refused × (shut ≡ false)
-EndsWithin most k s bytes left old new stands shut leaves E.Endless = (refused : Bool) × Told k s (entries (ended_lines bytes)) old new stands false refused × (shut ≡ false) × (most ≤ length bytes)
+EndsWithin most k s bytes left old new stands shut leaves (E.Done refused) = IsAtEnd left × AreAnswered k s (entries (lines bytes)) old new stands false refused × (shut ≡ false)
+EndsWithin most k s bytes left old new stands shut leaves E.Read = (refused : Bool) × AreAnswered k s (entries (ended_lines bytes)) old new stands false refused × (shut ≡ false)
+EndsWithin most k s bytes left old new stands shut leaves E.Endless = (refused : Bool) × AreAnswered k s (entries (ended_lines bytes)) old new stands false refused × (shut ≡ false) × (most ≤ length bytes)
 EndsWithin most k s bytes left old new stands shut leaves E.Write = StoppedAmong k s bytes left old new stands shut leaves S.Write
 EndsWithin most k s bytes left old new stands shut leaves (E.Fault f) = StoppedAmong k s bytes left old new stands shut leaves (S.Fault f)
 

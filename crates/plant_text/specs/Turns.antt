@@ -11,7 +11,7 @@ use Rattle.plant_desk.specs.declared.reply.DeskFault.TheVariants.{Memory}
 use Rattle.plant_text_answers.specs.Answers.{text_of_answer}
 use Rattle.plant_text_answers.specs.Replies.{reply_text, fault_text}
 use Rattle.plant_text.specs.Writes.{with_lf, AppendsFront}
-use Rattle.plant_text.specs.Session.{Entry, entry_text, after, is_refused, is_unknown, Told, StopsAt, Stopped}
+use Rattle.plant_text.specs.Session.{Entry, entry_text, after, is_refused, is_unknown, AreAnswered, StopsAt, Stopped}
 use Rattle.plant_text.specs.declared.run.RunEnd.{RunEnd}
 use Rattle.plant_text.specs.declared.run.RunEnd.TheVariants as E
 use Rattle.plant_text.specs.declared.turns.Stop.{Stop}
@@ -41,7 +41,7 @@ BadWritten old new (Err (S.Fault f)) = ⊥
 
 -- how the bytes of one read end: an error stops before whatever entry comes next
 abbrev pub PieceEnds : ℕ → State → List Entry → Option (List ℕ) → Option (List ℕ) → States → Bool → (States → Type 0) → Bool → Result Bool Stop → Type 0
-PieceEnds k s es old new stands shut leaves before (Ok refused) = Told k s es old new stands before refused
+PieceEnds k s es old new stands shut leaves before (Ok refused) = AreAnswered k s es old new stands before refused
 PieceEnds k s es old new stands shut leaves before (Err stop) = (e : Entry) → Stopped k s (es ++ e ∷ []) old new stands shut leaves stop
 
 abbrev pub end_of : Stop → RunEnd
@@ -50,7 +50,7 @@ end_of (S.Fault f) = E.Fault f
 
 -- how the last line ends, which has no LF
 abbrev pub LastEnds : ℕ → State → Entry → Option (List ℕ) → Option (List ℕ) → States → Bool → (States → Type 0) → Bool → RunEnd → Type 0
-LastEnds k s e old new stands shut leaves before (E.Done refused) = Told k s (e ∷ []) old new stands before refused × (shut ≡ false)
+LastEnds k s e old new stands shut leaves before (E.Done refused) = AreAnswered k s (e ∷ []) old new stands before refused × (shut ≡ false)
 LastEnds k s e old new stands shut leaves before E.Read = ⊥
 LastEnds k s e old new stands shut leaves before E.Endless = ⊥
 LastEnds k s e old new stands shut leaves before E.Write = Stopped k s (e ∷ []) old new stands shut leaves S.Write

@@ -25,7 +25,7 @@ use Rattle.plant_shapes.specs.Words.{line_kind}
 use Rattle.plant_shapes.specs.Tables.{shared_members, own_of, row_own}
 use Rattle.plant_shapes.specs.Problems.{◌>>=◌, Tells, object, or_no_form, is_told, problem_told, IsTold}
 use Rattle.plant_shapes.specs.Fields.{fields_of, none_other, exactly}
-use Rattle.plant_shapes.specs.Laws.{may_in, Values, fields_in}
+use Rattle.plant_shapes.specs.ValueLaws.{may_in, Values, fields_in}
 use Rattle.plant_shapes.proofs.Typed.{Good, OnSome, good_bind, good_map, good_object, fields_typed, none_other-good, exactly_typed, later_fails, only_fails, do_fails, kind_fails}
 use Rattle.plant_text_commands.specs.Lists.{part_of, order_of, line_of, line_row, item_by, item_of, numbered, items_from, items_where, items_at}
 use Rattle.plant_text_commands.specs.Commands.{body_of, envelope_with, kind_at, command_by, command_of}

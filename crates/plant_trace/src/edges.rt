@@ -4,7 +4,7 @@ ghost use Rattle.std.specs.Prelude.{◌≡◌, List, IfOk};
 ghost use Rattle.plant_trace.specs.declared.node.Node.{Node};
 ghost use Rattle.plant_trace.specs.declared.direction.Direction.TheVariants.{Back, Forward};
 ghost use Rattle.plant_trace.specs.Reach.{IsNext, Lists};
-ghost use Rattle.plant_trace.specs.Sources.{Told};
+ghost use Rattle.plant_trace.specs.Sources.{HonestlyTold};
 
 use crate::node::Node;
 
@@ -31,12 +31,12 @@ pub trait Edges {
 
     /// The nodes that an edge leads to from this one, strictly ascending.
     fn succ(&mut self, node: Node) -> Result<Vec<Node>, Self::Fault>
-        ensures { Told honest kept steady self.old self.new
+        ensures { HonestlyTold honest kept steady self.old self.new
             (IfOk result (λ nodes. Lists (IsNext Forward (pairs self.old) node) nodes.items)) };
 
     /// The nodes from which an edge leads to this one, strictly ascending.
     fn pred(&mut self, node: Node) -> Result<Vec<Node>, Self::Fault>
-        ensures { Told honest kept steady self.old self.new
+        ensures { HonestlyTold honest kept steady self.old self.new
             (IfOk result (λ nodes. Lists (IsNext Back (pairs self.old) node) nodes.items)) };
 
     /// What is kept stays where nothing is called.

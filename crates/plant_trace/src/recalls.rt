@@ -5,7 +5,7 @@ ghost use Rattle.std.specs.List.Sorted.{IsStrictlySortedBy};
 ghost use Rattle.plant_trace.specs.Nodes.{node_cmp};
 ghost use Rattle.plant_trace.specs.Reach.{Lists};
 ghost use Rattle.plant_trace.specs.Recalls.{IsRecalled, RecalledWhereReached, StaysWhereUnreached, GrowsByNew};
-ghost use Rattle.plant_trace.specs.Sources.{Told};
+ghost use Rattle.plant_trace.specs.Sources.{HonestlyTold};
 
 use crate::direction::Direction;
 use crate::edges::Edges;
@@ -26,7 +26,7 @@ pub fn reached<E: Edges>(
     edges: &mut E,
     lot: Id,
 ) -> Result<Vec<Node>, TraceFault<E::Fault>>
-    ensures told { Told E.honest E.kept E.steady edges.old edges.new
+    ensures told { HonestlyTold E.honest E.kept E.steady edges.old edges.new
         (IfOk result (λ nodes. Lists (IsRecalled (E.pairs edges.old) lot) nodes.items)) }
 
     // of every source

@@ -2,7 +2,7 @@
 
 ghost use Rattle.std.specs.Prelude.{◌≡◌, List, IfOk};
 ghost use Rattle.plant_trace.specs.Reach.{IsNext, Lists};
-ghost use Rattle.plant_trace.specs.Sources.{Told};
+ghost use Rattle.plant_trace.specs.Sources.{HonestlyTold};
 
 use crate::direction::Direction;
 use crate::edges::Edges;
@@ -15,7 +15,7 @@ pub fn ask<E: Edges>(
     node: Node,
     direction: Direction,
 ) -> Result<Vec<Node>, TraceFault<E::Fault>>
-    ensures { Told E.honest E.kept E.steady edges.old edges.new
+    ensures { HonestlyTold E.honest E.kept E.steady edges.old edges.new
         (IfOk result (λ nodes. Lists (IsNext direction (E.pairs edges.old) node) nodes.items)) }
 {
     let answer = match direction {

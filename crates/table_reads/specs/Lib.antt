@@ -1,3 +1,4 @@
+pub mod Calls
 pub mod Found
 pub mod Given
 pub mod Keys

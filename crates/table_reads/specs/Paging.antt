@@ -1,5 +1,5 @@
 -- Pages: the first rows, in the order of a table's first key, of those with given values and one above another.
-use Rattle.std.specs.Prelude.{◌≡◌, ℕ, pos, ◌<◌, ◌^◌, ◌+◌, Bool, true, not, ◌&&◌, nat_lt, nat_le, List, [], ◌∷◌, length, filter, map, take, Ok, IsPermutation, IsSorted}
+use Rattle.std.specs.Prelude.{◌≡◌, ℕ, pos, ◌<◌, ◌^◌, ◌+◌, Bool, true, not, ◌&&◌, nat_lt, nat_le, List, [], ◌∷◌, length, filter, map, take, Result, Ok, IfOk, IsPermutation, IsSorted}
 use Rattle.std.specs.List.{list_all}
 use Rattle.std.specs.Ordering.{is_eq, is_gt, ordering_then}
 use Rattle.std.specs.declared.cmp.Ordering.{Ordering}
@@ -10,12 +10,14 @@ use Rattle.sqlite_value.specs.Order.{Row, column, value_cmp}
 use Rattle.sqlite_sql.specs.Ops.{is_null}
 use Rattle.sqlite_resolve.specs.Compile.{first}
 use Rattle.sqlite.specs.Effect.{Database}
+use Rattle.sqlite.specs.State.{State, HasCleanDisk}
 use Rattle.table_forms.specs.Forms.{Form}
 use Rattle.table_forms.specs.Rows.{columns_of}
 use Rattle.table_forms.specs.Standing.{IsDeclared}
 use Rattle.table_forms.specs.Written.{Name}
 use Rattle.table_reads.specs.Selects.{column_at, names_at, all_places, first_of, is_named, is_plain, is_readable}
 use Rattle.table_reads.specs.Written.{select_where, filter_above, up_to, parsed_as}
+use Rattle.table_reads.specs.declared.page.Page.{Page}
 
 -- the row has a value above this one in the column at this place
 abbrev pub is_above : ℕ → Value → Row → Bool
@@ -64,3 +66,8 @@ pub record IsPage (db : Database) (form : Form) (places : List ℕ) (next : ℕ)
   pub sorted : IsSorted (stored_order (first_of form.keys)) whole
   pub cut : rows ≡ take most whole
   pub told : has_more ≡ nat_lt most (length whole)
+
+-- What a call answers, where the text selects pages and the values bound them, is the page of what the store showed.
+abbrev pub GivesPage : {E : Type 0} → Form → List ℕ → Row → ℕ → State → State → Result Page E → Type 0
+GivesPage form sql values most old new r = (places : List ℕ) (next : ℕ) → SelectsPage form places next sql → AreBounds places most values → HasCleanDisk new
+    → IfOk r (λ page. IsPage old.now form places next values most page.rows.items page.has_more)

@@ -1,14 +1,14 @@
 //! Pages of a table's rows.
 
-ghost use Rattle.std.specs.Prelude.{◌≡◌, ◌≤◌, false, ℕ, List, length, IfOk, IfErr, OnOk};
-ghost use Rattle.sqlite.specs.State.{HasCleanDisk, IsUnchanged, Survives};
+ghost use Rattle.std.specs.Prelude.{◌≡◌, ◌≤◌, ℕ, List, length, IfOk, IfErr};
+ghost use Rattle.sqlite.specs.State.{HasCleanDisk, Survives};
 ghost use Rattle.sqlite.specs.Held.{state};
 ghost use Rattle.sqlite.specs.Values.{bound};
-ghost use Rattle.table_forms.specs.Resting.{Keeps};
 ghost use Rattle.table_forms.specs.Standing.{HasTable};
+ghost use Rattle.table_reads.specs.Calls.{AnswersUnchanged, BeginsNone, KeepsShown};
 ghost use Rattle.table_reads.specs.Given.{HasGivenRow};
 ghost use Rattle.table_reads.specs.Keys.{comes_before};
-ghost use Rattle.table_reads.specs.Paging.{SelectsPage, AreBounds, IsPage};
+ghost use Rattle.table_reads.specs.Paging.{GivesPage, SelectsPage};
 ghost use Rattle.table_reads.specs.Rises.{Rises};
 
 use crate::reading::read_rows;
@@ -38,18 +38,13 @@ pub fn find_page<S: Alter>(
     most: usize,
 ) -> Result<Page, Fault>
     requires { (places : List ℕ) × (next : ℕ) × SelectsPage form.now places next sql.now }
-    ensures page { (places : List ℕ) (next : ℕ) → SelectsPage form.now places next sql.now
-        → AreBounds places most (bound values.now) → HasCleanDisk (state S.Store conn.new)
-        → IfOk result (λ page. IsPage (state S.Store conn.old).now form.now places next
-        (bound values.now) most page.rows.items page.has_more) }
+    ensures page { GivesPage form.now sql.now (bound values.now) most (state S.Store conn.old)
+        (state S.Store conn.new) result }
     ensures few { IfOk result (λ page. length page.rows.items ≤ most) }
     ensures rising { IfOk result (λ page. Rises (comes_before form.now) page.rows.items) }
-    ensures same { HasCleanDisk (state S.Store conn.new)
-        → OnOk result (IsUnchanged (state S.Store conn.old) (state S.Store conn.new)) }
-    ensures kept { HasCleanDisk (state S.Store conn.new)
-        → Keeps (state S.Store conn.old) (state S.Store conn.new) }
-    ensures mode { (state S.Store conn.old).in_transaction ≡ false
-        → (state S.Store conn.new).in_transaction ≡ false }
+    ensures same { AnswersUnchanged (state S.Store conn.old) (state S.Store conn.new) result }
+    ensures kept { KeepsShown (state S.Store conn.old) (state S.Store conn.new) }
+    ensures mode { BeginsNone (state S.Store conn.old) (state S.Store conn.new) }
     ensures crash { Survives (state S.Store conn.old) (state S.Store conn.new) (λ _. ⊥) }
     // Memory is wanted for a row that was given, of a table that stands.
     ensures memory { HasCleanDisk (state S.Store conn.new)

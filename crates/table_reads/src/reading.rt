@@ -1,11 +1,12 @@
 ghost use Rattle.std.specs.Prelude.{◌≡◌, ◌<◌, false, true, IsTrue, length, slice_index_or, ◌-◌, ◌++◌, ◌∷◌};
 ghost use Rattle.std.specs.Prelude.{[], IfOk, IfErr, OnOk, IsOkUnless, Some};
 ghost use Rattle.sqlite.specs.Order.{Row as Values};
-ghost use Rattle.sqlite.specs.State.{HasCleanDisk, IsUnchanged, Survives, Shown};
+ghost use Rattle.sqlite.specs.State.{HasCleanDisk, Survives, Shown};
 ghost use Rattle.sqlite.specs.Held.{state};
 ghost use Rattle.sqlite.specs.Given.{Advances};
 ghost use Rattle.sqlite.specs.Values.{bound};
 ghost use Rattle.table_forms.specs.Resting.{IsAtRest, Keeps};
+ghost use Rattle.table_reads.specs.Calls.{AnswersUnchanged, KeepsShown};
 ghost use Rattle.table_reads.specs.Plain.{OnlyReads};
 ghost use Rattle.table_reads.specs.Given.{HasGivenRow};
 ghost use Rattle.table_reads.specs.Keys as key;
@@ -49,8 +50,7 @@ fn next_row<S: Alter>(rows: &mut Rows<'_, S>) -> Result<Option<Row>, Fault>
     ensures same_reference { rows.new.conn.ghost_name ≡ rows.old.conn.ghost_name }
     ensures ok { HasCleanDisk (state S.Store rows.new.conn.now)
         → IfOk result (λ row. Advances S.Store rows.old.conn.now rows.new.conn.now row) }
-    ensures same { HasCleanDisk (state S.Store rows.new.conn.now)
-        → OnOk result (IsUnchanged (state S.Store rows.old.conn.now) (state S.Store rows.new.conn.now)) }
+    ensures same { AnswersUnchanged (state S.Store rows.old.conn.now) (state S.Store rows.new.conn.now) result }
     ensures kept { HasCleanDisk (state S.Store rows.new.conn.now)
         → IsAtRest (state S.Store rows.old.conn.now)
         → Keeps (state S.Store rows.old.conn.now) (state S.Store rows.new.conn.now) }
@@ -99,10 +99,8 @@ pub fn read_rows<S: Alter>(
         → IfOk result (λ list. Shown sql.now (bound params.now) (state S.Store conn.old)
         (state S.Store conn.new) list.items) }
     ensures rising { IfOk result (λ list. Rises (key.comes_before form.now) list.items) }
-    ensures same { HasCleanDisk (state S.Store conn.new)
-        → OnOk result (IsUnchanged (state S.Store conn.old) (state S.Store conn.new)) }
-    ensures kept { HasCleanDisk (state S.Store conn.new)
-        → Keeps (state S.Store conn.old) (state S.Store conn.new) }
+    ensures same { AnswersUnchanged (state S.Store conn.old) (state S.Store conn.new) result }
+    ensures kept { KeepsShown (state S.Store conn.old) (state S.Store conn.new) }
     ensures mode { (state S.Store conn.new).in_transaction ≡ false }
     ensures crash { Survives (state S.Store conn.old) (state S.Store conn.new) (λ _. ⊥) }
     // Memory is wanted for a row that was given.

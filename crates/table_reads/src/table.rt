@@ -1,9 +1,9 @@
-ghost use Rattle.std.specs.Prelude.{◌≡◌, ◌↔◌, [], true, false, All, List, ℕ, IfOk, IfErr, OnOk};
-ghost use Rattle.sqlite.specs.State.{HasCleanDisk, IsUnchanged, Survives};
+ghost use Rattle.std.specs.Prelude.{◌≡◌, ◌↔◌, [], true, false, All, List, ℕ, IfOk, IfErr};
+ghost use Rattle.sqlite.specs.State.{HasCleanDisk, Survives};
 ghost use Rattle.sqlite.specs.Held.{state};
 ghost use Rattle.sqlite.specs.Values.{bound};
-ghost use Rattle.table_forms.specs.Resting.{Keeps};
 ghost use Rattle.table_forms.specs.Standing.{HasTable, IsFree};
+ghost use Rattle.table_reads.specs.Calls.{AnswersUnchanged, BeginsNone, KeepsShown};
 ghost use Rattle.table_reads.specs.Found.{AreGiven};
 ghost use Rattle.table_reads.specs.Reading.{Lists, Finds};
 ghost use Rattle.table_reads.specs.Given.{HasGivenRow};
@@ -73,12 +73,9 @@ pub fn find_rows<S: Alter>(
         → IfOk result (λ list. Finds (state S.Store conn.old).now form.now places
         (bound values.now) list.items) }
     ensures rising { IfOk result (λ list. Rises (comes_before form.now) list.items) }
-    ensures same { HasCleanDisk (state S.Store conn.new)
-        → OnOk result (IsUnchanged (state S.Store conn.old) (state S.Store conn.new)) }
-    ensures kept { HasCleanDisk (state S.Store conn.new)
-        → Keeps (state S.Store conn.old) (state S.Store conn.new) }
-    ensures mode { (state S.Store conn.old).in_transaction ≡ false
-        → (state S.Store conn.new).in_transaction ≡ false }
+    ensures same { AnswersUnchanged (state S.Store conn.old) (state S.Store conn.new) result }
+    ensures kept { KeepsShown (state S.Store conn.old) (state S.Store conn.new) }
+    ensures mode { BeginsNone (state S.Store conn.old) (state S.Store conn.new) }
     ensures crash { Survives (state S.Store conn.old) (state S.Store conn.new) (λ _. ⊥) }
     // Memory is wanted for a row that was given, of a table that stands.
     ensures memory { HasCleanDisk (state S.Store conn.new)
@@ -105,12 +102,9 @@ pub fn read_table<S: Alter>(
     ensures rows { HasCleanDisk (state S.Store conn.new)
         → IfOk result (λ list. Lists (state S.Store conn.old).now form.now list.items) }
     ensures rising { IfOk result (λ list. Rises (comes_before form.now) list.items) }
-    ensures same { HasCleanDisk (state S.Store conn.new)
-        → OnOk result (IsUnchanged (state S.Store conn.old) (state S.Store conn.new)) }
-    ensures kept { HasCleanDisk (state S.Store conn.new)
-        → Keeps (state S.Store conn.old) (state S.Store conn.new) }
-    ensures mode { (state S.Store conn.old).in_transaction ≡ false
-        → (state S.Store conn.new).in_transaction ≡ false }
+    ensures same { AnswersUnchanged (state S.Store conn.old) (state S.Store conn.new) result }
+    ensures kept { KeepsShown (state S.Store conn.old) (state S.Store conn.new) }
+    ensures mode { BeginsNone (state S.Store conn.old) (state S.Store conn.new) }
     ensures crash { Survives (state S.Store conn.old) (state S.Store conn.new) (λ _. ⊥) }
     // Memory is wanted for a row of a table that stands.
     ensures memory { HasCleanDisk (state S.Store conn.new)

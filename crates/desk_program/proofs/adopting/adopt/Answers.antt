@@ -1,6 +1,6 @@
 use Rattle.std.proofs.Common.{false, refl}
 use Rattle.sqlite.specs.Held.{state}
-use Rattle.plant_desk_store.specs.Standing.{IsOpenAt}
+use Rattle.plant_desk_store.specs.DeskStanding.{IsOpenAt}
 use Rattle.desk_program.proofs.Adopted.{adopted_so, as_stands, as_open}
 use Rattle.desk_program.proofs.Told.{told_unwritten}
 use Rattle.desk_program.proofs.adopting.adopt.Goals as goal

@@ -1,6 +1,6 @@
 use Rattle.std.proofs.Common.{◌≡◌, take}
 use Rattle.std.specs.List.{filter_map, flat_map}
-use Rattle.plant_trace.specs.Sources.{Told}
+use Rattle.plant_trace.specs.Sources.{HonestlyTold}
 use Rattle.plant_desk.specs.Booked.{booked_from}
 use Rattle.plant_desk.proofs.booked.bookings_around.Given as goal
 
@@ -9,4 +9,4 @@ abbrev pub invariant-loop-node : goal.invariant-loop-node
 invariant-loop-node g l =
     let e = g.V.Edges in
     let s = g.V.View.state l.fn.view in
-    Told e.honest e.kept e.steady l.fn.view l.view (l.rows.items ≡ flat_map (λ x. filter_map (booked_from l.nodes x) s.movements) (take l.node-index l.nodes))
+    HonestlyTold e.honest e.kept e.steady l.fn.view l.view (l.rows.items ≡ flat_map (λ x. filter_map (booked_from l.nodes x) s.movements) (take l.node-index l.nodes))

@@ -1,5 +1,5 @@
 use Rattle.std.proofs.Common.{◌≡◌, ◌∙◌}
-use Rattle.plant_trace.proofs.Sources.{Told-weaker}
+use Rattle.plant_trace.proofs.Sources.{HonestlyTold-weaker}
 use Rattle.plant_desk.specs.Booked.{bookings_around}
 use Rattle.plant_desk.proofs.Between.{summed_between, between_fits}
 use Rattle.plant_desk.proofs.Fitting.{amount_fits}
@@ -8,7 +8,7 @@ use Rattle.plant_desk.proofs.booked.edges_between.Goals as goal
 pub returns-in-Ok : goal.returns-in-Ok
 returns-in-Ok g c =
     let s = g.V.View.state c.args.view.now in
-    Told-weaker
+    HonestlyTold-weaker
     (λ (found : c.in_ok-bookings.bookings.items ≡ bookings_around s.movements c.args.nodes.now) sound sorted.
     let summed = rw (c.as_slice.ensures.value, found) at c.in-Ok.ensures in
     summed (between_fits s.movements c.args.nodes.now sorted (amount_fits s sound)) ∙ summed_between s.movements c.args.nodes.now sorted)

@@ -2,7 +2,7 @@ use Rattle.std.proofs.Common.{◌≡◌, ◌∙◌, Option, Some, IfSome, sym, a
 use Rattle.std.proofs.lemmas.Result.{IfOk-from_err}
 use Rattle.plant_base.specs.State.{definition_at}
 use Rattle.plant_base.specs.declared.rows.Definition.{Definition}
-use Rattle.plant_trace.proofs.Sources.{Told-weaker}
+use Rattle.plant_trace.proofs.Sources.{HonestlyTold-weaker}
 use Rattle.plant_desk.proofs.KnownDefinition.{of_its_id}
 use Rattle.plant_desk.proofs.known_lots.known_definition.Goals as goal
 
@@ -19,9 +19,9 @@ returns-in-Some g c =
     }
 
 pub returns-in_err-found : goal.returns-in_err-found
-returns-in_err-found g c = Told-weaker (λ q known. (IfOk-from_err _ _ c.from_residual.ensures.0, known)) c.in_err-found.ensures
+returns-in_err-found g c = HonestlyTold-weaker (λ q known. (IfOk-from_err _ _ c.from_residual.ensures.0, known)) c.in_err-found.ensures
 
 pub returns : goal.returns
 returns g c =
     let s = g.V.View.state c.args.view.now in
-    Told-weaker (λ q known. (q, record { lots = known.lots; sublots = known.sublots; holds = known.holds; definition = of_its_id s c.args.id c.in_ok-found.found q })) c.in_ok-found.ensures
+    HonestlyTold-weaker (λ q known. (q, record { lots = known.lots; sublots = known.sublots; holds = known.holds; definition = of_its_id s c.args.id c.in_ok-found.found q })) c.in_ok-found.ensures

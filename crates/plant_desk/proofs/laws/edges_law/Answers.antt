@@ -2,7 +2,7 @@ use Rattle.std.proofs.Common.{ap, sym, subst}
 use Rattle.plant_trace.specs.Reach.{Lists}
 use Rattle.plant_desk.specs.Genealogy.{genealogy_around, answer_edges}
 use Rattle.plant_desk.specs.Answers.{answer}
-use Rattle.plant_desk.specs.Laws.{IsAround}
+use Rattle.plant_desk.specs.AnswerLaws.{IsAround}
 use Rattle.plant_desk.proofs.EdgesBooked.{edges_sorted, edges_only, edges_all}
 use Rattle.plant_desk.proofs.GoodsReached.{around_lists}
 use Rattle.plant_desk.proofs.NodesThere.{nodes_named}

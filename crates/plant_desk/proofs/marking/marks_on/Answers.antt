@@ -1,5 +1,5 @@
 use Rattle.std.proofs.Common.{◌∙◌, ap, sym, map, List}
-use Rattle.plant_trace.proofs.Sources.{Told-weaker}
+use Rattle.plant_trace.proofs.Sources.{HonestlyTold-weaker}
 use Rattle.plant_view.specs.Recalls.{mark_on}
 use Rattle.plant_base.specs.declared.rows.Recall.{Recall}
 use Rattle.plant_desk.proofs.Recalled.{on_by_back, none_on}
@@ -19,6 +19,6 @@ returns-then-not-is_some_open g c =
 pub returns : goal.returns
 returns g c =
     let pairs = g.E.Edges.pairs c.args.edges.now in
-    Told-weaker
+    HonestlyTold-weaker
     (λ l. c.in_ok-marks_by.ensures ∙ ap (λ (rs : List Recall). map (λ (r : Recall). mark_on r.id c.args.node) rs) (on_by_back pairs c.args.node c.deref.result.now (rw (← c.deref.ensures.value) at l) c.args.recalls.now))
     c.in_ok-before.ensures.told

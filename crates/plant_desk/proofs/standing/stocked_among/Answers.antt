@@ -1,6 +1,6 @@
 use Rattle.std.proofs.Common.{rules, ◌≡◌, ◌++◌, option_to_list}
 use Rattle.std.proofs.lemmas.Result.{IfOk-from_err}
-use Rattle.plant_trace.proofs.Sources.{Told-then}
+use Rattle.plant_trace.proofs.Sources.{HonestlyTold-then}
 use Rattle.plant_desk.specs.Around.{stocked_at}
 use Rattle.plant_desk.proofs.Narrowed.{told_more}
 use Rattle.plant_desk.proofs.standing.stocked_among.Goals as goal
@@ -16,14 +16,14 @@ loop-node-init g c = record {
 pub loop-node-preserved : goal.loop-node-preserved
 loop-node-preserved g c =
     let pushed : c.push_found.new.rows.items ≡ c.loop-node.rows.items ++ option_to_list c.in_ok-found.found = search rules in
-    Told-then g.met.V.Edges.kept_along g.met.V.Edges.steady_along c.loop-node.invariant c.in_ok-found.ensures (λ k p q sound.
+    HonestlyTold-then g.met.V.Edges.kept_along g.met.V.Edges.steady_along c.loop-node.invariant c.in_ok-found.ensures (λ k p q sound.
     let here = rw (g.met.V.View.kept_state _ _ k) at q in
     let before = p sound in
     let told = here sound before.1 in
     (rw pushed (told_more (stocked_at (g.V.View.state c.args.view.now)) c.args.nodes.now c.loop-node.node-index c.node-item.result c.loop-node.rows.items c.in_ok-found.found c.loop-node-test.true c.node-item.is told.0 before.0), told.1))
 
 pub returns-then-is_err : goal.returns-then-is_err
-returns-then-is_err g c = Told-then g.met.V.Edges.kept_along g.met.V.Edges.steady_along c.loop-node.invariant c.in_ok-found.ensures (λ k p q sound. tt)
+returns-then-is_err g c = HonestlyTold-then g.met.V.Edges.kept_along g.met.V.Edges.steady_along c.loop-node.invariant c.in_ok-found.ensures (λ k p q sound. tt)
 
 pub returns-in_err-found : goal.returns-in_err-found
-returns-in_err-found g c = Told-then g.met.V.Edges.kept_along g.met.V.Edges.steady_along c.loop-node.invariant c.in_err-found.ensures (λ k p q sound. IfOk-from_err _ _ c.from_residual.ensures.0)
+returns-in_err-found g c = HonestlyTold-then g.met.V.Edges.kept_along g.met.V.Edges.steady_along c.loop-node.invariant c.in_err-found.ensures (λ k p q sound. IfOk-from_err _ _ c.from_residual.ensures.0)

@@ -1,6 +1,6 @@
 use Rattle.std.proofs.Common.{◌≡◌, take}
 use Rattle.std.specs.List.{filter_map}
-use Rattle.plant_trace.specs.Sources.{Told}
+use Rattle.plant_trace.specs.Sources.{HonestlyTold}
 use Rattle.plant_view.specs.Sound.{IsSound}
 use Rattle.plant_desk.specs.Around.{stocked_at}
 use Rattle.plant_desk.specs.KnownLots.{AreKnown}
@@ -11,4 +11,4 @@ abbrev pub invariant-loop-node : goal.invariant-loop-node
 invariant-loop-node g l =
     let e = g.V.Edges in
     let s = g.V.View.state l.fn.view in
-    Told e.honest e.kept e.steady l.fn.view l.view (IsSound s → (l.rows.items ≡ filter_map (stocked_at s) (take l.node-index l.nodes)) × AreKnown s l.known)
+    HonestlyTold e.honest e.kept e.steady l.fn.view l.view (IsSound s → (l.rows.items ≡ filter_map (stocked_at s) (take l.node-index l.nodes)) × AreKnown s l.known)

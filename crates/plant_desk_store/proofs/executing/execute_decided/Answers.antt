@@ -11,7 +11,7 @@ use Rattle.plant_good.proofs.StepGood.{step_good}
 use Rattle.plant_good_keys.proofs.AddedRows.{fresh}
 use Rattle.plant_desk_store.specs.Looking.{IsDecidedAt}
 use Rattle.plant_desk_store.specs.Parts.{LeadTo}
-use Rattle.plant_desk_store.specs.Standing.{IsOpenAt}
+use Rattle.plant_desk_store.specs.DeskStanding.{IsOpenAt}
 use Rattle.plant_desk_store.proofs.Stepping.{refused, repeats, committed, told_store}
 use Rattle.plant_desk_store.proofs.executing.execute_decided.Goals as goal
 

@@ -4,7 +4,7 @@ use Rattle.sqlite.specs.State.{HasCleanDisk, Survives}
 use Rattle.plant_base.specs.State.{State}
 use Rattle.table_forms.proofs.Ending.{IsStore}
 use Rattle.plant_desk_store.specs.Parts.{HasStepped}
-use Rattle.plant_desk_store.specs.Standing.{IsOpenAt}
+use Rattle.plant_desk_store.specs.DeskStanding.{IsOpenAt}
 use Rattle.plant_desk_store.proofs.Others.{others_kept}
 use Rattle.plant_desk_store.proofs.Resting.{still_open}
 use Rattle.plant_desk_store.proofs.Stepping.{decided_repeat, store_unshut, undecided}

@@ -1,6 +1,6 @@
 use Rattle.std.proofs.Common.{Bool, sym, subst}
 use Rattle.sqlite.specs.Held.{state}
-use Rattle.plant_desk_store.specs.Standing.{Stands}
+use Rattle.plant_desk_store.specs.DeskStanding.{DeskStands}
 use Rattle.plant_desk_store.proofs.laws.execute_told.Goals as goal
 
 pub returns : goal.returns
@@ -10,6 +10,6 @@ returns g c =
     let live = c.requires in
     record {
       honest = did.same.honest;
-      executes = λ clean s stood. did.executes clean live s (subst (λ (b : Bool). Stands old b s) (sym live) stood);
+      executes = λ clean s stood. did.executes clean live s (subst (λ (b : Bool). DeskStands old b s) (sym live) stood);
       is_shut = did.open live;
     }

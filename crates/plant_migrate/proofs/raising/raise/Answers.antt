@@ -11,6 +11,7 @@ use Rattle.plant_tables_stored.specs.Version.{IsVersion}
 use Rattle.plant_tables_stored.proofs.Versions.{one_version}
 use Rattle.plant_migrate.proofs.Kept.{settled_still, not_raised}
 use Rattle.plant_migrate.proofs.Versions.{version_is, not_below, below, tells_known, stays_at, handed_on, rises_to, cut_from, raised_told}
+use Rattle.plant_migrate.proofs.Faults.{memory_alone}
 use Rattle.plant_migrate.proofs.raising.raise.Goals as goal
 
 pub returns-then-version-clause-cut_short : goal.returns-then-version-clause-cut_short
@@ -140,7 +141,7 @@ returns-then-version-to-clause-crash g c = survives_weaker _ _ _ _ (λ clean db 
 
 pub returns-in-Err-raise_from-clause-unwritten : goal.returns-in-Err-raise_from-clause-unwritten
 returns-in-Err-raise_from-clause-unwritten g c other =
-    survives_then _ _ _ _ _ _ (λ _ db none. none) (λ _ db none. none) c.found.ensures.crash (c.in-Err-raise_from.ensures.unwritten (c.fault_of-in-Err-raise_from.ensures.other other))
+    survives_then _ _ _ _ _ _ (λ _ db none. none) (λ _ db none. none) c.found.ensures.crash (c.in-Err-raise_from.ensures.unwritten (memory_alone c.in-Err-raise_from.fault c.fault_of-in-Err-raise_from.ensures other))
 
 pub returns-in-Ok-clause-crash : goal.returns-in-Ok-clause-crash
 returns-in-Ok-clause-crash g c = survives_weaker _ _ _ _ (λ clean db none. absurd none) c.found.ensures.crash

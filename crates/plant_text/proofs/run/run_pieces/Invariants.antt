@@ -2,7 +2,7 @@ use Rattle.std.proofs.Common.{◌≡◌, ℕ, ◌≤◌, List, [], length, false
 use Rattle.std.specs.Io.KnownBytes.{Consumes}
 use Rattle.plant_base.specs.State.{State}
 use Rattle.plant_desk.specs.Keeping.{IsSameDesk}
-use Rattle.plant_text.specs.Session.{Told}
+use Rattle.plant_text.specs.Session.{AreAnswered}
 use Rattle.plant_text.specs.Held.{held_after, entries_after}
 use Rattle.plant_text.proofs.run.run_pieces.Given as goal
 
@@ -15,6 +15,6 @@ invariant-reads g l =
       so_far : (bytes : List ℕ) × Consumes (g.R.Read.remaining l.fn.reader) (g.R.Read.remaining l.reader) bytes
           × (l.held.items ≡ held_after [] bytes)
           × (l._made ≤ length bytes)
-          × (keeper.honest l.keeper → (s : State) → keeper.stands l.fn.keeper s → Told (keeper.schema l.fn.keeper) s (entries_after [] bytes)
+          × (keeper.honest l.keeper → (s : State) → keeper.stands l.fn.keeper s → AreAnswered (keeper.schema l.fn.keeper) s (entries_after [] bytes)
           (g.W.Write.contents l.fn.writer) (g.W.Write.contents l.writer) (keeper.stands l.keeper) false l.refused);
     }

@@ -1,7 +1,7 @@
 use Rattle.std.proofs.Common.{◌≡◌, false, take}
 use Rattle.plant_base.specs.State.{State}
 use Rattle.plant_desk.specs.Keeping.{IsSameDesk}
-use Rattle.plant_text.specs.Session.{Told}
+use Rattle.plant_text.specs.Session.{AreAnswered}
 use Rattle.plant_text.specs.Held.{held_after, entries_after}
 use Rattle.plant_text.proofs.run.take_piece.Given as goal
 
@@ -13,6 +13,6 @@ invariant-loop-b g l =
       same : IsSameDesk keeper.honest keeper.schema keeper.beside l.fn.keeper l.keeper;
       held : l.held.items ≡ held_after l.fn.held.items (take l.b-index l.piece);
       told : keeper.honest l.keeper → (s : State) → keeper.stands l.fn.keeper s
-          → Told (keeper.schema l.fn.keeper) s (entries_after l.fn.held.items (take l.b-index l.piece))
+          → AreAnswered (keeper.schema l.fn.keeper) s (entries_after l.fn.held.items (take l.b-index l.piece))
           (g.W.Write.contents l.fn.writer) (g.W.Write.contents l.writer) (keeper.stands l.keeper) l.fn.refused l.refused;
     }

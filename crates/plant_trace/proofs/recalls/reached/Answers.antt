@@ -4,7 +4,7 @@ use Rattle.plant_trace.specs.Recalls.{IsRecalled}
 use Rattle.plant_trace.specs.declared.node.Node.{Node}
 use Rattle.plant_trace.specs.declared.node.Node.TheVariants.{Lot}
 use Rattle.plant_trace.proofs.Recalling.{with_start}
-use Rattle.plant_trace.proofs.Sources.{Told-weaker}
+use Rattle.plant_trace.proofs.Sources.{HonestlyTold-weaker}
 use Rattle.plant_trace.proofs.recalls.reached.Goals as goal
 
 pub returns-clause-told : goal.returns-clause-told
@@ -13,6 +13,6 @@ returns-clause-told g c =
     let start = Lot c.args.lot in
     let e = c.in_ok-list_of.ensures in
     let first = rw (c.deref.ensures.value, c.new-all.ensures.empty) at c.in_ok-note_all.ensures in
-    Told-weaker
+    HonestlyTold-weaker
     (λ l. subst (Lists (IsRecalled pairs c.args.lot)) (sym e.items) (with_start (Reach (HasEdge pairs) start) start c.in_ok-ahead.ahead.items c.note_all.new.seen.keys c.note_all-2.new.seen.keys first c.in_ok-note_all-2.ensures e.ascending l))
     c.in_ok-ahead.ensures.told

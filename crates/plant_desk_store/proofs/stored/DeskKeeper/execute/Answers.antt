@@ -1,6 +1,6 @@
 use Rattle.std.proofs.Common.{◌≡◌, Bool, false, refl, sym, subst, rules}
 use Rattle.sqlite.specs.Held.{state}
-use Rattle.plant_desk_store.specs.Standing.{IsBeside, IsOpenAt}
+use Rattle.plant_desk_store.specs.DeskStanding.{IsBeside, IsOpenAt}
 use Rattle.plant_desk_store.proofs.Others.{executed_beside}
 use Rattle.plant_desk_store.proofs.stored.DeskKeeper.execute.Goals as goal
 

@@ -47,8 +47,8 @@ pub record IsOpenAt (c : store.State) (s : State) : Type 0 where
   pub leaves : Leaves c (λ u. u ≡ s)
 
 -- A desk over the store stands at the state: a stop of one that isn't shut leaves that alone.
-abbrev pub Stands : store.State → Bool → States
-Stands c shut s = StandsAt c s × (shut ≡ false → Leaves c (λ u. u ≡ s))
+abbrev pub DeskStands : store.State → Bool → States
+DeskStands c shut s = StandsAt c s × (shut ≡ false → Leaves c (λ u. u ≡ s))
 
 -- The tables of names that aren't the desk's stand as they do in this database: in what the store shows, where it is
 -- open, and in whatever a stop leaves.
@@ -59,7 +59,7 @@ pub record OthersStand (before : Database) (c : store.State) : Type 0 where
 -- The store of a desk stands at some state, and the tables of other names as in this database.
 pub record IsBeside (c : store.State) (shut : Bool) (before : Database) : Type 0 where
   pub state : State
-  pub stands : Stands c shut state
+  pub stands : DeskStands c shut state
   pub others : OthersStand before c
 
 -- what comes of a command over a store that stood at s

@@ -15,7 +15,7 @@ use Rattle.plant_tables.specs.DeskForms.{desk_forms, later_forms, mark_form}
 use Rattle.plant_tables.specs.Keyed.{HoldsTables}
 use Rattle.plant_tables_stored.specs.Version.{IsKnown}
 use Rattle.plant_desk_store.specs.Adopting.{HoldsGood, IsAdopted, IsRefusedBy}
-use Rattle.plant_desk_store.specs.Standing.{FindsStateOf}
+use Rattle.plant_desk_store.specs.DeskStanding.{FindsStateOf}
 use Rattle.plant_desk_store.specs.declared.adopting.AdoptFault.{AdoptFault}
 use Rattle.plant_desk_store.specs.declared.adopting.AdoptFault.TheVariants.{Store, Memory}
 

@@ -1,0 +1,26 @@
+-- What a raising to the next schema promises of whatever tables it raises, of the store before and after it and of its result.
+use Rattle.std.specs.Prelude.{ℕ, ◌+◌, List, Result, OnOk, OnErr}
+use Rattle.sqlite.specs.State.{State, HasCleanDisk}
+use Rattle.plant_base.specs.declared.rows.Position.{Position}
+use Rattle.plant_view.specs.Tables.{Tables, changed_all}
+use Rattle.plant_view.specs.declared.change.RowChange.{RowChange}
+use Rattle.table_forms.specs.Standing.{KeepsOthers, AreFree}
+use Rattle.table_forms.specs.Stopping.{IsSettled}
+use Rattle.plant_tables.specs.DeskForms.{desk_forms, later_forms}
+use Rattle.plant_tables.specs.DeskStopping.{IsAtOf, IsCutShortOf}
+use Rattle.plant_tables.specs.Raising.{AreRisable, raising}
+
+-- done, the store is at the raised tables, and tables of other names stand as they did
+abbrev pub RaisesNext : {A E : Type 0} → ℕ → Position → List RowChange → State → State → Result A E → Type 0
+RaisesNext version position added old new r = HasCleanDisk new → IsSettled old → (t : Tables) → AreRisable version added old.now t
+    → OnOk r (IsAtOf (version + 1) new (changed_all (raising version position added) t) × KeepsOthers desk_forms old.now new.now)
+
+-- and those that later schemas add can still be made
+abbrev pub SparesLater : {A E : Type 0} → ℕ → List RowChange → State → State → Result A E → Type 0
+SparesLater version added old new r = HasCleanDisk new → IsSettled old → (t : Tables) → AreRisable version added old.now t
+    → OnOk r (AreFree (later_forms (version + 1)) new.now.schema)
+
+-- failed, it was cut short
+abbrev pub CutsNextShort : {A E : Type 0} → ℕ → Position → List RowChange → State → State → Result A E → Type 0
+CutsNextShort version position added old new r = HasCleanDisk new → IsSettled old → (t : Tables) → AreRisable version added old.now t
+    → OnErr r (IsCutShortOf version (version + 1) old new t (changed_all (raising version position added) t))

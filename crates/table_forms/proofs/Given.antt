@@ -2,6 +2,7 @@
 use Rattle.std.proofs.Common.{◌≡◌, refl, Ok, List, ℕ, suc, ◌-◌, ◌<◌, Bool, [], ◌∷◌, Some, true, false, slice_get, arith, nat_lt, ◌==◌, if◌then◌else◌}
 use Rattle.sqlite_value.specs.declared.keys.Collation.{Collation}
 use Rattle.sqlite_sql.specs.declared.ops.BinaryOp.TheVariants as by
+use Rattle.sqlite_sql.specs.declared.ops.CompareOp.{CompareOp}
 use Rattle.sqlite_sql.specs.declared.ops.CompareOp.TheVariants.{Eq}
 use Rattle.sqlite_sql.specs.Term.{Term, col, op2}
 use Rattle.sqlite_schema.specs.declared.schema.Schema.{Schema}
@@ -51,14 +52,14 @@ pub same_either : {X : Type 0} (b : Bool) (x : X) → (if b then x else x) ≡ x
 same_either true x = refl
 same_either false x = refl
 
-unconverted : (k : Kind) (how : Collation) (p m : ℕ)
-    → op2 (by.Compare Eq how) (converted (of_kind k) affinity.None (col 1 (suc p))) (converted affinity.None (of_kind k) (col 0 m)) ≡ op2 (by.Compare Eq how) (col 1 (suc p)) (col 0 m)
+unconverted : (which : CompareOp) (k : Kind) (how : Collation) (p m : ℕ)
+    → op2 (by.Compare which how) (converted (of_kind k) affinity.None (col 1 (suc p))) (converted affinity.None (of_kind k) (col 0 m)) ≡ op2 (by.Compare which how) (col 1 (suc p)) (col 0 m)
 unfolding converted may_be_text spelled
-unconverted kind.Integer how p m = refl
-unconverted kind.Real how p m = refl
-unconverted kind.Text how p m = refl
-unconverted kind.Blob how p m = refl
-unconverted kind.Any how p m = refl
+unconverted which kind.Integer how p m = refl
+unconverted which kind.Real how p m = refl
+unconverted which kind.Text how p m = refl
+unconverted which kind.Blob how p m = refl
+unconverted which kind.Any how p m = refl
 
 module _ (s : Schema) (table : Table) (name : Name) (at : ℕ) (is : slice_get s.tables at ≡ Some table) where
   no_affinity : (outs : List Output) (m : ℕ) → affinity_of (context_of s name at outs false) (col 0 m) ≡ affinity.None
@@ -69,10 +70,11 @@ module _ (s : Schema) (table : Table) (name : Name) (at : ℕ) (is : slice_get s
   unfolding affinity_of of_column
   its_affinity outs e got g = rw (is, got, g.named, g.strict) refl
 
-  compared_given : (outs : List Output) (how : Collation) (e : Entry) (m : ℕ) → slice_get table.columns e.at ≡ Some e.column → IsGiven table e
-      → compared (context_of s name at outs false) (by.Compare Eq how) (col 1 (suc e.at)) (col 0 m) ≡ op2 (by.Compare Eq how) (col 1 (suc e.at)) (col 0 m)
+  -- a column is compared with a parameter as it stands
+  pub compared_given : (outs : List Output) (which : CompareOp) (how : Collation) (e : Entry) (m : ℕ) → slice_get table.columns e.at ≡ Some e.column → IsGiven table e
+      → compared (context_of s name at outs false) (by.Compare which how) (col 1 (suc e.at)) (col 0 m) ≡ op2 (by.Compare which how) (col 1 (suc e.at)) (col 0 m)
   unfolding compared
-  compared_given outs how e m got g = rw (no_affinity outs m, its_affinity outs e got g) (unconverted e.column.kind how e.at m)
+  compared_given outs which how e m got g = rw (no_affinity outs m, its_affinity outs e got g) (unconverted which e.column.kind how e.at m)
 
   pub lower_equals : (outs : List Output) (e : Entry) (m next budget : ℕ) (last : Carried) → AreColumns table (e ∷ []) → IsGiven table e → 3 < budget → (depth : ℕ)
       → lower_to (suc (suc depth)) (context_of s name at outs false) (equals e.name (suc m)) (state_at next budget last)
@@ -89,7 +91,7 @@ module _ (s : Schema) (table : Table) (name : Name) (at : ℕ) (is : slice_get s
         three,
         g.place,
         back,
-        compared_given outs (chosen (declared table e.at e.column) nothing) e m are.1 g,
+        compared_given outs Eq (chosen (declared table e.at e.column) nothing) e m are.1 g,
       ) refl
 
   -- WHERE a = ?1

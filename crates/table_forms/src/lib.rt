@@ -10,5 +10,5 @@ mod statements;
 pub use fault::{Fault, fault_of};
 pub use form::{ColumnForm, Form, IndexText};
 pub use frame::{Work, in_one};
-pub use standing::{Stand, is_taken, stand_of};
+pub use standing::{is_declared, is_free, is_taken};
 pub use statements::{make_indexes, make_tables, put_row, take_rows};

@@ -17,17 +17,6 @@ use sqlite_schema::schema::{Column, Index, Kind, Reference, Schema, Table};
 use sqlite_value::keys::{Collation, Order};
 use sqlite_value::value::Value;
 
-/// How the table of a form stands in a schema.
-#[derive(Clone, Copy, Debug, PartialEq, Eq)]
-pub enum Stand {
-    /// Nothing bears its name, and no foreign key names it.
-    Absent,
-    /// It is declared by the form, no UNIQUE was added to it, and no foreign key names it.
-    Declared,
-    /// Its name is that of another table, of a view or an index, or is named by a foreign key.
-    Other,
-}
-
 /// The type of a column, and whether it may be NULL.
 fn kind_of(form: &ColumnForm<'_>) -> (Kind, bool)
     ensures { result ≡ ((column_of form.now).kind, (column_of form.now).not_null) }
@@ -177,8 +166,9 @@ pub fn is_taken(schema: &Schema, name: &[u8]) -> bool
         || schema.view_named(name).is_some()
 }
 
-/// Whether the name is free, and no foreign key names it.
-fn is_free(schema: &Schema, form: &Form<'_>) -> bool
+/// Whether the name of the form's table is free: no table, index or view bears it, and no foreign key names it. It reads the schema
+/// alone, and takes no memory.
+pub fn is_free(schema: &Schema, form: &Form<'_>) -> bool
     ensures { (result ≡ true) ↔ IsFree schema.now form.now }
 {
     !is_taken(schema, form.name) && !is_parent(schema, form.name)
@@ -230,7 +220,9 @@ fn has_no_other_key(schema: &Schema, tree: u32, form: &Form<'_>) -> bool
     true
 }
 
-fn is_declared(schema: &Schema, form: &Form<'_>) -> bool
+/// Whether the form's table stands as the form declares it: no other table has its tree, no UNIQUE was added to it, and no foreign key
+/// names it. It reads the schema alone, and takes no memory.
+pub fn is_declared(schema: &Schema, form: &Form<'_>) -> bool
     ensures { (result ≡ true) ↔ HasTable schema.now form.now }
 {
     let Some(at) = schema.table_named(form.name) else {
@@ -239,26 +231,12 @@ fn is_declared(schema: &Schema, form: &Form<'_>) -> bool
     let Some(table) = schema.tables.get(at) else {
         return false;
     };
-    if !is_table(table, form) || table.tree >= 1 << 31 {
+    // That no other table has its tree tells of the table itself, too.
+    if table.tree >= 1 << 31 {
         return false;
     }
     if !is_own(schema, table.tree, form) || !has_no_other_key(schema, table.tree, form) {
         return false;
     }
     !is_parent(schema, form.name)
-}
-
-/// How the table of the form stands. It reads the schema alone, and takes no memory.
-pub fn stand_of(schema: &Schema, form: &Form<'_>) -> Stand
-    ensures absent { (result ≡ Stand.Absent) ↔ IsFree schema.now form.now }
-    ensures declared { (result ≡ Stand.Declared) ↔ HasTable schema.now form.now }
-{
-    if is_free(schema, form) {
-        return Stand::Absent;
-    }
-    if is_declared(schema, form) {
-        Stand::Declared
-    } else {
-        Stand::Other
-    }
 }

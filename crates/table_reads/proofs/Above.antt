@@ -1,20 +1,15 @@
 -- WHERE with a parameter for each of up to two columns, and one that a further column is above.
-use Rattle.std.proofs.Common.{◌≡◌, refl, Ok, List, ℕ, suc, ◌-◌, ◌<◌, [], ◌∷◌, Some, true, false, slice_get, arith, nat_lt, ◌==◌}
-use Rattle.sqlite_value.specs.declared.keys.Collation.{Collation}
+use Rattle.std.proofs.Common.{◌≡◌, refl, Ok, List, ℕ, suc, ◌-◌, ◌<◌, [], ◌∷◌, Some, true, false, slice_get, arith, nat_lt}
 use Rattle.sqlite_sql.specs.declared.ops.BinaryOp.TheVariants as by
 use Rattle.sqlite_sql.specs.declared.ops.CompareOp.TheVariants.{Gt}
 use Rattle.sqlite_sql.specs.Term.{Term, col, op2}
 use Rattle.sqlite_schema.specs.declared.schema.Schema.{Schema}
 use Rattle.sqlite_schema.specs.declared.schema.Table.{Table}
-use Rattle.sqlite_schema.specs.declared.schema.Kind.{Kind}
-use Rattle.sqlite_schema.specs.declared.schema.Kind.TheVariants as kind
 use Rattle.sqlite_ast.specs.declared.Expr.{Expr}
 use Rattle.sqlite_ast.specs.declared.Expr.TheVariants as e
 use Rattle.sqlite_ast.specs.declared.Binary.TheVariants as op
 use Rattle.sqlite_resolve.specs.declared.scope.Output.{Output}
 use Rattle.sqlite_resolve.specs.declared.state.Carried.{Carried}
-use Rattle.sqlite_resolve.specs.declared.compare.Affinity.TheVariants as affinity
-use Rattle.sqlite_resolve.specs.Compare.{of_kind, compared, of_column, affinity_of, converted, may_be_text, spelled}
 use Rattle.sqlite_resolve.specs.Lowering.{nothing, spend, begin, finish, chosen}
 use Rattle.sqlite_resolve.specs.Scope.{Name, declared}
 use Rattle.sqlite_resolve.specs.Expr.{lower_to, node, opened, passes, operation, wanted_truth, both, tests_truth, tests_alias, combine}
@@ -23,35 +18,13 @@ use Rattle.table_forms.specs.Written.{equals, equals_from}
 use Rattle.table_reads.specs.Written.{greater, filter_above}
 use Rattle.table_forms.specs.Views.{ast_views}
 use Rattle.table_forms.proofs.Column.{context_of, state_at, lower_column}
-use Rattle.table_forms.proofs.Given.{Entry, AreColumns, IsGiven, test_of, same_either, lower_equals, lower_both}
+use Rattle.table_forms.proofs.Given.{Entry, AreColumns, IsGiven, test_of, compared_given, lower_equals, lower_both}
 
 -- column > ?n
 abbrev pub above_test : Table → Entry → ℕ → Term
 above_test table e n = op2 (by.Compare Gt (chosen (declared table e.at e.column) nothing)) (col 1 (suc e.at)) (col 0 n)
 
-unconverted : (k : Kind) (how : Collation) (p m : ℕ)
-    → op2 (by.Compare Gt how) (converted (of_kind k) affinity.None (col 1 (suc p))) (converted affinity.None (of_kind k) (col 0 m)) ≡ op2 (by.Compare Gt how) (col 1 (suc p)) (col 0 m)
-unfolding converted may_be_text spelled
-unconverted kind.Integer how p m = refl
-unconverted kind.Real how p m = refl
-unconverted kind.Text how p m = refl
-unconverted kind.Blob how p m = refl
-unconverted kind.Any how p m = refl
-
 module _ (s : Schema) (table : Table) (name : Name) (at : ℕ) (is : slice_get s.tables at ≡ Some table) where
-  no_affinity : (outs : List Output) (m : ℕ) → affinity_of (context_of s name at outs false) (col 0 m) ≡ affinity.None
-  unfolding affinity_of of_column
-  no_affinity outs m = same_either (m == 0) affinity.None
-
-  its_affinity : (outs : List Output) (e : Entry) → slice_get table.columns e.at ≡ Some e.column → IsGiven table e → affinity_of (context_of s name at outs false) (col 1 (suc e.at)) ≡ of_kind e.column.kind
-  unfolding affinity_of of_column
-  its_affinity outs e got g = rw (is, got, g.named, g.strict) refl
-
-  compared_above : (outs : List Output) (how : Collation) (e : Entry) (m : ℕ) → slice_get table.columns e.at ≡ Some e.column → IsGiven table e
-      → compared (context_of s name at outs false) (by.Compare Gt how) (col 1 (suc e.at)) (col 0 m) ≡ op2 (by.Compare Gt how) (col 1 (suc e.at)) (col 0 m)
-  unfolding compared
-  compared_above outs how e m got g = rw (no_affinity outs m, its_affinity outs e got g) (unconverted e.column.kind how e.at m)
-
   pub lower_greater : (outs : List Output) (e : Entry) (m next budget : ℕ) (last : Carried) → AreColumns table (e ∷ []) → IsGiven table e → 3 < budget → (depth : ℕ)
       → lower_to (suc (suc depth)) (context_of s name at outs false) (greater e.name (suc m)) (state_at next budget last)
       ≡ Ok (above_test table e m, state_at next (budget - 1 - 1 - 1) nothing)
@@ -67,7 +40,7 @@ module _ (s : Schema) (table : Table) (name : Name) (at : ℕ) (is : slice_get s
         three,
         g.place,
         back,
-        compared_above outs (chosen (declared table e.at e.column) nothing) e m are.1 g,
+        compared_given s table name at is outs Gt (chosen (declared table e.at e.column) nothing) e m are.1 g,
       ) refl
 
   -- a comparison after what is lowered already

@@ -1,5 +1,5 @@
 -- The rows that a query of a form's table answers stand in the order of its first key, as a store compares values.
-use Rattle.std.proofs.Common.{◌≡◌, refl, sym, subst, ap, ◌∙◌, List, ℕ, zero, suc, ◌+◌, ◌-◌, ◌<◌, ◌≤◌, [], ◌∷◌, map, drop, true, false, length, arith, All, slice_index_or}
+use Rattle.std.proofs.Common.{◌≡◌, refl, sym, subst, ap, ◌∙◌, List, ℕ, zero, suc, ◌+◌, ◌-◌, ◌<◌, [], ◌∷◌, map, drop, true, false, length, arith, All, slice_index_or}
 use Rattle.std.specs.Prelude.{filter, IsPermutation, IsSorted}
 use Rattle.std.specs.List.{list_all}
 use Rattle.std.specs.Ordering.{is_lt, ordering_then}
@@ -11,9 +11,8 @@ use Rattle.std.proofs.lemmas.List.Sorted.{All-permutation, IsPermutation-map}
 use Rattle.sqlite_value.specs.declared.value.Value.TheVariants.{Null}
 use Rattle.sqlite_value.specs.declared.keys.Collation.TheVariants.{Binary}
 use Rattle.sqlite_value.specs.Order.{Row, column, value_cmp}
-use Rattle.sqlite_value.specs.Keys.{collated}
 use Rattle.sqlite_trees.specs.Tree.{Trees}
-use Rattle.sqlite_sql.specs.Term.{Term, Env, eval_all}
+use Rattle.sqlite_sql.specs.Term.{Term, eval_all}
 use Rattle.sqlite_sql.specs.Query.{Query, IsAnswer, Output, output, output_cmp, key_cmp}
 use Rattle.sqlite_sql.specs.Program.{overlay}
 use Rattle.sqlite_resolve.specs.Lowering.{alone}

@@ -1,6 +1,5 @@
 -- What a text reads that selects a page.
 use Rattle.std.proofs.Common.{◌≡◌, ◌⊎◌, inl, inr, refl, sym, ap, ap₂, ◌∙◌, Ok, Err, List, ℕ, suc, ◌-◌, ◌+◌, ◌<◌, ◌≤◌, Bool, [], ◌∷◌, map, drop, take, true, false, not, nat_le, nat_lt, length, arith, ◌&&◌}
-use Rattle.std.specs.Prelude.{filter}
 use Rattle.std.specs.List.{AllByRecursion, list_all}
 use Rattle.std.specs.Ordering.{is_gt}
 use Rattle.std.proofs.lemmas.Bool.{and_parts, not-true}
@@ -33,7 +32,7 @@ use Rattle.sqlite_resolve.specs.Compile.{first}
 use Rattle.sqlite_resolve.specs.Lowering.{nothing, max_budget}
 use Rattle.sqlite_resolve.specs.Body.{tests}
 use Rattle.sqlite_resolve.specs.Expr.{lower_to}
-use Rattle.sqlite.specs.Effect.{Database, IsDatabase, Reads}
+use Rattle.sqlite.specs.Effect.{IsDatabase, Reads}
 use Rattle.sqlite.specs.Listing.{understood, reads_listing}
 use Rattle.sqlite.specs.State.{State, Shown}
 use Rattle.sqlite.proofs.Callers.{IsPlain, command_of, reads_as}
@@ -41,16 +40,15 @@ use Rattle.table_forms.specs.Forms.{Form, table_of}
 use Rattle.table_forms.specs.Rows.{columns_of}
 use Rattle.table_forms.specs.Standing.{IsDeclared, HasTable}
 use Rattle.table_reads.specs.Plain.{OnlyReads}
-use Rattle.table_reads.specs.Selects.{column_at, names_at, all_places, first_of, is_named, is_plain}
+use Rattle.table_reads.specs.Selects.{column_at, all_places, first_of, is_named, is_plain}
 use Rattle.table_reads.specs.Written.{select_where, filter_above, up_to, parsed_as}
 use Rattle.table_reads.specs.Paging.{SelectsPage, IsPage, AreBounds, is_above, is_beyond, is_compared}
-use Rattle.table_forms.proofs.Given.{Entry, AreColumns, IsGiven, test_of, lower_equals}
+use Rattle.table_forms.proofs.Given.{Entry, AreColumns, IsGiven, test_of}
 use Rattle.table_forms.proofs.Column.{context_of, state_at}
 use Rattle.table_reads.proofs.Above.{above_test, none_above, one_above, two_above}
 use Rattle.table_reads.proofs.Body.{names_of, last_after, budget_after}
 use Rattle.table_reads.proofs.Query.{outputs_of, no_limit, limit_read, compiled_to, text_understood, text_unlisted, draft_up_to}
-use Rattle.table_reads.proofs.Shown.{at_places, passes_all}
-use Rattle.table_reads.proofs.Answer.{places_of, reads_rows}
+use Rattle.table_reads.proofs.Shown.{passes_all}
 use Rattle.table_reads.proofs.Entries.{entry_at, entries, names_are, are_columns, is_given, named, places_are, Readable, readable}
 use Rattle.table_reads.proofs.Stored.{shown_rows}
 use Rattle.table_reads.proofs.Tests.{true_is, past_rowid, by_bytes, passes as passes_equal, next_param}

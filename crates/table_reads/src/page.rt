@@ -12,11 +12,10 @@ ghost use Rattle.table_reads.specs.Paging.{GivesPage, SelectsPage};
 ghost use Rattle.table_reads.specs.Rises.{Rises};
 
 use crate::reading::read_rows;
-use crate::table::stands;
 use sqlite::types::ValueRef;
 use sqlite::{Alter, Connection, Row};
 use std::alloc::Global;
-use table_forms::{Fault, Form};
+use table_forms::{Fault, Form, is_declared};
 
 /// Rows of a table, and whether more of those that were asked for stand behind them.
 #[derive(Drop)]
@@ -52,7 +51,7 @@ pub fn find_page<S: Alter>(
         → HasTable conn.old.schema form.now
         × HasGivenRow S.Store sql.now (bound values.now) conn.new) }
 {
-    if !conn.is_autocommit() || !stands(conn.schema(), form) {
+    if !conn.is_autocommit() || !is_declared(conn.schema(), form) {
         return Err(Fault::Store);
     }
     let mut rows = read_rows(alloc, conn, form, sql, values)?;

@@ -16,28 +16,14 @@ use sqlite::types::ValueRef;
 use sqlite::{Alter, Connection, Row};
 use sqlite_schema::schema::Schema;
 use std::alloc::Global;
-use table_forms::{Fault, Form, Stand, stand_of};
-
-/// Whether the table stands as it is declared.
-pub(crate) fn stands(schema: &Schema, form: &Form<'_>) -> bool
-    ensures { (result ≡ true) ↔ HasTable schema.now form.now }
-{
-    stand_of(schema, form) == Stand::Declared
-}
-
-/// Whether the table's name is free.
-fn is_free(schema: &Schema, form: &Form<'_>) -> bool
-    ensures { (result ≡ true) ↔ IsFree schema.now form.now }
-{
-    stand_of(schema, form) == Stand::Absent
-}
+use table_forms::{Fault, Form, is_declared, is_free};
 
 /// Whether each of the tables stands as it is declared. It reads the schema alone, and takes no memory.
 pub fn all_stand(schema: &Schema, forms: &[Form<'_>]) -> bool
     ensures { (result ≡ true) ↔ All (HasTable schema.now) forms.now }
 {
     for form in forms {
-        if !stands(schema, form) {
+        if !is_declared(schema, form) {
             return false;
         }
     }
@@ -83,7 +69,7 @@ pub fn find_rows<S: Alter>(
         → HasTable conn.old.schema form.now
         × HasGivenRow S.Store sql.now (bound values.now) conn.new) }
 {
-    if !conn.is_autocommit() || !stands(conn.schema(), form) {
+    if !conn.is_autocommit() || !is_declared(conn.schema(), form) {
         return Err(Fault::Store);
     }
     read_rows(alloc, conn, form, sql, values)

@@ -1,7 +1,8 @@
-use Rattle.std.proofs.Common.{refl, sym, ap, rules, ◌∙◌, arith}
+use Rattle.std.proofs.Common.{◌≡◌, Some, slice_get, refl, sym, ap, rules, ◌∙◌, arith}
 use Rattle.std.proofs.lemmas.Bool.{not-true}
+use Rattle.sqlite.proofs.RunLemmas.{has_got}
 use Rattle.sqlite_schema.specs.Names.{table_named}
-use Rattle.table_forms.specs.Forms.{Form}
+use Rattle.table_forms.specs.Forms.{Form, table_of}
 use Rattle.table_forms.proofs.Listed.{unnamed_as, named_as}
 use Rattle.table_forms.proofs.standing.is_declared.Goals as goal
 
@@ -9,14 +10,16 @@ pub returns : goal.returns
 returns c =
     let name = ap (λ (f : Form). f.name) c.form.view_is in
     let table = c.in-Some-get.table.now in
-    let is = c.is_table.ensures.0 c.if-not-is_table.false in (
+    let own = c.is_own.ensures.0 c.if-not-is_own.false in
+    let got : slice_get c.args.schema.now.tables c.in-Some.at ≡ Some table = search rules in
+    let is : table ≡ table_of c.args.form.now table.tree = own table (has_got c.args.schema.now.tables c.in-Some.at table got) refl in (
       λ clear. record {
         at = c.in-Some.at;
         tree = table.tree;
         declared = record {
           named = ap (table_named c.args.schema.now) (sym name) ∙ (sym c.table_named.ensures ∙ c.in-Some.is);
-          listed = search rules;
-          own = c.is_own.ensures.0 c.if-not-is_own.false;
+          listed = got ∙ ap Some is;
+          own = own;
           keyed = c.has_no_other_key.ensures.0 c.if-not-has_no_other_key.false;
           alone = unnamed_as c.args.schema.now c.args.form.now c.form.inside.name.now name (sym c.is_parent.ensures ∙ not-true c.is_parent.result clear);
         };

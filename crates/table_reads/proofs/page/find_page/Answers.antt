@@ -8,8 +8,8 @@ use Rattle.table_reads.proofs.page.find_page.Goals as goal
 
 pub read_rows-requires-clause-only_reads : goal.read_rows-requires-clause-only_reads
 read_rows-requires-clause-only_reads g c =
-    let told : c.stands.result ≡ true = search rules in
-    let has : HasTable c.args.conn.now.schema c.args.form.now = subst (λ schema. HasTable schema c.args.form.now) c.schema.ensures.value (c.stands.ensures.0 told) in
+    let told : c.is_declared.result ≡ true = search rules in
+    let has : HasTable c.args.conn.now.schema c.args.form.now = subst (λ schema. HasTable schema c.args.form.now) c.schema.ensures.value (c.is_declared.ensures.0 told) in
     let text = c.requires in
     page_reads c.args.conn.now.schema c.args.form.now has.at has.tree has.declared text.0 text.1 c.args.sql.now text.2
 
@@ -17,8 +17,8 @@ pub returns-clause-page : goal.returns-clause-page
 returns-clause-page g c places next text bounds clean =
     let old = state g.S.Store c.args.conn.now in
     let new = state g.S.Store c.read_rows.new.conn in
-    let told : c.stands.result ≡ true = search rules in
-    let has : HasTable c.args.conn.now.schema c.args.form.now = subst (λ schema. HasTable schema c.args.form.now) c.schema.ensures.value (c.stands.ensures.0 told) in
+    let told : c.is_declared.result ≡ true = search rules in
+    let has : HasTable c.args.conn.now.schema c.args.form.now = subst (λ schema. HasTable schema c.args.form.now) c.schema.ensures.value (c.is_declared.ensures.0 told) in
     let shows = c.in_ok-rows.ensures.rows clean in
     let reads = page_reads c.args.conn.now.schema c.args.form.now has.at has.tree has.declared places next c.args.sql.now text in
     let live = c.schema.ensures.live (shown_unchanged c.args.sql.now (bound c.args.values.now) old new _ reads shows).0.was_open in

@@ -9,8 +9,8 @@ use Rattle.table_reads.proofs.table.find_rows.Goals as goal
 
 pub read_rows-requires-clause-only_reads : goal.read_rows-requires-clause-only_reads
 read_rows-requires-clause-only_reads g c =
-    let told : c.stands.result ≡ true = search rules in
-    let has : HasTable c.args.conn.now.schema c.args.form.now = subst (λ schema. HasTable schema c.args.form.now) c.schema.ensures.value (c.stands.ensures.0 told) in
+    let told : c.is_declared.result ≡ true = search rules in
+    let has : HasTable c.args.conn.now.schema c.args.form.now = subst (λ schema. HasTable schema c.args.form.now) c.schema.ensures.value (c.is_declared.ensures.0 told) in
     let text = c.requires in
     only_reads c.args.conn.now.schema c.args.form.now has.at has.tree has.declared text.0 c.args.sql.now text.1
 
@@ -18,8 +18,8 @@ pub returns-clause-rows : goal.returns-clause-rows
 returns-clause-rows g c places text given clean =
     let old = state g.S.Store c.args.conn.now in
     let new = state g.S.Store c.read_rows.new.conn in
-    let told : c.stands.result ≡ true = search rules in
-    let has : HasTable c.args.conn.now.schema c.args.form.now = subst (λ schema. HasTable schema c.args.form.now) c.schema.ensures.value (c.stands.ensures.0 told) in
+    let told : c.is_declared.result ≡ true = search rules in
+    let has : HasTable c.args.conn.now.schema c.args.form.now = subst (λ schema. HasTable schema c.args.form.now) c.schema.ensures.value (c.is_declared.ensures.0 told) in
     IfOk-weaker c.read_rows.result _ _
     (λ list shows.
     let live = c.schema.ensures.live (shown_unchanged c.args.sql.now (bound c.args.values.now) old new _ (only_reads c.args.conn.now.schema c.args.form.now has.at has.tree has.declared places c.args.sql.now text) shows).0.was_open in

@@ -8,13 +8,10 @@ ghost use Rattle.plant_desk.specs.Keeping.{writes_nothing};
 ghost use Rattle.plant_desk_store.specs.Parts.{HasCommitted, HasStepped, HasWritten};
 
 use crate::looking::{Decided, decide_on};
-use plant_base::{
-    ControlLine, Envelope, Lifting, Mark, MarkKind, MasterLine, Movement, MovementKind, Recall,
-    RecipeLine,
-};
+use plant_base::Envelope;
 use plant_desk::{DeskFault, Reply};
 use plant_tables::commit_changes;
-use plant_view::{Decision, RowChange};
+use plant_view::{Decision, RowChange, RowParts};
 use sqlite::{Alter, Connection};
 use std::alloc::Global;
 
@@ -50,9 +47,7 @@ fn execute_decided<S: Alter>(
     ensures repeated { (n : ℕ) → decided.decision ≡ Decision.Repeat n
         → (result ≡ Ok (Reply.Accepted n)) × (connection.new ≡ connection.old) }
 {
-    // The checker can't follow row changes, unless the function names these types.
-    let _: Option<(RecipeLine, MasterLine, ControlLine, Movement, MovementKind)> = None;
-    let _: Option<(Lifting, Recall, Mark, MarkKind)> = None;
+    let _: Option<RowParts> = None;
     envelope.show_values();
     let Decided { seq, decision } = decided;
     match decision {

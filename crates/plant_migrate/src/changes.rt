@@ -4,12 +4,9 @@ ghost use Rattle.std.specs.Prelude.{◌≡◌, IfOk, IsOkUnless};
 ghost use Rattle.std.specs.List.{filter_map};
 ghost use Rattle.plant_migrate.specs.Raised.{edge_booked, edge_change, edges_from, added_rows, AreEdges};
 
-use plant_base::{
-    ControlLine, EdgeRow, Lifting, Mark, MarkKind, MasterLine, Movement, MovementKind, Recall,
-    RecipeLine,
-};
+use plant_base::{EdgeRow, MovementKind};
 use plant_tables_judged::BookedRow;
-use plant_view::{RowChange, edge_row};
+use plant_view::{RowChange, RowParts, edge_row};
 use std::alloc::{AllocError, Global};
 use table_forms::Fault;
 
@@ -35,9 +32,7 @@ fn edge_change(booked: &BookedRow) -> Option<RowChange>
 fn edge_changes(alloc: Global, booked: &[BookedRow]) -> Result<Vec<RowChange>, AllocError>
     ensures { IfOk result (λ changes. changes.items ≡ filter_map edge_change booked.now) }
 {
-    // The checker can't follow row changes, unless the function names these types.
-    let _: Option<(RecipeLine, MasterLine, ControlLine, Movement, MovementKind)> = None;
-    let _: Option<(Lifting, Recall, MarkKind, Mark)> = None;
+    let _: Option<RowParts> = None;
     booked
         .iter()
         .filter_map(|row| edge_change(row))

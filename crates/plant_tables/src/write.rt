@@ -12,14 +12,13 @@ ghost use Rattle.plant_tables.specs.Keyed.{MovesTablesOf, IsOfSchema, AreOfSchem
 ghost use Rattle.plant_base.specs.State.{newest_schema};
 
 use crate::forms;
-use plant_base::{ControlLine, Lifting, Mark, MarkKind, MasterLine, Recall, RecipeLine};
 use plant_tables_columns::storing::{id, large};
 use plant_tables_columns::{
     batch_values, class_values, control_line_values, definition_values, edge_values, event_values,
     hold_values, job_values, lot_values, mark_values, master_line_values, meta_values,
     movement_values, recall_values, receipt_values, recipe_values, sublot_values,
 };
-use plant_view::RowChange;
+use plant_view::{RowChange, RowParts};
 use sqlite::{Alter, Transaction};
 use table_forms::{Fault, make_indexes, make_tables, put_row, take_rows};
 
@@ -36,9 +35,7 @@ pub fn write_change<S: Alter>(tx: &mut Transaction<'_, S>, change: &RowChange) -
         → KeepsCommit (state S.Store tx.old.conn.now) (state S.Store tx.new.conn.now) }
     ensures survives { Survives (state S.Store tx.old.conn.now) (state S.Store tx.new.conn.now) (λ _. ⊥) }
 {
-    // The checker can't follow row changes, unless the function names these types.
-    let _: Option<(RecipeLine, MasterLine, ControlLine)> = None;
-    let _: Option<(Lifting, Recall, MarkKind, Mark)> = None;
+    let _: Option<RowParts> = None;
     match change {
         RowChange::Meta(row) => {
             let schema = large(row.schema)?;

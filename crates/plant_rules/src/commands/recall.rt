@@ -11,12 +11,9 @@ ghost use Rattle.plant_view.specs.OneBatch.{PutsOneBatch};
 ghost use Rattle.plant_view.specs.Sound.{IsSound};
 ghost use Rattle.plant_view.specs.Tables.{Decides};
 
-use plant_base::{
-    ControlLine, GREATEST_SEQ, Id, Items, Lifting, Lot, Mark, MarkKind, MasterLine, Recall,
-    RecallLot, RecipeLine, Refusal, Stamp,
-};
+use plant_base::{GREATEST_SEQ, Id, Items, Lot, Recall, RecallLot, Refusal, Stamp};
 use plant_trace::{Node, reached};
-use plant_view::{Decision, RowChange, View, ViewFault, look, mark_on, meta_after};
+use plant_view::{Decision, RowChange, RowParts, View, ViewFault, look, mark_on, meta_after};
 use std::alloc::{AllocError, Global};
 
 pub(crate) fn decide_recall<V: View>(
@@ -105,18 +102,7 @@ fn recall_rows(
     requires { seq < greatest_seq }
     ensures { IfOk result (λ rows. rows ≡ recall_rows seq stamp.now c.now nodes.now) }
 {
-    // The checker can't follow a list of row changes that grows, unless the function names these types.
-    let _: Option<
-        (
-            RecipeLine,
-            MasterLine,
-            ControlLine,
-            Lifting,
-            Recall,
-            Mark,
-            MarkKind,
-        ),
-    > = None;
+    let _: Option<RowParts> = None;
     let mut rows = Vec::from_array(
         alloc,
         [meta_after(seq, stamp), RowChange::Recall(opened(stamp, c))],

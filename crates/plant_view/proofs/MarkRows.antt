@@ -1,11 +1,11 @@
 -- What the marks are, and what commands do to them.
-use Rattle.std.proofs.Common.{◌≡◌, ◌∙◌, ℕ, Bool, true, false, cond, List, [], ◌∷◌, ◌++◌, map, filter, is_none, sym, subst, ap, inl, inr, ◌⊎◌, ⊎_elim, refl, Contains}
+use Rattle.std.proofs.Common.{◌≡◌, ◌∙◌, ℕ, Bool, true, false, cond, List, [], ◌∷◌, ◌++◌, map, filter, sym, subst, ap, inl, inr, ⊎_elim, refl, Contains}
 use Rattle.std.specs.Prelude.{◌↔◌, ◌&&◌, ◌==◌, not}
 use Rattle.std.specs.List.{AllByRecursion, flat_map}
 use Rattle.std.specs.List.Sorted.{IsStrictlySortedBy}
 use Rattle.std.specs.Cmp.{IsTotalOrder}
 use Rattle.std.specs.Cmp.Lexicographic.{nat_list_cmp_total}
-use Rattle.std.specs.Ordering.{nat_cmp, ordering_then, is_eq}
+use Rattle.std.specs.Ordering.{nat_cmp, ordering_then}
 use Rattle.std.specs.declared.cmp.Ordering.{Ordering}
 use Rattle.std.specs.declared.cmp.Ordering.TheVariants.{Less, Equal, Greater}
 use Rattle.std.proofs.lemmas.Bool.{false≢true, and_from, and_parts, eqb-true, eq-eqb}
@@ -15,7 +15,7 @@ use Rattle.std.proofs.lemmas.Map.Lookups.{CmpEqualImpliesEq, exact_bytes}
 use Rattle.plant_base.specs.State.{same, put, id_cmp, recall_order}
 use Rattle.plant_base.proofs.Keys.{same_id, same_itself}
 use Rattle.plant_trace.specs.Growth.{IsEnd}
-use Rattle.plant_trace.specs.Reach.{Reach, step, more, HasEdge, Lists, leads}
+use Rattle.plant_trace.specs.Reach.{Lists, leads}
 use Rattle.plant_trace.specs.Recalls.{IsRecalled, is_recalled, ReachesNone}
 use Rattle.plant_trace.specs.declared.node.Node.{Node}
 use Rattle.plant_trace.specs.declared.node.Node.TheVariants as node
@@ -30,7 +30,7 @@ use Rattle.plant_base.specs.declared.rows.Mark.{Mark}
 use Rattle.plant_base.specs.declared.rows.MarkKind.{MarkKind}
 use Rattle.plant_base.specs.declared.rows.MarkKind.TheVariants as kind
 use Rattle.plant_base.specs.declared.rows.Recall.{Recall}
-use Rattle.plant_view.proofs.Membership.{all_at, all_from, map_in, map_from, filter_in, filter_from, flat_in, flat_from, put_in, put_from, put_past, put_once, all_stay, all_in, one_list, put_all_from, sorted_put_all, map_sorted}
+use Rattle.plant_view.proofs.Membership.{all_at, map_in, map_from, filter_in, filter_from, flat_in, flat_from, put_in, put_from, put_past, put_once, all_stay, all_in, one_list, put_all_from, sorted_put_all, map_sorted}
 
 -- ---- the order of marks
 

@@ -1,7 +1,7 @@
 -- What movements do to the marks.
-use Rattle.std.proofs.Common.{◌≡◌, ◌∙◌, ℕ, suc, Bool, true, false, cond, List, [], ◌∷◌, ◌++◌, map, filter, length, nat_le, Option, Some, None, is_some, sym, subst, ap, ⊎_elim, refl, arith}
+use Rattle.std.proofs.Common.{◌≡◌, ◌∙◌, ℕ, Bool, true, false, cond, List, [], ◌∷◌, ◌++◌, map, filter, length, nat_le, Some, None, is_some, sym, subst, ap, refl, arith}
 use Rattle.std.specs.Prelude.{◌&&◌}
-use Rattle.std.specs.List.{AllByRecursion, filter_map, cons_option}
+use Rattle.std.specs.List.{AllByRecursion, cons_option}
 use Rattle.std.proofs.lemmas.Bool.{false≢true, le-leb}
 use Rattle.std.proofs.lemmas.List.{append-nil}
 use Rattle.std.proofs.lemmas.List.Elements.{filter_map-append}
@@ -10,17 +10,15 @@ use Rattle.plant_base.specs.State.{State, lot_at}
 use Rattle.plant_base.specs.declared.rows.Mark.{Mark}
 use Rattle.plant_base.specs.declared.rows.Movement.{Movement}
 use Rattle.plant_base.specs.declared.rows.Recall.{Recall}
-use Rattle.plant_trace.specs.Reach.{HasEdge}
 use Rattle.plant_trace.specs.Recalls.{IsRecalled, is_recalled, ReachesNone}
 use Rattle.plant_trace.specs.declared.node.Node.{Node}
 use Rattle.plant_trace.specs.declared.node.Node.TheVariants as node
 use Rattle.plant_trace.proofs.Recalling.{recalled_where_reached}
 use Rattle.plant_view.specs.Genealogy.{edge_of, edges_among, edges_of}
-use Rattle.plant_view.specs.Recalls.{mark_on, marks, recalls_on, marks_on, is_blocked}
+use Rattle.plant_view.specs.Recalls.{mark_on, marks, recalls_on, is_blocked}
 use Rattle.plant_view.specs.Rows.{put_all}
 use Rattle.plant_view.specs.Sound.{IsSound}
 use Rattle.plant_view.specs.Tables.{Tables, changed_all}
-use Rattle.plant_view.specs.declared.change.RowChange.{RowChange}
 use Rattle.plant_view.specs.declared.change.RowChange.TheVariants as row
 use Rattle.plant_view.proofs.Descent.{EdgeHas, edges_have, new_is_end}
 use Rattle.plant_view.proofs.MarkRows.{stay_where_unreached, grow_by_product}

@@ -12,12 +12,14 @@ fn write_page(file: &mut File) -> io::Result<()> {
     file.sync_all()
 }
 
-/// Makes a file of this name, writes a page to it, and removes it again. Where something of this name is there, that stays as it is.
+/// Makes a file of this name, writes a page to it, and removes it again; that the page can't be written is told first. Where something of
+/// this name is there, that stays as it is.
 fn make_page(rt: &HostRuntime, name: &str) -> io::Result<()> {
     let mut file = File::create_new(rt, name)?;
     let written = write_page(&mut file);
-    fs::remove_file(rt, name)?;
-    written
+    let removed = fs::remove_file(rt, name);
+    written?;
+    removed
 }
 
 /// What keeps a page from being written beside a file, where something does.

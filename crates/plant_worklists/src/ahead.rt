@@ -65,7 +65,7 @@ impl<R: OfLot> Ahead<R> {
             return false;
         }
         let is_near = are_near(lot, &self.last);
-        self.pace.is_due(is_near)
+        self.pace.is_due(is_near, self.is_read)
     }
 
     /// Notes the lot that is asked for. No rows are changed.

@@ -20,8 +20,6 @@ pub struct Pace {
     row: u32,
     /// How many lots the last page answered.
     hits: u32,
-    /// Whether a page was read.
-    is_read: bool,
 }
 
 impl Pace {
@@ -32,7 +30,6 @@ impl Pace {
             pause: PAUSE,
             row: 0,
             hits: 0,
-            is_read: false,
         }
     }
 
@@ -41,15 +38,16 @@ impl Pace {
         self.hits = self.hits.saturating_add(1);
     }
 
-    /// Whether a page is to be read for a lot that the last one doesn't answer, and that is near the lot before it or isn't.
-    pub(crate) fn is_due(&mut self, is_near: bool) -> bool {
+    /// Whether a page is to be read for a lot that the last one doesn't answer, where one was read, and that is near the lot before it or
+    /// isn't.
+    pub(crate) fn is_due(&mut self, is_near: bool, is_read: bool) -> bool {
         self.row = if is_near {
             self.row.saturating_add(1)
         } else {
             0
         };
         let was_worth = self.hits >= WORTH;
-        let is_likely = !self.is_read && self.row >= IN_A_ROW;
+        let is_likely = !is_read && self.row >= IN_A_ROW;
         if self.wait > 0 && !was_worth && !is_likely {
             self.wait = self.wait.saturating_sub(1);
             return false;
@@ -61,7 +59,6 @@ impl Pace {
         };
         self.wait = self.pause;
         self.hits = 0;
-        self.is_read = true;
         true
     }
 }

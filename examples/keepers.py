@@ -1,6 +1,6 @@
 #!/usr/bin/env python3
 """Asks a desk over a file and a run over the keeper of lists every question about every id, and each list from behind it, after the same twenty
-commands and recalls, each of them told twice under a reference; and has both answer lists of several pages.
+commands and recalls, each of them told twice under a reference; and has the keeper of lists answer all sessions that a desk answers.
 
     examples/keepers.py PROGRAM LISTS
 
@@ -15,7 +15,8 @@ import sys
 import tempfile
 
 from hostile import HERE, twenty_of
-from sessions import LOWER, SECONDS, Check, pages, written
+from rules import reckoned
+from sessions import LOWER, SECONDS, Check, known, written
 
 # What may be asked about an id.
 QUESTIONS = [
@@ -47,9 +48,6 @@ QUESTIONS = [
     '{"ask":"movements","lot":"%s"}',
     '{"ask":"movements","lot":"%s","above":"9.1"}',
 ]
-
-# The sessions that the keeper of lists has to answer too.
-BY_LISTS = ["lists_are_told_by_the_page", "recipes_and_ledgers_are_listed", "goods_stand_where_they_went"]
 
 # Two recalls behind the twenty commands, what they refuse, and a lift.
 RECALLS = b"".join(
@@ -96,7 +94,7 @@ def main(program, lists):
         found = check.run("run", "twenty.db", told=b"".join(it for it, _ in lasting))
         check.expect("the file raised from the first schema", found, (1, b"".join(answer for _, answer in lasting), b""))
         check.expect("the keeper of lists", (ran.returncode, ran.stdout, ran.stderr), (1, answers, b""))
-        for session in pages() + [written(HERE / "sessions" / f"{name}.txt") for name in BY_LISTS]:
+        for session in (*known(), *reckoned()):
             ran = subprocess.run([pathlib.Path(lists).resolve()], input=session.told, capture_output=True, timeout=SECONDS)
             found = (ran.returncode, ran.stdout, ran.stderr)
             check.expect(f"{session.name}, by lists", found, (int(session.is_refused()), session.wanted, b""))

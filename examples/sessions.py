@@ -867,9 +867,14 @@ def shown(value):
     return text if len(text) < 2000 else f"{text[:1000]} .. {text[-1000:]}"
 
 
-def main(program):
+def known():
+    """Returns all sessions."""
     folder = pathlib.Path(__file__).resolve().parent / "sessions"
-    sessions = [written(it) for it in sorted(folder.glob("*.txt"))] + limits() + traces() + standing() + pages() + lines() + [scraps()]
+    return [written(it) for it in sorted(folder.glob("*.txt"))] + limits() + traces() + standing() + pages() + lines() + [scraps()]
+
+
+def main(program):
+    sessions = known()
     with tempfile.TemporaryDirectory() as room:
         check = Check(pathlib.Path(program).resolve(), pathlib.Path(room))
         for number, session in enumerate(sessions):

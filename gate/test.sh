@@ -22,6 +22,7 @@ tried=$SECONDS
 built() { echo "$copy/crates/$1/out/$1"; }
 desk=$(built desk)
 examples/sessions.py "$desk"
+examples/rules.py "$desk"
 examples/stops.py "$desk"
 examples/words.py "$desk"
 examples/keepers.py "$desk" "$(built bench_lists)"

@@ -1,8 +1,8 @@
 #!/usr/bin/env bash
 # The gate: that the programs are run on what stands in examples/ and that each edit can still be applied, then, from nothing,
-# every proof, every test and the programs, then every must-fail edit, and then sessions of the built desk, its files stopped, words that it
-# can't follow, both keepers side by side, its limits, damaged files and broken requests, refused memory, the two built checks on long inputs and streams
-# that fail, the built check of files over good, faulty and broken ones, the pictures of genealogies, the packages, and the examples of the documents.
+# every proof and the programs, then every must-fail edit, and then sessions of the built desk, what is reckoned beside it, its streams narrowed, its files
+# stopped, words that it can't follow, both keepers side by side, its limits, damaged files and broken requests, refused memory, the two built checks on long
+# inputs and streams that fail, the built check of files over good, faulty and broken ones, the pictures of genealogies, the packages, and the examples of the documents.
 #
 # It is done in a copy of the repository, build/gate, without the edits: rt ci would prove a crate once more for its first edit, and
 # load the libraries below anew for each; gate/edits.py tries them together, over the libraries that rt ci has built.
@@ -23,6 +23,7 @@ built() { echo "$copy/crates/$1/out/$1"; }
 desk=$(built desk)
 examples/sessions.py "$desk"
 examples/rules.py "$desk"
+examples/streams.py "$desk"
 examples/stops.py "$desk"
 examples/words.py "$desk"
 examples/keepers.py "$desk" "$(built bench_lists)"

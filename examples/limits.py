@@ -38,8 +38,9 @@ LARGE = 150_000
 # How many bookings a batch of a large desk has.
 LARGE_BOOKINGS = 2000
 
-# How many times each batch consumes whose times are compared, and how many orders an import has at most.
+# How many times each batch consumes, and each genealogy is asked for, whose times are compared, and how many orders an import has at most.
 REPEATED = 1000
+ASKED = 100
 MOST_ORDERS = 1000
 
 # A recipe of an input, an output and a phase.
@@ -338,11 +339,26 @@ class Limits(Check):
         self.expect(f"a large desk has so many movements, {movements}", movements >= LARGE, True)
         self.verifies("a large desk", file, seq)
         self.expect("a large fan", self.run("trace", file, "forward", "T"), (0, "".join(f"lot {it}\n" for it in sorted(fan)).encode(), b""))
+        self.what_went_elsewhere_costs_nothing(file)
         store = sqlite3.connect(self.room / file)
         store.executescript(LOWER)
         store.close()
         self.runs("a large desk is raised", file, booked('"do":"scrap","lot":"L-1","sub":0,"amount":1'), replies(seq + 1, 1))
         self.verifies("a large desk that was raised", file, seq + 1)
+
+    def what_went_elsewhere_costs_nothing(self, file):
+        """Asks for the genealogy of a lot that came of nothing, and back of one that was split off beside many others: it takes as long."""
+        seconds = []
+        for lots in ({"L-7": 91}, {"T": 0, "T-7": 1}):
+            *sources, last = lots
+            known = {"def": "DOUGH", "held": False, "recalled": False, "unit": "kg"}
+            answer = {
+                "edges": [{"amount": 1, "from": {"lot": it}, "to": {"lot": last}} for it in sources],
+                "nodes": [{**known, "lot": it, "stock": stock} for it, stock in lots.items()],
+            }
+            told, text = f'{{"ask":"back_edges","lot":"{last}"}}\n' * ASKED, f"{compact(answer)}\n" * ASKED
+            seconds.append(self.runs(f"the genealogy of {last}", file, told.encode(), text.encode()))
+        self.expect(f"what went elsewhere costs a genealogy nothing, {seconds}", seconds[1] < 3 * seconds[0] + 3, True)
 
     def imports_are_large(self):
         """Imports 1,000 orders: by a command of the longest body, by an order file that is posted, and by the word."""

@@ -1,6 +1,7 @@
 #!/usr/bin/env python3
 """Has the built desk answer what this script reckons by itself: where each word leads a batch from each state, which recipes are well
-formed, the amounts of control recipes, and the traces and recalls of genealogies that are made by chance. And compares the rows that a
+formed, the amounts of control recipes, and of genealogies that are made by chance the traces, where goods stand, the edges with their amounts
+and the recalls. And compares the rows that a
 command of each word leaves with those that stand in examples/tables/rows_of_each_word.txt.
 
     examples/rules.py PROGRAM
@@ -214,10 +215,10 @@ def scalings():
 
 
 class Genealogy:
-    """Bookings by chance, what is left of each lot, and what leads to what."""
+    """Bookings by chance, what is left of each lot, what leads to what, and what was booked along it."""
 
     def __init__(self, seed):
-        self.chance, self.stock, self.edges = random.Random(seed), {}, {}
+        self.chance, self.stock, self.edges, self.amounts = random.Random(seed), {}, {}, {}
         self.nodes = [(2, f"B-{it}") for it in range(BATCHES)]
         lines = [line("in", 1, "SUGAR"), line("out", 1, "SUGAR"), line("phase")]
         taking = recipe_of("R", 1, 1, 900, lines).replace("DOUGH", "SUGAR")
@@ -228,13 +229,18 @@ class Genealogy:
         return [it for it, stock in self.stock.items() if stock >= least]
 
     def enters(self, amount, *sources):
-        """Adds a lot that came of these nodes, and returns its id: the first ones have the ids of the batches."""
+        """Adds a lot that came of these nodes, of each by as much, and returns its id: the first ones have the ids of the batches."""
         lot = f"B-{len(self.stock)}" if len(self.stock) < BATCHES else f"L-{len(self.stock)}"
         self.stock[lot] = amount
         self.nodes.append((1, lot))
         for it in sources:
-            self.edges.setdefault(it, []).append((1, lot))
+            self.leads(it, (1, lot), amount // len(sources))
         return lot
+
+    def leads(self, start, end, amount):
+        """Notes that an amount was booked from one node to another."""
+        self.edges.setdefault(start, []).append(end)
+        self.amounts[start, end] = self.amounts.get((start, end), 0) + amount
 
     def book(self):
         """Books something, or has it refused where a batch would take what came of it."""
@@ -266,23 +272,42 @@ class Genealogy:
         else:
             self.session.accepted(body)
             self.stock[lot] -= amount
-            self.edges.setdefault((1, lot), []).append(batch)
+            self.leads((1, lot), batch, amount)
 
     def ask(self):
-        """Asks where each node came from and went, and what a recall of some lots reaches."""
+        """Asks where each node came from and went, by which edges, where its goods stand, and what a recall of some lots reaches."""
         turned = {}
         for start, ends in self.edges.items():
             for end in ends:
                 turned.setdefault(end, []).append(start)
         for kind, name in self.nodes:
             for word, edges in (("forward", self.edges), ("back", turned)):
-                found = searched(edges, (kind, name)) - {(kind, name)}
-                self.session.asked(compact({"ask": word, "lot" if kind == 1 else "batch": name}), compact({"nodes": nodes_told(found)}))
+                found, asked = searched(edges, (kind, name)), {"lot" if kind == 1 else "batch": name}
+                self.session.asked(compact({"ask": word, **asked}), compact({"nodes": nodes_told(found - {(kind, name)})}))
+                self.session.asked(compact({"ask": f"{word}_edges", **asked}), compact(self.genealogy(found)))
+            self.session.asked(compact({"ask": "stands", **asked}), compact({"lots": self.standing(searched(self.edges, (kind, name)))}))
         for number, lot in enumerate(self.chance.sample(sorted(self.stock), 4)):
             self.session.accepted(f'"do":"recall","recall":"RC-{number}","lot":"{lot}"')
             found = {"lot": lot, "nodes": nodes_told(searched(self.edges, (1, lot))), "recall": f"RC-{number}", "state": "open"}
             self.session.asked(f'{{"ask":"recall","recall":"RC-{number}"}}', compact(found))
         return self.session
+
+
+    def known(self, lot):
+        return {"def": "SUGAR", "held": False, "lot": lot, "stock": self.stock[lot]}
+
+    def standing(self, nodes):
+        """Returns what is answered of those of the nodes that are lots with stock."""
+        lots = [name for kind, name in sorted(nodes) if kind == 1 and self.stock[name]]
+        return [{**self.known(it), "sublots": [{"no": 0, "place": "", "stock": self.stock[it]}]} for it in lots]
+
+    def genealogy(self, nodes):
+        """Returns what is answered of the nodes, and of the edges between them: from lots to batches, from batches to lots, from lots to lots."""
+        told = [{**self.known(name), "recalled": False, "unit": "g"} if kind == 1 else {"batch": name} for kind, name in sorted(nodes)]
+        between = [it for it in self.amounts if it[0] in nodes and it[1] in nodes]
+        between.sort(key=lambda it: ([(1, 2), (2, 1), (1, 1)].index((it[0][0], it[1][0])), it[0][1], it[1][1]))
+        edges = [dict(zip(("from", "to"), (nodes_told([end])[0] for end in it)), amount=self.amounts[it]) for it in between]
+        return {"edges": edges, "nodes": told}
 
 
 def nodes_told(nodes):

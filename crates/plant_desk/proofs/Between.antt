@@ -11,6 +11,8 @@ use Rattle.std.proofs.lemmas.List.Kept.{IsStrictlySortedBy-filter}
 use Rattle.std.proofs.lemmas.List.Sums.{sum_by-cons, sum_by-append}
 use Rattle.plant_base.specs.Edges.{edge_eq, edge_order, edge_total}
 use Rattle.plant_base.specs.State.{State, same}
+use Rattle.plant_base.specs.declared.rows.EdgeKind.{EdgeKind}
+use Rattle.plant_base.specs.declared.rows.EdgeKind.TheVariants as edge
 use Rattle.plant_base.specs.declared.rows.EdgeRow.{EdgeRow}
 use Rattle.plant_base.specs.declared.rows.Movement.{Movement}
 use Rattle.plant_base.specs.declared.rows.MovementKind.{MovementKind}
@@ -23,13 +25,13 @@ use Rattle.plant_trace.specs.declared.node.Node.{Node}
 use Rattle.plant_trace.specs.declared.node.Node.TheVariants as node
 use Rattle.plant_trace.proofs.Leading.{none_in}
 use Rattle.plant_trace.proofs.NodeLemmas.{node_eq_exact}
-use Rattle.plant_view.specs.Genealogy.{batch_by, edge_row_by, edge_row_of, edge_rows, ends_of}
+use Rattle.plant_view.specs.Genealogy.{batch_by, edge_row_by, edge_row_of, edge_rows, ends_by, ends_of}
 use Rattle.plant_view.specs.Rows.{put_all}
 use Rattle.plant_view.specs.Views.{is_named, movements_of}
 use Rattle.plant_view.proofs.Membership.{all_in, filter_in, filter_from, flat_in, flat_from, map_in, map_from, one_list, put_all_from, sorted_put_all}
 use Rattle.plant_view.proofs.Rows.{all_of, filtered_passes}
-use Rattle.plant_worklists.specs.Worklists.{lot_movements}
-use Rattle.plant_desk.specs.Booked.{Fits, booked_if, booked_from, bookings_around, counted, movements_at, summed, total_along}
+use Rattle.plant_worklists.specs.Worklists.{movements_into, other_lot}
+use Rattle.plant_desk.specs.Booked.{Fits, booked_at, booked_if, bookings_around, counted, movements_at, summed, told_at, told_by, total_along}
 use Rattle.plant_desk.specs.Genealogy.{amount_of, booked_along, booked_edge, edges_between, is_among, is_between, is_made}
 use Rattle.plant_desk.specs.declared.genealogy.BookedEdge.{BookedEdge}
 use Rattle.plant_desk.proofs.Along.{edge_exact, booked_pair, totalled}
@@ -64,30 +66,60 @@ chosen_sum false h ms = sum_zero ms
 
 -- ---- one node
 
--- the edge leads from x to one of the nodes
-abbrev leads_on : List Node → Node → EdgeRow → Bool
-leads_on nodes x e = node_eq x (ends_of e).0 && is_among nodes (ends_of e).1
+-- the edge is between the nodes, and is told at x
+abbrev is_told : List Node → Node → EdgeRow → Bool
+is_told nodes x e = node_eq x (told_at e) && is_between nodes e
 
 module _ (nodes : List Node) (x : Node) (e : EdgeRow) where
-  by_edge : (a : ℕ) (o : Option EdgeRow) → told (counted e) (booked_if nodes x a o) ≡ cond (leads_on nodes x e) (cond (is_made e o) a 0) 0
-  by_edge a None = sym (chosen_zero (leads_on nodes x e))
-  by_edge a (Some y) = counted_if (leads_on nodes x y) ∙ moved (edge_eq y e) refl
+  by_edge : (a : ℕ) (o : Option EdgeRow) → told (counted e) (booked_if nodes x a o) ≡ cond (is_told nodes x e) (cond (is_made e o) a 0) 0
+  by_edge a None = sym (chosen_zero (is_told nodes x e))
+  by_edge a (Some y) = counted_if (is_told nodes x y) ∙ moved (edge_eq y e) refl
     where
       counted_if : (c : Bool) → told (counted e) (cond c (Some (record { edge = y; amount = a })) None) ≡ cond c (cond (edge_eq y e) a 0) 0
       counted_if true = refl
       counted_if false = refl
 
-      moved : (t : Bool) → edge_eq y e ≡ t → cond (leads_on nodes x y) (cond (edge_eq y e) a 0) 0 ≡ cond (leads_on nodes x e) (cond (edge_eq y e) a 0) 0
-      moved true is = ap (λ (z : EdgeRow). cond (leads_on nodes x z) (cond (edge_eq y e) a 0) 0) (edge_exact y e is)
+      moved : (t : Bool) → edge_eq y e ≡ t → cond (is_told nodes x y) (cond (edge_eq y e) a 0) 0 ≡ cond (is_told nodes x e) (cond (edge_eq y e) a 0) 0
+      moved true is = ap (λ (z : EdgeRow). cond (is_told nodes x z) (cond (edge_eq y e) a 0) 0) (edge_exact y e is)
       moved false is =
           let none : cond (edge_eq y e) a 0 ≡ 0 = ap (λ (t : Bool). cond t a 0) is in
-          ap (λ (n : ℕ). cond (leads_on nodes x y) n 0) none
-          ∙ chosen_zero (leads_on nodes x y) ∙ sym (ap (λ (n : ℕ). cond (leads_on nodes x e) n 0) none ∙ chosen_zero (leads_on nodes x e))
+          ap (λ (n : ℕ). cond (is_told nodes x y) n 0) none
+          ∙ chosen_zero (is_told nodes x y) ∙ sym (ap (λ (n : ℕ). cond (is_told nodes x e) n 0) none ∙ chosen_zero (is_told nodes x e))
 
-  part : (ms : List Movement) → total_along (filter_map (booked_from nodes x) ms) e ≡ cond (leads_on nodes x e) (amount_of ms e) 0
-  part ms = all_told (counted e) (booked_from nodes x) ms ∙ (λ i. sum_by (λ (m : Movement). by_edge m.amount (edge_row_of m) i) ms) ∙ chosen_sum (leads_on nodes x e) (booked_along e) ms
+  part : (ms : List Movement) → total_along (filter_map (booked_at nodes x) ms) e ≡ cond (is_told nodes x e) (amount_of ms e) 0
+  part ms = all_told (counted e) (booked_at nodes x) ms ∙ (λ i. sum_by (λ (m : Movement). by_edge m.amount (edge_row_of m) i) ms) ∙ chosen_sum (is_told nodes x e) (booked_along e) ms
+
+-- ---- booleans
+
+never : (a : Bool) → (a && false) ≡ false
+never true = refl
+never false = refl
+
+pub both : (a b : Bool) → (a && b) ≡ true → (a ≡ true) × (b ≡ true)
+both true true h = (refl, refl)
+both true false h = absurd (false≢true h)
+both false b h = absurd (false≢true h)
+
+pub together : (a b : Bool) → a ≡ true → b ≡ true → (a && b) ≡ true
+together a b p q = λ i. p i && q i
 
 -- ---- all nodes
+
+-- the node at which an edge between the nodes is told is one of them
+pub teller_among : (nodes : List Node) (e : EdgeRow) → is_between nodes e ≡ true → is_among nodes (told_at e) ≡ true
+teller_among nodes e h = by e.kind (both _ _ h).0 (both _ _ h).1
+  where
+    by : (k : EdgeKind) → is_among nodes (ends_by k e.from e.to).0 ≡ true → is_among nodes (ends_by k e.from e.to).1 ≡ true → is_among nodes (told_by k e.from e.to) ≡ true
+    by edge.LotToBatch near far = far
+    by edge.BatchToLot near far = near
+    by edge.LotToLot near far = far
+
+teller_between : (nodes : List Node) (e : EdgeRow) → (is_among nodes (told_at e) && is_between nodes e) ≡ is_between nodes e
+teller_between nodes e = by (is_between nodes e) refl
+  where
+    by : (t : Bool) → is_between nodes e ≡ t → (is_among nodes (told_at e) && t) ≡ t
+    by true is = ap (λ (b : Bool). b && true) (teller_among nodes e is)
+    by false is = never (is_among nodes (told_at e))
 
 -- a node doesn't stand among those that are greater
 none_later : (x y : Node) → x ≡ y → (xs : List Node) → AllByRecursion (λ z. node_cmp x z ≡ Less) xs → is_among xs y ≡ false
@@ -99,49 +131,41 @@ none_later x y is (z ∷ zs) a = by (node_eq z y) refl (none_later x y is zs a.1
     by false e rest = rest
 
 module _ (ms : List Movement) (nodes : List Node) (e : EdgeRow) where
-  abbrev near : Node
-  near = (ends_of e).0
+  abbrev teller : Node
+  teller = told_at e
 
-  abbrev far : Bool
-  far = is_among nodes (ends_of e).1
+  abbrev between : Bool
+  between = is_between nodes e
 
-  added : (t am : Bool) (n : ℕ) → (t ≡ true → am ≡ false) → cond (t && far) n 0 + cond (am && far) n 0 ≡ cond ((t || am) && far) n 0
+  added : (t am : Bool) (n : ℕ) → (t ≡ true → am ≡ false) → cond (t && between) n 0 + cond (am && between) n 0 ≡ cond ((t || am) && between) n 0
   added true am n none =
-      let gone : cond (am && far) n 0 ≡ 0 = ap (λ (b : Bool). cond (b && far) n 0) (none refl) in
+      let gone : cond (am && between) n 0 ≡ 0 = ap (λ (b : Bool). cond (b && between) n 0) (none refl) in
       omega (arith, gone)
   added false am n none = omega arith
 
-  along : (xs : List Node) → IsStrictlySortedBy node_cmp xs → total_along (flat_map (λ x. filter_map (booked_from nodes x) ms) xs) e ≡ cond (is_among xs near && far) (amount_of ms e) 0
+  along : (xs : List Node) → IsStrictlySortedBy node_cmp xs → total_along (flat_map (λ x. filter_map (booked_at nodes x) ms) xs) e ≡ cond (is_among xs teller && between) (amount_of ms e) 0
   unfolding IsStrictlySortedBy
   along [] sorted = refl
   along (x ∷ xs) sorted =
-      sum_by-append (counted e) (filter_map (booked_from nodes x) ms) (flat_map (λ x. filter_map (booked_from nodes x) ms) xs)
+      sum_by-append (counted e) (filter_map (booked_at nodes x) ms) (flat_map (λ x. filter_map (booked_at nodes x) ms) xs)
       ∙ (λ i. part nodes x e ms i + along xs sorted.1 i)
-      ∙ added (node_eq x near) (is_among xs near) (amount_of ms e) (λ is. none_later x near (node_eq_exact x near is) xs sorted.0)
+      ∙ added (node_eq x teller) (is_among xs teller) (amount_of ms e) (λ is. none_later x teller (node_eq_exact x teller is) xs sorted.0)
 
   total_between : IsStrictlySortedBy node_cmp nodes → total_along (bookings_around ms nodes) e ≡ cond (is_between nodes e) (amount_of ms e) 0
-  total_between sorted = along nodes sorted
+  total_between sorted = along nodes sorted ∙ ap (λ (t : Bool). cond t (amount_of ms e) 0) (teller_between nodes e)
 
 -- ---- which edges
 
-pub both : (a b : Bool) → (a && b) ≡ true → (a ≡ true) × (b ≡ true)
-both true true h = (refl, refl)
-both true false h = absurd (false≢true h)
-both false b h = absurd (false≢true h)
-
-pub together : (a b : Bool) → a ≡ true → b ≡ true → (a && b) ≡ true
-together a b p q = λ i. p i && q i
-
-booked_is : (nodes : List Node) (x : Node) (a : ℕ) (o : Option EdgeRow) (b : BookedEdge) → booked_if nodes x a o ≡ Some b → (o ≡ Some b.edge) × (leads_on nodes x b.edge ≡ true)
+booked_is : (nodes : List Node) (x : Node) (a : ℕ) (o : Option EdgeRow) (b : BookedEdge) → booked_if nodes x a o ≡ Some b → (o ≡ Some b.edge) × (is_told nodes x b.edge ≡ true)
 booked_is nodes x a None b h = absurd (cc)
-booked_is nodes x a (Some y) b h = by (leads_on nodes x y) refl h
+booked_is nodes x a (Some y) b h = by (is_told nodes x y) refl h
   where
-    by : (t : Bool) → leads_on nodes x y ≡ t → cond t (Some (record { edge = y; amount = a })) None ≡ Some b → (Some y ≡ Some b.edge) × (leads_on nodes x b.edge ≡ true)
+    by : (t : Bool) → is_told nodes x y ≡ t → cond t (Some (record { edge = y; amount = a })) None ≡ Some b → (Some y ≡ Some b.edge) × (is_told nodes x b.edge ≡ true)
     by true e h =
         let r : BookedEdge = record { edge = y; amount = a } in
         let is : r ≡ b = cc in
         let edge : y ≡ b.edge = ap (λ (z : BookedEdge). z.edge) is in
-        (ap Some edge, subst (λ (z : EdgeRow). leads_on nodes x z ≡ true) edge e)
+        (ap Some edge, subst (λ (z : EdgeRow). is_told nodes x z ≡ true) edge e)
     by false e h = absurd (cc)
 
 module _ (ms : List Movement) (nodes : List Node) where
@@ -155,29 +179,26 @@ module _ (ms : List Movement) (nodes : List Node) where
   down z h =
       let of_booking = map_from edge_at bookings z h in
       let b = of_booking.0 in
-      let of_node = flat_from (λ x. filter_map (booked_from nodes x) ms) nodes b of_booking.1.0 in
+      let of_node = flat_from (λ x. filter_map (booked_at nodes x) ms) nodes b of_booking.1.0 in
       let x = of_node.0 in
-      let of_movement = picked_from (booked_from nodes x) ms b of_node.1.1 in
+      let of_movement = picked_from (booked_at nodes x) ms b of_node.1.1 in
       let m = of_movement.0 in
       let is = booked_is nodes x m.amount (edge_row_of m) b of_movement.1.1 in
-      let ends = both (node_eq x (ends_of b.edge).0) (is_among nodes (ends_of b.edge).1) is.1 in
-      let c = of_node.1.0 in
-      let near_in : is_among nodes (ends_of b.edge).0 ≡ true = list_any-from_Any (λ y. node_eq y (ends_of b.edge).0) nodes (c.0, x, c.1, c.2, ends.0) in
+      let told = both (node_eq x (told_at b.edge)) (is_between nodes b.edge) is.1 in
       let listed : Contains (edge_rows ms) b.edge = all_in edge_order edge_total one_edge (filter_map edge_row_of ms) b.edge [] (picked_in edge_row_of ms m b.edge of_movement.1.0 is.0) in
-      subst (Contains (filter (is_between nodes) (edge_rows ms))) of_booking.1.1 (filter_in (is_between nodes) (edge_rows ms) b.edge listed (together _ _ near_in ends.1))
+      subst (Contains (filter (is_between nodes) (edge_rows ms))) of_booking.1.1 (filter_in (is_between nodes) (edge_rows ms) b.edge listed told.1)
 
   up : (z : EdgeRow) → Contains (filter (is_between nodes) (edge_rows ms)) z → Contains (map edge_at bookings) z
   up z h =
       let of_filter = filter_from (is_between nodes) (edge_rows ms) z h in
-      let ends = both (is_among nodes (ends_of z).0) (is_among nodes (ends_of z).1) of_filter.1 in
       let of_rows = ⊎_elim (λ i. i) (λ n. absurd (none_in z n)) (put_all_from edge_order edge_total (filter_map edge_row_of ms) z [] of_filter.0) in
       let of_movement = picked_from edge_row_of ms z of_rows in
       let m = of_movement.0 in
-      let any = Any-from_list_any (λ y. node_eq y (ends_of z).0) nodes ends.0 in
+      let any = Any-from_list_any (λ y. node_eq y (told_at z)) nodes (teller_among nodes z of_filter.1) in
       let x = any.1 in
       let b : BookedEdge = record { edge = z; amount = m.amount } in
-      let made : booked_from nodes x m ≡ Some b = ap (booked_if nodes x m.amount) of_movement.1.1 ∙ ap (λ (t : Bool). cond t (Some b) None) (together _ _ any.4 ends.1) in
-      map_in edge_at bookings b (flat_in (λ y. filter_map (booked_from nodes y) ms) nodes x b (any.0, any.2, any.3) (picked_in (booked_from nodes x) ms m b of_movement.1.0 made))
+      let made : booked_at nodes x m ≡ Some b = ap (booked_if nodes x m.amount) of_movement.1.1 ∙ ap (λ (t : Bool). cond t (Some b) None) (together _ _ any.4 of_filter.1) in
+      map_in edge_at bookings b (flat_in (λ y. filter_map (booked_at nodes y) ms) nodes x b (any.0, any.2, any.3) (picked_in (booked_at nodes x) ms m b of_movement.1.0 made))
 
   same_edges : put_all edge_order (map edge_at bookings) [] ≡ filter (is_between nodes) (edge_rows ms)
   unfolding IsStrictlySortedBy
@@ -204,7 +225,7 @@ module _ (ms : List Movement) (nodes : List Node) where
       by true = fits e
       by false = omega arith
 
--- ---- movements that lead from a node
+-- ---- movements that tell of edges at a node
 
 abbrev name_in : Node → List ℕ
 name_in (node.Lot id) = id
@@ -221,31 +242,31 @@ unbooked : (c d : Bool) (b : BookedEdge) → c ≡ false → cond (c && d) (Some
 unbooked c d b e = ap (λ (t : Bool). cond (t && d) (Some b) None) e
 
 module _ (nodes : List Node) (id lot : List ℕ) (a : ℕ) where
-  not_from_lot : (k : MovementKind) → same lot id ≡ false → booked_if nodes (node.Lot id) a (edge_row_by k lot) ≡ None
-  not_from_lot Received e = refl
-  not_from_lot (Consumed b) e = unbooked _ _ _ (apart (node.Lot id) (node.Lot lot) e)
-  not_from_lot (Produced b) e = refl
-  not_from_lot Scrapped e = refl
-  not_from_lot (Divided to) e = refl
-  not_from_lot (Split to) e = unbooked _ _ _ (apart (node.Lot id) (node.Lot lot) e)
-  not_from_lot (Merged to) e = unbooked _ _ _ (apart (node.Lot id) (node.Lot lot) e)
+  not_at_lot : (k : MovementKind) → is_named id (other_lot k lot) ≡ false → booked_if nodes (node.Lot id) a (edge_row_by k lot) ≡ None
+  not_at_lot Received e = refl
+  not_at_lot (Consumed b) e = refl
+  not_at_lot (Produced b) e = refl
+  not_at_lot Scrapped e = refl
+  not_at_lot (Divided to) e = refl
+  not_at_lot (Split to) e = unbooked _ _ _ (apart (node.Lot id) (node.Lot to) e)
+  not_at_lot (Merged to) e = unbooked _ _ _ (apart (node.Lot id) (node.Lot to) e)
 
-  not_from_batch : (k : MovementKind) → is_named id (batch_by k) ≡ false → booked_if nodes (node.Batch id) a (edge_row_by k lot) ≡ None
-  not_from_batch Received e = refl
-  not_from_batch (Consumed b) e = refl
-  not_from_batch (Produced b) e = unbooked _ _ _ (apart (node.Batch id) (node.Batch b) e)
-  not_from_batch Scrapped e = refl
-  not_from_batch (Divided to) e = refl
-  not_from_batch (Split to) e = refl
-  not_from_batch (Merged to) e = refl
+  not_at_batch : (k : MovementKind) → is_named id (batch_by k) ≡ false → booked_if nodes (node.Batch id) a (edge_row_by k lot) ≡ None
+  not_at_batch Received e = refl
+  not_at_batch (Consumed b) e = unbooked _ _ _ (apart (node.Batch id) (node.Batch b) e)
+  not_at_batch (Produced b) e = unbooked _ _ _ (apart (node.Batch id) (node.Batch b) e)
+  not_at_batch Scrapped e = refl
+  not_at_batch (Divided to) e = refl
+  not_at_batch (Split to) e = refl
+  not_at_batch (Merged to) e = refl
 
-lot_booked : (s : State) (nodes : List Node) (id : List ℕ) → filter_map (booked_from nodes (node.Lot id)) (lot_movements s id) ≡ filter_map (booked_from nodes (node.Lot id)) s.movements
-lot_booked s nodes id = told_of (booked_from nodes (node.Lot id)) (λ m. same m.lot id) (λ m e. not_from_lot nodes id m.lot m.amount m.kind e) s.movements
+lot_booked : (s : State) (nodes : List Node) (id : List ℕ) → filter_map (booked_at nodes (node.Lot id)) (movements_into s id) ≡ filter_map (booked_at nodes (node.Lot id)) s.movements
+lot_booked s nodes id = told_of (booked_at nodes (node.Lot id)) (λ m. is_named id (other_lot m.kind m.lot)) (λ m e. not_at_lot nodes id m.lot m.amount m.kind e) s.movements
 
-batch_booked : (s : State) (nodes : List Node) (id : List ℕ) → filter_map (booked_from nodes (node.Batch id)) (movements_of s id) ≡ filter_map (booked_from nodes (node.Batch id)) s.movements
-batch_booked s nodes id = told_of (booked_from nodes (node.Batch id)) (λ m. is_named id (batch_by m.kind)) (λ m e. not_from_batch nodes id m.lot m.amount m.kind e) s.movements
+batch_booked : (s : State) (nodes : List Node) (id : List ℕ) → filter_map (booked_at nodes (node.Batch id)) (movements_of s id) ≡ filter_map (booked_at nodes (node.Batch id)) s.movements
+batch_booked s nodes id = told_of (booked_at nodes (node.Batch id)) (λ m. is_named id (batch_by m.kind)) (λ m e. not_at_batch nodes id m.lot m.amount m.kind e) s.movements
 
--- a node's movements tell of all that lead from it
-pub all_booked : (s : State) (nodes : List Node) (x : Node) → filter_map (booked_from nodes x) (movements_at s x) ≡ filter_map (booked_from nodes x) s.movements
+-- a node's movements tell of all that is told there
+pub all_booked : (s : State) (nodes : List Node) (x : Node) → filter_map (booked_at nodes x) (movements_at s x) ≡ filter_map (booked_at nodes x) s.movements
 all_booked s nodes (node.Lot id) = lot_booked s nodes id
 all_booked s nodes (node.Batch id) = batch_booked s nodes id

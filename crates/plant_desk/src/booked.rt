@@ -8,15 +8,15 @@ ghost use Rattle.plant_trace.specs.Nodes.{node_cmp};
 ghost use Rattle.plant_trace.specs.Sources.{HonestlyTold};
 ghost use Rattle.plant_trace.specs.declared.node.Node.{Node};
 ghost use Rattle.plant_view.specs.Sound.{IsSound};
-ghost use Rattle.plant_desk.specs.Booked.{Fits, IsSetOf, booked_from, bookings_around, movements_at, sum_with, summed};
+ghost use Rattle.plant_desk.specs.Booked.{Fits, IsSetOf, booked_at, bookings_around, movements_at, sum_with, summed, told_at};
 ghost use Rattle.plant_desk.specs.Genealogy.{edges_between};
 
 use crate::bookings::push_found;
 use crate::genealogy::BookedEdge;
-use plant_base::{EdgeRow, Movement};
+use plant_base::{EdgeKind, EdgeRow, Movement};
 use plant_trace::Node;
 use plant_view::{ViewFault, edge_row, ends, look};
-use plant_worklists::{Worklists, lot_movements};
+use plant_worklists::{Worklists, movements_into};
 use std::alloc::{AllocError, Global};
 use std::collections::{BTreeMap, BTreeSet};
 
@@ -39,7 +39,7 @@ pub(crate) fn edges_between<V: Worklists>(
 
 // ---- bookings
 
-// What is booked along the edges that lead from one of the nodes to another, node by node.
+// What is booked along the edges that lead from one of the nodes to another, by the movements of one node after the other.
 fn bookings_around<V: Worklists>(
     alloc: Global,
     view: &mut V,
@@ -71,7 +71,8 @@ fn set_of(alloc: Global, nodes: &[Node]) -> Result<BTreeSet<Node>, AllocError>
     Ok(among)
 }
 
-// The movements of a batch, or those that name a lot first: all that make an edge from it, and others.
+// The movements of a batch, or those that bring something to a lot from another one: so of a lot that was split again and again only
+// what it came of is read.
 fn movements_at<V: Worklists>(
     view: &mut V,
     node: Node,
@@ -80,38 +81,49 @@ fn movements_at<V: Worklists>(
         (IfOk result (λ v. v.items ≡ movements_at (V.state view.old) node)) }
 {
     match node {
-        Node::Lot(id) => lot_movements(view, id),
+        Node::Lot(id) => movements_into(view, id),
         Node::Batch(id) => look::batch_movements(view, id),
     }
 }
 
-// Adds what the movements book along the edges that lead from the node to one of the set.
+// Adds what the movements book along the edges between nodes of the set that are told at the node.
 fn push_bookings(
     rows: &mut Vec<BookedEdge>,
     among: &BTreeSet<Node>,
-    from: &Node,
+    at: &Node,
     movements: &[Movement],
 ) -> Result<(), AllocError>
     ensures { (nodes : List Node) → IsSetOf nodes among.now → OnOk result (rows.new.items
-        ≡ rows.old.items ++ filter_map (booked_from nodes from.now) movements.now) }
+        ≡ rows.old.items ++ filter_map (booked_at nodes at.now) movements.now) }
 {
     for movement in movements {
-        push_found(rows, booked_from(among, from, movement))?;
+        push_found(rows, booked_at(among, at, movement))?;
     }
     Ok(())
 }
 
-fn booked_from(among: &BTreeSet<Node>, from: &Node, movement: &Movement) -> Option<BookedEdge>
+fn booked_at(among: &BTreeSet<Node>, at: &Node, movement: &Movement) -> Option<BookedEdge>
     ensures { (nodes : List Node) → IsSetOf nodes among.now
-        → result ≡ booked_from nodes from.now movement.now }
+        → result ≡ booked_at nodes at.now movement.now }
 {
     let edge = edge_row(movement)?;
     let (near, far) = ends(&edge);
-    if *from == near && among.contains(&far) {
+    if *at == told_at(&edge) && among.contains(&near) && among.contains(&far) {
         let amount = movement.amount.get();
         return Some(BookedEdge { edge, amount });
     }
     None
+}
+
+// The node whose movements tell of the edge: the batch at one of its ends, or else the lot that it leads to.
+fn told_at(edge: &EdgeRow) -> Node
+    ensures { result ≡ told_at edge.now }
+{
+    match edge.kind {
+        EdgeKind::LotToBatch => Node::Batch(edge.to),
+        EdgeKind::BatchToLot => Node::Batch(edge.from),
+        EdgeKind::LotToLot => Node::Lot(edge.to),
+    }
 }
 
 // ---- sums

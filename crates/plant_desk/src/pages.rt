@@ -7,7 +7,7 @@ ghost use Rattle.plant_worklists.specs.Worklists.{is_above, is_order_in, is_open
 ghost use Rattle.plant_worklists.specs.Worklists.{is_recipe_in, is_in_ledger, lot_made};
 
 use crate::batches::batch_row;
-use crate::lots::{lot_movements, stocked};
+use crate::lots::{movements_into, stocked};
 use crate::view::ListsView;
 use plant_base::{
     Batch, BatchEvent, BatchRow, ControlLine, Definition, Hold, Id, Job, JobState, Lot, Movement,
@@ -79,8 +79,8 @@ impl<'a> Worklists for ListsView<'a> {
         Ok(first_page(rows))
     }
 
-    fn lot_movements(&mut self, lot: Id) -> Result<Vec<Movement>, AllocError> {
-        lot_movements(self.lists.alloc, &self.lists.movements, lot)
+    fn movements_into(&mut self, lot: Id) -> Result<Vec<Movement>, AllocError> {
+        movements_into(self.lists.alloc, &self.lists.movements, lot)
     }
 
     fn lots_after(&mut self, above: Option<Id>) -> Result<Page<Lot>, AllocError> {

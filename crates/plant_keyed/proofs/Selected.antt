@@ -65,9 +65,9 @@ pub movements_of_lot_and_kind : Selects movement_form (4 ∷ 3 ∷ []) (codes "S
 unfolding everything
 movements_of_lot_and_kind = record { readable = refl; compared = refl; parameters = codes "?1" ∷ codes "?2" ∷ []; written = refl }
 
-pub movements_of_lot : Selects movement_form (4 ∷ []) (codes "SELECT seq, line, kind, lot, sub, lot2, sub2, batch, amount, at, by_who, note FROM movement WHERE lot = ?1 ORDER BY seq, line")
+pub movements_into_lot : Selects movement_form (6 ∷ []) (codes "SELECT seq, line, kind, lot, sub, lot2, sub2, batch, amount, at, by_who, note FROM movement WHERE lot2 = ?1 ORDER BY seq, line")
 unfolding everything
-movements_of_lot = record { readable = refl; compared = refl; parameters = codes "?1" ∷ []; written = refl }
+movements_into_lot = record { readable = refl; compared = refl; parameters = codes "?1" ∷ []; written = refl }
 
 pub hold_by_key : Selects hold_form (1 ∷ 2 ∷ []) (codes "SELECT lot, id, at, by_who, note FROM hold WHERE lot = ?1 AND id = ?2 ORDER BY lot, id")
 unfolding everything

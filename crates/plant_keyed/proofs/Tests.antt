@@ -12,6 +12,7 @@ use Rattle.plant_base.specs.declared.rows.MovementKind.{MovementKind}
 use Rattle.plant_base.specs.declared.rows.MovementKind.TheVariants as kind
 use Rattle.plant_view.specs.Genealogy.{batch_by}
 use Rattle.plant_view.specs.Views.{is_named, is_scrap}
+use Rattle.plant_worklists.specs.Worklists.{other_lot}
 use Rattle.table_reads.specs.Found.{has_values}
 use Rattle.plant_tables_columns.specs.Kinds.{number}
 use Rattle.plant_tables_columns.specs.TableColumns.{row_of_movement}
@@ -55,18 +56,19 @@ batch_is m batch = by m.kind
     by (kind.Split to) = refl
     by (kind.Merged to) = refl
 
--- a movement that names the lot first
-pub lot_is : (m : Movement) (lot : List ℕ) → has_values (4 ∷ []) (Text lot ∷ []) (row_of_movement m) ≡ same m.lot lot
-lot_is m lot = by m.kind
+-- a movement that brings something to the lot from another sublot
+pub into_is : (m : Movement) (lot : List ℕ) → has_values (6 ∷ []) (Text lot ∷ []) (row_of_movement m) ≡ is_named lot (other_lot m.kind m.lot)
+unfolding value_cmp
+into_is m lot = by m.kind
   where
-    by : (k : MovementKind) → has_values (4 ∷ []) (Text lot ∷ []) (row_of_movement (record m { kind = k })) ≡ same m.lot lot
-    by kind.Received = one_text m.lot lot
-    by (kind.Consumed batch) = one_text m.lot lot
-    by (kind.Produced batch) = one_text m.lot lot
-    by kind.Scrapped = one_text m.lot lot
+    by : (k : MovementKind) → has_values (6 ∷ []) (Text lot ∷ []) (row_of_movement (record m { kind = k })) ≡ is_named lot (other_lot k m.lot)
+    by kind.Received = refl
+    by (kind.Consumed b) = refl
+    by (kind.Produced b) = refl
+    by kind.Scrapped = refl
     by (kind.Divided to) = one_text m.lot lot
-    by (kind.Split to) = one_text m.lot lot
-    by (kind.Merged to) = one_text m.lot lot
+    by (kind.Split to) = one_text to lot
+    by (kind.Merged to) = one_text to lot
 
 both : (a b : Bool) → (a && (b && true)) ≡ (b && a)
 both true true = refl

@@ -43,8 +43,8 @@ pub(crate) const MOVEMENTS_OF_BATCH: &str =
 pub(crate) const MOVEMENTS_OF_LOT_AND_KIND: &str =
     "SELECT seq, line, kind, lot, sub, lot2, sub2, batch, amount, at, by_who, note FROM movement WHERE lot = ?1 AND kind = ?2 ORDER BY seq, line";
 
-pub(crate) const MOVEMENTS_OF_LOT: &str =
-    "SELECT seq, line, kind, lot, sub, lot2, sub2, batch, amount, at, by_who, note FROM movement WHERE lot = ?1 ORDER BY seq, line";
+pub(crate) const MOVEMENTS_INTO_LOT: &str =
+    "SELECT seq, line, kind, lot, sub, lot2, sub2, batch, amount, at, by_who, note FROM movement WHERE lot2 = ?1 ORDER BY seq, line";
 
 pub(crate) const HOLD_BY_KEY: &str =
     "SELECT lot, id, at, by_who, note FROM hold WHERE lot = ?1 AND id = ?2 ORDER BY lot, id";

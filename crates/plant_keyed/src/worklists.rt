@@ -95,8 +95,8 @@ impl<'a, S: Alter> Worklists for Keyed<'a, S> {
         if_memory(merge_pages(self.alloc, &named, &made))
     }
 
-    fn lot_movements(&mut self, lot: Id) -> Result<Vec<Movement>, Fault> {
-        self.found(&MOVEMENT, texts::MOVEMENTS_OF_LOT, &[text_of(&lot)])
+    fn movements_into(&mut self, lot: Id) -> Result<Vec<Movement>, Fault> {
+        self.found(&MOVEMENT, texts::MOVEMENTS_INTO_LOT, &[text_of(&lot)])
     }
 
     fn lots_after(&mut self, above: Option<Id>) -> Result<Page<Lot>, Fault> {

@@ -26,7 +26,8 @@ use Rattle.plant_text_answers.specs.EdgeAnswers.{node_item, edge_item, genealogy
 use Rattle.plant_text_answers.specs.TraceAnswers.{node_data, nodes_data, trace_data}
 use Rattle.plant_text_answers.specs.Answers.{order_data}
 use Rattle.plant_text_answers.specs.LotAnswers.{lot_data, stands_data}
-use Rattle.plant_text_answers.specs.ListAnswers.{order_item, batch_item, lot_item, hold_item, recall_item, definition_item, recipe_item, movement_item, other_lot, other_sub, listed_data}
+use Rattle.plant_text_answers.specs.ListAnswers.{order_item, batch_item, lot_item, hold_item, recall_item, definition_item, recipe_item, movement_item, other_sub, listed_data}
+use Rattle.plant_worklists.specs.Worklists.{other_lot}
 use Rattle.plant_text_answers.specs.Parts.{sublots_data, id_or_null, number_or_null}
 
 no_float_in_sublots : (sublots : List Sublot) → items_have_float (sublots_data sublots) ≡ false

@@ -12,6 +12,7 @@ use Rattle.plant_base.specs.declared.rows.MovementKind.TheVariants as kind
 use Rattle.plant_base.specs.declared.rows.Recall.{Recall}
 use Rattle.plant_base.specs.declared.rows.Recipe.{Recipe}
 use Rattle.plant_view.specs.Genealogy.{batch_by}
+use Rattle.plant_worklists.specs.Worklists.{other_lot}
 use Rattle.plant_worklists.specs.declared.page.Page.{Page}
 use Rattle.plant_desk.specs.declared.listed.Listed.{Listed}
 use Rattle.plant_desk.specs.declared.listed.Listed.TheVariants as listed
@@ -63,14 +64,7 @@ movement_word (kind.Divided to) = codes "divided"
 movement_word (kind.Split to) = codes "split"
 movement_word (kind.Merged to) = codes "merged"
 
--- the lot that a movement of this lot brings its amount to from another sublot, its own where it was divided
-abbrev pub other_lot : MovementKind → List ℕ → Option (List ℕ)
-other_lot (kind.Divided to) lot = Some lot
-other_lot (kind.Split to) lot = Some to
-other_lot (kind.Merged to) lot = Some to
-other_lot _ lot = None
-
--- and the sublot
+-- the sublot that a movement brings its amount to from another one
 abbrev pub other_sub : MovementKind → Option ℕ
 other_sub (kind.Divided to) = Some to
 other_sub (kind.Split to) = Some 0

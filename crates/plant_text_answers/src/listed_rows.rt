@@ -2,11 +2,12 @@
 ghost use Rattle.std.specs.Prelude.{◌≡◌};
 ghost use Rattle.plant_view.specs.Genealogy.{batch_by};
 ghost use Rattle.plant_text_answers.specs.ListAnswers.{order_item, batch_item, lot_item, hold_item, recall_item, definition_item};
-ghost use Rattle.plant_text_answers.specs.ListAnswers.{recipe_item, movement_item, movement_word, other_lot, other_sub};
+ghost use Rattle.plant_text_answers.specs.ListAnswers.{recipe_item, movement_item, movement_word, other_sub};
 
 use crate::parts::{id_value, number_value, sublots_value};
 use plant_base::{Definition, Hold, Id, Job, Movement, MovementKind, Recall, Recipe};
 use plant_desk::{LotAnswer, OpenBatch};
+use plant_worklists::other_lot;
 use serde_json::{Value, json};
 use std::alloc::{AllocError, Global};
 
@@ -129,18 +130,7 @@ fn batch_of(kind: MovementKind) -> Option<Id>
     }
 }
 
-/// The lot that a movement of this lot brings its amount to from another sublot.
-fn other_lot(kind: MovementKind, lot: Id) -> Option<Id>
-    ensures { result ≡ other_lot kind lot }
-{
-    match kind {
-        MovementKind::Divided { .. } => Some(lot),
-        MovementKind::Split { to } | MovementKind::Merged { to } => Some(to),
-        _ => None,
-    }
-}
-
-/// The sublot that it brings it to.
+/// The sublot that a movement brings its amount to from another one.
 fn other_sub(kind: MovementKind) -> Option<u16>
     ensures { result ≡ other_sub kind }
 {

@@ -73,9 +73,16 @@ is_definition_in class above d = same d.class class && is_above above d.id
 abbrev pub definitions_in : State → List ℕ → Option (List ℕ) → List Definition
 definitions_in s class above = filter (is_definition_in class above) s.definitions
 
--- the movements that name a lot first: what it was received or produced by, what was divided in it and what left it
-abbrev pub lot_movements : State → List ℕ → List Movement
-lot_movements s lot = filter (λ m. same m.lot lot) s.movements
+-- the lot that a movement of this lot brings its amount to from another sublot, its own where it was divided
+abbrev pub other_lot : MovementKind → List ℕ → Option (List ℕ)
+other_lot (kind.Divided to) lot = Some lot
+other_lot (kind.Split to) lot = Some to
+other_lot (kind.Merged to) lot = Some to
+other_lot _ lot = None
+
+-- the movements that bring something to a lot from another sublot: the split or the merge that made it, and what was divided in it
+abbrev pub movements_into : State → List ℕ → List Movement
+movements_into s lot = filter (λ m. is_named lot (other_lot m.kind m.lot)) s.movements
 
 -- ---- what is of the lots that come after one
 

@@ -25,7 +25,7 @@ pub use ahead::Ahead;
 pub use list::Worklist;
 pub use lots_ahead::{is_held_ahead, lot_ahead, sublots_ahead};
 pub use merging::merge_pages;
-pub use movements::lot_movements;
+pub use movements::{movements_into, other_lot};
 pub use of_lot::OfLot;
 pub use pace::Pace;
 pub use page::{PAGE_SIZE, Page, first_page};

@@ -1,22 +1,33 @@
-//! The movements of a lot, with the fault of a decision: `ViewFault::View` where the view failed.
+//! The movements into a lot, with the fault of a decision: `ViewFault::View` where the view failed.
 ghost use Rattle.std.specs.Prelude.{◌≡◌, IfOk};
 ghost use Rattle.plant_trace.specs.Sources.{HonestlyTold};
-ghost use Rattle.plant_worklists.specs.Worklists.{lot_movements};
+ghost use Rattle.plant_worklists.specs.Worklists.{movements_into, other_lot};
 
 use crate::view::Worklists;
-use plant_base::{Id, Movement};
+use plant_base::{Id, Movement, MovementKind};
 use plant_view::ViewFault;
 
-/// The movements that name a lot first, in their order.
-pub fn lot_movements<V: Worklists>(
+/// The movements that bring something to a lot from another sublot, in their order.
+pub fn movements_into<V: Worklists>(
     view: &mut V,
     lot: Id,
 ) -> Result<Vec<Movement>, ViewFault<V::Fault>>
     ensures { HonestlyTold V.honest V.kept V.steady view.old view.new
-        (IfOk result (λ rows. rows.items ≡ lot_movements (V.state view.old) lot)) }
+        (IfOk result (λ rows. rows.items ≡ movements_into (V.state view.old) lot)) }
 {
-    match view.lot_movements(lot) {
+    match view.movements_into(lot) {
         Ok(rows) => Ok(rows),
         Err(fault) => Err(ViewFault::View(fault)),
+    }
+}
+
+/// The lot that a movement of this lot brings its amount to from another sublot, its own where it was divided.
+pub fn other_lot(kind: MovementKind, lot: Id) -> Option<Id>
+    ensures { result ≡ other_lot kind lot }
+{
+    match kind {
+        MovementKind::Divided { .. } => Some(lot),
+        MovementKind::Split { to } | MovementKind::Merged { to } => Some(to),
+        _ => None,
     }
 }

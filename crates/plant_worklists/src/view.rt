@@ -16,7 +16,7 @@ pub trait Worklists: View {
     ghost use Rattle.plant_trace.specs.Sources.{HonestlyTold};
     ghost use Rattle.plant_worklists.specs.Pages.{page_of};
     ghost use Rattle.plant_worklists.specs.Worklists.{orders_in, open_batches, lots_of, holds_on, open_recalls, definitions_in};
-    ghost use Rattle.plant_worklists.specs.Worklists.{recipes_in, ledger_of, lot_movements};
+    ghost use Rattle.plant_worklists.specs.Worklists.{recipes_in, ledger_of, movements_into};
     ghost use Rattle.plant_worklists.specs.Worklists.{lots_after, sublots_after, holds_after};
     ghost use Rattle.plant_view.specs.Sound.{IsSound};
 
@@ -73,11 +73,11 @@ pub trait Worklists: View {
         ensures { HonestlyTold Self.honest Self.kept Self.steady self.old self.new
             (IfOk result (λ page. page ≡ page_of (ledger_of (Self.state self.old) lot above))) };
 
-    /// The movements that name a lot first, in their order: what it was received or produced by, what was divided in it and
-    /// what left it.
-    fn lot_movements(&mut self, lot: Id) -> Result<Vec<Movement>, Self::Fault>
+    /// The movements that bring something to a lot from another sublot, in their order: the split or the merge that made it, and
+    /// what was divided in it.
+    fn movements_into(&mut self, lot: Id) -> Result<Vec<Movement>, Self::Fault>
         ensures { HonestlyTold Self.honest Self.kept Self.steady self.old self.new
-            (IfOk result (λ rows. rows.items ≡ lot_movements (Self.state self.old) lot)) };
+            (IfOk result (λ rows. rows.items ≡ movements_into (Self.state self.old) lot)) };
 
     /// The lots that come after one, by their ids.
     fn lots_after(&mut self, above: Option<Id>) -> Result<Page<Lot>, Self::Fault>

@@ -20,7 +20,7 @@ import sys
 import tempfile
 
 from hostile import DAMAGES, changed, twenty_of
-from sessions import LOWER, LOWER_TO_THE_THIRD, SECONDS, Check, written
+from sessions import LOWER, LOWER_TO_THE_THIRD, SECONDS, Check, library_of, written
 
 HERE = pathlib.Path(__file__).resolve().parent
 
@@ -251,8 +251,7 @@ def disks_are_tried(check):
     """Tries whether the disk has room: where it has, where it is full or fails, and where no file can be made; a library put before the programs
     makes them see what such a disk tells."""
     check.tells_cause("a disk with room", "twenty.db", None, status=0, opens=True, words=["--room"])
-    library = check.room / "stop.so"
-    subprocess.run(["cc", "-shared", "-fPIC", "-O1", "-o", library, HERE.parent / "bench/stop.c", "-ldl"], check=True)
+    library = library_of(check.room, "stop")
     shutil.copyfile(check.room / "twenty.db", check.room / "disk.db")
     for error, cause in [(errno.ENOSPC, "full"), (errno.EDQUOT, "full"), (errno.EROFS, "unwritable"), (errno.EIO, "store")]:
         disk = os.environ | {"LD_PRELOAD": str(library), "STOP_AFTER": "0", "STOP_ERROR": str(error)}

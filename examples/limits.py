@@ -16,7 +16,7 @@ import sys
 import tempfile
 import time
 
-from sessions import ASK, GOODS, LINE_LIMIT, LOWER, SECONDS, Check, Session, answered, imported, limits, moved, recipe, traced
+from sessions import GOODS, LINE_LIMIT, LOWER, SECONDS, Check, answered, imported, limits, recipe, traced
 
 # The longest text, and who books with it.
 LONG = "note " * 12
@@ -40,7 +40,6 @@ LARGE_BOOKINGS = 2000
 
 # How many times each batch consumes, and each genealogy is asked for, whose times are compared, and how many orders an import has at most.
 REPEATED = 1000
-ASKED = 100
 MOST_ORDERS = 1000
 
 # A recipe of an input, an output and a phase.
@@ -356,7 +355,7 @@ class Limits(Check):
                 "edges": [{"amount": 1, "from": {"lot": it}, "to": {"lot": last}} for it in sources],
                 "nodes": [{**known, "lot": it, "stock": stock} for it, stock in lots.items()],
             }
-            told, text = f'{{"ask":"back_edges","lot":"{last}"}}\n' * ASKED, f"{compact(answer)}\n" * ASKED
+            told, text = f'{{"ask":"back_edges","lot":"{last}"}}\n' * REPEATED, f"{compact(answer)}\n" * REPEATED
             seconds.append(self.runs(f"the genealogy of {last}", file, told.encode(), text.encode()))
         self.expect(f"what went elsewhere costs a genealogy nothing, {seconds}", seconds[1] < 3 * seconds[0] + 3, True)
 

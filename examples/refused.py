@@ -17,7 +17,7 @@ import time
 
 from hostile import HERE, twenty_of
 from limits import bad, good, got, posted
-from sessions import ASK, Check, SECONDS, answered, free_port, written
+from sessions import ASK, Check, SECONDS, answered, free_port, library_of, listens, written
 
 # More allocations than a server makes before its first answer.
 MANY = 1 << 20
@@ -45,9 +45,9 @@ class Server:
         shutil.copyfile(check.room / "first.db", self.file)
         self.port = free_port()
         words = [check.program, "serve", self.file.name, str(self.port), str(count)]
-        refusal = {"REFUSE": str(number), "REFUSED": str(self.mark), "LD_PRELOAD": str(check.room / "refuse.so")}
+        refusal = {"REFUSE": str(number), "REFUSED": str(self.mark), "LD_PRELOAD": str(check.library)}
         self.process = subprocess.Popen(words, cwd=check.room, env=os.environ | refusal, stdout=subprocess.PIPE, stderr=subprocess.PIPE)
-        while self.process.poll() is None and not self.listens():
+        while self.process.poll() is None and not listens(self.port):
             time.sleep(0.002)
 
     def __enter__(self):
@@ -56,11 +56,6 @@ class Server:
     def __exit__(self, *_):
         self.process.kill()
         self.process.communicate()
-
-    def listens(self):
-        """Returns whether something listens on the port, by the system's list of sockets: a connection would count."""
-        place = f"0100007F:{self.port:04X} 00000000:0000 0A"
-        return place in pathlib.Path("/proc/net/tcp").read_text()
 
     def has_refused(self):
         return self.mark.exists()
@@ -141,8 +136,7 @@ def main(program):
     session = twenty_of(written(HERE / "sessions" / "a_batch_runs_to_its_close.txt"))
     with tempfile.TemporaryDirectory() as room:
         check = Check(pathlib.Path(program).resolve(), pathlib.Path(room))
-        library = check.room / "refuse.so"
-        subprocess.run(["cc", "-shared", "-fPIC", "-O1", "-o", library, HERE.parent / "bench/refuse.c", "-ldl"], check=True)
+        check.library = library_of(check.room, "refuse")
         check.expect("twenty commands", check.run("run", "first.db", told=session.told), (0, session.wanted, b""))
         with Server(check, 0, 1) as server:
             check.whole = server.ask(QUESTION)

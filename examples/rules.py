@@ -19,7 +19,8 @@ import sys
 import tempfile
 
 from hostile import HERE, changed
-from sessions import GOODS, TABLES, WORDS, Check, Session, compact, imported, lines_of, merged, moved, received, recipe, searched, split
+from sessions import GOODS, TABLES, WORDS, Check, Session, compact, imported, merged, moved, received, recipe, searched, split
+from stops import OTHER
 
 # The moves of the state table: where each word leads a batch from each state.
 MOVES = {
@@ -44,9 +45,6 @@ SCALED = 60
 
 # So many genealogies are made by chance, each of so many batches and bookings.
 GENEALOGIES, BATCHES, BOOKINGS = 12, 3, 40
-
-# A table of another program, which stays as it is.
-OTHER = "CREATE TABLE shift (id INTEGER, name TEXT); INSERT INTO shift VALUES (7, 'night'), (8, NULL);"
 
 
 def plan(name, orders, *recipes):

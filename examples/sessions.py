@@ -830,6 +830,18 @@ def free_port():
         return it.getsockname()[1]
 
 
+def listens(port):
+    """Returns whether something listens on a port of 127.0.0.1, by the system's list of sockets: a connection would count."""
+    return f"0100007F:{port:04X} 00000000:0000 0A" in pathlib.Path("/proc/net/tcp").read_text()
+
+
+def library_of(room, name):
+    """Builds a library of bench that is put before a program by LD_PRELOAD, and returns its path."""
+    source, built = pathlib.Path(__file__).resolve().parent.parent / "bench" / f"{name}.c", room / f"{name}.so"
+    subprocess.run(["cc", "-shared", "-fPIC", "-O1", "-o", built, source, "-ldl"], check=True)
+    return built
+
+
 def connected(port):
     return socket.create_connection(("127.0.0.1", port), SECONDS)
 

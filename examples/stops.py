@@ -18,9 +18,9 @@ import subprocess
 import sys
 import tempfile
 
-from hostile import HERE, changed, rows_of
+from hostile import changed, rows_of
 from sessions import GOODS, INDEXES, LOWER, LOWER_TO_THE_SECOND, LOWER_TO_THE_THIRD, SECONDS, WORDS, Check, Session
-from sessions import imported, lines_of, received, recipe
+from sessions import imported, library_of, lines_of, received, recipe
 
 FAULT = b'{"fault":1}\n'
 STORE = b"fault: store\n"
@@ -249,8 +249,7 @@ def main(program):
     place = MEMORY if os.access(MEMORY, os.W_OK) else None
     with tempfile.TemporaryDirectory(dir=place) as room, concurrent.futures.ProcessPoolExecutor(os.cpu_count()) as side_by_side:
         check = Check(pathlib.Path(program).resolve(), pathlib.Path(room))
-        check.library = check.room / "stop.so"
-        subprocess.run(["cc", "-shared", "-fPIC", "-O1", "-o", check.library, HERE.parent / "bench/stop.c", "-ldl"], check=True)
+        check.library = library_of(check.room, "stop")
         sweeps = [Sweep(course, end) for course in courses(check) for end in (LOG, DATABASE)]
         followed = [it.course.name == "from no file" for it in sweeps]
         for passed, failed in side_by_side.map(Sweep.run, sweeps, followed):

@@ -19,7 +19,7 @@ import time
 from hostile import HERE
 from limits import MEMORY as IN_MEMORY
 from limits import bad, good, posted
-from sessions import ASK, GOODS, NEW, ONE, POST, SECONDS, Check, Session, compact, connected, free_port, lines_of, received, rest_of, split, written
+from sessions import ASK, GOODS, NEW, ONE, POST, SECONDS, Check, Session, compact, connected, free_port, library_of, lines_of, listens, received, rest_of, split, written
 
 # How the words end whose streams fail.
 READ, WRITE, MEMORY = (3, b"fault: read\n"), (3, b"fault: write\n"), (4, b"fault: memory\n")
@@ -75,8 +75,7 @@ class Streams(Check):
 
     def __init__(self, program, room):
         super().__init__(program, room)
-        self.library = room / "narrow.so"
-        subprocess.run(["cc", "-shared", "-fPIC", "-O1", "-o", self.library, HERE.parent / "bench/narrow.c", "-ldl"], check=True)
+        self.library = library_of(room, "narrow")
 
     def narrowed(self, limits):
         return os.environ | {"LD_PRELOAD": str(self.library)} | {name: str(it) for name, it in limits.items()}
@@ -92,8 +91,7 @@ class Streams(Check):
         port = free_port()
         words = [self.program, "serve", file, str(port), "1"]
         server = subprocess.Popen(words, cwd=self.room, env=self.narrowed(limits), stdout=subprocess.PIPE, stderr=subprocess.PIPE)
-        place = f"0100007F:{port:04X} 00000000:0000 0A"
-        while server.poll() is None and place not in pathlib.Path("/proc/net/tcp").read_text():
+        while server.poll() is None and not listens(port):
             time.sleep(0.001)
         text = answer_to(port, request)
         _, errors = server.communicate(timeout=SECONDS)

@@ -19,8 +19,8 @@ import sys
 import tempfile
 import time
 
-from hostile import HERE, changed, rows_of
-from sessions import SECONDS, Check
+from hostile import changed, rows_of
+from sessions import SECONDS, Check, library_of
 
 STORE = (3, b"", b"fault: store\n")
 
@@ -132,8 +132,7 @@ class Words(Check):
 
     def memory_may_be_refused(self):
         """Refuses one of the first allocations, by a library that is put before the program."""
-        library = self.room / "refuse.so"
-        subprocess.run(["cc", "-shared", "-fPIC", "-O1", "-o", library, HERE.parent / "bench/refuse.c", "-ldl"], check=True)
+        library = library_of(self.room, "refuse")
         for number in "1", "2", "5":
             room = os.environ | {"LD_PRELOAD": str(library), "REFUSE": number}
             ran = subprocess.run([self.program, "init", "memory.db"], env=room, capture_output=True, cwd=self.room, timeout=SECONDS)

@@ -1,5 +1,6 @@
 -- Which objects are commands, and what is wrong with the others.
 use Rattle.std.specs.Prelude.{ℕ, List, [], ◌∷◌, codes, Option, Some, None, option_map, option_and_then, Result, Err}
+use Rattle.std.specs.Option.{option_or}
 use Rattle.serde_json.specs.Data.{Data}
 use Rattle.serde_json.specs.Find.{get, as_str}
 use Rattle.plant_base.specs.declared.command.Command.{Command}
@@ -15,39 +16,19 @@ use Rattle.plant_shapes.specs.Words.{command_kind}
 use Rattle.plant_shapes.specs.Tables.{shared_members, own_of}
 use Rattle.plant_shapes.specs.Problems.{◌>>=◌, object, or_no_form}
 use Rattle.plant_shapes.specs.Fields.{fields_of, none_other}
-use Rattle.plant_text_commands.specs.Goods.{add_class_of, add_definition_of, receive_of, scrap_of, divide_of, split_of, merge_of, hold_of, unhold_of, recall_of, lift_of}
-use Rattle.plant_text_commands.specs.Plans.{add_recipe_of, approve_of, withdraw_of, import_orders_of, cancel_order_of, release_of}
-use Rattle.plant_text_commands.specs.Batches.{batch_of, settle_of, phase_done_of, close_batch_of, consume_of, produce_of}
+use Rattle.plant_text_commands.specs.Plain.{goods_of, blocks_of, plans_of, batches_of}
+use Rattle.plant_text_commands.specs.Listing.{merge_of, add_recipe_of, import_orders_of}
 
--- a command that is made of its values alone
-abbrev pub plain : Option Command → Result Command Problem
-plain made = object (or_no_form made)
+-- the command that the values make, where they alone make one
+abbrev pub plain_of : CommandKind → List Field → Option Command
+plain_of kind fs = option_or (option_or (option_or (goods_of kind fs) (blocks_of kind fs)) (plans_of kind fs)) (batches_of kind fs)
 
 -- the command that the values make, with its list
 abbrev pub body_of : CommandKind → List Field → Data → Result Command Problem
-body_of c.AddClass fs d = plain (add_class_of fs)
-body_of c.AddDefinition fs d = plain (add_definition_of fs)
-body_of c.Receive fs d = plain (receive_of fs)
-body_of c.Scrap fs d = plain (scrap_of fs)
-body_of c.Divide fs d = plain (divide_of fs)
-body_of c.Split fs d = plain (split_of fs)
 body_of c.Merge fs d = merge_of fs d
-body_of c.Hold fs d = plain (hold_of fs)
-body_of c.Unhold fs d = plain (unhold_of fs)
-body_of c.Recall fs d = plain (recall_of fs)
-body_of c.Lift fs d = plain (lift_of fs)
 body_of c.AddRecipe fs d = add_recipe_of fs d
-body_of c.Approve fs d = plain (approve_of fs)
-body_of c.Withdraw fs d = plain (withdraw_of fs)
 body_of c.ImportOrders fs d = import_orders_of fs d
-body_of c.CancelOrder fs d = plain (cancel_order_of fs)
-body_of c.Release fs d = plain (release_of fs)
-body_of c.Batch fs d = plain (batch_of fs)
-body_of c.Settle fs d = plain (settle_of fs)
-body_of c.PhaseDone fs d = plain (phase_done_of fs)
-body_of c.CloseBatch fs d = plain (close_batch_of fs)
-body_of c.Consume fs d = plain (consume_of fs)
-body_of c.Produce fs d = plain (produce_of fs)
+body_of kind fs d = object (or_no_form (plain_of kind fs))
 
 -- a text that may be left out, and is empty then
 abbrev pub text_or_empty : Field → Option (List ℕ)

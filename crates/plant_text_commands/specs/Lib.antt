@@ -1,5 +1,4 @@
-pub mod Batches
 pub mod Commands
-pub mod Goods
+pub mod Listing
 pub mod Lists
-pub mod Plans
+pub mod Plain

@@ -3,17 +3,11 @@ ghost use Rattle.std.specs.Prelude.{◌≡◌};
 ghost use Rattle.serde_json.specs.View.{view};
 ghost use Rattle.plant_base.specs.Values.{is_text, only};
 ghost use Rattle.plant_shapes.specs.Problems.{Tells, IsTold};
-ghost use Rattle.plant_text_commands.specs.Commands.{plain, body_of, text_or_empty, id_or_none, envelope_with};
+ghost use Rattle.plant_text_commands.specs.Commands.{plain_of, body_of, text_or_empty, id_or_none, envelope_with};
 ghost use Rattle.plant_text_commands.specs.Commands.{kind_at, command_by, command_of};
 
-use crate::batches::{batch_of, close_batch_of, consume_of, phase_done_of, produce_of, settle_of};
-use crate::goods::{
-    add_class_of, add_definition_of, divide_of, hold_of, lift_of, merge_of, recall_of, receive_of,
-    scrap_of, split_of, unhold_of,
-};
-use crate::plans::{
-    add_recipe_of, approve_of, cancel_order_of, import_orders_of, release_of, withdraw_of,
-};
+use crate::listing::{add_recipe_of, import_orders_of, merge_of};
+use crate::plain::{batches_of, blocks_of, goods_of, plans_of};
 use plant_base::{Command, Envelope, Id, Text};
 use plant_shapes::{
     CommandKind, Fault, Field, Flaw, Problem, command_kind, fields_of, made, none_other, object,
@@ -22,11 +16,14 @@ use plant_shapes::{
 use serde_json::Value;
 use std::alloc::Global;
 
-/// The command that was made of the values alone.
-fn plain(body: Option<Command>) -> Result<Command, Fault>
-    ensures { Tells result (plain body) }
+/// The command that the values make, where they alone make one.
+fn plain_of(kind: CommandKind, fields: &[Field]) -> Option<Command>
+    ensures { result ≡ plain_of kind fields.now }
 {
-    object(made(body))
+    goods_of(kind, fields)
+        .or(blocks_of(kind, fields))
+        .or(plans_of(kind, fields))
+        .or(batches_of(kind, fields))
 }
 
 /// The command that the values make, with its list.
@@ -39,29 +36,10 @@ fn body_of(
     ensures { Tells result (body_of kind fields.now (view value.now)) }
 {
     match kind {
-        CommandKind::AddClass => plain(add_class_of(fields)),
-        CommandKind::AddDefinition => plain(add_definition_of(fields)),
-        CommandKind::Receive => plain(receive_of(fields)),
-        CommandKind::Scrap => plain(scrap_of(fields)),
-        CommandKind::Divide => plain(divide_of(fields)),
-        CommandKind::Split => plain(split_of(fields)),
         CommandKind::Merge => merge_of(alloc, fields, value),
-        CommandKind::Hold => plain(hold_of(fields)),
-        CommandKind::Unhold => plain(unhold_of(fields)),
-        CommandKind::Recall => plain(recall_of(fields)),
-        CommandKind::Lift => plain(lift_of(fields)),
         CommandKind::AddRecipe => add_recipe_of(alloc, fields, value),
-        CommandKind::Approve => plain(approve_of(fields)),
-        CommandKind::Withdraw => plain(withdraw_of(fields)),
         CommandKind::ImportOrders => import_orders_of(alloc, fields, value),
-        CommandKind::CancelOrder => plain(cancel_order_of(fields)),
-        CommandKind::Release => plain(release_of(fields)),
-        CommandKind::Batch => plain(batch_of(fields)),
-        CommandKind::Settle => plain(settle_of(fields)),
-        CommandKind::PhaseDone => plain(phase_done_of(fields)),
-        CommandKind::CloseBatch => plain(close_batch_of(fields)),
-        CommandKind::Consume => plain(consume_of(fields)),
-        CommandKind::Produce => plain(produce_of(fields)),
+        _ => object(made(plain_of(kind, fields))),
     }
 }
 

@@ -1,10 +1,9 @@
 //! Commands as JSON (RFC 8259): which objects are commands, and with what values, or what is wrong with one.
 #![tactic(auto)]
 
-mod batches;
 mod commands;
-mod goods;
+mod listing;
 mod lists;
-mod plans;
+mod plain;
 
 pub use commands::command_of;

@@ -1,5 +1,5 @@
--- What the values of a command on recipes and orders make.
-use Rattle.std.specs.Prelude.{List, [], ◌∷◌, Option, Some, None, Result, Ok, Err}
+-- Commands that have a list.
+use Rattle.std.specs.Prelude.{List, [], ◌∷◌, Some, Result, Ok, Err}
 use Rattle.serde_json.specs.Data.{Data}
 use Rattle.plant_base.specs.declared.command.Command.{Command}
 use Rattle.plant_base.specs.declared.command.Command.TheVariants as body
@@ -11,30 +11,19 @@ use Rattle.plant_shapes.specs.declared.problems.Flaw.TheVariants as flaw
 use Rattle.plant_shapes.specs.declared.problems.Problem.{Problem}
 use Rattle.plant_shapes.specs.declared.problems.Problem.TheVariants as problem
 use Rattle.plant_shapes.specs.Problems.{◌>>=◌}
-use Rattle.plant_text_commands.specs.Lists.{items_at, line_of, line_row, order_of}
+use Rattle.plant_text_commands.specs.Lists.{items_at, part_of, line_of, line_row, order_of}
+
+abbrev pub merge_of : List Field → Data → Result Command Problem
+merge_of (field.Id new ∷ field.Text place ∷ field.List ∷ []) d =
+    items_at part_of (λ d. Some row.Part) m.Parts d >>= (λ parts. Ok (body.Merge (record { new = new; place = place; parts = parts })))
+merge_of _ d = Err (problem.Object flaw.NoForm)
 
 abbrev pub add_recipe_of : List Field → Data → Result Command Problem
 add_recipe_of (field.Id recipe ∷ field.Number version ∷ field.Id product ∷ field.Amount base ∷ field.Amount least ∷ field.Amount greatest ∷ field.Text title ∷ field.List ∷ []) d =
     items_at line_of line_row m.Lines d >>= (λ lines. Ok (body.AddRecipe (record { header = record { recipe = recipe; version = version; product = product; base = base; least = least; greatest = greatest; title = title }; lines = lines })))
 add_recipe_of _ d = Err (problem.Object flaw.NoForm)
 
-abbrev pub approve_of : List Field → Option Command
-approve_of (field.Id recipe ∷ field.Number version ∷ []) = Some (body.Approve (record { recipe = recipe; version = version }))
-approve_of _ = None
-
-abbrev pub withdraw_of : List Field → Option Command
-withdraw_of (field.Id recipe ∷ field.Number version ∷ []) = Some (body.Withdraw (record { recipe = recipe; version = version }))
-withdraw_of _ = None
-
 abbrev pub import_orders_of : List Field → Data → Result Command Problem
 import_orders_of (field.List ∷ []) d =
     items_at order_of (λ d. Some row.Order) m.Orders d >>= (λ orders. Ok (body.ImportOrders (record { orders = orders })))
 import_orders_of _ d = Err (problem.Object flaw.NoForm)
-
-abbrev pub cancel_order_of : List Field → Option Command
-cancel_order_of (field.Id order ∷ []) = Some (body.CancelOrder (record { order = order }))
-cancel_order_of _ = None
-
-abbrev pub release_of : List Field → Option Command
-release_of (field.Id order ∷ field.Id batch ∷ []) = Some (body.Release (record { order = order; batch = batch }))
-release_of _ = None

@@ -1,17 +1,27 @@
-//! What the values of a command on recipes and orders make: one function a word.
+//! Commands that have a list.
 ghost use Rattle.std.specs.Prelude.{◌≡◌};
 ghost use Rattle.serde_json.specs.View.{view};
 ghost use Rattle.plant_shapes.specs.Problems.{Tells};
-ghost use Rattle.plant_text_commands.specs.Plans.{add_recipe_of, approve_of, withdraw_of, import_orders_of, cancel_order_of, release_of};
+ghost use Rattle.plant_text_commands.specs.Listing.{merge_of, add_recipe_of, import_orders_of};
 
 use crate::lists::items_at;
-use plant_base::{
-    AddRecipe, Approve, CancelOrder, Command, Header, ImportOrders, Release, Withdraw,
-};
+use plant_base::{AddRecipe, Command, Header, ImportOrders, Merge};
 use plant_shapes::Field::{self, Amount, Id, List, Number, Text};
 use plant_shapes::{Fault, Flaw, Problem};
 use serde_json::Value;
 use std::alloc::Global;
+
+pub(crate) fn merge_of(alloc: Global, fields: &[Field], value: &Value) -> Result<Command, Fault>
+    ensures { Tells result (merge_of fields.now (view value.now)) }
+{
+    match fields {
+        &[Id(new), Text(place), List] => {
+            let parts = items_at(alloc, value)?;
+            Ok(Command::Merge(Merge { new, place, parts }))
+        }
+        _ => Err(Fault::Told(Problem::Object(Flaw::NoForm))),
+    }
+}
 
 pub(crate) fn add_recipe_of(
     alloc: Global,
@@ -49,24 +59,6 @@ pub(crate) fn add_recipe_of(
     }
 }
 
-pub(crate) fn approve_of(fields: &[Field]) -> Option<Command>
-    ensures { result ≡ approve_of fields.now }
-{
-    match fields {
-        &[Id(recipe), Number(version)] => Some(Command::Approve(Approve { recipe, version })),
-        _ => None,
-    }
-}
-
-pub(crate) fn withdraw_of(fields: &[Field]) -> Option<Command>
-    ensures { result ≡ withdraw_of fields.now }
-{
-    match fields {
-        &[Id(recipe), Number(version)] => Some(Command::Withdraw(Withdraw { recipe, version })),
-        _ => None,
-    }
-}
-
 pub(crate) fn import_orders_of(
     alloc: Global,
     fields: &[Field],
@@ -80,23 +72,5 @@ pub(crate) fn import_orders_of(
             Ok(Command::ImportOrders(ImportOrders { orders }))
         }
         _ => Err(Fault::Told(Problem::Object(Flaw::NoForm))),
-    }
-}
-
-pub(crate) fn cancel_order_of(fields: &[Field]) -> Option<Command>
-    ensures { result ≡ cancel_order_of fields.now }
-{
-    match fields {
-        &[Id(order)] => Some(Command::CancelOrder(CancelOrder { order })),
-        _ => None,
-    }
-}
-
-pub(crate) fn release_of(fields: &[Field]) -> Option<Command>
-    ensures { result ≡ release_of fields.now }
-{
-    match fields {
-        &[Id(order), Id(batch)] => Some(Command::Release(Release { order, batch })),
-        _ => None,
     }
 }

@@ -21,7 +21,13 @@ use std::alloc::{AllocError, Global};
 
 impl<'a> Worklists for ListsView<'a> {
     fn orders_in(&mut self, state: JobState, above: Option<Id>) -> Result<Page<Job>, AllocError> {
-        let rows = jobs_in(self.lists.alloc, &self.lists.jobs, state, above)?;
+        let rows = self
+            .lists
+            .jobs
+            .iter()
+            .copied()
+            .filter(|job| is_order_in(job, state, &above))
+            .collect(self.lists.alloc)?;
         Ok(first_page(rows))
     }
 
@@ -38,17 +44,35 @@ impl<'a> Worklists for ListsView<'a> {
     }
 
     fn lots_of(&mut self, def: Id, above: Option<Id>) -> Result<Page<Lot>, AllocError> {
-        let rows = lots_among(self.lists.alloc, &self.lists.lots, def, above)?;
+        let rows = self
+            .lists
+            .lots
+            .iter()
+            .copied()
+            .filter(|lot| is_lot_of(lot, def, &above))
+            .collect(self.lists.alloc)?;
         Ok(first_page(rows))
     }
 
     fn holds_on(&mut self, lot: Id, above: Option<Id>) -> Result<Page<Hold>, AllocError> {
-        let rows = holds_among(self.lists.alloc, &self.lists.holds, lot, above)?;
+        let rows = self
+            .lists
+            .holds
+            .iter()
+            .copied()
+            .filter(|hold| is_hold_on(hold, lot, &above))
+            .collect(self.lists.alloc)?;
         Ok(first_page(rows))
     }
 
     fn open_recalls(&mut self, above: Option<Id>) -> Result<Page<Recall>, AllocError> {
-        let rows = recalls_open(self.lists.alloc, &self.lists.recalls, above)?;
+        let rows = self
+            .lists
+            .recalls
+            .iter()
+            .copied()
+            .filter(|recall| is_open_recall(recall, &above))
+            .collect(self.lists.alloc)?;
         Ok(first_page(rows))
     }
 
@@ -57,7 +81,13 @@ impl<'a> Worklists for ListsView<'a> {
         class: Id,
         above: Option<Id>,
     ) -> Result<Page<Definition>, AllocError> {
-        let rows = definitions_among(self.lists.alloc, &self.lists.definitions, class, above)?;
+        let rows = self
+            .lists
+            .definitions
+            .iter()
+            .copied()
+            .filter(|definition| is_definition_in(definition, class, &above))
+            .collect(self.lists.alloc)?;
         Ok(first_page(rows))
     }
 
@@ -66,7 +96,13 @@ impl<'a> Worklists for ListsView<'a> {
         state: RecipeState,
         above: Option<RecipePlace>,
     ) -> Result<Page<Recipe>, AllocError> {
-        let rows = recipes_among(self.lists.alloc, &self.lists.recipes, state, above)?;
+        let rows = self
+            .lists
+            .recipes
+            .iter()
+            .copied()
+            .filter(|row| is_recipe_in(row, state, &above))
+            .collect(self.lists.alloc)?;
         Ok(first_page(rows))
     }
 
@@ -75,7 +111,13 @@ impl<'a> Worklists for ListsView<'a> {
         lot: Id,
         above: Option<MovementPlace>,
     ) -> Result<Page<Movement>, AllocError> {
-        let rows = ledger_among(self.lists.alloc, &self.lists.movements, lot, above)?;
+        let rows = self
+            .lists
+            .movements
+            .iter()
+            .copied()
+            .filter(|row| is_in_ledger(row, lot, &above))
+            .collect(self.lists.alloc)?;
         Ok(first_page(rows))
     }
 
@@ -88,6 +130,7 @@ impl<'a> Worklists for ListsView<'a> {
         Ok(first_page(rows))
     }
 
+    // The stock of each place is counted by all movements: of as many as a page has, and one more.
     fn sublots_after(&mut self, above: Option<Id>) -> Result<Page<Sublot>, AllocError> {
         let lists = self.lists;
         let places = places_beyond(lists.alloc, &lists.places, above)?;
@@ -161,21 +204,7 @@ fn is_in_ledger(row: &Movement, lot: Id, above: &Option<MovementPlace>) -> bool
     (row.lot == lot || makes_lot(row.kind, lot)) && is_movement_above(row, above)
 }
 
-// ---- all of them, in their order
-
-fn jobs_in(
-    alloc: Global,
-    jobs: &[Job],
-    state: JobState,
-    above: Option<Id>,
-) -> Result<Vec<Job>, AllocError>
-    ensures { IfOk result (λ v. v.items ≡ filter (is_order_in state above) jobs.now) }
-{
-    jobs.iter()
-        .copied()
-        .filter(|job| is_order_in(job, state, &above))
-        .collect(alloc)
-}
+// ---- what takes more than a filter, and what is of the lots that come after one
 
 fn batches_open(
     alloc: Global,
@@ -193,66 +222,6 @@ fn batches_open(
         .filter(|row| is_open_batch(row, &above))
         .collect(alloc)
 }
-
-fn lots_among(
-    alloc: Global,
-    lots: &[Lot],
-    def: Id,
-    above: Option<Id>,
-) -> Result<Vec<Lot>, AllocError>
-    ensures { IfOk result (λ v. v.items ≡ filter (is_lot_of def above) lots.now) }
-{
-    lots.iter()
-        .copied()
-        .filter(|lot| is_lot_of(lot, def, &above))
-        .collect(alloc)
-}
-
-fn holds_among(
-    alloc: Global,
-    holds: &[Hold],
-    lot: Id,
-    above: Option<Id>,
-) -> Result<Vec<Hold>, AllocError>
-    ensures { IfOk result (λ v. v.items ≡ filter (is_hold_on lot above) holds.now) }
-{
-    holds
-        .iter()
-        .copied()
-        .filter(|hold| is_hold_on(hold, lot, &above))
-        .collect(alloc)
-}
-
-fn recalls_open(
-    alloc: Global,
-    recalls: &[Recall],
-    above: Option<Id>,
-) -> Result<Vec<Recall>, AllocError>
-    ensures { IfOk result (λ v. v.items ≡ filter (is_open_recall above) recalls.now) }
-{
-    recalls
-        .iter()
-        .copied()
-        .filter(|recall| is_open_recall(recall, &above))
-        .collect(alloc)
-}
-
-fn definitions_among(
-    alloc: Global,
-    definitions: &[Definition],
-    class: Id,
-    above: Option<Id>,
-) -> Result<Vec<Definition>, AllocError>
-    ensures { IfOk result (λ v. v.items ≡ filter (is_definition_in class above) definitions.now) }
-{
-    definitions
-        .iter()
-        .copied()
-        .filter(|definition| is_definition_in(definition, class, &above))
-        .collect(alloc)
-}
-
-// ---- what is of the lots that come after one
 
 fn lots_beyond(alloc: Global, lots: &[Lot], above: Option<Id>) -> Result<Vec<Lot>, AllocError>
     ensures { IfOk result (λ v. v.items ≡ filter (λ l. is_above above l.id) lots.now) }
@@ -287,35 +256,5 @@ fn holds_beyond(alloc: Global, holds: &[Hold], above: Option<Id>) -> Result<Vec<
         .iter()
         .copied()
         .filter(|hold| is_above(&hold.lot, &above))
-        .collect(alloc)
-}
-
-fn recipes_among(
-    alloc: Global,
-    recipes: &[Recipe],
-    state: RecipeState,
-    above: Option<RecipePlace>,
-) -> Result<Vec<Recipe>, AllocError>
-    ensures { IfOk result (λ v. v.items ≡ filter (is_recipe_in state above) recipes.now) }
-{
-    recipes
-        .iter()
-        .copied()
-        .filter(|row| is_recipe_in(row, state, &above))
-        .collect(alloc)
-}
-
-fn ledger_among(
-    alloc: Global,
-    movements: &[Movement],
-    lot: Id,
-    above: Option<MovementPlace>,
-) -> Result<Vec<Movement>, AllocError>
-    ensures { IfOk result (λ v. v.items ≡ filter (is_in_ledger lot above) movements.now) }
-{
-    movements
-        .iter()
-        .copied()
-        .filter(|row| is_in_ledger(row, lot, &above))
         .collect(alloc)
 }

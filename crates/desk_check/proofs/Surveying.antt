@@ -20,7 +20,7 @@ use Rattle.plant_tables.specs.DeskForms.{desk_forms}
 use Rattle.plant_tables_stored.specs.declared.finding.FoundTables.{FoundTables}
 use Rattle.plant_tables_stored.specs.declared.finding.FoundTables.TheVariants as tables
 use Rattle.plant_check.specs.declared.rule.Rule.TheVariants as rule
-use Rattle.desk_check.specs.Surveys.{HoldsRows, IsHeldBy, IsHeldIn, IsReadAs, IsReadAt, IsSurveyOf, IsToldOf, first_told}
+use Rattle.desk_check.specs.Surveys.{HoldsRows, IsHeldBy, IsHeldIn, IsReadAt, IsSurveyOf, IsToldOf, first_told}
 use Rattle.desk_check.specs.declared.barred.DeskIndex.{DeskIndex}
 use Rattle.desk_check.specs.declared.survey.Held.{Held}
 use Rattle.desk_check.specs.declared.survey.Held.TheVariants as held
@@ -129,7 +129,3 @@ all_surveyed db h (Err f) held told = tt
 pub all_damaged : (db : Database) (h : Held) (r : Result Survey Fault) → IsHeldIn db h → IfOk r (IsToldOf h) → IfOk r (λ s. IfSome (first_told s) (IsDamaged db))
 all_damaged db h (Ok s) held told = first_damaged db s (surveyed db h s held told)
 all_damaged db h (Err f) held told = tt
-
-pub as_version : (db : Database) (v : ℤ) (schema : ℕ) (r : Result Held Fault) → v ≡ pos schema → IfOk r (IsReadAt db schema) → IfOk r (IsReadAs db v)
-as_version db v schema (Ok h) is read = (schema, is, read)
-as_version db v schema (Err f) is read = tt

@@ -41,9 +41,6 @@ texts-append t (v ∷ xs) ys =
 pub told_nothing : (t : Tally) (a : Option (List ℕ)) → AreToldAndCounted t [] a a t
 told_nothing t a = record { text = Appends-nil a; tally = refl }
 
-pub told_one : (t now : Tally) (v : Verdict) (a b : Option (List ℕ)) → now ≡ tally_with t v → Appends a b (line_text (t.lines + 1) v) → AreToldAndCounted t (v ∷ []) a b now
-told_one t now v a b e h = record { text = rw (append-nil (line_text (t.lines + 1) v)) h; tally = e }
-
 pub told_more : (t mid now : Tally) (xs ys : List Verdict) (a b c : Option (List ℕ)) → AreToldAndCounted t xs a b mid → AreToldAndCounted mid ys b c now → AreToldAndCounted t (xs ++ ys) a c now
 told_more t mid now xs ys a b c x y = record {
   text = rw (texts-append t xs ys, ← x.tally) (Appends-append a b c _ _ x.text y.text);

@@ -11,7 +11,6 @@ use Rattle.plant_tables_columns.specs.TableColumns.{only_meta}
 use Rattle.plant_tables_columns.proofs.RowLaws.{meta_reads}
 use Rattle.plant_tables_judged.specs.declared.desk_rows.DeskRows.{DeskRows}
 use Rattle.plant_check.specs.Broken.{first_broken, first_broken_of, broken_rows, unless}
-use Rattle.plant_check.specs.declared.rule.Rule.{Rule}
 use Rattle.plant_check.specs.declared.rule.Rule.TheVariants as rule
 use Rattle.plant_desk_store.specs.Testing.{IsUnfit, IsFit, IsUnfitBy, IsFitOf, IsUnfitOf}
 use Rattle.plant_desk_store.specs.declared.adopting.AdoptFault.{AdoptFault}
@@ -82,13 +81,3 @@ all_numbered x schema (Ok rows) fit = numbered x schema rows fit
 none_of : {X : Type 0} (o : Option X) → is_some o ≡ false → o ≡ None
 none_of None e = refl
 none_of (Some x) e = absurd (cc)
-
-nothing_read : (x : Loaded) → is_some (only_meta (contents_loaded x 0)) ≡ false → rows_from x ≡ None
-unfolding rows_from
-nothing_read x e = let none : only_meta (contents_loaded x 0) ≡ None = none_of (only_meta (contents_loaded x 0)) e in rw none refl
-
-pub broken_unfit : (x : Loaded) (schema : ℕ) (b : Rule) → first_broken x ≡ Some b → IsUnfit x schema
-broken_unfit x schema b broken r told fine tells = elim (is_some (only_meta (contents_loaded x 0))) as (λ there. is_some (only_meta (contents_loaded x 0)) ≡ there → ⊥) [
-  | true ↦ λ e. (let both : Some b ≡ None = sym broken ∙ same_broken x r e told ∙ fine in absurd (cc))
-  | false ↦ λ e. (let both : Some r ≡ None = sym told ∙ nothing_read x e in absurd (cc))
-] refl

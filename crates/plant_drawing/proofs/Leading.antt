@@ -10,9 +10,6 @@ pub record IsWay (edges : List PictureEdge) (first last : Node) (count : ℕ) : 
   pub begun : count ≡ 0 → last ≡ first
   pub gone : 0 < count → Reach (Leads edges) first last
 
-pub way_none : (edges : List PictureEdge) (first : Node) → IsWay edges first first 0
-way_none edges first = record { begun = λ _. refl; gone = λ h. absurd (omega arith) }
-
 reach_more : (edges : List PictureEdge) (first last next : Node) (count : ℕ) → IsWay edges first last count → Leads edges last next → Reach (Leads edges) first next
 reach_more edges first last next zero way leads = step (subst (λ n. Leads edges n next) (way.begun refl) leads)
 reach_more edges first last next (suc k) way leads = more (way.gone (omega arith)) leads

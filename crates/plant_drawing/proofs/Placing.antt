@@ -13,7 +13,6 @@ use Rattle.plant_trace.specs.Nodes.{node_cmp}
 use Rattle.plant_trace.specs.Ranks.{rank_of}
 use Rattle.plant_trace.specs.declared.node.Node.{Node}
 use Rattle.plant_trace.proofs.NodeLemmas.{node_exact}
-use Rattle.plant_trace.proofs.Sets.{none}
 use Rattle.plant_drawing.specs.declared.drawing.Place.{Place}
 use Rattle.plant_drawing.specs.Places.{place_cmp, ArePlaced}
 
@@ -78,14 +77,3 @@ module _ (layers : BTreeMap Node ℕ) (nodes : List Node) (taken taken' : BTreeS
     };
     noted = λ x q h. noted_at x q (is_eq (node_cmp v x)) (now_at x q (is_eq (node_cmp v x)) refl h);
   }
-
-pub placing_none : (layers : BTreeMap Node ℕ) (taken : BTreeSet Place) (places : BTreeMap Node Place) → maps.IsEmpty places → Placing layers [] taken places
-placing_none layers taken places e = record {
-  placed = record {
-    each = λ v h. absurd (none v h);
-    only = λ v p h. let gone = rw e at h in absurd cc;
-    layered = λ v p h. let gone = rw e at h in absurd cc;
-    apart = λ u v p h k. let gone = rw e at h in absurd cc;
-  };
-  noted = λ v p h. let gone = rw e at h in absurd cc;
-}

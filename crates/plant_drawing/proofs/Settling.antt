@@ -3,7 +3,7 @@ use Rattle.std.proofs.Common.{◌≡◌, ◌∙◌, ℕ, ◌+◌, Bool, true, fa
 use Rattle.std.specs.Prelude.{IsSome, unwrap_or}
 use Rattle.std.specs.List.{All, fold}
 use Rattle.std.specs.Ordering.{is_eq}
-use Rattle.std.specs.BTreeMap.{BTreeMap, get, IsEmpty, Updates}
+use Rattle.std.specs.BTreeMap.{BTreeMap, get, Updates}
 use Rattle.std.proofs.lemmas.List.Elements.{All-head, All-tail, All-weaker}
 use Rattle.std.proofs.lemmas.Map.Views.{tells_apart}
 use Rattle.plant_picture.specs.declared.model.PictureEdge.{PictureEdge}
@@ -69,10 +69,3 @@ module _ (edges : List PictureEdge) (old new : BTreeMap Node ℕ) (v : Node) (h 
       before = λ x had. All-weaker (λ e. IsLayered old e.from) (λ e. IsLayered new e.from) (λ e a. still_layered e.from a) (edges_to edges x)
           (before_at x (is_eq (node_cmp v x)) refl had);
     }
-
--- no node has its layer
-pub settled_none : (edges : List PictureEdge) (layers : BTreeMap Node ℕ) → IsEmpty layers → AreSettled edges layers
-settled_none edges layers e = record {
-  highest = λ v had. let gone = rw e at had in absurd cc;
-  before = λ v had. let gone = rw e at had in absurd cc;
-}

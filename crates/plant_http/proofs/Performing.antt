@@ -25,16 +25,6 @@ command_performs k s e (Err Store) a stands shut leaves law closed (same, either
 command_performs k s e (Err Memory) a stands shut leaves law live same told = inr (Memory, refl, told.parts, (same, live), (same, law live s same))
 command_performs k s e (Err Shut) a stands shut leaves law live none told = absurd none
 
-pub command_shut : (e : Envelope) (r : Result Reply DeskFault) (a : Answer) → r ≡ Err Shut → Executed r a → shown a ≡ shut_out (J.Command e)
-command_shut e (Ok r) a h told = absurd (cc)
-command_shut e (Err Store) a h told = absurd (cc)
-command_shut e (Err Memory) a h told = absurd (cc)
-command_shut e (Err Shut) a h told = told.parts
-
-pub command_loud : (r : Result Reply DeskFault) (a : Answer) → Executed r a → a.silent ≡ false
-command_loud (Ok r) a told = told.silence
-command_loud (Err f) a told = told.silence
-
 pub question_performs : (k : ℕ) (s : State) (q : Question) (form : Form) (silent : Bool) (r : Result DeskAnswer DeskFault) (out : Out) (stands : States) (shut : Bool) (leaves : States → Type 0)
     → LeavesItsState stands shut leaves → shut ≡ false → Asks k s stands q r → Asked form r out → Performs k s (J.Ask q form silent) out stands shut leaves
 question_performs k s q form silent (Ok a) out stands shut leaves law live (is, same) (inl e) = inl (e ∙ ap (answer_out form) is, (same, law live s same), live)
@@ -42,12 +32,6 @@ question_performs k s q form silent (Ok a) out stands shut leaves law live (is, 
 question_performs k s q form silent (Err Store) out stands shut leaves law live same e = inr (Store, refl, e, (same, live), inl (same, law live s same))
 question_performs k s q form silent (Err Memory) out stands shut leaves law live same e = inr (Memory, refl, e, (same, live), (same, law live s same))
 question_performs k s q form silent (Err Shut) out stands shut leaves law live none e = absurd none
-
-pub question_shut : (q : Question) (form : Form) (silent : Bool) (r : Result DeskAnswer DeskFault) (out : Out) → r ≡ Err Shut → Asked form r out → out ≡ shut_out (J.Ask q form silent)
-question_shut q form silent (Ok a) out h told = absurd (cc)
-question_shut q form silent (Err Store) out h told = absurd (cc)
-question_shut q form silent (Err Memory) out h told = absurd (cc)
-question_shut q form silent (Err Shut) out h told = told
 
 -- ---- want of memory in reading a body
 

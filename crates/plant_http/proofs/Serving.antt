@@ -1,21 +1,18 @@
 -- From a job that was read to the request of the whole input.
-use Rattle.std.proofs.Common.{◌≡◌, ℕ, ◌+◌, ◌≤◌, ◌==◌, Bool, true, false, List, [], ◌∷◌, length, Option, Some, None, Result, Ok, Err, refl, sym, ap, ◌∙◌, arith}
+use Rattle.std.proofs.Common.{◌≡◌, ℕ, ◌==◌, Bool, true, false, List, [], ◌∷◌, length, Option, Some, None, Result, Ok, Err, refl, sym, arith}
 use Rattle.std.specs.Prelude.{IfSome, nat_le, if◌then◌else◌}
 use Rattle.std.specs.Io.KnownBytes.{Keeps}
 use Rattle.std.proofs.lemmas.Bool.Decides.{nat_tests}
-use Rattle.std.proofs.lemmas.List.{length-append}
 use Rattle.plant_base.specs.State.{State}
 use Rattle.plant_desk.specs.Keeping.{States}
 use Rattle.plant_http_input.specs.Head.{end_of_head, end_where}
-use Rattle.plant_http_input.specs.Reading.{SpentAll}
 use Rattle.plant_http_input.specs.declared.reading.HeadEnd.{HeadEnd}
 use Rattle.plant_http_input.specs.declared.reading.HeadEnd.TheVariants as head
-use Rattle.plant_http_requests.specs.Jobs.{AsksFor, EndJob, most_reads}
+use Rattle.plant_http_requests.specs.Jobs.{AsksFor, EndJob}
 use Rattle.plant_http_requests.specs.declared.job.Job.{Job}
 use Rattle.plant_http.specs.Answers.{shut_out}
-use Rattle.plant_http.specs.Serving.{Serves, ServesShut, Answers, AnswersJobShut, end_of}
+use Rattle.plant_http.specs.Serving.{Serves, ServesShut, Answers, AnswersJobShut}
 use Rattle.plant_text.specs.Leaving.{LeavesAlone}
-use Rattle.plant_http_input.specs.declared.reading.InputFault.{InputFault}
 use Rattle.plant_http_input.specs.declared.reading.InputFault.TheVariants as input
 use Rattle.plant_http.specs.declared.serve.Served.{Served}
 use Rattle.plant_http.specs.declared.serve.Served.TheVariants.{Answered, Nothing}
@@ -51,11 +48,6 @@ none_is_empty whole (None, is, reads) = empty_end _ whole (nothing_at_end (end_o
 none_is_empty whole (Some j, is, reads) = absurd (cc)
 
 -- ---- all reads of a request
-
-pub many_bytes : (left left' : Option (List ℕ)) → SpentAll most_reads left left' → IfSome left (λ whole. 4096 ≤ length whole)
-many_bytes None left' h = tt
-many_bytes (Some whole) None (taken, is, many) = absurd is
-many_bytes (Some whole) (Some rest) (taken, is, many) = let size : length whole ≡ length taken + length rest = ap length is ∙ length-append taken rest in omega (arith, size, many)
 
 -- ---- a job that is there
 
@@ -105,17 +97,3 @@ serves_nothing k s (Some whole) text stands shut leaves alone live a = (none_is_
 pub shut_nothing : (start text : Option (List ℕ)) → IfSome start (λ whole. AsksFor whole None) → IfSome start (λ whole. ServesShut whole text text (Ok Nothing))
 shut_nothing None text a = tt
 shut_nothing (Some whole) text a = (none_is_empty whole a, known_kept text)
-
-pub serves_fault : (k : ℕ) (s : State) (start left text : Option (List ℕ)) (stands : States) (shut : Bool) (leaves : States → Type 0) (fault : InputFault)
-    → LeavesAlone stands leaves s → shut ≡ false → (fault ≡ input.Endless → SpentAll most_reads start left) → IfSome start (λ whole. Serves k s whole text text stands shut leaves (Err (end_of fault)))
-serves_fault k s None left text stands shut leaves fault alone live spent = tt
-serves_fault k s (Some whole) left text stands shut leaves input.Read alone live spent = record { state = alone; live = live; text = known_kept text }
-serves_fault k s (Some whole) left text stands shut leaves input.Endless alone live spent = (record { state = alone; live = live; text = known_kept text }, many_bytes (Some whole) left (spent refl))
-serves_fault k s (Some whole) left text stands shut leaves input.Memory alone live spent = record { state = alone; live = live; text = known_kept text }
-
-pub shut_fault : (start left text : Option (List ℕ)) (fault : InputFault) → (fault ≡ input.Endless → SpentAll most_reads start left)
-    → IfSome start (λ whole. ServesShut whole text text (Err (end_of fault)))
-shut_fault None left text fault spent = tt
-shut_fault (Some whole) left text input.Read spent = known_kept text
-shut_fault (Some whole) left text input.Endless spent = (known_kept text, many_bytes (Some whole) left (spent refl))
-shut_fault (Some whole) left text input.Memory spent = known_kept text

@@ -13,7 +13,7 @@ use Rattle.csv.specs.declared.error.ErrorKind.TheVariants as why
 use Rattle.csv.specs.declared.parser.State.TheVariants as st
 use Rattle.csv.specs.declared.parser.State.{State}
 use Rattle.csv.specs.declared.reader.Reader.{Reader}
-use Rattle.plant_orders.specs.Orders.{◌>>=◌, fault, id_of, due_of, order_of, read_fault, Gives, rows_of, file_of, is_header, FailsAs, orders_of}
+use Rattle.plant_orders.specs.Orders.{◌>>=◌, fault, id_of, due_of, order_of, Gives, rows_of, file_of, is_header, FailsAs, orders_of}
 use Rattle.plant_base.specs.Values.{greatest_amount, greatest_version, greatest_priority}
 use Rattle.plant_orders.specs.Numbers.{bounded}
 use Rattle.plant_orders.specs.ReaderStanding.{ReaderStands, GaveNext}
@@ -120,9 +120,6 @@ stopped rem old new (why.UnequalLengths pos expected len) flexible h = absurd (f
 stopped rem old new (why.Utf8 pos err) flexible h = absurd (false≢true h.0)
 stopped rem old new (why.Serialize text) flexible h = absurd h
 stopped rem old new (why.Deserialize pos err) flexible h = absurd h
-
-pub wants_memory : (k : ErrorKind) (e : CsvFault) → e ≡ read_fault k → stops_reader k ≡ true → e ≡ fault 0 kind.Memory
-wants_memory k e told stops = told ∙ ap (λ b. cond b (fault 0 kind.Memory) (fault 0 kind.Shape)) stops
 
 -- a file's fault for want of memory
 pub gives_memory : {Y : Type 0} (r read : Result Y CsvFault) → r ≡ Err (fault 0 kind.Memory) → Gives r read

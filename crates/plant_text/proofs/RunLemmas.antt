@@ -1,5 +1,5 @@
 -- Turns, one after the other.
-use Rattle.std.proofs.Common.{◌≡◌, ℕ, List, [], ◌∷◌, ◌++◌, Bool, true, false, ◌||◌, Option, Ok, Err, refl, sym, ap, ◌∙◌, subst, append_assoc}
+use Rattle.std.proofs.Common.{◌≡◌, ℕ, List, [], ◌∷◌, ◌++◌, Bool, true, false, ◌||◌, Option, Err, refl, sym, ap, ◌∙◌, subst, append_assoc}
 use Rattle.std.proofs.lemmas.List.{append-nil}
 use Rattle.std.proofs.Math.Bool.{or_assoc}
 use Rattle.plant_base.specs.State.{State}
@@ -44,13 +44,6 @@ told_more k s mid now xs ys a b c p q r x more =
     }
 
 -- ---- a turn as a run of one entry
-
-pub turn_told : (k : ℕ) (s : State) (e : Entry) (a b : Option (List ℕ)) (stands : States) (shut : Bool) (leaves : States → Type 0) (p r : Bool) → TurnEnds k s e a b stands shut leaves (Ok r) → AreAnswered k s (e ∷ []) a b stands p (p || r)
-turn_told k s e a b stands shut leaves p r h = record {
-  text = rw (append-nil (entry_text k s e)) h.0;
-  state = h.1;
-  refused = ap (λ v. p || v) (h.2 ∙ sym (or_false (is_refused k s e)));
-}
 
 pub turn_stops : (k : ℕ) (s : State) (e : Entry) (more : List Entry) (a b : Option (List ℕ)) (stands : States) (shut : Bool) (leaves : States → Type 0) (stop : Stop) → TurnEnds k s e a b stands shut leaves (Err stop) → Stopped k s (e ∷ more) a b stands shut leaves stop
 turn_stops k s e more a b stands shut leaves stop h = record { answered = []; next = e; more = more; cut = refl; between = a; told = Appends-nil a; stops = h }

@@ -12,8 +12,8 @@ use Rattle.table_forms.specs.declared.form.IndexText.{IndexText}
 use Rattle.table_forms.specs.Forms.{Form}
 use Rattle.table_forms.specs.Rows.{fits_columns}
 use Rattle.table_forms.specs.Texts.{IsPutText, IsTakeText}
-use Rattle.table_forms.specs.Moves.{AreApart, Moves, PutsRow, TakesRows, AreMakeTexts, MakesTables, SparesTables, LeavesFree, Founds, changed_at, taken_at}
-use Rattle.table_forms.specs.Indexes.{IndexForm, AreOf, AreIndexTexts, MakesIndexes, AddsIndexes}
+use Rattle.table_forms.specs.Moves.{Moves, PutsRow, TakesRows, AreMakeTexts, MakesTables, SparesTables, LeavesFree, Founds, changed_at, taken_at}
+use Rattle.table_forms.specs.Indexes.{IndexForm, AreIndexTexts, MakesIndexes, AddsIndexes}
 use Rattle.table_forms.specs.Standing.{Contents, AreFree}
 use Rattle.table_forms.proofs.Indexing.{founds_then}
 use Rattle.plant_base.specs.State.{newest_schema}
@@ -23,7 +23,7 @@ use Rattle.plant_tables.specs.DeskTables.{rows_changed, all_rows_changed}
 use Rattle.plant_tables.specs.Keyed.{IsOfSchema, AreOfSchema}
 use Rattle.plant_tables.specs.DeskForms.{desk_forms, edge_form, receipt_form, recall_form, mark_form, forms_of, added_forms}
 use Rattle.plant_tables.specs.DeskIndexes.{indexes_of, desk_indexes, fourth_indexes, HasIndexes}
-use Rattle.plant_tables.proofs.DeskTexts.{create_texts, all_made, before_fourth, apart_of, front_made, index_texts, all_indexed, indexed_of, indexes_of_fourth, front_indexed, behind_indexed}
+use Rattle.plant_tables.proofs.DeskTexts.{create_texts, all_made, AreAdded, before_fourth, apart_of, front_made, index_texts, all_indexed, indexed_of, indexes_of_fourth, front_indexed, behind_indexed}
 
 pub put_moved : {X : Type 0} (schema place : ℕ) (form : Form) (text : List ℕ) (row : Row) → slice_get (forms_of schema) place ≡ Some form → IsPutText text form → fits_columns form.columns row ≡ true
     → (old new : State) (r : Result X Fault) → OnOk r (PutsRow text row old new) → OnOk r (Moves (forms_of schema) old new (changed_at place form row))
@@ -70,15 +70,15 @@ pub no_mark_place : (schema : ℕ) → nat_le 4 schema ≡ false → slice_get (
 no_mark_place = before_fourth (λ forms. slice_get forms 16 ≡ None) refl refl refl
 
 -- what the texts made that were run for a schema
-pub added_founded : {X : Type 0} (schema : ℕ) (forms : List Form) (texts : List (List ℕ)) → added_forms schema ≡ forms → AreApart forms → AreMakeTexts texts forms
+pub added_founded : {X : Type 0} (schema known : ℕ) (texts : List (List ℕ)) → schema ≡ known → AreAdded known texts
     → (old new : State) (r : Result X Fault) → OnOk r (MakesTables texts old new) → OnOk r (Founds (added_forms schema) old new)
-added_founded schema forms texts is apart texts_make old new (Ok x) made = subst (λ fs. Founds fs old new) (sym is) (made forms apart texts_make)
-added_founded schema forms texts is apart texts_make old new (Err e) made = tt
+added_founded schema known texts is added old new (Ok x) made = subst (λ n. Founds (added_forms n) old new) (sym is) (made (added_forms known) added.0 added.1)
+added_founded schema known texts is added old new (Err e) made = tt
 
-pub added_spared : {X : Type 0} (schema : ℕ) (forms : List Form) (texts : List (List ℕ)) → added_forms schema ≡ forms → AreApart forms → AreMakeTexts texts forms
+pub added_spared : {X : Type 0} (schema known : ℕ) (texts : List (List ℕ)) → schema ≡ known → AreAdded known texts
     → (old new : State) (r : Result X Fault) → OnOk r (SparesTables texts old new) → OnOk r (LeavesFree (added_forms schema) old.now new.now)
-added_spared schema forms texts is apart texts_make old new (Ok x) spares = subst (λ fs. LeavesFree fs old.now new.now) (sym is) (spares forms apart texts_make)
-added_spared schema forms texts is apart texts_make old new (Err e) spares = tt
+added_spared schema known texts is added old new (Ok x) spares = subst (λ n. LeavesFree (added_forms n) old.now new.now) (sym is) (spares (added_forms known) added.0 added.1)
+added_spared schema known texts is added old new (Err e) spares = tt
 
 -- the texts in front of some are those in front of their texts
 texts_front : {X : Type 0} (text : X → List ℕ) (n : ℕ) (all front : List X) → front ≡ take n all → map text front ≡ take n (map text all)

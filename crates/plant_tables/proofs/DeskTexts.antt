@@ -1,206 +1,207 @@
 -- What the fixed texts say, by computing them.
-use Rattle.std.proofs.Common.{◌≡◌, refl, inl, inr, ℕ, zero, suc, nat_le, true, false, List, [], ◌∷◌, ◌++◌, take, drop, arith}
+use Rattle.std.proofs.Common.{◌≡◌, refl, ap, Bool, inl, inr, ℕ, ◌+◌, ◌==◌, zero, suc, nat_le, ltb, true, false, List, [], ◌∷◌, ◌++◌, None, Ok, codes, length, take, drop, slice_range, arith}
+use Rattle.sqlite.specs.Schema.{Schema}
+use Rattle.sqlite.specs.Source.TheVariants.{Values}
+use Rattle.sqlite.specs.Term.{Term, col}
+use Rattle.sqlite_ast.specs.declared.Conflict.TheVariants as conflict
+use Rattle.sqlite_ast.specs.declared.CreateIndex.{CreateIndex}
+use Rattle.sqlite_ast.specs.declared.CreateTable.{CreateTable}
+use Rattle.sqlite_ast.specs.declared.Rows.{Rows}
+use Rattle.sqlite_ast.specs.declared.Statement.{Statement}
+use Rattle.sqlite_ast.specs.declared.Statement.TheVariants as written
+use Rattle.sqlite_ast.specs.declared.Upsert.{Upsert}
+use Rattle.sqlite_schema.specs.declared.schema.Table.{Table}
+use Rattle.sqlite_schema.specs.Names.{same_name}
+use Rattle.sqlite_syntax.specs.declared.statement.Parsed.{Parsed}
+use Rattle.sqlite_rules.proofs.ListLemmas.{has_got}
+use Rattle.sqlite_resolve.specs.Compile.{first, is_reserved, new_rows, small, table_defined_by}
+use Rattle.sqlite_resolve.specs.Define as define
+use Rattle.sqlite_resolve.specs.Lowering.{Checked, max_budget}
+use Rattle.sqlite_resolve.specs.Write as write
+use Rattle.sqlite_resolve.specs.Write.{places, row}
+use Rattle.sqlite_value.specs.Keys.{first_key}
+use Rattle.table_forms.specs.Texts.{IsMakeText, IsInsertText, IsPutText, IsUpsertText, IsTakeText, are_above, parameters_from, terms_of, parse_or, rows_in, names_in, definition_in}
+use Rattle.table_forms.specs.Forms.{Form, table_of}
+use Rattle.table_forms.specs.Indexes.{IndexForm, IsIndexText, AreIndexTexts, AreOf, index_in, index_of}
+use Rattle.table_forms.proofs.Computed.{takes_one, takes_two, upserts_row, clause_of, names_of, all_places, are_excluded}
+use Rattle.table_forms.proofs.Excluded.{excluded_terms}
+use Rattle.plant_tables.specs.DeskForms.{desk_forms, first_forms, forms_of, later_forms, added_forms, meta_form, class_form, definition_form, recipe_form, recipe_line_form, job_form, batch_form, control_line_form, batch_event_form, lot_form, sublot_form, movement_form, hold_form, edge_form, receipt_form, recall_form, mark_form}
+use Rattle.std.specs.Bool.{⊤}
 use Rattle.std.proofs.lemmas.Bool.{cases_Bool}
 use Rattle.std.proofs.lemmas.Bool.Decides.{nat_tests}
-use Rattle.sqlite_value.specs.Keys.{first_key}
 use Rattle.sqlite_tied.specs.Compute.{everything}
-use Rattle.sqlite_rules.proofs.ListLemmas.{has_got}
-use Rattle.sqlite_resolve.specs.Compile.{first}
-use Rattle.table_forms.specs.Texts.{IsMakeText, IsPutText, IsUpsertText, IsTakeText, parse_or, rows_in, names_in, definition_in}
 use Rattle.table_forms.specs.Moves.{AreApart, AreMakeTexts}
-use Rattle.table_forms.specs.Forms.{Form}
-use Rattle.table_forms.specs.Indexes.{IndexForm, IsIndexText, AreIndexTexts, AreOf, index_in, are_named_apart}
-use Rattle.table_forms.proofs.Computed.{takes_one, takes_two, upserts_row}
-use Rattle.plant_tables.specs.DeskForms.{desk_forms, first_forms, forms_of, meta_form, class_form, definition_form, recipe_form, recipe_line_form, job_form, batch_form, control_line_form, batch_event_form, lot_form, sublot_form, movement_form, hold_form, edge_form, receipt_form, recall_form, mark_form}
-use Rattle.plant_tables.specs.DeskIndexes.{batch_event_by_batch, movement_by_lot, movement_by_batch, edge_by_end, mark_by_node, definition_by_class, job_by_state, batch_by_closed, lot_by_def, recall_by_state, recipe_by_state, movement_by_lot2, second_indexes, fourth_indexes, indexes_of, desk_indexes}
+use Rattle.plant_tables.specs.DeskIndexes.{second_indexes, fourth_indexes, indexes_of, desk_indexes}
 use Rattle.plant_tables.specs.declared.forms.TheConstants.{CREATE_META, PUT_META, CREATE_CLASS, PUT_CLASS, CREATE_DEFINITION, PUT_DEFINITION, CREATE_RECIPE, PUT_RECIPE, CREATE_RECIPE_LINE, PUT_RECIPE_LINE, CREATE_JOB, PUT_JOB, CREATE_BATCH, PUT_BATCH, CREATE_CONTROL_LINE, PUT_CONTROL_LINE, CREATE_BATCH_EVENT, PUT_BATCH_EVENT, CREATE_LOT, PUT_LOT, CREATE_SUBLOT, PUT_SUBLOT, CREATE_MOVEMENT, PUT_MOVEMENT, CREATE_HOLD, PUT_HOLD, CREATE_EDGE, PUT_EDGE, CREATE_RECEIPT, PUT_RECEIPT, CREATE_RECALL, PUT_RECALL, CREATE_MARK, PUT_MARK, TAKE_HOLD, TAKE_MARKS, CREATE_BATCH_EVENT_BY_BATCH, CREATE_MOVEMENT_BY_LOT, CREATE_MOVEMENT_BY_BATCH, CREATE_EDGE_BY_END, CREATE_MARK_BY_NODE, CREATE_DEFINITION_BY_CLASS, CREATE_JOB_BY_STATE, CREATE_BATCH_BY_CLOSED, CREATE_LOT_BY_DEF, CREATE_RECALL_BY_STATE, CREATE_RECIPE_BY_STATE, CREATE_MOVEMENT_BY_LOT2}
 
-makes_meta : IsMakeText CREATE_META.now meta_form
+-- ---- what is computed of a text, and what it comes to
+
+-- what the parser reads in a text
+abbrev read_in : List ℕ → Parsed
+read_in text = parse_or (first text)
+
+-- a text that makes a table
+module _ (text : List ℕ) (form : Form) where
+  abbrev table_in : CreateTable
+  table_in = definition_in (read_in text).statement
+
+  abbrev MakesTable : Type 0
+  MakesTable = ◌≡◌ {A = Checked Parsed × Statement × List ℕ × Bool × Bool × Checked Table × List ℕ × Checked Table × Bool}
+      (first text, (read_in text).statement, table_in.name, table_in.if_missing, table_in.resolves, define.table (read_in text).formats table_in, slice_range text (read_in text).start (read_in text).end, table_defined_by text, is_reserved form.name)
+      (Ok (read_in text), written.CreateTable table_in, form.name, false, false, Ok (table_of form 0), text, Ok (table_of form 0), false)
+
+  makes : MakesTable → IsMakeText text form
+  makes is = record { parsed = read_in text; reads = ap (λ x. x.0) is; def = table_in; statement = ap (λ x. x.1) is; name = ap (λ x. x.2) is; unconditional = ap (λ x. x.3) is; plain = ap (λ x. x.4) is; defines = ap (λ x. x.5) is; whole = ap (λ x. x.6) is; table_is = ap (λ x. x.7) is; own_name = ap (λ x. x.8) is }
+
+-- a text that makes an index
+module _ (text : List ℕ) (index : IndexForm) where
+  abbrev written_in : CreateIndex
+  written_in = index_in (read_in text).statement
+
+  abbrev MakesIndex : Type 0
+  MakesIndex = (◌≡◌ {A = Checked Parsed × List (List ℕ) × List ℕ × Statement × Bool × List ℕ × Bool}
+      (first text, (read_in text).formats, slice_range text (read_in text).start (read_in text).end, (read_in text).statement, written_in.if_missing, written_in.table, is_reserved index.table.name)
+      (Ok (read_in text), [], text, written.CreateIndex written_in, false, index.table.name, false)) × ((tree : ℕ) → define.index (table_of index.table tree) written_in ≡ Ok (index_of index tree 0))
+
+  makes_index : MakesIndex → IsIndexText text index
+  makes_index is = record { parsed = read_in text; reads = ap (λ x. x.0) is.0; untimed = ap (λ x. x.1) is.0; whole = ap (λ x. x.2) is.0; def = written_in; statement = ap (λ x. x.3) is.0; unconditional = ap (λ x. x.4) is.0; table_is = ap (λ x. x.5) is.0; own_name = ap (λ x. x.6) is.0; defines = is.1 }
+
+-- a text that adds a row, with these clauses of ON CONFLICT
+module _ (text : List ℕ) (form : Form) (clauses : List Upsert) where
+  abbrev columns_in : List (List ℕ)
+  columns_in = names_in (read_in text).statement
+
+  abbrev values_in : Rows
+  values_in = rows_in (read_in text).statement
+
+  abbrev ReadsInsert : Type 0
+  ReadsInsert = ◌≡◌ {A = Checked Parsed × Statement × List (List ℕ) × Bool}
+      (first text, (read_in text).statement, (read_in text).formats, are_above form.keys)
+      (Ok (read_in text), written.Insert conflict.Abort form.name columns_in values_in clauses [], [], true)
+
+  abbrev MakesRow : Type 0
+  MakesRow = (schema : Schema) (tree : ℕ) → new_rows schema (table_of form tree) (small (read_in text).names) columns_in values_in ≡ Ok (Values (terms_of form) (length form.columns + 1))
+
+  abbrev inserts : ReadsInsert → MakesRow → IsInsertText text form clauses
+  inserts is made = record { parsed = read_in text; reads = ap (λ x. x.0) is; columns = columns_in; rows = values_in; statement = ap (λ x. x.1) is; untimed = ap (λ x. x.2) is; made = made; above = ap (λ x. x.3) is }
+
+-- a text that adds a row, or updates each column of the one that has its key
+module _ (text : List ℕ) (form : Form) (key : List ℕ) where
+  upserts : ReadsInsert text form (clause_of form key ∷ []) → MakesRow text form (clause_of form key ∷ [])
+      → ◌≡◌ {A = ℕ × Bool × Bool × Bool}
+      (small (read_in text).names, same_name form.name (codes "excluded"), ltb (length (names_of form)) max_budget, length (clause_of form key).sets == 0)
+      (length form.columns, false, true, false)
+      → ((tree : ℕ) → ◌≡◌ {A = Checked (List ℕ) × Bool × Checked (List ℕ) × Checked (List Term)}
+      (places (table_of form tree) (clause_of form key).target, are_excluded (table_of form tree) (length form.columns) (length form.columns + 1) (names_of form), write.places_from (table_of form tree) [] (names_of form), row (table_of form tree) None (all_places form) (col 1 0 ∷ []) (excluded_terms (length form.columns + 1 + 1) (names_of form)))
+      (Ok key, true, Ok (all_places form), Ok (col 1 0 ∷ col 1 0 ∷ parameters_from (length form.columns + 2) form.columns))) → IsUpsertText text form
+  upserts is made counted updates =
+      upserts_row text form key (inserts text form (clause_of form key ∷ []) is made) (ap (λ x. x.0) counted) (record {
+        aims = λ tree. ap (λ x. x.0) (updates tree);
+        apart = ap (λ x. x.1) counted;
+        few = ap (λ x. x.2) counted;
+        some = ap (λ x. x.3) counted;
+        found = λ tree. ap (λ x. x.1) (updates tree);
+        set = λ tree. ap (λ x. x.2) (updates tree);
+        made = λ tree. ap (λ x. x.3) (updates tree);
+      })
+
+-- ---- the texts that make the tables
+
+-- so of each text, with what stands at its place
+abbrev AllTexts : {X : Type 0} → (List ℕ → X → Type 0) → List (List ℕ) → List X → Type 0
+AllTexts so [] [] = ⊤
+AllTexts so [] (x ∷ xs) = ⊥
+AllTexts so (text ∷ texts) [] = ⊥
+AllTexts so (text ∷ texts) (x ∷ xs) = so text x × AllTexts so texts xs
+
+each_makes : (texts : List (List ℕ)) (forms : List Form) → AllTexts MakesTable texts forms → AreMakeTexts texts forms
+each_makes [] [] all = tt
+each_makes [] (form ∷ forms) all = all
+each_makes (text ∷ texts) [] all = all
+each_makes (text ∷ texts) (form ∷ forms) all = (makes text form all.0, each_makes texts forms all.1)
+
+abbrev pub create_texts : List (List ℕ)
+create_texts = CREATE_META.now ∷ CREATE_CLASS.now ∷ CREATE_DEFINITION.now ∷ CREATE_RECIPE.now ∷ CREATE_RECIPE_LINE.now ∷ CREATE_JOB.now ∷ CREATE_BATCH.now ∷ CREATE_CONTROL_LINE.now ∷ CREATE_BATCH_EVENT.now ∷ CREATE_LOT.now ∷ CREATE_SUBLOT.now ∷ CREATE_MOVEMENT.now ∷ CREATE_HOLD.now ∷ CREATE_EDGE.now ∷ CREATE_RECEIPT.now ∷ CREATE_RECALL.now ∷ CREATE_MARK.now ∷ []
+
+pub all_made : AreMakeTexts create_texts desk_forms
 unfolding everything
-makes_meta = record { parsed = parse_or (first CREATE_META.now); reads = refl; def = definition_in (parse_or (first CREATE_META.now)).statement; statement = refl; name = refl; unconditional = refl; plain = refl; defines = refl; whole = refl; table_is = refl; own_name = refl }
+all_made = each_makes create_texts desk_forms (refl, (refl, (refl, (refl, (refl, (refl, (refl, (refl, (refl, (refl, (refl, (refl, (refl, (refl, (refl, (refl, (refl, tt)))))))))))))))))
+
+-- ---- those that put a row, or take rows away
 
 pub puts_meta : IsPutText PUT_META.now meta_form
 unfolding everything
-puts_meta =
-    inr (upserts_row PUT_META.now meta_form (1 ∷ [])
-    (record { parsed = parse_or (first PUT_META.now); reads = refl; columns = names_in (parse_or (first PUT_META.now)).statement; rows = rows_in (parse_or (first PUT_META.now)).statement; statement = refl; untimed = refl; made = λ schema tree. refl; above = refl })
-    refl (record { aims = λ tree. refl; apart = refl; few = refl; some = refl; found = λ tree. refl; set = λ tree. refl; made = λ tree. refl }))
-
-makes_class : IsMakeText CREATE_CLASS.now class_form
-unfolding everything
-makes_class = record { parsed = parse_or (first CREATE_CLASS.now); reads = refl; def = definition_in (parse_or (first CREATE_CLASS.now)).statement; statement = refl; name = refl; unconditional = refl; plain = refl; defines = refl; whole = refl; table_is = refl; own_name = refl }
+puts_meta = inr (upserts PUT_META.now meta_form (1 ∷ []) refl (λ schema tree. refl) refl (λ tree. refl))
 
 pub puts_class : IsPutText PUT_CLASS.now class_form
 unfolding everything
-puts_class =
-    inr (upserts_row PUT_CLASS.now class_form (1 ∷ [])
-    (record { parsed = parse_or (first PUT_CLASS.now); reads = refl; columns = names_in (parse_or (first PUT_CLASS.now)).statement; rows = rows_in (parse_or (first PUT_CLASS.now)).statement; statement = refl; untimed = refl; made = λ schema tree. refl; above = refl })
-    refl (record { aims = λ tree. refl; apart = refl; few = refl; some = refl; found = λ tree. refl; set = λ tree. refl; made = λ tree. refl }))
-
-makes_definition : IsMakeText CREATE_DEFINITION.now definition_form
-unfolding everything
-makes_definition = record { parsed = parse_or (first CREATE_DEFINITION.now); reads = refl; def = definition_in (parse_or (first CREATE_DEFINITION.now)).statement; statement = refl; name = refl; unconditional = refl; plain = refl; defines = refl; whole = refl; table_is = refl; own_name = refl }
+puts_class = inr (upserts PUT_CLASS.now class_form (1 ∷ []) refl (λ schema tree. refl) refl (λ tree. refl))
 
 pub puts_definition : IsPutText PUT_DEFINITION.now definition_form
 unfolding everything
-puts_definition =
-    inr (upserts_row PUT_DEFINITION.now definition_form (1 ∷ [])
-    (record { parsed = parse_or (first PUT_DEFINITION.now); reads = refl; columns = names_in (parse_or (first PUT_DEFINITION.now)).statement; rows = rows_in (parse_or (first PUT_DEFINITION.now)).statement; statement = refl; untimed = refl; made = λ schema tree. refl; above = refl })
-    refl (record { aims = λ tree. refl; apart = refl; few = refl; some = refl; found = λ tree. refl; set = λ tree. refl; made = λ tree. refl }))
-
-makes_recipe : IsMakeText CREATE_RECIPE.now recipe_form
-unfolding everything
-makes_recipe = record { parsed = parse_or (first CREATE_RECIPE.now); reads = refl; def = definition_in (parse_or (first CREATE_RECIPE.now)).statement; statement = refl; name = refl; unconditional = refl; plain = refl; defines = refl; whole = refl; table_is = refl; own_name = refl }
+puts_definition = inr (upserts PUT_DEFINITION.now definition_form (1 ∷ []) refl (λ schema tree. refl) refl (λ tree. refl))
 
 pub puts_recipe : IsPutText PUT_RECIPE.now recipe_form
 unfolding everything
-puts_recipe =
-    inr (upserts_row PUT_RECIPE.now recipe_form (1 ∷ 2 ∷ [])
-    (record { parsed = parse_or (first PUT_RECIPE.now); reads = refl; columns = names_in (parse_or (first PUT_RECIPE.now)).statement; rows = rows_in (parse_or (first PUT_RECIPE.now)).statement; statement = refl; untimed = refl; made = λ schema tree. refl; above = refl })
-    refl (record { aims = λ tree. refl; apart = refl; few = refl; some = refl; found = λ tree. refl; set = λ tree. refl; made = λ tree. refl }))
-
-makes_recipe_line : IsMakeText CREATE_RECIPE_LINE.now recipe_line_form
-unfolding everything
-makes_recipe_line = record { parsed = parse_or (first CREATE_RECIPE_LINE.now); reads = refl; def = definition_in (parse_or (first CREATE_RECIPE_LINE.now)).statement; statement = refl; name = refl; unconditional = refl; plain = refl; defines = refl; whole = refl; table_is = refl; own_name = refl }
+puts_recipe = inr (upserts PUT_RECIPE.now recipe_form (1 ∷ 2 ∷ []) refl (λ schema tree. refl) refl (λ tree. refl))
 
 pub puts_recipe_line : IsPutText PUT_RECIPE_LINE.now recipe_line_form
 unfolding everything
-puts_recipe_line =
-    inr (upserts_row PUT_RECIPE_LINE.now recipe_line_form (1 ∷ 2 ∷ 3 ∷ [])
-    (record { parsed = parse_or (first PUT_RECIPE_LINE.now); reads = refl; columns = names_in (parse_or (first PUT_RECIPE_LINE.now)).statement; rows = rows_in (parse_or (first PUT_RECIPE_LINE.now)).statement; statement = refl; untimed = refl; made = λ schema tree. refl; above = refl })
-    refl (record { aims = λ tree. refl; apart = refl; few = refl; some = refl; found = λ tree. refl; set = λ tree. refl; made = λ tree. refl }))
-
-makes_job : IsMakeText CREATE_JOB.now job_form
-unfolding everything
-makes_job = record { parsed = parse_or (first CREATE_JOB.now); reads = refl; def = definition_in (parse_or (first CREATE_JOB.now)).statement; statement = refl; name = refl; unconditional = refl; plain = refl; defines = refl; whole = refl; table_is = refl; own_name = refl }
+puts_recipe_line = inr (upserts PUT_RECIPE_LINE.now recipe_line_form (1 ∷ 2 ∷ 3 ∷ []) refl (λ schema tree. refl) refl (λ tree. refl))
 
 pub puts_job : IsPutText PUT_JOB.now job_form
 unfolding everything
-puts_job =
-    inr (upserts_row PUT_JOB.now job_form (1 ∷ [])
-    (record { parsed = parse_or (first PUT_JOB.now); reads = refl; columns = names_in (parse_or (first PUT_JOB.now)).statement; rows = rows_in (parse_or (first PUT_JOB.now)).statement; statement = refl; untimed = refl; made = λ schema tree. refl; above = refl })
-    refl (record { aims = λ tree. refl; apart = refl; few = refl; some = refl; found = λ tree. refl; set = λ tree. refl; made = λ tree. refl }))
-
-makes_batch : IsMakeText CREATE_BATCH.now batch_form
-unfolding everything
-makes_batch = record { parsed = parse_or (first CREATE_BATCH.now); reads = refl; def = definition_in (parse_or (first CREATE_BATCH.now)).statement; statement = refl; name = refl; unconditional = refl; plain = refl; defines = refl; whole = refl; table_is = refl; own_name = refl }
+puts_job = inr (upserts PUT_JOB.now job_form (1 ∷ []) refl (λ schema tree. refl) refl (λ tree. refl))
 
 pub puts_batch : IsPutText PUT_BATCH.now batch_form
 unfolding everything
-puts_batch =
-    inr (upserts_row PUT_BATCH.now batch_form (1 ∷ [])
-    (record { parsed = parse_or (first PUT_BATCH.now); reads = refl; columns = names_in (parse_or (first PUT_BATCH.now)).statement; rows = rows_in (parse_or (first PUT_BATCH.now)).statement; statement = refl; untimed = refl; made = λ schema tree. refl; above = refl })
-    refl (record { aims = λ tree. refl; apart = refl; few = refl; some = refl; found = λ tree. refl; set = λ tree. refl; made = λ tree. refl }))
-
-makes_control_line : IsMakeText CREATE_CONTROL_LINE.now control_line_form
-unfolding everything
-makes_control_line = record { parsed = parse_or (first CREATE_CONTROL_LINE.now); reads = refl; def = definition_in (parse_or (first CREATE_CONTROL_LINE.now)).statement; statement = refl; name = refl; unconditional = refl; plain = refl; defines = refl; whole = refl; table_is = refl; own_name = refl }
+puts_batch = inr (upserts PUT_BATCH.now batch_form (1 ∷ []) refl (λ schema tree. refl) refl (λ tree. refl))
 
 pub puts_control_line : IsPutText PUT_CONTROL_LINE.now control_line_form
 unfolding everything
-puts_control_line =
-    inr (upserts_row PUT_CONTROL_LINE.now control_line_form (1 ∷ 2 ∷ [])
-    (record { parsed = parse_or (first PUT_CONTROL_LINE.now); reads = refl; columns = names_in (parse_or (first PUT_CONTROL_LINE.now)).statement; rows = rows_in (parse_or (first PUT_CONTROL_LINE.now)).statement; statement = refl; untimed = refl; made = λ schema tree. refl; above = refl })
-    refl (record { aims = λ tree. refl; apart = refl; few = refl; some = refl; found = λ tree. refl; set = λ tree. refl; made = λ tree. refl }))
-
-makes_batch_event : IsMakeText CREATE_BATCH_EVENT.now batch_event_form
-unfolding everything
-makes_batch_event = record { parsed = parse_or (first CREATE_BATCH_EVENT.now); reads = refl; def = definition_in (parse_or (first CREATE_BATCH_EVENT.now)).statement; statement = refl; name = refl; unconditional = refl; plain = refl; defines = refl; whole = refl; table_is = refl; own_name = refl }
+puts_control_line = inr (upserts PUT_CONTROL_LINE.now control_line_form (1 ∷ 2 ∷ []) refl (λ schema tree. refl) refl (λ tree. refl))
 
 pub puts_batch_event : IsPutText PUT_BATCH_EVENT.now batch_event_form
 unfolding everything
-puts_batch_event = inl (record { parsed = parse_or (first PUT_BATCH_EVENT.now); reads = refl; columns = names_in (parse_or (first PUT_BATCH_EVENT.now)).statement; rows = rows_in (parse_or (first PUT_BATCH_EVENT.now)).statement; statement = refl; untimed = refl; made = λ schema tree. refl; above = refl })
-
-makes_lot : IsMakeText CREATE_LOT.now lot_form
-unfolding everything
-makes_lot = record { parsed = parse_or (first CREATE_LOT.now); reads = refl; def = definition_in (parse_or (first CREATE_LOT.now)).statement; statement = refl; name = refl; unconditional = refl; plain = refl; defines = refl; whole = refl; table_is = refl; own_name = refl }
+puts_batch_event = inl (inserts PUT_BATCH_EVENT.now batch_event_form [] refl (λ schema tree. refl))
 
 pub puts_lot : IsPutText PUT_LOT.now lot_form
 unfolding everything
-puts_lot =
-    inr (upserts_row PUT_LOT.now lot_form (1 ∷ [])
-    (record { parsed = parse_or (first PUT_LOT.now); reads = refl; columns = names_in (parse_or (first PUT_LOT.now)).statement; rows = rows_in (parse_or (first PUT_LOT.now)).statement; statement = refl; untimed = refl; made = λ schema tree. refl; above = refl })
-    refl (record { aims = λ tree. refl; apart = refl; few = refl; some = refl; found = λ tree. refl; set = λ tree. refl; made = λ tree. refl }))
-
-makes_sublot : IsMakeText CREATE_SUBLOT.now sublot_form
-unfolding everything
-makes_sublot = record { parsed = parse_or (first CREATE_SUBLOT.now); reads = refl; def = definition_in (parse_or (first CREATE_SUBLOT.now)).statement; statement = refl; name = refl; unconditional = refl; plain = refl; defines = refl; whole = refl; table_is = refl; own_name = refl }
+puts_lot = inr (upserts PUT_LOT.now lot_form (1 ∷ []) refl (λ schema tree. refl) refl (λ tree. refl))
 
 pub upserts_sublot : IsUpsertText PUT_SUBLOT.now sublot_form
 unfolding everything
-upserts_sublot =
-    upserts_row PUT_SUBLOT.now sublot_form (1 ∷ 2 ∷ [])
-    (record { parsed = parse_or (first PUT_SUBLOT.now); reads = refl; columns = names_in (parse_or (first PUT_SUBLOT.now)).statement; rows = rows_in (parse_or (first PUT_SUBLOT.now)).statement; statement = refl; untimed = refl; made = λ schema tree. refl; above = refl })
-    refl (record { aims = λ tree. refl; apart = refl; few = refl; some = refl; found = λ tree. refl; set = λ tree. refl; made = λ tree. refl })
+upserts_sublot = upserts PUT_SUBLOT.now sublot_form (1 ∷ 2 ∷ []) refl (λ schema tree. refl) refl (λ tree. refl)
 
 pub puts_sublot : IsPutText PUT_SUBLOT.now sublot_form
 puts_sublot = inr upserts_sublot
 
-makes_movement : IsMakeText CREATE_MOVEMENT.now movement_form
-unfolding everything
-makes_movement = record { parsed = parse_or (first CREATE_MOVEMENT.now); reads = refl; def = definition_in (parse_or (first CREATE_MOVEMENT.now)).statement; statement = refl; name = refl; unconditional = refl; plain = refl; defines = refl; whole = refl; table_is = refl; own_name = refl }
-
 pub puts_movement : IsPutText PUT_MOVEMENT.now movement_form
 unfolding everything
-puts_movement = inl (record { parsed = parse_or (first PUT_MOVEMENT.now); reads = refl; columns = names_in (parse_or (first PUT_MOVEMENT.now)).statement; rows = rows_in (parse_or (first PUT_MOVEMENT.now)).statement; statement = refl; untimed = refl; made = λ schema tree. refl; above = refl })
-
-makes_hold : IsMakeText CREATE_HOLD.now hold_form
-unfolding everything
-makes_hold = record { parsed = parse_or (first CREATE_HOLD.now); reads = refl; def = definition_in (parse_or (first CREATE_HOLD.now)).statement; statement = refl; name = refl; unconditional = refl; plain = refl; defines = refl; whole = refl; table_is = refl; own_name = refl }
+puts_movement = inl (inserts PUT_MOVEMENT.now movement_form [] refl (λ schema tree. refl))
 
 pub puts_hold : IsPutText PUT_HOLD.now hold_form
 unfolding everything
-puts_hold =
-    inr (upserts_row PUT_HOLD.now hold_form (1 ∷ 2 ∷ [])
-    (record { parsed = parse_or (first PUT_HOLD.now); reads = refl; columns = names_in (parse_or (first PUT_HOLD.now)).statement; rows = rows_in (parse_or (first PUT_HOLD.now)).statement; statement = refl; untimed = refl; made = λ schema tree. refl; above = refl })
-    refl (record { aims = λ tree. refl; apart = refl; few = refl; some = refl; found = λ tree. refl; set = λ tree. refl; made = λ tree. refl }))
-
-makes_edge : IsMakeText CREATE_EDGE.now edge_form
-unfolding everything
-makes_edge = record { parsed = parse_or (first CREATE_EDGE.now); reads = refl; def = definition_in (parse_or (first CREATE_EDGE.now)).statement; statement = refl; name = refl; unconditional = refl; plain = refl; defines = refl; whole = refl; table_is = refl; own_name = refl }
+puts_hold = inr (upserts PUT_HOLD.now hold_form (1 ∷ 2 ∷ []) refl (λ schema tree. refl) refl (λ tree. refl))
 
 pub upserts_edge : IsUpsertText PUT_EDGE.now edge_form
 unfolding everything
-upserts_edge =
-    upserts_row PUT_EDGE.now edge_form (1 ∷ 2 ∷ 3 ∷ [])
-    (record { parsed = parse_or (first PUT_EDGE.now); reads = refl; columns = names_in (parse_or (first PUT_EDGE.now)).statement; rows = rows_in (parse_or (first PUT_EDGE.now)).statement; statement = refl; untimed = refl; made = λ schema tree. refl; above = refl })
-    refl (record { aims = λ tree. refl; apart = refl; few = refl; some = refl; found = λ tree. refl; set = λ tree. refl; made = λ tree. refl })
+upserts_edge = upserts PUT_EDGE.now edge_form (1 ∷ 2 ∷ 3 ∷ []) refl (λ schema tree. refl) refl (λ tree. refl)
 
 pub puts_edge : IsPutText PUT_EDGE.now edge_form
 puts_edge = inr upserts_edge
 
-makes_receipt : IsMakeText CREATE_RECEIPT.now receipt_form
-unfolding everything
-makes_receipt = record { parsed = parse_or (first CREATE_RECEIPT.now); reads = refl; def = definition_in (parse_or (first CREATE_RECEIPT.now)).statement; statement = refl; name = refl; unconditional = refl; plain = refl; defines = refl; whole = refl; table_is = refl; own_name = refl }
-
 pub puts_receipt : IsPutText PUT_RECEIPT.now receipt_form
 unfolding everything
-puts_receipt =
-    inr (upserts_row PUT_RECEIPT.now receipt_form (1 ∷ [])
-    (record { parsed = parse_or (first PUT_RECEIPT.now); reads = refl; columns = names_in (parse_or (first PUT_RECEIPT.now)).statement; rows = rows_in (parse_or (first PUT_RECEIPT.now)).statement; statement = refl; untimed = refl; made = λ schema tree. refl; above = refl })
-    refl (record { aims = λ tree. refl; apart = refl; few = refl; some = refl; found = λ tree. refl; set = λ tree. refl; made = λ tree. refl }))
-
-makes_recall : IsMakeText CREATE_RECALL.now recall_form
-unfolding everything
-makes_recall = record { parsed = parse_or (first CREATE_RECALL.now); reads = refl; def = definition_in (parse_or (first CREATE_RECALL.now)).statement; statement = refl; name = refl; unconditional = refl; plain = refl; defines = refl; whole = refl; table_is = refl; own_name = refl }
+puts_receipt = inr (upserts PUT_RECEIPT.now receipt_form (1 ∷ []) refl (λ schema tree. refl) refl (λ tree. refl))
 
 pub puts_recall : IsPutText PUT_RECALL.now recall_form
 unfolding everything
-puts_recall =
-    inr (upserts_row PUT_RECALL.now recall_form (1 ∷ [])
-    (record { parsed = parse_or (first PUT_RECALL.now); reads = refl; columns = names_in (parse_or (first PUT_RECALL.now)).statement; rows = rows_in (parse_or (first PUT_RECALL.now)).statement; statement = refl; untimed = refl; made = λ schema tree. refl; above = refl })
-    refl (record { aims = λ tree. refl; apart = refl; few = refl; some = refl; found = λ tree. refl; set = λ tree. refl; made = λ tree. refl }))
-
-makes_mark : IsMakeText CREATE_MARK.now mark_form
-unfolding everything
-makes_mark = record { parsed = parse_or (first CREATE_MARK.now); reads = refl; def = definition_in (parse_or (first CREATE_MARK.now)).statement; statement = refl; name = refl; unconditional = refl; plain = refl; defines = refl; whole = refl; table_is = refl; own_name = refl }
+puts_recall = inr (upserts PUT_RECALL.now recall_form (1 ∷ []) refl (λ schema tree. refl) refl (λ tree. refl))
 
 pub puts_mark : IsPutText PUT_MARK.now mark_form
 unfolding everything
-puts_mark =
-    inr (upserts_row PUT_MARK.now mark_form (1 ∷ 2 ∷ 3 ∷ [])
-    (record { parsed = parse_or (first PUT_MARK.now); reads = refl; columns = names_in (parse_or (first PUT_MARK.now)).statement; rows = rows_in (parse_or (first PUT_MARK.now)).statement; statement = refl; untimed = refl; made = λ schema tree. refl; above = refl })
-    refl (record { aims = λ tree. refl; apart = refl; few = refl; some = refl; found = λ tree. refl; set = λ tree. refl; made = λ tree. refl }))
+puts_mark = inr (upserts PUT_MARK.now mark_form (1 ∷ 2 ∷ 3 ∷ []) refl (λ schema tree. refl) refl (λ tree. refl))
 
 pub takes_hold : IsTakeText TAKE_HOLD.now hold_form (1 ∷ 2 ∷ [])
 unfolding everything first_key
@@ -212,27 +213,7 @@ unfolding everything first_key
 takes_marks = takes_one TAKE_MARKS.now mark_form (parse_or (first TAKE_MARKS.now)) 1 refl refl refl (record { above = refl; found = λ tree. (refl, refl, tt); tested = λ tree. refl })
     (λ tree. record { place = refl; strict = refl; named = refl })
 
-abbrev pub create_texts : List (List ℕ)
-create_texts = CREATE_META.now ∷ CREATE_CLASS.now ∷ CREATE_DEFINITION.now ∷ CREATE_RECIPE.now ∷ CREATE_RECIPE_LINE.now ∷ CREATE_JOB.now ∷ CREATE_BATCH.now ∷ CREATE_CONTROL_LINE.now ∷ CREATE_BATCH_EVENT.now ∷ CREATE_LOT.now ∷ CREATE_SUBLOT.now ∷ CREATE_MOVEMENT.now ∷ CREATE_HOLD.now ∷ CREATE_EDGE.now ∷ CREATE_RECEIPT.now ∷ CREATE_RECALL.now ∷ CREATE_MARK.now ∷ []
-
-pub all_made : AreMakeTexts create_texts desk_forms
-all_made = (makes_meta, (makes_class, (makes_definition, (makes_recipe, (makes_recipe_line, (makes_job, (makes_batch, (makes_control_line, (makes_batch_event, (makes_lot, (makes_sublot, (makes_movement, (makes_hold, (makes_edge, (makes_receipt, (makes_recall, (makes_mark, tt)))))))))))))))))
-
-pub desk_apart : AreApart desk_forms
-unfolding everything
-desk_apart = record { apart = λ tree. refl }
-
-third_apart : AreApart (forms_of 3)
-unfolding everything
-third_apart = record { apart = λ tree. refl }
-
-second_apart : AreApart (forms_of 2)
-unfolding everything
-second_apart = record { apart = λ tree. refl }
-
-first_apart : AreApart first_forms
-unfolding everything
-first_apart = record { apart = λ tree. refl }
+-- ---- the tables of each schema
 
 -- what is so of the tables of each schema before the fourth
 pub before_fourth : (P : List Form → Type 0) → P (forms_of 1) → P (forms_of 2) → P (forms_of 3) → (schema : ℕ) → nat_le 4 schema ≡ false → P (forms_of schema)
@@ -249,7 +230,8 @@ by_schema P first second third fourth schema = elim (cases_Bool (nat_le 4 schema
 ]
 
 pub apart_of : (schema : ℕ) → AreApart (forms_of schema)
-apart_of = by_schema AreApart first_apart second_apart third_apart desk_apart
+unfolding everything
+apart_of = by_schema AreApart (record { apart = λ tree. refl }) (record { apart = λ tree. refl }) (record { apart = λ tree. refl }) (record { apart = λ tree. refl })
 
 -- texts that make the tables of some forms: so many of them make those of as many forms
 pub front_made : (n : ℕ) (texts : List (List ℕ)) (forms : List Form) → AreMakeTexts texts forms → AreMakeTexts (take n texts) (take n forms)
@@ -261,105 +243,36 @@ front_made (suc n) (text ∷ texts) (form ∷ forms) made = (made.0, front_made 
 
 -- ---- those that a schema adds to the one before it
 
-pub edge_made : AreMakeTexts (CREATE_EDGE.now ∷ []) (edge_form ∷ [])
-edge_made = (makes_edge, tt)
+-- the texts make them, and no two share a name
+abbrev pub AreAdded : ℕ → List (List ℕ) → Type 0
+AreAdded schema texts = AreApart (added_forms schema) × AreMakeTexts texts (added_forms schema)
 
-pub edge_apart : AreApart (edge_form ∷ [])
+pub edge_added : AreAdded 2 (CREATE_EDGE.now ∷ [])
 unfolding everything
-edge_apart = record { apart = λ tree. refl }
+edge_added = (record { apart = λ tree. refl }, (makes CREATE_EDGE.now edge_form refl, tt))
 
-pub receipt_made : AreMakeTexts (CREATE_RECEIPT.now ∷ []) (receipt_form ∷ [])
-receipt_made = (makes_receipt, tt)
-
-pub receipt_apart : AreApart (receipt_form ∷ [])
+pub receipt_added : AreAdded 3 (CREATE_RECEIPT.now ∷ [])
 unfolding everything
-receipt_apart = record { apart = λ tree. refl }
+receipt_added = (record { apart = λ tree. refl }, (makes CREATE_RECEIPT.now receipt_form refl, tt))
 
-pub recalls_made : AreMakeTexts (CREATE_RECALL.now ∷ CREATE_MARK.now ∷ []) (recall_form ∷ mark_form ∷ [])
-recalls_made = (makes_recall, (makes_mark, tt))
-
-pub recalls_apart : AreApart (recall_form ∷ mark_form ∷ [])
+pub recalls_added : AreAdded 4 (CREATE_RECALL.now ∷ CREATE_MARK.now ∷ [])
 unfolding everything
-recalls_apart = record { apart = λ tree. refl }
-
--- ---- and those that the ones after it add
-
-pub after_first_apart : AreApart (edge_form ∷ receipt_form ∷ recall_form ∷ mark_form ∷ [])
-unfolding everything
-after_first_apart = record { apart = λ tree. refl }
-
-pub after_second_apart : AreApart (receipt_form ∷ recall_form ∷ mark_form ∷ [])
-unfolding everything
-after_second_apart = record { apart = λ tree. refl }
-
-pub second_indexes_apart : are_named_apart second_indexes (receipt_form ∷ recall_form ∷ mark_form ∷ []) ≡ true
-unfolding everything
-second_indexes_apart = refl
-
-pub none_apart : AreApart []
-none_apart = record { apart = λ tree. refl }
+recalls_added = (record { apart = λ tree. refl }, (makes CREATE_RECALL.now recall_form refl, (makes CREATE_MARK.now mark_form refl, tt)))
 
 -- ---- the indexes
 
-indexes_batch_event_by_batch : IsIndexText CREATE_BATCH_EVENT_BY_BATCH.now batch_event_by_batch
-unfolding everything
-indexes_batch_event_by_batch = record { parsed = parse_or (first CREATE_BATCH_EVENT_BY_BATCH.now); reads = refl; untimed = refl; whole = refl; def = index_in (parse_or (first CREATE_BATCH_EVENT_BY_BATCH.now)).statement; statement = refl; unconditional = refl; table_is = refl; own_name = refl; defines = λ tree. refl }
-
-indexes_movement_by_lot : IsIndexText CREATE_MOVEMENT_BY_LOT.now movement_by_lot
-unfolding everything
-indexes_movement_by_lot = record { parsed = parse_or (first CREATE_MOVEMENT_BY_LOT.now); reads = refl; untimed = refl; whole = refl; def = index_in (parse_or (first CREATE_MOVEMENT_BY_LOT.now)).statement; statement = refl; unconditional = refl; table_is = refl; own_name = refl; defines = λ tree. refl }
-
-indexes_movement_by_batch : IsIndexText CREATE_MOVEMENT_BY_BATCH.now movement_by_batch
-unfolding everything
-indexes_movement_by_batch = record { parsed = parse_or (first CREATE_MOVEMENT_BY_BATCH.now); reads = refl; untimed = refl; whole = refl; def = index_in (parse_or (first CREATE_MOVEMENT_BY_BATCH.now)).statement; statement = refl; unconditional = refl; table_is = refl; own_name = refl; defines = λ tree. refl }
-
-indexes_edge_by_end : IsIndexText CREATE_EDGE_BY_END.now edge_by_end
-unfolding everything
-indexes_edge_by_end = record { parsed = parse_or (first CREATE_EDGE_BY_END.now); reads = refl; untimed = refl; whole = refl; def = index_in (parse_or (first CREATE_EDGE_BY_END.now)).statement; statement = refl; unconditional = refl; table_is = refl; own_name = refl; defines = λ tree. refl }
-
-indexes_mark_by_node : IsIndexText CREATE_MARK_BY_NODE.now mark_by_node
-unfolding everything
-indexes_mark_by_node = record { parsed = parse_or (first CREATE_MARK_BY_NODE.now); reads = refl; untimed = refl; whole = refl; def = index_in (parse_or (first CREATE_MARK_BY_NODE.now)).statement; statement = refl; unconditional = refl; table_is = refl; own_name = refl; defines = λ tree. refl }
-
-indexes_definition_by_class : IsIndexText CREATE_DEFINITION_BY_CLASS.now definition_by_class
-unfolding everything
-indexes_definition_by_class = record { parsed = parse_or (first CREATE_DEFINITION_BY_CLASS.now); reads = refl; untimed = refl; whole = refl; def = index_in (parse_or (first CREATE_DEFINITION_BY_CLASS.now)).statement; statement = refl; unconditional = refl; table_is = refl; own_name = refl; defines = λ tree. refl }
-
-indexes_job_by_state : IsIndexText CREATE_JOB_BY_STATE.now job_by_state
-unfolding everything
-indexes_job_by_state = record { parsed = parse_or (first CREATE_JOB_BY_STATE.now); reads = refl; untimed = refl; whole = refl; def = index_in (parse_or (first CREATE_JOB_BY_STATE.now)).statement; statement = refl; unconditional = refl; table_is = refl; own_name = refl; defines = λ tree. refl }
-
-indexes_batch_by_closed : IsIndexText CREATE_BATCH_BY_CLOSED.now batch_by_closed
-unfolding everything
-indexes_batch_by_closed = record { parsed = parse_or (first CREATE_BATCH_BY_CLOSED.now); reads = refl; untimed = refl; whole = refl; def = index_in (parse_or (first CREATE_BATCH_BY_CLOSED.now)).statement; statement = refl; unconditional = refl; table_is = refl; own_name = refl; defines = λ tree. refl }
-
-indexes_lot_by_def : IsIndexText CREATE_LOT_BY_DEF.now lot_by_def
-unfolding everything
-indexes_lot_by_def = record { parsed = parse_or (first CREATE_LOT_BY_DEF.now); reads = refl; untimed = refl; whole = refl; def = index_in (parse_or (first CREATE_LOT_BY_DEF.now)).statement; statement = refl; unconditional = refl; table_is = refl; own_name = refl; defines = λ tree. refl }
-
-indexes_recall_by_state : IsIndexText CREATE_RECALL_BY_STATE.now recall_by_state
-unfolding everything
-indexes_recall_by_state = record { parsed = parse_or (first CREATE_RECALL_BY_STATE.now); reads = refl; untimed = refl; whole = refl; def = index_in (parse_or (first CREATE_RECALL_BY_STATE.now)).statement; statement = refl; unconditional = refl; table_is = refl; own_name = refl; defines = λ tree. refl }
-
-indexes_recipe_by_state : IsIndexText CREATE_RECIPE_BY_STATE.now recipe_by_state
-unfolding everything
-indexes_recipe_by_state = record { parsed = parse_or (first CREATE_RECIPE_BY_STATE.now); reads = refl; untimed = refl; whole = refl; def = index_in (parse_or (first CREATE_RECIPE_BY_STATE.now)).statement; statement = refl; unconditional = refl; table_is = refl; own_name = refl; defines = λ tree. refl }
-
-indexes_movement_by_lot2 : IsIndexText CREATE_MOVEMENT_BY_LOT2.now movement_by_lot2
-unfolding everything
-indexes_movement_by_lot2 = record { parsed = parse_or (first CREATE_MOVEMENT_BY_LOT2.now); reads = refl; untimed = refl; whole = refl; def = index_in (parse_or (first CREATE_MOVEMENT_BY_LOT2.now)).statement; statement = refl; unconditional = refl; table_is = refl; own_name = refl; defines = λ tree. refl }
-
-abbrev pub fourth_texts : List (List ℕ)
-fourth_texts = CREATE_MARK_BY_NODE.now ∷ CREATE_DEFINITION_BY_CLASS.now ∷ CREATE_JOB_BY_STATE.now ∷ CREATE_BATCH_BY_CLOSED.now ∷ CREATE_LOT_BY_DEF.now ∷ CREATE_RECALL_BY_STATE.now ∷ CREATE_RECIPE_BY_STATE.now ∷ CREATE_MOVEMENT_BY_LOT2.now ∷ []
-
 abbrev pub index_texts : List (List ℕ)
-index_texts = CREATE_BATCH_EVENT_BY_BATCH.now ∷ CREATE_MOVEMENT_BY_LOT.now ∷ CREATE_MOVEMENT_BY_BATCH.now ∷ CREATE_EDGE_BY_END.now ∷ fourth_texts
+index_texts = CREATE_BATCH_EVENT_BY_BATCH.now ∷ CREATE_MOVEMENT_BY_LOT.now ∷ CREATE_MOVEMENT_BY_BATCH.now ∷ CREATE_EDGE_BY_END.now ∷ CREATE_MARK_BY_NODE.now ∷ CREATE_DEFINITION_BY_CLASS.now ∷ CREATE_JOB_BY_STATE.now ∷ CREATE_BATCH_BY_CLOSED.now ∷ CREATE_LOT_BY_DEF.now ∷ CREATE_RECALL_BY_STATE.now ∷ CREATE_RECIPE_BY_STATE.now ∷ CREATE_MOVEMENT_BY_LOT2.now ∷ []
 
-pub fourth_indexed : AreIndexTexts fourth_texts fourth_indexes
-fourth_indexed = (indexes_mark_by_node, (indexes_definition_by_class, (indexes_job_by_state, (indexes_batch_by_closed, (indexes_lot_by_def, (indexes_recall_by_state, (indexes_recipe_by_state, (indexes_movement_by_lot2, tt))))))))
+each_indexes : (texts : List (List ℕ)) (indexes : List IndexForm) → AllTexts MakesIndex texts indexes → AreIndexTexts texts indexes
+each_indexes [] [] all = tt
+each_indexes [] (index ∷ indexes) all = all
+each_indexes (text ∷ texts) [] all = all
+each_indexes (text ∷ texts) (index ∷ indexes) all = (makes_index text index all.0, each_indexes texts indexes all.1)
 
 pub all_indexed : AreIndexTexts index_texts desk_indexes
-all_indexed = (indexes_batch_event_by_batch, (indexes_movement_by_lot, (indexes_movement_by_batch, (indexes_edge_by_end, fourth_indexed))))
+unfolding everything
+all_indexed = each_indexes index_texts desk_indexes ((refl, λ tree. refl), ((refl, λ tree. refl), ((refl, λ tree. refl), ((refl, λ tree. refl), ((refl, λ tree. refl), ((refl, λ tree. refl), ((refl, λ tree. refl), ((refl, λ tree. refl), ((refl, λ tree. refl), ((refl, λ tree. refl), ((refl, λ tree. refl), ((refl, λ tree. refl), tt))))))))))))
 
 -- tables among which are those that the second indexes are of
 second_of : (more : List Form) → AreOf second_indexes (first_forms ++ edge_form ∷ more)
@@ -376,7 +289,7 @@ indexes_of_fourth =
     (has_got forms 16 mark_form refl, (has_got forms 2 definition_form refl, (has_got forms 5 job_form refl, (has_got forms 6 batch_form refl, (has_got forms 9 lot_form refl, (has_got forms 15 recall_form refl, (has_got forms 3 recipe_form refl, (has_got forms 11 movement_form refl, tt))))))))
 
 pub indexes_of_desk : AreOf desk_indexes desk_forms
-indexes_of_desk = let second = second_of (receipt_form ∷ recall_form ∷ mark_form ∷ []) in (second.0, (second.1.0, (second.1.1.0, (second.1.1.1.0, indexes_of_fourth))))
+indexes_of_desk = let second = second_of (later_forms 2) in (second.0, (second.1.0, (second.1.1.0, (second.1.1.1.0, indexes_of_fourth))))
 
 -- a later schema has what the second has
 at_least_second : (schema : ℕ) → nat_le 3 schema ≡ true → nat_le 2 schema ≡ true
@@ -386,7 +299,7 @@ pub indexed_of : (schema : ℕ) → AreOf (indexes_of schema) (forms_of schema)
 indexed_of schema = elim (cases_Bool (nat_le 4 schema)) [
   | inl fourth ↦ rw fourth indexes_of_desk
   | inr below ↦ elim (cases_Bool (nat_le 3 schema)) [
-    | inl third ↦ rw (below, third, at_least_second schema third) (second_of (receipt_form ∷ []))
+    | inl third ↦ rw (below, third, at_least_second schema third) (second_of (added_forms 3))
     | inr earlier ↦ elim (cases_Bool (nat_le 2 schema)) [ inl second ↦ rw (below, earlier, second) indexes_of_second | inr first ↦ rw (below, earlier, first) tt ]
   ]
 ]

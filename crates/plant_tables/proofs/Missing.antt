@@ -1,5 +1,5 @@
 -- What the making of missing indexes comes to.
-use Rattle.std.proofs.Common.{◌≡◌, ◌≢◌, ◌∙◌, inl, inr, refl, sym, ap, subst, ℕ, true, false, List, [], ◌∷◌, map, length, arith, Option, Some, None, Ok, Err, Result, OnOk, OnErr, MatchResult}
+use Rattle.std.proofs.Common.{◌≡◌, ◌∙◌, inl, inr, refl, sym, ap, subst, ℕ, true, false, List, [], ◌∷◌, map, length, arith, Ok, Err, Result, OnOk, OnErr, MatchResult}
 use Rattle.std.proofs.lemmas.Bool.{cases_Bool}
 use Rattle.std.specs.Prelude.{filter}
 use Rattle.std.specs.List.{filter_map}
@@ -24,7 +24,7 @@ use Rattle.plant_tables.specs.Keyed.{HoldsTables}
 use Rattle.plant_tables.specs.Missing.{missing_in, is_missing, lacking, MakeLacking, AreAllTaken, GainsIndexes, AddsMissing, GainsMissing}
 use Rattle.plant_tables.proofs.DeskMoves.{sql_of}
 use Rattle.plant_tables.proofs.DeskTexts.{indexes_of_desk}
-use Rattle.plant_tables.proofs.Ended.{ended_at, cut_at, finds_same}
+use Rattle.plant_tables.proofs.Ended.{cut_at, finds_same}
 
 -- ---- which are missing
 

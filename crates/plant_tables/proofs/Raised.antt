@@ -5,6 +5,7 @@ use Rattle.std.specs.List.{list_any}
 use Rattle.sqlite.specs.Effect.{Database}
 use Rattle.sqlite.specs.Schema.{Schema}
 use Rattle.sqlite.specs.State.{State}
+use Rattle.sqlite_tied.specs.Compute.{everything}
 use Rattle.plant_base.specs.declared.rows.Position.{Position}
 use Rattle.plant_view.specs.Tables.{Tables, changed, changed_all}
 use Rattle.plant_view.specs.declared.change.RowChange.{RowChange}
@@ -22,7 +23,6 @@ use Rattle.plant_tables.specs.DeskTables.{contents_of, rows_changed, all_rows_ch
 use Rattle.plant_tables.specs.Keyed.{HoldsTablesOf, LacksLater, AreFresh, AreOfSchema, MovesTablesOf}
 use Rattle.plant_tables.specs.DeskStopping.{IsAtOf, IsCutShortOf}
 use Rattle.plant_tables.specs.Raising.{IsOlder, AreRisable, RaisesTables, raising}
-use Rattle.plant_tables.proofs.DeskTexts.{after_first_apart, after_second_apart, recalls_apart, second_indexes_apart}
 use Rattle.plant_tables.proofs.DeskMoves.{one_more_change}
 use Rattle.plant_tables.proofs.Ended.{tables_moved, ended_at, cut_at}
 use Rattle.plant_tables_columns.specs.TableColumns.{row_of_edge, row_of_receipt, row_of_recall, row_of_mark}
@@ -98,10 +98,12 @@ free_after version older schema free = record {
 
 -- the names of what a schema adds are not those of later tables
 tables_apart : (version : ℕ) → IsOlder version → AreApart (added_forms (version + 1) ++ later_forms (version + 1))
-tables_apart = by_older (λ v. AreApart (added_forms (v + 1) ++ later_forms (v + 1))) after_first_apart after_second_apart recalls_apart
+unfolding everything
+tables_apart = by_older (λ v. AreApart (added_forms (v + 1) ++ later_forms (v + 1))) (record { apart = λ tree. refl }) (record { apart = λ tree. refl }) (record { apart = λ tree. refl })
 
 indexes_apart : (version : ℕ) → IsOlder version → are_named_apart (added_indexes (version + 1)) (later_forms (version + 1)) ≡ true
-indexes_apart = by_older (λ v. are_named_apart (added_indexes (v + 1)) (later_forms (v + 1)) ≡ true) second_indexes_apart refl refl
+unfolding everything
+indexes_apart = by_older (λ v. are_named_apart (added_indexes (v + 1)) (later_forms (v + 1)) ≡ true) refl refl refl
 
 -- ---- tables of an older schema have no rows of those that are added
 

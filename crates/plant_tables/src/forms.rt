@@ -417,56 +417,30 @@ pub(crate) const CREATE_TABLES: [&str; 17] = [
     CREATE_MARK,
 ];
 
+// An index by its name, with the text that makes it.
+macro_rules! index {
+    ($name:literal, $sql:expr) => {
+        IndexText {
+            name: $name,
+            sql: $sql,
+        }
+    };
+}
+
 /// The indexes of the newest schema, each with the text that makes it.
 pub(crate) const DESK_INDEXES: [IndexText<'static>; 12] = [
-    IndexText {
-        name: b"batch_event_by_batch",
-        sql: CREATE_BATCH_EVENT_BY_BATCH,
-    },
-    IndexText {
-        name: b"movement_by_lot",
-        sql: CREATE_MOVEMENT_BY_LOT,
-    },
-    IndexText {
-        name: b"movement_by_batch",
-        sql: CREATE_MOVEMENT_BY_BATCH,
-    },
-    IndexText {
-        name: b"edge_by_end",
-        sql: CREATE_EDGE_BY_END,
-    },
-    IndexText {
-        name: b"mark_by_node",
-        sql: CREATE_MARK_BY_NODE,
-    },
-    IndexText {
-        name: b"definition_by_class",
-        sql: CREATE_DEFINITION_BY_CLASS,
-    },
-    IndexText {
-        name: b"job_by_state",
-        sql: CREATE_JOB_BY_STATE,
-    },
-    IndexText {
-        name: b"batch_by_closed",
-        sql: CREATE_BATCH_BY_CLOSED,
-    },
-    IndexText {
-        name: b"lot_by_def",
-        sql: CREATE_LOT_BY_DEF,
-    },
-    IndexText {
-        name: b"recall_by_state",
-        sql: CREATE_RECALL_BY_STATE,
-    },
-    IndexText {
-        name: b"recipe_by_state",
-        sql: CREATE_RECIPE_BY_STATE,
-    },
-    IndexText {
-        name: b"movement_by_lot2",
-        sql: CREATE_MOVEMENT_BY_LOT2,
-    },
+    index!(b"batch_event_by_batch", CREATE_BATCH_EVENT_BY_BATCH),
+    index!(b"movement_by_lot", CREATE_MOVEMENT_BY_LOT),
+    index!(b"movement_by_batch", CREATE_MOVEMENT_BY_BATCH),
+    index!(b"edge_by_end", CREATE_EDGE_BY_END),
+    index!(b"mark_by_node", CREATE_MARK_BY_NODE),
+    index!(b"definition_by_class", CREATE_DEFINITION_BY_CLASS),
+    index!(b"job_by_state", CREATE_JOB_BY_STATE),
+    index!(b"batch_by_closed", CREATE_BATCH_BY_CLOSED),
+    index!(b"lot_by_def", CREATE_LOT_BY_DEF),
+    index!(b"recall_by_state", CREATE_RECALL_BY_STATE),
+    index!(b"recipe_by_state", CREATE_RECIPE_BY_STATE),
+    index!(b"movement_by_lot2", CREATE_MOVEMENT_BY_LOT2),
 ];
 
 /// How many of the tables, from the first on, are those of a schema.

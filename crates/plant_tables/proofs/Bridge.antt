@@ -1,16 +1,16 @@
 -- A change of rows is the change of the desk's tables.
-use Rattle.std.proofs.Common.{◌≡◌, ◌≢◌, inl, inr, refl, sym, ap, subst, ◌∙◌, ℕ, ◌<◌, List, [], ◌∷◌, ◌++◌, Bool, true, false, not, ◌&&◌, ◌||◌, ◌==◌, if◌then◌else◌, map, filter, length, get_or, set, eqb-true, arith}
+use Rattle.std.proofs.Common.{◌≡◌, ◌≢◌, inl, inr, refl, sym, ap, subst, ◌∙◌, ℕ, ◌<◌, List, [], ◌∷◌, ◌++◌, Bool, true, false, not, ◌&&◌, ◌||◌, ◌==◌, if◌then◌else◌, map, length, get_or, set, eqb-true, arith}
 use Rattle.std.proofs.lemmas.Bool.{cases_Bool}
 use Rattle.std.proofs.lemmas.Bool.Decides.{nat_tests}
 use Rattle.std.proofs.lemmas.List.{get_or-set_same, get_or-set_other}
 use Rattle.std.specs.List.{AllByRecursion}
 use Rattle.std.specs.List.Sorted.{IsStrictlySortedBy, IsPermutation}
+use Rattle.std.proofs.lemmas.List.Kept.{IsStrictlySortedBy-filter}
 use Rattle.std.proofs.lemmas.List.Sorted.{IsPermutation-refl, IsPermutation-trans, IsPermutation-sym, IsPermutation-cons}
 use Rattle.std.specs.Cmp.{IsTotalOrder, unsigned_ties}
 use Rattle.std.specs.Cmp.Lexicographic.{texts_ties}
 use Rattle.std.specs.Ordering.{is_eq}
 use Rattle.std.specs.declared.cmp.Ordering.{Ordering}
-use Rattle.std.specs.declared.cmp.Ordering.TheVariants.{Less}
 use Rattle.std.proofs.lemmas.Cmp.{then_total, on_total, nat_list_cmp_total, nat_cmp_total, eq_by_cmp_equiv}
 use Rattle.sqlite_trees.proofs.ListLemmas.{IsPermutation-filter}
 use Rattle.sqlite.specs.Effect.{Database}
@@ -27,6 +27,7 @@ use Rattle.plant_base.specs.declared.rows.BatchEvent.{BatchEvent}
 use Rattle.plant_base.specs.declared.rows.Movement.{Movement}
 use Rattle.plant_base.specs.declared.rows.Hold.{Hold}
 use Rattle.plant_base.specs.declared.rows.Mark.{Mark}
+pub use Rattle.plant_view.proofs.Rows.{all_filtered as all_filter}
 use Rattle.plant_view.specs.Recalls.{without_marks}
 use Rattle.plant_view.specs.Tables.{Tables, batch_row_order, sublot_order, changed, changed_all, without_hold}
 use Rattle.plant_view.specs.declared.change.RowChange.{RowChange}
@@ -198,21 +199,6 @@ one_changed (change.Unmark recall) t keyed fresh =
 
 -- ---- the keys stay
 
-pub all_filter : {R : Type 0} (P : R → Type 0) (p : R → Bool) (xs : List R) → AllByRecursion P xs → AllByRecursion P (filter p xs)
-all_filter P p [] all = tt
-all_filter P p (x ∷ xs) all = elim (cases_Bool (p x)) [
-  | inl keeps ↦ rw keeps (all.0, all_filter P p xs all.1)
-  | inr drops ↦ rw drops (all_filter P p xs all.1)
-]
-
-sorted_filter : {R : Type 0} (order : R → R → Ordering) (p : R → Bool) (xs : List R) → IsStrictlySortedBy order xs → IsStrictlySortedBy order (filter p xs)
-unfolding IsStrictlySortedBy
-sorted_filter order p [] sorted = tt
-sorted_filter order p (x ∷ xs) sorted = elim (cases_Bool (p x)) [
-  | inl keeps ↦ rw keeps (all_filter (λ y. order x y ≡ Less) p xs sorted.0, sorted_filter order p xs sorted.1)
-  | inr drops ↦ rw drops (sorted_filter order p xs sorted.1)
-]
-
 pub keyed_after : (c : RowChange) (t : Tables) → AreKeyed t → AreKeyed (changed c t)
 keyed_after (change.Meta r) t k = record { classes = k.classes; definitions = k.definitions; recipes = k.recipes; master_lines = k.master_lines; jobs = k.jobs; batches = k.batches; control_lines = k.control_lines; lots = k.lots; sublots = k.sublots; holds = k.holds; edges = k.edges; receipts = k.receipts; recalls = k.recalls; marks = k.marks }
 keyed_after (change.Class r) t k = record { classes = sorted_put class_order class_key.total r t.classes k.classes; definitions = k.definitions; recipes = k.recipes; master_lines = k.master_lines; jobs = k.jobs; batches = k.batches; control_lines = k.control_lines; lots = k.lots; sublots = k.sublots; holds = k.holds; edges = k.edges; receipts = k.receipts; recalls = k.recalls; marks = k.marks }
@@ -229,10 +215,10 @@ keyed_after (change.Movement r) t k = record { classes = k.classes; definitions 
 keyed_after (change.Hold r) t k = record { classes = k.classes; definitions = k.definitions; recipes = k.recipes; master_lines = k.master_lines; jobs = k.jobs; batches = k.batches; control_lines = k.control_lines; lots = k.lots; sublots = k.sublots; holds = sorted_put hold_order hold_key.total r t.holds k.holds; edges = k.edges; receipts = k.receipts; recalls = k.recalls; marks = k.marks }
 keyed_after (change.Edge r) t k = record { classes = k.classes; definitions = k.definitions; recipes = k.recipes; master_lines = k.master_lines; jobs = k.jobs; batches = k.batches; control_lines = k.control_lines; lots = k.lots; sublots = k.sublots; holds = k.holds; edges = sorted_put edge_order edge_key.total r t.edges k.edges; receipts = k.receipts; recalls = k.recalls; marks = k.marks }
 keyed_after (change.Receipt r) t k = record { classes = k.classes; definitions = k.definitions; recipes = k.recipes; master_lines = k.master_lines; jobs = k.jobs; batches = k.batches; control_lines = k.control_lines; lots = k.lots; sublots = k.sublots; holds = k.holds; edges = k.edges; receipts = sorted_put receipt_order receipt_key.total r t.receipts k.receipts; recalls = k.recalls; marks = k.marks }
-keyed_after (change.Unhold lot hold) t k = record { classes = k.classes; definitions = k.definitions; recipes = k.recipes; master_lines = k.master_lines; jobs = k.jobs; batches = k.batches; control_lines = k.control_lines; lots = k.lots; sublots = k.sublots; holds = sorted_filter hold_order _ t.holds k.holds; edges = k.edges; receipts = k.receipts; recalls = k.recalls; marks = k.marks }
+keyed_after (change.Unhold lot hold) t k = record { classes = k.classes; definitions = k.definitions; recipes = k.recipes; master_lines = k.master_lines; jobs = k.jobs; batches = k.batches; control_lines = k.control_lines; lots = k.lots; sublots = k.sublots; holds = IsStrictlySortedBy-filter hold_order _ t.holds k.holds; edges = k.edges; receipts = k.receipts; recalls = k.recalls; marks = k.marks }
 keyed_after (change.Recall r) t k = record { classes = k.classes; definitions = k.definitions; recipes = k.recipes; master_lines = k.master_lines; jobs = k.jobs; batches = k.batches; control_lines = k.control_lines; lots = k.lots; sublots = k.sublots; holds = k.holds; edges = k.edges; receipts = k.receipts; recalls = sorted_put recall_order recall_key.total r t.recalls k.recalls; marks = k.marks }
 keyed_after (change.Mark r) t k = record { classes = k.classes; definitions = k.definitions; recipes = k.recipes; master_lines = k.master_lines; jobs = k.jobs; batches = k.batches; control_lines = k.control_lines; lots = k.lots; sublots = k.sublots; holds = k.holds; edges = k.edges; receipts = k.receipts; recalls = k.recalls; marks = sorted_put mark_order mark_key.total r t.marks k.marks }
-keyed_after (change.Unmark recall) t k = record { classes = k.classes; definitions = k.definitions; recipes = k.recipes; master_lines = k.master_lines; jobs = k.jobs; batches = k.batches; control_lines = k.control_lines; lots = k.lots; sublots = k.sublots; holds = k.holds; edges = k.edges; receipts = k.receipts; recalls = k.recalls; marks = sorted_filter mark_order _ t.marks k.marks }
+keyed_after (change.Unmark recall) t k = record { classes = k.classes; definitions = k.definitions; recipes = k.recipes; master_lines = k.master_lines; jobs = k.jobs; batches = k.batches; control_lines = k.control_lines; lots = k.lots; sublots = k.sublots; holds = k.holds; edges = k.edges; receipts = k.receipts; recalls = k.recalls; marks = IsStrictlySortedBy-filter mark_order _ t.marks k.marks }
 
 -- ---- the same rows, changed alike
 

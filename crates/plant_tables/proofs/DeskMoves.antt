@@ -1,8 +1,7 @@
 -- What a statement makes of the desk's tables.
-use Rattle.std.proofs.Common.{◌≡◌, inl, inr, refl, sym, ap, ◌∙◌, subst, ℕ, zero, suc, nat_le, List, [], ◌∷◌, ◌++◌, map, take, drop, true, false, Some, None, Ok, Err, Result, OnOk, slice_get, arith}
-use Rattle.std.proofs.lemmas.Bool.{cases_Bool}
+use Rattle.std.proofs.Common.{◌≡◌, refl, sym, ap, ◌∙◌, subst, ℕ, nat_le, List, [], ◌∷◌, ◌++◌, map, take, drop, true, false, Some, None, Ok, Err, Result, OnOk, slice_get, arith}
 use Rattle.std.proofs.lemmas.Bool.Decides.{nat_tests}
-use Rattle.std.proofs.lemmas.List.{take-map}
+use Rattle.std.proofs.lemmas.List.{take-map, drop-map}
 use Rattle.std.specs.Borrow.{Bor}
 use Rattle.sqlite.specs.Order.{Row}
 use Rattle.sqlite.specs.Effect.{IsDatabase}
@@ -23,7 +22,7 @@ use Rattle.plant_tables.specs.DeskTables.{rows_changed, all_rows_changed}
 use Rattle.plant_tables.specs.Keyed.{IsOfSchema, AreOfSchema}
 use Rattle.plant_tables.specs.DeskForms.{desk_forms, edge_form, receipt_form, recall_form, mark_form, forms_of, added_forms}
 use Rattle.plant_tables.specs.DeskIndexes.{indexes_of, desk_indexes, fourth_indexes, HasIndexes}
-use Rattle.plant_tables.proofs.DeskTexts.{create_texts, all_made, AreAdded, before_fourth, apart_of, front_made, index_texts, all_indexed, indexed_of, indexes_of_fourth, front_indexed, behind_indexed}
+use Rattle.plant_tables.proofs.DeskTexts.{create_texts, AreAdded, by_schema, apart_of, front_made, index_texts, indexed_of, indexes_of_fourth, front_indexed, behind_indexed}
 
 pub put_moved : {X : Type 0} (schema place : ℕ) (form : Form) (text : List ℕ) (row : Row) → slice_get (forms_of schema) place ≡ Some form → IsPutText text form → fits_columns form.columns row ≡ true
     → (old new : State) (r : Result X Fault) → OnOk r (PutsRow text row old new) → OnOk r (Moves (forms_of schema) old new (changed_at place form row))
@@ -37,13 +36,10 @@ take_moved schema place form text key values is says old new (Err e) taken = tt
 
 -- the places of the tables that later schemas add
 pub edge_place : (schema : ℕ) → nat_le 2 schema ≡ true → slice_get (forms_of schema) 13 ≡ Some edge_form
-edge_place schema second = elim (cases_Bool (nat_le 4 schema)) [
-  | inl fourth ↦ rw fourth refl
-  | inr below ↦ elim (cases_Bool (nat_le 3 schema)) [ inl third ↦ rw (below, third) refl | inr earlier ↦ rw (below, earlier, second) refl ]
-]
+edge_place = by_schema (λ s. nat_le 2 s ≡ true → slice_get (forms_of s) 13 ≡ Some edge_form) (λ e. absurd cc) (λ e. absurd cc) (λ _. refl) (λ _. refl) (λ s fourth _. rw fourth refl)
 
 pub receipt_place : (schema : ℕ) → nat_le 3 schema ≡ true → slice_get (forms_of schema) 14 ≡ Some receipt_form
-receipt_place schema third = elim (cases_Bool (nat_le 4 schema)) [ inl fourth ↦ rw fourth refl | inr below ↦ rw (below, third) refl ]
+receipt_place = by_schema (λ s. nat_le 3 s ≡ true → slice_get (forms_of s) 14 ≡ Some receipt_form) (λ e. absurd cc) (λ e. absurd cc) (λ e. absurd cc) (λ _. refl) (λ s fourth _. rw fourth refl)
 
 pub recall_place : (schema : ℕ) → nat_le 4 schema ≡ true → slice_get (forms_of schema) 15 ≡ Some recall_form
 recall_place schema fourth = rw fourth refl
@@ -53,21 +49,16 @@ mark_place schema fourth = rw fourth refl
 
 -- in the schemas before them, nothing stands there
 pub no_edge_place : (schema : ℕ) → nat_le 2 schema ≡ false → slice_get (forms_of schema) 13 ≡ None
-no_edge_place schema first =
-    let third : nat_le 3 schema ≡ false = grind (arith, nat_tests) in
-    let fourth : nat_le 4 schema ≡ false = grind (arith, nat_tests) in
-    rw (fourth, third, first) refl
+no_edge_place = by_schema (λ s. nat_le 2 s ≡ false → slice_get (forms_of s) 13 ≡ None) (λ _. refl) (λ _. refl) (λ e. absurd cc) (λ e. absurd cc) (λ s fourth e. absurd (grind (arith, nat_tests)))
 
 pub no_receipt_place : (schema : ℕ) → nat_le 3 schema ≡ false → slice_get (forms_of schema) 14 ≡ None
-no_receipt_place schema below =
-    let fourth : nat_le 4 schema ≡ false = grind (arith, nat_tests) in
-    elim (cases_Bool (nat_le 2 schema)) [ inl second ↦ rw (fourth, below, second) refl | inr first ↦ rw (fourth, below, first) refl ]
+no_receipt_place = by_schema (λ s. nat_le 3 s ≡ false → slice_get (forms_of s) 14 ≡ None) (λ _. refl) (λ _. refl) (λ _. refl) (λ e. absurd cc) (λ s fourth e. absurd (grind (arith, nat_tests)))
 
 pub no_recall_place : (schema : ℕ) → nat_le 4 schema ≡ false → slice_get (forms_of schema) 15 ≡ None
-no_recall_place = before_fourth (λ forms. slice_get forms 15 ≡ None) refl refl refl
+no_recall_place = by_schema (λ s. nat_le 4 s ≡ false → slice_get (forms_of s) 15 ≡ None) (λ _. refl) (λ _. refl) (λ _. refl) (λ _. refl) (λ s fourth e. absurd cc)
 
 pub no_mark_place : (schema : ℕ) → nat_le 4 schema ≡ false → slice_get (forms_of schema) 16 ≡ None
-no_mark_place = before_fourth (λ forms. slice_get forms 16 ≡ None) refl refl refl
+no_mark_place = by_schema (λ s. nat_le 4 s ≡ false → slice_get (forms_of s) 16 ≡ None) (λ _. refl) (λ _. refl) (λ _. refl) (λ _. refl) (λ s fourth e. absurd cc)
 
 -- what the texts made that were run for a schema
 pub added_founded : {X : Type 0} (schema known : ℕ) (texts : List (List ℕ)) → schema ≡ known → AreAdded known texts
@@ -84,14 +75,9 @@ added_spared schema known texts is added old new (Err e) spares = tt
 texts_front : {X : Type 0} (text : X → List ℕ) (n : ℕ) (all front : List X) → front ≡ take n all → map text front ≡ take n (map text all)
 texts_front text n all front is = ap (map text) is ∙ sym (take-map text n all)
 
-drop_map : {X : Type 0} (text : X → List ℕ) (n : ℕ) (all : List X) → drop n (map text all) ≡ map text (drop n all)
-drop_map text zero all = refl
-drop_map text (suc n) [] = refl
-drop_map text (suc n) (x ∷ all) = drop_map text n all
-
 -- and those behind them
 texts_behind : {X : Type 0} (text : X → List ℕ) (n : ℕ) (all behind : List X) → behind ≡ drop n all → map text behind ≡ drop n (map text all)
-texts_behind text n all behind is = ap (map text) is ∙ sym (drop_map text n all)
+texts_behind text n all behind is = ap (map text) is ∙ sym (drop-map text n all)
 
 -- the text of an index
 abbrev pub sql_of : IndexText → List ℕ
@@ -102,7 +88,7 @@ pub indexed_so : {X : Type 0} (schema n : ℕ) → take n desk_indexes ≡ index
     → (old new : State) (r : Result X Fault) → OnOk r (MakesIndexes (map sql_of front) old new) → OnOk r (AddsIndexes (forms_of schema) (indexes_of schema) old new)
 indexed_so schema n own all front is texts old new (Ok x) made =
     let own_texts : map sql_of front ≡ take n index_texts = texts_front sql_of n all front is ∙ ap (take n) texts in
-    made (forms_of schema) (indexes_of schema) (indexed_of schema) (subst (λ ts. AreIndexTexts ts (indexes_of schema)) (sym own_texts) (subst (AreIndexTexts (take n index_texts)) own (front_indexed n index_texts desk_indexes all_indexed)))
+    made (forms_of schema) (indexes_of schema) (indexed_of schema) (subst (λ ts. AreIndexTexts ts (indexes_of schema)) (sym own_texts) (subst (AreIndexTexts (take n index_texts)) own (front_indexed n)))
 indexed_so schema n own all front is texts old new (Err e) made = tt
 
 -- The texts behind those of the second schema were run, and made what the fourth adds.
@@ -110,7 +96,7 @@ pub indexed_later : {X : Type 0} (n : ℕ) → drop n desk_indexes ≡ fourth_in
     → (old new : State) (r : Result X Fault) → OnOk r (MakesIndexes (map sql_of behind) old new) → OnOk r (AddsIndexes (forms_of 4) fourth_indexes old new)
 indexed_later n own all behind is texts old new (Ok x) made =
     let own_texts : map sql_of behind ≡ drop n index_texts = texts_behind sql_of n all behind is ∙ ap (drop n) texts in
-    made (forms_of 4) fourth_indexes indexes_of_fourth (subst (λ ts. AreIndexTexts ts fourth_indexes) (sym own_texts) (subst (AreIndexTexts (drop n index_texts)) own (behind_indexed n index_texts desk_indexes all_indexed)))
+    made (forms_of 4) fourth_indexes indexes_of_fourth (subst (λ ts. AreIndexTexts ts fourth_indexes) (sym own_texts) (subst (AreIndexTexts (drop n index_texts)) own (behind_indexed n)))
 indexed_later n own all behind is texts old new (Err e) made = tt
 
 -- As many texts as a schema has tables were run, and made them.
@@ -118,7 +104,7 @@ pub founded_so : (schema n : ℕ) → take n desk_forms ≡ forms_of schema → 
     → (old new : State) → MakesTables (map (λ text. text.now) front) old new → Founds (forms_of schema) old new
 founded_so schema n own all front is texts old new made =
     let own_texts : map (λ text. text.now) front ≡ take n create_texts = texts_front (λ (text : Bor (List ℕ)). text.now) n all front is ∙ ap (take n) texts in
-    made (forms_of schema) (apart_of schema) (subst (λ ts. AreMakeTexts ts (forms_of schema)) (sym own_texts) (subst (AreMakeTexts (take n create_texts)) own (front_made n create_texts desk_forms all_made)))
+    made (forms_of schema) (apart_of schema) (subst (λ ts. AreMakeTexts ts (forms_of schema)) (sym own_texts) (subst (AreMakeTexts (take n create_texts)) own (front_made n)))
 
 -- the tables were made, and then the indexes
 pub all_founded : {X : Type 0} (forms : List Form) (indexes : List IndexForm) (a b c : State) (r : Result X Fault) → Founds forms a b → OnOk r (AddsIndexes forms indexes b c) → OnOk r (Founds forms a c)

@@ -27,7 +27,6 @@ use Rattle.table_forms.proofs.Computed.{takes_one, takes_two, upserts_row, claus
 use Rattle.table_forms.proofs.Excluded.{excluded_terms}
 use Rattle.plant_tables.specs.DeskForms.{desk_forms, first_forms, forms_of, later_forms, added_forms, meta_form, class_form, definition_form, recipe_form, recipe_line_form, job_form, batch_form, control_line_form, batch_event_form, lot_form, sublot_form, movement_form, hold_form, edge_form, receipt_form, recall_form, mark_form}
 use Rattle.std.specs.Bool.{⊤}
-use Rattle.std.proofs.lemmas.Bool.{cases_Bool}
 use Rattle.std.proofs.lemmas.Bool.Decides.{nat_tests}
 use Rattle.sqlite_tied.specs.Compute.{everything}
 use Rattle.table_forms.specs.Moves.{AreApart, AreMakeTexts}
@@ -108,11 +107,25 @@ module _ (text : List ℕ) (form : Form) (key : List ℕ) where
 -- ---- the texts that make the tables
 
 -- so of each text, with what stands at its place
-abbrev AllTexts : {X : Type 0} → (List ℕ → X → Type 0) → List (List ℕ) → List X → Type 0
+abbrev pub AllTexts : {X : Type 0} → (List ℕ → X → Type 0) → List (List ℕ) → List X → Type 0
 AllTexts so [] [] = ⊤
 AllTexts so [] (x ∷ xs) = ⊥
 AllTexts so (text ∷ texts) [] = ⊥
 AllTexts so (text ∷ texts) (x ∷ xs) = so text x × AllTexts so texts xs
+
+front : {X : Type 0} (so : List ℕ → X → Type 0) (n : ℕ) (texts : List (List ℕ)) (xs : List X) → AllTexts so texts xs → AllTexts so (take n texts) (take n xs)
+front so zero texts xs all = tt
+front so (suc n) [] [] all = tt
+front so (suc n) [] (x ∷ xs) all = elim all [ ]
+front so (suc n) (text ∷ texts) [] all = elim all [ ]
+front so (suc n) (text ∷ texts) (x ∷ xs) all = (all.0, front so n texts xs all.1)
+
+behind : {X : Type 0} (so : List ℕ → X → Type 0) (n : ℕ) (texts : List (List ℕ)) (xs : List X) → AllTexts so texts xs → AllTexts so (drop n texts) (drop n xs)
+behind so zero texts xs all = all
+behind so (suc n) [] [] all = tt
+behind so (suc n) [] (x ∷ xs) all = elim all [ ]
+behind so (suc n) (text ∷ texts) [] all = elim all [ ]
+behind so (suc n) (text ∷ texts) (x ∷ xs) all = behind so n texts xs all.1
 
 each_makes : (texts : List (List ℕ)) (forms : List Form) → AllTexts MakesTable texts forms → AreMakeTexts texts forms
 each_makes [] [] all = tt
@@ -123,9 +136,13 @@ each_makes (text ∷ texts) (form ∷ forms) all = (makes text form all.0, each_
 abbrev pub create_texts : List (List ℕ)
 create_texts = CREATE_META.now ∷ CREATE_CLASS.now ∷ CREATE_DEFINITION.now ∷ CREATE_RECIPE.now ∷ CREATE_RECIPE_LINE.now ∷ CREATE_JOB.now ∷ CREATE_BATCH.now ∷ CREATE_CONTROL_LINE.now ∷ CREATE_BATCH_EVENT.now ∷ CREATE_LOT.now ∷ CREATE_SUBLOT.now ∷ CREATE_MOVEMENT.now ∷ CREATE_HOLD.now ∷ CREATE_EDGE.now ∷ CREATE_RECEIPT.now ∷ CREATE_RECALL.now ∷ CREATE_MARK.now ∷ []
 
-pub all_made : AreMakeTexts create_texts desk_forms
+tables_made : AllTexts MakesTable create_texts desk_forms
 unfolding everything
-all_made = each_makes create_texts desk_forms (refl, (refl, (refl, (refl, (refl, (refl, (refl, (refl, (refl, (refl, (refl, (refl, (refl, (refl, (refl, (refl, (refl, tt)))))))))))))))))
+tables_made = (refl, (refl, (refl, (refl, (refl, (refl, (refl, (refl, (refl, (refl, (refl, (refl, (refl, (refl, (refl, (refl, (refl, tt)))))))))))))))))
+
+-- so many of the texts make as many of the tables
+pub front_made : (n : ℕ) → AreMakeTexts (take n create_texts) (take n desk_forms)
+front_made n = each_makes (take n create_texts) (take n desk_forms) (front MakesTable n create_texts desk_forms tables_made)
 
 -- ---- those that put a row, or take rows away
 
@@ -215,31 +232,17 @@ takes_marks = takes_one TAKE_MARKS.now mark_form (parse_or (first TAKE_MARKS.now
 
 -- ---- the tables of each schema
 
--- what is so of the tables of each schema before the fourth
-pub before_fourth : (P : List Form → Type 0) → P (forms_of 1) → P (forms_of 2) → P (forms_of 3) → (schema : ℕ) → nat_le 4 schema ≡ false → P (forms_of schema)
-before_fourth P first second third schema before = elim (cases_Bool (nat_le 3 schema)) [
-  | inl at_third ↦ rw (before, at_third) third
-  | inr below ↦ elim (cases_Bool (nat_le 2 schema)) [ inl at_second ↦ rw (before, below, at_second) second | inr at_first ↦ rw (before, below, at_first) first ]
-]
-
--- and of each of the four
-pub by_schema : (P : List Form → Type 0) → P (forms_of 1) → P (forms_of 2) → P (forms_of 3) → P (forms_of 4) → (schema : ℕ) → P (forms_of schema)
-by_schema P first second third fourth schema = elim (cases_Bool (nat_le 4 schema)) [
-  | inl at_fourth ↦ rw at_fourth fourth
-  | inr before ↦ before_fourth P first second third schema before
-]
+-- what is so of the schemas before the fourth, and of it and those after it, is so of each
+pub by_schema : (P : ℕ → Type 0) → P 0 → P 1 → P 2 → P 3 → ((s : ℕ) → nat_le 4 s ≡ true → P s) → (schema : ℕ) → P schema
+by_schema P none first second third newest zero = none
+by_schema P none first second third newest (suc zero) = first
+by_schema P none first second third newest (suc (suc zero)) = second
+by_schema P none first second third newest (suc (suc (suc zero))) = third
+by_schema P none first second third newest (suc (suc (suc (suc n)))) = newest (suc (suc (suc (suc n)))) (grind (arith, nat_tests))
 
 pub apart_of : (schema : ℕ) → AreApart (forms_of schema)
 unfolding everything
-apart_of = by_schema AreApart (record { apart = λ tree. refl }) (record { apart = λ tree. refl }) (record { apart = λ tree. refl }) (record { apart = λ tree. refl })
-
--- texts that make the tables of some forms: so many of them make those of as many forms
-pub front_made : (n : ℕ) (texts : List (List ℕ)) (forms : List Form) → AreMakeTexts texts forms → AreMakeTexts (take n texts) (take n forms)
-front_made zero texts forms made = tt
-front_made (suc n) [] [] made = tt
-front_made (suc n) [] (form ∷ forms) made = elim made [ ]
-front_made (suc n) (text ∷ texts) [] made = elim made [ ]
-front_made (suc n) (text ∷ texts) (form ∷ forms) made = (made.0, front_made n texts forms made.1)
+apart_of = by_schema (λ s. AreApart (forms_of s)) (record { apart = λ tree. refl }) (record { apart = λ tree. refl }) (record { apart = λ tree. refl }) (record { apart = λ tree. refl }) (λ s fourth. rw fourth (record { apart = λ tree. refl }))
 
 -- ---- those that a schema adds to the one before it
 
@@ -270,18 +273,24 @@ each_indexes [] (index ∷ indexes) all = all
 each_indexes (text ∷ texts) [] all = all
 each_indexes (text ∷ texts) (index ∷ indexes) all = (makes_index text index all.0, each_indexes texts indexes all.1)
 
-pub all_indexed : AreIndexTexts index_texts desk_indexes
+indexes_made : AllTexts MakesIndex index_texts desk_indexes
 unfolding everything
-all_indexed = each_indexes index_texts desk_indexes ((refl, λ tree. refl), ((refl, λ tree. refl), ((refl, λ tree. refl), ((refl, λ tree. refl), ((refl, λ tree. refl), ((refl, λ tree. refl), ((refl, λ tree. refl), ((refl, λ tree. refl), ((refl, λ tree. refl), ((refl, λ tree. refl), ((refl, λ tree. refl), ((refl, λ tree. refl), tt))))))))))))
+indexes_made = ((refl, λ tree. refl), ((refl, λ tree. refl), ((refl, λ tree. refl), ((refl, λ tree. refl), ((refl, λ tree. refl), ((refl, λ tree. refl), ((refl, λ tree. refl), ((refl, λ tree. refl), ((refl, λ tree. refl), ((refl, λ tree. refl), ((refl, λ tree. refl), ((refl, λ tree. refl), tt))))))))))))
+
+pub all_indexed : AreIndexTexts index_texts desk_indexes
+all_indexed = each_indexes index_texts desk_indexes indexes_made
+
+pub front_indexed : (n : ℕ) → AreIndexTexts (take n index_texts) (take n desk_indexes)
+front_indexed n = each_indexes (take n index_texts) (take n desk_indexes) (front MakesIndex n index_texts desk_indexes indexes_made)
+
+pub behind_indexed : (n : ℕ) → AreIndexTexts (drop n index_texts) (drop n desk_indexes)
+behind_indexed n = each_indexes (drop n index_texts) (drop n desk_indexes) (behind MakesIndex n index_texts desk_indexes indexes_made)
 
 -- tables among which are those that the second indexes are of
 second_of : (more : List Form) → AreOf second_indexes (first_forms ++ edge_form ∷ more)
 second_of more =
     let forms = first_forms ++ edge_form ∷ more in
     (has_got forms 8 batch_event_form refl, (has_got forms 11 movement_form refl, (has_got forms 11 movement_form refl, (has_got forms 13 edge_form refl, tt))))
-
-pub indexes_of_second : AreOf second_indexes (forms_of 2)
-indexes_of_second = second_of []
 
 pub indexes_of_fourth : AreOf fourth_indexes (forms_of 4)
 indexes_of_fourth =
@@ -291,29 +300,5 @@ indexes_of_fourth =
 pub indexes_of_desk : AreOf desk_indexes desk_forms
 indexes_of_desk = let second = second_of (later_forms 2) in (second.0, (second.1.0, (second.1.1.0, (second.1.1.1.0, indexes_of_fourth))))
 
--- a later schema has what the second has
-at_least_second : (schema : ℕ) → nat_le 3 schema ≡ true → nat_le 2 schema ≡ true
-at_least_second schema third = grind (arith, nat_tests)
-
 pub indexed_of : (schema : ℕ) → AreOf (indexes_of schema) (forms_of schema)
-indexed_of schema = elim (cases_Bool (nat_le 4 schema)) [
-  | inl fourth ↦ rw fourth indexes_of_desk
-  | inr below ↦ elim (cases_Bool (nat_le 3 schema)) [
-    | inl third ↦ rw (below, third, at_least_second schema third) (second_of (added_forms 3))
-    | inr earlier ↦ elim (cases_Bool (nat_le 2 schema)) [ inl second ↦ rw (below, earlier, second) indexes_of_second | inr first ↦ rw (below, earlier, first) tt ]
-  ]
-]
-
-pub front_indexed : (n : ℕ) (texts : List (List ℕ)) (indexes : List IndexForm) → AreIndexTexts texts indexes → AreIndexTexts (take n texts) (take n indexes)
-front_indexed zero texts indexes made = tt
-front_indexed (suc n) [] [] made = tt
-front_indexed (suc n) [] (index ∷ indexes) made = elim made [ ]
-front_indexed (suc n) (text ∷ texts) [] made = elim made [ ]
-front_indexed (suc n) (text ∷ texts) (index ∷ indexes) made = (made.0, front_indexed n texts indexes made.1)
-
-pub behind_indexed : (n : ℕ) (texts : List (List ℕ)) (indexes : List IndexForm) → AreIndexTexts texts indexes → AreIndexTexts (drop n texts) (drop n indexes)
-behind_indexed zero texts indexes made = made
-behind_indexed (suc n) [] [] made = tt
-behind_indexed (suc n) [] (index ∷ indexes) made = elim made [ ]
-behind_indexed (suc n) (text ∷ texts) [] made = elim made [ ]
-behind_indexed (suc n) (text ∷ texts) (index ∷ indexes) made = behind_indexed n texts indexes made.1
+indexed_of = by_schema (λ s. AreOf (indexes_of s) (forms_of s)) tt tt (second_of []) (second_of (added_forms 3)) (λ s fourth. rw fourth indexes_of_desk)

@@ -1,5 +1,6 @@
 -- Rows that are put in the order of their key, and rows that are put in a database.
 use Rattle.std.proofs.Common.{◌≡◌, refl, ap, subst, ◌∙◌, List, Bool, [], ◌∷◌, ◌++◌, false, not, map, filter, append-nil}
+use Rattle.std.proofs.lemmas.List.{map-append}
 use Rattle.std.specs.List.{AllByRecursion}
 use Rattle.std.specs.List.Sorted.{IsStrictlySortedBy, IsPermutation}
 use Rattle.std.specs.Cmp.{IsTotalOrder}
@@ -25,16 +26,12 @@ module _ {R : Type 0} (enc : R → Row) (form : Form) (r : R) where
   swapped : (v w : Row) (xs : List Row) → IsPermutation (v ∷ w ∷ xs) (w ∷ v ∷ xs)
   swapped v w xs = IsPermutation-sym _ _ (IsPermutation-middle (w ∷ []) v xs)
 
-  map_append : (xs ys : List R) → map enc (xs ++ ys) ≡ map enc xs ++ map enc ys
-  map_append [] ys = refl
-  map_append (x ∷ xs) ys = ap (λ l. enc x ∷ l) (map_append xs ys)
-
   -- a row whose key no row has
   pub put_at_end : (xs : List R) → AllByRecursion (λ x. meets form (enc x) (enc r) ≡ false) xs → IsPermutation (rows.put form (enc r) (map enc xs)) (map enc (xs ++ r ∷ []))
   put_at_end xs none =
       let moved : IsPermutation (map enc xs ++ enc r ∷ []) (enc r ∷ (map enc xs ++ [])) = IsPermutation-middle (map enc xs) (enc r) [] in
       let turned : IsPermutation (enc r ∷ map enc xs) (map enc xs ++ enc r ∷ []) = IsPermutation-sym _ _ (subst (λ l. IsPermutation (map enc xs ++ enc r ∷ []) (enc r ∷ l)) (append-nil (map enc xs)) moved) in
-      rw (all_apart xs none, map_append xs (r ∷ [])) turned
+      rw (all_apart xs none, map-append) turned
 
   module _ (order : R → R → Ordering) (total : IsTotalOrder order) where
     none_meets : (xs : List R) → AllByRecursion (λ x. meets form (enc x) (enc r) ≡ is_eq (order r x)) xs → AllByRecursion (λ x. order r x ≡ Less) xs → AllByRecursion (λ x. meets form (enc x) (enc r) ≡ false) xs

@@ -1,13 +1,14 @@
 -- The tables of a schema, raised to the next.
-use Rattle.std.proofs.Common.{◌≡◌, ◌⊎◌, inl, inr, refl, sym, ap, subst, ◌∙◌, ℕ, zero, suc, ◌+◌, List, [], ◌∷◌, ◌++◌, map, length, Bool, true, false, slice_get, Some, Ok, Err, Result, OnOk, OnErr, arith}
-use Rattle.std.proofs.lemmas.Bool.{cases_Bool}
-use Rattle.std.specs.List.{list_any}
+use Rattle.std.proofs.Common.{◌≡◌, ◌⊎◌, inl, inr, refl, sym, ap, subst, ◌∙◌, ℕ, zero, suc, ◌+◌, List, [], ◌∷◌, ◌++◌, map, length, true, false, slice_get, Some, Ok, Err, Result, OnOk, OnErr, arith}
+use Rattle.std.proofs.lemmas.Bool.{or_parts}
+use Rattle.std.proofs.lemmas.List.Folds.{list_any-append}
 use Rattle.sqlite.specs.Effect.{Database}
 use Rattle.sqlite.specs.Schema.{Schema}
 use Rattle.sqlite.specs.State.{State}
 use Rattle.sqlite_tied.specs.Compute.{everything}
+use Rattle.plant_base.specs.State as desk
 use Rattle.plant_base.specs.declared.rows.Position.{Position}
-use Rattle.plant_view.specs.Tables.{Tables, changed, changed_all}
+use Rattle.plant_view.specs.Tables.{Tables, tables_of, changed, changed_all}
 use Rattle.plant_view.specs.declared.change.RowChange.{RowChange}
 use Rattle.plant_view.specs.declared.change.RowChange.TheVariants as change
 use Rattle.table_forms.specs.Forms.{Form}
@@ -63,16 +64,9 @@ in_front [] ys i x is = absurd cc
 in_front (z ∷ zs) ys zero x is = is
 in_front (z ∷ zs) ys (suc i) x is = in_front zs ys i x is
 
--- what none of both passes, none of either does
-none_of_both : {X : Type 0} (p : X → Bool) (xs ys : List X) → list_any p (xs ++ ys) ≡ false → (list_any p xs ≡ false) × (list_any p ys ≡ false)
-none_of_both p [] ys none = (refl, none)
-none_of_both p (x ∷ xs) ys none = elim (cases_Bool (p x)) [
-  | inl hit ↦ absurd (let some = rw hit at none in cc)
-  | inr miss ↦ let rest = none_of_both p xs ys (rw miss at none) in (rw miss rest.0, rest.1)
-]
-
+-- a name that is none of both's is none of either's
 none_among : (xs ys : List Form) (name : List ℕ) → is_among (xs ++ ys) name ≡ false → (is_among xs name ≡ false) × (is_among ys name ≡ false)
-none_among xs ys name none = none_of_both _ xs ys none
+none_among xs ys name none = or_parts (is_among xs name) (is_among ys name) (sym (list_any-append _ xs ys) ∙ none)
 
 -- a name that is none of the desk's is none of the next schema's, nor of those that it adds
 foreign_next : (version : ℕ) → IsOlder version → (name : List ℕ) → is_among desk_forms name ≡ false → is_among (forms_of (version + 1)) name ≡ false
@@ -106,6 +100,10 @@ unfolding everything
 indexes_apart = by_older (λ v. are_named_apart (added_indexes (v + 1)) (later_forms (v + 1)) ≡ true) refl refl refl
 
 -- ---- tables of an older schema have no rows of those that are added
+
+-- nor have those of a state, in whatever schema
+pub lacks_later : (schema : ℕ) (s : desk.State) → LacksLater schema (tables_of schema s)
+lacks_later schema s = record { edges = λ lacking. rw lacking refl; receipts = λ lacking. rw lacking refl; recalls = λ lacking. rw lacking refl; marks = λ lacking. rw lacking refl }
 
 no_edges : (t : Tables) → LacksLater 1 t → (j : ℕ) (form : Form) → slice_get (edge_form ∷ []) j ≡ Some form → contents_of t (13 + j) ≡ []
 no_edges t lacks zero form is = ap (map row_of_edge) (lacks.edges refl)

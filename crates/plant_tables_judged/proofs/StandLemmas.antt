@@ -132,7 +132,7 @@ at_place x first (rows ∷ more) are zero low = let same : first + 0 ≡ first =
 at_place x first (rows ∷ more) are (suc place) low = let same : first + suc place ≡ suc first + place = omega arith in ap (contents_loaded x) same ∙ at_place x (suc first) more are.1 place (omega (arith, low))
 
 few_forms : (schema : ℕ) → length (forms_of schema) ≤ 17
-few_forms = by_schema (λ forms. length forms ≤ 17) (omega arith) (omega arith) (omega arith) (omega arith)
+few_forms = by_schema (λ s. length (forms_of s) ≤ 17) (omega arith) (omega arith) (omega arith) (omega arith) (λ s fourth. rw fourth (omega arith))
 
 -- Rows that were read from what was loaded, whose lines have numbers, whose movements have the columns of their kinds, whose
 -- receipts have contents and whose recalls have the columns of their states, are the tables that were loaded.

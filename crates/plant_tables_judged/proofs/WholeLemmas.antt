@@ -3,6 +3,7 @@ use Rattle.std.proofs.Common.{◌≡◌, refl, ap, ◌∙◌, ◌≤◌, true, L
 use Rattle.std.specs.List.{AllByRecursion, filter_map, cons_option}
 use Rattle.plant_base.proofs.Put.{all_weaker}
 use Rattle.plant_base.specs.Content.{is_there}
+use Rattle.plant_view.proofs.Rows.{all_mapped}
 use Rattle.plant_view.specs.Tables.{Tables}
 use Rattle.plant_tables_columns.specs.Booked.{movement_from, booked_of}
 use Rattle.plant_tables_columns.specs.Stated.{recall_from, stated_of}
@@ -25,15 +26,11 @@ module _ {R T : Type 0} (meant : R → Option T) (made : T → R) (again : (t : 
 pub same_tables : (t : Tables) → tables_in (rows_in t) ≡ t
 same_tables t = λ i. record t { movements = all_meant movement_from booked_of movement_again t.movements i; recalls = all_meant recall_from stated_of recall_again t.recalls i }
 
-all_made : {R T : Type 0} (made : T → R) (P : R → Type 0) (ts : List T) → AllByRecursion (λ t. P (made t)) ts → AllByRecursion P (map made ts)
-all_made made P [] all = tt
-all_made made P (t ∷ ts) all = (all.0, all_made made P ts all.1)
-
 pub whole_rows : (t : Tables) → HasGoodValues t → AreWhole (rows_in t)
 whole_rows t good = record {
   master_lines = all_weaker HasMasterLineValues (λ l. 1 ≤ l.number) (λ l h. number_low l.number h.number) t.master_lines good.master_lines;
   control_lines = all_weaker HasControlLineValues (λ l. 1 ≤ l.number) (λ l h. number_low l.number h.number) t.control_lines good.control_lines;
-  movement_lines = all_made booked_of (λ r. 1 ≤ r.line) t.movements (all_weaker HasMovementRowValues (λ m. 1 ≤ m.line) (λ m h. number_low m.line h.line) t.movements good.movements);
+  movement_lines = all_mapped (λ r. 1 ≤ r.line) booked_of t.movements (all_weaker HasMovementRowValues (λ m. 1 ≤ m.line) (λ m h. number_low m.line h.line) t.movements good.movements);
   movements = all_mean movement_from booked_of movement_again t.movements;
   contents = all_weaker HasReceiptRowValues (λ r. is_there r.content ≡ true) content_there t.receipts good.receipts;
   recalls = all_mean recall_from stated_of recall_again t.recalls;

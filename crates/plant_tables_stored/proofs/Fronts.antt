@@ -1,9 +1,8 @@
 -- What was read of the first tables.
-use Rattle.std.proofs.Common.{◌≡◌, sym, ap, subst, ◌∙◌, ℕ, zero, suc, ◌<◌, ◌≤◌, ◌+◌, List, [], ◌∷◌, ◌++◌, map, Vec, Some, None, slice_get, slice_index_or, length, take, inl, inr, arith}
+use Rattle.std.proofs.Common.{◌≡◌, sym, ap, subst, ◌∙◌, ℕ, ◌<◌, ◌≤◌, ◌+◌, List, [], ◌∷◌, ◌++◌, map, Vec, Some, None, slice_get, slice_index_or, length, inl, inr, arith}
 use Rattle.std.proofs.lemmas.Option.{slice_get_cases, slice_get_within}
 use Rattle.std.proofs.lemmas.List.{get_or_past, get_or_append_left, map-append, length-map}
 use Rattle.std.proofs.Math.Seq.{get_or-append_seam}
-use Rattle.std.specs.List.{AllByRecursion}
 use Rattle.std.specs.declared.alloc.Global.{Global}
 use Rattle.sqlite.specs.Effect.{Database}
 use Rattle.sqlite.specs.Order.{Row}
@@ -63,9 +62,3 @@ all_loaded schema db x n all len lists rising = record {
   tables = λ place form is. let low : place < n = (let within = slice_get_within (forms_of schema) place form is in omega arith) in record { rows = lists place form is low; rising = rising place form is low };
   no_more = beyond (forms_of schema) x.tables.items n all len;
 }
-
--- what is so of all is so of the first
-pub all_front : {A : Type 0} (P : A → Type 0) (n : ℕ) (xs : List A) → AllByRecursion P xs → AllByRecursion P (take n xs)
-all_front P zero xs all = tt
-all_front P (suc n) [] all = tt
-all_front P (suc n) (x ∷ xs) all = (all.0, all_front P n xs all.1)

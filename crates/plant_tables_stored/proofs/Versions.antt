@@ -1,6 +1,7 @@
 -- A store tells one version at most, and none where the names are free.
-use Rattle.std.proofs.Common.{◌≡◌, sym, ap, subst, ◌∙◌, ◌≤◌, ◌<◌, length, get_or, false, ℤ, pos, List, [], ◌∷◌, Option, Some, None, All, arith}
-use Rattle.std.specs.Prelude.{IfSome}
+use Rattle.std.proofs.Common.{◌≡◌, sym, ap, subst, subst₂, ◌∙◌, ◌≤◌, ◌<◌, length, get_or, Bool, true, false, ℤ, pos, List, [], ◌∷◌, All, arith}
+use Rattle.std.specs.Prelude.{◌↔◌}
+use Rattle.std.proofs.lemmas.Bool.{false≢true}
 use Rattle.std.proofs.lemmas.Option.{get_or_from_slice_get, slice_get-get_or, slice_get_within}
 use Rattle.sqlite.proofs.Callers.{one_permutation}
 use Rattle.sqlite.specs.Does.{lacks_sequence}
@@ -8,9 +9,10 @@ use Rattle.sqlite.specs.Effect.{Database}
 use Rattle.sqlite.specs.Order.{Row}
 use Rattle.sqlite.specs.Schema.{Schema}
 use Rattle.sqlite.specs.declared.types.Value.TheVariants.{Int}
-use Rattle.table_forms.specs.Standing.{HasTable, IsFree, AreFree}
+use Rattle.table_forms.specs.Forms.{Form}
+use Rattle.table_forms.specs.Standing.{IsFree, AreFree}
 use Rattle.table_reads.specs.Reading.{Lists}
-use Rattle.table_reads.proofs.Same.{lists_same, has_listed}
+use Rattle.table_reads.proofs.Same.{lists_same}
 use Rattle.plant_tables.specs.DeskForms.{desk_forms, meta_form}
 use Rattle.plant_tables_stored.specs.declared.finding.FoundTables.TheVariants as answer
 use Rattle.plant_tables_stored.specs.Version.{row_of, IsGoodMeta, IsVersion}
@@ -48,10 +50,6 @@ told_good row meta is good =
       same,
     )
 
-pub if_some : {A : Type 0} (o : Option A) (P Q : A → Type 0) → ((x : A) → P x → Q x) → IfSome o P → IfSome o Q
-if_some None P Q f h = h
-if_some (Some x) P Q f h = f x h
-
 -- a list of one row
 pub only_one : (list : List Row) (row : Row) → 1 ≤ length list → length list < 2 → row ≡ get_or list 0 row → list ≡ row ∷ []
 only_one [] row least most is = absurd (omega (arith, least))
@@ -74,6 +72,10 @@ are_free schema free counted = record {
 pub each_free : (schema : Schema) → AreFree desk_forms schema → All (IsFree schema) desk_forms
 each_free schema free i d low = free.each i _ (slice_get-get_or desk_forms i d low)
 
+-- where a test of the names tells that not all of them are free
+pub not_free : (there schema : Schema) (forms : List Form) (all : Bool) → there ≡ schema → forms ≡ desk_forms → (all ≡ true) ↔ All (IsFree there) forms → all ≡ false → ¬ All (IsFree schema) desk_forms
+not_free there schema forms all here same told failed free = false≢true (sym failed ∙ told.1 (subst₂ (λ s fs. All (IsFree s) fs) (sym here) (sym same) free))
+
 -- where the names are free there is no version
 pub free_tells_nothing : (db : Database) (n : ℤ) → All (IsFree db.schema) desk_forms → ¬ IsVersion db n
 free_tells_nothing db n free v =
@@ -81,10 +83,6 @@ free_tells_nothing db n free v =
     let unused = meta.unused in
     let named = v.alone.declared.named in
     absurd (let both = rw named at unused in cc)
-
--- where table meta doesn't stand there is no version
-pub other_tells_nothing : (db : Database) (n : ℤ) → ¬ All (HasTable db.schema) (meta_form ∷ []) → ¬ IsVersion db n
-other_tells_nothing db n none v = none (λ k d low. let first : k ≡ 0 = omega arith in rw first (has_listed db meta_form _ v.alone))
 
 -- the three answers differ
 pub nothing_or_version : (n : ℤ) → answer.Nothing ≡ answer.Version n → ⊥

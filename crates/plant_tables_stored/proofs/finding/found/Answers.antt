@@ -1,4 +1,4 @@
-use Rattle.std.proofs.Common.{rules, ◌≡◌, ◌∙◌, refl, true, false, sym, ap, subst, subst₂, All, w64}
+use Rattle.std.proofs.Common.{rules, ◌≡◌, refl, true, false, ap, subst, subst₂, All, w64}
 use Rattle.std.proofs.lemmas.Int.{to_z-of_z}
 use mir.Val.{SFits}
 use Rattle.sqlite.specs.Does.{lacks_sequence}
@@ -7,7 +7,7 @@ use Rattle.table_forms.specs.Standing.{IsFree}
 use Rattle.plant_tables.specs.DeskForms.{desk_forms}
 use Rattle.plant_tables_stored.specs.Version.{IsVersion}
 use Rattle.plant_tables_stored.specs.declared.finding.FoundTables.TheVariants as answer
-use Rattle.plant_tables_stored.proofs.Versions.{are_free, each_free, one_version, free_tells_nothing, nothing_or_version, version_or_nothing, unknown_or_nothing, unknown_or_version, told_version}
+use Rattle.plant_tables_stored.proofs.Versions.{are_free, each_free, not_free, one_version, free_tells_nothing, nothing_or_version, version_or_nothing, unknown_or_nothing, unknown_or_version, told_version}
 use Rattle.plant_tables_stored.proofs.finding.found.Goals as goal
 
 pub returns-then-all_free-clause-nothing : goal.returns-then-all_free-clause-nothing
@@ -25,12 +25,7 @@ returns-then-all_free-clause-version g c clean n =
 
 pub returns-in-Some-clause-nothing : goal.returns-in-Some-clause-nothing
 returns-in-Some-clause-nothing g c =
-    let failed : c.all_free.result ≡ false = search rules in (
-      λ e. absurd (version_or_nothing _ e),
-      λ free.
-          let stood : c.all_free.result ≡ true = c.all_free.ensures.1 (subst₂ (λ schema forms. All (IsFree schema) forms) (sym c.schema.ensures.value) (sym c.desk_forms.ensures) (each_free c.args.conn.now.schema free)) in
-          absurd (let both = sym stood ∙ failed in cc),
-    )
+    (λ e. absurd (version_or_nothing _ e), λ free. absurd (not_free _ _ _ _ c.schema.ensures.value c.desk_forms.ensures c.all_free.ensures (search rules) (each_free c.args.conn.now.schema free)))
 
 pub returns-in-Some-clause-version : goal.returns-in-Some-clause-version
 returns-in-Some-clause-version g c clean n =
@@ -43,12 +38,7 @@ returns-in-Some-clause-version g c clean n =
 
 pub returns-in-None-clause-nothing : goal.returns-in-None-clause-nothing
 returns-in-None-clause-nothing g c =
-    let failed : c.all_free.result ≡ false = search rules in (
-      λ e. absurd (unknown_or_nothing e),
-      λ free.
-          let stood : c.all_free.result ≡ true = c.all_free.ensures.1 (subst₂ (λ schema forms. All (IsFree schema) forms) (sym c.schema.ensures.value) (sym c.desk_forms.ensures) (each_free c.args.conn.now.schema free)) in
-          absurd (let both = sym stood ∙ failed in cc),
-    )
+    (λ e. absurd (unknown_or_nothing e), λ free. absurd (not_free _ _ _ _ c.schema.ensures.value c.desk_forms.ensures c.all_free.ensures (search rules) (each_free c.args.conn.now.schema free)))
 
 pub returns-in-None-clause-version : goal.returns-in-None-clause-version
 returns-in-None-clause-version g c clean n =
@@ -58,19 +48,10 @@ pub returns-then-all_free-clause-taken : goal.returns-then-all_free-clause-taken
 returns-then-all_free-clause-taken g c other = absurd (other refl)
 
 pub returns-in-Some-clause-taken : goal.returns-in-Some-clause-taken
-returns-in-Some-clause-taken g c other free =
-    let failed : c.all_free.result ≡ false = search rules in
-    let stood : c.all_free.result ≡ true = c.all_free.ensures.1 (subst₂ (λ schema forms. All (IsFree schema) forms) (sym c.schema.ensures.value) (sym c.desk_forms.ensures) free) in
-    absurd (let both = sym stood ∙ failed in cc)
+returns-in-Some-clause-taken g c other free = not_free _ _ _ _ c.schema.ensures.value c.desk_forms.ensures c.all_free.ensures (search rules) free
 
 pub returns-in_err-version-clause-free : goal.returns-in_err-version-clause-free
-returns-in_err-version-clause-free g c free =
-    let failed : c.all_free.result ≡ false = search rules in
-    let stood : c.all_free.result ≡ true = c.all_free.ensures.1 (subst₂ (λ schema forms. All (IsFree schema) forms) (sym c.schema.ensures.value) (sym c.desk_forms.ensures) (each_free c.args.conn.now.schema free)) in
-    absurd (let both = sym stood ∙ failed in cc)
+returns-in_err-version-clause-free g c free = absurd (not_free _ _ _ _ c.schema.ensures.value c.desk_forms.ensures c.all_free.ensures (search rules) (each_free c.args.conn.now.schema free))
 
 pub returns-in-None-clause-taken : goal.returns-in-None-clause-taken
-returns-in-None-clause-taken g c other free =
-    let failed : c.all_free.result ≡ false = search rules in
-    let stood : c.all_free.result ≡ true = c.all_free.ensures.1 (subst₂ (λ schema forms. All (IsFree schema) forms) (sym c.schema.ensures.value) (sym c.desk_forms.ensures) free) in
-    absurd (let both = sym stood ∙ failed in cc)
+returns-in-None-clause-taken g c other free = not_free _ _ _ _ c.schema.ensures.value c.desk_forms.ensures c.all_free.ensures (search rules) free

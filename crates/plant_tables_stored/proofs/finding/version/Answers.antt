@@ -1,9 +1,10 @@
 use Rattle.std.proofs.Common.{◌∙◌, subst, sym}
+use Rattle.std.proofs.lemmas.Option.{IfSome_then}
 use Rattle.sqlite.specs.Held.{state}
 use Rattle.table_reads.specs.Reading.{Lists}
 use Rattle.plant_tables.specs.DeskForms.{meta_form}
 use Rattle.plant_tables_stored.proofs.Texts.{meta_selected}
-use Rattle.plant_tables_stored.proofs.Versions.{if_some, no_version}
+use Rattle.plant_tables_stored.proofs.Versions.{no_version}
 use Rattle.plant_tables_stored.proofs.finding.version.Goals as goal
 
 pub read_table-requires : goal.read_table-requires
@@ -12,10 +13,10 @@ read_table-requires g c = meta_selected
 pub returns-clause-some : goal.returns-clause-some
 returns-clause-some g c clean =
     let db = (state g.S.Store c.args.conn.now).now in
-    if_some c.version_in.result _ _
+    IfSome_then c.version_in.result c.version_in.ensures.some
     (λ n told.
     let alone = sym c.as_slice.ensures.value ∙ told.1 in
-    record { row = told.0; alone = subst (Lists db meta_form) alone (c.in_ok-list.ensures.rows clean); good = told.2; tells = told.3 }) c.version_in.ensures.some
+    record { row = told.0; alone = subst (Lists db meta_form) alone (c.in_ok-list.ensures.rows clean); good = told.2; tells = told.3 })
 
 pub returns-clause-none : goal.returns-clause-none
 returns-clause-none g c clean none = no_version (state g.S.Store c.args.conn.now).now c.in_ok-list.list.items (c.in_ok-list.ensures.rows clean)

@@ -1,10 +1,10 @@
 use Rattle.std.proofs.Common.{◌≡◌, ◌∙◌, ◌≤◌, List, ap, sym, length, subst, map, take}
 use Rattle.std.specs.List.{AllByRecursion}
+use Rattle.std.proofs.ByRecursion.{All-take}
 use Rattle.std.proofs.lemmas.List.{length-map, take-map}
 use Rattle.table_forms.specs.Forms.{Form}
 use Rattle.plant_tables_stored.specs.declared.readings.Reading.{Reading}
 use Rattle.plant_tables_stored.specs.Readings.{SelectsAll}
-use Rattle.plant_tables_stored.proofs.Fronts.{all_front}
 use Rattle.plant_tables_stored.proofs.readings.readings_of.Goals as goal
 
 pub split_at-requires : goal.split_at-requires
@@ -18,4 +18,4 @@ returns-clause-forms c =
     ∙ ap (λ (fs : List Form). take c.tables_in.result fs) c.requires.forms ∙ c.tables_in.ensures.own
 
 pub returns-clause-texts : goal.returns-clause-texts
-returns-clause-texts c = subst (AllByRecursion SelectsAll) (sym c.split_at.ensures.front) (all_front SelectsAll c.tables_in.result c.args.readings.now c.requires.texts)
+returns-clause-texts c = subst (AllByRecursion SelectsAll) (sym c.split_at.ensures.front) (All-take SelectsAll c.tables_in.result c.args.readings.now c.requires.texts)

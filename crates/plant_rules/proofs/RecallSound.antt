@@ -1,5 +1,5 @@
 -- A recall, and one that is lifted, keep a state sound.
-use Rattle.std.proofs.Common.{◌≡◌, ℕ, List, Option, Some, None}
+use Rattle.std.proofs.Common.{ℕ, List, Option, Some, None}
 use Rattle.std.specs.List.Sorted.{IsStrictlySortedBy}
 use Rattle.std.specs.Cmp.{IsTotalOrder}
 use Rattle.std.proofs.lemmas.Cmp.{on_total, nat_list_cmp_total}
@@ -11,33 +11,13 @@ use Rattle.plant_base.specs.declared.command.LiftRecall.{LiftRecall}
 use Rattle.plant_base.proofs.Put.{sorted_put}
 use Rattle.plant_rules.specs.Recalling.{opened, recall, lifted, with_lifted, lift}
 use Rattle.plant_view.specs.Sound.{IsSound}
+use Rattle.plant_rules.proofs.HoldSound.{with_bars}
 
 recall_order_total : IsTotalOrder recall_order
 recall_order_total = on_total (λ r. r.id) nat_list_cmp_total
 
 with_recalls : (s : State) → IsSound s → (seq at : ℕ) (recalls : List Recall) → IsStrictlySortedBy recall_order recalls → IsSound (record s { seq = seq; at = at; recalls = recalls })
-with_recalls s sound seq at recalls sorted = record {
-  classes = sound.classes;
-  definitions = sound.definitions;
-  lots = sound.lots;
-  places = sound.places;
-  holds = sound.holds;
-  recalls_sorted = sorted;
-  classified = sound.classified;
-  defined = sound.defined;
-  housed = sound.housed;
-  placed = sound.placed;
-  numbered = sound.numbered;
-  named = sound.named;
-  one_material = sound.one_material;
-  small = sound.small;
-  covered = sound.covered;
-  recipes = sound.recipes;
-  orders = sound.orders;
-  batches = sound.batches;
-  runs = sound.runs;
-  genealogy = sound.genealogy;
-}
+with_recalls s sound seq at recalls sorted = with_bars s sound seq at s.holds recalls s.receipts sound.holds sound.placed sorted
 
 pub sound_recall : (s : State) → IsSound s → (t : Stamp) (c : RecallLot) → IsSound (recall s t c)
 sound_recall s sound t c = with_recalls s sound _ t.at _ (sorted_put recall_order recall_order_total (opened t c) s.recalls sound.recalls_sorted)

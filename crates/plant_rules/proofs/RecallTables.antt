@@ -1,6 +1,6 @@
 -- The rows of a recall, and of one that is lifted, make the tables of the next state.
-use Rattle.std.proofs.Common.{◌≡◌, ◌∙◌, ℕ, ◌+◌, false, List, [], ◌∷◌, map, Option, Some, is_some, refl, sym, ap}
-use Rattle.plant_base.specs.State.{State, newest_schema, same, put, recall_order, recall_at}
+use Rattle.std.proofs.Common.{◌≡◌, ◌∙◌, false, List, map, Option, Some, is_some, refl, sym, ap}
+use Rattle.plant_base.specs.State.{State, newest_schema, same, recall_at}
 use Rattle.plant_base.specs.declared.command.Stamp.{Stamp}
 use Rattle.plant_base.specs.declared.command.RecallLot.{RecallLot}
 use Rattle.plant_base.specs.declared.command.LiftRecall.{LiftRecall}

@@ -1,5 +1,5 @@
 -- Recalls: when they are refused, and what they add and lift.
-use Rattle.std.specs.Prelude.{ℕ, ◌+◌, ◌&&◌, nat_lt, Bool, false, not, List, [], ◌∷◌, Option, Some, None, is_some, is_none, map, filter}
+use Rattle.std.specs.Prelude.{ℕ, ◌+◌, ◌&&◌, nat_lt, Bool, false, not, List, [], ◌∷◌, Option, Some, None, is_some, is_none, map}
 use Rattle.plant_base.specs.Recalls.{is_open}
 use Rattle.plant_base.specs.State.{State, newest_schema, put, recall_order, lot_at, recall_at}
 use Rattle.plant_base.specs.declared.refusal.Refusal.{Refusal}

@@ -1,4 +1,4 @@
-use Rattle.std.proofs.Common.{◌≡◌, ◌+◌, ◌++◌, ◌∷◌, [], map, take}
+use Rattle.std.proofs.Common.{◌≡◌, ◌+◌, ◌++◌, ◌∷◌, map, take}
 use Rattle.plant_base.specs.State.{newest_schema}
 use Rattle.plant_base.specs.declared.rows.MovementKind.TheVariants.{Produced}
 use Rattle.plant_view.specs.declared.change.RowChange.TheVariants as row

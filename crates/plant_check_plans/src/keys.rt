@@ -1,6 +1,6 @@
 //! What rows are looked up by.
 
-ghost use Rattle.std.specs.Prelude.{◌≡◌, ◌==◌, filter, length};
+ghost use Rattle.std.specs.Prelude.{◌≡◌, ◌==◌, Some, filter, length};
 ghost use Rattle.plant_base.specs.State.{same};
 ghost use Rattle.plant_view.specs.Production.{is_defined, rows_among, control_among, job_among};
 ghost use Rattle.plant_check_plans.specs.Catalogue.{is_class_among};
@@ -17,8 +17,6 @@ use plant_check_groups::{Grouped, Grouping};
 pub struct Classes;
 
 impl Grouping for Classes {
-    ghost use Rattle.std.specs.Prelude.{Some};
-
     type Row = Class;
 
     type Key = Id;
@@ -34,8 +32,6 @@ impl Grouping for Classes {
 pub struct Definitions;
 
 impl Grouping for Definitions {
-    ghost use Rattle.std.specs.Prelude.{Some};
-
     type Row = Definition;
 
     type Key = Id;
@@ -51,8 +47,6 @@ impl Grouping for Definitions {
 pub struct Recipes;
 
 impl Grouping for Recipes {
-    ghost use Rattle.std.specs.Prelude.{Some};
-
     type Row = Recipe;
 
     type Key = (Id, u16);
@@ -68,8 +62,6 @@ impl Grouping for Recipes {
 pub struct RecipeLines;
 
 impl Grouping for RecipeLines {
-    ghost use Rattle.std.specs.Prelude.{Some};
-
     type Row = MasterLine;
 
     type Key = (Id, u16);
@@ -85,8 +77,6 @@ impl Grouping for RecipeLines {
 pub struct Orders;
 
 impl Grouping for Orders {
-    ghost use Rattle.std.specs.Prelude.{Some};
-
     type Row = Job;
 
     type Key = Id;
@@ -102,8 +92,6 @@ impl Grouping for Orders {
 pub struct Batches;
 
 impl Grouping for Batches {
-    ghost use Rattle.std.specs.Prelude.{Some};
-
     type Row = BatchRow;
 
     type Key = Id;
@@ -119,8 +107,6 @@ impl Grouping for Batches {
 pub struct BatchesOfOrders;
 
 impl Grouping for BatchesOfOrders {
-    ghost use Rattle.std.specs.Prelude.{Some};
-
     type Row = BatchRow;
 
     type Key = Id;
@@ -136,8 +122,6 @@ impl Grouping for BatchesOfOrders {
 pub struct ControlLines;
 
 impl Grouping for ControlLines {
-    ghost use Rattle.std.specs.Prelude.{Some};
-
     type Row = ControlLine;
 
     type Key = Id;
@@ -153,8 +137,6 @@ impl Grouping for ControlLines {
 pub struct Events;
 
 impl Grouping for Events {
-    ghost use Rattle.std.specs.Prelude.{Some};
-
     type Row = BatchEvent;
 
     type Key = Id;

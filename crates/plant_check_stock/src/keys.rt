@@ -1,9 +1,9 @@
 //! What rows are looked up by.
 
-ghost use Rattle.std.specs.Prelude.{◌≡◌, ◌==◌, filter};
+ghost use Rattle.std.specs.Prelude.{◌≡◌, ◌==◌, Some, None, if◌then◌else◌, filter};
 ghost use Rattle.std.specs.List.{list_any};
-ghost use Rattle.plant_stock.specs.Stock.{entries};
-ghost use Rattle.plant_check_stock.specs.Movements.{lot_among, is_there, parts_of};
+ghost use Rattle.plant_stock.specs.Stock.{entries, goes_to};
+ghost use Rattle.plant_check_stock.specs.Movements.{lot_among, is_merged, is_there, parts_of};
 
 use plant_base::{BatchEvent, Id, Lot, Movement, MovementKind, Sublot};
 use plant_check_groups::{Grouped, Grouping};
@@ -12,8 +12,6 @@ use plant_check_groups::{Grouped, Grouping};
 pub struct Lots;
 
 impl Grouping for Lots {
-    ghost use Rattle.std.specs.Prelude.{Some};
-
     type Row = Lot;
 
     type Key = Id;
@@ -29,8 +27,6 @@ impl Grouping for Lots {
 pub struct Sublots;
 
 impl Grouping for Sublots {
-    ghost use Rattle.std.specs.Prelude.{Some};
-
     type Row = Sublot;
 
     type Key = (Id, u16);
@@ -46,9 +42,6 @@ impl Grouping for Sublots {
 pub struct Parts;
 
 impl Grouping for Parts {
-    ghost use Rattle.std.specs.Prelude.{if◌then◌else◌, Some, None};
-    ghost use Rattle.plant_check_stock.specs.Movements.{is_merged};
-
     type Row = Movement;
 
     type Key = u64;
@@ -67,8 +60,6 @@ impl Grouping for Parts {
 pub struct EventNumbers;
 
 impl Grouping for EventNumbers {
-    ghost use Rattle.std.specs.Prelude.{Some};
-
     type Row = BatchEvent;
 
     type Key = u64;
@@ -84,8 +75,6 @@ impl Grouping for EventNumbers {
 pub struct EnteredSublots;
 
 impl Grouping for EnteredSublots {
-    ghost use Rattle.plant_stock.specs.Stock.{goes_to};
-
     type Row = Movement;
 
     type Key = (Id, u16);

@@ -30,14 +30,10 @@ use Rattle.plant_base.specs.declared.rows.Mark.{Mark}
 use Rattle.plant_base.specs.declared.rows.MarkKind.{MarkKind}
 use Rattle.plant_base.specs.declared.rows.MarkKind.TheVariants as kind
 use Rattle.plant_base.specs.declared.rows.Recall.{Recall}
+use Rattle.plant_view.proofs.RowKeys.{both_tie}
 use Rattle.plant_view.proofs.Membership.{all_at, map_in, map_from, filter_in, filter_from, flat_in, flat_from, put_in, put_from, put_past, put_once, all_stay, all_in, one_list, put_all_from, sorted_put_all, map_sorted}
 
 -- ---- the order of marks
-
-then_parts : (o p : Ordering) → ordering_then o p ≡ Equal → (o ≡ Equal) × (p ≡ Equal)
-then_parts Less p e = absurd cc
-then_parts Equal p e = (refl, e)
-then_parts Greater p e = absurd cc
 
 kinds_exact : (k j : MarkKind) → nat_cmp (mark_kind_number k) (mark_kind_number j) ≡ Equal → k ≡ j
 kinds_exact kind.Lot kind.Lot e = refl
@@ -47,8 +43,8 @@ kinds_exact kind.Batch kind.Batch e = refl
 
 pub mark_exact : CmpEqualImpliesEq mark_order
 mark_exact a b e =
-    let outer = then_parts (id_cmp a.recall b.recall) _ e in
-    let inner = then_parts (nat_cmp (mark_kind_number a.kind) (mark_kind_number b.kind)) _ outer.1 in
+    let outer = both_tie (id_cmp a.recall b.recall) _ e in
+    let inner = both_tie (nat_cmp (mark_kind_number a.kind) (mark_kind_number b.kind)) _ outer.1 in
     λ i. record { recall = exact_bytes a.recall b.recall outer.0 i; kind = kinds_exact a.kind b.kind inner.0 i; id = exact_bytes a.id b.id inner.1 i }
 
 -- ---- a mark and its node
@@ -171,12 +167,12 @@ grow_by_product recalls pairs a b end two = grown recalls pairs a b end two
 
 -- ---- a recall
 
+same_of : (i j : List ℕ) → i ≡ j → same i j ≡ true
+same_of i j e = subst (λ (k : List ℕ). same i k ≡ true) e (same_itself i)
+
 -- rows whose ids are not the same don't tie
 apart_from : (r q : Recall) → same q.id r.id ≡ false → recall_order r q ≡ Equal → ⊥
-apart_from r q apart e = false≢true (sym apart ∙ id_itself_as q.id r.id (sym (exact_bytes r.id q.id e)))
-  where
-    id_itself_as : (i j : List ℕ) → i ≡ j → same i j ≡ true
-    id_itself_as i j e = subst (λ (k : List ℕ). same i k ≡ true) e (same_itself i)
+apart_from r q apart e = false≢true (sym apart ∙ same_of q.id r.id (sym (exact_bytes r.id q.id e)))
 
 module _ (recalls : List Recall) (pairs : List (Node × Node)) (r : Recall) (nodes : List Node) (fresh : AllByRecursion (λ q. same q.id r.id ≡ false) recalls) (unlifted : is_open r ≡ true) (lists : Lists (IsRecalled pairs r.lot) nodes) where
   abbrev come_rows : List Mark
@@ -224,9 +220,6 @@ module _ (recalls : List Recall) (pairs : List (Node × Node)) (r : Recall) (sor
   not_same : (b : Bool) → (b ≡ true → ⊥) → not b ≡ true
   not_same true f = absurd (f refl)
   not_same false f = refl
-
-  same_of : (i j : List ℕ) → i ≡ j → same i j ≡ true
-  same_of i j e = subst (λ (k : List ℕ). same i k ≡ true) e (same_itself i)
 
   tie_of : (q : Recall) → q.id ≡ r.id → recall_order r q ≡ Equal
   tie_of q e = ap (λ (i : List ℕ). id_cmp r.id i) e ∙ tied_itself recall_total r

@@ -11,9 +11,9 @@ use Rattle.std.proofs.lemmas.Cmp.{tied_itself}
 use Rattle.std.proofs.lemmas.List.Elements.{Contains-append_cases, Contains-append_left, Contains-append_right}
 use Rattle.std.proofs.lemmas.Map.Lookups.{CmpEqualImpliesEq}
 use Rattle.plant_base.specs.State.{put}
-use Rattle.plant_base.proofs.Put.{sorted_put}
 use Rattle.plant_trace.proofs.Leading.{none_in, first_in, rest_in, first_or_rest}
 use Rattle.plant_view.specs.Rows.{put_all}
+pub use Rattle.plant_view.proofs.Rows.{sorted_put_all}
 
 -- ---- each of them
 
@@ -90,6 +90,24 @@ module _ {R : Type 0} (order : R → R → Ordering) where
   put_past r y [] apart h = absurd (none_in y h)
   put_past r y (x ∷ xs) apart h = put_past_by r x y xs apart (put_past r y xs apart) (order r x) refl h
 
+  -- rows stay, and come, where rows of one key are equal
+  module _ (exact : CmpEqualImpliesEq order) where
+    stays : (r y : R) (xs : List R) → Contains xs y → Contains (put order r xs) y
+    stays r y xs h = by (order r y) refl
+      where
+        by : (o : Ordering) → order r y ≡ o → Contains (put order r xs) y
+        by Less e = put_past r y xs (λ f. absurd cc) h
+        by Equal e = subst (λ (z : R). Contains (put order r xs) z) (exact r y e) (put_in r xs)
+        by Greater e = put_past r y xs (λ f. absurd cc) h
+
+    stay : (rs : List R) (y : R) (xs : List R) → Contains xs y → Contains (put_all order rs xs) y
+    stay [] y xs h = h
+    stay (r ∷ rs) y xs h = stay rs y (put order r xs) (stays r y xs h)
+
+    pub come : (rs xs : List R) (y : R) → Contains rs y → Contains (put_all order rs xs) y
+    come [] xs y h = absurd (none_in y h)
+    come (r ∷ rs) xs y h = ⊎_elim (λ (e : r ≡ y). subst (λ (z : R). Contains (put_all order rs (put order r xs)) z) e (stay rs r (put order r xs) (put_in r xs))) (λ i. come rs (put order r xs) y i) (first_or_rest r rs y h)
+
 module _ {R : Type 0} (order : R → R → Ordering) (total : IsTotalOrder order) where
   put_once_by : (r x y : R) (xs : List R) → AllByRecursion (λ z. order x z ≡ Less) xs → (Contains (put order r xs) y → order r y ≡ Equal → y ≡ r) → (o : Ordering) → order r x ≡ o → Contains (match_ordering o (r ∷ x ∷ xs) (r ∷ xs) (x ∷ put order r xs)) y → order r y ≡ Equal → y ≡ r
   put_once_by r x y xs above more Less is h tie = ⊎_elim (λ e. sym e) (λ i. ⊎_elim (λ (e : x ≡ y). absurd (let f : order r x ≡ Equal = ap (order r) e ∙ tie in cc)) (λ j. absurd (let g = total.trans r x y is (all_at (λ z. order x z ≡ Less) xs y above j) in cc)) (first_or_rest x xs y i)) (first_or_rest r (x ∷ xs) y h)
@@ -105,20 +123,13 @@ module _ {R : Type 0} (order : R → R → Ordering) (total : IsTotalOrder order
   -- ---- of an order that tells all rows apart
   module _ (exact : CmpEqualImpliesEq order) where
     pub put_stays : (r y : R) (xs : List R) → Contains xs y → Contains (put order r xs) y
-    put_stays r y xs h = by (order r y) refl
-      where
-        by : (o : Ordering) → order r y ≡ o → Contains (put order r xs) y
-        by Less e = put_past order r y xs (λ f. absurd cc) h
-        by Equal e = subst (λ (z : R). Contains (put order r xs) z) (exact r y e) (put_in order r xs)
-        by Greater e = put_past order r y xs (λ f. absurd cc) h
+    put_stays r y xs h = stays order exact r y xs h
 
     pub all_stay : (rs : List R) (y : R) (xs : List R) → Contains xs y → Contains (put_all order rs xs) y
-    all_stay [] y xs h = h
-    all_stay (r ∷ rs) y xs h = all_stay rs y (put order r xs) (put_stays r y xs h)
+    all_stay rs y xs h = stay order exact rs y xs h
 
     pub all_in : (rs : List R) (y : R) (xs : List R) → Contains rs y → Contains (put_all order rs xs) y
-    all_in [] y xs h = absurd (none_in y h)
-    all_in (r ∷ rs) y xs h = ⊎_elim (λ (e : r ≡ y). subst (λ (z : R). Contains (put_all order rs (put order r xs)) z) e (all_stay rs r (put order r xs) (put_in order r xs))) (λ i. all_in rs y (put order r xs) i) (first_or_rest r rs y h)
+    all_in rs y xs h = come order exact rs xs y h
 
     less_itself : (x : R) → order x x ≡ Less → ⊥
     less_itself x e = let f = tied_itself total x in absurd cc
@@ -140,10 +151,6 @@ module _ {R : Type 0} (order : R → R → Ordering) (total : IsTotalOrder order
   pub put_all_from : (rs : List R) (y : R) (xs : List R) → Contains (put_all order rs xs) y → Contains rs y ⊎ Contains xs y
   put_all_from [] y xs h = inr h
   put_all_from (r ∷ rs) y xs h = ⊎_elim (λ i. inl (rest_in r rs y i)) (λ i. ⊎_elim (λ e. inl (subst (λ (z : R). Contains (r ∷ rs) z) (sym e) (first_in r rs))) (λ j. inr j) (put_from order r y xs i)) (put_all_from rs y (put order r xs) h)
-
-  pub sorted_put_all : (rs xs : List R) → IsStrictlySortedBy order xs → IsStrictlySortedBy order (put_all order rs xs)
-  sorted_put_all [] xs sorted = sorted
-  sorted_put_all (r ∷ rs) xs sorted = sorted_put_all rs (put order r xs) (sorted_put order total r xs sorted)
 
 -- mapped by what keeps their order
 all_above : {X Y : Type 0} (order : X → X → Ordering) (above : Y → Y → Ordering) (f : X → Y) → ((a b : X) → order a b ≡ Less → above (f a) (f b) ≡ Less) → (x : X) (xs : List X) → AllByRecursion (λ z. order x z ≡ Less) xs → AllByRecursion (λ z. above (f x) z ≡ Less) (map f xs)

@@ -2,7 +2,6 @@
 use Rattle.std.proofs.Common.{◌≡◌, refl, ap, ◌∙◌, List, ℕ, ◌^◌, Bool, [], ◌∷◌, ◌++◌, map, None, Option, true, false, nat_le, if◌then◌else◌}
 use Rattle.std.specs.Prelude.{filter, flat_map, IsPermutation}
 use Rattle.std.proofs.lemmas.List.Sorted.{IsPermutation-map}
-use Rattle.sqlite_value.specs.declared.value.Value.TheVariants.{Null}
 use Rattle.sqlite_value.specs.Order.{Row, column}
 use Rattle.sqlite_trees.specs.Tree.{Trees}
 use Rattle.sqlite_sql.specs.Term.{Term, eval_all}
@@ -10,11 +9,8 @@ use Rattle.sqlite_sql.specs.Query.{IsAnswer, Output, output}
 use Rattle.sqlite_sql.specs.Program.{overlay}
 use Rattle.sqlite_schema.specs.declared.schema.Table.{Table}
 use Rattle.sqlite_schema.specs.Names.{place_of}
-use Rattle.sqlite_schema.specs.declared.command.Command.TheVariants.{Select}
 use Rattle.sqlite_resolve.specs.declared.scope.Output.{Output as Shown}
-use Rattle.sqlite_resolve.specs.Scope.{Name}
 use Rattle.sqlite_draft.specs.Query.{query_of}
-use Rattle.sqlite.specs.Effect.{Database, Reads}
 use Rattle.table_reads.proofs.Shown.{at_places, passes_all}
 use Rattle.table_forms.proofs.Given.{Entry}
 use Rattle.table_reads.proofs.Query.{draft_of, outputs_of}
@@ -41,6 +37,7 @@ one_or_none test f (x ∷ xs) = go (test x) (one_or_none test f xs)
     go true h = ap (λ more. f x ∷ more) h
     go false h = h
 
+-- the answer of SELECT .. FROM t [WHERE ..]: the rows that pass, as they are shown, in some order
 pub answer_lists : (table : Table) (es by : List Entry) (terms : List Term) (db : Trees) (params : Row) (rows : List Row) → IsAnswer (query_of (draft_of table es by terms)) (overlay db []) params rows
     → IsPermutation (map (at_places (places_of table es)) (filter (passes_all params terms) (db table.tree))) rows
 answer_lists table es by terms db params rows a =
@@ -54,19 +51,3 @@ answer_lists table es by terms db params rows a =
     each : (rs : List Row) → map (λ (o : Output). o.1) (map (output (query_of (draft_of table es by terms))) (map (λ (r : Row). params ∷ r ∷ []) rs)) ≡ map (at_places (places_of table es)) rs
     each [] = refl
     each (r ∷ rs) = rw (shows table params r es) (ap (λ more. at_places (places_of table es) r ∷ more) (each rs))
-
--- the answer of SELECT .. FROM t [WHERE ..]: the rows that pass, as they are shown, in some order
-pub reads_rows : (table : Table) (es by : List Entry) (terms : List Term) (names : List Name) (db : Database) (params : Row) (rows : List Row)
-    → Reads (Select (record { lets = []; body = query_of (draft_of table es by terms) }) names) db params rows
-    → IsPermutation (map (at_places (places_of table es)) (filter (passes_all params terms) (db.trees table.tree))) rows
-reads_rows table es by terms names db params rows h = answer_lists table es by terms db.trees params rows (h.answer Null)
-
-no_test : (rs : List Row) (params : Row) → filter (passes_all params []) rs ≡ rs
-no_test [] params = refl
-no_test (r ∷ rs) params = ap (λ more. r ∷ more) (no_test rs params)
-
--- a whole table
-pub reads_all : (table : Table) (es by : List Entry) (names : List Name) (db : Database) (params : Row) (rows : List Row)
-    → Reads (Select (record { lets = []; body = query_of (draft_of table es by []) }) names) db params rows
-    → IsPermutation (map (at_places (places_of table es)) (db.trees table.tree)) rows
-reads_all table es by names db params rows h = rw (no_test (db.trees table.tree) params) at (reads_rows table es by [] names db params rows h)

@@ -1,9 +1,9 @@
 -- What reading leaves, from what `sqlite` says of each call.
-use Rattle.std.proofs.Common.{◌≡◌, ◌⊎◌, inl, inr, sym, subst, ◌∙◌, List, ℕ, [], None, Ok, Err, Result, IfOk}
+use Rattle.std.proofs.Common.{◌≡◌, inl, inr, sym, subst, ◌∙◌, List, ℕ, [], None, Ok, Err, Result, IfOk}
 use Rattle.sqlite.specs.Order.{Row}
 use Rattle.sqlite.specs.Effect.{Database}
 use Rattle.sqlite.specs.Listing.{understood, reads_listing, IsSourceOf}
-use Rattle.sqlite.specs.State.{State, IsUnchanged, IsRolledBack, Fails, IsNotRun, FailsToQuery, Shown, ShowsRows, Survives, CommitsShowing}
+use Rattle.sqlite.specs.State.{State, IsUnchanged, IsRolledBack, IsNotRun, FailsToQuery, Shown, ShowsRows, Survives, CommitsShowing}
 use Rattle.sqlite.specs.Clock.{timed}
 use Rattle.sqlite.specs.declared.error.Error.{Error}
 use Rattle.sqlite.specs.Schema.{Schema}
@@ -40,10 +40,6 @@ keeps_then a b c same kept = record {
   now = λ is_open. kept.now is_open ∙ same.0.now_is;
   committed = λ is_open. kept.committed is_open ∙ same.0.committed_is;
 }
-
-pub keeps_moved : (old new : State) (e : Error) → IsAtRest old → Fails old new ⊥ e ⊎ IsUnchanged old new → Keeps old new
-keeps_moved old new e rest (inl fails) = keeps_undone old new rest fails.3
-keeps_moved old new e rest (inr same) = keeps_same old new rest same
 
 not_run : (sql : List ℕ) (params : Row) (old new : State) (e : Error) → IsAtRest old → IsNotRun old new sql params e → Keeps old new
 unfolding IsNotRun

@@ -7,6 +7,7 @@ pub mod Entries
 pub mod Errors
 pub mod Tests
 pub mod Stored
+pub mod Asking
 pub mod Selecting
 pub mod KeepLemmas
 pub mod RiseLemmas

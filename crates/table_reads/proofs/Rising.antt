@@ -1,8 +1,7 @@
 -- What is known of one table.
-use Rattle.std.proofs.Common.{◌≡◌, ℕ, List, Some, slice_get, subst, sym}
+use Rattle.std.proofs.Common.{◌≡◌, ℕ, List, Some, slice_get}
 use Rattle.sqlite.specs.Effect.{Database}
 use Rattle.sqlite.specs.Table.{Table}
-use Rattle.sqlite.specs.State.{State}
 use Rattle.sqlite_rules.proofs.ListLemmas.{has_got}
 use Rattle.sqlite_trees.specs.View.{IsShaped}
 use Rattle.sqlite_trees.specs.declared.store.Shape.TheVariants as shape
@@ -15,10 +14,6 @@ use Rattle.table_reads.specs.Reading.{Lists}
 -- a declared table's rows have integer rowids, which rise
 pub shaped_at : (db : Database) (at : ℕ) (table : Table) → IsRising db → slice_get db.schema.tables at ≡ Some table → IsShaped shape.Table (db.trees table.tree)
 shaped_at db at table rising is = rising.rises table (has_got db.schema.tables at table is)
-
--- a connection that shows what it showed keeps it
-pub rising_kept : (old new : State) → new.now ≡ old.now → IsRising old.now → IsRising new.now
-rising_kept old new same = subst IsRising (sym same)
 
 -- what was read of a table stands in it, as the writing side asks
 pub listed_stands : (db : Database) (form : Form) (rows : List Row) → IsRising db → Lists db form rows → Stands db form rows

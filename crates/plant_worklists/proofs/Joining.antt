@@ -9,6 +9,7 @@ use Rattle.std.specs.declared.cmp.Ordering.{Ordering}
 use Rattle.std.specs.declared.cmp.Ordering.TheVariants.{Less, Equal, Greater}
 use Rattle.std.proofs.lemmas.Bool.Decides.{nat_tests}
 use Rattle.std.proofs.lemmas.Cmp.{tied_itself}
+use Rattle.std.proofs.lemmas.List.{take_all}
 use Rattle.plant_worklists.specs.Pages.{page_size, page_of}
 use Rattle.plant_worklists.specs.declared.page.Page.{Page}
 
@@ -65,12 +66,6 @@ module _ {R : Type 0} (order : R → R → Ordering) where
       (λ e. rw e (let more = covers xs ys in (omega (arith, more.0), omega (arith, more.1))))
       (λ e. rw e (let more = covers (x ∷ xs) ys in (omega (arith, more.0), omega (arith, more.1))))
 
-  take_whole : (n : ℕ) (zs : List R) → length zs ≤ n → take n zs ≡ zs
-  take_whole zero [] few = refl
-  take_whole zero (z ∷ zs) few = absurd (omega (arith, few))
-  take_whole (suc n) [] few = refl
-  take_whole (suc n) (z ∷ zs) few = ap (λ l. z ∷ l) (take_whole n zs (omega (arith, few)))
-
   -- whether more stand behind the front, by whether more stand behind either front, and by what both fronts have
   more_by : (n : ℕ) (xs ys : List R) (a b : Bool) → nat_lt n (length xs) ≡ a → nat_lt n (length ys) ≡ b
       → (nat_lt n (length xs) || (nat_lt n (length ys) || nat_lt n (length (merged (take n xs) (take n ys))))) ≡ nat_lt n (length (merged xs ys))
@@ -85,7 +80,7 @@ module _ {R : Type 0} (order : R → R → Ordering) where
   more_by n xs ys false false e f =
       let few : length xs ≤ n = grind (arith, nat_tests) in
       let some : length ys ≤ n = grind (arith, nat_tests) in
-      rw (e, f, take_whole n xs few, take_whole n ys some) refl
+      rw (e, f, take_all n xs few, take_all n ys some) refl
 
   -- the first page of two lists as one, from the first page of each
   pub pages_merged : (xs ys : List R) (page : Page R) → page.rows ≡ take page_size (merged (take page_size xs) (take page_size ys))

@@ -6,8 +6,9 @@ use Rattle.std.specs.declared.cmp.Ordering.{Ordering}
 use Rattle.std.specs.declared.cmp.Ordering.TheVariants.{Less, Equal, Greater}
 use Rattle.std.specs.Cmp.Lexicographic.{texts_ties}
 use Rattle.std.proofs.lemmas.Bool.{false≢true}
-use Rattle.std.proofs.lemmas.Cmp.{nat_list_cmp_total}
-use Rattle.std.proofs.lemmas.List.{length-take, length-drop, get_or-take, get_or-drop, take-append-drop}
+use Rattle.std.proofs.lemmas.Bool.Decides.{nat_tests}
+use Rattle.std.proofs.lemmas.Cmp.{is_lt_index, nat_list_cmp_total}
+use Rattle.std.proofs.lemmas.List.{append-nil, length-take, length-drop, get_or-take, get_or-drop, take-append-drop}
 use Rattle.std.proofs.lemmas.List.Elements.{filter-append}
 use Rattle.std.proofs.lemmas.List.Sorted.{searchable_from_sorted}
 use Rattle.plant_base.specs.State.{id_cmp, same}
@@ -47,21 +48,15 @@ between_yes Less e f = absurd (false≢true (sym e))
 between_yes Equal e f = refl
 between_yes Greater e f = absurd (false≢true f)
 
-below_lt : (a b : Ordering) → ordering_index a ≤ ordering_index b → is_lt b ≡ true → is_lt a ≡ true
+-- what comes before one that is less is less, and so with what is at most the same
+pub below_lt : (a b : Ordering) → ordering_index a ≤ ordering_index b → is_lt b ≡ true → is_lt a ≡ true
 below_lt Less b le h = refl
-below_lt Equal Less le h = absurd (omega arith)
-below_lt Equal Equal le h = absurd (false≢true h)
-below_lt Equal Greater le h = absurd (false≢true h)
-below_lt Greater Less le h = absurd (omega arith)
-below_lt Greater Equal le h = absurd (omega arith)
-below_lt Greater Greater le h = absurd (false≢true h)
+below_lt a b le h = absurd (grind (arith, nat_tests, is_lt_index a, is_lt_index b))
 
-below_le : (a b : Ordering) → ordering_index a ≤ ordering_index b → is_le b ≡ true → is_le a ≡ true
-below_le Less b le h = refl
-below_le Equal b le h = refl
-below_le Greater Less le h = absurd (omega arith)
-below_le Greater Equal le h = absurd (omega arith)
+pub below_le : (a b : Ordering) → ordering_index a ≤ ordering_index b → is_le b ≡ true → is_le a ≡ true
 below_le Greater Greater le h = absurd (false≢true h)
+below_le Greater b le h = absurd (omega arith)
+below_le a b le h = refl
 
 module _ {R : Type 0} (lot_of : R → List ℕ) where
   pub rise_rest : (n : ℕ) (rows : List R) → n ≤ length rows → Rise lot_of rows → Rise lot_of (drop n rows)
@@ -120,8 +115,4 @@ module _ {R : Type 0} (lot_of : R → List ℕ) (lot : List ℕ) where
         is_of (get_or (take count rest) k d) ∙ ap (λ r. is_eq (by r)) (get_or-take count rest k d inside) ∙ between_yes (by (get_or rest k d)) late (up_to.0 k d (omega arith) inside))
 
     pub part_is : take count rest ≡ rows_of lot_of lot rows
-    part_is = sym (front_and_rest (λ r. same (lot_of r) lot) from rows ∙ (λ i. front_none i ++ filter (λ r. same (lot_of r) lot) rest) ∙ front_and_rest (λ r. same (lot_of r) lot) count rest ∙ (λ i. part_each i ++ back_none i) ∙ append_none (take count rest))
-      where
-        append_none : (xs : List R) → xs ++ [] ≡ xs
-        append_none [] = refl
-        append_none (x ∷ xs) = ap (λ l. x ∷ l) (append_none xs)
+    part_is = sym (front_and_rest (λ r. same (lot_of r) lot) from rows ∙ (λ i. front_none i ++ filter (λ r. same (lot_of r) lot) rest) ∙ front_and_rest (λ r. same (lot_of r) lot) count rest ∙ (λ i. part_each i ++ back_none i) ∙ append-nil (take count rest))

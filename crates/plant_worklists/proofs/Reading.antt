@@ -1,13 +1,13 @@
 -- A page of what comes after a lot is all there is of each lot before its last, and of all where nothing stands behind it.
-use Rattle.std.proofs.Common.{◌≡◌, ◌∙◌, ℕ, ◌+◌, ◌-◌, ◌<◌, ◌≤◌, Bool, true, false, cond, nat_lt, ◌&&◌, List, [], ◌∷◌, ◌++◌, filter, take, drop, length, get_or, slice_get, option_map, Option, Some, None, refl, sym, ap, arith}
+use Rattle.std.proofs.Common.{◌≡◌, ◌∙◌, ℕ, ◌+◌, ◌-◌, ◌<◌, ◌≤◌, Bool, true, false, cond, nat_lt, List, [], ◌∷◌, ◌++◌, filter, take, drop, length, get_or, slice_get, option_map, Option, Some, None, refl, sym, ap, arith}
 use Rattle.std.specs.Prelude.{if◌then◌else◌}
 use Rattle.std.specs.Ordering.{is_eq, is_lt, ordering_index, ordering_reverse}
 use Rattle.std.specs.declared.cmp.Ordering.{Ordering}
 use Rattle.std.specs.declared.cmp.Ordering.TheVariants.{Less, Equal, Greater}
-use Rattle.std.proofs.lemmas.Bool.{false≢true}
+use Rattle.std.proofs.lemmas.Bool.{and_parts, false≢true}
 use Rattle.std.proofs.lemmas.Bool.Decides.{nat_tests}
 use Rattle.std.proofs.lemmas.Cmp.{nat_list_cmp_total}
-use Rattle.std.proofs.lemmas.List.{length-take, length-drop, get_or-take, get_or-drop, take_all}
+use Rattle.std.proofs.lemmas.List.{append-nil, length-take, length-drop, get_or-take, get_or-drop, take_all}
 use Rattle.std.proofs.lemmas.Option.{get_or_from_slice_get, slice_get-get_or}
 use Rattle.plant_base.specs.State.{id_cmp, same}
 use Rattle.plant_base.proofs.Keys.{same_id}
@@ -16,10 +16,6 @@ use Rattle.plant_worklists.specs.Pages.{page_of, page_size}
 use Rattle.plant_worklists.specs.Worklists.{is_above}
 use Rattle.plant_worklists.specs.declared.page.Page.{Page}
 use Rattle.plant_worklists.proofs.Parting.{front_and_rest, is_of, none_pass, rise_front, rises}
-
-and_yes : (a b : Bool) → (a && b) ≡ true → (a ≡ true) × (b ≡ true)
-and_yes true b e = (refl, e)
-and_yes false b e = absurd (false≢true e)
 
 last_index : (o : Ordering) → 2 ≤ ordering_index o → is_eq o ≡ false
 last_index Less le = absurd (omega (arith, le))
@@ -49,12 +45,8 @@ module _ {R : Type 0} (lot_of : R → List ℕ) where
 
     -- behind a row of a later lot there is none of this one
     cut_at : (z : R) → slice_get front (length front - 1) ≡ Some z → is_lt (id_cmp lot (lot_of z)) ≡ true → page_size < length rows → rows_of lot_of lot front ≡ rows_of lot_of lot rows
-    cut_at z last before more = sym (front_and_rest (λ r. same (lot_of r) lot) page_size rows ∙ ap (λ l. rows_of lot_of lot front ++ l) none ∙ append_none (rows_of lot_of lot front))
+    cut_at z last before more = sym (front_and_rest (λ r. same (lot_of r) lot) page_size rows ∙ ap (λ l. rows_of lot_of lot front ++ l) none ∙ append-nil (rows_of lot_of lot front))
       where
-        append_none : (xs : List R) → xs ++ [] ≡ xs
-        append_none [] = refl
-        append_none (x ∷ xs) = ap (λ l. x ∷ l) (append_none xs)
-
         long : length front ≡ page_size
         long = let whole = length-take page_size rows in omega (arith, whole, more)
 
@@ -89,7 +81,7 @@ module _ {R : Type 0} (lot_of : R → List ℕ) where
       rw is (record {
         rise = rise_front lot_of page_size here rise;
         whole = λ lot within.
-            let bounds = and_yes (is_above above lot) (is_before (end_of lot_of (page_of here).rows (page_of here).has_more) lot) within in
+            let bounds = and_parts (is_above above lot) (is_before (end_of lot_of (page_of here).rows (page_of here).has_more) lot) within in
             whole_front here rise lot (nat_lt page_size (length here)) refl bounds.1 ∙ among above lot bounds.0 all;
       })
 

@@ -25,10 +25,7 @@ pub fn orders_in<V: Worklists>(
     ensures { HonestlyTold V.honest V.kept V.steady view.old view.new
         (IfOk result (λ page. page ≡ page_of (orders_in (V.state view.old) state above))) }
 {
-    match view.orders_in(state, above) {
-        Ok(page) => Ok(page),
-        Err(fault) => Err(ViewFault::View(fault)),
-    }
+    view.orders_in(state, above).map_err(ViewFault::View)
 }
 
 /// A page of the batches that aren't closed.
@@ -39,10 +36,7 @@ pub fn open_batches<V: Worklists>(
     ensures { HonestlyTold V.honest V.kept V.steady view.old view.new
         (IfOk result (λ page. page ≡ page_of (open_batches (V.state view.old) above))) }
 {
-    match view.open_batches(above) {
-        Ok(page) => Ok(page),
-        Err(fault) => Err(ViewFault::View(fault)),
-    }
+    view.open_batches(above).map_err(ViewFault::View)
 }
 
 /// A page of the lots of a definition.
@@ -54,10 +48,7 @@ pub fn lots_of<V: Worklists>(
     ensures { HonestlyTold V.honest V.kept V.steady view.old view.new
         (IfOk result (λ page. page ≡ page_of (lots_of (V.state view.old) def above))) }
 {
-    match view.lots_of(def, above) {
-        Ok(page) => Ok(page),
-        Err(fault) => Err(ViewFault::View(fault)),
-    }
+    view.lots_of(def, above).map_err(ViewFault::View)
 }
 
 /// A page of the holds of a lot.
@@ -69,10 +60,7 @@ pub fn holds_on<V: Worklists>(
     ensures { HonestlyTold V.honest V.kept V.steady view.old view.new
         (IfOk result (λ page. page ≡ page_of (holds_on (V.state view.old) lot above))) }
 {
-    match view.holds_on(lot, above) {
-        Ok(page) => Ok(page),
-        Err(fault) => Err(ViewFault::View(fault)),
-    }
+    view.holds_on(lot, above).map_err(ViewFault::View)
 }
 
 /// A page of the recalls that weren't lifted.
@@ -83,10 +71,7 @@ pub fn open_recalls<V: Worklists>(
     ensures { HonestlyTold V.honest V.kept V.steady view.old view.new
         (IfOk result (λ page. page ≡ page_of (open_recalls (V.state view.old) above))) }
 {
-    match view.open_recalls(above) {
-        Ok(page) => Ok(page),
-        Err(fault) => Err(ViewFault::View(fault)),
-    }
+    view.open_recalls(above).map_err(ViewFault::View)
 }
 
 /// A page of the definitions of a class.
@@ -98,10 +83,7 @@ pub fn definitions_in<V: Worklists>(
     ensures { HonestlyTold V.honest V.kept V.steady view.old view.new
         (IfOk result (λ page. page ≡ page_of (definitions_in (V.state view.old) class above))) }
 {
-    match view.definitions_in(class, above) {
-        Ok(page) => Ok(page),
-        Err(fault) => Err(ViewFault::View(fault)),
-    }
+    view.definitions_in(class, above).map_err(ViewFault::View)
 }
 
 /// A page of the lots that come after one.
@@ -112,10 +94,7 @@ pub fn lots_after<V: Worklists>(
     ensures { HonestlyTold V.honest V.kept V.steady view.old view.new
         (IfOk result (λ page. page ≡ page_of (lots_after (V.state view.old) above))) }
 {
-    match view.lots_after(above) {
-        Ok(page) => Ok(page),
-        Err(fault) => Err(ViewFault::View(fault)),
-    }
+    view.lots_after(above).map_err(ViewFault::View)
 }
 
 /// A page of the sublots of the lots that come after one.
@@ -127,10 +106,7 @@ pub fn sublots_after<V: Worklists>(
         (IsSound (V.state view.old)
         → IfOk result (λ page. page ≡ page_of (sublots_after (V.state view.old) above))) }
 {
-    match view.sublots_after(above) {
-        Ok(page) => Ok(page),
-        Err(fault) => Err(ViewFault::View(fault)),
-    }
+    view.sublots_after(above).map_err(ViewFault::View)
 }
 
 /// A page of the holds of the lots that come after one.
@@ -141,10 +117,7 @@ pub fn holds_after<V: Worklists>(
     ensures { HonestlyTold V.honest V.kept V.steady view.old view.new
         (IfOk result (λ page. page ≡ page_of (holds_after (V.state view.old) above))) }
 {
-    match view.holds_after(above) {
-        Ok(page) => Ok(page),
-        Err(fault) => Err(ViewFault::View(fault)),
-    }
+    view.holds_after(above).map_err(ViewFault::View)
 }
 
 /// A page of the versions of recipes in a state.
@@ -156,10 +129,7 @@ pub fn recipes_in<V: Worklists>(
     ensures { HonestlyTold V.honest V.kept V.steady view.old view.new
         (IfOk result (λ page. page ≡ page_of (recipes_in (V.state view.old) state above))) }
 {
-    match view.recipes_in(state, above) {
-        Ok(page) => Ok(page),
-        Err(fault) => Err(ViewFault::View(fault)),
-    }
+    view.recipes_in(state, above).map_err(ViewFault::View)
 }
 
 /// A page of the ledger of a lot.
@@ -171,8 +141,5 @@ pub fn ledger_of<V: Worklists>(
     ensures { HonestlyTold V.honest V.kept V.steady view.old view.new
         (IfOk result (λ page. page ≡ page_of (ledger_of (V.state view.old) lot above))) }
 {
-    match view.ledger_of(lot, above) {
-        Ok(page) => Ok(page),
-        Err(fault) => Err(ViewFault::View(fault)),
-    }
+    view.ledger_of(lot, above).map_err(ViewFault::View)
 }

@@ -1,5 +1,5 @@
 -- What a movement's kind asks of its columns, and the movement of a row that has them.
-use Rattle.std.proofs.Common.{◌≡◌, refl, sym, ap, ◌∙◌, subst, ℕ, List, true, ◌&&◌, Option, Some, None, eqb-true}
+use Rattle.std.proofs.Common.{◌≡◌, refl, ap, ◌∙◌, subst, ℕ, List, true, ◌&&◌, Option, Some, None, eqb-true}
 use Rattle.std.specs.Prelude.{is_none}
 use Rattle.std.proofs.lemmas.Bool.{and_parts}
 use Rattle.plant_base.specs.declared.rows.MovementKind.{MovementKind}
@@ -95,11 +95,6 @@ movement_back r m h =
     let fits = sort_fits r.sort r read.0 read.1 in
     let named = fits.names in
     (λ i. record r { sort = fits.is_sort i; lot2 = named.other_lot i; sub2 = named.other_sub i; batch = named.its_batch i }) ∙ ap booked_of read.2
-
--- the row that books a movement has its line
-pub same_line : (r : BookedRow) (m : Movement) → movement_from r ≡ Some m → m.line ≡ r.line
-unfolding movement_from
-same_line r m h = let read = mapped (moved_as r) (kind_from r) m h in ap (λ m. m.line) (sym read.2)
 
 own_kind : (k : MovementKind) (r : BookedRow) → r.sort ≡ sort_of k → r.lot2 ≡ other_lot k r.lot → r.sub2 ≡ other_sublot k → r.batch ≡ batch_by k → kind_from r ≡ Some k
 own_kind kind.Received r s a b c = rw (s, a, b, c) refl

@@ -13,22 +13,22 @@ use Rattle.table_forms.specs.Rows.{fits_columns}
 use Rattle.plant_tables_columns.specs.Columns.{Kind}
 use Rattle.plant_tables_columns.specs.Kinds.{number}
 use Rattle.plant_tables_columns.specs.Reading.{is_null, is_empty, is_zero, id_from, text_from, amount_from}
-use Rattle.plant_tables_columns.specs.Naming.{line_sort_from, line_sort_number, line_sort_numbered}
+use Rattle.plant_tables_columns.specs.Naming.{all_line_sorts, line_sort_from, line_sort_number, line_sort_numbered}
 use Rattle.plant_tables_columns.specs.TableColumns.{columns_of_line, material_from, has_no_material, parameter_from, phase_from, line_of_sort, line_from, line_columns}
 use Rattle.plant_tables_columns.specs.declared.line.LineSort.{LineSort}
 use Rattle.plant_tables_columns.specs.declared.line.LineSort.TheVariants as line_sort
 use Rattle.plant_tables_columns.specs.declared.line.Material.{Material}
 use Rattle.plant_tables_columns.proofs.Options.{bound, mapped, some_same, where_true}
-use Rattle.plant_tables_columns.proofs.KindLaws.{IsKind, Any, integer_kind, id_kind, text_like, number_kind, null_is}
-use Rattle.plant_tables_columns.proofs.NameLemmas.{int_same, line_sort_back, line_sort_own}
+use Rattle.plant_tables_columns.proofs.KindLaws.{IsKind, Any, id_kind, text_like, number_kind, null_is}
+use Rattle.plant_tables_columns.proofs.NameLemmas.{numbered_kind, int_same, line_sort_own}
 use Rattle.plant_tables_columns.proofs.ColumnLaws.{StandFrom, AreLawful}
 
 abbrev line_sorts : Kind LineSort
 line_sorts = record { declared = integer; stored = λ s. number (line_sort_number s); read = line_sort_from }
 
 line_sort_kind : IsKind line_sorts Any Any
-unfolding line_sort_from
-line_sort_kind = integer_kind line_sort_numbered (λ s. pos (line_sort_number s)) Any Any (λ n s h _. line_sort_back n s h) (λ s _ _. line_sort_own s) (λ n s h. tt)
+unfolding line_sort_from line_sort_numbered
+line_sort_kind = numbered_kind line_sort_number all_line_sorts line_sort_own
 
 no_bytes : (xs : List ℕ) → (length xs == 0) ≡ true → xs ≡ []
 no_bytes [] h = refl

@@ -20,8 +20,11 @@ use Rattle.plant_base.specs.declared.states.Event.{Event}
 use Rattle.plant_base.specs.declared.states.Event.TheVariants as event
 use Rattle.plant_base.proofs.Find.{found_passes}
 use Rattle.plant_base.proofs.Keys.{same_id}
-use Rattle.plant_tables_columns.specs.Reading.{number_in}
-use Rattle.plant_tables_columns.specs.Naming.{event_name, event_phase, all_recipe_states, recipe_state_named, all_job_states, job_state_named, all_batch_states, batch_state_named, recall_state_name, all_recall_states, recall_state_named, all_words, word_named, plain_event, event_named, line_sort_number, all_line_sorts, line_sort_numbered, movement_sort_number, all_movement_sorts, movement_sort_numbered, all_edge_kinds, edge_kind_numbered, all_mark_kinds, mark_kind_numbered}
+use Rattle.sqlite.specs.declared.types.Value.TheVariants.{Text}
+use Rattle.table_forms.specs.Forms.{integer, text}
+use Rattle.plant_tables_columns.specs.Kinds.{number}
+use Rattle.plant_tables_columns.specs.Reading.{number_in, by_text, by_number}
+use Rattle.plant_tables_columns.specs.Naming.{event_name, event_phase, recipe_state_named, job_state_named, batch_state_named, recall_state_name, recall_state_named, all_words, word_named, plain_event, event_named, line_sort_number, line_sort_numbered, movement_sort_number, movement_sort_numbered, edge_kind_numbered, mark_kind_numbered}
 use Rattle.plant_base.specs.RowValues.{HasPhaseNumber}
 use Rattle.plant_base.specs.Edges.{edge_kind_number}
 use Rattle.plant_base.specs.Recalls.{mark_kind_number}
@@ -36,7 +39,7 @@ use Rattle.plant_tables_columns.specs.declared.booked.MovementSort.TheVariants a
 use Rattle.plant_tables_columns.specs.declared.recalls.RecallState.{RecallState}
 use Rattle.plant_tables_columns.specs.declared.recalls.RecallState.TheVariants as recall_state
 use Rattle.plant_tables_columns.proofs.Options.{bound, mapped, some_same}
-use Rattle.plant_tables_columns.proofs.KindLaws.{number_back, number_keeps, number_again}
+use Rattle.plant_tables_columns.proofs.KindLaws.{IsKind, Any, text_kind, integer_kind, number_back, number_keeps, number_again}
 
 -- what was found by its name has it
 named_back : {A : Type 0} (name : A → List ℕ) (all : List A) (bytes : List ℕ) (a : A) → find (λ x. same (name x) bytes) all ≡ Some a → bytes ≡ name a
@@ -48,21 +51,24 @@ int_same x y h = (Decides-int_eq x y).0 h
 numbered_back : {A : Type 0} (number : A → ℕ) (all : List A) (z : ℤ) (a : A) → find (λ x. int_eq (pos (number x)) z) all ≡ Some a → z ≡ pos (number a)
 numbered_back number all z a h = sym (int_same (pos (number a)) z (found_passes (λ x. int_eq (pos (number x)) z) all a h))
 
--- ---- states
+-- what a list tells apart by names, each of which finds its own
+pub named_kind : {A : Type 0} (name : A → List ℕ) (all : List A) → ((a : A) → find (λ x. same (name x) (name a)) all ≡ Some a)
+    → IsKind (record { declared = text; stored = λ a. Text (name a); read = by_text (λ bytes. find (λ x. same (name x) bytes) all) }) Any Any
+named_kind name all own = text_kind (λ bytes. find (λ x. same (name x) bytes) all) name Any (named_back name all) (λ a _. own a) (λ bytes a h. tt)
 
-pub recipe_state_back : (bytes : List ℕ) (s : RecipeState) → recipe_state_named bytes ≡ Some s → bytes ≡ recipe_state_name s
-unfolding recipe_state_named
-recipe_state_back bytes s h = named_back recipe_state_name all_recipe_states bytes s h
+-- and by numbers
+pub numbered_kind : {A : Type 0} (number_of : A → ℕ) (all : List A) → ((a : A) → find (λ x. int_eq (pos (number_of x)) (pos (number_of a))) all ≡ Some a)
+    → IsKind (record { declared = integer; stored = λ a. number (number_of a); read = by_number (λ z. find (λ x. int_eq (pos (number_of x)) z) all) }) Any Any
+numbered_kind number_of all own =
+    integer_kind (λ z. find (λ x. int_eq (pos (number_of x)) z) all) (λ a. pos (number_of a)) Any Any (λ z a h _. numbered_back number_of all z a h) (λ a _ _. own a) (λ z a h. tt)
+
+-- ---- states
 
 pub recipe_state_own : (s : RecipeState) → recipe_state_named (recipe_state_name s) ≡ Some s
 unfolding recipe_state_named
 recipe_state_own recipe_state.Draft = refl
 recipe_state_own recipe_state.Approved = refl
 recipe_state_own recipe_state.Withdrawn = refl
-
-pub job_state_back : (bytes : List ℕ) (s : JobState) → job_state_named bytes ≡ Some s → bytes ≡ job_state_name s
-unfolding job_state_named
-job_state_back bytes s h = named_back job_state_name all_job_states bytes s h
 
 pub job_state_own : (s : JobState) → job_state_named (job_state_name s) ≡ Some s
 unfolding job_state_named
@@ -71,18 +77,10 @@ job_state_own job_state.Cancelled = refl
 job_state_own job_state.Released = refl
 job_state_own job_state.Finished = refl
 
-pub batch_state_back : (bytes : List ℕ) (s : BatchState) → batch_state_named bytes ≡ Some s → bytes ≡ batch_state_name s
-unfolding batch_state_named
-batch_state_back bytes s h = named_back batch_state_name all_batch_states bytes s h
-
 pub batch_state_own : (s : BatchState) → batch_state_named (batch_state_name s) ≡ Some s
 unfolding batch_state_named
 batch_state_own batch_state.Idle = refl
 batch_state_own _ = refl
-
-pub recall_state_back : (bytes : List ℕ) (s : RecallState) → recall_state_named bytes ≡ Some s → bytes ≡ recall_state_name s
-unfolding recall_state_named
-recall_state_back bytes s h = named_back recall_state_name all_recall_states bytes s h
 
 pub recall_state_own : (s : RecallState) → recall_state_named (recall_state_name s) ≡ Some s
 unfolding recall_state_named
@@ -153,10 +151,6 @@ event_own event.Closed good = refl
 
 -- ---- kinds
 
-pub line_sort_back : (kind : ℤ) (s : LineSort) → line_sort_numbered kind ≡ Some s → kind ≡ pos (line_sort_number s)
-unfolding line_sort_numbered
-line_sort_back kind s h = numbered_back line_sort_number all_line_sorts kind s h
-
 pub line_sort_own : (s : LineSort) → line_sort_numbered (pos (line_sort_number s)) ≡ Some s
 unfolding line_sort_numbered
 line_sort_own line_sort.In = refl
@@ -164,28 +158,16 @@ line_sort_own line_sort.Out = refl
 line_sort_own line_sort.Parameter = refl
 line_sort_own line_sort.Phase = refl
 
-pub movement_sort_back : (kind : ℤ) (s : MovementSort) → movement_sort_numbered kind ≡ Some s → kind ≡ pos (movement_sort_number s)
-unfolding movement_sort_numbered
-movement_sort_back kind s h = numbered_back movement_sort_number all_movement_sorts kind s h
-
 pub movement_sort_own : (s : MovementSort) → movement_sort_numbered (pos (movement_sort_number s)) ≡ Some s
 unfolding movement_sort_numbered
 movement_sort_own movement_sort.Received = refl
 movement_sort_own _ = refl
-
-pub edge_kind_back : (number : ℤ) (k : EdgeKind) → edge_kind_numbered number ≡ Some k → number ≡ pos (edge_kind_number k)
-unfolding edge_kind_numbered
-edge_kind_back number k h = numbered_back edge_kind_number all_edge_kinds number k h
 
 pub edge_kind_own : (k : EdgeKind) → edge_kind_numbered (pos (edge_kind_number k)) ≡ Some k
 unfolding edge_kind_numbered
 edge_kind_own edge_kind.LotToBatch = refl
 edge_kind_own edge_kind.BatchToLot = refl
 edge_kind_own edge_kind.LotToLot = refl
-
-pub mark_kind_back : (number : ℤ) (k : MarkKind) → mark_kind_numbered number ≡ Some k → number ≡ pos (mark_kind_number k)
-unfolding mark_kind_numbered
-mark_kind_back number k h = numbered_back mark_kind_number all_mark_kinds number k h
 
 pub mark_kind_own : (k : MarkKind) → mark_kind_numbered (pos (mark_kind_number k)) ≡ Some k
 unfolding mark_kind_numbered

@@ -16,15 +16,16 @@ use Rattle.plant_base.specs.declared.rows.Movement.{Movement}
 use Rattle.plant_base.specs.declared.rows.Receipt.{Receipt}
 use Rattle.plant_base.specs.declared.rows.Lifting.{Lifting}
 use Rattle.plant_base.specs.declared.rows.Recall.{Recall}
-use Rattle.plant_tables_columns.specs.Reading.{is_in}
+use Rattle.plant_base.specs.Values.{is_id, greatest_amount, greatest_moment, greatest_seq, greatest_sublot}
+use Rattle.plant_tables_columns.specs.Reading.{is_in, greatest_number}
 use Rattle.plant_tables_columns.specs.Columns.{Columns, read_row}
-use Rattle.plant_tables_columns.specs.TableColumns.{row_of_meta, row_of_class, row_of_definition, row_of_recipe, row_of_master_line, row_of_job, row_of_batch, row_of_control_line, row_of_event, row_of_lot, row_of_sublot, row_of_booked, row_of_movement, row_of_hold, row_of_edge, row_of_receipt, row_of_stated, row_of_recall, row_of_mark, meta_from, class_from, definition_from, recipe_from, master_line_from, control_line_from, job_from, batch_from, batch_event_from, lot_from, sublot_from, booked_from, hold_from, edge_from, receipt_from, stated_from, mark_from}
+use Rattle.plant_tables_columns.specs.TableColumns.{meta_columns, class_columns, definition_columns, recipe_columns, master_line_columns, control_line_columns, job_columns, batch_columns, batch_event_columns, lot_columns, sublot_columns, booked_columns, hold_columns, edge_columns, receipt_columns, stated_columns, mark_columns, row_of_meta, row_of_class, row_of_definition, row_of_recipe, row_of_master_line, row_of_job, row_of_batch, row_of_control_line, row_of_event, row_of_lot, row_of_sublot, row_of_booked, row_of_movement, row_of_hold, row_of_edge, row_of_receipt, row_of_stated, row_of_recall, row_of_mark, meta_from, class_from, definition_from, recipe_from, master_line_from, control_line_from, job_from, batch_from, batch_event_from, lot_from, sublot_from, booked_from, hold_from, edge_from, receipt_from, stated_from, mark_from}
 use Rattle.plant_tables_columns.specs.Booked.{booked_of}
 use Rattle.plant_tables_columns.specs.Stated.{stated_of}
 use Rattle.plant_tables_columns.specs.Obeying.{HasMetaValues, HasRecipeValues, HasMasterLineValues, HasControlLineValues, HasJobValues, HasBatchRowValues, HasEventRowValues, HasSublotValues, HasKindRowValues, HasMovementRowValues, HasEdgeValues, HasReceiptRowValues, HasMarkValues}
-use Rattle.plant_tables_columns.proofs.KindLaws.{Any, IsNumbered}
-use Rattle.plant_tables_columns.proofs.ColumnLaws.{AreLawful, row_back, row_again, row_keeps}
-use Rattle.plant_tables_columns.proofs.TableLaws.{meta_lawful, class_lawful, definition_lawful, recipe_lawful, HasMasterColumns, master_line_lawful, HasControlColumns, control_line_lawful, job_lawful, batch_lawful, batch_event_lawful, lot_lawful, sublot_lawful, HasBookedColumns, booked_lawful, hold_lawful, edge_lawful, HasReceiptColumns, receipt_lawful, HasStatedColumns, stated_lawful, mark_lawful}
+use Rattle.plant_tables_columns.proofs.KindLaws.{Any, IsNumbered, id_kind, text_like, unit_kind, content_kind, number_kind, below_kind, one_kind}
+use Rattle.plant_tables_columns.proofs.ColumnLaws.{AreLawful, one_lawful, ◌⊕◌, made_lawful, in_words, row_back, row_again, row_keeps}
+use Rattle.plant_tables_columns.proofs.TableLaws.{recipe_state_kind, job_state_kind, edge_kind_kind, mark_kind_kind, header_lawful, HasMasterColumns, master_line_lawful, HasControlColumns, control_line_lawful, order_lawful, batch_lawful, event_lawful, HasBookedColumns, booked_lawful, HasStatedColumns, stated_lawful}
 
 -- How rows are read and stored: what was read has the columns of the row, but where it isn't whole; a good one that is
 -- whole is read of its own columns; and each that was read is good.
@@ -33,76 +34,97 @@ pub record Reads {A : Type 0} (row_from : Row → Option A) (stored : A → Row)
   pub again : (a : A) → good a → whole a → row_from (stored a) ≡ Some a
   pub keeps : (row : Row) (a : A) → row_from row ≡ Some a → good a
 
-reads : {A : Type 0} {c : Columns A} {good whole : A → Type 0} → AreLawful c good whole → Reads (read_row c) c.stored good whole
-reads laws = record { back = row_back laws; again = row_again laws; keeps = row_keeps laws }
+reads : {A : Type 0} (c : Columns A) {good whole : A → Type 0} → AreLawful c good whole → Reads (read_row c) c.stored good whole
+reads c laws = record { back = row_back laws; again = row_again laws; keeps = row_keeps laws }
 
 pub meta_reads : Reads meta_from row_of_meta HasMetaValues Any
 unfolding meta_from
-meta_reads = reads meta_lawful
+meta_reads = reads meta_columns (in_words HasMetaValues Any (λ m g. record { schema = g.1.0; seq = g.1.1.0; at = g.1.1.1 }) (λ m h. (tt, (h.schema, (h.seq, h.at)))) (λ m _. (tt, (tt, (tt, tt))))
+    (made_lawful _ _ (λ m. refl) (λ p. refl)
+    (one_lawful one_kind ⊕ one_lawful (number_kind 1 greatest_number) ⊕ one_lawful (below_kind greatest_seq) ⊕ one_lawful (below_kind greatest_moment))))
 
 pub class_reads : Reads class_from row_of_class HasClassValues Any
 unfolding class_from
-class_reads = reads class_lawful
+class_reads = reads class_columns (in_words HasClassValues Any (λ r g. record { id = g.0; name = g.1 }) (λ r h. (h.id, h.name)) (λ r _. (tt, tt))
+    (made_lawful _ _ (λ r. refl) (λ p. refl) (one_lawful id_kind ⊕ one_lawful text_like)))
 
 pub definition_reads : Reads definition_from row_of_definition HasDefinitionValues Any
 unfolding definition_from
-definition_reads = reads definition_lawful
+definition_reads = reads definition_columns (in_words HasDefinitionValues Any (λ r g. record { id = g.0; class = g.1.0; name = g.1.1.0; unit = g.1.1.1 }) (λ r h. (h.id, (h.class, (h.name, h.unit)))) (λ r _. (tt, (tt, (tt, tt))))
+    (made_lawful _ _ (λ r. refl) (λ p. refl)
+    (one_lawful id_kind ⊕ one_lawful id_kind ⊕ one_lawful text_like ⊕ one_lawful unit_kind)))
 
 pub recipe_reads : Reads recipe_from row_of_recipe HasRecipeValues Any
 unfolding recipe_from
-recipe_reads = reads recipe_lawful
+recipe_reads = reads recipe_columns (in_words HasRecipeValues Any (λ r g. record { header = g.0.values; version = g.0.version }) (λ r h. (record { values = h.header; version = h.version }, tt)) (λ r _. (tt, tt))
+    (made_lawful _ _ (λ r. refl) (λ p. refl) (header_lawful ⊕ one_lawful recipe_state_kind)))
 
 pub master_line_reads : Reads master_line_from row_of_master_line HasMasterColumns (λ l. IsNumbered l.number)
 unfolding master_line_from
-master_line_reads = reads master_line_lawful
+master_line_reads = reads master_line_columns master_line_lawful
 
 pub control_line_reads : Reads control_line_from row_of_control_line HasControlColumns (λ l. IsNumbered l.number)
 unfolding control_line_from
-control_line_reads = reads control_line_lawful
+control_line_reads = reads control_line_columns control_line_lawful
 
 pub job_reads : Reads job_from row_of_job HasJobValues Any
 unfolding job_from
-job_reads = reads job_lawful
+job_reads = reads job_columns (in_words HasJobValues Any (λ j g. g.0) (λ j h. (h, tt)) (λ j _. (tt, tt)) (made_lawful _ _ (λ j. refl) (λ p. refl) (order_lawful ⊕ one_lawful job_state_kind)))
 
 pub batch_reads : Reads batch_from row_of_batch HasBatchRowValues Any
 unfolding batch_from
-batch_reads = reads batch_lawful
+batch_reads = reads batch_columns batch_lawful
 
 pub event_reads : Reads batch_event_from row_of_event HasEventRowValues Any
 unfolding batch_event_from
-event_reads = reads batch_event_lawful
+event_reads = reads batch_event_columns (in_words HasEventRowValues Any (λ e g. record { seq = g.0; batch = g.1.0; phase = g.1.1.0; at = g.1.1.1.0; by = g.1.1.1.1.0; note = g.1.1.1.1.1 }) (λ e h. (h.seq, (h.batch, (h.phase, (h.at, (h.by, h.note)))))) (λ e _. (tt, (tt, (tt, (tt, (tt, tt))))))
+    (made_lawful _ _ (λ e. refl) (λ p. refl)
+    (one_lawful (below_kind greatest_seq) ⊕ one_lawful id_kind ⊕ event_lawful ⊕ one_lawful (below_kind greatest_moment) ⊕ one_lawful text_like ⊕ one_lawful text_like)))
 
 pub lot_reads : Reads lot_from row_of_lot HasLotValues Any
 unfolding lot_from
-lot_reads = reads lot_lawful
+lot_reads = reads lot_columns (in_words HasLotValues Any (λ l g. record { id = g.0; def = g.1 }) (λ l h. (h.id, h.def)) (λ l _. (tt, tt)) (made_lawful _ _ (λ l. refl) (λ p. refl) (one_lawful id_kind ⊕ one_lawful id_kind)))
 
 pub sublot_reads : Reads sublot_from row_of_sublot HasSublotValues Any
 unfolding sublot_from
-sublot_reads = reads sublot_lawful
+sublot_reads = reads sublot_columns (in_words HasSublotValues Any (λ s g. record { lot = g.0; number = g.1.0; place = g.1.1.0; stock = g.1.1.1 }) (λ s h. (h.lot, (h.number, (h.place, h.stock)))) (λ s _. (tt, (tt, (tt, tt))))
+    (made_lawful _ _ (λ s. refl) (λ p. refl)
+    (one_lawful id_kind ⊕ one_lawful (below_kind greatest_sublot) ⊕ one_lawful text_like ⊕ one_lawful (below_kind greatest_amount))))
 
 pub booked_reads : Reads booked_from row_of_booked HasBookedColumns (λ r. IsNumbered r.line)
 unfolding booked_from
-booked_reads = reads booked_lawful
+booked_reads = reads booked_columns booked_lawful
 
 pub hold_reads : Reads hold_from row_of_hold HasHoldValues Any
 unfolding hold_from
-hold_reads = reads hold_lawful
+hold_reads = reads hold_columns (in_words HasHoldValues Any (λ h g. record { lot = g.0; id = g.1.0; at = g.1.1.0; by = g.1.1.1.0; note = g.1.1.1.1 }) (λ h is. (is.lot, (is.id, (is.at, (is.by, is.note))))) (λ h _. (tt, (tt, (tt, (tt, tt)))))
+    (made_lawful _ _ (λ h. refl) (λ p. refl)
+    (one_lawful id_kind ⊕ one_lawful id_kind ⊕ one_lawful (below_kind greatest_moment) ⊕ one_lawful text_like ⊕ one_lawful text_like)))
 
 pub edge_reads : Reads edge_from row_of_edge HasEdgeValues Any
 unfolding edge_from
-edge_reads = reads edge_lawful
+edge_reads = reads edge_columns (in_words HasEdgeValues Any (λ e g. record { from = g.1.0; to = g.1.1 }) (λ e h. (tt, (h.from, h.to))) (λ e _. (tt, (tt, tt)))
+    (made_lawful _ _ (λ e. refl) (λ p. refl) (one_lawful edge_kind_kind ⊕ one_lawful id_kind ⊕ one_lawful id_kind)))
+
+-- a receipt, whose content has no rule but that the column tells it
+pub record HasReceiptColumns (r : Receipt) : Type 0 where
+  pub reference : is_id r.reference ≡ true
+  pub seq : nat_le r.seq greatest_seq ≡ true
+  pub content : list_all is_ascii r.content ≡ true
 
 pub receipt_reads : Reads receipt_from row_of_receipt HasReceiptColumns (λ r. is_there r.content ≡ true)
 unfolding receipt_from
-receipt_reads = reads receipt_lawful
+receipt_reads = reads receipt_columns (in_words HasReceiptColumns (λ r. is_there r.content ≡ true) (λ r g. record { reference = g.0; seq = g.1.0; content = g.1.1 }) (λ r h. (h.reference, (h.seq, h.content))) (λ r there. (tt, (tt, there)))
+    (made_lawful _ _ (λ r. refl) (λ p. refl) (one_lawful id_kind ⊕ one_lawful (below_kind greatest_seq) ⊕ one_lawful content_kind)))
 
 pub stated_reads : Reads stated_from row_of_stated HasStatedColumns Any
 unfolding stated_from
-stated_reads = reads stated_lawful
+stated_reads = reads stated_columns stated_lawful
 
 pub mark_reads : Reads mark_from row_of_mark HasMarkValues Any
 unfolding mark_from
-mark_reads = reads mark_lawful
+mark_reads = reads mark_columns (in_words HasMarkValues Any (λ m g. record { recall = g.0; id = g.1.1 }) (λ m h. (h.recall, (tt, h.id))) (λ m _. (tt, (tt, tt)))
+    (made_lawful _ _ (λ m. refl) (λ p. refl) (one_lawful id_kind ⊕ one_lawful mark_kind_kind ⊕ one_lawful id_kind)))
 
 -- ---- lines that have a number, and movements
 

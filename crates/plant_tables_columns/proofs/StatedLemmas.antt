@@ -1,6 +1,6 @@
 -- What a recall's state asks of the columns of its lifting, and the recall of a row that has them.
-use Rattle.std.proofs.Common.{◌≡◌, refl, sym, ap, ◌∙◌, subst, ℕ, List, true, ◌&&◌, Option, Some, None, option_map}
-use Rattle.std.specs.Prelude.{is_none, option_and_then}
+use Rattle.std.proofs.Common.{◌≡◌, refl, ap, ◌∙◌, subst, true, ◌&&◌, Option, Some, None}
+use Rattle.std.specs.Prelude.{is_none}
 use Rattle.std.proofs.lemmas.Bool.{and_parts}
 use Rattle.plant_base.specs.declared.rows.Lifting.{Lifting}
 use Rattle.plant_base.specs.declared.rows.Recall.{Recall}

@@ -1,13 +1,10 @@
--- Table by table: what its columns keep.
-use Rattle.std.proofs.Common.{◌≡◌, refl, ap, ap₂, ◌∙◌, subst, ℕ, suc, ◌+◌, ◌≤◌, ℤ, pos, List, Bool, true, ◌&&◌, nat_le, Some, arith}
+-- What the columns of rows and of their parts keep.
+use Rattle.std.proofs.Common.{◌≡◌, refl, ap, ap₂, ◌∙◌, subst, ℕ, suc, ◌+◌, ◌≤◌, ℤ, List, Bool, true, ◌&&◌, nat_le, Some, arith}
 use Rattle.std.specs.Prelude.{option_and_then}
-use Rattle.std.specs.Char.{is_ascii}
-use Rattle.std.specs.List.{list_all}
 use Rattle.std.proofs.lemmas.Bool.{and_parts}
 use Rattle.sqlite.specs.declared.types.Value.{Value}
 use Rattle.sqlite.specs.declared.types.Value.TheVariants.{Int, Text}
 use Rattle.sqlite.specs.Order.{Row, column}
-use Rattle.plant_base.specs.Content.{is_there}
 use Rattle.plant_base.specs.Values.{is_id, is_text, is_amount, is_moment, greatest_amount, greatest_moment, greatest_phase, greatest_priority, greatest_seq, greatest_sublot, greatest_version}
 use Rattle.plant_base.specs.Formed.{is_version, is_priority, HasHeaderValues, HasLineValues}
 use Rattle.plant_base.specs.Words.{recipe_state_name, job_state_name, batch_state_name}
@@ -15,54 +12,53 @@ use Rattle.plant_base.specs.declared.rows.Header.{Header}
 use Rattle.plant_base.specs.declared.rows.MasterLine.{MasterLine}
 use Rattle.plant_base.specs.declared.rows.ControlLine.{ControlLine}
 use Rattle.plant_base.specs.declared.states.Event.{Event}
-use Rattle.plant_base.specs.declared.rows.Receipt.{Receipt}
 use Rattle.plant_base.specs.Edges.{edge_kind_number}
 use Rattle.plant_base.specs.Recalls.{mark_kind_number}
-use Rattle.plant_base.specs.RowValues.{HasClassValues, HasDefinitionValues, HasPhaseNumber, HasLotValues, HasHoldValues}
+use Rattle.plant_base.specs.RowValues.{HasPhaseNumber}
 use Rattle.plant_recipe.specs.Progress.{greatest_attempt}
 use Rattle.plant_view.specs.Production.{HasBatchValues, HasGoodOrder}
 use Rattle.plant_tables_columns.specs.Kinds.{number, recipe_states, job_states, batch_states, recall_states, movement_sorts, edge_kinds, mark_kinds}
-use Rattle.plant_tables_columns.specs.Reading.{text_in, integer_in, greatest_number}
-use Rattle.plant_tables_columns.specs.Naming.{event_phase, recipe_state_named, recipe_state_from, job_state_named, job_state_from, batch_state_named, batch_state_from, recall_state_name, recall_state_named, recall_state_from, event_named, event_from, movement_sort_number, movement_sort_numbered, movement_sort_from, edge_kind_numbered, edge_kind_from, mark_kind_numbered, mark_kind_from}
-use Rattle.plant_tables_columns.specs.TableColumns.{event_columns, meta_columns, class_columns, definition_columns, header_columns, recipe_columns, master_line_columns, control_line_columns, order_columns, job_columns, released_columns, batch_columns, batch_event_columns, lot_columns, sublot_columns, booked_columns, hold_columns, edge_columns, receipt_columns, stated_columns, mark_columns}
-use Rattle.plant_tables_columns.specs.Obeying.{HasMetaValues, HasRecipeValues, HasJobValues, HasBatchRowValues, HasEventRowValues, HasSublotValues, HasEdgeValues, HasMarkValues}
+use Rattle.plant_tables_columns.specs.Reading.{text_in, integer_in}
+use Rattle.plant_tables_columns.specs.Naming.{all_recipe_states, all_job_states, all_batch_states, all_recall_states, all_movement_sorts, all_edge_kinds, all_mark_kinds, event_phase, recipe_state_named, recipe_state_from, job_state_named, job_state_from, batch_state_named, batch_state_from, recall_state_name, recall_state_named, recall_state_from, event_named, event_from, movement_sort_number, movement_sort_numbered, movement_sort_from, edge_kind_numbered, edge_kind_from, mark_kind_numbered, mark_kind_from}
+use Rattle.plant_tables_columns.specs.TableColumns.{event_columns, header_columns, master_line_columns, control_line_columns, order_columns, released_columns, batch_columns, booked_columns, stated_columns}
+use Rattle.plant_tables_columns.specs.Obeying.{HasBatchRowValues}
 use Rattle.plant_tables_columns.specs.declared.booked.BookedRow.{BookedRow}
 use Rattle.plant_tables_columns.specs.declared.recalls.StatedRecall.{StatedRecall}
 use Rattle.plant_tables_columns.proofs.Options.{bound}
-use Rattle.plant_tables_columns.proofs.KindLaws.{IsKind, Any, GoodOrNone, text_kind, integer_kind, text_is, integer_is, id_kind, text_like, unit_kind, due_kind, content_kind, number_kind, below_kind, one_kind, line_number_kind, IsNumbered, flag_kind, optional_id_kind, optional_sublot_kind, optional_moment_kind, optional_text_kind}
-use Rattle.plant_tables_columns.proofs.NameLemmas.{recipe_state_back, recipe_state_own, job_state_back, job_state_own, batch_state_back, batch_state_own, recall_state_back, recall_state_own, event_back, event_own, event_keeps, movement_sort_back, movement_sort_own, edge_kind_back, edge_kind_own, mark_kind_back, mark_kind_own}
+use Rattle.plant_tables_columns.proofs.KindLaws.{IsKind, Any, GoodOrNone, text_is, integer_is, id_kind, text_like, due_kind, number_kind, below_kind, line_number_kind, IsNumbered, flag_kind, optional_id_kind, optional_sublot_kind, optional_moment_kind, optional_text_kind}
+use Rattle.plant_tables_columns.proofs.NameLemmas.{named_kind, numbered_kind, recipe_state_own, job_state_own, batch_state_own, recall_state_own, event_back, event_own, event_keeps, movement_sort_own, edge_kind_own, mark_kind_own}
 use Rattle.plant_tables_columns.proofs.LineLaws.{line_lawful}
 use Rattle.plant_tables_columns.proofs.ColumnLaws.{AreLawful, StandFrom, one_lawful, ◌⊕◌, made_lawful, in_words}
 
 -- ---- words
 
-recipe_state_kind : IsKind recipe_states Any Any
-unfolding recipe_state_from
-recipe_state_kind = text_kind recipe_state_named recipe_state_name Any recipe_state_back (λ s _. recipe_state_own s) (λ bytes s h. tt)
+pub recipe_state_kind : IsKind recipe_states Any Any
+unfolding recipe_state_from recipe_state_named
+recipe_state_kind = named_kind recipe_state_name all_recipe_states recipe_state_own
 
-job_state_kind : IsKind job_states Any Any
-unfolding job_state_from
-job_state_kind = text_kind job_state_named job_state_name Any job_state_back (λ s _. job_state_own s) (λ bytes s h. tt)
+pub job_state_kind : IsKind job_states Any Any
+unfolding job_state_from job_state_named
+job_state_kind = named_kind job_state_name all_job_states job_state_own
 
 batch_state_kind : IsKind batch_states Any Any
-unfolding batch_state_from
-batch_state_kind = text_kind batch_state_named batch_state_name Any batch_state_back (λ s _. batch_state_own s) (λ bytes s h. tt)
+unfolding batch_state_from batch_state_named
+batch_state_kind = named_kind batch_state_name all_batch_states batch_state_own
 
 recall_state_kind : IsKind recall_states Any Any
-unfolding recall_state_from
-recall_state_kind = text_kind recall_state_named recall_state_name Any recall_state_back (λ s _. recall_state_own s) (λ bytes s h. tt)
+unfolding recall_state_from recall_state_named
+recall_state_kind = named_kind recall_state_name all_recall_states recall_state_own
 
 movement_sort_kind : IsKind movement_sorts Any Any
-unfolding movement_sort_from
-movement_sort_kind = integer_kind movement_sort_numbered (λ s. pos (movement_sort_number s)) Any Any (λ n s h _. movement_sort_back n s h) (λ s _ _. movement_sort_own s) (λ n s h. tt)
+unfolding movement_sort_from movement_sort_numbered
+movement_sort_kind = numbered_kind movement_sort_number all_movement_sorts movement_sort_own
 
-edge_kind_kind : IsKind edge_kinds Any Any
-unfolding edge_kind_from
-edge_kind_kind = integer_kind edge_kind_numbered (λ k. pos (edge_kind_number k)) Any Any (λ n k h _. edge_kind_back n k h) (λ k _ _. edge_kind_own k) (λ n k h. tt)
+pub edge_kind_kind : IsKind edge_kinds Any Any
+unfolding edge_kind_from edge_kind_numbered
+edge_kind_kind = numbered_kind edge_kind_number all_edge_kinds edge_kind_own
 
-mark_kind_kind : IsKind mark_kinds Any Any
-unfolding mark_kind_from
-mark_kind_kind = integer_kind mark_kind_numbered (λ k. pos (mark_kind_number k)) Any Any (λ n k h _. mark_kind_back n k h) (λ k _ _. mark_kind_own k) (λ n k h. tt)
+pub mark_kind_kind : IsKind mark_kinds Any Any
+unfolding mark_kind_from mark_kind_numbered
+mark_kind_kind = numbered_kind mark_kind_number all_mark_kinds mark_kind_own
 
 record IsEventOfBoth (v w : Value) (e : Event) : Type 0 where
   pub name : List ℕ
@@ -85,7 +81,7 @@ event_back_whole row at e h =
     let next : at + 1 ≡ suc at = omega arith in
     (p.is_word ∙ ap Text is.is_named, (subst (λ k. column row k ≡ number (event_phase e)) next (p.is_phase ∙ ap Int is.has_phase), tt))
 
-event_lawful : AreLawful event_columns HasPhaseNumber Any
+pub event_lawful : AreLawful event_columns HasPhaseNumber Any
 unfolding event_from
 event_lawful = record {
   fits = λ e. refl;
@@ -96,26 +92,12 @@ event_lawful = record {
 
 -- ---- tables
 
-pub meta_lawful : AreLawful meta_columns HasMetaValues Any
-meta_lawful = in_words HasMetaValues Any (λ m g. record { schema = g.1.0; seq = g.1.1.0; at = g.1.1.1 }) (λ m h. (tt, (h.schema, (h.seq, h.at)))) (λ m _. (tt, (tt, (tt, tt))))
-    (made_lawful _ _ (λ m. refl) (λ p. refl)
-    (one_lawful one_kind ⊕ one_lawful (number_kind 1 greatest_number) ⊕ one_lawful (below_kind greatest_seq) ⊕ one_lawful (below_kind greatest_moment)))
-
-pub class_lawful : AreLawful class_columns HasClassValues Any
-class_lawful = in_words HasClassValues Any (λ r g. record { id = g.0; name = g.1 }) (λ r h. (h.id, h.name)) (λ r _. (tt, tt))
-    (made_lawful _ _ (λ r. refl) (λ p. refl) (one_lawful id_kind ⊕ one_lawful text_like))
-
-pub definition_lawful : AreLawful definition_columns HasDefinitionValues Any
-definition_lawful = in_words HasDefinitionValues Any (λ r g. record { id = g.0; class = g.1.0; name = g.1.1.0; unit = g.1.1.1 }) (λ r h. (h.id, (h.class, (h.name, h.unit)))) (λ r _. (tt, (tt, (tt, tt))))
-    (made_lawful _ _ (λ r. refl) (λ p. refl)
-    (one_lawful id_kind ⊕ one_lawful id_kind ⊕ one_lawful text_like ⊕ one_lawful unit_kind))
-
 -- a header with its version
-record HasHeaderColumns (h : Header) : Type 0 where
+pub record HasHeaderColumns (h : Header) : Type 0 where
   pub values : HasHeaderValues h
   pub version : is_version h.version ≡ true
 
-header_lawful : AreLawful header_columns HasHeaderColumns Any
+pub header_lawful : AreLawful header_columns HasHeaderColumns Any
 header_lawful = in_words HasHeaderColumns Any
     (λ h g. record {
       values = record { recipe = g.0; product = g.1.1.0; base = g.1.1.1.0; least = g.1.1.1.1.0; greatest = g.1.1.1.1.1.0; title = g.1.1.1.1.1.1 };
@@ -125,10 +107,6 @@ header_lawful = in_words HasHeaderColumns Any
     (λ h _. (tt, (tt, (tt, (tt, (tt, (tt, tt)))))))
     (made_lawful _ _ (λ h. refl) (λ p. refl)
     (one_lawful id_kind ⊕ one_lawful (number_kind 1 greatest_version) ⊕ one_lawful id_kind ⊕ one_lawful (number_kind 1 greatest_amount) ⊕ one_lawful (number_kind 1 greatest_amount) ⊕ one_lawful (number_kind 1 greatest_amount) ⊕ one_lawful text_like))
-
-pub recipe_lawful : AreLawful recipe_columns HasRecipeValues Any
-recipe_lawful = in_words HasRecipeValues Any (λ r g. record { header = g.0.values; version = g.0.version }) (λ r h. (record { values = h.header; version = h.version }, tt)) (λ r _. (tt, tt))
-    (made_lawful _ _ (λ r. refl) (λ p. refl) (header_lawful ⊕ one_lawful recipe_state_kind))
 
 -- ---- lines, whose number has no rule but that a column holds it
 
@@ -157,16 +135,13 @@ control_line_lawful = in_words HasControlColumns (λ l. IsNumbered l.number) (λ
 both : (a b : Bool) → a ≡ true → b ≡ true → (a && b) ≡ true
 both a b h k = rw (h, k) refl
 
-order_lawful : AreLawful order_columns HasGoodOrder Any
+pub order_lawful : AreLawful order_columns HasGoodOrder Any
 order_lawful = in_words HasGoodOrder Any
     (λ o g. (record { order = g.0; recipe = g.1.0; size = g.1.1.1.0; due = g.1.1.1.1.0 }, both (is_version o.version) (is_priority o.priority) g.1.1.0 g.1.1.1.1.1))
     (λ o h. let numbers = and_parts (is_version o.version) (is_priority o.priority) h.1 in (h.0.order, (h.0.recipe, (numbers.0, (h.0.size, (h.0.due, numbers.1))))))
     (λ o _. (tt, (tt, (tt, (tt, (tt, tt))))))
     (made_lawful _ _ (λ o. refl) (λ p. refl)
     (one_lawful id_kind ⊕ one_lawful id_kind ⊕ one_lawful (number_kind 1 greatest_version) ⊕ one_lawful (number_kind 1 greatest_amount) ⊕ one_lawful due_kind ⊕ one_lawful (number_kind 1 greatest_priority)))
-
-pub job_lawful : AreLawful job_columns HasJobValues Any
-job_lawful = in_words HasJobValues Any (λ j g. g.0) (λ j h. (h, tt)) (λ j _. (tt, tt)) (made_lawful _ _ (λ j. refl) (λ p. refl) (order_lawful ⊕ one_lawful job_state_kind))
 
 released_lawful : AreLawful released_columns HasBatchValues Any
 released_lawful = in_words HasBatchValues Any (λ b g. record { id = g.0; job = g.1.0; at = g.1.1.0; by = g.1.1.1.0; note = g.1.1.1.1 }) (λ b h. (h.id, (h.job, (h.at, (h.by, h.note))))) (λ b _. (tt, (tt, (tt, (tt, tt)))))
@@ -178,20 +153,7 @@ batch_lawful = in_words HasBatchRowValues Any (λ b g. record { batch = g.0; att
     (made_lawful _ _ (λ b. refl) (λ p. refl)
     (released_lawful ⊕ one_lawful batch_state_kind ⊕ one_lawful (number_kind 1 greatest_attempt) ⊕ one_lawful (number_kind 1 greatest_phase) ⊕ one_lawful flag_kind))
 
-pub batch_event_lawful : AreLawful batch_event_columns HasEventRowValues Any
-batch_event_lawful = in_words HasEventRowValues Any (λ e g. record { seq = g.0; batch = g.1.0; phase = g.1.1.0; at = g.1.1.1.0; by = g.1.1.1.1.0; note = g.1.1.1.1.1 }) (λ e h. (h.seq, (h.batch, (h.phase, (h.at, (h.by, h.note)))))) (λ e _. (tt, (tt, (tt, (tt, (tt, tt))))))
-    (made_lawful _ _ (λ e. refl) (λ p. refl)
-    (one_lawful (below_kind greatest_seq) ⊕ one_lawful id_kind ⊕ event_lawful ⊕ one_lawful (below_kind greatest_moment) ⊕ one_lawful text_like ⊕ one_lawful text_like))
-
 -- ---- lots
-
-pub lot_lawful : AreLawful lot_columns HasLotValues Any
-lot_lawful = in_words HasLotValues Any (λ l g. record { id = g.0; def = g.1 }) (λ l h. (h.id, h.def)) (λ l _. (tt, tt)) (made_lawful _ _ (λ l. refl) (λ p. refl) (one_lawful id_kind ⊕ one_lawful id_kind))
-
-pub sublot_lawful : AreLawful sublot_columns HasSublotValues Any
-sublot_lawful = in_words HasSublotValues Any (λ s g. record { lot = g.0; number = g.1.0; place = g.1.1.0; stock = g.1.1.1 }) (λ s h. (h.lot, (h.number, (h.place, h.stock)))) (λ s _. (tt, (tt, (tt, tt))))
-    (made_lawful _ _ (λ s. refl) (λ p. refl)
-    (one_lawful id_kind ⊕ one_lawful (below_kind greatest_sublot) ⊕ one_lawful text_like ⊕ one_lawful (below_kind greatest_amount)))
 
 pub record HasBookedColumns (r : BookedRow) : Type 0 where
   pub seq : nat_le r.seq greatest_seq ≡ true
@@ -226,27 +188,7 @@ booked_lawful = in_words HasBookedColumns (λ r. IsNumbered r.line)
     (made_lawful _ _ (λ r. refl) (λ p. refl)
     (one_lawful (below_kind greatest_seq) ⊕ one_lawful line_number_kind ⊕ one_lawful movement_sort_kind ⊕ one_lawful id_kind ⊕ one_lawful (below_kind greatest_sublot) ⊕ one_lawful optional_id_kind ⊕ one_lawful optional_sublot_kind ⊕ one_lawful optional_id_kind ⊕ one_lawful (number_kind 1 greatest_amount) ⊕ one_lawful (below_kind greatest_moment) ⊕ one_lawful text_like ⊕ one_lawful text_like))
 
-pub hold_lawful : AreLawful hold_columns HasHoldValues Any
-hold_lawful = in_words HasHoldValues Any (λ h g. record { lot = g.0; id = g.1.0; at = g.1.1.0; by = g.1.1.1.0; note = g.1.1.1.1 }) (λ h is. (is.lot, (is.id, (is.at, (is.by, is.note))))) (λ h _. (tt, (tt, (tt, (tt, tt)))))
-    (made_lawful _ _ (λ h. refl) (λ p. refl)
-    (one_lawful id_kind ⊕ one_lawful id_kind ⊕ one_lawful (below_kind greatest_moment) ⊕ one_lawful text_like ⊕ one_lawful text_like))
-
-pub edge_lawful : AreLawful edge_columns HasEdgeValues Any
-edge_lawful = in_words HasEdgeValues Any (λ e g. record { from = g.1.0; to = g.1.1 }) (λ e h. (tt, (h.from, h.to))) (λ e _. (tt, (tt, tt)))
-    (made_lawful _ _ (λ e. refl) (λ p. refl) (one_lawful edge_kind_kind ⊕ one_lawful id_kind ⊕ one_lawful id_kind))
-
--- ---- receipts, whose content has no rule but that the column tells it
-
-pub record HasReceiptColumns (r : Receipt) : Type 0 where
-  pub reference : is_id r.reference ≡ true
-  pub seq : nat_le r.seq greatest_seq ≡ true
-  pub content : list_all is_ascii r.content ≡ true
-
-pub receipt_lawful : AreLawful receipt_columns HasReceiptColumns (λ r. is_there r.content ≡ true)
-receipt_lawful = in_words HasReceiptColumns (λ r. is_there r.content ≡ true) (λ r g. record { reference = g.0; seq = g.1.0; content = g.1.1 }) (λ r h. (h.reference, (h.seq, h.content))) (λ r there. (tt, (tt, there)))
-    (made_lawful _ _ (λ r. refl) (λ p. refl) (one_lawful id_kind ⊕ one_lawful (below_kind greatest_seq) ⊕ one_lawful content_kind))
-
--- ---- recalls and marks
+-- ---- recalls
 
 pub record HasStatedColumns (r : StatedRecall) : Type 0 where
   pub id : is_id r.id ≡ true
@@ -274,7 +216,3 @@ stated_lawful = in_words HasStatedColumns Any
     (λ r _. (tt, (tt, (tt, (tt, (tt, (tt, (tt, (tt, tt)))))))))
     (made_lawful _ _ (λ r. refl) (λ p. refl)
     (one_lawful id_kind ⊕ one_lawful id_kind ⊕ one_lawful recall_state_kind ⊕ one_lawful (below_kind greatest_moment) ⊕ one_lawful text_like ⊕ one_lawful text_like ⊕ one_lawful optional_moment_kind ⊕ one_lawful optional_text_kind ⊕ one_lawful optional_text_kind))
-
-pub mark_lawful : AreLawful mark_columns HasMarkValues Any
-mark_lawful = in_words HasMarkValues Any (λ m g. record { recall = g.0; id = g.1.1 }) (λ m h. (h.recall, (tt, h.id))) (λ m _. (tt, (tt, tt)))
-    (made_lawful _ _ (λ m. refl) (λ p. refl) (one_lawful id_kind ⊕ one_lawful mark_kind_kind ⊕ one_lawful id_kind))

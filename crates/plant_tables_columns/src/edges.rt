@@ -7,7 +7,7 @@ ghost use Rattle.plant_tables_columns.specs.Naming.{all_edge_kinds, edge_kind_nu
 ghost use Rattle.plant_tables_columns.specs.TableColumns.{row_of_edge, edge_from};
 
 use crate::judged::Judged;
-use crate::reading::{id, integer};
+use crate::reading::{columns, id, integer};
 use crate::storing;
 use plant_base::{EdgeKind, EdgeRow};
 use sqlite::Row;
@@ -57,9 +57,7 @@ impl Judged for EdgeRow {
 
     #[tactic(auto, unfolding(crate::specs::TableColumns::edge_from))]
     fn judge(row: &Row) -> Option<EdgeRow> {
-        if row.column_count() != 3 {
-            return None;
-        }
+        columns(row, 3)?;
         Some(EdgeRow {
             kind: edge_kind(row, 0)?,
             from: id(row, 1)?,

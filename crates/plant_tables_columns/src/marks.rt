@@ -7,7 +7,7 @@ ghost use Rattle.plant_tables_columns.specs.Naming.{all_mark_kinds, mark_kind_nu
 ghost use Rattle.plant_tables_columns.specs.TableColumns.{row_of_mark, mark_from};
 
 use crate::judged::Judged;
-use crate::reading::{id, integer};
+use crate::reading::{columns, id, integer};
 use crate::storing;
 use plant_base::{Mark, MarkKind};
 use sqlite::Row;
@@ -53,9 +53,7 @@ impl Judged for Mark {
 
     #[tactic(auto, unfolding(crate::specs::TableColumns::mark_from))]
     fn judge(row: &Row) -> Option<Mark> {
-        if row.column_count() != 3 {
-            return None;
-        }
+        columns(row, 3)?;
         Some(Mark {
             recall: id(row, 0)?,
             kind: mark_kind(row, 1)?,

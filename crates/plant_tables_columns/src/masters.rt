@@ -9,7 +9,7 @@ ghost use Rattle.plant_tables_columns.specs.TableColumns.{recipe_from, row_of_ma
 use crate::judged::Judged;
 use crate::line::{line, line_values};
 use crate::naming::recipe_state;
-use crate::reading::{amount, id, line_number, small, text, unit};
+use crate::reading::{amount, columns, id, line_number, small, text, unit};
 use crate::storing;
 use plant_base::{Class, Definition, GREATEST_VERSION, Header, MasterLine, Recipe};
 use sqlite::Row;
@@ -27,9 +27,7 @@ impl Judged for Class {
 
     #[tactic(auto, unfolding(crate::specs::TableColumns::class_from))]
     fn judge(row: &Row) -> Option<Class> {
-        if row.column_count() != 2 {
-            return None;
-        }
+        columns(row, 2)?;
         Some(Class {
             id: id(row, 0)?,
             name: text(row, 1)?,
@@ -54,9 +52,7 @@ impl Judged for Definition {
 
     #[tactic(auto, unfolding(crate::specs::TableColumns::definition_from))]
     fn judge(row: &Row) -> Option<Definition> {
-        if row.column_count() != 4 {
-            return None;
-        }
+        columns(row, 4)?;
         Some(Definition {
             id: id(row, 0)?,
             class: id(row, 1)?,
@@ -103,9 +99,7 @@ impl Judged for Recipe {
 
     #[tactic(auto, unfolding(crate::specs::TableColumns::recipe_from))]
     fn judge(row: &Row) -> Option<Recipe> {
-        if row.column_count() != 8 {
-            return None;
-        }
+        columns(row, 8)?;
         Some(Recipe {
             header: header(row)?,
             state: recipe_state(row, 7)?,
@@ -136,9 +130,7 @@ impl Judged for MasterLine {
 
     #[tactic(auto, unfolding(crate::specs::TableColumns::master_line_from))]
     fn judge(row: &Row) -> Option<MasterLine> {
-        if row.column_count() != 9 {
-            return None;
-        }
+        columns(row, 9)?;
         Some(MasterLine {
             recipe: id(row, 0)?,
             version: small(row, 1, 1, GREATEST_VERSION)?,

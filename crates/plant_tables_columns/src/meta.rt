@@ -7,7 +7,7 @@ ghost use Rattle.plant_tables_columns.specs.Kinds.{number};
 ghost use Rattle.plant_tables_columns.specs.TableColumns.{row_of_meta, meta_from};
 
 use crate::judged::Judged;
-use crate::reading::{moment, number};
+use crate::reading::{columns, moment, number};
 use crate::storing;
 use plant_base::{GREATEST_SEQ, Meta, Position};
 use sqlite::Row;
@@ -36,9 +36,7 @@ impl Judged for Meta {
 
     #[tactic(auto, unfolding(crate::specs::TableColumns::meta_from))]
     fn judge(row: &Row) -> Option<Meta> {
-        if row.column_count() != 4 {
-            return None;
-        }
+        columns(row, 4)?;
         number(row, 0, 1, 1)?;
         let schema = number(row, 1, 1, i64::MAX as u64)?;
         let seq = number(row, 2, 0, GREATEST_SEQ)?;

@@ -13,7 +13,9 @@ ghost use Rattle.plant_tables_columns.specs.TableColumns.{row_of_event, batch_ev
 use crate::judged::Judged;
 use crate::line::{line, line_values};
 use crate::naming::{batch_state, event, job_state};
-use crate::reading::{amount, due, flag, id, line_number, moment, number, small, text, tiny};
+use crate::reading::{
+    amount, columns, due, flag, id, line_number, moment, number, small, text, tiny,
+};
 use crate::storing;
 use plant_base::{
     Batch, BatchEvent, BatchRow, ControlLine, Event, GREATEST_PHASE, GREATEST_PRIORITY,
@@ -58,9 +60,7 @@ impl Judged for Job {
 
     #[tactic(auto, unfolding(crate::specs::TableColumns::job_from))]
     fn judge(row: &Row) -> Option<Job> {
-        if row.column_count() != 7 {
-            return None;
-        }
+        columns(row, 7)?;
         Some(Job {
             order: order(row)?,
             state: job_state(row, 6)?,
@@ -104,9 +104,7 @@ impl Judged for BatchRow {
 
     #[tactic(auto, unfolding(crate::specs::TableColumns::batch_from))]
     fn judge(row: &Row) -> Option<BatchRow> {
-        if row.column_count() != 9 {
-            return None;
-        }
+        columns(row, 9)?;
         Some(BatchRow {
             batch: released_batch(row)?,
             state: batch_state(row, 5)?,
@@ -139,9 +137,7 @@ impl Judged for ControlLine {
 
     #[tactic(auto, unfolding(crate::specs::TableColumns::control_line_from))]
     fn judge(row: &Row) -> Option<ControlLine> {
-        if row.column_count() != 8 {
-            return None;
-        }
+        columns(row, 8)?;
         Some(ControlLine {
             batch: id(row, 0)?,
             number: line_number(row, 1)?,
@@ -191,9 +187,7 @@ impl Judged for BatchEvent {
 
     #[tactic(auto, unfolding(crate::specs::TableColumns::batch_event_from))]
     fn judge(row: &Row) -> Option<BatchEvent> {
-        if row.column_count() != 7 {
-            return None;
-        }
+        columns(row, 7)?;
         Some(BatchEvent {
             seq: number(row, 0, 0, GREATEST_SEQ)?,
             batch: id(row, 1)?,

@@ -1,6 +1,6 @@
 //! The value of a column, read by its rule.
 
-ghost use Rattle.std.specs.Prelude.{◌≡◌, option_map};
+ghost use Rattle.std.specs.Prelude.{◌≡◌, ◌==◌, length, is_some, option_map};
 ghost use Rattle.sqlite.specs.Order.{column};
 ghost use Rattle.sqlite_value.specs.Value.{owned};
 ghost use Rattle.plant_tables_columns.specs.Reading.{text_in, integer_in, is_null, id_from, text_from};
@@ -21,6 +21,17 @@ fn value(row: &Row, at: usize) -> ValueRef<'_>
     match row.get_ref(at) {
         Ok(value) => value,
         Err(_) => ValueRef::Null,
+    }
+}
+
+/// Where the row has so many columns.
+pub(crate) fn columns(row: &Row, count: usize) -> Option<()>
+    ensures { is_some result ≡ (length row.now == count) }
+{
+    if row.column_count() == count {
+        Some(())
+    } else {
+        None
     }
 }
 

@@ -12,7 +12,7 @@ ghost use Rattle.plant_tables_columns.specs.Stated.{state_by, moment_of_lift, pe
 ghost use Rattle.plant_tables_columns.specs.TableColumns.{row_of_recall, stated_from, recall_read};
 
 use crate::judged::Judged;
-use crate::reading::{bytes, id, moment, optional_moment, optional_text, text};
+use crate::reading::{bytes, columns, id, moment, optional_moment, optional_text, text};
 use crate::storing;
 use plant_base::{Id, Lifting, Moment, Recall, Text};
 use sqlite::Row;
@@ -183,9 +183,7 @@ impl Judged for StatedRecall {
 
     #[tactic(auto, unfolding(crate::specs::TableColumns::stated_from))]
     fn judge(row: &Row) -> Option<StatedRecall> {
-        if row.column_count() != 9 {
-            return None;
-        }
+        columns(row, 9)?;
         Some(StatedRecall {
             id: id(row, 0)?,
             lot: id(row, 1)?,

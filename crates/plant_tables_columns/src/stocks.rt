@@ -15,7 +15,8 @@ ghost use Rattle.plant_tables_columns.specs.TableColumns.{row_of_hold, hold_from
 use crate::booked::{BookedRow, movement_sort};
 use crate::judged::Judged;
 use crate::reading::{
-    amount, id, line_number, moment, number, optional_id, optional_sublot, sublot_number, text,
+    amount, columns, id, line_number, moment, number, optional_id, optional_sublot, sublot_number,
+    text,
 };
 use crate::storing;
 use plant_base::{
@@ -37,9 +38,7 @@ impl Judged for Lot {
 
     #[tactic(auto, unfolding(crate::specs::TableColumns::lot_from))]
     fn judge(row: &Row) -> Option<Lot> {
-        if row.column_count() != 2 {
-            return None;
-        }
+        columns(row, 2)?;
         Some(Lot {
             id: id(row, 0)?,
             def: id(row, 1)?,
@@ -65,9 +64,7 @@ impl Judged for Sublot {
 
     #[tactic(auto, unfolding(crate::specs::TableColumns::sublot_from))]
     fn judge(row: &Row) -> Option<Sublot> {
-        if row.column_count() != 4 {
-            return None;
-        }
+        columns(row, 4)?;
         Some(Sublot {
             lot: id(row, 0)?,
             number: sublot_number(row, 1)?,
@@ -144,9 +141,7 @@ impl Judged for BookedRow {
 
     #[tactic(auto, unfolding(crate::specs::TableColumns::booked_from))]
     fn judge(row: &Row) -> Option<BookedRow> {
-        if row.column_count() != 12 {
-            return None;
-        }
+        columns(row, 12)?;
         Some(BookedRow {
             seq: number(row, 0, 0, GREATEST_SEQ)?,
             line: line_number(row, 1)?,
@@ -194,9 +189,7 @@ impl Judged for Hold {
 
     #[tactic(auto, unfolding(crate::specs::TableColumns::hold_from))]
     fn judge(row: &Row) -> Option<Hold> {
-        if row.column_count() != 5 {
-            return None;
-        }
+        columns(row, 5)?;
         Some(Hold {
             lot: id(row, 0)?,
             id: id(row, 1)?,

@@ -10,15 +10,9 @@ use Rattle.std.specs.declared.cmp.Ordering.TheVariants.{Less, Equal, Greater}
 use Rattle.std.proofs.lemmas.Bool.Decides.{nat_tests}
 use Rattle.std.proofs.lemmas.Cmp.{tied_itself}
 use Rattle.std.proofs.lemmas.List.{take_all}
+use Rattle.plant_view.proofs.Rows.{all_filtered}
 use Rattle.plant_worklists.specs.Pages.{page_size, page_of}
 use Rattle.plant_worklists.specs.declared.page.Page.{Page}
-
-all_filter : {R : Type 0} (P : R → Type 0) (p : R → Bool) (rs : List R) → AllByRecursion P rs → AllByRecursion P (filter p rs)
-all_filter P p [] all = tt
-all_filter P p (r ∷ rs) all = elim (p r) as (λ b. AllByRecursion P (cond b (r ∷ filter p rs) (filter p rs))) [
-  | true ↦ (all.0, all_filter P p rs all.1)
-  | false ↦ all_filter P p rs all.1
-]
 
 by_order : {P : Type 0} (o : Ordering) → (o ≡ Less → P) → (o ≡ Equal → P) → (o ≡ Greater → P) → P
 by_order Less less equal greater = less refl
@@ -106,8 +100,8 @@ module _ {R : Type 0} (order : R → R → Ordering) where
     by_tests : (p q : R → Bool) (r : R) (rs : List R) → AllByRecursion (λ y. order r y ≡ Less) rs → merged (filter p rs) (filter q rs) ≡ filter (λ x. p x || q x) rs
         → (a b : Bool) → merged (cond a (r ∷ filter p rs) (filter p rs)) (cond b (r ∷ filter q rs) (filter q rs)) ≡ cond (a || b) (r ∷ filter (λ x. p x || q x) rs) (filter (λ x. p x || q x) rs)
     by_tests p q r rs above rest true true = let itself : order r r ≡ Equal = tied_itself total r in rw itself (ap (λ l. r ∷ l) rest)
-    by_tests p q r rs above rest true false = first_before r (filter p rs) (filter q rs) (all_filter (λ y. order r y ≡ Less) q rs above) ∙ ap (λ l. r ∷ l) rest
-    by_tests p q r rs above rest false true = second_before r (filter p rs) (filter q rs) (all_filter (λ y. order r y ≡ Less) p rs above) ∙ ap (λ l. r ∷ l) rest
+    by_tests p q r rs above rest true false = first_before r (filter p rs) (filter q rs) (all_filtered (λ y. order r y ≡ Less) q rs above) ∙ ap (λ l. r ∷ l) rest
+    by_tests p q r rs above rest false true = second_before r (filter p rs) (filter q rs) (all_filtered (λ y. order r y ≡ Less) p rs above) ∙ ap (λ l. r ∷ l) rest
     by_tests p q r rs above rest false false = rest
 
     -- rows of a list in order that pass the one test, and those that pass the other, as one are those that pass either

@@ -1,5 +1,5 @@
 pub mod Found
-mod Parting
+pub mod Parting
 pub mod Reading
 pub mod Joining
 mod Small

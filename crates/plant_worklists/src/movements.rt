@@ -15,10 +15,7 @@ pub fn movements_into<V: Worklists>(
     ensures { HonestlyTold V.honest V.kept V.steady view.old view.new
         (IfOk result (λ rows. rows.items ≡ movements_into (V.state view.old) lot)) }
 {
-    match view.movements_into(lot) {
-        Ok(rows) => Ok(rows),
-        Err(fault) => Err(ViewFault::View(fault)),
-    }
+    view.movements_into(lot).map_err(ViewFault::View)
 }
 
 /// The lot that a movement of this lot brings its amount to from another sublot, its own where it was divided.

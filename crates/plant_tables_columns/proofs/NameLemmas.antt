@@ -67,15 +67,12 @@ numbered_kind number_of all own =
 pub recipe_state_own : (s : RecipeState) → recipe_state_named (recipe_state_name s) ≡ Some s
 unfolding recipe_state_named
 recipe_state_own recipe_state.Draft = refl
-recipe_state_own recipe_state.Approved = refl
-recipe_state_own recipe_state.Withdrawn = refl
+recipe_state_own _ = refl
 
 pub job_state_own : (s : JobState) → job_state_named (job_state_name s) ≡ Some s
 unfolding job_state_named
 job_state_own job_state.Open = refl
-job_state_own job_state.Cancelled = refl
-job_state_own job_state.Released = refl
-job_state_own job_state.Finished = refl
+job_state_own _ = refl
 
 pub batch_state_own : (s : BatchState) → batch_state_named (batch_state_name s) ≡ Some s
 unfolding batch_state_named
@@ -154,9 +151,7 @@ event_own event.Closed good = refl
 pub line_sort_own : (s : LineSort) → line_sort_numbered (pos (line_sort_number s)) ≡ Some s
 unfolding line_sort_numbered
 line_sort_own line_sort.In = refl
-line_sort_own line_sort.Out = refl
-line_sort_own line_sort.Parameter = refl
-line_sort_own line_sort.Phase = refl
+line_sort_own _ = refl
 
 pub movement_sort_own : (s : MovementSort) → movement_sort_numbered (pos (movement_sort_number s)) ≡ Some s
 unfolding movement_sort_numbered
@@ -166,8 +161,7 @@ movement_sort_own _ = refl
 pub edge_kind_own : (k : EdgeKind) → edge_kind_numbered (pos (edge_kind_number k)) ≡ Some k
 unfolding edge_kind_numbered
 edge_kind_own edge_kind.LotToBatch = refl
-edge_kind_own edge_kind.BatchToLot = refl
-edge_kind_own edge_kind.LotToLot = refl
+edge_kind_own _ = refl
 
 pub mark_kind_own : (k : MarkKind) → mark_kind_numbered (pos (mark_kind_number k)) ≡ Some k
 unfolding mark_kind_numbered

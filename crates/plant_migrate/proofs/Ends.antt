@@ -12,18 +12,15 @@ use Rattle.plant_view.specs.declared.change.RowChange.{RowChange}
 use Rattle.table_forms.specs.Standing.{AreFree, KeepsOthers}
 use Rattle.table_forms.specs.Stopping.{IsSettled}
 use Rattle.plant_tables.specs.DeskForms.{desk_forms, later_forms}
-use Rattle.plant_tables.specs.Keyed.{HoldsTablesOf, AreKeyed, LacksLater}
+use Rattle.plant_tables.specs.Keyed.{HoldsTablesOf, AreKeyed}
 use Rattle.plant_tables.specs.DeskStopping.{IsAtOf, FindsOf}
+use Rattle.plant_tables.proofs.Raised.{lacks_later}
 use Rattle.plant_tables_judged.specs.Collecting.{Rows, rows_in, rows_listed}
 use Rattle.plant_tables_judged.specs.declared.desk_rows.DeskRows.{DeskRows}
 use Rattle.plant_migrate.specs.Raised.{edges_from, raised_by}
 use Rattle.plant_migrate.specs.Steps.{IsRisable, IsCutShortWithin, FindsRisable, IsRaisedBy}
 use Rattle.plant_migrate.specs.Leaving.{IsCutShortAmid, raised_to}
 use Rattle.plant_migrate.proofs.StateChanges.{bookings, state_raised}
-
--- the tables of a version have no rows of later tables
-pub lacks_later : (version : ℕ) (s : State) → LacksLater version (tables_of version s)
-lacks_later version s = record { edges = λ lacking. rw lacking refl; receipts = λ lacking. rw lacking refl; recalls = λ lacking. rw lacking refl; marks = λ lacking. rw lacking refl }
 
 pub state_risable : (version : ℕ) (db : Database) (s : State) → HoldsTablesOf version db (tables_of version s) → AreKeyed (tables_of version s) → IsRisable version db (tables_of version s)
 state_risable version db s holds keyed = record { holds = holds; keyed = keyed; lacks = lacks_later version s }

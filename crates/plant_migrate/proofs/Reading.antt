@@ -12,6 +12,7 @@ use Rattle.table_forms.specs.Standing.{KeepsOthers}
 use Rattle.table_forms.specs.Stopping.{IsSettled}
 use Rattle.plant_tables.specs.DeskForms.{desk_forms, meta_form}
 use Rattle.plant_tables.specs.DeskStopping.{IsAtOf}
+use Rattle.plant_tables.proofs.Raised.{lacks_later}
 use Rattle.plant_tables_columns.specs.TableColumns.{only_meta, row_of_meta}
 use Rattle.plant_tables_columns.proofs.RowLaws.{meta_reads}
 use Rattle.plant_tables_stored.specs.Loading.{AreLoaded, Loads}
@@ -23,7 +24,7 @@ use Rattle.plant_tables_judged.proofs.TableLemmas.{loaded_rows}
 use Rattle.plant_migrate.specs.Raised.{edges_from}
 use Rattle.plant_migrate.specs.Steps.{IsRaisedBy}
 use Rattle.plant_migrate.specs.Leaving.{IsReadable, IsCutShortAmid, IsRead, IsRaisedFrom}
-use Rattle.plant_migrate.proofs.Ends.{lacks_later, raised_since}
+use Rattle.plant_migrate.proofs.Ends.{raised_since}
 use Rattle.plant_migrate.proofs.Kept.{amid_since}
 
 pub rows_read : (version : ℕ) (old : store.State) (s : State) (x : Loaded) (rows : DeskRows) → IsReadable version old s → AreLoaded version old.now x → Some (rows_listed rows) ≡ rows_from x → rows_listed rows ≡ rows_in (tables_of version s)

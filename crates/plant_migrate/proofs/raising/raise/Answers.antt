@@ -1,7 +1,7 @@
 use Rattle.std.proofs.Common.{◌≡◌, ◌≤◌, ◌<◌, pos, subst, rules, w64}
 use mir.Val.{SFits}
 use Rattle.std.specs.Int.Signed.{◌≤ℤ◌}
-use Rattle.sqlite.specs.Held.{state}
+use Rattle.sqlite.specs.Held.{Held, state}
 use Rattle.sqlite.specs.State.{HasCleanDisk, IsUnchanged}
 use Rattle.sqlite.proofs.StateLemmas.{survives_then, survives_weaker}
 use Rattle.plant_base.specs.State.{newest_schema}
@@ -12,22 +12,22 @@ use Rattle.plant_tables_stored.proofs.Versions.{one_version}
 use Rattle.plant_migrate.proofs.Kept.{settled_still, not_raised}
 use Rattle.plant_migrate.proofs.Versions.{version_is, not_below, below, tells_known, stays_at, handed_on, rises_to, cut_from, raised_told}
 use Rattle.plant_migrate.proofs.Faults.{memory_alone}
+use Rattle.plant_migrate.proofs.raising.raise.Given.{Over}
 use Rattle.plant_migrate.proofs.raising.raise.Goals as goal
+
+-- the store of a connection obeys the laws of stores
+is_store : (g : Over) (held : Held _) → IsStore (state g.S.Store held)
+is_store g held = record { settled = g.met.S.Store.settled held.store; stays = g.met.S.Store.stays held.store; something = g.met.S.Store.survives held.store }
 
 pub returns-then-version-clause-cut_short : goal.returns-then-version-clause-cut_short
 returns-then-version-clause-cut_short g c clean version s readable =
-    let held = c.found.new.conn in
-    let old = state g.S.Store c.args.conn.now in
-    let mid = state g.S.Store held in
-    let store : IsStore mid = record { settled = g.met.S.Store.settled held.store; stays = g.met.S.Store.stays held.store; something = g.met.S.Store.survives held.store } in
-    not_raised version c.args.to old mid s readable.at (c.found.ensures.kept clean) store clean c.found.ensures.crash
+    not_raised version c.args.to _ _ s readable.at (c.found.ensures.kept clean) (is_store g c.found.new.conn) clean c.found.ensures.crash
 
 pub returns-then-version-to-clause-raised : goal.returns-then-version-to-clause-raised
 returns-then-version-to-clause-raised g c was version s readable =
-    let held = c.found.new.conn in
     let old = state g.S.Store c.args.conn.now in
-    let mid = state g.S.Store held in
-    let store : IsStore mid = record { settled = g.met.S.Store.settled held.store; stays = g.met.S.Store.stays held.store; something = g.met.S.Store.survives held.store } in
+    let mid = state g.S.Store c.found.new.conn in
+    let store = is_store g c.found.new.conn in
     let same : IsUnchanged old mid = c.in-Ok-Version.ensures.same was _ c.in-Ok-Version.field-0-is in
     let told : IsVersion old.now c.in-Ok-Version.version = (c.in-Ok-Version.ensures.version was _).0 c.in-Ok-Version.field-0-is in
     let is : c.in-Ok-Version.version ≡ pos version = version_is version old.now (tables_of version s) c.in-Ok-Version.version readable.at.holds told in
@@ -44,34 +44,21 @@ returns-then-version-to-clause-not_newer g c was n v =
 
 pub returns-in-Ok-clause-cut_short : goal.returns-in-Ok-clause-cut_short
 returns-in-Ok-clause-cut_short g c clean version s readable =
-    let held = c.found.new.conn in
-    let old = state g.S.Store c.args.conn.now in
-    let mid = state g.S.Store held in
-    let store : IsStore mid = record { settled = g.met.S.Store.settled held.store; stays = g.met.S.Store.stays held.store; something = g.met.S.Store.survives held.store } in
-    not_raised version c.args.to old mid s readable.at (c.found.ensures.kept clean) store clean c.found.ensures.crash
+    not_raised version c.args.to _ _ s readable.at (c.found.ensures.kept clean) (is_store g c.found.new.conn) clean c.found.ensures.crash
 
 pub returns-in-Err-clause-cut_short : goal.returns-in-Err-clause-cut_short
 returns-in-Err-clause-cut_short g c clean version s readable =
-    let held = c.found.new.conn in
-    let old = state g.S.Store c.args.conn.now in
-    let mid = state g.S.Store held in
-    let store : IsStore mid = record { settled = g.met.S.Store.settled held.store; stays = g.met.S.Store.stays held.store; something = g.met.S.Store.survives held.store } in
-    not_raised version c.args.to old mid s readable.at (c.found.ensures.kept clean) store clean c.found.ensures.crash
+    not_raised version c.args.to _ _ s readable.at (c.found.ensures.kept clean) (is_store g c.found.new.conn) clean c.found.ensures.crash
 
 pub returns-then-version-lt1-clause-cut_short : goal.returns-then-version-lt1-clause-cut_short
 returns-then-version-lt1-clause-cut_short g c clean version s readable =
-    let held = c.found.new.conn in
-    let old = state g.S.Store c.args.conn.now in
-    let mid = state g.S.Store held in
-    let store : IsStore mid = record { settled = g.met.S.Store.settled held.store; stays = g.met.S.Store.stays held.store; something = g.met.S.Store.survives held.store } in
-    not_raised version c.args.to old mid s readable.at (c.found.ensures.kept clean) store clean c.found.ensures.crash
+    not_raised version c.args.to _ _ s readable.at (c.found.ensures.kept clean) (is_store g c.found.new.conn) clean c.found.ensures.crash
 
 pub returns-in-Ok-raise_from-clause-raised : goal.returns-in-Ok-raise_from-clause-raised
 returns-in-Ok-raise_from-clause-raised g c clean version s readable =
-    let held = c.found.new.conn in
     let old = state g.S.Store c.args.conn.now in
-    let mid = state g.S.Store held in
-    let store : IsStore mid = record { settled = g.met.S.Store.settled held.store; stays = g.met.S.Store.stays held.store; something = g.met.S.Store.survives held.store } in
+    let mid = state g.S.Store c.found.new.conn in
+    let store = is_store g c.found.new.conn in
     let new = state g.S.Store c.raise_from.new.conn in
     let was : HasCleanDisk mid = c.raise_from.ensures.clean clean in
     let same : IsUnchanged old mid = c.in-Ok-Version.ensures.same was _ c.in-Ok-Version.field-0-is in
@@ -83,10 +70,9 @@ returns-in-Ok-raise_from-clause-raised g c clean version s readable =
 
 pub returns-in-Err-raise_from-clause-cut_short : goal.returns-in-Err-raise_from-clause-cut_short
 returns-in-Err-raise_from-clause-cut_short g c clean version s readable =
-    let held = c.found.new.conn in
     let old = state g.S.Store c.args.conn.now in
-    let mid = state g.S.Store held in
-    let store : IsStore mid = record { settled = g.met.S.Store.settled held.store; stays = g.met.S.Store.stays held.store; something = g.met.S.Store.survives held.store } in
+    let mid = state g.S.Store c.found.new.conn in
+    let store = is_store g c.found.new.conn in
     let new = state g.S.Store c.raise_from.new.conn in
     let was : HasCleanDisk mid = c.raise_from.ensures.clean clean in
     let same : IsUnchanged old mid = c.in-Ok-Version.ensures.same was _ c.in-Ok-Version.field-0-is in
@@ -97,10 +83,9 @@ returns-in-Err-raise_from-clause-cut_short g c clean version s readable =
 
 pub returns-in-Ok-raise_from-clause-crash : goal.returns-in-Ok-raise_from-clause-crash
 returns-in-Ok-raise_from-clause-crash g c =
-    let held = c.found.new.conn in
     let old = state g.S.Store c.args.conn.now in
-    let mid = state g.S.Store held in
-    let store : IsStore mid = record { settled = g.met.S.Store.settled held.store; stays = g.met.S.Store.stays held.store; something = g.met.S.Store.survives held.store } in
+    let mid = state g.S.Store c.found.new.conn in
+    let store = is_store g c.found.new.conn in
     let new = state g.S.Store c.raise_from.new.conn in
     survives_then old mid new _ _ _ (λ _ db none. absurd none)
     (λ clean trees made.
@@ -112,10 +97,9 @@ returns-in-Ok-raise_from-clause-crash g c =
 
 pub returns-in-Err-raise_from-clause-crash : goal.returns-in-Err-raise_from-clause-crash
 returns-in-Err-raise_from-clause-crash g c =
-    let held = c.found.new.conn in
     let old = state g.S.Store c.args.conn.now in
-    let mid = state g.S.Store held in
-    let store : IsStore mid = record { settled = g.met.S.Store.settled held.store; stays = g.met.S.Store.stays held.store; something = g.met.S.Store.survives held.store } in
+    let mid = state g.S.Store c.found.new.conn in
+    let store = is_store g c.found.new.conn in
     let new = state g.S.Store c.raise_from.new.conn in
     survives_then old mid new _ _ _ (λ _ db none. absurd none)
     (λ clean trees made.

@@ -1,6 +1,6 @@
 use Rattle.std.proofs.Common.{◌≡◌, Some, sym, subst, arith}
 use Rattle.std.proofs.lemmas.Result.{IfErr-weaker}
-use Rattle.sqlite.specs.Held.{state}
+use Rattle.sqlite.specs.Held.{Held, state}
 use Rattle.sqlite.specs.State.{HasCleanDisk, IsUnchanged, Survives}
 use Rattle.sqlite.proofs.StateLemmas.{survives_then, survives_weaker}
 use Rattle.plant_view.specs.Tables.{tables_of}
@@ -10,40 +10,36 @@ use Rattle.plant_tables_judged.specs.Collecting.{rows_from, rows_in, rows_listed
 use Rattle.plant_tables_stored.specs.Loading.{AreLoaded}
 use Rattle.plant_migrate.proofs.Kept.{at_still, settled_still, not_raised}
 use Rattle.plant_migrate.proofs.Reading.{rows_read, ends_since, cut_since, first_raised}
+use Rattle.plant_migrate.proofs.raising.raise_first.Given.{Over}
 use Rattle.plant_migrate.proofs.raising.raise_first.Goals as goal
+
+-- the store of a connection obeys the laws of stores
+is_store : (g : Over) (held : Held _) → IsStore (state g.S.Store held)
+is_store g held = record { settled = g.met.S.Store.settled held.store; stays = g.met.S.Store.stays held.store; something = g.met.S.Store.survives held.store }
 
 pub returns-in-Ok-None-clause-cut_short : goal.returns-in-Ok-None-clause-cut_short
 returns-in-Ok-None-clause-cut_short g c clean s readable =
-    let held = c.read.new.conn in
-    let store : IsStore (state g.S.Store held) = record { settled = g.met.S.Store.settled held.store; stays = g.met.S.Store.stays held.store; something = g.met.S.Store.survives held.store } in
-    not_raised 1 c.args.to (state g.S.Store c.args.conn.now) (state g.S.Store held) s readable.at (c.read.ensures.kept clean) store clean c.read.ensures.crash
+    not_raised 1 c.args.to _ _ s readable.at (c.read.ensures.kept clean) (is_store g c.read.new.conn) clean c.read.ensures.crash
 
 pub returns-in-Ok-None-rows_of-clause-cut_short : goal.returns-in-Ok-None-rows_of-clause-cut_short
 returns-in-Ok-None-rows_of-clause-cut_short g c clean s readable =
-    let held = c.read.new.conn in
-    let store : IsStore (state g.S.Store held) = record { settled = g.met.S.Store.settled held.store; stays = g.met.S.Store.stays held.store; something = g.met.S.Store.survives held.store } in
-    not_raised 1 c.args.to (state g.S.Store c.args.conn.now) (state g.S.Store held) s readable.at (c.read.ensures.kept clean) store clean c.read.ensures.crash
+    not_raised 1 c.args.to _ _ s readable.at (c.read.ensures.kept clean) (is_store g c.read.new.conn) clean c.read.ensures.crash
 
 pub returns-in-Err-clause-cut_short : goal.returns-in-Err-clause-cut_short
 returns-in-Err-clause-cut_short g c clean s readable =
-    let held = c.read.new.conn in
-    let store : IsStore (state g.S.Store held) = record { settled = g.met.S.Store.settled held.store; stays = g.met.S.Store.stays held.store; something = g.met.S.Store.survives held.store } in
-    not_raised 1 c.args.to (state g.S.Store c.args.conn.now) (state g.S.Store held) s readable.at (c.read.ensures.kept clean) store clean c.read.ensures.crash
+    not_raised 1 c.args.to _ _ s readable.at (c.read.ensures.kept clean) (is_store g c.read.new.conn) clean c.read.ensures.crash
 
 pub returns-clause-cut_short : goal.returns-clause-cut_short
 returns-clause-cut_short g c clean s readable =
-    let held = c.read.new.conn in
-    let store : IsStore (state g.S.Store held) = record { settled = g.met.S.Store.settled held.store; stays = g.met.S.Store.stays held.store; something = g.met.S.Store.survives held.store } in
-    not_raised 1 c.args.to (state g.S.Store c.args.conn.now) (state g.S.Store held) s readable.at (c.read.ensures.kept clean) store clean c.read.ensures.crash
+    not_raised 1 c.args.to _ _ s readable.at (c.read.ensures.kept clean) (is_store g c.read.new.conn) clean c.read.ensures.crash
 
 pub returns-in-Ok-Some-rows_of-clause-raised : goal.returns-in-Ok-Some-rows_of-clause-raised
 returns-in-Ok-Some-rows_of-clause-raised g c clean s readable =
-    let held = c.read.new.conn in
     let old = state g.S.Store c.args.conn.now in
-    let mid = state g.S.Store held in
+    let mid = state g.S.Store c.read.new.conn in
     let new = state g.S.Store c.raise_rows.new.conn in
     let was : HasCleanDisk mid = omega (arith, clean, c.raise_rows.ensures.survives.clean) in
-    let store : IsStore mid = record { settled = g.met.S.Store.settled held.store; stays = g.met.S.Store.stays held.store; something = g.met.S.Store.survives held.store } in
+    let store = is_store g c.read.new.conn in
     let same : IsUnchanged old mid = rw c.in-Ok-Some.field-0-is at (c.in-Ok-Some.ensures.same was) in
     let loaded : AreLoaded 1 old.now c.in-Ok-Some.loaded = rw c.in-Ok-Some.field-0-is at (c.in-Ok-Some.ensures.rows was) in
     let told : Some (rows_listed c.in-Ok-Some-rows_of.rows) ≡ rows_from c.in-Ok-Some.loaded = rw c.in-Ok-Some-rows_of.field-0-is at c.in-Ok-Some-rows_of.ensures in
@@ -53,12 +49,11 @@ returns-in-Ok-Some-rows_of-clause-raised g c clean s readable =
 
 pub returns-in-Ok-Some-rows_of-clause-cut_short : goal.returns-in-Ok-Some-rows_of-clause-cut_short
 returns-in-Ok-Some-rows_of-clause-cut_short g c clean s readable =
-    let held = c.read.new.conn in
     let old = state g.S.Store c.args.conn.now in
-    let mid = state g.S.Store held in
+    let mid = state g.S.Store c.read.new.conn in
     let new = state g.S.Store c.raise_rows.new.conn in
     let was : HasCleanDisk mid = omega (arith, clean, c.raise_rows.ensures.survives.clean) in
-    let store : IsStore mid = record { settled = g.met.S.Store.settled held.store; stays = g.met.S.Store.stays held.store; something = g.met.S.Store.survives held.store } in
+    let store = is_store g c.read.new.conn in
     let same : IsUnchanged old mid = rw c.in-Ok-Some.field-0-is at (c.in-Ok-Some.ensures.same was) in
     let loaded : AreLoaded 1 old.now c.in-Ok-Some.loaded = rw c.in-Ok-Some.field-0-is at (c.in-Ok-Some.ensures.rows was) in
     let told : Some (rows_listed c.in-Ok-Some-rows_of.rows) ≡ rows_from c.in-Ok-Some.loaded = rw c.in-Ok-Some-rows_of.field-0-is at c.in-Ok-Some-rows_of.ensures in
@@ -73,11 +68,10 @@ returns-in-Ok-Some-rows_of-clause-unwritten g c =
 
 pub returns-in-Ok-Some-rows_of-clause-crash : goal.returns-in-Ok-Some-rows_of-clause-crash
 returns-in-Ok-Some-rows_of-clause-crash g c =
-    let held = c.read.new.conn in
     let old = state g.S.Store c.args.conn.now in
-    let mid = state g.S.Store held in
+    let mid = state g.S.Store c.read.new.conn in
     let new = state g.S.Store c.raise_rows.new.conn in
-    let store : IsStore mid = record { settled = g.met.S.Store.settled held.store; stays = g.met.S.Store.stays held.store; something = g.met.S.Store.survives held.store } in
+    let store = is_store g c.read.new.conn in
     survives_then old mid new _ _ _ (λ _ db none. absurd none)
     (λ clean trees made.
     let was : HasCleanDisk mid = omega (arith, clean, c.raise_rows.ensures.survives.clean) in

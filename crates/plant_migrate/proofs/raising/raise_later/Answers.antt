@@ -1,5 +1,5 @@
 use Rattle.std.proofs.Common.{◌≡◌, ◌∙◌, ◌-◌, [], Some, sym, ap, subst, arith}
-use Rattle.sqlite.specs.Held.{state}
+use Rattle.sqlite.specs.Held.{Held, state}
 use Rattle.sqlite.specs.State.{HasCleanDisk, IsUnchanged}
 use Rattle.sqlite.proofs.StateLemmas.{survives_then}
 use Rattle.plant_view.specs.Tables.{tables_of, position_of}
@@ -12,29 +12,29 @@ use Rattle.plant_migrate.proofs.Ends.{state_risable, state_ends, state_cut}
 use Rattle.plant_migrate.proofs.Kept.{at_still, settled_still, not_raised}
 use Rattle.plant_migrate.proofs.Reading.{meta_read, ends_since, cut_since, later_raised}
 use Rattle.plant_migrate.proofs.StateChanges.{bookings}
+use Rattle.plant_migrate.proofs.raising.raise_later.Given.{Over}
 use Rattle.plant_migrate.proofs.raising.raise_later.Goals as goal
+
+-- the store of a connection obeys the laws of stores
+is_store : (g : Over) (held : Held _) → IsStore (state g.S.Store held)
+is_store g held = record { settled = g.met.S.Store.settled held.store; stays = g.met.S.Store.stays held.store; something = g.met.S.Store.survives held.store }
 
 pub returns-in-Err-clause-cut_short : goal.returns-in-Err-clause-cut_short
 returns-in-Err-clause-cut_short g c clean s readable =
-    let held = c.read_meta.new.conn in
-    let store : IsStore (state g.S.Store held) = record { settled = g.met.S.Store.settled held.store; stays = g.met.S.Store.stays held.store; something = g.met.S.Store.survives held.store } in
-    not_raised c.args.version c.args.to (state g.S.Store c.args.conn.now) (state g.S.Store held) s readable.at (c.read_meta.ensures.kept clean) store clean c.read_meta.ensures.crash
+    not_raised c.args.version c.args.to _ _ s readable.at (c.read_meta.ensures.kept clean) (is_store g c.read_meta.new.conn) clean c.read_meta.ensures.crash
 
 pub returns-clause-cut_short : goal.returns-clause-cut_short
 returns-clause-cut_short g c clean s readable =
-    let held = c.read_meta.new.conn in
-    let store : IsStore (state g.S.Store held) = record { settled = g.met.S.Store.settled held.store; stays = g.met.S.Store.stays held.store; something = g.met.S.Store.survives held.store } in
-    not_raised c.args.version c.args.to (state g.S.Store c.args.conn.now) (state g.S.Store held) s readable.at (c.read_meta.ensures.kept clean) store clean c.read_meta.ensures.crash
+    not_raised c.args.version c.args.to _ _ s readable.at (c.read_meta.ensures.kept clean) (is_store g c.read_meta.new.conn) clean c.read_meta.ensures.crash
 
 pub returns-in-Some-clause-raised : goal.returns-in-Some-clause-raised
 returns-in-Some-clause-raised g c clean s readable =
     let version = c.args.version in
-    let held = c.read_meta.new.conn in
     let old = state g.S.Store c.args.conn.now in
-    let mid = state g.S.Store held in
+    let mid = state g.S.Store c.read_meta.new.conn in
     let new = state g.S.Store c.raise_by.new.conn in
     let was : HasCleanDisk mid = omega (arith, clean, c.raise_by.ensures.survives.clean) in
-    let store : IsStore mid = record { settled = g.met.S.Store.settled held.store; stays = g.met.S.Store.stays held.store; something = g.met.S.Store.survives held.store } in
+    let store = is_store g c.read_meta.new.conn in
     let same : IsUnchanged old mid = c.in-Ok.ensures.same was in
     let told : Some c.in-Some.meta ≡ only_meta c.in-Ok.stored.items = c.in-Some.ensures ∙ ap only_meta c.as_slice.ensures.value in
     let placed : c.in-Some.meta.position ≡ position_of s = meta_read version old s c.in-Ok.stored.items c.in-Some.meta readable (c.in-Ok.ensures.rows was) told in
@@ -46,12 +46,11 @@ returns-in-Some-clause-raised g c clean s readable =
 pub returns-in-Some-clause-cut_short : goal.returns-in-Some-clause-cut_short
 returns-in-Some-clause-cut_short g c clean s readable =
     let version = c.args.version in
-    let held = c.read_meta.new.conn in
     let old = state g.S.Store c.args.conn.now in
-    let mid = state g.S.Store held in
+    let mid = state g.S.Store c.read_meta.new.conn in
     let new = state g.S.Store c.raise_by.new.conn in
     let was : HasCleanDisk mid = omega (arith, clean, c.raise_by.ensures.survives.clean) in
-    let store : IsStore mid = record { settled = g.met.S.Store.settled held.store; stays = g.met.S.Store.stays held.store; something = g.met.S.Store.survives held.store } in
+    let store = is_store g c.read_meta.new.conn in
     let same : IsUnchanged old mid = c.in-Ok.ensures.same was in
     let told : Some c.in-Some.meta ≡ only_meta c.in-Ok.stored.items = c.in-Some.ensures ∙ ap only_meta c.as_slice.ensures.value in
     let placed : c.in-Some.meta.position ≡ position_of s = meta_read version old s c.in-Ok.stored.items c.in-Some.meta readable (c.in-Ok.ensures.rows was) told in
@@ -63,11 +62,10 @@ returns-in-Some-clause-cut_short g c clean s readable =
 pub returns-in-Some-clause-crash : goal.returns-in-Some-clause-crash
 returns-in-Some-clause-crash g c =
     let version = c.args.version in
-    let held = c.read_meta.new.conn in
     let old = state g.S.Store c.args.conn.now in
-    let mid = state g.S.Store held in
+    let mid = state g.S.Store c.read_meta.new.conn in
     let new = state g.S.Store c.raise_by.new.conn in
-    let store : IsStore mid = record { settled = g.met.S.Store.settled held.store; stays = g.met.S.Store.stays held.store; something = g.met.S.Store.survives held.store } in
+    let store = is_store g c.read_meta.new.conn in
     survives_then old mid new _ _ _ (λ _ db none. absurd none)
     (λ clean trees made.
     let was : HasCleanDisk mid = omega (arith, clean, c.raise_by.ensures.survives.clean) in

@@ -61,7 +61,7 @@ use Rattle.plant_tables_judged.proofs.TableLemmas.{map_same, all_again}
 use Rattle.plant_good_passes.proofs.Values.{in_order, good_values, newest_known}
 use Rattle.plant_worklists.proofs.Found.{first_is, of_mapped}
 use Rattle.plant_keyed.specs.Finding.{AreFound, IsFirstFound}
-use Rattle.plant_keyed.proofs.Shown.{movement_again, recall_again}
+use Rattle.plant_keyed.proofs.Shown.{batch_unread, movement_again, recall_again}
 use Rattle.plant_keyed.proofs.Tests.{one_text, text_number, number_text, two_texts}
 
 -- ---- lists
@@ -76,10 +76,6 @@ module _ {X Y : Type 0} (f : X → Y) (p : Y → Bool) (q : X → Bool) (tests :
         | true ↦ refl
         | false ↦ found_mapped xs
       ]
-
-filter_all : {R : Type 0} (p : R → Bool) → ((r : R) → p r ≡ true) → (rs : List R) → filter p rs ≡ rs
-filter_all p passes [] = refl
-filter_all p passes (r ∷ rs) = rw (passes r) (ap (λ l. r ∷ l) (filter_all p passes rs))
 
 -- ---- one table
 
@@ -138,10 +134,14 @@ module _ (db : Database) (s : State) (good : IsGood s) (holds : HoldsTables db (
       first_again batch_from row_of_batch HasBatchRowValues (λ r h. batch_reads.again r h tt) batch_form batch_row_order (λ a b. by_text a.batch.id b.batch.id) db t.batches (holds.each 6 batch_form refl) (in_order newest_schema s good).keyed.batches values.batches (1 ∷ []) (Text id ∷ []) (λ r. same r.batch.id id) (λ r. one_text r.batch.id id) row is
       ∙ found_mapped (batch_row s.control_lines s.events) (λ r. same r.batch.id id) (λ b. same b.id id) (λ b. refl) s.batches
 
-  pub batch_for_is : (order : List ℕ) (row : Option BatchRow) → IsFirstFound db batch_form batch_from (2 ∷ []) (Text order ∷ []) row → row ≡ option_map (batch_row s.control_lines s.events) (batch_of s order)
+  batch_for_is : (order : List ℕ) (row : Option BatchRow) → IsFirstFound db batch_form batch_from (2 ∷ []) (Text order ∷ []) row → row ≡ option_map (batch_row s.control_lines s.events) (batch_of s order)
   batch_for_is order row is =
       first_again batch_from row_of_batch HasBatchRowValues (λ r h. batch_reads.again r h tt) batch_form batch_row_order (λ a b. by_text a.batch.id b.batch.id) db t.batches (holds.each 6 batch_form refl) (in_order newest_schema s good).keyed.batches values.batches (2 ∷ []) (Text order ∷ []) (λ r. same r.batch.job order) (λ r. one_text r.batch.job order) row is
       ∙ found_mapped (batch_row s.control_lines s.events) (λ r. same r.batch.job order) (λ b. same b.job order) (λ b. refl) s.batches
+
+  -- the batch of that row
+  pub batch_of_is : (order : List ℕ) (row : Option BatchRow) → IsFirstFound db batch_form batch_from (2 ∷ []) (Text order ∷ []) row → option_map (λ (r : BatchRow). r.batch) row ≡ batch_of s order
+  batch_of_is order row is = ap (option_map (λ (r : BatchRow). r.batch)) (batch_for_is order row is) ∙ batch_unread _ _ (batch_of s order)
 
   pub control_lines_are : (batch : List ℕ) (rows : List ControlLine) → AreFound db control_line_form control_line_from (1 ∷ []) (Text batch ∷ []) rows → rows ≡ control_lines_of s batch
   control_lines_are batch = found_again control_line_from row_of_control_line HasControlLineValues control_line_again control_line_form control_line_order (λ a b. by_text_number a.batch b.batch a.number b.number) db s.control_lines (holds.each 7 control_line_form refl) (in_order newest_schema s good).keyed.control_lines values.control_lines (1 ∷ []) (Text batch ∷ []) (λ r. same r.batch batch) (λ r. one_text r.batch batch)

@@ -1,7 +1,6 @@
 -- Edges as a direction sees them, in the order of their near ends: what is found by halves is what begins at the node.
 use Rattle.table_forms.proofs.Apart.{order_of}
-use Rattle.std.proofs.Common.{◌⊎◌, ◌≡◌, ◌∙◌, ℕ, ◌+◌, ◌-◌, ◌<◌, ◌≤◌, Bool, true, false, List, [], ◌∷◌, map, filter, take, drop, length, get_or, slice_range, Contains, IsPermutation, refl, sym, ap, subst, inl, inr, arith}
-use Rattle.std.specs.Cmp.{IsTotalOrder}
+use Rattle.std.proofs.Common.{◌⊎◌, ◌≡◌, ◌∙◌, ℕ, ◌+◌, ◌-◌, ◌<◌, ◌≤◌, true, false, List, [], ◌∷◌, map, filter, drop, length, get_or, slice_range, Contains, IsPermutation, refl, sym, ap, subst, inl, inr, arith}
 use Rattle.std.specs.List.Sorted.{IsNonDecreasingBy, IsPartitionPoint, IsPartitionedBy}
 use Rattle.std.specs.Ordering.{is_le, is_lt, ordering_index}
 use Rattle.std.specs.declared.cmp.Ordering.{Ordering}
@@ -20,6 +19,7 @@ use Rattle.plant_trace.specs.Turned.{turned}
 use Rattle.plant_trace.specs.declared.direction.Direction.{Direction}
 use Rattle.plant_trace.specs.declared.direction.Direction.TheVariants.{Forward, Back}
 use Rattle.plant_trace.specs.declared.node.Node.{Node}
+use Rattle.plant_worklists.proofs.Parting.{below_lt, below_le}
 use Rattle.plant_keyed.specs.Edges.{Ascend, AreTurned, HasEdgesAt}
 use Rattle.plant_keyed.proofs.EdgesAt.{mapped_of, row_pair, pair_row}
 use Rattle.plant_view.specs.Genealogy.{edge_rows, edges_among, ends_of}
@@ -46,22 +46,6 @@ next_turned Forward pairs links x nodes are = Lists-same (IsNext Forward links x
 next_turned Back pairs links x nodes are = Lists-same (IsNext Forward links x) (IsNext Back pairs x) nodes (λ y. (are (y, x)).1) (λ y. (are (y, x)).0)
 
 -- ---- halving
-
-below_lt : (a b : Ordering) → ordering_index a ≤ ordering_index b → is_lt b ≡ true → is_lt a ≡ true
-below_lt Less b le h = refl
-below_lt Equal Less le h = absurd (omega arith)
-below_lt Equal Equal le h = absurd (false≢true h)
-below_lt Equal Greater le h = absurd (false≢true h)
-below_lt Greater Less le h = absurd (omega arith)
-below_lt Greater Equal le h = absurd (false≢true h)
-below_lt Greater Greater le h = absurd (false≢true h)
-
-below_le : (a b : Ordering) → ordering_index a ≤ ordering_index b → is_le b ≡ true → is_le a ≡ true
-below_le Less b le h = refl
-below_le Equal b le h = refl
-below_le Greater Less le h = absurd (omega arith)
-below_le Greater Equal le h = absurd (omega arith)
-below_le Greater Greater le h = absurd (false≢true h)
 
 lt_le : (a : Ordering) → is_lt a ≡ true → is_le a ≡ true
 lt_le Less h = refl

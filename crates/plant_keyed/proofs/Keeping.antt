@@ -1,5 +1,5 @@
 -- What look-ups keep, and what they tell.
-use Rattle.std.proofs.Common.{◌≡◌, Bool, Result, IfOk, sym, subst, arith}
+use Rattle.std.proofs.Common.{◌≡◌, Bool, Result, IfOk, sym, subst}
 use Rattle.std.proofs.lemmas.Result.{IfOk-weaker}
 use Rattle.sqlite.specs.Effect.{Database}
 use Rattle.sqlite.specs.State as store
@@ -8,7 +8,7 @@ use Rattle.plant_base.specs.State.{State, newest_schema}
 use Rattle.plant_view.specs.Tables.{tables_of}
 use Rattle.plant_good.specs.Good.{IsGood}
 use Rattle.plant_tables.specs.Keyed.{HoldsTables}
-use Rattle.plant_keyed.specs.Keeping.{IsHonest, IsSteady, IsTold}
+use Rattle.plant_keyed.specs.Keeping.{IsSteady, IsTold}
 use Rattle.plant_keyed.specs.Remembering.{AreEdgesOf, IsTraced, StaysTrue}
 use Rattle.plant_keyed.specs.declared.directed.Directed.{Directed}
 use Rattle.plant_keyed.specs.Steadily.{honest_before, steady_along, stays_along}

@@ -9,4 +9,5 @@ mod Placing
 mod Selected
 pub mod Shown
 mod Sorting
+mod Telling
 mod Tests

@@ -9,7 +9,6 @@ use Rattle.sqlite.specs.declared.types.Value.{Value}
 use Rattle.sqlite.specs.declared.types.Value.TheVariants.{Text}
 use Rattle.sqlite_value.specs.Order.{value_cmp}
 use Rattle.sqlite_value.proofs.OrderLemmas.{value_cmp-Int, value_cmp-Text}
-use Rattle.plant_base.specs.Recalls.{is_open}
 use Rattle.plant_base.specs.RowValues.{HasDefinitionValues, HasLotValues, HasHoldValues, HasRecallValues}
 use Rattle.plant_base.specs.State.{State, newest_schema, id_cmp, same, definition_order, job_order, lot_order, hold_order, recall_order}
 use Rattle.plant_base.specs.Words.{job_state_name}
@@ -54,11 +53,14 @@ by_text a b = sym (then_equal (value_cmp (Text a) (Text b)) ∙ value_cmp-Text a
 by_two_texts : (a b c d : List ℕ) → ordering_then (id_cmp a b) (id_cmp c d) ≡ ordering_then (value_cmp (Text a) (Text b)) (ordering_then (value_cmp (Text c) (Text d)) Equal)
 by_two_texts a b c d = λ i. ordering_then (sym (value_cmp-Text a b) i) (by_text c d i)
 
-number_cmp : (m n : ℕ) → nat_cmp m n ≡ value_cmp (number m) (number n)
-number_cmp m n = sym (value_cmp-Int (pos m) (pos n) ∙ int_cmp_pos m n)
+pub number_cmp : (m n : ℕ) → value_cmp (number m) (number n) ≡ nat_cmp m n
+number_cmp m n = value_cmp-Int (pos m) (pos n) ∙ int_cmp_pos m n
 
-by_text_number : (a b : List ℕ) (m n : ℕ) → ordering_then (id_cmp a b) (nat_cmp m n) ≡ ordering_then (value_cmp (Text a) (Text b)) (ordering_then (value_cmp (number m) (number n)) Equal)
-by_text_number a b m n = λ i. ordering_then (sym (value_cmp-Text a b) i) ((number_cmp m n ∙ sym (then_equal (value_cmp (number m) (number n)))) i)
+pub by_number : (m n : ℕ) → nat_cmp m n ≡ ordering_then (value_cmp (number m) (number n)) Equal
+by_number m n = sym (then_equal (value_cmp (number m) (number n)) ∙ number_cmp m n)
+
+pub by_text_number : (a b : List ℕ) (m n : ℕ) → ordering_then (id_cmp a b) (nat_cmp m n) ≡ ordering_then (value_cmp (Text a) (Text b)) (ordering_then (value_cmp (number m) (number n)) Equal)
+by_text_number a b m n = ap₂ ordering_then (sym (value_cmp-Text a b)) (by_number m n)
 
 -- ---- the value that a list is of, and the place to go on from
 

@@ -1,5 +1,5 @@
 -- What a page of a list finds whose keys are of two values.
-use Rattle.std.proofs.Common.{◌≡◌, ◌∙◌, ℕ, ◌+◌, Bool, true, false, ◌&&◌, ◌||◌, List, [], ◌∷◌, filter, map, Option, Some, None, refl, ap, ap₂, pos, sym}
+use Rattle.std.proofs.Common.{◌≡◌, ◌∙◌, ℕ, ◌+◌, Bool, true, false, ◌&&◌, ◌||◌, List, [], ◌∷◌, filter, map, Option, Some, refl, ap, ap₂, sym}
 use Rattle.std.specs.Cmp.{IsTotalOrder}
 use Rattle.std.specs.List.{AllByRecursion}
 use Rattle.std.specs.List.Sorted.{IsStrictlySortedBy}
@@ -12,7 +12,7 @@ use Rattle.sqlite.specs.Order.{Row}
 use Rattle.sqlite.specs.declared.types.Value.{Value}
 use Rattle.sqlite.specs.declared.types.Value.TheVariants.{Text}
 use Rattle.sqlite_value.specs.Order.{value_cmp}
-use Rattle.sqlite_value.proofs.OrderLemmas.{value_cmp-Text, value_cmp-Int}
+use Rattle.sqlite_value.proofs.OrderLemmas.{value_cmp-Text}
 use Rattle.plant_base.specs.State.{State, newest_schema, id_cmp, same, recipe_order, movement_order}
 use Rattle.plant_base.specs.Words.{recipe_state_name}
 use Rattle.plant_base.specs.declared.rows.Movement.{Movement}
@@ -20,7 +20,7 @@ use Rattle.plant_base.specs.declared.rows.MovementKind.{MovementKind}
 use Rattle.plant_base.specs.declared.rows.MovementKind.TheVariants as kind
 use Rattle.plant_base.specs.declared.rows.Recipe.{Recipe}
 use Rattle.plant_base.specs.declared.states.RecipeState.{RecipeState}
-use Rattle.plant_view.specs.Tables.{Tables, tables_of}
+use Rattle.plant_view.specs.Tables.{tables_of}
 use Rattle.plant_view.specs.Views.{is_named}
 use Rattle.plant_view.proofs.RowKeys.{recipe_order_total}
 use Rattle.plant_good.specs.Good.{IsGood}
@@ -35,7 +35,6 @@ use Rattle.plant_tables_columns.specs.Kinds.{number}
 use Rattle.plant_tables_columns.specs.Obeying.{HasRecipeValues, HasMovementRowValues, HasGoodValues}
 use Rattle.plant_tables_columns.specs.TableColumns.{row_of_recipe, row_of_movement, recipe_from, movement_read}
 use Rattle.plant_tables_columns.proofs.RowLaws.{recipe_reads}
-use Rattle.plant_tables_judged.proofs.SortedLemmas.{int_cmp_pos}
 use Rattle.plant_good_passes.proofs.Values.{in_order, good_values, newest_known}
 use Rattle.plant_worklists.specs.Pages.{page_size, page_of}
 use Rattle.plant_worklists.specs.Worklists.{recipe_above, recipes_in, movement_above, is_movement_above, lot_made, is_in_ledger, ledger_of}
@@ -44,9 +43,10 @@ use Rattle.plant_worklists.specs.declared.place.MovementPlace.{MovementPlace}
 use Rattle.plant_worklists.specs.declared.place.RecipePlace.{RecipePlace}
 use Rattle.plant_worklists.proofs.Joining.{merged_filters}
 use Rattle.plant_keyed.specs.Paging.{IsOfBoth, IsPagedBeyond}
+use Rattle.plant_keyed.proofs.Listing.{by_number, by_text_number, number_cmp}
 use Rattle.plant_keyed.proofs.Paged.{page_again}
 use Rattle.plant_keyed.proofs.Shown.{movement_again}
-use Rattle.plant_keyed.proofs.Tests.{text_is}
+use Rattle.plant_keyed.proofs.Tests.{named_is, text_is}
 
 -- after the place of two values: with its first value and after its second, or after its first
 after : (s : Bool) (o p : Ordering) → ((s && (is_eq o && is_gt p)) || (s && is_gt o)) ≡ (s && is_gt (ordering_then o p))
@@ -78,20 +78,6 @@ module _ {R : Type 0} (row_from : Row → Option R) (written : R → Row) (P : R
       ∙ ap page_of (merged_filters order total is_near is_far rs sorted ∙ (λ i. filter (λ r. after (s r) (o r) (p r) i) rs))
 
 -- ---- keys and places as a store compares them
-
-then_equal : (o : Ordering) → o ≡ ordering_then o Equal
-then_equal Less = refl
-then_equal Equal = refl
-then_equal Greater = refl
-
-number_cmp : (m n : ℕ) → value_cmp (number m) (number n) ≡ nat_cmp m n
-number_cmp m n = value_cmp-Int (pos m) (pos n) ∙ int_cmp_pos m n
-
-by_number : (m n : ℕ) → nat_cmp m n ≡ ordering_then (value_cmp (number m) (number n)) Equal
-by_number m n = then_equal (nat_cmp m n) ∙ ap (λ o. ordering_then o Equal) (sym (number_cmp m n))
-
-by_text_number : (a b : List ℕ) (m n : ℕ) → ordering_then (id_cmp a b) (nat_cmp m n) ≡ ordering_then (value_cmp (Text a) (Text b)) (ordering_then (value_cmp (number m) (number n)) Equal)
-by_text_number a b m n = ap₂ ordering_then (sym (value_cmp-Text a b)) (by_number m n)
 
 by_two_numbers : (a b m n : ℕ) → ordering_then (nat_cmp a b) (nat_cmp m n) ≡ ordering_then (value_cmp (number a) (number b)) (ordering_then (value_cmp (number m) (number n)) Equal)
 by_two_numbers a b m n = ap₂ ordering_then (sym (number_cmp a b)) (by_number m n)
@@ -127,30 +113,10 @@ module _ (lot : List ℕ) (seq line : ℕ) where
   far_first m = far_so _ _ m seq (text_is m.lot lot)
 
   near_second : (m : Movement) → IsNear 6 (is_second lot m) lot seq line m
-  unfolding value_cmp
-  near_second m = by m.kind
-    where
-      by : (k : MovementKind) → IsNear 6 (is_named lot (other_lot k m.lot)) lot seq line (record m { kind = k })
-      by kind.Received = refl
-      by (kind.Consumed b) = refl
-      by (kind.Produced b) = refl
-      by kind.Scrapped = refl
-      by (kind.Divided to) = near_so _ _ m seq line (text_is m.lot lot)
-      by (kind.Split to) = near_so _ _ m seq line (text_is to lot)
-      by (kind.Merged to) = near_so _ _ m seq line (text_is to lot)
+  near_second m = near_so _ _ m seq line (named_is lot (other_lot m.kind m.lot))
 
   far_second : (m : Movement) → IsFar 6 (is_second lot m) lot seq m
-  unfolding value_cmp
-  far_second m = by m.kind
-    where
-      by : (k : MovementKind) → IsFar 6 (is_named lot (other_lot k m.lot)) lot seq (record m { kind = k })
-      by kind.Received = refl
-      by (kind.Consumed b) = refl
-      by (kind.Produced b) = refl
-      by kind.Scrapped = refl
-      by (kind.Divided to) = far_so _ _ m seq (text_is m.lot lot)
-      by (kind.Split to) = far_so _ _ m seq (text_is to lot)
-      by (kind.Merged to) = far_so _ _ m seq (text_is to lot)
+  far_second m = far_so _ _ m seq (named_is lot (other_lot m.kind m.lot))
 
 -- what names the lot first or second is in its ledger
 in_ledger : (a b : Bool) → ((a && b) || (a && b)) ≡ ((a || false) && b)
@@ -159,13 +125,10 @@ in_ledger true false = refl
 in_ledger false b = refl
 
 in_either : (a c b : Bool) → ((a && b) || (c && b)) ≡ ((a || c) && b)
-in_either true true true = refl
+in_either false c b = refl
+in_either true c true = refl
 in_either true true false = refl
-in_either true false true = refl
 in_either true false false = refl
-in_either false true true = refl
-in_either false true false = refl
-in_either false false b = refl
 
 named_so : (lot : List ℕ) (above : Option MovementPlace) (m : Movement) → ((same m.lot lot && is_movement_above above m) || (is_second lot m && is_movement_above above m)) ≡ is_in_ledger lot above m
 named_so lot above m = by m.kind

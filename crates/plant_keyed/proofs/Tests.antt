@@ -1,5 +1,5 @@
 -- The comparison of columns with parameters, as a test of the row.
-use Rattle.std.proofs.Common.{◌≡◌, ◌∙◌, ℕ, pos, Bool, true, false, ◌&&◌, ◌==◌, List, [], ◌∷◌, refl, sym, ap, ap₂}
+use Rattle.std.proofs.Common.{◌≡◌, ◌∙◌, ℕ, pos, Bool, true, false, ◌&&◌, ◌==◌, List, [], ◌∷◌, Option, Some, None, refl, sym, ap, ap₂}
 use Rattle.std.specs.Cmp.{unsigned_ties}
 use Rattle.std.specs.Cmp.Lexicographic.{texts_ties}
 use Rattle.std.specs.Ordering.{is_eq}
@@ -14,7 +14,8 @@ use Rattle.plant_view.specs.Genealogy.{batch_by}
 use Rattle.plant_view.specs.Views.{is_named, is_scrap}
 use Rattle.plant_worklists.specs.Worklists.{other_lot}
 use Rattle.table_reads.specs.Found.{has_values}
-use Rattle.plant_tables_columns.specs.Kinds.{number}
+use Rattle.plant_tables_columns.specs.Booked.{other_lot as column_lot}
+use Rattle.plant_tables_columns.specs.Kinds.{number, null_or}
 use Rattle.plant_tables_columns.specs.TableColumns.{row_of_movement}
 use Rattle.plant_tables.proofs.KeyTests.{and_true}
 use Rattle.plant_tables_judged.proofs.SortedLemmas.{int_cmp_pos}
@@ -43,32 +44,23 @@ two_texts a b c d = ap₂ (λ x y. x && y) (text_is a b) (one_text c d)
 
 -- ---- movements
 
-pub batch_is : (m : Movement) (batch : List ℕ) → has_values (8 ∷ []) (Text batch ∷ []) (row_of_movement m) ≡ is_named batch (batch_by m.kind)
+-- what a column that may be NULL names
+pub named_is : (name : List ℕ) (o : Option (List ℕ)) → is_eq (value_cmp (null_or Text o) (Text name)) ≡ is_named name o
 unfolding value_cmp
-batch_is m batch = by m.kind
-  where
-    by : (k : MovementKind) → has_values (8 ∷ []) (Text batch ∷ []) (row_of_movement (record m { kind = k })) ≡ is_named batch (batch_by k)
-    by kind.Received = refl
-    by (kind.Consumed b) = one_text b batch
-    by (kind.Produced b) = one_text b batch
-    by kind.Scrapped = refl
-    by (kind.Divided to) = refl
-    by (kind.Split to) = refl
-    by (kind.Merged to) = refl
+named_is name None = refl
+named_is name (Some id) = text_is id name
+
+pub batch_is : (m : Movement) (batch : List ℕ) → has_values (8 ∷ []) (Text batch ∷ []) (row_of_movement m) ≡ is_named batch (batch_by m.kind)
+batch_is m batch = and_true _ ∙ named_is batch (batch_by m.kind)
+
+-- the other lot is told of a movement as its column holds it
+same_other : (k : MovementKind) (lot : List ℕ) → column_lot k lot ≡ other_lot k lot
+same_other kind.Received lot = refl
+same_other _ lot = refl
 
 -- a movement that brings something to the lot from another sublot
 pub into_is : (m : Movement) (lot : List ℕ) → has_values (6 ∷ []) (Text lot ∷ []) (row_of_movement m) ≡ is_named lot (other_lot m.kind m.lot)
-unfolding value_cmp
-into_is m lot = by m.kind
-  where
-    by : (k : MovementKind) → has_values (6 ∷ []) (Text lot ∷ []) (row_of_movement (record m { kind = k })) ≡ is_named lot (other_lot k m.lot)
-    by kind.Received = refl
-    by (kind.Consumed b) = refl
-    by (kind.Produced b) = refl
-    by kind.Scrapped = refl
-    by (kind.Divided to) = one_text m.lot lot
-    by (kind.Split to) = one_text to lot
-    by (kind.Merged to) = one_text to lot
+into_is m lot = and_true _ ∙ named_is lot (column_lot m.kind m.lot) ∙ ap (is_named lot) (same_other m.kind m.lot)
 
 both : (a b : Bool) → (a && (b && true)) ≡ (b && a)
 both true true = refl

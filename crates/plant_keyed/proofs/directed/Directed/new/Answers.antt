@@ -1,6 +1,5 @@
-use Rattle.std.proofs.Common.{List, map, refl, subst, IsPermutation, rules}
+use Rattle.std.proofs.Common.{List, subst, IsPermutation, rules}
 use Rattle.std.proofs.lemmas.List.Sorted.{answers_always}
-use Rattle.plant_trace.specs.Turned.{turned}
 use Rattle.plant_trace.specs.declared.node.Node.{Node}
 use Rattle.plant_keyed.proofs.Directing.{turned_are}
 use Rattle.plant_keyed.proofs.directed.Directed.new.Goals as goal

@@ -13,9 +13,6 @@ pub found-requires : goal.found-requires
 found-requires g c = (2 ∷ 3 ∷ [], marks_on_node)
 
 pub returns-clause-told : goal.returns-clause-told
-returns-clause-told g c =
-    let old = state g.S.Store c.args.self.now.conn.now in
-    let new = state g.S.Store c.found.new.self.conn.now in
-    told_found old new c.args.self.now.has_failed c.found.new.self.has_failed c.found.result _ _ c.found.ensures.steady
+returns-clause-told g c = told_found _ _ _ _ c.found.result _ _ c.found.ensures.steady
     (λ clean. rw (c.id.ensures, c.small.ensures, c.number.ensures, c.id_of.ensures) at (c.found.ensures.rows (2 ∷ 3 ∷ []) marks_on_node (refl, rw (c.id.ensures, c.small.ensures) refl) clean))
-    (λ good holds rows found. subst (λ (y : Node). rows.items ≡ marks_on (shown old.now) y) c.kind_of-kind.ensures (marks_are old.now _ good holds c.kind_of-kind.result (id_of c.args.node.now) rows.items found))
+    (λ good holds rows found. subst (λ (y : Node). rows.items ≡ marks_on (shown (state g.S.Store c.args.self.now.conn.now).now) y) c.kind_of-kind.ensures (marks_are _ _ good holds c.kind_of-kind.result (id_of c.args.node.now) rows.items found))

@@ -1,4 +1,4 @@
-use Rattle.std.proofs.Common.{rules, ◌≡◌, ◌+◌, true, [], ◌∷◌, Ok, IfOk, subst, refl}
+use Rattle.std.proofs.Common.{rules, ◌≡◌, ◌+◌, true, [], ◌∷◌, IfOk, subst, refl}
 use Rattle.std.proofs.lemmas.Result.{IfOk-weaker}
 use Rattle.std.specs.Set.{sorted_merge}
 use Rattle.sqlite.specs.Effect.{Database}
@@ -13,20 +13,14 @@ use Rattle.plant_keyed.proofs.Keeping.{told_by, told_then}
 use Rattle.plant_keyed.proofs.keyed.Keyed.page_beyond.Goals as goal
 
 pub returns-in_err-far-clause-steady : goal.returns-in_err-far-clause-steady
-returns-in_err-far-clause-steady g c =
-    steady_along (state g.S.Store c.args.self.now.conn.now) (state g.S.Store c.page_found.new.self.conn.now) (state g.S.Store c.page_found-2.new.self.conn.now)
-    c.args.self.now.has_failed c.page_found.new.self.has_failed c.page_found-2.new.self.has_failed c.page_found.ensures.steady c.page_found-2.ensures.steady
+returns-in_err-far-clause-steady g c = steady_along _ _ _ _ _ _ c.page_found.ensures.steady c.page_found-2.ensures.steady
 
 pub returns-in_err-far-clause-told : goal.returns-in_err-far-clause-told
 returns-in_err-far-clause-told g c place next last near far known one two =
-    told_by (state g.S.Store c.args.self.now.conn.now) (state g.S.Store c.page_found-2.new.self.conn.now) c.args.self.now.has_failed c.page_found-2.new.self.has_failed _
-    (steady_along (state g.S.Store c.args.self.now.conn.now) (state g.S.Store c.page_found.new.self.conn.now) (state g.S.Store c.page_found-2.new.self.conn.now)
-    c.args.self.now.has_failed c.page_found.new.self.has_failed c.page_found-2.new.self.has_failed c.page_found.ensures.steady c.page_found-2.ensures.steady) (λ clean good holds. search rules)
+    told_by _ _ _ _ _ (steady_along _ _ _ _ _ _ c.page_found.ensures.steady c.page_found-2.ensures.steady) (λ clean good holds. search rules)
 
 pub returns-clause-steady : goal.returns-clause-steady
-returns-clause-steady g c =
-    steady_along (state g.S.Store c.args.self.now.conn.now) (state g.S.Store c.page_found.new.self.conn.now) (state g.S.Store c.page_found-2.new.self.conn.now)
-    c.args.self.now.has_failed c.page_found.new.self.has_failed c.page_found-2.new.self.has_failed c.page_found.ensures.steady c.page_found-2.ensures.steady
+returns-clause-steady g c = steady_along _ _ _ _ _ _ c.page_found.ensures.steady c.page_found-2.ensures.steady
 
 pub returns-clause-told : goal.returns-clause-told
 returns-clause-told g c place next last near far known one two =

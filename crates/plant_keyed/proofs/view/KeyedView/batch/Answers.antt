@@ -5,29 +5,20 @@ use Rattle.plant_base.specs.State.{batch_at}
 use Rattle.plant_keyed.specs.Shown.{shown}
 use Rattle.plant_keyed.proofs.Shown.{batch_unread}
 use Rattle.plant_keyed.proofs.Answering.{batch_is}
-use Rattle.plant_keyed.proofs.Keeping.{stays_by, told_found}
 use Rattle.plant_keyed.proofs.Selected.{batch_by_id}
+use Rattle.plant_trace.proofs.Sources.{HonestlyTold-weaker}
+use Rattle.plant_keyed.proofs.Telling.{found_told}
 use Rattle.plant_keyed.proofs.view.KeyedView.batch.Goals as goal
 
 pub first_found-requires : goal.first_found-requires
 first_found-requires g c = ((1 ∷ []), batch_by_id)
 
 pub returns-clause-row : goal.returns-clause-row
-returns-clause-row g c =
-    let old = state g.S.Store c.args.self.now.conn.now in
-    let new = state g.S.Store c.first_found.new.self.conn.now in
-    let told = told_found old new c.args.self.now.has_failed c.first_found.new.self.has_failed c.first_found.result _ _ c.first_found.ensures.steady
+returns-clause-row g c = found_told g.S.Store c.first_found.ensures.same_reference c.first_found.result c.first_found.ensures.steady c.first_found.ensures.remembers
     (λ clean. rw c.id.ensures at (c.first_found.ensures.row (1 ∷ []) batch_by_id (refl, rw c.id.ensures refl) clean))
-    (λ good holds row found. ap (option_map (λ r. r.batch)) (batch_is old.now _ good holds c.args.id row found) ∙ batch_unread _ _ (batch_at (shown old.now) c.args.id)) in
-    let stays = stays_by _ _ _ _ _ _ told.always c.first_found.ensures.remembers in
-    record { always = (c.first_found.ensures.same_reference, told.always, stays); before = λ h. (told.before h.0, (stays h.0).1 h.1); same = λ h. told.always.shows h.0.clean h.0.unfailed; holds = λ h. told.holds h.0 }
+    (λ good holds row found. ap (option_map (λ r. r.batch)) (batch_is _ _ good holds c.args.id row found) ∙ batch_unread _ _ (batch_at (shown (state g.S.Store c.args.self.now.conn.now).now) c.args.id))
 
 pub returns-clause-progress : goal.returns-clause-progress
-returns-clause-progress g c =
-    let old = state g.S.Store c.args.self.now.conn.now in
-    let new = state g.S.Store c.first_found.new.self.conn.now in
-    let told = told_found old new c.args.self.now.has_failed c.first_found.new.self.has_failed c.first_found.result _ _ c.first_found.ensures.steady
+returns-clause-progress g c = HonestlyTold-weaker (λ is sound. is) (found_told g.S.Store c.first_found.ensures.same_reference c.first_found.result c.first_found.ensures.steady c.first_found.ensures.remembers
     (λ clean. rw c.id.ensures at (c.first_found.ensures.row (1 ∷ []) batch_by_id (refl, rw c.id.ensures refl) clean))
-    (λ good holds row found. batch_is old.now _ good holds c.args.id row found) in
-    let stays = stays_by _ _ _ _ _ _ told.always c.first_found.ensures.remembers in
-    record { always = (c.first_found.ensures.same_reference, told.always, stays); before = λ h. (told.before h.0, (stays h.0).1 h.1); same = λ h. told.always.shows h.0.clean h.0.unfailed; holds = λ h sound. told.holds h.0 }
+    (λ good holds. batch_is _ _ good holds c.args.id))

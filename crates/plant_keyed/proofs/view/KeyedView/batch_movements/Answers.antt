@@ -1,8 +1,5 @@
-use Rattle.plant_keyed.proofs.Keeping.{stays_by}
+use Rattle.plant_keyed.proofs.Telling.{view_told}
 use Rattle.plant_keyed.proofs.view.KeyedView.batch_movements.Goals as goal
 
 pub returns : goal.returns
-returns g c =
-    let told = c.movements_of_batch.ensures.told in
-    let stays = stays_by _ _ _ _ _ _ told.always c.movements_of_batch.ensures.remembers in
-    record { always = (c.movements_of_batch.ensures.same_reference, told.always, stays); before = λ h. (told.before h.0, (stays h.0).1 h.1); same = λ h. told.always.shows h.0.clean h.0.unfailed; holds = λ h. told.holds h.0 }
+returns g c = view_told g.S.Store c.movements_of_batch.ensures.same_reference c.movements_of_batch.ensures.told c.movements_of_batch.ensures.remembers

@@ -1,19 +1,13 @@
 use Rattle.std.proofs.Common.{refl, [], ◌∷◌}
-use Rattle.sqlite.specs.Held.{state}
 use Rattle.plant_keyed.proofs.Answering.{lot_is}
-use Rattle.plant_keyed.proofs.Keeping.{stays_by, told_found}
 use Rattle.plant_keyed.proofs.Selected.{lot_by_id}
+use Rattle.plant_keyed.proofs.Telling.{found_told}
 use Rattle.plant_keyed.proofs.view.KeyedView.lot.Goals as goal
 
 pub first_found-requires : goal.first_found-requires
 first_found-requires g c = ((1 ∷ []), lot_by_id)
 
 pub returns : goal.returns
-returns g c =
-    let old = state g.S.Store c.args.self.now.conn.now in
-    let new = state g.S.Store c.first_found.new.self.conn.now in
-    let told = told_found old new c.args.self.now.has_failed c.first_found.new.self.has_failed c.first_found.result _ _ c.first_found.ensures.steady
+returns g c = found_told g.S.Store c.first_found.ensures.same_reference c.first_found.result c.first_found.ensures.steady c.first_found.ensures.remembers
     (λ clean. rw c.id.ensures at (c.first_found.ensures.row (1 ∷ []) lot_by_id (refl, rw c.id.ensures refl) clean))
-    (λ good holds row found. lot_is old.now _ good holds c.args.id row found) in
-    let stays = stays_by _ _ _ _ _ _ told.always c.first_found.ensures.remembers in
-    record { always = (c.first_found.ensures.same_reference, told.always, stays); before = λ h. (told.before h.0, (stays h.0).1 h.1); same = λ h. told.always.shows h.0.clean h.0.unfailed; holds = λ h. told.holds h.0 }
+    (λ good holds. lot_is _ _ good holds c.args.id)

@@ -1,19 +1,13 @@
 use Rattle.std.proofs.Common.{refl, [], ◌∷◌}
-use Rattle.sqlite.specs.Held.{state}
 use Rattle.plant_keyed.proofs.Answering.{master_lines_are}
-use Rattle.plant_keyed.proofs.Keeping.{stays_by, told_found}
 use Rattle.plant_keyed.proofs.Selected.{lines_of_recipe}
+use Rattle.plant_keyed.proofs.Telling.{found_told}
 use Rattle.plant_keyed.proofs.view.KeyedView.master_lines.Goals as goal
 
 pub found-requires : goal.found-requires
 found-requires g c = ((1 ∷ 2 ∷ []), lines_of_recipe)
 
 pub returns : goal.returns
-returns g c =
-    let old = state g.S.Store c.args.self.now.conn.now in
-    let new = state g.S.Store c.found.new.self.conn.now in
-    let told = told_found old new c.args.self.now.has_failed c.found.new.self.has_failed c.found.result _ _ c.found.ensures.steady
+returns g c = found_told g.S.Store c.found.ensures.same_reference c.found.result c.found.ensures.steady c.found.ensures.remembers
     (λ clean. rw (c.id.ensures, c.small.ensures) at (c.found.ensures.rows (1 ∷ 2 ∷ []) lines_of_recipe (refl, rw (c.id.ensures, c.small.ensures) refl) clean))
-    (λ good holds rows found. master_lines_are old.now _ good holds c.args.id c.args.version rows.items found) in
-    let stays = stays_by _ _ _ _ _ _ told.always c.found.ensures.remembers in
-    record { always = (c.found.ensures.same_reference, told.always, stays); before = λ h. (told.before h.0, (stays h.0).1 h.1); same = λ h. told.always.shows h.0.clean h.0.unfailed; holds = λ h. told.holds h.0 }
+    (λ good holds rows. master_lines_are _ _ good holds c.args.id c.args.version rows.items)

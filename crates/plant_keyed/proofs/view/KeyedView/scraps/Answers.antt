@@ -1,20 +1,14 @@
 use Rattle.std.proofs.Common.{refl, [], ◌∷◌}
-use Rattle.sqlite.specs.Held.{state}
 use Rattle.plant_keyed.proofs.Answering.{movements_are}
-use Rattle.plant_keyed.proofs.Keeping.{stays_by, told_found}
 use Rattle.plant_keyed.proofs.Selected.{movements_of_lot_and_kind}
 use Rattle.plant_keyed.proofs.Tests.{scrap_is}
+use Rattle.plant_keyed.proofs.Telling.{found_told}
 use Rattle.plant_keyed.proofs.view.KeyedView.scraps.Goals as goal
 
 pub found-requires : goal.found-requires
 found-requires g c = (4 ∷ 3 ∷ [], movements_of_lot_and_kind)
 
 pub returns : goal.returns
-returns g c =
-    let old = state g.S.Store c.args.self.now.conn.now in
-    let new = state g.S.Store c.found.new.self.conn.now in
-    let told = told_found old new c.args.self.now.has_failed c.found.new.self.has_failed c.found.result _ _ c.found.ensures.steady
+returns g c = found_told g.S.Store c.found.ensures.same_reference c.found.result c.found.ensures.steady c.found.ensures.remembers
     (λ clean. rw (c.id.ensures, c.small.ensures) at (c.found.ensures.rows (4 ∷ 3 ∷ []) movements_of_lot_and_kind (refl, rw (c.id.ensures, c.small.ensures) refl) clean))
-    (λ good holds rows found. movements_are old.now _ good holds (4 ∷ 3 ∷ []) _ _ (λ m. scrap_is m c.args.lot) rows.items found) in
-    let stays = stays_by _ _ _ _ _ _ told.always c.found.ensures.remembers in
-    record { always = (c.found.ensures.same_reference, told.always, stays); before = λ h. (told.before h.0, (stays h.0).1 h.1); same = λ h. told.always.shows h.0.clean h.0.unfailed; holds = λ h. told.holds h.0 }
+    (λ good holds rows. movements_are _ _ good holds (4 ∷ 3 ∷ []) _ _ (λ m. scrap_is m c.args.lot) rows.items)

@@ -11,10 +11,11 @@ use Rattle.plant_tables_columns.specs.TableColumns.{movement_read}
 use Rattle.plant_worklists.specs.Pages.{page_of}
 use Rattle.plant_worklists.specs.Worklists.{movement_above}
 use Rattle.plant_keyed.specs.Paging.{IsPagedBeyond}
-use Rattle.plant_keyed.specs.Steadily.{honest_before, steady_along}
-use Rattle.plant_keyed.proofs.Keeping.{stays_by, told_then}
+use Rattle.plant_keyed.specs.Steadily.{steady_along}
+use Rattle.plant_keyed.proofs.Keeping.{told_then}
 use Rattle.plant_keyed.proofs.Placing.{ledger_is}
 use Rattle.plant_keyed.proofs.Selected.{ledger, ledger_at, ledger_by_second, ledger_by_second_at}
+use Rattle.plant_keyed.proofs.Telling.{good_told, view_told}
 use Rattle.plant_keyed.proofs.worklists.KeyedWorklists.ledger_of.Goals as goal
 
 pub page_beyond-requires : goal.page_beyond-requires
@@ -24,31 +25,12 @@ pub page_beyond-requires-2 : goal.page_beyond-requires-2
 page_beyond-requires-2 g c = (6, 1, 2, ledger_by_second_at, ledger_by_second)
 
 pub returns-in_err-named : goal.returns-in_err-named
-returns-in_err-named g c =
-    let old = state g.S.Store c.args.self.now.conn.now in
-    let new = state g.S.Store c.page_beyond.new.self.conn.now in
-    let steady = c.page_beyond.ensures.steady in
-    let stays = stays_by old new c.args.self.now.has_failed c.page_beyond.new.self.has_failed _ _ steady c.page_beyond.ensures.remembers in
-    record {
-      always = (c.page_beyond.ensures.same_reference, steady, stays);
-      before = λ h. (honest_before old new c.args.self.now.has_failed c.page_beyond.new.self.has_failed steady h.0, (stays h.0).1 h.1);
-      same = λ h. steady.shows h.0.clean h.0.unfailed;
-      holds = λ h. search rules;
-    }
+returns-in_err-named g c = good_told g.S.Store c.page_beyond.ensures.same_reference c.page_beyond.ensures.steady c.page_beyond.ensures.remembers (λ clean good holds. search rules)
 
 pub returns-in_err-made : goal.returns-in_err-made
 returns-in_err-made g c =
-    let old = state g.S.Store c.args.self.now.conn.now in
-    let mid = state g.S.Store c.page_beyond.new.self.conn.now in
-    let new = state g.S.Store c.page_beyond-2.new.self.conn.now in
-    let steady = steady_along old mid new c.args.self.now.has_failed c.page_beyond.new.self.has_failed c.page_beyond-2.new.self.has_failed c.page_beyond.ensures.steady c.page_beyond-2.ensures.steady in
-    let stays = stays_by old new c.args.self.now.has_failed c.page_beyond-2.new.self.has_failed _ _ steady (c.page_beyond-2.ensures.remembers ∙ c.page_beyond.ensures.remembers) in
-    record {
-      always = (c.page_beyond-2.ensures.same_reference ∙ c.page_beyond.ensures.same_reference, steady, stays);
-      before = λ h. (honest_before old new c.args.self.now.has_failed c.page_beyond-2.new.self.has_failed steady h.0, (stays h.0).1 h.1);
-      same = λ h. steady.shows h.0.clean h.0.unfailed;
-      holds = λ h. search rules;
-    }
+    good_told g.S.Store (c.page_beyond-2.ensures.same_reference ∙ c.page_beyond.ensures.same_reference)
+    (steady_along _ _ _ _ _ _ c.page_beyond.ensures.steady c.page_beyond-2.ensures.steady) (c.page_beyond-2.ensures.remembers ∙ c.page_beyond.ensures.remembers) (λ clean good holds. search rules)
 
 pub returns : goal.returns
 returns g c =
@@ -62,18 +44,16 @@ returns g c =
     let start = movement_above c.args.above in
     let both = told_then old mid new c.args.self.now.has_failed c.page_beyond.new.self.has_failed c.page_beyond-2.new.self.has_failed
     (λ (db : Database). IsPagedBeyond db movement_form movement_read movement_order 6 1 2 (Text c.args.lot) (number start.seq) (number start.line) c.in_ok-made.made) first.always second in
-    let stays = stays_by old new c.args.self.now.has_failed c.page_beyond-2.new.self.has_failed _ _ both.always (c.page_beyond-2.ensures.remembers ∙ c.page_beyond.ensures.remembers) in
-    record {
-      always = (c.page_beyond-2.ensures.same_reference ∙ c.page_beyond.ensures.same_reference, both.always, stays);
-      before = λ h. (both.before h.0, (stays h.0).1 h.1);
-      same = λ h. both.always.shows h.0.clean h.0.unfailed;
-      holds = λ h.
-          let earlier = both.before h.0 in
+    view_told g.S.Store (c.page_beyond-2.ensures.same_reference ∙ c.page_beyond.ensures.same_reference) (record {
+      always = both.always;
+      before = both.before;
+      holds = λ honest.
+          let earlier = both.before honest in
           IfOk-weaker c.if_memory.result _ _ (λ page is. ledger_is old.now _ earlier.good earlier.holds c.args.lot c.args.above page (record {
             first = c.in_ok-named.named;
             second = c.in_ok-made.made;
-            of_first = first.holds (second.before h.0);
-            of_second = both.holds h.0;
+            of_first = first.holds (second.before honest);
+            of_second = both.holds honest;
             as_one = λ xs ys x y. subst (λ made. IfOk made (λ p. p ≡ page_of (sorted_merge movement_order true xs ys))) is (c.merge_pages.ensures xs ys x y);
           })) c.if_memory.ensures.only;
-    }
+    }) (c.page_beyond-2.ensures.remembers ∙ c.page_beyond.ensures.remembers)

@@ -85,9 +85,6 @@ free_tells_nothing db n free v =
     absurd (let both = rw named at unused in cc)
 
 -- the three answers differ
-pub nothing_or_version : (n : ℤ) → answer.Nothing ≡ answer.Version n → ⊥
-nothing_or_version n e = absurd (cc)
-
 pub version_or_nothing : (n : ℤ) → answer.Version n ≡ answer.Nothing → ⊥
 version_or_nothing n e = absurd (cc)
 
@@ -96,6 +93,3 @@ unknown_or_nothing e = absurd (cc)
 
 pub unknown_or_version : (n : ℤ) → answer.NoMeta ≡ answer.Version n → ⊥
 unknown_or_version n e = absurd (cc)
-
-pub told_version : (m n : ℤ) → answer.Version m ≡ answer.Version n → m ≡ n
-told_version m n e = cc

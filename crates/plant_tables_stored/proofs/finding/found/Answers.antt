@@ -7,7 +7,7 @@ use Rattle.table_forms.specs.Standing.{IsFree}
 use Rattle.plant_tables.specs.DeskForms.{desk_forms}
 use Rattle.plant_tables_stored.specs.Version.{IsVersion}
 use Rattle.plant_tables_stored.specs.declared.finding.FoundTables.TheVariants as answer
-use Rattle.plant_tables_stored.proofs.Versions.{are_free, each_free, not_free, one_version, free_tells_nothing, nothing_or_version, version_or_nothing, unknown_or_nothing, unknown_or_version, told_version}
+use Rattle.plant_tables_stored.proofs.Versions.{are_free, each_free, not_free, one_version, free_tells_nothing, version_or_nothing, unknown_or_nothing, unknown_or_version}
 use Rattle.plant_tables_stored.proofs.finding.found.Goals as goal
 
 pub returns-then-all_free-clause-nothing : goal.returns-then-all_free-clause-nothing
@@ -21,7 +21,7 @@ pub returns-then-all_free-clause-version : goal.returns-then-all_free-clause-ver
 returns-then-all_free-clause-version g c clean n =
     let told : c.all_free.result ≡ true = search rules in
     let free : All (IsFree c.args.conn.now.schema) desk_forms = subst₂ (λ schema forms. All (IsFree schema) forms) c.schema.ensures.value c.desk_forms.ensures (c.all_free.ensures.0 told) in
-    (λ e. absurd (nothing_or_version n e), λ v. absurd (free_tells_nothing (state g.S.Store c.args.conn.now).now n free v))
+    (λ e. absurd cc, λ v. absurd (free_tells_nothing (state g.S.Store c.args.conn.now).now n free v))
 
 pub returns-in-Some-clause-nothing : goal.returns-in-Some-clause-nothing
 returns-in-Some-clause-nothing g c =
@@ -32,7 +32,7 @@ returns-in-Some-clause-version g c clean n =
     let fits : SFits w64 c.in-Some.version = search rules in
     let told : IsVersion (state g.S.Store c.args.conn.now).now c.in-Some.version = rw c.in-Some.is at (c.in_ok-version.ensures.some clean) in
     rw (to_z-of_z w64 c.in-Some.version fits) (
-      λ e. let same : c.in-Some.version ≡ n = told_version c.in-Some.version n e in subst (IsVersion (state g.S.Store c.args.conn.now).now) same told,
+      λ e. let same : c.in-Some.version ≡ n = cc in subst (IsVersion (state g.S.Store c.args.conn.now).now) same told,
       λ v. ap (λ k. answer.Version k) (one_version (state g.S.Store c.args.conn.now).now c.in-Some.version n told v),
     )
 

@@ -44,6 +44,7 @@ module _ (text : List ℕ) (form : Form) where
   abbrev table_in : CreateTable
   table_in = definition_in (read_in text).statement
 
+  -- the first of these are computed, and come to the others
   abbrev MakesTable : Type 0
   MakesTable = ◌≡◌ {A = Checked Parsed × Statement × List ℕ × Bool × Bool × Checked Table × List ℕ × Checked Table × Bool}
       (first text, (read_in text).statement, table_in.name, table_in.if_missing, table_in.resolves, define.table (read_in text).formats table_in, slice_range text (read_in text).start (read_in text).end, table_defined_by text, is_reserved form.name)
@@ -106,13 +107,14 @@ module _ (text : List ℕ) (form : Form) (key : List ℕ) where
 
 -- ---- the texts that make the tables
 
--- so of each text, with what stands at its place
+-- it is so of each text and what stands at its place
 abbrev pub AllTexts : {X : Type 0} → (List ℕ → X → Type 0) → List (List ℕ) → List X → Type 0
 AllTexts so [] [] = ⊤
 AllTexts so [] (x ∷ xs) = ⊥
 AllTexts so (text ∷ texts) [] = ⊥
 AllTexts so (text ∷ texts) (x ∷ xs) = so text x × AllTexts so texts xs
 
+-- so it is of as many of the first
 front : {X : Type 0} (so : List ℕ → X → Type 0) (n : ℕ) (texts : List (List ℕ)) (xs : List X) → AllTexts so texts xs → AllTexts so (take n texts) (take n xs)
 front so zero texts xs all = tt
 front so (suc n) [] [] all = tt
@@ -120,6 +122,7 @@ front so (suc n) [] (x ∷ xs) all = elim all [ ]
 front so (suc n) (text ∷ texts) [] all = elim all [ ]
 front so (suc n) (text ∷ texts) (x ∷ xs) all = (all.0, front so n texts xs all.1)
 
+-- and of those behind them
 behind : {X : Type 0} (so : List ℕ → X → Type 0) (n : ℕ) (texts : List (List ℕ)) (xs : List X) → AllTexts so texts xs → AllTexts so (drop n texts) (drop n xs)
 behind so zero texts xs all = all
 behind so (suc n) [] [] all = tt
@@ -127,6 +130,7 @@ behind so (suc n) [] (x ∷ xs) all = elim all [ ]
 behind so (suc n) (text ∷ texts) [] all = elim all [ ]
 behind so (suc n) (text ∷ texts) (x ∷ xs) all = behind so n texts xs all.1
 
+-- texts of which that is computed make the tables
 each_makes : (texts : List (List ℕ)) (forms : List Form) → AllTexts MakesTable texts forms → AreMakeTexts texts forms
 each_makes [] [] all = tt
 each_makes [] (form ∷ forms) all = all
@@ -267,6 +271,7 @@ recalls_added = (record { apart = λ tree. refl }, (makes CREATE_RECALL.now reca
 abbrev pub index_texts : List (List ℕ)
 index_texts = CREATE_BATCH_EVENT_BY_BATCH.now ∷ CREATE_MOVEMENT_BY_LOT.now ∷ CREATE_MOVEMENT_BY_BATCH.now ∷ CREATE_EDGE_BY_END.now ∷ CREATE_MARK_BY_NODE.now ∷ CREATE_DEFINITION_BY_CLASS.now ∷ CREATE_JOB_BY_STATE.now ∷ CREATE_BATCH_BY_CLOSED.now ∷ CREATE_LOT_BY_DEF.now ∷ CREATE_RECALL_BY_STATE.now ∷ CREATE_RECIPE_BY_STATE.now ∷ CREATE_MOVEMENT_BY_LOT2.now ∷ []
 
+-- and such texts make the indexes
 each_indexes : (texts : List (List ℕ)) (indexes : List IndexForm) → AllTexts MakesIndex texts indexes → AreIndexTexts texts indexes
 each_indexes [] [] all = tt
 each_indexes [] (index ∷ indexes) all = all

@@ -11,6 +11,7 @@ use Rattle.plant_tables.specs.DeskForms.{desk_forms, meta_form}
 use Rattle.plant_tables.proofs.DeskTexts.{AllTexts}
 use Rattle.plant_tables_stored.specs.declared.readings.TheConstants.{SELECT_META, SELECT_CLASS, SELECT_DEFINITION, SELECT_RECIPE, SELECT_RECIPE_LINE, SELECT_JOB, SELECT_BATCH, SELECT_CONTROL_LINE, SELECT_BATCH_EVENT, SELECT_LOT, SELECT_SUBLOT, SELECT_MOVEMENT, SELECT_HOLD, SELECT_EDGE, SELECT_RECEIPT, SELECT_RECALL, SELECT_MARK}
 
+-- the texts, in the order of the tables
 abbrev pub select_texts : List (List ℕ)
 select_texts = SELECT_META.now ∷ SELECT_CLASS.now ∷ SELECT_DEFINITION.now ∷ SELECT_RECIPE.now ∷ SELECT_RECIPE_LINE.now ∷ SELECT_JOB.now ∷ SELECT_BATCH.now ∷ SELECT_CONTROL_LINE.now ∷ SELECT_BATCH_EVENT.now ∷ SELECT_LOT.now ∷ SELECT_SUBLOT.now ∷ SELECT_MOVEMENT.now ∷ SELECT_HOLD.now ∷ SELECT_EDGE.now ∷ SELECT_RECEIPT.now ∷ SELECT_RECALL.now ∷ SELECT_MARK.now ∷ []
 
@@ -23,6 +24,7 @@ ReadsRows text form = ◌≡◌ {A = Bool × Checked Parsed}
     (is_readable form, first text)
     (true, Ok (parsed_as (select_of form.name (names_at form (all_places form)) [] (names_at form (first_of form.keys))) [] (length text)))
 
+-- texts of which that is computed read all rows of the tables
 each_selects : (texts : List (List ℕ)) (forms : List Form) → AllTexts ReadsRows texts forms → AllTexts SelectsRows texts forms
 each_selects [] [] all = tt
 each_selects [] (form ∷ forms) all = all

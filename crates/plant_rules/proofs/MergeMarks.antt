@@ -1,8 +1,7 @@
 -- A merge of lots that no open recall reaches leaves the marks.
-use Rattle.std.proofs.Common.{◌≡◌, ℕ, ◌+◌, Bool, true, false, List, [], ◌∷◌, ◌++◌, refl, sym}
-use Rattle.std.specs.Prelude.{◌||◌}
+use Rattle.std.proofs.Common.{◌≡◌, ℕ, ◌+◌, false, List, [], ◌∷◌, ◌++◌}
 use Rattle.std.specs.List.{AllByRecursion}
-use Rattle.std.proofs.lemmas.Bool.{false≢true}
+use Rattle.std.proofs.lemmas.Bool.{or_parts}
 use Rattle.plant_base.specs.State.{State}
 use Rattle.plant_base.specs.declared.command.Part.{Part}
 use Rattle.plant_base.specs.declared.command.Stamp.{Stamp}
@@ -13,15 +12,11 @@ use Rattle.plant_view.specs.Recalls.{marks, is_blocked}
 use Rattle.plant_view.proofs.Marking.{Misses, Avoids, unblocked, marks_stay}
 use Rattle.plant_rules.specs.Merging.{part_lines, is_some_blocked}
 
-neither : (a b : Bool) → (a || b) ≡ false → (a ≡ false) × (b ≡ false)
-neither true b e = absurd (false≢true (sym e))
-neither false b e = (refl, e)
-
 module _ (s : State) (seq : ℕ) (t : Stamp) (new : List ℕ) where
   part_misses : (ps : List Part) → is_some_blocked s ps ≡ false → AllByRecursion (λ p. AllByRecursion (Misses (edges_of s) (node.Lot p.lot)) s.recalls) ps
   part_misses [] e = tt
   part_misses (p ∷ ps) e =
-      let both = neither (is_blocked s p.lot) (is_some_blocked s ps) e in
+      let both = or_parts (is_blocked s p.lot) (is_some_blocked s ps) e in
       (unblocked s p.lot both.0, part_misses ps both.1)
 
   one_avoids : (r : Recall) (rs : List Recall) (k : ℕ) (ps : List Part) → AllByRecursion (λ p. AllByRecursion (Misses (edges_of s) (node.Lot p.lot)) (r ∷ rs)) ps → AllByRecursion (Avoids s (part_lines seq t new k ps) r) (part_lines seq t new k ps)

@@ -2,7 +2,7 @@
 use Rattle.std.proofs.Common.{◌≡◌, ◌∙◌, ℕ, ◌<◌, ◌≤◌, Bool, true, false, cond, List, [], ◌∷◌, ◌++◌, map, length, sym, subst, ap, ⊎_elim, refl, Contains, arith}
 use Rattle.std.specs.Prelude.{◌||◌}
 use Rattle.std.specs.List.{flat_map, list_any}
-use Rattle.std.proofs.lemmas.Bool.{false≢true}
+use Rattle.std.proofs.lemmas.Bool.{false≢true, false_from_ne_true}
 use Rattle.std.proofs.lemmas.Grind.{flat_map-append}
 use Rattle.std.proofs.lemmas.List.Elements.{Contains-append_cases, Contains-append_left, Contains-push}
 use Rattle.plant_base.specs.Recalls.{is_open, mark_order, mark_eq, mark_ties, mark_total}
@@ -30,11 +30,7 @@ same_list = sets.same_list mark_order mark_exact mark_total mark_eq mark_ties
 
 -- rows that are fewer are others
 pub fewer : (rows all : List Mark) → length rows < length all → are_same_marks rows all ≡ false
-fewer rows all less = by (are_same_marks rows all) refl
-  where
-    by : (b : Bool) → are_same_marks rows all ≡ b → b ≡ false
-    by true e = let same = ap (λ (xs : List Mark). length xs) (same_list rows all e) in absurd (omega (arith, less, same))
-    by false e = refl
+fewer rows all less = false_from_ne_true (are_same_marks rows all) (λ e. let same = ap (λ (xs : List Mark). length xs) (same_list rows all e) in omega (arith, less, same))
 
 -- ---- recall by recall
 

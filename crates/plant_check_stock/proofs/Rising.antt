@@ -8,11 +8,14 @@ use Rattle.std.specs.declared.cmp.Ordering.{Ordering}
 use Rattle.std.specs.declared.cmp.Ordering.TheVariants.{Less, Equal}
 use Rattle.std.specs.Ordering.{nat_cmp, is_lt, ordering_then}
 use Rattle.std.specs.Cmp.{nat_cmp_is}
-use Rattle.std.proofs.lemmas.Bool.{false≢true, cases_lt, cases_eq}
+use Rattle.std.proofs.lemmas.Bool.{false≢true, leb-true, le-leb, and_from, cases_lt, cases_eq}
 use Rattle.std.proofs.lemmas.Bool.Decides.{nat_tests}
 use Rattle.std.proofs.lemmas.List.Sums.{AllPass-from_list_all, list_all-from_AllPass}
 use Rattle.std.proofs.lemmas.List.Sorted.{All-permutation, IsPermutation-sym}
 use Rattle.std.proofs.lemmas.Map.Keys.{ge_from_not_lt}
+use Rattle.plant_base.proofs.Put.{all_weaker}
+use Rattle.plant_view.proofs.KeptSound.{all_two}
+use Rattle.plant_view.proofs.Rows.{each_passes}
 use Rattle.plant_view.proofs.Tests.{and_left, and_right}
 use Rattle.plant_check_stock.specs.Times.{is_no_later, never_fall, rises}
 
@@ -25,10 +28,6 @@ same_truth : (a b : Bool) → (a ≡ true → b ≡ true) → (b ≡ true → a 
 same_truth true b f g = sym (f refl)
 same_truth false true f g = g refl
 same_truth false false f g = refl
-
-both : (a b : Bool) → a ≡ true → b ≡ true → (a && b) ≡ true
-both true b e f = f
-both false b e f = e
 
 permuted : {X : Type 0} (p : X → Bool) (xs ys : List X) → IsPermutation xs ys → list_all p xs ≡ list_all p ys
 permuted p xs ys m = same_truth _ _
@@ -99,20 +98,13 @@ abbrev Fine : List Mark → Type 0
 Fine [] = ⊤
 Fine (x ∷ xs) = AllByRecursion (λ b. is_no_later x b ≡ true) xs × AllByRecursion (λ a. is_no_later a x ≡ true) xs × Fine xs
 
-at_most : (m n : ℕ) → nat_le m n ≡ true → m ≤ n
-at_most m n e = grind (arith, nat_tests)
-
-is_at_most : (m n : ℕ) → m ≤ n → nat_le m n ≡ true
-is_at_most m n h = grind (arith, nat_tests)
-
 higher : (low x : ℕ) (ys : List Mark) → low ≤ x → AllByRecursion (λ (b : Mark). x ≤ b.1) ys → AllByRecursion (λ (b : Mark). low ≤ b.1) ys
-higher low x [] h a = tt
-higher low x (y ∷ ys) h a = (omega (arith, h, a.0), higher low x ys h a.1)
+higher low x ys h a = all_weaker _ _ (λ (b : Mark) l. omega (arith, h, l)) ys a
 
 above : (low : ℕ) (xs : List Mark) → rises low xs ≡ true → AllByRecursion (λ (b : Mark). low ≤ b.1) xs
 above low [] e = tt
 above low (x ∷ xs) e =
-    let first = at_most low x.1 (and_left (nat_le low x.1) (rises x.1 xs) e) in
+    let first = leb-true low x.1 (and_left (nat_le low x.1) (rises x.1 xs) e) in
     (first, higher low x.1 xs first (above x.1 xs (and_right (nat_le low x.1) (rises x.1 xs) e)))
 
 -- a mark that is no earlier is no later one's
@@ -132,12 +124,10 @@ number_below x a (inl h) = omega (arith, h)
 number_below x a (inr h) = omega (arith, h.0)
 
 fronts : (x : Mark) (xs : List Mark) → AllByRecursion (λ (b : Mark). x.1 ≤ b.1) xs → AllByRecursion (λ b. is_no_later x b ≡ true) xs
-fronts x [] a = tt
-fronts x (y ∷ ys) a = (no_later x y a.0, fronts x ys a.1)
+fronts x xs a = all_weaker _ _ (λ (y : Mark) h. no_later x y h) xs a
 
 backs : (x : Mark) (xs : List Mark) → AllByRecursion (IsAfter x) xs → AllByRecursion (λ a. is_no_later a x ≡ true) xs
-backs x [] a = tt
-backs x (y ∷ ys) a = (no_lower y x (number_below x y a.0), backs x ys a.1)
+backs x xs a = all_weaker _ _ (λ (y : Mark) h. no_lower y x (number_below x y h)) xs a
 
 -- where the moments rise all is fine
 fine_risen : (x : Mark) (xs : List Mark) → Chain x xs → rises x.1 xs ≡ true → Fine (x ∷ xs)
@@ -147,7 +137,7 @@ fine_risen x (y ∷ ys) c e = (fronts x (y ∷ ys) (above x.1 (y ∷ ys) e), bac
 -- and where all is fine they rise
 risen : (x : Mark) (xs : List Mark) → Chain x xs → Fine (x ∷ xs) → rises x.1 xs ≡ true
 risen x [] c f = refl
-risen x (y ∷ ys) c f = both (nat_le x.1 y.1) (rises y.1 ys) (is_at_most x.1 y.1 (step c.0)) (risen y ys c.1 f.2)
+risen x (y ∷ ys) c f = and_from (nat_le x.1 y.1) (rises y.1 ys) (le-leb x.1 y.1 (step c.0)) (risen y ys c.1 f.2)
   where
     step : IsAfter x y → x.1 ≤ y.1
     step (inl h) = not_later x y f.0.0 h
@@ -155,46 +145,28 @@ risen x (y ∷ ys) c f = both (nat_le x.1 y.1) (rises y.1 ys) (is_at_most x.1 y.
 
 -- ---- the same as tests
 
-all_of : {X : Type 0} (p : X → Bool) (xs : List X) → list_all p xs ≡ true → AllByRecursion (λ x. p x ≡ true) xs
-all_of p [] e = tt
-all_of p (x ∷ xs) e = (and_left (p x) (list_all p xs) e, all_of p xs (and_right (p x) (list_all p xs) e))
-
 test_of : {X : Type 0} (p : X → Bool) (xs : List X) → AllByRecursion (λ x. p x ≡ true) xs → list_all p xs ≡ true
 test_of p [] a = refl
-test_of p (x ∷ xs) a = both (p x) (list_all p xs) a.0 (test_of p xs a.1)
-
-both_tests : {X : Type 0} (p q : X → Bool) (xs : List X) → AllByRecursion (λ x. p x ≡ true) xs → list_all q xs ≡ true → list_all (λ x. p x && q x) xs ≡ true
-both_tests p q [] a e = refl
-both_tests p q (x ∷ xs) a e = both (p x && q x) _ (both (p x) (q x) a.0 (and_left (q x) (list_all q xs) e)) (both_tests p q xs a.1 (and_right (q x) (list_all q xs) e))
-
-first_tests : {X : Type 0} (p q : X → Bool) (xs : List X) → list_all (λ x. p x && q x) xs ≡ true → list_all p xs ≡ true
-first_tests p q [] e = refl
-first_tests p q (x ∷ xs) e =
-    let rest = list_all (λ y. p y && q y) xs in
-    both (p x) (list_all p xs) (and_left (p x) (q x) (and_left (p x && q x) rest e)) (first_tests p q xs (and_right (p x && q x) rest e))
-
-second_tests : {X : Type 0} (p q : X → Bool) (xs : List X) → list_all (λ x. p x && q x) xs ≡ true → list_all q xs ≡ true
-second_tests p q [] e = refl
-second_tests p q (x ∷ xs) e =
-    let rest = list_all (λ y. p y && q y) xs in
-    both (q x) (list_all q xs) (and_right (p x) (q x) (and_left (p x && q x) rest e)) (second_tests p q xs (and_right (p x && q x) rest e))
+test_of p (x ∷ xs) a = and_from (p x) (list_all p xs) a.0 (test_of p xs a.1)
 
 fine_of : (xs : List Mark) → never_fall xs ≡ true → Fine xs
 fine_of [] e = tt
 fine_of (x ∷ xs) e =
     let front = and_left (list_all (is_no_later x) (x ∷ xs)) (list_all (λ a. is_no_later a x && list_all (is_no_later a) xs) xs) e in
-    let back = and_right (list_all (is_no_later x) (x ∷ xs)) (list_all (λ a. is_no_later a x && list_all (is_no_later a) xs) xs) e in (
-      all_of (is_no_later x) xs (and_right (is_no_later x x) (list_all (is_no_later x) xs) front),
-      all_of (λ a. is_no_later a x) xs (first_tests (λ a. is_no_later a x) (λ a. list_all (is_no_later a) xs) xs back),
-      fine_of xs (second_tests (λ a. is_no_later a x) (λ a. list_all (is_no_later a) xs) xs back),
+    let back = and_right (list_all (is_no_later x) (x ∷ xs)) (list_all (λ a. is_no_later a x && list_all (is_no_later a) xs) xs) e in
+    let each = each_passes (λ a. is_no_later a x && list_all (is_no_later a) xs) xs back in (
+      each_passes (is_no_later x) xs (and_right (is_no_later x x) (list_all (is_no_later x) xs) front),
+      all_weaker _ _ (λ (a : Mark) own. and_left (is_no_later a x) (list_all (is_no_later a) xs) own) xs each,
+      fine_of xs (test_of (λ a. list_all (is_no_later a) xs) xs (all_weaker _ _ (λ (a : Mark) own. and_right (is_no_later a x) (list_all (is_no_later a) xs) own) xs each)),
     )
 
 of_fine : (xs : List Mark) → Fine xs → never_fall xs ≡ true
 of_fine [] f = refl
 of_fine (x ∷ xs) f =
-    both (list_all (is_no_later x) (x ∷ xs)) _
-    (both (is_no_later x x) (list_all (is_no_later x) xs) (no_lower x x (omega arith)) (test_of (is_no_later x) xs f.0))
-    (both_tests (λ a. is_no_later a x) (λ a. list_all (is_no_later a) xs) xs f.1 (of_fine xs f.2))
+    and_from (list_all (is_no_later x) (x ∷ xs)) _
+    (and_from (is_no_later x x) (list_all (is_no_later x) xs) (no_lower x x (omega arith)) (test_of (is_no_later x) xs f.0))
+    (test_of (λ a. is_no_later a x && list_all (is_no_later a) xs) xs
+    (all_two _ _ _ (λ (a : Mark) own rest. and_from (is_no_later a x) (list_all (is_no_later a) xs) own rest) xs f.1 (each_passes (λ a. list_all (is_no_later a) xs) xs (of_fine xs f.2))))
 
 -- ---- a list and the same in order
 
@@ -204,7 +176,7 @@ rises_in_order (x ∷ xs) s =
     let c = chained x xs s in
     same_truth (rises 0 (x ∷ xs)) (never_fall (x ∷ xs))
     (λ e. of_fine (x ∷ xs) (fine_risen x xs c (and_right (nat_le 0 x.1) (rises x.1 xs) e)))
-    (λ e. both (nat_le 0 x.1) (rises x.1 xs) (is_at_most 0 x.1 (omega arith)) (risen x xs c (fine_of (x ∷ xs) e)))
+    (λ e. and_from (nat_le 0 x.1) (rises x.1 xs) (le-leb 0 x.1 (omega arith)) (risen x xs c (fine_of (x ∷ xs) e)))
 
 pub rising : (xs ys : List Mark) → IsPermutation xs ys → IsSorted lex ys → rises 0 ys ≡ never_fall xs
 rising xs ys m s = rises_in_order ys s ∙ sym (never_fall_permuted xs ys m)

@@ -7,7 +7,7 @@ use Rattle.std.specs.Bool.{⊤}
 use Rattle.std.specs.Char.{is_ascii}
 use Rattle.std.specs.List.{list_all}
 use Rattle.sqlite.specs.declared.types.Value.{Value}
-use Rattle.sqlite.specs.declared.types.Value.TheVariants.{Null, Int, Real, Text, Blob}
+use Rattle.sqlite.specs.declared.types.Value.TheVariants.{Null, Int, Text}
 use Rattle.plant_base.specs.Values.{only, is_id, is_text, is_unit, is_moment, greatest_moment, greatest_sublot}
 use Rattle.plant_base.specs.Content.{is_there}
 use Rattle.plant_base.specs.Dates.{is_due}
@@ -34,11 +34,8 @@ Any a = ⊤
 -- ---- texts
 
 pub text_is : (v : Value) (bytes : List ℕ) → text_in v ≡ Some bytes → v ≡ Text bytes
-text_is Null bytes h = absurd (cc)
-text_is (Int n) bytes h = absurd (cc)
-text_is (Real x) bytes h = absurd (cc)
 text_is (Text other) bytes h = ap Text (some_same other bytes h)
-text_is (Blob other) bytes h = absurd (cc)
+text_is _ bytes h = absurd (cc)
 
 pub text_kind : {A : Type 0} (read : List ℕ → Option A) (stored : A → List ℕ) (good : A → Type 0)
     → ((bytes : List ℕ) (a : A) → read bytes ≡ Some a → bytes ≡ stored a)
@@ -99,11 +96,8 @@ content_kind = record {
 -- ---- numbers
 
 pub integer_is : (v : Value) (n : ℤ) → integer_in v ≡ Some n → v ≡ Int n
-integer_is Null n h = absurd (cc)
 integer_is (Int m) n h = ap Int (some_same m n h)
-integer_is (Real x) n h = absurd (cc)
-integer_is (Text bytes) n h = absurd (cc)
-integer_is (Blob bytes) n h = absurd (cc)
+integer_is _ n h = absurd (cc)
 
 pub integer_kind : {A : Type 0} (read : ℤ → Option A) (stored : A → ℤ) (good whole : A → Type 0)
     → ((n : ℤ) (a : A) → read n ≡ Some a → whole a → n ≡ stored a)
@@ -228,10 +222,7 @@ GoodOrNone good (Some a) = good a
 
 pub null_is : (v : Value) → is_null v ≡ true → v ≡ Null
 null_is Null h = refl
-null_is (Int n) h = absurd (cc)
-null_is (Real x) h = absurd (cc)
-null_is (Text bytes) h = absurd (cc)
-null_is (Blob bytes) h = absurd (cc)
+null_is _ h = absurd (cc)
 
 pub or_null_kind : {A : Type 0} (declared : List ℕ → Column) (read : Value → Option A) (stored : A → Value) (good : A → Type 0)
     → ((name : List ℕ) (o : Option A) → fits_columns (declared name ∷ []) (null_or stored o ∷ []) ≡ true)

@@ -35,13 +35,11 @@ front_and_rest p n xs = ap (filter p) (sym (take-append-drop n xs)) ∙ filter-a
 
 lt_no : (o : Ordering) → is_lt o ≡ true → is_eq o ≡ false
 lt_no Less e = refl
-lt_no Equal e = absurd (false≢true e)
-lt_no Greater e = absurd (false≢true e)
+lt_no _ e = absurd (false≢true e)
 
 le_no : (o : Ordering) → is_le o ≡ false → is_eq o ≡ false
-le_no Less e = absurd (false≢true (sym e))
-le_no Equal e = absurd (false≢true (sym e))
 le_no Greater e = refl
+le_no _ e = absurd (false≢true (sym e))
 
 between_yes : (o : Ordering) → is_lt o ≡ false → is_le o ≡ true → is_eq o ≡ true
 between_yes Less e f = absurd (false≢true (sym e))

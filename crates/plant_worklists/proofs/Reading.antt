@@ -3,7 +3,7 @@ use Rattle.std.proofs.Common.{◌≡◌, ◌∙◌, ℕ, ◌+◌, ◌-◌, ◌<�
 use Rattle.std.specs.Prelude.{if◌then◌else◌}
 use Rattle.std.specs.Ordering.{is_eq, is_lt, ordering_index, ordering_reverse}
 use Rattle.std.specs.declared.cmp.Ordering.{Ordering}
-use Rattle.std.specs.declared.cmp.Ordering.TheVariants.{Less, Equal, Greater}
+use Rattle.std.specs.declared.cmp.Ordering.TheVariants.{Less, Greater}
 use Rattle.std.proofs.lemmas.Bool.{and_parts, false≢true}
 use Rattle.std.proofs.lemmas.Bool.Decides.{nat_tests}
 use Rattle.std.proofs.lemmas.Cmp.{nat_list_cmp_total}
@@ -18,14 +18,12 @@ use Rattle.plant_worklists.specs.declared.page.Page.{Page}
 use Rattle.plant_worklists.proofs.Parting.{front_and_rest, is_of, none_pass, rise_front, rises}
 
 last_index : (o : Ordering) → 2 ≤ ordering_index o → is_eq o ≡ false
-last_index Less le = absurd (omega (arith, le))
-last_index Equal le = absurd (omega (arith, le))
 last_index Greater le = refl
+last_index _ le = absurd (omega (arith, le))
 
 behind : (a b : List ℕ) (o : Ordering) → id_cmp a b ≡ o → is_lt o ≡ true → ordering_index (id_cmp b a) ≡ 2
 behind a b Less e h = ap ordering_index (nat_list_cmp_total.antisymm b a ∙ ap ordering_reverse e)
-behind a b Equal e h = absurd (false≢true h)
-behind a b Greater e h = absurd (false≢true h)
+behind a b _ e h = absurd (false≢true h)
 
 module _ {R : Type 0} (lot_of : R → List ℕ) where
   -- the rows of a lot that comes after this one are among those that do

@@ -8,7 +8,7 @@ use Rattle.plant_base.specs.Edges.{edge_kind_number, edge_order, edge_total}
 use Rattle.plant_base.specs.State.{same}
 use Rattle.plant_base.proofs.Keys.{same_itself}
 use Rattle.plant_base.specs.declared.rows.EdgeKind.{EdgeKind}
-use Rattle.plant_base.specs.declared.rows.EdgeKind.TheVariants.{LotToBatch, BatchToLot, LotToLot}
+use Rattle.plant_base.specs.declared.rows.EdgeKind.TheVariants.{LotToBatch}
 use Rattle.plant_base.specs.declared.rows.EdgeRow.{EdgeRow}
 use Rattle.plant_base.specs.declared.rows.Movement.{Movement}
 use Rattle.plant_base.proofs.EdgeKeys.{one_edge}
@@ -53,11 +53,9 @@ near_is d e = by d e.kind
   where
     by : (d : Direction) (k : EdgeKind) → id_of (turned d (ends_by k e.from e.to)).0 ≡ near_id d e
     by Forward LotToBatch = refl
-    by Forward BatchToLot = refl
-    by Forward LotToLot = refl
+    by Forward _ = refl
     by Back LotToBatch = refl
-    by Back BatchToLot = refl
-    by Back LotToLot = refl
+    by Back _ = refl
 
 -- an edge of the kind that begins at the node passes the test of the node's id
 passes : (d : Direction) (x : Node) (id : List ℕ) (kind : EdgeKind) (e : EdgeRow) → id ≡ id_of x → e.kind ≡ kind → (turned d (ends_of e)).0 ≡ x → begins_at d kind id e ≡ true

@@ -31,32 +31,6 @@ const FEW: u64 = 256;
 const A_LOOK_UP: u64 = 16;
 
 impl<'a, S: Alter> Keyed<'a, S> {
-    /// The edges of a kind that lead from the lot or batch of this id. The faults are those of each look-up.
-    fn edges_from(&mut self, kind: EdgeKind, id: &Id) -> Result<Vec<EdgeRow>, Fault>
-        ensures same_reference { self.new.conn.ghost_name ≡ self.old.conn.ghost_name }
-        ensures told { IsTold (state S.Store self.old.conn.now) (state S.Store self.new.conn.now)
-            self.old.has_failed self.new.has_failed
-            (IfOk result (λ rows. rows.items ≡ filter (begins_at Direction.Forward kind id.now)
-            (edge_rows (shown (state S.Store self.old.conn.now).now).movements))) }
-        ensures remembers { self.new.edges.now ≡ self.old.edges.now }
-    {
-        let key = [small(kind.number()), text_of(id)];
-        self.found(&EDGE, texts::EDGES_FROM, &key)
-    }
-
-    /// The edges of a kind that lead to the lot or batch of this id. The faults are those of each look-up.
-    fn edges_to(&mut self, kind: EdgeKind, id: &Id) -> Result<Vec<EdgeRow>, Fault>
-        ensures same_reference { self.new.conn.ghost_name ≡ self.old.conn.ghost_name }
-        ensures told { IsTold (state S.Store self.old.conn.now) (state S.Store self.new.conn.now)
-            self.old.has_failed self.new.has_failed
-            (IfOk result (λ rows. rows.items ≡ filter (begins_at Direction.Back kind id.now)
-            (edge_rows (shown (state S.Store self.old.conn.now).now).movements))) }
-        ensures remembers { self.new.edges.now ≡ self.old.edges.now }
-    {
-        let key = [small(kind.number()), text_of(id)];
-        self.found(&EDGE, texts::EDGES_TO, &key)
-    }
-
     /// The edges of a kind that begin at the lot or batch of this id, as the direction sees them. The faults are those
     /// of each look-up.
     fn edges_of_kind(
@@ -72,9 +46,10 @@ impl<'a, S: Alter> Keyed<'a, S> {
             (edge_rows (shown (state S.Store self.old.conn.now).now).movements))) }
         ensures remembers { self.new.edges.now ≡ self.old.edges.now }
     {
+        let key = [small(kind.number()), text_of(id)];
         match direction {
-            Direction::Forward => self.edges_from(kind, id),
-            Direction::Back => self.edges_to(kind, id),
+            Direction::Forward => self.found(&EDGE, texts::EDGES_FROM, &key),
+            Direction::Back => self.found(&EDGE, texts::EDGES_TO, &key),
         }
     }
 

@@ -4,7 +4,7 @@ use Rattle.std.specs.List.{list_all}
 use Rattle.std.specs.declared.cmp.Ordering.TheVariants.{Less}
 use Rattle.std.proofs.lemmas.Bool.{and_parts, not-true}
 use Rattle.sqlite_value.specs.declared.value.Value.{Value}
-use Rattle.sqlite_value.specs.declared.value.Value.TheVariants.{Null, Int, Real, Text, Blob}
+use Rattle.sqlite_value.specs.declared.value.Value.TheVariants.{Null}
 use Rattle.sqlite_value.specs.declared.keys.Collation.TheVariants.{Binary}
 use Rattle.sqlite_value.specs.Order.{Row, column, value_cmp}
 use Rattle.sqlite_sql.specs.declared.ops.BinaryOp.TheVariants.{Compare}
@@ -32,14 +32,8 @@ true_is false = refl
 compared_is : (op : CompareOp) → test op Less ≡ false → (a b : Value) → is_null b ≡ false → is_true (binary (Compare op Binary) a b) ≡ test op (value_cmp a b)
 unfolding value_cmp binary
 compared_is op least Null Null h = absurd (cc)
-compared_is op least Null (Int n) h = sym least
-compared_is op least Null (Real x) h = sym least
-compared_is op least Null (Text t) h = sym least
-compared_is op least Null (Blob t) h = sym least
-compared_is op least (Int n) b h = rw (h, true_is) refl
-compared_is op least (Real x) b h = rw (h, true_is) refl
-compared_is op least (Text t) b h = rw (h, true_is) refl
-compared_is op least (Blob t) b h = rw (h, true_is) refl
+compared_is op least Null _ h = sym least
+compared_is op least _ b h = rw (h, true_is) refl
 
 abbrev pub tests_of : Table → ℕ → List Entry → List Term
 tests_of table n [] = []

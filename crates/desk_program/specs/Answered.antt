@@ -1,11 +1,11 @@
 -- What the words `trace` and `record` print of an answer.
-use Rattle.std.specs.Prelude.{◌≡◌, ◌⊎◌, ℕ, List, ◌++◌, Bool, Option, Result, Ok, Err, IfOk, codes, flat_map}
+use Rattle.std.specs.Prelude.{◌≡◌, ◌⊎◌, ℕ, List, ◌++◌, Bool, Option, Result, Ok, Err, IfOk, flat_map}
 use Rattle.std.specs.Io.KnownBytes.{Appends}
 use Rattle.sqlite.specs.Held.{Held, state}
 use Rattle.sqlite_trees.specs.declared.store.Store.{Ghosts}
 use Rattle.plant_base.specs.State.{newest_schema}
+use Rattle.plant_trace.specs.Nodes.{node_text}
 use Rattle.plant_trace.specs.declared.node.Node.{Node}
-use Rattle.plant_trace.specs.declared.node.Node.TheVariants as node
 use Rattle.plant_record.specs.Record.{record_text}
 use Rattle.plant_desk.specs.Answers.{answer}
 use Rattle.plant_desk.specs.declared.question.Question.{Question}
@@ -22,28 +22,15 @@ use Rattle.desk_program.specs.Running.{WasRefused}
 use Rattle.desk_program.specs.declared.fault.Fault.{Fault}
 use Rattle.desk_program.specs.declared.fault.Fault.TheVariants as fault
 
--- a node in words
-abbrev pub node_text : Node → List ℕ
-node_text (node.Lot id) = codes "lot " ++ id
-node_text (node.Batch id) = codes "batch " ++ id
-
 -- a line for each node
 abbrev pub trace_text : List Node → List ℕ
 trace_text nodes = flat_map (λ n. with_lf (node_text n)) nodes
 
 -- the nodes of a trace, the record of a batch, else the answer's line: a refusal where the id isn't known
 abbrev pub told_text : Answer → List ℕ
-told_text (A.Desk schema seq) = with_lf (text_of_answer (A.Desk schema seq))
-told_text (A.Lot lot) = with_lf (text_of_answer (A.Lot lot))
-told_text (A.Order order) = with_lf (text_of_answer (A.Order order))
 told_text (A.Batch view) = record_text view
 told_text (A.Trace nodes) = trace_text nodes
-told_text (A.Stands lots) = with_lf (text_of_answer (A.Stands lots))
-told_text (A.Edges genealogy) = with_lf (text_of_answer (A.Edges genealogy))
-told_text (A.Recall recall) = with_lf (text_of_answer (A.Recall recall))
-told_text (A.Moment at) = with_lf (text_of_answer (A.Moment at))
-told_text (A.List page) = with_lf (text_of_answer (A.List page))
-told_text (A.Unknown r) = with_lf (text_of_answer (A.Unknown r))
+told_text a = with_lf (text_of_answer a)
 
 -- how the printing of an answer ended: its text was written, or a front of it where the writer failed; or memory was
 -- refused for it, and nothing was written

@@ -1,20 +1,21 @@
 //! The words `trace` and `record`: a question, and its answer in lines.
 ghost use Rattle.std.specs.Prelude.{◌≡◌, false, IfOk, Some, string_bytes};
-ghost use Rattle.std.specs.List.{flat_map};
 ghost use Rattle.sqlite.specs.Held.{state};
 ghost use Rattle.sqlite.specs.State.{HasCleanDisk};
 ghost use Rattle.plant_base.specs.State.{State, newest_schema};
+ghost use Rattle.plant_trace.specs.Nodes.{node_text};
 ghost use Rattle.plant_desk.specs.Answers.{answer};
 ghost use Rattle.plant_desk.specs.Keeping.{IsSameDesk};
 ghost use Rattle.plant_desk_store.specs.Adopting.{IsNewlyOpened};
 ghost use Rattle.plant_desk_store.specs.DeskStanding.{IsOpenAt};
 ghost use Rattle.plant_text_answers.specs.Answers.{text_of_answer};
 ghost use Rattle.plant_text.specs.Writes.{with_lf};
-ghost use Rattle.desk_program.specs.Answered.{node_text, told_text, trace_text};
+ghost use Rattle.desk_program.specs.Answered.{told_text};
 ghost use Rattle.desk_program.specs.Answered.{AnswerPrinted, AnswerTold, AskedTold, AskGives};
 
 use crate::adopting::{Performed, adopt, performed_of};
 use crate::fault::Fault;
+use plant_base::{Each, ShowsItem};
 use plant_desk::{Answer, DeskFault, Keeper, Question};
 use plant_desk_store::Desk;
 use plant_text::{answer_text, is_unknown, record, write_text};
@@ -24,40 +25,15 @@ use std::alloc::{AllocError, Global};
 use std::fmt;
 use std::io::Write;
 
-/// A node in words.
+/// The line of a node.
 #[derive(Clone, Copy)]
-struct NodeText(Node);
+struct NodeLine;
 
-impl fmt::Display for NodeText {
-    ghost output = { λ n. Some (node_text n.0) };
+impl ShowsItem<Node> for NodeLine {
+    ghost text = { λ _ n. with_lf (node_text n) };
 
-    fn fmt<W: fmt::Write>(&self, f: &mut fmt::Formatter<W>) -> fmt::Result {
-        match self.0 {
-            Node::Lot(id) => {
-                let id = id.as_str();
-                write!(f, "lot {id}")
-            }
-            Node::Batch(id) => {
-                let id = id.as_str();
-                write!(f, "batch {id}")
-            }
-        }
-    }
-}
-
-/// A line for each node.
-#[derive(Clone, Copy)]
-struct TraceText<'a>(&'a [Node]);
-
-impl fmt::Display for TraceText<'_> {
-    ghost output = { λ t. Some (trace_text t.0.now) };
-
-    fn fmt<W: fmt::Write>(&self, f: &mut fmt::Formatter<W>) -> fmt::Result {
-        for node in self.0 {
-            let text = NodeText(*node);
-            writeln!(f, "{text}")?;
-        }
-        Ok(())
+    fn show<W: fmt::Write>(&self, node: &Node, f: &mut fmt::Formatter<W>) -> fmt::Result {
+        writeln!(f, "{node}")
     }
 }
 
@@ -75,17 +51,9 @@ fn told_text(alloc: Global, answer: &Answer) -> Result<String, AllocError>
     ensures { IfOk result (λ text. string_bytes text ≡ told_text answer.now) }
 {
     match answer {
-        Answer::Trace(nodes) => TraceText(nodes.as_slice()).to_string(alloc),
+        Answer::Trace(nodes) => Each(nodes.as_slice(), NodeLine).to_string(alloc),
         Answer::Batch(view) => record(alloc, view),
-        Answer::Desk { .. }
-        | Answer::Lot(_)
-        | Answer::Order(_)
-        | Answer::Stands(_)
-        | Answer::Edges(_)
-        | Answer::Recall(_)
-        | Answer::Moment { .. }
-        | Answer::List(_)
-        | Answer::Unknown(_) => line_of(alloc, answer),
+        _ => line_of(alloc, answer),
     }
 }
 

@@ -1,13 +1,12 @@
 //! The boxes of lots and batches.
 ghost use Rattle.std.specs.Prelude.{◌≡◌, ◌≤◌, Some};
-ghost use Rattle.std.specs.List.{flat_map};
 ghost use Rattle.plant_drawing.specs.Svg.{box_text, outline, unless_empty, lot_mark, mark_end, lot_title, mark_text, lot_texts, lot_box};
 ghost use Rattle.plant_drawing.specs.Svg.{batch_title, batch_texts, batch_box};
 ghost use Rattle.plant_picture.specs.Dot.{stock_text};
 
 use crate::drawing::{DrawnBatch, DrawnLot, Place};
 use crate::points::{Point, left_of, middle_of, top_of};
-use plant_base::Id;
+use plant_base::{Id, ShowsItem};
 use plant_picture::{PictureLot, StockText, mark_colour, mark_word};
 use std::fmt;
 
@@ -153,39 +152,23 @@ impl fmt::Display for LotTexts {
     }
 }
 
+/// The box of a lot.
 #[derive(Clone, Copy)]
-struct LotBox(DrawnLot);
+pub(crate) struct LotBox;
 
-impl fmt::Display for LotBox {
-    ghost output = { λ l. Some (lot_box l.0) };
+impl ShowsItem<DrawnLot> for LotBox {
+    ghost text = { λ _. lot_box };
 
     #[tactic(auto, unfolding(crate::specs::Svg::lot_box))]
-    fn fmt<W: fmt::Write>(&self, f: &mut fmt::Formatter<W>) -> fmt::Result {
-        let drawn = self.0;
+    fn show<W: fmt::Write>(&self, drawn: &DrawnLot, f: &mut fmt::Formatter<W>) -> fmt::Result {
         let title = LotTitle(drawn.lot);
         let outline = Outline {
             place: drawn.place,
             round: 14,
             colour: mark_colour(drawn.lot.is_held, drawn.lot.is_recalled),
         };
-        let texts = LotTexts(drawn);
+        let texts = LotTexts(*drawn);
         write!(f, "<g>{title}{outline}{texts}</g>\n")
-    }
-}
-
-/// The boxes of lots.
-#[derive(Clone, Copy)]
-pub(crate) struct LotBoxes<'a>(pub(crate) &'a [DrawnLot]);
-
-impl fmt::Display for LotBoxes<'_> {
-    ghost output = { λ l. Some (flat_map lot_box l.0.now) };
-
-    fn fmt<W: fmt::Write>(&self, f: &mut fmt::Formatter<W>) -> fmt::Result {
-        for lot in self.0 {
-            let drawn = LotBox(*lot);
-            write!(f, "{drawn}")?;
-        }
-        Ok(())
     }
 }
 
@@ -226,38 +209,22 @@ impl fmt::Display for BatchTexts {
     }
 }
 
+/// The box of a batch.
 #[derive(Clone, Copy)]
-struct BatchBox(DrawnBatch);
+pub(crate) struct BatchBox;
 
-impl fmt::Display for BatchBox {
-    ghost output = { λ b. Some (batch_box b.0) };
+impl ShowsItem<DrawnBatch> for BatchBox {
+    ghost text = { λ _. batch_box };
 
     #[tactic(auto, unfolding(crate::specs::Svg::batch_box))]
-    fn fmt<W: fmt::Write>(&self, f: &mut fmt::Formatter<W>) -> fmt::Result {
-        let drawn = self.0;
+    fn show<W: fmt::Write>(&self, drawn: &DrawnBatch, f: &mut fmt::Formatter<W>) -> fmt::Result {
         let title = BatchTitle(drawn.batch);
         let outline = Outline {
             place: drawn.place,
             round: 0,
             colour: "#e7f1ff",
         };
-        let texts = BatchTexts(drawn);
+        let texts = BatchTexts(*drawn);
         write!(f, "<g>{title}{outline}{texts}</g>\n")
-    }
-}
-
-/// The boxes of batches.
-#[derive(Clone, Copy)]
-pub(crate) struct BatchBoxes<'a>(pub(crate) &'a [DrawnBatch]);
-
-impl fmt::Display for BatchBoxes<'_> {
-    ghost output = { λ b. Some (flat_map batch_box b.0.now) };
-
-    fn fmt<W: fmt::Write>(&self, f: &mut fmt::Formatter<W>) -> fmt::Result {
-        for batch in self.0 {
-            let drawn = BatchBox(*batch);
-            write!(f, "{drawn}")?;
-        }
-        Ok(())
     }
 }

@@ -1,26 +1,25 @@
 //! A drawing in SVG.
 ghost use Rattle.std.specs.Prelude.{◌≡◌, ◌<◌, ◌^◌, IfOk, Some, string_bytes};
-ghost use Rattle.std.specs.List.{flat_map};
 ghost use Rattle.plant_drawing.specs.Svg.{edge_line, label_x, label_y, edge_label, right_end, lower_end};
 ghost use Rattle.plant_drawing.specs.Svg.{width_of, height_of, head, ground, edge_texts, svg_text};
 
-use crate::boxes::{BatchBoxes, LotBoxes};
+use crate::boxes::{BatchBox, LotBox};
 use crate::drawing::{Drawing, DrawnEdge, Place};
 use crate::points::{FirstEnd, LastEnd, Point, Size, left_of, top_of};
+use plant_base::{Each, ShowsItem};
 use std::alloc::{AllocError, Global};
 use std::fmt;
 
 // ---- edges
 
 #[derive(Clone, Copy)]
-struct EdgeLine(DrawnEdge);
+struct EdgeLine;
 
-impl fmt::Display for EdgeLine {
-    ghost output = { λ e. Some (edge_line e.0) };
+impl ShowsItem<DrawnEdge> for EdgeLine {
+    ghost text = { λ _. edge_line };
 
     #[tactic(auto, unfolding(crate::specs::Svg::edge_line))]
-    fn fmt<W: fmt::Write>(&self, f: &mut fmt::Formatter<W>) -> fmt::Result {
-        let edge = self.0;
+    fn show<W: fmt::Write>(&self, edge: &DrawnEdge, f: &mut fmt::Formatter<W>) -> fmt::Result {
         let first = FirstEnd {
             x: left_of(edge.from) + 180,
             y: top_of(edge.from) + 28,
@@ -47,51 +46,20 @@ fn label_y(edge: &DrawnEdge) -> u64
 
 /// The amount of an edge, at the middle of its line.
 #[derive(Clone, Copy)]
-struct EdgeLabel(DrawnEdge);
+struct EdgeLabel;
 
-impl fmt::Display for EdgeLabel {
-    ghost output = { λ e. Some (edge_label e.0) };
+impl ShowsItem<DrawnEdge> for EdgeLabel {
+    ghost text = { λ _. edge_label };
 
     #[tactic(auto, unfolding(crate::specs::Svg::edge_label))]
-    fn fmt<W: fmt::Write>(&self, f: &mut fmt::Formatter<W>) -> fmt::Result {
-        let edge = self.0;
+    fn show<W: fmt::Write>(&self, edge: &DrawnEdge, f: &mut fmt::Formatter<W>) -> fmt::Result {
         let point = Point {
-            x: label_x(&edge),
-            y: label_y(&edge),
+            x: label_x(edge),
+            y: label_y(edge),
         };
         let amount = edge.amount;
         let unit = edge.unit.as_str();
         write!(f, "<text{point}>{amount} {unit}</text>\n")
-    }
-}
-
-#[derive(Clone, Copy)]
-struct EdgeLines<'a>(&'a [DrawnEdge]);
-
-impl fmt::Display for EdgeLines<'_> {
-    ghost output = { λ e. Some (flat_map edge_line e.0.now) };
-
-    fn fmt<W: fmt::Write>(&self, f: &mut fmt::Formatter<W>) -> fmt::Result {
-        for edge in self.0 {
-            let line = EdgeLine(*edge);
-            write!(f, "{line}")?;
-        }
-        Ok(())
-    }
-}
-
-#[derive(Clone, Copy)]
-struct EdgeLabels<'a>(&'a [DrawnEdge]);
-
-impl fmt::Display for EdgeLabels<'_> {
-    ghost output = { λ e. Some (flat_map edge_label e.0.now) };
-
-    fn fmt<W: fmt::Write>(&self, f: &mut fmt::Formatter<W>) -> fmt::Result {
-        for edge in self.0 {
-            let label = EdgeLabel(*edge);
-            write!(f, "{label}")?;
-        }
-        Ok(())
     }
 }
 
@@ -104,8 +72,8 @@ impl fmt::Display for EdgeTexts<'_> {
 
     #[tactic(auto, unfolding(crate::specs::Svg::edge_texts))]
     fn fmt<W: fmt::Write>(&self, f: &mut fmt::Formatter<W>) -> fmt::Result {
-        let lines = EdgeLines(self.0);
-        let labels = EdgeLabels(self.0);
+        let lines = Each(self.0, EdgeLine);
+        let labels = Each(self.0, EdgeLabel);
         write!(
             f,
             "<g stroke=\"#888888\">\n{lines}</g>\n<g stroke=\"#ffffff\" stroke-width=\"3\" paint-order=\"stroke\">\n{labels}</g>\n"
@@ -205,8 +173,8 @@ impl fmt::Display for WholeDrawing<'_> {
         let head = Head(size);
         let ground = Ground(size);
         let edges = EdgeTexts(drawing.edges.as_slice());
-        let lots = LotBoxes(drawing.lots.as_slice());
-        let batches = BatchBoxes(drawing.batches.as_slice());
+        let lots = Each(drawing.lots.as_slice(), LotBox);
+        let batches = Each(drawing.batches.as_slice(), BatchBox);
         write!(f, "{head}{ground}{edges}{lots}{batches}</svg>\n")
     }
 }

@@ -2,8 +2,8 @@
 -- or a line end, so nothing in them has to be escaped.
 use Rattle.std.specs.Prelude.{ℕ, List, [], ◌∷◌, ◌++◌, Bool, true, false, codes, decimal}
 use Rattle.std.specs.List.{flat_map}
+use Rattle.plant_trace.specs.Nodes.{node_text}
 use Rattle.plant_trace.specs.declared.node.Node.TheVariants.{Batch}
-use Rattle.plant_picture.specs.Telling.{node_text}
 use Rattle.plant_picture.specs.declared.model.Picture.{Picture}
 use Rattle.plant_picture.specs.declared.model.PictureEdge.{PictureEdge}
 use Rattle.plant_picture.specs.declared.model.PictureLot.{PictureLot}

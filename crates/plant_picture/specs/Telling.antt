@@ -1,14 +1,8 @@
 -- What is wrong with what is told, in words. Ids are of A to Z, 0 to 9 and `-`, so none of them needs a mark around it.
 use Rattle.std.specs.Prelude.{ℕ, List, ◌++◌, codes}
-use Rattle.plant_trace.specs.declared.node.Node.{Node}
-use Rattle.plant_trace.specs.declared.node.Node.TheVariants.{Lot, Batch}
+use Rattle.plant_trace.specs.Nodes.{node_text}
 use Rattle.plant_picture.specs.declared.told.Problem.{Problem}
 use Rattle.plant_picture.specs.declared.told.Problem.TheVariants as problem
-
--- a node in words
-abbrev pub node_text : Node → List ℕ
-node_text (Lot id) = codes "lot " ++ id
-node_text (Batch id) = codes "batch " ++ id
 
 abbrev pub problem_text : Problem → List ℕ
 problem_text (problem.Lot id) = codes "lot " ++ (id ++ codes " is told twice, and not alike")

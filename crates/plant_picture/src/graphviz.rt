@@ -1,12 +1,10 @@
 //! A picture in DOT.
 ghost use Rattle.std.specs.Prelude.{◌≡◌, IfOk, Some, string_bytes};
-ghost use Rattle.std.specs.List.{flat_map};
 ghost use Rattle.plant_picture.specs.Dot.{mark_word, mark_colour, mark_line, borders, stock_text, lot_label, lot_style};
 ghost use Rattle.plant_picture.specs.Dot.{lot_line, batch_label, batch_line, ends_text, edge_line, dot_text};
 
 use crate::model::{Picture, PictureEdge, PictureLot};
-use crate::told::NodeWords;
-use plant_base::Id;
+use plant_base::{Each, Id, ShowsItem};
 use plant_trace::Node;
 use std::alloc::{AllocError, Global};
 use std::fmt;
@@ -100,16 +98,15 @@ impl fmt::Display for LotStyle {
 }
 
 #[derive(Clone, Copy)]
-struct LotLine(PictureLot);
+struct LotLine;
 
-impl fmt::Display for LotLine {
-    ghost output = { λ l. Some (lot_line l.0) };
+impl ShowsItem<PictureLot> for LotLine {
+    ghost text = { λ _. lot_line };
 
     #[tactic(auto, unfolding(crate::specs::Dot::lot_line))]
-    fn fmt<W: fmt::Write>(&self, f: &mut fmt::Formatter<W>) -> fmt::Result {
-        let lot = self.0;
-        let style = LotStyle(lot);
-        let label = LotLabel(lot);
+    fn show<W: fmt::Write>(&self, lot: &PictureLot, f: &mut fmt::Formatter<W>) -> fmt::Result {
+        let style = LotStyle(*lot);
+        let label = LotLabel(*lot);
         let id = lot.id.as_str();
         write!(f, "  \"lot {id}\" [{style}, label=\"{label}\"];\n")
     }
@@ -129,15 +126,15 @@ impl fmt::Display for BatchLabel {
 }
 
 #[derive(Clone, Copy)]
-struct BatchLine(Id);
+struct BatchLine;
 
-impl fmt::Display for BatchLine {
-    ghost output = { λ b. Some (batch_line b.0) };
+impl ShowsItem<Id> for BatchLine {
+    ghost text = { λ _. batch_line };
 
     #[tactic(auto, unfolding(crate::specs::Dot::batch_line))]
-    fn fmt<W: fmt::Write>(&self, f: &mut fmt::Formatter<W>) -> fmt::Result {
-        let node = NodeWords(Node::Batch(self.0));
-        let label = BatchLabel(self.0);
+    fn show<W: fmt::Write>(&self, batch: &Id, f: &mut fmt::Formatter<W>) -> fmt::Result {
+        let node = Node::Batch(*batch);
+        let label = BatchLabel(*batch);
         write!(f, "  \"{node}\" [shape=box, label=\"{label}\"];\n")
     }
 }
@@ -149,70 +146,24 @@ impl fmt::Display for EndsText {
     ghost output = { λ e. Some (ends_text e.0) };
 
     fn fmt<W: fmt::Write>(&self, f: &mut fmt::Formatter<W>) -> fmt::Result {
-        let from = NodeWords(self.0.from);
-        let to = NodeWords(self.0.to);
+        let from = self.0.from;
+        let to = self.0.to;
         write!(f, "\"{from}\" -> \"{to}\"")
     }
 }
 
 #[derive(Clone, Copy)]
-struct EdgeLine(PictureEdge);
+struct EdgeLine;
 
-impl fmt::Display for EdgeLine {
-    ghost output = { λ e. Some (edge_line e.0) };
+impl ShowsItem<PictureEdge> for EdgeLine {
+    ghost text = { λ _. edge_line };
 
     #[tactic(auto, unfolding(crate::specs::Dot::edge_line))]
-    fn fmt<W: fmt::Write>(&self, f: &mut fmt::Formatter<W>) -> fmt::Result {
-        let edge = self.0;
-        let ends = EndsText(edge);
+    fn show<W: fmt::Write>(&self, edge: &PictureEdge, f: &mut fmt::Formatter<W>) -> fmt::Result {
+        let ends = EndsText(*edge);
         let amount = edge.amount;
         let unit = edge.unit.as_str();
         write!(f, "  {ends} [label=\"{amount} {unit}\"];\n")
-    }
-}
-
-#[derive(Clone, Copy)]
-struct LotLines<'a>(&'a [PictureLot]);
-
-impl fmt::Display for LotLines<'_> {
-    ghost output = { λ l. Some (flat_map lot_line l.0.now) };
-
-    fn fmt<W: fmt::Write>(&self, f: &mut fmt::Formatter<W>) -> fmt::Result {
-        for lot in self.0 {
-            let line = LotLine(*lot);
-            write!(f, "{line}")?;
-        }
-        Ok(())
-    }
-}
-
-#[derive(Clone, Copy)]
-struct BatchLines<'a>(&'a [Id]);
-
-impl fmt::Display for BatchLines<'_> {
-    ghost output = { λ l. Some (flat_map batch_line l.0.now) };
-
-    fn fmt<W: fmt::Write>(&self, f: &mut fmt::Formatter<W>) -> fmt::Result {
-        for batch in self.0 {
-            let line = BatchLine(*batch);
-            write!(f, "{line}")?;
-        }
-        Ok(())
-    }
-}
-
-#[derive(Clone, Copy)]
-struct EdgeLines<'a>(&'a [PictureEdge]);
-
-impl fmt::Display for EdgeLines<'_> {
-    ghost output = { λ l. Some (flat_map edge_line l.0.now) };
-
-    fn fmt<W: fmt::Write>(&self, f: &mut fmt::Formatter<W>) -> fmt::Result {
-        for edge in self.0 {
-            let line = EdgeLine(*edge);
-            write!(f, "{line}")?;
-        }
-        Ok(())
     }
 }
 
@@ -225,9 +176,9 @@ impl fmt::Display for WholeDot<'_> {
     #[tactic(auto, unfolding(crate::specs::Dot::dot_text))]
     fn fmt<W: fmt::Write>(&self, f: &mut fmt::Formatter<W>) -> fmt::Result {
         let picture = self.0;
-        let lots = LotLines(picture.lots.as_slice());
-        let batches = BatchLines(picture.batches.as_slice());
-        let edges = EdgeLines(picture.edges.as_slice());
+        let lots = Each(picture.lots.as_slice(), LotLine);
+        let batches = Each(picture.batches.as_slice(), BatchLine);
+        let edges = Each(picture.edges.as_slice(), EdgeLine);
         write!(
             f,
             "digraph genealogy {{\n  rankdir=LR;\n{lots}{batches}{edges}}}\n"

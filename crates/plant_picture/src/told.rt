@@ -44,29 +44,6 @@ pub enum Problem {
     Batches(Id, Id),
 }
 
-/// A node in words.
-#[derive(Clone, Copy)]
-pub(crate) struct NodeWords(pub(crate) Node);
-
-impl fmt::Display for NodeWords {
-    ghost use Rattle.plant_picture.specs.Telling.{node_text};
-
-    ghost output = { λ n. Some (node_text n.0) };
-
-    fn fmt<W: fmt::Write>(&self, f: &mut fmt::Formatter<W>) -> fmt::Result {
-        match self.0 {
-            Node::Lot(id) => {
-                let id = id.as_str();
-                write!(f, "lot {id}")
-            }
-            Node::Batch(id) => {
-                let id = id.as_str();
-                write!(f, "batch {id}")
-            }
-        }
-    }
-}
-
 impl fmt::Display for Problem {
     ghost output = { λ problem. Some (problem_text problem) };
 
@@ -77,15 +54,12 @@ impl fmt::Display for Problem {
                 write!(f, "lot {id} is told twice, and not alike")
             }
             Problem::Amounts(from, to) => {
-                let from = NodeWords(*from);
-                let to = NodeWords(*to);
                 write!(
                     f,
                     "the edge from {from} to {to} is told twice, with two amounts"
                 )
             }
             Problem::Lost(node) => {
-                let node = NodeWords(*node);
                 write!(
                     f,
                     "an edge begins or ends at {node}, which is none of the nodes"

@@ -4,7 +4,6 @@
 mod head;
 mod items;
 mod lines;
-mod sections;
 mod totals;
 mod whole;
 

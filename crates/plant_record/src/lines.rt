@@ -1,10 +1,10 @@
 //! The lines of the sections.
 ghost use Rattle.std.specs.Prelude.{◌≡◌, Some};
 ghost use Rattle.plant_record.specs.Record.{consumed_text, control_text, event_text, event_word};
-ghost use Rattle.plant_record.specs.Record.{produced_text, recipe_line_text, sublot_text};
+ghost use Rattle.plant_record.specs.Record.{produced_text, recipe_line_text, sublot_text, with_lf};
 
 use crate::items::{AtBy, InSix, InThree, Measured};
-use plant_base::{BatchEvent, Event, Id, RecipeLine, Unit};
+use plant_base::{BatchEvent, Event, Id, RecipeLine, ShowsItem, Unit};
 use plant_desk::{Booking, MeasuredLine};
 use std::fmt;
 
@@ -50,18 +50,22 @@ impl fmt::Display for RecipeWords {
 
 /// A line of the control recipe.
 #[derive(Clone, Copy)]
-pub(crate) struct ControlText(pub(crate) MeasuredLine);
+pub(crate) struct ControlLine;
 
-impl fmt::Display for ControlText {
-    ghost output = { λ l. Some (control_text l.0) };
+impl ShowsItem<MeasuredLine> for ControlLine {
+    ghost text = { λ _ m. with_lf (control_text m) };
 
-    fn fmt<W: fmt::Write>(&self, f: &mut fmt::Formatter<W>) -> fmt::Result {
-        let number = InThree(self.0.line.number);
+    fn show<W: fmt::Write>(
+        &self,
+        measured: &MeasuredLine,
+        f: &mut fmt::Formatter<W>,
+    ) -> fmt::Result {
+        let number = InThree(measured.line.number);
         let words = RecipeWords {
-            line: self.0.line.line,
-            unit: self.0.unit,
+            line: measured.line.line,
+            unit: measured.unit,
         };
-        write!(f, "{number} {words}")
+        writeln!(f, "{number} {words}")
     }
 }
 
@@ -83,13 +87,12 @@ impl fmt::Display for EventWord {
 
 /// The line of an event.
 #[derive(Clone, Copy)]
-pub(crate) struct EventText(pub(crate) BatchEvent);
+pub(crate) struct EventLine;
 
-impl fmt::Display for EventText {
-    ghost output = { λ e. Some (event_text e.0) };
+impl ShowsItem<BatchEvent> for EventLine {
+    ghost text = { λ _ e. with_lf (event_text e) };
 
-    fn fmt<W: fmt::Write>(&self, f: &mut fmt::Formatter<W>) -> fmt::Result {
-        let event = self.0;
+    fn show<W: fmt::Write>(&self, event: &BatchEvent, f: &mut fmt::Formatter<W>) -> fmt::Result {
         let seq = InSix(event.seq);
         let word = EventWord(event.event);
         let told = AtBy {
@@ -97,7 +100,7 @@ impl fmt::Display for EventText {
             by: event.by,
             note: event.note,
         };
-        write!(f, "{seq} {word} {told}")
+        writeln!(f, "{seq} {word} {told}")
     }
 }
 
@@ -120,13 +123,12 @@ impl fmt::Display for SublotWord {
 
 /// The line of what was consumed.
 #[derive(Clone, Copy)]
-pub(crate) struct ConsumedText(pub(crate) Booking);
+pub(crate) struct ConsumedLine;
 
-impl fmt::Display for ConsumedText {
-    ghost output = { λ b. Some (consumed_text b.0) };
+impl ShowsItem<Booking> for ConsumedLine {
+    ghost text = { λ _ b. with_lf (consumed_text b) };
 
-    fn fmt<W: fmt::Write>(&self, f: &mut fmt::Formatter<W>) -> fmt::Result {
-        let booking = self.0;
+    fn show<W: fmt::Write>(&self, booking: &Booking, f: &mut fmt::Formatter<W>) -> fmt::Result {
         let seq = InSix(booking.seq);
         let sublot = SublotWord {
             lot: booking.lot,
@@ -142,19 +144,18 @@ impl fmt::Display for ConsumedText {
             by: booking.by,
             note: booking.note,
         };
-        write!(f, "{seq} {sublot} {what} {told}")
+        writeln!(f, "{seq} {sublot} {what} {told}")
     }
 }
 
 /// The line of what was produced.
 #[derive(Clone, Copy)]
-pub(crate) struct ProducedText(pub(crate) Booking);
+pub(crate) struct ProducedLine;
 
-impl fmt::Display for ProducedText {
-    ghost output = { λ b. Some (produced_text b.0) };
+impl ShowsItem<Booking> for ProducedLine {
+    ghost text = { λ _ b. with_lf (produced_text b) };
 
-    fn fmt<W: fmt::Write>(&self, f: &mut fmt::Formatter<W>) -> fmt::Result {
-        let booking = self.0;
+    fn show<W: fmt::Write>(&self, booking: &Booking, f: &mut fmt::Formatter<W>) -> fmt::Result {
         let seq = InSix(booking.seq);
         let lot = booking.lot.as_str();
         let what = Measured {
@@ -168,6 +169,6 @@ impl fmt::Display for ProducedText {
             by: booking.by,
             note: booking.note,
         };
-        write!(f, "{seq} {lot} {what} scrapped {scrapped} {told}")
+        writeln!(f, "{seq} {lot} {what} scrapped {scrapped} {told}")
     }
 }

@@ -1,12 +1,11 @@
 //! The totals of the record: what was asked for, and what was booked.
 ghost use Rattle.std.specs.Prelude.{◌≡◌, ◌≤◌, Some};
-ghost use Rattle.std.specs.List.{flat_map};
 ghost use Rattle.plant_base.specs.State.{same};
 ghost use Rattle.plant_base.specs.Values.{greatest_amount};
 ghost use Rattle.plant_record.specs.Record.{amount_of, asked_and_booked, booked_of, input_total};
 ghost use Rattle.plant_record.specs.Record.{output_total, totals_text};
 
-use plant_base::{Amount, Id, RecipeLine};
+use plant_base::{Amount, Each, Id, RecipeLine, ShowsItem};
 use plant_desk::{BatchView, Booking, MeasuredLine};
 use std::fmt;
 
@@ -53,23 +52,24 @@ impl fmt::Display for AskedAndBooked<'_> {
     }
 }
 
-/// The line of an input; nothing of another line.
+/// The line of an input, with what was consumed; nothing of another line.
 #[derive(Clone, Copy)]
-struct InputTotal<'a> {
-    line: RecipeLine,
-    consumed: &'a [Booking],
-}
+struct InputTotal<'a>(&'a [Booking]);
 
-impl fmt::Display for InputTotal<'_> {
-    ghost output = { λ t. Some (input_total t.consumed.now t.line) };
+impl ShowsItem<MeasuredLine> for InputTotal<'_> {
+    ghost text = { λ t l. input_total t.0.now l.line.line };
 
-    fn fmt<W: fmt::Write>(&self, f: &mut fmt::Formatter<W>) -> fmt::Result {
-        match self.line {
+    fn show<W: fmt::Write>(
+        &self,
+        measured: &MeasuredLine,
+        f: &mut fmt::Formatter<W>,
+    ) -> fmt::Result {
+        match measured.line.line {
             RecipeLine::In { def, amount } => {
                 let total = AskedAndBooked {
                     def,
                     asked: amount,
-                    bookings: self.consumed,
+                    bookings: self.0,
                 };
                 writeln!(f, "in {total}")
             }
@@ -80,23 +80,24 @@ impl fmt::Display for InputTotal<'_> {
     }
 }
 
-/// The line of an output; nothing of another line.
+/// The line of an output, with what was produced; nothing of another line.
 #[derive(Clone, Copy)]
-struct OutputTotal<'a> {
-    line: RecipeLine,
-    produced: &'a [Booking],
-}
+struct OutputTotal<'a>(&'a [Booking]);
 
-impl fmt::Display for OutputTotal<'_> {
-    ghost output = { λ t. Some (output_total t.produced.now t.line) };
+impl ShowsItem<MeasuredLine> for OutputTotal<'_> {
+    ghost text = { λ t l. output_total t.0.now l.line.line };
 
-    fn fmt<W: fmt::Write>(&self, f: &mut fmt::Formatter<W>) -> fmt::Result {
-        match self.line {
+    fn show<W: fmt::Write>(
+        &self,
+        measured: &MeasuredLine,
+        f: &mut fmt::Formatter<W>,
+    ) -> fmt::Result {
+        match measured.line.line {
             RecipeLine::Out { def, amount } => {
                 let total = AskedAndBooked {
                     def,
                     asked: amount,
-                    bookings: self.produced,
+                    bookings: self.0,
                 };
                 writeln!(f, "out {total}")
             }
@@ -116,58 +117,8 @@ impl fmt::Display for Totals<'_> {
 
     fn fmt<W: fmt::Write>(&self, f: &mut fmt::Formatter<W>) -> fmt::Result {
         let view = self.0;
-        let inputs = InputTotals {
-            lines: view.lines.as_slice(),
-            consumed: view.consumed.as_slice(),
-        };
-        let outputs = OutputTotals {
-            lines: view.lines.as_slice(),
-            produced: view.produced.as_slice(),
-        };
+        let inputs = Each(view.lines.as_slice(), InputTotal(view.consumed.as_slice()));
+        let outputs = Each(view.lines.as_slice(), OutputTotal(view.produced.as_slice()));
         write!(f, "TOTALS\n{inputs}{outputs}")
-    }
-}
-
-/// The totals of the inputs, in the order of the control recipe.
-#[derive(Clone, Copy)]
-struct InputTotals<'a> {
-    lines: &'a [MeasuredLine],
-    consumed: &'a [Booking],
-}
-
-impl fmt::Display for InputTotals<'_> {
-    ghost output = { λ t. Some (flat_map (λ l. input_total t.consumed.now l.line.line) t.lines.now) };
-
-    fn fmt<W: fmt::Write>(&self, f: &mut fmt::Formatter<W>) -> fmt::Result {
-        for measured in self.lines {
-            let total = InputTotal {
-                line: measured.line.line,
-                consumed: self.consumed,
-            };
-            write!(f, "{total}")?;
-        }
-        Ok(())
-    }
-}
-
-/// The totals of the outputs, in the order of the control recipe.
-#[derive(Clone, Copy)]
-struct OutputTotals<'a> {
-    lines: &'a [MeasuredLine],
-    produced: &'a [Booking],
-}
-
-impl fmt::Display for OutputTotals<'_> {
-    ghost output = { λ t. Some (flat_map (λ l. output_total t.produced.now l.line.line) t.lines.now) };
-
-    fn fmt<W: fmt::Write>(&self, f: &mut fmt::Formatter<W>) -> fmt::Result {
-        for measured in self.lines {
-            let total = OutputTotal {
-                line: measured.line.line,
-                produced: self.produced,
-            };
-            write!(f, "{total}")?;
-        }
-        Ok(())
     }
 }

@@ -3,8 +3,9 @@ ghost use Rattle.std.specs.Prelude.{◌≡◌, IfOk, Some, string_bytes};
 ghost use Rattle.plant_record.specs.Record.{record_text};
 
 use crate::head::Head;
-use crate::sections::{ConsumedLines, ControlLines, EventLines, ProducedLines};
+use crate::lines::{ConsumedLine, ControlLine, EventLine, ProducedLine};
 use crate::totals::Totals;
+use plant_base::Each;
 use plant_desk::BatchView;
 use std::alloc::{AllocError, Global};
 use std::fmt;
@@ -20,10 +21,10 @@ impl fmt::Display for WholeRecord<'_> {
     fn fmt<W: fmt::Write>(&self, f: &mut fmt::Formatter<W>) -> fmt::Result {
         let view = self.0;
         let head = Head(view);
-        let lines = ControlLines(view.lines.as_slice());
-        let events = EventLines(view.events.as_slice());
-        let consumed = ConsumedLines(view.consumed.as_slice());
-        let produced = ProducedLines(view.produced.as_slice());
+        let lines = Each(view.lines.as_slice(), ControlLine);
+        let events = Each(view.events.as_slice(), EventLine);
+        let consumed = Each(view.consumed.as_slice(), ConsumedLine);
+        let produced = Each(view.produced.as_slice(), ProducedLine);
         let totals = Totals(view);
         write!(f, "{head}")?;
         write!(f, "CONTROL RECIPE\n{lines}")?;

@@ -1,5 +1,5 @@
--- Nodes and their order.
-use Rattle.std.specs.Prelude.{◌≡◌, Bool, refl, Some}
+-- Nodes, their words and their order.
+use Rattle.std.specs.Prelude.{◌≡◌, ℕ, List, ◌++◌, Bool, codes, refl, Some}
 use Rattle.std.specs.Cmp.{IsTotalOrder, IsPartialOrder, po}
 use Rattle.std.specs.Cmp.Lexicographic.{slice_cmp, nat_list_cmp_total, texts_ties}
 use Rattle.std.specs.Ordering.{is_eq, nat_cmp, ordering_reverse}
@@ -8,6 +8,10 @@ use Rattle.std.specs.declared.cmp.Ordering.TheVariants.{Less, Equal, Greater}
 use Rattle.plant_trace.specs.contracts.node.NodePartialEq.TheImpl.{ghosts as equal}
 use Rattle.plant_trace.specs.declared.node.Node.{Node}
 use Rattle.plant_trace.specs.declared.node.Node.TheVariants.{Lot, Batch}
+
+abbrev pub node_text : Node → List ℕ
+node_text (Lot id) = codes "lot " ++ id
+node_text (Batch id) = codes "batch " ++ id
 
 -- lots before batches, and those of one kind by the bytes of their ids
 abbrev pub node_cmp : Node → Node → Ordering

@@ -1,10 +1,11 @@
 //! The nodes of a genealogy.
 
 ghost use Rattle.std.specs.Prelude.{refl, Some};
-ghost use Rattle.plant_trace.specs.Nodes.{node_cmp, node_total, node_ties, node_partial};
+ghost use Rattle.plant_trace.specs.Nodes.{node_cmp, node_text, node_total, node_ties, node_partial};
 
 use plant_base::Id;
 use std::cmp::Ordering;
+use std::fmt;
 
 /// What material can come from or go into: a lot, as IEC 62264-2 has material lots, or a batch, the
 /// job whose response tells the material actually used and made, as in IEC 62264-4.
@@ -15,6 +16,24 @@ pub enum Node {
     Lot(Id),
     /// The batch of this id.
     Batch(Id),
+}
+
+/// A node in words: `lot ID` or `batch ID`.
+impl fmt::Display for Node {
+    ghost output = { λ n. Some (node_text n) };
+
+    fn fmt<W: fmt::Write>(&self, f: &mut fmt::Formatter<W>) -> fmt::Result {
+        match self {
+            Node::Lot(id) => {
+                let id = id.as_str();
+                write!(f, "lot {id}")
+            }
+            Node::Batch(id) => {
+                let id = id.as_str();
+                write!(f, "batch {id}")
+            }
+        }
+    }
 }
 
 impl Ord for Node {

@@ -56,7 +56,8 @@ abbrev pub TellsTrace : Text → Direction → Type 0
 TellsTrace word direction = (name file : Text) → begins_with_dash file ≡ false
     → Tell (name ∷ codes "trace" ∷ file ∷ word ∷ codes "L-1" ∷ []) (file, work.Task (task.Trace direction (codes "L-1")))
 
-pub record PlainWords : Type 0 where
+-- words that take a file alone, words that are none, and those that ask
+pub record FileWords : Type 0 where
   -- no word is a run over memory
   pub alone : (name : Text) → Tell (name ∷ []) (codes ":memory:", work.Task task.Run)
   pub init_file : TellsFile (codes "init") (work.Task task.Init)
@@ -65,10 +66,19 @@ pub record PlainWords : Type 0 where
   pub init_wants : WantsFile (codes "init")
   pub run_wants : WantsFile (codes "run")
   pub verify_wants : WantsFile (codes "verify")
+  pub help : (name : Text) → AskHelp (name ∷ codes "--help" ∷ [])
+  pub short_help : (name : Text) → AskHelp (name ∷ codes "-h" ∷ [])
+  pub version : (name : Text) → fault_of the_program (name ∷ codes "--version" ∷ []) ≡ kind.DisplayVersion ∷ []
+
+-- a trace and a record
+pub record TellingWords : Type 0 where
   pub trace_back : TellsTrace (codes "back") Back
   pub trace_forward : TellsTrace (codes "forward") Forward
   pub record_batch : (name file batch : Text) → begins_with_dash file ≡ false → is_id batch ≡ true
       → Tell (name ∷ codes "record" ∷ file ∷ batch ∷ []) (file, work.Task (task.Record batch))
+
+-- an import
+pub record ImportWords : Type 0 where
   -- where nobody is named, the desk brings the orders
   pub import_at : (name file : Text) → begins_with_dash file ≡ false
       → Tell (name ∷ codes "import" ∷ file ∷ codes "--at" ∷ codes "100" ∷ []) (file, work.Task (task.Import 100 (codes "desk") None))
@@ -82,6 +92,9 @@ pub record PlainWords : Type 0 where
   pub no_reference : (name file : Text) → begins_with_dash file ≡ false
       → Break (name ∷ codes "import" ∷ file ∷ codes "--at" ∷ codes "100" ∷ codes "--ref" ∷ codes "r-1" ∷ []) argument.Reference
   pub import_wants : (name file : Text) → begins_with_dash file ≡ false → AreWrong (name ∷ codes "import" ∷ file ∷ [])
+
+-- serving
+pub record ServeWords : Type 0 where
   pub serve_port : (name file : Text) → begins_with_dash file ≡ false
       → Tell (name ∷ codes "serve" ∷ file ∷ codes "8080" ∷ codes "1000" ∷ [])
       (file, work.Serve (record { port = 8080; count = 1000; is_logged = false }))
@@ -98,8 +111,11 @@ pub record PlainWords : Type 0 where
       → AreWrong (name ∷ codes "serve" ∷ file ∷ codes "80" ∷ codes "0" ∷ [])
   pub many_connections : (name file : Text) → begins_with_dash file ≡ false
       → AreWrong (name ∷ codes "serve" ∷ file ∷ codes "80" ∷ codes "1000001" ∷ [])
+
+pub record PlainWords : Type 0 where
+  pub files : FileWords
+  pub telling : TellingWords
+  pub importing : ImportWords
+  pub serving : ServeWords
   pub unknown : (name word : Text) (rest : List Text) → begins_with_dash word ≡ false → is_word word ≡ false
       → AreWrong (name ∷ word ∷ rest)
-  pub help : (name : Text) → AskHelp (name ∷ codes "--help" ∷ [])
-  pub short_help : (name : Text) → AskHelp (name ∷ codes "-h" ∷ [])
-  pub version : (name : Text) → fault_of the_program (name ∷ codes "--version" ∷ []) ≡ kind.DisplayVersion ∷ []

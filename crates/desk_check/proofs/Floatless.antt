@@ -27,14 +27,7 @@ neither a b e f = rw (e, f) refl
 
 of_key : (k : Key) → has_float (key_data k) ≡ false
 of_key (key.Id id) = refl
-of_key (key.Number n) = refl
-of_key (key.Ids a b) = refl
-of_key (key.Numbers m n) = refl
-of_key (key.IdNumber id n) = refl
-of_key (key.IdNumbers id m n) = refl
-of_key (key.NumberIds n a b) = refl
-of_key (key.IdNumberId a n b) = refl
-of_key (key.Place place) = refl
+of_key _ = refl
 
 of_column : (c : Option Column) → has_float (column_data c) ≡ false
 of_column None = refl

@@ -33,16 +33,7 @@ at_of k s schema seq h = let e : A.Desk schema seq ≡ A.Desk k s.seq = h in (cc
 stands_where : (k : ℕ) (s : State) (stands : States) (asked : Result Answer DeskFault) → Asks k s stands Q.Desk asked
     → IfOk (standing_of asked) (λ at. (at.schema ≡ k) × (at.seq ≡ s.seq))
 stands_where k s stands (Ok (A.Desk schema seq)) h = at_of k s schema seq h.0
-stands_where k s stands (Ok (A.Lot lot)) h = tt
-stands_where k s stands (Ok (A.Order order)) h = tt
-stands_where k s stands (Ok (A.Batch view)) h = tt
-stands_where k s stands (Ok (A.Trace nodes)) h = tt
-stands_where k s stands (Ok (A.Stands lots)) h = tt
-stands_where k s stands (Ok (A.Edges genealogy)) h = tt
-stands_where k s stands (Ok (A.Recall recall)) h = tt
-stands_where k s stands (Ok (A.Moment at)) h = tt
-stands_where k s stands (Ok (A.List page)) h = tt
-stands_where k s stands (Ok (A.Unknown refusal)) h = tt
+stands_where k s stands (Ok _) h = tt
 stands_where k s stands (Err f) h = tt
 
 -- where it stands by its answer, it does

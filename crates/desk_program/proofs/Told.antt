@@ -9,6 +9,4 @@ use Rattle.desk_program.specs.declared.fault.Fault.TheVariants as fault
 -- no adoption fails at standard output
 pub told_unwritten : (f : AdoptFault) (told : Fault) → told ≡ adopt_fault f → told ≢ fault.Write
 told_unwritten adopt.Store told e = λ w. absurd cc
-told_unwritten (adopt.Newer n) told e = λ w. absurd cc
-told_unwritten (adopt.Damaged r) told e = λ w. absurd cc
-told_unwritten adopt.Memory told e = λ w. absurd cc
+told_unwritten _ told e = λ w. absurd cc

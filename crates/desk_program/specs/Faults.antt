@@ -15,14 +15,8 @@ use Rattle.desk_program.specs.declared.fault.Fault.TheVariants as fault
 use Rattle.desk_program.specs.declared.standing.Standing.{Standing}
 
 abbrev pub status_of : Fault → ℕ
-status_of fault.Store = 3
-status_of (fault.Newer schema) = 3
-status_of (fault.Damaged rule) = 3
 status_of fault.Memory = 4
-status_of fault.Read = 3
-status_of fault.Write = 3
-status_of fault.Endless = 3
-status_of fault.Net = 3
+status_of _ = 3
 
 -- the fault that one of an adoption is told as
 abbrev pub adopt_fault : AdoptFault → Fault
@@ -54,25 +48,10 @@ outcome_of_turn (Err (stop.Fault f)) = Err (desk_fault f)
 -- where a keeper stands by what it answered when it was asked for that; an answer of another kind is a fault of the store
 abbrev pub standing_of : Result Answer DeskFault → Result Standing Fault
 standing_of (Ok (A.Desk schema seq)) = Ok (record { schema = schema; seq = seq })
-standing_of (Ok (A.Lot lot)) = Err fault.Store
-standing_of (Ok (A.Order order)) = Err fault.Store
-standing_of (Ok (A.Batch view)) = Err fault.Store
-standing_of (Ok (A.Trace nodes)) = Err fault.Store
-standing_of (Ok (A.Stands lots)) = Err fault.Store
-standing_of (Ok (A.Edges genealogy)) = Err fault.Store
-standing_of (Ok (A.Recall recall)) = Err fault.Store
-standing_of (Ok (A.Moment at)) = Err fault.Store
-standing_of (Ok (A.List page)) = Err fault.Store
-standing_of (Ok (A.Unknown refusal)) = Err fault.Store
+standing_of (Ok _) = Err fault.Store
 standing_of (Err f) = Err (desk_fault f)
 
 -- at this fault nothing was written, or, where the writer failed, what is said of it
 abbrev pub NothingBut : Type 0 → Option (List ℕ) → Option (List ℕ) → Fault → Type 0
-NothingBut front old new fault.Store = new ≡ old
-NothingBut front old new (fault.Newer schema) = new ≡ old
-NothingBut front old new (fault.Damaged rule) = new ≡ old
-NothingBut front old new fault.Memory = new ≡ old
-NothingBut front old new fault.Read = new ≡ old
 NothingBut front old new fault.Write = front
-NothingBut front old new fault.Endless = new ≡ old
-NothingBut front old new fault.Net = new ≡ old
+NothingBut front old new _ = new ≡ old

@@ -37,13 +37,7 @@ impl Fault {
     {
         match self {
             Fault::Memory => 4,
-            Fault::Store
-            | Fault::Newer(_)
-            | Fault::Damaged(_)
-            | Fault::Read
-            | Fault::Write
-            | Fault::Endless
-            | Fault::Net => 3,
+            _ => 3,
         }
     }
 }

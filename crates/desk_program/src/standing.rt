@@ -22,18 +22,7 @@ fn standing_of(asked: Result<Answer, DeskFault>) -> Result<Standing, Fault>
     match asked {
         Ok(Answer::Desk { schema, seq }) => Ok(Standing { schema, seq }),
         // No keeper that keeps its word answers anything else.
-        Ok(
-            Answer::Lot(_)
-            | Answer::Order(_)
-            | Answer::Batch(_)
-            | Answer::Trace(_)
-            | Answer::Stands(_)
-            | Answer::Edges(_)
-            | Answer::Recall(_)
-            | Answer::Moment { .. }
-            | Answer::List(_)
-            | Answer::Unknown(_),
-        ) => Err(Fault::Store),
+        Ok(_) => Err(Fault::Store),
         Err(fault) => Err(Fault::from(fault)),
     }
 }

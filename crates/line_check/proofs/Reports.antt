@@ -22,9 +22,7 @@ use Rattle.plant_text.proofs.HeldLemmas.{each-append, each-front, last_as_whole}
 -- one verdict counts one line
 tally_with_lines : (t : Tally) (v : Verdict) → (tally_with t v).lines ≡ t.lines + 1
 tally_with_lines t verdict.Nothing = refl
-tally_with_lines t verdict.Command = refl
-tally_with_lines t verdict.Question = refl
-tally_with_lines t (verdict.Bad p) = refl
+tally_with_lines t _ = refl
 
 tally_after-append : (t : Tally) (xs ys : List Verdict) → tally_after t (xs ++ ys) ≡ tally_after (tally_after t xs) ys
 tally_after-append t [] ys = refl

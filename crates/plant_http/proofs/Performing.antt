@@ -64,10 +64,7 @@ reads_performs k s J.NoMemory j out stands shut leaves h p = memory_performs k s
 body_is_loud : (j : Job) → is_of_body j ≡ true → false ≡ is_silent j
 body_is_loud (J.Refuse status allow silent) h = absurd (cc)
 body_is_loud (J.Ask q form silent) h = absurd (cc)
-body_is_loud (J.Command c) h = refl
-body_is_loud J.BadForm h = refl
-body_is_loud (J.BadFile f) h = refl
-body_is_loud J.NoMemory h = refl
+body_is_loud _ h = refl
 
 pub reads_silent : (job j : Job) → Reads job j → is_silent job ≡ is_silent j
 reads_silent (J.Refuse status allow silent) j h = ap is_silent h

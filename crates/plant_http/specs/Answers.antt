@@ -119,31 +119,13 @@ reply_out r = json_out (reply_status r) (reply_text r)
 
 -- an unknown id is answered as a refusal
 abbrev pub answer_status : DeskAnswer → Status
-answer_status (A.Desk schema seq) = st.Success
-answer_status (A.Lot lot) = st.Success
-answer_status (A.Order order) = st.Success
-answer_status (A.Batch v) = st.Success
-answer_status (A.Trace nodes) = st.Success
-answer_status (A.Stands lots) = st.Success
-answer_status (A.Edges genealogy) = st.Success
-answer_status (A.Recall recall) = st.Success
-answer_status (A.Moment at) = st.Success
-answer_status (A.List page) = st.Success
 answer_status (A.Unknown r) = st.NotFound
+answer_status _ = st.Success
 
 -- only a batch has a record
 abbrev pub form_for : Form → DeskAnswer → Form
-form_for form (A.Desk schema seq) = Json
-form_for form (A.Lot lot) = Json
-form_for form (A.Order order) = Json
 form_for form (A.Batch v) = form
-form_for form (A.Trace nodes) = Json
-form_for form (A.Stands lots) = Json
-form_for form (A.Edges genealogy) = Json
-form_for form (A.Recall recall) = Json
-form_for form (A.Moment at) = Json
-form_for form (A.List page) = Json
-form_for form (A.Unknown r) = Json
+form_for form _ = Json
 
 -- what is known of a batch, in JSON or as its record
 abbrev pub batch_in : Form → BatchView → List ℕ
@@ -151,17 +133,8 @@ batch_in Json v = text_of_answer (A.Batch v)
 batch_in Record v = record_text v
 
 abbrev pub text_in : Form → DeskAnswer → List ℕ
-text_in form (A.Desk schema seq) = text_of_answer (A.Desk schema seq)
-text_in form (A.Lot lot) = text_of_answer (A.Lot lot)
-text_in form (A.Order order) = text_of_answer (A.Order order)
 text_in form (A.Batch v) = batch_in form v
-text_in form (A.Trace nodes) = text_of_answer (A.Trace nodes)
-text_in form (A.Stands lots) = text_of_answer (A.Stands lots)
-text_in form (A.Edges genealogy) = text_of_answer (A.Edges genealogy)
-text_in form (A.Recall recall) = text_of_answer (A.Recall recall)
-text_in form (A.Moment at) = text_of_answer (A.Moment at)
-text_in form (A.List page) = text_of_answer (A.List page)
-text_in form (A.Unknown r) = text_of_answer (A.Unknown r)
+text_in form a = text_of_answer a
 
 abbrev pub answer_out : Form → DeskAnswer → Out
 answer_out form a = record { status = answer_status a; allow = Unsaid; form = form_for form a; body = text_in form a }

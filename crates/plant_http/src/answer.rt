@@ -119,16 +119,7 @@ fn answer_status(answer: &DeskAnswer) -> Status
 {
     match answer {
         DeskAnswer::Unknown(_) => Status::NotFound,
-        DeskAnswer::Desk { .. }
-        | DeskAnswer::Lot(_)
-        | DeskAnswer::Order(_)
-        | DeskAnswer::Batch(_)
-        | DeskAnswer::Trace(_)
-        | DeskAnswer::Stands(_)
-        | DeskAnswer::Edges(_)
-        | DeskAnswer::Recall(_)
-        | DeskAnswer::Moment { .. }
-        | DeskAnswer::List(_) => Status::Success,
+        _ => Status::Success,
     }
 }
 
@@ -138,16 +129,7 @@ fn form_for(form: Form, answer: &DeskAnswer) -> Form
 {
     match answer {
         DeskAnswer::Batch(_) => form,
-        DeskAnswer::Unknown(_)
-        | DeskAnswer::Desk { .. }
-        | DeskAnswer::Lot(_)
-        | DeskAnswer::Order(_)
-        | DeskAnswer::Trace(_)
-        | DeskAnswer::Stands(_)
-        | DeskAnswer::Edges(_)
-        | DeskAnswer::Recall(_)
-        | DeskAnswer::Moment { .. }
-        | DeskAnswer::List(_) => Form::Json,
+        _ => Form::Json,
     }
 }
 
@@ -160,16 +142,7 @@ fn text_in(alloc: Global, form: Form, answer: &DeskAnswer) -> Result<String, All
             Form::Json => answer_text(alloc, answer),
             Form::Record => record(alloc, view),
         },
-        DeskAnswer::Unknown(_)
-        | DeskAnswer::Desk { .. }
-        | DeskAnswer::Lot(_)
-        | DeskAnswer::Order(_)
-        | DeskAnswer::Trace(_)
-        | DeskAnswer::Stands(_)
-        | DeskAnswer::Edges(_)
-        | DeskAnswer::Recall(_)
-        | DeskAnswer::Moment { .. }
-        | DeskAnswer::List(_) => answer_text(alloc, answer),
+        _ => answer_text(alloc, answer),
     }
 }
 

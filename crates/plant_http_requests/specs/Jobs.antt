@@ -54,16 +54,7 @@ file_job heading (Err fault) = BadFile fault
 -- what the reader of order files tells as a fault: the file's, or want of memory
 abbrev pub fault_job_of : CsvKind → CsvFault → Job
 fault_job_of csv.Memory fault = NoMemory
-fault_job_of csv.TooLong fault = BadFile fault
-fault_job_of csv.Header fault = BadFile fault
-fault_job_of csv.Shape fault = BadFile fault
-fault_job_of csv.Order fault = BadFile fault
-fault_job_of csv.Recipe fault = BadFile fault
-fault_job_of csv.Version fault = BadFile fault
-fault_job_of csv.Size fault = BadFile fault
-fault_job_of csv.Due fault = BadFile fault
-fault_job_of csv.Priority fault = BadFile fault
-fault_job_of csv.TooManyRows fault = BadFile fault
+fault_job_of _ fault = BadFile fault
 
 abbrev pub fault_job : CsvFault → Job
 fault_job fault = fault_job_of fault.kind fault

@@ -49,20 +49,8 @@ question_of kind.BatchBackEdges id = Q.Edges Back (node.Batch id)
 question_of kind.BatchForwardEdges id = Q.Edges Forward (node.Batch id)
 
 abbrev pub form_of : Kind → Form
-form_of kind.Order = Json
-form_of kind.Lot = Json
-form_of kind.LotBack = Json
-form_of kind.LotForward = Json
-form_of kind.Batch = Json
-form_of kind.BatchBack = Json
-form_of kind.BatchForward = Json
 form_of kind.Record = Record
-form_of kind.LotStands = Json
-form_of kind.BatchStands = Json
-form_of kind.LotBackEdges = Json
-form_of kind.LotForwardEdges = Json
-form_of kind.BatchBackEdges = Json
-form_of kind.BatchForwardEdges = Json
+form_of _ = Json
 
 -- a POST has a length
 abbrev pub post_step : Content → Option ℕ → HeadStep

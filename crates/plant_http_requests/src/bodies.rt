@@ -34,16 +34,7 @@ fn fault_job(fault: CsvFault) -> Job
 {
     match fault.kind {
         CsvKind::Memory => Job::NoMemory,
-        CsvKind::TooLong
-        | CsvKind::Header
-        | CsvKind::Shape
-        | CsvKind::Order
-        | CsvKind::Recipe
-        | CsvKind::Version
-        | CsvKind::Size
-        | CsvKind::Due
-        | CsvKind::Priority
-        | CsvKind::TooManyRows => Job::BadFile(fault),
+        _ => Job::BadFile(fault),
     }
 }
 

@@ -64,19 +64,7 @@ fn form_of(kind: Kind) -> Form
 {
     match kind {
         Kind::Record => Form::Record,
-        Kind::Order
-        | Kind::Lot
-        | Kind::LotBack
-        | Kind::LotForward
-        | Kind::Batch
-        | Kind::BatchBack
-        | Kind::BatchForward
-        | Kind::LotStands
-        | Kind::BatchStands
-        | Kind::LotBackEdges
-        | Kind::LotForwardEdges
-        | Kind::BatchBackEdges
-        | Kind::BatchForwardEdges => Form::Json,
+        _ => Form::Json,
     }
 }
 

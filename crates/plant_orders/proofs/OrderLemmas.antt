@@ -63,16 +63,7 @@ rows-err n fields records why h e = let f : (n == 1000) ≡ false = grind (arith
 
 pub fails_as : {Y : Type 0} (k : CsvKind) (e : CsvFault) (read : Result Y CsvFault) → (k ≡ kind.Memory → ⊥) → read ≡ Err e → FailsAs k e read
 fails_as kind.Memory e read other h = absurd (other refl)
-fails_as kind.TooLong e read other h = h
-fails_as kind.Header e read other h = h
-fails_as kind.Shape e read other h = h
-fails_as kind.Order e read other h = h
-fails_as kind.Recipe e read other h = h
-fails_as kind.Version e read other h = h
-fails_as kind.Size e read other h = h
-fails_as kind.Due e read other h = h
-fails_as kind.Priority e read other h = h
-fails_as kind.TooManyRows e read other h = h
+fails_as _ e read other h = h
 
 -- ---- no record is told for want of memory
 

@@ -104,16 +104,7 @@ read_fault e = if stops_reader e then fault 0 kind.Memory else fault 0 kind.Shap
 -- want of memory tells nothing of the text, and of no row
 abbrev pub FailsAs : {Y : Type 0} → CsvKind → CsvFault → Result Y CsvFault → Type 0
 FailsAs kind.Memory e read = e.row ≡ 0
-FailsAs kind.TooLong e read = read ≡ Err e
-FailsAs kind.Header e read = read ≡ Err e
-FailsAs kind.Shape e read = read ≡ Err e
-FailsAs kind.Order e read = read ≡ Err e
-FailsAs kind.Recipe e read = read ≡ Err e
-FailsAs kind.Version e read = read ≡ Err e
-FailsAs kind.Size e read = read ≡ Err e
-FailsAs kind.Due e read = read ≡ Err e
-FailsAs kind.Priority e read = read ≡ Err e
-FailsAs kind.TooManyRows e read = read ≡ Err e
+FailsAs _ e read = read ≡ Err e
 
 -- the result is what the text says, want of memory aside
 abbrev pub Gives : {Y : Type 0} → Result Y CsvFault → Result Y CsvFault → Type 0

@@ -87,17 +87,8 @@ is_refusal (Accepted n) = false
 is_refusal (Refused r) = true
 
 abbrev pub is_unknown : Answer → Bool
-is_unknown (A.Desk schema seq) = false
-is_unknown (A.Lot lot) = false
-is_unknown (A.Order order) = false
-is_unknown (A.Batch v) = false
-is_unknown (A.Trace nodes) = false
-is_unknown (A.Stands lots) = false
-is_unknown (A.Edges genealogy) = false
-is_unknown (A.Recall recall) = false
-is_unknown (A.Moment at) = false
-is_unknown (A.List page) = false
 is_unknown (A.Unknown r) = true
+is_unknown _ = false
 
 -- whether the reply is a refusal
 abbrev pub is_refused : ℕ → State → Entry → Bool

@@ -50,17 +50,8 @@ pub fn is_unknown(answer: &Answer) -> bool
     ensures { result ≡ is_unknown answer.now }
 {
     match answer {
-        Answer::Desk { .. }
-        | Answer::Lot(_)
-        | Answer::Order(_)
-        | Answer::Batch(_)
-        | Answer::Trace(_)
-        | Answer::Stands(_)
-        | Answer::Edges(_)
-        | Answer::Recall(_)
-        | Answer::Moment { .. }
-        | Answer::List(_) => false,
         Answer::Unknown(_) => true,
+        _ => false,
     }
 }
 

@@ -112,14 +112,7 @@ body_total c.AddRecipe v d = with_items line_of line_row m.Lines d _ lines_good
 body_total c.Approve v d = tt
 body_total c.Withdraw v d = tt
 body_total c.ImportOrders v d = with_items order_of (λ d. Some row.Order) m.Orders d _ orders_good
-body_total c.CancelOrder v d = tt
-body_total c.Release v d = tt
-body_total c.Batch v d = tt
-body_total c.Settle v d = tt
-body_total c.PhaseDone v d = tt
-body_total c.CloseBatch v d = tt
-body_total c.Consume v d = tt
-body_total c.Produce v d = tt
+body_total _ v d = tt
 
 envelope_total : (at : ℕ) (by : List ℕ) (note reference : Option (List ℕ)) (body : Command)
     → Good is_told (λ x. ⊤) (or_no_form (envelope_with (field.Moment at ∷ field.Text by ∷ may_in false rule.Text note ∷ may_in false rule.Id reference ∷ field.Chosen ∷ []) body))

@@ -54,12 +54,8 @@ memory_performs k s j out stands shut leaves h (inr (Shut, may, e, left, alone))
 -- a job that was read is the one that is asked for, want of memory aside
 pub reads_performs : (k : ℕ) (s : State) (job j : Job) (out : Out) (stands : States) (shut : Bool) (leaves : States → Type 0) → Reads job j
     → Performs k s job out stands shut leaves → Performs k s j out stands shut leaves
-reads_performs k s (J.Refuse status allow silent) j out stands shut leaves h p = rw (sym h) p
-reads_performs k s (J.Ask q form silent) j out stands shut leaves h p = rw (sym h) p
-reads_performs k s (J.Command c) j out stands shut leaves h p = rw (sym h) p
-reads_performs k s J.BadForm j out stands shut leaves h p = rw (sym h) p
-reads_performs k s (J.BadFile f) j out stands shut leaves h p = rw (sym h) p
 reads_performs k s J.NoMemory j out stands shut leaves h p = memory_performs k s j out stands shut leaves h p
+reads_performs k s _ j out stands shut leaves h p = rw (sym h) p
 
 body_is_loud : (j : Job) → is_of_body j ≡ true → false ≡ is_silent j
 body_is_loud (J.Refuse status allow silent) h = absurd (cc)
@@ -67,17 +63,9 @@ body_is_loud (J.Ask q form silent) h = absurd (cc)
 body_is_loud _ h = refl
 
 pub reads_silent : (job j : Job) → Reads job j → is_silent job ≡ is_silent j
-reads_silent (J.Refuse status allow silent) j h = ap is_silent h
-reads_silent (J.Ask q form silent) j h = ap is_silent h
-reads_silent (J.Command c) j h = ap is_silent h
-reads_silent J.BadForm j h = ap is_silent h
-reads_silent (J.BadFile f) j h = ap is_silent h
 reads_silent J.NoMemory j h = body_is_loud j h
+reads_silent _ j h = ap is_silent h
 
 pub reads_shut : (job j : Job) → Reads job j → OutWhenShut j (shut_out job)
-reads_shut (J.Refuse status allow silent) j h = inl (ap shut_out h)
-reads_shut (J.Ask q form silent) j h = inl (ap shut_out h)
-reads_shut (J.Command c) j h = inl (ap shut_out h)
-reads_shut J.BadForm j h = inl (ap shut_out h)
-reads_shut (J.BadFile f) j h = inl (ap shut_out h)
 reads_shut J.NoMemory j h = inr (h, refl)
+reads_shut _ j h = inl (ap shut_out h)

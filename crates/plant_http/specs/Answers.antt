@@ -163,10 +163,7 @@ shut_out J.NoMemory = fault_out fault.Memory
 abbrev pub is_silent : Job → Bool
 is_silent (J.Refuse status allow silent) = silent
 is_silent (J.Ask question form silent) = silent
-is_silent (J.Command e) = false
-is_silent J.BadForm = false
-is_silent (J.BadFile f) = false
-is_silent J.NoMemory = false
+is_silent _ = false
 
 -- ---- answers in the code
 

@@ -31,11 +31,7 @@ entry_of J.NoMemory = nothing
 -- whether a fault may be answered in place of the job: the keeper is asked, or memory is taken for what a body says
 abbrev pub may_fail : Job → Bool
 may_fail (J.Refuse status allow silent) = false
-may_fail (J.Ask q form silent) = true
-may_fail (J.Command e) = true
-may_fail J.BadForm = true
-may_fail (J.BadFile f) = true
-may_fail J.NoMemory = true
+may_fail _ = true
 
 -- The keeper stood at s. What is answered to the job, where the keeper stands now, and what a stop leaves: the definitions'
 -- answer and the state after the job, or a fault and what it leaves.
@@ -92,19 +88,13 @@ Answers k s job old new stands shut leaves (Ok (Answered code)) =
     (out : Out) × Performs k s job out stands shut leaves × (code ≡ code_of out.status) × Appends old new (answer_bytes (is_silent job) out)
 Answers k s job old new stands shut leaves (Err end.Write) =
     (out : Out) × Performs k s job out stands shut leaves × AppendsFront old new (answer_bytes (is_silent job) out)
-Answers k s job old new stands shut leaves (Ok Nothing) = ⊥
-Answers k s job old new stands shut leaves (Err end.Read) = ⊥
-Answers k s job old new stands shut leaves (Err end.Endless) = ⊥
-Answers k s job old new stands shut leaves (Err end.Memory) = ⊥
+Answers k s job old new stands shut leaves _ = ⊥
 
 -- the same by a keeper that is shut
 abbrev pub AnswersJobShut : Job → Option (List ℕ) → Option (List ℕ) → Result Served ServeFault → Type 0
 AnswersJobShut job old new (Ok (Answered code)) = (code ≡ code_of (shut_out job).status) × Appends old new (answer_bytes (is_silent job) (shut_out job))
 AnswersJobShut job old new (Err end.Write) = AppendsFront old new (answer_bytes (is_silent job) (shut_out job))
-AnswersJobShut job old new (Ok Nothing) = ⊥
-AnswersJobShut job old new (Err end.Read) = ⊥
-AnswersJobShut job old new (Err end.Endless) = ⊥
-AnswersJobShut job old new (Err end.Memory) = ⊥
+AnswersJobShut job old new _ = ⊥
 
 abbrev pub end_of : InputFault → ServeFault
 end_of input.Read = end.Read

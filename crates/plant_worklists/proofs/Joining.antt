@@ -13,6 +13,7 @@ use Rattle.std.proofs.lemmas.List.{take_all}
 use Rattle.plant_view.proofs.Rows.{all_filtered}
 use Rattle.plant_worklists.specs.Pages.{page_size, page_of}
 use Rattle.plant_worklists.specs.declared.page.Page.{Page}
+use Rattle.std.proofs.lemmas.Grind.{common_steps}
 
 by_order : {P : Type 0} (o : Ordering) → (o ≡ Less → P) → (o ≡ Equal → P) → (o ≡ Greater → P) → P
 by_order Less less equal greater = less refl
@@ -35,10 +36,7 @@ module _ {R : Type 0} (order : R → R → Ordering) where
   -- ---- fronts
 
   take_front : (k n : ℕ) (xs : List R) → k ≤ n → take k (take n xs) ≡ take k xs
-  take_front zero n xs few = refl
-  take_front (suc k) zero xs few = absurd (omega (arith, few))
-  take_front (suc k) (suc n) [] few = refl
-  take_front (suc k) (suc n) (x ∷ xs) few = ap (λ l. x ∷ l) (take_front k n xs (omega (arith, few)))
+  take_front k n xs few = grind (common_steps, arith)
 
   -- the front of two lists as one is that of their fronts
   take_merged : (k n m : ℕ) (xs ys : List R) → k ≤ n → k ≤ m → take k (merged (take n xs) (take m ys)) ≡ take k (merged xs ys)

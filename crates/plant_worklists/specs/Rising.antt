@@ -1,6 +1,5 @@
 -- The rows of a sound state stand in the order of their lots.
 use Rattle.std.proofs.Common.{◌≡◌, ◌∙◌, ℕ, zero, suc, ◌+◌, Bool, false, List, [], ◌∷◌, map, filter, refl, ap, arith}
-use Rattle.std.specs.List.{AllByRecursion}
 use Rattle.std.specs.List.Sorted.{IsStrictlySortedBy}
 use Rattle.std.specs.Ordering.{is_lt, nat_cmp, ordering_reverse, ordering_then}
 use Rattle.std.specs.declared.cmp.Ordering.{Ordering}
@@ -10,12 +9,11 @@ use Rattle.std.proofs.lemmas.List.Kept.{IsStrictlySortedBy-filter}
 use Rattle.plant_base.specs.State.{State, id_cmp, lot_order, place_order, hold_order}
 use Rattle.plant_base.specs.declared.rows.Hold.{Hold}
 use Rattle.plant_base.specs.declared.rows.Lot.{Lot}
-use Rattle.plant_base.specs.declared.rows.Movement.{Movement}
-use Rattle.plant_base.specs.declared.rows.Place.{Place}
 use Rattle.plant_base.specs.declared.rows.Sublot.{Sublot}
 use Rattle.plant_view.specs.Sound.{IsSound}
 use Rattle.plant_view.specs.Tables.{sublot_order, sublot_row}
 use Rattle.plant_worklists.specs.Ahead.{Rise}
+use Rattle.plant_view.proofs.Membership.{map_sorted}
 
 -- ---- by a key that the order compares first
 
@@ -37,8 +35,7 @@ not_behind a b Greater e other = absurd (other refl)
 
 then_less : (o p : Ordering) → ordering_then o p ≡ Less → o ≡ Greater → ⊥
 then_less Less p e g = absurd cc
-then_less Equal p e g = absurd cc
-then_less Greater p e g = absurd cc
+then_less _ p e g = absurd cc
 
 by_first : (a b : List ℕ) (p : Ordering) → ordering_then (id_cmp a b) p ≡ Less → is_lt (id_cmp b a) ≡ false
 by_first a b p e = not_behind a b (id_cmp a b) refl (then_less (id_cmp a b) p e)
@@ -55,17 +52,7 @@ pub holds_rise : (s : State) (test : Hold → Bool) → IsSound s → Rise (λ (
 holds_rise s test sound = rise hold_order (λ (h : Hold). h.lot) (λ a b e. by_first a.lot b.lot (id_cmp a.id b.id) e) (filter test s.holds) (IsStrictlySortedBy-filter hold_order test s.holds sound.holds)
 
 -- with their stock places stand as they stood
-module _ (ms : List Movement) where
-  all_stocked : (p : Place) (ps : List Place) → AllByRecursion (λ q. place_order p q ≡ Less) ps → AllByRecursion (λ r. sublot_order (sublot_row ms p) r ≡ Less) (map (sublot_row ms) ps)
-  all_stocked p [] all = tt
-  all_stocked p (q ∷ ps) all = (all.0, all_stocked p ps all.1)
-
-  stocked : (ps : List Place) → IsStrictlySortedBy place_order ps → IsStrictlySortedBy sublot_order (map (sublot_row ms) ps)
-  unfolding IsStrictlySortedBy
-  stocked [] sorted = tt
-  stocked (p ∷ ps) sorted = (all_stocked p ps sorted.0, stocked ps sorted.1)
-
 pub sublots_rise : (s : State) (test : Sublot → Bool) → IsSound s → Rise (λ (r : Sublot). r.lot) (filter test (map (sublot_row s.movements) s.places))
 sublots_rise s test sound =
     let list = map (sublot_row s.movements) s.places in
-    rise sublot_order (λ (r : Sublot). r.lot) (λ a b e. by_first a.lot b.lot (nat_cmp a.number b.number) e) (filter test list) (IsStrictlySortedBy-filter sublot_order test list (stocked s.movements s.places sound.places))
+    rise sublot_order (λ (r : Sublot). r.lot) (λ a b e. by_first a.lot b.lot (nat_cmp a.number b.number) e) (filter test list) (IsStrictlySortedBy-filter sublot_order test list (map_sorted place_order sublot_order (sublot_row s.movements) (λ a b less. less) s.places sound.places))

@@ -1,5 +1,5 @@
 -- Tables made in turn.
-use Rattle.std.proofs.Common.{◌≡◌, inl, inr, ℕ, zero, suc, ◌+◌, ◌<◌, ◌≤◌, List, [], ◌∷◌, ◌++◌, length, true, false, Some, refl, sym, ap, subst, ◌∙◌, slice_get, get_or, map, IsTrue, arith}
+use Rattle.std.proofs.Common.{◌≡◌, ℕ, suc, ◌+◌, ◌<◌, ◌≤◌, List, [], ◌∷◌, ◌++◌, length, true, false, Some, refl, sym, ap, subst, ◌∙◌, slice_get, get_or, map, IsTrue, arith}
 use Rattle.sqlite.specs.Order.{Row}
 use Rattle.sqlite.specs.Table.{Table}
 use Rattle.sqlite.specs.Effect.{Database, IsDatabase}
@@ -11,10 +11,10 @@ use Rattle.table_forms.specs.Forms.{Form}
 use Rattle.table_forms.specs.Standing.{Stands, IsFree, AreFree}
 use Rattle.table_forms.specs.Texts.{IsMakeText}
 use Rattle.table_forms.specs.Moves.{AreApart, AreMakeTexts, RunsInside, Founds, LeavesFree}
-use Rattle.table_forms.proofs.Listed.{length_mapped}
-use Rattle.table_forms.proofs.Apart.{apart_at, order_of}
+use Rattle.table_forms.proofs.Apart.{apart_at}
 use Rattle.table_forms.proofs.Making.{create_makes, free_still, counted_kept}
-use Rattle.table_forms.proofs.Moving.{shown_then}
+use Rattle.table_forms.proofs.Listed.{one_further, there_too, past_all}
+use Rattle.std.proofs.lemmas.Option.{slice_get_within}
 
 -- what stands once the first so many forms' tables are made
 pub record Begun (forms : List Form) (count : ℕ) (old new : Database) : Type 0 where
@@ -26,9 +26,8 @@ pub record Begun (forms : List Form) (count : ℕ) (old new : Database) : Type 0
   pub others : (t : Table) → Has old.schema.tables t → Has new.schema.tables t × (new.trees t.tree ≡ old.trees t.tree)
   pub further : (more : List Form) → AreApart (forms ++ more) → AreFree more old.schema → AreFree more new.schema
 
-pub record Founding (forms : List Form) (count : ℕ) (old new : State) : Type 0 where
-  pub begun : IsDatabase old.now → AreFree forms old.now.schema → Begun forms count old.now new.now
-  pub shown : IsTrue old.is_open → IsTrue old.in_transaction → Shows old new new.now old.committed true
+abbrev pub Founding : List Form → ℕ → State → State → Type 0
+Founding forms count old new = IsDatabase old.now → AreFree forms old.now.schema → Begun forms count old.now new.now
 
 -- what is got of the second list is got behind the first
 pub got_behind : {X : Type 0} (xs ys : List X) (j : ℕ) (y : X) → slice_get ys j ≡ Some y → slice_get (xs ++ ys) (length xs + j) ≡ Some y
@@ -37,23 +36,15 @@ got_behind (x ∷ xs) ys j y is =
     let same : suc (length xs + j) ≡ suc (length xs) + j = omega arith in
     subst (λ k. slice_get (x ∷ (xs ++ ys)) k ≡ Some y) same (got_behind xs ys j y is)
 
-pub within : {X : Type 0} (xs : List X) (i : ℕ) (x : X) → slice_get xs i ≡ Some x → i < length xs
-within [] i x is = absurd cc
-within (y ∷ ys) zero x is = omega arith
-within (y ∷ ys) (suc i) x is = let more = within ys i x is in omega arith
-
 pub none_made : (forms : List Form) (s : State) → Founding forms 0 s s
-none_made forms s = record {
-  begun = λ sound free. record {
-    sound = sound;
-    counted = free.counted;
-    made = λ i form early is. absurd (omega arith);
-    free = λ i form late is. free.each i form is;
-    kept = λ form rows there. there;
-    others = λ t listed. (listed, refl);
-    further = λ more clear unused. unused;
-  };
-  shown = λ live inside. record { was_open = live; is_open = live; now_is = refl; committed_is = refl; mode = inside };
+none_made forms s sound free = record {
+  sound = sound;
+  counted = free.counted;
+  made = λ i form early is. absurd (omega arith);
+  free = λ i form late is. free.each i form is;
+  kept = λ form rows there. there;
+  others = λ t listed. (listed, refl);
+  further = λ more clear unused. unused;
 }
 
 module _ (forms : List Form) (apart : AreApart forms) (count : ℕ) (first old new : State) (text : List ℕ) (form : Form) (is : slice_get forms count ≡ Some form) (says : IsMakeText text form)
@@ -64,15 +55,7 @@ module _ (forms : List Form) (apart : AreApart forms) (count : ℕ) (first old n
       record {
         sound = made.sound;
         counted = ap lacks_sequence made.schema ∙ counted_kept old.now.schema old.now.trees form b.sound b.counted;
-        made = λ i f early there. elim (order_of i count) [
-          | inl before ↦ made.kept f [] (b.made i f before there)
-          | inr (inl same) ↦
-              let both : slice_get forms count ≡ Some f = subst (λ k. slice_get forms k ≡ Some f) same there in
-              let equal : Some form ≡ Some f = sym is ∙ both in
-              let one : form ≡ f = cc in
-              subst (λ g. Stands new.now g []) one made.stands
-          | inr (inr after) ↦ absurd (omega arith)
-        ];
+        made = one_further (λ g. Stands new.now g []) forms count form is (λ i f before there. made.kept f [] (b.made i f before there)) made.stands;
         free = λ i f late there.
             subst (λ s. IsFree s f) (sym made.schema)
             (free_still old.now.schema old.now.trees form f b.sound (apart_at forms apart count i form f (omega arith) is there) (b.free i f (omega arith) there));
@@ -83,54 +66,29 @@ module _ (forms : List Form) (apart : AreApart forms) (count : ℕ) (first old n
             (after.0, after.1 ∙ before.1);
         further = λ more clear unused. record {
           each = λ j f there.
-              let late : count < length forms + j = let here = within forms count form is in omega (arith, here) in
+              let late : count < length forms + j = let here = slice_get_within forms count form is in omega (arith, here) in
               let differ = apart_at (forms ++ more) clear count (length forms + j) form f late (got_still forms more (forms ++ more) count form refl is) (got_behind forms more j f there) in
               subst (λ s. IsFree s f) (sym made.schema) (free_still old.now.schema old.now.trees form f b.sound differ ((b.further more clear unused).each j f there));
           counted = ap lacks_sequence made.schema ∙ counted_kept old.now.schema old.now.trees form b.sound b.counted;
         };
       }
 
-  one_more : Founding forms count first old → Founding forms (count + 1) first new
-  one_more f = record {
-    begun = λ sound free. one_begun (f.begun sound free);
-    shown = shown_then first old new f.shown (λ _ _. ran.shown);
-  }
-
--- the text at a place makes the table of the form there
-form_there : {X : Type 0} (f : X → List ℕ) (texts : List X) (forms : List Form) → AreMakeTexts (map f texts) forms → (i : ℕ) (d : X) → i < length texts → (form : Form) × (slice_get forms i ≡ Some form) × IsMakeText (f (get_or texts i d)) form
-form_there f [] forms says i d low = absurd (omega arith)
-form_there f (t ∷ texts) [] says i d low = absurd says
-form_there f (t ∷ texts) (g ∷ forms) says zero d low = (g, refl, says.0)
-form_there f (t ∷ texts) (g ∷ forms) says (suc i) d low = form_there f texts forms says.1 i d (omega arith)
-
 pub next_made : {X : Type 0} (f : X → List ℕ) (texts : List X) (forms : List Form) → AreApart forms → AreMakeTexts (map f texts) forms → (i : ℕ) (d : X) → i < length texts → (first old new : State)
     → (count : ℕ) × RunsInside (f (get_or texts i d)) [] old new count → Founding forms i first old → Founding forms (i + 1) first new
 next_made f texts forms apart says i d low first old new ran so_far =
-    let it = form_there f texts forms says i d low in
-    one_more forms apart i first old new (f (get_or texts i d)) it.0 it.1 it.2 ran.0 ran.1 so_far
-
-as_long : (texts : List (List ℕ)) (forms : List Form) → AreMakeTexts texts forms → length texts ≡ length forms
-as_long [] [] says = refl
-as_long [] (f ∷ forms) says = absurd says
-as_long (t ∷ texts) [] says = absurd says
-as_long (t ∷ texts) (f ∷ forms) says = ap suc (as_long texts forms says.1)
+    let it = there_too IsMakeText f texts forms says i d low in
+    λ sound free. one_begun forms apart i first old new (f (get_or texts i d)) it.0 it.1 it.2 ran.0 ran.1 (so_far sound free)
 
 pub all_spared : (forms : List Form) (old new : State) (count : ℕ) → Founding forms count old new → LeavesFree forms old.now new.now
-all_spared forms old new count so_far = λ sound free. (so_far.begun sound free).further
+all_spared forms old new count so_far = λ sound free. (so_far sound free).further
 
-pub all_made : {X : Type 0} (f : X → List ℕ) (texts : List X) (forms : List Form) → AreMakeTexts (map f texts) forms → (old new : State) (count : ℕ) → length texts ≤ count → Founding forms count old new → Founds forms old new
-all_made f texts forms says old new count whole so_far = record {
+pub all_made : {X : Type 0} (f : X → List ℕ) (texts : List X) (forms : List Form) → AreMakeTexts (map f texts) forms → (old new : State) (count : ℕ) → length texts ≤ count → Founding forms count old new
+    → (IsTrue old.is_open → IsTrue old.in_transaction → Shows old new new.now old.committed true) → Founds forms old new
+all_made f texts forms says old new count whole so_far shown = record {
   stands = λ sound free.
-      let b = so_far.begun sound free in
-      record {
-        sound = b.sound;
-        each = λ i form is.
-            let long = as_long (map f texts) forms says in
-            let same = length_mapped f texts in
-            let early = within forms i form is in
-            b.made i form (omega arith) is;
-      };
-  kept = λ sound free. (so_far.begun sound free).kept;
-  others = λ sound free. let b = so_far.begun sound free in record { kept = λ t listed foreign. b.others t listed };
-  shown = so_far.shown;
+      let b = so_far sound free in
+      record { sound = b.sound; each = λ i form is. b.made i form (past_all IsMakeText f texts forms says count whole i form is) is };
+  kept = λ sound free. (so_far sound free).kept;
+  others = λ sound free. let b = so_far sound free in record { kept = λ t listed foreign. b.others t listed };
+  shown = shown;
 }

@@ -1,9 +1,8 @@
 -- What texts that make indexes leave.
-use Rattle.std.proofs.Common.{◌≡◌, ◌⊎◌, inl, inr, ℕ, zero, suc, ◌+◌, ◌<◌, ◌≤◌, List, [], ◌∷◌, ◌++◌, map, length, Bool, true, false, Some, None, Ok, Err, refl, sym, ap, subst, ◌∙◌, slice_get, get_or, is_some, IsTrue, arith, add-zero, if◌then◌else◌}
+use Rattle.std.proofs.Common.{◌≡◌, ◌⊎◌, inl, inr, ℕ, zero, suc, ◌+◌, ◌<◌, ◌≤◌, List, [], ◌∷◌, ◌++◌, map, length, Bool, true, false, Some, None, Ok, Err, refl, sym, ap, subst, ◌∙◌, slice_get, get_or, is_some, IsTrue, arith, if◌then◌else◌}
 use Rattle.std.proofs.lemmas.Bool.{cases_Bool, and_parts, not-true}
 use Rattle.std.specs.List.{list_all, position_from}
 use Rattle.std.specs.Option.{option_or}
-use Rattle.std.specs.List.Sorted.{IsPermutation}
 use Rattle.sqlite.specs.Order.{Row}
 use Rattle.sqlite.specs.Tree.{Trees}
 use Rattle.sqlite.specs.Table.{Table}
@@ -13,7 +12,6 @@ use Rattle.sqlite.specs.Command.TheVariants.{CreateIndex, Nothing}
 use Rattle.sqlite.specs.Effect.{Database, IsDatabase}
 use Rattle.sqlite.specs.State.{State, Shows, Executes, Writes, mode_of}
 use Rattle.sqlite.specs.Does.{Tally, Does, AtPlace, Defines, MakesIndex, lacks_sequence}
-use Rattle.sqlite.specs.Listing.{understood}
 use Rattle.sqlite_catalog.specs.Change.{indexed, next_tree, KeepsRows}
 use Rattle.sqlite_ast.specs.declared.CreateIndex as ast
 use Rattle.sqlite_ast.specs.declared.Statement.TheVariants as written
@@ -22,28 +20,22 @@ use Rattle.sqlite_resolve.specs.Lowering.{Checked, and_then}
 use Rattle.sqlite_resolve.specs.declared.error.CompileError.{CompileError}
 use Rattle.sqlite_resolve.specs.declared.error.CompileError.TheVariants.{Misuse, Exists}
 use Rattle.sqlite_resolve.specs.Define as define
-use Rattle.sqlite_resolve.specs.Compile.{compiled, first, planned, meaning, timed, returning, command, create_index, creates, is_reserved, small, index_defined_by, index_in}
+use Rattle.sqlite_resolve.specs.Compile.{compiled, first, meaning, timed, returning, command, create_index, creates, is_reserved, small, index_defined_by, index_in}
 use Rattle.sqlite_schema.specs.declared.schema.Index.{Index}
 use Rattle.sqlite_schema.specs.Names.{same_name, table_named, view_named, index_named}
 use Rattle.sqlite_catalog.proofs.StepLemmas.{no_table, no_index, no_view}
 use Rattle.sqlite_rules.specs.Lists.{Has}
 use Rattle.sqlite_rules.proofs.ListLemmas.{all_has, has_left, has_right, has_either, has_got}
-use Rattle.sqlite_trees.specs.View.{IsShaped}
-use Rattle.sqlite_trees.specs.declared.store.Shape.TheVariants as shape
-use Rattle.sqlite.proofs.Callers.{runs_as, command_of, IsPlain, statement_of}
 use Rattle.table_forms.specs.Forms.{Form, table_of}
-use Rattle.table_forms.specs.Rows.{columns_of}
 use Rattle.table_forms.specs.Standing.{Contents, IsDeclared, Stands, StandIn, IsFree, AreFree}
 use Rattle.table_forms.specs.Moves.{RunsInside, Founds}
 use Rattle.table_forms.specs.Indexes.{IndexForm, index_of, HasIndex, IsIndexText, AreIndexTexts, AreOf, AddsIndexes, are_named_apart}
-use Rattle.table_forms.proofs.Listed.{length_mapped}
-use Rattle.table_forms.proofs.Texts.{plain_command, compiled_as, IsRefusedBy}
-use Rattle.table_forms.proofs.Turning.{understood_as, not_run}
+use Rattle.table_forms.proofs.Texts.{plain_command, compiled_as, IsRefusedBy, compiles_to}
+use Rattle.table_forms.proofs.Turning.{not_run, ran_whole, stands_still}
 use Rattle.table_forms.proofs.Putting.{went, same_value}
-use Rattle.table_forms.proofs.Apart.{order_of}
-use Rattle.table_forms.proofs.Founding.{within}
 use Rattle.table_forms.proofs.Making.{none_more}
 use Rattle.table_forms.proofs.Moving.{others_then, shown_then}
+use Rattle.table_forms.proofs.Listed.{one_further, there_too, past_all}
 
 -- ---- what the text compiles to
 
@@ -81,14 +73,8 @@ module _ (schema : Schema) (p : Parsed) (def : ast.CreateIndex) (table : Table) 
   unfolding timed
   times = rw (statement, untimed) refl
 
-  plans : (c : Checked Command) → create_index schema def ≡ c → planned schema p ≡ and_then (and_then c (λ c. Ok (c, None))) (λ found. Ok ([], found))
-  unfolding planned
-  plans c is = rw (times, add-zero, means c is) refl
-
   compiles : (c : Checked Command) → create_index schema def ≡ c → (text : List ℕ) → first text ≡ Ok p → compiled schema text ≡ compiled_as p c
-  unfolding compiled
-  compiles (Ok c) is text reads = rw (reads, plans (Ok c) is) refl
-  compiles (Err e) is text reads = rw (reads, plans (Err e) is) refl
+  compiles c is = compiles_to schema p c times (means c is)
 
   -- what a text that was not refused compiles to
   pub compiles_index : (text : List ℕ) → first text ≡ Ok p → (compiled schema text ≡ Ok (plain_command p (CreateIndex at))) ⊎ ((e : CompileError) × IsRefusedBy (compiled schema text) e)
@@ -109,10 +95,7 @@ indexes_by text index says old new at tree count d h =
     let own_name : is_reserved says.def.table ≡ false = subst (λ n. is_reserved n ≡ false) (sym says.table_is) says.own_name in
     let named : table_named schema says.def.table ≡ Some at = subst (λ n. table_named schema n ≡ Some at) (sym says.table_is) d.named in
     elim (compiles_index schema says.parsed says.def (table_of index.table tree) (index_of index tree 0) at says.statement says.untimed says.unconditional own_name named d.listed (says.defines tree) text says.reads) [
-      | inl is ↦
-          let known = understood_as schema text _ is in
-          let text_is : statement_of text (understood schema text) ≡ text = ap (statement_of text) known ∙ says.whole in
-          subst (λ t. Writes old new None (CreateIndex at) t [] count) text_is (runs_as text [] old new schema refl (CreateIndex at) (ap command_of known) (subst IsPlain (sym known) (refl, refl)) count h)
+      | inl is ↦ ran_whole text [] old new count says.parsed (CreateIndex at) is says.whole h
       | inr barred ↦ absurd (not_run text [] old new count barred.0 barred.1.0 barred.1.1 h)
     ]
 
@@ -177,14 +160,7 @@ indexed_by text index says old new at tree count d h =
       sound = w.sound;
       made = record { at = at; table = tree; tree = next_tree schema; declared = declared index.table at tree d; listed = subst (λ s. Has s.indexes added) (sym is.0) (has_right schema.indexes (added ∷ []) added (inl refl)) };
       kept = λ f rows there.
-          let same = all_has _ schema.tables (table_of f there.tree) is.1 (has_got _ there.at _ there.declared.listed) in
-          record {
-            at = there.at;
-            tree = there.tree;
-            declared = declared f there.at there.tree there.declared;
-            shaped = subst (IsShaped shape.Table) (sym same) there.shaped;
-            same = subst (λ (r : List Row). IsPermutation rows (map (columns_of f) r)) (sym same) there.same;
-          };
+          stands_still old.now new.now f rows there (declared f there.at there.tree there.declared) (all_has _ schema.tables (table_of f there.tree) is.1 (has_got _ there.at _ there.declared.listed));
       still = λ other there. record {
         at = there.at;
         table = there.table;
@@ -207,20 +183,16 @@ pub record Grown (forms : List Form) (indexes : List IndexForm) (count : ℕ) (c
   pub others : (t : Table) → Has old.schema.tables t → Has new.schema.tables t × (new.trees t.tree ≡ old.trees t.tree)
   pub free : (more : List Form) → are_named_apart indexes more ≡ true → AreFree more old.schema → AreFree more new.schema
 
-pub record Indexing (forms : List Form) (indexes : List IndexForm) (count : ℕ) (old new : State) : Type 0 where
-  pub grown : (contents : Contents) → StandIn forms old.now contents → Grown forms indexes count contents old.now new.now
-  pub shown : IsTrue old.is_open → IsTrue old.in_transaction → Shows old new new.now old.committed true
+abbrev pub Indexing : List Form → List IndexForm → ℕ → State → State → Type 0
+Indexing forms indexes count old new = (contents : Contents) → StandIn forms old.now contents → Grown forms indexes count contents old.now new.now
 
 pub none_indexed : (forms : List Form) (indexes : List IndexForm) (s : State) → Indexing forms indexes 0 s s
-none_indexed forms indexes s = record {
-  grown = λ contents stand. record {
-    stands = stand;
-    made = λ i index early is. absurd (omega arith);
-    kept = λ form rows there. there;
-    others = λ t listed. (listed, refl);
-    free = λ more differ unused. unused;
-  };
-  shown = λ live inside. record { was_open = live; is_open = live; now_is = refl; committed_is = refl; mode = inside };
+none_indexed forms indexes s contents stand = record {
+  stands = stand;
+  made = λ i index early is. absurd (omega arith);
+  kept = λ form rows there. there;
+  others = λ t listed. (listed, refl);
+  free = λ more differ unused. unused;
 }
 
 -- what every one of a list passes, the one at a place passes
@@ -247,15 +219,7 @@ module _ (forms : List Form) (indexes : List IndexForm) (count : ℕ) (first old
       let made = indexed_by text index says old new there.at there.tree runs there.declared ran.ran in
       record {
         stands = record { sound = made.sound; each = λ i f at. made.kept f (contents i) (g.stands.each i f at) };
-        made = λ i other early at. elim (order_of i count) [
-          | inl before ↦ made.still other (g.made i other before at)
-          | inr (inl same) ↦
-              let both : slice_get indexes count ≡ Some other = subst (λ k. slice_get indexes k ≡ Some other) same at in
-              let equal : Some index ≡ Some other = sym is ∙ both in
-              let one : index ≡ other = cc in
-              subst (HasIndex new.now.schema) one made.made
-          | inr (inr after) ↦ absurd (omega arith)
-        ];
+        made = one_further (HasIndex new.now.schema) indexes count index is (λ i other before at. made.still other (g.made i other before at)) made.made;
         kept = λ f rows stood. made.kept f rows (g.kept f rows stood);
         others = λ t listed.
             let before = g.others t listed in
@@ -269,46 +233,22 @@ module _ (forms : List Form) (indexes : List IndexForm) (count : ℕ) (first old
             };
       }
 
-  one_indexed : Indexing forms indexes count first old → Indexing forms indexes (count + 1) first new
-  one_indexed so_far = record {
-    grown = λ contents stand. one_grown contents (so_far.grown contents stand);
-    shown = shown_then first old new so_far.shown (λ _ _. ran.shown);
-  }
-
--- the text at a place makes the index there
-index_there : {X : Type 0} (f : X → List ℕ) (texts : List X) (indexes : List IndexForm) → AreIndexTexts (map f texts) indexes → (i : ℕ) (d : X) → i < length texts
-    → (index : IndexForm) × (slice_get indexes i ≡ Some index) × IsIndexText (f (get_or texts i d)) index
-index_there f [] indexes says i d low = absurd (omega arith)
-index_there f (t ∷ texts) [] says i d low = absurd says
-index_there f (t ∷ texts) (x ∷ indexes) says zero d low = (x, refl, says.0)
-index_there f (t ∷ texts) (x ∷ indexes) says (suc i) d low = index_there f texts indexes says.1 i d (omega arith)
-
 pub next_indexed : {X : Type 0} (f : X → List ℕ) (texts : List X) (forms : List Form) (indexes : List IndexForm) → AreOf indexes forms → AreIndexTexts (map f texts) indexes → (i : ℕ) (d : X) → i < length texts
     → (first old new : State) → (count : ℕ) × RunsInside (f (get_or texts i d)) [] old new count → Indexing forms indexes i first old → Indexing forms indexes (i + 1) first new
 next_indexed f texts forms indexes of_these says i d low first old new ran so_far =
-    let it = index_there f texts indexes says i d low in
+    let it = there_too IsIndexText f texts indexes says i d low in
     let on : Has forms it.0.table = all_has (λ (index : IndexForm). Has forms index.table) indexes it.0 of_these (has_got indexes i it.0 it.1) in
-    one_indexed forms indexes i first old new (f (get_or texts i d)) it.0 it.1 on it.2 ran.0 ran.1 so_far
-
-as_many : (texts : List (List ℕ)) (indexes : List IndexForm) → AreIndexTexts texts indexes → length texts ≡ length indexes
-as_many [] [] says = refl
-as_many [] (x ∷ indexes) says = absurd says
-as_many (t ∷ texts) [] says = absurd says
-as_many (t ∷ texts) (x ∷ indexes) says = ap suc (as_many texts indexes says.1)
+    λ contents stand. one_grown forms indexes i first old new (f (get_or texts i d)) it.0 it.1 on it.2 ran.0 ran.1 contents (so_far contents stand)
 
 pub all_indexed : {X : Type 0} (f : X → List ℕ) (texts : List X) (forms : List Form) (indexes : List IndexForm) → AreIndexTexts (map f texts) indexes → (old new : State) (count : ℕ) → length texts ≤ count
-    → Indexing forms indexes count old new → AddsIndexes forms indexes old new
-all_indexed f texts forms indexes says old new count whole so_far = record {
-  made = λ contents stand i index is.
-      let long = as_many (map f texts) indexes says in
-      let same = length_mapped f texts in
-      let early = within indexes i index is in
-      (so_far.grown contents stand).made i index (omega arith) is;
-  stands = λ contents stand. (so_far.grown contents stand).stands;
-  kept = λ contents stand. (so_far.grown contents stand).kept;
-  others = λ contents stand. record { kept = λ t listed foreign. (so_far.grown contents stand).others t listed };
-  free = λ contents stand. (so_far.grown contents stand).free;
-  shown = so_far.shown;
+    → Indexing forms indexes count old new → (IsTrue old.is_open → IsTrue old.in_transaction → Shows old new new.now old.committed true) → AddsIndexes forms indexes old new
+all_indexed f texts forms indexes says old new count whole so_far shown = record {
+  made = λ contents stand i index is. (so_far contents stand).made i index (past_all IsIndexText f texts indexes says count whole i index is) is;
+  stands = λ contents stand. (so_far contents stand).stands;
+  kept = λ contents stand. (so_far contents stand).kept;
+  others = λ contents stand. record { kept = λ t listed foreign. (so_far contents stand).others t listed };
+  free = λ contents stand. (so_far contents stand).free;
+  shown = shown;
 }
 
 -- ---- with tables that were made before

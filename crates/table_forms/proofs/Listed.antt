@@ -1,14 +1,17 @@
 -- Lists that agree at each place, and what stands at some place.
-use Rattle.std.proofs.Common.{◌≡◌, inl, inr, refl, sym, ap, ap₂, subst, List, ℕ, zero, suc, [], ◌∷◌, ◌<◌, false, map, length, get_or, slice_get, Some, ◌∙◌, arith}
-use Rattle.std.proofs.lemmas.Bool.{cases_Bool}
-use Rattle.std.specs.List.{list_any, AllByRecursion}
+use Rattle.std.proofs.Common.{◌≡◌, inl, inr, refl, sym, ap, ap₂, subst, List, ℕ, zero, suc, [], ◌∷◌, ◌<◌, false, map, length, get_or, slice_get, Some, ◌∙◌, arith, ◌+◌, ◌≤◌}
+use Rattle.std.proofs.lemmas.Bool.{cases_Bool, cases_lt}
+use Rattle.std.specs.List.{list_any, AllByRecursion, AllZip}
 use Rattle.sqlite.specs.Table.{Table}
 use Rattle.sqlite.specs.Schema.{Schema}
-use Rattle.sqlite_schema.specs.Names.{same_name, table_named}
+use Rattle.sqlite_schema.specs.Names.{same_name}
 use Rattle.sqlite_schema.specs.declared.schema.Reference.{Reference}
 use Rattle.sqlite_rules.specs.Lists.{Has}
-use Rattle.table_forms.specs.Forms.{Form, table_of}
-use Rattle.table_forms.specs.Standing.{IsUnnamed, HasTable}
+use Rattle.table_forms.specs.Forms.{Form}
+use Rattle.table_forms.specs.Standing.{IsUnnamed}
+use Rattle.std.proofs.lemmas.Option.{slice_get_within}
+use Rattle.std.proofs.lemmas.Slice.Zip.{AllZip-long}
+use Rattle.std.proofs.lemmas.List.{length-map}
 
 pub same_map : {X Y : Type 0} (f : Y → X) (xs : List X) (ys : List Y) → length xs ≡ length ys → ((k : ℕ) (d : X) (e : Y) → k < length xs → get_or xs k d ≡ f (get_or ys k e)) → xs ≡ map f ys
 same_map f [] [] len same = refl
@@ -16,9 +19,29 @@ same_map f [] (y ∷ ys) len same = absurd (omega arith)
 same_map f (x ∷ xs) [] len same = absurd (omega arith)
 same_map f (x ∷ xs) (y ∷ ys) len same = ap₂ (λ a b. a ∷ b) (same 0 x y (omega arith)) (same_map f xs ys (omega arith) (λ k d e low. same (suc k) d e (omega arith)))
 
-pub length_mapped : {X Y : Type 0} (f : X → Y) (xs : List X) → length (map f xs) ≡ length xs
-length_mapped f [] = refl
-length_mapped f (x ∷ xs) = ap suc (length_mapped f xs)
+-- where each text says what stands at its place, so does the one at this place
+pub there_too : {X Y : Type 0} (Says : List ℕ → Y → Type 0) (f : X → List ℕ) (texts : List X) (ys : List Y) → AllZip Says (map f texts) ys → (i : ℕ) (d : X) → i < length texts
+    → (y : Y) × (slice_get ys i ≡ Some y) × Says (f (get_or texts i d)) y
+there_too Says f [] ys says i d low = absurd (omega arith)
+there_too Says f (t ∷ texts) [] says i d low = absurd says
+there_too Says f (t ∷ texts) (y ∷ ys) says zero d low = (y, refl, says.0)
+there_too Says f (t ∷ texts) (y ∷ ys) says (suc i) d low = there_too Says f texts ys says.1 i d (omega arith)
+
+-- and what has a place has one below the number of texts
+pub past_all : {X Y : Type 0} (Says : List ℕ → Y → Type 0) (f : X → List ℕ) (texts : List X) (ys : List Y) → AllZip Says (map f texts) ys → (count : ℕ) → length texts ≤ count → (i : ℕ) (y : Y) → slice_get ys i ≡ Some y → i < count
+past_all Says f texts ys says count whole i y is = omega (arith, slice_get_within ys i y is, AllZip-long Says (map f texts) ys says, length-map texts f)
+
+-- what holds of the earlier ones, and of this one, holds of one more
+pub one_further : {X : Type 0} (P : X → Type 0) (xs : List X) (count : ℕ) (x : X) → slice_get xs count ≡ Some x → ((i : ℕ) (y : X) → i < count → slice_get xs i ≡ Some y → P y) → P x
+    → (i : ℕ) (y : X) → i < count + 1 → slice_get xs i ≡ Some y → P y
+one_further P xs count x is before here i y early at = elim (cases_lt i count) [
+  | inl less ↦ before i y less at
+  | inr last ↦
+      let same : i ≡ count = omega arith in
+      let both : Some x ≡ Some y = sym is ∙ subst (λ k. slice_get xs k ≡ Some y) same at in
+      let one : x ≡ y = cc in
+      subst P one here
+]
 
 pub image_at : {X Y : Type 0} (f : Y → X) (xs : List X) (ys : List Y) → xs ≡ map f ys → (k : ℕ) (d : X) (e : Y) → k < length xs → get_or xs k d ≡ f (get_or ys k e)
 image_at f xs [] same k d e low = absurd (let none = ap length same in omega arith)
@@ -78,11 +101,3 @@ unnamed_as schema form name is none = unnamed_from form.name schema.tables (rw i
 
 pub named_as : (schema : Schema) (form : Form) (name : List ℕ) → name ≡ form.name → IsUnnamed schema form → list_any (λ (t : Table). list_any (λ ref. same_name name ref.parent) t.references) schema.tables ≡ false
 named_as schema form name is none = rw is (named_from form.name schema.tables none)
-
--- the table that a form declares is the one at the place that its name finds
-pub held_table : (schema : Schema) (form : Form) (h : HasTable schema form) (at : ℕ) (t : Table) → table_named schema form.name ≡ Some at → slice_get schema.tables at ≡ Some t → t ≡ table_of form h.tree
-held_table schema form h at t named is =
-    let places : Some h.at ≡ Some at = sym h.declared.named ∙ named in
-    let place : h.at ≡ at = cc in
-    let tables : Some (table_of form h.tree) ≡ Some t = sym h.declared.listed ∙ (ap (slice_get schema.tables) place ∙ is) in
-    cc

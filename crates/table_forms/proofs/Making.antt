@@ -3,7 +3,7 @@ use Rattle.std.proofs.Common.{◌≡◌, inl, inr, ℕ, ◌+◌, ◌<◌, List, 
 use Rattle.std.proofs.lemmas.Bool.{cases_Bool, and_parts, not-false, not-true}
 use Rattle.std.proofs.lemmas.Bool.Decides.{nat_tests}
 use Rattle.std.proofs.lemmas.List.Sorted.{IsPermutation-refl}
-use Rattle.std.specs.List.{list_any, list_all, AllByRecursion, position_from}
+use Rattle.std.specs.List.{list_any, list_all, position_from}
 use Rattle.sqlite.specs.Order.{Row}
 use Rattle.sqlite.specs.Tree.{Trees}
 use Rattle.sqlite.specs.Table.{Table}
@@ -15,19 +15,17 @@ use Rattle.sqlite.specs.Rows.{sequence}
 use Rattle.sqlite.specs.Effect.{Database, IsDatabase}
 use Rattle.sqlite.specs.Change.{created, next_tree, automatics, KeepsRows}
 use Rattle.sqlite.specs.State.{State, Shows, Executes, Writes, mode_of}
-use Rattle.sqlite.specs.Listing.{understood}
 use Rattle.sqlite_ast.specs.declared.CreateTable as ast
 use Rattle.sqlite_ast.specs.declared.Statement.TheVariants as written
 use Rattle.sqlite_syntax.specs.declared.statement.Parsed.{Parsed}
-use Rattle.sqlite_resolve.specs.declared.compiled.Compiled.{Compiled}
 use Rattle.sqlite_resolve.specs.Define as define
-use Rattle.sqlite_resolve.specs.Compile.{compiled, first, planned, meaning, timed, returning, command, create_table, creates, is_attached, is_reserved, small}
+use Rattle.sqlite_resolve.specs.Compile.{compiled, first, meaning, timed, returning, command, create_table, creates, is_attached, is_reserved, small}
 use Rattle.sqlite_schema.specs.declared.schema.Index.{Index}
 use Rattle.sqlite_schema.specs.Names.{same_name, table_named, view_named, index_named}
 use Rattle.sqlite_schema.specs.Rules.{guards}
 use Rattle.sqlite_value.specs.Keys.{plain}
 use Rattle.sqlite_rules.specs.Lists.{Has}
-use Rattle.sqlite_rules.proofs.ListLemmas.{all_has, all_from, has_left, has_either, has_got}
+use Rattle.sqlite_rules.proofs.ListLemmas.{all_has, has_left, has_either, has_got}
 use Rattle.sqlite_rules.proofs.ActionLemmas.{got_last, got_still}
 use Rattle.sqlite_catalog.proofs.StepLemmas.{same_itself, no_table, no_index, no_view, table_below}
 use Rattle.sqlite_catalog.specs.Listing.{IsSound}
@@ -35,15 +33,17 @@ use Rattle.sqlite_catalog.proofs.LayoutLemmas.{zipped_left, index_owner}
 use Rattle.sqlite.specs.Order.{column}
 use Rattle.sqlite_trees.specs.View.{IsShaped}
 use Rattle.sqlite_trees.specs.declared.store.Shape.TheVariants as shape
-use Rattle.sqlite.proofs.Callers.{runs_as, command_of, IsPlain, statement_of}
 use Rattle.table_forms.specs.Forms.{Form, table_of}
 use Rattle.table_forms.specs.Rows.{columns_of}
 use Rattle.table_forms.specs.Standing.{IsDeclared, Stands, IsFree}
 use Rattle.table_forms.specs.Texts.{IsMakeText}
 use Rattle.table_forms.proofs.Apart.{Differ}
-use Rattle.table_forms.proofs.Turning.{understood_as}
+use Rattle.table_forms.proofs.Turning.{ran_whole, stands_still}
 use Rattle.table_forms.proofs.Putting.{went, same_value}
 use Rattle.table_forms.proofs.Conflicts.{plains_are}
+use Rattle.table_forms.proofs.Texts.{plain_command, compiles_to}
+use Rattle.sqlite_trees.proofs.ListLemmas.{all-append}
+use Rattle.std.proofs.lemmas.List.Folds.{list_any-append}
 
 module _ (schema : Schema) (p : Parsed) (def : ast.CreateTable) (name : List ℕ) (table : Table) (statement : p.statement ≡ written.CreateTable def) (named : def.name ≡ name)
     (unconditional : def.if_missing ≡ false) (unresolved : def.resolves ≡ false) (defines : define.table p.formats def ≡ Ok table) (bare : (length table.computed ≡ 0) × (length table.stamps.places ≡ 0))
@@ -51,9 +51,6 @@ module _ (schema : Schema) (p : Parsed) (def : ast.CreateTable) (name : List ℕ
   makes : create_table schema p.formats def ≡ Ok CreateTable
   unfolding create_table creates is_attached
   makes = rw (defines, named, unconditional, unresolved, no_t, no_v, no_i, own_name, bare.0, bare.1) refl
-
-  abbrev created_by : Compiled
-  created_by = record { command = CreateTable; returning = None; names = p.names; formats = []; start = p.start; end = p.end; tail = p.tail }
 
   times : timed schema p.formats p.statement ≡ []
   unfolding timed
@@ -63,21 +60,15 @@ module _ (schema : Schema) (p : Parsed) (def : ast.CreateTable) (name : List ℕ
   unfolding meaning returning command
   means = rw (statement, makes) refl
 
-  plans : planned schema p ≡ Ok ([], (CreateTable, None))
-  unfolding planned
-  plans = rw (times, add-zero, means) refl
+  pub compiles_create : (text : List ℕ) → first text ≡ Ok p → compiled schema text ≡ Ok (plain_command p CreateTable)
+  compiles_create = compiles_to schema p (Ok CreateTable) times means
 
-  pub compiles_create : (text : List ℕ) → first text ≡ Ok p → compiled schema text ≡ Ok created_by
-  unfolding compiled
-  compiles_create text is = rw (is, plans) refl
-
-creates_by : (schema : Schema) (text : List ℕ) (form : Form) (says : IsMakeText text form) → IsFree schema form → (old new : State) (count : ℕ) → old.now.schema ≡ schema → Executes text [] old new (Ok count)
-    → Writes old new None CreateTable text [] count
-creates_by schema text form says free old new count has h =
-    let is = understood_as schema text _ (compiles_create schema says.parsed says.def form.name (table_of form 0) says.statement says.name says.unconditional says.plain says.defines (refl, refl)
-    (no_table schema form.name free.unused) (no_view schema form.name free.unused) (no_index schema form.name free.unused) says.own_name text says.reads) in
-    let text_is : statement_of text (understood schema text) ≡ text = ap (statement_of text) is ∙ says.whole in
-    subst (λ t. Writes old new None CreateTable t [] count) text_is (runs_as text [] old new schema has CreateTable (ap command_of is) (subst IsPlain (sym is) (refl, refl)) count h)
+creates_by : (text : List ℕ) (form : Form) (says : IsMakeText text form) (old new : State) (count : ℕ) → IsFree old.now.schema form → Executes text [] old new (Ok count) → Writes old new None CreateTable text [] count
+creates_by text form says old new count free h =
+    let schema = old.now.schema in
+    let is = compiles_create schema says.parsed says.def form.name (table_of form 0) says.statement says.name says.unconditional says.plain says.defines (refl, refl)
+    (no_table schema form.name free.unused) (no_view schema form.name free.unused) (no_index schema form.name free.unused) says.own_name text says.reads in
+    ran_whole text [] old new count says.parsed CreateTable is says.whole h
 
 -- ---- the schema with one table more
 
@@ -94,10 +85,6 @@ place_kept q (x ∷ xs) ys from k is = elim (cases_Bool (q x)) [
   | inl first ↦ rw first (rw first at is)
   | inr later ↦ rw later (place_kept q xs ys (from + 1) k (rw later at is))
 ]
-
-any_more : {X : Type 0} (q : X → Bool) (xs : List X) (x : X) → q x ≡ false → list_any q (xs ++ x ∷ []) ≡ list_any q xs
-any_more q [] x none = rw none refl
-any_more q (y ∷ ys) x none = rw (any_more q ys x none) refl
 
 -- what is found by its name is still found
 found_kept : {X : Type 0} (q : X → Bool) (xs ys : List X) → is_some (option_and_then (slice_get xs) (position_from q 0 xs)) ≡ true → is_some (option_and_then (slice_get (xs ++ ys)) (position_from q 0 (xs ++ ys))) ≡ true
@@ -150,11 +137,7 @@ module _ (schema : Schema) (db : Trees) (form : Form) (sound : IsSound schema db
       | inl old ↦ let below = index_on schema db i sound old in let on = guarded_tree i new_table g in absurd (omega arith)
       | inr new ↦ let it = auto_is new_table form.keys 0 (new_tree + 1) i new in (it.2.1 ∙ plains_are form.keys it.2.0, it.1)
     ];
-    alone = all_from _ after.tables (λ t listed. elim (has_either schema.tables (new_table ∷ []) t listed) [
-      | inl old ↦ all_has _ schema.tables t free.alone old
-      | inr (inl is) ↦ subst (λ (x : Table). AllByRecursion (λ ref. same_name form.name ref.parent ≡ false) x.references) (sym is) tt
-      | inr (inr none) ↦ absurd none
-    ]);
+    alone = all-append _ schema.tables (new_table ∷ []) free.alone (tt, tt);
   }
 
   declared_kept : (f : Form) (at tree : ℕ) → IsDeclared schema f at tree → IsDeclared after f at tree
@@ -172,11 +155,7 @@ module _ (schema : Schema) (db : Trees) (form : Form) (sound : IsSound schema db
           | inl old ↦ d.keyed i old g
           | inr new ↦ let it = auto_is new_table form.keys 0 (new_tree + 1) i new in let on = guarded_tree i (table_of f tree) g in let e = it.0 in absurd (omega arith)
         ];
-        alone = all_from _ after.tables (λ t listed. elim (has_either schema.tables (new_table ∷ []) t listed) [
-          | inl old ↦ all_has _ schema.tables t d.alone old
-          | inr (inl is) ↦ subst (λ (x : Table). AllByRecursion (λ ref. same_name f.name ref.parent ≡ false) x.references) (sym is) tt
-          | inr (inr none) ↦ absurd none
-        ]);
+        alone = all-append _ schema.tables (new_table ∷ []) d.alone (tt, tt);
       }
 
   pub counted_kept : lacks_sequence schema ≡ false → lacks_sequence after ≡ false
@@ -184,8 +163,8 @@ module _ (schema : Schema) (db : Trees) (form : Form) (sound : IsSound schema db
     | inl some ↦
         let there : is_some (sequence schema) ≡ true = not-false _ (rw some at none) in
         let still : is_some (sequence after) ≡ true = found_kept (λ (t : Table). same_name t.name (codes "sqlite_sequence")) schema.tables (new_table ∷ []) there in
-        rw (still, any_more (λ (t : Table). t.is_counted) schema.tables new_table refl, some) refl
-    | inr nowhere ↦ rw (any_more (λ (t : Table). t.is_counted) schema.tables new_table refl, nowhere) refl
+        rw (still, list_any-append (λ (t : Table). t.is_counted) schema.tables (new_table ∷ []), some) refl
+    | inr nowhere ↦ rw (list_any-append (λ (t : Table). t.is_counted) schema.tables (new_table ∷ []), nowhere) refl
   ]
 
 pub record Made (old new : State) (form : Form) : Type 0 where
@@ -214,7 +193,7 @@ made_is old new text form tally says sound counted h =
 pub create_makes : (text : List ℕ) (form : Form) (says : IsMakeText text form) (old new : State) (count : ℕ) → IsDatabase old.now → IsFree old.now.schema form → lacks_sequence old.now.schema ≡ false → Executes text [] old new (Ok count) → Made old new form
 create_makes text form says old new count sound free counted h =
     let schema = old.now.schema in
-    let w = creates_by schema text form says free old new count refl h in
+    let w = creates_by text form says old new count free h in
     let is = made_is old new text form w.tally says sound counted w.changed in
     record {
       schema = is.0;
@@ -227,14 +206,8 @@ create_makes text form says old new count sound free counted h =
         same = subst (λ (r : List Row). IsPermutation [] (map (columns_of form) r)) (sym is.1) (IsPermutation-refl []);
       };
       kept = λ f rows there.
-          let same = all_has _ schema.tables (table_of f there.tree) is.2 (has_got _ there.at _ there.declared.listed) in
-          record {
-            at = there.at;
-            tree = there.tree;
-            declared = subst (λ s. IsDeclared s f there.at there.tree) (sym is.0) (declared_kept schema old.now.trees form sound f there.at there.tree there.declared);
-            shaped = subst (IsShaped shape.Table) (sym same) there.shaped;
-            same = subst (λ (r : List Row). IsPermutation rows (map (columns_of f) r)) (sym same) there.same;
-          };
+          stands_still old.now new.now f rows there (subst (λ s. IsDeclared s f there.at there.tree) (sym is.0) (declared_kept schema old.now.trees form sound f there.at there.tree there.declared))
+          (all_has _ schema.tables (table_of f there.tree) is.2 (has_got _ there.at _ there.declared.listed));
       others = λ t listed. (subst (λ s. Has s.tables t) (sym is.0) (has_left schema.tables _ t listed), all_has _ schema.tables t is.2 listed);
       shown = w.shown;
     }
@@ -258,9 +231,5 @@ free_still schema db f g sound differ free =
     none_more _ schema.indexes _ 0 (no_index schema g.name free.unused) (differ.guards tree) in
     record {
       unused = rw (tables, indexes, no_view schema g.name free.unused) refl;
-      alone = all_from _ _ (λ t listed. elim (has_either schema.tables (table_of f tree ∷ []) t listed) [
-        | inl old ↦ all_has _ schema.tables t free.alone old
-        | inr (inl is) ↦ subst (λ (x : Table). AllByRecursion (λ ref. same_name g.name ref.parent ≡ false) x.references) (sym is) tt
-        | inr (inr none) ↦ absurd none
-      ]);
+      alone = all-append _ schema.tables (table_of f tree ∷ []) free.alone (tt, tt);
     }

@@ -1,10 +1,7 @@
 -- From one table to all of them, and from one write to many.
-use Rattle.std.proofs.Common.{◌≡◌, ◌≢◌, ◌⊎◌, inl, inr, ℕ, List, map, true, false, cond, Some, Ok, Err, Result, refl, sym, ap, subst, ◌∙◌, slice_get, eqb, IsTrue, IfOk, arith}
+use Rattle.std.proofs.Common.{◌≡◌, ◌≢◌, ◌⊎◌, inl, inr, ℕ, List, true, false, cond, Some, Ok, Err, Result, refl, sym, ap, subst, ◌∙◌, slice_get, eqb, IsTrue, IfOk, arith}
 use Rattle.std.proofs.lemmas.Bool.{cases_Bool}
 use Rattle.std.proofs.lemmas.Bool.Decides.{nat_tests}
-use Rattle.std.specs.List.Sorted.{IsPermutation}
-use Rattle.sqlite_trees.specs.View.{IsShaped}
-use Rattle.sqlite_trees.specs.declared.store.Shape.TheVariants as shape
 use Rattle.sqlite.specs.Order.{Row}
 use Rattle.sqlite.specs.Table.{Table}
 use Rattle.sqlite.specs.Effect.{Database, IsDatabase}
@@ -16,11 +13,11 @@ use Rattle.sqlite_rules.specs.Lists.{Has}
 use Rattle.sqlite_rules.proofs.ListLemmas.{has_got, some_from}
 use Rattle.sqlite_catalog.proofs.StepLemmas.{same_itself}
 use Rattle.table_forms.specs.Forms.{Form, table_of}
-use Rattle.table_forms.specs.Rows.{columns_of, put, take_away}
+use Rattle.table_forms.specs.Rows.{put, take_away}
 use Rattle.table_forms.specs.Standing.{Contents, IsDeclared, Stands, StandIn, KeepsOthers, is_among}
 use Rattle.table_forms.specs.Moves.{AreApart, Moves, RunsInside, PutsRow, TakesRows}
 use Rattle.table_forms.proofs.Apart.{same_place}
-use Rattle.table_forms.proofs.Turning.{Turns, put_turns}
+use Rattle.table_forms.proofs.Turning.{Turns, put_turns, stands_still}
 use Rattle.table_forms.proofs.Taking.{take_turns}
 
 pub kept_none : (s : State) → KeepsCommit s s
@@ -44,14 +41,8 @@ module _ (forms : List Form) (apart : AreApart forms) (old new : State) (i : ℕ
   kept : (j : ℕ) (f : Form) → slice_get forms j ≡ Some f → (i ≡ j → ⊥) → Stands new.now f (contents j)
   kept j f at differ =
       let there = stand.each j f at in
-      let same = turns.others (table_of f there.tree) (has_got _ there.at _ there.declared.listed) (other_tree j f there at differ) in
-      record {
-        at = there.at;
-        tree = there.tree;
-        declared = subst (λ s. IsDeclared s f there.at there.tree) (sym turns.schema) there.declared;
-        shaped = subst (IsShaped shape.Table) (sym same) there.shaped;
-        same = subst (λ (r : List Row). IsPermutation (contents j) (map (columns_of f) r)) (sym same) there.same;
-      }
+      stands_still old.now new.now f (contents j) there (subst (λ s. IsDeclared s f there.at there.tree) (sym turns.schema) there.declared)
+      (turns.others (table_of f there.tree) (has_got _ there.at _ there.declared.listed) (other_tree j f there at differ))
 
   form_same : (j : ℕ) (f : Form) → slice_get forms j ≡ Some f → j ≡ i → form ≡ f
   form_same j f at e = let both : slice_get forms i ≡ Some f = subst (λ k. slice_get forms k ≡ Some f) e at in let two : Some form ≡ Some f = sym is ∙ both in cc
@@ -127,9 +118,6 @@ survives_none s = record { clean = omega arith; shield = λ h. h; counts = omega
 
 pub survives_on : (a b c : State) → Survives a b (λ _. ⊥) → Survives b c (λ _. ⊥) → Survives a c (λ _. ⊥)
 survives_on a b c = survives_then a b c (λ _. ⊥) (λ _. ⊥) (λ _. ⊥) (λ _ db none. none) (λ _ db none. none)
-
-pub moves_none : (s : State) (forms : List Form) → Moves forms s s (λ t. t)
-moves_none s forms = record { stands = λ t h. h; others = λ t h. record { kept = λ x listed foreign. (listed, refl) }; schema = λ t h. refl; shown = λ live inside. record { was_open = live; is_open = live; now_is = refl; committed_is = refl; mode = inside } }
 
 pub others_then : (forms : List Form) (a b c : Database) → KeepsOthers forms a b → KeepsOthers forms b c → KeepsOthers forms a c
 others_then forms a b c p q = record {

@@ -1,6 +1,6 @@
 -- Facts on lists of rows.
-use Rattle.std.proofs.Common.{◌≡◌, inl, inr, ℤ, List, [], ◌∷◌, filter, Bool, true, false, not, ◌&&◌, ◌||◌, cond, refl, sym, ap, ◌∙◌, Ordering, Less, Equal, Greater, is_eq}
-use Rattle.std.proofs.lemmas.Bool.{cases_Bool}
+use Rattle.std.proofs.Common.{◌≡◌, inl, inr, ℤ, List, [], ◌∷◌, filter, Bool, true, false, not, ◌&&◌, ◌||◌, cond, refl, sym, ◌∙◌, Ordering, Less, Equal, Greater, is_eq}
+use Rattle.std.proofs.lemmas.Bool.{cases_Bool, or_parts, and_parts}
 use Rattle.std.specs.Ordering.{match_ordering}
 use Rattle.std.specs.List.{list_any}
 use Rattle.std.specs.List.Sorted.{IsPermutation}
@@ -17,6 +17,7 @@ use Rattle.sqlite_trees.specs.Tree.{rowid, has_rowid, put_row, without_rowid}
 use Rattle.sqlite_rules.specs.Lists.{Has}
 use Rattle.sqlite_rules.specs.Edit.{without_all, is_taken}
 use Rattle.table_forms.specs.Rows.{fits_kind, fits_columns}
+use Rattle.sqlite_catalog.proofs.ListFacts.{filter_all}
 
 pub same_bool : (a b : Bool) → (a ≡ true → b ≡ true) → (b ≡ true → a ≡ true) → a ≡ b
 same_bool true b f g = sym (f refl)
@@ -26,10 +27,6 @@ same_bool false false f g = refl
 pub filter_on : {X : Type 0} (p q : X → Bool) (xs : List X) → ((x : X) → Has xs x → p x ≡ q x) → filter p xs ≡ filter q xs
 filter_on p q [] h = refl
 filter_on p q (x ∷ xs) h = rw (h x (inl refl), filter_on p q xs (λ y k. h y (inr k)))
-
-filter_true : {X : Type 0} (xs : List X) → filter (λ _. true) xs ≡ xs
-filter_true [] = refl
-filter_true (x ∷ xs) = ap (λ l. x ∷ l) (filter_true xs)
 
 filter_both : {X : Type 0} (p q : X → Bool) (xs : List X) → filter q (filter p xs) ≡ filter (λ x. p x && q x) xs
 filter_both p q [] = refl
@@ -43,20 +40,16 @@ nor true b = refl
 nor false b = refl
 
 pub without_is : (ids : List ℤ) (rows : List Row) → without_all rows ids ≡ filter (λ r. not (list_any (λ id. has_rowid id r) ids)) rows
-without_is [] rows = sym (filter_true rows)
+without_is [] rows = sym (filter_all (λ _. true) rows (λ _ _. refl))
 without_is (id ∷ ids) rows =
     without_is ids (without_rowid id rows) ∙ (filter_both (λ r. not (has_rowid id r)) (λ r. not (list_any (λ j. has_rowid j r) ids)) rows
     ∙ filter_on _ _ rows (λ r _. nor (has_rowid id r) (list_any (λ j. has_rowid j r) ids)))
-
-or_false : (a b : Bool) → (a || b) ≡ false → (a ≡ false) × (b ≡ false)
-or_false true b h = absurd (cc)
-or_false false b h = (refl, h)
 
 -- a row whose rowid is free comes into its place
 pub put_moves : (new : Row) (rows : List Row) → is_taken rows new ≡ false → IsPermutation (new ∷ rows) (put_row new rows)
 put_moves new [] free = IsPermutation-refl (new ∷ [])
 put_moves new (r ∷ rs) free =
-    let each = or_false (is_eq (value_cmp (rowid r) (rowid new))) (is_taken rs new) free in
+    let each = or_parts (is_eq (value_cmp (rowid r) (rowid new))) (is_taken rs new) free in
     go (value_cmp (rowid r) (rowid new)) each.0 (put_moves new rs each.1)
   where
     go : (o : Ordering) → is_eq o ≡ false → IsPermutation (new ∷ rs) (put_row new rs) → IsPermutation (new ∷ r ∷ rs) (match_ordering o (r ∷ put_row new rs) (new ∷ rs) (new ∷ r ∷ rs))
@@ -87,14 +80,10 @@ cast_fits kind.Integer (Int n) h = cast_int n
 cast_fits kind.Text (Text t) h = refl
 cast_fits _ _ h = absurd cc
 
-both : (a b c : Bool) → (a && b && c) ≡ true → (a ≡ true) × (b ≡ true) × (c ≡ true)
-both true true true h = (refl, refl, refl)
-both _ _ _ h = absurd cc
-
 pub cast_columns : (cs : List Column) (vs : Row) → fits_columns cs vs ≡ true → cast_all cs vs ≡ vs
 cast_columns [] [] h = refl
 cast_columns [] (v ∷ vs) h = absurd cc
 cast_columns (c ∷ cs) [] h = absurd cc
 cast_columns (c ∷ cs) (v ∷ vs) h =
-    let each = both _ _ _ h in
-    rw (cast_fits c.kind v each.0, cast_columns cs vs each.2)
+    let each = and_parts _ _ h in
+    rw (cast_fits c.kind v (and_parts _ _ each.0).0, cast_columns cs vs each.1)

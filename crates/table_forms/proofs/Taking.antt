@@ -1,12 +1,11 @@
 -- What a text that takes away a row by its key makes of the form's table.
-use Rattle.std.proofs.Common.{◌≡◌, ◌⊎◌, inl, inr, ℕ, suc, ◌+◌, List, [], ◌∷◌, ◌++◌, map, drop, filter, length, Bool, true, false, not, Option, Some, None, Ok, Err, refl, sym, ap, subst, ◌∙◌, slice_get, ltb}
+use Rattle.std.proofs.Common.{◌≡◌, ◌⊎◌, inl, inr, ℕ, suc, ◌+◌, List, [], ◌∷◌, ◌++◌, map, drop, filter, length, true, false, not, Option, Some, None, Ok, Err, refl, sym, ap, subst, ◌∙◌, slice_get, ltb}
 use Rattle.sqlite.specs.Order.{Row}
 use Rattle.sqlite.specs.Term.{Term}
 use Rattle.sqlite.specs.Schema.{Schema}
 use Rattle.sqlite.specs.Table.{Table}
 use Rattle.sqlite_ast.specs.declared.Expr.{Expr}
 use Rattle.sqlite_ast.specs.declared.Statement.TheVariants as written
-use Rattle.std.proofs.Common.{add-zero, if◌then◌else◌}
 use Rattle.std.specs.List.{list_any, list_all}
 use Rattle.std.specs.List.Sorted.{IsPermutation}
 use Rattle.std.proofs.lemmas.Bool.{and_parts}
@@ -17,7 +16,6 @@ use Rattle.sqlite.specs.Edit.{edit_of}
 use Rattle.sqlite.specs.Rowids.TheVariants.{Given}
 use Rattle.sqlite.specs.Effect.{IsDatabase}
 use Rattle.sqlite.specs.State.{State, Executes}
-use Rattle.sqlite.proofs.Callers.{runs_as, command_of, IsPlain}
 use Rattle.sqlite_sql.specs.Term.{holds}
 use Rattle.sqlite_exec.proofs.RunLemmas.{answer_alone}
 use Rattle.sqlite_schema.specs.declared.schema.Keys.TheVariants.{Enforced}
@@ -40,9 +38,9 @@ use Rattle.table_forms.specs.Texts.{IsTakeText, taking}
 use Rattle.table_forms.specs.Standing.{IsDeclared, Stands}
 use Rattle.table_forms.proofs.RowFacts.{same_bool, filter_on, without_is}
 use Rattle.table_forms.proofs.Conflicts.{same_row, own_rowid, column_shift}
-use Rattle.table_forms.proofs.Texts.{plain_command, program_of}
+use Rattle.table_forms.proofs.Texts.{plain_command, program_of, compiles_to}
 use Rattle.table_forms.proofs.Putting.{went, same_value, Trees_turn, task_of, step_leaves}
-use Rattle.table_forms.proofs.Turning.{understood_as, not_run, Turns, turned_by}
+use Rattle.table_forms.proofs.Turning.{not_run, Turns, turned_by, ran_as}
 use Rattle.std.proofs.lemmas.Bool.{cases_Bool}
 use Rattle.sqlite.specs.Command.TheVariants.{Delete}
 use Rattle.sqlite_schema.specs.Program.{lets_of}
@@ -52,46 +50,34 @@ use Rattle.sqlite_typing.specs.Types.{accepts_program}
 use Rattle.sqlite_syntax.specs.declared.statement.Parsed.{Parsed}
 use Rattle.sqlite_resolve.specs.declared.error.CompileError.TheVariants.{Mismatch}
 use Rattle.sqlite_resolve.specs.Program.{program}
-use Rattle.sqlite_resolve.specs.Compile.{first, compiled, planned, meaning, timed, returning, shows, command, delete, small}
+use Rattle.sqlite_resolve.specs.Compile.{first, compiled, meaning, timed, returning, shows, command, delete, small}
 use Rattle.sqlite_resolve.specs.Write.{deleted}
 use Rattle.table_forms.specs.Forms.{Form, table_of}
+use Rattle.sqlite_resolve.specs.Lowering.{Checked, and_then}
+use Rattle.sqlite.specs.Command.{Command}
 
 -- the types of the terms are accepted, or the text is refused
 module _ (schema : Schema) (p : Parsed) (name : List ℕ) (test : Option Expr) (at tree : ℕ) (table : Table) (tests : List Term) (statement : p.statement ≡ written.Delete name test []) (untimed : p.formats ≡ [])
     (named : table_named schema name ≡ Some at) (listed : slice_get schema.tables at ≡ Some table) (takes : deleted schema at table test ≡ Ok (taking tree tests)) where
-  abbrev is_typed : Bool
-  is_typed = accepts_program schema (lets_of (program_of (taking tree tests))) (query_of (taking tree tests)) []
-
-  commands : delete schema name test ≡ (if is_typed then Ok (Delete at (program_of (taking tree tests))) else Err Mismatch)
+  commands : (delete schema name test ≡ Ok (Delete at (program_of (taking tree tests)))) ⊎ (delete schema name test ≡ Err Mismatch)
   unfolding delete program
-  commands = elim (cases_Bool is_typed) [
-    | inl fine ↦ rw (named, listed, takes, fine) refl
-    | inr wrong ↦ rw (named, listed, takes, wrong) refl
+  commands = elim (cases_Bool (accepts_program schema (lets_of (program_of (taking tree tests))) (query_of (taking tree tests)) [])) [
+    | inl fine ↦ inl (rw (named, listed, takes, fine) refl)
+    | inr wrong ↦ inr (rw (named, listed, takes, wrong) refl)
   ]
 
   times : timed schema p.formats p.statement ≡ []
   unfolding timed
   times = rw (statement, untimed) refl
 
-  means : meaning schema p (small p.names) ≡ (if is_typed then Ok (Delete at (program_of (taking tree tests)), None) else Err Mismatch)
+  means : (c : Checked Command) → delete schema name test ≡ c → meaning schema p (small p.names) ≡ and_then c (λ c. Ok (c, None))
   unfolding meaning returning shows command
-  means = elim (cases_Bool is_typed) [
-    | inl fine ↦ rw (statement, commands, fine) refl
-    | inr wrong ↦ rw (statement, commands, wrong) refl
-  ]
-
-  plans : planned schema p ≡ (if is_typed then Ok ([], (Delete at (program_of (taking tree tests)), None)) else Err Mismatch)
-  unfolding planned
-  plans = elim (cases_Bool is_typed) [
-    | inl fine ↦ rw (times, add-zero, means, fine) refl
-    | inr wrong ↦ rw (times, add-zero, means, wrong) refl
-  ]
+  means c is = rw (statement, is) refl
 
   pub compiles_delete : (text : List ℕ) → first text ≡ Ok p → (compiled schema text ≡ Ok (plain_command p (Delete at (program_of (taking tree tests))))) ⊎ (compiled schema text ≡ Err Mismatch)
-  unfolding compiled
-  compiles_delete text is = elim (cases_Bool is_typed) [
-    | inl fine ↦ inl (rw (is, plans, fine) refl)
-    | inr wrong ↦ inr (rw (is, plans, wrong) refl)
+  compiles_delete text is = elim commands [
+    | inl fine ↦ inl (compiles_to schema p (Ok (Delete at (program_of (taking tree tests)))) times (means _ fine) text is)
+    | inr wrong ↦ inr (compiles_to schema p (Err Mismatch) times (means _ wrong) text is)
   ]
 
 -- ---- the rows
@@ -158,8 +144,7 @@ take_turns text form key says params old new count rows sound stands h =
     let c = Delete stands.at (program_of (taking tree tests)) in
     elim (compiles_delete schema says.parsed form.name says.test stands.at tree (table_of form tree) tests says.statement says.untimed declared.named declared.listed (says.taken schema stands.at tree declared.listed) text says.reads) [
       | inl fine ↦
-          let is = understood_as schema text _ fine in
-          let w = runs_as text params old new schema refl c (ap command_of is) (subst IsPlain (sym is) (refl, refl)) count h in
+          let w = ran_as text params old new count says.parsed c fine h in
           turned_by old new form params rows (take_away key params rows) stands c _ count w w.changed
           (λ it. rows_taken old.step_limit schema form stands.at tree declared params key says.above old.now.trees it rows stands.shaped stands.same)
       | inr wrong ↦ absurd (not_run text params old new count Mismatch wrong refl h)

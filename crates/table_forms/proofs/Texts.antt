@@ -1,6 +1,6 @@
 -- What a fixed text compiles to, under any schema that has the table.
-use Rattle.std.proofs.Common.{◌≡◌, ◌⊎◌, inl, inr, ℕ, ◌==◌, ◌&&◌, Bool, true, false, List, [], ◌∷◌, Option, Some, None, Ok, Err, refl, slice_get, length, find, option_map, bytes_eq, add-zero, if◌then◌else◌}
-use Rattle.std.proofs.lemmas.Bool.{cases_Bool}
+use Rattle.std.proofs.Common.{◌≡◌, ◌⊎◌, inl, inr, ℕ, ◌==◌, Bool, false, List, [], ◌∷◌, Option, Some, None, Ok, Err, refl, slice_get, length, find, option_map, bytes_eq, add-zero, if◌then◌else◌}
+use Rattle.std.proofs.lemmas.Bool.{cases_Bool, and_right}
 use Rattle.sqlite.specs.Schema.{Schema}
 use Rattle.sqlite.specs.Table.{Table}
 use Rattle.sqlite.specs.Source.{Source}
@@ -38,9 +38,12 @@ abbrev pub compiled_as : Parsed → Checked Command → Checked Compiled
 compiled_as p (Ok c) = Ok (plain_command p c)
 compiled_as p (Err e) = Err e
 
-not_both : (b : Bool) → (b && false) ≡ false
-not_both true = refl
-not_both false = refl
+-- a text whose statement reads no time compiles to what its command means
+pub compiles_to : (schema : Schema) (p : Parsed) (c : Checked Command) → timed schema p.formats p.statement ≡ [] → meaning schema p (small p.names) ≡ and_then c (λ c. Ok (c, None)) → (text : List ℕ) → first text ≡ Ok p
+    → compiled schema text ≡ compiled_as p c
+unfolding compiled planned
+compiles_to schema p (Ok c) times means text reads = rw (reads, times, add-zero, means) refl
+compiles_to schema p (Err e) times means text reads = rw (reads, times, add-zero, means) refl
 
 -- INSERT asks of the schema where the table is, and what its clauses mean
 module _ (schema : Schema) (p : Parsed) (name : List ℕ) (columns : List (List ℕ)) (rows : Rows) (clauses : List Upsert) (at : ℕ) (table : Table) (s : Source)
@@ -58,14 +61,8 @@ module _ (schema : Schema) (p : Parsed) (name : List ℕ) (columns : List (List 
   unfolding timed
   times = rw (statement, untimed, named, listed, unstamped) refl
 
-  plans : (c : Checked Command) → commands ≡ c → planned schema p ≡ and_then (and_then c (λ c. Ok (c, None))) (λ found. Ok ([], found))
-  unfolding planned
-  plans c is = rw (times, add-zero, means c is) refl
-
   pub compiles : (c : Checked Command) → commands ≡ c → (text : List ℕ) → first text ≡ Ok p → compiled schema text ≡ compiled_as p c
-  unfolding compiled
-  compiles (Ok c) is text reads = rw (reads, plans (Ok c) is) refl
-  compiles (Err e) is text reads = rw (reads, plans (Err e) is) refl
+  compiles c is = compiles_to schema p c times (means c is)
 
   pub adds : clauses ≡ [] → commands ≡ Ok (Insert at s)
   unfolding insert_or_abort insert
@@ -73,8 +70,8 @@ module _ (schema : Schema) (p : Parsed) (name : List ℕ) (columns : List (List 
 
   pub clears : (clause : Upsert) → clauses ≡ clause ∷ [] → (u : Checked meant.Upsert) → upsert schema at table (small p.names) clause ≡ u → commands ≡ and_then u (λ it. Ok (InsertOr at Abort s (it ∷ [])))
   unfolding insert_or_abort insert_or upserts
-  clears clause one (Ok it) is = rw (one, named, listed, made, not_both (length clause.target == 0), is) refl
-  clears clause one (Err e) is = rw (one, named, listed, made, not_both (length clause.target == 0), is) refl
+  clears clause one (Ok it) is = rw (one, named, listed, made, and_right (length clause.target == 0) false refl, is) refl
+  clears clause one (Err e) is = rw (one, named, listed, made, and_right (length clause.target == 0) false refl, is) refl
 
 -- ---- a clause with DO UPDATE
 

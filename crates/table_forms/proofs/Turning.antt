@@ -1,5 +1,5 @@
 -- What a statement makes of the form's table, of the schema and of the other tables.
-use Rattle.std.proofs.Common.{◌≡◌, ◌≢◌, ℕ, ◌+◌, List, [], ◌∷◌, length, true, false, cond, None, Ok, refl, sym, ap, subst, inl, inr, Err, slice_get}
+use Rattle.std.proofs.Common.{◌≡◌, ◌≢◌, ℕ, ◌+◌, List, [], ◌∷◌, length, true, false, cond, None, Ok, refl, sym, ap, subst, inl, inr, Err, slice_get, slice_range, ◌∙◌, map}
 use Rattle.sqlite.specs.Order.{Row}
 use Rattle.sqlite.specs.Tree.{Trees}
 use Rattle.sqlite.specs.Table.{Table}
@@ -26,18 +26,44 @@ use Rattle.sqlite_schema.specs.declared.schema.Keys.TheVariants.{Enforced}
 use Rattle.sqlite_rules.specs.Lists.{Has}
 use Rattle.sqlite_rules.proofs.ListLemmas.{all_has, has_got}
 use Rattle.sqlite.proofs.Callers.{runs_as, command_of, IsPlain, statement_of}
+use Rattle.sqlite_trees.specs.declared.store.Shape.TheVariants as shape
 use Rattle.table_forms.specs.Forms.{Form, table_of}
-use Rattle.table_forms.specs.Rows.{fits_columns, put}
+use Rattle.table_forms.specs.Rows.{fits_columns, put, columns_of}
 use Rattle.table_forms.specs.Standing.{IsDeclared, Stands}
 use Rattle.table_forms.specs.Texts.{IsInsertText, IsUpsertText, IsPutText, terms_of, updating}
 use Rattle.table_forms.proofs.Texts.{plain_command, compiles, adds, clears, clause_read, upserting}
 use Rattle.table_forms.proofs.Values.{values_given}
 use Rattle.table_forms.proofs.Putting.{went, same_value, task_of, Trees_turn, row_inserted, row_upserted}
+use Rattle.sqlite_trees.specs.View.{IsShaped}
+use Rattle.std.specs.List.Sorted.{IsPermutation}
 
 -- a text that compiles is understood so
 pub understood_as : (schema : Schema) (text : List ℕ) (c : Compiled) → compiled schema text ≡ Ok c → understood schema text ≡ Ok c
 unfolding understood
 understood_as schema text c is = rw is
+
+-- and a plain command ran, where the text ran
+pub ran_as : (text : List ℕ) (params : Row) (old new : State) (count : ℕ) (p : Parsed) (c : Command) → compiled old.now.schema text ≡ Ok (plain_command p c) → Executes text params old new (Ok count)
+    → Runs old new None c (statement_of text (understood old.now.schema text)) params count
+ran_as text params old new count p c is h =
+    let known = understood_as old.now.schema text (plain_command p c) is in
+    runs_as text params old new old.now.schema refl c (ap command_of known) (subst IsPlain (sym known) (refl, refl)) count h
+
+-- the text being no more than its statement
+pub ran_whole : (text : List ℕ) (params : Row) (old new : State) (count : ℕ) (p : Parsed) (c : Command) → compiled old.now.schema text ≡ Ok (plain_command p c) → slice_range text p.start p.end ≡ text
+    → Executes text params old new (Ok count) → Runs old new None c text params count
+ran_whole text params old new count p c is whole h =
+    subst (λ t. Runs old new None c t params count) (ap (statement_of text) (understood_as old.now.schema text (plain_command p c) is) ∙ whole) (ran_as text params old new count p c is h)
+
+-- A table that is still declared, and whose tree is the same, still stands.
+pub stands_still : (old new : Database) (form : Form) (rows : List Row) (there : Stands old form rows) → IsDeclared new.schema form there.at there.tree → new.trees there.tree ≡ old.trees there.tree → Stands new form rows
+stands_still old new form rows there declared same = record {
+  at = there.at;
+  tree = there.tree;
+  declared = declared;
+  shaped = subst (IsShaped shape.Table) (sym same) there.shaped;
+  same = subst (λ (r : List Row). IsPermutation rows (map (columns_of form) r)) (sym same) there.same;
+}
 
 pub record Turns (old new : State) (form : Form) (tree : ℕ) (rows : List Row) : Type 0 where
   pub schema : new.now.schema ≡ old.now.schema
@@ -107,12 +133,6 @@ module _ (form : Form) (text : List ℕ) (params : Row) (fit : fits_columns form
   guarded : IsGuarded schema.indexes (table_of form stands.tree)
   guarded = all_has (IsGuarded schema.indexes) schema.tables (table_of form stands.tree) sound.lists.guarded (has_got schema.tables stands.at _ stands.declared.listed)
 
-  -- what ran
-  runs : (p : Parsed) (c : Command) → compiled schema text ≡ Ok (plain_command p c) → Runs old new None c (statement_of text (understood schema text)) params count
-  runs p c is =
-      let known = understood_as schema text (plain_command p c) is in
-      runs_as text params old new schema refl c (ap command_of known) (subst IsPlain (sym known) (refl, refl)) count h
-
   inserts_turn : IsInsertText text form [] → Turns old new form stands.tree (put form params rows)
   inserts_turn says =
       let d = stands.declared in
@@ -122,7 +142,7 @@ module _ (form : Form) (text : List ℕ) (params : Row) (fit : fits_columns form
       let c = Insert stands.at source in
       let adding = adds schema p form.name says.columns says.rows [] stands.at table source says.statement says.untimed refl d.named d.listed made refl in
       let is = compiles schema p form.name says.columns says.rows [] stands.at table source says.statement says.untimed refl d.named d.listed made (Ok c) adding text says.reads in
-      let w = runs p c is in
+      let w = ran_as text params old new count p c is h in
       turned_by old new form params rows (put form params rows) stands c _ count w w.changed
       (λ it. row_inserted old.step_limit Enforced schema form stands.at stands.tree d params says.above guarded fit old.now.trees stands.shaped rows stands.same (terms_of form) (length form.columns + 1) it (values_given form params fit))
 
@@ -142,7 +162,7 @@ module _ (form : Form) (text : List ℕ) (params : Row) (fit : fits_columns form
       elim (clause_read schema stands.at table base says.clause says.key (says.aims stands.tree) draft says.sets (says.updates schema stands.at stands.tree d.listed)) [
         | inl fine ↦
             let c = InsertOr stands.at Abort source (upserting draft fine.0 ∷ []) in
-            let w = runs p c (compiles_as (Ok c) (clearing (Ok (upserting draft fine.0)) fine.1)) in
+            let w = ran_as text params old new count p c (compiles_as (Ok c) (clearing (Ok (upserting draft fine.0)) fine.1)) h in
             turned_by old new form params rows (put form params rows) stands c _ count w w.changed
             (λ it. row_upserted old.step_limit Enforced schema form stands.at stands.tree d params in'.above guarded fit old.now.trees stands.shaped rows stands.same fine.0 (terms_of form) (length form.columns + 1) it (values_given form params fit))
         | inr wrong ↦ absurd (not_run text params old new count wrong.0 (compiles_as (Err wrong.0) (clearing (Err wrong.0) wrong.1.0)) wrong.1.1 h)

@@ -1,6 +1,6 @@
 -- Indexes that serve look-ups, and bar no row: how one is declared, the text that makes it, and what such texts leave.
-use Rattle.std.specs.Prelude.{◌≡◌, ℕ, Bool, true, false, not, List, [], ◌∷◌, slice_range, slice_get, Some, Ok, IsTrue, ⊤}
-use Rattle.std.specs.List.{AllByRecursion, list_all}
+use Rattle.std.specs.Prelude.{◌≡◌, ℕ, Bool, true, false, not, List, [], slice_range, slice_get, Some, Ok, IsTrue}
+use Rattle.std.specs.List.{AllByRecursion, AllZip, list_all}
 use Rattle.sqlite.specs.Order.{Row}
 use Rattle.sqlite.specs.Schema.{Schema}
 use Rattle.sqlite.specs.State.{State, Shows}
@@ -51,10 +51,7 @@ pub record IsIndexText (text : List ℕ) (index : IndexForm) : Type 0 where
 
 -- each text makes the index at its place
 abbrev pub AreIndexTexts : List (List ℕ) → List IndexForm → Type 0
-AreIndexTexts [] [] = ⊤
-AreIndexTexts [] (index ∷ indexes) = ⊥
-AreIndexTexts (text ∷ texts) [] = ⊥
-AreIndexTexts (text ∷ texts) (index ∷ indexes) = IsIndexText text index × AreIndexTexts texts indexes
+AreIndexTexts texts indexes = AllZip IsIndexText texts indexes
 
 -- ---- what the texts leave
 

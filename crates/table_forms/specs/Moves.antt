@@ -1,6 +1,6 @@
 -- What a call inside a transaction makes of the tables of some forms.
-use Rattle.std.specs.Prelude.{◌≡◌, ℕ, ◌+◌, ◌==◌, Bool, true, not, ◌&&◌, if◌then◌else◌, List, [], ◌∷◌, ◌++◌, slice_get, Some, Ok, IsTrue, ⊤}
-use Rattle.std.specs.List.{list_all}
+use Rattle.std.specs.Prelude.{◌≡◌, ℕ, ◌+◌, ◌==◌, Bool, true, not, ◌&&◌, if◌then◌else◌, List, [], ◌∷◌, ◌++◌, slice_get, Some, Ok, IsTrue}
+use Rattle.std.specs.List.{AllZip, list_all}
 use Rattle.sqlite.specs.Order.{Row}
 use Rattle.sqlite.specs.Effect.{Database, IsDatabase}
 use Rattle.sqlite.specs.Change.{automatics}
@@ -58,10 +58,7 @@ TakesRows text values old new =
 
 -- each text makes the table of the form at its place
 abbrev pub AreMakeTexts : List (List ℕ) → List Form → Type 0
-AreMakeTexts [] [] = ⊤
-AreMakeTexts [] (form ∷ forms) = ⊥
-AreMakeTexts (text ∷ texts) [] = ⊥
-AreMakeTexts (text ∷ texts) (form ∷ forms) = IsMakeText text form × AreMakeTexts texts forms
+AreMakeTexts texts forms = AllZip IsMakeText texts forms
 
 -- Where the tables are free they are made, and are empty, and tables that stood have the rows that they had. Nothing is
 -- committed, and the transaction goes on.

@@ -1,8 +1,9 @@
 use Rattle.std.proofs.Common.{◌≡◌, refl, ap, length, map, arith, Bor, List, ℕ, []}
 use Rattle.sqlite_value.specs.Keys.{plain}
 use Rattle.sqlite_value.specs.declared.keys.Order.{Order}
-use Rattle.table_forms.proofs.Listed.{same_map, image_at, length_mapped}
+use Rattle.table_forms.proofs.Listed.{same_map, image_at}
 use Rattle.table_forms.proofs.standing.are_plain.Goals as goal
+use Rattle.std.proofs.lemmas.List.{length-map}
 
 pub returns-then-orders-at-ne0 : goal.returns-then-orders-at-ne0
 returns-then-orders-at-ne0 c = (
@@ -16,6 +17,6 @@ returns-then-orders-at-ne0 c = (
 pub returns : goal.returns
 returns c =
     let keys = map (λ (key : Bor (List ℕ)). key.now) c.args.keys.now in
-    let same = length_mapped (λ (key : Bor (List ℕ)). key.now) c.args.keys.now in
+    let same = length-map c.args.keys.now (λ (key : Bor (List ℕ)). key.now) in
     let len : length c.args.orders.now ≡ length keys = omega (arith, c.if-orders-keys.false) in
     (λ _. same_map (λ key. plain) c.args.orders.now keys len (λ k d e low. c.loop-at.invariant k d (omega arith)), λ _. refl)

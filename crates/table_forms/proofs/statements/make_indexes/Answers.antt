@@ -37,7 +37,7 @@ pub returns-clause-made : goal.returns-clause-made
 returns-clause-made g c clean forms indexes of_these says =
     let whole : length c.args.texts.now ≤ c.loop-text.text-index = omega (arith, c.loop-text-test.false) in
     all_indexed sql_of c.args.texts.now forms indexes says (state g.S.Store c.args.tx.now.conn.now) (state g.S.Store c.loop-text.tx.conn.now) c.loop-text.text-index whole
-    (c.loop-text.invariant.indexing clean forms indexes of_these says)
+    (c.loop-text.invariant.indexing clean forms indexes of_these says) (c.loop-text.invariant.inside clean)
 
 pub returns-clause-inside : goal.returns-clause-inside
 returns-clause-inside g c clean live inside = (c.loop-text.invariant.inside clean live inside).mode

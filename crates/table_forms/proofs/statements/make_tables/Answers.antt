@@ -1,7 +1,7 @@
-use Rattle.std.proofs.Common.{rules, ◌≤◌, length, arith, ◌∙◌}
+use Rattle.std.proofs.Common.{rules, ◌≤◌, length, arith, ◌∙◌, refl}
 use Rattle.sqlite.specs.Held.{state}
 use Rattle.table_forms.proofs.Founding.{none_made, next_made, all_made, all_spared}
-use Rattle.table_forms.proofs.Moving.{survives_none, survives_on, kept_none, kept_then}
+use Rattle.table_forms.proofs.Moving.{survives_none, survives_on, kept_none, kept_then, shown_then}
 use Rattle.table_forms.proofs.statements.make_tables.Goals as goal
 
 pub loop-text-init : goal.loop-text-init
@@ -9,6 +9,7 @@ loop-text-init g c = record {
   same = search rules;
   wrote = survives_none (state g.S.Store c.args.tx.now.conn.now);
   kept = λ clean. kept_none (state g.S.Store c.args.tx.now.conn.now);
+  inside = λ clean live inside. record { was_open = live; is_open = live; now_is = refl; committed_is = refl; mode = inside };
   founding = λ clean forms apart says. none_made forms (state g.S.Store c.args.tx.now.conn.now);
 }
 
@@ -22,6 +23,7 @@ loop-text-preserved g c =
       same = c.run_plain.ensures.same_reference ∙ before.same;
       wrote = survives_on first mid last before.wrote c.run_plain.ensures.survives;
       kept = λ clean. kept_then first mid last (before.kept (omega (arith, c.run_plain.ensures.survives.clean))) (c.run_plain.ensures.kept clean);
+      inside = λ clean. shown_then first mid last (before.inside (omega (arith, c.run_plain.ensures.survives.clean))) (λ _ _. (c.in_ok-run_plain.ensures.runs clean).1.shown);
       founding = λ clean forms apart says.
           next_made _ c.args.texts.now forms apart says c.loop-text.text-index _ c.loop-text-test.true first mid last (c.in_ok-run_plain.ensures.runs clean)
           (before.founding (omega (arith, c.run_plain.ensures.survives.clean)) forms apart says);
@@ -30,7 +32,7 @@ loop-text-preserved g c =
 pub returns-clause-made : goal.returns-clause-made
 returns-clause-made g c clean forms apart says =
     let whole : length c.args.texts.now ≤ c.loop-text.text-index = omega (arith, c.loop-text-test.false) in
-    all_made _ c.args.texts.now forms says (state g.S.Store c.args.tx.now.conn.now) (state g.S.Store c.loop-text.tx.conn.now) c.loop-text.text-index whole (c.loop-text.invariant.founding clean forms apart says)
+    all_made _ c.args.texts.now forms says (state g.S.Store c.args.tx.now.conn.now) (state g.S.Store c.loop-text.tx.conn.now) c.loop-text.text-index whole (c.loop-text.invariant.founding clean forms apart says) (c.loop-text.invariant.inside clean)
 
 pub returns-clause-spared : goal.returns-clause-spared
 returns-clause-spared g c clean forms apart says =

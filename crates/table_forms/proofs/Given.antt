@@ -27,6 +27,9 @@ use Rattle.std.specs.Bool.{⊤}
 use Rattle.sqlite_schema.specs.Names.{column_named}
 use Rattle.sqlite_resolve.specs.Lowering.{max_budget}
 use Rattle.sqlite_resolve.specs.Write.{deleted, picked}
+use Rattle.sqlite_ast.specs.declared.Expr.{Expr}
+use Rattle.sqlite_ast.specs.declared.Expr.TheVariants as e
+use Rattle.sqlite_ast.specs.declared.Binary.TheVariants as op
 
 -- a name, the place among the columns where it is found, and the column
 pub record Entry : Type 0 where
@@ -101,17 +104,23 @@ module _ (s : Schema) (table : Table) (name : Name) (at : ℕ) (is : slice_get s
   unfolding tests
   one_given outs e budget last are g enough = rw (lower_equals outs e 0 2 budget last are g enough 698) refl
 
+  -- both of two tests, each of which is lowered
+  pub lower_and : (outs : List Output) (a b : Expr) (t u : Term) (next budget left after : ℕ) (last : Carried) → 1 < budget → (depth : ℕ)
+      → lower_to (suc (suc depth)) (context_of s name at outs false) a (state_at next (budget - 1) nothing) ≡ Ok (t, state_at next left nothing)
+      → lower_to (suc (suc depth)) (context_of s name at outs false) b (state_at next left nothing) ≡ Ok (u, state_at next after nothing)
+      → lower_to (suc (suc (suc depth))) (context_of s name at outs false) (e.Binary op.And a b) (state_at next budget last) ≡ Ok (op2 by.And t u, state_at next after nothing)
+  unfolding lower_to node opened spend begin finish passes operation wanted_truth both tests_truth tests_alias combine ast_views
+  lower_and outs a b t u next budget left after last some depth first second =
+      let one : nat_lt 1 budget ≡ true = grind (arith) in
+      rw (one, first, second) refl
+
   pub lower_both : (outs : List Output) (e f : Entry) (next budget : ℕ) (last : Carried) → AreColumns table (e ∷ f ∷ []) → IsGiven table e → IsGiven table f → 7 < budget → (depth : ℕ)
       → lower_to (suc (suc (suc depth))) (context_of s name at outs false) (equals_from (equals e.name 1) 2 (f.name ∷ [])) (state_at next budget last)
       ≡ Ok (op2 by.And (test_of table e 0) (test_of table f 1), state_at next (budget - 1 - 1 - 1 - 1 - 1 - 1 - 1) nothing)
-  unfolding lower_to node opened spend begin finish passes operation wanted_truth both tests_truth tests_alias combine ast_views
   lower_both outs e f next budget last are g k enough depth =
-      let one : nat_lt 1 budget ≡ true = grind (arith) in
-      rw (
-        one,
-        lower_equals outs e 0 next (budget - 1) nothing (are.0, are.1, tt) g (omega arith) depth,
-        lower_equals outs f 1 next (budget - 1 - 1 - 1 - 1) nothing are.2 k (omega arith) depth,
-      ) refl
+      lower_and outs (equals e.name 1) (equals f.name 2) (test_of table e 0) (test_of table f 1) next budget (budget - 1 - 1 - 1 - 1) (budget - 1 - 1 - 1 - 1 - 1 - 1 - 1) last (omega arith) depth
+      (lower_equals outs e 0 next (budget - 1) nothing (are.0, are.1, tt) g (omega arith) depth)
+      (lower_equals outs f 1 next (budget - 1 - 1 - 1 - 1) nothing are.2 k (omega arith) depth)
 
   -- WHERE a = ?1 AND b = ?2
   pub two_given : (outs : List Output) (e f : Entry) (budget : ℕ) (last : Carried) → AreColumns table (e ∷ f ∷ []) → IsGiven table e → IsGiven table f → 7 < budget
@@ -119,6 +128,17 @@ module _ (s : Schema) (table : Table) (name : Name) (at : ℕ) (is : slice_get s
       ≡ Ok (test_of table e 0 ∷ test_of table f 1 ∷ [], state_at 2 (budget - 1 - 1 - 1 - 1 - 1 - 1 - 1) nothing)
   unfolding tests
   two_given outs e f budget last are g k enough = rw (lower_both outs e f 2 budget last are g k enough 697) refl
+
+  -- WHERE a = ?1 AND b = ?2 AND c = ?3
+  pub three_given : (outs : List Output) (e f h : Entry) (budget : ℕ) (last : Carried) → AreColumns table (e ∷ f ∷ h ∷ []) → IsGiven table e → IsGiven table f → IsGiven table h → 11 < budget
+      → tests (lower_to 700) (context_of s name at outs false) [] (filter_of (e.name ∷ f.name ∷ h.name ∷ [])) (state_at 2 budget last)
+      ≡ Ok (test_of table e 0 ∷ test_of table f 1 ∷ test_of table h 2 ∷ [], state_at 2 (budget - 1 - 1 - 1 - 1 - 1 - 1 - 1 - 1 - 1 - 1 - 1) nothing)
+  unfolding tests
+  three_given outs e f h budget last are g k l enough =
+      let left = budget - 1 - 1 - 1 - 1 - 1 - 1 - 1 - 1 in
+      let pair = lower_both outs e f 2 (budget - 1) nothing (are.0, are.1, (are.2.0, are.2.1, tt)) g k (omega arith) 696 in
+      let third = lower_equals outs h 2 2 left nothing are.2.2 l (omega arith) 697 in
+      rw (lower_and outs (equals_from (equals e.name 1) 2 (f.name ∷ [])) (equals h.name 3) (op2 by.And (test_of table e 0) (test_of table f 1)) (test_of table h 2) 2 budget left (left - 1 - 1 - 1) last (omega arith) 697 pair third) refl
 
 -- ---- DELETE
 

@@ -5,9 +5,6 @@ use Rattle.sqlite_sql.specs.declared.ops.CompareOp.TheVariants.{Gt}
 use Rattle.sqlite_sql.specs.Term.{Term, col, op2}
 use Rattle.sqlite_schema.specs.declared.schema.Schema.{Schema}
 use Rattle.sqlite_schema.specs.declared.schema.Table.{Table}
-use Rattle.sqlite_ast.specs.declared.Expr.{Expr}
-use Rattle.sqlite_ast.specs.declared.Expr.TheVariants as e
-use Rattle.sqlite_ast.specs.declared.Binary.TheVariants as op
 use Rattle.sqlite_resolve.specs.declared.scope.Output.{Output}
 use Rattle.sqlite_resolve.specs.declared.state.Carried.{Carried}
 use Rattle.sqlite_resolve.specs.Lowering.{nothing, spend, begin, finish, chosen}
@@ -18,7 +15,7 @@ use Rattle.table_forms.specs.Written.{equals, equals_from}
 use Rattle.table_reads.specs.Written.{greater, filter_above}
 use Rattle.table_forms.specs.Views.{ast_views}
 use Rattle.table_forms.proofs.Column.{context_of, state_at, lower_column}
-use Rattle.table_forms.proofs.Given.{Entry, AreColumns, IsGiven, test_of, compared_given, lower_equals, lower_both}
+use Rattle.table_forms.proofs.Given.{Entry, AreColumns, IsGiven, test_of, compared_given, lower_equals, lower_both, lower_and}
 
 -- column > ?n
 abbrev pub above_test : Table → Entry → ℕ → Term
@@ -43,16 +40,6 @@ module _ (s : Schema) (table : Table) (name : Name) (at : ℕ) (is : slice_get s
         compared_given s table name at is outs Gt (chosen (declared table e.at e.column) nothing) e m are.1 g,
       ) refl
 
-  -- a comparison after what is lowered already
-  lower_then : (outs : List Output) (a : Expr) (t : Term) (f : Entry) (m next budget left : ℕ) (last : Carried) → AreColumns table (f ∷ []) → IsGiven table f → 1 < budget → 3 < left → (depth : ℕ)
-      → lower_to (suc (suc depth)) (context_of s name at outs false) a (state_at next (budget - 1) nothing) ≡ Ok (t, state_at next left nothing)
-      → lower_to (suc (suc (suc depth))) (context_of s name at outs false) (e.Binary op.And a (greater f.name (suc m))) (state_at next budget last)
-      ≡ Ok (op2 by.And t (above_test table f m), state_at next (left - 1 - 1 - 1) nothing)
-  unfolding lower_to node opened spend begin finish passes operation wanted_truth both tests_truth tests_alias combine ast_views
-  lower_then outs a t f m next budget left last are g some enough depth before =
-      let one : nat_lt 1 budget ≡ true = grind (arith) in
-      rw (one, before, lower_greater outs f m next left nothing are g enough depth) refl
-
   -- WHERE above > ?1
   pub none_above : (outs : List Output) (f : Entry) (budget : ℕ) (last : Carried) → AreColumns table (f ∷ []) → IsGiven table f → 3 < budget
       → tests (lower_to 700) (context_of s name at outs false) [] (filter_above [] f.name) (state_at 2 budget last)
@@ -66,9 +53,10 @@ module _ (s : Schema) (table : Table) (name : Name) (at : ℕ) (is : slice_get s
       ≡ Ok (test_of table a 0 ∷ above_test table f 1 ∷ [], state_at 2 (budget - 1 - 1 - 1 - 1 - 1 - 1 - 1) nothing)
   unfolding tests
   one_above outs a f budget last are g k enough =
+      let left = budget - 1 - 1 - 1 - 1 in
       let first = lower_equals s table name at is outs a 0 2 (budget - 1) nothing (are.0, are.1, tt) g (omega arith) 697 in
-      let all = lower_then outs (equals a.name 1) (test_of table a 0) f 1 2 budget (budget - 1 - 1 - 1 - 1) last are.2 k (omega arith) (omega arith) 697 first in
-      rw all refl
+      let second = lower_greater outs f 1 2 left nothing are.2 k (omega arith) 697 in
+      rw (lower_and s table name at is outs (equals a.name 1) (greater f.name 2) (test_of table a 0) (above_test table f 1) 2 budget left (left - 1 - 1 - 1) last (omega arith) 697 first second) refl
 
   -- WHERE a = ?1 AND b = ?2 AND above > ?3
   pub two_above : (outs : List Output) (a b f : Entry) (budget : ℕ) (last : Carried) → AreColumns table (a ∷ b ∷ f ∷ []) → IsGiven table a → IsGiven table b → IsGiven table f → 11 < budget
@@ -77,5 +65,6 @@ module _ (s : Schema) (table : Table) (name : Name) (at : ℕ) (is : slice_get s
   unfolding tests
   two_above outs a b f budget last are g k l enough =
       let pair = lower_both s table name at is outs a b 2 (budget - 1) nothing (are.0, are.1, (are.2.0, are.2.1, tt)) g k (omega arith) 696 in
-      let all = lower_then outs (equals_from (equals a.name 1) 2 (b.name ∷ [])) (op2 by.And (test_of table a 0) (test_of table b 1)) f 2 2 budget (budget - 1 - 1 - 1 - 1 - 1 - 1 - 1 - 1) last are.2.2 l (omega arith) (omega arith) 697 pair in
-      rw all refl
+      let left = budget - 1 - 1 - 1 - 1 - 1 - 1 - 1 - 1 in
+      let third = lower_greater outs f 2 2 left nothing are.2.2 l (omega arith) 697 in
+      rw (lower_and s table name at is outs (equals_from (equals a.name 1) 2 (b.name ∷ [])) (greater f.name 3) (op2 by.And (test_of table a 0) (test_of table b 1)) (above_test table f 2) 2 budget left (left - 1 - 1 - 1) last (omega arith) 697 pair third) refl

@@ -64,6 +64,13 @@ is_given form tree place h =
     let more = and_parts _ _ parts.1 in
     record { place = add-one (place - 1); strict = parts.0; named = not-true _ more.0 }
 
+-- a column that is found by its name and compared as it is stored
+pub given_column : (form : Form) (tree place : ℕ) → (is_named form place && is_plain form place) ≡ true → AreColumns (table_of form tree) (entries form (place ∷ [])) × IsGiven (table_of form tree) (entry_at form place)
+given_column form tree place h =
+    let parts = and_parts _ _ h in
+    let known : is_named form place ≡ true = parts.0 in
+    (are_columns form tree (place ∷ []) (rw known refl), is_given form tree place parts.1)
+
 -- in a table without a rowid of its own each column stands after the rowid
 pub places_are : (form : Form) (tree : ℕ) (places : List ℕ) → list_all (is_named form) places ≡ true → places_of (table_of form tree) (entries form places) ≡ places
 places_are form tree [] h = refl

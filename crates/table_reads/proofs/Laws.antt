@@ -39,10 +39,6 @@ pub ok_two : {A E : Type 0} (r : Result A E) (P Q T : A → Type 0) → ((x : A)
 ok_two (Ok x) P Q T f p q = f x p q
 ok_two (Err e) P Q T f p q = tt
 
-pub ok_one : {A E : Type 0} (r : Result A E) (P T : A → Type 0) → ((x : A) → P x → T x) → IfOk r P → IfOk r T
-ok_one (Ok x) P T f p = f x p
-ok_one (Err e) P T f p = tt
-
 -- a store that was opened is settled
 pub newly_opened : (c : store.State) → Opens c → IsStore c → IsRising c.now → IsNewlyOpened c
 newly_opened c opens laws rising = record {

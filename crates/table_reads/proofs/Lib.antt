@@ -1,4 +1,3 @@
-pub mod Three
 pub mod Body
 pub mod Query
 pub mod Answer

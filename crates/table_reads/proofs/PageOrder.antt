@@ -1,5 +1,5 @@
 -- The rows that a query of a form's table answers stand in the order of its first key, as a store compares values.
-use Rattle.std.proofs.Common.{◌≡◌, refl, sym, subst, ap, ◌∙◌, List, ℕ, zero, suc, ◌+◌, ◌-◌, ◌<◌, [], ◌∷◌, map, drop, true, false, length, arith, All, slice_index_or}
+use Rattle.std.proofs.Common.{◌≡◌, refl, sym, subst, ap, List, ℕ, zero, suc, ◌+◌, ◌-◌, ◌<◌, [], ◌∷◌, map, drop, true, false, length, arith, All, slice_index_or}
 use Rattle.std.specs.Prelude.{filter, IsPermutation, IsSorted}
 use Rattle.std.specs.List.{list_all}
 use Rattle.std.specs.Ordering.{is_lt, ordering_then}
@@ -7,7 +7,7 @@ use Rattle.std.proofs.lemmas.Bool.{and_parts}
 use Rattle.std.proofs.lemmas.List.{get_or-map, length-map}
 use Rattle.std.proofs.lemmas.List.FromFn.{get_or-map-range_with_len}
 use Rattle.std.proofs.lemmas.List.Elements.{All-map}
-use Rattle.std.proofs.lemmas.List.Sorted.{All-permutation, IsPermutation-map}
+use Rattle.std.proofs.lemmas.List.Sorted.{All-permutation}
 use Rattle.sqlite_value.specs.declared.value.Value.TheVariants.{Null}
 use Rattle.sqlite_value.specs.declared.keys.Collation.TheVariants.{Binary}
 use Rattle.sqlite_value.specs.Order.{Row, column, value_cmp}
@@ -26,7 +26,7 @@ use Rattle.table_reads.specs.Paging.{stored_order, is_compared}
 use Rattle.table_forms.proofs.Given.{Entry}
 use Rattle.table_reads.proofs.Shown.{at_places, passes_all}
 use Rattle.table_reads.proofs.Query.{draft_up_to, key_for}
-use Rattle.table_reads.proofs.Answer.{places_of, no_overlay, shows, one_or_none}
+use Rattle.table_reads.proofs.Answer.{places_of, shows, kept_are, answer_lists}
 use Rattle.table_reads.proofs.Entries.{Named, named, entries, places_are, binary}
 use Rattle.table_reads.proofs.Tests.{next_param}
 
@@ -83,8 +83,7 @@ module _ (form : Form) (tree : ℕ) where
       all_of : (rows : List Row) (a : IsAnswer q (overlay db []) params rows) → All IsOf a.ordered
       all_of rows a =
           let picked = filter (passes_all params terms) (db tree) in
-          let staged : a.staged ≡ map (λ (r : Row). params ∷ r ∷ []) picked = a.grouped ∙ rw (no_overlay db tree) (one_or_none (passes_all params terms) (λ r. params ∷ r ∷ []) (db tree)) in
-          let kept : a.kept ≡ map (output q) (map (λ (r : Row). params ∷ r ∷ []) picked) = a.distinct ∙ ap (map (output q)) staged in
+          let kept = kept_are table (entries form (all_places form)) (entries form (first_of form.keys)) terms count db params rows a in
           let all : All IsOf (map (output q) (map (λ (r : Row). params ∷ r ∷ []) picked)) =
           All-map IsOf (output q) (map (λ (r : Row). params ∷ r ∷ []) picked) (All-map (λ env. IsOf (output q env)) (λ (r : Row). params ∷ r ∷ []) picked (λ k d low. is_of (slice_index_or picked k d))) in
           All-permutation IsOf a.kept a.ordered a.same (subst (All IsOf) (sym kept) all)
@@ -108,12 +107,4 @@ module _ (form : Form) (tree : ℕ) where
           → IsPermutation (map (at_places (places_of table (entries form (all_places form)))) (filter (passes_all params terms) (db tree))) (map (λ (o : Output). o.1) a.ordered)
           × IsSorted (stored_order (first_of form.keys)) (map (λ (o : Output). o.1) a.ordered)
       ordered_rows rows a =
-          let picked = filter (passes_all params terms) (db tree) in
-          let staged : a.staged ≡ map (λ (r : Row). params ∷ r ∷ []) picked = a.grouped ∙ rw (no_overlay db tree) (one_or_none (passes_all params terms) (λ r. params ∷ r ∷ []) (db tree)) in
-          let kept : a.kept ≡ map (output q) (map (λ (r : Row). params ∷ r ∷ []) picked) = a.distinct ∙ ap (map (output q)) staged in
-          let shown : map (λ (o : Output). o.1) a.kept ≡ map (at_places (places_of table (entries form (all_places form)))) picked = rw kept (each picked) in
-          (rw shown at (IsPermutation-map (λ (o : Output). o.1) a.kept a.ordered a.same), sorted_of a.ordered (all_of rows a) a.sorted)
-        where
-          each : (rs : List Row) → map (λ (o : Output). o.1) (map (output q) (map (λ (r : Row). params ∷ r ∷ []) rs)) ≡ map (at_places (places_of table (entries form (all_places form)))) rs
-          each [] = refl
-          each (r ∷ rs) = rw (shows table params r (entries form (all_places form))) (ap (λ more. at_places (places_of table (entries form (all_places form))) r ∷ more) (each rs))
+          (answer_lists table (entries form (all_places form)) (entries form (first_of form.keys)) terms count db params rows a, sorted_of a.ordered (all_of rows a) a.sorted)

@@ -1,5 +1,5 @@
 -- What a text reads that selects a page.
-use Rattle.std.proofs.Common.{◌≡◌, refl, ap, ap₂, ◌∙◌, Ok, List, ℕ, suc, ◌-◌, ◌+◌, ◌<◌, ◌≤◌, Bool, [], ◌∷◌, Option, map, drop, take, true, false, not, nat_le, nat_lt, length, arith, ◌&&◌}
+use Rattle.std.proofs.Common.{◌≡◌, refl, ap, ap₂, ◌∙◌, Ok, List, ℕ, suc, ◌-◌, ◌+◌, ◌<◌, ◌≤◌, [], ◌∷◌, Option, map, drop, take, true, not, nat_le, nat_lt, length, arith, ◌&&◌}
 use Rattle.std.specs.List.{AllByRecursion, list_all}
 use Rattle.std.proofs.lemmas.Bool.{and_parts, not-true}
 use Rattle.std.proofs.lemmas.List.Sorted.{IsPermutation-sym}
@@ -28,29 +28,26 @@ use Rattle.table_forms.specs.Forms.{Form, table_of}
 use Rattle.table_forms.specs.Rows.{columns_of}
 use Rattle.table_forms.specs.Standing.{IsDeclared, HasTable}
 use Rattle.table_reads.specs.Plain.{OnlyReads}
-use Rattle.table_reads.specs.Selects.{column_at, names_at, all_places, first_of, is_named}
+use Rattle.table_reads.specs.Selects.{column_at, names_at, all_places, first_of}
 use Rattle.table_reads.specs.Written.{select_where, filter_above, up_to, parsed_as}
 use Rattle.table_reads.specs.Paging.{SelectsPage, IsPage, AreBounds, is_beyond, is_compared}
-use Rattle.table_forms.proofs.Given.{Entry, AreColumns, IsGiven, test_of}
+use Rattle.table_forms.proofs.Given.{Entry, test_of}
 use Rattle.table_reads.proofs.Above.{above_test, none_above, one_above, two_above}
 use Rattle.table_reads.proofs.Body.{names_of}
 use Rattle.table_reads.proofs.Query.{no_limit, limit_read, draft_up_to}
 use Rattle.table_reads.proofs.Shown.{passes_all}
-use Rattle.table_reads.proofs.Entries.{entry_at, entries, names_are, are_columns, is_given, places_are, readable}
+use Rattle.table_reads.proofs.Entries.{entry_at, entries, names_are, places_are, readable, given_column}
 use Rattle.table_reads.proofs.Stored.{shown_rows}
 use Rattle.table_reads.proofs.Tests.{compares, next_param}
 use Rattle.table_reads.proofs.PageOrder.{ordered_rows}
 use Rattle.table_reads.proofs.Asking.{Lowered, only_asks, asks_for}
+use Rattle.std.proofs.Math.Bool.{and-true}
 
 -- ---- the tests
 
 abbrev pub page_tests : Table → ℕ → List Entry → Entry → List Term
 page_tests table n [] next = above_test table next n ∷ []
 page_tests table n (e ∷ es) next = test_of table e n ∷ page_tests table (suc n) es next
-
-and_true : (b : Bool) → (b && true) ≡ b
-and_true true = refl
-and_true false = refl
 
 pass_page : (form : Form) (tree n : ℕ) (places : List ℕ) (next : ℕ) (params values row : Row) → list_all (is_compared form) places ≡ true → is_compared form next ≡ true
     → length values ≡ length places + 2 → list_all (λ v. not (is_null v)) values ≡ true → drop n params ≡ values
@@ -60,7 +57,7 @@ pass_page form tree n [] next params (v ∷ vs) row known top len some from =
     let this = and_parts _ _ top in
     let real = and_parts _ _ some in
     let at = next_param n params v vs from in
-    and_true _ ∙ compares Gt refl form tree next n params row v this.0 this.1 (not-true _ real.0) at.0
+    and-true _ ∙ compares Gt refl form tree next n params row v this.0 this.1 (not-true _ real.0) at.0
 pass_page form tree n (p ∷ ps) next params [] row known top len some from = absurd (omega (arith, len))
 pass_page form tree n (p ∷ ps) next params (v ∷ vs) row known top len some from =
     let parts = and_parts _ _ known in
@@ -81,28 +78,22 @@ goes_on n xs = grind (common_steps, arith)
 -- ---- the text
 
 module _ (s : Schema) (form : Form) (at tree : ℕ) (declared : IsDeclared s form at tree) where
-  column_of : (place : ℕ) → is_compared form place ≡ true → AreColumns (table_of form tree) (entries form (place ∷ [])) × IsGiven (table_of form tree) (entry_at form place)
-  column_of place h =
-      let parts = and_parts _ _ h in
-      let known : is_named form place ≡ true = parts.0 in
-      (are_columns form tree (place ∷ []) (rw known refl), is_given form tree place parts.1)
-
   lowered : (budget : ℕ) (outs : List Output) (last : Carried) (given : List ℕ) (next : ℕ) → 11 < budget → nat_le (length given) 2 ≡ true → list_all (is_compared form) given ≡ true → is_compared form next ≡ true
       → Lowered s form at budget outs last (filter_above (names_of (entries form given)) (column_at form next).name) (page_tests (table_of form tree) 0 (entries form given) (entry_at form next))
   lowered budget outs last [] next enough few known top =
-      let f = column_of next top in
+      let f = given_column form tree next top in
       let lower = none_above s (table_of form tree) form.name at declared.listed outs (entry_at form next) budget last f.0 f.1 (omega arith) in
       record { after = budget - 1 - 1 - 1; later = nothing; left = omega arith; tested = lower }
   lowered budget outs last (a ∷ []) next enough few known top =
-      let one = column_of a (and_parts _ _ known).0 in
-      let f = column_of next top in
+      let one = given_column form tree a (and_parts _ _ known).0 in
+      let f = given_column form tree next top in
       let lower = one_above s (table_of form tree) form.name at declared.listed outs (entry_at form a) (entry_at form next) budget last (one.0.0, one.0.1, f.0) one.1 f.1 (omega arith) in
       record { after = budget - 1 - 1 - 1 - 1 - 1 - 1 - 1; later = nothing; left = omega arith; tested = lower }
   lowered budget outs last (a ∷ b ∷ []) next enough few known top =
       let more = and_parts _ _ known in
-      let one = column_of a more.0 in
-      let two = column_of b (and_parts _ _ more.1).0 in
-      let f = column_of next top in
+      let one = given_column form tree a more.0 in
+      let two = given_column form tree b (and_parts _ _ more.1).0 in
+      let f = given_column form tree next top in
       let lower = two_above s (table_of form tree) form.name at declared.listed outs (entry_at form a) (entry_at form b) (entry_at form next) budget last (one.0.0, one.0.1, (two.0.0, two.0.1, f.0)) one.1 two.1 f.1 (omega arith) in
       record { after = budget - 1 - 1 - 1 - 1 - 1 - 1 - 1 - 1 - 1 - 1 - 1; later = nothing; left = omega arith; tested = lower }
   lowered budget outs last (a ∷ b ∷ c ∷ more) next enough few known top =

@@ -8,7 +8,7 @@ use Rattle.sqlite.specs.Schema.{Schema}
 use Rattle.sqlite.specs.Table.{Table}
 use Rattle.table_forms.specs.Forms.{Form, table_of}
 use Rattle.table_forms.specs.Rows.{columns_of}
-use Rattle.table_forms.specs.Standing.{IsDeclared, HasTable}
+use Rattle.table_forms.specs.Standing.{IsDeclared}
 use Rattle.table_reads.specs.Reading.{Lists}
 
 -- a table that is declared twice over stands in one tree
@@ -21,10 +21,6 @@ one_tree schema form at tree at' tree' p q =
     let is' = q.listed in
     let tables : table_of form tree ≡ table_of form tree' = cc in
     ap (λ (t : Table). t.tree) tables
-
--- a table that was read stands as it is declared
-pub has_listed : (db : Database) (form : Form) (rows : List Row) → Lists db form rows → HasTable db.schema form
-has_listed db form rows l = record { at = l.at; tree = l.tree; declared = l.declared; low = l.low }
 
 pub lists_same : (db : Database) (form : Form) (xs ys : List Row) → Lists db form xs → Lists db form ys → IsPermutation xs ys
 lists_same db form xs ys p q =

@@ -32,44 +32,37 @@ use Rattle.table_reads.specs.Reading.{Lists, Finds}
 use Rattle.table_reads.specs.Selects.{Selects, names_at, all_places, first_of, is_named, is_plain}
 use Rattle.table_forms.specs.Written.{filter_of}
 use Rattle.table_reads.specs.Written.{select_where, parsed_as}
-use Rattle.table_forms.proofs.Given.{AreColumns, IsGiven, one_given, two_given}
-use Rattle.table_reads.proofs.Three.{three_given}
+use Rattle.table_forms.proofs.Given.{one_given, two_given, three_given}
 use Rattle.table_reads.proofs.Body.{names_of}
 use Rattle.table_reads.proofs.Query.{draft_of, no_limit, no_limit_read}
 use Rattle.table_reads.proofs.Shown.{at_places, passes_all}
 use Rattle.table_reads.proofs.Answer.{places_of, answer_lists}
 use Rattle.table_reads.proofs.Asking.{Lowered, only_asks, asks_for}
-use Rattle.table_reads.proofs.Entries.{entry_at, entries, names_are, are_columns, is_given, places_are, readable}
+use Rattle.table_reads.proofs.Entries.{entry_at, entries, names_are, places_are, readable, given_column}
 use Rattle.table_reads.proofs.Stored.{shown_rows}
 use Rattle.table_reads.proofs.Tests.{tests_of, pass_all}
 
 module _ (s : Schema) (form : Form) (at tree : ℕ) (declared : IsDeclared s form at tree) where
-  column : (place : ℕ) → (is_named form place && is_plain form place) ≡ true → AreColumns (table_of form tree) (entries form (place ∷ [])) × IsGiven (table_of form tree) (entry_at form place)
-  column place h =
-      let parts = and_parts _ _ h in
-      let known : is_named form place ≡ true = parts.0 in
-      (are_columns form tree (place ∷ []) (rw known refl), is_given form tree place parts.1)
-
   lowered : (budget : ℕ) (outs : List Output) (last : Carried) (given : List ℕ) → 11 < budget → nat_le (length given) 3 ≡ true → list_all (λ place. is_named form place && is_plain form place) given ≡ true
       → Lowered s form at budget outs last (filter_of (names_of (entries form given))) (tests_of (table_of form tree) 0 (entries form given))
   unfolding tests
   lowered budget outs last [] enough few known = record { after = budget; later = last; left = omega arith; tested = refl }
   lowered budget outs last (a ∷ []) enough few known =
-      let one = column a (and_parts _ _ known).0 in
+      let one = given_column form tree a (and_parts _ _ known).0 in
       let lower = one_given s (table_of form tree) form.name at declared.listed outs (entry_at form a) budget last one.0 one.1 (omega arith) in
       record { after = budget - 1 - 1 - 1; later = nothing; left = omega arith; tested = lower }
   lowered budget outs last (a ∷ b ∷ []) enough few known =
       let more = and_parts _ _ known in
-      let one = column a more.0 in
-      let two = column b (and_parts _ _ more.1).0 in
+      let one = given_column form tree a more.0 in
+      let two = given_column form tree b (and_parts _ _ more.1).0 in
       let lower = two_given s (table_of form tree) form.name at declared.listed outs (entry_at form a) (entry_at form b) budget last (one.0.0, one.0.1, two.0) one.1 two.1 (omega arith) in
       record { after = budget - 1 - 1 - 1 - 1 - 1 - 1 - 1; later = nothing; left = omega arith; tested = lower }
   lowered budget outs last (a ∷ b ∷ c ∷ []) enough few known =
       let more = and_parts _ _ known in
       let most = and_parts _ _ more.1 in
-      let one = column a more.0 in
-      let two = column b most.0 in
-      let three = column c (and_parts _ _ most.1).0 in
+      let one = given_column form tree a more.0 in
+      let two = given_column form tree b most.0 in
+      let three = given_column form tree c (and_parts _ _ most.1).0 in
       let lower = three_given s (table_of form tree) form.name at declared.listed outs (entry_at form a) (entry_at form b) (entry_at form c) budget last (one.0.0, one.0.1, (two.0.0, two.0.1, three.0)) one.1 two.1 three.1 (omega arith) in
       record { after = budget - 1 - 1 - 1 - 1 - 1 - 1 - 1 - 1 - 1 - 1 - 1; later = nothing; left = omega arith; tested = lower }
   lowered budget outs last (a ∷ b ∷ c ∷ d ∷ more) enough few known =
@@ -112,7 +105,9 @@ module _ (old new : State) (form : Form) (given text : List ℕ) (it : Selects f
 
   module _ (values : Row) (rows : List Row) (shows : Shown text values old new rows) where
     read : IsPermutation (map (at_places (places_of table (entries form (all_places form)))) (filter (passes_all values asked) (old.now.trees has.tree))) rows
-    read = answer_lists table (entries form (all_places form)) (entries form (first_of form.keys)) asked old.now.trees values rows (answers schema form has.at has.tree has.declared given text it old new refl values rows shows)
+    read =
+        let a = answers schema form has.at has.tree has.declared given text it old new refl values rows shows in
+        rw a.shown (answer_lists table (entries form (all_places form)) (entries form (first_of form.keys)) asked no_limit old.now.trees values rows a)
 
     -- what is shown are the rows with the given values
     pub selected : IsDatabase old.now → length values ≡ length given → list_all (λ v. not (is_null v)) values ≡ true → Finds old.now form given values rows

@@ -1,7 +1,7 @@
 -- A stored row as it is shown: its columns, those that it lacks being NULL.
-use Rattle.std.proofs.Common.{◌≡◌, refl, ap, ap₂, ◌∙◌, List, ℕ, zero, suc, ◌+◌, ◌≤◌, Bool, true, false, [], ◌∷◌, map, drop, length, None, arith}
-use Rattle.std.proofs.lemmas.Bool.{and_parts}
-use Rattle.std.specs.Prelude.{filter, if◌then◌else◌}
+use Rattle.std.proofs.Common.{◌≡◌, refl, ap, ap₂, ◌∙◌, List, ℕ, zero, suc, ◌+◌, ◌≤◌, Bool, true, [], ◌∷◌, map, drop, length, None, arith, inl, inr}
+use Rattle.std.proofs.lemmas.Bool.{and_parts, cases_Bool}
+use Rattle.std.specs.Prelude.{filter}
 use Rattle.std.specs.List.{AllByRecursion, range_with_len}
 use Rattle.sqlite_value.specs.declared.value.Value.{Value}
 use Rattle.sqlite_value.specs.declared.value.Value.TheVariants.{Null}
@@ -49,10 +49,8 @@ pub shown_rows : (s : Schema) (db : Trees) (t : Table) → t.key ≡ None → (t
 shown_rows s db t key test kept same [] typed = refl
 shown_rows s db t key test kept same (r ∷ rs) typed =
     let fits : are_typed t.key 0 t.columns (drop 1 r) ≡ true = (and_parts (are_typed t.key 0 t.columns (drop 1 r)) (has_computed t r) typed.0).0 in
-    rw (same r) (go (kept (padded (length t.columns) (drop 1 r))) (shown_row t.columns r (rw key at fits)) (shown_rows s db t key test kept same rs typed.1))
-  where
-    go : (b : Bool) → at_places (range_with_len 1 (length t.columns)) r ≡ padded (length t.columns) (drop 1 r)
-        → map (at_places (range_with_len 1 (length t.columns))) (filter test rs) ≡ filter kept (map (λ r. padded (length t.columns) (drop 1 r)) rs)
-        → map (at_places (range_with_len 1 (length t.columns))) (if b then r ∷ filter test rs else filter test rs) ≡ (if b then padded (length t.columns) (drop 1 r) ∷ filter kept (map (λ r. padded (length t.columns) (drop 1 r)) rs) else filter kept (map (λ r. padded (length t.columns) (drop 1 r)) rs))
-    go true this rest = ap₂ (λ x xs. x ∷ xs) this rest
-    go false this rest = rest
+    let more = shown_rows s db t key test kept same rs typed.1 in
+    elim (cases_Bool (kept (padded (length t.columns) (drop 1 r)))) [
+      | inl is ↦ rw (same r, is) (ap₂ (λ x xs. x ∷ xs) (shown_row t.columns r (rw key at fits)) more)
+      | inr isnt ↦ rw (same r, isnt) more
+    ]

@@ -7,7 +7,7 @@ use Rattle.std.specs.BTreeMap as tree
 use Rattle.std.specs.BTreeSet as sorted
 use Rattle.std.specs.BTreeMap.{BTreeMap, get}
 use Rattle.std.specs.BTreeSet.{BTreeSet, contains}
-use Rattle.std.proofs.lemmas.Bool.{false≢true}
+use Rattle.std.proofs.lemmas.Bool.{false≢true, and_parts, and_from}
 use Rattle.std.proofs.lemmas.List.Folds.{Any-from_list_any, list_any-from_Any}
 use Rattle.std.proofs.lemmas.Map.Views.{tells_apart}
 use Rattle.plant_trace.specs.Nodes.{node_cmp, node_eq, node_ties}
@@ -18,7 +18,8 @@ use Rattle.plant_trace.specs.declared.direction.Direction.{Direction}
 use Rattle.plant_trace.specs.declared.direction.Direction.TheVariants.{Forward, Back}
 use Rattle.plant_trace.specs.declared.node.Node.{Node}
 use Rattle.plant_trace.proofs.NodeLemmas.{node_exact, node_eq_exact, node_eq_itself}
-use Rattle.plant_trace.proofs.Sets.{has_iff, none}
+use Rattle.plant_trace.proofs.Sets.{has_iff, none_in}
+use Rattle.std.proofs.Math.Bool.{or-false}
 
 -- ---- a link
 or_last : (b c : Bool) → cond b true c ≡ (c || b)
@@ -26,10 +27,6 @@ or_last true true = refl
 or_last true false = refl
 or_last false true = refl
 or_last false false = refl
-
-or_false : (c : Bool) → c ≡ (c || false)
-or_false true = refl
-or_false false = refl
 
 -- an empty set stands for no set
 default_has : (o : Option (BTreeSet Node)) (empty : BTreeSet Node) → empty.keys ≡ [] → (y : Node) → contains node_cmp (unwrap_or o empty) y ≡ set_has o y
@@ -52,7 +49,7 @@ module _ (old mid new : BTreeMap Node (BTreeSet Node)) (near far : Node) (empty 
   linked_at x y false e =
       let left : get node_cmp mid x ≡ get node_cmp old x = taken.0 x ∙ ap (λ (c : Bool). cond c None (get node_cmp old x)) e in
       let found : get node_cmp new x ≡ get node_cmp old x = put.0 x ∙ (ap (λ (c : Bool). cond c (Some set') (get node_cmp mid x)) e ∙ left) in
-      ap (λ (o : Option (BTreeSet Node)). set_has o y) found ∙ or_false (index_has old x y)
+      ap (λ (o : Option (BTreeSet Node)). set_has o y) found ∙ sym (or-false (index_has old x y))
 
   pub linked : Links old new near far
   linked x y = linked_at x y (is_eq (node_cmp near x)) refl ∙ ap (λ (c : Bool). index_has old x y || (c && node_eq far y)) (sym (node_ties near x))
@@ -70,27 +67,18 @@ module _ (index : BTreeMap Node (BTreeSet Node)) (x : Node) where
   unfolding IsStrictlySortedBy
   listed_none e = record {
     ascending = tt;
-    only = λ y h. absurd (none y h);
+    only = λ y h. absurd (none_in y h);
     all = λ y h. absurd (false≢true (sym (ap (λ (o : Option (BTreeSet Node)). set_has o y) e) ∙ h));
   }
 
 -- ---- against the pairs
-both_true : (a b : Bool) → (a && b) ≡ true → (a ≡ true) × (b ≡ true)
-both_true true true h = (refl, refl)
-both_true true false h = absurd (false≢true h)
-both_true false b h = absurd (false≢true h)
-
-true_both : (a b : Bool) → a ≡ true → b ≡ true → (a && b) ≡ true
-true_both true b h k = k
-true_both false b h k = absurd (false≢true h)
-
 is_pair_exact : (x y : Node) (p : Node × Node) → is_pair x y p ≡ true → p ≡ (x, y)
 is_pair_exact x y p h =
-    let b = both_true (node_eq p.0 x) (node_eq p.1 y) h in
+    let b = and_parts (node_eq p.0 x) (node_eq p.1 y) h in
     ap (λ (a : Node). (a, p.1)) (node_eq_exact p.0 x b.0) ∙ ap (λ (a : Node). (x, a)) (node_eq_exact p.1 y b.1)
 
 is_pair_itself : (x y : Node) → is_pair x y (x, y) ≡ true
-is_pair_itself x y = true_both (node_eq x x) (node_eq y y) (node_eq_itself x x refl) (node_eq_itself y y refl)
+is_pair_itself x y = and_from (node_eq x x) (node_eq y y) (node_eq_itself x x refl) (node_eq_itself y y refl)
 
 turned_twice : (d : Direction) (p : Node × Node) → turned d (turned d p) ≡ p
 turned_twice Forward p = refl

@@ -1,5 +1,5 @@
 -- Where pairs lead is the least relation.
-use Rattle.std.proofs.Common.{◌≡◌, true, List, [], ◌∷◌, sym, subst, ap, inl, inr, ◌⊎◌, ⊎_elim, refl, arith}
+use Rattle.std.proofs.Common.{◌≡◌, true, List, [], ◌∷◌, sym, subst, ap, inl, inr, ◌⊎◌, ⊎_elim, refl}
 use Rattle.std.specs.Prelude.{◌&&◌, ◌||◌, Contains}
 use Rattle.std.proofs.lemmas.Bool.{false≢true, or_cases, or_left, or_right, and_from, and_parts}
 use Rattle.std.proofs.lemmas.List.Elements.{Contains-append_cases, Contains-append_left, Contains-append_right, Contains-push, Contains-push_cases}
@@ -9,9 +9,7 @@ use Rattle.plant_trace.specs.declared.node.Node.{Node}
 use Rattle.plant_trace.proofs.NodeLemmas.{node_eq_exact, node_eq_itself}
 use Rattle.plant_trace.proofs.Searching.{before}
 use Rattle.plant_trace.proofs.Growing.{UpTo, here, on, farther, first_edge, joined}
-
-pub none_in : {X : Type 0} (x : X) → Contains [] x → ⊥
-none_in x e = omega (arith, e.1)
+pub use Rattle.plant_trace.proofs.Sets.{none_in}
 
 pub first_in : {X : Type 0} (y : X) (xs : List X) → Contains (y ∷ xs) y
 first_in y xs = Contains-append_left (y ∷ []) xs y (Contains-push [] y)

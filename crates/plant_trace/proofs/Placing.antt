@@ -13,7 +13,7 @@ use Rattle.plant_trace.specs.Reach.{IsNext, Lists}
 use Rattle.plant_trace.specs.declared.direction.Direction.TheVariants.{Back}
 use Rattle.plant_trace.specs.declared.node.Node.{Node}
 use Rattle.plant_trace.proofs.NodeLemmas.{node_exact}
-use Rattle.plant_trace.proofs.Sets.{none}
+use Rattle.plant_trace.proofs.Sets.{none_in}
 
 -- ---- lists that grow
 
@@ -70,7 +70,7 @@ module _ (xs : List Node) (old new : BTreeMap Node ℕ) (x : Node) (put : Update
 
 pub places_none : (positions : BTreeMap Node ℕ) → IsEmpty positions → ArePlaces [] positions
 places_none positions e = record {
-  found = λ x h. absurd (none x h);
+  found = λ x h. absurd (none_in x h);
   there = λ x n h. let gone = rw e at h in absurd cc;
 }
 

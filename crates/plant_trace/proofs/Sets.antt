@@ -15,11 +15,8 @@ use Rattle.plant_trace.proofs.NodeLemmas.{node_exact}
 pub has_iff : (s : BTreeSet Node) (k : Node) → IsTrue (contains node_cmp s k) ↔ Contains s.keys k
 has_iff = btree_set_contains_iff node_total node_exact
 
-pub none : (y : Node) → Contains [] y → ⊥
-none y h = omega (arith, h.1)
-
-pub Adds-none : (old : List Node) → Adds [] old old
-Adds-none old = record { keeps = λ y h. h; takes = λ y h. absurd (none y h); only = λ y h. inl h; longer = omega arith; still = λ _. refl }
+pub none_in : {X : Type 0} (x : X) → Contains [] x → ⊥
+none_in x e = omega (arith, e.1)
 
 cond_split : (b c : Bool) → cond b true c ≡ true → (b ≡ true) ⊎ (c ≡ true)
 cond_split true c h = inl refl

@@ -59,10 +59,7 @@ unconverted : (which : CompareOp) (k : Kind) (how : Collation) (p m : ℕ)
     → op2 (by.Compare which how) (converted (of_kind k) affinity.None (col 1 (suc p))) (converted affinity.None (of_kind k) (col 0 m)) ≡ op2 (by.Compare which how) (col 1 (suc p)) (col 0 m)
 unfolding converted may_be_text spelled
 unconverted which kind.Integer how p m = refl
-unconverted which kind.Real how p m = refl
-unconverted which kind.Text how p m = refl
-unconverted which kind.Blob how p m = refl
-unconverted which kind.Any how p m = refl
+unconverted which _ how p m = refl
 
 module _ (s : Schema) (table : Table) (name : Name) (at : ℕ) (is : slice_get s.tables at ≡ Some table) where
   no_affinity : (outs : List Output) (m : ℕ) → affinity_of (context_of s name at outs false) (col 0 m) ≡ affinity.None

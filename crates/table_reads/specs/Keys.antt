@@ -6,25 +6,19 @@ use Rattle.std.specs.declared.cmp.Ordering.{Ordering}
 use Rattle.std.specs.declared.cmp.Ordering.TheVariants.{Equal}
 use Rattle.sqlite.specs.Order.{Row, column}
 use Rattle.sqlite.specs.declared.types.Value.{Value}
-use Rattle.sqlite.specs.declared.types.Value.TheVariants.{Null, Int, Real, Text, Blob}
+use Rattle.sqlite.specs.declared.types.Value.TheVariants.{Null, Int, Text}
 use Rattle.table_forms.specs.Forms.{Form}
 use Rattle.table_reads.specs.Selects.{first_of}
 
 -- the number of a value, and 0 where it is none
 abbrev pub number_of : Value → ℤ
-number_of Null = pos 0
 number_of (Int n) = n
-number_of (Real x) = pos 0
-number_of (Text bytes) = pos 0
-number_of (Blob bytes) = pos 0
+number_of _ = pos 0
 
 -- its text, and the empty one where it is none
 abbrev pub text_of : Value → List ℕ
-text_of Null = []
-text_of (Int n) = []
-text_of (Real x) = []
 text_of (Text bytes) = bytes
-text_of (Blob bytes) = []
+text_of _ = []
 
 -- numbers first, then texts by their bytes
 abbrev pub value_order : Value → Value → Ordering

@@ -1,5 +1,5 @@
 -- Which rows the query of an update of one row finds.
-use Rattle.std.proofs.Common.{◌≡◌, ◌⊎◌, ap₂, inl, inr, ℕ, ℤ, List, [], ◌∷◌, ◌++◌, map, flat_map, cond, Bool, true, false, None, refl, sym, ap, subst, ◌∙◌, is_eq, IsPermutation}
+use Rattle.std.proofs.Common.{◌≡◌, ◌⊎◌, ap₂, inl, inr, ℕ, ℤ, List, [], ◌∷◌, map, flat_map, cond, Bool, true, false, None, refl, sym, ap, subst, ◌∙◌, is_eq, IsPermutation}
 use Rattle.std.specs.List.{list_all}
 use Rattle.std.proofs.lemmas.Bool.{and_parts, cases_Bool}
 use Rattle.std.proofs.lemmas.Cmp.{tied_itself}
@@ -30,13 +30,12 @@ use Rattle.table_forms.proofs.Conflicts.{ints_apart, is_equal}
 
 has_matched : {X Y : Type 0} (p : X → Bool) (f : X → Y) (xs : List X) (y : Y) → Has (flat_map (λ x. cond (p x) (f x ∷ []) []) xs) y → (x : X) × Has xs x × (p x ≡ true) × (y ≡ f x)
 has_matched p f [] y h = absurd h
-has_matched {X} {Y} p f (x ∷ xs) y h = go (p x) refl h (has_matched p f xs y)
-  where
-    go : (b : Bool) → p x ≡ b → Has (cond b (f x ∷ []) [] ++ flat_map (λ z. cond (p z) (f z ∷ []) []) xs) y
-        → (Has (flat_map (λ z. cond (p z) (f z ∷ []) []) xs) y → (z : X) × Has xs z × (p z ≡ true) × (y ≡ f z)) → (z : X) × Has (x ∷ xs) z × (p z ≡ true) × (y ≡ f z)
-    go true is (inl same) later = (x, inl refl, is, same)
-    go true is (inr there) later = let r = later there in (r.0, inr r.1, r.2, r.3)
-    go false is there later = let r = later there in (r.0, inr r.1, r.2, r.3)
+has_matched p f (x ∷ xs) y h = elim (cases_Bool (p x)) [
+  | inl is ↦
+      let here : (y ≡ f x) ⊎ Has (flat_map (λ z. cond (p z) (f z ∷ []) []) xs) y = rw is at h in
+      elim here [ inl same ↦ (x, inl refl, is, same) | inr there ↦ let r = has_matched p f xs y there in (r.0, inr r.1, r.2, r.3) ]
+  | inr isnt ↦ let r = has_matched p f xs y (rw isnt at h) in (r.0, inr r.1, r.2, r.3)
+]
 
 matched_has : {X Y : Type 0} (p : X → Bool) (f : X → Y) (xs : List X) (x : X) → Has xs x → p x ≡ true → Has (flat_map (λ z. cond (p z) (f z ∷ []) []) xs) (f x)
 matched_has p f [] x h passes = absurd h

@@ -11,15 +11,7 @@ use Rattle.plant_view.specs.Genealogy.{batch_by}
 use Rattle.plant_tables_columns.specs.declared.booked.MovementSort.{MovementSort}
 use Rattle.plant_tables_columns.specs.declared.booked.MovementSort.TheVariants as sort
 use Rattle.plant_tables_columns.specs.declared.booked.BookedRow.{BookedRow}
-use Rattle.plant_tables_columns.proofs.Options.{mapped, some_same, where_true}
-
-no_id : (o : Option (List ℕ)) → is_none o ≡ true → o ≡ None
-no_id None h = refl
-no_id (Some x) h = absurd (cc)
-
-no_number : (o : Option ℕ) → is_none o ≡ true → o ≡ None
-no_number None h = refl
-no_number (Some x) h = absurd (cc)
+use Rattle.plant_tables_columns.proofs.Options.{mapped, some_same, where_true, is_nothing}
 
 number_zero : (o : Option ℕ) → is_zero o ≡ true → o ≡ Some 0
 number_zero None h = absurd (cc)
@@ -39,25 +31,25 @@ pub nothing_named : (r : BookedRow) → names_nothing r ≡ true → Names r Non
 nothing_named r h =
     let outer = and_parts (is_none r.lot2 && is_none r.sub2) (is_none r.batch) h in
     let inner = and_parts (is_none r.lot2) (is_none r.sub2) outer.0 in
-    record { other_lot = no_id r.lot2 inner.0; other_sub = no_number r.sub2 inner.1; its_batch = no_id r.batch outer.1 }
+    record { other_lot = is_nothing r.lot2 inner.0; other_sub = is_nothing r.sub2 inner.1; its_batch = is_nothing r.batch outer.1 }
 
 pub one_batch : (r : BookedRow) (batch : List ℕ) → batch_named r ≡ Some batch → Names r None None (Some batch)
 one_batch r batch h =
     let parts = where_true (is_none r.lot2 && is_none r.sub2) r.batch batch h in
     let inner = and_parts (is_none r.lot2) (is_none r.sub2) parts.0 in
-    record { other_lot = no_id r.lot2 inner.0; other_sub = no_number r.sub2 inner.1; its_batch = parts.1 }
+    record { other_lot = is_nothing r.lot2 inner.0; other_sub = is_nothing r.sub2 inner.1; its_batch = parts.1 }
 
 pub one_lot : (r : BookedRow) (to : List ℕ) → lot_named r ≡ Some to → Names r (Some to) (Some 0) None
 one_lot r to h =
     let parts = where_true (is_zero r.sub2 && is_none r.batch) r.lot2 to h in
     let inner = and_parts (is_zero r.sub2) (is_none r.batch) parts.0 in
-    record { other_lot = parts.1; other_sub = number_zero r.sub2 inner.0; its_batch = no_id r.batch inner.1 }
+    record { other_lot = parts.1; other_sub = number_zero r.sub2 inner.0; its_batch = is_nothing r.batch inner.1 }
 
 pub one_sublot : (r : BookedRow) (to : ℕ) → sublot_named r ≡ Some to → Names r (Some r.lot) (Some to) None
 one_sublot r to h =
     let parts = where_true (is_lot r.lot r.lot2 && is_none r.batch) r.sub2 to h in
     let inner = and_parts (is_lot r.lot r.lot2) (is_none r.batch) parts.0 in
-    record { other_lot = own_lot r.lot r.lot2 inner.0; other_sub = parts.1; its_batch = no_id r.batch inner.1 }
+    record { other_lot = own_lot r.lot r.lot2 inner.0; other_sub = parts.1; its_batch = is_nothing r.batch inner.1 }
 
 -- the row names what this kind asks for
 pub record FitsKind (s : MovementSort) (r : BookedRow) (k : MovementKind) : Type 0 where

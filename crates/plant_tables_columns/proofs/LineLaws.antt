@@ -1,5 +1,5 @@
 -- What the columns of a line keep.
-use Rattle.std.proofs.Common.{◌≡◌, refl, ap, ◌∙◌, subst, ℕ, suc, ◌+◌, pos, List, [], ◌∷◌, length, true, ◌==◌, ◌&&◌, Option, Some, eqb-true, arith}
+use Rattle.std.proofs.Common.{◌≡◌, refl, sym, ap, ◌∙◌, subst, ℕ, suc, ◌+◌, pos, List, [], ◌∷◌, length, true, ◌==◌, ◌&&◌, Option, Some, eqb-true, arith}
 use Rattle.std.proofs.lemmas.Bool.{and_parts}
 use Rattle.sqlite.specs.declared.types.Value.{Value}
 use Rattle.sqlite.specs.declared.types.Value.TheVariants.{Null, Int, Real, Text, Blob}
@@ -13,7 +13,7 @@ use Rattle.table_forms.specs.Rows.{fits_columns}
 use Rattle.plant_tables_columns.specs.Columns.{Kind}
 use Rattle.plant_tables_columns.specs.Kinds.{number}
 use Rattle.plant_tables_columns.specs.Reading.{is_null, is_empty, is_zero, id_from, text_from, amount_from}
-use Rattle.plant_tables_columns.specs.Naming.{all_line_sorts, line_sort_from, line_sort_number, line_sort_numbered}
+use Rattle.plant_tables_columns.specs.Naming.{all_line_sorts, line_sort_from, line_sort_number}
 use Rattle.plant_tables_columns.specs.TableColumns.{columns_of_line, material_from, has_no_material, parameter_from, phase_from, line_of_sort, line_from, line_columns}
 use Rattle.plant_tables_columns.specs.declared.line.LineSort.{LineSort}
 use Rattle.plant_tables_columns.specs.declared.line.LineSort.TheVariants as line_sort
@@ -27,7 +27,7 @@ abbrev line_sorts : Kind LineSort
 line_sorts = record { declared = integer; stored = λ s. number (line_sort_number s); read = line_sort_from }
 
 line_sort_kind : IsKind line_sorts Any Any
-unfolding line_sort_from line_sort_numbered
+unfolding line_sort_from
 line_sort_kind = numbered_kind line_sort_number all_line_sorts line_sort_own
 
 no_bytes : (xs : List ℕ) → (length xs == 0) ≡ true → xs ≡ []
@@ -137,21 +137,6 @@ phase_again : (unit_procedure operation phase : List ℕ) → HasLineValues (lin
 unfolding phase_from has_no_material is_zero
 phase_again unit_procedure operation phase good = rw (id_kind.again unit_procedure good.0 tt, id_kind.again operation good.1 tt, id_kind.again phase good.2 tt) refl
 
--- where six values stand, they are the line's columns
-six : (row : Row) (at : ℕ) (a b c d e f : Value) (o : Option RecipeLine) → StandFrom row at (a ∷ b ∷ c ∷ d ∷ e ∷ f ∷ []) → line_from a b c d e f ≡ o → line_columns.read row at ≡ o
-six row at a b c d e f o h is =
-    let n1 : suc at ≡ at + 1 = omega arith in
-    let n2 : suc (suc at) ≡ at + 2 = omega arith in
-    let n3 : suc (suc (suc at)) ≡ at + 3 = omega arith in
-    let n4 : suc (suc (suc (suc at))) ≡ at + 4 = omega arith in
-    let n5 : suc (suc (suc (suc (suc at)))) ≡ at + 5 = omega arith in
-    let c1 : column row (at + 1) ≡ b = subst (λ k. column row k ≡ b) n1 h.1.0 in
-    let c2 : column row (at + 2) ≡ c = subst (λ k. column row k ≡ c) n2 h.1.1.0 in
-    let c3 : column row (at + 3) ≡ d = subst (λ k. column row k ≡ d) n3 h.1.1.1.0 in
-    let c4 : column row (at + 4) ≡ e = subst (λ k. column row k ≡ e) n4 h.1.1.1.1.0 in
-    let c5 : column row (at + 5) ≡ f = subst (λ k. column row k ≡ f) n5 h.1.1.1.1.1.0 in
-    (λ i. line_from (h.0 i) (c1 i) (c2 i) (c3 i) (c4 i) (c5 i)) ∙ is
-
 -- six columns stand where they are
 six_stand : (row : Row) (at : ℕ) → StandFrom row at (column row at ∷ column row (at + 1) ∷ column row (at + 2) ∷ column row (at + 3) ∷ column row (at + 4) ∷ column row (at + 5) ∷ [])
 six_stand row at =
@@ -161,6 +146,12 @@ six_stand row at =
     let n4 : suc (suc (suc (suc at))) ≡ at + 4 = omega arith in
     let n5 : suc (suc (suc (suc (suc at)))) ≡ at + 5 = omega arith in
     (refl, (ap (column row) n1, (ap (column row) n2, (ap (column row) n3, (ap (column row) n4, (ap (column row) n5, tt))))))
+
+-- where six values stand, they are the line's columns
+six : (row : Row) (at : ℕ) (a b c d e f : Value) (o : Option RecipeLine) → StandFrom row at (a ∷ b ∷ c ∷ d ∷ e ∷ f ∷ []) → line_from a b c d e f ≡ o → line_columns.read row at ≡ o
+six row at a b c d e f o h is =
+    let n = six_stand row at in
+    (λ i. line_from (h.0 i) ((sym n.1.0 ∙ h.1.0) i) ((sym n.1.1.0 ∙ h.1.1.0) i) ((sym n.1.1.1.0 ∙ h.1.1.1.0) i) ((sym n.1.1.1.1.0 ∙ h.1.1.1.1.0) i) ((sym n.1.1.1.1.1.0 ∙ h.1.1.1.1.1.0) i)) ∙ is
 
 line_fits : (l : RecipeLine) → fits_columns line_columns.declared (columns_of_line l) ≡ true
 line_fits (line.In d n) = refl

@@ -24,7 +24,7 @@ use Rattle.sqlite.specs.declared.types.Value.TheVariants.{Text}
 use Rattle.table_forms.specs.Forms.{integer, text}
 use Rattle.plant_tables_columns.specs.Kinds.{number}
 use Rattle.plant_tables_columns.specs.Reading.{number_in, by_text, by_number}
-use Rattle.plant_tables_columns.specs.Naming.{event_name, event_phase, recipe_state_named, job_state_named, batch_state_named, recall_state_name, recall_state_named, all_words, word_named, plain_event, event_named, line_sort_number, line_sort_numbered, movement_sort_number, movement_sort_numbered, edge_kind_numbered, mark_kind_numbered}
+use Rattle.plant_tables_columns.specs.Naming.{named, numbered, event_name, event_phase, all_recipe_states, all_job_states, all_batch_states, recall_state_name, all_recall_states, all_words, word_named, plain_event, event_named, line_sort_number, all_line_sorts, movement_sort_number, all_movement_sorts, all_edge_kinds, all_mark_kinds}
 use Rattle.plant_base.specs.RowValues.{HasPhaseNumber}
 use Rattle.plant_base.specs.Edges.{edge_kind_number}
 use Rattle.plant_base.specs.Recalls.{mark_kind_number}
@@ -42,47 +42,43 @@ use Rattle.plant_tables_columns.proofs.Options.{bound, mapped, some_same}
 use Rattle.plant_tables_columns.proofs.KindLaws.{IsKind, Any, text_kind, integer_kind, number_back, number_keeps, number_again}
 
 -- what was found by its name has it
-named_back : {A : Type 0} (name : A → List ℕ) (all : List A) (bytes : List ℕ) (a : A) → find (λ x. same (name x) bytes) all ≡ Some a → bytes ≡ name a
+named_back : {A : Type 0} (name : A → List ℕ) (all : List A) (bytes : List ℕ) (a : A) → named name all bytes ≡ Some a → bytes ≡ name a
 named_back name all bytes a h = sym (same_id (name a) bytes (found_passes (λ x. same (name x) bytes) all a h))
 
 pub int_same : (x y : ℤ) → int_eq x y ≡ true → x ≡ y
 int_same x y h = (Decides-int_eq x y).0 h
 
-numbered_back : {A : Type 0} (number : A → ℕ) (all : List A) (z : ℤ) (a : A) → find (λ x. int_eq (pos (number x)) z) all ≡ Some a → z ≡ pos (number a)
+numbered_back : {A : Type 0} (number : A → ℕ) (all : List A) (z : ℤ) (a : A) → numbered number all z ≡ Some a → z ≡ pos (number a)
 numbered_back number all z a h = sym (int_same (pos (number a)) z (found_passes (λ x. int_eq (pos (number x)) z) all a h))
 
 -- what a list tells apart by names, each of which finds its own
-pub named_kind : {A : Type 0} (name : A → List ℕ) (all : List A) → ((a : A) → find (λ x. same (name x) (name a)) all ≡ Some a)
-    → IsKind (record { declared = text; stored = λ a. Text (name a); read = by_text (λ bytes. find (λ x. same (name x) bytes) all) }) Any Any
-named_kind name all own = text_kind (λ bytes. find (λ x. same (name x) bytes) all) name Any (named_back name all) (λ a _. own a) (λ bytes a h. tt)
+pub named_kind : {A : Type 0} (name : A → List ℕ) (all : List A) → ((a : A) → named name all (name a) ≡ Some a)
+    → IsKind (record { declared = text; stored = λ a. Text (name a); read = by_text (named name all) }) Any Any
+named_kind name all own = text_kind (named name all) name Any (named_back name all) (λ a _. own a) (λ bytes a h. tt)
 
 -- and by numbers
-pub numbered_kind : {A : Type 0} (number_of : A → ℕ) (all : List A) → ((a : A) → find (λ x. int_eq (pos (number_of x)) (pos (number_of a))) all ≡ Some a)
-    → IsKind (record { declared = integer; stored = λ a. number (number_of a); read = by_number (λ z. find (λ x. int_eq (pos (number_of x)) z) all) }) Any Any
+pub numbered_kind : {A : Type 0} (number_of : A → ℕ) (all : List A) → ((a : A) → numbered number_of all (pos (number_of a)) ≡ Some a)
+    → IsKind (record { declared = integer; stored = λ a. number (number_of a); read = by_number (numbered number_of all) }) Any Any
 numbered_kind number_of all own =
-    integer_kind (λ z. find (λ x. int_eq (pos (number_of x)) z) all) (λ a. pos (number_of a)) Any Any (λ z a h _. numbered_back number_of all z a h) (λ a _ _. own a) (λ z a h. tt)
+    integer_kind (numbered number_of all) (λ a. pos (number_of a)) Any Any (λ z a h _. numbered_back number_of all z a h) (λ a _ _. own a) (λ z a h. tt)
 
 -- ---- states
 
-pub recipe_state_own : (s : RecipeState) → recipe_state_named (recipe_state_name s) ≡ Some s
-unfolding recipe_state_named
+pub recipe_state_own : (s : RecipeState) → named recipe_state_name all_recipe_states (recipe_state_name s) ≡ Some s
 recipe_state_own recipe_state.Draft = refl
 recipe_state_own _ = refl
 
-pub job_state_own : (s : JobState) → job_state_named (job_state_name s) ≡ Some s
-unfolding job_state_named
+pub job_state_own : (s : JobState) → named job_state_name all_job_states (job_state_name s) ≡ Some s
 job_state_own job_state.Open = refl
 job_state_own _ = refl
 
-pub batch_state_own : (s : BatchState) → batch_state_named (batch_state_name s) ≡ Some s
-unfolding batch_state_named
+pub batch_state_own : (s : BatchState) → named batch_state_name all_batch_states (batch_state_name s) ≡ Some s
 batch_state_own batch_state.Idle = refl
 batch_state_own _ = refl
 
-pub recall_state_own : (s : RecallState) → recall_state_named (recall_state_name s) ≡ Some s
-unfolding recall_state_named
+pub recall_state_own : (s : RecallState) → named recall_state_name all_recall_states (recall_state_name s) ≡ Some s
 recall_state_own recall_state.Open = refl
-recall_state_own recall_state.Lifted = refl
+recall_state_own _ = refl
 
 -- ---- events
 
@@ -93,6 +89,7 @@ word_back bytes w h = named_back word_name all_words bytes w h
 pub record IsEventOf (name : List ℕ) (phase : ℤ) (e : Event) : Type 0 where
   pub is_named : name ≡ event_name e
   pub has_phase : phase ≡ pos (event_phase e)
+  pub has_number : HasPhaseNumber e
 
 no_phase : (z : ℤ) (n : ℕ) → number_in 0 0 z ≡ Some n → z ≡ pos 0
 no_phase z n h =
@@ -103,10 +100,10 @@ no_phase z n h =
 plain_back : (name : List ℕ) (phase : ℤ) (e : Event) → phase ≡ pos 0 → plain_event name ≡ Some e → IsEventOf name phase e
 unfolding plain_event
 plain_back name phase e zero h = elim (same name (codes "close")) as (λ b. same name (codes "close") ≡ b → (if b then Some event.Closed else option_map event.Moved (word_named name)) ≡ Some e → IsEventOf name phase e) [
-  | true ↦ λ t f. subst (IsEventOf name phase) (some_same _ _ f) (record { is_named = same_id name (codes "close") t; has_phase = zero })
+  | true ↦ λ t f. subst (IsEventOf name phase) (some_same _ _ f) (record { is_named = same_id name (codes "close") t; has_phase = zero; has_number = tt })
   | false ↦ λ t f.
       let read = mapped event.Moved (word_named name) e f in
-      subst (IsEventOf name phase) read.2 (record { is_named = word_back name read.0 read.1; has_phase = zero })
+      subst (IsEventOf name phase) read.2 (record { is_named = word_back name read.0 read.1; has_phase = zero; has_number = tt })
 ] refl h
 
 pub event_back : (name : List ℕ) (phase : ℤ) (e : Event) → event_named name phase ≡ Some e → IsEventOf name phase e
@@ -116,24 +113,14 @@ event_back name phase e h = go (same name (codes "phase")) refl h
     go : (b : Bool) → same name (codes "phase") ≡ b → (if b then option_map event.PhaseDone (number_in 1 greatest_phase phase) else option_and_then (λ none. plain_event name) (number_in 0 0 phase)) ≡ Some e → IsEventOf name phase e
     go true t f =
         let read = mapped event.PhaseDone (number_in 1 greatest_phase phase) e f in
-        subst (IsEventOf name phase) read.2 (record { is_named = same_id name (codes "phase") t; has_phase = number_back 1 greatest_phase phase read.0 read.1 })
+        subst (IsEventOf name phase) read.2 (record {
+          is_named = same_id name (codes "phase") t;
+          has_phase = number_back 1 greatest_phase phase read.0 read.1;
+          has_number = number_keeps 1 greatest_phase phase read.0 read.1;
+        })
     go false t f =
         let read = bound (number_in 0 0 phase) _ e f in
         plain_back name phase e (no_phase phase read.0 read.1) read.2
-
-plain_keeps : (name : List ℕ) (e : Event) → plain_event name ≡ Some e → HasPhaseNumber e
-unfolding plain_event
-plain_keeps name e h = elim (same name (codes "close")) as (λ b. (if b then Some event.Closed else option_map event.Moved (word_named name)) ≡ Some e → HasPhaseNumber e) [
-  | true ↦ λ f. subst HasPhaseNumber (some_same event.Closed e f) tt
-  | false ↦ λ f. let read = mapped event.Moved (word_named name) e f in subst HasPhaseNumber read.2 tt
-] h
-
-pub event_keeps : (name : List ℕ) (phase : ℤ) (e : Event) → event_named name phase ≡ Some e → HasPhaseNumber e
-unfolding event_named
-event_keeps name phase e h = elim (same name (codes "phase")) as (λ b. (if b then option_map event.PhaseDone (number_in 1 greatest_phase phase) else option_and_then (λ none. plain_event name) (number_in 0 0 phase)) ≡ Some e → HasPhaseNumber e) [
-  | true ↦ λ f. let read = mapped event.PhaseDone (number_in 1 greatest_phase phase) e f in subst HasPhaseNumber read.2 (number_keeps 1 greatest_phase phase read.0 read.1)
-  | false ↦ λ f. let read = bound (number_in 0 0 phase) (λ none. plain_event name) e f in plain_keeps name e read.2
-] h
 
 moved_own : (w : Word) → event_named (word_name w) (pos 0) ≡ Some (event.Moved w)
 unfolding event_named plain_event word_named number_in
@@ -148,22 +135,18 @@ event_own event.Closed good = refl
 
 -- ---- kinds
 
-pub line_sort_own : (s : LineSort) → line_sort_numbered (pos (line_sort_number s)) ≡ Some s
-unfolding line_sort_numbered
+pub line_sort_own : (s : LineSort) → numbered line_sort_number all_line_sorts (pos (line_sort_number s)) ≡ Some s
 line_sort_own line_sort.In = refl
 line_sort_own _ = refl
 
-pub movement_sort_own : (s : MovementSort) → movement_sort_numbered (pos (movement_sort_number s)) ≡ Some s
-unfolding movement_sort_numbered
+pub movement_sort_own : (s : MovementSort) → numbered movement_sort_number all_movement_sorts (pos (movement_sort_number s)) ≡ Some s
 movement_sort_own movement_sort.Received = refl
 movement_sort_own _ = refl
 
-pub edge_kind_own : (k : EdgeKind) → edge_kind_numbered (pos (edge_kind_number k)) ≡ Some k
-unfolding edge_kind_numbered
+pub edge_kind_own : (k : EdgeKind) → numbered edge_kind_number all_edge_kinds (pos (edge_kind_number k)) ≡ Some k
 edge_kind_own edge_kind.LotToBatch = refl
 edge_kind_own _ = refl
 
-pub mark_kind_own : (k : MarkKind) → mark_kind_numbered (pos (mark_kind_number k)) ≡ Some k
-unfolding mark_kind_numbered
+pub mark_kind_own : (k : MarkKind) → numbered mark_kind_number all_mark_kinds (pos (mark_kind_number k)) ≡ Some k
 mark_kind_own mark_kind.Lot = refl
-mark_kind_own mark_kind.Batch = refl
+mark_kind_own _ = refl

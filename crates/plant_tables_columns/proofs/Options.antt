@@ -1,6 +1,6 @@
 -- Options, and values that obey a rule.
 use Rattle.std.proofs.Common.{◌≡◌, refl, subst, Bool, true, false, Option, Some, None, option_map}
-use Rattle.std.specs.Prelude.{if◌then◌else◌, option_and_then}
+use Rattle.std.specs.Prelude.{if◌then◌else◌, option_and_then, is_none}
 use Rattle.plant_base.specs.Values.{only}
 
 pub bound : {A B : Type 0} (o : Option A) (f : A → Option B) (y : B) → option_and_then f o ≡ Some y → (x : A) × (o ≡ Some x) × (f x ≡ Some y)
@@ -17,6 +17,10 @@ some_same x y h = cc
 pub where_true : {A : Type 0} (test : Bool) (o : Option A) (y : A) → (if test then o else None) ≡ Some y → (test ≡ true) × (o ≡ Some y)
 where_true true o y h = (refl, h)
 where_true false o y h = absurd (cc)
+
+pub is_nothing : {A : Type 0} (o : Option A) → is_none o ≡ true → o ≡ None
+is_nothing None h = refl
+is_nothing (Some x) h = absurd (cc)
 
 pub only_back : {A : Type 0} (obeys : A → Bool) (x y : A) → only obeys x ≡ Some y → (x ≡ y) × (obeys y ≡ true)
 only_back {A} obeys x y h = elim (obeys x) as (λ b. obeys x ≡ b → (if b then Some x else None) ≡ Some y → (x ≡ y) × (obeys y ≡ true)) [

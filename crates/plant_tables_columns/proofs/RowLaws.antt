@@ -1,7 +1,7 @@
 -- Table by table: what whole rows keep.
 use Rattle.std.proofs.Common.{◌≡◌, refl, ℕ, ◌≤◌, List, [], ◌∷◌, Option, Some, None, true, nat_le, arith}
 use Rattle.std.specs.Prelude.{IfSome}
-use Rattle.std.proofs.lemmas.Bool.{and_parts}
+use Rattle.std.proofs.lemmas.Bool.{and_parts, leb-true}
 use Rattle.std.proofs.lemmas.Bool.Decides.{nat_tests}
 use Rattle.std.specs.Char.{is_ascii}
 use Rattle.std.specs.List.{list_all}
@@ -129,14 +129,10 @@ mark_reads = reads mark_columns (in_words HasMarkValues Any (λ m g. record { re
 -- ---- lines that have a number, and movements
 
 number_high : (n : ℕ) → is_in 1 65535 n ≡ true → n ≤ 65535
-number_high n h =
-    let most : nat_le n 65535 ≡ true = (and_parts (nat_le 1 n) (nat_le n 65535) h).1 in
-    grind (arith, nat_tests)
+number_high n h = leb-true n 65535 (and_parts (nat_le 1 n) (nat_le n 65535) h).1
 
 pub number_low : (n : ℕ) → is_in 1 65535 n ≡ true → 1 ≤ n
-number_low n h =
-    let least : nat_le 1 n ≡ true = (and_parts (nat_le 1 n) (nat_le n 65535) h).0 in
-    grind (arith, nat_tests)
+number_low n h = leb-true 1 n (and_parts (nat_le 1 n) (nat_le n 65535) h).0
 
 pub master_line_again : (l : MasterLine) → HasMasterLineValues l → master_line_from (row_of_master_line l) ≡ Some l
 master_line_again l good = master_line_reads.again l (record { recipe = good.recipe; version = good.version; number = number_high l.number good.number; line = good.line }) (number_low l.number good.number)

@@ -8,11 +8,7 @@ use Rattle.plant_tables_columns.specs.Stated.{tells_no_lifting, lifting_told, li
 use Rattle.plant_tables_columns.specs.declared.recalls.RecallState.{RecallState}
 use Rattle.plant_tables_columns.specs.declared.recalls.RecallState.TheVariants as state
 use Rattle.plant_tables_columns.specs.declared.recalls.StatedRecall.{StatedRecall}
-use Rattle.plant_tables_columns.proofs.Options.{bound, mapped, some_same, where_true}
-
-is_nothing : {A : Type 0} (o : Option A) → is_none o ≡ true → o ≡ None
-is_nothing None h = refl
-is_nothing (Some x) h = absurd (cc)
+use Rattle.plant_tables_columns.proofs.Options.{bound, mapped, some_same, where_true, is_nothing}
 
 -- the row tells of this lifting, or of none
 record Tells (r : StatedRecall) (lifting : Option Lifting) : Type 0 where

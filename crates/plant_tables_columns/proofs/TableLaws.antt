@@ -1,7 +1,7 @@
 -- What the columns of rows and of their parts keep.
 use Rattle.std.proofs.Common.{◌≡◌, refl, ap, ap₂, ◌∙◌, subst, ℕ, suc, ◌+◌, ◌≤◌, ℤ, List, Bool, true, ◌&&◌, nat_le, Some, arith}
 use Rattle.std.specs.Prelude.{option_and_then}
-use Rattle.std.proofs.lemmas.Bool.{and_parts}
+use Rattle.std.proofs.lemmas.Bool.{and_from, and_parts}
 use Rattle.sqlite.specs.declared.types.Value.{Value}
 use Rattle.sqlite.specs.declared.types.Value.TheVariants.{Int, Text}
 use Rattle.sqlite.specs.Order.{Row, column}
@@ -19,45 +19,45 @@ use Rattle.plant_recipe.specs.Progress.{greatest_attempt}
 use Rattle.plant_view.specs.Production.{HasBatchValues, HasGoodOrder}
 use Rattle.plant_tables_columns.specs.Kinds.{number, recipe_states, job_states, batch_states, recall_states, movement_sorts, edge_kinds, mark_kinds}
 use Rattle.plant_tables_columns.specs.Reading.{text_in, integer_in}
-use Rattle.plant_tables_columns.specs.Naming.{all_recipe_states, all_job_states, all_batch_states, all_recall_states, all_movement_sorts, all_edge_kinds, all_mark_kinds, event_phase, recipe_state_named, recipe_state_from, job_state_named, job_state_from, batch_state_named, batch_state_from, recall_state_name, recall_state_named, recall_state_from, event_named, event_from, movement_sort_number, movement_sort_numbered, movement_sort_from, edge_kind_numbered, edge_kind_from, mark_kind_numbered, mark_kind_from}
+use Rattle.plant_tables_columns.specs.Naming.{all_recipe_states, all_job_states, all_batch_states, all_recall_states, all_movement_sorts, all_edge_kinds, all_mark_kinds, event_phase, recipe_state_from, job_state_from, batch_state_from, recall_state_name, recall_state_from, event_named, event_from, movement_sort_number, movement_sort_from, edge_kind_from, mark_kind_from}
 use Rattle.plant_tables_columns.specs.TableColumns.{event_columns, header_columns, master_line_columns, control_line_columns, order_columns, released_columns, batch_columns, booked_columns, stated_columns}
 use Rattle.plant_tables_columns.specs.Obeying.{HasBatchRowValues}
 use Rattle.plant_tables_columns.specs.declared.booked.BookedRow.{BookedRow}
 use Rattle.plant_tables_columns.specs.declared.recalls.StatedRecall.{StatedRecall}
 use Rattle.plant_tables_columns.proofs.Options.{bound}
 use Rattle.plant_tables_columns.proofs.KindLaws.{IsKind, Any, GoodOrNone, text_is, integer_is, id_kind, text_like, due_kind, number_kind, below_kind, line_number_kind, IsNumbered, flag_kind, optional_id_kind, optional_sublot_kind, optional_moment_kind, optional_text_kind}
-use Rattle.plant_tables_columns.proofs.NameLemmas.{named_kind, numbered_kind, recipe_state_own, job_state_own, batch_state_own, recall_state_own, event_back, event_own, event_keeps, movement_sort_own, edge_kind_own, mark_kind_own}
+use Rattle.plant_tables_columns.proofs.NameLemmas.{named_kind, numbered_kind, recipe_state_own, job_state_own, batch_state_own, recall_state_own, event_back, event_own, movement_sort_own, edge_kind_own, mark_kind_own}
 use Rattle.plant_tables_columns.proofs.LineLaws.{line_lawful}
 use Rattle.plant_tables_columns.proofs.ColumnLaws.{AreLawful, StandFrom, one_lawful, ◌⊕◌, made_lawful, in_words}
 
 -- ---- words
 
 pub recipe_state_kind : IsKind recipe_states Any Any
-unfolding recipe_state_from recipe_state_named
+unfolding recipe_state_from
 recipe_state_kind = named_kind recipe_state_name all_recipe_states recipe_state_own
 
 pub job_state_kind : IsKind job_states Any Any
-unfolding job_state_from job_state_named
+unfolding job_state_from
 job_state_kind = named_kind job_state_name all_job_states job_state_own
 
 batch_state_kind : IsKind batch_states Any Any
-unfolding batch_state_from batch_state_named
+unfolding batch_state_from
 batch_state_kind = named_kind batch_state_name all_batch_states batch_state_own
 
 recall_state_kind : IsKind recall_states Any Any
-unfolding recall_state_from recall_state_named
+unfolding recall_state_from
 recall_state_kind = named_kind recall_state_name all_recall_states recall_state_own
 
 movement_sort_kind : IsKind movement_sorts Any Any
-unfolding movement_sort_from movement_sort_numbered
+unfolding movement_sort_from
 movement_sort_kind = numbered_kind movement_sort_number all_movement_sorts movement_sort_own
 
 pub edge_kind_kind : IsKind edge_kinds Any Any
-unfolding edge_kind_from edge_kind_numbered
+unfolding edge_kind_from
 edge_kind_kind = numbered_kind edge_kind_number all_edge_kinds edge_kind_own
 
 pub mark_kind_kind : IsKind mark_kinds Any Any
-unfolding mark_kind_from mark_kind_numbered
+unfolding mark_kind_from
 mark_kind_kind = numbered_kind mark_kind_number all_mark_kinds mark_kind_own
 
 record IsEventOfBoth (v w : Value) (e : Event) : Type 0 where
@@ -87,7 +87,7 @@ event_lawful = record {
   fits = λ e. refl;
   back = λ row at e h _. event_back_whole row at e h;
   again = λ row at e h is _. let next : suc at ≡ at + 1 = omega arith in ap₂ event_from h.0 (subst (λ k. column row k ≡ number (event_phase e)) next h.1.0) ∙ event_own e is;
-  keeps = λ row at e h. let p = event_parts (column row at) (column row (at + 1)) e h in event_keeps p.name p.phase e p.says;
+  keeps = λ row at e h. let p = event_parts (column row at) (column row (at + 1)) e h in (event_back p.name p.phase e p.says).has_number;
 }
 
 -- ---- tables
@@ -132,12 +132,9 @@ control_line_lawful = in_words HasControlColumns (λ l. IsNumbered l.number) (λ
 
 -- ---- orders and batches
 
-both : (a b : Bool) → a ≡ true → b ≡ true → (a && b) ≡ true
-both a b h k = rw (h, k) refl
-
 pub order_lawful : AreLawful order_columns HasGoodOrder Any
 order_lawful = in_words HasGoodOrder Any
-    (λ o g. (record { order = g.0; recipe = g.1.0; size = g.1.1.1.0; due = g.1.1.1.1.0 }, both (is_version o.version) (is_priority o.priority) g.1.1.0 g.1.1.1.1.1))
+    (λ o g. (record { order = g.0; recipe = g.1.0; size = g.1.1.1.0; due = g.1.1.1.1.0 }, and_from (is_version o.version) (is_priority o.priority) g.1.1.0 g.1.1.1.1.1))
     (λ o h. let numbers = and_parts (is_version o.version) (is_priority o.priority) h.1 in (h.0.order, (h.0.recipe, (numbers.0, (h.0.size, (h.0.due, numbers.1))))))
     (λ o _. (tt, (tt, (tt, (tt, (tt, tt))))))
     (made_lawful _ _ (λ o. refl) (λ p. refl)

@@ -30,37 +30,35 @@ use Rattle.plant_tables_columns.specs.declared.booked.MovementSort.TheVariants a
 use Rattle.plant_tables_columns.specs.declared.recalls.RecallState.{RecallState}
 use Rattle.plant_tables_columns.specs.declared.recalls.RecallState.TheVariants as recall_state
 
+-- the first of these that has the name
+abbrev pub named : {A : Type 0} → (A → List ℕ) → List A → List ℕ → Option A
+named name_of all name = find (λ a. same (name_of a) name) all
+
+-- the first of these that has the number
+abbrev pub numbered : {A : Type 0} → (A → ℕ) → List A → ℤ → Option A
+numbered number_of all number = find (λ a. int_eq (pos (number_of a)) number) all
+
 -- ---- words
 
 abbrev pub all_recipe_states : List RecipeState
 all_recipe_states = recipe_state.Draft ∷ recipe_state.Approved ∷ recipe_state.Withdrawn ∷ []
 
--- the state of this name
-unfoldable pub recipe_state_named : List ℕ → Option RecipeState
-recipe_state_named name = find (λ s. same (recipe_state_name s) name) all_recipe_states
-
 unfoldable pub recipe_state_from : Value → Option RecipeState
-recipe_state_from = by_text recipe_state_named
+recipe_state_from = by_text (named recipe_state_name all_recipe_states)
 
 abbrev pub all_job_states : List JobState
 all_job_states = job_state.Open ∷ job_state.Cancelled ∷ job_state.Released ∷ job_state.Finished ∷ []
 
-unfoldable pub job_state_named : List ℕ → Option JobState
-job_state_named name = find (λ s. same (job_state_name s) name) all_job_states
-
 unfoldable pub job_state_from : Value → Option JobState
-job_state_from = by_text job_state_named
+job_state_from = by_text (named job_state_name all_job_states)
 
 abbrev pub all_batch_states : List BatchState
 all_batch_states =
     batch_state.Idle ∷ batch_state.Running ∷ batch_state.Complete ∷ batch_state.Pausing ∷ batch_state.Paused ∷ batch_state.Holding ∷ batch_state.Held
     ∷ batch_state.Restarting ∷ batch_state.Stopping ∷ batch_state.Stopped ∷ batch_state.Aborting ∷ batch_state.Aborted ∷ []
 
-unfoldable pub batch_state_named : List ℕ → Option BatchState
-batch_state_named name = find (λ s. same (batch_state_name s) name) all_batch_states
-
 unfoldable pub batch_state_from : Value → Option BatchState
-batch_state_from = by_text batch_state_named
+batch_state_from = by_text (named batch_state_name all_batch_states)
 
 abbrev pub recall_state_name : RecallState → List ℕ
 recall_state_name recall_state.Open = codes "open"
@@ -69,17 +67,14 @@ recall_state_name recall_state.Lifted = codes "lifted"
 abbrev pub all_recall_states : List RecallState
 all_recall_states = recall_state.Open ∷ recall_state.Lifted ∷ []
 
-unfoldable pub recall_state_named : List ℕ → Option RecallState
-recall_state_named name = find (λ s. same (recall_state_name s) name) all_recall_states
-
 unfoldable pub recall_state_from : Value → Option RecallState
-recall_state_from = by_text recall_state_named
+recall_state_from = by_text (named recall_state_name all_recall_states)
 
 abbrev pub all_words : List Word
 all_words = word.Start ∷ word.Stop ∷ word.Hold ∷ word.Restart ∷ word.Abort ∷ word.Reset ∷ word.Pause ∷ word.Resume ∷ word.Done ∷ []
 
 unfoldable pub word_named : List ℕ → Option Word
-word_named name = find (λ w. same (word_name w) name) all_words
+word_named = named word_name all_words
 
 -- ---- events
 
@@ -124,12 +119,9 @@ line_sort_number line_sort.Phase = 4
 abbrev pub all_line_sorts : List LineSort
 all_line_sorts = line_sort.In ∷ line_sort.Out ∷ line_sort.Parameter ∷ line_sort.Phase ∷ []
 
--- the kind of line of this number
-unfoldable pub line_sort_numbered : ℤ → Option LineSort
-line_sort_numbered number = find (λ s. int_eq (pos (line_sort_number s)) number) all_line_sorts
-
+-- the kind of line of the number
 unfoldable pub line_sort_from : Value → Option LineSort
-line_sort_from = by_number line_sort_numbered
+line_sort_from = by_number (numbered line_sort_number all_line_sorts)
 
 abbrev pub movement_sort_number : MovementSort → ℕ
 movement_sort_number movement_sort.Received = 1
@@ -144,29 +136,20 @@ abbrev pub all_movement_sorts : List MovementSort
 all_movement_sorts =
     movement_sort.Received ∷ movement_sort.Consumed ∷ movement_sort.Produced ∷ movement_sort.Scrapped ∷ movement_sort.Divided ∷ movement_sort.Split ∷ movement_sort.Merged ∷ []
 
--- the kind of movement of this number
-unfoldable pub movement_sort_numbered : ℤ → Option MovementSort
-movement_sort_numbered number = find (λ s. int_eq (pos (movement_sort_number s)) number) all_movement_sorts
-
+-- the kind of movement of the number
 unfoldable pub movement_sort_from : Value → Option MovementSort
-movement_sort_from = by_number movement_sort_numbered
+movement_sort_from = by_number (numbered movement_sort_number all_movement_sorts)
 
 abbrev pub all_edge_kinds : List EdgeKind
 all_edge_kinds = edge_kind.LotToBatch ∷ edge_kind.BatchToLot ∷ edge_kind.LotToLot ∷ []
 
--- the kind of edge of this number
-unfoldable pub edge_kind_numbered : ℤ → Option EdgeKind
-edge_kind_numbered number = find (λ k. int_eq (pos (edge_kind_number k)) number) all_edge_kinds
-
+-- the kind of edge of the number
 unfoldable pub edge_kind_from : Value → Option EdgeKind
-edge_kind_from = by_number edge_kind_numbered
+edge_kind_from = by_number (numbered edge_kind_number all_edge_kinds)
 
 abbrev pub all_mark_kinds : List MarkKind
 all_mark_kinds = mark_kind.Lot ∷ mark_kind.Batch ∷ []
 
--- the kind of node of this number
-unfoldable pub mark_kind_numbered : ℤ → Option MarkKind
-mark_kind_numbered number = find (λ k. int_eq (pos (mark_kind_number k)) number) all_mark_kinds
-
+-- the kind of node of the number
 unfoldable pub mark_kind_from : Value → Option MarkKind
-mark_kind_from = by_number mark_kind_numbered
+mark_kind_from = by_number (numbered mark_kind_number all_mark_kinds)

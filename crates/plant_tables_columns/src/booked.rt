@@ -2,8 +2,8 @@
 
 ghost use Rattle.std.specs.Prelude.{◌≡◌, pos};
 ghost use Rattle.sqlite.specs.Order.{column};
-ghost use Rattle.plant_tables_columns.specs.Naming.{movement_sort_number, all_movement_sorts};
-ghost use Rattle.plant_tables_columns.specs.Naming.{movement_sort_numbered, movement_sort_from};
+ghost use Rattle.plant_tables_columns.specs.Naming.{numbered, movement_sort_number, all_movement_sorts};
+ghost use Rattle.plant_tables_columns.specs.Naming.{movement_sort_from};
 ghost use Rattle.plant_tables_columns.specs.Booked.{names_nothing, batch_named, lot_named, sublot_named};
 ghost use Rattle.plant_tables_columns.specs.Booked.{kind_from, movement_from};
 
@@ -47,8 +47,8 @@ impl MovementSort {
     }
 }
 
-fn movement_sorts() -> [MovementSort; 7]
-    ensures { result ≡ all_movement_sorts }
+fn movement_sort_numbered(number: &i64) -> Option<MovementSort>
+    ensures { result ≡ numbered movement_sort_number all_movement_sorts number.now }
 {
     [
         MovementSort::Received,
@@ -59,16 +59,9 @@ fn movement_sorts() -> [MovementSort; 7]
         MovementSort::Split,
         MovementSort::Merged,
     ]
-}
-
-#[tactic(auto, unfolding(crate::specs::Naming::movement_sort_numbered))]
-fn movement_sort_numbered(number: &i64) -> Option<MovementSort>
-    ensures { result ≡ movement_sort_numbered number.now }
-{
-    movement_sorts()
-        .iter()
-        .copied()
-        .find(|sort| sort.number() == *number)
+    .iter()
+    .copied()
+    .find(|sort| sort.number() == *number)
 }
 
 /// The sort of movement of this number.

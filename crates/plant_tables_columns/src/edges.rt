@@ -3,7 +3,7 @@
 ghost use Rattle.std.specs.Prelude.{◌≡◌};
 ghost use Rattle.sqlite.specs.Order.{column};
 ghost use Rattle.sqlite.specs.Values.{bound};
-ghost use Rattle.plant_tables_columns.specs.Naming.{all_edge_kinds, edge_kind_numbered, edge_kind_from};
+ghost use Rattle.plant_tables_columns.specs.Naming.{edge_kind_from};
 ghost use Rattle.plant_tables_columns.specs.TableColumns.{row_of_edge, edge_from};
 
 use crate::judged::Judged;
@@ -13,32 +13,19 @@ use plant_base::{EdgeKind, EdgeRow};
 use sqlite::Row;
 use sqlite_value::value::ValueRef;
 
-fn edge_kinds() -> [EdgeKind; 3]
-    ensures { result ≡ all_edge_kinds }
-{
-    [
-        EdgeKind::LotToBatch,
-        EdgeKind::BatchToLot,
-        EdgeKind::LotToLot,
-    ]
-}
-
-#[tactic(auto, unfolding(crate::specs::Naming::edge_kind_numbered))]
-fn edge_kind_numbered(number: &i64) -> Option<EdgeKind>
-    ensures { result ≡ edge_kind_numbered number.now }
-{
-    edge_kinds()
-        .iter()
-        .copied()
-        .find(|kind| i64::from(kind.number()) == *number)
-}
-
 #[tactic(auto, unfolding(crate::specs::Naming::edge_kind_from))]
 fn edge_kind(row: &Row, at: usize) -> Option<EdgeKind>
     ensures { result ≡ edge_kind_from (column row.now at) }
 {
     let number = integer(row, at)?;
-    edge_kind_numbered(&number)
+    [
+        EdgeKind::LotToBatch,
+        EdgeKind::BatchToLot,
+        EdgeKind::LotToLot,
+    ]
+    .iter()
+    .copied()
+    .find(|kind| i64::from(kind.number()) == number)
 }
 
 /// A row of `edge`.

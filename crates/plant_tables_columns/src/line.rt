@@ -2,8 +2,7 @@
 
 ghost use Rattle.std.specs.Prelude.{◌≡◌, ◌<◌, ◌+◌, pos};
 ghost use Rattle.sqlite.specs.Order.{column};
-ghost use Rattle.plant_tables_columns.specs.Naming.{line_sort_number, all_line_sorts, line_sort_numbered};
-ghost use Rattle.plant_tables_columns.specs.Naming.{line_sort_from};
+ghost use Rattle.plant_tables_columns.specs.Naming.{line_sort_number, line_sort_from};
 ghost use Rattle.sqlite.specs.Values.{bound};
 ghost use Rattle.plant_tables_columns.specs.TableColumns.{columns_of_line, material_from, has_no_material};
 ghost use Rattle.plant_tables_columns.specs.TableColumns.{parameter_from, phase_from, line_from};
@@ -37,33 +36,20 @@ impl LineSort {
     }
 }
 
-fn line_sorts() -> [LineSort; 4]
-    ensures { result ≡ all_line_sorts }
+#[tactic(auto, unfolding(crate::specs::Naming::line_sort_from))]
+fn line_sort(row: &Row, at: usize) -> Option<LineSort>
+    ensures { result ≡ line_sort_from (column row.now at) }
 {
+    let number = integer(row, at)?;
     [
         LineSort::In,
         LineSort::Out,
         LineSort::Parameter,
         LineSort::Phase,
     ]
-}
-
-#[tactic(auto, unfolding(crate::specs::Naming::line_sort_numbered))]
-fn line_sort_numbered(number: &i64) -> Option<LineSort>
-    ensures { result ≡ line_sort_numbered number.now }
-{
-    line_sorts()
-        .iter()
-        .copied()
-        .find(|sort| sort.number() == *number)
-}
-
-#[tactic(auto, unfolding(crate::specs::Naming::line_sort_from))]
-fn line_sort(row: &Row, at: usize) -> Option<LineSort>
-    ensures { result ≡ line_sort_from (column row.now at) }
-{
-    let number = integer(row, at)?;
-    line_sort_numbered(&number)
+    .iter()
+    .copied()
+    .find(|sort| sort.number() == number)
 }
 
 /// What an in or out line asks for.

@@ -3,7 +3,7 @@
 ghost use Rattle.std.specs.Prelude.{◌≡◌};
 ghost use Rattle.sqlite.specs.Order.{column};
 ghost use Rattle.sqlite.specs.Values.{bound};
-ghost use Rattle.plant_tables_columns.specs.Naming.{all_mark_kinds, mark_kind_numbered, mark_kind_from};
+ghost use Rattle.plant_tables_columns.specs.Naming.{mark_kind_from};
 ghost use Rattle.plant_tables_columns.specs.TableColumns.{row_of_mark, mark_from};
 
 use crate::judged::Judged;
@@ -13,28 +13,15 @@ use plant_base::{Mark, MarkKind};
 use sqlite::Row;
 use sqlite_value::value::ValueRef;
 
-fn mark_kinds() -> [MarkKind; 2]
-    ensures { result ≡ all_mark_kinds }
-{
-    [MarkKind::Lot, MarkKind::Batch]
-}
-
-#[tactic(auto, unfolding(crate::specs::Naming::mark_kind_numbered))]
-fn mark_kind_numbered(number: &i64) -> Option<MarkKind>
-    ensures { result ≡ mark_kind_numbered number.now }
-{
-    mark_kinds()
-        .iter()
-        .copied()
-        .find(|kind| i64::from(kind.number()) == *number)
-}
-
 #[tactic(auto, unfolding(crate::specs::Naming::mark_kind_from))]
 fn mark_kind(row: &Row, at: usize) -> Option<MarkKind>
     ensures { result ≡ mark_kind_from (column row.now at) }
 {
     let number = integer(row, at)?;
-    mark_kind_numbered(&number)
+    [MarkKind::Lot, MarkKind::Batch]
+        .iter()
+        .copied()
+        .find(|kind| i64::from(kind.number()) == number)
 }
 
 /// A row of `mark`.

@@ -2,34 +2,26 @@
 
 ghost use Rattle.std.specs.Prelude.{◌≡◌};
 ghost use Rattle.sqlite.specs.Order.{column};
-ghost use Rattle.plant_tables_columns.specs.Naming.{all_recipe_states, recipe_state_named, recipe_state_from};
-ghost use Rattle.plant_tables_columns.specs.Naming.{all_job_states, job_state_named, job_state_from};
-ghost use Rattle.plant_tables_columns.specs.Naming.{all_batch_states, batch_state_named, batch_state_from};
-ghost use Rattle.plant_tables_columns.specs.Naming.{all_words, word_named, plain_event, event_named};
-ghost use Rattle.plant_tables_columns.specs.Naming.{event_from};
+ghost use Rattle.plant_base.specs.Words.{recipe_state_name, job_state_name, batch_state_name};
+ghost use Rattle.plant_tables_columns.specs.Naming.{named, all_recipe_states, all_job_states, all_batch_states};
+ghost use Rattle.plant_tables_columns.specs.Naming.{recipe_state_from, job_state_from, batch_state_from};
+ghost use Rattle.plant_tables_columns.specs.Naming.{word_named, plain_event, event_named, event_from};
 
 use crate::reading::{bytes, integer, tiny_within};
 use plant_base::{BatchState, Event, GREATEST_PHASE, JobState, RecipeState, Word};
 use sqlite::Row;
 
-fn recipe_states() -> [RecipeState; 3]
-    ensures { result ≡ all_recipe_states }
+fn recipe_state_named(name: &[u8]) -> Option<RecipeState>
+    ensures { result ≡ named recipe_state_name all_recipe_states name.now }
 {
     [
         RecipeState::Draft,
         RecipeState::Approved,
         RecipeState::Withdrawn,
     ]
-}
-
-#[tactic(auto, unfolding(crate::specs::Naming::recipe_state_named))]
-fn recipe_state_named(name: &[u8]) -> Option<RecipeState>
-    ensures { result ≡ recipe_state_named name.now }
-{
-    recipe_states()
-        .iter()
-        .copied()
-        .find(|state| state.name().as_bytes() == name)
+    .iter()
+    .copied()
+    .find(|state| state.name().as_bytes() == name)
 }
 
 /// The state of a recipe of this name.
@@ -40,8 +32,8 @@ pub(crate) fn recipe_state(row: &Row, at: usize) -> Option<RecipeState>
     recipe_state_named(bytes(row, at)?)
 }
 
-fn job_states() -> [JobState; 4]
-    ensures { result ≡ all_job_states }
+fn job_state_named(name: &[u8]) -> Option<JobState>
+    ensures { result ≡ named job_state_name all_job_states name.now }
 {
     [
         JobState::Open,
@@ -49,16 +41,9 @@ fn job_states() -> [JobState; 4]
         JobState::Released,
         JobState::Finished,
     ]
-}
-
-#[tactic(auto, unfolding(crate::specs::Naming::job_state_named))]
-fn job_state_named(name: &[u8]) -> Option<JobState>
-    ensures { result ≡ job_state_named name.now }
-{
-    job_states()
-        .iter()
-        .copied()
-        .find(|state| state.name().as_bytes() == name)
+    .iter()
+    .copied()
+    .find(|state| state.name().as_bytes() == name)
 }
 
 /// The state of an order of this name.
@@ -69,8 +54,8 @@ pub(crate) fn job_state(row: &Row, at: usize) -> Option<JobState>
     job_state_named(bytes(row, at)?)
 }
 
-fn batch_states() -> [BatchState; 12]
-    ensures { result ≡ all_batch_states }
+fn batch_state_named(name: &[u8]) -> Option<BatchState>
+    ensures { result ≡ named batch_state_name all_batch_states name.now }
 {
     [
         BatchState::Idle,
@@ -86,16 +71,9 @@ fn batch_states() -> [BatchState; 12]
         BatchState::Aborting,
         BatchState::Aborted,
     ]
-}
-
-#[tactic(auto, unfolding(crate::specs::Naming::batch_state_named))]
-fn batch_state_named(name: &[u8]) -> Option<BatchState>
-    ensures { result ≡ batch_state_named name.now }
-{
-    batch_states()
-        .iter()
-        .copied()
-        .find(|state| state.name().as_bytes() == name)
+    .iter()
+    .copied()
+    .find(|state| state.name().as_bytes() == name)
 }
 
 /// The state of a batch of this name.
@@ -106,8 +84,9 @@ pub(crate) fn batch_state(row: &Row, at: usize) -> Option<BatchState>
     batch_state_named(bytes(row, at)?)
 }
 
-fn words() -> [Word; 9]
-    ensures { result ≡ all_words }
+#[tactic(auto, unfolding(crate::specs::Naming::word_named))]
+fn word_named(name: &[u8]) -> Option<Word>
+    ensures { result ≡ word_named name.now }
 {
     [
         Word::Start,
@@ -120,16 +99,9 @@ fn words() -> [Word; 9]
         Word::Resume,
         Word::Done,
     ]
-}
-
-#[tactic(auto, unfolding(crate::specs::Naming::word_named))]
-fn word_named(name: &[u8]) -> Option<Word>
-    ensures { result ≡ word_named name.now }
-{
-    words()
-        .iter()
-        .copied()
-        .find(|word| word.name().as_bytes() == name)
+    .iter()
+    .copied()
+    .find(|word| word.name().as_bytes() == name)
 }
 
 /// The event of this name that has no phase.

@@ -5,8 +5,7 @@ ghost use Rattle.sqlite.specs.Order.{column};
 ghost use Rattle.sqlite.specs.Values.{bound};
 ghost use Rattle.sqlite_value.specs.declared.value.Value.TheVariants.{Text as Bytes};
 ghost use Rattle.plant_tables_columns.specs.Kinds.{number, null_or};
-ghost use Rattle.plant_tables_columns.specs.Naming.{recall_state_name, all_recall_states};
-ghost use Rattle.plant_tables_columns.specs.Naming.{recall_state_named, recall_state_from};
+ghost use Rattle.plant_tables_columns.specs.Naming.{named, recall_state_name, all_recall_states, recall_state_from};
 ghost use Rattle.plant_tables_columns.specs.Stated.{tells_no_lifting, lifting_told, lifting_from, recall_from};
 ghost use Rattle.plant_tables_columns.specs.Stated.{state_by, moment_of_lift, person_of_lift, note_of_lift};
 ghost use Rattle.plant_tables_columns.specs.TableColumns.{row_of_recall, stated_from, recall_read};
@@ -39,17 +38,10 @@ impl RecallState {
     }
 }
 
-fn recall_states() -> [RecallState; 2]
-    ensures { result ≡ all_recall_states }
+fn recall_state_named(name: &[u8]) -> Option<RecallState>
+    ensures { result ≡ named recall_state_name all_recall_states name.now }
 {
     [RecallState::Open, RecallState::Lifted]
-}
-
-#[tactic(auto, unfolding(crate::specs::Naming::recall_state_named))]
-fn recall_state_named(name: &[u8]) -> Option<RecallState>
-    ensures { result ≡ recall_state_named name.now }
-{
-    recall_states()
         .iter()
         .copied()
         .find(|state| state.name().as_bytes() == name)

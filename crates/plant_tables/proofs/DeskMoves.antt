@@ -2,9 +2,9 @@
 use Rattle.std.proofs.Common.{◌≡◌, refl, sym, ap, ◌∙◌, subst, ℕ, nat_le, List, [], ◌∷◌, ◌++◌, map, take, drop, true, false, Some, None, Ok, Err, Result, OnOk, slice_get, arith}
 use Rattle.std.proofs.lemmas.Bool.Decides.{nat_tests}
 use Rattle.std.proofs.lemmas.List.{take-map, drop-map}
+use Rattle.std.proofs.lemmas.Result.{on_ok_weaker}
 use Rattle.std.specs.Borrow.{Bor}
 use Rattle.sqlite.specs.Order.{Row}
-use Rattle.sqlite.specs.Effect.{IsDatabase}
 use Rattle.sqlite.specs.State.{State}
 use Rattle.table_forms.specs.declared.fault.Fault.{Fault}
 use Rattle.table_forms.specs.declared.form.IndexText.{IndexText}
@@ -14,7 +14,6 @@ use Rattle.table_forms.specs.Texts.{IsPutText, IsTakeText}
 use Rattle.table_forms.specs.Moves.{Moves, PutsRow, TakesRows, AreMakeTexts, MakesTables, SparesTables, LeavesFree, Founds, changed_at, taken_at}
 use Rattle.table_forms.specs.Indexes.{IndexForm, AreIndexTexts, MakesIndexes, AddsIndexes}
 use Rattle.table_forms.specs.Standing.{Contents, AreFree}
-use Rattle.table_forms.proofs.Indexing.{founds_then}
 use Rattle.plant_base.specs.State.{newest_schema}
 use Rattle.plant_view.specs.declared.change.RowChange.{RowChange}
 use Rattle.plant_view.specs.declared.change.RowChange.TheVariants as change
@@ -26,13 +25,11 @@ use Rattle.plant_tables.proofs.DeskTexts.{create_texts, AreAdded, by_schema, apa
 
 pub put_moved : {X : Type 0} (schema place : ℕ) (form : Form) (text : List ℕ) (row : Row) → slice_get (forms_of schema) place ≡ Some form → IsPutText text form → fits_columns form.columns row ≡ true
     → (old new : State) (r : Result X Fault) → OnOk r (PutsRow text row old new) → OnOk r (Moves (forms_of schema) old new (changed_at place form row))
-put_moved schema place form text row is says fit old new (Ok x) put = put (forms_of schema) place form (apart_of schema) is says fit
-put_moved schema place form text row is says fit old new (Err e) put = tt
+put_moved schema place form text row is says fit old new r = on_ok_weaker r (λ put. put (forms_of schema) place form (apart_of schema) is says fit)
 
 pub take_moved : {X : Type 0} (schema place : ℕ) (form : Form) (text key : List ℕ) (values : Row) → slice_get (forms_of schema) place ≡ Some form → IsTakeText text form key
     → (old new : State) (r : Result X Fault) → OnOk r (TakesRows text values old new) → OnOk r (Moves (forms_of schema) old new (taken_at place key values))
-take_moved schema place form text key values is says old new (Ok x) taken = taken (forms_of schema) place form key (apart_of schema) is says
-take_moved schema place form text key values is says old new (Err e) taken = tt
+take_moved schema place form text key values is says old new r = on_ok_weaker r (λ taken. taken (forms_of schema) place form key (apart_of schema) is says)
 
 -- the places of the tables that later schemas add
 pub edge_place : (schema : ℕ) → nat_le 2 schema ≡ true → slice_get (forms_of schema) 13 ≡ Some edge_form
@@ -63,13 +60,11 @@ no_mark_place = by_schema (λ s. nat_le 4 s ≡ false → slice_get (forms_of s)
 -- what the texts made that were run for a schema
 pub added_founded : {X : Type 0} (schema known : ℕ) (texts : List (List ℕ)) → schema ≡ known → AreAdded known texts
     → (old new : State) (r : Result X Fault) → OnOk r (MakesTables texts old new) → OnOk r (Founds (added_forms schema) old new)
-added_founded schema known texts is added old new (Ok x) made = subst (λ n. Founds (added_forms n) old new) (sym is) (made (added_forms known) added.0 added.1)
-added_founded schema known texts is added old new (Err e) made = tt
+added_founded schema known texts is added old new r = on_ok_weaker r (λ made. subst (λ n. Founds (added_forms n) old new) (sym is) (made (added_forms known) added.0 added.1))
 
 pub added_spared : {X : Type 0} (schema known : ℕ) (texts : List (List ℕ)) → schema ≡ known → AreAdded known texts
     → (old new : State) (r : Result X Fault) → OnOk r (SparesTables texts old new) → OnOk r (LeavesFree (added_forms schema) old.now new.now)
-added_spared schema known texts is added old new (Ok x) spares = subst (λ n. LeavesFree (added_forms n) old.now new.now) (sym is) (spares (added_forms known) added.0 added.1)
-added_spared schema known texts is added old new (Err e) spares = tt
+added_spared schema known texts is added old new r = on_ok_weaker r (λ spares. subst (λ n. LeavesFree (added_forms n) old.now new.now) (sym is) (spares (added_forms known) added.0 added.1))
 
 -- the texts in front of some are those in front of their texts
 texts_front : {X : Type 0} (text : X → List ℕ) (n : ℕ) (all front : List X) → front ≡ take n all → map text front ≡ take n (map text all)
@@ -86,18 +81,16 @@ sql_of index = index.sql.now
 -- As many texts as a schema has indexes were run, and made them.
 pub indexed_so : {X : Type 0} (schema n : ℕ) → take n desk_indexes ≡ indexes_of schema → (all front : List IndexText) → front ≡ take n all → map sql_of all ≡ index_texts
     → (old new : State) (r : Result X Fault) → OnOk r (MakesIndexes (map sql_of front) old new) → OnOk r (AddsIndexes (forms_of schema) (indexes_of schema) old new)
-indexed_so schema n own all front is texts old new (Ok x) made =
+indexed_so schema n own all front is texts old new r = on_ok_weaker r (λ made.
     let own_texts : map sql_of front ≡ take n index_texts = texts_front sql_of n all front is ∙ ap (take n) texts in
-    made (forms_of schema) (indexes_of schema) (indexed_of schema) (subst (λ ts. AreIndexTexts ts (indexes_of schema)) (sym own_texts) (subst (AreIndexTexts (take n index_texts)) own (front_indexed n)))
-indexed_so schema n own all front is texts old new (Err e) made = tt
+    made (forms_of schema) (indexes_of schema) (indexed_of schema) (subst (λ ts. AreIndexTexts ts (indexes_of schema)) (sym own_texts) (subst (AreIndexTexts (take n index_texts)) own (front_indexed n))))
 
 -- The texts behind those of the second schema were run, and made what the fourth adds.
 pub indexed_later : {X : Type 0} (n : ℕ) → drop n desk_indexes ≡ fourth_indexes → (all behind : List IndexText) → behind ≡ drop n all → map sql_of all ≡ index_texts
     → (old new : State) (r : Result X Fault) → OnOk r (MakesIndexes (map sql_of behind) old new) → OnOk r (AddsIndexes (forms_of 4) fourth_indexes old new)
-indexed_later n own all behind is texts old new (Ok x) made =
+indexed_later n own all behind is texts old new r = on_ok_weaker r (λ made.
     let own_texts : map sql_of behind ≡ drop n index_texts = texts_behind sql_of n all behind is ∙ ap (drop n) texts in
-    made (forms_of 4) fourth_indexes indexes_of_fourth (subst (λ ts. AreIndexTexts ts fourth_indexes) (sym own_texts) (subst (AreIndexTexts (drop n index_texts)) own (behind_indexed n)))
-indexed_later n own all behind is texts old new (Err e) made = tt
+    made (forms_of 4) fourth_indexes indexes_of_fourth (subst (λ ts. AreIndexTexts ts fourth_indexes) (sym own_texts) (subst (AreIndexTexts (drop n index_texts)) own (behind_indexed n))))
 
 -- As many texts as a schema has tables were run, and made them.
 pub founded_so : (schema n : ℕ) → take n desk_forms ≡ forms_of schema → (all front : List (Bor (List ℕ))) → front ≡ take n all → map (λ text. text.now) all ≡ create_texts
@@ -105,17 +98,6 @@ pub founded_so : (schema n : ℕ) → take n desk_forms ≡ forms_of schema → 
 founded_so schema n own all front is texts old new made =
     let own_texts : map (λ text. text.now) front ≡ take n create_texts = texts_front (λ (text : Bor (List ℕ)). text.now) n all front is ∙ ap (take n) texts in
     made (forms_of schema) (apart_of schema) (subst (λ ts. AreMakeTexts ts (forms_of schema)) (sym own_texts) (subst (AreMakeTexts (take n create_texts)) own (front_made n)))
-
--- the tables were made, and then the indexes
-pub all_founded : {X : Type 0} (forms : List Form) (indexes : List IndexForm) (a b c : State) (r : Result X Fault) → Founds forms a b → OnOk r (AddsIndexes forms indexes b c) → OnOk r (Founds forms a c)
-all_founded forms indexes a b c (Ok x) founds added = founds_then forms indexes a b c founds added
-all_founded forms indexes a b c (Err e) founds added = tt
-
--- and each index is there
-pub all_indexed_then : {X : Type 0} (forms : List Form) (indexes : List IndexForm) (a b c : State) (r : Result X Fault) → Founds forms a b → OnOk r (AddsIndexes forms indexes b c)
-    → IsDatabase a.now → AreFree forms a.now.schema → OnOk r (HasIndexes indexes c.now.schema)
-all_indexed_then forms indexes a b c (Ok x) founds added sound free = added.made (λ _. []) (founds.stands sound free)
-all_indexed_then forms indexes a b c (Err e) founds added sound free = tt
 
 pub one_more_change : (cs : List RowChange) (c : RowChange) (t : Contents) → rows_changed c (all_rows_changed cs t) ≡ all_rows_changed (cs ++ c ∷ []) t
 one_more_change [] c t = refl

@@ -1,5 +1,5 @@
 -- What the fixed texts say, by computing them.
-use Rattle.std.proofs.Common.{◌≡◌, refl, ap, Bool, inl, inr, ℕ, ◌+◌, ◌==◌, zero, suc, nat_le, ltb, true, false, List, [], ◌∷◌, ◌++◌, None, Ok, codes, length, take, drop, slice_range, arith}
+use Rattle.std.proofs.Common.{◌≡◌, refl, ap, subst₂, slice_get, Some, Bool, inl, inr, ℕ, ◌+◌, ◌==◌, zero, suc, nat_le, ltb, true, false, List, [], ◌∷◌, ◌++◌, None, Ok, codes, length, take, drop, slice_range, arith}
 use Rattle.sqlite.specs.Schema.{Schema}
 use Rattle.sqlite.specs.Source.TheVariants.{Values}
 use Rattle.sqlite.specs.Term.{Term, col}
@@ -150,79 +150,71 @@ front_made n = each_makes (take n create_texts) (take n desk_forms) (front Makes
 
 -- ---- those that put a row, or take rows away
 
-pub puts_meta : IsPutText PUT_META.now meta_form
-unfolding everything
-puts_meta = inr (upserts PUT_META.now meta_form (1 ∷ []) refl (λ schema tree. refl) refl (λ tree. refl))
-
-pub puts_class : IsPutText PUT_CLASS.now class_form
-unfolding everything
-puts_class = inr (upserts PUT_CLASS.now class_form (1 ∷ []) refl (λ schema tree. refl) refl (λ tree. refl))
-
-pub puts_definition : IsPutText PUT_DEFINITION.now definition_form
-unfolding everything
-puts_definition = inr (upserts PUT_DEFINITION.now definition_form (1 ∷ []) refl (λ schema tree. refl) refl (λ tree. refl))
-
-pub puts_recipe : IsPutText PUT_RECIPE.now recipe_form
-unfolding everything
-puts_recipe = inr (upserts PUT_RECIPE.now recipe_form (1 ∷ 2 ∷ []) refl (λ schema tree. refl) refl (λ tree. refl))
-
-pub puts_recipe_line : IsPutText PUT_RECIPE_LINE.now recipe_line_form
-unfolding everything
-puts_recipe_line = inr (upserts PUT_RECIPE_LINE.now recipe_line_form (1 ∷ 2 ∷ 3 ∷ []) refl (λ schema tree. refl) refl (λ tree. refl))
-
-pub puts_job : IsPutText PUT_JOB.now job_form
-unfolding everything
-puts_job = inr (upserts PUT_JOB.now job_form (1 ∷ []) refl (λ schema tree. refl) refl (λ tree. refl))
-
-pub puts_batch : IsPutText PUT_BATCH.now batch_form
-unfolding everything
-puts_batch = inr (upserts PUT_BATCH.now batch_form (1 ∷ []) refl (λ schema tree. refl) refl (λ tree. refl))
-
-pub puts_control_line : IsPutText PUT_CONTROL_LINE.now control_line_form
-unfolding everything
-puts_control_line = inr (upserts PUT_CONTROL_LINE.now control_line_form (1 ∷ 2 ∷ []) refl (λ schema tree. refl) refl (λ tree. refl))
-
-pub puts_batch_event : IsPutText PUT_BATCH_EVENT.now batch_event_form
-unfolding everything
-puts_batch_event = inl (inserts PUT_BATCH_EVENT.now batch_event_form [] refl (λ schema tree. refl))
-
-pub puts_lot : IsPutText PUT_LOT.now lot_form
-unfolding everything
-puts_lot = inr (upserts PUT_LOT.now lot_form (1 ∷ []) refl (λ schema tree. refl) refl (λ tree. refl))
-
 pub upserts_sublot : IsUpsertText PUT_SUBLOT.now sublot_form
 unfolding everything
 upserts_sublot = upserts PUT_SUBLOT.now sublot_form (1 ∷ 2 ∷ []) refl (λ schema tree. refl) refl (λ tree. refl)
-
-pub puts_sublot : IsPutText PUT_SUBLOT.now sublot_form
-puts_sublot = inr upserts_sublot
-
-pub puts_movement : IsPutText PUT_MOVEMENT.now movement_form
-unfolding everything
-puts_movement = inl (inserts PUT_MOVEMENT.now movement_form [] refl (λ schema tree. refl))
-
-pub puts_hold : IsPutText PUT_HOLD.now hold_form
-unfolding everything
-puts_hold = inr (upserts PUT_HOLD.now hold_form (1 ∷ 2 ∷ []) refl (λ schema tree. refl) refl (λ tree. refl))
 
 pub upserts_edge : IsUpsertText PUT_EDGE.now edge_form
 unfolding everything
 upserts_edge = upserts PUT_EDGE.now edge_form (1 ∷ 2 ∷ 3 ∷ []) refl (λ schema tree. refl) refl (λ tree. refl)
 
-pub puts_edge : IsPutText PUT_EDGE.now edge_form
-puts_edge = inr upserts_edge
+abbrev put_texts : List (List ℕ)
+put_texts =
+    PUT_META.now
+    ∷ PUT_CLASS.now
+    ∷ PUT_DEFINITION.now
+    ∷ PUT_RECIPE.now
+    ∷ PUT_RECIPE_LINE.now
+    ∷ PUT_JOB.now
+    ∷ PUT_BATCH.now
+    ∷ PUT_CONTROL_LINE.now
+    ∷ PUT_BATCH_EVENT.now
+    ∷ PUT_LOT.now
+    ∷ PUT_SUBLOT.now
+    ∷ PUT_MOVEMENT.now
+    ∷ PUT_HOLD.now
+    ∷ PUT_EDGE.now
+    ∷ PUT_RECEIPT.now
+    ∷ PUT_RECALL.now
+    ∷ PUT_MARK.now
+    ∷ []
 
-pub puts_receipt : IsPutText PUT_RECEIPT.now receipt_form
-unfolding everything
-puts_receipt = inr (upserts PUT_RECEIPT.now receipt_form (1 ∷ []) refl (λ schema tree. refl) refl (λ tree. refl))
+infixr 5 ◌⋆◌
+-- the one, and what is behind it
+◌⋆◌ : {A B : Type 0} → A → B → A × B
+a ⋆ b = (a, b)
 
-pub puts_recall : IsPutText PUT_RECALL.now recall_form
+texts_put : AllTexts IsPutText put_texts desk_forms
 unfolding everything
-puts_recall = inr (upserts PUT_RECALL.now recall_form (1 ∷ []) refl (λ schema tree. refl) refl (λ tree. refl))
+texts_put =
+    inr (upserts PUT_META.now meta_form (1 ∷ []) refl (λ schema tree. refl) refl (λ tree. refl))
+    ⋆ inr (upserts PUT_CLASS.now class_form (1 ∷ []) refl (λ schema tree. refl) refl (λ tree. refl))
+    ⋆ inr (upserts PUT_DEFINITION.now definition_form (1 ∷ []) refl (λ schema tree. refl) refl (λ tree. refl))
+    ⋆ inr (upserts PUT_RECIPE.now recipe_form (1 ∷ 2 ∷ []) refl (λ schema tree. refl) refl (λ tree. refl))
+    ⋆ inr (upserts PUT_RECIPE_LINE.now recipe_line_form (1 ∷ 2 ∷ 3 ∷ []) refl (λ schema tree. refl) refl (λ tree. refl))
+    ⋆ inr (upserts PUT_JOB.now job_form (1 ∷ []) refl (λ schema tree. refl) refl (λ tree. refl))
+    ⋆ inr (upserts PUT_BATCH.now batch_form (1 ∷ []) refl (λ schema tree. refl) refl (λ tree. refl))
+    ⋆ inr (upserts PUT_CONTROL_LINE.now control_line_form (1 ∷ 2 ∷ []) refl (λ schema tree. refl) refl (λ tree. refl))
+    ⋆ inl (inserts PUT_BATCH_EVENT.now batch_event_form [] refl (λ schema tree. refl))
+    ⋆ inr (upserts PUT_LOT.now lot_form (1 ∷ []) refl (λ schema tree. refl) refl (λ tree. refl))
+    ⋆ inr upserts_sublot
+    ⋆ inl (inserts PUT_MOVEMENT.now movement_form [] refl (λ schema tree. refl))
+    ⋆ inr (upserts PUT_HOLD.now hold_form (1 ∷ 2 ∷ []) refl (λ schema tree. refl) refl (λ tree. refl))
+    ⋆ inr upserts_edge
+    ⋆ inr (upserts PUT_RECEIPT.now receipt_form (1 ∷ []) refl (λ schema tree. refl) refl (λ tree. refl))
+    ⋆ inr (upserts PUT_RECALL.now recall_form (1 ∷ []) refl (λ schema tree. refl) refl (λ tree. refl))
+    ⋆ inr (upserts PUT_MARK.now mark_form (1 ∷ 2 ∷ 3 ∷ []) refl (λ schema tree. refl) refl (λ tree. refl))
+    ⋆ tt
 
-pub puts_mark : IsPutText PUT_MARK.now mark_form
-unfolding everything
-puts_mark = inr (upserts PUT_MARK.now mark_form (1 ∷ 2 ∷ 3 ∷ []) refl (λ schema tree. refl) refl (λ tree. refl))
+at_place : {X : Type 0} (so : List ℕ → X → Type 0) (texts : List (List ℕ)) (xs : List X) → AllTexts so texts xs → (place : ℕ) (text : List ℕ) (x : X) → slice_get texts place ≡ Some text → slice_get xs place ≡ Some x → so text x
+at_place so [] xs all place text x is here = absurd cc
+at_place so (t ∷ texts) [] all place text x is here = absurd cc
+at_place so (t ∷ texts) (y ∷ xs) all zero text x is here = let same : t ≡ text = cc in let one : y ≡ x = cc in subst₂ so same one all.0
+at_place so (t ∷ texts) (y ∷ xs) all (suc place) text x is here = at_place so texts xs all.1 place text x is here
+
+-- the text at this place puts a row of the table there
+pub puts_at : (place : ℕ) {text : List ℕ} {form : Form} → slice_get put_texts place ≡ Some text → slice_get desk_forms place ≡ Some form → IsPutText text form
+puts_at place {text} {form} is here = at_place IsPutText put_texts desk_forms texts_put place text form is here
 
 pub takes_hold : IsTakeText TAKE_HOLD.now hold_form (1 ∷ 2 ∷ [])
 unfolding everything first_key

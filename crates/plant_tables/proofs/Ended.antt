@@ -1,5 +1,6 @@
 -- How the writing of changes ends, in the tables of the desk.
 use Rattle.std.proofs.Common.{◌≡◌, inl, inr, refl, sym, subst, ℕ, List, Ok, Err, Result, OnOk, OnErr}
+use Rattle.std.proofs.lemmas.Result.{on_ok_weaker, on_err_weaker}
 use Rattle.sqlite.specs.Tree.{Trees}
 use Rattle.sqlite.specs.Effect.{Database}
 use Rattle.sqlite.specs.State.{State}
@@ -24,34 +25,29 @@ pub finds_same : (version : ℕ) (db : Database) (trees : Trees) (t : Tables) �
 finds_same version db trees t holds same =
     subst (λ d. FindsOf version db d t) (sym same) (record { schema = db.schema; holds = holds; others = record { kept = λ x listed foreign. (listed, refl) } })
 
-module _ (version later : ℕ) (makes : Database → Database → Type 0) (old new : State) (before after : Tables) (at : IsAtOf version old before)
-    (leads : (db : Database) → makes old.now db → HoldsTablesOf later db after × KeepsOthers desk_forms old.now db) where
-  finds_made : (db : Database) (trees : Trees) → makes old.now db → trees ≡ db.trees → FindsOf later old.now trees after
+module _ (later : ℕ) (makes : Database → Database → Type 0) (old new : State) (after : Tables) (leads : (db : Database) → makes old.now db → HoldsTablesOf later db after × KeepsOthers desk_forms old.now db) where
+  pub finds_made : (db : Database) (trees : Trees) → makes old.now db → trees ≡ db.trees → FindsOf later old.now trees after
   finds_made db trees made same =
       let it = leads db made in
       subst (λ d. FindsOf later old.now d after) (sym same) (record { schema = db.schema; holds = it.0; others = it.1 })
 
   pub ended_at : {X E : Type 0} (r : Result X E) → OnOk r (IsSettled new × makes old.now new.now) → OnOk r (IsAtOf later new after × KeepsOthers desk_forms old.now new.now)
-  ended_at (Err e) done = tt
-  ended_at (Ok x) done =
-      let it = leads new.now done.1 in
-      (record { settled = done.0; holds = it.0 }, it.1)
+  ended_at r = on_ok_weaker r (λ done. let it = leads new.now done.1 in (record { settled = done.0; holds = it.0 }, it.1))
 
-  pub cut_at : {X E : Type 0} (r : Result X E) → OnErr r (IsUndone makes old new) → OnErr r (IsCutShortOf version later old new before after)
-  cut_at (Ok x) undone = tt
-  cut_at (Err e) undone = record {
+  pub cut_at : {X E : Type 0} (version : ℕ) (before : Tables) → IsAtOf version old before → (r : Result X E) → OnErr r (IsUndone makes old new) → OnErr r (IsCutShortOf version later old new before after)
+  cut_at version before at r = on_err_weaker r (λ undone. record {
     leaves = undone.leaves;
     nothing_else = λ db left. elim (undone.nothing_else db left) [
       | inl still ↦ inl (finds_same version old.now db before at.holds still)
       | inr made ↦ inr (finds_made made.0 db made.1 made.2)
     ];
     shows = λ live. let it = undone.shows live in (record { settled = it.0; holds = subst (λ d. HoldsTablesOf version d before) (sym it.1) at.holds }, it.1);
-  }
+  })
 
 pub done_at : {X E : Type 0} (cs : List RowChange) (old new : State) (t : Tables) (r : Result X E) → IsAt old t → AreKeyed t → AreFresh cs t → OnOk r (IsSettled new × MovesTables cs old.now new.now)
     → OnOk r (IsAt new (changed_all cs t) × KeepsOthers desk_forms old.now new.now)
-done_at cs old new t r at keyed fresh done = ended_at newest_schema newest_schema (MovesTables cs) old new t (changed_all cs t) at (λ db made. made t keyed fresh at.holds) r done
+done_at cs old new t r at keyed fresh done = ended_at newest_schema (MovesTables cs) old new (changed_all cs t) (λ db made. made t keyed fresh at.holds) r done
 
 pub undone_at : {X E : Type 0} (cs : List RowChange) (old new : State) (t : Tables) (r : Result X E) → IsAt old t → AreKeyed t → AreFresh cs t → OnErr r (IsUndone (MovesTables cs) old new)
     → OnErr r (IsCutShort old new t (changed_all cs t))
-undone_at cs old new t r at keyed fresh undone = cut_at newest_schema newest_schema (MovesTables cs) old new t (changed_all cs t) at (λ db made. made t keyed fresh at.holds) r undone
+undone_at cs old new t r at keyed fresh undone = cut_at newest_schema (MovesTables cs) old new (changed_all cs t) (λ db made. made t keyed fresh at.holds) newest_schema t at r undone

@@ -5,6 +5,5 @@ pub mod Permuted
 pub mod Bridge
 pub mod Ended
 pub mod Opened
-pub mod Fresh
 pub mod Raised
 pub mod Missing

@@ -1,6 +1,7 @@
 -- What the making of missing indexes comes to.
 use Rattle.std.proofs.Common.{◌≡◌, ◌∙◌, inl, inr, refl, sym, ap, subst, ℕ, true, false, List, [], ◌∷◌, map, length, arith, Ok, Err, Result, OnOk, OnErr, MatchResult}
 use Rattle.std.proofs.lemmas.Bool.{cases_Bool}
+use Rattle.std.proofs.lemmas.Result.{on_ok_weaker}
 use Rattle.std.specs.Prelude.{filter}
 use Rattle.std.specs.List.{filter_map}
 use Rattle.sqlite.specs.Change.{is_used}
@@ -80,10 +81,9 @@ missing_has schema (x ∷ indexes) index (inr more) free =
 -- ---- what is gained
 
 pub gained : {X : Type 0} (texts : List (List ℕ)) (old new : State) (r : Result X Fault) → OnOk r (MakesIndexes texts old new) → OnOk r (GainsIndexes texts old.now new.now)
-gained texts old new (Err e) made = tt
-gained texts old new (Ok x) made = λ indexes of_these says t holds.
+gained texts old new r = on_ok_weaker r (λ made indexes of_these says t holds.
     let adds = made desk_forms indexes of_these says in
-    (adds.stands (contents_of t) holds, adds.others (contents_of t) holds, adds.made (contents_of t) holds)
+    (adds.stands (contents_of t) holds, adds.others (contents_of t) holds, adds.made (contents_of t) holds))
 
 -- where no text was run
 none_gained : (db : Database) → GainsIndexes [] db db
@@ -103,10 +103,6 @@ gains_missing old new texts makes gains t holds =
 pub nothing_missing : (db : Database) (texts : List IndexText) → MakeLacking db.schema texts → texts ≡ [] → GainsMissing db db
 nothing_missing db texts makes none = gains_missing db db texts makes (subst (λ (them : List IndexText). GainsIndexes (map sql_of them) db db) (sym none) (none_gained db))
 
-pub none_there : {X : Type 0} (xs : List X) → length xs ≡ 0 → xs ≡ []
-none_there [] none = refl
-none_there (x ∷ xs) none = absurd (omega arith)
-
 -- ---- how it ends
 
 -- a store that is as it was
@@ -124,4 +120,4 @@ module _ (old new : State) (texts : List IndexText) (makes : MakeLacking old.now
   pub gained_at : (r : Result (Unit {0}) Fault) → OnOk r (IsSettled new × GainsIndexes (map sql_of texts) old.now new.now) → OnErr r (IsUndone (GainsIndexes (map sql_of texts)) old new)
       → MatchResult r (λ _. IsAt new t × AddsMissing old.now new.now) (λ _. IsCutShort old new t t)
   gained_at (Ok x) done undone = let it = leads new.now done.1 in (record { settled = done.0; holds = it.0 }, it.1)
-  gained_at (Err e) done undone = cut_at newest_schema newest_schema (GainsIndexes (map sql_of texts)) old new t t at (λ db gains. let it = leads db gains in (it.0, it.1.others)) {X = Unit {0}} {E = Fault} (Err e) undone
+  gained_at (Err e) done undone = cut_at newest_schema (GainsIndexes (map sql_of texts)) old new t (λ db gains. let it = leads db gains in (it.0, it.1.others)) {X = Unit {0}} {E = Fault} newest_schema t at (Err e) undone

@@ -4,6 +4,7 @@ use Rattle.std.specs.List.{AllByRecursion}
 use Rattle.std.specs.List.Sorted.{IsPermutation}
 use Rattle.std.proofs.lemmas.List.Sorted.{IsPermutation-refl}
 use Rattle.std.proofs.lemmas.Bool.{false_from_ne_true}
+use Rattle.std.proofs.lemmas.Result.{on_err_weaker}
 use Rattle.sqlite.specs.Order.{Row}
 use Rattle.sqlite.specs.Tree.{Trees}
 use Rattle.sqlite.specs.Effect.{Database, IsDatabase}
@@ -21,6 +22,7 @@ use Rattle.plant_tables.specs.DeskTables.{contents_of, rows_changed}
 use Rattle.plant_tables.specs.Keyed.{HoldsTables}
 use Rattle.plant_tables.specs.DeskStopping.{IsAt, FindsTables, opening_tables, MakesDesk, IsUnopened}
 use Rattle.plant_tables.proofs.Bridge.{SameRows, stand_as}
+use Rattle.plant_tables.proofs.Ended.{finds_made}
 
 abbrev pub opening_meta : Meta
 opening_meta = record { schema = newest_schema; position = record { seq = 0; at = 0 } }
@@ -44,25 +46,12 @@ desk_made a b c founds moves sound free =
     let stands = founds.stands sound free in
     (stand_as desk_forms c.now _ (contents_of opening_tables) one_row (moves.stands (λ _. []) stands), others_then desk_forms a.now b.now c.now (founds.others sound free) (moves.others (λ _. []) stands))
 
-pub desk_made_so : {X E : Type 0} (a b c : State) (r : Result X E) → Founds desk_forms a b → OnOk r (Moves desk_forms b c (rows_changed (change.Meta opening_meta))) → OnOk r (MakesDesk a.now c.now)
-desk_made_so a b c (Err e) founds moves = tt
-desk_made_so a b c (Ok x) founds moves = desk_made a b c founds moves
-
-pub opened_at : {X E : Type 0} (old new : State) (r : Result X E) → IsDatabase old.now → AreFree desk_forms old.now.schema → OnOk r (IsSettled new × MakesDesk old.now new.now)
-    → OnOk r (IsAt new opening_tables × KeepsOthers desk_forms old.now new.now)
-opened_at old new (Err e) sound free done = tt
-opened_at old new (Ok x) sound free done = let it = done.1 sound free in (record { settled = done.0; holds = it.0 }, it.1)
-
-found_made : (old after : Database) (trees : Trees) → HoldsTables after opening_tables × KeepsOthers desk_forms old after → trees ≡ after.trees → FindsTables old trees opening_tables
-found_made old after trees it same = subst (λ d. FindsTables old d opening_tables) (sym same) (record { schema = after.schema; holds = it.0; others = it.1 })
-
 pub unopened_at : {X E : Type 0} (old new : State) (r : Result X E) → IsDatabase old.now → AreFree desk_forms old.now.schema → OnErr r (IsUndone MakesDesk old new) → OnErr r (IsUnopened old new)
-unopened_at old new (Ok x) sound free undone = tt
-unopened_at old new (Err e) sound free undone = record {
+unopened_at old new r sound free = on_err_weaker r (λ undone. record {
   leaves = undone.leaves;
   nothing_else = λ db left. elim (undone.nothing_else db left) [
     | inl before ↦ inl before
-    | inr made ↦ inr (found_made old.now made.0 db (made.1 sound free) made.2)
+    | inr made ↦ inr (finds_made newest_schema MakesDesk old new opening_tables (λ db made. made sound free) made.0 db made.1 made.2)
   ];
   shows = undone.shows;
-}
+})

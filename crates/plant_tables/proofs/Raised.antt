@@ -203,14 +203,10 @@ module _ (version : ℕ) (position : Position) (added : List RowChange) where
     leads : (db : Database) → RaisesTables version position added old.now db → HoldsTablesOf (version + 1) db (changed_all (raising version position added) t) × KeepsOthers desk_forms old.now db
     leads db made = let it = made older t can in (it.0, it.1)
 
-    pub spared_at : {X E : Type 0} (r : Result X E) → OnOk r (IsSettled new × RaisesTables version position added old.now new.now) → OnOk r (AreFree (later_forms (version + 1)) new.now.schema)
-    spared_at (Ok x) done = (done.1 older t can).2
-    spared_at (Err e) done = tt
-
     pub raised_at : {X E : Type 0} (r : Result X E) → OnOk r (IsSettled new × RaisesTables version position added old.now new.now)
         → OnOk r (IsAtOf (version + 1) new (changed_all (raising version position added) t) × KeepsOthers desk_forms old.now new.now)
-    raised_at r done = ended_at version (version + 1) (RaisesTables version position added) old new t (changed_all (raising version position added) t) at leads r done
+    raised_at r done = ended_at (version + 1) (RaisesTables version position added) old new (changed_all (raising version position added) t) leads r done
 
     pub unraised_at : {X E : Type 0} (r : Result X E) → OnErr r (IsUndone (RaisesTables version position added) old new)
         → OnErr r (IsCutShortOf version (version + 1) old new t (changed_all (raising version position added) t))
-    unraised_at r undone = cut_at version (version + 1) (RaisesTables version position added) old new t (changed_all (raising version position added) t) at leads r undone
+    unraised_at r undone = cut_at (version + 1) (RaisesTables version position added) old new (changed_all (raising version position added) t) leads version t at r undone

@@ -1,14 +1,15 @@
 use Rattle.std.proofs.Common.{◌≡◌, [], rules, arith}
+use Rattle.std.proofs.lemmas.List.{nil_from_length}
 use Rattle.sqlite.specs.Held.{state}
 use Rattle.sqlite.proofs.StateLemmas.{survives_weaker}
 use Rattle.table_forms.proofs.Moving.{survives_none}
-use Rattle.plant_tables.proofs.Missing.{gains_missing, nothing_missing, gained_at, none_lacking, none_there}
+use Rattle.plant_tables.proofs.Missing.{gains_missing, nothing_missing, gained_at, none_lacking}
 use Rattle.plant_tables.proofs.indexing.commit_these.Goals as goal
 
 pub returns-then-is_empty-clause-gained : goal.returns-then-is_empty-clause-gained
 returns-then-is_empty-clause-gained g c =
     let old = state g.S.Store c.args.conn.now in
-    let none : c.args.missing.now ≡ [] = none_there c.args.missing.now (search rules) in
+    let none : c.args.missing.now ≡ [] = nil_from_length c.args.missing.now (search rules) in
     record {
       honest = λ clean. clean;
       gained = λ clean t at. (at, (nothing_missing old.now c.args.missing.now c.requires.lacked none t at.holds).1);

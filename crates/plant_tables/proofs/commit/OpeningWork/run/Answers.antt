@@ -4,7 +4,7 @@ use Rattle.sqlite.specs.Held.{state}
 use Rattle.sqlite.specs.State.{HasCleanDisk}
 use Rattle.table_forms.proofs.Moving.{kept_then}
 use Rattle.plant_base.specs.State.{newest_schema}
-use Rattle.plant_tables.proofs.Opened.{desk_made_so}
+use Rattle.plant_tables.proofs.Opened.{desk_made}
 use Rattle.plant_tables.proofs.commit.OpeningWork.run.Goals as goal
 
 pub returns-clause-made : goal.returns-clause-made
@@ -14,7 +14,7 @@ returns-clause-made g c clean =
     let last = state g.S.Store c.write_change.new.tx.conn.now in
     let was : HasCleanDisk mid = omega (arith, c.write_change.ensures.survives.clean) in
     let moved = rw c.zero.ensures at (c.write_change.ensures.moved clean newest_schema tt) in
-    desk_made_so first mid last c.write_change.result (c.in_ok-create.ensures.founded was) moved
+    on_ok_weaker c.write_change.result (desk_made first mid last (c.in_ok-create.ensures.founded was)) moved
 
 pub returns-clause-kept : goal.returns-clause-kept
 returns-clause-kept g c clean =

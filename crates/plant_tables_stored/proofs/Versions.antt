@@ -14,7 +14,6 @@ use Rattle.table_forms.specs.Standing.{IsFree, AreFree}
 use Rattle.table_reads.specs.Reading.{Lists}
 use Rattle.table_reads.proofs.Same.{lists_same}
 use Rattle.plant_tables.specs.DeskForms.{desk_forms, meta_form}
-use Rattle.plant_tables_stored.specs.declared.finding.FoundTables.TheVariants as answer
 use Rattle.plant_tables_stored.specs.Version.{row_of, IsGoodMeta, IsVersion}
 use Rattle.plant_tables_stored.specs.declared.finding.MetaNumbers.{MetaNumbers}
 
@@ -83,13 +82,3 @@ free_tells_nothing db n free v =
     let unused = meta.unused in
     let named = v.alone.declared.named in
     absurd (let both = rw named at unused in cc)
-
--- the three answers differ
-pub version_or_nothing : (n : ℤ) → answer.Version n ≡ answer.Nothing → ⊥
-version_or_nothing n e = absurd (cc)
-
-pub unknown_or_nothing : answer.NoMeta ≡ answer.Nothing → ⊥
-unknown_or_nothing e = absurd (cc)
-
-pub unknown_or_version : (n : ℤ) → answer.NoMeta ≡ answer.Version n → ⊥
-unknown_or_version n e = absurd (cc)

@@ -7,7 +7,7 @@ use Rattle.table_forms.specs.Standing.{IsFree}
 use Rattle.plant_tables.specs.DeskForms.{desk_forms}
 use Rattle.plant_tables_stored.specs.Version.{IsVersion}
 use Rattle.plant_tables_stored.specs.declared.finding.FoundTables.TheVariants as answer
-use Rattle.plant_tables_stored.proofs.Versions.{are_free, each_free, not_free, one_version, free_tells_nothing, version_or_nothing, unknown_or_nothing, unknown_or_version}
+use Rattle.plant_tables_stored.proofs.Versions.{are_free, each_free, not_free, one_version, free_tells_nothing}
 use Rattle.plant_tables_stored.proofs.finding.found.Goals as goal
 
 pub returns-then-all_free-clause-nothing : goal.returns-then-all_free-clause-nothing
@@ -25,7 +25,7 @@ returns-then-all_free-clause-version g c clean n =
 
 pub returns-in-Some-clause-nothing : goal.returns-in-Some-clause-nothing
 returns-in-Some-clause-nothing g c =
-    (λ e. absurd (version_or_nothing _ e), λ free. absurd (not_free _ _ _ _ c.schema.ensures.value c.desk_forms.ensures c.all_free.ensures (search rules) (each_free c.args.conn.now.schema free)))
+    (λ e. absurd cc, λ free. absurd (not_free _ _ _ _ c.schema.ensures.value c.desk_forms.ensures c.all_free.ensures (search rules) (each_free c.args.conn.now.schema free)))
 
 pub returns-in-Some-clause-version : goal.returns-in-Some-clause-version
 returns-in-Some-clause-version g c clean n =
@@ -38,11 +38,11 @@ returns-in-Some-clause-version g c clean n =
 
 pub returns-in-None-clause-nothing : goal.returns-in-None-clause-nothing
 returns-in-None-clause-nothing g c =
-    (λ e. absurd (unknown_or_nothing e), λ free. absurd (not_free _ _ _ _ c.schema.ensures.value c.desk_forms.ensures c.all_free.ensures (search rules) (each_free c.args.conn.now.schema free)))
+    (λ e. absurd cc, λ free. absurd (not_free _ _ _ _ c.schema.ensures.value c.desk_forms.ensures c.all_free.ensures (search rules) (each_free c.args.conn.now.schema free)))
 
 pub returns-in-None-clause-version : goal.returns-in-None-clause-version
 returns-in-None-clause-version g c clean n =
-    (λ e. absurd (unknown_or_version n e), λ v. absurd (c.in_ok-version.ensures.none clean c.in-None.is n v))
+    (λ e. absurd cc, λ v. absurd (c.in_ok-version.ensures.none clean c.in-None.is n v))
 
 pub returns-then-all_free-clause-taken : goal.returns-then-all_free-clause-taken
 returns-then-all_free-clause-taken g c other = absurd (other refl)

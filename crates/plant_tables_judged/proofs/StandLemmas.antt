@@ -1,7 +1,6 @@
 -- Rows that were read stand for the tables that were loaded.
 use Rattle.std.proofs.Common.{◌≡◌, sym, ap, subst, ◌∙◌, refl, ℕ, zero, suc, ◌+◌, ◌<◌, ◌≤◌, true, List, [], ◌∷◌, length, map, Option, Some, None, is_some, slice_get, slice_index_or, arith}
 use Rattle.std.specs.Bool.{⊤}
-use Rattle.std.specs.Prelude.{option_and_then}
 use Rattle.std.specs.List.{AllByRecursion, filter_map, cons_option}
 use Rattle.std.proofs.lemmas.Bool.{false≢true}
 use Rattle.plant_base.specs.Content.{is_there}
@@ -12,7 +11,7 @@ use Rattle.plant_base.specs.declared.rows.Meta.{Meta}
 use Rattle.table_forms.specs.Forms.{Form}
 use Rattle.plant_tables.specs.DeskForms.{forms_of}
 use Rattle.plant_tables.proofs.DeskTexts.{by_schema}
-use Rattle.std.proofs.lemmas.Option.{slice_get_within}
+use Rattle.std.proofs.lemmas.Option.{option_and_then_some, slice_get_within}
 use Rattle.plant_tables_stored.specs.Loading.{contents_loaded}
 use Rattle.plant_tables_stored.specs.declared.loaded.Loaded.{Loaded}
 use Rattle.plant_tables_columns.specs.Booked.{movement_from}
@@ -45,18 +44,13 @@ pub record AreRows (x : Loaded) (r : Rows) : Type 0 where
   pub recalls : all_from stated_from (contents_loaded x 15) ≡ Some r.recalls
   pub marks : all_from mark_from (contents_loaded x 16) ≡ Some r.marks
 
--- what was read first, and what was made of that
-read_first : {A B C : Type 0} (o : Option A) (f : A → Option B) (y : B) → option_and_then f o ≡ Some y → ((a : A) → o ≡ Some a → f a ≡ Some y → C) → C
-read_first None f y h next = absurd (cc)
-read_first (Some a) f y h next = next a refl h
-
 pub rows_back : (x : Loaded) (r : Rows) → rows_from x ≡ Some r → AreRows x r
 unfolding rows_from
 rows_back x r h =
-    read_first _ _ r h (λ _ meta h. read_first _ _ r h (λ _ classes h. read_first _ _ r h (λ _ definitions h. read_first _ _ r h (λ _ recipes h. read_first _ _ r h (λ _ master_lines h.
-    read_first _ _ r h (λ _ jobs h. read_first _ _ r h (λ _ batches h. read_first _ _ r h (λ _ control_lines h. read_first _ _ r h (λ _ events h.
-    read_first _ _ r h (λ _ lots h. read_first _ _ r h (λ _ sublots h. read_first _ _ r h (λ _ movements h. read_first _ _ r h (λ _ holds h. read_first _ _ r h (λ _ edges h.
-    read_first _ _ r h (λ _ receipts h. read_first _ _ r h (λ _ recalls h. read_first _ _ r h (λ _ marks h.
+    option_and_then_some _ _ r h (λ _ meta h. option_and_then_some _ _ r h (λ _ classes h. option_and_then_some _ _ r h (λ _ definitions h. option_and_then_some _ _ r h (λ _ recipes h. option_and_then_some _ _ r h (λ _ master_lines h.
+    option_and_then_some _ _ r h (λ _ jobs h. option_and_then_some _ _ r h (λ _ batches h. option_and_then_some _ _ r h (λ _ control_lines h. option_and_then_some _ _ r h (λ _ events h.
+    option_and_then_some _ _ r h (λ _ lots h. option_and_then_some _ _ r h (λ _ sublots h. option_and_then_some _ _ r h (λ _ movements h. option_and_then_some _ _ r h (λ _ holds h. option_and_then_some _ _ r h (λ _ edges h.
+    option_and_then_some _ _ r h (λ _ receipts h. option_and_then_some _ _ r h (λ _ recalls h. option_and_then_some _ _ r h (λ _ marks h.
     subst (AreRows x) (some_same _ r h) (record { meta = meta; classes = classes; definitions = definitions; recipes = recipes; master_lines = master_lines; jobs = jobs; batches = batches; control_lines = control_lines; events = events; lots = lots; sublots = sublots; movements = movements; holds = holds; edges = edges; receipts = receipts; recalls = recalls; marks = marks }))))))))))))))))))
 
 -- ---- rows whose columns fit, as those of movements their kind, and those of recalls their state

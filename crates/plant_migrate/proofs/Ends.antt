@@ -1,6 +1,7 @@
 -- How the raising of the tables of a state ends.
 use Rattle.std.proofs.Common.{◌≡◌, ◌∙◌, inl, inr, refl, sym, ap, subst, ℕ, ◌+◌, ◌-◌, ◌≤◌, ◌<◌, nat_le, List, Ok, Err, Result, OnOk, OnErr, arith}
 use Rattle.std.proofs.lemmas.Bool.{cases_Bool}
+use Rattle.std.proofs.lemmas.Result.{on_ok_weaker, on_err_weaker}
 use Rattle.std.proofs.lemmas.Bool.Decides.{nat_tests}
 use Rattle.sqlite.specs.Tree.{Trees}
 use Rattle.sqlite.specs.Effect.{Database}
@@ -55,10 +56,9 @@ module _ (version to : ℕ) (s : State) (position : Position) (edges : List RowC
   pub state_ends : {X E : Type 0} (old new : store.State) (r : Result X E)
       → OnOk r (IsAtOf (version + (to - version)) new (raised_by (to - version) version position edges (tables_of version s)) × KeepsOthers desk_forms old.now new.now)
       → OnOk r (IsAtOf to new (tables_of to s) × KeepsOthers desk_forms old.now new.now)
-  state_ends old new (Err e) ended = tt
-  state_ends old new (Ok x) ended =
+  state_ends old new r = on_ok_weaker r (λ ended.
       let at : IsAtOf (version + (to - version)) new (tables_of (version + (to - version)) s) = subst (IsAtOf (version + (to - version)) new) (raised_is (to - version) (omega (arith, upward))) ended.0 in
-      (subst (λ k. IsAtOf k new (tables_of k s)) all_done at, ended.1)
+      (subst (λ k. IsAtOf k new (tables_of k s)) all_done at, ended.1))
 
   cut_amid : (old new : store.State) → IsCutShortWithin version (to - version) (λ done. raised_by done version position edges (tables_of version s)) old new → IsCutShortAmid version to old new s
   cut_amid old new cut = record {
@@ -78,8 +78,7 @@ module _ (version to : ℕ) (s : State) (position : Position) (edges : List RowC
 
   pub state_cut : {X E : Type 0} (old new : store.State) (r : Result X E) → OnErr r (IsCutShortWithin version (to - version) (λ done. raised_by done version position edges (tables_of version s)) old new)
       → OnErr r (IsCutShortAmid version to old new s)
-  state_cut old new (Ok x) cut = tt
-  state_cut old new (Err e) cut = cut_amid old new cut
+  state_cut old new r = on_err_weaker r (cut_amid old new)
 
   -- what is to be found where the tables of the state were raised
   pub finds_raised : (old : store.State) (trees : Trees) → IsSettled old → HoldsTablesOf version old.now (tables_of version s) → AreKeyed (tables_of version s) → (made : IsRaisedBy version (to - version) position edges old trees)

@@ -20,9 +20,6 @@ use Rattle.plant_migrate.specs.Leaving.{IsCutShortAmid, FindsBetween, raised_to}
 pub keeps_itself : (s : State) → Keeps s s
 keeps_itself s = record { was_open = λ live. live; now = λ _. refl; committed = λ _. refl }
 
-pub untouched : (s : State) (Commits : Trees → Type 0) → Survives s s Commits
-untouched s Commits = record { clean = omega arith; shield = λ h. h; counts = omega arith; limit = refl; closes = λ clean live. inl live; crash = λ clean db left. inl left }
-
 pub settled_still : (old new : State) → IsSettled old → Keeps old new → IsStore new → IsTrue new.is_open → IsSettled new
 settled_still old new settled kept laws live = record {
   is_open = live;

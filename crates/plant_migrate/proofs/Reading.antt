@@ -1,5 +1,6 @@
 -- What is read of the tables of a state before they are raised.
 use Rattle.std.proofs.Common.{◌≡◌, ◌∙◌, inl, inr, ◌-◌, ◌<◌, refl, sym, ap, subst, ℕ, List, [], ◌∷◌, Some, Ok, Err, Result, OnOk, OnErr}
+use Rattle.std.proofs.lemmas.Result.{on_err_weaker}
 use Rattle.std.specs.List.Sorted.{IsStrictlySortedBy}
 use Rattle.sqlite.specs.Effect.{Database}
 use Rattle.sqlite.specs.Order.{Row}
@@ -49,8 +50,7 @@ pub ends_since : {X E : Type 0} (to : ℕ) (first mid new : store.State) (s : St
 ends_since to first mid new s r same done = subst (λ (d : Database). OnOk r (IsAtOf to new (tables_of to s) × KeepsOthers desk_forms d new.now)) same done
 
 pub cut_since : {X E : Type 0} (version to : ℕ) (first mid new : store.State) (s : State) (r : Result X E) → mid.now ≡ first.now → OnErr r (IsCutShortAmid version to mid new s) → OnErr r (IsCutShortAmid version to first new s)
-cut_since version to first mid new s (Ok x) same cut = tt
-cut_since version to first mid new s (Err e) same cut = amid_since version to first mid new s same cut
+cut_since version to first mid new s r same = on_err_weaker r (amid_since version to first mid new s same)
 
 -- ---- what was made of it
 

@@ -2,17 +2,19 @@ use Rattle.std.proofs.Common.{◌≡◌, ◌≤◌, ◌<◌, pos, subst, rules, 
 use mir.Val.{SFits}
 use Rattle.std.specs.Int.Signed.{◌≤ℤ◌}
 use Rattle.sqlite.specs.Held.{Held, state}
-use Rattle.sqlite.specs.State.{HasCleanDisk, IsUnchanged}
+use Rattle.sqlite.specs.State.{HasCleanDisk, IsUnchanged, Survives}
 use Rattle.sqlite.proofs.StateLemmas.{survives_then, survives_weaker}
 use Rattle.plant_base.specs.State.{newest_schema}
 use Rattle.plant_view.specs.Tables.{tables_of}
 use Rattle.table_forms.proofs.Ending.{IsStore}
 use Rattle.plant_tables_stored.specs.Version.{IsVersion}
 use Rattle.plant_tables_stored.proofs.Versions.{one_version}
+use Rattle.plant_migrate.specs.Leaving.{IsRaisedTo}
 use Rattle.plant_migrate.proofs.Kept.{settled_still, not_raised}
 use Rattle.plant_migrate.proofs.Versions.{version_is, not_below, below, tells_known, stays_at, handed_on, rises_to, cut_from, raised_told}
 use Rattle.plant_migrate.proofs.Faults.{memory_alone}
 use Rattle.plant_migrate.proofs.raising.raise.Given.{Over}
+use Rattle.plant_migrate.proofs.raising.raise.Goals.{After-raise_from}
 use Rattle.plant_migrate.proofs.raising.raise.Goals as goal
 
 -- the store of a connection obeys the laws of stores
@@ -81,8 +83,9 @@ returns-in-Err-raise_from-clause-cut_short g c clean version s readable =
     let fits : SFits w64 c.in-Ok-Version.version = search rules in
     cut_from version _ c.args.to old mid new s (handed_on version c.in-Ok-Version.version fits is) readable (c.found.ensures.kept was) store same.0.is_open (c.in-Err-raise_from.ensures.cut_short clean)
 
-pub returns-in-Ok-raise_from-clause-crash : goal.returns-in-Ok-raise_from-clause-crash
-returns-in-Ok-raise_from-clause-crash g c =
+-- what a stop leaves of the raising
+raised_so : (g : Over) (c : After-raise_from g) → Survives (state g.S.Store c.args.conn.now) (state g.S.Store c.raise_from.new.conn) (IsRaisedTo c.args.to (state g.S.Store c.args.conn.now))
+raised_so g c =
     let old = state g.S.Store c.args.conn.now in
     let mid = state g.S.Store c.found.new.conn in
     let store = is_store g c.found.new.conn in
@@ -95,19 +98,11 @@ returns-in-Ok-raise_from-clause-crash g c =
     let fits : SFits w64 c.in-Ok-Version.version = search rules in
     raised_told c.args.to old mid trees c.in-Ok-Version.version fits told c.requires.known c.if-version-to.false same.0.now_is (λ settled. settled_still old mid settled (c.found.ensures.kept was) store same.0.is_open) made) c.found.ensures.crash c.raise_from.ensures.crash
 
+pub returns-in-Ok-raise_from-clause-crash : goal.returns-in-Ok-raise_from-clause-crash
+returns-in-Ok-raise_from-clause-crash g c = raised_so g (goal.at.returns-in-Ok-raise_from-clause-crash g c).After-raise_from
+
 pub returns-in-Err-raise_from-clause-crash : goal.returns-in-Err-raise_from-clause-crash
-returns-in-Err-raise_from-clause-crash g c =
-    let old = state g.S.Store c.args.conn.now in
-    let mid = state g.S.Store c.found.new.conn in
-    let store = is_store g c.found.new.conn in
-    let new = state g.S.Store c.raise_from.new.conn in
-    survives_then old mid new _ _ _ (λ _ db none. absurd none)
-    (λ clean trees made.
-    let was : HasCleanDisk mid = c.raise_from.ensures.clean clean in
-    let same : IsUnchanged old mid = c.in-Ok-Version.ensures.same was _ c.in-Ok-Version.field-0-is in
-    let told : IsVersion old.now c.in-Ok-Version.version = (c.in-Ok-Version.ensures.version was _).0 c.in-Ok-Version.field-0-is in
-    let fits : SFits w64 c.in-Ok-Version.version = search rules in
-    raised_told c.args.to old mid trees c.in-Ok-Version.version fits told c.requires.known c.if-version-to.false same.0.now_is (λ settled. settled_still old mid settled (c.found.ensures.kept was) store same.0.is_open) made) c.found.ensures.crash c.raise_from.ensures.crash
+returns-in-Err-raise_from-clause-crash g c = raised_so g (goal.at.returns-in-Err-raise_from-clause-crash g c).After-raise_from
 
 pub returns-in-Ok-raise_from-clause-not_newer : goal.returns-in-Ok-raise_from-clause-not_newer
 returns-in-Ok-raise_from-clause-not_newer g c clean n v =

@@ -1,11 +1,12 @@
 use Rattle.std.proofs.Common.{◌≡◌, ◌∙◌, sym, ap, subst}
 use Rattle.sqlite.specs.Held.{state}
 use Rattle.table_forms.proofs.Ending.{IsStore}
+use Rattle.table_forms.proofs.Moving.{survives_none}
 use Rattle.plant_view.specs.Tables.{tables_of}
 use Rattle.plant_migrate.specs.Raised.{edges_from, AreEdges}
 use Rattle.plant_migrate.proofs.Chains.{edges_from_are, listed_from}
 use Rattle.plant_migrate.proofs.Ends.{state_risable, position_told, bookings_told, state_ends, state_cut}
-use Rattle.plant_migrate.proofs.Kept.{keeps_itself, untouched, not_raised}
+use Rattle.plant_migrate.proofs.Kept.{keeps_itself, not_raised}
 use Rattle.plant_migrate.proofs.rows.raise_rows.Goals as goal
 
 pub raise_by-requires-clause-edges : goal.raise_by-requires-clause-edges
@@ -41,4 +42,4 @@ returns-in-Err-clause-cut_short g c clean s at keyed whole are =
     let held = c.args.conn.now in
     let old = state g.S.Store held in
     let store : IsStore old = record { settled = g.met.S.Store.settled held.store; stays = g.met.S.Store.stays held.store; something = g.met.S.Store.survives held.store } in
-    not_raised c.args.version c.args.to old old s at (keeps_itself old) store clean (untouched old _)
+    not_raised c.args.version c.args.to old old s at (keeps_itself old) store clean (survives_none old)

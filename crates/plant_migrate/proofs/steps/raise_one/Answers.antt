@@ -4,12 +4,13 @@ use Rattle.sqlite.specs.Held.{state}
 use Rattle.sqlite.specs.State.{Survives}
 use Rattle.sqlite.proofs.StateLemmas.{survives_weaker}
 use Rattle.table_forms.proofs.Ending.{IsStore}
+use Rattle.table_forms.proofs.Moving.{survives_none}
 use Rattle.table_forms.specs.Standing.{AreFree, KeepsOthers}
 use Rattle.plant_tables.specs.DeskForms.{desk_forms, later_forms}
 use Rattle.plant_tables.specs.DeskStopping.{IsAtOf, IsCutShortOf}
 use Rattle.plant_tables.specs.Raising.{RaisesTables}
 use Rattle.plant_migrate.specs.Raised.{raised_once}
-use Rattle.plant_migrate.proofs.Kept.{keeps_itself, untouched, not_begun}
+use Rattle.plant_migrate.proofs.Kept.{keeps_itself, not_begun}
 use Rattle.plant_migrate.proofs.Chains.{once_led}
 use Rattle.plant_migrate.proofs.steps.raise_one.Goals as goal
 
@@ -45,7 +46,7 @@ returns-then-not-can_rise-clause-cut_short g c clean settled t can =
     let held = c.args.conn.now in
     let old = state g.S.Store held in
     let store : IsStore old = record { settled = g.met.S.Store.settled held.store; stays = g.met.S.Store.stays held.store; something = g.met.S.Store.survives held.store } in
-    not_begun c.args.version old old t (record { settled = settled; holds = can.holds }) (keeps_itself old) store (c.args.version + 1) (raised_once c.args.version c.args.position.now c.args.edges.now t) clean (untouched old _)
+    not_begun c.args.version old old t (record { settled = settled; holds = can.holds }) (keeps_itself old) store (c.args.version + 1) (raised_once c.args.version c.args.position.now c.args.edges.now t) clean (survives_none old)
 
 pub returns-then-not-can_rise-clause-survives : goal.returns-then-not-can_rise-clause-survives
-returns-then-not-can_rise-clause-survives g c = untouched (state g.S.Store c.args.conn.now) _
+returns-then-not-can_rise-clause-survives g c = survives_weaker _ _ _ _ (λ clean db none. absurd none) (survives_none (state g.S.Store c.args.conn.now))

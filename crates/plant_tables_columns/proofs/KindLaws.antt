@@ -1,6 +1,6 @@
 -- What one value was read from, and what is read of a value that obeys its rule.
 use Rattle.std.proofs.Common.{◌≡◌, refl, sym, ap, ◌∙◌, subst, ℕ, zero, suc, ◌≤◌, ℤ, pos, negsuc, List, ◌∷◌, Bool, true, false, [], Option, Some, None, option_map, nat_le, arith}
-use Rattle.std.proofs.lemmas.Bool.{and_parts}
+use Rattle.std.proofs.lemmas.Bool.{and_parts, leb-true}
 use Rattle.std.proofs.lemmas.Bool.Decides.{nat_tests}
 use Rattle.std.specs.Prelude.{if◌then◌else◌, unwrap_or}
 use Rattle.std.specs.Bool.{⊤}
@@ -16,7 +16,7 @@ use Rattle.table_forms.specs.Forms.{integer, text, integer_or_null, text_or_null
 use Rattle.table_forms.specs.Rows.{fits_columns}
 use Rattle.plant_tables_columns.specs.Columns.{Kind}
 use Rattle.plant_tables_columns.specs.Kinds.{number, flag, null_or, ids, texts, units, dues, contents, numbers, line_numbers, always_one, flags, ids_or_none, sublot_numbers_or_none, moments_or_none, texts_or_none}
-use Rattle.plant_tables_columns.specs.Reading.{text_in, integer_in, is_null, by_text, by_number, id_from, text_from, unit_from, due_from, content_in, content_from, is_in, number_in, number_from, moment_from, sublot_number_from, line_number, line_number_from, flag_from, or_null, id_or_null, sublot_or_null, moment_or_null, readable_or_null}
+use Rattle.plant_tables_columns.specs.Reading.{text_in, integer_in, is_null, by_text, by_number, id_from, text_from, unit_from, due_from, content_in, content_from, is_in, number_in, number_from, line_number, line_number_from, flag_from, or_null, id_or_null, sublot_or_null, moment_or_null, readable_or_null}
 use Rattle.plant_tables_columns.proofs.Options.{bound, mapped, some_same, only_back, only_again}
 
 -- How a kind of value is stored in a column and read of it: it is stored as the column is declared; what was read is what
@@ -68,29 +68,20 @@ pub due_kind : IsKind dues (λ a. is_due a ≡ true) Any
 unfolding due_from
 due_kind = only_kind is_due
 
--- a content that isn't empty is what was stored
-content_back : (bytes c : List ℕ) → content_in bytes ≡ c → is_there c ≡ true → bytes ≡ c
-content_back bytes c h there = elim (list_all is_ascii bytes) as (λ b. (if b then bytes else []) ≡ c → bytes ≡ c) [
-  | true ↦ λ e. e
-  | false ↦ λ e. absurd (let none : is_there [] ≡ true = subst (λ x. is_there x ≡ true) (sym e) there in cc)
-] h
-
-content_again : (c : List ℕ) → list_all is_ascii c ≡ true → content_in c ≡ c
-content_again c good = rw good refl
-
-content_keeps : (bytes c : List ℕ) → content_in bytes ≡ c → list_all is_ascii c ≡ true
-content_keeps bytes c h = elim (list_all is_ascii bytes) as (λ b. list_all is_ascii bytes ≡ b → (if b then bytes else []) ≡ c → list_all is_ascii c ≡ true) [
-  | true ↦ λ is e. subst (λ x. list_all is_ascii x ≡ true) e is
-  | false ↦ λ is e. subst (λ x. list_all is_ascii x ≡ true) e refl
+-- what is read as a content is one of ASCII, and is what was stored where it isn't empty
+content_read : (bytes c : List ℕ) → content_in bytes ≡ c → (list_all is_ascii c ≡ true) × (is_there c ≡ true → bytes ≡ c)
+content_read bytes c h = elim (list_all is_ascii bytes) as (λ b. list_all is_ascii bytes ≡ b → (if b then bytes else []) ≡ c → (list_all is_ascii c ≡ true) × (is_there c ≡ true → bytes ≡ c)) [
+  | true ↦ λ is e. (subst (λ x. list_all is_ascii x ≡ true) e is, λ there. e)
+  | false ↦ λ is e. (subst (λ x. list_all is_ascii x ≡ true) e refl, λ there. absurd (let none : is_there [] ≡ true = subst (λ x. is_there x ≡ true) (sym e) there in cc))
 ] refl h
 
 pub content_kind : IsKind contents (λ c. list_all is_ascii c ≡ true) (λ c. is_there c ≡ true)
 unfolding content_from
 content_kind = record {
   fits = λ name c. refl;
-  back = λ v c h there. let p = bound (text_in v) (λ bytes. Some (content_in bytes)) c h in text_is v p.0 p.1 ∙ ap Text (content_back p.0 c (some_same _ _ p.2) there);
-  again = λ c good _. ap Some (content_again c good);
-  keeps = λ v c h. let p = bound (text_in v) (λ bytes. Some (content_in bytes)) c h in content_keeps p.0 c (some_same _ _ p.2);
+  back = λ v c h there. let p = bound (text_in v) (λ bytes. Some (content_in bytes)) c h in text_is v p.0 p.1 ∙ ap Text ((content_read p.0 c (some_same _ _ p.2)).1 there);
+  again = λ c good _. rw good refl;
+  keeps = λ v c h. let p = bound (text_in v) (λ bytes. Some (content_in bytes)) c h in (content_read p.0 c (some_same _ _ p.2)).0;
 }
 
 -- ---- numbers
@@ -163,22 +154,15 @@ one_kind = record {
 abbrev pub IsNumbered : ℕ → Type 0
 IsNumbered n = 1 ≤ n
 
-numbered_back : (z : ℤ) (n : ℕ) → line_number z ≡ n → 1 ≤ n → z ≡ pos n
-numbered_back z n h low = go (number_in 1 65535 z) refl h
+-- what is read as the number of a line is one that a column holds, and is what was stored where a line can have it
+numbered_read : (z : ℤ) (n : ℕ) → line_number z ≡ n → (n ≤ 65535) × (1 ≤ n → z ≡ pos n)
+numbered_read z n h = go (number_in 1 65535 z) refl h
   where
-    go : (o : Option ℕ) → number_in 1 65535 z ≡ o → unwrap_or o 0 ≡ n → z ≡ pos n
-    go None e f = let zero_is : 0 ≡ n = f in absurd (omega arith)
-    go (Some m) e f = number_back 1 65535 z m e ∙ ap pos f
-
-numbered_keeps : (z : ℤ) (n : ℕ) → line_number z ≡ n → n ≤ 65535
-numbered_keeps z n h = go (number_in 1 65535 z) refl h
-  where
-    go : (o : Option ℕ) → number_in 1 65535 z ≡ o → unwrap_or o 0 ≡ n → n ≤ 65535
-    go None e f = let zero_is : 0 ≡ n = f in omega arith
+    go : (o : Option ℕ) → number_in 1 65535 z ≡ o → unwrap_or o 0 ≡ n → (n ≤ 65535) × (1 ≤ n → z ≡ pos n)
+    go None e f = let zero_is : 0 ≡ n = f in (omega arith, λ low. absurd (omega arith))
     go (Some m) e f =
-        let most : nat_le m 65535 ≡ true = (and_parts (nat_le 1 m) (nat_le m 65535) (number_keeps 1 65535 z m e)).1 in
-        let same : m ≡ n = f in
-        grind (arith, nat_tests)
+        let most : m ≤ 65535 = leb-true m 65535 (and_parts (nat_le 1 m) (nat_le m 65535) (number_keeps 1 65535 z m e)).1 in
+        (subst (λ k. k ≤ 65535) f most, λ low. number_back 1 65535 z m e ∙ ap pos f)
 
 numbered_again : (n : ℕ) → n ≤ 65535 → 1 ≤ n → line_number (pos n) ≡ n
 numbered_again n most least =
@@ -189,7 +173,7 @@ numbered_again n most least =
 
 pub line_number_kind : IsKind line_numbers (λ n. n ≤ 65535) IsNumbered
 unfolding line_number_from
-line_number_kind = integer_kind (λ n. Some (line_number n)) pos (λ n. n ≤ 65535) IsNumbered (λ z n h low. numbered_back z n (some_same _ _ h) low) (λ n most least. ap Some (numbered_again n most least)) (λ z n h. numbered_keeps z n (some_same _ _ h))
+line_number_kind = integer_kind (λ n. Some (line_number n)) pos (λ n. n ≤ 65535) IsNumbered (λ z n h. (numbered_read z n (some_same _ _ h)).1) (λ n most least. ap Some (numbered_again n most least)) (λ z n h. (numbered_read z n (some_same _ _ h)).0)
 
 flag_at : (k : ℕ) → is_in 0 1 k ≡ true → number k ≡ flag (nat_le 1 k)
 flag_at zero h = refl
@@ -224,29 +208,26 @@ pub null_is : (v : Value) → is_null v ≡ true → v ≡ Null
 null_is Null h = refl
 null_is _ h = absurd (cc)
 
-pub or_null_kind : {A : Type 0} (declared : List ℕ → Column) (read : Value → Option A) (stored : A → Value) (good : A → Type 0)
-    → ((name : List ℕ) (o : Option A) → fits_columns (declared name ∷ []) (null_or stored o ∷ []) ≡ true)
-    → ((v : Value) (a : A) → read v ≡ Some a → v ≡ stored a)
-    → ((a : A) → good a → read (stored a) ≡ Some a)
-    → ((v : Value) (a : A) → read v ≡ Some a → good a)
-    → ((a : A) → is_null (stored a) ≡ false)
-    → IsKind (record { declared = declared; stored = null_or stored; read = or_null read }) (GoodOrNone good) Any
-or_null_kind {A} declared read stored good fit backward again_one keeps_one there = record { fits = fit; back = λ v o h _. back v o h; again = λ o is _. again o is; keeps = keeps }
+pub or_null_kind : {A : Type 0} (declared : List ℕ → Column) (kind : Kind A) (good : A → Type 0) → IsKind kind good Any
+    → ((name : List ℕ) (o : Option A) → fits_columns (declared name ∷ []) (null_or kind.stored o ∷ []) ≡ true)
+    → ((a : A) → is_null (kind.stored a) ≡ false)
+    → IsKind (record { declared = declared; stored = null_or kind.stored; read = or_null kind.read }) (GoodOrNone good) Any
+or_null_kind {A} declared kind good laws fit there = record { fits = fit; back = λ v o h _. back v o h; again = λ o is _. again o is; keeps = keeps }
   where
-    back : (v : Value) (o : Option A) → or_null read v ≡ Some o → v ≡ null_or stored o
-    back v o h = elim (is_null v) as (λ b. is_null v ≡ b → (if b then Some None else option_map Some (read v)) ≡ Some o → v ≡ null_or stored o) [
-      | true ↦ λ e f. null_is v e ∙ ap (null_or stored) (some_same None o f)
-      | false ↦ λ e f. let p = mapped Some (read v) o f in backward v p.0 p.1 ∙ ap (null_or stored) p.2
+    back : (v : Value) (o : Option A) → or_null kind.read v ≡ Some o → v ≡ null_or kind.stored o
+    back v o h = elim (is_null v) as (λ b. is_null v ≡ b → (if b then Some None else option_map Some (kind.read v)) ≡ Some o → v ≡ null_or kind.stored o) [
+      | true ↦ λ e f. null_is v e ∙ ap (null_or kind.stored) (some_same None o f)
+      | false ↦ λ e f. let p = mapped Some (kind.read v) o f in laws.back v p.0 p.1 tt ∙ ap (null_or kind.stored) p.2
     ] refl h
 
-    again : (o : Option A) → GoodOrNone good o → or_null read (null_or stored o) ≡ Some o
+    again : (o : Option A) → GoodOrNone good o → or_null kind.read (null_or kind.stored o) ≡ Some o
     again None is = refl
-    again (Some a) is = rw (there a, again_one a is) refl
+    again (Some a) is = rw (there a, laws.again a is tt) refl
 
-    keeps : (v : Value) (o : Option A) → or_null read v ≡ Some o → GoodOrNone good o
-    keeps v o h = elim (is_null v) as (λ b. (if b then Some None else option_map Some (read v)) ≡ Some o → GoodOrNone good o) [
+    keeps : (v : Value) (o : Option A) → or_null kind.read v ≡ Some o → GoodOrNone good o
+    keeps v o h = elim (is_null v) as (λ b. (if b then Some None else option_map Some (kind.read v)) ≡ Some o → GoodOrNone good o) [
       | true ↦ λ f. subst (GoodOrNone good) (some_same None o f) tt
-      | false ↦ λ f. let p = mapped Some (read v) o f in subst (GoodOrNone good) p.2 (keeps_one v p.0 p.1)
+      | false ↦ λ f. let p = mapped Some (kind.read v) o f in subst (GoodOrNone good) p.2 (laws.keeps v p.0 p.1)
     ] h
 
 text_fits : (name : List ℕ) (o : Option (List ℕ)) → fits_columns (text_or_null name ∷ []) (null_or Text o ∷ []) ≡ true
@@ -255,7 +236,7 @@ text_fits name (Some bytes) = refl
 
 pub optional_id_kind : IsKind ids_or_none (GoodOrNone (λ a. is_id a ≡ true)) Any
 unfolding id_or_null
-optional_id_kind = or_null_kind text_or_null id_from Text (λ a. is_id a ≡ true) text_fits (λ v a h. id_kind.back v a h tt) (λ a is. id_kind.again a is tt) id_kind.keeps (λ a. refl)
+optional_id_kind = or_null_kind text_or_null ids (λ a. is_id a ≡ true) id_kind text_fits (λ a. refl)
 
 number_fits : (name : List ℕ) (o : Option ℕ) → fits_columns (integer_or_null name ∷ []) (null_or number o ∷ []) ≡ true
 number_fits name None = refl
@@ -263,12 +244,12 @@ number_fits name (Some n) = refl
 
 pub optional_sublot_kind : IsKind sublot_numbers_or_none (GoodOrNone (λ n. nat_le n greatest_sublot ≡ true)) Any
 unfolding sublot_or_null
-optional_sublot_kind = or_null_kind integer_or_null sublot_number_from number (λ n. nat_le n greatest_sublot ≡ true) number_fits (λ v a h. (below_kind greatest_sublot).back v a h tt) (λ a is. (below_kind greatest_sublot).again a is tt) (below_kind greatest_sublot).keeps (λ a. refl)
+optional_sublot_kind = or_null_kind integer_or_null (numbers 0 greatest_sublot) (λ n. nat_le n greatest_sublot ≡ true) (below_kind greatest_sublot) number_fits (λ a. refl)
 
 pub optional_moment_kind : IsKind moments_or_none (GoodOrNone (λ n. is_moment n ≡ true)) Any
 unfolding moment_or_null
-optional_moment_kind = or_null_kind integer_or_null moment_from number (λ n. is_moment n ≡ true) number_fits (λ v a h. (below_kind greatest_moment).back v a h tt) (λ a is. (below_kind greatest_moment).again a is tt) (below_kind greatest_moment).keeps (λ a. refl)
+optional_moment_kind = or_null_kind integer_or_null (numbers 0 greatest_moment) (λ n. is_moment n ≡ true) (below_kind greatest_moment) number_fits (λ a. refl)
 
 pub optional_text_kind : IsKind texts_or_none (GoodOrNone (λ a. is_text a ≡ true)) Any
 unfolding readable_or_null
-optional_text_kind = or_null_kind text_or_null text_from Text (λ a. is_text a ≡ true) text_fits (λ v a h. text_like.back v a h tt) (λ a is. text_like.again a is tt) text_like.keeps (λ a. refl)
+optional_text_kind = or_null_kind text_or_null texts (λ a. is_text a ≡ true) text_like text_fits (λ a. refl)

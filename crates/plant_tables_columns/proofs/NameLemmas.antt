@@ -1,5 +1,5 @@
 -- The words and numbers that states, events and kinds were read from, and what is read from theirs.
-use Rattle.std.proofs.Common.{◌≡◌, refl, sym, ap, ◌∙◌, subst, ℕ, ℤ, pos, arith, List, Bool, true, false, Some, option_map, find, codes, nat_le}
+use Rattle.std.proofs.Common.{◌≡◌, refl, sym, ap, ◌∙◌, subst, ℕ, ℤ, pos, arith, List, Bool, true, false, Some, option_map, codes, nat_le}
 use Rattle.std.proofs.lemmas.Bool.{and_parts}
 use Rattle.std.proofs.lemmas.Bool.Decides.{nat_tests}
 use Rattle.std.specs.Prelude.{if◌then◌else◌, option_and_then}

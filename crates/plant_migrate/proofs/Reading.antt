@@ -1,5 +1,5 @@
 -- What is read of the tables of a state before they are raised.
-use Rattle.std.proofs.Common.{◌≡◌, ◌∙◌, inl, inr, ◌-◌, ◌<◌, refl, sym, ap, subst, ℕ, List, [], ◌∷◌, Some, Ok, Err, Result, OnOk, OnErr}
+use Rattle.std.proofs.Common.{◌≡◌, ◌∙◌, inl, inr, ◌-◌, ◌<◌, refl, sym, ap, subst, ℕ, List, [], ◌∷◌, Some, Result, OnOk, OnErr}
 use Rattle.std.proofs.lemmas.Result.{on_err_weaker}
 use Rattle.std.specs.List.Sorted.{IsStrictlySortedBy}
 use Rattle.sqlite.specs.Effect.{Database}

@@ -20,13 +20,14 @@ use Rattle.sqlite_value.specs.Keys.{first_key}
 use Rattle.plant_base.specs.Edges.{edge_kind_number, edge_order, edge_total}
 use Rattle.plant_base.specs.Recalls.{mark_kind_number, mark_order, mark_total}
 use Rattle.plant_base.specs.State.{same, put, class_order, definition_order, recipe_order, master_line_order, job_order, control_line_order, lot_order, hold_order, receipt_order, recall_order}
-use Rattle.plant_base.proofs.Put.{sorted_put}
+use Rattle.plant_base.proofs.Put.{all_weaker, sorted_put}
 use Rattle.plant_base.specs.declared.rows.Meta.{Meta}
 use Rattle.plant_base.specs.declared.rows.BatchRow.{BatchRow}
 use Rattle.plant_base.specs.declared.rows.BatchEvent.{BatchEvent}
 use Rattle.plant_base.specs.declared.rows.Movement.{Movement}
 use Rattle.plant_base.specs.declared.rows.Hold.{Hold}
 use Rattle.plant_base.specs.declared.rows.Mark.{Mark}
+use Rattle.plant_view.proofs.Rows.{all_of}
 pub use Rattle.plant_view.proofs.Rows.{all_filtered as all_filter}
 use Rattle.plant_view.specs.Recalls.{without_marks}
 use Rattle.plant_view.specs.Tables.{Tables, batch_row_order, sublot_order, changed, changed_all, without_hold}
@@ -63,13 +64,8 @@ record IsKey {R : Type 0} (order : R → R → Ordering) (enc : R → Row) (form
   met : (x r : R) → meets form (enc x) (enc r) ≡ is_eq (order x r)
 
 module _ {R : Type 0} {order : R → R → Ordering} {enc : R → Row} {form : Form} (key : IsKey order enc form) where
-  -- the test of a key turned round, for each row
-  ties : (r : R) (xs : List R) → AllByRecursion (λ x. meets form (enc x) (enc r) ≡ is_eq (order r x)) xs
-  ties r [] = tt
-  ties r (x ∷ xs) = (key.met x r ∙ (eq_by_cmp_equiv key.total).symm x r, ties r xs)
-
   put_typed : (r : R) (xs : List R) → IsStrictlySortedBy order xs → IsPermutation (rows.put form (enc r) (map enc xs)) (map enc (put order r xs))
-  put_typed r xs sorted = put_by_key enc form r order key.total xs sorted (ties r xs)
+  put_typed r xs sorted = put_by_key enc form r order key.total xs sorted (all_of _ (λ x. key.met x r ∙ (eq_by_cmp_equiv key.total).symm x r) xs)
 
 -- ---- the keys of the tables
 
@@ -131,23 +127,19 @@ batch_total = on_total (λ r. r.batch.id) nat_list_cmp_total
 -- a batch of an order that no other is of meets the one with its id alone
 batch_ties : (r : BatchRow) (xs : List BatchRow) → AllByRecursion (λ b. same b.batch.job r.batch.job ≡ true → same b.batch.id r.batch.id ≡ true) xs
     → AllByRecursion (λ x. meets batch_form (row_of_batch x) (row_of_batch r) ≡ is_eq (batch_row_order r x)) xs
-batch_ties r [] fresh = tt
-batch_ties r (x ∷ xs) fresh =
+batch_ties r = all_weaker _ _ (λ x fresh.
     let one = one_text x.batch.id r.batch.id [] [] in
     let two = second_text x.batch.job r.batch.job [] [] x.batch.id r.batch.id in
     let both : meets batch_form (row_of_batch x) (row_of_batch r) ≡ (same x.batch.id r.batch.id || same x.batch.job r.batch.job) =
     rw (one, two, or_false) (rw (texts_ties x.batch.id r.batch.id, texts_ties x.batch.job r.batch.job) refl) in
     let tied : same x.batch.id r.batch.id ≡ is_eq (batch_row_order r x) = texts_ties x.batch.id r.batch.id ∙ (eq_by_cmp_equiv batch_total).symm x r in
-    (both ∙ (implied_or _ _ fresh.0 ∙ tied), batch_ties r xs fresh.1)
+    both ∙ (implied_or _ _ fresh ∙ tied))
 
 events_apart : (r : BatchEvent) (xs : List BatchEvent) → AllByRecursion (λ e. (e.seq == r.seq) ≡ false) xs → AllByRecursion (λ x. meets batch_event_form (row_of_event x) (row_of_event r) ≡ false) xs
-events_apart r [] fresh = tt
-events_apart r (x ∷ xs) fresh = (or_false _ ∙ (one_number x.seq r.seq [] [] ∙ (sym (unsigned_ties x.seq r.seq) ∙ fresh.0)), events_apart r xs fresh.1)
+events_apart r = all_weaker _ _ (λ x fresh. or_false _ ∙ (one_number x.seq r.seq [] [] ∙ (sym (unsigned_ties x.seq r.seq) ∙ fresh)))
 
 movements_apart : (r : Movement) (xs : List Movement) → AllByRecursion (λ m. (m.seq == r.seq && m.line == r.line) ≡ false) xs → AllByRecursion (λ x. meets movement_form (row_of_movement x) (row_of_movement r) ≡ false) xs
-movements_apart r [] fresh = tt
-movements_apart r (x ∷ xs) fresh =
-    (or_false _ ∙ (two_numbers x.seq r.seq x.line r.line [] [] ∙ rw (sym (unsigned_ties x.seq r.seq), sym (unsigned_ties x.line r.line)) fresh.0), movements_apart r xs fresh.1)
+movements_apart r = all_weaker _ _ (λ x fresh. or_false _ ∙ (two_numbers x.seq r.seq x.line r.line [] [] ∙ rw (sym (unsigned_ties x.seq r.seq), sym (unsigned_ties x.line r.line)) fresh))
 
 hold_taken : (lot hold : List ℕ) (hs : List Hold) → take_away (1 ∷ 2 ∷ []) (Text lot ∷ Text hold ∷ []) (map row_of_hold hs) ≡ map row_of_hold (without_hold lot hold hs)
 hold_taken lot hold [] = refl

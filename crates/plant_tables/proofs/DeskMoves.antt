@@ -1,5 +1,5 @@
 -- What a statement makes of the desk's tables.
-use Rattle.std.proofs.Common.{◌≡◌, refl, sym, ap, ◌∙◌, subst, ℕ, nat_le, List, [], ◌∷◌, ◌++◌, map, take, drop, true, false, Some, None, Ok, Err, Result, OnOk, slice_get, arith}
+use Rattle.std.proofs.Common.{◌≡◌, refl, sym, ap, ◌∙◌, subst, ℕ, nat_le, List, [], ◌∷◌, ◌++◌, map, take, drop, true, false, Some, None, Result, OnOk, slice_get, arith}
 use Rattle.std.proofs.lemmas.Bool.Decides.{nat_tests}
 use Rattle.std.proofs.lemmas.List.{take-map, drop-map}
 use Rattle.std.proofs.lemmas.Result.{on_ok_weaker}
@@ -12,15 +12,15 @@ use Rattle.table_forms.specs.Forms.{Form}
 use Rattle.table_forms.specs.Rows.{fits_columns}
 use Rattle.table_forms.specs.Texts.{IsPutText, IsTakeText}
 use Rattle.table_forms.specs.Moves.{Moves, PutsRow, TakesRows, AreMakeTexts, MakesTables, SparesTables, LeavesFree, Founds, changed_at, taken_at}
-use Rattle.table_forms.specs.Indexes.{IndexForm, AreIndexTexts, MakesIndexes, AddsIndexes}
-use Rattle.table_forms.specs.Standing.{Contents, AreFree}
+use Rattle.table_forms.specs.Indexes.{AreIndexTexts, MakesIndexes, AddsIndexes}
+use Rattle.table_forms.specs.Standing.{Contents}
 use Rattle.plant_base.specs.State.{newest_schema}
 use Rattle.plant_view.specs.declared.change.RowChange.{RowChange}
 use Rattle.plant_view.specs.declared.change.RowChange.TheVariants as change
 use Rattle.plant_tables.specs.DeskTables.{rows_changed, all_rows_changed}
 use Rattle.plant_tables.specs.Keyed.{IsOfSchema, AreOfSchema}
 use Rattle.plant_tables.specs.DeskForms.{desk_forms, edge_form, receipt_form, recall_form, mark_form, forms_of, added_forms}
-use Rattle.plant_tables.specs.DeskIndexes.{indexes_of, desk_indexes, fourth_indexes, HasIndexes}
+use Rattle.plant_tables.specs.DeskIndexes.{indexes_of, desk_indexes, fourth_indexes}
 use Rattle.plant_tables.proofs.DeskTexts.{create_texts, AreAdded, by_schema, apart_of, front_made, index_texts, indexed_of, indexes_of_fourth, front_indexed, behind_indexed}
 
 pub put_moved : {X : Type 0} (schema place : ℕ) (form : Form) (text : List ℕ) (row : Row) → slice_get (forms_of schema) place ≡ Some form → IsPutText text form → fits_columns form.columns row ≡ true

@@ -1,5 +1,5 @@
 -- What the making of missing indexes comes to.
-use Rattle.std.proofs.Common.{◌≡◌, ◌∙◌, inl, inr, refl, sym, ap, subst, ℕ, true, false, List, [], ◌∷◌, map, length, arith, Ok, Err, Result, OnOk, OnErr, MatchResult}
+use Rattle.std.proofs.Common.{◌≡◌, ◌∙◌, inl, inr, refl, sym, ap, subst, ℕ, true, false, List, [], ◌∷◌, map, Ok, Err, Result, OnOk, OnErr, MatchResult}
 use Rattle.std.proofs.lemmas.Bool.{cases_Bool}
 use Rattle.std.proofs.lemmas.Result.{on_ok_weaker}
 use Rattle.std.specs.Prelude.{filter}

@@ -1,26 +1,24 @@
 -- The making of the tables of a desk that has accepted nothing.
-use Rattle.std.proofs.Common.{◌≡◌, inl, inr, refl, sym, subst, ℕ, zero, suc, ◌==◌, false, eqb-true, arith, List, [], ◌∷◌, get_or, Ok, Err, Result, OnOk, OnErr}
+use Rattle.std.proofs.Common.{◌≡◌, inl, inr, refl, sym, subst, ℕ, zero, suc, ◌==◌, false, eqb-true, arith, List, [], ◌∷◌, get_or, Result, OnErr}
 use Rattle.std.specs.List.{AllByRecursion}
 use Rattle.std.specs.List.Sorted.{IsPermutation}
 use Rattle.std.proofs.lemmas.List.Sorted.{IsPermutation-refl}
 use Rattle.std.proofs.lemmas.Bool.{false_from_ne_true}
 use Rattle.std.proofs.lemmas.Result.{on_err_weaker}
 use Rattle.sqlite.specs.Order.{Row}
-use Rattle.sqlite.specs.Tree.{Trees}
-use Rattle.sqlite.specs.Effect.{Database, IsDatabase}
+use Rattle.sqlite.specs.Effect.{IsDatabase}
 use Rattle.sqlite.specs.State.{State}
 use Rattle.plant_base.specs.State.{newest_schema}
 use Rattle.plant_base.specs.declared.rows.Meta.{Meta}
 use Rattle.plant_view.specs.Recalls.{marks}
 use Rattle.plant_view.specs.declared.change.RowChange.TheVariants as change
-use Rattle.table_forms.specs.Standing.{AreFree, KeepsOthers}
-use Rattle.table_forms.specs.Stopping.{IsSettled, IsUndone}
+use Rattle.table_forms.specs.Standing.{AreFree}
+use Rattle.table_forms.specs.Stopping.{IsUndone}
 use Rattle.table_forms.specs.Moves.{Moves, Founds}
 use Rattle.table_forms.proofs.Moving.{others_then}
 use Rattle.plant_tables.specs.DeskForms.{desk_forms}
 use Rattle.plant_tables.specs.DeskTables.{contents_of, rows_changed}
-use Rattle.plant_tables.specs.Keyed.{HoldsTables}
-use Rattle.plant_tables.specs.DeskStopping.{IsAt, FindsTables, opening_tables, MakesDesk, IsUnopened}
+use Rattle.plant_tables.specs.DeskStopping.{opening_tables, MakesDesk, IsUnopened}
 use Rattle.plant_tables.proofs.Bridge.{SameRows, stand_as}
 use Rattle.plant_tables.proofs.Ended.{finds_made}
 

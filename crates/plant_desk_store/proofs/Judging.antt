@@ -1,9 +1,8 @@
 -- What is judged of loaded rows, and of the store that they were loaded of.
-use Rattle.std.proofs.Common.{◌≡◌, ◌∙◌, Result, Ok, Err, IfErr, IfOk, OnOk, IsTrue, refl, sym, ap, subst, inl, inr, ℕ, ◌<◌, ℤ, pos, arith}
+use Rattle.std.proofs.Common.{◌≡◌, ◌∙◌, Result, Ok, Err, IfOk, refl, sym, ap, subst, inl, inr, ℕ, ◌<◌, ℤ, pos, arith}
 use Rattle.std.specs.Prelude.{◌≢◌, ◌⊎◌, All}
 use Rattle.std.specs.Int.Signed.{◌≤ℤ◌}
 use lib.Dec.{leb→le}
-use Rattle.sqlite.specs.Tree.{Trees}
 use Rattle.sqlite.specs.Effect.{Database, IsDatabase}
 use Rattle.sqlite.specs.State as store
 use Rattle.sqlite.specs.State.{HasCleanDisk, IsUnchanged, Survives}
@@ -12,12 +11,14 @@ use Rattle.table_forms.specs.Standing.{StandIn, IsFree, KeepsOthers}
 use Rattle.table_forms.specs.Resting.{Keeps}
 use Rattle.table_forms.specs.Stopping.{IsSettled}
 use Rattle.table_forms.proofs.Ending.{IsStore}
+use Rattle.table_forms.proofs.Moving.{survives_none}
 use Rattle.table_forms.specs.declared.fault.Fault.{Fault}
 use Rattle.table_forms.specs.declared.fault.Fault.TheVariants as below
 use Rattle.table_reads.specs.Ordered.{IsRising}
 use Rattle.plant_tables.specs.DeskForms.{desk_forms, forms_of}
 use Rattle.plant_tables.specs.DeskStopping.{IsUnopened}
 use Rattle.plant_tables.specs.Keyed.{HoldsTablesOf, HoldsTables}
+use Rattle.plant_tables.proofs.Ended.{finds_same}
 use Rattle.plant_view.specs.Tables.{Tables, tables_of, IsWholeIn}
 use Rattle.plant_good.specs.Good.{IsGood}
 use Rattle.plant_tables_stored.specs.Loading.{AreLoaded, AreRising, contents_loaded}
@@ -28,6 +29,7 @@ use Rattle.plant_tables_judged.specs.Collecting.{rows_in, rows_listed}
 use Rattle.plant_tables_judged.specs.declared.desk_rows.DeskRows.{DeskRows}
 use Rattle.plant_migrate.specs.Leaving.{IsCutShortAmid}
 use Rattle.plant_migrate.proofs.Ends.{raised_to_is}
+use Rattle.plant_migrate.proofs.Kept.{at_still, keeps_itself}
 use Rattle.plant_desk_store.specs.Adopting.{IsNewlyOpened, HoldsGood, StillGood, IsRisingAt, ShowsStill, NamesFirst, BrokenBy, IsRefusedBy}
 use Rattle.plant_desk_store.specs.Faults.{adopt_fault}
 use Rattle.plant_good_found.specs.Restoring.{state_in, AreUnbroken}
@@ -37,22 +39,18 @@ use Rattle.plant_desk_store.specs.declared.adopting.AdoptFault.{AdoptFault}
 use Rattle.plant_desk_store.specs.declared.adopting.AdoptFault.TheVariants as fault
 use Rattle.plant_good_found.proofs.Restored.{unbroken_good, unbroken_holds}
 use Rattle.plant_good_passes.proofs.Unbroken.{read_good}
-use Rattle.plant_desk_store.proofs.Others.{others_settled, keeps_itself}
-use Rattle.plant_desk_store.proofs.Resting.{still_at, open_at}
+use Rattle.plant_desk_store.proofs.Others.{others_settled}
+use Rattle.plant_desk_store.proofs.Resting.{open_at, left_still}
 use Rattle.plant_migrate.proofs.StateChanges.{whole_on}
+use Rattle.plant_migrate.proofs.Stepping.{keeps_all}
 
 -- ---- the store
 
 -- a rule that the loaded rows break is one that the tables do
-broken_tables : (version : ℕ) (db : Database) (x : Loaded) (f : AdoptFault) → IsVersion db (pos version) → AreLoaded version db x → BrokenBy x f → NamesFirst db f
-broken_tables version db x fault.Store told loaded h = tt
+pub broken_tables : (version : ℕ) (db : Database) (x : Loaded) (f : AdoptFault) → IsVersion db (pos version) → AreLoaded version db x → BrokenBy x f → NamesFirst db f
 broken_tables version db x (fault.Newer n) told loaded h = absurd h
 broken_tables version db x (fault.Damaged r) told loaded h = inr (version, told, (x, loaded, h))
-broken_tables version db x fault.Memory told loaded h = tt
-
-pub all_broken : {A : Type 0} (version : ℕ) (db : Database) (x : Loaded) (judged : Result A AdoptFault) → IsVersion db (pos version) → AreLoaded version db x → IfErr judged (BrokenBy x) → IfErr judged (NamesFirst db)
-all_broken version db x (Ok u) told loaded h = tt
-all_broken version db x (Err f) told loaded h = broken_tables version db x f told loaded h
+broken_tables version db x _ told loaded h = tt
 
 -- there is something of the desk, of no version above the newest
 pub record IsThere (db : Database) : Type 0 where
@@ -60,10 +58,9 @@ pub record IsThere (db : Database) : Type 0 where
   pub known : (n : ℕ) → newest_schema < n → ¬ IsVersion db (pos n)
 
 pub refused_so : (db : Database) (f : AdoptFault) → IsThere db → NamesFirst db f → IsRefusedBy db f
-refused_so db fault.Store there h = tt
 refused_so db (fault.Newer n) there h = absurd h
 refused_so db (fault.Damaged r) there h = record { taken = there.taken; known = there.known; broken = h }
-refused_so db fault.Memory there h = tt
+refused_so db _ there h = tt
 
 -- a version that is found and isn't above the newest is the only one
 pub none_newer : (db : Database) (v : ℤ) → IsVersion db v → v ≤ℤ pos newest_schema → (n : ℕ) → newest_schema < n → ¬ IsVersion db (pos n)
@@ -76,12 +73,8 @@ none_newer db v found low n above other =
 
 module _ (version : ℕ) (db : Database) (x : Loaded) (known : IsKnown version) (loaded : AreLoaded version db x) where
   -- the rows of a good state's tables are read as they are
-  rows_of_good : (s : State) (rows : DeskRows) → HoldsGood version db s → IsFit x version rows → rows_listed rows ≡ rows_in (tables_of version s)
+  pub rows_of_good : (s : State) (rows : DeskRows) → HoldsGood version db s → IsFit x version rows → rows_listed rows ≡ rows_in (tables_of version s)
   rows_of_good s rows held fit = let again = (read_good version db s x known held.good held.holds loaded).0 in let both = sym fit.read ∙ again in cc
-
-  pub told_rows : (s : State) (judged : Result DeskRows AdoptFault) → HoldsGood version db s → IfOk judged (IsFit x version) → IfOk judged (λ rows. rows_listed rows ≡ rows_in (tables_of version s))
-  told_rows s (Err f) held fit = tt
-  told_rows s (Ok rows) held fit = rows_of_good s rows held fit
 
   -- rows that break no rule are those of a good state, whose tables the store holds
   pub good_rows : (judged : Result DeskRows AdoptFault) → AreRising version x → StandIn (forms_of version) db (contents_loaded x) → IfOk judged (IsFit x version)
@@ -113,32 +106,19 @@ still_new old new newly same laws = record {
 
 pub opens_new : (old new : store.State) → IsNewlyOpened old → HasCleanDisk new → IsUnchanged old new → Keeps old new → IsStore new → (s : State) → IsGood s → HoldsTables old.now (tables_of newest_schema s) → IsOpenAt new s
 opens_new old new newly clean same kept laws s good holds =
-    open_at new s good (still_at newest_schema old new (tables_of newest_schema s) (record { settled = newly.settled; holds = holds }) kept laws same.0.is_open) clean laws
+    open_at new s good (at_still newest_schema old new (tables_of newest_schema s) (record { settled = newly.settled; holds = holds }) kept laws same.0.is_open) clean laws
 
 -- a store over the tables of a good state, after calls that only read
 pub stays_good : (old new : store.State) → (HasCleanDisk new → Keeps old new) → Survives old new (λ _. ⊥) → IsStore new → StillGood old new
 stays_good old new kept survives laws = λ clean newly version s held. record {
   good = held.good;
-  shows = λ live. inl (still_at version old new (tables_of version s) (record { settled = newly.settled; holds = held.holds }) (kept clean) laws live);
+  shows = λ live. inl (at_still version old new (tables_of version s) (record { settled = newly.settled; holds = held.holds }) (kept clean) laws live);
   something = laws.something clean;
   nothing_else = λ db left.
-      let before : old.may_leave db = elim (survives.crash clean db left) [
-        | inl was ↦ was
-        | inr none ↦ absurd none
-      ] in
-      let same : old.now.trees ≡ db = ap (λ (d : Database). d.trees) newly.settled.shows ∙ sym (newly.settled.nothing_else db before) in (
-        version,
-        omega arith,
-        held.known.1,
-        record { good = held.good; schema = old.now.schema; holds = subst (λ (trees : Trees). HoldsTablesOf version (record { schema = old.now.schema; trees = trees }) (tables_of version s)) same held.holds; whole = held.whole },
-      );
-}
-
-keeps_same : (old new : store.State) → new ≡ old → Keeps old new
-keeps_same old new same = record {
-  was_open = λ live. subst (λ (c : store.State). IsTrue c.is_open) same live;
-  now = λ live. ap (λ (c : store.State). c.now) same;
-  committed = λ live. ap (λ (c : store.State). c.committed) same;
+      let before = left_still old new survives clean db left in
+      let same : db ≡ old.now.trees = newly.settled.nothing_else db before ∙ ap (λ (d : Database). d.trees) (sym newly.settled.shows) in
+      let found = finds_same version old.now db (tables_of version s) held.holds same in
+      (version, omega arith, held.known.1, record { good = held.good; schema = found.schema; holds = found.holds; whole = held.whole });
 }
 
 -- the tables weren't made, and the store shows what it showed
@@ -180,7 +160,7 @@ cut_shows version old new s below.Store settled held cut unwritten = λ live. el
   })
   | inr between ↦ inr (refl, record { version = version; state = s; stood = held; between = between })
 ]
-cut_shows version old new s below.Memory settled held cut unwritten = λ live. inl (keeps_same old new (unwritten refl))
+cut_shows version old new s below.Memory settled held cut unwritten = λ live. inl (subst (Keeps old) (sym (unwritten refl)) (keeps_itself old))
 
 pub told_shows : (version : ℕ) (old new : store.State) (s : State) (f : Fault) (told : AdoptFault) → IsSettled old → HoldsGood version old.now s → IsCutShortAmid version newest_schema old new s → (f ≡ below.Memory → new ≡ old) → told ≡ adopt_fault f → ShowsStill told old new
 told_shows version old new s f told settled held cut unwritten is = subst (λ x. ShowsStill x old new) (sym is) (cut_shows version old new s f settled held cut unwritten)
@@ -193,21 +173,8 @@ told_known below.Memory told is = inr is
 -- at want of memory nothing was written
 pub told_unmade : (old new : store.State) (f : Fault) (told : AdoptFault) → told ≡ adopt_fault f → (f ≡ below.Memory → new ≡ old) → told ≢ fault.Store → Survives old new (λ _. ⊥)
 told_unmade old new below.Store told is unwritten other = absurd (other is)
-told_unmade old new below.Memory told is unwritten other = subst (λ (c : store.State). Survives old c (λ _. ⊥)) (sym (unwritten refl)) (record {
-  clean = omega arith;
-  shield = λ shielded. shielded;
-  counts = omega arith;
-  limit = refl;
-  closes = λ clean live. inl live;
-  crash = λ clean db left. inl left;
-})
+told_unmade old new below.Memory told is unwritten other = subst (λ (c : store.State). Survives old c (λ _. ⊥)) (sym (unwritten refl)) (survives_none old)
 
 -- tables of other names stand in a store that is unchanged
 pub others_unchanged : (old new : store.State) → IsNewlyOpened new → new.now ≡ old.now → IsDatabase old.now → OthersStand old.now new
-others_unchanged old new newly same sound = others_settled old.now new newly.settled (subst IsDatabase (sym same) sound) (subst (KeepsOthers desk_forms old.now) (sym same) (keeps_itself old.now))
-
--- ---- what holds at every exit
-
-pub always_ok : {X E P : Type 0} (r : Result X E) → P → OnOk r P
-always_ok (Ok x) h = h
-always_ok (Err e) h = tt
+others_unchanged old new newly same sound = others_settled old.now new newly.settled (subst IsDatabase (sym same) sound) (subst (KeepsOthers desk_forms old.now) (sym same) (keeps_all desk_forms old.now))

@@ -2,7 +2,6 @@ pub mod Adoptions
 pub mod Again
 pub mod Answered
 pub mod Asking
-pub mod Finding
 pub mod Fitting
 pub mod Judging
 pub mod Lasting

@@ -1,6 +1,5 @@
 -- The marks that a store holds are those of what open recalls reach.
 use Rattle.std.proofs.Common.{refl}
-use Rattle.plant_base.specs.State.{State, newest_schema}
 use Rattle.plant_view.specs.Genealogy.{edges_of}
 use Rattle.plant_view.specs.Recalls.{marks}
 use Rattle.plant_view.proofs.MarkRows.{are_the_pairs}

@@ -1,5 +1,5 @@
 -- The indexes that tables lack are made, or aren't, and the desk stands where it stood.
-use Rattle.std.proofs.Common.{◌≡◌, ◌≢◌, ◌⊎◌, false, inl, inr, refl, sym, ap, subst, Result, Ok, Err, OnOk, IfErr, IsTrue, arith}
+use Rattle.std.proofs.Common.{◌≡◌, ◌≢◌, ◌⊎◌, false, inl, inr, refl, sym, subst, Result, Ok, Err, IsTrue, arith}
 use Rattle.sqlite.specs.Tree.{Trees}
 use Rattle.sqlite.specs.Effect.{Database}
 use Rattle.sqlite.specs.State as store
@@ -7,24 +7,18 @@ use Rattle.sqlite.specs.State.{HasCleanDisk, IsUnchanged, Survives}
 use Rattle.plant_base.specs.State.{State, newest_schema}
 use Rattle.plant_view.specs.Tables.{tables_of}
 use Rattle.table_forms.specs.declared.fault.Fault.{Fault}
-use Rattle.table_forms.specs.declared.fault.Fault.TheVariants as fault
 use Rattle.table_forms.specs.Resting.{Keeps}
 use Rattle.table_forms.proofs.Ending.{IsStore}
 use Rattle.plant_tables.specs.DeskStopping.{IsAt}
 use Rattle.plant_tables.specs.Missing.{AddsMissing, AreAllTaken, HasGained}
 use Rattle.plant_desk.specs.declared.reply.DeskFault.{DeskFault}
-use Rattle.plant_desk.specs.declared.reply.DeskFault.TheVariants.{Shut}
 use Rattle.plant_desk_store.specs.Calls.{HasIndexed}
 use Rattle.plant_desk_store.specs.Faults.{desk_fault}
 use Rattle.plant_desk_store.specs.Parts.{HasMended}
-use Rattle.plant_desk_store.specs.DeskStanding.{StandsAt, FindsState, Leaves, IsOpenAt}
+use Rattle.plant_desk_store.specs.DeskStanding.{Leaves, IsOpenAt}
 use Rattle.plant_desk_store.proofs.Others.{others_kept, others_committed, others_cut, open_beside}
-use Rattle.plant_desk_store.proofs.Resting.{open_at, cut_at, still_open}
-
--- no fault of a store tells that a desk is shut
-never_shut : (f : Fault) → desk_fault f ≢ Shut
-never_shut fault.Store same = absurd cc
-never_shut fault.Memory same = absurd cc
+use Rattle.plant_desk_store.proofs.Resting.{open_at, cut_at, left_still, still_open}
+use Rattle.plant_desk_store.proofs.Telling.{unshut as not_shut}
 
 -- a stop that leaves the one state or the same leaves the one
 same_left : (c : store.State) (s : State) → Leaves c (λ u. (u ≡ s) ⊎ (u ≡ s)) → Leaves c (λ u. u ≡ s)
@@ -49,10 +43,7 @@ module _ (old mid new : store.State) (early : IsStore mid) (same : HasCleanDisk 
   left_before : (r : Result (Unit {0}) Fault) → HasGained mid new r → HasCleanDisk new → AreAllTaken old.now.schema → (trees : Trees) → new.may_leave trees → old.may_leave trees
   left_before r did clean taken trees left =
       let taken_still = subst (λ (d : Database). AreAllTaken d.schema) (sym (same (did.honest clean)).0.now_is) taken in
-      elim ((did.spared taken_still).crash clean trees left) [
-        | inl between ↦ elim (crash.crash (did.honest clean) trees between) [ inl before ↦ before | inr none ↦ absurd none ]
-        | inr none ↦ absurd none
-      ]
+      left_still old mid crash (did.honest clean) trees (left_still mid new (did.spared taken_still) clean trees left)
 
   pub mended : IsStore new → HasGained mid new (Ok tt) → HasMended old new (Ok tt)
   mended late did = record {
@@ -72,7 +63,7 @@ module _ (old mid new : store.State) (early : IsStore mid) (same : HasCleanDisk 
   unmended f did = record {
     rests = rests;
     clean = λ clean. omega (arith, crash.clean, did.honest clean);
-    unshut = never_shut f;
+    unshut = not_shut f;
     stands = λ clean s at.
         let cut = cut_at mid new s s at.stands.good at.stands.good (did.gained clean (tables_of newest_schema s) (shown (did.honest clean) s at)) in
         record { stands = cut.0; leaves = same_left new s cut.1 };
@@ -88,11 +79,11 @@ pub unread : (old new : store.State) (f : Fault) → IsStore new → new.in_tran
 unread old new f laws rests kept crash = record {
   rests = rests;
   clean = λ clean. omega (arith, crash.clean, clean);
-  unshut = never_shut f;
+  unshut = not_shut f;
   stands = λ clean s at. still_open old new s at clean (kept clean) crash laws;
   made = λ clean s at. tt;
   others = λ clean s at before others. others_kept before old new others clean (kept clean) crash;
-  spared = λ clean taken trees left. elim (crash.crash clean trees left) [ inl before ↦ before | inr none ↦ absurd none ];
+  spared = λ clean taken. left_still old new crash clean;
 }
 
 -- ---- a desk

@@ -1,7 +1,8 @@
 -- Trees list one schema: each row of the list tells its table, its index or its view.
-use Rattle.std.proofs.Common.{◌≡◌, ℕ, ◌+◌, ◌<◌, pos, List, [], ◌∷◌, codes, filter, Bool, true, false, Option, Some, None, inl, inr, refl, sym, ap, ap₂, subst, ◌∙◌, arith, get_or}
+use Rattle.std.proofs.Common.{◌≡◌, ℕ, ◌+◌, ◌<◌, pos, List, [], ◌∷◌, codes, filter, Bool, true, false, Option, Some, None, inl, inr, refl, sym, ap, ap₂, subst, ◌∙◌, arith, get_or, ◌==◌, eq-eqb}
 use Rattle.std.specs.List.{AllZip}
 use Rattle.std.specs.Prelude.{MatchBool}
+use Rattle.std.proofs.lemmas.Bool.{both_ways}
 use Rattle.std.proofs.lemmas.Fmt.{decimal_injective}
 use Rattle.std.proofs.lemmas.List.{append_cancel_left}
 use Rattle.sqlite_value.specs.declared.value.Value.{Value}
@@ -70,12 +71,10 @@ one_defined table i j Null trees names (m, k, got, is, low) (n, l, found, equals
     let place : m ≡ n = one_place table m n k l i.tree j.tree low least (ap (λ (x : Index). x.name) (sym is) ∙ names ∙ ap (λ (x : Index). x.name) equals) in
     let keys : k ≡ l = cc in
     is ∙ ap₂ (λ (x : ℕ × List ℕ) (t : ℕ). automatic table x.0 x.1 t) (ap₂ (λ x y. (x, y)) place keys) trees ∙ sym equals
-one_defined table i j (Int z) trees names p q = absurd p
-one_defined table i j (Real z) trees names p q = absurd p
 one_defined table i j (Text sql) trees names p q =
     let made : p.0 ≡ q.0 = cc in
     p.2 ∙ ap₂ (λ (x : Index) (t : ℕ). record x { tree = t; table = table.tree }) made trees ∙ sym q.2
-one_defined table i j (Blob z) trees names p q = absurd p
+one_defined table i j _ trees names p q = absurd p
 
 one_index : (tables : List Table) → IsAscending (λ s t. same_name s.name t.name ≡ false) tables → (row : Row) (i j : Index) → IsIndexRow tables row i → IsIndexRow tables row j → i ≡ j
 one_index tables apart row i j p q =
@@ -91,23 +90,9 @@ one_answer P true false p q = absurd (q p)
 one_answer P false true p q = absurd (p q)
 one_answer P false false p q = refl
 
-no_index : codes "table" ≡ codes "index" → ⊥
-no_index same = let letters : 116 ≡ 105 = ap (λ (l : List ℕ). get_or l 0 0) same in omega (arith, letters)
-
-no_trigger : codes "table" ≡ codes "trigger" → ⊥
-no_trigger same = let letters : 97 ≡ 114 = ap (λ (l : List ℕ). get_or l 1 0) same in omega (arith, letters)
-
-not_both : codes "index" ≡ codes "trigger" → ⊥
-not_both same = let letters : 105 ≡ 116 = ap (λ (l : List ℕ). get_or l 0 0) same in omega (arith, letters)
-
-not_table : codes "view" ≡ codes "table" → ⊥
-not_table same = let letters : 118 ≡ 116 = ap (λ (l : List ℕ). get_or l 0 0) same in omega (arith, letters)
-
-not_index : codes "view" ≡ codes "index" → ⊥
-not_index same = let letters : 118 ≡ 105 = ap (λ (l : List ℕ). get_or l 0 0) same in omega (arith, letters)
-
-not_trigger : codes "view" ≡ codes "trigger" → ⊥
-not_trigger same = let letters : 118 ≡ 116 = ap (λ (l : List ℕ). get_or l 0 0) same in omega (arith, letters)
+-- words that differ in a letter are two
+differ : {a b : List ℕ} (place : ℕ) → a ≡ b → (get_or a place 0 == get_or b place 0) ≡ false → ⊥
+differ {a} {b} place same other = both_ways _ other (eq-eqb (get_or a place 0) (get_or b place 0) (ap (λ (letters : List ℕ). get_or letters place 0) same))
 
 pub record IsSame (v w : Stored) : Type 0 where
   pub foreign : v.foreign ≡ w.foreign
@@ -117,19 +102,19 @@ pub record IsSame (v w : Stored) : Type 0 where
 
 one_foreign : (row : Row) (v w : Stored) (kind : List ℕ) (code : ℕ) → IsForeign row v kind code → IsForeign row w kind code → (v.binds ≡ w.binds) × (v.is_bound ≡ w.is_bound)
 one_foreign row v w kind code (inl p) (inl q) = (p.2 ∙ sym q.2, one_answer (IsReadable row) v.is_bound w.is_bound p.3 q.3)
-one_foreign row v w kind code (inl p) (inr (inl q)) = absurd (no_index (sym p.0 ∙ q.0))
-one_foreign row v w kind code (inl p) (inr (inr q)) = absurd (no_trigger (sym p.0 ∙ q.0))
-one_foreign row v w kind code (inr (inl p)) (inl q) = absurd (no_index (sym q.0 ∙ p.0))
+one_foreign row v w kind code (inl p) (inr (inl q)) = absurd (differ 0 (sym p.0 ∙ q.0) refl)
+one_foreign row v w kind code (inl p) (inr (inr q)) = absurd (differ 1 (sym p.0 ∙ q.0) refl)
+one_foreign row v w kind code (inr (inl p)) (inl q) = absurd (differ 0 (sym q.0 ∙ p.0) refl)
 one_foreign row v w kind code (inr (inl p)) (inr (inl q)) = (p.2 ∙ sym q.2, p.3 ∙ sym q.3)
-one_foreign row v w kind code (inr (inl p)) (inr (inr q)) = absurd (not_both (sym p.0 ∙ q.0))
-one_foreign row v w kind code (inr (inr p)) (inl q) = absurd (no_trigger (sym q.0 ∙ p.0))
-one_foreign row v w kind code (inr (inr p)) (inr (inl q)) = absurd (not_both (sym q.0 ∙ p.0))
+one_foreign row v w kind code (inr (inl p)) (inr (inr q)) = absurd (differ 0 (sym p.0 ∙ q.0) refl)
+one_foreign row v w kind code (inr (inr p)) (inl q) = absurd (differ 1 (sym q.0 ∙ p.0) refl)
+one_foreign row v w kind code (inr (inr p)) (inr (inl q)) = absurd (differ 0 (sym q.0 ∙ p.0) refl)
 one_foreign row v w kind code (inr (inr p)) (inr (inr q)) = (p.2 ∙ sym q.2, p.3 ∙ sym q.3)
 
 no_view : (row : Row) (v : Stored) (code : ℕ) → IsForeign row v (codes "view") code → ⊥
-no_view row v code (inl p) = not_table p.0
-no_view row v code (inr (inl p)) = not_index p.0
-no_view row v code (inr (inr p)) = not_trigger p.0
+no_view row v code (inl p) = differ 0 p.0 refl
+no_view row v code (inr (inl p)) = differ 0 p.0 refl
+no_view row v code (inr (inr p)) = differ 0 p.0 refl
 
 one_aside : (row : Row) (v w : Stored) (kind owner : List ℕ) (code : ℕ) (e f : Option (List ℕ)) → IsAside row v kind owner code e → IsAside row w kind owner code f → v.foreign ≡ e → w.foreign ≡ f → IsSame v w
 one_aside row v w kind owner code None None p q is equals = record { foreign = is ∙ sym equals; sql = one_text p.3 q.3; binds = p.6 ∙ sym q.6; bound = p.7 ∙ sym q.7 }
@@ -140,13 +125,14 @@ one_aside row v w kind owner code (Some a) (Some b) p q is equals =
     record { foreign = is ∙ ap Some (sym p.0 ∙ q.0) ∙ sym equals; sql = p.1 ∙ sym q.1; binds = told.0; bound = told.1 }
 
 same_view : (v w : Stored) → v.name ≡ w.name → v.tree ≡ w.tree → IsSame v w → v ≡ w
-same_view v w names trees same =
-    ap (λ n. record v { name = n }) names
-    ∙ ap (λ n. record v { name = w.name; tree = n }) trees
-    ∙ ap (λ x. record v { name = w.name; tree = w.tree; sql = x }) same.sql
-    ∙ ap (λ x. record v { name = w.name; tree = w.tree; sql = w.sql; foreign = x }) same.foreign
-    ∙ ap (λ x. record v { name = w.name; tree = w.tree; sql = w.sql; foreign = w.foreign; binds = x }) same.binds
-    ∙ ap (λ x. record w { is_bound = x }) same.bound
+same_view v w names trees same = λ i. record v {
+  name = names i;
+  tree = trees i;
+  sql = same.sql i;
+  foreign = same.foreign i;
+  binds = same.binds i;
+  is_bound = same.bound i;
+}
 
 one_view : (row : Row) (v w : Stored) → IsViewRow row v → IsViewRow row w → v ≡ w
 one_view row v w p q =

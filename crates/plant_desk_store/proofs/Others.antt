@@ -1,5 +1,5 @@
 -- Tables of other names, as a store shows them and as a stop leaves them.
-use Rattle.std.proofs.Common.{◌≡◌, ◌∙◌, Bool, false, Result, Ok, Err, inl, inr, refl, sym, ap, subst, IsTrue}
+use Rattle.std.proofs.Common.{◌≡◌, ◌∙◌, Bool, false, Result, Ok, Err, inl, inr, sym, ap, subst, IsTrue}
 use Rattle.sqlite.specs.Tree.{Trees}
 use Rattle.sqlite.specs.Schema.{Schema}
 use Rattle.sqlite.specs.Effect.{Database, IsDatabase}
@@ -10,6 +10,7 @@ use Rattle.plant_view.specs.Tables.{Tables}
 use Rattle.table_forms.specs.Standing.{KeepsOthers}
 use Rattle.table_forms.specs.Resting.{Keeps}
 use Rattle.table_forms.specs.Stopping.{IsSettled}
+use Rattle.table_forms.proofs.Moving.{others_then}
 use Rattle.plant_tables.specs.DeskForms.{desk_forms}
 use Rattle.plant_tables.specs.DeskStopping.{IsAt, FindsTables, IsCutShort}
 use Rattle.plant_base.specs.declared.command.Envelope.{Envelope}
@@ -21,14 +22,7 @@ use Rattle.plant_desk.specs.declared.reply.DeskFault.TheVariants.{Store, Memory,
 use Rattle.plant_rules.specs.Step.{step}
 use Rattle.plant_desk_store.specs.DeskStanding.{OthersStand, IsOpenAt, IsBeside, Executed}
 use Rattle.plant_desk_store.proofs.OneSchema.{one_schema}
-
-keeps_then : (a b c : Database) → KeepsOthers desk_forms a b → KeepsOthers desk_forms b c → KeepsOthers desk_forms a c
-keeps_then a b c p q = record {
-  kept = λ t has other. let first = p.kept t has other in let second = q.kept t first.0 other in (second.0, second.1 ∙ first.1);
-}
-
-pub keeps_itself : (a : Database) → KeepsOthers desk_forms a a
-keeps_itself a = record { kept = λ t has other. (has, refl) }
+use Rattle.plant_desk_store.proofs.Resting.{left_still}
 
 -- whatever schema the trees list, it is this one
 in_schema : (before : Database) (trees : Trees) (own schema : Schema) → IsSound own trees → IsSound schema trees
@@ -39,10 +33,7 @@ in_schema before trees own schema p q kept = subst (λ (s : Schema). KeepsOthers
 pub others_kept : (before : Database) (old new : store.State) → OthersStand before old → HasCleanDisk new → Keeps old new → Survives old new (λ _. ⊥) → OthersStand before new
 others_kept before old new others clean kept survives = record {
   shows = λ live. subst (KeepsOthers desk_forms before) (sym (kept.now live)) (others.shows (kept.was_open live));
-  leaves = λ trees schema left sound. elim (survives.crash clean trees left) [
-    | inl stood ↦ others.leaves trees schema stood sound
-    | inr none ↦ absurd none
-  ];
+  leaves = λ trees schema left sound. others.leaves trees schema (left_still old new survives clean trees left) sound;
 }
 
 -- a store that shows what a stop leaves
@@ -60,7 +51,7 @@ others_at before new t at kept = others_settled before new at.settled at.holds.s
 
 -- a commit
 pub others_committed : (before : Database) (old new : store.State) (t : Tables) → OthersStand before old → IsTrue old.is_open → IsAt new t → KeepsOthers desk_forms old.now new.now → OthersStand before new
-others_committed before old new t others live at kept = others_at before new t at (keeps_then before old.now new.now (others.shows live) kept)
+others_committed before old new t others live at kept = others_at before new t at (others_then desk_forms before old.now new.now (others.shows live) kept)
 
 -- a commit that was cut short
 pub others_cut : (before : Database) (old new : store.State) (t next : Tables) → OthersStand before old → IsTrue old.is_open → IsCutShort old new t next → OthersStand before new
@@ -74,7 +65,7 @@ others_cut before old new t next others live cut = record {
   where
     found : (trees : Trees) (schema : Schema) → IsSound schema trees → (u : Tables) → FindsTables old.now trees u → KeepsOthers desk_forms before (record { schema = schema; trees = trees })
     found trees schema sound u finds =
-        in_schema before trees finds.schema schema finds.holds.sound sound (keeps_then before old.now (record { schema = finds.schema; trees = trees }) (others.shows live) finds.others)
+        in_schema before trees finds.schema schema finds.holds.sound sound (others_then desk_forms before old.now (record { schema = finds.schema; trees = trees }) (others.shows live) finds.others)
 
 -- ---- a desk
 

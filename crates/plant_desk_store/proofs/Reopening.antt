@@ -18,10 +18,10 @@ use Rattle.plant_desk_store.specs.DeskLaws.{IsAdoptable, IsOpenedAfter, GoodIsAd
 use Rattle.plant_desk_store.specs.DeskStanding.{FindsStateOf}
 use Rattle.plant_desk_store.proofs.Again.{not_free, one_told, version_held}
 use Rattle.plant_desk_store.proofs.OneSchema.{one_schema}
-use Rattle.plant_desk_store.proofs.Others.{keeps_itself}
 use Rattle.plant_migrate.specs.Steps.{FindsRisable}
 use Rattle.plant_migrate.proofs.Free.{each_is_free}
 use Rattle.plant_migrate.proofs.StateChanges.{whole_on}
+use Rattle.plant_migrate.proofs.Stepping.{keeps_all}
 
 abbrev database_of : Schema → Trees → Database
 database_of schema trees = record { schema = schema; trees = trees }
@@ -34,8 +34,7 @@ same_database a b sound other same =
 
 pub reopened : (version : ℕ) (trees : Trees) (s : State) → IsKnown version → (finds : FindsStateOf version trees s) → (db : Database) → db.trees ≡ trees → IsDatabase db → HoldsGood version db s × (db.schema ≡ finds.schema)
 reopened version trees s known finds db same sound =
-    let found : Database = record { schema = finds.schema; trees = trees } in
-    let is : db ≡ found = same_database found db finds.holds.sound sound same in
+    let is : db ≡ database_of finds.schema trees = same_database _ db finds.holds.sound sound same in
     let holds = subst (λ (d : Database). HoldsTablesOf version d (tables_of version s)) (sym is) finds.holds in
     (record { known = known; good = finds.good; holds = holds; whole = finds.whole }, ap (λ (d : Database). d.schema) is)
 
@@ -49,15 +48,13 @@ module _ (old db : Database) (sound : IsDatabase db) where
   -- what is to be found in the trees stands in the database that is opened over them
   found_here : (version : ℕ) (t : Tables) → FindsOf version old db.trees t → HoldsTablesOf version db t × KeepsOthers desk_forms old db
   found_here version t finds =
-      let found : Database = record { schema = finds.schema; trees = db.trees } in
-      let is : db ≡ found = same_database found db finds.holds.sound sound refl in
+      let is : db ≡ database_of finds.schema db.trees = same_database _ db finds.holds.sound sound refl in
       (subst (λ (d : Database). HoldsTablesOf version d t) (sym is) finds.holds, subst (KeepsOthers desk_forms old) (sym is) finds.others)
 
   -- and so it is with the names that are free there
   free_here : (version : ℕ) (t : Tables) → FindsRisable version old db.trees t → All (IsFree db.schema) (later_forms version)
   free_here version t found =
-      let there : Database = record { schema = found.finds.schema; trees = db.trees } in
-      let is : db ≡ there = same_database there db found.finds.holds.sound sound refl in
+      let is : db ≡ database_of found.finds.schema db.trees = same_database _ db found.finds.holds.sound sound refl in
       subst (λ (d : Database). All (IsFree d.schema) (later_forms version)) (sym is) (each_is_free found.finds.schema (later_forms version) found.free)
 
   raised_here : (version : ℕ) (s : State) → HoldsGood version old s → (raised : IsRaised old db.trees) → (later : ℕ) × (version ≤ later) × IsAdoptable later db s × KeepsOthers desk_forms old db
@@ -75,7 +72,7 @@ module _ (old db : Database) (sound : IsDatabase db) where
 pub adopted_again : GoodIsAdoptedAgain
 adopted_again version old s adoptable db (sound, inl same) =
     let is : db ≡ old = same_database old db adoptable.held.holds.sound sound same in
-    (version, omega arith, subst (λ (d : Database). IsAdoptable version d s) (sym is) adoptable, subst (KeepsOthers desk_forms old) (sym is) (keeps_itself old))
+    (version, omega arith, subst (λ (d : Database). IsAdoptable version d s) (sym is) adoptable, subst (KeepsOthers desk_forms old) (sym is) (keeps_all desk_forms old))
 adopted_again version old s adoptable db (sound, inr (inl made)) = absurd (not_free version old s adoptable.held made.free)
 adopted_again version old s adoptable db (sound, inr (inr raised)) = raised_here old db sound version s adoptable.held raised
 

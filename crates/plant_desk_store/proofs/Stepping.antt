@@ -1,5 +1,5 @@
 -- What a command over a store comes to.
-use Rattle.std.proofs.Common.{◌≡◌, ◌≢◌, ◌∙◌, ℕ, ◌+◌, true, List, Option, None, Some, Result, Ok, Err, IfErr, false, refl, sym, ap, subst, arith}
+use Rattle.std.proofs.Common.{◌≡◌, ◌≢◌, ◌∙◌, ℕ, ◌+◌, true, List, Option, None, Some, Result, Ok, Err, false, refl, sym, ap, subst, arith}
 use Rattle.std.specs.Prelude.{MatchResult}
 use Rattle.sqlite.specs.State as store
 use Rattle.plant_base.specs.State.{State}
@@ -61,15 +61,6 @@ pub unbegun : (s : State) (new : store.State) (e : Envelope) (f : DeskFault) →
 unbegun s new e Store h at = before_only new s (step s e) at
 unbegun s new e Memory h at = at
 unbegun s new e Shut h at = h refl
-
--- the fault of a commit
-pub told_store : (r : Result Reply DeskFault) (x : Reply) → MatchResult r (λ y. y ≡ x) (λ f. f ≡ Store) → IfErr r (λ f. f ≡ Store)
-told_store (Ok y) x told = tt
-told_store (Err f) x told = told
-
-pub store_unshut : (r : Result Reply DeskFault) → IfErr r (λ f. f ≡ Store) → IfErr r (λ f. f ≢ Shut)
-store_unshut (Ok y) told = tt
-store_unshut (Err f) told = λ shut. let both : Store ≡ Shut = sym told ∙ shut in absurd (cc)
 
 -- it wasn't decided
 pub undecided : (old new : store.State) (e : Envelope) (f : DeskFault) → IsStore new → old.in_transaction ≡ false → HasDecided old new e (Err f) → HasStepped e old new (Err f)

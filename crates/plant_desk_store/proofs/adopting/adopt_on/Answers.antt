@@ -4,7 +4,6 @@ use Rattle.sqlite.proofs.StateLemmas.{survives_weaker}
 use Rattle.table_forms.proofs.Ending.{IsStore}
 use Rattle.plant_tables_stored.specs.Version.{IsVersion}
 use Rattle.plant_tables_stored.specs.declared.finding.FoundTables.TheVariants as tables
-use Rattle.plant_tables_stored.proofs.Versions.{unknown_or_nothing, unknown_or_version}
 use Rattle.plant_desk_store.specs.Adopting.{IsRefusedBy}
 use Rattle.plant_desk_store.proofs.Adoptions.{made_or_not, taken_or_not}
 use Rattle.plant_desk_store.proofs.Judging.{stays_good}
@@ -42,9 +41,9 @@ returns-in-Err g c =
     record {
       refused = λ clean. unfound (IsRefusedBy old.now) c.found.result c.in-Err.fault c.in-Err.ensures
           (λ is.
-          let none : (n : ℤ) → ¬ IsVersion old.now n = λ n v. unknown_or_version n (((rw is at c.found.ensures.version clean) n).1 v) in
+          let none : (n : ℤ) → ¬ IsVersion old.now n = λ n v. absurd (let told = ((rw is at c.found.ensures.version clean) n).1 v in cc) in
           record {
-            taken = (rw is at c.found.ensures.taken) unknown_or_nothing;
+            taken = (rw is at c.found.ensures.taken) (λ e. absurd cc);
             known = λ n above. none (pos n);
             broken = inl (refl, inl none);
           })

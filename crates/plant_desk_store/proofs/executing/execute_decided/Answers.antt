@@ -1,4 +1,5 @@
 use Rattle.std.proofs.Common.{◌≡◌, ◌+◌, List, MatchResult, true, subst, rules}
+use Rattle.std.proofs.lemmas.Result.{MatchResult-weaker}
 use Rattle.sqlite.specs.Held.{state}
 use Rattle.plant_base.specs.State.{State, newest_schema}
 use Rattle.plant_view.specs.OneBatch.{puts_one_batch}
@@ -12,7 +13,7 @@ use Rattle.plant_good_keys.proofs.AddedRows.{fresh}
 use Rattle.plant_desk_store.specs.Looking.{IsDecidedAt}
 use Rattle.plant_desk_store.specs.Parts.{LeadTo}
 use Rattle.plant_desk_store.specs.DeskStanding.{IsOpenAt}
-use Rattle.plant_desk_store.proofs.Stepping.{refused, repeats, committed, told_store}
+use Rattle.plant_desk_store.proofs.Stepping.{refused, repeats, committed}
 use Rattle.plant_desk_store.proofs.executing.execute_decided.Goals as goal
 
 pub returns-in-Refused-clause-written : goal.returns-in-Refused-clause-written
@@ -55,5 +56,5 @@ returns-in-Change-clause-written g c =
           let answered = subst (λ n. MatchResult c.commit_on.result (λ r. r ≡ Accepted (n + 1)) (λ f. f ≡ Store)) is.seq did.answered in
           committed s (state g.S.Store c.commit_on.new.connection) e c.commit_on.result decided.0 decided.1 answered (did.committed clean s (step s e) at live (lead s at is));
       others = λ clean s at live is. did.others clean s (step s e) at live (lead s at is);
-      told = told_store c.commit_on.result _ did.answered;
+      told = MatchResult-weaker c.commit_on.result did.answered (λ _ _. tt) (λ _ store. store);
     }

@@ -1,13 +1,17 @@
-use Rattle.std.proofs.Common.{◌≡◌, Err, sym, subst, rules, arith}
+use Rattle.std.proofs.Common.{◌≡◌, ◌≢◌, Err, sym, subst, rules, arith}
+use Rattle.std.proofs.lemmas.Result.{IfErr-weaker}
 use Rattle.sqlite.specs.Held.{state}
 use Rattle.sqlite.specs.State.{HasCleanDisk, Survives}
 use Rattle.plant_base.specs.State.{State}
 use Rattle.table_forms.proofs.Ending.{IsStore}
+use Rattle.table_forms.specs.declared.fault.Fault.TheVariants as fault
+use Rattle.plant_desk.specs.declared.reply.DeskFault.TheVariants.{Shut}
 use Rattle.plant_desk_store.specs.Parts.{HasStepped}
 use Rattle.plant_desk_store.specs.DeskStanding.{IsOpenAt}
 use Rattle.plant_desk_store.proofs.Others.{others_kept}
 use Rattle.plant_desk_store.proofs.Resting.{still_open}
-use Rattle.plant_desk_store.proofs.Stepping.{decided_repeat, store_unshut, undecided}
+use Rattle.plant_desk_store.proofs.Stepping.{decided_repeat, undecided}
+use Rattle.plant_desk_store.proofs.Telling.{unshut}
 use Rattle.plant_desk_store.proofs.executing.execute_on.Goals as goal
 
 pub returns-in_err-decided : goal.returns-in_err-decided
@@ -36,7 +40,7 @@ returns g c =
       executed = λ clean s at. did.executed clean s (stood clean s at) (decided.live (did.clean clean)) (decided.decided (did.clean clean) s at.stands);
       others = λ clean s at before others.
           did.others clean s (stood clean s at) (decided.live (did.clean clean)) (decided.decided (did.clean clean) s at.stands) before (others_kept before old mid others (did.clean clean) (reads.kept (did.clean clean)) reads.crash);
-      unshut = store_unshut c.execute_decided.result did.told;
+      unshut = IfErr-weaker c.execute_decided.result _ _ (λ f store. subst (λ x. x ≢ Shut) (sym store) (unshut fault.Store)) did.told;
       spared = λ nothing. rw (c.execute_decided.ensures.untouched nothing) reads.crash;
       repeated = λ clean s stands again. decided_repeat (Survives old new (λ _. ⊥)) s c.args.envelope.now c.in_ok-decided.decided.decision again (decided.decided (did.clean clean) s stands).decides
           (λ n told. rw (c.execute_decided.ensures.repeated n told).1 reads.crash);

@@ -1,20 +1,22 @@
-use Rattle.std.proofs.Common.{◌≡◌, true, false, None, Some, is_some, rules}
+use Rattle.std.proofs.Common.{◌≡◌, ◌∙◌, ap, true, false, None, Some, is_some, rules}
+use Rattle.std.proofs.lemmas.Result.{IfErr-weaker}
 use Rattle.plant_tables_stored.specs.Loading.{contents_loaded}
 use Rattle.plant_tables_judged.specs.Collecting.{rows_from, rows_listed}
 use Rattle.plant_tables_columns.specs.TableColumns.{only_meta}
-use Rattle.plant_desk_store.proofs.Fitting.{no_meta, no_rows, fit_of, unfit_of}
+use Rattle.plant_check.specs.Broken.{broken_rows}
+use Rattle.plant_desk_store.proofs.Fitting.{broken_where, fit_of, unfit_by}
 use Rattle.plant_desk_store.proofs.fitness.judge.Goals as goal
 
 pub returns-then-not-has_meta-clause-unfit : goal.returns-then-not-has_meta-clause-unfit
 returns-then-not-has_meta-clause-unfit c =
     let none : is_some (only_meta (contents_loaded c.args.loaded 0)) ≡ false = search rules in
-    no_meta c.args.loaded none
+    broken_where c.args.loaded false none
 
 pub returns-in-Ok-None-clause-unfit : goal.returns-in-Ok-None-clause-unfit
 returns-in-Ok-None-clause-unfit c =
     let there : is_some (only_meta (contents_loaded c.args.loaded 0)) ≡ true = search rules in
     let nothing : rows_from c.args.loaded ≡ None = search rules in
-    no_rows c.args.loaded there nothing
+    broken_where c.args.loaded true there ∙ ap broken_rows nothing
 
 pub returns-in-Ok-Some-clause-fit : goal.returns-in-Ok-Some-clause-fit
 returns-in-Ok-Some-clause-fit c =
@@ -26,4 +28,4 @@ pub returns-in-Ok-Some-clause-unfit : goal.returns-in-Ok-Some-clause-unfit
 returns-in-Ok-Some-clause-unfit c =
     let there : is_some (only_meta (contents_loaded c.args.loaded 0)) ≡ true = search rules in
     let from : rows_from c.args.loaded ≡ Some (rows_listed c.in-Ok-Some.rows) = search rules in
-    unfit_of c.args.loaded c.args.schema c.in-Ok-Some.rows c.check_all.result there from c.check_all.ensures.unfit
+    IfErr-weaker c.check_all.result _ _ (λ u. unfit_by c.args.loaded c.args.schema c.in-Ok-Some.rows u there from) c.check_all.ensures.unfit

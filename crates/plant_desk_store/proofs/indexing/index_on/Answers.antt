@@ -1,4 +1,4 @@
-use Rattle.std.proofs.Common.{rules, sym, subst, Err}
+use Rattle.std.proofs.Common.{sym, subst, Err}
 use Rattle.sqlite.specs.Held.{state}
 use Rattle.table_forms.proofs.Ending.{IsStore}
 use Rattle.plant_desk.specs.declared.reply.DeskFault.{DeskFault}

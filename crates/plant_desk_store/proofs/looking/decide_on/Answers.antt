@@ -4,7 +4,7 @@ use Rattle.plant_base.specs.Values.{greatest_seq}
 use Rattle.plant_view.specs.OneBatch.{PutsOneBatch}
 use Rattle.plant_desk_store.specs.Looking.{IsDecidedAt}
 use Rattle.plant_desk_store.specs.declared.looking.Decided.{Decided}
-use Rattle.plant_desk_store.proofs.Telling.{looked_if, looked_on, looked_open}
+use Rattle.plant_desk_store.proofs.Telling.{looked_if, looked_open}
 use Rattle.plant_desk_store.proofs.looking.decide_on.Goals as goal
 
 pub returns : goal.returns
@@ -21,6 +21,6 @@ returns g c =
       small = looked_if r told is (λ (d : Decided). d.seq ≤ greatest_seq) c.decide_over.ensures.small;
       live = λ clean.
           let live : OnOk r (IsTrue (state g.S.Store c.connection-1.given.0).is_open) = search rules in
-          looked_on r told is (IsTrue (state g.S.Store c.connection-1.given.0).is_open) live;
+          looked_if r told is (λ _. IsTrue (state g.S.Store c.connection-1.given.0).is_open) live;
       unshut = looked_open r told is;
     }

@@ -1,9 +1,14 @@
+use Rattle.std.proofs.Common.{◌≡◌, ◌≢◌, ◌∙◌, sym, subst}
+use Rattle.std.proofs.lemmas.Result.{IfOk-weaker, IfErr-weaker}
 use Rattle.sqlite.specs.Held.{state}
 use Rattle.sqlite.specs.State.{HasCleanDisk, IsUnchanged}
 use Rattle.plant_base.specs.State.{newest_schema}
+use Rattle.table_forms.specs.declared.fault.Fault.TheVariants as fault
 use Rattle.plant_tables_stored.specs.Loading.{AreLoaded}
-use Rattle.plant_desk_store.proofs.Finding.{unbroken_of, tested_of}
-use Rattle.plant_desk_store.proofs.Telling.{tested_rows, untested_unshut, tested_unshut}
+use Rattle.plant_desk.specs.declared.reply.DeskFault.TheVariants.{Shut}
+use Rattle.plant_good_passes.proofs.Unbroken.{read_good}
+use Rattle.plant_good_passes.proofs.Values.{newest_known}
+use Rattle.plant_desk_store.proofs.Telling.{tested_rows, unshut, untested_unshut}
 use Rattle.plant_desk_store.proofs.verifying.verify_on.Goals as goal
 
 pub returns-in-Ok : goal.returns-in-Ok
@@ -16,11 +21,13 @@ returns-in-Ok g c =
     let loaded : HasCleanDisk new → AreLoaded newest_schema old.now x = λ clean. tested_rows (AreLoaded newest_schema old.now) c.read.result x is (c.read.ensures.rows clean) in
     record {
       reads = record { rests = c.read.ensures.mode; kept = c.read.ensures.kept; crash = c.read.ensures.crash };
-      tested = λ clean. tested_of old.now x did.result (loaded clean) did.ensures.broken;
+      tested = λ clean. IfOk-weaker did.result _ _ (λ broken told. (x, loaded clean, told)) did.ensures.broken;
       unbroken = λ clean s stands.
           let same : IsUnchanged old new = tested_rows (λ _. IsUnchanged old new) c.read.result x is (c.read.ensures.same clean) in
-          unbroken_of old s x did.result same.0.was_open stands (loaded clean) did.ensures.broken;
-      unshut = tested_unshut did.result did.ensures.memory;
+          let holds = (stands.shows same.0.was_open).holds in
+          let none = (read_good newest_schema old.now s x newest_known stands.good holds (loaded clean)).1 in
+          IfOk-weaker did.result _ _ (λ broken told. told ∙ none) did.ensures.broken;
+      unshut = IfErr-weaker did.result _ _ (λ f memory. subst (λ x. x ≢ Shut) (sym memory) (unshut fault.Memory)) did.ensures.memory;
     }
 
 pub returns-in-Err : goal.returns-in-Err

@@ -1,4 +1,3 @@
-use Rattle.std.proofs.Common.{false}
 use Rattle.sqlite.specs.Held.{state}
 use Rattle.plant_desk_store.proofs.Mending.{indexed}
 use Rattle.plant_desk_store.proofs.stored.Desk.add_indexes.Goals as goal

@@ -1,24 +1,26 @@
 -- What the fold of a batch's events does, turn by turn.
 use Rattle.std.proofs.Common.{◌≡◌, ◌∙◌, ℕ, ◌+◌, ◌<◌, ◌≤◌, Bool, true, false, cond, List, [], ◌∷◌, ◌++◌, length, drop, get_or, Option, Some, None, Result, Ok, Err, refl, ap, sym, subst, arith}
-use Rattle.std.specs.Prelude.{fold, IsErr, IfOk, IsTrue, nat_le, ◌&&◌, ◌==◌, not, min}
+use Rattle.std.specs.Prelude.{fold, IsErr, IfOk, IsTrue, nat_le, ◌&&◌, ◌||◌, ◌==◌, not, min}
 use Rattle.std.specs.Result.{result_ok, result_unwrap_or}
-use Rattle.std.proofs.lemmas.Bool.{false≢true}
+use Rattle.std.proofs.lemmas.Bool.{false≢true, and_parts, not-false}
 use Rattle.std.proofs.lemmas.Bool.Decides.{nat_tests}
 use Rattle.std.proofs.lemmas.Result.{IfOk-at_ok}
 use Rattle.std.proofs.lemmas.List.{at_drop_more}
-use Rattle.std.proofs.lemmas.List.Sums.{fold_push, fold-append}
+use Rattle.std.proofs.lemmas.List.Elements.{All-contains}
+use Rattle.std.proofs.lemmas.List.Sums.{fold_push, fold-append, AllPass-from_list_all}
 use Rattle.std.proofs.lemmas.List.Folds.{fold_along, fold_stays}
 use Rattle.plant_base.specs.declared.states.BatchState.{BatchState}
-use Rattle.plant_base.specs.declared.states.BatchState.TheVariants.{Idle, Running, Complete, Pausing, Paused, Holding, Held, Restarting, Stopping, Stopped, Aborting, Aborted}
+use Rattle.plant_base.specs.declared.states.BatchState.TheVariants.{Complete}
 use Rattle.plant_base.specs.declared.states.Word.{Word}
-use Rattle.plant_base.specs.declared.states.Word.TheVariants.{Start, Done}
+use Rattle.plant_base.specs.declared.states.Word.TheVariants.{Done}
 use Rattle.plant_base.specs.declared.states.Event.{Event}
 use Rattle.plant_base.specs.declared.states.Event.TheVariants.{Moved, PhaseDone, Closed}
 use Rattle.plant_base.specs.declared.refusal.Refusal.{Refusal}
 use Rattle.plant_base.specs.declared.refusal.Refusal.TheVariants.{PhasesLeft, NotNextPhase, BatchClosed, WrongState, TooMany, NotFinished}
 use Rattle.plant_recipe.specs.declared.progress.Progress.{Progress}
-use Rattle.plant_recipe.specs.StateTable.{next_state_of}
+use Rattle.plant_recipe.specs.StateTable.{Row, state_table, next_state_of}
 use Rattle.plant_recipe.specs.Progress.{greatest_attempt, greatest_phases, opening_progress, is_running, is_ended, is_done, is_reset, is_phase_left, refuse_event, moved_to, leaves_phases, has_no_attempt_left, turn_to, turn_moved, turn_phase_done, turn_closed, turn, then_turn, run_of, progress_of, turn_or_stay, progress_after, IsInRange, EndsForGood, StaysInRange, NeverFalls, GoesAlong}
+use Rattle.plant_recipe.proofs.Moves.{whole_table}
 
 -- ---- one more event
 
@@ -48,10 +50,6 @@ ok_only (Err refusal) p e = cc
 
 pub run_ok : (phases : ℕ) (events : List Event) (p : Progress) → progress_of phases events ≡ Some p → run_of phases events ≡ Ok p
 run_ok phases events p e = ok_only (run_of phases events) p e
-
--- an event that is allowed lengthens the run
-pub progress_push : (phases : ℕ) (events : List Event) (event : Event) (p : Progress) → progress_of phases events ≡ Some p → progress_of phases (events ++ event ∷ []) ≡ result_ok (turn phases p event)
-progress_push phases events event p e = ap result_ok (run_push phases events event ∙ ap (λ r. then_turn phases r event) (run_ok phases events p e))
 
 -- ---- both forms of the fold
 
@@ -95,44 +93,16 @@ abbrev is_complete : Option BatchState → Bool
 is_complete (Some Complete) = true
 is_complete _ = false
 
--- only the ending of the running makes a batch complete
+-- only the ending of the running makes a batch complete, in each row of the table
+abbrev is_right_end : Row → Bool
+is_right_end r = not (is_complete (Some r.2)) || (is_done r.1 && is_running r.0)
+
 only_done : (from : BatchState) (word : Word) → next_state_of from word ≡ Some Complete → (is_done word && is_running from) ≡ true
-only_done Running Done e = refl
-only_done Running _ e = absurd (false≢true (ap is_complete e))
-only_done Idle Start e = absurd (false≢true (ap is_complete e))
-only_done Idle _ e = absurd (false≢true (ap is_complete e))
-only_done Pausing Start e = absurd (false≢true (ap is_complete e))
-only_done Pausing _ e = absurd (false≢true (ap is_complete e))
-only_done Paused Start e = absurd (false≢true (ap is_complete e))
-only_done Paused _ e = absurd (false≢true (ap is_complete e))
-only_done Holding Start e = absurd (false≢true (ap is_complete e))
-only_done Holding _ e = absurd (false≢true (ap is_complete e))
-only_done Held Start e = absurd (false≢true (ap is_complete e))
-only_done Held _ e = absurd (false≢true (ap is_complete e))
-only_done Restarting Start e = absurd (false≢true (ap is_complete e))
-only_done Restarting _ e = absurd (false≢true (ap is_complete e))
-only_done Stopping Start e = absurd (false≢true (ap is_complete e))
-only_done Stopping _ e = absurd (false≢true (ap is_complete e))
-only_done Stopped Start e = absurd (false≢true (ap is_complete e))
-only_done Stopped _ e = absurd (false≢true (ap is_complete e))
-only_done Aborting Start e = absurd (false≢true (ap is_complete e))
-only_done Aborting _ e = absurd (false≢true (ap is_complete e))
-only_done Aborted Start e = absurd (false≢true (ap is_complete e))
-only_done Aborted _ e = absurd (false≢true (ap is_complete e))
-only_done Complete Start e = absurd (false≢true (ap is_complete e))
-only_done Complete _ e = absurd (false≢true (ap is_complete e))
+only_done from word e = All-contains (λ r. is_right_end r ≡ true) state_table (from, word, Complete) (AllPass-from_list_all is_right_end state_table refl) ((whole_table from word Complete).1 e)
 
 done_no_reset : (word : Word) → is_done word ≡ true → is_reset word ≡ true → ⊥
 done_no_reset Done d r = false≢true r
 done_no_reset _ d r = false≢true d
-
-both : (a b : Bool) → (a && b) ≡ true → (a ≡ true) × (b ≡ true)
-both true b e = (refl, e)
-both false b e = absurd (false≢true e)
-
-not_false : (a : Bool) → not a ≡ false → a ≡ true
-not_false true e = refl
-not_false false e = sym e
 
 -- ---- what stays in range
 
@@ -140,7 +110,7 @@ not_false false e = sym e
 none_left : (phases : ℕ) (p : Progress) (word : Word) (to : BatchState) → next_state_of p.state word ≡ Some to → leaves_phases phases p word ≡ false → to ≡ Complete → (is_done word ≡ true) × (is_phase_left phases p ≡ false)
 none_left phases p word to e a t =
     let tests = only_done p.state word (e ∙ ap (λ s. Some s) t) in
-    ((both (is_done word) (is_running p.state) tests).0, sym (ap (λ b. b && is_phase_left phases p) tests) ∙ a)
+    ((and_parts (is_done word) (is_running p.state) tests).0, sym (ap (λ b. b && is_phase_left phases p) tests) ∙ a)
 
 reset_range : (phases : ℕ) (p : Progress) (word : Word) (to : BatchState) → IsInRange phases p → next_state_of p.state word ≡ Some to → leaves_phases phases p word ≡ false → p.closed ≡ false → is_reset word ≡ true → nat_le greatest_attempt p.attempt ≡ false → IsInRange phases (record { state = to; attempt = p.attempt + 1; next = 1; closed = p.closed })
 reset_range phases p word to s e a b r c = record {
@@ -180,8 +150,8 @@ range_to phases p word (Some to) e s = refused _ (leaves_phases phases p word) P
 
 range_phase_done : (phases : ℕ) (p : Progress) (number : ℕ) → IsInRange phases p → not (number == p.next && is_phase_left phases p) ≡ false → p.closed ≡ false → not (is_running p.state) ≡ false → IsInRange phases (record { state = p.state; attempt = p.attempt; next = p.next + 1; closed = p.closed })
 range_phase_done phases p number s e open_ runs =
-    let tests = both _ (is_phase_left phases p) (not_false _ e) in
-    let left = both (nat_le p.next phases) (nat_le p.next greatest_phases) tests.1 in
+    let tests = and_parts _ (is_phase_left phases p) (not-false _ e) in
+    let left = and_parts (nat_le p.next phases) (nat_le p.next greatest_phases) tests.1 in
     record {
       first_attempt = s.first_attempt;
       last_attempt = s.last_attempt;
@@ -189,7 +159,7 @@ range_phase_done phases p number s e open_ runs =
       last_phase = within p.next greatest_phases left.1;
       within_phases = within p.next phases left.0;
       ended = λ t. absurd (false≢true (sym open_ ∙ t));
-      finished = λ t. absurd (false≢true (sym (ap is_running t) ∙ not_false (is_running p.state) runs));
+      finished = λ t. absurd (false≢true (sym (ap is_running t) ∙ not-false (is_running p.state) runs));
     }
   where
     within : (m n : ℕ) → nat_le m n ≡ true → m + 1 ≤ n + 1
@@ -206,7 +176,7 @@ range_turn phases p Closed s = refused _ p.closed BatchClosed _ (λ a. refused _
   first_phase = s.first_phase;
   last_phase = s.last_phase;
   within_phases = s.within_phases;
-  ended = λ t. not_false (is_ended p.state) b;
+  ended = λ t. not-false (is_ended p.state) b;
   finished = s.finished;
 }))
 
@@ -290,14 +260,3 @@ run_capped phases events = λ i. fold (λ r e. then_capped phases r e i) (Ok ope
 pub after_capped : (phases : ℕ) (events : List Event) → progress_after (min phases greatest_phases) events ≡ progress_after phases events
 unfolding progress_after
 after_capped phases events = λ i. fold (λ p e. result_unwrap_or (turn_capped phases p e i) p) opening_progress events
-
--- the events before one that was allowed were allowed
-pub progress_before : (phases : ℕ) (events : List Event) (event : Event) (q : Progress) → progress_of phases (events ++ event ∷ []) ≡ Some q → (p : Progress) × (progress_of phases events ≡ Some p) × (turn phases p event ≡ Ok q)
-progress_before phases events event q e = parted (run_of phases events) refl
-  where
-    whole : then_turn phases (run_of phases events) event ≡ Ok q
-    whole = sym (run_push phases events event) ∙ run_ok phases (events ++ event ∷ []) q e
-
-    parted : (r : Result Progress Refusal) → run_of phases events ≡ r → (p : Progress) × (progress_of phases events ≡ Some p) × (turn phases p event ≡ Ok q)
-    parted (Ok p) f = (p, ap result_ok f, sym (ap (λ r. then_turn phases r event) f) ∙ whole)
-    parted (Err refusal) f = let stuck : Err refusal ≡ Ok q = sym (ap (λ r. then_turn phases r event) f) ∙ whole in absurd cc

@@ -8,10 +8,9 @@ use Rattle.plant_base.specs.declared.rows.Movement.{Movement}
 use Rattle.plant_view.specs.Genealogy.{edge_row_of}
 use Rattle.plant_view.specs.Tables.{edges_in}
 use Rattle.plant_check_rows.specs.Keys.{edge_key}
-use Rattle.plant_check_rows.specs.First.{told_unless, or_told, first_told}
+use Rattle.plant_check_rows.specs.First.{as_a_whole, told_unless, or_told, first_told}
 use Rattle.plant_check_rows.specs.declared.fault.RowFault.{RowFault}
 use Rattle.plant_check_rows.specs.declared.fault.Table.TheVariants as table
-use Rattle.plant_check_rows.specs.declared.fault.Column.TheVariants as column
 use Rattle.plant_check_rows.specs.declared.fault.Found.TheVariants as found
 use Rattle.plant_check_rows.specs.declared.fault.Wanted.TheVariants as wanted
 
@@ -20,13 +19,7 @@ is_edge_among edges e = list_any (λ d. is_eq (edge_order d e)) edges
 
 -- the edge, where it is none of these
 abbrev pub stray_edge_fault : List EdgeRow → EdgeRow → Option RowFault
-stray_edge_fault made e = told_unless (is_edge_among made e) (record {
-  table = table.Edge;
-  key = edge_key e;
-  column = None;
-  found = found.Row;
-  wanted = wanted.NoRow;
-})
+stray_edge_fault made e = told_unless (is_edge_among made e) (as_a_whole (table.Edge, edge_key e) wanted.NoRow)
 
 -- the edge that a movement makes, where it isn't there in a schema that keeps edges
 abbrev pub missing_edge : ℕ → List EdgeRow → Movement → Option EdgeRow → Option RowFault

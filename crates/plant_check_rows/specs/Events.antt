@@ -14,7 +14,7 @@ use Rattle.plant_check_rows.specs.Keys.{id_key, number_key}
 use Rattle.plant_check_rows.specs.declared.fault.Column.{Column}
 use Rattle.plant_check_rows.specs.declared.fault.Found.{Found}
 use Rattle.plant_check_rows.specs.declared.fault.Wanted.{Wanted}
-use Rattle.plant_check_rows.specs.First.{told_unless, or_told, first_told}
+use Rattle.plant_check_rows.specs.First.{in_column, names_none, told_unless, or_told, first_told}
 use Rattle.plant_check_rows.specs.declared.fault.RowFault.{RowFault}
 use Rattle.plant_check_rows.specs.declared.fault.Table.TheVariants as table
 use Rattle.plant_check_rows.specs.declared.fault.Column.TheVariants as column
@@ -23,13 +23,7 @@ use Rattle.plant_check_rows.specs.declared.fault.Wanted.TheVariants as wanted
 
 -- the batch, where this stands in a column and that is wanted
 abbrev pub batch_as : BatchRow → Column → Found → Wanted → RowFault
-batch_as b c f w = record {
-  table = table.Batch;
-  key = id_key b.batch.id;
-  column = Some c;
-  found = f;
-  wanted = w;
-}
+batch_as b c f w = in_column (table.Batch, id_key b.batch.id) c f w
 
 abbrev pub number_as : BatchRow → Column → ℕ → ℕ → RowFault
 number_as b c m n = batch_as b c (found.Number m) (wanted.Number n)
@@ -62,13 +56,7 @@ abbrev pub run_fault : List ControlLine → List BatchEvent → BatchRow → Opt
 run_fault control events b = run_told (run_of (phases_among control b.batch.id) (events_among events b.batch.id)) b
 
 abbrev pub stray_event : BatchEvent → RowFault
-stray_event e = record {
-  table = table.BatchEvent;
-  key = number_key e.seq;
-  column = Some column.Batch;
-  found = found.Id e.batch;
-  wanted = wanted.Key table.Batch;
-}
+stray_event e = names_none (table.BatchEvent, number_key e.seq) column.Batch e.batch table.Batch
 
 -- the event, where its batch isn't there
 abbrev pub event_fault : List BatchRow → BatchEvent → Option RowFault

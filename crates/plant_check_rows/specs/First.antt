@@ -1,6 +1,37 @@
--- The first fault that is told.
-use Rattle.std.specs.Prelude.{Bool, true, false, List, [], ◌∷◌, Option, Some, None}
+-- What is told of a row, and the first fault that is told.
+use Rattle.std.specs.Prelude.{ℕ, Bool, true, false, List, [], ◌∷◌, Option, Some, None}
+use Rattle.plant_check_rows.specs.declared.fault.Column.{Column}
+use Rattle.plant_check_rows.specs.declared.fault.Found.{Found}
+use Rattle.plant_check_rows.specs.declared.fault.Found.TheVariants as found
+use Rattle.plant_check_rows.specs.declared.fault.Key.{Key}
 use Rattle.plant_check_rows.specs.declared.fault.RowFault.{RowFault}
+use Rattle.plant_check_rows.specs.declared.fault.Table.{Table}
+use Rattle.plant_check_rows.specs.declared.fault.Wanted.{Wanted}
+use Rattle.plant_check_rows.specs.declared.fault.Wanted.TheVariants as wanted
+
+-- the row of this table and key, where this stands in a column and that is wanted
+abbrev pub in_column : Table × Key → Column → Found → Wanted → RowFault
+in_column place c f w = record {
+  table = place.0;
+  key = place.1;
+  column = Some c;
+  found = f;
+  wanted = w;
+}
+
+-- the row of this table and key, where the id in its column is that of no row of the other table
+abbrev pub names_none : Table × Key → Column → List ℕ → Table → RowFault
+names_none place c id other = in_column place c (found.Id id) (wanted.Key other)
+
+-- the row of this table and key, where this is wanted of it as a whole
+abbrev pub as_a_whole : Table × Key → Wanted → RowFault
+as_a_whole place w = record {
+  table = place.0;
+  key = place.1;
+  column = None;
+  found = found.Row;
+  wanted = w;
+}
 
 -- the fault, where the rule isn't obeyed
 abbrev pub told_unless : Bool → RowFault → Option RowFault

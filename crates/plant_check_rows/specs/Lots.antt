@@ -1,5 +1,5 @@
 -- Lots, sublots and holds that break a rule.
-use Rattle.std.specs.Prelude.{List, map, Option, Some, None}
+use Rattle.std.specs.Prelude.{List, map, Option}
 use Rattle.plant_base.specs.declared.rows.Definition.{Definition}
 use Rattle.plant_base.specs.declared.rows.Hold.{Hold}
 use Rattle.plant_base.specs.declared.rows.Lot.{Lot}
@@ -8,30 +8,17 @@ use Rattle.plant_view.specs.Production.{is_defined}
 use Rattle.plant_tables_columns.specs.declared.booked.BookedRow.{BookedRow}
 use Rattle.plant_check.specs.Lots.{are_from_zero, sublots_among, is_lot_among, is_born}
 use Rattle.plant_check_rows.specs.Keys.{id_key, sublot_key, hold_key}
-use Rattle.plant_check_rows.specs.First.{told_unless, or_told, first_told}
+use Rattle.plant_check_rows.specs.First.{names_none, as_a_whole, told_unless, or_told, first_told}
 use Rattle.plant_check_rows.specs.declared.fault.RowFault.{RowFault}
 use Rattle.plant_check_rows.specs.declared.fault.Table.TheVariants as table
 use Rattle.plant_check_rows.specs.declared.fault.Column.TheVariants as column
-use Rattle.plant_check_rows.specs.declared.fault.Found.TheVariants as found
 use Rattle.plant_check_rows.specs.declared.fault.Wanted.TheVariants as wanted
 
 abbrev pub undefined_lot : Lot → RowFault
-undefined_lot l = record {
-  table = table.Lot;
-  key = id_key l.id;
-  column = Some column.Def;
-  found = found.Id l.def;
-  wanted = wanted.Key table.Definition;
-}
+undefined_lot l = names_none (table.Lot, id_key l.id) column.Def l.def table.Definition
 
 abbrev pub unnumbered_lot : Lot → RowFault
-unnumbered_lot l = record {
-  table = table.Lot;
-  key = id_key l.id;
-  column = None;
-  found = found.Row;
-  wanted = wanted.NumberedFrom table.Sublot 0;
-}
+unnumbered_lot l = as_a_whole (table.Lot, id_key l.id) (wanted.NumberedFrom table.Sublot 0)
 
 -- the lot, where its definition isn't there, or its sublots aren't numbered from 0 on
 abbrev pub lot_fault : List Definition → List Sublot → Lot → Option RowFault
@@ -40,35 +27,17 @@ lot_fault definitions sublots l =
     (told_unless (are_from_zero (map (λ s. s.number) (sublots_among sublots l.id))) (unnumbered_lot l))
 
 abbrev pub stray_sublot : Sublot → RowFault
-stray_sublot s = record {
-  table = table.Sublot;
-  key = sublot_key s;
-  column = Some column.Lot;
-  found = found.Id s.lot;
-  wanted = wanted.Key table.Lot;
-}
+stray_sublot s = names_none (table.Sublot, sublot_key s) column.Lot s.lot table.Lot
 
 abbrev pub unborn_sublot : Sublot → RowFault
-unborn_sublot s = record {
-  table = table.Sublot;
-  key = sublot_key s;
-  column = None;
-  found = found.Row;
-  wanted = wanted.Birth;
-}
+unborn_sublot s = as_a_whole (table.Sublot, sublot_key s) wanted.Birth
 
 -- the sublot, where its lot isn't there, or it didn't come to be once
 abbrev pub sublot_fault : List Lot → List BookedRow → Sublot → Option RowFault
 sublot_fault lots rows s = or_told (told_unless (is_lot_among lots s.lot) (stray_sublot s)) (told_unless (is_born rows s) (unborn_sublot s))
 
 abbrev pub stray_hold : Hold → RowFault
-stray_hold h = record {
-  table = table.Hold;
-  key = hold_key h;
-  column = Some column.Lot;
-  found = found.Id h.lot;
-  wanted = wanted.Key table.Lot;
-}
+stray_hold h = names_none (table.Hold, hold_key h) column.Lot h.lot table.Lot
 
 -- the hold, where its lot isn't there
 abbrev pub hold_fault : List Lot → Hold → Option RowFault

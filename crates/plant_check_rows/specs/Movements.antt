@@ -14,7 +14,7 @@ use Rattle.plant_check_rows.specs.Keys.{booked_key}
 use Rattle.plant_check_rows.specs.declared.fault.Column.{Column}
 use Rattle.plant_check_rows.specs.declared.fault.Found.{Found}
 use Rattle.plant_check_rows.specs.declared.fault.Wanted.{Wanted}
-use Rattle.plant_check_rows.specs.First.{told_unless, or_told, first_told}
+use Rattle.plant_check_rows.specs.First.{in_column, told_unless, or_told, first_told}
 use Rattle.plant_check_rows.specs.declared.fault.RowFault.{RowFault}
 use Rattle.plant_check_rows.specs.declared.fault.Table.TheVariants as table
 use Rattle.plant_check_rows.specs.declared.fault.Column.TheVariants as column
@@ -22,13 +22,7 @@ use Rattle.plant_check_rows.specs.declared.fault.Found.TheVariants as found
 use Rattle.plant_check_rows.specs.declared.fault.Wanted.TheVariants as wanted
 
 abbrev pub wrong_columns : BookedRow → RowFault
-wrong_columns r = record {
-  table = table.Movement;
-  key = booked_key r.seq r.line;
-  column = Some column.Kind;
-  found = found.Sort r.sort;
-  wanted = wanted.Columns;
-}
+wrong_columns r = in_column (table.Movement, booked_key r.seq r.line) column.Kind (found.Sort r.sort) wanted.Columns
 
 -- the row, where its columns aren't those of its kind
 abbrev pub kind_fault : BookedRow → Option RowFault

@@ -6,14 +6,14 @@ use Rattle.plant_base.specs.declared.rows.Hold.{Hold}
 use Rattle.plant_base.specs.declared.rows.Movement.{Movement}
 use Rattle.plant_stock.specs.Stock.{comes_from}
 use Rattle.plant_check_stock.specs.Numbering.{is_given, is_next_line, is_apart, is_entered_before}
-use Rattle.plant_check_rows.specs.Keys.{id_key, number_key, hold_key}
+use Rattle.plant_check_rows.specs.Keys.{booked_key, id_key, number_key, hold_key}
 use Rattle.plant_check_rows.specs.Movements.{movement_as}
 use Rattle.plant_check_rows.specs.declared.fault.Column.{Column}
 use Rattle.plant_check_rows.specs.declared.fault.Found.{Found}
 use Rattle.plant_check_rows.specs.declared.fault.Key.{Key}
 use Rattle.plant_check_rows.specs.declared.fault.Table.{Table}
 use Rattle.plant_check_rows.specs.declared.fault.Wanted.{Wanted}
-use Rattle.plant_check_rows.specs.First.{told_unless, or_told, first_told}
+use Rattle.plant_check_rows.specs.First.{in_column, told_unless, or_told, first_told}
 use Rattle.plant_check_rows.specs.declared.fault.RowFault.{RowFault}
 use Rattle.plant_check_rows.specs.declared.fault.Table.TheVariants as table
 use Rattle.plant_check_rows.specs.declared.fault.Column.TheVariants as column
@@ -44,13 +44,7 @@ number_fault greatest events ms m =
 
 -- the event, where this stands in a column and that is wanted
 abbrev pub event_as : BatchEvent → Column → Found → Wanted → RowFault
-event_as e c f w = record {
-  table = table.BatchEvent;
-  key = number_key e.seq;
-  column = Some c;
-  found = f;
-  wanted = w;
-}
+event_as e c f w = in_column (table.BatchEvent, number_key e.seq) c f w
 
 -- the event, where its number wasn't given
 abbrev pub given_fault : ℕ → BatchEvent → Option RowFault
@@ -65,16 +59,10 @@ number_fault_in greatest events ms =
 
 -- the row of the table, where its moment is later than the desk's
 abbrev pub moment_fault : ℕ → Table → Key → ℕ → Option RowFault
-moment_fault at t k moment = told_unless (nat_le moment at) (record {
-  table = t;
-  key = k;
-  column = Some column.At;
-  found = found.Number moment;
-  wanted = wanted.NotAfter at;
-})
+moment_fault at t k moment = told_unless (nat_le moment at) (in_column (t, k) column.At (found.Number moment) (wanted.NotAfter at))
 
 abbrev pub late_movement : ℕ → Movement → Option RowFault
-late_movement at m = told_unless (nat_le m.at at) (movement_as m (Some column.At) (found.Number m.at) (wanted.NotAfter at))
+late_movement at m = moment_fault at table.Movement (booked_key m.seq m.line) m.at
 
 abbrev pub late_event : ℕ → BatchEvent → Option RowFault
 late_event at e = moment_fault at table.BatchEvent (number_key e.seq) e.at

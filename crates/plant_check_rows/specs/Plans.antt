@@ -16,7 +16,7 @@ use Rattle.plant_check_plans.specs.Catalogue.{is_class_among}
 use Rattle.plant_check_plans.specs.Orders.{recipe_among, row_of_order, is_started}
 use Rattle.plant_check_plans.specs.Recipes.{are_numbered}
 use Rattle.plant_check_rows.specs.Keys.{id_key, control_line_key}
-use Rattle.plant_check_rows.specs.First.{told_unless, or_told, first_told}
+use Rattle.plant_check_rows.specs.First.{in_column, names_none, as_a_whole, told_unless, or_told, first_told}
 use Rattle.plant_check_rows.specs.declared.fault.RowFault.{RowFault}
 use Rattle.plant_check_rows.specs.declared.fault.Table.TheVariants as table
 use Rattle.plant_check_rows.specs.declared.fault.Column.TheVariants as column
@@ -27,13 +27,7 @@ use Rattle.plant_check_rows.specs.declared.fault.Wanted.TheVariants as wanted
 -- ---- definitions
 
 abbrev pub missing_class : Definition → RowFault
-missing_class d = record {
-  table = table.Definition;
-  key = id_key d.id;
-  column = Some column.Class;
-  found = found.Id d.class;
-  wanted = wanted.Key table.Class;
-}
+missing_class d = names_none (table.Definition, id_key d.id) column.Class d.class table.Class
 
 -- the definition, where its class isn't there
 abbrev pub class_fault : List Class → Definition → Option RowFault
@@ -45,22 +39,10 @@ class_fault_in classes definitions = first_told (class_fault classes) definition
 -- ---- orders
 
 abbrev pub missing_recipe : Job → RowFault
-missing_recipe j = record {
-  table = table.Job;
-  key = id_key j.order.order;
-  column = Some column.Recipe;
-  found = found.Id j.order.recipe;
-  wanted = wanted.Key table.Recipe;
-}
+missing_recipe j = names_none (table.Job, id_key j.order.order) column.Recipe j.order.recipe table.Recipe
 
 abbrev pub wrong_size : Recipe → Job → RowFault
-wrong_size r j = record {
-  table = table.Job;
-  key = id_key j.order.order;
-  column = Some column.Size;
-  found = found.Number j.order.size;
-  wanted = wanted.Size r.header.least r.header.greatest;
-}
+wrong_size r j = in_column (table.Job, id_key j.order.order) column.Size (found.Number j.order.size) (wanted.Size r.header.least r.header.greatest)
 
 -- the order, where its recipe isn't there, or its size is none of that
 abbrev pub size_fault : Option Recipe → Job → Option RowFault
@@ -75,13 +57,7 @@ batch_wanted Released = wanted.OpenBatch
 batch_wanted Finished = wanted.ClosedBatch
 
 abbrev pub wrong_start : Job → RowFault
-wrong_start j = record {
-  table = table.Job;
-  key = id_key j.order.order;
-  column = Some column.State;
-  found = found.Order j.state;
-  wanted = batch_wanted j.state;
-}
+wrong_start j = in_column (table.Job, id_key j.order.order) column.State (found.Order j.state) (batch_wanted j.state)
 
 -- the order, where it has another batch than its state asks for
 abbrev pub start_fault : Option BatchRow → Job → Option RowFault
@@ -97,22 +73,10 @@ order_fault_in recipes batches jobs = first_told (order_fault recipes batches) j
 
 -- the batch, where this is wanted of the row as a whole
 abbrev pub batch_as_a_whole : BatchRow → Wanted → RowFault
-batch_as_a_whole b w = record {
-  table = table.Batch;
-  key = id_key b.batch.id;
-  column = None;
-  found = found.Row;
-  wanted = w;
-}
+batch_as_a_whole b w = as_a_whole (table.Batch, id_key b.batch.id) w
 
 abbrev pub shared_order : BatchRow → RowFault
-shared_order b = record {
-  table = table.Batch;
-  key = id_key b.batch.id;
-  column = Some column.Job;
-  found = found.Id b.batch.job;
-  wanted = wanted.OneBatch;
-}
+shared_order b = in_column (table.Batch, id_key b.batch.id) column.Job (found.Id b.batch.job) wanted.OneBatch
 
 -- the batch, where another has its order, or its lines aren't the control recipe that this asks for, numbered from 1 on
 abbrev pub batch_fault : List Recipe → List MasterLine → List Job → List BatchRow → List ControlLine → BatchRow → Option RowFault
@@ -122,13 +86,7 @@ batch_fault recipes rows jobs batches control b =
     (told_unless (is_control (control_asked_for recipes rows (job_among jobs b.batch.job)) (map (λ l. l.line) (control_among control b.batch.id))) (batch_as_a_whole b wanted.Control)))
 
 abbrev pub stray_control_line : ControlLine → RowFault
-stray_control_line l = record {
-  table = table.ControlLine;
-  key = control_line_key l;
-  column = Some column.Batch;
-  found = found.Id l.batch;
-  wanted = wanted.Key table.Batch;
-}
+stray_control_line l = names_none (table.ControlLine, control_line_key l) column.Batch l.batch table.Batch
 
 -- the line, where its batch isn't there
 abbrev pub control_line_fault : List BatchRow → ControlLine → Option RowFault

@@ -1,5 +1,5 @@
 -- Recalls that break a rule.
-use Rattle.std.specs.Prelude.{ℕ, List, Option, Some, is_some}
+use Rattle.std.specs.Prelude.{ℕ, List, Option, is_some}
 use Rattle.plant_base.specs.declared.rows.Lot.{Lot}
 use Rattle.plant_base.specs.declared.rows.Recall.{Recall}
 use Rattle.plant_tables_columns.specs.Stated.{recall_from}
@@ -10,7 +10,7 @@ use Rattle.plant_check_rows.specs.Keys.{id_key}
 use Rattle.plant_check_rows.specs.declared.fault.Column.{Column}
 use Rattle.plant_check_rows.specs.declared.fault.Found.{Found}
 use Rattle.plant_check_rows.specs.declared.fault.Wanted.{Wanted}
-use Rattle.plant_check_rows.specs.First.{told_unless, or_told, first_told}
+use Rattle.plant_check_rows.specs.First.{in_column, told_unless, or_told, first_told}
 use Rattle.plant_check_rows.specs.declared.fault.RowFault.{RowFault}
 use Rattle.plant_check_rows.specs.declared.fault.Table.TheVariants as table
 use Rattle.plant_check_rows.specs.declared.fault.Column.TheVariants as column
@@ -19,13 +19,7 @@ use Rattle.plant_check_rows.specs.declared.fault.Wanted.TheVariants as wanted
 
 -- the recall, where this stands in a column and that is wanted
 abbrev pub recall_as : List ℕ → Column → Found → Wanted → RowFault
-recall_as id c f w = record {
-  table = table.Recall;
-  key = id_key id;
-  column = Some c;
-  found = f;
-  wanted = w;
-}
+recall_as id c f w = in_column (table.Recall, id_key id) c f w
 
 -- the row, where the columns of its lifting aren't those of its state
 abbrev pub lifting_fault : StatedRecall → Option RowFault

@@ -1,5 +1,5 @@
 -- Recipes and their lines that break a rule.
-use Rattle.std.specs.Prelude.{List, map, Option, Some, None}
+use Rattle.std.specs.Prelude.{List, map, Option}
 use Rattle.plant_base.specs.declared.rows.Definition.{Definition}
 use Rattle.plant_base.specs.declared.rows.Header.{Header}
 use Rattle.plant_base.specs.declared.rows.MasterLine.{MasterLine}
@@ -11,7 +11,7 @@ use Rattle.plant_view.specs.Production.{is_defined, is_known, rows_among, lines_
 use Rattle.plant_check_plans.specs.Recipes.{are_numbered, is_recipe_among}
 use Rattle.plant_check_rows.specs.Keys.{recipe_key, recipe_line_key}
 use Rattle.plant_check_rows.specs.declared.fault.Found.{Found}
-use Rattle.plant_check_rows.specs.First.{told_unless, or_told, first_told}
+use Rattle.plant_check_rows.specs.First.{in_column, names_none, as_a_whole, told_unless, or_told, first_told}
 use Rattle.plant_check_rows.specs.declared.fault.RowFault.{RowFault}
 use Rattle.plant_check_rows.specs.declared.fault.Table.TheVariants as table
 use Rattle.plant_check_rows.specs.declared.fault.Column.TheVariants as column
@@ -21,22 +21,10 @@ use Rattle.plant_check_rows.specs.declared.fault.Wanted.TheVariants as wanted
 
 -- the recipe, where this is wanted of the row as a whole
 abbrev pub recipe_as_a_whole : Header → Wanted → RowFault
-recipe_as_a_whole h w = record {
-  table = table.Recipe;
-  key = recipe_key h;
-  column = None;
-  found = found.Row;
-  wanted = w;
-}
+recipe_as_a_whole h w = as_a_whole (table.Recipe, recipe_key h) w
 
 abbrev pub missing_product : Header → RowFault
-missing_product h = record {
-  table = table.Recipe;
-  key = recipe_key h;
-  column = Some column.Product;
-  found = found.Id h.product;
-  wanted = wanted.Key table.Definition;
-}
+missing_product h = names_none (table.Recipe, recipe_key h) column.Product h.product table.Definition
 
 -- the definition that a line names, where it names one
 abbrev pub definition_found : RecipeLine → Found
@@ -46,13 +34,7 @@ definition_found (line.Parameter name value) = found.Row
 definition_found (line.Phase unit_procedure operation phase) = found.Row
 
 abbrev pub unknown_definition : MasterLine → RowFault
-unknown_definition l = record {
-  table = table.RecipeLine;
-  key = recipe_line_key l;
-  column = Some column.Def;
-  found = definition_found l.line;
-  wanted = wanted.Key table.Definition;
-}
+unknown_definition l = in_column (table.RecipeLine, recipe_line_key l) column.Def (definition_found l.line) (wanted.Key table.Definition)
 
 -- the line, where the definition that it names isn't there
 abbrev pub line_fault : List Definition → MasterLine → Option RowFault
@@ -70,13 +52,7 @@ abbrev pub recipe_fault : List Definition → List MasterLine → Recipe → Opt
 recipe_fault definitions rows r = formed_fault definitions r.header (rows_among rows r.header.recipe r.header.version) (lines_among rows r.header.recipe r.header.version)
 
 abbrev pub stray_line : MasterLine → RowFault
-stray_line l = record {
-  table = table.RecipeLine;
-  key = recipe_line_key l;
-  column = Some column.Recipe;
-  found = found.Id l.recipe;
-  wanted = wanted.Key table.Recipe;
-}
+stray_line l = names_none (table.RecipeLine, recipe_line_key l) column.Recipe l.recipe table.Recipe
 
 -- the line, where its recipe isn't there
 abbrev pub stray_line_fault : List Recipe → MasterLine → Option RowFault

@@ -1,9 +1,9 @@
 -- Sublots whose stock isn't what entered them less what left them.
-use Rattle.std.specs.Prelude.{ℕ, ◌+◌, ◌==◌, List, Option, Some}
+use Rattle.std.specs.Prelude.{ℕ, ◌+◌, ◌==◌, List, Option}
 use Rattle.plant_base.specs.declared.rows.Sublot.{Sublot}
 use Rattle.plant_tables_columns.specs.declared.booked.BookedRow.{BookedRow}
 use Rattle.plant_check.specs.Ends.{entries, exits, total_booked}
-use Rattle.plant_check_rows.specs.First.{told_unless, first_told}
+use Rattle.plant_check_rows.specs.First.{in_column, told_unless, first_told}
 use Rattle.plant_check_rows.specs.Keys.{sublot_key}
 use Rattle.plant_check_rows.specs.declared.fault.RowFault.{RowFault}
 use Rattle.plant_check_rows.specs.declared.fault.Table.TheVariants as table
@@ -13,13 +13,7 @@ use Rattle.plant_check_rows.specs.declared.fault.Wanted.TheVariants as wanted
 
 -- the sublot, where so much entered and so much left
 abbrev pub wrong_stock : ℕ → ℕ → Sublot → RowFault
-wrong_stock entered left s = record {
-  table = table.Sublot;
-  key = sublot_key s;
-  column = Some column.Stock;
-  found = found.Number s.stock;
-  wanted = wanted.Stock entered left;
-}
+wrong_stock entered left s = in_column (table.Sublot, sublot_key s) column.Stock (found.Number s.stock) (wanted.Stock entered left)
 
 -- the sublot, where its stock isn't what entered less what left
 abbrev pub stock_told : ℕ → ℕ → Sublot → Option RowFault

@@ -4,12 +4,11 @@ use Rattle.sqlite.specs.Order.{Row}
 use Rattle.plant_tables_columns.specs.TableColumns.{class_from, definition_from, recipe_from, master_line_from, job_from, batch_from, control_line_from, batch_event_from, lot_from, sublot_from, booked_from, hold_from, edge_from, receipt_from, stated_from, mark_from}
 use Rattle.plant_tables_stored.specs.Loading.{contents_loaded}
 use Rattle.plant_tables_stored.specs.declared.loaded.Loaded.{Loaded}
-use Rattle.plant_check_rows.specs.First.{or_told}
+use Rattle.plant_check_rows.specs.First.{as_a_whole, or_told}
 use Rattle.plant_check_rows.specs.declared.fault.RowFault.{RowFault}
 use Rattle.plant_check_rows.specs.declared.fault.Table.{Table}
 use Rattle.plant_check_rows.specs.declared.fault.Table.TheVariants as table
 use Rattle.plant_check_rows.specs.declared.fault.Key.TheVariants as key
-use Rattle.plant_check_rows.specs.declared.fault.Found.TheVariants as found
 use Rattle.plant_check_rows.specs.declared.fault.Wanted.TheVariants as wanted
 
 -- the place, where the row stands for nothing
@@ -24,13 +23,7 @@ first_unread row_from place (x ∷ xs) = place_unless (row_from x) place (first_
 
 abbrev pub place_told : Table → Option ℕ → Option RowFault
 place_told t None = None
-place_told t (Some place) = Some (record {
-  table = t;
-  key = key.Place place;
-  column = None;
-  found = found.Row;
-  wanted = wanted.Values;
-})
+place_told t (Some place) = Some (as_a_whole (t, key.Place place) wanted.Values)
 
 -- the first row of the table that stands for nothing, counted from 1 on
 abbrev pub value_fault : {R : Type 0} → Table → (Row → Option R) → List Row → Option RowFault

@@ -5,11 +5,12 @@ ghost use Rattle.plant_check_rows.specs.Edges.{stray_edge_fault};
 ghost use Rattle.plant_check_rows.specs.First.{first_told};
 
 use crate::fault::{Found, RowFault, Table, Wanted};
-use crate::first::{RowRule, first_fault, or_told, told_unless};
+use crate::first::{RowRule, as_a_whole, first_fault, or_told, told_unless};
 use crate::keys::edge_key;
 use plant_base::{EdgeRow, Movement};
 use plant_check::edges::edges_in;
 use plant_check_groups::{Grouped, Grouping};
+use plant_tables_judged::DeskRows;
 use plant_view::edge_row;
 use std::alloc::{AllocError, Global};
 
@@ -38,25 +39,12 @@ fn has_edge(edges: &Grouped<Kept>, edge: EdgeRow) -> bool
 }
 
 /// That an edge is one that a movement makes.
-#[derive(Drop)]
-struct Made<'a> {
-    made: Grouped<'a, Kept>,
-}
-
-impl<'a> RowRule for Made<'a> {
-    type Row = EdgeRow;
-
-    ghost fault_of = { λ t e. stray_edge_fault t.made.rows.now e };
+impl<'a> RowRule<EdgeRow> for Grouped<'a, Kept> {
+    ghost fault_of = { λ t e. stray_edge_fault t.rows.now e };
 
     fn fault(&self, _alloc: Global, row: &EdgeRow) -> Result<Option<RowFault>, AllocError> {
-        let fault = RowFault {
-            table: Table::Edge,
-            key: edge_key(row),
-            column: None,
-            found: Found::Row,
-            wanted: Wanted::NoRow,
-        };
-        Ok(told_unless(has_edge(&self.made, *row), fault))
+        let fault = as_a_whole((Table::Edge, edge_key(row)), Wanted::NoRow);
+        Ok(told_unless(has_edge(self, *row), fault))
     }
 }
 
@@ -90,9 +78,7 @@ impl<'a> Keeping<'a> {
     }
 }
 
-impl<'a> RowRule for Keeping<'a> {
-    type Row = Movement;
-
+impl<'a> RowRule<Movement> for Keeping<'a> {
     ghost fault_of = { λ t m. missing_edge_fault t.schema t.edges.rows.now m };
 
     fn fault(&self, _alloc: Global, row: &Movement) -> Result<Option<RowFault>, AllocError> {
@@ -108,8 +94,7 @@ fn stray_edge(
     ensures { IfOk result (λ told. told ≡ first_told (stray_edge_fault made.now) rows.now) }
 {
     let made = Grouped::<Kept>::new(alloc, made)?;
-    let making = Made { made };
-    first_fault(alloc, &making, rows)
+    first_fault(alloc, &made, rows)
 }
 
 fn unkept_edge(
@@ -121,22 +106,22 @@ fn unkept_edge(
     ensures { IfOk result (λ told. told ≡ first_told (missing_edge_fault schema rows.now) movements.now) }
 {
     let edges = Grouped::<Kept>::new(alloc, rows)?;
-    let keeping = Keeping { schema, edges };
-    first_fault(alloc, &keeping, movements)
+    first_fault(alloc, &Keeping { schema, edges }, movements)
 }
 
 /// The first edge that no movement makes, or else the first that a movement makes and that isn't there, in a schema that keeps
 /// edges. The only error is that memory was refused.
 pub(crate) fn edge_fault(
     alloc: Global,
-    schema: u64,
-    rows: &[EdgeRow],
+    rows: &DeskRows,
     movements: &[Movement],
 ) -> Result<Option<RowFault>, AllocError>
-    ensures { IfOk result (λ told. told ≡ edge_fault_in schema rows.now movements.now) }
+    ensures { IfOk result (λ told. told ≡ edge_fault_in rows.now.meta.schema rows.now.edges.items movements.now) }
 {
+    let schema = rows.meta.schema;
+    let edges = rows.edges.as_slice();
     let made = edges_in(alloc, schema, movements)?;
-    let stray = stray_edge(alloc, made.as_slice(), rows)?;
-    let missing = unkept_edge(alloc, schema, rows, movements)?;
+    let stray = stray_edge(alloc, made.as_slice(), edges)?;
+    let missing = unkept_edge(alloc, schema, edges, movements)?;
     Ok(or_told(stray, missing))
 }

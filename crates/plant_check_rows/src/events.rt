@@ -5,26 +5,22 @@ ghost use Rattle.plant_check_rows.specs.Events.{number_as, progress_fault, refus
 ghost use Rattle.plant_check_rows.specs.First.{first_told};
 
 use crate::fault::{Column, Found, RowFault, Table, Wanted};
-use crate::first::{RowRule, first_fault, or_told, told_unless};
+use crate::first::{RowRule, first_fault, in_column, names_none, or_told, told_unless};
 use crate::keys::{id_key, number_key};
-use plant_base::{BatchEvent, BatchRow, ControlLine, Refusal};
+use plant_base::{BatchEvent, BatchRow, Refusal};
 use plant_check_groups::Grouped;
 use plant_check_plans::events::{events_in, kept_progress, phases_of};
 use plant_check_plans::keys::{Batches, ControlLines, Events, events_of, has_batch};
 use plant_recipe::Progress;
+use plant_tables_judged::DeskRows;
 use std::alloc::{AllocError, Global};
 
 /// The batch, where this stands in a column and that is wanted.
 fn batch_as(batch: &BatchRow, column: Column, found: Found, wanted: Wanted) -> RowFault
     ensures { result ≡ batch_as batch.now column found wanted }
 {
-    RowFault {
-        table: Table::Batch,
-        key: id_key(batch.batch.id),
-        column: Some(column),
-        found,
-        wanted,
-    }
+    let place = (Table::Batch, id_key(batch.batch.id));
+    in_column(place, column, found, wanted)
 }
 
 fn refused_event(batch: &BatchRow, refusal: Refusal) -> RowFault
@@ -94,9 +90,7 @@ struct Runs<'a> {
     events: Grouped<'a, Events>,
 }
 
-impl<'a> RowRule for Runs<'a> {
-    type Row = BatchRow;
-
+impl<'a> RowRule<BatchRow> for Runs<'a> {
     ghost fault_of = { λ t b. run_fault t.controls.rows.now t.events.rows.now b };
 
     #[tactic(auto, using(plant_recipe::proofs::Runs::run_capped))]
@@ -109,65 +103,38 @@ impl<'a> RowRule for Runs<'a> {
 }
 
 /// That the batch of an event is there.
-#[derive(Drop)]
-struct Happened<'a> {
-    batches: Grouped<'a, Batches>,
-}
-
-impl<'a> RowRule for Happened<'a> {
-    type Row = BatchEvent;
-
-    ghost fault_of = { λ t e. event_fault t.batches.rows.now e };
+impl<'a> RowRule<BatchEvent> for Grouped<'a, Batches> {
+    ghost fault_of = { λ t e. event_fault t.rows.now e };
 
     fn fault(&self, _alloc: Global, row: &BatchEvent) -> Result<Option<RowFault>, AllocError> {
-        let fault = RowFault {
-            table: Table::BatchEvent,
-            key: number_key(row.seq),
-            column: Some(Column::Batch),
-            found: Found::Id(row.batch),
-            wanted: Wanted::Key(Table::Batch),
-        };
-        Ok(told_unless(has_batch(&self.batches, row.batch), fault))
+        let place = (Table::BatchEvent, number_key(row.seq));
+        let fault = names_none(place, Column::Batch, row.batch, Table::Batch);
+        Ok(told_unless(has_batch(self, row.batch), fault))
     }
 }
 
-fn wrong_run(
-    alloc: Global,
-    control: &[ControlLine],
-    events: &[BatchEvent],
-    batches: &[BatchRow],
-) -> Result<Option<RowFault>, AllocError>
-    ensures { IfOk result (λ told. told ≡ first_told (run_fault control.now events.now) batches.now) }
+fn wrong_run(alloc: Global, rows: &DeskRows) -> Result<Option<RowFault>, AllocError>
+    ensures { IfOk result (λ told. told ≡ first_told
+        (run_fault rows.now.control_lines.items rows.now.events.items) rows.now.batches.items) }
 {
-    let controls = Grouped::<ControlLines>::new(alloc, control)?;
-    let events = Grouped::<Events>::new(alloc, events)?;
+    let controls = Grouped::<ControlLines>::new(alloc, rows.control_lines.as_slice())?;
+    let events = Grouped::<Events>::new(alloc, rows.events.as_slice())?;
     let runs = Runs { controls, events };
-    first_fault(alloc, &runs, batches)
+    first_fault(alloc, &runs, rows.batches.as_slice())
 }
 
-fn stray_event(
-    alloc: Global,
-    batches: &[BatchRow],
-    events: &[BatchEvent],
-) -> Result<Option<RowFault>, AllocError>
-    ensures { IfOk result (λ told. told ≡ first_told (event_fault batches.now) events.now) }
+fn stray_event(alloc: Global, rows: &DeskRows) -> Result<Option<RowFault>, AllocError>
+    ensures { IfOk result (λ told. told ≡ first_told (event_fault rows.now.batches.items) rows.now.events.items) }
 {
-    let batches = Grouped::<Batches>::new(alloc, batches)?;
-    let happened = Happened { batches };
-    first_fault(alloc, &happened, events)
+    let batches = Grouped::<Batches>::new(alloc, rows.batches.as_slice())?;
+    first_fault(alloc, &batches, rows.events.as_slice())
 }
 
 /// The first batch that hasn't come as far as its columns say, or else the first event without its batch. The only error is
 /// that memory was refused.
-pub(crate) fn event_fault(
-    alloc: Global,
-    control: &[ControlLine],
-    events: &[BatchEvent],
-    batches: &[BatchRow],
-) -> Result<Option<RowFault>, AllocError>
-    ensures { IfOk result (λ told. told ≡ event_fault_in control.now events.now batches.now) }
+pub(crate) fn event_fault(alloc: Global, rows: &DeskRows) -> Result<Option<RowFault>, AllocError>
+    ensures { IfOk result (λ told. told
+        ≡ event_fault_in rows.now.control_lines.items rows.now.events.items rows.now.batches.items) }
 {
-    let run = wrong_run(alloc, control, events, batches)?;
-    let stray = stray_event(alloc, batches, events)?;
-    Ok(or_told(run, stray))
+    Ok(or_told(wrong_run(alloc, rows)?, stray_event(alloc, rows)?))
 }

@@ -1,30 +1,25 @@
 //! The broken rules, each with the first row that breaks it.
-ghost use Rattle.std.specs.Prelude.{◌≡◌, [], IfOk, filter};
+ghost use Rattle.std.specs.Prelude.{◌≡◌, IfOk, filter};
 ghost use Rattle.plant_tables_judged.specs.Collecting.{rows_listed};
-ghost use Rattle.plant_check.specs.declared.rule.Rule.TheVariants as broken;
 ghost use Rattle.plant_check_rows.specs.Findings as spec;
 ghost use Rattle.plant_check_rows.specs.Findings.{AreFindingsOf, IsFoundWhereBroken, IsFirstFound, IsTestOf};
-ghost use Rattle.plant_check_rows.specs.Findings.{numbered_fault_in};
 
 use crate::edges::edge_fault;
 use crate::events::event_fault;
 use crate::fault::RowFault;
-use crate::first::or_told;
 use crate::lots::lot_fault;
-use crate::marks::mark_fault;
 use crate::movements::movement_fault;
-use crate::numbers::{falling_event, falling_movement, late_fault, number_fault};
+use crate::numbers::number_fault;
 use crate::plans::{batch_fault, class_fault, order_fault};
 use crate::recalls::recall_fault;
 use crate::receipts::receipt_fault;
 use crate::recipes::recipe_fault;
 use crate::stocks::stock_fault;
 use crate::values::value_fault_in;
-use plant_base::{Movement, Recall};
+use plant_base::Movement;
 use plant_check::Rule;
 use plant_check::checking::{are_edges_of, are_numbers_of, are_right_recalls};
 use plant_check::history::movements_in;
-use plant_check::recalls::recalls_told;
 use plant_check_stock::are_receipts;
 use plant_tables_judged::{DeskRows, has_meta, rows_of};
 use plant_tables_stored::Loaded;
@@ -114,207 +109,8 @@ fn found_by_test(rule: Rule, obeyed: bool, row: Option<RowFault>) -> Option<Find
     }
 }
 
-#[tactic(auto, unfolding(plant_tables_judged::specs::Collecting::rows_listed))]
-fn classes_found(alloc: Global, rows: &DeskRows) -> Result<Option<Finding>, AllocError>
-    ensures { IfOk result (λ found. found ≡ spec.finding_of broken.Classes (rows_listed rows.now) []) }
-{
-    let told = class_fault(alloc, rows.classes.as_slice(), rows.definitions.as_slice())?;
-    Ok(found_by_row(Rule::Classes, told))
-}
-
-#[tactic(auto, unfolding(plant_tables_judged::specs::Collecting::rows_listed))]
-fn recipes_found(alloc: Global, rows: &DeskRows) -> Result<Option<Finding>, AllocError>
-    ensures { IfOk result (λ found. found ≡ spec.finding_of broken.Recipes (rows_listed rows.now) []) }
-{
-    let told = recipe_fault(
-        alloc,
-        rows.definitions.as_slice(),
-        rows.recipes.as_slice(),
-        rows.master_lines.as_slice(),
-    )?;
-    Ok(found_by_row(Rule::Recipes, told))
-}
-
-#[tactic(auto, unfolding(plant_tables_judged::specs::Collecting::rows_listed))]
-fn orders_found(alloc: Global, rows: &DeskRows) -> Result<Option<Finding>, AllocError>
-    ensures { IfOk result (λ found. found ≡ spec.finding_of broken.Orders (rows_listed rows.now) []) }
-{
-    let told = order_fault(
-        alloc,
-        rows.recipes.as_slice(),
-        rows.batches.as_slice(),
-        rows.jobs.as_slice(),
-    )?;
-    Ok(found_by_row(Rule::Orders, told))
-}
-
-#[tactic(auto, unfolding(plant_tables_judged::specs::Collecting::rows_listed))]
-fn batches_found(alloc: Global, rows: &DeskRows) -> Result<Option<Finding>, AllocError>
-    ensures { IfOk result (λ found. found ≡ spec.finding_of broken.Batches (rows_listed rows.now) []) }
-{
-    let told = batch_fault(
-        alloc,
-        rows.recipes.as_slice(),
-        rows.master_lines.as_slice(),
-        rows.jobs.as_slice(),
-        rows.batches.as_slice(),
-        rows.control_lines.as_slice(),
-    )?;
-    Ok(found_by_row(Rule::Batches, told))
-}
-
-#[tactic(auto, unfolding(plant_tables_judged::specs::Collecting::rows_listed))]
-fn stocks_found(alloc: Global, rows: &DeskRows) -> Result<Option<Finding>, AllocError>
-    ensures { IfOk result (λ found. found ≡ spec.finding_of broken.Stocks (rows_listed rows.now) []) }
-{
-    let told = stock_fault(alloc, rows.movements.as_slice(), rows.sublots.as_slice())?;
-    Ok(found_by_row(Rule::Stocks, told))
-}
-
-#[tactic(auto, unfolding(plant_tables_judged::specs::Collecting::rows_listed))]
-fn lots_found(alloc: Global, rows: &DeskRows) -> Result<Option<Finding>, AllocError>
-    ensures { IfOk result (λ found. found ≡ spec.finding_of broken.Lots (rows_listed rows.now) []) }
-{
-    let told = lot_fault(
-        alloc,
-        rows.definitions.as_slice(),
-        rows.lots.as_slice(),
-        rows.sublots.as_slice(),
-        rows.holds.as_slice(),
-        rows.movements.as_slice(),
-    )?;
-    Ok(found_by_row(Rule::Lots, told))
-}
-
-#[tactic(auto, unfolding(plant_tables_judged::specs::Collecting::rows_listed))]
-fn movements_found(
-    alloc: Global,
-    rows: &DeskRows,
-    movements: &[Movement],
-) -> Result<Option<Finding>, AllocError>
-    ensures { IfOk result (λ found. found ≡ spec.finding_of broken.Movements (rows_listed rows.now) movements.now) }
-{
-    let told = movement_fault(
-        alloc,
-        rows.movements.as_slice(),
-        rows.lots.as_slice(),
-        rows.sublots.as_slice(),
-        rows.batches.as_slice(),
-        rows.control_lines.as_slice(),
-        movements,
-    )?;
-    Ok(found_by_row(Rule::Movements, told))
-}
-
-#[tactic(auto, unfolding(plant_tables_judged::specs::Collecting::rows_listed))]
-fn events_found(alloc: Global, rows: &DeskRows) -> Result<Option<Finding>, AllocError>
-    ensures { IfOk result (λ found. found ≡ spec.finding_of broken.Events (rows_listed rows.now) []) }
-{
-    let told = event_fault(
-        alloc,
-        rows.control_lines.as_slice(),
-        rows.events.as_slice(),
-        rows.batches.as_slice(),
-    )?;
-    Ok(found_by_row(Rule::Events, told))
-}
-
-#[tactic(auto, unfolding(plant_tables_judged::specs::Collecting::rows_listed))]
-fn numbered_fault(
-    alloc: Global,
-    rows: &DeskRows,
-    movements: &[Movement],
-) -> Result<Option<RowFault>, AllocError>
-    ensures { IfOk result (λ told. told ≡ numbered_fault_in (rows_listed rows.now) movements.now) }
-{
-    let position = rows.meta.position;
-    let events = rows.events.as_slice();
-    let number = number_fault(alloc, position.seq, events, movements)?;
-    let late = late_fault(
-        alloc,
-        position.at,
-        movements,
-        events,
-        rows.batches.as_slice(),
-        rows.holds.as_slice(),
-    )?;
-    let fall = or_told(falling_movement(movements), falling_event(events));
-    Ok(or_told(number, or_told(late, fall)))
-}
-
-#[tactic(auto, unfolding(plant_tables_judged::specs::Collecting::rows_listed))]
-fn numbers_found(
-    alloc: Global,
-    rows: &DeskRows,
-    movements: &[Movement],
-) -> Result<Option<Finding>, AllocError>
-    ensures { IfOk result (λ found. found ≡ spec.finding_of broken.Numbers (rows_listed rows.now) movements.now) }
-{
-    let obeyed = are_numbers_of(alloc, rows, movements)?;
-    let told = numbered_fault(alloc, rows, movements)?;
-    Ok(found_by_test(Rule::Numbers, obeyed, told))
-}
-
-#[tactic(auto, unfolding(plant_tables_judged::specs::Collecting::rows_listed))]
-fn descent_found(
-    alloc: Global,
-    rows: &DeskRows,
-    movements: &[Movement],
-) -> Result<Option<Finding>, AllocError>
-    ensures { IfOk result (λ found. found ≡ spec.finding_of broken.Descent (rows_listed rows.now) movements.now) }
-{
-    let obeyed = are_edges_of(alloc, rows, movements)?;
-    let told = edge_fault(alloc, rows.meta.schema, rows.edges.as_slice(), movements)?;
-    Ok(found_by_test(Rule::Descent, obeyed, told))
-}
-
-#[tactic(auto, unfolding(plant_tables_judged::specs::Collecting::rows_listed))]
-fn receipts_found(alloc: Global, rows: &DeskRows) -> Result<Option<Finding>, AllocError>
-    ensures { IfOk result (λ found. found ≡ spec.finding_of broken.Receipts (rows_listed rows.now) []) }
-{
-    let seq = rows.meta.position.seq;
-    let receipts = rows.receipts.as_slice();
-    let obeyed = are_receipts(alloc, seq, receipts)?;
-    let told = receipt_fault(alloc, seq, receipts)?;
-    Ok(found_by_test(Rule::Receipts, obeyed, told))
-}
-
-#[tactic(auto, unfolding(plant_tables_judged::specs::Collecting::rows_listed))]
-fn recalled_fault(
-    alloc: Global,
-    rows: &DeskRows,
-    recalls: &[Recall],
-    movements: &[Movement],
-) -> Result<Option<RowFault>, AllocError>
-    ensures { IfOk result (λ told. told ≡ spec.recalled_fault_in (rows_listed rows.now) recalls.now movements.now) }
-{
-    let by_row = recall_fault(
-        alloc,
-        rows.meta.position.at,
-        rows.recalls.as_slice(),
-        rows.lots.as_slice(),
-        recalls,
-    )?;
-    let by_mark = mark_fault(alloc, recalls, movements, rows.marks.as_slice())?;
-    Ok(or_told(by_row, by_mark))
-}
-
-#[tactic(auto, unfolding(plant_tables_judged::specs::Collecting::rows_listed))]
-fn recalls_found(
-    alloc: Global,
-    rows: &DeskRows,
-    movements: &[Movement],
-) -> Result<Option<Finding>, AllocError>
-    ensures { IfOk result (λ found. found ≡ spec.finding_of broken.Recalls (rows_listed rows.now) movements.now) }
-{
-    let stated = rows.recalls.as_slice();
-    let obeyed = are_right_recalls(alloc, rows)?;
-    let recalls = recalls_told(alloc, stated)?;
-    let told = recalled_fault(alloc, rows, recalls.as_slice(), movements)?;
-    Ok(found_by_test(Rule::Recalls, obeyed, told))
-}
-
 /// What is found of a rule.
+#[tactic(auto, unfolding(plant_tables_judged::specs::Collecting::rows_listed))]
 fn finding_of(
     alloc: Global,
     rule: Rule,
@@ -325,18 +121,31 @@ fn finding_of(
 {
     match rule {
         Rule::Tables | Rule::Values => Ok(None),
-        Rule::Classes => classes_found(alloc, rows),
-        Rule::Recipes => recipes_found(alloc, rows),
-        Rule::Orders => orders_found(alloc, rows),
-        Rule::Batches => batches_found(alloc, rows),
-        Rule::Stocks => stocks_found(alloc, rows),
-        Rule::Lots => lots_found(alloc, rows),
-        Rule::Movements => movements_found(alloc, rows, movements),
-        Rule::Events => events_found(alloc, rows),
-        Rule::Numbers => numbers_found(alloc, rows, movements),
-        Rule::Descent => descent_found(alloc, rows, movements),
-        Rule::Receipts => receipts_found(alloc, rows),
-        Rule::Recalls => recalls_found(alloc, rows, movements),
+        Rule::Classes => Ok(found_by_row(rule, class_fault(alloc, rows)?)),
+        Rule::Recipes => Ok(found_by_row(rule, recipe_fault(alloc, rows)?)),
+        Rule::Orders => Ok(found_by_row(rule, order_fault(alloc, rows)?)),
+        Rule::Batches => Ok(found_by_row(rule, batch_fault(alloc, rows)?)),
+        Rule::Stocks => Ok(found_by_row(rule, stock_fault(alloc, rows)?)),
+        Rule::Lots => Ok(found_by_row(rule, lot_fault(alloc, rows)?)),
+        Rule::Movements => Ok(found_by_row(rule, movement_fault(alloc, rows, movements)?)),
+        Rule::Events => Ok(found_by_row(rule, event_fault(alloc, rows)?)),
+        Rule::Numbers => {
+            let obeyed = are_numbers_of(alloc, rows, movements)?;
+            Ok(found_by_test(rule, obeyed, number_fault(alloc, rows, movements)?))
+        }
+        Rule::Descent => {
+            let obeyed = are_edges_of(alloc, rows, movements)?;
+            Ok(found_by_test(rule, obeyed, edge_fault(alloc, rows, movements)?))
+        }
+        Rule::Receipts => {
+            let seq = rows.meta.position.seq;
+            let obeyed = are_receipts(alloc, seq, rows.receipts.as_slice())?;
+            Ok(found_by_test(rule, obeyed, receipt_fault(alloc, rows)?))
+        }
+        Rule::Recalls => {
+            let obeyed = are_right_recalls(alloc, rows)?;
+            Ok(found_by_test(rule, obeyed, recall_fault(alloc, rows, movements)?))
+        }
     }
 }
 

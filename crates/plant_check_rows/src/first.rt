@@ -1,24 +1,60 @@
-//! The first row that breaks a rule.
+//! What is told of a row, and the first row that breaks a rule.
 ghost use Rattle.std.specs.Prelude.{◌≡◌, IfOk};
-ghost use Rattle.plant_check_rows.specs.First.{first_told, or_told, told_unless};
+ghost use Rattle.plant_check_rows.specs.First.{as_a_whole, first_told, in_column, names_none, or_told, told_unless};
 
-use crate::fault::RowFault;
+use crate::fault::{Column, Found, Key, RowFault, Table, Wanted};
+use plant_base::Id;
 use std::alloc::{AllocError, Global};
 
 /// What each row of a table has to obey by itself, beside the rows that it is held against.
-pub(crate) trait RowRule {
+pub(crate) trait RowRule<R> {
     ghost use Rattle.std.specs.Prelude.{◌≡◌, Option, IfOk};
     ghost use Rattle.plant_check_rows.specs.declared.fault.RowFault.{RowFault as Told};
 
-    /// The rows.
-    type Row;
-
     /// What is wrong with a row.
-    ghost fault_of: { Self → Self.Row → Option Told };
+    ghost fault_of: { Self → R → Option Told };
 
     /// What is wrong with the row. The only error is that memory was refused.
-    fn fault(&self, alloc: Global, row: &Self::Row) -> Result<Option<RowFault>, AllocError>
+    fn fault(&self, alloc: Global, row: &R) -> Result<Option<RowFault>, AllocError>
         ensures { IfOk result (λ told. told ≡ fault_of self.now row.now) };
+}
+
+/// The row of this table and key, where this stands in a column and that is wanted.
+pub(crate) fn in_column(
+    place: (Table, Key),
+    column: Column,
+    found: Found,
+    wanted: Wanted,
+) -> RowFault
+    ensures { result ≡ in_column place column found wanted }
+{
+    RowFault {
+        table: place.0,
+        key: place.1,
+        column: Some(column),
+        found,
+        wanted,
+    }
+}
+
+/// The row of this table and key, where the id in its column is that of no row of the other table.
+pub(crate) fn names_none(place: (Table, Key), column: Column, id: Id, other: Table) -> RowFault
+    ensures { result ≡ names_none place column id other }
+{
+    in_column(place, column, Found::Id(id), Wanted::Key(other))
+}
+
+/// The row of this table and key, where this is wanted of it as a whole.
+pub(crate) fn as_a_whole(place: (Table, Key), wanted: Wanted) -> RowFault
+    ensures { result ≡ as_a_whole place wanted }
+{
+    RowFault {
+        table: place.0,
+        key: place.1,
+        column: None,
+        found: Found::Row,
+        wanted,
+    }
 }
 
 /// The fault, where the rule isn't obeyed.
@@ -39,10 +75,10 @@ pub(crate) fn or_told(first: Option<RowFault>, rest: Option<RowFault>) -> Option
 }
 
 /// The fault of the first of the rows that have one. The only error is that memory was refused.
-pub(crate) fn first_fault<T: RowRule>(
+pub(crate) fn first_fault<R, T: RowRule<R>>(
     alloc: Global,
     rule: &T,
-    rows: &[T::Row],
+    rows: &[R],
 ) -> Result<Option<RowFault>, AllocError>
     ensures { IfOk result (λ told. told ≡ first_told (T.fault_of rule.now) rows.now) }
 {

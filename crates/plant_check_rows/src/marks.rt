@@ -46,10 +46,8 @@ struct Among<'a> {
     wanted: Wanted,
 }
 
-impl<'a> RowRule for Among<'a> {
+impl<'a> RowRule<Mark> for Among<'a> {
     ghost use Rattle.plant_check_rows.specs.Marks.{mark_fault};
-
-    type Row = Mark;
 
     ghost fault_of = { λ t m. mark_fault t.found t.wanted t.among.rows.now m };
 

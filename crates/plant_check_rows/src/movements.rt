@@ -1,38 +1,32 @@
 //! Movements that break a rule.
 ghost use Rattle.std.specs.Prelude.{◌≡◌, IfOk};
-ghost use Rattle.plant_check_rows.specs.Movements.{batch_named_fault, id_found, movement_as, movement_fault_in};
-ghost use Rattle.plant_check_rows.specs.Movements.{movement_fault, naming_fault, source_fault, target_fault};
+ghost use Rattle.plant_check_rows.specs.Movements.{batch_named_fault, id_found, movement_as, movement_fault, movement_fault_in};
+ghost use Rattle.plant_check_rows.specs.Movements.{naming_fault, source_fault, target_fault};
 ghost use Rattle.plant_check_rows.specs.First.{first_told};
 
 use crate::fault::{Column, Found, RowFault, Table, Wanted};
-use crate::first::{RowRule, first_fault, or_told, told_unless};
+use crate::first::{RowRule, first_fault, in_column, or_told, told_unless};
 use crate::keys::booked_key;
 use plant_base::{BatchRow, ControlLine, Id, Lot, Movement, Sublot};
 use plant_check_groups::Grouped;
 use plant_check_stock::keys::{Parts, is_there};
 use plant_check_stock::movements::{Named, batch_by, is_of_right_merge, source, target};
-use plant_tables_judged::BookedRow;
+use plant_tables_judged::{BookedRow, DeskRows};
 use std::alloc::{AllocError, Global};
 
 /// That the columns of a row are those of its kind.
 #[derive(Clone, Copy)]
 struct Kinds;
 
-impl RowRule for Kinds {
+impl RowRule<BookedRow> for Kinds {
     ghost use Rattle.plant_check_rows.specs.Movements.{kind_fault};
-
-    type Row = BookedRow;
 
     ghost fault_of = { λ _ r. kind_fault r };
 
     fn fault(&self, _alloc: Global, row: &BookedRow) -> Result<Option<RowFault>, AllocError> {
-        let fault = RowFault {
-            table: Table::Movement,
-            key: booked_key(row.seq, row.line),
-            column: Some(Column::Kind),
-            found: Found::Sort(row.sort),
-            wanted: Wanted::Columns,
-        };
+        let key = booked_key(row.seq, row.line);
+        let sort = Found::Sort(row.sort);
+        let fault = in_column((Table::Movement, key), Column::Kind, sort, Wanted::Columns);
         Ok(told_unless(row.movement().is_some(), fault))
     }
 }
@@ -116,8 +110,8 @@ struct Moving<'a> {
     parts: Grouped<'a, Parts>,
 }
 
-impl<'a> RowRule for Moving<'a> {
-    type Row = Movement;
+impl<'a> RowRule<Movement> for Moving<'a> {
+    ghost use Rattle.plant_check_rows.specs.Movements.{movement_fault};
 
     ghost fault_of = { λ t m. movement_fault t.named.lots.rows.now t.named.sublots.rows.now
         t.named.batches.rows.now t.named.controls.rows.now t.parts.rows.now m };
@@ -157,17 +151,20 @@ fn wrong_movement(
 /// that memory was refused.
 pub(crate) fn movement_fault(
     alloc: Global,
-    rows: &[BookedRow],
-    lots: &[Lot],
-    sublots: &[Sublot],
-    batches: &[BatchRow],
-    control: &[ControlLine],
+    rows: &DeskRows,
     movements: &[Movement],
 ) -> Result<Option<RowFault>, AllocError>
-    ensures { IfOk result
-        (λ told. told ≡ movement_fault_in rows.now lots.now sublots.now batches.now control.now movements.now) }
+    ensures { IfOk result (λ told. told ≡ movement_fault_in rows.now.movements.items rows.now.lots.items
+        rows.now.sublots.items rows.now.batches.items rows.now.control_lines.items movements.now) }
 {
-    let kind = first_fault(alloc, &Kinds, rows)?;
-    let wrong = wrong_movement(alloc, lots, sublots, batches, control, movements)?;
+    let kind = first_fault(alloc, &Kinds, rows.movements.as_slice())?;
+    let wrong = wrong_movement(
+        alloc,
+        rows.lots.as_slice(),
+        rows.sublots.as_slice(),
+        rows.batches.as_slice(),
+        rows.control_lines.as_slice(),
+        movements,
+    )?;
     Ok(or_told(kind, wrong))
 }

@@ -3,17 +3,20 @@ ghost use Rattle.std.specs.Prelude.{◌≡◌, IfOk, None};
 ghost use Rattle.plant_check_rows.specs.Numbers.{event_as, event_fall_fault, event_fall_fault_in, fall_fault};
 ghost use Rattle.plant_check_rows.specs.Numbers.{fall_fault_in, late_fault_in, line_fault, line_fault_in};
 ghost use Rattle.plant_check_rows.specs.Numbers.{moment_fault, number_as, number_fault, number_fault_in};
+ghost use Rattle.plant_tables_judged.specs.Collecting.{rows_listed};
+ghost use Rattle.plant_check_rows.specs.Findings.{numbered_fault_in};
 ghost use Rattle.plant_check_rows.specs.First.{first_told};
 
 use crate::fault::{Column, Found, Key, RowFault, Table, Wanted};
-use crate::first::{RowRule, first_fault, or_told, told_unless};
-use crate::keys::{hold_key, id_key, number_key};
+use crate::first::{RowRule, first_fault, in_column, or_told, told_unless};
+use crate::keys::{booked_key, hold_key, id_key, number_key};
 use crate::movements::movement_as;
 use plant_base::{BatchEvent, BatchRow, Hold, Moment, Movement};
 use plant_check_groups::Grouped;
 use plant_check_stock::keys::{EnteredSublots, EventNumbers, has_event};
 use plant_check_stock::movements::source;
 use plant_check_stock::numbering::{is_entered_before, is_given, is_next_line};
+use plant_tables_judged::DeskRows;
 use std::alloc::{AllocError, Global};
 
 /// The movement, where it isn't the next line behind the one before it.
@@ -63,8 +66,8 @@ struct NumberedMovements<'a> {
     entered: Grouped<'a, EnteredSublots>,
 }
 
-impl<'a> RowRule for NumberedMovements<'a> {
-    type Row = Movement;
+impl<'a> RowRule<Movement> for NumberedMovements<'a> {
+    ghost use Rattle.plant_check_rows.specs.Numbers.{number_fault};
 
     ghost fault_of = { λ t m. number_fault t.greatest t.events.rows.now t.entered.rows.now m };
 
@@ -88,13 +91,8 @@ impl<'a> RowRule for NumberedMovements<'a> {
 fn event_as(event: &BatchEvent, column: Column, found: Found, wanted: Wanted) -> RowFault
     ensures { result ≡ event_as event.now column found wanted }
 {
-    RowFault {
-        table: Table::BatchEvent,
-        key: number_key(event.seq),
-        column: Some(column),
-        found,
-        wanted,
-    }
+    let place = (Table::BatchEvent, number_key(event.seq));
+    in_column(place, column, found, wanted)
 }
 
 /// That the number of an event was given.
@@ -103,10 +101,8 @@ struct NumberedEvents {
     greatest: u64,
 }
 
-impl RowRule for NumberedEvents {
+impl RowRule<BatchEvent> for NumberedEvents {
     ghost use Rattle.plant_check_rows.specs.Numbers.{given_fault};
-
-    type Row = BatchEvent;
 
     ghost fault_of = { λ t e. given_fault t.greatest e };
 
@@ -121,7 +117,7 @@ impl RowRule for NumberedEvents {
     }
 }
 
-fn wrong_number(
+fn wrongly_numbered(
     alloc: Global,
     greatest: u64,
     events: &[BatchEvent],
@@ -141,7 +137,7 @@ fn wrong_number(
 
 /// The first movement or event whose number breaks the rule of numbers, `greatest` being the last one that was given. The only
 /// error is that memory was refused.
-pub(crate) fn number_fault(
+fn wrong_number(
     alloc: Global,
     greatest: u64,
     events: &[BatchEvent],
@@ -149,7 +145,7 @@ pub(crate) fn number_fault(
 ) -> Result<Option<RowFault>, AllocError>
     ensures { IfOk result (λ told. told ≡ number_fault_in greatest events.now movements.now) }
 {
-    let number = wrong_number(alloc, greatest, events, movements)?;
+    let number = wrongly_numbered(alloc, greatest, events, movements)?;
     let given = first_fault(alloc, &NumberedEvents { greatest }, events)?;
     Ok(or_told(first_line_fault(movements), or_told(number, given)))
 }
@@ -158,50 +154,30 @@ pub(crate) fn number_fault(
 fn moment_fault(at: Moment, table: Table, key: Key, moment: Moment) -> Option<RowFault>
     ensures { result ≡ moment_fault at table key moment }
 {
-    let fault = RowFault {
-        table,
-        key,
-        column: Some(Column::At),
-        found: Found::Number(moment.get()),
-        wanted: Wanted::NotAfter(at.get()),
-    };
+    let found = Found::Number(moment.get());
+    let fault = in_column((table, key), Column::At, found, Wanted::NotAfter(at.get()));
     told_unless(moment.get() <= at.get(), fault)
 }
 
-/// That a movement is no later than the desk.
+/// That a row is no later than the desk.
 #[derive(Clone, Copy)]
-struct TimelyMovements {
+struct Timely {
     at: Moment,
 }
 
-impl RowRule for TimelyMovements {
+impl RowRule<Movement> for Timely {
     ghost use Rattle.plant_check_rows.specs.Numbers.{late_movement};
-
-    type Row = Movement;
 
     ghost fault_of = { λ t m. late_movement t.at m };
 
     fn fault(&self, _alloc: Global, row: &Movement) -> Result<Option<RowFault>, AllocError> {
-        let fault = movement_as(
-            row,
-            Some(Column::At),
-            Found::Number(row.at.get()),
-            Wanted::NotAfter(self.at.get()),
-        );
-        Ok(told_unless(row.at.get() <= self.at.get(), fault))
+        let key = booked_key(row.seq, row.line);
+        Ok(moment_fault(self.at, Table::Movement, key, row.at))
     }
 }
 
-/// That an event is no later than the desk.
-#[derive(Clone, Copy)]
-struct TimelyEvents {
-    at: Moment,
-}
-
-impl RowRule for TimelyEvents {
+impl RowRule<BatchEvent> for Timely {
     ghost use Rattle.plant_check_rows.specs.Numbers.{late_event};
-
-    type Row = BatchEvent;
 
     ghost fault_of = { λ t e. late_event t.at e };
 
@@ -211,16 +187,8 @@ impl RowRule for TimelyEvents {
     }
 }
 
-/// That a batch is no later than the desk.
-#[derive(Clone, Copy)]
-struct TimelyBatches {
-    at: Moment,
-}
-
-impl RowRule for TimelyBatches {
+impl RowRule<BatchRow> for Timely {
     ghost use Rattle.plant_check_rows.specs.Numbers.{late_batch};
-
-    type Row = BatchRow;
 
     ghost fault_of = { λ t b. late_batch t.at b };
 
@@ -230,16 +198,8 @@ impl RowRule for TimelyBatches {
     }
 }
 
-/// That a hold is no later than the desk.
-#[derive(Clone, Copy)]
-struct TimelyHolds {
-    at: Moment,
-}
-
-impl RowRule for TimelyHolds {
+impl RowRule<Hold> for Timely {
     ghost use Rattle.plant_check_rows.specs.Numbers.{late_hold};
-
-    type Row = Hold;
 
     ghost fault_of = { λ t h. late_hold t.at h };
 
@@ -249,7 +209,7 @@ impl RowRule for TimelyHolds {
 }
 
 /// The first movement, event, batch or hold that is later than the desk's moment. The only error is that memory was refused.
-pub(crate) fn late_fault(
+fn late_fault(
     alloc: Global,
     at: Moment,
     movements: &[Movement],
@@ -260,10 +220,11 @@ pub(crate) fn late_fault(
     ensures { IfOk result
         (λ told. told ≡ late_fault_in at movements.now events.now batches.now holds.now) }
 {
-    let movement = first_fault(alloc, &TimelyMovements { at }, movements)?;
-    let event = first_fault(alloc, &TimelyEvents { at }, events)?;
-    let batch = first_fault(alloc, &TimelyBatches { at }, batches)?;
-    let hold = first_fault(alloc, &TimelyHolds { at }, holds)?;
+    let timely = Timely { at };
+    let movement = first_fault(alloc, &timely, movements)?;
+    let event = first_fault(alloc, &timely, events)?;
+    let batch = first_fault(alloc, &timely, batches)?;
+    let hold = first_fault(alloc, &timely, holds)?;
     Ok(or_told(movement, or_told(event, or_told(batch, hold))))
 }
 
@@ -281,7 +242,7 @@ fn fall_fault(latest: u64, movement: &Movement) -> Option<RowFault>
 }
 
 /// The first movement that is earlier than the one before it.
-pub(crate) fn falling_movement(movements: &[Movement]) -> Option<RowFault>
+fn falling_movement(movements: &[Movement]) -> Option<RowFault>
     ensures { result ≡ fall_fault_in 0 movements.now }
 {
     let mut latest = 0;
@@ -308,7 +269,7 @@ fn event_fall_fault(latest: u64, event: &BatchEvent) -> Option<RowFault>
 }
 
 /// The first event that is earlier than the one before it.
-pub(crate) fn falling_event(events: &[BatchEvent]) -> Option<RowFault>
+fn falling_event(events: &[BatchEvent]) -> Option<RowFault>
     ensures { result ≡ event_fall_fault_in 0 events.now }
 {
     let mut latest = 0;
@@ -319,4 +280,28 @@ pub(crate) fn falling_event(events: &[BatchEvent]) -> Option<RowFault>
         latest = event.at.get();
     }
     None
+}
+
+/// The first row whose number or moment breaks the rule: a number that wasn't given, or else a moment that is later than the
+/// desk's, or else one that falls. The only error is that memory was refused.
+#[tactic(auto, unfolding(plant_tables_judged::specs::Collecting::rows_listed))]
+pub(crate) fn number_fault(
+    alloc: Global,
+    rows: &DeskRows,
+    movements: &[Movement],
+) -> Result<Option<RowFault>, AllocError>
+    ensures { IfOk result (λ told. told ≡ numbered_fault_in (rows_listed rows.now) movements.now) }
+{
+    let events = rows.events.as_slice();
+    let number = wrong_number(alloc, rows.meta.position.seq, events, movements)?;
+    let late = late_fault(
+        alloc,
+        rows.meta.position.at,
+        movements,
+        events,
+        rows.batches.as_slice(),
+        rows.holds.as_slice(),
+    )?;
+    let fall = or_told(falling_movement(movements), falling_event(events));
+    Ok(or_told(number, or_told(late, fall)))
 }

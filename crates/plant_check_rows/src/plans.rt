@@ -7,9 +7,9 @@ ghost use Rattle.plant_check_rows.specs.Plans.{missing_recipe, order_fault_in, s
 ghost use Rattle.plant_check_rows.specs.Plans.{start_fault, wrong_size};
 
 use crate::fault::{Column, Found, RowFault, Table, Wanted};
-use crate::first::{RowRule, first_fault, or_told, told_unless};
+use crate::first::{RowRule, as_a_whole, first_fault, in_column, names_none, or_told, told_unless};
 use crate::keys::{control_line_key, id_key};
-use plant_base::{BatchRow, Class, ControlLine, Definition, Job, JobState, MasterLine, Recipe};
+use plant_base::{BatchRow, ControlLine, Definition, Job, JobState, MasterLine, Recipe};
 use plant_check_groups::Grouped;
 use plant_check_plans::batches::{Plans, is_control, lines_among};
 use plant_check_plans::keys::{
@@ -18,71 +18,47 @@ use plant_check_plans::keys::{
 };
 use plant_check_plans::numbered::are_numbered;
 use plant_check_plans::orders::{is_size_of, is_started};
+use plant_tables_judged::DeskRows;
 use std::alloc::{AllocError, Global};
 
 /// That a definition's class is there.
-#[derive(Drop)]
-struct Classified<'a> {
-    classes: Grouped<'a, Classes>,
-}
-
-impl<'a> RowRule for Classified<'a> {
+impl<'a> RowRule<Definition> for Grouped<'a, Classes> {
     ghost use Rattle.plant_check_rows.specs.Plans.{class_fault};
 
-    type Row = Definition;
-
-    ghost fault_of = { λ t d. class_fault t.classes.rows.now d };
+    ghost fault_of = { λ t d. class_fault t.rows.now d };
 
     fn fault(&self, _alloc: Global, row: &Definition) -> Result<Option<RowFault>, AllocError> {
-        let fault = RowFault {
-            table: Table::Definition,
-            key: id_key(row.id),
-            column: Some(Column::Class),
-            found: Found::Id(row.class),
-            wanted: Wanted::Key(Table::Class),
-        };
-        Ok(told_unless(has_class(&self.classes, row.class), fault))
+        let place = (Table::Definition, id_key(row.id));
+        let fault = names_none(place, Column::Class, row.class, Table::Class);
+        Ok(told_unless(has_class(self, row.class), fault))
     }
 }
 
 /// The first definition whose class isn't there. The only error is that memory was refused.
-pub(crate) fn class_fault(
-    alloc: Global,
-    classes: &[Class],
-    definitions: &[Definition],
-) -> Result<Option<RowFault>, AllocError>
-    ensures { IfOk result (λ told. told ≡ class_fault_in classes.now definitions.now) }
+pub(crate) fn class_fault(alloc: Global, rows: &DeskRows) -> Result<Option<RowFault>, AllocError>
+    ensures { IfOk result (λ told. told ≡ class_fault_in rows.now.classes.items rows.now.definitions.items) }
 {
-    let classes = Grouped::<Classes>::new(alloc, classes)?;
-    let classified = Classified { classes };
-    first_fault(alloc, &classified, definitions)
+    let classes = Grouped::<Classes>::new(alloc, rows.classes.as_slice())?;
+    first_fault(alloc, &classes, rows.definitions.as_slice())
 }
 
 fn missing_recipe(job: &Job) -> RowFault
     ensures { result ≡ missing_recipe job.now }
 {
-    RowFault {
-        table: Table::Job,
-        key: id_key(job.order.order),
-        column: Some(Column::Recipe),
-        found: Found::Id(job.order.recipe),
-        wanted: Wanted::Key(Table::Recipe),
-    }
+    let place = (Table::Job, id_key(job.order.order));
+    names_none(place, Column::Recipe, job.order.recipe, Table::Recipe)
 }
 
 fn wrong_size(recipe: &Recipe, job: &Job) -> RowFault
     ensures { result ≡ wrong_size recipe.now job.now }
 {
-    RowFault {
-        table: Table::Job,
-        key: id_key(job.order.order),
-        column: Some(Column::Size),
-        found: Found::Number(job.order.size.get()),
-        wanted: Wanted::Size {
-            least: recipe.header.least,
-            greatest: recipe.header.greatest,
-        },
-    }
+    let size = Found::Number(job.order.size.get());
+    let wanted = Wanted::Size {
+        least: recipe.header.least,
+        greatest: recipe.header.greatest,
+    };
+    let place = (Table::Job, id_key(job.order.order));
+    in_column(place, Column::Size, size, wanted)
 }
 
 /// The order, where its recipe isn't there, or its size is none of that.
@@ -113,13 +89,9 @@ fn batch_wanted(state: JobState) -> Wanted
 fn start_fault(batch: Option<BatchRow>, job: &Job) -> Option<RowFault>
     ensures { result ≡ start_fault batch job.now }
 {
-    let fault = RowFault {
-        table: Table::Job,
-        key: id_key(job.order.order),
-        column: Some(Column::State),
-        found: Found::Order(job.state),
-        wanted: batch_wanted(job.state),
-    };
+    let place = (Table::Job, id_key(job.order.order));
+    let (found, wanted) = (Found::Order(job.state), batch_wanted(job.state));
+    let fault = in_column(place, Column::State, found, wanted);
     told_unless(is_started(job.state, batch), fault)
 }
 
@@ -130,10 +102,8 @@ struct Ordered<'a> {
     batches: Grouped<'a, BatchesOfOrders>,
 }
 
-impl<'a> RowRule for Ordered<'a> {
+impl<'a> RowRule<Job> for Ordered<'a> {
     ghost use Rattle.plant_check_rows.specs.Plans.{order_fault};
-
-    type Row = Job;
 
     ghost fault_of = { λ t j. order_fault t.recipes.rows.now t.batches.rows.now j };
 
@@ -145,43 +115,29 @@ impl<'a> RowRule for Ordered<'a> {
 }
 
 /// The first order that breaks its rule. The only error is that memory was refused.
-pub(crate) fn order_fault(
-    alloc: Global,
-    recipes: &[Recipe],
-    batches: &[BatchRow],
-    jobs: &[Job],
-) -> Result<Option<RowFault>, AllocError>
-    ensures { IfOk result (λ told. told ≡ order_fault_in recipes.now batches.now jobs.now) }
+pub(crate) fn order_fault(alloc: Global, rows: &DeskRows) -> Result<Option<RowFault>, AllocError>
+    ensures { IfOk result
+        (λ told. told ≡ order_fault_in rows.now.recipes.items rows.now.batches.items rows.now.jobs.items) }
 {
-    let recipes = Grouped::<Recipes>::new(alloc, recipes)?;
-    let batches = Grouped::<BatchesOfOrders>::new(alloc, batches)?;
+    let recipes = Grouped::<Recipes>::new(alloc, rows.recipes.as_slice())?;
+    let batches = Grouped::<BatchesOfOrders>::new(alloc, rows.batches.as_slice())?;
     let ordered = Ordered { recipes, batches };
-    first_fault(alloc, &ordered, jobs)
+    first_fault(alloc, &ordered, rows.jobs.as_slice())
 }
 
 /// The batch, where this is wanted of the row as a whole.
 fn batch_as_a_whole(batch: &BatchRow, wanted: Wanted) -> RowFault
     ensures { result ≡ batch_as_a_whole batch.now wanted }
 {
-    RowFault {
-        table: Table::Batch,
-        key: id_key(batch.batch.id),
-        column: None,
-        found: Found::Row,
-        wanted,
-    }
+    as_a_whole((Table::Batch, id_key(batch.batch.id)), wanted)
 }
 
 fn shared_order(batch: &BatchRow) -> RowFault
     ensures { result ≡ shared_order batch.now }
 {
-    RowFault {
-        table: Table::Batch,
-        key: id_key(batch.batch.id),
-        column: Some(Column::Job),
-        found: Found::Id(batch.batch.job),
-        wanted: Wanted::OneBatch,
-    }
+    let order = Found::Id(batch.batch.job);
+    let place = (Table::Batch, id_key(batch.batch.id));
+    in_column(place, Column::Job, order, Wanted::OneBatch)
 }
 
 /// That a batch is the only one of its order, and that its lines are the control recipe that this asks for.
@@ -192,9 +148,7 @@ struct Released<'a> {
     controls: Grouped<'a, ControlLines>,
 }
 
-impl<'a> RowRule for Released<'a> {
-    type Row = BatchRow;
-
+impl<'a> RowRule<BatchRow> for Released<'a> {
     ghost fault_of = { λ t b. batch_fault t.plans.recipes.rows.now t.plans.lines.rows.now
         t.plans.jobs.rows.now t.batches.rows.now t.controls.rows.now b };
 
@@ -217,76 +171,55 @@ impl<'a> RowRule for Released<'a> {
 }
 
 /// That the batch of a line is there.
-#[derive(Drop)]
-struct Controlling<'a> {
-    batches: Grouped<'a, Batches>,
-}
-
-impl<'a> RowRule for Controlling<'a> {
-    type Row = ControlLine;
-
-    ghost fault_of = { λ t l. control_line_fault t.batches.rows.now l };
+impl<'a> RowRule<ControlLine> for Grouped<'a, Batches> {
+    ghost fault_of = { λ t l. control_line_fault t.rows.now l };
 
     fn fault(&self, _alloc: Global, row: &ControlLine) -> Result<Option<RowFault>, AllocError> {
-        let fault = RowFault {
-            table: Table::ControlLine,
-            key: control_line_key(row),
-            column: Some(Column::Batch),
-            found: Found::Id(row.batch),
-            wanted: Wanted::Key(Table::Batch),
-        };
-        Ok(told_unless(has_batch(&self.batches, row.batch), fault))
+        let place = (Table::ControlLine, control_line_key(row));
+        let fault = names_none(place, Column::Batch, row.batch, Table::Batch);
+        Ok(told_unless(has_batch(self, row.batch), fault))
     }
 }
 
 fn wrong_batch(
     alloc: Global,
     recipes: &[Recipe],
-    rows: &[MasterLine],
+    lines: &[MasterLine],
     jobs: &[Job],
     batches: &[BatchRow],
     control: &[ControlLine],
 ) -> Result<Option<RowFault>, AllocError>
     ensures { IfOk result (λ told. told ≡ first_told
-        (batch_fault recipes.now rows.now jobs.now batches.now control.now) batches.now) }
+        (batch_fault recipes.now lines.now jobs.now batches.now control.now) batches.now) }
 {
-    let plans = Plans::new(alloc, recipes, rows, jobs)?;
-    let of_orders = Grouped::<BatchesOfOrders>::new(alloc, batches)?;
-    let controls = Grouped::<ControlLines>::new(alloc, control)?;
     let released = Released {
-        plans,
-        batches: of_orders,
-        controls,
+        plans: Plans::new(alloc, recipes, lines, jobs)?,
+        batches: Grouped::<BatchesOfOrders>::new(alloc, batches)?,
+        controls: Grouped::<ControlLines>::new(alloc, control)?,
     };
     first_fault(alloc, &released, batches)
 }
 
-fn stray_control_line(
-    alloc: Global,
-    batches: &[BatchRow],
-    control: &[ControlLine],
-) -> Result<Option<RowFault>, AllocError>
-    ensures { IfOk result (λ told. told ≡ first_told (control_line_fault batches.now) control.now) }
+fn stray_control_line(alloc: Global, rows: &DeskRows) -> Result<Option<RowFault>, AllocError>
+    ensures { IfOk result (λ told. told ≡ first_told (control_line_fault rows.now.batches.items) rows.now.control_lines.items) }
 {
-    let batches = Grouped::<Batches>::new(alloc, batches)?;
-    let controlling = Controlling { batches };
-    first_fault(alloc, &controlling, control)
+    let batches = Grouped::<Batches>::new(alloc, rows.batches.as_slice())?;
+    first_fault(alloc, &batches, rows.control_lines.as_slice())
 }
 
 /// The first batch that breaks its rule, or else the first line of a control recipe without its batch. The only error is that
 /// memory was refused.
-pub(crate) fn batch_fault(
-    alloc: Global,
-    recipes: &[Recipe],
-    rows: &[MasterLine],
-    jobs: &[Job],
-    batches: &[BatchRow],
-    control: &[ControlLine],
-) -> Result<Option<RowFault>, AllocError>
-    ensures { IfOk result
-        (λ told. told ≡ batch_fault_in recipes.now rows.now jobs.now batches.now control.now) }
+pub(crate) fn batch_fault(alloc: Global, rows: &DeskRows) -> Result<Option<RowFault>, AllocError>
+    ensures { IfOk result (λ told. told ≡ batch_fault_in rows.now.recipes.items
+        rows.now.master_lines.items rows.now.jobs.items rows.now.batches.items rows.now.control_lines.items) }
 {
-    let wrong = wrong_batch(alloc, recipes, rows, jobs, batches, control)?;
-    let stray = stray_control_line(alloc, batches, control)?;
-    Ok(or_told(wrong, stray))
+    let wrong = wrong_batch(
+        alloc,
+        rows.recipes.as_slice(),
+        rows.master_lines.as_slice(),
+        rows.jobs.as_slice(),
+        rows.batches.as_slice(),
+        rows.control_lines.as_slice(),
+    )?;
+    Ok(or_told(wrong, stray_control_line(alloc, rows)?))
 }

@@ -1,38 +1,35 @@
 //! Recalls that break a rule.
 ghost use Rattle.std.specs.Prelude.{◌≡◌, IfOk};
+ghost use Rattle.plant_tables_judged.specs.Collecting.{rows_listed};
+ghost use Rattle.plant_check.specs.Broken.{recalls_told};
+ghost use Rattle.plant_check_rows.specs.Findings.{recalled_fault_in};
 ghost use Rattle.plant_check_rows.specs.Recalls.{recall_as, recall_fault_in};
 
 use crate::fault::{Column, Found, RowFault, Table, Wanted};
-use crate::first::{RowRule, first_fault, or_told, told_unless};
+use crate::first::{RowRule, first_fault, in_column, or_told, told_unless};
 use crate::keys::id_key;
-use plant_base::{Id, Lot, Moment, Recall};
+use crate::marks::mark_fault;
+use plant_base::{Id, Lot, Moment, Movement, Recall};
+use plant_check::recalls::recalls_told;
 use plant_check_groups::Grouped;
 use plant_check_stock::keys::{Lots, lot_at};
 use plant_check_stock::recalls::is_timely;
-use plant_tables_judged::StatedRecall;
+use plant_tables_judged::{DeskRows, StatedRecall};
 use std::alloc::{AllocError, Global};
 
 /// The recall, where this stands in a column and that is wanted.
 fn recall_as(id: Id, column: Column, found: Found, wanted: Wanted) -> RowFault
     ensures { result ≡ recall_as id column found wanted }
 {
-    RowFault {
-        table: Table::Recall,
-        key: id_key(id),
-        column: Some(column),
-        found,
-        wanted,
-    }
+    in_column((Table::Recall, id_key(id)), column, found, wanted)
 }
 
 /// That the columns of a lifting are those that the state of a row asks for.
 #[derive(Clone, Copy)]
 struct Stated;
 
-impl RowRule for Stated {
+impl RowRule<StatedRecall> for Stated {
     ghost use Rattle.plant_check_rows.specs.Recalls.{lifting_fault};
-
-    type Row = StatedRecall;
 
     ghost fault_of = { λ _ r. lifting_fault r };
 
@@ -49,10 +46,8 @@ struct Recalling<'a> {
     lots: Grouped<'a, Lots>,
 }
 
-impl<'a> RowRule for Recalling<'a> {
+impl<'a> RowRule<Recall> for Recalling<'a> {
     ghost use Rattle.plant_check_rows.specs.Recalls.{recall_fault};
-
-    type Row = Recall;
 
     ghost fault_of = { λ t r. recall_fault t.at t.lots.rows.now r };
 
@@ -70,7 +65,7 @@ impl<'a> RowRule for Recalling<'a> {
 
 /// The first row whose columns aren't those of its state, or else the first recall whose lot isn't there or whose moments don't
 /// fit. The only error is that memory was refused.
-pub(crate) fn recall_fault(
+fn stated_fault(
     alloc: Global,
     at: Moment,
     rows: &[StatedRecall],
@@ -83,4 +78,23 @@ pub(crate) fn recall_fault(
     let lots = Grouped::<Lots>::new(alloc, lots)?;
     let rest = first_fault(alloc, &Recalling { at, lots }, recalls)?;
     Ok(or_told(first, rest))
+}
+
+/// The first row that breaks the rule, or else the mark that does. The only error is that memory was refused.
+#[tactic(auto, unfolding(plant_tables_judged::specs::Collecting::rows_listed))]
+pub(crate) fn recall_fault(
+    alloc: Global,
+    rows: &DeskRows,
+    movements: &[Movement],
+) -> Result<Option<RowFault>, AllocError>
+    ensures { IfOk result (λ told. told ≡ recalled_fault_in (rows_listed rows.now)
+        (recalls_told rows.now.recalls.items) movements.now) }
+{
+    let stated = rows.recalls.as_slice();
+    let recalls = recalls_told(alloc, stated)?;
+    let at = rows.meta.position.at;
+    let lots = rows.lots.as_slice();
+    let by_row = stated_fault(alloc, at, stated, lots, recalls.as_slice())?;
+    let marked = mark_fault(alloc, recalls.as_slice(), movements, rows.marks.as_slice())?;
+    Ok(or_told(by_row, marked))
 }

@@ -1,15 +1,16 @@
 //! Receipts that break a rule.
 ghost use Rattle.std.specs.Prelude.{◌≡◌, ◌==◌, IfOk, filter, length};
 ghost use Rattle.plant_check_stock.specs.Receipts.{seqs_of};
-ghost use Rattle.plant_check_rows.specs.Receipts.{receipt_fault_in};
+ghost use Rattle.plant_check_rows.specs.Receipts.{receipt_as, receipt_fault_in};
 
 use crate::fault::{Column, Found, RowFault, Table, Wanted};
-use crate::first::{RowRule, first_fault, or_told, told_unless};
+use crate::first::{RowRule, first_fault, in_column, or_told, told_unless};
 use crate::keys::id_key;
 use plant_base::Receipt;
 use plant_check_groups::{Grouped, Grouping};
 use plant_check_stock::numbering::is_given;
 use plant_check_stock::receipts::is_content;
+use plant_tables_judged::DeskRows;
 use std::alloc::{AllocError, Global};
 
 /// Numbers, each under itself.
@@ -44,6 +45,14 @@ fn seqs_of(alloc: Global, receipts: &[Receipt]) -> Result<Vec<u64>, AllocError>
     receipts.iter().map(|r| r.seq).collect(alloc)
 }
 
+/// The receipt, where this stands in a column and that is wanted.
+fn receipt_as(receipt: &Receipt, column: Column, found: Found, wanted: Wanted) -> RowFault
+    ensures { result ≡ receipt_as receipt.now column found wanted }
+{
+    let place = (Table::Receipt, id_key(receipt.reference));
+    in_column(place, column, found, wanted)
+}
+
 /// That the number of a receipt was given, to no other receipt, and its content is made of what contents are made of.
 #[derive(Drop)]
 struct Receiving<'a> {
@@ -51,35 +60,16 @@ struct Receiving<'a> {
     seqs: Grouped<'a, Numbers>,
 }
 
-impl<'a> RowRule for Receiving<'a> {
+impl<'a> RowRule<Receipt> for Receiving<'a> {
     ghost use Rattle.plant_check_rows.specs.Receipts.{receipt_fault};
-
-    type Row = Receipt;
 
     ghost fault_of = { λ t r. receipt_fault t.greatest t.seqs.rows.now r };
 
     fn fault(&self, _alloc: Global, row: &Receipt) -> Result<Option<RowFault>, AllocError> {
-        let not_given = RowFault {
-            table: Table::Receipt,
-            key: id_key(row.reference),
-            column: Some(Column::Seq),
-            found: Found::Number(row.seq),
-            wanted: Wanted::Given(self.greatest),
-        };
-        let unmade = RowFault {
-            table: Table::Receipt,
-            key: id_key(row.reference),
-            column: Some(Column::Content),
-            found: Found::Row,
-            wanted: Wanted::Content,
-        };
-        let shared = RowFault {
-            table: Table::Receipt,
-            key: id_key(row.reference),
-            column: Some(Column::Seq),
-            found: Found::Number(row.seq),
-            wanted: Wanted::OwnNumber,
-        };
+        let given = Found::Number(row.seq);
+        let not_given = receipt_as(row, Column::Seq, given, Wanted::Given(self.greatest));
+        let unmade = receipt_as(row, Column::Content, Found::Row, Wanted::Content);
+        let shared = receipt_as(row, Column::Seq, Found::Number(row.seq), Wanted::OwnNumber);
         let is_made = is_content(row.content.as_str().as_bytes());
         Ok(or_told(
             told_unless(is_given(self.greatest, row.seq), not_given),
@@ -93,14 +83,13 @@ impl<'a> RowRule for Receiving<'a> {
 
 /// The first receipt whose number wasn't given, `greatest` being the last one, or to another as well, or whose content isn't made
 /// of what contents are made of. The only error is that memory was refused.
-pub(crate) fn receipt_fault(
-    alloc: Global,
-    greatest: u64,
-    receipts: &[Receipt],
-) -> Result<Option<RowFault>, AllocError>
-    ensures { IfOk result (λ told. told ≡ receipt_fault_in greatest receipts.now) }
+pub(crate) fn receipt_fault(alloc: Global, rows: &DeskRows) -> Result<Option<RowFault>, AllocError>
+    ensures { IfOk result
+        (λ told. told ≡ receipt_fault_in rows.now.meta.position.seq rows.now.receipts.items) }
 {
-    let numbers = seqs_of(alloc, receipts)?;
+    let greatest = rows.meta.position.seq;
+    let numbers = seqs_of(alloc, rows.receipts.as_slice())?;
     let seqs = Grouped::<Numbers>::new(alloc, numbers.as_slice())?;
-    first_fault(alloc, &Receiving { greatest, seqs }, receipts)
+    let receiving = Receiving { greatest, seqs };
+    first_fault(alloc, &receiving, rows.receipts.as_slice())
 }

@@ -6,9 +6,9 @@ ghost use Rattle.plant_check_rows.specs.Recipes.{stray_line_fault};
 ghost use Rattle.plant_check_rows.specs.First.{first_told};
 
 use crate::fault::{Column, Found, RowFault, Table, Wanted};
-use crate::first::{RowRule, first_fault, or_told, told_unless};
+use crate::first::{RowRule, as_a_whole, first_fault, in_column, names_none, or_told, told_unless};
 use crate::keys::{recipe_key, recipe_line_key};
-use plant_base::{Definition, Header, MasterLine, Recipe, RecipeLine};
+use plant_base::{Header, MasterLine, Recipe, RecipeLine};
 use plant_check_groups::Grouped;
 use plant_check_plans::keys::{
     Definitions, RecipeLines, Recipes, has_definition, has_recipe, lines_of,
@@ -16,31 +16,21 @@ use plant_check_plans::keys::{
 use plant_check_plans::numbered::are_numbered;
 use plant_check_plans::recipes::{is_known, lines_in};
 use plant_recipe::is_well_formed;
+use plant_tables_judged::DeskRows;
 use std::alloc::{AllocError, Global};
 
 /// The recipe, where this is wanted of the row as a whole.
 fn recipe_as_a_whole(header: &Header, wanted: Wanted) -> RowFault
     ensures { result ≡ recipe_as_a_whole header.now wanted }
 {
-    RowFault {
-        table: Table::Recipe,
-        key: recipe_key(header),
-        column: None,
-        found: Found::Row,
-        wanted,
-    }
+    as_a_whole((Table::Recipe, recipe_key(header)), wanted)
 }
 
 fn missing_product(header: &Header) -> RowFault
     ensures { result ≡ missing_product header.now }
 {
-    RowFault {
-        table: Table::Recipe,
-        key: recipe_key(header),
-        column: Some(Column::Product),
-        found: Found::Id(header.product),
-        wanted: Wanted::Key(Table::Definition),
-    }
+    let place = (Table::Recipe, recipe_key(header));
+    names_none(place, Column::Product, header.product, Table::Definition)
 }
 
 /// The definition that a line names, where it names one.
@@ -54,25 +44,15 @@ fn definition_found(line: &RecipeLine) -> Found
 }
 
 /// That the definition that a line names is there.
-#[derive(Drop)]
-struct Naming<'a, 'b> {
-    definitions: &'b Grouped<'a, Definitions>,
-}
-
-impl<'a, 'b> RowRule for Naming<'a, 'b> {
-    type Row = MasterLine;
-
-    ghost fault_of = { λ t l. line_fault t.definitions.now.rows.now l };
+impl<'a> RowRule<MasterLine> for Grouped<'a, Definitions> {
+    ghost fault_of = { λ t l. line_fault t.rows.now l };
 
     fn fault(&self, _alloc: Global, row: &MasterLine) -> Result<Option<RowFault>, AllocError> {
-        let fault = RowFault {
-            table: Table::RecipeLine,
-            key: recipe_line_key(row),
-            column: Some(Column::Def),
-            found: definition_found(&row.line),
-            wanted: Wanted::Key(Table::Definition),
-        };
-        Ok(told_unless(is_known(self.definitions, &row.line), fault))
+        let key = recipe_line_key(row);
+        let found = definition_found(&row.line);
+        let wanted = Wanted::Key(Table::Definition);
+        let fault = in_column((Table::RecipeLine, key), Column::Def, found, wanted);
+        Ok(told_unless(is_known(self, &row.line), fault))
     }
 }
 
@@ -97,8 +77,7 @@ fn formed_fault(
         has_definition(definitions, header.product),
         missing_product(header),
     );
-    let naming = Naming { definitions };
-    let named = first_fault(alloc, &naming, rows)?;
+    let named = first_fault(alloc, definitions, rows)?;
     Ok(or_told(formed, or_told(numbered, or_told(made, named))))
 }
 
@@ -109,9 +88,7 @@ struct Whole<'a> {
     lines: Grouped<'a, RecipeLines>,
 }
 
-impl<'a> RowRule for Whole<'a> {
-    type Row = Recipe;
-
+impl<'a> RowRule<Recipe> for Whole<'a> {
     ghost fault_of = { λ t r. recipe_fault t.definitions.rows.now t.lines.rows.now r };
 
     fn fault(&self, alloc: Global, row: &Recipe) -> Result<Option<RowFault>, AllocError> {
@@ -123,64 +100,40 @@ impl<'a> RowRule for Whole<'a> {
 }
 
 /// That the recipe of a line is there.
-#[derive(Drop)]
-struct Within<'a> {
-    recipes: Grouped<'a, Recipes>,
-}
-
-impl<'a> RowRule for Within<'a> {
-    type Row = MasterLine;
-
-    ghost fault_of = { λ t l. stray_line_fault t.recipes.rows.now l };
+impl<'a> RowRule<MasterLine> for Grouped<'a, Recipes> {
+    ghost fault_of = { λ t l. stray_line_fault t.rows.now l };
 
     fn fault(&self, _alloc: Global, row: &MasterLine) -> Result<Option<RowFault>, AllocError> {
-        let fault = RowFault {
-            table: Table::RecipeLine,
-            key: recipe_line_key(row),
-            column: Some(Column::Recipe),
-            found: Found::Id(row.recipe),
-            wanted: Wanted::Key(Table::Recipe),
-        };
-        Ok(told_unless(has_recipe(&self.recipes, row.recipe, row.version), fault))
+        let place = (Table::RecipeLine, recipe_line_key(row));
+        let fault = names_none(place, Column::Recipe, row.recipe, Table::Recipe);
+        Ok(told_unless(has_recipe(self, row.recipe, row.version), fault))
     }
 }
 
-fn broken_recipe(
-    alloc: Global,
-    definitions: &[Definition],
-    rows: &[MasterLine],
-    recipes: &[Recipe],
-) -> Result<Option<RowFault>, AllocError>
-    ensures { IfOk result (λ told. told ≡ first_told (recipe_fault definitions.now rows.now) recipes.now) }
+fn broken_recipe(alloc: Global, rows: &DeskRows) -> Result<Option<RowFault>, AllocError>
+    ensures { IfOk result (λ told. told ≡ first_told
+        (recipe_fault rows.now.definitions.items rows.now.master_lines.items) rows.now.recipes.items) }
 {
-    let definitions = Grouped::<Definitions>::new(alloc, definitions)?;
-    let lines = Grouped::<RecipeLines>::new(alloc, rows)?;
-    let whole = Whole { definitions, lines };
-    first_fault(alloc, &whole, recipes)
+    let definitions = Grouped::<Definitions>::new(alloc, rows.definitions.as_slice())?;
+    let lines = Grouped::<RecipeLines>::new(alloc, rows.master_lines.as_slice())?;
+    first_fault(
+        alloc,
+        &Whole { definitions, lines },
+        rows.recipes.as_slice(),
+    )
 }
 
-fn stray_line(
-    alloc: Global,
-    recipes: &[Recipe],
-    rows: &[MasterLine],
-) -> Result<Option<RowFault>, AllocError>
-    ensures { IfOk result (λ told. told ≡ first_told (stray_line_fault recipes.now) rows.now) }
+fn stray_line(alloc: Global, rows: &DeskRows) -> Result<Option<RowFault>, AllocError>
+    ensures { IfOk result (λ told. told ≡ first_told (stray_line_fault rows.now.recipes.items) rows.now.master_lines.items) }
 {
-    let recipes = Grouped::<Recipes>::new(alloc, recipes)?;
-    let within = Within { recipes };
-    first_fault(alloc, &within, rows)
+    let recipes = Grouped::<Recipes>::new(alloc, rows.recipes.as_slice())?;
+    first_fault(alloc, &recipes, rows.master_lines.as_slice())
 }
 
 /// The first recipe that isn't whole, or else the first line without its recipe. The only error is that memory was refused.
-pub(crate) fn recipe_fault(
-    alloc: Global,
-    definitions: &[Definition],
-    recipes: &[Recipe],
-    rows: &[MasterLine],
-) -> Result<Option<RowFault>, AllocError>
-    ensures { IfOk result (λ told. told ≡ recipe_fault_in definitions.now recipes.now rows.now) }
+pub(crate) fn recipe_fault(alloc: Global, rows: &DeskRows) -> Result<Option<RowFault>, AllocError>
+    ensures { IfOk result (λ told. told ≡ recipe_fault_in
+        rows.now.definitions.items rows.now.recipes.items rows.now.master_lines.items) }
 {
-    let broken = broken_recipe(alloc, definitions, rows, recipes)?;
-    let stray = stray_line(alloc, recipes, rows)?;
-    Ok(or_told(broken, stray))
+    Ok(or_told(broken_recipe(alloc, rows)?, stray_line(alloc, rows)?))
 }

@@ -3,12 +3,12 @@ ghost use Rattle.std.specs.Prelude.{◌≡◌, IfOk};
 ghost use Rattle.plant_check_rows.specs.Stocks.{stock_fault_in};
 
 use crate::fault::{Column, Found, RowFault, Table, Wanted};
-use crate::first::{RowRule, first_fault, told_unless};
+use crate::first::{RowRule, first_fault, in_column, told_unless};
 use crate::keys::sublot_key;
 use plant_base::Sublot;
 use plant_check::ends::{EnteredPlaces, LeftPlaces, entries, exits, total_booked};
 use plant_check_groups::Grouped;
-use plant_tables_judged::BookedRow;
+use plant_tables_judged::DeskRows;
 use std::alloc::{AllocError, Global};
 
 /// That a sublot's stock is what entered it less what left it.
@@ -18,37 +18,28 @@ struct Stocks<'a> {
     left: Grouped<'a, LeftPlaces>,
 }
 
-impl<'a> RowRule for Stocks<'a> {
+impl<'a> RowRule<Sublot> for Stocks<'a> {
     ghost use Rattle.plant_check_rows.specs.Stocks.{stock_fault};
-
-    type Row = Sublot;
 
     ghost fault_of = { λ t s. stock_fault t.entered.rows.now t.left.rows.now s };
 
     fn fault(&self, _alloc: Global, row: &Sublot) -> Result<Option<RowFault>, AllocError> {
         let entered = total_booked(entries(&self.entered, row.lot, row.number));
         let left = total_booked(exits(&self.left, row.lot, row.number));
-        let fault = RowFault {
-            table: Table::Sublot,
-            key: sublot_key(row),
-            column: Some(Column::Stock),
-            found: Found::Number(row.stock),
-            wanted: Wanted::Stock { entered, left },
-        };
+        let stock = Found::Number(row.stock);
+        let wanted = Wanted::Stock { entered, left };
+        let place = (Table::Sublot, sublot_key(row));
+        let fault = in_column(place, Column::Stock, stock, wanted);
         Ok(told_unless(u128::from(row.stock) + left == entered, fault))
     }
 }
 
 /// The first sublot whose stock isn't what entered it less what left it. The only error is that memory was refused.
-pub(crate) fn stock_fault(
-    alloc: Global,
-    rows: &[BookedRow],
-    sublots: &[Sublot],
-) -> Result<Option<RowFault>, AllocError>
-    ensures { IfOk result (λ told. told ≡ stock_fault_in rows.now sublots.now) }
+pub(crate) fn stock_fault(alloc: Global, rows: &DeskRows) -> Result<Option<RowFault>, AllocError>
+    ensures { IfOk result (λ told. told ≡ stock_fault_in rows.now.movements.items rows.now.sublots.items) }
 {
-    let entered = Grouped::<EnteredPlaces>::new(alloc, rows)?;
-    let left = Grouped::<LeftPlaces>::new(alloc, rows)?;
+    let entered = Grouped::<EnteredPlaces>::new(alloc, rows.movements.as_slice())?;
+    let left = Grouped::<LeftPlaces>::new(alloc, rows.movements.as_slice())?;
     let stocks = Stocks { entered, left };
-    first_fault(alloc, &stocks, sublots)
+    first_fault(alloc, &stocks, rows.sublots.as_slice())
 }

@@ -3,8 +3,8 @@ ghost use Rattle.std.specs.Prelude.{◌≡◌, IfOk, is_some};
 ghost use Rattle.plant_tables_columns.specs.TableColumns.{receipt_from};
 ghost use Rattle.plant_check_rows.specs.Values as spec;
 
-use crate::fault::{Found, Key, RowFault, Table, Wanted};
-use crate::first::or_told;
+use crate::fault::{Key, RowFault, Table, Wanted};
+use crate::first::{as_a_whole, or_told};
 use plant_base::{
     BatchEvent, BatchRow, Class, ControlLine, Definition, EdgeRow, Hold, Job, Lot, Mark,
     MasterLine, Recipe, Sublot,
@@ -34,13 +34,7 @@ fn place_told(table: Table, place: Option<u64>) -> Option<RowFault>
 {
     match place {
         None => None,
-        Some(place) => Some(RowFault {
-            table,
-            key: Key::Place(place),
-            column: None,
-            found: Found::Row,
-            wanted: Wanted::Values,
-        }),
+        Some(place) => Some(as_a_whole((table, Key::Place(place)), Wanted::Values)),
     }
 }
 

@@ -20,6 +20,7 @@ use Rattle.plant_view.specs.Rows.{put_all}
 use Rattle.plant_view.proofs.Membership.{all_in, map_in, map_from, one_list, put_all_from, sorted_put_all}
 use Rattle.plant_desk.specs.Booked.{Fits, counted, is_booked, sum_at, sum_with, summed, total_along}
 use Rattle.plant_desk.specs.declared.genealogy.BookedEdge.{BookedEdge}
+use Rattle.std.proofs.Math.Bool.{or-true, or-false}
 
 -- ---- edges
 
@@ -31,26 +32,16 @@ edge_itself x y e = subst (λ (z : EdgeRow). edge_eq x z ≡ true) e (edge_ties 
 
 -- ---- one booking more
 
-or_yes : (c t : Bool) → t ≡ true → (c || (t || false)) ≡ true
-or_yes true t e = refl
-or_yes false true e = refl
-or_yes false false e = e
-
-or_no : (c t : Bool) → t ≡ false → (c || (t || false)) ≡ c
-or_no true t e = refl
-or_no false true e = e
-or_no false false e = refl
-
 sum_more : (bs : List BookedEdge) (b : BookedEdge) (e : EdgeRow) → sum_at (bs ++ b ∷ []) e ≡ cond (edge_eq b.edge e) (Some (total_along bs e + b.amount)) (sum_at bs e)
 sum_more bs b e = by (edge_eq b.edge e) refl
   where
     by : (t : Bool) → edge_eq b.edge e ≡ t → sum_at (bs ++ b ∷ []) e ≡ cond t (Some (total_along bs e + b.amount)) (sum_at bs e)
     by true is =
-        let booked : is_booked (bs ++ b ∷ []) e ≡ true = list_any-append (λ (x : BookedEdge). edge_eq x.edge e) bs (b ∷ []) ∙ or_yes (is_booked bs e) (edge_eq b.edge e) is in
+        let booked : is_booked (bs ++ b ∷ []) e ≡ true = list_any-append (λ (x : BookedEdge). edge_eq x.edge e) bs (b ∷ []) ∙ (ap (λ (t : Bool). is_booked bs e || (t || false)) is ∙ or-true (is_booked bs e)) in
         let total : total_along (bs ++ b ∷ []) e ≡ total_along bs e + b.amount = sum_by_push (counted e) bs b ∙ ap (λ (t : Bool). total_along bs e + cond t b.amount 0) is in
         λ i. cond (booked i) (Some (total i)) None
     by false is =
-        let booked : is_booked (bs ++ b ∷ []) e ≡ is_booked bs e = list_any-append (λ (x : BookedEdge). edge_eq x.edge e) bs (b ∷ []) ∙ or_no (is_booked bs e) (edge_eq b.edge e) is in
+        let booked : is_booked (bs ++ b ∷ []) e ≡ is_booked bs e = list_any-append (λ (x : BookedEdge). edge_eq x.edge e) bs (b ∷ []) ∙ (ap (λ (t : Bool). is_booked bs e || (t || false)) is ∙ or-false (is_booked bs e)) in
         let total : total_along (bs ++ b ∷ []) e ≡ total_along bs e + 0 = sum_by_push (counted e) bs b ∙ ap (λ (t : Bool). total_along bs e + cond t b.amount 0) is in
         let same : total_along (bs ++ b ∷ []) e ≡ total_along bs e = omega (arith, total) in
         λ i. cond (booked i) (Some (same i)) None

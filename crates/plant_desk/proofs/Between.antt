@@ -4,7 +4,7 @@ use Rattle.std.specs.Prelude.{◌&&◌, ◌||◌, sum_by}
 use Rattle.std.specs.List.{AllByRecursion, filter_map, flat_map, cons_option}
 use Rattle.std.specs.List.Sorted.{IsStrictlySortedBy}
 use Rattle.std.specs.declared.cmp.Ordering.TheVariants.{Less}
-use Rattle.std.proofs.lemmas.Bool.{false≢true}
+use Rattle.std.proofs.lemmas.Bool.{false≢true, and_parts, and_right, and_from}
 use Rattle.std.proofs.lemmas.Cmp.{tied_itself}
 use Rattle.std.proofs.lemmas.List.Folds.{Any-from_list_any, list_any-from_Any}
 use Rattle.std.proofs.lemmas.List.Kept.{IsStrictlySortedBy-filter}
@@ -89,25 +89,11 @@ module _ (nodes : List Node) (x : Node) (e : EdgeRow) where
   part : (ms : List Movement) → total_along (filter_map (booked_at nodes x) ms) e ≡ cond (is_told nodes x e) (amount_of ms e) 0
   part ms = all_told (counted e) (booked_at nodes x) ms ∙ (λ i. sum_by (λ (m : Movement). by_edge m.amount (edge_row_of m) i) ms) ∙ chosen_sum (is_told nodes x e) (booked_along e) ms
 
--- ---- booleans
-
-never : (a : Bool) → (a && false) ≡ false
-never true = refl
-never false = refl
-
-pub both : (a b : Bool) → (a && b) ≡ true → (a ≡ true) × (b ≡ true)
-both true true h = (refl, refl)
-both true false h = absurd (false≢true h)
-both false b h = absurd (false≢true h)
-
-pub together : (a b : Bool) → a ≡ true → b ≡ true → (a && b) ≡ true
-together a b p q = λ i. p i && q i
-
 -- ---- all nodes
 
 -- the node at which an edge between the nodes is told is one of them
 pub teller_among : (nodes : List Node) (e : EdgeRow) → is_between nodes e ≡ true → is_among nodes (told_at e) ≡ true
-teller_among nodes e h = by e.kind (both _ _ h).0 (both _ _ h).1
+teller_among nodes e h = by e.kind (and_parts _ _ h).0 (and_parts _ _ h).1
   where
     by : (k : EdgeKind) → is_among nodes (ends_by k e.from e.to).0 ≡ true → is_among nodes (ends_by k e.from e.to).1 ≡ true → is_among nodes (told_by k e.from e.to) ≡ true
     by edge.LotToBatch near far = far
@@ -119,7 +105,7 @@ teller_between nodes e = by (is_between nodes e) refl
   where
     by : (t : Bool) → is_between nodes e ≡ t → (is_among nodes (told_at e) && t) ≡ t
     by true is = ap (λ (b : Bool). b && true) (teller_among nodes e is)
-    by false is = never (is_among nodes (told_at e))
+    by false is = and_right (is_among nodes (told_at e)) false refl
 
 -- a node doesn't stand among those that are greater
 none_later : (x y : Node) → x ≡ y → (xs : List Node) → AllByRecursion (λ z. node_cmp x z ≡ Less) xs → is_among xs y ≡ false
@@ -184,7 +170,7 @@ module _ (ms : List Movement) (nodes : List Node) where
       let of_movement = picked_from (booked_at nodes x) ms b of_node.1.1 in
       let m = of_movement.0 in
       let is = booked_is nodes x m.amount (edge_row_of m) b of_movement.1.1 in
-      let told = both (node_eq x (told_at b.edge)) (is_between nodes b.edge) is.1 in
+      let told = and_parts (node_eq x (told_at b.edge)) (is_between nodes b.edge) is.1 in
       let listed : Contains (edge_rows ms) b.edge = all_in edge_order edge_total one_edge (filter_map edge_row_of ms) b.edge [] (picked_in edge_row_of ms m b.edge of_movement.1.0 is.0) in
       subst (Contains (filter (is_between nodes) (edge_rows ms))) of_booking.1.1 (filter_in (is_between nodes) (edge_rows ms) b.edge listed told.1)
 
@@ -197,7 +183,7 @@ module _ (ms : List Movement) (nodes : List Node) where
       let any = Any-from_list_any (λ y. node_eq y (told_at z)) nodes (teller_among nodes z of_filter.1) in
       let x = any.1 in
       let b : BookedEdge = record { edge = z; amount = m.amount } in
-      let made : booked_at nodes x m ≡ Some b = ap (booked_if nodes x m.amount) of_movement.1.1 ∙ ap (λ (t : Bool). cond t (Some b) None) (together _ _ any.4 of_filter.1) in
+      let made : booked_at nodes x m ≡ Some b = ap (booked_if nodes x m.amount) of_movement.1.1 ∙ ap (λ (t : Bool). cond t (Some b) None) (and_from _ _ any.4 of_filter.1) in
       map_in edge_at bookings b (flat_in (λ y. filter_map (booked_at nodes y) ms) nodes x b (any.0, any.2, any.3) (picked_in (booked_at nodes x) ms m b of_movement.1.0 made))
 
   same_edges : put_all edge_order (map edge_at bookings) [] ≡ filter (is_between nodes) (edge_rows ms)
@@ -243,22 +229,14 @@ unbooked c d b e = ap (λ (t : Bool). cond (t && d) (Some b) None) e
 
 module _ (nodes : List Node) (id lot : List ℕ) (a : ℕ) where
   not_at_lot : (k : MovementKind) → is_named id (other_lot k lot) ≡ false → booked_if nodes (node.Lot id) a (edge_row_by k lot) ≡ None
-  not_at_lot Received e = refl
-  not_at_lot (Consumed b) e = refl
-  not_at_lot (Produced b) e = refl
-  not_at_lot Scrapped e = refl
-  not_at_lot (Divided to) e = refl
   not_at_lot (Split to) e = unbooked _ _ _ (apart (node.Lot id) (node.Lot to) e)
   not_at_lot (Merged to) e = unbooked _ _ _ (apart (node.Lot id) (node.Lot to) e)
+  not_at_lot _ e = refl
 
   not_at_batch : (k : MovementKind) → is_named id (batch_by k) ≡ false → booked_if nodes (node.Batch id) a (edge_row_by k lot) ≡ None
-  not_at_batch Received e = refl
   not_at_batch (Consumed b) e = unbooked _ _ _ (apart (node.Batch id) (node.Batch b) e)
   not_at_batch (Produced b) e = unbooked _ _ _ (apart (node.Batch id) (node.Batch b) e)
-  not_at_batch Scrapped e = refl
-  not_at_batch (Divided to) e = refl
-  not_at_batch (Split to) e = refl
-  not_at_batch (Merged to) e = refl
+  not_at_batch _ e = refl
 
 lot_booked : (s : State) (nodes : List Node) (id : List ℕ) → filter_map (booked_at nodes (node.Lot id)) (movements_into s id) ≡ filter_map (booked_at nodes (node.Lot id)) s.movements
 lot_booked s nodes id = told_of (booked_at nodes (node.Lot id)) (λ m. is_named id (other_lot m.kind m.lot)) (λ m e. not_at_lot nodes id m.lot m.amount m.kind e) s.movements

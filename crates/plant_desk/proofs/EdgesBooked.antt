@@ -19,9 +19,9 @@ use Rattle.plant_desk.specs.Around.{nodes_around}
 use Rattle.plant_desk.specs.Genealogy.{booked_edge, edges_between, is_among, is_between}
 use Rattle.plant_desk.specs.AnswerLaws.{IsBooked, booked_order}
 use Rattle.plant_desk.specs.declared.genealogy.BookedEdge.{BookedEdge}
-use Rattle.plant_desk.proofs.Between.{both, together}
 use Rattle.plant_desk.proofs.GoodsReached.{around_lists}
 use Rattle.plant_desk.proofs.Picked.{picked_in, picked_from}
+use Rattle.std.proofs.lemmas.Bool.{and_parts, and_from}
 
 pub among_in : (nodes : List Node) (y : Node) → is_among nodes y ≡ true → Contains nodes y
 among_in nodes y h =
@@ -45,7 +45,7 @@ module _ (s : State) (direction : Direction) (start : Node) where
 
   booked_by : (b : BookedEdge) (e : EdgeRow) → booked_edge s.movements e ≡ b → Contains rows e → is_between nodes e ≡ true → IsBooked s direction start b
   booked_by b e is listed between =
-      let ends = both (is_among nodes (ends_of e).0) (is_among nodes (ends_of e).1) between in
+      let ends = and_parts (is_among nodes (ends_of e).0) (is_among nodes (ends_of e).1) between in
       let of_movement = picked_from edge_row_of s.movements e (⊎_elim (λ i. i) (λ n. absurd (none_in e n)) (put_all_from edge_order edge_total (filter_map edge_row_of s.movements) e [] listed)) in
       let here : IsBooked s direction start (booked_edge s.movements e) = record {
         made = of_movement;
@@ -69,4 +69,4 @@ module _ (s : State) (direction : Direction) (start : Node) where
       let second = in_among nodes (ends_of e).1 ((around_lists s direction start).all (ends_of e).1 r.second) in
       let is : booked_edge s.movements e ≡ b = λ i. record b { amount = sym r.amount i } in
       subst (Contains (edges_between s.movements nodes)) is
-      (map_in (booked_edge s.movements) (filter (is_between nodes) rows) e (filter_in (is_between nodes) rows e listed (together _ _ first second)))
+      (map_in (booked_edge s.movements) (filter (is_between nodes) rows) e (filter_in (is_between nodes) rows e listed (and_from _ _ first second)))

@@ -5,18 +5,13 @@ use Rattle.std.proofs.lemmas.List.{length-take}
 use Rattle.plant_worklists.proofs.Found.{of_mapped, take_mapped}
 use Rattle.plant_worklists.specs.Pages.{page_of, page_size}
 use Rattle.plant_worklists.specs.declared.page.Page.{Page}
+use Rattle.std.proofs.lemmas.Grind.{common_steps}
 
 shorter : {X : Type 0} (n : ℕ) (xs : List X) → take n (take (suc n) xs) ≡ take n xs
-shorter zero xs = refl
-shorter (suc n) [] = refl
-shorter (suc n) (x ∷ xs) = ap (λ l. x ∷ l) (shorter n xs)
+shorter n xs = grind (common_steps, arith)
 
 as_long : {X : Type 0} (n : ℕ) (xs : List X) → nat_lt n (length (take (suc n) xs)) ≡ nat_lt n (length xs)
-as_long n xs = by (nat_lt n (length xs)) refl
-  where
-    by : (b : Bool) → nat_lt n (length xs) ≡ b → nat_lt n (length (take (suc n) xs)) ≡ b
-    by true e = let more = ltb-true n (length xs) e in let long = length-take (suc n) xs in lt-ltb n (length (take (suc n) xs)) (omega (arith, more, long))
-    by false e = let less = ltb-false n (length xs) e in let long = length-take (suc n) xs in le-ltb n (length (take (suc n) xs)) (omega (arith, less, long))
+as_long n xs = grind (common_steps, arith)
 
 page_of_front : {X : Type 0} (xs : List X) → page_of (take (page_size + 1) xs) ≡ page_of xs
 page_of_front xs = λ i. record { rows = shorter page_size xs i; has_more = as_long page_size xs i }

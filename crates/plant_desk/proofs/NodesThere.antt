@@ -48,26 +48,15 @@ module _ (s : State) (sound : IsSound s) where
   there : (lot : List ℕ) (n : ℕ) → is_some (place_at s lot n) ≡ true → is_some (lot_at s lot) ≡ true
   there lot n h = housed lot n (place_at s lot n) refl h
 
+  both_housed : (q p : Node × Node) → Some q ≡ Some p → IsHoused q.0 × IsHoused q.1 → IsHoused p.0 × IsHoused p.1
+  both_housed q p e housed = let is : q ≡ p = cc in subst (λ (r : Node × Node). IsHoused r.0 × IsHoused r.1) is housed
+
   ends_there : (k : MovementKind) (lot : List ℕ) (sub : ℕ) (p : Node × Node) → IsThere s (goes_to k lot sub) → IsThere s (comes_from k lot sub) → edge_by k lot ≡ Some p → IsHoused p.0 × IsHoused p.1
-  ends_there Received lot sub p g c e = absurd (cc)
-  ends_there (Consumed batch) lot sub p g c e =
-      let q : Node × Node = (node.Lot lot, node.Batch batch) in
-      let is : q ≡ p = cc in
-      subst (λ (r : Node × Node). IsHoused r.0 × IsHoused r.1) is (there lot sub c, tt)
-  ends_there (Produced batch) lot sub p g c e =
-      let q : Node × Node = (node.Batch batch, node.Lot lot) in
-      let is : q ≡ p = cc in
-      subst (λ (r : Node × Node). IsHoused r.0 × IsHoused r.1) is (tt, there lot sub g)
-  ends_there Scrapped lot sub p g c e = absurd (cc)
-  ends_there (Divided to) lot sub p g c e = absurd (cc)
-  ends_there (Split to) lot sub p g c e =
-      let q : Node × Node = (node.Lot lot, node.Lot to) in
-      let is : q ≡ p = cc in
-      subst (λ (r : Node × Node). IsHoused r.0 × IsHoused r.1) is (there lot sub c, there to 0 g)
-  ends_there (Merged to) lot sub p g c e =
-      let q : Node × Node = (node.Lot lot, node.Lot to) in
-      let is : q ≡ p = cc in
-      subst (λ (r : Node × Node). IsHoused r.0 × IsHoused r.1) is (there lot sub c, there to 0 g)
+  ends_there (Consumed batch) lot sub p g c e = both_housed (node.Lot lot, node.Batch batch) p e (there lot sub c, tt)
+  ends_there (Produced batch) lot sub p g c e = both_housed (node.Batch batch, node.Lot lot) p e (tt, there lot sub g)
+  ends_there (Split to) lot sub p g c e = both_housed (node.Lot lot, node.Lot to) p e (there lot sub c, there to 0 g)
+  ends_there (Merged to) lot sub p g c e = both_housed (node.Lot lot, node.Lot to) p e (there lot sub c, there to 0 g)
+  ends_there _ lot sub p g c e = absurd (cc)
 
   edge_there : (a b : Node) → HasEdge (edges_of s) a b → IsHoused a × IsHoused b
   edge_there a b h =

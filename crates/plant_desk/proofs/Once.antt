@@ -19,19 +19,18 @@ use Rattle.plant_rules.proofs.Noted.{next_receipts, blind_step, blind_wrong}
 use Rattle.plant_desk.specs.Runs.{fold}
 use Rattle.plant_desk.specs.Sendings.{Outcome, answered, stopped_before, stopped_after, Sending, after, sent, with_answer, answered_of, BeginsWith, IsSentAgain, IsPersistent}
 use Rattle.plant_desk.specs.Once.{accepted, is_same_reference, is_known, once_after, plain, but_receipts, ActOnce}
+use Rattle.std.proofs.Math.Bool.{or_assoc, or-true, or-false}
+use Rattle.plant_desk.proofs.Turns.{fold_push}
+use Rattle.plant_desk.proofs.Kept.{unless_same}
 
 -- ---- a command whose reference is kept changes nothing
-
-unless_same : (w : Option Refusal) (s : State) → unless_refused w s s ≡ s
-unless_same None s = refl
-unless_same (Some r) s = refl
 
 is_kept : State → Envelope → Bool
 is_kept s e = is_some (kept_for s e)
 
 kept_by : (s : State) (e : Envelope) (k : Option Receipt) → is_some k ≡ true → (w : Option Refusal) → unless_refused w s (taken k s e) ≡ s
 kept_by s e None t w = absurd (false≢true t)
-kept_by s e (Some r) t w = unless_same w s
+kept_by s e (Some r) t w = unless_same s w
 
 stays : (s : State) (e : Envelope) → is_kept s e ≡ true → step s e ≡ s
 unfolding step is_kept
@@ -94,10 +93,6 @@ again s e r = again_by s e r (kept_for s e) (wrong s e) (step_is s e)
 
 -- ---- a reference is kept where it was, or where a command with it was accepted
 
-or_assoc : (a b c : Bool) → ((a || b) || c) ≡ (a || (b || c))
-or_assoc true b c = refl
-or_assoc false b c = refl
-
 or_true : (a b : Bool) → (b ≡ true → a ≡ true) → (a || b) ≡ a
 or_true true b h = refl
 or_true false true h = absurd (false≢true (h refl))
@@ -110,25 +105,13 @@ shared rs (Some a) None h k = absurd (false≢true h)
 shared rs (Some a) (Some b) h k = ap (λ i. is_some (kept_among rs (Some i))) (sym (same_id b a h)) ∙ k
 
 put_kept : (r : Receipt) (rs : List Receipt) (a : List ℕ) (b : Bool) → same r.reference a ≡ b → is_some (find (λ q. same q.reference a) (put receipt_order r rs)) ≡ (is_some (find (λ q. same q.reference a) rs) || b)
-put_kept r rs a true h = found_put receipt_order r (λ q. same q.reference a) rs h ∙ sym (or_one (is_some (find (λ q. same q.reference a) rs)))
-  where
-    or_one : (x : Bool) → (x || true) ≡ true
-    or_one true = refl
-    or_one false = refl
-put_kept r rs a false h = ap is_some (found_same receipt_order r (λ q. same q.reference a) rs h (λ q tie. ap (λ i. same i a) (sym (id_tie (λ (x : Receipt). x.reference) r q tie)) ∙ h)) ∙ sym (or_zero (is_some (find (λ q. same q.reference a) rs)))
-  where
-    or_zero : (x : Bool) → (x || false) ≡ x
-    or_zero true = refl
-    or_zero false = refl
-
-none_more : (x : Bool) → x ≡ (x || false)
-none_more true = refl
-none_more false = refl
+put_kept r rs a true h = found_put receipt_order r (λ q. same q.reference a) rs h ∙ sym (or-true (is_some (find (λ q. same q.reference a) rs)))
+put_kept r rs a false h = ap is_some (found_same receipt_order r (λ q. same q.reference a) rs h (λ q tie. ap (λ i. same i a) (sym (id_tie (λ (x : Receipt). x.reference) r q tie)) ∙ h)) ∙ sym (or-false (is_some (find (λ q. same q.reference a) rs)))
 
 noted_more : (p q : Option (List ℕ)) (c : List ℕ) (s : State) → is_some (kept_among (noted q c s).receipts p) ≡ (is_some (kept_among s.receipts p) || is_same_reference p q)
 noted_more None None c s = refl
 noted_more None (Some b) c s = refl
-noted_more (Some a) None c s = none_more (is_some (kept_among s.receipts (Some a)))
+noted_more (Some a) None c s = sym (or-false (is_some (kept_among s.receipts (Some a))))
 noted_more (Some a) (Some b) c s = put_kept (record { reference = b; seq = s.seq; content = c }) s.receipts a (same b a) refl
 
 -- after a step
@@ -148,7 +131,7 @@ any_if false test f fs = refl
 
 known_is : (before : List Envelope) (s : State) (e : Envelope) → is_kept (fold s before) e ≡ is_known s before e
 unfolding is_kept
-known_is [] s e = none_more (is_some (kept_for s e))
+known_is [] s e = sym (or-false (is_some (kept_for s e)))
 known_is (f ∷ fs) s e =
     known_is fs (step s f) e
     ∙ ap (λ t. is_some (kept_for t e) || list_any (λ g. is_same_reference e.reference g.reference) (accepted (step s f) fs)) (step_is s f)
@@ -185,10 +168,6 @@ sent_is (x ∷ xs) p s = sent_by s x.0 x.1 xs p.0 p.1 (sent_is xs p.1)
 
 -- ---- and they lead where those lead that aren't known
 
-fold_more : (before : List Envelope) (e : Envelope) (s : State) → fold s (before ++ e ∷ []) ≡ step (fold s before) e
-fold_more [] e s = refl
-fold_more (f ∷ fs) e s = fold_more fs e (step s f)
-
 once_by : (s t v : State) (before : List Envelope) (e : Envelope) (es : List Envelope) → but_receipts t ≡ but_receipts v
     → ((w : State) → but_receipts (step t e) ≡ but_receipts w → but_receipts (fold (step t e) es) ≡ but_receipts (plain w (once_after s (before ++ e ∷ []) es)))
     → (b : Bool) → is_kept t e ≡ b → but_receipts (fold (step t e) es) ≡ but_receipts (plain v (cond b (once_after s (before ++ e ∷ []) es) (e ∷ once_after s (before ++ e ∷ []) es)))
@@ -201,7 +180,7 @@ once_is : (es : List Envelope) (s t v : State) (before : List Envelope) → fold
 once_is [] s t v before at same = same
 once_is (e ∷ es) s t v before at same =
     once_by s t v before e es same
-    (λ w. once_is es s (step t e) w (before ++ e ∷ []) (fold_more before e s ∙ ap (λ u. step u e) at))
+    (λ w. once_is es s (step t e) w (before ++ e ∷ []) (fold_push s before e ∙ ap (λ u. step u e) at))
     (is_known s before e)
     (ap (λ u. is_kept u e) (sym at) ∙ known_is before s e)
 

@@ -3,8 +3,8 @@ ghost use Rattle.std.specs.Prelude.{◌≡◌, ◌+◌, filter, map, take, IfOk}
 ghost use Rattle.plant_view.specs.Tables.{batch_row};
 ghost use Rattle.plant_view.specs.Views.{is_named};
 ghost use Rattle.plant_worklists.specs.Pages.{page_size};
-ghost use Rattle.plant_worklists.specs.Worklists.{is_above, is_order_in, is_open_batch, is_lot_of, is_hold_on, is_open_recall, is_definition_in};
-ghost use Rattle.plant_worklists.specs.Worklists.{is_recipe_in, is_in_ledger, lot_made};
+ghost use Rattle.plant_worklists.specs.Worklists.{is_above, is_open_batch};
+ghost use Rattle.plant_worklists.specs.Worklists.{lot_made};
 
 use crate::batches::batch_row;
 use crate::lots::{movements_into, stocked};
@@ -26,7 +26,7 @@ impl<'a> Worklists for ListsView<'a> {
             .jobs
             .iter()
             .copied()
-            .filter(|job| is_order_in(job, state, &above))
+            .filter(|job| job.state.name() == state.name() && is_above(&job.order.order, &above))
             .collect(self.lists.alloc)?;
         Ok(first_page(rows))
     }
@@ -49,7 +49,7 @@ impl<'a> Worklists for ListsView<'a> {
             .lots
             .iter()
             .copied()
-            .filter(|lot| is_lot_of(lot, def, &above))
+            .filter(|lot| lot.def == def && is_above(&lot.id, &above))
             .collect(self.lists.alloc)?;
         Ok(first_page(rows))
     }
@@ -60,7 +60,7 @@ impl<'a> Worklists for ListsView<'a> {
             .holds
             .iter()
             .copied()
-            .filter(|hold| is_hold_on(hold, lot, &above))
+            .filter(|hold| hold.lot == lot && is_above(&hold.id, &above))
             .collect(self.lists.alloc)?;
         Ok(first_page(rows))
     }
@@ -71,7 +71,7 @@ impl<'a> Worklists for ListsView<'a> {
             .recalls
             .iter()
             .copied()
-            .filter(|recall| is_open_recall(recall, &above))
+            .filter(|recall| recall.is_open() && is_above(&recall.id, &above))
             .collect(self.lists.alloc)?;
         Ok(first_page(rows))
     }
@@ -86,7 +86,7 @@ impl<'a> Worklists for ListsView<'a> {
             .definitions
             .iter()
             .copied()
-            .filter(|definition| is_definition_in(definition, class, &above))
+            .filter(|definition| definition.class == class && is_above(&definition.id, &above))
             .collect(self.lists.alloc)?;
         Ok(first_page(rows))
     }
@@ -101,7 +101,7 @@ impl<'a> Worklists for ListsView<'a> {
             .recipes
             .iter()
             .copied()
-            .filter(|row| is_recipe_in(row, state, &above))
+            .filter(|row| row.state.name() == state.name() && is_recipe_above(row, &above))
             .collect(self.lists.alloc)?;
         Ok(first_page(rows))
     }
@@ -116,7 +116,9 @@ impl<'a> Worklists for ListsView<'a> {
             .movements
             .iter()
             .copied()
-            .filter(|row| is_in_ledger(row, lot, &above))
+            .filter(|row| {
+                (row.lot == lot || makes_lot(row.kind, lot)) && is_movement_above(row, &above)
+            })
             .collect(self.lists.alloc)?;
         Ok(first_page(rows))
     }
@@ -146,46 +148,10 @@ impl<'a> Worklists for ListsView<'a> {
 
 // ---- which rows a list means
 
-fn is_order_in(job: &Job, state: JobState, above: &Option<Id>) -> bool
-    ensures { result ≡ is_order_in state above.now job.now }
-{
-    job.state.name() == state.name() && is_above(&job.order.order, above)
-}
-
 fn is_open_batch(row: &BatchRow, above: &Option<Id>) -> bool
     ensures { result ≡ is_open_batch above.now row.now }
 {
     !row.closed && is_above(&row.batch.id, above)
-}
-
-fn is_lot_of(lot: &Lot, def: Id, above: &Option<Id>) -> bool
-    ensures { result ≡ is_lot_of def above.now lot.now }
-{
-    lot.def == def && is_above(&lot.id, above)
-}
-
-fn is_hold_on(hold: &Hold, lot: Id, above: &Option<Id>) -> bool
-    ensures { result ≡ is_hold_on lot above.now hold.now }
-{
-    hold.lot == lot && is_above(&hold.id, above)
-}
-
-fn is_open_recall(recall: &Recall, above: &Option<Id>) -> bool
-    ensures { result ≡ is_open_recall above.now recall.now }
-{
-    recall.is_open() && is_above(&recall.id, above)
-}
-
-fn is_definition_in(definition: &Definition, class: Id, above: &Option<Id>) -> bool
-    ensures { result ≡ is_definition_in class above.now definition.now }
-{
-    definition.class == class && is_above(&definition.id, above)
-}
-
-fn is_recipe_in(row: &Recipe, state: RecipeState, above: &Option<RecipePlace>) -> bool
-    ensures { result ≡ is_recipe_in state above.now row.now }
-{
-    row.state.name() == state.name() && is_recipe_above(row, above)
 }
 
 // Whether a split or a part of a merge makes this lot.
@@ -196,12 +162,6 @@ fn makes_lot(kind: MovementKind, lot: Id) -> bool
         MovementKind::Split { to } | MovementKind::Merged { to } => to == lot,
         _ => false,
     }
-}
-
-fn is_in_ledger(row: &Movement, lot: Id, above: &Option<MovementPlace>) -> bool
-    ensures { result ≡ is_in_ledger lot above.now row.now }
-{
-    (row.lot == lot || makes_lot(row.kind, lot)) && is_movement_above(row, above)
 }
 
 // ---- what takes more than a filter, and what is of the lots that come after one

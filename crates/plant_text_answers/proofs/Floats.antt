@@ -1,8 +1,9 @@
 -- Answers have no floats.
-use Rattle.std.proofs.Common.{◌≡◌, List, [], ◌∷◌, map, ℕ, Bool, true, Option, Some, None, false, refl}
+use Rattle.std.proofs.Common.{◌≡◌, List, [], ◌∷◌, map, ℕ, Bool, true, Option, Some, None, false, Result, refl, ◌∙◌, ap, IfOk}
 use Rattle.serde_json.specs.Data.{Data}
-use Rattle.serde_json.specs.View.{items_of}
-use Rattle.serde_json.specs.Written.{has_float, items_have_float}
+use Rattle.serde_json.specs.declared.value.Value.{Value}
+use Rattle.serde_json.specs.View.{items_of, view}
+use Rattle.serde_json.specs.Written.{has_float, items_have_float, compact_text}
 use Rattle.plant_base.specs.declared.rows.Movement.{Movement}
 use Rattle.plant_base.specs.declared.rows.Sublot.{Sublot}
 use Rattle.plant_view.specs.Genealogy.{batch_by, ends_of}
@@ -18,24 +19,30 @@ use Rattle.plant_desk.specs.declared.question.OrderAnswer.{OrderAnswer}
 use Rattle.plant_desk.specs.declared.question.BatchView.{BatchView}
 use Rattle.plant_desk.specs.declared.question.Booking.{Booking}
 use Rattle.plant_desk.specs.declared.question.RecallAnswer.{RecallAnswer}
-use Rattle.plant_text_answers.specs.BatchAnswers.{booking_data, bookings_data, batch_data}
+use Rattle.plant_text_answers.specs.BatchAnswers.{booking_data, batch_data}
 use Rattle.plant_trace.specs.declared.node.Node.{Node}
 use Rattle.plant_trace.specs.declared.node.Node.TheVariants.{Lot, Batch}
 use Rattle.plant_text_answers.specs.RecallAnswers.{recall_data}
 use Rattle.plant_text_answers.specs.EdgeAnswers.{node_item, edge_item, genealogy_data}
-use Rattle.plant_text_answers.specs.TraceAnswers.{node_data, nodes_data, trace_data}
+use Rattle.plant_text_answers.specs.TraceAnswers.{node_data, trace_data}
 use Rattle.plant_text_answers.specs.Answers.{order_data}
 use Rattle.plant_text_answers.specs.LotAnswers.{lot_data, stands_data}
 use Rattle.plant_text_answers.specs.ListAnswers.{order_item, batch_item, lot_item, hold_item, recall_item, definition_item, recipe_item, movement_item, other_sub, listed_data}
 use Rattle.plant_worklists.specs.Worklists.{other_lot}
-use Rattle.plant_text_answers.specs.Parts.{sublots_data, id_or_null, number_or_null}
+use Rattle.plant_text_answers.specs.Parts.{id_or_null, number_or_null, sublot_data}
+use Rattle.std.proofs.lemmas.Result.{IfOk-weaker}
 
-no_float_in_sublots : (sublots : List Sublot) → items_have_float (sublots_data sublots) ≡ false
-no_float_in_sublots [] = refl
-no_float_in_sublots (s ∷ sublots) = no_float_in_sublots sublots
+-- the text of a value that shows this
+pub text_is : {S E : Type 0} (bytes : S → List ℕ) (d : Data) (v : Value) (r : Result S E) → view v ≡ d → has_float d ≡ false
+    → IfOk r (λ s. has_float (view v) ≡ false → bytes s ≡ compact_text (view v)) → IfOk r (λ s. bytes s ≡ compact_text d)
+text_is bytes d v r shows none told = IfOk-weaker r _ _ (λ s h. h (ap has_float shows ∙ none) ∙ ap compact_text shows) told
+
+no_float_in_rows : {R : Type 0} (item : R → Data) → ((r : R) → has_float (item r) ≡ false) → (rows : List R) → items_have_float (items_of (map item rows)) ≡ false
+no_float_in_rows item none [] = refl
+no_float_in_rows item none (r ∷ rows) = rw (none r) (no_float_in_rows item none rows)
 
 pub no_float_in_lot : (a : LotAnswer) → has_float (lot_data a) ≡ false
-no_float_in_lot a = rw (no_float_in_sublots a.sublots) refl
+no_float_in_lot a = rw (no_float_in_rows sublot_data (λ s. refl) a.sublots) refl
 
 no_float_in_id : (id : Option (List ℕ)) → has_float (id_or_null id) ≡ false
 no_float_in_id None = refl
@@ -48,38 +55,23 @@ no_float_in_booking : (taken : Bool) (b : Booking) → has_float (booking_data t
 no_float_in_booking true b = refl
 no_float_in_booking false b = refl
 
-no_float_in_bookings : (taken : Bool) (bookings : List Booking) → items_have_float (bookings_data taken bookings) ≡ false
-no_float_in_bookings taken [] = refl
-no_float_in_bookings taken (b ∷ bookings) = rw (no_float_in_booking taken b) (no_float_in_bookings taken bookings)
-
 pub no_float_in_batch : (v : BatchView) → has_float (batch_data v) ≡ false
-no_float_in_batch v = rw (no_float_in_bookings true v.consumed, no_float_in_bookings false v.produced) refl
+no_float_in_batch v = rw (no_float_in_rows (booking_data true) (no_float_in_booking true) v.consumed, no_float_in_rows (booking_data false) (no_float_in_booking false) v.produced) refl
 
-no_float_in_nodes : (nodes : List Node) → items_have_float (nodes_data nodes) ≡ false
-no_float_in_nodes [] = refl
-no_float_in_nodes (Lot id ∷ nodes) = no_float_in_nodes nodes
-no_float_in_nodes (Batch id ∷ nodes) = no_float_in_nodes nodes
+no_float_in_node : (n : Node) → has_float (node_data n) ≡ false
+no_float_in_node (Lot id) = refl
+no_float_in_node (Batch id) = refl
 
 pub no_float_in_trace : (nodes : List Node) → has_float (trace_data nodes) ≡ false
-no_float_in_trace nodes = rw (no_float_in_nodes nodes) refl
+no_float_in_trace nodes = rw (no_float_in_rows node_data no_float_in_node nodes) refl
 
 pub no_float_in_recall : (a : RecallAnswer) → has_float (recall_data a) ≡ false
-no_float_in_recall a = rw (no_float_in_nodes a.nodes) refl
-
--- ---- lists
-
-no_float_in_rows : {R : Type 0} (item : R → Data) → ((r : R) → has_float (item r) ≡ false) → (rows : List R) → items_have_float (items_of (map item rows)) ≡ false
-no_float_in_rows item none [] = refl
-no_float_in_rows item none (r ∷ rows) = rw (none r) (no_float_in_rows item none rows)
+no_float_in_recall a = rw (no_float_in_rows node_data no_float_in_node a.nodes) refl
 
 pub no_float_in_stands : (lots : List LotAnswer) → has_float (stands_data lots) ≡ false
 no_float_in_stands lots = rw (no_float_in_rows lot_data no_float_in_lot lots) refl
 
 -- ---- genealogy
-
-no_float_in_node : (n : Node) → has_float (node_data n) ≡ false
-no_float_in_node (Lot id) = refl
-no_float_in_node (Batch id) = refl
 
 no_float_in_known : (n : NodeAnswer) → has_float (node_item n) ≡ false
 no_float_in_known (known.Lot l) = refl
@@ -97,7 +89,7 @@ no_float_in_open : (b : OpenBatch) → has_float (batch_item b) ≡ false
 no_float_in_open b = rw (no_float_in_id b.next_phase) refl
 
 no_float_in_stocked : (a : LotAnswer) → has_float (lot_item a) ≡ false
-no_float_in_stocked a = rw (no_float_in_sublots a.sublots) refl
+no_float_in_stocked a = rw (no_float_in_rows sublot_data (λ s. refl) a.sublots) refl
 
 no_float_in_number : (n : Option ℕ) → has_float (number_or_null n) ≡ false
 no_float_in_number None = refl

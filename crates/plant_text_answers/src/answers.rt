@@ -1,17 +1,16 @@
 //! The texts of answers.
 ghost use Rattle.std.specs.Prelude.{◌≡◌, IfOk, string_bytes};
 ghost use Rattle.serde_json.specs.View.{view};
-ghost use Rattle.serde_json.specs.Written.{compact_text};
 ghost use Rattle.plant_text_answers.specs.Answers.{desk_data, moment_data, order_data, text_of_answer};
 
-use crate::batch_answers::batch_text;
-use crate::edge_answers::genealogy_text;
-use crate::list_answers::listed_text;
-use crate::lot_answers::{lot_text, stands_text};
+use crate::batch_answers::batch_value;
+use crate::edge_answers::genealogy_value;
+use crate::list_answers::listed_value;
+use crate::lot_answers::{lot_value, stands_value};
 use crate::parts::id_value;
-use crate::recall_answers::recall_text;
+use crate::recall_answers::recall_value;
 use crate::replies::refusal_line;
-use crate::trace_answers::trace_text;
+use crate::trace_answers::trace_value;
 use plant_base::Moment;
 use plant_desk::{Answer, OrderAnswer};
 use serde_json::{Value, json};
@@ -41,13 +40,6 @@ fn order_value(alloc: Global, answer: &OrderAnswer) -> Result<Value, AllocError>
     })
 }
 
-fn order_text(alloc: Global, answer: &OrderAnswer) -> Result<String, AllocError>
-    ensures { IfOk result (λ s. string_bytes s ≡ compact_text (order_data answer.now)) }
-{
-    let value = order_value(alloc, answer)?;
-    value.to_string(alloc)
-}
-
 /// The text of an answer, without an LF: JSON with no blanks, the members by the bytes of their names.
 ///
 /// - of the desk `{"schema":N,"seq":N}`
@@ -75,15 +67,15 @@ pub fn answer_text(alloc: Global, answer: &Answer) -> Result<String, AllocError>
 {
     match answer {
         Answer::Desk { schema, seq } => desk_value(alloc, *schema, *seq)?.to_string(alloc),
-        Answer::Lot(lot) => lot_text(alloc, lot),
-        Answer::Order(order) => order_text(alloc, order),
-        Answer::Batch(batch) => batch_text(alloc, batch),
-        Answer::Trace(nodes) => trace_text(alloc, nodes.as_slice()),
-        Answer::Stands(lots) => stands_text(alloc, lots.as_slice()),
-        Answer::Edges(genealogy) => genealogy_text(alloc, genealogy),
-        Answer::Recall(recall) => recall_text(alloc, recall),
+        Answer::Lot(lot) => lot_value(alloc, lot)?.to_string(alloc),
+        Answer::Order(order) => order_value(alloc, order)?.to_string(alloc),
+        Answer::Batch(batch) => batch_value(alloc, batch)?.to_string(alloc),
+        Answer::Trace(nodes) => trace_value(alloc, nodes.as_slice())?.to_string(alloc),
+        Answer::Stands(lots) => stands_value(alloc, lots.as_slice())?.to_string(alloc),
+        Answer::Edges(genealogy) => genealogy_value(alloc, genealogy)?.to_string(alloc),
+        Answer::Recall(recall) => recall_value(alloc, recall)?.to_string(alloc),
         Answer::Moment { at } => moment_value(alloc, *at)?.to_string(alloc),
-        Answer::List(listed) => listed_text(alloc, listed),
+        Answer::List(listed) => listed_value(alloc, listed)?.to_string(alloc),
         Answer::Unknown(refusal) => String::from_str(alloc, refusal_line(*refusal).as_str()),
     }
 }

@@ -1,8 +1,7 @@
 //! The texts of answers about batches.
-ghost use Rattle.std.specs.Prelude.{◌≡◌, IfOk, string_bytes};
+ghost use Rattle.std.specs.Prelude.{◌≡◌, IfOk};
 ghost use Rattle.serde_json.specs.Data.{array};
 ghost use Rattle.serde_json.specs.View.{view};
-ghost use Rattle.serde_json.specs.Written.{compact_text};
 ghost use Rattle.plant_text_answers.specs.BatchAnswers.{consumed_data, produced_data, booking_data, bookings_data};
 ghost use Rattle.plant_text_answers.specs.BatchAnswers.{batch_data};
 
@@ -50,7 +49,8 @@ fn bookings_value(alloc: Global, bookings: &[Booking], taken: bool) -> Result<Va
     Ok(Value::Array(list))
 }
 
-fn batch_value(alloc: Global, batch: &BatchView) -> Result<Value, AllocError>
+/// What is shown of a batch.
+pub(crate) fn batch_value(alloc: Global, batch: &BatchView) -> Result<Value, AllocError>
     ensures { IfOk result (λ v. view v ≡ batch_data batch.now) }
 {
     let consumed = bookings_value(alloc, batch.consumed.as_slice(), true)?;
@@ -63,12 +63,4 @@ fn batch_value(alloc: Global, batch: &BatchView) -> Result<Value, AllocError>
         "size": (batch.job.order.size.get()), "state": (batch.progress.state.name()),
         "version": (batch.job.order.version)
     })
-}
-
-/// The text of what is known of a batch.
-pub(crate) fn batch_text(alloc: Global, batch: &BatchView) -> Result<String, AllocError>
-    ensures { IfOk result (λ s. string_bytes s ≡ compact_text (batch_data batch.now)) }
-{
-    let value = batch_value(alloc, batch)?;
-    value.to_string(alloc)
 }

@@ -1,12 +1,10 @@
 //! The texts of the genealogy around a lot or batch.
-ghost use Rattle.std.specs.Prelude.{◌≡◌, IfOk, string_bytes};
+ghost use Rattle.std.specs.Prelude.{◌≡◌, IfOk};
 ghost use Rattle.serde_json.specs.View.{view};
-ghost use Rattle.serde_json.specs.Written.{compact_text};
 ghost use Rattle.plant_text_answers.specs.EdgeAnswers.{edge_item, genealogy_data, lot_node_data, node_item};
 
 use crate::list_answers::rows_value;
 use crate::listed_rows::Shown;
-use crate::trace_answers::node_value;
 use plant_desk::{BookedEdge, Genealogy, LotNode, NodeAnswer};
 use plant_trace::Node;
 use plant_view::ends;
@@ -28,7 +26,7 @@ impl Shown for NodeAnswer {
     fn value(&self, alloc: Global) -> Result<Value, AllocError> {
         match self {
             NodeAnswer::Lot(lot) => lot_node_value(alloc, lot),
-            NodeAnswer::Batch(id) => node_value(alloc, &Node::Batch(*id)),
+            NodeAnswer::Batch(id) => Node::Batch(*id).value(alloc),
         }
     }
 }
@@ -38,24 +36,17 @@ impl Shown for BookedEdge {
 
     fn value(&self, alloc: Global) -> Result<Value, AllocError> {
         let (from, to) = ends(&self.edge);
-        let from = node_value(alloc, &from)?;
-        let to = node_value(alloc, &to)?;
+        let from = from.value(alloc)?;
+        let to = to.value(alloc)?;
         json!(in alloc; {"amount": (self.amount), "from": from, "to": to})
     }
 }
 
-fn genealogy_value(alloc: Global, genealogy: &Genealogy) -> Result<Value, AllocError>
+/// What is shown of the genealogy around a lot or batch.
+pub(crate) fn genealogy_value(alloc: Global, genealogy: &Genealogy) -> Result<Value, AllocError>
     ensures { IfOk result (λ v. view v ≡ genealogy_data genealogy.now) }
 {
     let edges = rows_value(alloc, genealogy.edges.as_slice())?;
     let nodes = rows_value(alloc, genealogy.nodes.as_slice())?;
     json!(in alloc; {"edges": edges, "nodes": nodes})
-}
-
-/// The text of the genealogy around a lot or batch.
-pub(crate) fn genealogy_text(alloc: Global, genealogy: &Genealogy) -> Result<String, AllocError>
-    ensures { IfOk result (λ s. string_bytes s ≡ compact_text (genealogy_data genealogy.now)) }
-{
-    let value = genealogy_value(alloc, genealogy)?;
-    value.to_string(alloc)
 }

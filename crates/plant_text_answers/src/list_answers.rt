@@ -1,8 +1,7 @@
-//! The texts of pages of worklists.
-ghost use Rattle.std.specs.Prelude.{◌≡◌, map, IfOk, string_bytes};
+//! The values of pages of worklists.
+ghost use Rattle.std.specs.Prelude.{◌≡◌, map, IfOk};
 ghost use Rattle.serde_json.specs.Data.{array};
 ghost use Rattle.serde_json.specs.View.{view, items_of};
-ghost use Rattle.serde_json.specs.Written.{compact_text};
 ghost use Rattle.plant_text_answers.specs.ListAnswers.{orders_data, batches_data, lots_data, holds_data, recalls_data};
 ghost use Rattle.plant_text_answers.specs.ListAnswers.{definitions_data, recipes_data, ledger_data, listed_data};
 
@@ -83,7 +82,8 @@ fn ledger_value(alloc: Global, page: &Page<Movement>) -> Result<Value, AllocErro
     json!(in alloc; {"more": (page.has_more), "movements": rows})
 }
 
-fn listed_value(alloc: Global, listed: &Listed) -> Result<Value, AllocError>
+/// What is shown of a page of a worklist.
+pub(crate) fn listed_value(alloc: Global, listed: &Listed) -> Result<Value, AllocError>
     ensures { IfOk result (λ v. view v ≡ listed_data listed.now) }
 {
     match listed {
@@ -96,12 +96,4 @@ fn listed_value(alloc: Global, listed: &Listed) -> Result<Value, AllocError>
         Listed::Recipes(page) => recipes_value(alloc, page),
         Listed::Ledger(page) => ledger_value(alloc, page),
     }
-}
-
-/// The text of a page of a worklist.
-pub(crate) fn listed_text(alloc: Global, listed: &Listed) -> Result<String, AllocError>
-    ensures { IfOk result (λ s. string_bytes s ≡ compact_text (listed_data listed.now)) }
-{
-    let value = listed_value(alloc, listed)?;
-    value.to_string(alloc)
 }

@@ -4,7 +4,8 @@ ghost use Rattle.plant_view.specs.Genealogy.{batch_by};
 ghost use Rattle.plant_text_answers.specs.ListAnswers.{order_item, batch_item, lot_item, hold_item, recall_item, definition_item};
 ghost use Rattle.plant_text_answers.specs.ListAnswers.{recipe_item, movement_item, movement_word, other_sub};
 
-use crate::parts::{id_value, number_value, sublots_value};
+use crate::list_answers::rows_value;
+use crate::parts::{id_value, number_value};
 use plant_base::{Definition, Hold, Id, Job, Movement, MovementKind, Recall, Recipe};
 use plant_desk::{LotAnswer, OpenBatch};
 use plant_worklists::other_lot;
@@ -54,7 +55,7 @@ impl Shown for LotAnswer {
     ghost shows = { lot_item };
 
     fn value(&self, alloc: Global) -> Result<Value, AllocError> {
-        let sublots = sublots_value(alloc, self.sublots.as_slice())?;
+        let sublots = rows_value(alloc, self.sublots.as_slice())?;
         json!(in alloc; {
             "held": (self.held), "lot": (self.lot.as_str()), "stock": (self.stock), "sublots": sublots
         })

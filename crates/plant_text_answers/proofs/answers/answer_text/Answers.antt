@@ -1,0 +1,34 @@
+use Rattle.std.proofs.Common.{string_bytes, ◌∙◌, ap}
+use Rattle.plant_text_answers.specs.Answers.{text_of_answer}
+use Rattle.plant_text_answers.specs.LotAnswers.{stands_data}
+use Rattle.plant_text_answers.specs.TraceAnswers.{trace_data}
+use Rattle.plant_text_answers.proofs.Floats.{text_is, no_float_in_lot, no_float_in_batch, no_float_in_trace, no_float_in_stands, no_float_in_genealogy, no_float_in_recall, no_float_in_listed}
+use Rattle.plant_text_answers.proofs.answers.answer_text.Goals as goal
+
+pub returns-in_ok-lot_value-in-Lot : goal.returns-in_ok-lot_value-in-Lot
+unfolding text_of_answer
+returns-in_ok-lot_value-in-Lot c = rw c.in-Lot.is (text_is string_bytes _ _ _ c.in_ok-lot_value-in-Lot.ensures (no_float_in_lot c.in-Lot.lot) c.to_string-in-Lot.ensures.text)
+
+pub returns-in_ok-batch_value-in-Batch : goal.returns-in_ok-batch_value-in-Batch
+unfolding text_of_answer
+returns-in_ok-batch_value-in-Batch c = rw c.in-Batch.is (text_is string_bytes _ _ _ c.in_ok-batch_value-in-Batch.ensures (no_float_in_batch c.in-Batch.batch) c.to_string-in-Batch.ensures.text)
+
+pub returns-in_ok-trace_value-in-Trace : goal.returns-in_ok-trace_value-in-Trace
+unfolding text_of_answer
+returns-in_ok-trace_value-in-Trace c = rw c.in-Trace.is (text_is string_bytes _ _ _ (c.in_ok-trace_value-in-Trace.ensures ∙ ap trace_data c.as_slice.ensures) (no_float_in_trace c.in-Trace.nodes) c.to_string-in-Trace.ensures.text)
+
+pub returns-in_ok-stands_value-in-Stands : goal.returns-in_ok-stands_value-in-Stands
+unfolding text_of_answer
+returns-in_ok-stands_value-in-Stands c = rw c.in-Stands.is (text_is string_bytes _ _ _ (c.in_ok-stands_value-in-Stands.ensures ∙ ap stands_data c.as_slice-in-Stands.ensures) (no_float_in_stands c.in-Stands.lots) c.to_string-in-Stands.ensures.text)
+
+pub returns-in_ok-genealogy_value-in-Edges : goal.returns-in_ok-genealogy_value-in-Edges
+unfolding text_of_answer
+returns-in_ok-genealogy_value-in-Edges c = rw c.in-Edges.is (text_is string_bytes _ _ _ c.in_ok-genealogy_value-in-Edges.ensures (no_float_in_genealogy c.in-Edges.genealogy) c.to_string-in-Edges.ensures.text)
+
+pub returns-in_ok-recall_value-in-Recall : goal.returns-in_ok-recall_value-in-Recall
+unfolding text_of_answer
+returns-in_ok-recall_value-in-Recall c = rw c.in-Recall.is (text_is string_bytes _ _ _ c.in_ok-recall_value-in-Recall.ensures (no_float_in_recall c.in-Recall.recall) c.to_string-in-Recall.ensures.text)
+
+pub returns-in_ok-listed_value-in-List : goal.returns-in_ok-listed_value-in-List
+unfolding text_of_answer
+returns-in_ok-listed_value-in-List c = rw c.in-List.is (text_is string_bytes _ _ _ c.in_ok-listed_value-in-List.ensures (no_float_in_listed c.in-List.listed) c.to_string-in-List.ensures.text)

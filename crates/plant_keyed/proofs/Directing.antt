@@ -1,11 +1,10 @@
 -- Edges as a direction sees them, in the order of their near ends: what is found by halves is what begins at the node.
-use Rattle.table_forms.proofs.Apart.{order_of}
 use Rattle.std.proofs.Common.{◌⊎◌, ◌≡◌, ◌∙◌, ℕ, ◌+◌, ◌-◌, ◌<◌, ◌≤◌, true, false, List, [], ◌∷◌, map, filter, drop, length, get_or, slice_range, Contains, IsPermutation, refl, sym, ap, subst, inl, inr, arith}
 use Rattle.std.specs.List.Sorted.{IsNonDecreasingBy, IsPartitionPoint, IsPartitionedBy}
 use Rattle.std.specs.Ordering.{is_le, is_lt, ordering_index}
 use Rattle.std.specs.declared.cmp.Ordering.{Ordering}
 use Rattle.std.specs.declared.cmp.Ordering.TheVariants.{Less, Equal, Greater}
-use Rattle.std.proofs.lemmas.Bool.{false≢true}
+use Rattle.std.proofs.lemmas.Bool.{false≢true, cases_lt}
 use Rattle.std.proofs.lemmas.Cmp.{tied_itself}
 use Rattle.std.proofs.lemmas.List.{length-take, length-drop, get_or-take, get_or-drop}
 use Rattle.std.proofs.lemmas.List.Elements.{All-contains, All-contains_itself, All-drop, All-take}
@@ -76,11 +75,7 @@ module _ (x : Node) (links : List (Node × Node)) (from to : ℕ) (low : from �
       false≢true (sym (up_to.1 to d (omega arith) (omega (arith, low))) ∙ lt_le _ (before.0 to d (omega arith) less))
 
   pub in_turn : from ≤ to
-  in_turn = elim (order_of from to) [
-    | inl less ↦ omega (arith, less)
-    | inr (inl same) ↦ omega (arith, same)
-    | inr (inr more) ↦ absurd (crossed more)
-  ]
+  in_turn = elim (cases_lt to from) [ inl less ↦ absurd (crossed less) | inr after ↦ after ]
 
   abbrev part : List (Node × Node)
   part = slice_range links from to
@@ -97,19 +92,11 @@ module _ (x : Node) (links : List (Node × Node)) (from to : ℕ) (low : from �
       let at : (get_or links k p).0 ≡ x = ap (λ (l : Node × Node). l.0) is ∙ begins in
       let late : k < from → ⊥ = λ early. false≢true (sym itself ∙ ap (λ n. is_lt (node_cmp n x)) (sym at) ∙ before.0 k p (omega arith) early) in
       let early : to ≤ k → ⊥ = λ late. false≢true (sym (up_to.1 k p late within) ∙ ap (λ n. is_le (node_cmp n x)) at ∙ itself_too) in
-      elim (order_of k from) [
+      elim (cases_lt k from) [
         | inl less ↦ absurd (late less)
-        | inr not_less ↦ elim (order_of k to) [
-          | inr (inl same) ↦ absurd (early (omega (arith, same)))
-          | inr (inr more) ↦ absurd (early (omega (arith, more)))
-          | inl inside ↦ within_part p k within is (at_least k from not_less) inside
-        ]
+        | inr above ↦ elim (cases_lt k to) [ inl inside ↦ within_part p k within is above inside | inr past ↦ absurd (early past) ]
       ]
     where
-      at_least : (k from : ℕ) → (k ≡ from) ⊎ (from < k) → from ≤ k
-      at_least k from (inl same) = omega (arith, same)
-      at_least k from (inr more) = omega (arith, more)
-
       within_part : (p : Node × Node) (k : ℕ) → k < length links → get_or links k p ≡ p → from ≤ k → k < to → Contains part p
       within_part p k within is above inside =
           let long = length-take (to - from) (drop from links) in

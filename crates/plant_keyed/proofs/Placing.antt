@@ -47,14 +47,13 @@ use Rattle.plant_keyed.proofs.Listing.{by_number, by_text_number, number_cmp}
 use Rattle.plant_keyed.proofs.Paged.{page_again}
 use Rattle.plant_keyed.proofs.Shown.{movement_again}
 use Rattle.plant_keyed.proofs.Tests.{named_is, text_is}
+use Rattle.std.proofs.Math.Bool.{or-false, and-or_distrib_right}
 
 -- after the place of two values: with its first value and after its second, or after its first
 after : (s : Bool) (o p : Ordering) → ((s && (is_eq o && is_gt p)) || (s && is_gt o)) ≡ (s && is_gt (ordering_then o p))
 after false o p = refl
 after true Less p = refl
-after true Equal Less = refl
-after true Equal Equal = refl
-after true Equal Greater = refl
+after true Equal p = or-false (is_gt p)
 after true Greater p = refl
 
 module _ {R : Type 0} (row_from : Row → Option R) (written : R → Row) (P : R → Type 0) (again : (r : R) → P r → row_from (written r) ≡ Some r) (form : Form) (order : R → R → Ordering) (total : IsTotalOrder order)
@@ -124,12 +123,6 @@ in_ledger true true = refl
 in_ledger true false = refl
 in_ledger false b = refl
 
-in_either : (a c b : Bool) → ((a && b) || (c && b)) ≡ ((a || c) && b)
-in_either false c b = refl
-in_either true c true = refl
-in_either true true false = refl
-in_either true false false = refl
-
 named_so : (lot : List ℕ) (above : Option MovementPlace) (m : Movement) → ((same m.lot lot && is_movement_above above m) || (is_second lot m && is_movement_above above m)) ≡ is_in_ledger lot above m
 named_so lot above m = by m.kind
   where
@@ -137,13 +130,10 @@ named_so lot above m = by m.kind
     b = is_movement_above above m
 
     by : (k : MovementKind) → ((same m.lot lot && b) || (is_named lot (other_lot k m.lot) && b)) ≡ ((same m.lot lot || is_named lot (lot_made k)) && b)
-    by kind.Received = in_either (same m.lot lot) false b
-    by (kind.Consumed batch) = in_either (same m.lot lot) false b
-    by (kind.Produced batch) = in_either (same m.lot lot) false b
-    by kind.Scrapped = in_either (same m.lot lot) false b
     by (kind.Divided to) = in_ledger (same m.lot lot) b
-    by (kind.Split to) = in_either (same m.lot lot) (same to lot) b
-    by (kind.Merged to) = in_either (same m.lot lot) (same to lot) b
+    by (kind.Split to) = sym (and-or_distrib_right (same m.lot lot) (same to lot) b)
+    by (kind.Merged to) = sym (and-or_distrib_right (same m.lot lot) (same to lot) b)
+    by _ = sym (and-or_distrib_right (same m.lot lot) false b)
 
 -- ---- the tables of a good state
 

@@ -19,6 +19,7 @@ use Rattle.plant_tables_columns.specs.Kinds.{number, null_or}
 use Rattle.plant_tables_columns.specs.TableColumns.{row_of_movement}
 use Rattle.plant_tables.proofs.KeyTests.{and_true}
 use Rattle.plant_tables_judged.proofs.SortedLemmas.{int_cmp_pos}
+use Rattle.std.proofs.Math.Bool.{and-true, and_comm}
 
 pub text_is : (a b : List ℕ) → is_eq (value_cmp (Text a) (Text b)) ≡ same a b
 text_is a b = ap is_eq (value_cmp-Text a b) ∙ sym (texts_ties a b)
@@ -62,18 +63,12 @@ same_other _ lot = refl
 pub into_is : (m : Movement) (lot : List ℕ) → has_values (6 ∷ []) (Text lot ∷ []) (row_of_movement m) ≡ is_named lot (other_lot m.kind m.lot)
 into_is m lot = and_true _ ∙ named_is lot (column_lot m.kind m.lot) ∙ ap (is_named lot) (same_other m.kind m.lot)
 
-both : (a b : Bool) → (a && (b && true)) ≡ (b && a)
-both true true = refl
-both true false = refl
-both false true = refl
-both false false = refl
-
 -- a movement of a lot that scraps
 pub scrap_is : (m : Movement) (lot : List ℕ) → has_values (4 ∷ 3 ∷ []) (Text lot ∷ number 4 ∷ []) (row_of_movement m) ≡ (is_scrap m.kind && same m.lot lot)
 scrap_is m lot = by m.kind
   where
     kind_is : (k : ℕ) (b : Bool) → (k == 4) ≡ b → (is_eq (value_cmp (Text m.lot) (Text lot)) && (is_eq (value_cmp (number k) (number 4)) && true)) ≡ (b && same m.lot lot)
-    kind_is k b is = ap₂ (λ x y. x && (y && true)) (text_is m.lot lot) (number_is k 4 ∙ is) ∙ both (same m.lot lot) b
+    kind_is k b is = ap₂ (λ x y. x && (y && true)) (text_is m.lot lot) (number_is k 4 ∙ is) ∙ (ap (λ x. same m.lot lot && x) (and-true b) ∙ and_comm (same m.lot lot) b)
 
     by : (k : MovementKind) → has_values (4 ∷ 3 ∷ []) (Text lot ∷ number 4 ∷ []) (row_of_movement (record m { kind = k })) ≡ (is_scrap k && same m.lot lot)
     by kind.Received = kind_is 1 false refl

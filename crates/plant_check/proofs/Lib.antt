@@ -1,2 +1,3 @@
+pub mod BookedEnds
 pub mod Cycles
 pub mod EdgeSets

@@ -29,7 +29,7 @@ use Rattle.plant_check.specs.Lots.{are_from_zero, sublots_among, is_right_lot, i
 use Rattle.plant_view.specs.Tables.{place_of_row}
 use Rattle.plant_good_found.proofs.Counted.{counted}
 use Rattle.plant_good_found.proofs.Members.{IsIn, all_in, pass_at}
-use Rattle.plant_good_found.proofs.Stocks.{same_entries}
+use Rattle.plant_check.proofs.BookedEnds.{entries_booked}
 
 -- one that is there is found
 any_found : {X : Type 0} (p : X → Bool) (xs : List X) → list_any p xs ≡ true → is_some (find p xs) ≡ true
@@ -101,7 +101,7 @@ record IsBornBy (ms : List Movement) (s : Sublot) : Type 0 where
 born_by : (ms : List Movement) (s : Sublot) → is_born (map booked_of ms) s ≡ true → IsBornBy ms s
 born_by ms s e =
     let own : (if s.number == 0 then is_one_birth (map booked_of (stock.entries ms s.lot s.number)) else is_one_division (map booked_of (stock.entries ms s.lot s.number))) ≡ true =
-    (λ i. if s.number == 0 then is_one_birth (sym (same_entries ms s.lot s.number) i) else is_one_division (sym (same_entries ms s.lot s.number) i)) ∙ e in
+    (λ i. if s.number == 0 then is_one_birth (sym (entries_booked ms s.lot s.number) i) else is_one_division (sym (entries_booked ms s.lot s.number) i)) ∙ e in
     record {
       whole = λ z. ap (λ b. if b then is_one_birth (map booked_of (stock.entries ms s.lot s.number)) else is_one_division (map booked_of (stock.entries ms s.lot s.number))) (sym (eq-eqb s.number 0 z)) ∙ own;
       divided = λ l. ap (λ b. if b then is_one_birth (map booked_of (stock.entries ms s.lot s.number)) else is_one_division (map booked_of (stock.entries ms s.lot s.number))) (sym (not_zero l)) ∙ own;

@@ -1,5 +1,7 @@
 -- Lines and progresses that `==` calls equal are one.
-use Rattle.std.proofs.Common.{◌≡◌, true, List, [], ◌∷◌, Option, Some, None, refl, ap, eqb-true}
+use denote.Enum.Bare.{same_true}
+use Rattle.plant_base.specs.contracts.states.BatchState.{the_type}
+use Rattle.std.proofs.Common.{rules, ◌≡◌, true, List, [], ◌∷◌, Option, Some, None, refl, ap, eqb-true}
 use Rattle.std.proofs.Math.Bool.{beq}
 use Rattle.std.specs.Prelude.{◌&&◌, ◌==◌}
 use Rattle.std.specs.Cmp.{booleans_Decides}
@@ -11,7 +13,6 @@ use Rattle.plant_base.specs.contracts.states.BatchStatePartialEq.TheImpl.{ghosts
 use Rattle.plant_base.specs.declared.rows.RecipeLine.{RecipeLine}
 use Rattle.plant_base.specs.declared.rows.RecipeLine.TheVariants as line
 use Rattle.plant_base.specs.declared.states.BatchState.{BatchState}
-use Rattle.plant_base.specs.declared.states.BatchState.TheVariants as state
 use Rattle.plant_base.proofs.Keys.{same_id, same_key}
 use Rattle.plant_recipe.specs.contracts.progress.ProgressPartialEq.TheImpl.{ghosts as equal_progress}
 use Rattle.plant_recipe.specs.declared.progress.Progress.{Progress}
@@ -52,19 +53,7 @@ control_is (Some control) lines h = ap Some (one_list control lines h)
 -- ---- progresses
 
 one_state : (a b : BatchState) → equal_state.eq a b ≡ true → a ≡ b
-one_state state.Idle state.Idle h = refl
-one_state state.Running state.Running h = refl
-one_state state.Complete state.Complete h = refl
-one_state state.Pausing state.Pausing h = refl
-one_state state.Paused state.Paused h = refl
-one_state state.Holding state.Holding h = refl
-one_state state.Held state.Held h = refl
-one_state state.Restarting state.Restarting h = refl
-one_state state.Stopping state.Stopping h = refl
-one_state state.Stopped state.Stopped h = refl
-one_state state.Aborting state.Aborting h = refl
-one_state state.Aborted state.Aborted h = refl
-one_state a b h = absurd (false≢true h)
+one_state a b h = same_true the_type (search rules) a b h
 
 pub one_progress : (p q : Progress) → equal_progress.eq p q ≡ true → p ≡ q
 one_progress p q h =

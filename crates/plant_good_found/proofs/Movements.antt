@@ -39,7 +39,8 @@ use Rattle.plant_good_found.specs.Restoring.{state_in}
 use Rattle.plant_good_found.proofs.Histories.{joined_again}
 use Rattle.plant_good_found.proofs.Lots.{small_birth, one_division}
 use Rattle.plant_good_found.proofs.Members.{IsIn, all_in, pass_at, any_in, finds, found_in, in_map}
-use Rattle.plant_good_found.proofs.Stocks.{movement_exits, entered_of, left_of, stock_is}
+use Rattle.plant_check.proofs.BookedEnds.{amount_entered, amount_left}
+use Rattle.plant_good_found.proofs.Stocks.{stock_is}
 
 -- ---- one movement
 
@@ -142,13 +143,13 @@ module _ (r : Rows) (tests : are_movements r.lots r.sublots r.batches r.control_
     never_entered =
         let no_entry : flows.entries (movements_in r.movements) lot number ≡ [] = none_left (λ (m : Movement). is_place (goes_to m.kind m.lot m.sub) lot number) (movements_in r.movements)
         (all_in (λ (m : Movement). is_place (goes_to m.kind m.lot m.sub) lot number ≡ false) (movements_in r.movements) (λ m h. not_there (goes_to m.kind m.lot m.sub) (goes m h) (is_place (goes_to m.kind m.lot m.sub) lot number) refl)) in
-        sym (entered_of (movements_in r.movements) lot number) ∙ ap (λ es. total_booked (map booked_of es)) no_entry
+        sym (amount_entered (movements_in r.movements) lot number) ∙ ap (λ es. total_booked (map booked_of es)) no_entry
 
     never_left : left (movements_in r.movements) lot number ≡ 0
     never_left =
-        let no_exit : movement_exits (movements_in r.movements) lot number ≡ [] = none_left (λ (m : Movement). is_place (comes_from m.kind m.lot m.sub) lot number) (movements_in r.movements)
+        let no_exit = none_left (λ (m : Movement). is_place (comes_from m.kind m.lot m.sub) lot number) (movements_in r.movements)
         (all_in (λ (m : Movement). is_place (comes_from m.kind m.lot m.sub) lot number ≡ false) (movements_in r.movements) (λ m h. not_there (comes_from m.kind m.lot m.sub) (comes m h) (is_place (comes_from m.kind m.lot m.sub) lot number) refl)) in
-        sym (left_of (movements_in r.movements) lot number) ∙ ap (λ es. total_booked (map booked_of es)) no_exit
+        sym (amount_left (movements_in r.movements) lot number) ∙ ap (λ (es : List Movement). total_booked (map booked_of es)) no_exit
 
   -- ---- stocks
 
@@ -192,5 +193,5 @@ module _ (r : Rows) (tests : are_movements r.lots r.sublots r.batches r.control_
           by (Some s) e =
               let found = found_in (λ (s : Sublot). same s.lot lot && s.number == number) r.sublots s e in
               let key = same_key s.lot lot s.number number found.1 in
-              let own : entered (movements_in r.movements) s.lot s.number ≤ greatest_amount = subst (λ n. n ≤ greatest_amount) (entered_of (movements_in r.movements) s.lot s.number) (divided s.number s found.0 refl) in
+              let own : entered (movements_in r.movements) s.lot s.number ≤ greatest_amount = subst (λ n. n ≤ greatest_amount) (amount_entered (movements_in r.movements) s.lot s.number) (divided s.number s found.0 refl) in
               subst (λ l. entered (movements_in r.movements) l number ≤ greatest_amount) key.0 (subst (λ n. entered (movements_in r.movements) s.lot n ≤ greatest_amount) key.1 own)

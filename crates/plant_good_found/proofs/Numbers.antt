@@ -162,8 +162,8 @@ module _ (ms : List Movement) (merges : (m : Movement) → IsIn m ms → is_of_r
 
 -- ---- all of it
 
-given : (greatest seq : ℕ) → is_given greatest seq ≡ true → (1 ≤ seq) × (seq ≤ greatest)
-given greatest seq e = (leb-true 1 seq (and_left (nat_le 1 seq) (nat_le seq greatest) e), leb-true seq greatest (and_right (nat_le 1 seq) (nat_le seq greatest) e))
+pub given_in : (greatest seq : ℕ) → is_given greatest seq ≡ true → (1 ≤ seq) × (seq ≤ greatest)
+given_in greatest seq e = (leb-true 1 seq (and_left (nat_le 1 seq) (nat_le seq greatest) e), leb-true seq greatest (and_right (nat_le 1 seq) (nat_le seq greatest) e))
 
 before_it : (ms : List Movement) (seq : ℕ) (k : Option (List ℕ × ℕ)) → is_entered_before ms seq k ≡ true → IsEnteredBefore ms seq k
 before_it ms seq None e = tt
@@ -211,8 +211,8 @@ module _ (greatest : ℕ) (events : List BatchEvent) (ms : List Movement) (tests
   sound_numbers sorted events_sorted merges = record {
     movements = sorted;
     events = events_sorted;
-    movements_given = all_in (λ (m : Movement). (1 ≤ m.seq) × (m.seq ≤ greatest)) ms (λ m h. given greatest m.seq (tested m h).given);
-    events_given = all_weaker (λ (e : BatchEvent). is_given greatest e.seq ≡ true) (λ e. (1 ≤ e.seq) × (e.seq ≤ greatest)) (λ e h. given greatest e.seq h) events
+    movements_given = all_in (λ (m : Movement). (1 ≤ m.seq) × (m.seq ≤ greatest)) ms (λ m h. given_in greatest m.seq (tested m h).given);
+    events_given = all_weaker (λ (e : BatchEvent). is_given greatest e.seq ≡ true) (λ e. (1 ≤ e.seq) × (e.seq ≤ greatest)) (λ e h. given_in greatest e.seq h) events
         (each_passes (λ (e : BatchEvent). is_given greatest e.seq) events (and_right (are_lines None ms && list_all (has_right_number greatest events ms) ms) (list_all (λ e. is_given greatest e.seq) events) tests));
     apart = all_in (λ (m : Movement). AllByRecursion (λ (e : BatchEvent). (m.seq == e.seq) ≡ false) events) ms (λ m h. apart_from events m (tested m h).apart);
     bookings = λ number. booking ms merges number (booked ms number) refl (are_booked number None ms tt lines_pass sorted);

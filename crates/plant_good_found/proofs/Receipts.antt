@@ -1,26 +1,19 @@
 -- Receipts that keep their rule are good.
-use Rattle.std.proofs.Common.{◌≡◌, ◌≤◌, ℕ, Bool, true, false, List, [], ◌∷◌, refl, sym, arith}
-use Rattle.std.specs.Prelude.{not, ◌||◌, ◌==◌}
+use Rattle.std.proofs.Common.{◌≡◌, ◌∙◌, ◌≤◌, ℕ, true, false, List, [], ◌∷◌, sym}
+use Rattle.std.specs.Prelude.{not, ◌==◌}
 use Rattle.std.specs.List.{AllByRecursion, list_all, list_any}
 use Rattle.std.specs.List.Sorted.{IsStrictlySortedBy}
-use Rattle.std.proofs.lemmas.Bool.{false≢true}
-use Rattle.std.proofs.lemmas.Bool.Decides.{nat_tests}
 use Rattle.plant_base.specs.Content.{is_content, is_content_byte, is_there}
 use Rattle.plant_base.specs.State.{receipt_order}
 use Rattle.plant_base.specs.Values.{is_id}
 use Rattle.plant_base.specs.declared.rows.Receipt.{Receipt}
 use Rattle.plant_base.proofs.Put.{all_weaker}
 use Rattle.plant_view.proofs.KeptSound.{all_two}
-use Rattle.plant_view.proofs.Tests.{and_left, and_right}
+use Rattle.plant_view.proofs.Tests.{and_left, and_right, not_true, each_fails, any_map}
 use Rattle.plant_good.specs.Receipts.{HasReceiptValues, AreApart, AreGoodReceipts}
 use Rattle.plant_check_stock.specs.Numbering.{is_given}
 use Rattle.plant_check_stock.specs.Receipts.{is_right_receipt, are_distinct, seqs_of, are_receipts}
-
-at_least : (greatest n : ℕ) → is_given greatest n ≡ true → 1 ≤ n
-at_least greatest n h = grind (arith, nat_tests)
-
-at_most : (greatest n : ℕ) → is_given greatest n ≡ true → n ≤ greatest
-at_most greatest n h = grind (arith, nat_tests)
+use Rattle.plant_good_found.proofs.Numbers.{given_in}
 
 -- a receipt that passes
 record IsRight (greatest : ℕ) (r : Receipt) : Type 0 where
@@ -32,7 +25,7 @@ right greatest [] h = tt
 right greatest (r ∷ rs) h =
     let first = and_left (is_right_receipt greatest r) (list_all (is_right_receipt greatest) rs) h in
     let given = and_left (is_given greatest r.seq) (is_content r.content) first in (
-      record { given = (at_least greatest r.seq given, at_most greatest r.seq given); content = and_right (is_given greatest r.seq) (is_content r.content) first },
+      record { given = given_in greatest r.seq given; content = and_right (is_given greatest r.seq) (is_content r.content) first },
       right greatest rs (and_right (is_right_receipt greatest r) (list_all (is_right_receipt greatest) rs) h),
     )
 
@@ -42,23 +35,14 @@ contents_there greatest rs h =
     all_weaker (IsRight greatest) _ (λ (r : Receipt) right. and_left (is_there r.content) (list_all is_content_byte r.content) right.content) rs
     (right greatest rs (and_left (list_all (is_right_receipt greatest) rs) (are_distinct (seqs_of rs)) h))
 
-is_false : (b : Bool) → not b ≡ true → b ≡ false
-is_false true e = absurd (false≢true e)
-is_false false e = refl
-
-neither : (a b : Bool) → (a || b) ≡ false → (a ≡ false) × (b ≡ false)
-neither true b e = absurd (false≢true (sym e))
-neither false b e = (refl, e)
-
 apart_from : (n : ℕ) (rs : List Receipt) → list_any (λ m. n == m) (seqs_of rs) ≡ false → AllByRecursion (λ q. (n == q.seq) ≡ false) rs
-apart_from n [] h = tt
-apart_from n (r ∷ rs) h = let p = neither (n == r.seq) (list_any (λ m. n == m) (seqs_of rs)) h in (p.0, apart_from n rs p.1)
+apart_from n rs h = each_fails (λ (q : Receipt). n == q.seq) rs (sym (any_map (λ m. n == m) (λ (q : Receipt). q.seq) rs) ∙ h)
 
 apart : (rs : List Receipt) → are_distinct (seqs_of rs) ≡ true → AreApart rs
 apart [] h = tt
 apart (r ∷ rs) h =
     let new = not (list_any (λ m. r.seq == m) (seqs_of rs)) in
-    (apart_from r.seq rs (is_false _ (and_left new (are_distinct (seqs_of rs)) h)), apart rs (and_right new (are_distinct (seqs_of rs)) h))
+    (apart_from r.seq rs (not_true _ (and_left new (are_distinct (seqs_of rs)) h)), apart rs (and_right new (are_distinct (seqs_of rs)) h))
 
 pub good_receipts : (greatest : ℕ) (rs : List Receipt) → IsStrictlySortedBy receipt_order rs → AllByRecursion (λ r. is_id r.reference ≡ true) rs → are_receipts greatest rs ≡ true → AreGoodReceipts greatest rs
 good_receipts greatest rs sorted named h =

@@ -31,7 +31,8 @@ use Rattle.plant_view.proofs.Rows.{all_mapped, all_unmapped, find_mapped}
 use Rattle.plant_check_plans.specs.Batches.{control_sized, control_where_formed, control_of_found, control_asked_for, is_control, is_row_among, is_right_batch, are_batches}
 use Rattle.plant_check_plans.specs.Orders.{recipe_among}
 use Rattle.plant_check_plans.specs.Recipes.{are_numbered}
-use Rattle.plant_good_passes.proofs.Testing.{all_pass, filter_mapped, AreApart, one_left, ids_apart, numbers_pass}
+use Rattle.plant_check.proofs.BookedEnds.{filter_mapped}
+use Rattle.plant_good_passes.proofs.Testing.{all_pass, AreApart, one_left, ids_apart, numbers_pass}
 use Rattle.plant_good_passes.proofs.Orders.{header_found, sizes_pass}
 use Rattle.plant_good_passes.proofs.Events.{batch_there}
 

@@ -28,8 +28,8 @@ use Rattle.plant_tables_columns.specs.Booked.{booked_of, sort_of}
 use Rattle.plant_tables_columns.specs.declared.booked.BookedRow.{BookedRow}
 use Rattle.plant_check.specs.Ends.{entries, total_booked}
 use Rattle.plant_check.specs.Lots.{are_from_zero, sublots_among, is_right_lot, is_division_sort, are_of_one_sort, is_of_one_birth, is_one_birth, is_one_division, is_born, is_lot_among, is_right_sublot, are_lots}
-use Rattle.plant_good_passes.proofs.Testing.{all_pass, any_found, filter_mapped}
-use Rattle.plant_good_passes.proofs.Stocks.{entries_booked, total_entered}
+use Rattle.plant_check.proofs.BookedEnds.{filter_mapped, entries_booked, amount_entered}
+use Rattle.plant_good_passes.proofs.Testing.{all_pass, any_found}
 
 -- numbers that count pass the test that they do
 counted_pass : (k : ℕ) (ns : List ℕ) → AreCounted k ns → are_numbered k ns ≡ true
@@ -76,7 +76,7 @@ module _ (s : State) (good : IsGood s) where
   birth_told p birth =
       let booked = entries_booked s.movements p.lot p.number in
       ap is_one_birth booked
-      ∙ birth_passes (stock.entries s.movements p.lot p.number) birth (subst (λ n. n ≤ greatest_amount) (sym (total_entered s.movements p.lot p.number) ∙ ap total_booked booked) (good.sound.small p.lot p.number))
+      ∙ birth_passes (stock.entries s.movements p.lot p.number) birth (subst (λ n. n ≤ greatest_amount) (sym (amount_entered s.movements p.lot p.number)) (good.sound.small p.lot p.number))
 
   born_passes : (p : Place) → kept.IsBorn s.movements p → is_born rows (sublot_row s.movements p) ≡ true
   born_passes p born = by (p.number == 0) refl

@@ -140,7 +140,7 @@ lines_pass (m ∷ ms) sorted bookings =
 
 -- ---- each number
 
-given_passes : (greatest n : ℕ) → (1 ≤ n) × (n ≤ greatest) → is_given greatest n ≡ true
+pub given_passes : (greatest n : ℕ) → (1 ≤ n) × (n ≤ greatest) → is_given greatest n ≡ true
 given_passes greatest n given = and_from _ _ (le-leb 1 n given.0) (le-leb n greatest given.1)
 
 apart_passes : (events : List BatchEvent) (m : Movement) → AllByRecursion (λ e. (m.seq == e.seq) ≡ false) events → is_apart events m ≡ true

@@ -1,23 +1,20 @@
 -- The receipts of a good state keep their rule.
-use Rattle.std.proofs.Common.{◌≡◌, ◌≤◌, ℕ, Bool, true, false, List, [], ◌∷◌, refl, arith}
-use Rattle.std.specs.Prelude.{not, ◌&&◌, ◌||◌, ◌==◌, if◌then◌else◌}
+use Rattle.std.proofs.Common.{◌≡◌, ◌∙◌, ◌≤◌, ℕ, Bool, true, false, List, [], ◌∷◌, refl}
+use Rattle.std.specs.Prelude.{not, ◌&&◌, ◌==◌, if◌then◌else◌}
 use Rattle.std.specs.List.{AllByRecursion, list_all, list_any}
-use Rattle.std.proofs.lemmas.Bool.Decides.{nat_tests}
 use Rattle.plant_base.specs.declared.rows.Receipt.{Receipt}
+use Rattle.plant_view.proofs.Tests.{any_map}
 use Rattle.plant_good.specs.Receipts.{HasReceiptValues, AreApart, AreGoodReceipts}
-use Rattle.plant_check_stock.specs.Numbering.{is_given}
 use Rattle.plant_check_stock.specs.Receipts.{is_right_receipt, are_distinct, seqs_of, are_receipts}
-
-given : (greatest n : ℕ) → 1 ≤ n → n ≤ greatest → is_given greatest n ≡ true
-given greatest n low high = grind (arith, nat_tests)
+use Rattle.plant_good_passes.proofs.Numbers.{given_passes}
+use Rattle.plant_good_passes.proofs.Testing.{none_any}
 
 right : (greatest : ℕ) (rs : List Receipt) → AllByRecursion HasReceiptValues rs → AllByRecursion (λ r. (1 ≤ r.seq) × (r.seq ≤ greatest)) rs → list_all (is_right_receipt greatest) rs ≡ true
 right greatest [] v g = refl
-right greatest (r ∷ rs) v g = λ i. (given greatest r.seq g.0.0 g.0.1 i && v.0.content i) && right greatest rs v.1 g.1 i
+right greatest (r ∷ rs) v g = λ i. (given_passes greatest r.seq g.0 i && v.0.content i) && right greatest rs v.1 g.1 i
 
 none_same : (n : ℕ) (rs : List Receipt) → AllByRecursion (λ q. (n == q.seq) ≡ false) rs → list_any (λ m. n == m) (seqs_of rs) ≡ false
-none_same n [] a = refl
-none_same n (r ∷ rs) a = λ i. a.0 i || none_same n rs a.1 i
+none_same n rs a = any_map (λ m. n == m) (λ (q : Receipt). q.seq) rs ∙ none_any (λ (q : Receipt). n == q.seq) rs a
 
 distinct : (rs : List Receipt) → AreApart rs → are_distinct (seqs_of rs) ≡ true
 distinct [] a = refl

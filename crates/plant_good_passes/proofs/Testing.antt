@@ -30,14 +30,6 @@ none_any test (x ∷ xs) a = ap (λ b. b || list_any test xs) a.0 ∙ none_any t
 pub any_found : {X : Type 0} (test : X → Bool) (xs : List X) → is_some (find test xs) ≡ true → list_any test xs ≡ true
 any_found test xs e = sym (found_any test xs) ∙ e
 
--- the rows that pass, of rows that were made
-pub filter_mapped : {X Y : Type 0} (test : Y → Bool) (f : X → Y) (xs : List X) → filter test (map f xs) ≡ map f (filter (λ x. test (f x)) xs)
-filter_mapped test f [] = refl
-filter_mapped test f (x ∷ xs) = elim (test (f x)) as (λ b. cond b (f x ∷ filter test (map f xs)) (filter test (map f xs)) ≡ map f (cond b (x ∷ filter (λ y. test (f y)) xs) (filter (λ y. test (f y)) xs))) [
-  | true ↦ ap (λ ys. f x ∷ ys) (filter_mapped test f xs)
-  | false ↦ filter_mapped test f xs
-]
-
 -- where one passes it is the one that is found
 pub found_left : {X : Type 0} (test : X → Bool) (xs : List X) (x : X) (ys : List X) → filter test xs ≡ x ∷ ys → find test xs ≡ Some x
 found_left test [] x ys e = absurd cc

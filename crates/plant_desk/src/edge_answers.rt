@@ -1,6 +1,5 @@
 // What is answered of the genealogy around a lot or batch.
 ghost use Rattle.std.specs.Prelude.{◌≡◌, IfOk, option_map};
-ghost use Rattle.std.specs.List.{filter_map};
 ghost use Rattle.plant_base.specs.State.{State, definition_at};
 ghost use Rattle.plant_base.specs.declared.rows.Lot.{Lot};
 ghost use Rattle.plant_trace.specs.Sources.{HonestlyTold};
@@ -15,7 +14,7 @@ ghost use Rattle.plant_desk.specs.declared.question.Answer.TheVariants as A;
 
 use crate::around::nodes_around;
 use crate::booked::edges_between;
-use crate::bookings::push_found;
+use crate::each_told::{Telling, each_told};
 use crate::genealogy::{Genealogy, LotNode, NodeAnswer};
 use crate::known_lots::{KnownLots, known_definition, known_lot, known_row};
 use crate::question::{Answer, LotAnswer};
@@ -71,7 +70,7 @@ fn genealogy_around<V: Worklists>(
         → IfOk result (λ g. g ≡ genealogy_around (V.state view.old) direction start)) }
 {
     let around = nodes_around(alloc, view, direction, start)?;
-    let nodes = node_answers(alloc, view, around.as_slice())?;
+    let nodes = each_told(alloc, view, around.as_slice())?;
     let edges = edges_between(alloc, view, around.as_slice())?;
     Ok(Genealogy {
         nodes: Items::new(nodes),
@@ -79,44 +78,22 @@ fn genealogy_around<V: Worklists>(
     })
 }
 
-// What is known of the nodes.
-fn node_answers<V: Worklists>(
-    alloc: Global,
-    view: &mut V,
-    nodes: &[Node],
-) -> Result<Vec<NodeAnswer>, ViewFault<V::Fault>>
-    ensures { HonestlyTold V.honest V.kept V.steady view.old view.new
-        (IsSound (V.state view.old)
-        → IfOk result (λ v. v.items ≡ filter_map (node_answer (V.state view.old)) nodes.now)) }
-{
-    let mut known = KnownLots::new(alloc);
-    let mut rows = Vec::new(alloc);
-    for node in nodes {
-        let found = node_answer(alloc, view, &mut known, *node)?;
-        if push_found(&mut rows, found).is_err() {
-            return Err(ViewFault::Memory);
-        }
-    }
-    Ok(rows)
-}
+impl Telling<NodeAnswer> for Node {
+    ghost told = { node_answer };
 
-fn node_answer<V: Worklists>(
-    alloc: Global,
-    view: &mut V,
-    known: &mut KnownLots,
-    node: Node,
-) -> Result<Option<NodeAnswer>, ViewFault<V::Fault>>
-    ensures { HonestlyTold V.honest V.kept V.steady view.old view.new
-        (IsSound (V.state view.old) → AreKnown (V.state view.old) known.old
-        → IfOk result (λ found. found ≡ node_answer (V.state view.old) node)
-        × AreKnown (V.state view.old) known.new) }
-{
-    match node {
-        Node::Lot(id) => {
-            let lot = known_row(view, known, &id)?;
-            node_if(alloc, view, known, lot)
+    fn tell<V: Worklists>(
+        &self,
+        alloc: Global,
+        view: &mut V,
+        known: &mut KnownLots,
+    ) -> Result<Option<NodeAnswer>, ViewFault<V::Fault>> {
+        match self {
+            Node::Lot(id) => {
+                let lot = known_row(view, known, id)?;
+                node_if(alloc, view, known, lot)
+            }
+            Node::Batch(id) => Ok(Some(NodeAnswer::Batch(*id))),
         }
-        Node::Batch(id) => Ok(Some(NodeAnswer::Batch(id))),
     }
 }
 

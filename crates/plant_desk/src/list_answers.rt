@@ -16,7 +16,7 @@ use crate::question::Answer;
 use crate::stocked_lots::lots_answer;
 use plant_base::{Class, Definition, Hold, Id, JobState, Lot, Movement, RecipeState, Refusal};
 use plant_view::{ViewFault, look};
-use plant_worklists::{MovementPlace, Page, RecipePlace, Worklist, Worklists, pages};
+use plant_worklists::{MovementPlace, Page, RecipePlace, Worklist, Worklists};
 use std::alloc::Global;
 
 /// A page of a worklist: what comes after an id, or its front where none is given.
@@ -49,7 +49,7 @@ fn orders_answer<V: Worklists>(
         (IfOk result (λ a. a
         ≡ A.List (listed.Orders (page_of (orders_in (V.state view.old) state above))))) }
 {
-    let page = pages::orders_in(view, state, above)?;
+    let page = view.orders_in(state, above).map_err(ViewFault::View)?;
     Ok(Answer::List(Listed::Orders(page)))
 }
 
@@ -61,7 +61,7 @@ fn recalls_answer<V: Worklists>(
         (IfOk result (λ a. a
         ≡ A.List (listed.Recalls (page_of (open_recalls (V.state view.old) above))))) }
 {
-    let page = pages::open_recalls(view, above)?;
+    let page = view.open_recalls(above).map_err(ViewFault::View)?;
     Ok(Answer::List(Listed::Recalls(page)))
 }
 
@@ -75,7 +75,7 @@ fn holds_answer<V: Worklists>(
         (lot_at (V.state view.old) lot))) }
 {
     let known = look::lot(view, lot)?;
-    let page = pages::holds_on(view, lot, above)?;
+    let page = view.holds_on(lot, above).map_err(ViewFault::View)?;
     Ok(answer_of_holds(known, page))
 }
 
@@ -100,7 +100,7 @@ fn definitions_answer<V: Worklists>(
         (class_at (V.state view.old) class))) }
 {
     let known = look::class(view, class)?;
-    let page = pages::definitions_in(view, class, above)?;
+    let page = view.definitions_in(class, above).map_err(ViewFault::View)?;
     Ok(answer_of_definitions(known, page))
 }
 
@@ -124,7 +124,7 @@ pub(crate) fn recipes_answer<V: Worklists>(
     ensures { HonestlyTold V.honest V.kept V.steady view.old view.new
         (IfOk result (λ a. a ≡ answer_recipes (V.state view.old) state above)) }
 {
-    let page = pages::recipes_in(view, state, above)?;
+    let page = view.recipes_in(state, above).map_err(ViewFault::View)?;
     Ok(Answer::List(Listed::Recipes(page)))
 }
 
@@ -139,7 +139,7 @@ pub(crate) fn ledger_answer<V: Worklists>(
         (lot_at (V.state view.old) lot))) }
 {
     let known = look::lot(view, lot)?;
-    let page = pages::ledger_of(view, lot, above)?;
+    let page = view.ledger_of(lot, above).map_err(ViewFault::View)?;
     Ok(answer_of_ledger(known, page))
 }
 

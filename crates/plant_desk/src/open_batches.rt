@@ -12,7 +12,7 @@ use crate::listed::{Listed, OpenBatch};
 use crate::question::Answer;
 use plant_base::{BatchRow, ControlLine, Id, Items, RecipeLine};
 use plant_view::{View, ViewFault, look};
-use plant_worklists::{Page, Worklists, pages};
+use plant_worklists::{Page, Worklists};
 use std::alloc::{AllocError, Global};
 
 /// A page of the batches that aren't closed, each with the phase that is next.
@@ -25,7 +25,7 @@ pub(crate) fn batches_answer<V: Worklists>(
         (IfOk result (λ a. a ≡ A.List (listed.Batches (batch_page (V.state view.old)
         (page_of (open_batches (V.state view.old) above)))))) }
 {
-    let page = pages::open_batches(view, above)?;
+    let page = view.open_batches(above).map_err(ViewFault::View)?;
     let rows = with_phases(alloc, view, page.rows.as_slice())?;
     Ok(Answer::List(Listed::Batches(Page {
         rows: Items::new(rows),

@@ -1,6 +1,5 @@
 // Where the goods of a lot or batch stand.
 ghost use Rattle.std.specs.Prelude.{◌≡◌, IfOk};
-ghost use Rattle.std.specs.List.{filter_map};
 ghost use Rattle.plant_trace.specs.Sources.{HonestlyTold};
 ghost use Rattle.plant_view.specs.Sound.{IsSound};
 ghost use Rattle.plant_desk.specs.Around.{answer_stands, lots_standing, stocked_at, stocked_if};
@@ -8,10 +7,9 @@ ghost use Rattle.plant_desk.specs.KnownLots.{AreKnown};
 ghost use Rattle.plant_desk.specs.Traces.{missing};
 
 use crate::around::nodes_around;
-use crate::bookings::push_found;
-use crate::known_lots::{KnownLots, known_lot, known_row};
+use crate::each_told::{Telling, each_told};
+use crate::known_lots::{KnownLots, known_row};
 use crate::question::{Answer, LotAnswer};
-use crate::stocked_lots::if_stocked;
 use crate::traces::missing;
 use plant_base::{Items, Lot};
 use plant_trace::{Direction, Node};
@@ -45,47 +43,25 @@ fn lots_standing<V: Worklists>(
         → IfOk result (λ v. v.items ≡ lots_standing (V.state view.old) start)) }
 {
     let nodes = nodes_around(alloc, view, Direction::Forward, start)?;
-    stocked_among(alloc, view, nodes.as_slice())
+    each_told(alloc, view, nodes.as_slice())
 }
 
-// What is known of those of the nodes that are lots with stock.
-fn stocked_among<V: Worklists>(
-    alloc: Global,
-    view: &mut V,
-    nodes: &[Node],
-) -> Result<Vec<LotAnswer>, ViewFault<V::Fault>>
-    ensures { HonestlyTold V.honest V.kept V.steady view.old view.new
-        (IsSound (V.state view.old)
-        → IfOk result (λ v. v.items ≡ filter_map (stocked_at (V.state view.old)) nodes.now)) }
-{
-    let mut known = KnownLots::new(alloc);
-    let mut rows = Vec::new(alloc);
-    for node in nodes {
-        let found = stocked_at(alloc, view, &mut known, *node)?;
-        if push_found(&mut rows, found).is_err() {
-            return Err(ViewFault::Memory);
-        }
-    }
-    Ok(rows)
-}
+impl Telling<LotAnswer> for Node {
+    ghost told = { stocked_at };
 
-fn stocked_at<V: Worklists>(
-    alloc: Global,
-    view: &mut V,
-    known: &mut KnownLots,
-    node: Node,
-) -> Result<Option<LotAnswer>, ViewFault<V::Fault>>
-    ensures { HonestlyTold V.honest V.kept V.steady view.old view.new
-        (IsSound (V.state view.old) → AreKnown (V.state view.old) known.old
-        → IfOk result (λ found. found ≡ stocked_at (V.state view.old) node)
-        × AreKnown (V.state view.old) known.new) }
-{
-    match node {
-        Node::Lot(id) => {
-            let lot = known_row(view, known, &id)?;
-            stocked_if(alloc, view, known, lot)
+    fn tell<V: Worklists>(
+        &self,
+        alloc: Global,
+        view: &mut V,
+        known: &mut KnownLots,
+    ) -> Result<Option<LotAnswer>, ViewFault<V::Fault>> {
+        match self {
+            Node::Lot(id) => {
+                let lot = known_row(view, known, id)?;
+                stocked_if(alloc, view, known, lot)
+            }
+            Node::Batch(_) => Ok(None),
         }
-        Node::Batch(_) => Ok(None),
     }
 }
 
@@ -103,6 +79,5 @@ fn stocked_if<V: Worklists>(
     let Some(lot) = lot else {
         return Ok(None);
     };
-    let found = known_lot(alloc, view, known, &lot)?;
-    Ok(if_stocked(found))
+    lot.tell(alloc, view, known)
 }

@@ -1,6 +1,5 @@
 // What is answered of the lots of a definition.
 ghost use Rattle.std.specs.Prelude.{◌≡◌, ◌-◌, ℕ, List, Option, IfOk, length, option_map, slice_get};
-ghost use Rattle.std.specs.List.{filter_map};
 ghost use Rattle.plant_base.specs.State.{State, definition_at};
 ghost use Rattle.plant_trace.specs.Sources.{HonestlyTold};
 ghost use Rattle.plant_view.specs.Sound.{IsSound};
@@ -8,13 +7,13 @@ ghost use Rattle.plant_worklists.specs.Pages.{page_of};
 ghost use Rattle.plant_worklists.specs.Worklists.{lots_of};
 ghost use Rattle.plant_desk.specs.Worklists.{answer_lots, lot_page, if_stocked, stocked_lot};
 
-use crate::bookings::push_found;
+use crate::each_told::{Telling, each_told};
 use crate::known_lots::{KnownLots, known_lot};
 use crate::listed::{Listed, LotPage};
 use crate::question::{Answer, LotAnswer};
 use plant_base::{Definition, Id, Items, Lot, Refusal};
 use plant_view::{ViewFault, look};
-use plant_worklists::{Worklists, pages};
+use plant_worklists::Worklists;
 use std::alloc::Global;
 
 /// A page of the lots of a definition: those of the page that have stock.
@@ -43,8 +42,8 @@ fn lot_page<V: Worklists>(
         (IsSound (V.state view.old) → IfOk result (λ page. page ≡ lot_page (V.state view.old)
         (page_of (lots_of (V.state view.old) def above)))) }
 {
-    let page = pages::lots_of(view, def, above)?;
-    let lots = stocked_lots(alloc, view, page.rows.as_slice())?;
+    let page = view.lots_of(def, above).map_err(ViewFault::View)?;
+    let lots = each_told(alloc, view, page.rows.as_slice())?;
     Ok(LotPage {
         lots: Items::new(lots),
         last: last_of(page.rows.as_slice()),
@@ -72,29 +71,22 @@ fn answer_of_lots(known: Option<Definition>, page: LotPage) -> Answer
     }
 }
 
-// What is known of those of the lots that have stock.
-fn stocked_lots<V: Worklists>(
-    alloc: Global,
-    view: &mut V,
-    lots: &[Lot],
-) -> Result<Vec<LotAnswer>, ViewFault<V::Fault>>
-    ensures { HonestlyTold V.honest V.kept V.steady view.old view.new
-        (IsSound (V.state view.old)
-        → IfOk result (λ v. v.items ≡ filter_map (stocked_lot (V.state view.old)) lots.now)) }
-{
-    let mut known = KnownLots::new(alloc);
-    let mut rows = Vec::new(alloc);
-    for lot in lots {
-        let found = known_lot(alloc, view, &mut known, lot)?;
-        if push_found(&mut rows, if_stocked(found)).is_err() {
-            return Err(ViewFault::Memory);
-        }
+impl Telling<LotAnswer> for Lot {
+    ghost told = { stocked_lot };
+
+    fn tell<V: Worklists>(
+        &self,
+        alloc: Global,
+        view: &mut V,
+        known: &mut KnownLots,
+    ) -> Result<Option<LotAnswer>, ViewFault<V::Fault>> {
+        let found = known_lot(alloc, view, known, self)?;
+        Ok(if_stocked(found))
     }
-    Ok(rows)
 }
 
-/// What is known of a lot, where it has stock.
-pub(crate) fn if_stocked(answer: LotAnswer) -> Option<LotAnswer>
+// What is known of a lot, where it has stock.
+fn if_stocked(answer: LotAnswer) -> Option<LotAnswer>
     ensures { result ≡ if_stocked answer }
 {
     if answer.stock > 0 { Some(answer) } else { None }

@@ -11,7 +11,6 @@ mod movements;
 mod of_lot;
 mod pace;
 mod page;
-pub mod pages;
 mod place;
 mod placed;
 mod runs;

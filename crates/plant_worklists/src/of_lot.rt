@@ -5,7 +5,6 @@ ghost use Rattle.plant_view.specs.Tables.{sublot_row};
 ghost use Rattle.plant_worklists.specs.Rising.{lots_rise, sublots_rise, holds_rise};
 
 use crate::page::Page;
-use crate::pages;
 use crate::view::Worklists;
 use plant_base::{Hold, Id, Lot, Sublot};
 use plant_view::ViewFault;
@@ -57,7 +56,7 @@ impl OfLot for Lot {
         view: &mut V,
         above: Option<Id>,
     ) -> Result<Page<Lot>, ViewFault<V::Fault>> {
-        pages::lots_after(view, above)
+        view.lots_after(above).map_err(ViewFault::View)
     }
 }
 
@@ -76,7 +75,7 @@ impl OfLot for Sublot {
         view: &mut V,
         above: Option<Id>,
     ) -> Result<Page<Sublot>, ViewFault<V::Fault>> {
-        pages::sublots_after(view, above)
+        view.sublots_after(above).map_err(ViewFault::View)
     }
 }
 
@@ -95,6 +94,6 @@ impl OfLot for Hold {
         view: &mut V,
         above: Option<Id>,
     ) -> Result<Page<Hold>, ViewFault<V::Fault>> {
-        pages::holds_after(view, above)
+        view.holds_after(above).map_err(ViewFault::View)
     }
 }

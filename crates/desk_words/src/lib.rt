@@ -2,6 +2,7 @@
 #![tactic(auto)]
 
 mod argument;
+mod check_fault;
 mod checking;
 mod command_line;
 mod desk_checking;
@@ -13,6 +14,7 @@ mod taken;
 mod values;
 
 pub use argument::Argument;
+pub use check_fault::CheckFault;
 pub use checking::{CheckProgram, read_checked_file};
 pub use desk_checking::{DeskCheck, read_desk_check};
 pub use laws::plain_words_law;

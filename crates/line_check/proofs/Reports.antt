@@ -12,7 +12,7 @@ use Rattle.plant_text.proofs.LineLemmas.{lines_are}
 use Rattle.line_check.specs.declared.judge.Verdict.{Verdict}
 use Rattle.line_check.specs.declared.judge.Verdict.TheVariants as verdict
 use Rattle.line_check.specs.declared.lines.Tally.{Tally}
-use Rattle.line_check.specs.declared.lines.Fault.{Fault}
+use Rattle.desk_words.specs.declared.check_fault.CheckFault.{CheckFault}
 use Rattle.line_check.specs.Verdicts.{verdict_of}
 use Rattle.line_check.specs.Report.{verdicts, line_text, texts, tally_with, tally_after, end_text, no_lines, report, some_bad, verdicts_after, AreToldAndCounted}
 use Rattle.line_check.proofs.Judging.{verdict_empty, verdict_long}
@@ -104,7 +104,7 @@ ended_lines_told bytes line a b now e told =
 abbrev pub LastTold : Tally → List ℕ → Option (List ℕ) → Option (List ℕ) → Bool → Type 0
 LastTold mid line b c bad = (now : Tally) × (between : Option (List ℕ)) × AreToldAndCounted mid (verdict_of line ∷ []) b between now × Appends between c (end_text now) × (bad ≡ now.bad)
 
-pub input_ends : (r : Result Bool Fault) (mid : Tally) (bytes line : List ℕ) (from left a b c : Option (List ℕ))
+pub input_ends : (r : Result Bool CheckFault) (mid : Tally) (bytes line : List ℕ) (from left a b c : Option (List ℕ))
     → Consumes from left bytes → IsAtEnd left → line ≡ held_after [] bytes → AreToldAndCounted no_lines (verdicts_after [] bytes) a b mid → IfOk r (LastTold mid line b c)
     → IfOk r (λ bad. (bytes : List ℕ) × Consumes from left bytes × IsAtEnd left × Appends a c (report bytes) × (bad ≡ some_bad bytes))
 input_ends (Err f) mid bytes line from left a b c consumed at_end same x y = tt

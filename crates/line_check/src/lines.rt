@@ -10,6 +10,7 @@ ghost use Rattle.line_check.specs.Report.{report};
 ghost use Rattle.line_check.specs.Report.{some_bad, verdicts_after, AreToldAndCounted};
 
 use crate::judge::{NoMemory, Verdict, Why, judge};
+use desk_words::CheckFault;
 use plant_text::{Unwritten, write_line};
 use std::alloc::Global;
 use std::fmt;
@@ -24,19 +25,6 @@ pub(crate) struct Tally {
     questions: u64,
     /// Whether some line was bad.
     bad: bool,
-}
-
-/// Why a check ends before it has told all.
-#[derive(Clone, Copy, Debug, PartialEq, Eq)]
-pub(crate) enum Fault {
-    /// The file can't be opened.
-    Open,
-    /// A read failed, or the input had not ended after 10^9 reads.
-    Read,
-    /// A text couldn't be written whole.
-    Write,
-    /// Memory was refused.
-    Memory,
 }
 
 /// The bytes of a line that are held. A longer line than may be read is told by these.
@@ -73,52 +61,57 @@ impl fmt::Display for Tally {
 }
 
 /// Writes a text and an LF.
-fn tell<W: Write>(writer: &mut W, text: &[u8]) -> Result<(), Fault>
+fn tell<W: Write>(writer: &mut W, text: &[u8]) -> Result<(), CheckFault>
     ensures text { OnOk result (Appends (W.contents writer.old) (W.contents writer.new)
         (with_lf text.now)) }
-    ensures unwritten { IfErr result (λ fault. fault ≡ Fault.Write) }
+    ensures unwritten { IfErr result (λ fault. fault ≡ CheckFault.Write) }
 {
     match write_line(writer, text) {
         Ok(()) => Ok(()),
-        Err(Unwritten) => Err(Fault::Write),
+        Err(Unwritten) => Err(CheckFault::Write),
     }
 }
 
 /// Tells why the line of a number is bad.
-fn tell_line<W: Write>(alloc: Global, writer: &mut W, number: u64, why: Why) -> Result<(), Fault>
+fn tell_line<W: Write>(
+    alloc: Global,
+    writer: &mut W,
+    number: u64,
+    why: Why,
+) -> Result<(), CheckFault>
     ensures { OnOk result (Appends (W.contents writer.old) (W.contents writer.new)
         (with_lf (told_text number why))) }
 {
     let told = ToldLine { number, why };
     match told.to_string(alloc) {
         Ok(text) => tell(writer, text.as_bytes()),
-        Err(_) => Err(Fault::Memory),
+        Err(_) => Err(CheckFault::Memory),
     }
 }
 
 /// Tells the counts.
-fn tell_counts<W: Write>(alloc: Global, writer: &mut W, tally: Tally) -> Result<(), Fault>
+fn tell_counts<W: Write>(alloc: Global, writer: &mut W, tally: Tally) -> Result<(), CheckFault>
     ensures { OnOk result (Appends (W.contents writer.old) (W.contents writer.new)
         (with_lf (counts_text tally))) }
 {
     match tally.to_string(alloc) {
         Ok(text) => tell(writer, text.as_bytes()),
-        Err(_) => Err(Fault::Memory),
+        Err(_) => Err(CheckFault::Memory),
     }
 }
 
 /// The number after this one. An input has fewer lines than would need another.
-fn next(number: u64) -> Result<u64, Fault>
+fn next(number: u64) -> Result<u64, CheckFault>
     ensures { IfOk result (λ n. n ≡ number + 1) }
 {
     match number.checked_add(1) {
         Some(n) => Ok(n),
-        None => Err(Fault::Read),
+        None => Err(CheckFault::Read),
     }
 }
 
 /// Counts a line more.
-fn tally_with(tally: Tally, verdict: Verdict) -> Result<Tally, Fault>
+fn tally_with(tally: Tally, verdict: Verdict) -> Result<Tally, CheckFault>
     ensures { IfOk result (λ now. now ≡ tally_with tally verdict) }
 {
     let mut now = tally;
@@ -138,7 +131,7 @@ fn take_verdict<W: Write>(
     writer: &mut W,
     tally: Tally,
     verdict: Verdict,
-) -> Result<Tally, Fault>
+) -> Result<Tally, CheckFault>
     ensures tally { IfOk result (λ now. now ≡ tally_with tally verdict) }
     ensures text { OnOk result (Appends (W.contents writer.old) (W.contents writer.new)
         (line_text (tally.lines + 1) verdict)) }
@@ -159,13 +152,13 @@ fn take_line<W: Write>(
     writer: &mut W,
     tally: Tally,
     line: &[u8],
-) -> Result<Tally, Fault>
+) -> Result<Tally, CheckFault>
     ensures { IfOk result (λ now. AreToldAndCounted tally (verdict_of line.now ∷ [])
         (W.contents writer.old) (W.contents writer.new) now) }
 {
     match judge(alloc, line) {
         Ok(verdict) => take_verdict(alloc, writer, tally, verdict),
-        Err(NoMemory) => Err(Fault::Memory),
+        Err(NoMemory) => Err(CheckFault::Memory),
     }
 }
 
@@ -187,7 +180,7 @@ fn end_line<W: Write>(
     writer: &mut W,
     held: &mut Vec<u8>,
     tally: Tally,
-) -> Result<Tally, Fault>
+) -> Result<Tally, CheckFault>
     ensures held { OnOk result (held.new.items ≡ []) }
     ensures told { IfOk result (λ now. AreToldAndCounted tally
         (verdict_of (strip_carriage_return held.old.items) ∷ [])
@@ -203,11 +196,11 @@ fn end_line<W: Write>(
 }
 
 /// Holds a byte more of the line, while there is room.
-fn hold_byte(held: &mut Vec<u8>, b: u8) -> Result<(), Fault>
+fn hold_byte(held: &mut Vec<u8>, b: u8) -> Result<(), CheckFault>
     ensures { OnOk result (held.new.items ≡ held_with held.old.items b) }
 {
     if held.len() < ROOM && held.push(b).is_err() {
-        return Err(Fault::Memory);
+        return Err(CheckFault::Memory);
     }
     Ok(())
 }
@@ -219,7 +212,7 @@ fn take_byte<W: Write>(
     held: &mut Vec<u8>,
     tally: Tally,
     b: u8,
-) -> Result<Tally, Fault>
+) -> Result<Tally, CheckFault>
     ensures held { OnOk result (held.new.items ≡ held_after held.old.items (b ∷ [])) }
     ensures told { IfOk result (λ now. AreToldAndCounted tally (verdicts_after held.old.items (b ∷ []))
         (W.contents writer.old) (W.contents writer.new) now) }
@@ -240,7 +233,7 @@ fn take_piece<W: Write>(
     held: &mut Vec<u8>,
     tally: Tally,
     piece: &[u8],
-) -> Result<Tally, Fault>
+) -> Result<Tally, CheckFault>
     ensures held { OnOk result (held.new.items ≡ held_after held.old.items piece.now) }
     ensures told { IfOk result (λ now. AreToldAndCounted tally (verdicts_after held.old.items piece.now)
         (W.contents writer.old) (W.contents writer.new) now) }
@@ -256,7 +249,7 @@ fn take_piece<W: Write>(
 }
 
 /// Tells the end: the counts, where no line was bad.
-fn tell_end<W: Write>(alloc: Global, writer: &mut W, tally: Tally) -> Result<bool, Fault>
+fn tell_end<W: Write>(alloc: Global, writer: &mut W, tally: Tally) -> Result<bool, CheckFault>
     ensures good { IfOk result (λ bad. bad ≡ tally.bad) }
     ensures text { OnOk result (Appends (W.contents writer.old) (W.contents writer.new)
         (end_text tally)) }
@@ -276,7 +269,7 @@ fn end_input<W: Write>(
     writer: &mut W,
     held: &[u8],
     tally: Tally,
-) -> Result<bool, Fault>
+) -> Result<bool, CheckFault>
     ensures { IfOk result (λ bad. (now : Tally) × (between : Option (List ℕ))
         × AreToldAndCounted tally (verdict_of held.now ∷ []) (W.contents writer.old) between now
         × Appends between (W.contents writer.new) (end_text now) × (bad ≡ now.bad)) }
@@ -294,7 +287,7 @@ fn check_pieces<R: Read, W: Write>(
     writer: &mut W,
     piece: &mut [u8],
     most: u64,
-) -> Result<bool, Fault>
+) -> Result<bool, CheckFault>
     requires { 0 < length piece.old }
     ensures { IfOk result (λ bad. (bytes : List ℕ)
         × Consumes (R.remaining reader.old) (R.remaining reader.new) bytes
@@ -319,10 +312,10 @@ fn check_pieces<R: Read, W: Write>(
                     Err(fault) => return Err(fault),
                 }
             }
-            Err(_) => return Err(Fault::Read),
+            Err(_) => return Err(CheckFault::Read),
         }
     }
-    Err(Fault::Read)
+    Err(CheckFault::Read)
 }
 
 /// Judges the lines of an input one after the other, and executes none: writes a line for each that is bad, with its
@@ -338,7 +331,7 @@ pub(crate) fn check_lines<R: Read, W: Write>(
     alloc: Global,
     reader: &mut R,
     writer: &mut W,
-) -> Result<bool, Fault>
+) -> Result<bool, CheckFault>
     ensures { IfOk result (λ bad. (bytes : List ℕ)
         × Consumes (R.remaining reader.old) (R.remaining reader.new) bytes
         × IsAtEnd (R.remaining reader.new)

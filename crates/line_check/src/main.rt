@@ -7,10 +7,10 @@ mod lines;
 mod misfits;
 
 use desk_words::{
-    CheckProgram, WordsFault, read_arguments, read_checked_file, tell_refused, texts_of,
+    CheckFault, CheckProgram, WordsFault, read_arguments, read_checked_file, tell_refused, texts_of,
 };
 use ending::status_of;
-use lines::{Fault, check_lines};
+use lines::check_lines;
 use std::fs::File;
 use std::io;
 use std::process::ExitCode;
@@ -36,13 +36,13 @@ fn check_named(rt: &HostRuntime) -> Result<u8, WordsFault> {
 }
 
 /// Checks the lines of the file of a name, of standard input where there is none.
-fn check_file(rt: &HostRuntime, file: Option<&str>) -> Result<bool, Fault> {
+fn check_file(rt: &HostRuntime, file: Option<&str>) -> Result<bool, CheckFault> {
     let mut writer = io::writer(rt);
     match file {
         None => check_lines(rt.alloc(), &mut rt.reader(), &mut writer),
         Some(name) => match File::open(rt, name) {
             Ok(mut opened) => check_lines(rt.alloc(), &mut opened, &mut writer),
-            Err(_) => Err(Fault::Open),
+            Err(_) => Err(CheckFault::Open),
         },
     }
 }

@@ -6,9 +6,9 @@ mod reason;
 mod verdict;
 
 use desk_words::{
-    CheckProgram, WordsFault, read_arguments, read_checked_file, tell_refused, texts_of,
+    CheckFault, CheckProgram, WordsFault, read_arguments, read_checked_file, tell_refused, texts_of,
 };
-use ending::{Fault, end_of, status_of};
+use ending::{end_of, status_of};
 use std::fs::File;
 use std::process::ExitCode;
 use verdict::{Verdict, judge};
@@ -37,12 +37,12 @@ fn check_named(rt: &HostRuntime) -> Result<u8, WordsFault> {
 }
 
 /// The verdict on the file of a name, on standard input where there is none.
-fn judge_file(rt: &HostRuntime, file: Option<&str>) -> Result<Verdict, Fault> {
+fn judge_file(rt: &HostRuntime, file: Option<&str>) -> Result<Verdict, CheckFault> {
     match file {
         None => judge(rt.alloc(), &mut rt.reader()),
         Some(name) => match File::open(rt, name) {
             Ok(mut opened) => judge(rt.alloc(), &mut opened),
-            Err(_) => Err(Fault::Open),
+            Err(_) => Err(CheckFault::Open),
         },
     }
 }

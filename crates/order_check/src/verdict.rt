@@ -4,8 +4,8 @@ ghost use Rattle.plant_orders.specs.Orders.{orders_of};
 ghost use Rattle.order_check.specs.Endings.{judged_as};
 ghost use Rattle.order_check.specs.Verdicts.{verdict_of, verdict_text};
 
-use crate::ending::Fault;
 use crate::reason::reason_of;
+use desk_words::CheckFault;
 use plant_orders::{CsvFault, OrdersFault, orders_from};
 use std::alloc::Global;
 use std::fmt;
@@ -37,7 +37,7 @@ impl fmt::Display for Verdict {
 /// The verdict on the order file that a reader gives to its end. No more is read of it than shows that it is too long.
 ///
 /// `Read` comes where a read failed, and `Memory` where memory was refused. No other fault comes.
-pub(crate) fn judge<R: Read>(alloc: Global, reader: &mut R) -> Result<Verdict, Fault>
+pub(crate) fn judge<R: Read>(alloc: Global, reader: &mut R) -> Result<Verdict, CheckFault>
     ensures { IfOk result (λ verdict. IfSome (R.remaining reader.old)
         (λ bytes. verdict ≡ verdict_of (orders_of bytes))) }
 {
@@ -48,12 +48,12 @@ pub(crate) fn judge<R: Read>(alloc: Global, reader: &mut R) -> Result<Verdict, F
 }
 
 /// What a fault of the reading is judged as.
-fn judged_as(fault: OrdersFault) -> Result<Verdict, Fault>
+fn judged_as(fault: OrdersFault) -> Result<Verdict, CheckFault>
     ensures { result ≡ judged_as fault }
 {
     match fault {
         OrdersFault::Csv(fault) => Ok(Verdict::Fault(fault)),
-        OrdersFault::Read => Err(Fault::Read),
-        OrdersFault::Memory => Err(Fault::Memory),
+        OrdersFault::Read => Err(CheckFault::Read),
+        OrdersFault::Memory => Err(CheckFault::Memory),
     }
 }

@@ -1,5 +1,6 @@
 -- What an opened store holds of a desk.
 use Rattle.std.specs.Prelude.{◌≡◌, ◌<◌, ◌≤◌, ℕ, ℤ, pos, All, length, Option, Some, None}
+use Rattle.std.specs.Option.{option_map_or}
 use Rattle.sqlite.specs.Effect.{Database}
 use Rattle.plant_base.specs.State.{newest_schema}
 use Rattle.plant_base.specs.declared.rows.Meta.{Meta}
@@ -65,19 +66,10 @@ IsHeldBy db (tables.Version v) h = IsReadAs db v h
 -- ---- what is told
 
 abbrev pub standing_of : Option Meta → Loaded → Standing
-standing_of None x = record {
-  schema = 0;
-  seq = 0;
-  at = 0;
-  orders = length (contents_loaded x 5);
-  batches = length (contents_loaded x 6);
-  lots = length (contents_loaded x 9);
-  movements = length (contents_loaded x 11);
-}
-standing_of (Some m) x = record {
-  schema = m.schema;
-  seq = m.position.seq;
-  at = m.position.at;
+standing_of meta x = record {
+  schema = option_map_or (λ m. m.schema) meta 0;
+  seq = option_map_or (λ m. m.position.seq) meta 0;
+  at = option_map_or (λ m. m.position.at) meta 0;
   orders = length (contents_loaded x 5);
   batches = length (contents_loaded x 6);
   lots = length (contents_loaded x 9);

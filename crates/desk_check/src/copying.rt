@@ -1,5 +1,5 @@
 //! The bytes of a file and of its log, read into memory. Nothing is written to either.
-use crate::obstacle::{Obstacle, obstacle_at};
+use crate::obstacle::Obstacle;
 use crate::room::{Rights, growth_limit, hindrance, lets_make, takes_page};
 use crate::trying::tried_beside;
 use os::RangeLock;
@@ -14,11 +14,6 @@ pub(crate) struct Copied {
     pub(crate) log: Vec<u8>,
     pub(crate) db: Vec<u8>,
     pub(crate) hindered: Option<Obstacle>,
-}
-
-/// The obstacle that an error of the system is.
-fn obstacle_by(error: &io::Error) -> Obstacle {
-    obstacle_at(error.kind())
 }
 
 /// The folder of a file, as the name tells it.
@@ -47,7 +42,7 @@ fn is_there(found: io::Result<Metadata>) -> Result<bool, Obstacle> {
         Ok(found) if found.nlink() != 1 => Err(Obstacle::Linked),
         Ok(_) => Ok(true),
         Err(error) if error.kind() == ErrorKind::NotFound => Ok(false),
-        Err(error) => Err(obstacle_by(&error)),
+        Err(error) => Err(error.into()),
     }
 }
 
@@ -55,10 +50,7 @@ fn is_there(found: io::Result<Metadata>) -> Result<bool, Obstacle> {
 fn open_there(rt: &HostRuntime, file: &str) -> Result<(File, bool), Obstacle> {
     match OpenOptions::new().read(true).write(true).open(rt, file) {
         Ok(opened) => Ok((apart(opened)?, true)),
-        Err(_) => match fs::open(rt, file) {
-            Ok(opened) => Ok((apart(opened)?, false)),
-            Err(error) => Err(obstacle_by(&error)),
-        },
+        Err(_) => Ok((apart(fs::open(rt, file)?)?, false)),
     }
 }
 
@@ -67,10 +59,7 @@ fn apart(file: File) -> Result<File, Obstacle> {
     if file.as_raw_fd() > 2 {
         return Ok(file);
     }
-    match file.try_clone() {
-        Ok(copy) => Ok(copy),
-        Err(error) => Err(obstacle_by(&error)),
-    }
+    Ok(file.try_clone()?)
 }
 
 /// Locks an open file as the desk does, until it is closed; where it may only be read, so that others may still read it.
@@ -86,19 +75,16 @@ fn lock(file: &File, writable: bool) -> Result<(), Obstacle> {
     }
     let error = io::Error::from_raw_os_error(os::errno());
     if error.kind() == ErrorKind::WouldBlock {
-        Err(Obstacle::Locked)
-    } else {
-        Err(obstacle_by(&error))
+        return Err(Obstacle::Locked);
     }
+    Err(error.into())
 }
 
 /// All bytes of an open file.
 fn bytes_of(rt: &HostRuntime, file: &mut File) -> Result<Vec<u8>, Obstacle> {
     let mut bytes = Vec::new(rt.alloc());
-    match file.read_to_end(&mut bytes) {
-        Ok(_) => Ok(bytes),
-        Err(error) => Err(obstacle_by(&error)),
-    }
+    file.read_to_end(&mut bytes)?;
+    Ok(bytes)
 }
 
 /// Whether there is a first byte, and that isn't 0.
@@ -111,10 +97,7 @@ fn begins_with_something(bytes: &[u8]) -> bool {
 
 /// The name of what stands beside a file.
 fn beside(rt: &HostRuntime, file: &str, end: &str) -> Result<String, Obstacle> {
-    match format!(in rt.alloc(); "{file}{end}") {
-        Ok(name) => Ok(name),
-        Err(_) => Err(Obstacle::Memory),
-    }
+    format!(in rt.alloc(); "{file}{end}").map_err(|_| Obstacle::Memory)
 }
 
 /// Whether SQLite left a journal of this name, which has something to play back.
@@ -123,12 +106,10 @@ fn has_journal(rt: &HostRuntime, file: &str) -> Result<bool, Obstacle> {
         Ok(found) if found.is_file() => {}
         Ok(_) => return Ok(true),
         Err(error) if error.kind() == ErrorKind::NotFound => return Ok(false),
-        Err(error) => return Err(obstacle_by(&error)),
+        Err(error) => return Err(error.into()),
     }
-    match fs::read(rt, file) {
-        Ok(bytes) => Ok(begins_with_something(bytes.as_slice())),
-        Err(error) => Err(obstacle_by(&error)),
-    }
+    let bytes = fs::read(rt, file)?;
+    Ok(begins_with_something(bytes.as_slice()))
 }
 
 /// A log: its bytes, whether it is there, and whether it may be written, as one may that isn't there.
@@ -212,10 +193,7 @@ pub(crate) fn copy_file(
     if !is_there(fs::metadata(rt, file))? {
         return Err(unfound(rt, file));
     }
-    let real = match fs::canonicalize(rt, file) {
-        Ok(real) => real,
-        Err(error) => return Err(obstacle_by(&error)),
-    };
+    let real = fs::canonicalize(rt, file)?;
     let (mut db, writable) = open_there(rt, real.as_str())?;
     lock(&db, writable)?;
     let journal = beside(rt, real.as_str(), "-journal")?;

@@ -3,7 +3,7 @@ ghost use Rattle.std.specs.Prelude.{◌≡◌};
 ghost use Rattle.desk_check.specs.Obstacles as spec;
 
 use sqlite::{Error, ErrorCode};
-use std::io::ErrorKind;
+use std::io::{self, ErrorKind};
 use table_forms::Fault;
 
 /// Why a file can't be read as a desk's, or wouldn't be opened by the desk.
@@ -143,6 +143,13 @@ impl Obstacle {
     }
 }
 
+// The error of a read.
+impl From<io::Error> for Obstacle {
+    fn from(error: io::Error) -> Obstacle {
+        obstacle_at(error.kind())
+    }
+}
+
 /// The name of the cause of an error of the toolkit.
 fn closed_name(error: Error) -> &'static str
     ensures { result.now ≡ spec.closed_name error }
@@ -208,7 +215,7 @@ pub(crate) fn obstacle_in(fault: Fault) -> Obstacle
 }
 
 /// The obstacle that an error of the system is, at a read.
-pub(crate) fn obstacle_at(kind: ErrorKind) -> Obstacle
+fn obstacle_at(kind: ErrorKind) -> Obstacle
     ensures { result ≡ spec.obstacle_at kind }
 {
     match kind {

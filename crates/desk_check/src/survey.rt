@@ -144,30 +144,14 @@ fn standing_by(meta: &Option<Meta>, loaded: &Loaded) -> Standing
     let batches = loaded.rows(6).len();
     let lots = loaded.rows(9).len();
     let movements = loaded.rows(11).len();
-    match meta {
-        None => Standing {
-            schema: 0,
-            seq: 0,
-            at: 0,
-            orders,
-            batches,
-            lots,
-            movements,
-        },
-        Some(meta) => {
-            let schema = meta.schema;
-            let seq = meta.position.seq;
-            let at = meta.position.at.get();
-            Standing {
-                schema,
-                seq,
-                at,
-                orders,
-                batches,
-                lots,
-                movements,
-            }
-        }
+    Standing {
+        schema: meta.map_or(0, |meta| meta.schema),
+        seq: meta.map_or(0, |meta| meta.position.seq),
+        at: meta.map_or(0, |meta| meta.position.at.get()),
+        orders,
+        batches,
+        lots,
+        movements,
     }
 }
 

@@ -1,6 +1,6 @@
 -- Row changes that make the tables after a command add each row under a key of its own.
-use Rattle.std.proofs.Common.{◌≡◌, ◌∙◌, ℕ, ◌≤◌, Bool, true, false, List, [], ◌∷◌, ◌++◌, length, filter, Some, refl, sym, ap, subst, append_assoc, arith}
-use Rattle.std.specs.Prelude.{◌&&◌, ◌==◌, nat_le, count_by}
+use Rattle.std.proofs.Common.{◌≡◌, ◌∙◌, ◌≤◌, Bool, true, false, List, [], ◌∷◌, ◌++◌, length, filter, Some, refl, sym, ap, subst, append_assoc, arith}
+use Rattle.std.specs.Prelude.{◌&&◌, ◌==◌, count_by}
 use Rattle.std.specs.Cmp.{both_tied, unsigned_ties}
 use Rattle.std.specs.Cmp.Lexicographic.{texts_ties}
 use Rattle.std.specs.List.{AllByRecursion}
@@ -8,10 +8,10 @@ use Rattle.std.specs.List.Sorted.{IsStrictlySortedBy}
 use Rattle.std.specs.Ordering.{nat_cmp, is_eq, match_ordering}
 use Rattle.std.specs.declared.cmp.Ordering.{Ordering}
 use Rattle.std.specs.declared.cmp.Ordering.TheVariants.{Less, Equal, Greater}
-use Rattle.std.proofs.lemmas.Bool.{false≢true}
-use Rattle.std.proofs.lemmas.Bool.Decides.{nat_tests}
+use Rattle.std.proofs.lemmas.Bool.{false≢true, leb-true}
 use Rattle.std.proofs.lemmas.List.{append-nil}
 use Rattle.std.proofs.lemmas.List.Sums.{length-filter}
+use Rattle.std.proofs.lemmas.Option.{same_Some}
 use Rattle.plant_base.specs.State.{State, newest_schema, same, put, event_order, movement_order}
 use Rattle.plant_base.specs.Formed.{HasValues}
 use Rattle.plant_base.specs.declared.rows.Batch.{Batch}
@@ -137,9 +137,6 @@ fresh_rows (c ∷ rows) t movements events batches one = (tt, fresh_rows rows (c
 
 -- ---- good states
 
-some_alike : (x y : Batch) → Some x ≡ Some y → x ≡ y
-some_alike x y e = cc
-
 -- the batches of a sound state are of different orders
 own_jobs : (s : State) → IsSound s → HaveOwnJobs (tables_of newest_schema s).batches
 own_jobs s sound =
@@ -151,11 +148,8 @@ own_jobs s sound =
   where
     one_batch : (a b : Batch) → batch_among s.batches a.job ≡ Some a → batch_among s.batches b.job ≡ Some b → same a.job b.job ≡ true → same a.id b.id ≡ true
     one_batch a b first second one =
-        let both : a ≡ b = some_alike a b (sym first ∙ ap (batch_among s.batches) (same_id a.job b.job one) ∙ second) in
+        let both : a ≡ b = same_Some a b (sym first ∙ ap (batch_among s.batches) (same_id a.job b.job one) ∙ second) in
         ap (λ (x : Batch). same a.id x.id) (sym both) ∙ same_itself a.id
-
-at_most_one : (n : ℕ) → nat_le n 1 ≡ true → n ≤ 1
-at_most_one n e = grind (arith, nat_tests)
 
 pub fresh : (s : State) → IsGood s → (e : Envelope) → HasValues e → (rows : List RowChange) → changed_all rows (tables_of newest_schema s) ≡ tables_of newest_schema (step s e) → puts_one_batch rows ≡ true → AreFresh rows (tables_of newest_schema s)
 fresh s good e values rows leads one =
@@ -164,4 +158,4 @@ fresh s good e values rows leads one =
     (subst (λ (t : Tables). IsStrictlySortedBy movement_order t.movements) (sym leads) next.numbers.movements)
     (subst (λ (t : Tables). IsStrictlySortedBy event_order t.events) (sym leads) next.numbers.events)
     (subst (λ (t : Tables). HaveOwnJobs t.batches) (sym leads) (own_jobs (step s e) next.sound))
-    (omega (arith, at_most_one (count_by is_batch rows) one, length-filter is_batch rows))
+    (omega (arith, leb-true (count_by is_batch rows) 1 one, length-filter is_batch rows))

@@ -89,13 +89,8 @@ movement_back r m h =
     (λ i. record r { sort = fits.is_sort i; lot2 = named.other_lot i; sub2 = named.other_sub i; batch = named.its_batch i }) ∙ ap booked_of read.2
 
 own_kind : (k : MovementKind) (r : BookedRow) → r.sort ≡ sort_of k → r.lot2 ≡ other_lot k r.lot → r.sub2 ≡ other_sublot k → r.batch ≡ batch_by k → kind_from r ≡ Some k
-own_kind kind.Received r s a b c = rw (s, a, b, c) refl
-own_kind (kind.Consumed batch) r s a b c = rw (s, a, b, c) refl
-own_kind (kind.Produced batch) r s a b c = rw (s, a, b, c) refl
-own_kind kind.Scrapped r s a b c = rw (s, a, b, c) refl
 own_kind (kind.Divided to) r s a b c = rw (s, a, b, c, same_itself r.lot) refl
-own_kind (kind.Split to) r s a b c = rw (s, a, b, c) refl
-own_kind (kind.Merged to) r s a b c = rw (s, a, b, c) refl
+own_kind _ r s a b c = rw (s, a, b, c) refl
 
 -- the row that books a movement books it
 pub movement_again : (m : Movement) → movement_from (booked_of m) ≡ Some m

@@ -1,8 +1,9 @@
 -- What the columns of a line keep.
-use Rattle.std.proofs.Common.{◌≡◌, refl, sym, ap, ◌∙◌, subst, ℕ, suc, ◌+◌, pos, List, [], ◌∷◌, length, true, ◌==◌, ◌&&◌, Option, Some, eqb-true, arith}
+use Rattle.std.proofs.Common.{◌≡◌, refl, sym, ap, ◌∙◌, subst, ℕ, suc, ◌+◌, pos, List, [], ◌∷◌, length, true, ◌&&◌, Option, Some, eqb-true, arith}
 use Rattle.std.proofs.lemmas.Bool.{and_parts}
+use Rattle.std.proofs.lemmas.List.{nil_from_length}
 use Rattle.sqlite.specs.declared.types.Value.{Value}
-use Rattle.sqlite.specs.declared.types.Value.TheVariants.{Null, Int, Real, Text, Blob}
+use Rattle.sqlite.specs.declared.types.Value.TheVariants.{Null, Int, Text}
 use Rattle.sqlite.specs.Order.{Row, column}
 use Rattle.plant_base.specs.Values.{is_id, is_amount, greatest_amount}
 use Rattle.plant_base.specs.Formed.{HasLineValues}
@@ -30,25 +31,15 @@ line_sort_kind : IsKind line_sorts Any Any
 unfolding line_sort_from
 line_sort_kind = numbered_kind line_sort_number all_line_sorts line_sort_own
 
-no_bytes : (xs : List ℕ) → (length xs == 0) ≡ true → xs ≡ []
-no_bytes [] h = refl
-no_bytes (x ∷ xs) h = let none : length (x ∷ xs) ≡ 0 = eqb-true (length (x ∷ xs)) 0 h in absurd (omega arith)
-
 empty_is : (v : Value) → is_empty v ≡ true → v ≡ Text []
 unfolding is_empty
-empty_is Null h = absurd (cc)
-empty_is (Int n) h = absurd (cc)
-empty_is (Real x) h = absurd (cc)
-empty_is (Text bytes) h = ap Text (no_bytes bytes h)
-empty_is (Blob bytes) h = absurd (cc)
+empty_is (Text bytes) h = ap Text (nil_from_length bytes (eqb-true (length bytes) 0 h))
+empty_is _ h = absurd (cc)
 
 zero_is : (v : Value) → is_zero v ≡ true → v ≡ number 0
 unfolding is_zero
-zero_is Null h = absurd (cc)
 zero_is (Int n) h = ap Int (int_same n (pos 0) h)
-zero_is (Real x) h = absurd (cc)
-zero_is (Text bytes) h = absurd (cc)
-zero_is (Blob bytes) h = absurd (cc)
+zero_is _ h = absurd (cc)
 
 columns : {v1 w1 v2 w2 v3 w3 v4 w4 v5 w5 v6 w6 : Value} → v1 ≡ w1 → v2 ≡ w2 → v3 ≡ w3 → v4 ≡ w4 → v5 ≡ w5 → v6 ≡ w6
     → ◌≡◌ {A = Row} (v1 ∷ v2 ∷ v3 ∷ v4 ∷ v5 ∷ v6 ∷ []) (w1 ∷ w2 ∷ w3 ∷ w4 ∷ w5 ∷ w6 ∷ [])
@@ -155,9 +146,7 @@ six row at a b c d e f o h is =
 
 line_fits : (l : RecipeLine) → fits_columns line_columns.declared (columns_of_line l) ≡ true
 line_fits (line.In d n) = refl
-line_fits (line.Out d n) = refl
-line_fits (line.Parameter name value) = refl
-line_fits (line.Phase unit_procedure operation phase) = refl
+line_fits _ = refl
 
 line_again : (row : Row) (at : ℕ) (l : RecipeLine) → StandFrom row at (columns_of_line l) → HasLineValues l → line_columns.read row at ≡ Some l
 line_again row at (line.In d n) h good = six row at _ _ _ _ _ _ _ h (sort_again line_sort.In _ _ _ _ _ (line.In d n) (rw (material_again d n good.0 good.1) refl))

@@ -97,20 +97,8 @@ with_items make row list d g h =
 
 -- whatever its values say, a command is made of them, with its list
 body_total : (kind : CommandKind) (v : Values (own_of kind)) (d : Data) → Good problem_told (λ x. ⊤) (body_of kind (fields_in (own_of kind) v) d)
-body_total c.AddClass v d = tt
-body_total c.AddDefinition v d = tt
-body_total c.Receive v d = tt
-body_total c.Scrap v d = tt
-body_total c.Divide v d = tt
-body_total c.Split v d = tt
 body_total c.Merge v d = with_items part_of (λ d. Some row.Part) m.Parts d _ parts_good
-body_total c.Hold v d = tt
-body_total c.Unhold v d = tt
-body_total c.Recall v d = tt
-body_total c.Lift v d = tt
 body_total c.AddRecipe v d = with_items line_of line_row m.Lines d _ lines_good
-body_total c.Approve v d = tt
-body_total c.Withdraw v d = tt
 body_total c.ImportOrders v d = with_items order_of (λ d. Some row.Order) m.Orders d _ orders_good
 body_total _ v d = tt
 

@@ -1,6 +1,6 @@
 -- Forms that are apart.
-use Rattle.std.proofs.Common.{◌≡◌, ◌⊎◌, inl, inr, ℕ, ◌+◌, ◌<◌, zero, suc, List, [], ◌∷◌, true, false, not, Some, refl, sym, ap, subst, slice_get, arith}
-use Rattle.std.proofs.lemmas.Bool.{and_parts, not-true}
+use Rattle.std.proofs.Common.{◌≡◌, inl, inr, ℕ, ◌+◌, ◌<◌, zero, suc, List, [], ◌∷◌, true, false, not, Some, sym, subst, slice_get, arith}
+use Rattle.std.proofs.lemmas.Bool.{and_parts, cases_order, not-true}
 use Rattle.std.specs.List.{list_all}
 use Rattle.sqlite.specs.Change.{automatics}
 use Rattle.sqlite_schema.specs.declared.schema.Index.{Index}
@@ -36,20 +36,10 @@ apart_at forms apart = differ_at forms apart.apart
 apart_names : {a b : List ℕ} → same_name a b ≡ false → a ≡ b → ⊥
 apart_names {a} {b} differ same = let equal = same_itself a in let none = rw (sym same) at differ in cc
 
-pub order_of : (i j : ℕ) → (i < j) ⊎ ((i ≡ j) ⊎ (j < i))
-order_of zero zero = inr (inl refl)
-order_of zero (suc j) = inl (omega arith)
-order_of (suc i) zero = inr (inr (omega arith))
-order_of (suc i) (suc j) = elim (order_of i j) [
-  | inl less ↦ inl (omega (arith, less))
-  | inr (inl same) ↦ inr (inl (ap suc same))
-  | inr (inr more) ↦ inr (inr (omega (arith, more)))
-]
-
 -- a name tells the place
 pub same_place : (forms : List Form) → AreApart forms → (i j : ℕ) (f g : Form) → slice_get forms i ≡ Some f → slice_get forms j ≡ Some g → f.name ≡ g.name → i ≡ j
-same_place forms apart i j f g is there same = elim (order_of i j) [
-  | inl before ↦ absurd (apart_names (apart_at forms apart i j f g before is there).names same)
-  | inr (inl at) ↦ at
+same_place forms apart i j f g is there same = elim (cases_order i j) [
+  | inl at ↦ at
+  | inr (inl before) ↦ absurd (apart_names (apart_at forms apart i j f g before is there).names same)
   | inr (inr after) ↦ absurd (apart_names (apart_at forms apart j i g f after there is).names (sym same))
 ]

@@ -14,13 +14,12 @@ use crate::keys::{
     has_one_batch, job_at, lines_of, recipe_at,
 };
 use crate::numbered::are_numbered;
-use crate::orders::is_size_by;
-use crate::recipes::lines_in;
 use plant_base::{
     Amount, BatchRow, ControlLine, Header, Items, Job, MasterLine, Recipe, RecipeLine,
 };
 use plant_check_groups::Grouped;
-use plant_recipe::{Master, RecipeFault, control};
+use plant_recipe::{Master, RecipeFault, control, is_size_of};
+use plant_view::lines_in;
 use std::alloc::{AllocError, Global};
 
 /// What the control recipes of batches come from.
@@ -135,7 +134,7 @@ fn control_of_master(
 ) -> Result<Option<Items<RecipeLine>>, AllocError>
     ensures { IfOk result (λ c. c ≡ control_sized master.now.header master.now.lines size) }
 {
-    if !is_size_by(&master.header(), size) {
+    if !is_size_of(&master.header(), size) {
         return Ok(None);
     }
     match control(alloc, master, size) {

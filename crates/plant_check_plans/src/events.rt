@@ -9,9 +9,9 @@ ghost use Rattle.plant_check_plans.specs.Batches.{is_row_among};
 ghost use Rattle.plant_check_plans.specs.Events.{kept_progress, is_run, has_right_run, are_events};
 
 use crate::keys::{Batches, ControlLines, Events, control_of, events_of, has_batch};
-use plant_base::{BatchEvent, BatchRow, ControlLine, Event, Id, RecipeLine, Refusal};
+use plant_base::{BatchEvent, BatchRow, ControlLine, Event, Id, Refusal};
 use plant_check_groups::Grouped;
-use plant_recipe::{GREATEST_PHASES, Progress};
+use plant_recipe::{GREATEST_PHASES, Progress, is_phase};
 use std::alloc::{AllocError, Global};
 
 /// Whether each event of each batch was allowed at its place, the batch's state, attempt, next phase and ending are
@@ -117,12 +117,6 @@ fn phases_in(rows: &[ControlLine]) -> usize
     ensures { result ≡ count_by (λ l. is_phase l.line) rows.now }
 {
     rows.iter().filter(|&&row| is_phase(row.line)).count()
-}
-
-fn is_phase(line: RecipeLine) -> bool
-    ensures { result ≡ is_phase line }
-{
-    matches!(line, RecipeLine::Phase { .. })
 }
 
 // Whether no event is without its batch.

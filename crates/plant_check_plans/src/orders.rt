@@ -1,14 +1,13 @@
 //! Orders.
 
 ghost use Rattle.std.specs.Prelude.{◌≡◌, IfOk};
-ghost use Rattle.plant_recipe.specs.Control.{is_size_of};
 ghost use Rattle.plant_check_plans.specs.Orders.{is_left_open, is_closed, is_started};
-ghost use Rattle.plant_view.specs.Production.{is_size_of_recipe};
 ghost use Rattle.plant_check_plans.specs.Orders.{is_right_order, are_orders};
 
 use crate::keys::{BatchesOfOrders, Recipes, batch_of, recipe_at};
-use plant_base::{Amount, BatchRow, Header, Job, JobState, Recipe};
+use plant_base::{BatchRow, Job, JobState, Recipe};
 use plant_check_groups::Grouped;
+use plant_view::is_size_of_recipe;
 use std::alloc::{AllocError, Global};
 
 /// Whether each order's recipe is there with the order's size among its sizes, and each order that was released, and
@@ -32,24 +31,8 @@ fn is_right(recipes: &Grouped<Recipes>, batches: &Grouped<BatchesOfOrders>, job:
     ensures { result ≡ is_right_order recipes.now.rows.now batches.now.rows.now job.now }
 {
     let order = job.order;
-    is_size_of(recipe_at(recipes, order.recipe, order.version), order.size)
+    is_size_of_recipe(recipe_at(recipes, order.recipe, order.version), order.size)
         && is_started(job.state, batch_of(batches, order.order))
-}
-
-/// Whether the recipe is there with the size among its sizes.
-pub fn is_size_of(recipe: Option<Recipe>, size: Amount) -> bool
-    ensures { result ≡ is_size_of_recipe recipe size }
-{
-    match recipe {
-        None => false,
-        Some(recipe) => is_size_by(&recipe.header, size),
-    }
-}
-
-pub(crate) fn is_size_by(header: &Header, size: Amount) -> bool
-    ensures { result ≡ is_size_of header.now size }
-{
-    header.least.get() <= size.get() && size.get() <= header.greatest.get()
 }
 
 /// Whether an order in this state has such a batch: an open one where it was released, a closed one where it is finished, and

@@ -12,6 +12,7 @@ use crate::numbered::are_numbered;
 use plant_base::{Definition, Header, MasterLine, Recipe, RecipeLine};
 use plant_check_groups::Grouped;
 use plant_recipe::is_well_formed;
+use plant_view::lines_in;
 use std::alloc::{AllocError, Global};
 
 /// Whether each recipe is well formed, its lines are numbered from 1 on, its product and what its lines name are
@@ -97,13 +98,6 @@ fn are_known(definitions: &Grouped<Definitions>, lines: &[RecipeLine]) -> bool
     ensures { result ≡ list_all (is_known definitions.now.rows.now) lines.now }
 {
     lines.iter().all(|line| is_known(definitions, line))
-}
-
-/// The lines of the rows. The only error is that memory was refused.
-pub fn lines_in(alloc: Global, rows: &[MasterLine]) -> Result<Vec<RecipeLine>, AllocError>
-    ensures { IfOk result (λ lines. lines.items ≡ map (λ r. r.line) rows.now) }
-{
-    rows.iter().map(|r| r.line).collect(alloc)
 }
 
 /// Whether the definition that a line names is there, where it names one.

@@ -10,7 +10,8 @@ use crate::keys::booked_key;
 use plant_base::{BatchRow, ControlLine, Id, Lot, Movement, Sublot};
 use plant_check_groups::Grouped;
 use plant_check_stock::keys::{Parts, is_there};
-use plant_check_stock::movements::{Named, batch_by, is_of_right_merge, source, target};
+use plant_check_stock::movements::{Named, batch_by, is_of_right_merge};
+use plant_stock::{source, target};
 use plant_tables_judged::{BookedRow, DeskRows};
 use std::alloc::{AllocError, Global};
 

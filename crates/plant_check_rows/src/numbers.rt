@@ -14,8 +14,8 @@ use crate::movements::movement_as;
 use plant_base::{BatchEvent, BatchRow, Hold, Moment, Movement};
 use plant_check_groups::Grouped;
 use plant_check_stock::keys::{EnteredSublots, EventNumbers, has_event};
-use plant_check_stock::movements::source;
 use plant_check_stock::numbering::{is_entered_before, is_given, is_next_line};
+use plant_stock::source;
 use plant_tables_judged::DeskRows;
 use std::alloc::{AllocError, Global};
 

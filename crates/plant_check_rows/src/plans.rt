@@ -17,8 +17,9 @@ use plant_check_plans::keys::{
     has_class, has_one_batch, job_at, recipe_at,
 };
 use plant_check_plans::numbered::are_numbered;
-use plant_check_plans::orders::{is_size_of, is_started};
+use plant_check_plans::orders::is_started;
 use plant_tables_judged::DeskRows;
+use plant_view::is_size_of_recipe;
 use std::alloc::{AllocError, Global};
 
 /// That a definition's class is there.
@@ -68,7 +69,7 @@ fn size_fault(recipe: Option<Recipe>, job: &Job) -> Option<RowFault>
     match recipe {
         None => Some(missing_recipe(job)),
         Some(recipe) => told_unless(
-            is_size_of(Some(recipe), job.order.size),
+            is_size_of_recipe(Some(recipe), job.order.size),
             wrong_size(&recipe, job),
         ),
     }

@@ -14,9 +14,10 @@ use plant_check_plans::keys::{
     Definitions, RecipeLines, Recipes, has_definition, has_recipe, lines_of,
 };
 use plant_check_plans::numbered::are_numbered;
-use plant_check_plans::recipes::{is_known, lines_in};
+use plant_check_plans::recipes::is_known;
 use plant_recipe::is_well_formed;
 use plant_tables_judged::DeskRows;
+use plant_view::lines_in;
 use std::alloc::{AllocError, Global};
 
 /// The recipe, where this is wanted of the row as a whole.

@@ -2,9 +2,8 @@
 
 ghost use Rattle.std.specs.Prelude.{◌≡◌, IfOk};
 ghost use Rattle.std.specs.List.{list_any, list_all};
-ghost use Rattle.plant_stock.specs.Stock.{goes_to, comes_from, is_one_source};
+ghost use Rattle.plant_stock.specs.Stock.{is_one_source};
 ghost use Rattle.plant_view.specs.Genealogy.{batch_by};
-ghost use Rattle.plant_view.specs.Materials.{takes, makes, is_taken, is_made};
 ghost use Rattle.plant_check_stock.specs.Movements.{is_batch_there, names_known, are_of_one, is_asked_for};
 ghost use Rattle.plant_check_stock.specs.Movements.{is_yielded, is_of_right_definition, is_merged};
 ghost use Rattle.plant_check_stock.specs.Movements.{are_distinct};
@@ -12,9 +11,11 @@ ghost use Rattle.plant_check_stock.specs.Movements.{are_parts, is_of_right_merge
 ghost use Rattle.plant_check_stock.specs.Movements.{are_movements};
 
 use crate::keys::{Lots, Parts, Sublots, is_there, lot_at, parts_of};
-use plant_base::{BatchRow, ControlLine, Id, Lot, Movement, MovementKind, RecipeLine, Sublot};
+use plant_base::{BatchRow, ControlLine, Id, Lot, Movement, MovementKind, Sublot};
 use plant_check_groups::Grouped;
 use plant_check_plans::keys::{Batches, ControlLines, control_of, has_batch};
+use plant_stock::{source, target};
+use plant_view::{is_made, is_taken};
 use std::alloc::{AllocError, Global};
 
 /// A merge has no more parts.
@@ -129,31 +130,6 @@ fn is_right(named: &Named, parts: &Grouped<Parts>, movement: &Movement) -> bool
     named.knows(movement) && named.allows(movement) && is_of_right_merge(parts, movement)
 }
 
-/// The sublot that the movement brings its amount to.
-pub fn target(movement: &Movement) -> Option<(Id, u16)>
-    ensures { result ≡ goes_to movement.now.kind movement.now.lot movement.now.sub }
-{
-    match movement.kind {
-        MovementKind::Received | MovementKind::Produced { .. } => Some((
-            movement.lot,
-            movement.sub,
-        )),
-        MovementKind::Consumed { .. } | MovementKind::Scrapped => None,
-        MovementKind::Divided { to } => Some((movement.lot, to)),
-        MovementKind::Split { to } | MovementKind::Merged { to } => Some((to, 0)),
-    }
-}
-
-/// The sublot that the movement takes its amount from.
-pub fn source(movement: &Movement) -> Option<(Id, u16)>
-    ensures { result ≡ comes_from movement.now.kind movement.now.lot movement.now.sub }
-{
-    match movement.kind {
-        MovementKind::Received | MovementKind::Produced { .. } => None,
-        _ => Some((movement.lot, movement.sub)),
-    }
-}
-
 /// The batch that the movement names.
 pub fn batch_by(movement: &Movement) -> Option<Id>
     ensures { result ≡ batch_by movement.now.kind }
@@ -178,7 +154,7 @@ fn is_asked_for(lines: &[ControlLine], lot: Option<Lot>) -> bool
 {
     match lot {
         None => false,
-        Some(lot) => are_taking(lines, lot.def),
+        Some(lot) => is_taken(lines, lot.def),
     }
 }
 
@@ -187,37 +163,7 @@ fn is_yielded(lines: &[ControlLine], lot: Option<Lot>) -> bool
 {
     match lot {
         None => false,
-        Some(lot) => are_making(lines, lot.def),
-    }
-}
-
-fn are_taking(lines: &[ControlLine], def: Id) -> bool
-    ensures { result ≡ is_taken lines.now def }
-{
-    lines.iter().any(|l| takes(def, l.line))
-}
-
-fn are_making(lines: &[ControlLine], def: Id) -> bool
-    ensures { result ≡ is_made lines.now def }
-{
-    lines.iter().any(|l| makes(def, l.line))
-}
-
-fn takes(wanted: Id, line: RecipeLine) -> bool
-    ensures { result ≡ takes wanted line }
-{
-    match line {
-        RecipeLine::In { def, .. } => def == wanted,
-        _ => false,
-    }
-}
-
-fn makes(wanted: Id, line: RecipeLine) -> bool
-    ensures { result ≡ makes wanted line }
-{
-    match line {
-        RecipeLine::Out { def, .. } => def == wanted,
-        _ => false,
+        Some(lot) => is_made(lines, lot.def),
     }
 }
 

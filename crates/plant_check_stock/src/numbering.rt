@@ -9,9 +9,9 @@ ghost use Rattle.plant_check_stock.specs.Numbering.{are_lines};
 ghost use Rattle.plant_check_stock.specs.Numbering.{is_entered_before, has_right_number, are_numbers};
 
 use crate::keys::{EnteredSublots, EventNumbers, entries, has_event};
-use crate::movements::source;
 use plant_base::{BatchEvent, Id, Movement, MovementKind};
 use plant_check_groups::Grouped;
+use plant_stock::source;
 use std::alloc::{AllocError, Global};
 
 /// Whether the numbers of movements and events are those of accepted commands, `greatest` being the last one; no

@@ -19,6 +19,7 @@ use Rattle.plant_recipe.specs.Control.{is_size_of, control_of}
 use Rattle.plant_recipe.specs.Form.{is_well_formed}
 use Rattle.plant_view.specs.Production.{headers_of, header_among, lines_among, control_among, orders_of, order_among, batch_among, control_line, control_of_order, is_batch_among, HasBatchValues, IsSoundBatch, AreSoundBatches, job_among}
 use Rattle.plant_view.specs.Production as view
+use Rattle.plant_view.proofs.Headers.{header_found}
 use Rattle.plant_view.proofs.Rows.{all_mapped, filtered_passes, find_mapped}
 use Rattle.plant_view.proofs.Tests.{and_left, and_right}
 use Rattle.plant_check_plans.specs.Batches.{control_sized, control_where_formed, control_of_found, control_asked_for, is_control, is_right_batch, are_batches}
@@ -30,7 +31,7 @@ use Rattle.plant_view.specs.Tables.{batch_of_row}
 use Rattle.plant_good_found.proofs.Counted.{counted, counted_least, numbered_rows, id_of, alone_found}
 use Rattle.plant_good_found.proofs.Matching.{control_is}
 use Rattle.plant_good_found.proofs.Members.{IsIn, all_at, all_in, pass_at, any_in, finds, in_filter, in_map}
-use Rattle.plant_good_found.proofs.Orders.{header_found, batch_found}
+use Rattle.plant_good_found.proofs.Orders.{batch_found}
 
 -- what the test of a batch asks
 pub record IsTested (recipes : List Recipe) (rows : List MasterLine) (jobs : List Job) (batches : List BatchRow) (control : List ControlLine) (b : BatchRow) : Type 0 where

@@ -1,19 +1,18 @@
 -- Orders that pass their tests are sound.
 use Rattle.std.proofs.Common.{◌≡◌, ◌∙◌, ℕ, true, List, map, Option, Some, None, is_some, option_map, refl, ap}
-use Rattle.std.specs.Prelude.{◌&&◌, ◌==◌}
 use Rattle.std.specs.List.{AllByRecursion}
 use Rattle.std.specs.List.Sorted.{IsStrictlySortedBy}
 use Rattle.std.proofs.lemmas.Bool.{false≢true}
 use Rattle.plant_base.specs.State.{same, job_order}
 use Rattle.plant_base.specs.declared.rows.Batch.{Batch}
 use Rattle.plant_base.specs.declared.rows.BatchRow.{BatchRow}
-use Rattle.plant_base.specs.declared.rows.Header.{Header}
 use Rattle.plant_base.specs.declared.rows.Job.{Job}
 use Rattle.plant_base.specs.declared.rows.OrderRow.{OrderRow}
 use Rattle.plant_base.specs.declared.rows.Recipe.{Recipe}
 use Rattle.plant_base.specs.declared.states.JobState.{JobState}
 use Rattle.plant_base.specs.declared.states.JobState.TheVariants.{Open, Cancelled, Released, Finished}
 use Rattle.plant_view.specs.Production.{headers_of, header_among, batch_among, is_size_of_some, has_batch, HasGoodOrder, AreSoundOrders, is_size_of_recipe}
+use Rattle.plant_view.proofs.Headers.{header_found, size_of_recipe}
 use Rattle.plant_view.proofs.Rows.{all_mapped, find_mapped, some_mapped}
 use Rattle.plant_view.proofs.Tests.{and_left, and_right}
 use Rattle.plant_check_plans.specs.Orders.{recipe_among, row_of_order, is_started, is_right_order, are_orders}
@@ -32,17 +31,9 @@ tested recipes batches j e =
     let started = is_started j.state (row_of_order batches j.order.order) in
     record { sized = and_left sized started e; started = and_right sized started e }
 
--- the header that is found is that of the recipe
-pub header_found : (recipes : List Recipe) (id : List ℕ) (version : ℕ) → header_among (headers_of recipes) id version ≡ option_map (λ q. q.header) (recipe_among recipes id version)
-header_found recipes id version = find_mapped (λ (h : Header). same h.recipe id && h.version == version) (λ q. q.header) recipes
-
 -- the batch that is found is that of the row
 pub batch_found : (batches : List BatchRow) (order : List ℕ) → batch_among (map batch_of_row batches) order ≡ option_map batch_of_row (row_of_order batches order)
 batch_found batches order = find_mapped (λ (b : Batch). same b.job order) batch_of_row batches
-
-sized_same : (o : Option Recipe) (size : ℕ) → is_size_of_some (option_map (λ q. q.header) o) size ≡ is_size_of_recipe o size
-sized_same None size = refl
-sized_same (Some q) size = refl
 
 has_one : (state : JobState) (b : Option BatchRow) → is_started state b ≡ true → is_some b ≡ has_batch state
 has_one Open None e = refl
@@ -64,7 +55,7 @@ module _ (recipes : List Recipe) (batches : List BatchRow) (jobs : List Job) (te
     values = all_mapped HasGoodOrder (λ j. j.order) jobs values;
     sized = all_mapped (λ (o : OrderRow). is_size_of_some (header_among (headers_of recipes) o.recipe o.version) o.size ≡ true) (λ j. j.order) jobs
         (all_in (λ (j : Job). is_size_of_some (header_among (headers_of recipes) j.order.recipe j.order.version) j.order.size ≡ true) jobs (λ j h.
-        ap (λ o. is_size_of_some o j.order.size) (header_found recipes j.order.recipe j.order.version) ∙ sized_same (recipe_among recipes j.order.recipe j.order.version) j.order.size ∙ (tested_order j h).sized));
+        ap (λ o. is_size_of_some o j.order.size) (header_found recipes j.order.recipe j.order.version) ∙ size_of_recipe (recipe_among recipes j.order.recipe j.order.version) j.order.size ∙ (tested_order j h).sized));
     started = all_in (λ (j : Job). is_some (batch_among (map batch_of_row batches) j.order.order) ≡ has_batch j.state) jobs (λ j h.
         ap is_some (batch_found batches j.order.order) ∙ some_mapped batch_of_row (row_of_order batches j.order.order) ∙ has_one j.state (row_of_order batches j.order.order) (tested_order j h).started);
   }

@@ -1,40 +1,20 @@
 -- The state whose tables are the rows that were loaded.
-use Rattle.std.specs.Prelude.{◌≡◌, Some, None, map}
-use Rattle.std.specs.List.{filter_map}
+use Rattle.std.specs.Prelude.{◌≡◌, Some, None}
 use Rattle.sqlite.specs.Effect.{Database}
 use Rattle.plant_base.specs.State.{State}
-use Rattle.plant_view.specs.Tables.{tables_of, place_of_row, batch_of_row}
+use Rattle.plant_view.specs.Tables.{state_without_kept, tables_of}
 use Rattle.plant_good.specs.Good.{IsGood}
 use Rattle.table_forms.specs.Standing.{StandIn}
 use Rattle.plant_tables.specs.DeskForms.{forms_of}
 use Rattle.plant_tables.specs.Keyed.{HoldsTablesOf}
 use Rattle.plant_tables_stored.specs.Loading.{AreRising, contents_loaded}
 use Rattle.plant_tables_stored.specs.declared.loaded.Loaded.{Loaded}
-use Rattle.plant_tables_columns.specs.Booked.{movement_from}
-use Rattle.plant_tables_columns.specs.Stated.{recall_from}
 use Rattle.plant_tables_judged.specs.Collecting.{Rows, rows_from, tables_in, AreWhole}
 use Rattle.plant_check.specs.Broken.{first_broken, first_broken_of}
 
 -- the rows without the columns that follow from others
 abbrev pub state_in : Rows → State
-state_in r = record {
-  seq = r.meta.position.seq;
-  at = r.meta.position.at;
-  classes = r.classes;
-  definitions = r.definitions;
-  recipes = r.recipes;
-  master_lines = r.master_lines;
-  jobs = r.jobs;
-  batches = map batch_of_row r.batches;
-  control_lines = r.control_lines;
-  events = r.events;
-  lots = r.lots;
-  places = map place_of_row r.sublots;
-  movements = filter_map movement_from r.movements;
-  holds = r.holds;
-  receipts = r.receipts;
-  recalls = filter_map recall_from r.recalls;
-}
+state_in r = state_without_kept (tables_in r)
 
 -- the rows are those of a good state's tables, in the schema that they tell
 pub record AreOfGood (r : Rows) : Type 0 where

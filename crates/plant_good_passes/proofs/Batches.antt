@@ -26,6 +26,7 @@ use Rattle.plant_view.specs.Production as known
 use Rattle.plant_view.specs.Production.{headers_of, orders_of, order_among, batch_among, lines_among, control_line, control_among, control_of_order, IsWholeRecipe, IsSoundBatch, job_among, is_size_of_recipe}
 use Rattle.plant_view.specs.Sound.{IsSound}
 use Rattle.plant_view.specs.Tables.{batch_row}
+use Rattle.plant_view.proofs.Headers.{header_found}
 use Rattle.plant_view.proofs.KeptSound.{all_two}
 use Rattle.plant_view.proofs.Rows.{all_mapped, all_unmapped, find_mapped}
 use Rattle.plant_check_plans.specs.Batches.{control_sized, control_where_formed, control_of_found, control_asked_for, is_control, is_row_among, is_right_batch, are_batches}
@@ -33,7 +34,7 @@ use Rattle.plant_check_plans.specs.Orders.{recipe_among}
 use Rattle.plant_check_plans.specs.Recipes.{are_numbered}
 use Rattle.plant_check.proofs.BookedEnds.{filter_mapped}
 use Rattle.plant_good_passes.proofs.Testing.{all_pass, AreApart, one_left, ids_apart, numbers_pass}
-use Rattle.plant_good_passes.proofs.Orders.{header_found, sizes_pass}
+use Rattle.plant_good_passes.proofs.Orders.{sizes_pass}
 use Rattle.plant_good_passes.proofs.Events.{batch_there}
 
 -- ---- one batch an order

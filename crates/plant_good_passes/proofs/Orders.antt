@@ -1,11 +1,9 @@
 -- Orders of a sound state keep their rule.
-use Rattle.std.proofs.Common.{◌≡◌, ◌∙◌, ℕ, true, List, map, Option, Some, None, is_some, option_map, refl, sym, ap}
-use Rattle.std.specs.Prelude.{◌&&◌, ◌==◌, not}
+use Rattle.std.proofs.Common.{◌≡◌, ◌∙◌, true, map, Option, Some, None, is_some, option_map, refl, sym, ap}
+use Rattle.std.specs.Prelude.{not}
 use Rattle.std.specs.List.{AllByRecursion}
 use Rattle.std.proofs.lemmas.Bool.{false≢true, and_from}
 use Rattle.plant_base.specs.State.{State, same, job_order}
-use Rattle.plant_base.specs.declared.rows.Header.{Header}
-use Rattle.plant_base.specs.declared.rows.Recipe.{Recipe}
 use Rattle.plant_base.specs.declared.rows.OrderRow.{OrderRow}
 use Rattle.plant_base.specs.declared.rows.Job.{Job}
 use Rattle.plant_base.specs.declared.rows.Batch.{Batch}
@@ -17,18 +15,11 @@ use Rattle.plant_base.proofs.Keys.{same_id, same_itself}
 use Rattle.plant_view.specs.Production.{headers_of, header_among, is_size_of_some, batch_among, has_batch, job_among, is_finished, has_finished, IsSoundRun, is_size_of_recipe}
 use Rattle.plant_view.specs.Sound.{IsSound}
 use Rattle.plant_view.specs.Tables.{batch_row}
+use Rattle.plant_view.proofs.Headers.{header_found, size_of_recipe}
 use Rattle.plant_view.proofs.KeptSound.{all_two}
 use Rattle.plant_view.proofs.Rows.{all_unmapped, find_mapped}
 use Rattle.plant_check_plans.specs.Orders.{recipe_among, row_of_order, is_started, is_right_order, are_orders}
 use Rattle.plant_good_passes.proofs.Testing.{all_pass, one_found, apart_sorted, ids_apart}
-
--- a look-up among headers is one among recipes
-pub header_found : (recipes : List Recipe) (id : List ℕ) (version : ℕ) → header_among (headers_of recipes) id version ≡ option_map (λ r. r.header) (recipe_among recipes id version)
-header_found recipes id version = find_mapped (λ (h : Header). same h.recipe id && h.version == version) (λ (r : Recipe). r.header) recipes
-
-size_of_recipe : (o : Option Recipe) (size : ℕ) → is_size_of_some (option_map (λ r. r.header) o) size ≡ is_size_of_recipe o size
-size_of_recipe None size = refl
-size_of_recipe (Some r) size = refl
 
 module _ (s : State) (sound : IsSound s) where
   abbrev row : Batch → BatchRow

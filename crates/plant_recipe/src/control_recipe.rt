@@ -9,7 +9,7 @@ ghost use Rattle.plant_recipe.specs.declared.control_recipe.RecipeFault.TheVaria
 
 use crate::master::Master;
 use crate::scaling::scaled;
-use plant_base::{Amount, Items, RecipeLine};
+use plant_base::{Amount, Header, Items, RecipeLine};
 use std::alloc::{AllocFailed, Global};
 use thiserror::Error;
 
@@ -55,6 +55,13 @@ pub fn control(
     let base = master.header().base;
     let lines = scale_lines(alloc, base, size, master.lines())?;
     Ok(Items::new(lines))
+}
+
+/// Whether a size is among those of a header, its least and its greatest among them.
+pub fn is_size_of(header: &Header, size: Amount) -> bool
+    ensures { result ≡ is_size_of header.now size }
+{
+    header.least.get() <= size.get() && size.get() <= header.greatest.get()
 }
 
 /// A control recipe has as many lines and phases as its master recipe, as a law that a proof above may cite. It does

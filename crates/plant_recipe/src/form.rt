@@ -41,7 +41,7 @@ pub fn is_well_formed(header: &Header, lines: &[RecipeLine]) -> bool
 pub fn phase_count(lines: &[RecipeLine]) -> usize
     ensures { result ≡ phases_of lines.now }
 {
-    lines.iter().filter(|&&line| is_phase_line(line)).count()
+    lines.iter().filter(|&&line| is_phase(line)).count()
 }
 
 /// What holds of every well-formed recipe, as a law that a proof above may cite. It does nothing when it runs.
@@ -69,7 +69,7 @@ fn has_sizes(header: &Header) -> bool
 pub fn has_some_phase(lines: &[RecipeLine]) -> bool
     ensures { result ≡ has_phase lines.now }
 {
-    lines.iter().any(|&line| is_phase_line(line))
+    lines.iter().any(|&line| is_phase(line))
 }
 
 /// Whether one of the lines is an output of the product.
@@ -103,13 +103,15 @@ fn all_scale(base: Amount, size: Amount, lines: &[RecipeLine]) -> bool
     lines.iter().all(|&line| scales_within(base, size, line))
 }
 
-fn is_phase_line(line: RecipeLine) -> bool
+/// Whether the line is a phase.
+pub fn is_phase(line: RecipeLine) -> bool
     ensures { result ≡ is_phase line }
 {
     matches!(line, RecipeLine::Phase { .. })
 }
 
-fn is_input_of(wanted: Id, line: RecipeLine) -> bool
+/// Whether the line is an input of this definition.
+pub fn is_input_of(wanted: Id, line: RecipeLine) -> bool
     ensures { result ≡ is_in_of wanted line }
 {
     match line {
@@ -118,7 +120,8 @@ fn is_input_of(wanted: Id, line: RecipeLine) -> bool
     }
 }
 
-fn is_output_of(wanted: Id, line: RecipeLine) -> bool
+/// Whether the line is an output of this definition.
+pub fn is_output_of(wanted: Id, line: RecipeLine) -> bool
     ensures { result ≡ is_out_of wanted line }
 {
     match line {

@@ -8,10 +8,10 @@ mod progress;
 mod scaling;
 mod table;
 
-pub use control_recipe::{RecipeFault, control, control_law};
+pub use control_recipe::{RecipeFault, control, control_law, is_size_of};
 pub use form::{
-    GREATEST_LINES, form_laws, has_output_of, has_some_phase, is_repeated_by, is_well_formed,
-    phase_count, scales_within,
+    GREATEST_LINES, form_laws, has_output_of, has_some_phase, is_input_of, is_output_of, is_phase,
+    is_repeated_by, is_well_formed, phase_count, scales_within,
 };
 pub use master::Master;
 pub use progress::{GREATEST_ATTEMPT, GREATEST_PHASES, Progress, progress_laws};

@@ -132,8 +132,8 @@ fn is_in_lot(place: Option<(Id, u16)>, lot: Id) -> bool
     }
 }
 
-// The sublot that the movement brings its amount to.
-fn target(movement: &Movement) -> Option<(Id, u16)>
+/// The sublot that the movement brings its amount to, where it brings it to one.
+pub fn target(movement: &Movement) -> Option<(Id, u16)>
     ensures { result ≡ goes_to movement.now.kind movement.now.lot movement.now.sub }
 {
     match movement.kind {
@@ -147,8 +147,8 @@ fn target(movement: &Movement) -> Option<(Id, u16)>
     }
 }
 
-// The sublot that the movement takes its amount from.
-fn source(movement: &Movement) -> Option<(Id, u16)>
+/// The sublot that the movement takes its amount from, where it takes it from one.
+pub fn source(movement: &Movement) -> Option<(Id, u16)>
     ensures { result ≡ comes_from movement.now.kind movement.now.lot movement.now.sub }
 {
     match movement.kind {

@@ -1,1 +1,4 @@
 pub mod Passing
+pub mod Filtering
+pub mod Sorting
+pub mod Halving

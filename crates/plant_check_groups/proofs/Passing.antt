@@ -1,18 +1,15 @@
 -- Whether a test passes an element of a list.
-use Rattle.std.proofs.Common.{◌≡◌, ℕ, suc, Bool, true, false, List, [], ◌∷◌, length, cond, refl, ap, Option, Some, find, slice_get, arith}
-use Rattle.std.proofs.lemmas.Bool.Decides.{nat_tests}
-use Rattle.std.specs.Prelude.{not, filter, ◌==◌, ◌||◌}
+use Rattle.std.proofs.Common.{◌≡◌, ◌∙◌, sym, ap, Bool, true, false, List, [], ◌∷◌, cond, refl, Some, find, slice_get}
+use Rattle.std.specs.Prelude.{filter, ◌||◌}
 use Rattle.std.specs.List.{list_any}
+use Rattle.std.specs.Option.{is_some}
 
-more_than_none : (n : ℕ) → (suc n == 0) ≡ false
-more_than_none n = grind (arith, nat_tests)
-
--- some element passes where not none is left of those that do
-pub some_passes : {X : Type 0} (p : X → Bool) (xs : List X) → not (length (filter p xs) == 0) ≡ list_any p xs
-some_passes p [] = refl
-some_passes {X} p (x ∷ xs) = elim (p x) as (λ b. not (length (cond b (x ∷ filter p xs) (filter p xs)) == 0) ≡ (b || list_any p xs)) [
-  | true ↦ ap not (more_than_none (length (filter p xs)))
-  | false ↦ some_passes p xs
+-- some element passes where one is found
+pub some_found : {X : Type 0} (p : X → Bool) (xs : List X) → is_some (find p xs) ≡ list_any p xs
+some_found p [] = refl
+some_found {X} p (x ∷ xs) = elim (p x) as (λ b. is_some (cond b (Some x) (find p xs)) ≡ (b || list_any p xs)) [
+  | true ↦ refl
+  | false ↦ some_found p xs
 ]
 
 -- the first of those that pass is the one that is found
@@ -22,3 +19,7 @@ first_found {X} p (x ∷ xs) = elim (p x) as (λ b. slice_get (cond b (x ∷ fil
   | true ↦ refl
   | false ↦ first_found p xs
 ]
+
+-- where the same pass, the same is found
+pub found_alike : {X : Type 0} (p : X → Bool) (xs ys : List X) → filter p xs ≡ filter p ys → find p xs ≡ find p ys
+found_alike p xs ys e = sym (first_found p xs) ∙ ap (λ l. slice_get l 0) e ∙ first_found p ys

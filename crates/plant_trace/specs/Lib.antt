@@ -7,4 +7,5 @@ pub mod Index
 pub mod Ranks
 pub mod Growth
 pub mod Places
+pub mod Mentions
 pub mod Recalls

@@ -9,6 +9,7 @@ mod growth;
 mod indexed;
 mod listed;
 mod node;
+mod places;
 mod positions;
 mod recalls;
 mod rounds;

@@ -1,6 +1,6 @@
 -- Where a store stands after what it has been through.
 use Rattle.std.proofs.Common.{◌≡◌, ◌∙◌, ℕ, pos, Bool, true, false, List, [], ◌∷◌, ◌++◌, length, map, take, Option, Some, None, Result, Ok, Err, refl, sym, ap, subst, inl, inr, arith}
-use Rattle.std.specs.Prelude.{◌⊎◌, slice_get}
+use Rattle.std.specs.Prelude.{◌⊎◌, slice_get, zip}
 use Rattle.std.proofs.lemmas.List.{append_assoc}
 use Rattle.sqlite.specs.Tree.{Trees}
 use Rattle.sqlite.specs.Effect.{Database, IsDatabase}
@@ -14,7 +14,8 @@ use Rattle.plant_rules.specs.Step.{step}
 use Rattle.table_forms.specs.Standing.{AreFree}
 use Rattle.plant_tables.specs.DeskForms.{desk_forms}
 use Rattle.plant_desk.specs.Keeping.{States, Executes, Asks, shuts}
-use Rattle.plant_desk.specs.Runs.{fold}
+use Rattle.plant_desk.specs.Replies.{reply}
+use Rattle.plant_desk.specs.Runs.{fold, replies}
 use Rattle.plant_desk.specs.declared.question.Question.{Question}
 use Rattle.plant_desk.specs.declared.question.Answer.{Answer}
 use Rattle.plant_desk.specs.declared.reply.Reply.{Reply}
@@ -38,13 +39,22 @@ use Rattle.plant_desk_store.proofs.Reopening.{same_database, none_later, reopene
 
 leads_on : (s t u : State) (a b : List Sent) → MayLeadTo s a t → MayLeadTo t b u → MayLeadTo s (a ++ b) u
 leads_on s t u [] b p q = subst (λ (x : State). MayLeadTo x b u) p q
-leads_on s t u (acknowledged e ∷ a) b p q = leads_on (step s e) t u a b p q
+leads_on s t u (acknowledged e r ∷ a) b p q = (p.0, leads_on (step s e) t u a b p.1 q)
 leads_on s t u (under_way e ∷ a) b (inl p) q = inl (leads_on s t u a b p q)
 leads_on s t u (under_way e ∷ a) b (inr p) q = inr (leads_on (step s e) t u a b p q)
 
-all_taken : (s : State) (list : List Envelope) → MayLeadTo s (map acknowledged list) (fold s list)
-all_taken s [] = refl
-all_taken s (e ∷ list) = all_taken (step s e) list
+-- the commands that were answered, each with its reply
+abbrev acknowledgements : List Envelope → List Reply → List Sent
+acknowledgements list answered = map (λ p. acknowledged p.0 p.1) (zip list answered)
+
+all_taken : (s : State) (list : List Envelope) (answered : List Reply) → answered ≡ replies s (take (length answered) list) → MayLeadTo s (acknowledgements list answered) (fold s (take (length answered) list))
+all_taken s [] [] told = refl
+all_taken s [] (r ∷ answered) told = absurd (cc)
+all_taken s (e ∷ list) [] told = refl
+all_taken s (e ∷ list) (r ∷ answered) told =
+    let first : r ≡ reply s e = cc in
+    let others : answered ≡ replies (step s e) (take (length answered) list) = cc in
+    (first, all_taken (step s e) list answered others)
 
 -- ---- a database that can be adopted
 
@@ -142,7 +152,7 @@ adopted_at s sent old new newly (inr (u, lead, (version, adoptable))) did clean 
 
 -- a command
 executed_at : (s u : State) (sent : List Sent) (new : store.State) (e : Envelope) (r : Result Reply DeskFault) → MayLeadTo s sent u → Executes u (DeskStands new (shuts r)) (Leaves new) e r → Stood s (sent ++ sent_as e r) new (desk (shuts r))
-executed_at s u sent new e (Ok reply) lead did = (step u e, leads_on s u (step u e) sent (acknowledged e ∷ []) lead refl, open_at new (step u e) did.1)
+executed_at s u sent new e (Ok r) lead did = (step u e, leads_on s u (step u e) sent (acknowledged e r ∷ []) lead (did.0, refl), open_at new (step u e) did.1)
 executed_at s u sent new e (Err Store) lead did = (
   (u, leads_on s u u sent (under_way e ∷ []) lead (inl refl)),
   leaves_states s (sent ++ under_way e ∷ []) new (λ v. (v ≡ u) ⊎ (v ≡ step u e)) (λ v is. leads_on s u v sent (under_way e ∷ []) lead is) did.1,
@@ -209,8 +219,8 @@ module _ {S : Type 0} (g : Ghosts S) where
       let c = state g new in
       let run = did.ran clean at.0 (at.2.stands, λ _. at.2.leaves) in
       let n = length answered in
-      let taken = map acknowledged (take n list) in
-      let lead = leads_on was.0 at.0 (fold at.0 (take n list)) sent taken at.1 (all_taken at.0 (take n list)) in (
+      let taken = acknowledgements list answered in
+      let lead = leads_on was.0 at.0 (fold at.0 (take n list)) sent taken at.1 (all_taken at.0 list answered run.told) in (
         was.0,
         was.1,
         subst (λ (xs : List Sent). Stood was.0 xs c (desk shut)) (append_assoc sent taken (cut_off end (slice_get list n)))

@@ -1,5 +1,5 @@
 -- The life of a desk's store: its openings, the calls of a desk over it, and its stops, in whichever order they came.
-use Rattle.std.specs.Prelude.{◌≡◌, ◌⊎◌, Bool, false, List, [], ◌∷◌, ◌++◌, length, map, take, slice_get, Option, Some, Result, Ok, Err}
+use Rattle.std.specs.Prelude.{◌≡◌, ◌⊎◌, Bool, false, List, [], ◌∷◌, ◌++◌, length, map, zip, slice_get, Option, Some, Result, Ok, Err}
 use Rattle.sqlite.specs.Held.{Held, state}
 use Rattle.sqlite.specs.State as store
 use Rattle.sqlite.specs.State.{HasCleanDisk, IsLive}
@@ -11,6 +11,7 @@ use Rattle.table_forms.specs.Standing.{AreFree}
 use Rattle.table_reads.specs.Opened.{IsNewlyOpened}
 use Rattle.plant_tables.specs.DeskForms.{desk_forms}
 use Rattle.plant_check.specs.declared.rule.Rule.{Rule}
+use Rattle.plant_desk.specs.Replies.{reply}
 use Rattle.plant_desk.specs.declared.question.Question.{Question}
 use Rattle.plant_desk.specs.declared.question.Answer.{Answer}
 use Rattle.plant_desk.specs.declared.reply.Reply.{Reply}
@@ -21,20 +22,21 @@ use Rattle.plant_desk_store.specs.declared.adopting.AdoptFault.{AdoptFault}
 
 -- ---- commands that were sent
 
--- a command was acknowledged, by its number or its refusal; or it was under way when the store failed or was stopped
+-- a command was acknowledged by this reply, its number or its refusal; or it was under way when the store failed or was stopped
 pub data Sent : Type 0 where
-  acknowledged : Envelope → Sent
+  acknowledged : Envelope → Reply → Sent
   under_way : Envelope → Sent
 
--- where commands may have led: each that was acknowledged is taken, and each that was under way is or isn't
+-- where commands may have led: each that was acknowledged is taken, and its reply is the definitions' at the state that it was
+-- taken at; each that was under way is taken or isn't
 abbrev pub MayLeadTo : State → List Sent → State → Type 0
 MayLeadTo s [] u = u ≡ s
-MayLeadTo s (acknowledged e ∷ more) u = MayLeadTo (step s e) more u
+MayLeadTo s (acknowledged e r ∷ more) u = (r ≡ reply s e) × MayLeadTo (step s e) more u
 MayLeadTo s (under_way e ∷ more) u = MayLeadTo s more u ⊎ MayLeadTo (step s e) more u
 
 -- a command that came to this; where memory was refused it wasn't begun
 abbrev pub sent_as : Envelope → Result Reply DeskFault → List Sent
-sent_as e (Ok r) = acknowledged e ∷ []
+sent_as e (Ok r) = acknowledged e r ∷ []
 sent_as e (Err Store) = under_way e ∷ []
 sent_as e (Err Memory) = []
 sent_as e (Err Shut) = []
@@ -44,9 +46,9 @@ abbrev pub cut_off : Option DeskFault → Option Envelope → List Sent
 cut_off (Some Store) (Some e) = under_way e ∷ []
 cut_off _ _ = []
 
--- a list of commands of which so many were answered, before it came to this end
+-- a list of commands, of which the first were answered by these replies, before it came to this end
 abbrev pub sent_of : List Envelope → List Reply → Option DeskFault → List Sent
-sent_of list answered end = map acknowledged (take (length answered) list) ++ cut_off end (slice_get list (length answered))
+sent_of list answered end = map (λ p. acknowledged p.0 p.1) (zip list answered) ++ cut_off end (slice_get list (length answered))
 
 -- ---- the store
 

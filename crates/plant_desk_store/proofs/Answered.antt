@@ -1,5 +1,5 @@
 -- What is answered of a state is what its movements say.
-use Rattle.std.proofs.Common.{◌≡◌, ◌∙◌, ◌+◌, ℕ, List, Option, Some, None, refl, sym, subst, arith}
+use Rattle.std.proofs.Common.{◌≡◌, ◌∙◌, ◌+◌, ℕ, List, Option, Some, None, refl, sym, ap, subst, arith}
 use Rattle.std.specs.Prelude.{filter}
 use Rattle.plant_base.specs.State.{State, same, lot_at, newest_schema}
 use Rattle.plant_base.specs.declared.refusal.Refusal.{Refusal}
@@ -7,13 +7,14 @@ use Rattle.plant_base.specs.declared.rows.Lot.{Lot}
 use Rattle.plant_base.specs.declared.rows.Place.{Place}
 use Rattle.plant_base.proofs.Find.{found_passes}
 use Rattle.plant_base.proofs.Keys.{same_id}
+use Rattle.plant_base.proofs.Put.{map_back}
 use Rattle.plant_stock.specs.Stock.{left_of, born_of}
 use Rattle.plant_trace.specs.declared.direction.Direction.{Direction}
 use Rattle.plant_trace.specs.declared.node.Node.{Node}
 use Rattle.plant_view.specs.Conserve.{lot_stock}
 use Rattle.plant_view.specs.Genealogy.{edges_of}
 use Rattle.plant_view.specs.Sound.{IsSound}
-use Rattle.plant_view.specs.Tables.{sublot_row}
+use Rattle.plant_view.specs.Tables.{sublot_row, place_of_row}
 use Rattle.plant_view.proofs.Balanced.{balanced}
 use Rattle.plant_view.proofs.Rows.{all_of, all_mapped}
 use Rattle.plant_desk.specs.Around.{answer_stands}
@@ -22,16 +23,17 @@ use Rattle.plant_desk.specs.LotAnswers.{answer_lot}
 use Rattle.plant_desk.specs.Traces.{missing, answer_trace}
 use Rattle.plant_desk.specs.declared.question.Question.{Question}
 use Rattle.plant_desk.specs.declared.question.Question.TheVariants as Q
-use Rattle.plant_desk.proofs.GoodsReached.{standing_only, standing_all}
+use Rattle.plant_desk.specs.declared.question.Answer.{Answer}
+use Rattle.plant_desk.proofs.GoodsReached.{standing_sorted, standing_only, standing_all}
 use Rattle.plant_desk.proofs.Reaching.{trace_lists}
-use Rattle.plant_desk_store.specs.Headline.{IsTraceIn, AreStandingIn, IsLotIn, IsToldIn}
+use Rattle.plant_desk_store.specs.Headline.{IsTraceIn, AreStandingIn, IsLotIn, SaysOf, IsToldIn}
 
 trace_told : (s : State) (direction : Direction) (start : Node) (o : Option Refusal) → missing s start ≡ o → IsTraceIn s direction start (answer_trace s direction start o)
 trace_told s direction start None e = trace_lists (edges_of s) direction start
 trace_told s direction start (Some r) e = λ there. let both : Some r ≡ None = sym e ∙ there in absurd (cc)
 
 stands_told : (s : State) (start : Node) (o : Option Refusal) → missing s start ≡ o → AreStandingIn s start (answer_stands s start o)
-stands_told s start None e = λ a. (standing_only s start a, standing_all s start a)
+stands_told s start None e = (standing_sorted s start, λ a. (standing_only s start a, standing_all s start a))
 stands_told s start (Some r) e = λ there. let both : Some r ≡ None = sym e ∙ there in absurd (cc)
 
 lot_told : (s : State) → IsSound s → (lot : List ℕ) (o : Option Lot) → lot_at s lot ≡ o → IsLotIn s lot (answer_lot s o)
@@ -41,12 +43,16 @@ lot_told s sound lot (Some l) e =
     record {
       named = named;
       stock = subst (λ (id : List ℕ). lot_stock s id + left_of s.movements lot ≡ born_of s.movements lot) (sym named) (balanced s sound lot);
+      sublots = map_back place_of_row (sublot_row s.movements) (λ p. refl) (filter (λ (p : Place). same p.lot l.id) s.places) ∙ ap (λ (id : List ℕ). filter (λ (p : Place). same p.lot id) s.places) named;
       each = all_mapped _ (sublot_row s.movements) (filter (λ (p : Place). same p.lot l.id) s.places) (all_of _ (λ (p : Place). let low = sound.covered p.lot p.number in omega (arith, low)) _);
     }
 
-pub answered : (s : State) → IsSound s → (q : Question) → IsToldIn s q (answer newest_schema s q)
+said : (s : State) → IsSound s → (q : Question) → SaysOf s q (answer newest_schema s q)
 unfolding answer
-answered s sound (Q.Lot lot) = lot_told s sound lot (lot_at s lot) refl
-answered s sound (Q.Trace direction start) = trace_told s direction start (missing s start) refl
-answered s sound (Q.Stands start) = stands_told s start (missing s start) refl
-answered s sound _ = tt
+said s sound (Q.Lot lot) = lot_told s sound lot (lot_at s lot) refl
+said s sound (Q.Trace direction start) = trace_told s direction start (missing s start) refl
+said s sound (Q.Stands start) = stands_told s start (missing s start) refl
+said s sound _ = tt
+
+pub answered : (s : State) → IsSound s → (q : Question) (a : Answer) → a ≡ answer newest_schema s q → IsToldIn s q a
+answered s sound q a is = record { answered = is; says = subst (SaysOf s q) (sym is) (said s sound q) }

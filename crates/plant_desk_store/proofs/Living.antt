@@ -23,7 +23,7 @@ use Rattle.plant_desk.specs.declared.reply.DeskFault.{DeskFault}
 use Rattle.plant_desk.specs.declared.reply.DeskFault.TheVariants.{Store, Memory, Shut}
 use Rattle.plant_desk_store.specs.Adopting.{AdoptedFrom, Adopts, IsRefusedBy}
 use Rattle.plant_desk_store.specs.Calls.{HasAdopted, HasRefused}
-use Rattle.plant_desk_store.specs.Headline.{IsAtState, IsFoundAt, IsKeptAt, IsSoAt, IsToldIn, LeavesSomething, Headline}
+use Rattle.plant_desk_store.specs.Headline.{IsAtState, IsFoundAt, IsKeptAt, IsSoAt, LeavesSomething, Headline}
 use Rattle.plant_desk_store.specs.DeskLaws.{IsAdoptable, IsOpenedAfter}
 use Rattle.plant_desk_store.specs.Life.{Sent, acknowledged, under_way, MayLeadTo, sent_as, cut_off, IsOpened, Place, opened, desk, refused, Lived, begun, found, adopted, unadopted, executed, ran, asked, verified, indexed, stopped}
 use Rattle.plant_desk_store.specs.Running.{RunEnds}
@@ -260,7 +260,7 @@ module _ {S : Type 0} (g : Ghosts S) where
     tables = λ live. (at.stands.shows live).holds;
     told = λ q a new did clean. (
         let it = did.asks clean u (at.stands, λ _. at.leaves) in
-        subst (IsToldIn u q) (sym it.0) (answered u at.stands.good.sound q));
+        answered u at.stands.good.sound q a it.0);
   }
 
   so_at : (c : Held S) (s : State) (sent : List Sent) (place : Place) → Stood s sent (state g c) place → (now : State) × MayLeadTo s sent now × IsSoAt g c now place

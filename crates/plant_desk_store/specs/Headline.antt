@@ -1,24 +1,26 @@
 -- The headline: what a store holds and what is told of it, whatever stops came.
-use Rattle.std.specs.Prelude.{◌≡◌, ◌⊎◌, ◌↔◌, ℕ, ◌+◌, true, false, List, None, Ok, IsTrue, ⊤, Contains}
+use Rattle.std.specs.Prelude.{◌≡◌, ◌⊎◌, ◌↔◌, ℕ, ◌+◌, true, false, List, map, filter, None, Ok, IsTrue, ⊤, Contains}
 use Rattle.std.specs.List.{AllByRecursion}
+use Rattle.std.specs.List.Sorted.{IsStrictlySortedBy}
 use Rattle.sqlite.specs.Tree.{Trees}
 use Rattle.sqlite.specs.Effect.{Database}
 use Rattle.sqlite.specs.Held.{Held, state}
 use Rattle.sqlite.specs.State as store
 use Rattle.sqlite.specs.State.{HasCleanDisk}
 use Rattle.sqlite_trees.specs.declared.store.Store.{Ghosts}
-use Rattle.plant_base.specs.State.{State, opening, newest_schema, lot_at}
+use Rattle.plant_base.specs.State.{State, opening, newest_schema, same, lot_at}
 use Rattle.plant_base.specs.declared.rows.Sublot.{Sublot}
 use Rattle.plant_stock.specs.Stock.{entered, left, born_of, left_of}
 use Rattle.plant_trace.specs.Reach.{IsReached, Lists}
 use Rattle.plant_trace.specs.declared.direction.Direction.{Direction}
 use Rattle.plant_trace.specs.declared.node.Node.{Node}
 use Rattle.plant_view.specs.Genealogy.{edges_of}
-use Rattle.plant_view.specs.Tables.{tables_of, IsWholeIn}
+use Rattle.plant_view.specs.Tables.{tables_of, IsWholeIn, place_of_row}
 use Rattle.table_forms.specs.Standing.{AreFree}
 use Rattle.plant_tables.specs.DeskForms.{desk_forms}
 use Rattle.plant_tables.specs.Keyed.{HoldsTablesOf, HoldsTables}
-use Rattle.plant_desk.specs.AnswerLaws.{StandsFrom}
+use Rattle.plant_desk.specs.AnswerLaws.{StandsFrom, lot_answer_order}
+use Rattle.plant_desk.specs.Answers.{answer}
 use Rattle.plant_desk.specs.Traces.{missing}
 use Rattle.plant_desk.specs.declared.question.Question.{Question}
 use Rattle.plant_desk.specs.declared.question.Question.TheVariants as Q
@@ -37,15 +39,17 @@ abbrev pub IsTraceIn : State → Direction → Node → Answer → Type 0
 IsTraceIn s direction start (A.Trace nodes) = Lists (IsReached direction (edges_of s) start) nodes
 IsTraceIn s direction start _ = ¬ (missing s start ≡ None)
 
--- the lots that are told are just those with stock that the start is or leads to, or it isn't there
+-- the lots that are told are just those with stock that the start is or leads to, ascending, each once, or it isn't there
 abbrev pub AreStandingIn : State → Node → Answer → Type 0
-AreStandingIn s start (A.Stands lots) = (a : LotAnswer) → Contains lots a ↔ StandsFrom s start a
+AreStandingIn s start (A.Stands lots) = IsStrictlySortedBy lot_answer_order lots × ((a : LotAnswer) → Contains lots a ↔ StandsFrom s start a)
 AreStandingIn s start _ = ¬ (missing s start ≡ None)
 
--- The stock of the lot is what entered it less what left it, and that of each sublot likewise.
+-- The stock of the lot is what entered it less what left it; its sublots are just those of the state, each at its place, and
+-- the stock of each is likewise what entered it less what left it.
 pub record IsStockIn (s : State) (lot : List ℕ) (a : LotAnswer) : Type 0 where
   pub named : a.lot ≡ lot
   pub stock : a.stock + left_of s.movements lot ≡ born_of s.movements lot
+  pub sublots : map place_of_row a.sublots ≡ filter (λ p. same p.lot lot) s.places
   pub each : AllByRecursion (λ (r : Sublot). r.stock + left s.movements r.lot r.number ≡ entered s.movements r.lot r.number) a.sublots
 
 -- its stock is told, or the lot isn't there
@@ -53,12 +57,18 @@ abbrev pub IsLotIn : State → List ℕ → Answer → Type 0
 IsLotIn s lot (A.Lot a) = IsStockIn s lot a
 IsLotIn s lot _ = lot_at s lot ≡ None
 
--- what is answered of a trace, of where goods stand or of a lot
-abbrev pub IsToldIn : State → Question → Answer → Type 0
-IsToldIn s (Q.Trace direction start) a = IsTraceIn s direction start a
-IsToldIn s (Q.Stands start) a = AreStandingIn s start a
-IsToldIn s (Q.Lot lot) a = IsLotIn s lot a
-IsToldIn s _ a = ⊤
+-- what an answer says of a trace, of where goods stand or of a lot, in words of movements and of the least relation
+abbrev pub SaysOf : State → Question → Answer → Type 0
+SaysOf s (Q.Trace direction start) a = IsTraceIn s direction start a
+SaysOf s (Q.Stands start) a = AreStandingIn s start a
+SaysOf s (Q.Lot lot) a = IsLotIn s lot a
+SaysOf s _ a = ⊤
+
+-- Each question is answered by the definitions' answer at the state, of tables in the newest schema; and of a trace, of where
+-- goods stand and of a lot that says what follows.
+pub record IsToldIn (s : State) (q : Question) (a : Answer) : Type 0 where
+  pub answered : a ≡ answer newest_schema s q
+  pub says : SaysOf s q a
 
 -- ---- what stands
 

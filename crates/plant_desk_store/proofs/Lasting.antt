@@ -15,6 +15,9 @@ use Rattle.plant_desk_store.specs.Calls.{IsAccounted}
 use Rattle.plant_desk_store.specs.Running.{Ran}
 use Rattle.plant_desk_store.specs.DeskStanding.{DeskStands, Leaves}
 
+pub accounted_good : (s : State) → IsGood s → IsAccounted s
+accounted_good s good = record { conserved = conserved s good.sound; balanced = balanced s good.sound; acyclic = good.sound.genealogy.acyclic }
+
 ends_good : (c : store.State) (s : State) (list : List Envelope) (answered : List Reply) (end : Option DeskFault) (leaves : States → Type 0) (shut : Bool) → Ran s list answered end (DeskStands c shut) leaves shut
     → IsGood (fold s (take (length answered) list))
 ends_good c s list answered None leaves shut ran = ran.ended.1.0.good
@@ -25,5 +28,4 @@ ends_good c s list answered (Some Shut) leaves shut ran = absurd ran.ended
 pub accounted : (c : store.State) (s : State) (list : List Envelope) (answered : List Reply) (end : Option DeskFault) (shut : Bool) → Ran s list answered end (DeskStands c shut) (Leaves c) shut
     → IsAccounted (fold s (take (length answered) list))
 accounted c s list answered end shut ran =
-    let good = ends_good c s list answered end (Leaves c) shut ran in
-    record { conserved = conserved _ good.sound; balanced = balanced _ good.sound; acyclic = good.sound.genealogy.acyclic }
+    accounted_good _ (ends_good c s list answered end (Leaves c) shut ran)

@@ -11,6 +11,7 @@ use Rattle.sqlite_trees.specs.declared.store.Store.{Ghosts}
 use Rattle.plant_base.specs.State.{State, opening, newest_schema}
 use Rattle.plant_base.specs.declared.command.Envelope.{Envelope}
 use Rattle.plant_rules.specs.Step.{step}
+use Rattle.plant_good.proofs.StepGood.{opening_good}
 use Rattle.table_forms.specs.Standing.{AreFree}
 use Rattle.plant_tables.specs.DeskForms.{desk_forms}
 use Rattle.plant_desk.specs.Keeping.{States, Executes, Asks, shuts}
@@ -33,6 +34,7 @@ use Rattle.plant_desk_store.specs.declared.adopting.AdoptFault.TheVariants as fa
 use Rattle.plant_tables_stored.proofs.Versions.{each_free, free_tells_nothing}
 use Rattle.plant_desk_store.proofs.Again.{not_free, unrefused}
 use Rattle.plant_desk_store.proofs.Answered.{answered}
+use Rattle.plant_desk_store.proofs.Lasting.{accounted_good}
 use Rattle.plant_desk_store.proofs.Reopening.{same_database, none_later, reopened, adopted_again, opening_adopted}
 
 -- ---- where commands may have led
@@ -245,11 +247,13 @@ module _ {S : Type 0} (g : Ghosts S) where
   -- ---- what is so then
 
   opened_so : (c : Held S) (s : State) (sent : List Sent) → IsReady s sent (state g c).now → (now : State) × MayLeadTo s sent now × IsFoundAt g c now
-  opened_so c s sent (inl (free, lead)) = (opening, lead, record { tables = inl (free, refl); accepted = λ f new did clean. free_refused (state g c).now free f (did.refused clean) })
+  opened_so c s sent (inl (free, lead)) = (opening, lead, record { good = opening_good; accounted = accounted_good opening opening_good; tables = inl (free, refl); accepted = λ f new did clean. free_refused (state g c).now free f (did.refused clean) })
   opened_so c s sent (inr (u, lead, (version, adoptable))) = (
     u,
     lead,
     record {
+      good = adoptable.held.good;
+      accounted = accounted_good u adoptable.held.good;
       tables = inr (version, adoptable.held.holds, adoptable.held.whole);
       accepted = λ f new did clean. unrefused version (state g c).now u adoptable f (did.refused clean);
     },
@@ -257,6 +261,8 @@ module _ {S : Type 0} (g : Ghosts S) where
 
   kept_so : (c : Held S) (u : State) → IsOpenAt (state g c) u → IsKeptAt g c u
   kept_so c u at = record {
+    good = at.stands.good;
+    accounted = accounted_good u at.stands.good;
     tables = λ live. (at.stands.shows live).holds;
     told = λ q a new did clean. (
         let it = did.asks clean u (at.stands, λ _. at.leaves) in

@@ -16,6 +16,7 @@ use Rattle.plant_trace.specs.declared.direction.Direction.{Direction}
 use Rattle.plant_trace.specs.declared.node.Node.{Node}
 use Rattle.plant_view.specs.Genealogy.{edges_of}
 use Rattle.plant_view.specs.Tables.{tables_of, IsWholeIn, place_of_row}
+use Rattle.plant_good.specs.Good.{IsGood}
 use Rattle.table_forms.specs.Standing.{AreFree}
 use Rattle.plant_tables.specs.DeskForms.{desk_forms}
 use Rattle.plant_tables.specs.Keyed.{HoldsTablesOf, HoldsTables}
@@ -27,7 +28,7 @@ use Rattle.plant_desk.specs.declared.question.Question.TheVariants as Q
 use Rattle.plant_desk.specs.declared.question.Answer.{Answer}
 use Rattle.plant_desk.specs.declared.question.Answer.TheVariants as A
 use Rattle.plant_desk.specs.declared.question.LotAnswer.{LotAnswer}
-use Rattle.plant_desk_store.specs.Calls.{HasRefused, HasAsked}
+use Rattle.plant_desk_store.specs.Calls.{IsAccounted, HasRefused, HasAsked}
 use Rattle.plant_desk_store.specs.Life.{Sent, MayLeadTo, IsOpened, Place, opened, desk, refused, Lived}
 use Rattle.plant_desk_store.specs.declared.adopting.AdoptFault.{AdoptFault}
 use Rattle.plant_desk_store.specs.declared.adopting.AdoptFault.TheVariants.{Store, Memory}
@@ -77,13 +78,19 @@ pub record IsToldIn (s : State) (q : Question) (a : Answer) : Type 0 where
 abbrev pub IsAtState : State → Database → Type 0
 IsAtState s db = (AreFree desk_forms db.schema × (s ≡ opening)) ⊎ ((version : ℕ) × HoldsTablesOf version db (tables_of version s) × IsWholeIn version s)
 
--- A store that was opened is at the state, and an adoption refuses it by a fault of the store or for want of memory alone.
+-- A store that was opened is at the state, which is good: nothing in it is lost or made. An adoption refuses it by a fault of
+-- the store or for want of memory alone.
 pub record IsFoundAt {S : Type 0} (g : Ghosts S) (c : Held S) (s : State) : Type 0 where
+  pub good : IsGood s
+  pub accounted : IsAccounted s
   pub tables : IsAtState s (state g c).now
   pub accepted : (f : AdoptFault) (new : Held S) → HasRefused f (state g c) (state g new) → HasCleanDisk (state g new) → (f ≡ Store) ⊎ (f ≡ Memory)
 
--- The store of a desk that isn't shut, while it is open, holds the tables of the state, and what is asked is told of it.
+-- The store of a desk that isn't shut, while it is open, holds the tables of the state, which is good: nothing in it is lost
+-- or made. What is asked is told of it.
 pub record IsKeptAt {S : Type 0} (g : Ghosts S) (c : Held S) (s : State) : Type 0 where
+  pub good : IsGood s
+  pub accounted : IsAccounted s
   pub tables : IsTrue (state g c).is_open → HoldsTables (state g c).now (tables_of newest_schema s)
   pub told : (q : Question) (a : Answer) (new : Held S) → HasAsked (state g c) (state g new) q (Ok a) → HasCleanDisk (state g new) → IsToldIn s q a
 

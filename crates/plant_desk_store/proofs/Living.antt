@@ -1,8 +1,10 @@
 -- Where a store stands after what it has been through.
 use Rattle.std.proofs.Common.{◌≡◌, ◌∙◌, ℕ, pos, Bool, true, false, List, [], ◌∷◌, ◌++◌, length, map, take, Option, Some, None, Result, Ok, Err, refl, sym, ap, subst, inl, inr, arith}
 use Rattle.std.specs.Prelude.{◌⊎◌, slice_get, zip}
+use Rattle.std.proofs.Math.Logic.{∥∥₁_map}
 use Rattle.std.proofs.lemmas.List.{append_assoc}
 use Rattle.sqlite.specs.Tree.{Trees}
+use Rattle.sqlite.specs.Schema.{Schema}
 use Rattle.sqlite.specs.Effect.{Database, IsDatabase}
 use Rattle.sqlite.specs.Held.{Held, state}
 use Rattle.sqlite.specs.State as store
@@ -22,11 +24,11 @@ use Rattle.plant_desk.specs.declared.question.Answer.{Answer}
 use Rattle.plant_desk.specs.declared.reply.Reply.{Reply}
 use Rattle.plant_desk.specs.declared.reply.DeskFault.{DeskFault}
 use Rattle.plant_desk.specs.declared.reply.DeskFault.TheVariants.{Store, Memory, Shut}
-use Rattle.plant_desk_store.specs.Adopting.{AdoptedFrom, Adopts, IsRefusedBy}
+use Rattle.plant_desk_store.specs.Adopting.{AdoptedFrom, Adopts, IsAdopted, IsRefusedBy}
 use Rattle.plant_desk_store.specs.Calls.{HasAdopted, HasRefused}
 use Rattle.plant_desk_store.specs.Headline.{IsAtState, IsFoundAt, IsKeptAt, IsSoAt, LeavesSomething, Headline}
 use Rattle.plant_desk_store.specs.DeskLaws.{IsAdoptable, IsOpenedAfter}
-use Rattle.plant_desk_store.specs.Life.{Sent, acknowledged, under_way, MayLeadTo, sent_as, cut_off, IsOpened, Place, opened, desk, refused, Lived, begun, found, adopted, unadopted, executed, ran, asked, verified, indexed, stopped}
+use Rattle.plant_desk_store.specs.Life.{Sent, acknowledged, under_way, MayLeadTo, sent_as, cut_off, IsOpened, Place, opened, desk, refused, Lived, begun, found, adopted, unadopted, executed, ran, asked, verified, indexed, stopped, given_back}
 use Rattle.plant_desk_store.specs.Running.{RunEnds}
 use Rattle.plant_desk_store.specs.DeskStanding.{IsOpenAt, DeskStands, Leaves}
 use Rattle.plant_desk_store.specs.declared.adopting.AdoptFault.{AdoptFault}
@@ -126,15 +128,44 @@ refused_leaves s sent f old new newly ready did clean trees left db same is = el
   | inr made ↦ ready_after s sent old.now db (sound old newly) ready (is, inr (subst (λ (t : Trees). Adopts old t) (sym same) made newly.0))
 ]
 
+-- what a newly opened store shows is what a stop leaves
+shown_leaves : (c : store.State) → IsOpened c → c.may_leave c.now.trees
+shown_leaves c newly = subst (λ (d : Database). c.may_leave d.trees) (sym newly.0.settled.shows) newly.0.settled.leaves
+
 leaves_ready : (s : State) (sent : List Sent) (c : store.State) (place : Place) → Stood s sent c place → LeavesReady s sent c
 leaves_ready s sent c opened stood = opened_leaves s sent c stood.0 stood.1
 leaves_ready s sent c (desk false) stood = leaves_one s sent c stood.0 stood.1 stood.2.leaves
 leaves_ready s sent c (desk true) stood = stood.1
 leaves_ready s sent c refused stood = stood.1
 
+-- ---- what a stop leaves can be opened
+
+-- the trees are those of a sound database
+abbrev IsOpenable : Trees → Type 0
+IsOpenable trees = (schema : Schema) × IsDatabase (record { schema = schema; trees = trees })
+
+can_open : (c : store.State) (left : (trees : Trees) × c.may_leave trees) → IsOpenable left.0 → (db : Database) × IsDatabase db × c.may_leave db.trees
+can_open c left it = (record { schema = it.0; trees = left.0 }, it.1, left.1)
+
+states_open : (c : store.State) (states : States) → Leaves c states → LeavesSomething c
+states_open c states leaves = ∥∥₁_map leaves.something (λ left. (let it = leaves.nothing_else left.0 left.1 in can_open c left (it.2.schema, it.2.holds.sound)))
+
+made_open : (old : Database) (trees : Trees) → IsAdopted old trees → IsOpenable trees
+made_open old trees (inl made) = (made.finds.schema, made.finds.holds.sound)
+made_open old trees (inr raised) = let found = (raised.finds raised.stood.0 raised.stood.1).finds in (found.schema, found.holds.sound)
+
+refused_openable : (f : AdoptFault) (old new : store.State) → IsOpened old → HasRefused f old new → HasCleanDisk new → (trees : Trees) → new.may_leave trees → IsOpenable trees
+refused_openable f old new newly did clean trees left = elim (did.crash.crash clean trees left) [
+  | inl before ↦ subst IsOpenable (sym (shown_left old newly trees before)) (old.now.schema, sound old newly)
+  | inr made ↦ made_open old.now trees (made newly.0)
+]
+
+refused_open : (f : AdoptFault) (old new : store.State) → IsOpened old → HasRefused f old new → HasCleanDisk new → LeavesSomething new
+refused_open f old new newly did clean = ∥∥₁_map (did.something clean) (λ left. can_open new left (refused_openable f old new newly did clean left.0 left.1))
+
 something_left : (s : State) (sent : List Sent) (c : store.State) (place : Place) → Stood s sent c place → LeavesSomething c
-something_left s sent c opened stood = ∣ (c.committed.trees, stood.0.0.settled.leaves) ∣₁
-something_left s sent c (desk false) stood = stood.2.leaves.something
+something_left s sent c opened stood = ∣ (c.now, sound c stood.0, shown_leaves c stood.0) ∣₁
+something_left s sent c (desk false) stood = states_open c (λ u. u ≡ stood.0) stood.2.leaves
 something_left s sent c (desk true) stood = stood.2
 something_left s sent c refused stood = stood.2
 
@@ -158,7 +189,7 @@ executed_at s u sent new e (Ok r) lead did = (step u e, leads_on s u (step u e) 
 executed_at s u sent new e (Err Store) lead did = (
   (u, leads_on s u u sent (under_way e ∷ []) lead (inl refl)),
   leaves_states s (sent ++ under_way e ∷ []) new (λ v. (v ≡ u) ⊎ (v ≡ step u e)) (λ v is. leads_on s u v sent (under_way e ∷ []) lead is) did.1,
-  did.1.something,
+  states_open new (λ v. (v ≡ u) ⊎ (v ≡ step u e)) did.1,
 )
 executed_at s u sent new e (Err Memory) lead did = (u, leads_on s u u sent [] lead refl, open_at new u did)
 executed_at s u sent new e (Err Shut) lead did = absurd did
@@ -173,7 +204,7 @@ ended_at s t sent list n new shut (Some Store) lead did =
     let stood : Stood s more new (desk true) = (
       (t, leads_on s t t sent (under_way e ∷ []) lead (inl refl)),
       leaves_states s more new (λ v. (v ≡ t) ⊎ (v ≡ step t e)) (λ v is. leads_on s t v sent (under_way e ∷ []) lead is) did.2.2,
-      did.2.2.something,
+      states_open new (λ v. (v ≡ t) ⊎ (v ≡ step t e)) did.2.2,
     ) in
     subst (λ (o : Option Envelope). Stood s (sent ++ cut_off (Some Store) o) new (desk shut)) (sym did.2.1) (subst (λ (b : Bool). Stood s more new (desk b)) (sym did.1) stood)
 ended_at s t sent list n new shut (Some Memory) lead did = subst (λ (b : Bool). Stood s (sent ++ []) new (desk b)) (sym did.1) (t, leads_on s t t sent [] lead refl, open_at new t (subst (λ (b : Bool). DeskStands new b t) did.1 did.0))
@@ -197,14 +228,15 @@ found_at old new (inr (version, (s, held, at))) = (s, inr (version, held.holds, 
 
 module _ {S : Type 0} (g : Ghosts S) where
   lived : (first : Held S) {c : Held S} {place : Place} {sent : List Sent} → IsOpened (state g first) → Lived g first c place sent → HasCleanDisk (state g c) → (s : State) × IsAtState s (state g first).now × Stood s sent (state g c) place
-  lived first newly (begun free) clean = (opening, inl (free, refl), (newly, inl (free, refl)))
+  lived first newly (begun (inl free)) clean = (opening, inl (free, refl), (newly, inl (free, refl)))
+  lived first newly (begun (inr (version, (s, adoptable)))) clean = (s, inr (version, adoptable.held.holds, adoptable.held.whole), (newly, inr (s, refl, (version, adoptable))))
   lived first newly (found new did) clean = found_at (state g first) (state g new) (did.adopted clean newly.0)
   lived first newly (adopted old new sent before did) clean =
       let was = lived first newly before (clean_before _ _ _ did.crash clean) in
       (was.0, was.1, adopted_at was.0 sent (state g old) (state g new) was.2.0 was.2.1 did clean)
   lived first newly (unadopted old new sent f before did) clean =
       let was = lived first newly before (clean_before _ _ _ did.crash clean) in
-      (was.0, was.1, (state_ready was.0 sent (state g old).now was.2.1, refused_leaves was.0 sent f (state g old) (state g new) was.2.0 was.2.1 did clean, did.something clean))
+      (was.0, was.1, (state_ready was.0 sent (state g old).now was.2.1, refused_leaves was.0 sent f (state g old) (state g new) was.2.0 was.2.1 did clean, refused_open f (state g old) (state g new) was.2.0 did clean))
   lived first newly (executed old new shut sent e r before did) clean =
       let was = lived first newly before (did.honest clean) in
       let at = was.2 in
@@ -243,6 +275,10 @@ module _ {S : Type 0} (g : Ghosts S) where
   lived first newly (stopped old new place sent before kept left again) clean =
       let was = lived first newly before kept in
       (was.0, was.1, (again, leaves_ready was.0 sent (state g old) place was.2 (state g new).now.trees left (state g new).now refl (sound (state g new) again)))
+  lived first newly (given_back old place sent before again) clean =
+      let was = lived first newly before clean in
+      let c = state g old in
+      (was.0, was.1, (again, leaves_ready was.0 sent c place was.2 c.now.trees (shown_leaves c again) c.now refl (sound c again)))
 
   -- ---- what is so then
 

@@ -2,8 +2,7 @@
 use Rattle.std.specs.Prelude.{◌≡◌, ◌⊎◌, ◌↔◌, ℕ, ◌+◌, true, false, List, map, filter, None, Ok, IsTrue, ⊤, Contains}
 use Rattle.std.specs.List.{AllByRecursion}
 use Rattle.std.specs.List.Sorted.{IsStrictlySortedBy}
-use Rattle.sqlite.specs.Tree.{Trees}
-use Rattle.sqlite.specs.Effect.{Database}
+use Rattle.sqlite.specs.Effect.{Database, IsDatabase}
 use Rattle.sqlite.specs.Held.{Held, state}
 use Rattle.sqlite.specs.State as store
 use Rattle.sqlite.specs.State.{HasCleanDisk}
@@ -94,9 +93,9 @@ pub record IsKeptAt {S : Type 0} (g : Ghosts S) (c : Held S) (s : State) : Type 
   pub tables : IsTrue (state g c).is_open → HoldsTables (state g c).now (tables_of newest_schema s)
   pub told : (q : Question) (a : Answer) (new : Held S) → HasAsked (state g c) (state g new) q (Ok a) → HasCleanDisk (state g new) → IsToldIn s q a
 
--- a stop leaves something that can be opened
+-- a stop leaves something that can be opened: the trees of a sound database
 abbrev pub LeavesSomething : store.State → Type 0
-LeavesSomething c = ∥ ((trees : Trees) × c.may_leave trees) ∥₁
+LeavesSomething c = ∥ ((db : Database) × IsDatabase db × c.may_leave db.trees) ∥₁
 
 -- what is so at each place; of a desk that is shut and of a store that was given back nothing is told but by the next opening
 abbrev pub IsSoAt : {S : Type 0} → Ghosts S → Held S → State → Place → Type 0

@@ -1,5 +1,6 @@
 -- The life of a desk's store: its openings, the calls of a desk over it, and its stops, in whichever order they came.
-use Rattle.std.specs.Prelude.{◌≡◌, ◌⊎◌, Bool, false, List, [], ◌∷◌, ◌++◌, length, map, zip, slice_get, Option, Some, Result, Ok, Err}
+use Rattle.std.specs.Prelude.{◌≡◌, ◌⊎◌, ℕ, Bool, false, List, [], ◌∷◌, ◌++◌, length, map, zip, slice_get, Option, Some, Result, Ok, Err}
+use Rattle.sqlite.specs.Effect.{Database}
 use Rattle.sqlite.specs.Held.{Held, state}
 use Rattle.sqlite.specs.State as store
 use Rattle.sqlite.specs.State.{HasCleanDisk, IsLive}
@@ -18,6 +19,7 @@ use Rattle.plant_desk.specs.declared.reply.Reply.{Reply}
 use Rattle.plant_desk.specs.declared.reply.DeskFault.{DeskFault}
 use Rattle.plant_desk.specs.declared.reply.DeskFault.TheVariants.{Store, Memory, Shut}
 use Rattle.plant_desk_store.specs.Calls.{HasAdopted, HasRefused, HasExecuted, HasAsked, HasRun, HasVerified, HasIndexed}
+use Rattle.plant_desk_store.specs.DeskLaws.{IsAdoptable}
 use Rattle.plant_desk_store.specs.declared.adopting.AdoptFault.{AdoptFault}
 
 -- ---- commands that were sent
@@ -56,6 +58,11 @@ sent_of list answered end = map (λ p. acknowledged p.0 p.1) (zip list answered)
 abbrev pub IsOpened : store.State → Type 0
 IsOpened c = IsNewlyOpened c × IsLive c
 
+-- what a life begins with: the names of the desk's tables are free; or the tables of a good state stand, of any version that
+-- can be read, and the names are free that later ones add
+abbrev pub IsBeginning : Database → Type 0
+IsBeginning db = AreFree desk_forms db.schema ⊎ ((version : ℕ) × ((s : State) × IsAdoptable version db s))
+
 -- where a store is: it was opened; a desk is over it, which is shut or not; or an adoption gave it back
 pub data Place : Type 0 where
   opened : Place
@@ -63,9 +70,10 @@ pub data Place : Type 0 where
   refused : Place
 
 -- What a store has been through since its first opening, and the commands that were sent meanwhile. A stop may come at any
--- moment: one within a call is a store that fails from there on, so that the call ends with Store.
+-- moment: one within a call is a store that fails from there on, so that the call ends with Store. A store that is given back, by a
+-- desk that is closed or by an adoption, is adopted again where it is as an opening gives it.
 pub data Lived {S : Type 0} (g : Ghosts S) (first : Held S) : Held S → Place → List Sent → Type 0 where
-  begun : AreFree desk_forms (state g first).now.schema → Lived g first first opened []
+  begun : IsBeginning (state g first).now → Lived g first first opened []
   found : (new : Held S) → HasAdopted (state g first) (state g new) → Lived g first new (desk false) []
   adopted : (old new : Held S) (sent : List Sent) → Lived g first old opened sent → HasAdopted (state g old) (state g new) → Lived g first new (desk false) sent
   unadopted : (old new : Held S) (sent : List Sent) (f : AdoptFault) → Lived g first old opened sent → HasRefused f (state g old) (state g new) → Lived g first new refused sent
@@ -75,3 +83,4 @@ pub data Lived {S : Type 0} (g : Ghosts S) (first : Held S) : Held S → Place �
   verified : (old new : Held S) (sent : List Sent) (r : Result (Option Rule) DeskFault) → Lived g first old (desk false) sent → HasVerified (state g old) (state g new) r → Lived g first new (desk false) sent
   indexed : (old new : Held S) (sent : List Sent) (r : Result (Unit {0}) DeskFault) → Lived g first old (desk false) sent → HasIndexed (state g old) (state g new) r → Lived g first new (desk false) sent
   stopped : (old new : Held S) (place : Place) (sent : List Sent) → Lived g first old place sent → HasCleanDisk (state g old) → (state g old).may_leave (state g new).now.trees → IsOpened (state g new) → Lived g first new opened sent
+  given_back : (old : Held S) (place : Place) (sent : List Sent) → Lived g first old place sent → IsOpened (state g old) → Lived g first old opened sent

@@ -1,3 +1,4 @@
+pub mod Acting
 pub mod Adoptions
 pub mod Again
 pub mod Answered

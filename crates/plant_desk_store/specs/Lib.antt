@@ -8,5 +8,6 @@ pub mod Life
 pub mod Looking
 pub mod Parts
 pub mod Running
+pub mod SentAgain
 pub mod DeskStanding
 pub mod Testing

@@ -7,6 +7,7 @@ ghost use Rattle.plant_desk_store.specs.Headline.{Headline};
 ghost use Rattle.plant_desk_store.specs.DeskLaws.{StopsAreReopened, GoodIsUnrefused};
 ghost use Rattle.plant_desk_store.specs.DeskLaws.{GoodIsAdoptedAgain, OpeningIsAdopted, OthersAreSpared};
 ghost use Rattle.plant_desk_store.specs.DeskLaws.{MarksAreReached};
+ghost use Rattle.plant_desk_store.specs.SentAgain.{LivesAreSendings, LivesActOnce, StoresActOnce};
 
 use crate::stored::Desk;
 use plant_base::Envelope;
@@ -21,6 +22,18 @@ use sqlite::Alter;
 /// `ask` of a desk, as [`execute_told`] and [`ask_told`] tell them.
 pub fn headline_law<S: Alter>()
     ensures { Headline S.Store }
+{}
+
+/// A client who gives each command a reference and sends each that was under way at a stop again, until it is acknowledged.
+///
+/// `sendings`: wherever the commands of a life may have led, a sending of just these commands leads, in which each was answered
+/// by the definitions' reply, or stopped before it acted or behind that. `once`: such a client's commands lead, but for receipts,
+/// where the acknowledged ones lead, each taken once, in a desk without receipts. `stores`: of such a state are what the headline
+/// says of a store, whatever it has been through.
+pub fn sent_again_law<S: Alter>()
+    ensures sendings { LivesAreSendings }
+    ensures once { LivesActOnce }
+    ensures stores { StoresActOnce S.Store }
 {}
 
 /// Executes a command over a desk that isn't shut: what comes of it, in the words of the headline.

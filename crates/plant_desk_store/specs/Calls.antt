@@ -1,5 +1,5 @@
 -- What comes of each call of a desk over its store: the contracts of the calls, one relation a call.
-use Rattle.std.specs.Prelude.{◌≡◌, ◌≢◌, ◌≤◌, Bool, false, List, length, take, Option, Some, None, Result, IfOk, IfErr, OnOk}
+use Rattle.std.specs.Prelude.{◌≡◌, ◌≢◌, ◌≤◌, Bool, true, false, List, length, take, Option, Some, None, Result, IfOk, IfErr, OnOk}
 use Rattle.sqlite.specs.Tree.{Trees}
 use Rattle.sqlite.specs.Effect.{Database}
 use Rattle.sqlite.specs.State as store
@@ -11,7 +11,7 @@ use Rattle.plant_view.specs.Conserve.{IsConserved, IsBalanced}
 use Rattle.plant_view.specs.Genealogy.{edges_of}
 use Rattle.plant_tables.specs.Missing.{AddsMissing, AreAllTaken}
 use Rattle.plant_check.specs.declared.rule.Rule.{Rule}
-use Rattle.plant_desk.specs.Keeping.{Executes, Asks, shuts}
+use Rattle.plant_desk.specs.Keeping.{Executes, Asks, shuts, writes_nothing}
 use Rattle.plant_desk.specs.Runs.{fold}
 use Rattle.plant_desk.specs.declared.question.Question.{Question}
 use Rattle.plant_desk.specs.declared.question.Answer.{Answer}
@@ -19,6 +19,7 @@ use Rattle.plant_desk.specs.declared.reply.Reply.{Reply}
 use Rattle.plant_desk.specs.declared.reply.DeskFault.{DeskFault}
 use Rattle.plant_desk.specs.declared.reply.DeskFault.TheVariants.{Shut}
 use Rattle.plant_desk_store.specs.Adopting.{IsNewlyOpened, AdoptedFrom, KeepsGood, StillGood, ShowsStill, IsRefusedBy, IsUnraised, Adopts}
+use Rattle.plant_desk_store.specs.Looking.{IsRepeat}
 use Rattle.plant_desk_store.specs.Running.{Ran}
 use Rattle.plant_desk_store.specs.DeskStanding.{IsOpenAt, OthersStand, DeskStands, Leaves, IsBeside}
 use Rattle.plant_desk_store.specs.Testing.{IsTested}
@@ -61,6 +62,10 @@ pub record HasExecuted (old new : store.State) (shut : Bool) (e : Envelope) (r :
   pub honest : HasCleanDisk new → HasCleanDisk old
   pub executes : HasCleanDisk new → (s : State) → DeskStands old false s → Executes s (DeskStands new shut) (Leaves new) e r
   pub is_shut : shut ≡ shuts r
+  -- a stop leaves what it left before, where the command was refused or memory was, and where it was accepted before: nothing is
+  -- written for it then
+  pub spared : writes_nothing r ≡ true → Survives old new (λ _. ⊥)
+  pub repeated : HasCleanDisk new → (s : State) → DeskStands old false s → IsRepeat s e → Survives old new (λ _. ⊥)
 
 -- A question was asked, which came to this.
 pub record HasAsked (old new : store.State) (q : Question) (r : Result Answer DeskFault) : Type 0 where

@@ -104,11 +104,13 @@ fn is_store_fault(answer: &Result<Reply, DeskFault>) -> bool
 }
 
 impl<S: Alter> Keeper for Desk<S> {
-    ghost use Rattle.std.specs.Prelude.{◌≡◌, true, false};
+    ghost use Rattle.std.specs.Prelude.{◌≡◌, ◌≢◌, true, false, IfErr, IsErrOf};
     ghost use Rattle.sqlite.specs.Held.{state};
     ghost use Rattle.sqlite.specs.State.{HasCleanDisk, Survives};
-    ghost use Rattle.plant_base.specs.State.{newest_schema};
+    ghost use Rattle.plant_base.specs.State.{State, newest_schema};
     ghost use Rattle.sqlite.specs.Effect.{Database};
+    ghost use Rattle.plant_desk.specs.Keeping.{IsSameDesk, Executes, writes_nothing};
+    ghost use Rattle.plant_desk_store.specs.Looking.{IsRepeat};
     ghost use Rattle.plant_desk_store.specs.DeskStanding.{DeskStands, Leaves, IsBeside};
     ghost use Rattle.plant_desk_store.specs.Left.{never_nothing, spared_leaves};
 
@@ -131,7 +133,24 @@ impl<S: Alter> Keeper for Desk<S> {
 
     ghost beside = { λ d before. IsBeside (state S.Store d.connection) d.is_shut before };
 
-    fn execute(&mut self, envelope: &Envelope) -> Result<Reply, DeskFault> {
+    // The clauses of every keeper, and that nothing is written for a command that was accepted before.
+    fn execute(&mut self, envelope: &Envelope) -> Result<Reply, DeskFault>
+        ensures same { IsSameDesk (λ d. HasCleanDisk (state S.Store d.connection)) (λ _. newest_schema)
+            (λ d before. IsBeside (state S.Store d.connection) d.is_shut before) self.old self.new }
+        ensures executes { HasCleanDisk (state S.Store self.new.connection) → self.old.is_shut ≡ false
+            → (s : State) → DeskStands (state S.Store self.old.connection) self.old.is_shut s
+            → Executes s (DeskStands (state S.Store self.new.connection) self.new.is_shut)
+            (Leaves (state S.Store self.new.connection)) envelope.now result }
+        ensures spared { writes_nothing result ≡ true
+            → Survives (state S.Store self.old.connection) (state S.Store self.new.connection) (λ _. ⊥) }
+        ensures open { self.old.is_shut ≡ false → self.new.is_shut ≡ shuts result }
+        ensures live { self.old.is_shut ≡ false → IfErr result (λ fault. fault ≢ DeskFault.Shut) }
+        ensures shut { self.old.is_shut ≡ true → IsErrOf result DeskFault.Shut }
+        ensures still { self.old.is_shut ≡ true → self.new ≡ self.old }
+        ensures repeated { HasCleanDisk (state S.Store self.new.connection) → self.old.is_shut ≡ false
+            → (s : State) → DeskStands (state S.Store self.old.connection) self.old.is_shut s → IsRepeat s envelope.now
+            → Survives (state S.Store self.old.connection) (state S.Store self.new.connection) (λ _. ⊥) }
+    {
         if self.is_shut {
             return Err(DeskFault::Shut);
         }

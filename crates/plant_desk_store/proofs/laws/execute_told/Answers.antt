@@ -12,4 +12,6 @@ returns g c =
       honest = did.same.honest;
       executes = λ clean s stood. did.executes clean live s (subst (λ (b : Bool). DeskStands old b s) (sym live) stood);
       is_shut = did.open live;
+      spared = did.spared;
+      repeated = λ clean s stood. did.repeated clean live s (subst (λ (b : Bool). DeskStands old b s) (sym live) stood);
     }

@@ -18,3 +18,6 @@ returns-clause-same g c =
           subst (λ (shut : Bool). IsBeside new shut before) (sym c.is_store_fault-self.ensures)
           (executed_beside before new stood.state c.args.envelope.now ran.result (ran.ensures.executed clean stood.state at) (ran.ensures.others clean stood.state at before stood.others));
     }
+
+pub returns-clause-repeated : goal.returns-clause-repeated
+returns-clause-repeated g c clean live s stood again = c.execute_on-answer.ensures.repeated clean s stood.0 again

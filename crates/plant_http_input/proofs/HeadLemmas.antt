@@ -1,12 +1,12 @@
 -- Where a head ends, in a text and in what begins with it.
 use Rattle.std.proofs.Common.{◌≡◌, ℕ, ◌+◌, ◌-◌, ◌<◌, ◌≤◌, ◌==◌, ◌&&◌, Bool, true, false, List, [], ◌∷◌, ◌++◌, length, get_or, take, drop, Option, Some, None, refl, sym, ap, ◌∙◌, arith}
-use Rattle.std.specs.Prelude.{option_map, slice_index, nat_le, if◌then◌else◌, IfSome}
+use Rattle.std.specs.Prelude.{option_map, slice_index, nat_le, if◌then◌else◌}
 use Rattle.std.specs.Io.KnownBytes.{Consumes}
 use Rattle.std.proofs.Math.Seq.{take-append-add}
 use Rattle.std.proofs.lemmas.Bool.Decides.{nat_tests}
 use Rattle.std.proofs.lemmas.List.{append-nil, length-append, take-append-le, take_all, at_drop_more, drop_all}
 use Rattle.plant_http_input.specs.Head.{end_of_head, end_where, head_length, blank_length, or_else}
-use Rattle.plant_http_input.specs.Reading.{FindsHead}
+use Rattle.plant_http_input.specs.Reading.{Agrees, FindsHead}
 use Rattle.plant_http_input.specs.declared.reading.HeadEnd.{HeadEnd}
 use Rattle.plant_http_input.specs.declared.reading.HeadEnd.TheVariants.{Found, TooLong, Early, Nothing}
 
@@ -73,7 +73,7 @@ front_more bytes left h =
     let sum : length bytes + (8192 - length bytes) ≡ 8192 = omega arith in
     rw sum at (take-append-add bytes left (8192 - length bytes))
 
-known_end : (e : HeadEnd) (bytes left : List ℕ) → FindsHead e bytes (Some left) → e ≡ end_of_head (bytes ++ left)
+pub known_end : (e : HeadEnd) (bytes left : List ℕ) → FindsHead e bytes (Some left) → e ≡ end_of_head (bytes ++ left)
 unfolding end_of_head head_length
 known_end (Found n) bytes left h =
     sym (ap (λ o. end_where o (bytes ++ left)) (ap head_length (front_more bytes left h.1) ∙ same_head bytes (take (8192 - length bytes) left) n h.0))
@@ -91,8 +91,16 @@ known_end Early bytes left h =
 known_end Nothing [] left h = rw h.1 refl
 known_end Nothing (b ∷ bytes) left h = absurd (omega (arith, h.0))
 
+-- what was found in the bytes is so of an input that ends with them
+at_end : (e : HeadEnd) (bytes : List ℕ) (left : Option (List ℕ)) → FindsHead e bytes left → FindsHead e bytes (Some [])
+at_end (Found n) bytes left h = h
+at_end TooLong bytes left h = h
+at_end Early bytes left h = (h.0, h.1, h.2, refl)
+at_end Nothing bytes left h = (h.0, refl)
+
+-- what was found in the bytes that were read is so of an input that begins with them
 pub known_whole : (start left : Option (List ℕ)) (bytes : List ℕ) (e : HeadEnd) → Consumes start left bytes → FindsHead e bytes left
-    → IfSome start (λ whole. e ≡ end_of_head whole)
-known_whole None left bytes e c h = tt
+    → (whole : List ℕ) × Agrees start whole × (e ≡ end_of_head whole)
+known_whole None left bytes e c h = (bytes, tt, known_end e bytes [] (at_end e bytes left h) ∙ ap end_of_head (append-nil bytes))
 known_whole (Some whole) None bytes e c h = absurd c
-known_whole (Some whole) (Some rest) bytes e c h = known_end e bytes rest h ∙ sym (ap end_of_head c)
+known_whole (Some whole) (Some rest) bytes e c h = (whole, refl, known_end e bytes rest h ∙ sym (ap end_of_head c))

@@ -1,8 +1,9 @@
 //! Reads, one after another, and what was found in them.
-ghost use Rattle.std.specs.Prelude.{◌≡◌, ◌≤◌, ◌<◌, ◌+◌, [], length, nat_le, true, IfOk, IfSome, IsErrOf, OnErr};
+ghost use Rattle.std.specs.Prelude.{◌≡◌, ℕ, ◌≤◌, ◌<◌, ◌+◌, List, [], length, IfOk, IsErrOf, OnErr};
 ghost use Rattle.std.specs.Io.KnownBytes.{Consumes};
 ghost use Rattle.plant_http_input.specs.Head.{end_of_head, LiesWithin};
-ghost use Rattle.plant_http_input.specs.Reading.{TakesPiece, GoesOn, Spent, SpentAll};
+ghost use Rattle.plant_http_input.specs.Reading.{Agrees, TakesPiece, GoesOn, FindsHead, FindsBody};
+ghost use Rattle.plant_http_input.specs.Reading.{Spent, SpentAll};
 
 use crate::head::head_length;
 use std::io::Read;
@@ -84,8 +85,9 @@ pub fn read_head<R: Read>(
     requires { bytes.old.items ≡ [] }
     ensures known { IfOk result (λ _. Consumes (R.remaining reader.old) (R.remaining reader.new)
         bytes.new.items) }
-    ensures end { IfOk result (λ end. IfSome (R.remaining reader.old)
-        (λ whole. end ≡ end_of_head whole)) }
+    ensures found { IfOk result (λ end. FindsHead end bytes.new.items (R.remaining reader.new)) }
+    ensures end { IfOk result (λ end. (whole : List ℕ) × Agrees (R.remaining reader.old) whole
+        × (end ≡ end_of_head whole)) }
     ensures within { IfOk result (λ end. LiesWithin end bytes.new.items) }
     ensures spent { IfOk result (λ end. Spent end reads.old reads.new (length bytes.new.items)) }
     ensures endless { IsErrOf result InputFault.Endless → SpentAll reads.old
@@ -124,9 +126,7 @@ pub fn read_to<R: Read>(
 ) -> Result<bool, InputFault>
     ensures known { IfOk result (λ _. GoesOn (R.remaining reader.old) (R.remaining reader.new)
         bytes.old.items bytes.new.items) }
-    ensures there { IfOk result (λ there. IfSome (R.remaining reader.old) (λ rest.
-        there ≡ nat_le want (length bytes.old.items + length rest))) }
-    ensures enough { IfOk result (λ there. there ≡ true → want ≤ length bytes.new.items) }
+    ensures found { IfOk result (λ there. FindsBody there want bytes.new.items (R.remaining reader.new)) }
     ensures early { OnErr result (length bytes.old.items < want) }
     ensures endless { IsErrOf result InputFault.Endless → SpentAll reads.old
         (R.remaining reader.old) (R.remaining reader.new) }

@@ -1,14 +1,16 @@
 -- From what was read to the whole input.
-use Rattle.std.proofs.Common.{◌≡◌, ℕ, ◌+◌, ◌-◌, ◌≤◌, true, false, nat_le, List, ◌++◌, length, take, drop, Option, Some, None, refl, sym, ap, ◌∙◌, arith, append_assoc}
-use Rattle.std.specs.Prelude.{IfSome, slice_range}
-use Rattle.std.specs.Io.KnownBytes.{Consumes}
+use Rattle.std.proofs.Common.{◌≡◌, ℕ, ◌+◌, ◌-◌, ◌<◌, ◌≤◌, true, false, nat_le, List, [], ◌++◌, length, take, drop, Option, Some, None, refl, sym, ap, ◌∙◌, arith, append_assoc}
+use Rattle.std.specs.Prelude.{slice_range}
+use Rattle.std.specs.Io.KnownBytes.{Consumes, IsAtEnd}
 use Rattle.std.proofs.lemmas.Bool.Decides.{nat_tests}
-use Rattle.std.proofs.lemmas.List.{take-append-le, length-append, length-drop, drop-append-le}
+use Rattle.std.proofs.lemmas.List.{append-nil, take-append-le, length-append, length-drop, drop-append-le}
 use Rattle.plant_http_input.specs.Head.{end_of_head}
-use Rattle.plant_http_input.specs.Reading.{GoesOn, SpentAll}
+use Rattle.plant_http_input.specs.Reading.{Agrees, FindsHead, GoesOn, SpentAll}
 use Rattle.plant_http_input.specs.declared.reading.HeadEnd.{HeadEnd}
 use Rattle.plant_http_input.specs.declared.reading.HeadEnd.TheVariants as end
-use Rattle.plant_http_requests.specs.Jobs.{body_job, EndJob, HeadJob, HeadAsksFor, AsksFor, Reads, ReadsSome, StepOf}
+use Rattle.plant_http_input.proofs.BodyLemmas.{gone_on}
+use Rattle.plant_http_input.proofs.HeadLemmas.{known_end}
+use Rattle.plant_http_requests.specs.Jobs.{body_job, finish, EndJob, HeadJob, HeadAsksFor, AsksFor, Reads, ReadsSome, StepOf}
 use Rattle.plant_http_requests.specs.Steps.{refusal_of}
 use Rattle.plant_http_requests.specs.declared.job.Content.{Content}
 use Rattle.plant_http_requests.specs.declared.job.Job.{Job}
@@ -32,49 +34,63 @@ body_there bytes left n len h =
     let b = length-drop n (bytes ++ left) in
     grind (arith, nat_tests, a, b)
 
-body_short : (old rest : List ℕ) (n len : ℕ) → n ≤ length old → false ≡ nat_le (n + len) (length old + length rest) → nat_le len (length (drop n (old ++ rest))) ≡ false
-body_short old rest n len h k =
-    let a = length-append old rest in
-    let b = length-drop n (old ++ rest) in
-    grind (arith, nat_tests, a, b, k)
+body_short : (whole : List ℕ) (n len : ℕ) → n ≤ length whole → length whole < n + len → nat_le len (length (drop n whole)) ≡ false
+body_short whole n len k h =
+    let b = length-drop n whole in
+    grind (arith, nat_tests, b)
 
 -- a whole body was read
 pub whole_body : (start left : Option (List ℕ)) (old new : List ℕ) (n len : ℕ) (content : Content) (step : HeadStep) (job : Job) → StepOf (take n old) step → step ≡ Body len content
     → GoesOn start left old new → n + len ≤ length new → Reads job (body_job content (slice_range new n (n + len)))
-    → IfSome start (λ rest. HeadAsksFor (take n old) (drop n (old ++ rest)) job)
-whole_body None left old new n len content step job so is g h reads = tt
-whole_body (Some rest) None old new n len content step job so is g h reads = absurd g.1
-whole_body (Some rest) (Some more) old new n len content step job so is g h reads =
-    let whole : old ++ rest ≡ new ++ more = ap (λ l. old ++ l) g.1 ∙ sym (append_assoc old g.0 more) ∙ ap (λ l. l ++ more) (sym g.2) in
+    → (rest : List ℕ) × Agrees start rest × HeadAsksFor (take n old) (drop n (old ++ rest)) job
+whole_body start left old new n len content step job so is g h reads =
+    let (rest, more, agrees, whole, ended) = gone_on start left old new g in
     let asked = body_job content (slice_range new n (n + len)) in
-    (asked, (step, so, rw (is, whole, body_there new more n len h, body_part new more n len h) refl), reads)
+    (rest, agrees, (asked, (step, so, rw (is, whole, body_there new more n len h, body_part new more n len h) refl), reads))
 
 -- the input ended before the whole body
-pub cut_body : (start : Option (List ℕ)) (old : List ℕ) (n len : ℕ) (content : Content) (step : HeadStep) (job : Job) → StepOf (take n old) step → step ≡ Body len content
-    → n ≤ length old → IfSome start (λ rest. false ≡ nat_le (n + len) (length old + length rest)) → job ≡ refusal_of BadRequest false
-    → IfSome start (λ rest. HeadAsksFor (take n old) (drop n (old ++ rest)) job)
-cut_body None old n len content step job so is h short e = tt
-cut_body (Some rest) old n len content step job so is h short e =
-    (refusal_of BadRequest false, (step, so, rw (is, body_short old rest n len h short) refl), rw e refl)
+pub cut_body : (start left : Option (List ℕ)) (old new : List ℕ) (n len : ℕ) (content : Content) (step : HeadStep) (job : Job) → StepOf (take n old) step → step ≡ Body len content
+    → GoesOn start left old new → length new < n + len → IsAtEnd left → n ≤ length old → job ≡ refusal_of BadRequest false
+    → (rest : List ℕ) × Agrees start rest × HeadAsksFor (take n old) (drop n (old ++ rest)) job
+cut_body start left old new n len content step job so is g short end h e =
+    let (rest, more, agrees, whole, ended) = gone_on start left old new g in
+    let all : old ++ rest ≡ new = rw (ended end) at whole ∙ append-nil new in
+    let within : n ≤ length (old ++ rest) = omega (arith, h, length-append old rest) in
+    let cut : length (old ++ rest) < n + len = rw all short in
+    (rest, agrees, (refusal_of BadRequest false, (step, so, rw (is, body_short (old ++ rest) n len within cut) refl), rw e refl))
+
+some_left : (start : Option (List ℕ)) → (left : List ℕ) × Agrees start left
+some_left None = ([], tt)
+some_left (Some left) = (left, refl)
+
+-- the head alone decides
+pub by_head : (start : Option (List ℕ)) (old : List ℕ) (n : ℕ) (step : HeadStep) (job : Job) → StepOf (take n old) step → ((rest : List ℕ) → finish step rest ≡ job) → Reads job job
+    → (rest : List ℕ) × Agrees start rest × HeadAsksFor (take n old) (drop n (old ++ rest)) job
+by_head start old n step job so is reads =
+    let (rest, agrees) = some_left start in
+    (rest, agrees, (job, (step, so, sym (is (drop n (old ++ rest)))), reads))
 
 -- ---- inputs
 
--- what was found of the head is so of the whole input
-pub from_end : (start : Option (List ℕ)) (e : HeadEnd) (job : Option Job) → IfSome start (λ whole. e ≡ end_of_head whole)
-    → ((whole : List ℕ) → (j : Option Job) × EndJob e whole j × ReadsSome job j) → IfSome start (λ whole. AsksFor whole job)
-from_end None e job h f = tt
-from_end (Some whole) e job h f = let (j, at, reads) = f whole in (j, rw (sym h) at, reads)
+-- what was found of the head is so of an input, where the reader may have it
+pub from_end : (start : Option (List ℕ)) (e : HeadEnd) (job : Option Job) → (whole : List ℕ) × Agrees start whole × (e ≡ end_of_head whole)
+    → ((whole : List ℕ) → (j : Option Job) × EndJob e whole j × ReadsSome job j) → (whole : List ℕ) × Agrees start whole × AsksFor whole job
+from_end start e job (whole, agrees, h) f = let (j, at, reads) = f whole in (whole, agrees, (j, rw (sym h) at, reads))
+
+behind : (start left : Option (List ℕ)) (bytes rest : List ℕ) → Consumes start left bytes → Agrees left rest → Agrees start (bytes ++ rest)
+behind None left bytes rest c a = tt
+behind (Some whole) None bytes rest c a = absurd c
+behind (Some whole) (Some known) bytes rest c a = ap (λ l. bytes ++ l) a ∙ sym c
 
 -- a head was found, with what it and the bytes behind it ask for
 pub from_head : (start left : Option (List ℕ)) (bytes : List ℕ) (n : ℕ) (job : Job) → n ≤ length bytes → Consumes start left bytes
-    → IfSome start (λ whole. end.Found n ≡ end_of_head whole) → IfSome left (λ rest. HeadAsksFor (take n bytes) (drop n (bytes ++ rest)) job)
-    → IfSome start (λ whole. AsksFor whole (Some job))
-from_head None left bytes n job h c at p = tt
-from_head (Some whole) None bytes n job h c at p = absurd c
-from_head (Some whole) (Some rest) bytes n job h c at (j, head, reads) =
-    let front : take n whole ≡ take n bytes = ap (take n) c ∙ take-append-le n bytes rest h in
-    let is : HeadJob (take n whole) (drop n whole) j = rw (front, c) head in
-    (Some j, rw (sym at) (j, refl, is), reads)
+    → FindsHead (end.Found n) bytes left → (rest : List ℕ) × Agrees left rest × HeadAsksFor (take n bytes) (drop n (bytes ++ rest)) job
+    → (whole : List ℕ) × Agrees start whole × AsksFor whole (Some job)
+from_head start left bytes n job h c found (rest, agrees, (j, head, reads)) =
+    let at : end.Found n ≡ end_of_head (bytes ++ rest) = known_end (end.Found n) bytes rest found in
+    let front : take n (bytes ++ rest) ≡ take n bytes = take-append-le n bytes rest h in
+    let is : HeadJob (take n (bytes ++ rest)) (drop n (bytes ++ rest)) j = rw front head in
+    (bytes ++ rest, behind start left bytes rest c agrees, (Some j, rw (sym at) (j, refl, is), reads))
 
 -- ---- reads
 

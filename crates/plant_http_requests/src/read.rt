@@ -1,7 +1,7 @@
 //! From the input to what it asks for.
-ghost use Rattle.std.specs.Prelude.{◌≡◌, ◌≤◌, ◌+◌, ◌++◌, [], Some, None, length, take, drop, IfOk, IfSome};
+ghost use Rattle.std.specs.Prelude.{◌≡◌, ℕ, ◌≤◌, ◌+◌, ◌++◌, List, [], Some, None, length, take, drop, IfOk};
 ghost use Rattle.std.specs.Prelude.{IsErrOf, OnErr};
-ghost use Rattle.plant_http_input.specs.Reading.{SpentAll};
+ghost use Rattle.plant_http_input.specs.Reading.{Agrees, SpentAll};
 ghost use Rattle.plant_http_requests.specs.Jobs.{AsksFor, HeadAsksFor, LacksBody, most_reads};
 
 use crate::bodies::body_job;
@@ -28,8 +28,8 @@ fn head_job<R: Read>(
 ) -> Result<Job, InputFault>
     requires within { n ≤ length bytes.old.items }
     requires small { length bytes.old.items ≤ 8192 }
-    ensures asks { IfOk result (λ job. IfSome (R.remaining reader.old) (λ left.
-        HeadAsksFor (take n bytes.old.items) (drop n (bytes.old.items ++ left)) job)) }
+    ensures asks { IfOk result (λ job. (left : List ℕ) × Agrees (R.remaining reader.old) left
+        × HeadAsksFor (take n bytes.old.items) (drop n (bytes.old.items ++ left)) job) }
     ensures lacks { OnErr result (LacksBody (take n bytes.old.items) (length (drop n bytes.old.items))) }
     ensures endless { IsErrOf result InputFault.Endless → SpentAll reads.old
         (R.remaining reader.old) (R.remaining reader.new) }
@@ -81,7 +81,8 @@ pub fn read_job<R: Read>(
     routes: &Routes,
     reader: &mut R,
 ) -> Result<Option<Job>, InputFault>
-    ensures asks { IfOk result (λ job. IfSome (R.remaining reader.old) (λ whole. AsksFor whole job)) }
+    ensures asks { IfOk result (λ job. (whole : List ℕ) × Agrees (R.remaining reader.old) whole
+        × AsksFor whole job) }
     ensures endless { IsErrOf result InputFault.Endless → SpentAll most_reads
         (R.remaining reader.old) (R.remaining reader.new) }
 {

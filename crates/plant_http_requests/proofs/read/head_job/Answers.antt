@@ -1,12 +1,13 @@
-use Rattle.std.proofs.Common.{arith}
+use Rattle.std.proofs.Common.{refl, arith}
 use Rattle.std.proofs.lemmas.List.{length-drop}
-use Rattle.plant_http_requests.proofs.InputLemmas.{whole_body, cut_body}
+use Rattle.plant_http_requests.proofs.InputLemmas.{whole_body, cut_body, by_head}
+use Rattle.plant_http_requests.specs.declared.job.Job.TheVariants as J
 use Rattle.plant_http_requests.proofs.read.head_job.Goals as goal
 
 pub returns-in-Ok-true-clause-asks : goal.returns-in-Ok-true-clause-asks
 returns-in-Ok-true-clause-asks g c =
     let so = rw (c.split_at.ensures.front, c.as_slice.ensures.value) at c.step_of_head-step.ensures in
-    let there = c.in-Ok-true.ensures.enough c.in-Ok-true.field-0-test in
+    let there = rw c.in-Ok-true.field-0-test at c.in-Ok-true.ensures.found in
     let reads = rw c.as_slice-in-Ok-true.ensures.value at c.body_job.ensures in
     whole_body _ _ _ _ c.args.n c.in-Body.size c.in-Body.content c.step_of_head-step.result c.body_job.result so c.in-Body.is c.in-Ok-true.ensures.known there reads
 
@@ -19,5 +20,18 @@ returns-in-Err-clause-lacks g c =
 pub returns-in-Ok-false-clause-asks : goal.returns-in-Ok-false-clause-asks
 returns-in-Ok-false-clause-asks g c =
     let so = rw (c.split_at.ensures.front, c.as_slice.ensures.value) at c.step_of_head-step.ensures in
-    let short = rw c.in-Ok-false.field-0-test at c.in-Ok-false.ensures.there in
-    cut_body _ _ c.args.n c.in-Body.size c.in-Body.content c.step_of_head-step.result c.refusal_of.result so c.in-Body.is c.requires.within short c.refusal_of.ensures
+    let (short, end) = rw c.in-Ok-false.field-0-test at c.in-Ok-false.ensures.found in
+    cut_body _ _ _ _ c.args.n c.in-Body.size c.in-Body.content c.step_of_head-step.result c.refusal_of.result so c.in-Body.is c.in-Ok-false.ensures.known short end c.requires.within
+    c.refusal_of.ensures
+
+pub returns-in-Refuse-clause-asks : goal.returns-in-Refuse-clause-asks
+returns-in-Refuse-clause-asks g c =
+    let so = rw (c.split_at.ensures.front, c.as_slice.ensures.value) at c.step_of_head-step.ensures in
+    let it = c.in-Refuse in
+    by_head _ _ c.args.n c.step_of_head-step.result (J.Refuse it.status it.allow it.silent) so (λ rest. rw it.is refl) refl
+
+pub returns-in-Ask-clause-asks : goal.returns-in-Ask-clause-asks
+returns-in-Ask-clause-asks g c =
+    let so = rw (c.split_at.ensures.front, c.as_slice.ensures.value) at c.step_of_head-step.ensures in
+    let it = c.in-Ask in
+    by_head _ _ c.args.n c.step_of_head-step.result (J.Ask it.question it.form it.silent) so (λ rest. rw it.is refl) refl

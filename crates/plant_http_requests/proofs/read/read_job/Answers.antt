@@ -21,7 +21,7 @@ pub returns-in-Ok-clause-asks : goal.returns-in-Ok-clause-asks
 returns-in-Ok-clause-asks g c =
     let found = c.in-Ok-Found.field-0-is in
     let within = rw found at c.in-Ok-Found.ensures.within in
-    from_head _ _ _ c.in-Ok-Found.n c.in-Ok.job within.0 c.in-Ok-Found.ensures.known (rw found at c.in-Ok-Found.ensures.end) c.in-Ok.ensures.asks
+    from_head _ _ _ c.in-Ok-Found.n c.in-Ok.job within.0 c.in-Ok-Found.ensures.known (rw found at c.in-Ok-Found.ensures.found) c.in-Ok.ensures.asks
 
 pub returns-in-Ok-Found-clause-endless : goal.returns-in-Ok-Found-clause-endless
 returns-in-Ok-Found-clause-endless g c = λ h.

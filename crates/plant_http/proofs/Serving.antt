@@ -1,18 +1,21 @@
 -- From a job that was read to the request of the whole input.
-use Rattle.std.proofs.Common.{◌≡◌, ℕ, ◌==◌, Bool, true, false, List, [], ◌∷◌, length, Option, Some, None, Result, Ok, Err, refl, sym, arith}
-use Rattle.std.specs.Prelude.{IfSome, nat_le, if◌then◌else◌}
+use Rattle.std.proofs.Common.{◌≡◌, ℕ, ◌≤◌, ◌==◌, Bool, true, false, List, [], ◌∷◌, length, Option, Some, None, Result, Ok, Err, refl, sym, arith}
+use Rattle.std.specs.Prelude.{nat_le, if◌then◌else◌, ⊤}
 use Rattle.std.specs.Io.KnownBytes.{Keeps}
 use Rattle.std.proofs.lemmas.Bool.Decides.{nat_tests}
+use Rattle.std.proofs.lemmas.List.{length-append}
 use Rattle.plant_base.specs.State.{State}
 use Rattle.plant_desk.specs.Keeping.{States}
 use Rattle.plant_http_input.specs.Head.{end_of_head, end_where}
+use Rattle.plant_http_input.specs.Reading.{Agrees, SpentAll}
 use Rattle.plant_http_input.specs.declared.reading.HeadEnd.{HeadEnd}
 use Rattle.plant_http_input.specs.declared.reading.HeadEnd.TheVariants as head
 use Rattle.plant_http_requests.specs.Jobs.{AsksFor, EndJob}
 use Rattle.plant_http_requests.specs.declared.job.Job.{Job}
 use Rattle.plant_http.specs.Answers.{shut_out}
-use Rattle.plant_http.specs.Serving.{Serves, ServesShut, Answers, AnswersJobShut}
+use Rattle.plant_http.specs.Serving.{Serves, ServesShut, Answers, AnswersJobShut, end_of}
 use Rattle.plant_text.specs.Leaving.{LeavesAlone}
+use Rattle.plant_http_input.specs.declared.reading.InputFault.{InputFault}
 use Rattle.plant_http_input.specs.declared.reading.InputFault.TheVariants as input
 use Rattle.plant_http.specs.declared.serve.Served.{Served}
 use Rattle.plant_http.specs.declared.serve.Served.TheVariants.{Answered, Nothing}
@@ -47,7 +50,38 @@ unfolding end_of_head
 none_is_empty whole (None, is, reads) = empty_end _ whole (nothing_at_end (end_of_head whole) whole is)
 none_is_empty whole (Some j, is, reads) = absurd (cc)
 
--- ---- all reads of a request
+-- ---- a request that couldn't be read
+
+abbrev Fits : InputFault → List ℕ → Type 0
+Fits input.Read whole = ⊤
+Fits input.Endless whole = 4096 ≤ length whole
+Fits input.Memory whole = ⊤
+
+spent_whole : (start left : Option (List ℕ)) → SpentAll 4096 start left → (whole : List ℕ) × Agrees start whole × (4096 ≤ length whole)
+spent_whole None left (taken, c, m) = (taken, tt, m)
+spent_whole (Some whole) None (taken, c, m) = absurd c
+spent_whole (Some whole) (Some rest) (taken, c, m) = (whole, refl, rw c (omega (arith, m, length-append taken rest)))
+
+some_whole : (start : Option (List ℕ)) → (whole : List ℕ) × Agrees start whole × ⊤
+some_whole None = ([], tt, tt)
+some_whole (Some whole) = (whole, refl, tt)
+
+pub fault_whole : (start left : Option (List ℕ)) (fault : InputFault) → (fault ≡ input.Endless → SpentAll 4096 start left)
+    → (whole : List ℕ) × Agrees start whole × Fits fault whole
+fault_whole start left input.Read h = some_whole start
+fault_whole start left input.Endless h = spent_whole start left (h refl)
+fault_whole start left input.Memory h = some_whole start
+
+pub fault_serves : (k : ℕ) (s : State) (whole : List ℕ) (text : Option (List ℕ)) (stands : States) (shut : Bool) (leaves : States → Type 0) (fault : InputFault)
+    → LeavesAlone stands leaves s → shut ≡ false → Fits fault whole → Serves k s whole text text stands shut leaves (Err (end_of fault))
+fault_serves k s whole text stands shut leaves input.Read alone live h = record { state = alone; live = live; text = known_kept text }
+fault_serves k s whole text stands shut leaves input.Endless alone live h = (record { state = alone; live = live; text = known_kept text }, h)
+fault_serves k s whole text stands shut leaves input.Memory alone live h = record { state = alone; live = live; text = known_kept text }
+
+pub fault_shut : (whole : List ℕ) (text : Option (List ℕ)) (fault : InputFault) → Fits fault whole → ServesShut whole text text (Err (end_of fault))
+fault_shut whole text input.Read h = known_kept text
+fault_shut whole text input.Endless h = (known_kept text, h)
+fault_shut whole text input.Memory h = known_kept text
 
 -- ---- a job that is there
 
@@ -77,23 +111,11 @@ shut_by_job whole job old new (Ok (Answered code)) (Some j, is, reads) (is_code,
 shut_by_job whole job old new (Err end.Write) (Some j, is, reads) wrote =
     (j, is, shut_out job, reads_shut job j reads, rw (sym (reads_silent job j reads)) wrote)
 
--- ---- inputs that may not be known
+-- ---- no job
 
-pub serves_known : (k : ℕ) (s : State) (start : Option (List ℕ)) (job : Job) (old new : Option (List ℕ)) (stands : States) (shut : Bool) (leaves : States → Type 0) (r : Result Served ServeFault)
-    → IfSome start (λ whole. AsksFor whole (Some job)) → Answers k s job old new stands shut leaves r → IfSome start (λ whole. Serves k s whole old new stands shut leaves r)
-serves_known k s None job old new stands shut leaves r a h = tt
-serves_known k s (Some whole) job old new stands shut leaves r a h = serves_by_job k s whole job old new stands shut leaves r a h
+pub serves_nothing : (k : ℕ) (s : State) (whole : List ℕ) (text : Option (List ℕ)) (stands : States) (shut : Bool) (leaves : States → Type 0)
+    → LeavesAlone stands leaves s → shut ≡ false → AsksFor whole None → Serves k s whole text text stands shut leaves (Ok Nothing)
+serves_nothing k s whole text stands shut leaves alone live a = (none_is_empty whole a, record { state = alone; live = live; text = known_kept text })
 
-pub shut_known : (start : Option (List ℕ)) (job : Job) (old new : Option (List ℕ)) (r : Result Served ServeFault)
-    → IfSome start (λ whole. AsksFor whole (Some job)) → AnswersJobShut job old new r → IfSome start (λ whole. ServesShut whole old new r)
-shut_known None job old new r a h = tt
-shut_known (Some whole) job old new r a h = shut_by_job whole job old new r a h
-
-pub serves_nothing : (k : ℕ) (s : State) (start text : Option (List ℕ)) (stands : States) (shut : Bool) (leaves : States → Type 0)
-    → LeavesAlone stands leaves s → shut ≡ false → IfSome start (λ whole. AsksFor whole None) → IfSome start (λ whole. Serves k s whole text text stands shut leaves (Ok Nothing))
-serves_nothing k s None text stands shut leaves alone live a = tt
-serves_nothing k s (Some whole) text stands shut leaves alone live a = (none_is_empty whole a, record { state = alone; live = live; text = known_kept text })
-
-pub shut_nothing : (start text : Option (List ℕ)) → IfSome start (λ whole. AsksFor whole None) → IfSome start (λ whole. ServesShut whole text text (Ok Nothing))
-shut_nothing None text a = tt
-shut_nothing (Some whole) text a = (none_is_empty whole a, known_kept text)
+pub shut_nothing : (whole : List ℕ) (text : Option (List ℕ)) → AsksFor whole None → ServesShut whole text text (Ok Nothing)
+shut_nothing whole text a = (none_is_empty whole a, known_kept text)

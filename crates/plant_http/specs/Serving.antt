@@ -1,5 +1,5 @@
 -- What serving a request does.
-use Rattle.std.specs.Prelude.{◌≡◌, ℕ, ◌≤◌, Bool, true, false, List, [], length, Option, Some, ◌⊎◌, Result, Ok, Err}
+use Rattle.std.specs.Prelude.{◌≡◌, ℕ, ◌≤◌, Bool, true, false, List, [], length, Option, Some, ◌⊎◌, Result, Ok, Err, ⊤}
 use Rattle.std.specs.Io.KnownBytes.{Appends, Keeps}
 use Rattle.plant_base.specs.State.{State}
 use Rattle.plant_desk.specs.Keeping.{States}
@@ -61,6 +61,15 @@ Serves k s whole old new stands shut leaves (Err end.Write) = AnswersBy (λ out 
 Serves k s whole old new stands shut leaves (Err end.Read) = Untouched s old new stands shut leaves
 Serves k s whole old new stands shut leaves (Err end.Endless) = Untouched s old new stands shut leaves × (4096 ≤ length whole)
 Serves k s whole old new stands shut leaves (Err end.Memory) = Untouched s old new stands shut leaves
+
+-- the keeper wasn't asked and nothing was written: the input had no byte, or the request couldn't be read
+abbrev pub IfUnasked : Result Served ServeFault → Type 0 → Type 0
+IfUnasked (Ok Nothing) P = P
+IfUnasked (Ok (Answered code)) P = ⊤
+IfUnasked (Err end.Write) P = ⊤
+IfUnasked (Err end.Read) P = P
+IfUnasked (Err end.Endless) P = P
+IfUnasked (Err end.Memory) P = P
 
 -- ---- a keeper that is shut
 

@@ -1,8 +1,9 @@
 //! One request, served.
-ghost use Rattle.std.specs.Prelude.{◌≡◌, true, false, IfSome};
+ghost use Rattle.std.specs.Prelude.{◌≡◌, ℕ, true, false, List};
 ghost use Rattle.plant_base.specs.State.{State};
 ghost use Rattle.plant_desk.specs.Keeping.{IsSameDesk};
-ghost use Rattle.plant_http.specs.Serving.{Serves, ServesShut, Answers, AnswersJobShut, end_of};
+ghost use Rattle.plant_http_input.specs.Reading.{Agrees};
+ghost use Rattle.plant_http.specs.Serving.{Serves, ServesShut, IfUnasked, Answers, AnswersJobShut, end_of};
 
 use crate::perform::perform;
 use crate::send::send;
@@ -65,6 +66,7 @@ fn answer_job<W: Write, K: Keeper>(
     ensures still { K.shut keeper.old ≡ true → keeper.new ≡ keeper.old }
     ensures shut { K.shut keeper.old ≡ true → AnswersJobShut job.now
         (W.contents writer.old) (W.contents writer.new) result }
+    ensures asked { IfUnasked result ⊥ }
 {
     let answer = perform(alloc, keeper, job);
     match send(writer, &answer) {
@@ -81,7 +83,8 @@ fn answer_job<W: Write, K: Keeper>(
 ///
 /// What is written depends on the bytes of the input and not on the pieces in which they come, but for `Endless`.
 ///
-/// In the clauses, `s` is a state that the keeper stood at; nothing is said of where the keeper stands, and of what a stop
+/// In the clauses, `whole` are the bytes of the input: those that the reader has left, where it tells them, and some bytes where it tells none, as a
+/// socket: also then the keeper does the job of one request, once, and nothing else. `s` is a state that the keeper stood at; nothing is said of where the keeper stands, and of what a stop
 /// leaves, if it doesn't end honest. A keeper that is shut stays as it is, and each answer that it would be asked for is its fault 3.
 pub fn serve_one<R: Read, W: Write, K: Keeper>(
     alloc: Global,
@@ -93,13 +96,14 @@ pub fn serve_one<R: Read, W: Write, K: Keeper>(
     ensures same { IsSameDesk K.honest K.schema K.beside keeper.old keeper.new }
 
     // How the request ended, where the keeper stands then, and what a stop leaves.
-    ensures serves { K.honest keeper.new → K.shut keeper.old ≡ false → (s : State) → K.stands keeper.old s
-        → IfSome (R.remaining reader.old) (λ whole. Serves (K.schema keeper.old) s whole
-        (W.contents writer.old) (W.contents writer.new)
-        (K.stands keeper.new) (K.shut keeper.new) (K.leaves keeper.new) result) }
-    ensures still { K.shut keeper.old ≡ true → keeper.new ≡ keeper.old }
-    ensures shut { K.shut keeper.old ≡ true → IfSome (R.remaining reader.old) (λ whole. ServesShut whole
+    ensures serves { (whole : List ℕ) × Agrees (R.remaining reader.old) whole
+        × (K.honest keeper.new → K.shut keeper.old ≡ false → (s : State) → K.stands keeper.old s
+        → Serves (K.schema keeper.old) s whole (W.contents writer.old) (W.contents writer.new)
+        (K.stands keeper.new) (K.shut keeper.new) (K.leaves keeper.new) result)
+        × (K.shut keeper.old ≡ true → ServesShut whole
         (W.contents writer.old) (W.contents writer.new) result) }
+    ensures unasked { IfUnasked result ((keeper.new ≡ keeper.old) × (writer.new ≡ writer.old)) }
+    ensures still { K.shut keeper.old ≡ true → keeper.new ≡ keeper.old }
 {
     match read_job(alloc, routes, reader) {
         Ok(None) => Ok(Served::Nothing),

@@ -1,25 +1,40 @@
-use Rattle.std.proofs.Common.{Some, ap, ◌∙◌}
-use Rattle.plant_http.proofs.Serving.{serves_known, shut_known, serves_nothing, shut_nothing}
+use Rattle.std.proofs.Common.{Some, Err, ap, ◌∙◌}
+use Rattle.plant_http.proofs.Serving.{serves_by_job, shut_by_job, serves_nothing, shut_nothing, fault_whole, fault_serves, fault_shut}
 use Rattle.plant_http.proofs.serve.serve_one.Goals as goal
 
 pub returns-in-Ok-None-clause-serves : goal.returns-in-Ok-None-clause-serves
-returns-in-Ok-None-clause-serves g c = λ honest live s stood.
+returns-in-Ok-None-clause-serves g c =
+    let (whole, agrees, asks) = rw c.in-Ok-None.field-0-is at c.in-Ok-None.ensures.asks in
     let keeper = g.K.Keeper in
-    let same = c.args.keeper.now in
-    serves_nothing (keeper.schema same) s _ _ (keeper.stands same) (keeper.shut same) (keeper.leaves same)
-    (stood, g.met.K.Keeper.leaves_state same s honest live stood) live (rw c.in-Ok-None.field-0-is at c.in-Ok-None.ensures.asks)
-
-pub returns-in-Ok-None-clause-shut : goal.returns-in-Ok-None-clause-shut
-returns-in-Ok-None-clause-shut g c = λ closed. shut_nothing _ _ (rw c.in-Ok-None.field-0-is at c.in-Ok-None.ensures.asks)
+    let same = c.args.keeper.now in (
+      whole,
+      agrees,
+      λ honest live s stood. serves_nothing (keeper.schema same) s whole _ (keeper.stands same) (keeper.shut same) (keeper.leaves same)
+          (stood, g.met.K.Keeper.leaves_state same s honest live stood) live asks,
+      λ closed. shut_nothing whole _ asks,
+    )
 
 pub returns-in-Ok-Some-clause-serves : goal.returns-in-Ok-Some-clause-serves
-returns-in-Ok-Some-clause-serves g c = λ honest live s stood.
+returns-in-Ok-Some-clause-serves g c =
+    let (whole, agrees, asks) = rw (c.in-Ok-Some.field-0-is ∙ ap Some c.in-Ok-Some.job-is) at c.in-Ok-Some.ensures.asks in
     let keeper = g.K.Keeper in
-    let now = c.answer_job.new.keeper in
-    serves_known (keeper.schema c.args.keeper.now) s _ c.in-Ok-Some.job _ _ (keeper.stands now) (keeper.shut now) (keeper.leaves now) c.answer_job.result
-    (rw (c.in-Ok-Some.field-0-is ∙ ap Some c.in-Ok-Some.job-is) at c.in-Ok-Some.ensures.asks) (c.answer_job.ensures.answers honest live s stood)
+    let now = c.answer_job.new.keeper in (
+      whole,
+      agrees,
+      λ honest live s stood. serves_by_job (keeper.schema c.args.keeper.now) s whole c.in-Ok-Some.job _ _ (keeper.stands now) (keeper.shut now) (keeper.leaves now) c.answer_job.result
+          asks (c.answer_job.ensures.answers honest live s stood),
+      λ closed. shut_by_job whole c.in-Ok-Some.job _ _ c.answer_job.result asks (c.answer_job.ensures.shut closed),
+    )
 
-pub returns-in-Ok-Some-clause-shut : goal.returns-in-Ok-Some-clause-shut
-returns-in-Ok-Some-clause-shut g c = λ closed.
-    shut_known _ c.in-Ok-Some.job _ _ c.answer_job.result
-    (rw (c.in-Ok-Some.field-0-is ∙ ap Some c.in-Ok-Some.job-is) at c.in-Ok-Some.ensures.asks) (c.answer_job.ensures.shut closed)
+pub returns-in-Err-clause-serves : goal.returns-in-Err-clause-serves
+returns-in-Err-clause-serves g c =
+    let fault = c.in-Err.fault in
+    let (whole, agrees, fits) = fault_whole _ _ fault (λ e. c.in-Err.ensures.endless (ap Err e)) in
+    let keeper = g.K.Keeper in
+    let same = c.args.keeper.now in (
+      whole,
+      agrees,
+      λ honest live s stood. rw c.end_of.ensures (fault_serves (keeper.schema same) s whole _ (keeper.stands same) (keeper.shut same) (keeper.leaves same) fault
+          (stood, g.met.K.Keeper.leaves_state same s honest live stood) live fits),
+      λ closed. rw c.end_of.ensures (fault_shut whole _ fault fits),
+    )

@@ -1,13 +1,18 @@
--- How the serving of connections ends.
-use Rattle.std.specs.Prelude.{◌≡◌, ℕ, Bool, true, false, Option, Some, None, Result, Ok, Err}
+-- What comes of serving connections, and how it ends.
+use Rattle.std.specs.Prelude.{◌≡◌, ℕ, ◌≤◌, ◌<◌, List, length, map, Bool, true, false, Option, Some, None, Result, Ok, Err}
 use Rattle.sqlite.specs.Effect.{Database}
 use Rattle.sqlite.specs.Held.{state}
 use Rattle.sqlite.specs.State.{HasCleanDisk}
 use Rattle.sqlite_trees.specs.declared.store.Store.{Ghosts}
-use Rattle.plant_base.specs.State.{newest_schema}
-use Rattle.plant_desk.specs.Keeping.{IsSameDesk}
-use Rattle.plant_desk_store.specs.DeskStanding.{IsBeside}
+use Rattle.plant_base.specs.State.{State, newest_schema}
+use Rattle.plant_desk.specs.Keeping.{States, IsSameDesk}
+use Rattle.plant_desk_store.specs.DeskStanding.{DeskStands, Leaves, IsBeside}
 use Rattle.plant_desk_store.specs.declared.stored.Desk.{Desk}
+use Rattle.plant_text.specs.Leaving.{LeavesAlone, LeavesEither}
+use Rattle.plant_text.specs.Session.{Entry, fold}
+use Rattle.plant_http_requests.specs.Jobs.{JobOf}
+use Rattle.plant_http_requests.specs.declared.job.Job.{Job}
+use Rattle.plant_http.specs.Serving.{entry_of}
 use Rattle.plant_http.specs.declared.serve.Served.{Served}
 use Rattle.plant_http.specs.declared.serve.Served.TheVariants.{Answered, Nothing}
 use Rattle.plant_http.specs.declared.serve.ServeFault.{ServeFault}
@@ -19,6 +24,29 @@ abbrev pub status_of : Result Served ServeFault → Option ℕ
 status_of (Ok (Answered status)) = Some status
 status_of (Ok Nothing) = None
 status_of (Err f) = None
+
+-- an input of a connection, and the job that it asks for
+pub record Asked : Type 0 where
+  pub input : List ℕ
+  pub job : Job
+  pub asks : JobOf input (Some job)
+
+abbrev pub entries : List Asked → List Entry
+entries jobs = map (λ (a : Asked). entry_of a.job) jobs
+
+-- A keeper that stood at s has served at most so many connections. It stands where the jobs lead that it has done, each once
+-- and in their order, and a stop leaves that state and no other; jobs in whose place a fault was answered are not among them.
+-- Where it is shut, a fault of its store came at a further job: a stop leaves the state before it or the state after it.
+abbrev pub HasServed : ℕ → State → States → Bool → (States → Type 0) → Type 0
+HasServed most s stands false leaves = (jobs : List Asked) × (length jobs ≤ most) × LeavesAlone stands leaves (fold s (entries jobs))
+HasServed most s stands true leaves =
+    (jobs : List Asked) × (last : Asked) × (length jobs < most) × LeavesEither stands leaves (fold s (entries jobs)) (entry_of last.job)
+
+-- the same of a desk over a store that has kept its word, at each state that it stood at
+abbrev pub ServesAtMost : {S : Type 0} (g : Ghosts S) → ℕ → Desk S g → Desk S g → Type 0
+ServesAtMost {S} g most old new =
+    HasCleanDisk (state g new.connection) → (s : State) → DeskStands (state g old.connection) old.is_shut s
+    → HasServed most s (DeskStands (state g new.connection) new.is_shut) new.is_shut (λ states. Leaves (state g new.connection) states)
 
 -- the desk is one and the same: what it stood on has kept its word, and what stands beside its tables stands there still
 abbrev pub IsSameStore : {S : Type 0} (g : Ghosts S) → Desk S g → Desk S g → Type 0

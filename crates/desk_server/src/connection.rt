@@ -1,8 +1,9 @@
 //! One connection.
-ghost use Rattle.std.specs.Prelude.{◌≡◌, ◌*◌, false};
+ghost use Rattle.std.specs.Prelude.{◌≡◌, ◌*◌, true, false};
 ghost use Rattle.std.specs.Duration.{as_nanos};
+ghost use Rattle.plant_base.specs.State.{State};
 ghost use Rattle.plant_desk.specs.Keeping.{IsSameDesk};
-ghost use Rattle.desk_server.specs.Serving.{status_of};
+ghost use Rattle.desk_server.specs.Serving.{HasServed, status_of};
 
 use crate::log::{AccessLog, Heard};
 use plant_desk::Keeper;
@@ -92,6 +93,8 @@ fn status_of(served: &Result<Served, ServeFault>) -> Option<u16>
 
 /// Serves the request of one connection. What becomes of it is the connection's affair: the keeper is what it is told of.
 ///
+/// A socket doesn't tell its bytes, so that no clause says which request it was: the keeper does the job of one request, once, or nothing.
+///
 /// The connection comes back where its client has all that it needs to end it. Where nothing was answered, for a fault of the connection or
 /// for want of memory, nothing has to reach the client, and the connection is dropped at once.
 pub(crate) fn serve_stream<K: Keeper>(
@@ -101,7 +104,10 @@ pub(crate) fn serve_stream<K: Keeper>(
     keeper: &mut K,
     log: AccessLog<'_>,
 ) -> Option<TcpStream>
-    ensures { IsSameDesk K.honest K.schema K.beside keeper.old keeper.new }
+    ensures same { IsSameDesk K.honest K.schema K.beside keeper.old keeper.new }
+    ensures serves { K.honest keeper.new → K.shut keeper.old ≡ false → (s : State) → K.stands keeper.old s
+        → HasServed 1 s (K.stands keeper.new) (K.shut keeper.new) (K.leaves keeper.new) }
+    ensures still { K.shut keeper.old ≡ true → keeper.new ≡ keeper.old }
 {
     bound_waits(&stream);
     let arrival = log.arrival();

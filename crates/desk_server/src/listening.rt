@@ -2,7 +2,7 @@
 ghost use Rattle.std.specs.Prelude.{◌≡◌, ◌≢◌, false, true, Ok, Err, IfErr, IfOk, OnErr};
 ghost use Rattle.sqlite.specs.Held.{state};
 ghost use Rattle.sqlite.specs.State.{HasCleanDisk};
-ghost use Rattle.desk_server.specs.Serving.{EndsServing, IsSameStore};
+ghost use Rattle.desk_server.specs.Serving.{EndsServing, IsSameStore, ServesAtMost};
 
 use crate::connection::{read_on, read_rest, serve_stream};
 use crate::fault::ServingFault;
@@ -26,10 +26,11 @@ fn serve_each<S: Alter + Drop>(
 ) -> Result<(), ServingFault>
     requires { desk.old.is_shut ≡ false }
     ensures same { IsSameStore S.Store desk.old desk.new }
+    ensures serves { ServesAtMost S.Store count desk.old desk.new }
     ensures ends { EndsServing desk.new.is_shut result }
     ensures routed { IfErr result (λ fault. fault ≢ ServingFault.Memory) }
 {
-    for _ in 0..count {
+    'connections: for _made in 0..count {
         let Ok((stream, _)) = listener.accept() else {
             return Err(ServingFault::Net);
         };
@@ -59,8 +60,11 @@ fn routes_of(made: Result<Routes, RoutesFault>) -> Result<Routes, ServingFault>
 /// Serves so many connections of a listener, one after the other, by an open desk. What is answered to a request ends nothing,
 /// and neither does a fault of a connection; one without a byte counts too. Each is noted in the log where there is one.
 ///
+/// Whatever the sockets give, the desk does one job of a connection at most, and stands where these jobs lead, one after the other.
+///
 /// `Store`: a fault of the store has shut the desk; no further connection is taken. `Net`: no connection could be taken.
 /// `Memory`: memory was refused for the routes, before the first connection. No other fault comes.
+#[tactic(auto, using(crate::proofs::Served::desk_unasked))]
 pub fn serve_listener<S: Alter + Drop>(
     alloc: Global,
     listener: &TcpListener,
@@ -70,6 +74,7 @@ pub fn serve_listener<S: Alter + Drop>(
 ) -> Result<(), ServingFault>
     requires { desk.old.is_shut ≡ false }
     ensures same { IsSameStore S.Store desk.old desk.new }
+    ensures serves { ServesAtMost S.Store count desk.old desk.new }
     ensures ends { EndsServing desk.new.is_shut result }
 {
     let routes = routes_of(Routes::new(alloc))?;

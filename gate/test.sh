@@ -1,8 +1,9 @@
 #!/usr/bin/env bash
-# The gate: that the programs are run on what stands in examples/ and that each edit can still be applied, then, from nothing,
-# every proof and the programs, then every must-fail edit, and then sessions of the built desk, what is reckoned beside it, its streams narrowed, its files
-# stopped, words that it can't follow, both keepers side by side, its limits, damaged files and broken requests, refused memory, the two built checks on long
-# inputs and streams that fail, the built check of files over good, faulty and broken ones, the pictures of genealogies, the packages, and the examples of the documents.
+# The gate: that the programs are run on what stands in examples/, that docs/crates.svg is what crates.txt gives and that each edit can still
+# be applied, then, from nothing, every proof and the programs, then every must-fail edit, and then sessions of the built desk, what is
+# reckoned beside it, its streams narrowed, its files stopped, words that it can't follow, both keepers side by side, its limits, damaged files
+# and broken requests, refused memory, the two built checks on long inputs and streams that fail, the built check of files over good, faulty
+# and broken ones, the pictures of genealogies, the packages, and the examples of the documents.
 #
 # It is done in a copy of the repository, build/gate, without the edits: rt ci would prove a crate once more for its first edit, and
 # load the libraries below anew for each; gate/edits.py tries them together, over the libraries that rt ci has built.
@@ -13,6 +14,7 @@ copy=build/gate
 cmp examples/orders.csv crates/order_check/stdin
 cmp examples/batch.jsonl crates/desk/stdin
 cmp examples/batch.out crates/desk/stdout
+make/crates.py --check
 gate/edits.py apply
 gate/edits.py copy $copy
 (cd $copy && rt ci)

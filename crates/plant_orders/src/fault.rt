@@ -58,6 +58,7 @@ impl CsvKind {
 pub struct CsvFault {
     /// The row among the records behind the header, from 1 on; 0 for the header and the file as a whole.
     pub row: u16,
+    /// What is wrong there.
     pub kind: CsvKind,
 }
 

@@ -16,11 +16,13 @@ pub const GREATEST_PHASES: u8 = 127;
 /// How far a batch has come: the fold of its events.
 #[derive(Clone, Copy, Debug, PartialEq, Eq)]
 pub struct Progress {
+    /// The procedural state.
     pub state: BatchState,
     /// 1 to 99.
     pub attempt: u8,
     /// The next phase, 1 to 128: one above the number of phases where all are done.
     pub next: u8,
+    /// Whether the batch was closed; it then accepts no event.
     pub closed: bool,
 }
 

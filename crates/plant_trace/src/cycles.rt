@@ -60,6 +60,7 @@ pub fn rises(positions: &BTreeMap<Node, usize>, pairs: &[(Node, Node)]) -> bool
 }
 
 /// What `acyclic` answers, by the definition's own program: no first end of a pair is in its own trace.
+/// The only error is that memory was refused.
 pub fn acyclic_by_closures(alloc: Global, pairs: &[(Node, Node)]) -> Result<bool, AllocError>
     ensures { IfOk result (λ yes. IsTrue yes ↔ IsAcyclic pairs.now) }
 {

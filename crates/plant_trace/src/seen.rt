@@ -10,6 +10,7 @@ use std::alloc::{AllocError, Global};
 use std::collections::BTreeSet;
 
 /// Adds nodes to a set.
+/// The only error is that memory was refused; some of the nodes may then be in the set.
 pub fn note_all(seen: &mut BTreeSet<Node>, nodes: &[Node]) -> Result<(), AllocError>
     ensures { OnOk result (Adds nodes.now seen.old.keys seen.new.keys) }
 {
@@ -20,6 +21,7 @@ pub fn note_all(seen: &mut BTreeSet<Node>, nodes: &[Node]) -> Result<(), AllocEr
 }
 
 /// Adds nodes to a set, and those that are new to the end of a queue.
+/// The only error is that memory was refused; some of the nodes may then be in the set and in the queue.
 pub fn note_new(
     seen: &mut BTreeSet<Node>,
     queue: &mut Vec<Node>,
@@ -37,6 +39,7 @@ pub fn note_new(
 }
 
 /// The nodes of a set, strictly ascending.
+/// The only error is that memory was refused.
 pub fn list_of(alloc: Global, seen: &BTreeSet<Node>) -> Result<Vec<Node>, AllocError>
     ensures items { IfOk result (λ nodes. nodes.items ≡ seen.now.keys) }
     ensures ascending { IsStrictlySortedBy node_cmp seen.now.keys }

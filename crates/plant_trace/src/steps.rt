@@ -10,6 +10,7 @@ use crate::fault::TraceFault;
 use crate::node::Node;
 
 /// The nodes that come right after this one in the direction.
+/// `Edges` where the source failed; no other error is returned.
 pub fn ask<E: Edges>(
     edges: &mut E,
     node: Node,

@@ -35,6 +35,7 @@ fn read_ahead<V: Worklists, R: OfLot>(
 }
 
 /// The lot of this id.
+/// `None` where there is none; `View` where the view failed.
 pub fn lot_ahead<V: Worklists>(
     view: &mut V,
     ahead: &mut Ahead<Lot>,
@@ -53,6 +54,7 @@ pub fn lot_ahead<V: Worklists>(
 }
 
 /// Whether a lot has a hold.
+/// `View` where the view failed.
 pub fn is_held_ahead<V: Worklists>(
     view: &mut V,
     ahead: &mut Ahead<Hold>,
@@ -71,6 +73,7 @@ pub fn is_held_ahead<V: Worklists>(
 }
 
 /// The sublots of a lot with their stock, by number.
+/// `View` where the view failed; `Memory` where memory was refused to the copy of rows that were read ahead.
 pub fn sublots_ahead<V: Worklists>(
     alloc: Global,
     view: &mut V,

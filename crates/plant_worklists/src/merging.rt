@@ -9,6 +9,7 @@ use std::alloc::{AllocError, Global};
 use std::cmp::Ordering;
 
 /// The first page of two lists as one, each key once, from the first page of each.
+/// The only error is that memory was refused.
 pub fn merge_pages<R: Placed + Copy + Drop>(
     alloc: Global,
     first: &Page<R>,

@@ -8,6 +8,7 @@ use plant_base::{Id, Movement, MovementKind};
 use plant_view::ViewFault;
 
 /// The movements that bring something to a lot from another sublot, in their order.
+/// `View` where the view failed.
 pub fn movements_into<V: Worklists>(
     view: &mut V,
     lot: Id,
@@ -19,6 +20,7 @@ pub fn movements_into<V: Worklists>(
 }
 
 /// The lot that a movement of this lot brings its amount to from another sublot, its own where it was divided.
+/// `None` where it brings nothing to another sublot.
 pub fn other_lot(kind: MovementKind, lot: Id) -> Option<Id>
     ensures { result ≡ other_lot kind lot }
 {

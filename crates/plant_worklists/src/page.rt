@@ -12,6 +12,7 @@ pub const PAGE_SIZE: u16 = 100;
 pub struct Page<R> {
     /// At most [`PAGE_SIZE`], in the order of the list.
     pub rows: Items<R>,
+    /// Whether the list has more rows after these.
     pub has_more: bool,
 }
 

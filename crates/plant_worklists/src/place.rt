@@ -8,19 +8,24 @@ use plant_base::{Id, read_digits};
 /// A version of a recipe as a place in a list of recipes. It needn't be there.
 #[derive(Clone, Copy, Debug, PartialEq, Eq)]
 pub struct RecipePlace {
+    /// The recipe, by which the list is ordered first.
     pub recipe: Id,
+    /// The version of the recipe, at most 3 digits as a text.
     pub version: u16,
 }
 
 /// A movement as a place in the ledger of a lot: the number of its command, and its line. It needn't be there.
 #[derive(Clone, Copy, Debug, PartialEq, Eq)]
 pub struct MovementPlace {
+    /// The number of the command, by which the list is ordered first; at most 16 digits as a text.
     pub seq: u64,
+    /// The line of the movement among those of the command, at most 3 digits as a text.
     pub line: u16,
 }
 
 impl RecipePlace {
     /// The place that a text names: a recipe and a version of at most 3 digits, with a dot between them.
+    /// `None` where the text isn't of this form.
     pub fn read(text: &str) -> Option<Self>
         ensures { result ≡ recipe_place text.now }
     {
@@ -34,6 +39,7 @@ impl RecipePlace {
 
 impl MovementPlace {
     /// The place that a text names: a number of at most 16 digits and a line of at most 3, with a dot between them.
+    /// `None` where the text isn't of this form.
     pub fn read(text: &str) -> Option<Self>
         ensures { result ≡ movement_place text.now }
     {

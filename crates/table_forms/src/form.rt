@@ -3,9 +3,13 @@ use std::marker::Model;
 /// A column of a STRICT table, with no default: its type, its name, and whether it may be NULL.
 #[derive(Clone, Copy, Debug)]
 pub enum ColumnForm<'a> {
+    /// An INTEGER column of this name, NOT NULL.
     Integer(&'a [u8]),
+    /// A TEXT column of this name, NOT NULL.
     Text(&'a [u8]),
+    /// An INTEGER column of this name.
     IntegerOrNull(&'a [u8]),
+    /// A TEXT column of this name.
     TextOrNull(&'a [u8]),
 }
 
@@ -13,15 +17,20 @@ pub enum ColumnForm<'a> {
 /// are the places of their columns, the first column being 1.
 #[derive(Debug, Drop)]
 pub struct Form<'a> {
+    /// The name of the table.
     pub name: &'a [u8],
+    /// The columns in their order.
     pub columns: &'a [ColumnForm<'a>],
+    /// The keys, each as the numbers of its columns, of which the first is 1.
     pub keys: &'a [&'a [usize]],
 }
 
 /// The text that makes an index which bars no row, and the index's name.
 #[derive(Clone, Copy, Debug)]
 pub struct IndexText<'a> {
+    /// The name of the index.
     pub name: &'a [u8],
+    /// The CREATE INDEX statement.
     pub sql: &'a str,
 }
 

@@ -20,7 +20,9 @@ use table_forms::{Fault, Form, is_declared};
 /// Rows of a table, and whether more of those that were asked for stand behind them.
 #[derive(Drop)]
 pub struct Page {
+    /// The rows in the order of the table's first key.
     pub rows: Vec<Row>,
+    /// Whether the store has more of the rows that were asked for, after these.
     pub has_more: bool,
 }
 

@@ -36,6 +36,7 @@ pub fn check(alloc: Global, loaded: &Loaded) -> Result<Option<Rule>, AllocError>
 }
 
 /// The same for rows whose values obey their rules.
+/// The only error is that memory was refused.
 #[tactic(auto, unfolding(crate::specs::Broken::first_broken_of))]
 pub fn check_rows(alloc: Global, rows: &DeskRows) -> Result<Option<Rule>, AllocError>
     ensures { IfOk result (λ broken. broken ≡ first_broken_of (rows_listed rows.now)) }

@@ -19,6 +19,7 @@ pub(crate) fn are_whole(rows: &[BookedRow]) -> bool
 }
 
 /// The movements of the rows that have the columns of their kinds.
+/// The only error is that memory was refused.
 pub fn movements_in(alloc: Global, rows: &[BookedRow]) -> Result<Vec<Movement>, AllocError>
     ensures { IfOk result (λ list. list.items ≡ movements_in rows.now) }
 {

@@ -15,6 +15,7 @@ pub(crate) fn are_fitting(rows: &[StatedRecall]) -> bool
 }
 
 /// The recalls of the rows that have them.
+/// The only error is that memory was refused.
 pub fn recalls_told(alloc: Global, rows: &[StatedRecall]) -> Result<Vec<Recall>, AllocError>
     ensures { IfOk result (λ list. list.items ≡ recalls_told rows.now) }
 {

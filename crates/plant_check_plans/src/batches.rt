@@ -25,8 +25,11 @@ use std::alloc::{AllocError, Global};
 /// What the control recipes of batches come from.
 #[derive(Drop)]
 pub struct Plans<'a> {
+    /// The recipes by id and version.
     pub recipes: Grouped<'a, Recipes>,
+    /// The lines of master recipes by recipe and version.
     pub lines: Grouped<'a, RecipeLines>,
+    /// The orders by id.
     pub jobs: Grouped<'a, Orders>,
 }
 

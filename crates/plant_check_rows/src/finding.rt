@@ -28,6 +28,7 @@ use std::alloc::{AllocError, Global};
 /// A rule that is broken.
 #[derive(Clone, Copy, Debug, PartialEq, Eq)]
 pub struct Finding {
+    /// The rule.
     pub rule: Rule,
     /// The first row that breaks it, where one is told.
     pub row: Option<RowFault>,

@@ -24,9 +24,13 @@ const GREATEST_PARTS: usize = 16;
 /// What movements name.
 #[derive(Drop)]
 pub struct Named<'a> {
+    /// The lots by id.
     pub lots: Grouped<'a, Lots>,
+    /// The sublots by lot and number.
     pub sublots: Grouped<'a, Sublots>,
+    /// The batches by id.
     pub batches: Grouped<'a, Batches>,
+    /// The lines of control recipes by batch.
     pub controls: Grouped<'a, ControlLines>,
 }
 
@@ -131,6 +135,7 @@ fn is_right(named: &Named, parts: &Grouped<Parts>, movement: &Movement) -> bool
 }
 
 /// The batch that the movement names.
+/// `None` where its kind names none: it is neither consumed nor produced.
 pub fn batch_by(movement: &Movement) -> Option<Id>
     ensures { result ≡ batch_by movement.now.kind }
 {

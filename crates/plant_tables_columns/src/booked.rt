@@ -80,7 +80,9 @@ pub struct BookedRow {
     pub seq: u64,
     /// 1 to 65535, or 0 where no line can have the number that is stored.
     pub line: u16,
+    /// The kind of the movement.
     pub sort: MovementSort,
+    /// The lot that the amount came to, if received or produced; else the lot that it was taken from.
     pub lot: Id,
     /// 0 to [`GREATEST_SUBLOT`](plant_base::GREATEST_SUBLOT).
     pub sub: u16,
@@ -90,9 +92,13 @@ pub struct BookedRow {
     pub sub2: Option<u16>,
     /// The batch that takes or brings the amount, where it names one.
     pub batch: Option<Id>,
+    /// The amount moved, in the unit of the lot's definition.
     pub amount: Amount,
+    /// When the command was given.
     pub at: Moment,
+    /// The operator who gave the command; it may be empty.
     pub by: Text,
+    /// The operator's note; empty where there is none.
     pub note: Text,
 }
 

@@ -55,7 +55,9 @@ fn line_sort(row: &Row, at: usize) -> Option<LineSort>
 /// What an in or out line asks for.
 #[derive(Clone, Copy, Debug, PartialEq, Eq)]
 pub struct Material {
+    /// The definition that is consumed or produced.
     pub def: Id,
+    /// How much, in the unit of the definition.
     pub amount: Amount,
 }
 

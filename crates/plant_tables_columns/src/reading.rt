@@ -55,6 +55,7 @@ pub(crate) fn integer(row: &Row, at: usize) -> Option<i64>
     }
 }
 
+/// Whether the column at this place of the row is NULL.
 pub(crate) fn is_null(row: &Row, at: usize) -> bool
     ensures { result ≡ is_null (column row.now at) }
 {

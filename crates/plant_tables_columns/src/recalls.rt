@@ -58,11 +58,17 @@ fn recall_state(row: &Row, at: usize) -> Option<RecallState>
 /// A row of table recall whose values obey their rules, whatever its state asks of the columns of its lifting.
 #[derive(Clone, Copy, Debug, PartialEq, Eq)]
 pub struct StatedRecall {
+    /// Identifies the recall; unique among recalls, also of those that were lifted.
     pub id: Id,
+    /// The lot that is recalled.
     pub lot: Id,
+    /// Whether the recall is open or lifted, as its column says.
     pub state: RecallState,
+    /// When the command was given.
     pub at: Moment,
+    /// The operator who gave the command; it may be empty.
     pub by: Text,
+    /// The operator's note; empty where there is none.
     pub note: Text,
     /// When it was lifted, where the row tells it.
     pub lift_at: Option<Moment>,

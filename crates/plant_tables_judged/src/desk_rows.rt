@@ -18,22 +18,39 @@ use std::alloc::{AllocError, Global};
 /// receipts before the third, and no recalls and marks before the fourth.
 #[derive(Drop)]
 pub struct DeskRows {
+    /// The schema, and the position of the desk.
     pub meta: Meta,
+    /// The material classes.
     pub classes: Vec<Class>,
+    /// The material definitions.
     pub definitions: Vec<Definition>,
+    /// The versions of master recipes, without their lines.
     pub recipes: Vec<Recipe>,
+    /// The lines of master recipes.
     pub master_lines: Vec<MasterLine>,
+    /// The orders with their states.
     pub jobs: Vec<Job>,
+    /// The batches with their progress.
     pub batches: Vec<BatchRow>,
+    /// The lines of control recipes.
     pub control_lines: Vec<ControlLine>,
+    /// What happened to batches.
     pub events: Vec<BatchEvent>,
+    /// The lots.
     pub lots: Vec<Lot>,
+    /// The sublots with their stock.
     pub sublots: Vec<Sublot>,
+    /// The movements, of which a row may lack what its kind asks for.
     pub movements: Vec<BookedRow>,
+    /// The holds of lots.
     pub holds: Vec<Hold>,
+    /// The edges of the genealogy.
     pub edges: Vec<EdgeRow>,
+    /// The receipts of commands with references.
     pub receipts: Vec<Receipt>,
+    /// The recalls, of which a row may lack what its state asks for.
     pub recalls: Vec<StatedRecall>,
+    /// The marks of open recalls on lots and batches.
     pub marks: Vec<Mark>,
 }
 

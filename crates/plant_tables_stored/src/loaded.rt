@@ -20,6 +20,7 @@ use table_reads::{all_free, all_stand, read_table};
 /// forms. Values that break a rule are kept as they are.
 #[derive(Drop)]
 pub struct Loaded {
+    /// The rows of each table, as many tables as the schema has.
     pub tables: Vec<Vec<Row>>,
 }
 

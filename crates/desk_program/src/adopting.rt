@@ -69,6 +69,7 @@ fn with_indexes<S: Alter>(mut desk: Desk<S>) -> Desk<S>
 }
 
 /// Adopts a store, as [`Desk::adopt`] does, and makes the indexes that its tables lack, as [`Desk::add_indexes`] does.
+/// Where the store isn't adopted, `Stopped` has the fault and gives the connection back; the fault is never `Write`.
 pub fn adopt<S: Alter + Drop>(
     alloc: Global,
     connection: Connection<S>,

@@ -14,14 +14,18 @@ pub struct Genealogy {
 /// A lot or batch in the genealogy.
 #[derive(Clone, Copy)]
 pub enum NodeAnswer {
+    /// A lot, and what is known of it.
     Lot(LotNode),
+    /// The batch of this id.
     Batch(Id),
 }
 
 /// A lot in the genealogy.
 #[derive(Clone, Copy)]
 pub struct LotNode {
+    /// The lot.
     pub lot: Id,
+    /// The definition of the lot.
     pub def: Id,
     /// The unit of its definition, in which its stock and the amounts of its edges are counted.
     pub unit: Unit,
@@ -36,6 +40,7 @@ pub struct LotNode {
 /// An edge, and what was booked along it.
 #[derive(Clone, Copy)]
 pub struct BookedEdge {
+    /// The kind and both ends of the edge.
     pub edge: EdgeRow,
     /// The amounts of all movements that make the edge.
     pub amount: u64,

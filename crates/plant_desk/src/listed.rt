@@ -28,6 +28,7 @@ pub enum Listed {
 /// A batch that isn't closed, and what is next in it (job response of IEC 62264-4).
 #[derive(Clone, Copy)]
 pub struct OpenBatch {
+    /// The batch with its progress.
     pub row: BatchRow,
     /// How many phases its control recipe has.
     pub phases: usize,

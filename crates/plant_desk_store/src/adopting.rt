@@ -41,7 +41,9 @@ pub enum AdoptFault {
 /// A store that wasn't adopted, and why.
 #[derive(Drop)]
 pub struct AdoptRefused<S: Alter> {
+    /// The connection to the store, for its owner to close.
     pub connection: Connection<S>,
+    /// Why the store wasn't adopted.
     pub fault: AdoptFault,
 }
 

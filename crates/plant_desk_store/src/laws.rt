@@ -37,6 +37,8 @@ pub fn sent_again_law<S: Alter>()
 {}
 
 /// Executes a command over a desk that isn't shut: what comes of it, in the words of the headline.
+/// `Store` where the store failed; the desk is then shut, and the command is stored or not. `Memory` where memory was
+/// refused; nothing has changed then.
 pub fn execute_told<S: Alter>(desk: &mut Desk<S>, envelope: &Envelope) -> Result<Reply, DeskFault>
     requires { desk.old.is_shut ≡ false }
     ensures { HasExecuted (state S.Store desk.old.connection) (state S.Store desk.new.connection)
@@ -46,6 +48,7 @@ pub fn execute_told<S: Alter>(desk: &mut Desk<S>, envelope: &Envelope) -> Result
 }
 
 /// Asks a desk that isn't shut: what comes of it, in the words of the headline.
+/// `Store` where the store failed; `Memory` where memory was refused. The desk isn't shut by either.
 pub fn ask_told<S: Alter>(desk: &mut Desk<S>, question: &Question) -> Result<Answer, DeskFault>
     requires { desk.old.is_shut ≡ false }
     ensures told { HasAsked (state S.Store desk.old.connection) (state S.Store desk.new.connection)

@@ -36,6 +36,7 @@ pub(crate) struct Answer {
 }
 
 impl Body {
+    /// The bytes of the body.
     pub(crate) fn as_bytes(&self) -> &[u8]
         ensures { result.now ≡ body_bytes self.now }
     {

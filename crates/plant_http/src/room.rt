@@ -50,6 +50,7 @@ impl Room {
         self.room.push_str(buffer.format(number));
     }
 
+    /// The bytes of the text so far.
     pub(crate) fn as_bytes(&self) -> &[u8]
         ensures { result.now ≡ self.now }
     {

@@ -17,14 +17,20 @@ pub enum Form {
 pub enum Job {
     /// The request is answered by this status alone.
     Refuse {
+        /// The status of the answer.
         status: Status,
+        /// The methods that the path allows, which the answer names with 405.
         allow: Allow,
+        /// Whether the answer's body is left out, since the request is a HEAD.
         silent: bool,
     },
     /// A question to the desk, and the form of its answer.
     Ask {
+        /// What the desk is asked.
         question: Question,
+        /// The form of the answer.
         form: Form,
+        /// Whether the answer's body is left out, since the request is a HEAD.
         silent: bool,
     },
     /// A command for the desk to execute, be it the body itself or the import of an order file.

@@ -13,6 +13,7 @@ use plant_desk::Question;
 use plant_http_routes::{Kind, Routes, Target};
 use plant_trace::{Direction, Node};
 
+/// The job of a request that is answered by a status alone; no methods are named.
 pub(crate) fn refusal_of(status: Status, silent: bool) -> Job
     ensures { result ≡ refusal_of status silent }
 {
@@ -23,6 +24,7 @@ pub(crate) fn refusal_of(status: Status, silent: bool) -> Job
     }
 }
 
+/// The step of a request that is answered by a status alone; no methods are named.
 pub(crate) fn fails(status: Status, silent: bool) -> HeadStep
     ensures { result ≡ fails status silent }
 {

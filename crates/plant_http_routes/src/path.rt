@@ -42,6 +42,7 @@ pub(crate) fn ascii_text(path: &[u8]) -> Option<&str>
     Some(ascii_str(path))
 }
 
+/// The id that the bytes are, if they are one.
 pub(crate) fn read_id(bytes: &[u8]) -> Option<Id>
     ensures { result ≡ only is_id bytes.now }
 {

@@ -28,8 +28,11 @@ use table_forms::{Fault, Form};
 #[derive(Drop)]
 pub struct Keyed<'a, S: Alter> {
     pub(crate) alloc: Global,
+    /// The connection that is lent; look-ups read through it.
     pub conn: &'a mut Connection<S>,
+    /// Whether a look-up failed; the connection may be closed then.
     pub has_failed: bool,
+    /// The edges, once a trace has read all of them.
     pub edges: &'a mut Directed,
     // How many commands were accepted, where that was read, and how many nodes were looked up.
     pub(crate) commands: u64,

@@ -40,6 +40,7 @@ impl fmt::Display for WholeRecord<'_> {
 /// Its head tells the batch, its order, its recipe, its release and its state; then come the control recipe, the events,
 /// what was consumed, what was produced, and for each input and each output what was asked for and what was booked.
 /// A line of the control recipe whose unit isn't known has `?` in its place.
+/// The only error is that memory was refused.
 pub fn record(alloc: Global, view: &BatchView) -> Result<String, AllocError>
     ensures { IfOk result (λ text. string_bytes text ≡ record_text view.now) }
 {

@@ -63,8 +63,11 @@ pub enum Problem {
     Object(Flaw),
     /// An item of a list in it has this flaw. The items are counted from 1 on.
     Item {
+        /// The member that the list is in.
         list: Member,
+        /// Which item it is, counted from 1 on.
         number: usize,
+        /// What is wrong with it.
         flaw: Flaw,
     },
 }
@@ -108,6 +111,7 @@ pub enum LineFault {
 }
 
 /// What was read of the line's object: a flaw is that of the line.
+/// `Told` of that problem exactly where there is a flaw.
 pub fn object<T: Drop>(read: Result<T, Flaw>) -> Result<T, Fault>
     ensures reads { Tells result (object read) }
     ensures told { IfErr read (λ flaw. IsErrOf result (Fault.Told (problem.Object flaw))) }
@@ -119,6 +123,7 @@ pub fn object<T: Drop>(read: Result<T, Flaw>) -> Result<T, Fault>
 }
 
 /// What was made of an object's values, which have the types of its shape: so something always is.
+/// `NoForm` exactly where nothing was made.
 pub fn made<T: Drop>(value: Option<T>) -> Result<T, Flaw>
     ensures { result ≡ or_no_form value }
 {

@@ -89,6 +89,7 @@ pub enum Row {
 }
 
 /// The command of a word.
+/// `None` where no command has it.
 pub fn command_kind(word: &str) -> Option<CommandKind>
     ensures { result ≡ command_kind word.now }
 {
@@ -121,6 +122,7 @@ pub fn command_kind(word: &str) -> Option<CommandKind>
 }
 
 /// The question of a word.
+/// `None` where no question has it.
 pub fn question_kind(word: &str) -> Option<QuestionKind>
     ensures { result ≡ question_kind word.now }
 {
@@ -149,6 +151,7 @@ pub fn question_kind(word: &str) -> Option<QuestionKind>
 }
 
 /// The recipe's line of a kind.
+/// `None` where no line has it.
 pub fn line_kind(word: &str) -> Option<Row>
     ensures { result ≡ line_kind word.now }
 {
@@ -179,6 +182,7 @@ pub(crate) fn batch_word(text: &str) -> Option<Word>
 }
 
 /// The state of an order that a text names.
+/// `None` where it names none.
 pub fn order_state(text: &str) -> Option<JobState>
     ensures { result ≡ order_state text.now }
 {
@@ -192,6 +196,7 @@ pub fn order_state(text: &str) -> Option<JobState>
 }
 
 /// The state of a recipe that a text names.
+/// `None` where it names none.
 pub fn recipe_state(text: &str) -> Option<RecipeState>
     ensures { result ≡ recipe_state text.now }
 {

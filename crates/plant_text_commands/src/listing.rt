@@ -11,6 +11,7 @@ use plant_shapes::{Fault, Flaw, Problem};
 use serde_json::Value;
 use std::alloc::Global;
 
+/// The merge that the fields and the list of its parts make, or the first problem of a part.
 pub(crate) fn merge_of(alloc: Global, fields: &[Field], value: &Value) -> Result<Command, Fault>
     ensures { Tells result (merge_of fields.now (view value.now)) }
 {
@@ -23,6 +24,7 @@ pub(crate) fn merge_of(alloc: Global, fields: &[Field], value: &Value) -> Result
     }
 }
 
+/// The recipe that the fields and the list of its lines make, or the first problem of a line.
 pub(crate) fn add_recipe_of(
     alloc: Global,
     fields: &[Field],
@@ -59,6 +61,7 @@ pub(crate) fn add_recipe_of(
     }
 }
 
+/// The import that the list of its orders makes, or the first problem of an order.
 pub(crate) fn import_orders_of(
     alloc: Global,
     fields: &[Field],

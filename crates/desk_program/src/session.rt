@@ -22,6 +22,7 @@ pub struct Session<S: Alter> {
 /// Does `run FILE`: adopts the store, and answers the lines of the input as [`run_lines`] does.
 ///
 /// At a fault of the adoption nothing was read and nothing written.
+/// `Stopped` has that fault and gives the connection back.
 pub fn run<S: Alter + Drop, R: Read, W: Write>(
     alloc: Global,
     connection: Connection<S>,

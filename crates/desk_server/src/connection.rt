@@ -46,6 +46,7 @@ fn bound_waits(stream: &TcpStream) {
 /// Reads on behind an answer until the client ends its side, for a while.
 ///
 /// A socket that is closed with unread bytes in it resets the connection, and a reset can destroy an answer on its way.
+/// So the connection is closed in stages (RFC 9112, section 9.6).
 pub(crate) fn read_on(stream: &TcpStream) {
     let most = Some(most_wait_behind());
     if stream.set_read_timeout(most).is_err() {

@@ -184,6 +184,7 @@ impl<'a, G: Grouping> Grouped<'a, G> {
     }
 
     /// The first row of a key, where there is one.
+    /// `None` where no row has it.
     pub fn first(&self, key: G::Key) -> Option<G::Row>
         ensures { result ≡ find (λ r. is_keyed G.Key.cmp (G.key_of r) key) self.now.rows.now }
     {

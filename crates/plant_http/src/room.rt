@@ -59,6 +59,8 @@ impl Room {
 }
 
 /// The lines before a body of so many bytes.
+/// They are a status line (RFC 9112, section 4), the fields of the answer and an empty line; `Connection: close` says
+/// that the connection ends after it (section 9.6).
 #[tactic(auto, unfolding(crate::specs::Answers::head_text))]
 pub(crate) fn head_text(status: Status, allow: Allow, form: Form, length: usize) -> Room
     ensures { result ≡ head_text status allow form length }

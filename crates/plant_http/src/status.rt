@@ -5,7 +5,7 @@ ghost use Rattle.plant_http.specs.Answers.{code_of, phrase_of, allow_line, type_
 
 use plant_http_requests::{Allow, Form, Status};
 
-/// The number of a status (RFC 9110, 15; of `HeadTooLarge` RFC 6585, 5).
+/// The number of a status (RFC 9110, section 15; of `HeadTooLarge` RFC 6585, section 5).
 pub(crate) fn code_of(status: Status) -> u16
     ensures { result ≡ code_of status }
 {
@@ -43,7 +43,7 @@ pub(crate) fn phrase_of(status: Status) -> &'static str
     }
 }
 
-/// The line of the field Allow (RFC 9110, 10.2.1) with its CR LF; empty where no methods are named.
+/// The line of the field Allow (RFC 9110, section 10.2.1) with its CR LF; empty where no methods are named.
 pub(crate) fn allow_line(allow: Allow) -> &'static str
     ensures value { result.now ≡ allow_line allow }
     ensures short { length result.now ≤ 18 }

@@ -36,6 +36,7 @@ fn blank_at(bytes: &[u8], at: usize) -> Option<usize>
 
 /// The length of the head that the bytes begin with: of the shortest front that ends in LF LF or in LF CR LF. `None`
 /// where no front does.
+/// So a line may end with LF alone (RFC 9112, section 2.2).
 pub fn head_length(bytes: &[u8]) -> Option<usize>
     ensures value { result ≡ head_length bytes.now }
     ensures within { IfSome result (λ n. n ≤ length bytes.now) }

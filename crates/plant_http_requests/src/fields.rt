@@ -11,6 +11,7 @@ use httparse::spans::HeaderSpan;
 use plant_base::{Id, Moment, Stamp, Text, read_digits};
 use plant_orders::Heading;
 
+/// Whether a field has this name; the case of letters doesn't count (RFC 9110, section 5.1).
 fn has_name(head: &[u8], field: &HeaderSpan, name: &[u8]) -> bool
     requires { IsHeaderWithin (length head.now) field.now }
     ensures { result ≡ is_name name.now (header_bytes head.now field.now).0 }
@@ -47,6 +48,8 @@ fn value_named<'h>(head: &'h [u8], fields: &[HeaderSpan], name: &[u8]) -> Option
 /// The most bytes of a body.
 const LONGEST_BODY: u64 = 262_144;
 
+/// The length of the body that Content-Length names (RFC 9112, sections 6.2 and 6.3), `None` where there is no such
+/// field.
 #[tactic(auto, unfolding(crate::specs::Fields::body_length))]
 fn body_length(head: &[u8], fields: &[HeaderSpan]) -> Result<Option<u32>, Status>
     requires { All (IsHeaderWithin (length head.now)) fields.now }
@@ -74,6 +77,8 @@ fn body_length(head: &[u8], fields: &[HeaderSpan]) -> Result<Option<u32>, Status
 /// The body's length where one is named, or the status of the first rule on fields that is broken: 400 for a number of
 /// Host fields that the version doesn't have, 501 for a Transfer-Encoding, 400 for Content-Length more than once or not
 /// in 1 to 18 digits, 413 for one above 262,144.
+/// The rule of Host is that of RFC 9112, section 3.2; a transfer coding that isn't implemented is answered as in
+/// section 6.1, a length that isn't valid as in section 6.3.
 #[tactic(auto, unfolding(crate::specs::Fields::framing))]
 pub(crate) fn framing(head: &[u8], fields: &[HeaderSpan], minor: u8) -> Result<Option<u32>, Status>
     requires { All (IsHeaderWithin (length head.now)) fields.now }

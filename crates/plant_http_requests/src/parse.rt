@@ -1,4 +1,4 @@
-//! The head of a request, parsed.
+//! The head of a request, parsed: its request line and its field lines (RFC 9112, sections 3 and 5).
 ghost use Rattle.std.specs.Prelude.{◌≡◌, None, length, nat_lt, IfSome, IfNone};
 ghost use Rattle.httparse.specs.Grammar.{RequestHead};
 ghost use Rattle.httparse.specs.Spans.{IsRequestWithin};

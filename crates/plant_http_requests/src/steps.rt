@@ -35,6 +35,7 @@ pub(crate) fn fails(status: Status, silent: bool) -> HeadStep
     }
 }
 
+/// Whether the method is HEAD, whose answer has no body (RFC 9110, section 9.3.2).
 fn is_head(method: &[u8]) -> bool
     ensures { result ≡ is_head method.now }
 {
@@ -71,6 +72,7 @@ fn form_of(kind: Kind) -> Form
 }
 
 /// A path that takes a body by POST.
+/// It has to name the body's length, or it is answered 411 (RFC 9112, section 6.3).
 fn posted_step(content: Content, method: &[u8], size: Option<u32>) -> HeadStep
     ensures { result ≡ posted_step content method.now size }
 {
@@ -88,6 +90,7 @@ fn posted_step(content: Content, method: &[u8], size: Option<u32>) -> HeadStep
 }
 
 /// A path that is asked by GET, or by HEAD.
+/// Another method is answered 405 with those that the path allows (RFC 9110, section 15.5.6).
 fn asked_step(question: Question, form: Form, method: &[u8]) -> HeadStep
     ensures { result ≡ asked_step question form method.now }
 {

@@ -221,7 +221,7 @@ fn each_field(value: &Value, members: &[Member]) -> Result<Fields, Flaw>
 /// The typed values of the members, or the first flaw in their order. No memory is taken.
 ///
 /// Whatever the members, what is read has the types of their rules, and a flaw says what is wrong.
-/// `NoObject` where the value is none, `Missing` where a member isn't there, `Breaks` where its value breaks its rule.
+/// `Missing` where a member that is needed isn't there, `Breaks` where its value breaks its rule.
 pub fn fields_of(value: &Value, members: &[Member]) -> Result<Fields, Flaw>
     requires { length members.now ≤ most_members }
     ensures reads { result ≡ fields_of members.now (view value.now) }

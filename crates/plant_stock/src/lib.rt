@@ -133,6 +133,7 @@ fn is_in_lot(place: Option<(Id, u16)>, lot: Id) -> bool
 }
 
 /// The sublot that the movement brings its amount to, where it brings it to one.
+/// `None` of one that is consumed or scrapped.
 pub fn target(movement: &Movement) -> Option<(Id, u16)>
     ensures { result ≡ goes_to movement.now.kind movement.now.lot movement.now.sub }
 {
@@ -148,6 +149,7 @@ pub fn target(movement: &Movement) -> Option<(Id, u16)>
 }
 
 /// The sublot that the movement takes its amount from, where it takes it from one.
+/// `None` of one that is received or produced.
 pub fn source(movement: &Movement) -> Option<(Id, u16)>
     ensures { result ≡ comes_from movement.now.kind movement.now.lot movement.now.sub }
 {

@@ -61,6 +61,8 @@ fn order_value(alloc: Global, answer: &OrderAnswer) -> Result<Value, AllocError>
 /// - of one of open recalls `{"more":BOOL,"recalls":[{"at":N,"by":TEXT,"lot":ID,"note":TEXT,"recall":ID}]}`
 /// - of one of definitions `{"definitions":[{"def":ID,"name":TEXT,"unit":UNIT}],"more":BOOL}`
 /// - of an unknown id the refusal's text, as [`crate::reply_line`] gives it
+///
+/// The only error is that memory was refused.
 #[tactic(auto, unfolding(crate::specs::Answers::text_of_answer))]
 pub fn answer_text(alloc: Global, answer: &Answer) -> Result<String, AllocError>
     ensures { IfOk result (λ s. string_bytes s ≡ text_of_answer answer.now) }

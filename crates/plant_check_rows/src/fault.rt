@@ -106,13 +106,22 @@ impl Column {
 /// The values of a row's key, in the order of its columns; or its place in the order of the key.
 #[derive(Clone, Copy, Debug, PartialEq, Eq)]
 pub enum Key {
+    /// An id: of a class, definition, order, batch, lot or recall, or a reference of a receipt.
     Id(Id),
+    /// A number: of an event, that of its command.
     Number(u64),
+    /// Two ids: of a hold, its lot and its own.
     Ids(Id, Id),
+    /// Two numbers: of a movement, that of its command and its line.
     Numbers(u64, u64),
+    /// An id and a number: of a recipe with its version, a line of a control recipe with its batch, a sublot with its
+    /// lot.
     IdNumber(Id, u64),
+    /// An id and two numbers: of a line of a master recipe, its recipe, the version and its number.
     IdNumbers(Id, u64, u64),
+    /// A number and two ids: of an edge, its kind and both ends.
     NumberIds(u64, Id, Id),
+    /// An id, a number and an id: of a mark, its recall, its kind and what it is on.
     IdNumberId(Id, u64, Id),
     /// The place of a row whose key can't be read, counted from 1 on.
     Place(u64),
@@ -121,7 +130,9 @@ pub enum Key {
 /// What stands there.
 #[derive(Clone, Copy, Debug, PartialEq, Eq)]
 pub enum Found {
+    /// This id.
     Id(Id),
+    /// This number.
     Number(u64),
     /// The state of an order.
     Order(JobState),

@@ -26,7 +26,9 @@ use table_forms::Fault;
 /// A decision, and how many commands were accepted before it.
 #[derive(Drop)]
 pub(crate) struct Decided {
+    /// How many commands were accepted before, 0 to [`GREATEST_SEQ`](plant_base::GREATEST_SEQ).
     pub seq: u64,
+    /// What is decided: changes of rows, a refusal, or a repeat.
     pub decision: Decision,
 }
 

@@ -16,9 +16,13 @@ use sqlite_value::value::ValueRef;
 /// What a line of a recipe is.
 #[derive(Clone, Copy, Debug, PartialEq, Eq)]
 pub enum LineSort {
+    /// A process input.
     In,
+    /// A process output.
     Out,
+    /// A process parameter.
     Parameter,
+    /// A phase of the procedure.
     Phase,
 }
 

@@ -59,7 +59,9 @@ pub(crate) const SELECT_MARK: &str = "SELECT recall, kind, id FROM mark ORDER BY
 /// A table, and the text that reads all its rows.
 #[derive(Drop)]
 pub(crate) struct Reading {
+    /// How the table is declared.
     pub form: Form<'static>,
+    /// The SELECT statement that reads all rows of the table, by its key.
     pub select: &'static str,
 }
 

@@ -106,7 +106,7 @@ impl Column {
 /// The values of a row's key, in the order of its columns; or its place in the order of the key.
 #[derive(Clone, Copy, Debug, PartialEq, Eq)]
 pub enum Key {
-    /// An id: of a class, definition, order, batch, lot or recall, or a reference of a receipt.
+    /// An id: of a definition, order, batch, lot or recall, or a reference of a receipt.
     Id(Id),
     /// A number: of an event, that of its command.
     Number(u64),

@@ -83,8 +83,8 @@ fn answer_job<W: Write, K: Keeper>(
 ///
 /// What is written depends on the bytes of the input and not on the pieces in which they come, but for `Endless`.
 ///
-/// `Read`, `Endless` and `Memory`: the request wasn't read whole; nothing was executed and nothing written. `Write`: a front of the answer was
-/// written, and not all of it; what was executed stays.
+/// `Read`, `Endless` and `Memory`: the request wasn't read whole; nothing was executed and nothing written. `Write`: a front
+/// of the answer was written, and not all of it; what was executed stays.
 ///
 /// In the clauses, `whole` are the bytes of the input: those that the reader has left, where it tells them, and some bytes where it tells none, as a
 /// socket: also then the keeper does the job of one request, once, and nothing else. `s` is a state that the keeper stood at; nothing is said of where the keeper stands, and of what a stop

@@ -5,20 +5,11 @@ ghost use Rattle.plant_trace.specs.Nodes.{node_cmp};
 ghost use Rattle.plant_trace.specs.Sources.{HonestlyTold};
 ghost use Rattle.plant_desk.specs.Around.{nodes_around};
 
-use crate::sorted::{Keyed, put_row};
 use crate::traces::trace;
+use plant_sorted::put_row;
 use plant_trace::{Direction, Node};
 use plant_view::{View, ViewFault};
 use std::alloc::Global;
-use std::cmp::Ordering;
-
-impl Keyed for Node {
-    ghost order = { node_cmp };
-
-    fn compare(&self, other: &Node) -> Ordering {
-        self.cmp(other)
-    }
-}
 
 /// A lot or batch and its trace, lots before batches, each ascending.
 pub(crate) fn nodes_around<V: View>(

@@ -1,0 +1,7 @@
+//! Rows in the order of their keys.
+#![tactic(auto)]
+
+mod keys;
+mod sorted;
+
+pub use sorted::{Keyed, put_row};

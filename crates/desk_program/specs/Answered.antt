@@ -8,10 +8,10 @@ use Rattle.plant_trace.specs.Nodes.{node_text}
 use Rattle.plant_trace.specs.declared.node.Node.{Node}
 use Rattle.plant_record.specs.Record.{record_text}
 use Rattle.plant_desk.specs.Answers.{answer}
-use Rattle.plant_desk.specs.declared.question.Question.{Question}
-use Rattle.plant_desk.specs.declared.question.Answer.{Answer}
-use Rattle.plant_desk.specs.declared.question.Answer.TheVariants as A
-use Rattle.plant_desk.specs.declared.reply.DeskFault.{DeskFault}
+use Rattle.plant_messages.specs.declared.question.Question.{Question}
+use Rattle.plant_messages.specs.declared.question.Answer.{Answer}
+use Rattle.plant_messages.specs.declared.question.Answer.TheVariants as A
+use Rattle.plant_messages.specs.declared.reply.DeskFault.{DeskFault}
 use Rattle.plant_desk_store.specs.Adopting.{AdoptedFrom}
 use Rattle.plant_desk_store.specs.DeskStanding.{IsOpenAt}
 use Rattle.plant_text_answers.specs.Answers.{text_of_answer}

@@ -6,7 +6,7 @@ use Rattle.sqlite_trees.specs.declared.store.Store.{Ghosts}
 use Rattle.plant_base.specs.State.{State, newest_schema}
 use Rattle.plant_base.specs.declared.rows.OrderRow.{OrderRow}
 use Rattle.plant_desk.specs.Keeping.{States}
-use Rattle.plant_desk.specs.declared.reply.DeskFault.TheVariants as desk
+use Rattle.plant_messages.specs.declared.reply.DeskFault.TheVariants as desk
 use Rattle.plant_desk_store.specs.Adopting.{AdoptedFrom, IsNewlyOpened}
 use Rattle.plant_desk_store.specs.DeskStanding.{DeskStands, Leaves}
 use Rattle.plant_orders.specs.Importing.{import}

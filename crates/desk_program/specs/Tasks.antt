@@ -5,8 +5,8 @@ use Rattle.sqlite_trees.specs.declared.store.Store.{Ghosts}
 use Rattle.plant_orders.specs.declared.importing.Heading.{Heading}
 use Rattle.plant_trace.specs.declared.direction.Direction.{Direction}
 use Rattle.plant_trace.specs.declared.node.Node.TheVariants as node
-use Rattle.plant_desk.specs.declared.question.Question.{Question}
-use Rattle.plant_desk.specs.declared.question.Question.TheVariants as question
+use Rattle.plant_messages.specs.declared.question.Question.{Question}
+use Rattle.plant_messages.specs.declared.question.Question.TheVariants as question
 use Rattle.plant_desk_store.specs.Adopting.{IsNewlyOpened}
 use Rattle.desk_words.specs.declared.meaning.Task.{Task}
 use Rattle.desk_words.specs.declared.meaning.Task.TheVariants as task

@@ -16,8 +16,9 @@ ghost use Rattle.desk_program.specs.Answered.{AnswerPrinted, AnswerTold, AskedTo
 use crate::adopting::{Performed, adopt, performed_of};
 use crate::fault::Fault;
 use plant_base::{Each, ShowsItem};
-use plant_desk::{Answer, DeskFault, Keeper, Question};
+use plant_desk::Keeper;
 use plant_desk_store::Desk;
+use plant_messages::{Answer, DeskFault, Question};
 use plant_text::{answer_text, is_unknown, record, write_text};
 use plant_trace::Node;
 use sqlite::{Alter, Connection};

@@ -17,7 +17,7 @@ use crate::telling::tell_fault;
 use crate::verified::verify;
 use desk_words::Task;
 use plant_base::{Id, Moment, Stamp, Text};
-use plant_desk::Question;
+use plant_messages::Question;
 use plant_orders::Heading;
 use plant_trace::Node;
 use sqlite::{Alter, Connection};

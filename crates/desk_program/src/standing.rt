@@ -5,7 +5,8 @@ ghost use Rattle.plant_desk.specs.Keeping.{IsSameDesk};
 ghost use Rattle.desk_program.specs.Faults as spec;
 
 use crate::fault::Fault;
-use plant_desk::{Answer, DeskFault, Keeper, Question};
+use plant_desk::Keeper;
+use plant_messages::{Answer, DeskFault, Question};
 
 /// The schema of a keeper's tables, and how many commands it has accepted.
 #[derive(Clone, Copy)]

@@ -8,8 +8,8 @@ use Rattle.plant_desk_store.specs.DeskStanding.{DeskStands, Leaves}
 use Rattle.plant_desk_store.specs.declared.stored.Desk.{Desk}
 use Rattle.plant_base.specs.State.{State}
 use Rattle.plant_desk.specs.Keeping.{States}
-use Rattle.plant_desk.specs.declared.reply.DeskFault.{DeskFault}
-use Rattle.plant_desk.specs.declared.reply.DeskFault.TheVariants.{Store, Memory, Shut}
+use Rattle.plant_messages.specs.declared.reply.DeskFault.{DeskFault}
+use Rattle.plant_messages.specs.declared.reply.DeskFault.TheVariants.{Store, Memory, Shut}
 use Rattle.plant_text.specs.Leaving.{LeavesAlone, LeavesEither}
 use Rattle.plant_text.specs.Session.{Entry, nothing, bad, command, question, after, fold, FaultLeaves, StoreLeaves}
 use Rattle.plant_text.proofs.Leaving.{LeavesItsState}

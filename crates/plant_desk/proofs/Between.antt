@@ -33,7 +33,7 @@ use Rattle.plant_view.proofs.Rows.{all_of, filtered_passes}
 use Rattle.plant_worklists.specs.Worklists.{movements_into, other_lot}
 use Rattle.plant_desk.specs.Booked.{Fits, booked_at, booked_if, bookings_around, counted, movements_at, summed, told_at, told_by, total_along}
 use Rattle.plant_desk.specs.Genealogy.{amount_of, booked_along, booked_edge, edges_between, is_among, is_between, is_made}
-use Rattle.plant_desk.specs.declared.genealogy.BookedEdge.{BookedEdge}
+use Rattle.plant_messages.specs.declared.genealogy.BookedEdge.{BookedEdge}
 use Rattle.plant_desk.proofs.Along.{edge_exact, booked_pair, totalled}
 use Rattle.plant_desk.proofs.Narrowed.{told_of}
 use Rattle.plant_desk.proofs.Picked.{picked_in, picked_from}

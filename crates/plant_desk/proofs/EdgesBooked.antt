@@ -18,7 +18,7 @@ use Rattle.plant_view.proofs.Membership.{all_in, filter_in, filter_from, map_in,
 use Rattle.plant_desk.specs.Around.{nodes_around}
 use Rattle.plant_desk.specs.Genealogy.{booked_edge, edges_between, is_among, is_between}
 use Rattle.plant_desk.specs.AnswerLaws.{IsBooked, booked_order}
-use Rattle.plant_desk.specs.declared.genealogy.BookedEdge.{BookedEdge}
+use Rattle.plant_messages.specs.declared.genealogy.BookedEdge.{BookedEdge}
 use Rattle.plant_desk.proofs.GoodsReached.{around_lists}
 use Rattle.plant_desk.proofs.Picked.{picked_in, picked_from}
 use Rattle.std.proofs.lemmas.Bool.{and_parts, and_from}

@@ -23,7 +23,7 @@ use Rattle.plant_desk.specs.AnswerLaws.{IsAround, StandsFrom, lot_answer_order}
 use Rattle.plant_desk.specs.LotAnswers.{lot_answer}
 use Rattle.plant_desk.specs.Traces.{trace_of}
 use Rattle.plant_desk.specs.Worklists.{if_stocked}
-use Rattle.plant_desk.specs.declared.question.LotAnswer.{LotAnswer}
+use Rattle.plant_messages.specs.declared.question.LotAnswer.{LotAnswer}
 use Rattle.plant_desk.proofs.Picked.{picked_in, picked_from, picked_sorted}
 use Rattle.plant_desk.proofs.Reaching.{trace_lists}
 

@@ -27,8 +27,8 @@ use Rattle.plant_desk.specs.Around.{nodes_around}
 use Rattle.plant_desk.specs.Genealogy.{lot_node, named, node_answer, node_if}
 use Rattle.plant_desk.specs.AnswerLaws.{IsAround}
 use Rattle.plant_desk.specs.Traces.{missing}
-use Rattle.plant_desk.specs.declared.genealogy.NodeAnswer.{NodeAnswer}
-use Rattle.plant_desk.specs.declared.genealogy.NodeAnswer.TheVariants as known
+use Rattle.plant_messages.specs.declared.genealogy.NodeAnswer.{NodeAnswer}
+use Rattle.plant_messages.specs.declared.genealogy.NodeAnswer.TheVariants as known
 use Rattle.plant_desk.proofs.GoodsReached.{around_lists}
 use Rattle.plant_desk.proofs.Picked.{picked_from}
 

@@ -11,9 +11,9 @@ use Rattle.plant_trace.specs.declared.node.Node.{Node}
 use Rattle.plant_trace.specs.declared.node.Node.TheVariants as node
 use Rattle.plant_desk.specs.Traces.{trace_of}
 use Rattle.plant_desk.specs.Worklists.{stocked_lot}
-use Rattle.plant_desk.specs.declared.question.Answer.{Answer}
-use Rattle.plant_desk.specs.declared.question.Answer.TheVariants as A
-use Rattle.plant_desk.specs.declared.question.LotAnswer.{LotAnswer}
+use Rattle.plant_messages.specs.declared.question.Answer.{Answer}
+use Rattle.plant_messages.specs.declared.question.Answer.TheVariants as A
+use Rattle.plant_messages.specs.declared.question.LotAnswer.{LotAnswer}
 
 -- the start and its trace: lots before batches, each ascending
 abbrev pub nodes_around : State → Direction → Node → List Node

@@ -16,7 +16,7 @@ use Rattle.plant_view.specs.Rows.{put_all}
 use Rattle.plant_view.specs.Views.{movements_of}
 use Rattle.plant_worklists.specs.Worklists.{movements_into}
 use Rattle.plant_desk.specs.Genealogy.{is_between, is_among}
-use Rattle.plant_desk.specs.declared.genealogy.BookedEdge.{BookedEdge}
+use Rattle.plant_messages.specs.declared.genealogy.BookedEdge.{BookedEdge}
 
 -- the node whose movements tell of an edge: the batch at one of its ends, or else the lot that it leads to
 abbrev pub told_by : EdgeKind → List ℕ → List ℕ → Node

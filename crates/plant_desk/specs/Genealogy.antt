@@ -17,13 +17,13 @@ use Rattle.plant_view.specs.Recalls.{is_blocked}
 use Rattle.plant_view.specs.Refusing.{is_held}
 use Rattle.plant_desk.specs.Around.{nodes_around}
 use Rattle.plant_desk.specs.LotAnswers.{lot_answer}
-use Rattle.plant_desk.specs.declared.genealogy.BookedEdge.{BookedEdge}
-use Rattle.plant_desk.specs.declared.genealogy.Genealogy.{Genealogy}
-use Rattle.plant_desk.specs.declared.genealogy.LotNode.{LotNode}
-use Rattle.plant_desk.specs.declared.genealogy.NodeAnswer.{NodeAnswer}
-use Rattle.plant_desk.specs.declared.genealogy.NodeAnswer.TheVariants as known
-use Rattle.plant_desk.specs.declared.question.Answer.{Answer}
-use Rattle.plant_desk.specs.declared.question.Answer.TheVariants as A
+use Rattle.plant_messages.specs.declared.genealogy.BookedEdge.{BookedEdge}
+use Rattle.plant_messages.specs.declared.genealogy.Genealogy.{Genealogy}
+use Rattle.plant_messages.specs.declared.genealogy.LotNode.{LotNode}
+use Rattle.plant_messages.specs.declared.genealogy.NodeAnswer.{NodeAnswer}
+use Rattle.plant_messages.specs.declared.genealogy.NodeAnswer.TheVariants as known
+use Rattle.plant_messages.specs.declared.question.Answer.{Answer}
+use Rattle.plant_messages.specs.declared.question.Answer.TheVariants as A
 
 -- ---- nodes
 

@@ -5,9 +5,9 @@ use Rattle.plant_base.specs.declared.rows.Lot.{Lot}
 use Rattle.plant_base.specs.declared.refusal.Refusal.TheVariants.{UnknownLot}
 use Rattle.plant_view.specs.Refusing.{is_held}
 use Rattle.plant_view.specs.Tables.{sublots_of}
-use Rattle.plant_desk.specs.declared.question.Answer.{Answer}
-use Rattle.plant_desk.specs.declared.question.Answer.TheVariants as A
-use Rattle.plant_desk.specs.declared.question.LotAnswer.{LotAnswer}
+use Rattle.plant_messages.specs.declared.question.Answer.{Answer}
+use Rattle.plant_messages.specs.declared.question.Answer.TheVariants as A
+use Rattle.plant_messages.specs.declared.question.LotAnswer.{LotAnswer}
 
 abbrev pub lot_answer : State → Lot → LotAnswer
 lot_answer s l = record {

@@ -9,9 +9,9 @@ use Rattle.plant_trace.specs.declared.node.Node.{Node}
 use Rattle.plant_view.specs.Genealogy.{edges_of}
 use Rattle.plant_view.specs.Recalls.{nodes_from}
 use Rattle.plant_view.specs.Rows.{put_all}
-use Rattle.plant_desk.specs.declared.question.Answer.{Answer}
-use Rattle.plant_desk.specs.declared.question.Answer.TheVariants as A
-use Rattle.plant_desk.specs.declared.question.RecallAnswer.{RecallAnswer}
+use Rattle.plant_messages.specs.declared.question.Answer.{Answer}
+use Rattle.plant_messages.specs.declared.question.Answer.TheVariants as A
+use Rattle.plant_messages.specs.declared.question.RecallAnswer.{RecallAnswer}
 
 -- what a recall of the lot reaches, ascending, each once
 unfoldable pub reached_list : List (Node × Node) → List ℕ → List Node

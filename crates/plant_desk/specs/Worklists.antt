@@ -18,12 +18,12 @@ use Rattle.plant_worklists.specs.declared.page.Page.{Page}
 use Rattle.plant_worklists.specs.declared.place.MovementPlace.{MovementPlace}
 use Rattle.plant_worklists.specs.declared.place.RecipePlace.{RecipePlace}
 use Rattle.plant_desk.specs.LotAnswers.{lot_answer}
-use Rattle.plant_desk.specs.declared.listed.Listed.TheVariants as listed
-use Rattle.plant_desk.specs.declared.listed.LotPage.{LotPage}
-use Rattle.plant_desk.specs.declared.listed.OpenBatch.{OpenBatch}
-use Rattle.plant_desk.specs.declared.question.Answer.{Answer}
-use Rattle.plant_desk.specs.declared.question.Answer.TheVariants as A
-use Rattle.plant_desk.specs.declared.question.LotAnswer.{LotAnswer}
+use Rattle.plant_messages.specs.declared.listed.Listed.TheVariants as listed
+use Rattle.plant_messages.specs.declared.listed.LotPage.{LotPage}
+use Rattle.plant_messages.specs.declared.listed.OpenBatch.{OpenBatch}
+use Rattle.plant_messages.specs.declared.question.Answer.{Answer}
+use Rattle.plant_messages.specs.declared.question.Answer.TheVariants as A
+use Rattle.plant_messages.specs.declared.question.LotAnswer.{LotAnswer}
 
 -- ---- batches
 

@@ -12,8 +12,8 @@ ghost use Rattle.plant_desk.specs.Booked.{Fits, IsSetOf, booked_at, bookings_aro
 ghost use Rattle.plant_desk.specs.Genealogy.{edges_between};
 
 use crate::bookings::push_found;
-use crate::genealogy::BookedEdge;
 use plant_base::{EdgeKind, EdgeRow, Movement};
+use plant_messages::BookedEdge;
 use plant_trace::Node;
 use plant_view::{ViewFault, edge_row, ends, look};
 use plant_worklists::{Worklists, movements_into};

@@ -9,17 +9,16 @@ ghost use Rattle.plant_desk.specs.Genealogy.{answer_edges, genealogy_around, lot
 ghost use Rattle.plant_desk.specs.KnownLots.{AreKnown};
 ghost use Rattle.plant_desk.specs.LotAnswers.{lot_answer};
 ghost use Rattle.plant_desk.specs.Traces.{missing};
-ghost use Rattle.plant_desk.specs.declared.genealogy.NodeAnswer.TheVariants as node;
-ghost use Rattle.plant_desk.specs.declared.question.Answer.TheVariants as A;
+ghost use Rattle.plant_messages.specs.declared.genealogy.NodeAnswer.TheVariants as node;
+ghost use Rattle.plant_messages.specs.declared.question.Answer.TheVariants as A;
 
 use crate::around::nodes_around;
 use crate::booked::edges_between;
 use crate::each_told::{Telling, each_told};
-use crate::genealogy::{Genealogy, LotNode, NodeAnswer};
 use crate::known_lots::{KnownLots, known_definition, known_lot, known_row};
-use crate::question::{Answer, LotAnswer};
 use crate::traces::missing;
 use plant_base::{Definition, Items, Lot};
+use plant_messages::{Answer, Genealogy, LotAnswer, LotNode, NodeAnswer};
 use plant_trace::{Direction, Node};
 use plant_view::{ViewFault, look};
 use plant_worklists::Worklists;

@@ -7,8 +7,8 @@ ghost use Rattle.plant_desk.specs.KnownLots.{AreKnown};
 ghost use Rattle.plant_desk.specs.LotAnswers.{lot_answer};
 
 use crate::lot_answers::answer_of_lot;
-use crate::question::LotAnswer;
 use plant_base::{Definition, Hold, Id, Lot, Sublot};
+use plant_messages::LotAnswer;
 use plant_view::{ViewFault, look};
 use plant_worklists::{Ahead, Worklists, is_held_ahead, lot_ahead, sublots_ahead};
 use std::alloc::Global;

@@ -7,14 +7,13 @@ ghost use Rattle.plant_worklists.specs.Pages.{page_of};
 ghost use Rattle.plant_worklists.specs.Worklists.{orders_in, holds_on, open_recalls, definitions_in, ledger_of};
 ghost use Rattle.plant_desk.specs.Worklists.{answer_list, answer_holds, answer_definitions, answer_recipes, answer_ledger};
 ghost use Rattle.plant_worklists.specs.declared.place.MovementPlace.{MovementPlace};
-ghost use Rattle.plant_desk.specs.declared.listed.Listed.TheVariants as listed;
-ghost use Rattle.plant_desk.specs.declared.question.Answer.TheVariants as A;
+ghost use Rattle.plant_messages.specs.declared.listed.Listed.TheVariants as listed;
+ghost use Rattle.plant_messages.specs.declared.question.Answer.TheVariants as A;
 
-use crate::listed::Listed;
 use crate::open_batches::batches_answer;
-use crate::question::Answer;
 use crate::stocked_lots::lots_answer;
 use plant_base::{Class, Definition, Hold, Id, JobState, Lot, Movement, RecipeState, Refusal};
+use plant_messages::{Answer, Listed};
 use plant_view::{ViewFault, look};
 use plant_worklists::{MovementPlace, Page, RecipePlace, Worklist, Worklists};
 use std::alloc::Global;

@@ -5,12 +5,11 @@ ghost use Rattle.plant_trace.specs.Sources.{HonestlyTold};
 ghost use Rattle.plant_worklists.specs.Pages.{page_of};
 ghost use Rattle.plant_worklists.specs.Worklists.{open_batches};
 ghost use Rattle.plant_desk.specs.Worklists.{batch_page, open_batch, opened, phase_of};
-ghost use Rattle.plant_desk.specs.declared.listed.Listed.TheVariants as listed;
-ghost use Rattle.plant_desk.specs.declared.question.Answer.TheVariants as A;
+ghost use Rattle.plant_messages.specs.declared.listed.Listed.TheVariants as listed;
+ghost use Rattle.plant_messages.specs.declared.question.Answer.TheVariants as A;
 
-use crate::listed::{Listed, OpenBatch};
-use crate::question::Answer;
 use plant_base::{BatchRow, ControlLine, Id, Items, RecipeLine};
+use plant_messages::{Answer, Listed, OpenBatch};
 use plant_view::{View, ViewFault, look};
 use plant_worklists::{Page, Worklists};
 use std::alloc::{AllocError, Global};

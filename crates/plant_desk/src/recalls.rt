@@ -5,8 +5,8 @@ ghost use Rattle.plant_trace.specs.Sources.{HonestlyTold};
 ghost use Rattle.plant_view.specs.Genealogy.{edges_of};
 ghost use Rattle.plant_desk.specs.RecallAnswers.{answer_recall, nodes_of, reached_list};
 
-use crate::question::{Answer, RecallAnswer};
 use plant_base::{Id, Items, Recall, Refusal};
+use plant_messages::{Answer, RecallAnswer};
 use plant_trace::{Node, reached};
 use plant_view::{View, ViewFault, look};
 use std::alloc::Global;

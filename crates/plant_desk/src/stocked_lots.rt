@@ -9,9 +9,8 @@ ghost use Rattle.plant_desk.specs.Worklists.{answer_lots, lot_page, if_stocked, 
 
 use crate::each_told::{Telling, each_told};
 use crate::known_lots::{KnownLots, known_lot};
-use crate::listed::{Listed, LotPage};
-use crate::question::{Answer, LotAnswer};
 use plant_base::{Definition, Id, Items, Lot, Refusal};
+use plant_messages::{Answer, Listed, LotAnswer, LotPage};
 use plant_view::{ViewFault, look};
 use plant_worklists::Worklists;
 use std::alloc::Global;

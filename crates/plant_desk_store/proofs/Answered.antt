@@ -21,9 +21,9 @@ use Rattle.plant_desk.specs.Around.{answer_stands}
 use Rattle.plant_desk.specs.Answers.{answer}
 use Rattle.plant_desk.specs.LotAnswers.{answer_lot}
 use Rattle.plant_desk.specs.Traces.{missing, answer_trace}
-use Rattle.plant_desk.specs.declared.question.Question.{Question}
-use Rattle.plant_desk.specs.declared.question.Question.TheVariants as Q
-use Rattle.plant_desk.specs.declared.question.Answer.{Answer}
+use Rattle.plant_messages.specs.declared.question.Question.{Question}
+use Rattle.plant_messages.specs.declared.question.Question.TheVariants as Q
+use Rattle.plant_messages.specs.declared.question.Answer.{Answer}
 use Rattle.plant_desk.proofs.GoodsReached.{standing_sorted, standing_only, standing_all}
 use Rattle.plant_desk.proofs.Reaching.{trace_lists}
 use Rattle.plant_desk_store.specs.Headline.{IsTraceIn, AreStandingIn, IsLotIn, SaysOf, IsToldIn}

@@ -6,10 +6,10 @@ use Rattle.sqlite.specs.State.{HasCleanDisk}
 use Rattle.plant_base.specs.State.{State, newest_schema}
 use Rattle.table_forms.proofs.Ending.{IsStore}
 use Rattle.plant_desk.specs.Keeping.{Asks}
-use Rattle.plant_desk.specs.declared.question.Question.{Question}
-use Rattle.plant_desk.specs.declared.question.Answer.{Answer}
-use Rattle.plant_desk.specs.declared.reply.DeskFault.{DeskFault}
-use Rattle.plant_desk.specs.declared.reply.DeskFault.TheVariants.{Store, Memory, Shut}
+use Rattle.plant_messages.specs.declared.question.Question.{Question}
+use Rattle.plant_messages.specs.declared.question.Answer.{Answer}
+use Rattle.plant_messages.specs.declared.reply.DeskFault.{DeskFault}
+use Rattle.plant_messages.specs.declared.reply.DeskFault.TheVariants.{Store, Memory, Shut}
 use Rattle.plant_desk_store.specs.Parts.{OnlyReads, HasAnswered}
 use Rattle.plant_desk_store.specs.DeskStanding.{DeskStands, IsBeside}
 use Rattle.plant_desk_store.proofs.Others.{others_kept}

@@ -8,9 +8,9 @@ use Rattle.plant_view.proofs.Conserved.{conserved}
 use Rattle.plant_good.specs.Good.{IsGood}
 use Rattle.plant_desk.specs.Keeping.{States}
 use Rattle.plant_desk.specs.Runs.{fold}
-use Rattle.plant_desk.specs.declared.reply.Reply.{Reply}
-use Rattle.plant_desk.specs.declared.reply.DeskFault.{DeskFault}
-use Rattle.plant_desk.specs.declared.reply.DeskFault.TheVariants.{Store, Memory, Shut}
+use Rattle.plant_messages.specs.declared.reply.Reply.{Reply}
+use Rattle.plant_messages.specs.declared.reply.DeskFault.{DeskFault}
+use Rattle.plant_messages.specs.declared.reply.DeskFault.TheVariants.{Store, Memory, Shut}
 use Rattle.plant_desk_store.specs.Calls.{IsAccounted}
 use Rattle.plant_desk_store.specs.Running.{Ran}
 use Rattle.plant_desk_store.specs.DeskStanding.{DeskStands, Leaves}

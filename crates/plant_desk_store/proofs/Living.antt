@@ -19,11 +19,11 @@ use Rattle.plant_tables.specs.DeskForms.{desk_forms}
 use Rattle.plant_desk.specs.Keeping.{States, Executes, Asks, shuts}
 use Rattle.plant_desk.specs.Replies.{reply}
 use Rattle.plant_desk.specs.Runs.{fold, replies}
-use Rattle.plant_desk.specs.declared.question.Question.{Question}
-use Rattle.plant_desk.specs.declared.question.Answer.{Answer}
-use Rattle.plant_desk.specs.declared.reply.Reply.{Reply}
-use Rattle.plant_desk.specs.declared.reply.DeskFault.{DeskFault}
-use Rattle.plant_desk.specs.declared.reply.DeskFault.TheVariants.{Store, Memory, Shut}
+use Rattle.plant_messages.specs.declared.question.Question.{Question}
+use Rattle.plant_messages.specs.declared.question.Answer.{Answer}
+use Rattle.plant_messages.specs.declared.reply.Reply.{Reply}
+use Rattle.plant_messages.specs.declared.reply.DeskFault.{DeskFault}
+use Rattle.plant_messages.specs.declared.reply.DeskFault.TheVariants.{Store, Memory, Shut}
 use Rattle.plant_desk_store.specs.Adopting.{AdoptedFrom, Adopts, IsAdopted, IsRefusedBy}
 use Rattle.plant_desk_store.specs.Calls.{HasAdopted, HasRefused}
 use Rattle.plant_desk_store.specs.Headline.{IsAtState, IsFoundAt, IsKeptAt, IsSoAt, LeavesSomething, Headline}

@@ -11,7 +11,7 @@ use Rattle.table_forms.specs.Resting.{Keeps}
 use Rattle.table_forms.proofs.Ending.{IsStore}
 use Rattle.plant_tables.specs.DeskStopping.{IsAt}
 use Rattle.plant_tables.specs.Missing.{AddsMissing, AreAllTaken, HasGained}
-use Rattle.plant_desk.specs.declared.reply.DeskFault.{DeskFault}
+use Rattle.plant_messages.specs.declared.reply.DeskFault.{DeskFault}
 use Rattle.plant_desk_store.specs.Calls.{HasIndexed}
 use Rattle.plant_desk_store.specs.Faults.{desk_fault}
 use Rattle.plant_desk_store.specs.Parts.{HasMended}

@@ -16,9 +16,9 @@ use Rattle.plant_tables.specs.DeskStopping.{IsAt, FindsTables, IsCutShort}
 use Rattle.plant_base.specs.declared.command.Envelope.{Envelope}
 use Rattle.plant_base.specs.State.{State}
 use Rattle.plant_desk.specs.Keeping.{shuts}
-use Rattle.plant_desk.specs.declared.reply.Reply.{Reply}
-use Rattle.plant_desk.specs.declared.reply.DeskFault.{DeskFault}
-use Rattle.plant_desk.specs.declared.reply.DeskFault.TheVariants.{Store, Memory, Shut}
+use Rattle.plant_messages.specs.declared.reply.Reply.{Reply}
+use Rattle.plant_messages.specs.declared.reply.DeskFault.{DeskFault}
+use Rattle.plant_messages.specs.declared.reply.DeskFault.TheVariants.{Store, Memory, Shut}
 use Rattle.plant_rules.specs.Step.{step}
 use Rattle.plant_desk_store.specs.DeskStanding.{OthersStand, IsOpenAt, IsBeside, Executed}
 use Rattle.plant_desk_store.proofs.OneSchema.{one_schema}

@@ -14,10 +14,10 @@ use Rattle.plant_rules.specs.Step.{step, step_body, noted, IsRepeated, IsDecisio
 use Rattle.plant_rules.specs.Wrong.{is_whole, wrong, kept_for}
 use Rattle.plant_rules.proofs.Noted.{next_number, step_new}
 use Rattle.plant_desk.specs.Replies.{reply, reply_by, number_of}
-use Rattle.plant_desk.specs.declared.reply.Reply.{Reply}
-use Rattle.plant_desk.specs.declared.reply.Reply.TheVariants.{Accepted, Refused}
-use Rattle.plant_desk.specs.declared.reply.DeskFault.{DeskFault}
-use Rattle.plant_desk.specs.declared.reply.DeskFault.TheVariants.{Store, Memory, Shut}
+use Rattle.plant_messages.specs.declared.reply.Reply.{Reply}
+use Rattle.plant_messages.specs.declared.reply.Reply.TheVariants.{Accepted, Refused}
+use Rattle.plant_messages.specs.declared.reply.DeskFault.{DeskFault}
+use Rattle.plant_messages.specs.declared.reply.DeskFault.TheVariants.{Store, Memory, Shut}
 use Rattle.plant_desk.proofs.Kept.{refused_step, repeated, answered_new}
 use Rattle.plant_desk_store.specs.Looking.{IsRepeat}
 use Rattle.plant_desk_store.specs.Parts.{IsCommitted, HasDecided, HasStepped}

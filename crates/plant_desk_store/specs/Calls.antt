@@ -13,11 +13,11 @@ use Rattle.plant_tables.specs.Missing.{AddsMissing, AreAllTaken}
 use Rattle.plant_check.specs.declared.rule.Rule.{Rule}
 use Rattle.plant_desk.specs.Keeping.{Executes, Asks, shuts, writes_nothing}
 use Rattle.plant_desk.specs.Runs.{fold}
-use Rattle.plant_desk.specs.declared.question.Question.{Question}
-use Rattle.plant_desk.specs.declared.question.Answer.{Answer}
-use Rattle.plant_desk.specs.declared.reply.Reply.{Reply}
-use Rattle.plant_desk.specs.declared.reply.DeskFault.{DeskFault}
-use Rattle.plant_desk.specs.declared.reply.DeskFault.TheVariants.{Shut}
+use Rattle.plant_messages.specs.declared.question.Question.{Question}
+use Rattle.plant_messages.specs.declared.question.Answer.{Answer}
+use Rattle.plant_messages.specs.declared.reply.Reply.{Reply}
+use Rattle.plant_messages.specs.declared.reply.DeskFault.{DeskFault}
+use Rattle.plant_messages.specs.declared.reply.DeskFault.TheVariants.{Shut}
 use Rattle.plant_desk_store.specs.Adopting.{IsNewlyOpened, AdoptedFrom, KeepsGood, StillGood, ShowsStill, IsRefusedBy, IsUnraised, Adopts}
 use Rattle.plant_desk_store.specs.Looking.{IsRepeat}
 use Rattle.plant_desk_store.specs.Running.{Ran}

@@ -16,9 +16,9 @@ use Rattle.plant_tables.specs.DeskStopping.{IsAt}
 use Rattle.plant_tables.specs.Keyed.{HoldsTablesOf}
 use Rattle.plant_desk.specs.Keeping.{States}
 use Rattle.plant_desk.specs.Replies.{reply}
-use Rattle.plant_desk.specs.declared.reply.Reply.{Reply}
-use Rattle.plant_desk.specs.declared.reply.DeskFault.{DeskFault}
-use Rattle.plant_desk.specs.declared.reply.DeskFault.TheVariants.{Store, Memory, Shut}
+use Rattle.plant_messages.specs.declared.reply.Reply.{Reply}
+use Rattle.plant_messages.specs.declared.reply.DeskFault.{DeskFault}
+use Rattle.plant_messages.specs.declared.reply.DeskFault.TheVariants.{Store, Memory, Shut}
 
 -- The state is good, and the store, where it is open, shows its tables.
 pub record StandsAt (c : store.State) (s : State) : Type 0 where

@@ -22,11 +22,11 @@ use Rattle.plant_tables.specs.Keyed.{HoldsTablesOf, HoldsTables}
 use Rattle.plant_desk.specs.AnswerLaws.{StandsFrom, lot_answer_order}
 use Rattle.plant_desk.specs.Answers.{answer}
 use Rattle.plant_desk.specs.Traces.{missing}
-use Rattle.plant_desk.specs.declared.question.Question.{Question}
-use Rattle.plant_desk.specs.declared.question.Question.TheVariants as Q
-use Rattle.plant_desk.specs.declared.question.Answer.{Answer}
-use Rattle.plant_desk.specs.declared.question.Answer.TheVariants as A
-use Rattle.plant_desk.specs.declared.question.LotAnswer.{LotAnswer}
+use Rattle.plant_messages.specs.declared.question.Question.{Question}
+use Rattle.plant_messages.specs.declared.question.Question.TheVariants as Q
+use Rattle.plant_messages.specs.declared.question.Answer.{Answer}
+use Rattle.plant_messages.specs.declared.question.Answer.TheVariants as A
+use Rattle.plant_messages.specs.declared.question.LotAnswer.{LotAnswer}
 use Rattle.plant_desk_store.specs.Calls.{IsAccounted, HasRefused, HasAsked}
 use Rattle.plant_desk_store.specs.Life.{Sent, MayLeadTo, IsOpened, Place, opened, desk, refused, Lived}
 use Rattle.plant_desk_store.specs.declared.adopting.AdoptFault.{AdoptFault}

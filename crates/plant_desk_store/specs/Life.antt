@@ -13,11 +13,11 @@ use Rattle.table_reads.specs.Opened.{IsNewlyOpened}
 use Rattle.plant_tables.specs.DeskForms.{desk_forms}
 use Rattle.plant_check.specs.declared.rule.Rule.{Rule}
 use Rattle.plant_desk.specs.Replies.{reply}
-use Rattle.plant_desk.specs.declared.question.Question.{Question}
-use Rattle.plant_desk.specs.declared.question.Answer.{Answer}
-use Rattle.plant_desk.specs.declared.reply.Reply.{Reply}
-use Rattle.plant_desk.specs.declared.reply.DeskFault.{DeskFault}
-use Rattle.plant_desk.specs.declared.reply.DeskFault.TheVariants.{Store, Memory, Shut}
+use Rattle.plant_messages.specs.declared.question.Question.{Question}
+use Rattle.plant_messages.specs.declared.question.Answer.{Answer}
+use Rattle.plant_messages.specs.declared.reply.Reply.{Reply}
+use Rattle.plant_messages.specs.declared.reply.DeskFault.{DeskFault}
+use Rattle.plant_messages.specs.declared.reply.DeskFault.TheVariants.{Store, Memory, Shut}
 use Rattle.plant_desk_store.specs.Calls.{HasAdopted, HasRefused, HasExecuted, HasAsked, HasRun, HasVerified, HasIndexed}
 use Rattle.plant_desk_store.specs.DeskLaws.{IsAdoptable}
 use Rattle.plant_desk_store.specs.declared.adopting.AdoptFault.{AdoptFault}

@@ -25,12 +25,12 @@ use Rattle.plant_migrate.specs.Steps.{IsRaisedBy}
 use Rattle.plant_check.specs.declared.rule.Rule.{Rule}
 use Rattle.plant_desk.specs.Answers.{answer}
 use Rattle.plant_desk.specs.Keeping.{writes_nothing}
-use Rattle.plant_desk.specs.declared.question.Question.{Question}
-use Rattle.plant_desk.specs.declared.question.Answer.{Answer}
-use Rattle.plant_desk.specs.declared.reply.Reply.{Reply}
-use Rattle.plant_desk.specs.declared.reply.Reply.TheVariants.{Accepted}
-use Rattle.plant_desk.specs.declared.reply.DeskFault.{DeskFault}
-use Rattle.plant_desk.specs.declared.reply.DeskFault.TheVariants.{Store, Shut}
+use Rattle.plant_messages.specs.declared.question.Question.{Question}
+use Rattle.plant_messages.specs.declared.question.Answer.{Answer}
+use Rattle.plant_messages.specs.declared.reply.Reply.{Reply}
+use Rattle.plant_messages.specs.declared.reply.Reply.TheVariants.{Accepted}
+use Rattle.plant_messages.specs.declared.reply.DeskFault.{DeskFault}
+use Rattle.plant_messages.specs.declared.reply.DeskFault.TheVariants.{Store, Shut}
 use Rattle.plant_desk_store.specs.Adopting.{IsNewlyOpened, HoldsGood, IsRisingAt, IsRaised, ShowsStill, NamesFirst, AreMade}
 use Rattle.plant_desk_store.specs.Looking.{IsDecidedAt, IsRepeat}
 use Rattle.plant_desk_store.specs.DeskStanding.{StandsAt, Leaves, IsOpenAt, Executed, OthersStand}

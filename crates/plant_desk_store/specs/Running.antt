@@ -5,9 +5,9 @@ use Rattle.plant_base.specs.declared.command.Envelope.{Envelope}
 use Rattle.plant_rules.specs.Step.{step}
 use Rattle.plant_desk.specs.Keeping.{States}
 use Rattle.plant_desk.specs.Runs.{fold, replies}
-use Rattle.plant_desk.specs.declared.reply.Reply.{Reply}
-use Rattle.plant_desk.specs.declared.reply.DeskFault.{DeskFault}
-use Rattle.plant_desk.specs.declared.reply.DeskFault.TheVariants.{Store, Memory, Shut}
+use Rattle.plant_messages.specs.declared.reply.Reply.{Reply}
+use Rattle.plant_messages.specs.declared.reply.DeskFault.{DeskFault}
+use Rattle.plant_messages.specs.declared.reply.DeskFault.TheVariants.{Store, Memory, Shut}
 
 -- how a run ended, after so many commands led to t: at a fault of the store the next command may have been made
 abbrev pub RunEnds : State → List Envelope → ℕ → States → (States → Type 0) → Bool → Option DeskFault → Type 0

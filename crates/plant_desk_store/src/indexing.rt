@@ -5,7 +5,7 @@ ghost use Rattle.sqlite.specs.Held.{state};
 ghost use Rattle.plant_desk_store.specs.Parts.{HasMended};
 
 use crate::faults::fault_of;
-use plant_desk::DeskFault;
+use plant_messages::DeskFault;
 use plant_tables::commit_missing;
 use plant_tables_stored::read_meta;
 use sqlite::{Alter, Connection};

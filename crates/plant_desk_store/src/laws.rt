@@ -11,7 +11,8 @@ ghost use Rattle.plant_desk_store.specs.SentAgain.{LivesAreSendings, LivesActOnc
 
 use crate::stored::Desk;
 use plant_base::Envelope;
-use plant_desk::{Answer, DeskFault, Keeper, Question, Reply};
+use plant_desk::Keeper;
+use plant_messages::{Answer, DeskFault, Question, Reply};
 use sqlite::Alter;
 
 /// The headline: stopped before or within any write, however often, reopening gives the tables of all acknowledged commands,

@@ -15,8 +15,9 @@ ghost use Rattle.plant_desk_store.specs.DeskStanding.{StandsAt};
 
 use crate::faults::looked;
 use plant_base::Envelope;
-use plant_desk::{Answer, DeskFault, Question, answer};
 use plant_keyed::{Directed, Keyed};
+use plant_desk::answer;
+use plant_messages::{Answer, DeskFault, Question};
 use plant_rules::decide;
 use plant_view::{Decision, ViewFault};
 use sqlite::{Alter, Connection};

@@ -8,7 +8,8 @@ use crate::running::run_over;
 use crate::verifying::verify_on;
 use plant_base::{Envelope, Items};
 use plant_check::Rule;
-use plant_desk::{Answer, DeskFault, Keeper, Question, Reply, RunReport};
+use plant_desk::{Keeper, RunReport};
+use plant_messages::{Answer, DeskFault, Question, Reply};
 use sqlite::{Alter, Connection};
 use std::alloc::Global;
 

@@ -9,7 +9,7 @@ use crate::faults::rows_to_test;
 use crate::fitness::{Unfit, judge};
 use plant_base::NEWEST_SCHEMA;
 use plant_check::Rule;
-use plant_desk::DeskFault;
+use plant_messages::DeskFault;
 use plant_tables_stored::Loaded;
 use sqlite::{Alter, Connection};
 use std::alloc::Global;

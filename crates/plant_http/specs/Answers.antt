@@ -7,13 +7,13 @@ use Rattle.plant_orders.specs.Orders.{kind_name}
 use Rattle.plant_orders.specs.declared.fault.CsvFault.{CsvFault}
 use Rattle.plant_desk.specs.Answers.{answer}
 use Rattle.plant_desk.specs.Replies.{reply}
-use Rattle.plant_desk.specs.declared.question.Answer.{Answer as DeskAnswer}
-use Rattle.plant_desk.specs.declared.question.Answer.TheVariants as A
-use Rattle.plant_desk.specs.declared.reply.Reply.{Reply}
-use Rattle.plant_desk.specs.declared.reply.Reply.TheVariants.{Accepted, Refused}
-use Rattle.plant_desk.specs.declared.reply.DeskFault.{DeskFault}
-use Rattle.plant_desk.specs.declared.reply.DeskFault.TheVariants as fault
-use Rattle.plant_desk.specs.declared.question.BatchView.{BatchView}
+use Rattle.plant_messages.specs.declared.question.Answer.{Answer as DeskAnswer}
+use Rattle.plant_messages.specs.declared.question.Answer.TheVariants as A
+use Rattle.plant_messages.specs.declared.reply.Reply.{Reply}
+use Rattle.plant_messages.specs.declared.reply.Reply.TheVariants.{Accepted, Refused}
+use Rattle.plant_messages.specs.declared.reply.DeskFault.{DeskFault}
+use Rattle.plant_messages.specs.declared.reply.DeskFault.TheVariants as fault
+use Rattle.plant_messages.specs.declared.question.BatchView.{BatchView}
 use Rattle.plant_record.specs.Record.{record_text}
 use Rattle.plant_text_answers.specs.Answers.{text_of_answer}
 use Rattle.plant_text_answers.specs.Replies.{reply_text, fault_text}

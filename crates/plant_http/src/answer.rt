@@ -7,8 +7,8 @@ ghost use Rattle.plant_http.specs.Answers.{form_for};
 
 use crate::room::{Room, csv_text, status_text};
 use plant_base::Refusal;
-use plant_desk::{Answer as DeskAnswer, DeskFault, Reply};
 use plant_http_requests::{Allow, Form, Status};
+use plant_messages::{Answer as DeskAnswer, DeskFault, Reply};
 use plant_orders::CsvFault;
 use plant_record::record;
 use plant_text::{ReplyText, answer_text, fault_line, reply_line};

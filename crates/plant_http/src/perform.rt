@@ -8,8 +8,9 @@ ghost use Rattle.plant_http_requests.specs.declared.job.Job.TheVariants as J;
 
 use crate::answer::{Answer, asked_answer, csv_answer, error_answer, fault_answer, reply_answer};
 use plant_base::{Envelope, Refusal};
-use plant_desk::{Answer as DeskAnswer, DeskFault, Keeper, Question, Reply};
+use plant_desk::Keeper;
 use plant_http_requests::{Form, Job};
+use plant_messages::{Answer as DeskAnswer, DeskFault, Question, Reply};
 use std::alloc::Global;
 
 fn executed_answer(executed: &Result<Reply, DeskFault>) -> Answer

@@ -1,7 +1,7 @@
 -- What the head of a request decides.
 use Rattle.std.specs.Prelude.{ℕ, Bool, false, ◌||◌, List, codes, bytes_eq, Option, Some, None, Result, Ok, Err, if◌then◌else◌}
-use Rattle.plant_desk.specs.declared.question.Question.{Question}
-use Rattle.plant_desk.specs.declared.question.Question.TheVariants as Q
+use Rattle.plant_messages.specs.declared.question.Question.{Question}
+use Rattle.plant_messages.specs.declared.question.Question.TheVariants as Q
 use Rattle.plant_trace.specs.declared.direction.Direction.TheVariants.{Back, Forward}
 use Rattle.plant_trace.specs.declared.node.Node.TheVariants as node
 use Rattle.plant_http_routes.specs.Routes.{target_of}

@@ -1,6 +1,6 @@
 use crate::status::{Allow, Status};
 use plant_base::Envelope;
-use plant_desk::Question;
+use plant_messages::Question;
 use plant_orders::{CsvFault, Heading};
 
 /// As what an answer is written.

@@ -9,8 +9,8 @@ use crate::job::{Content, Form, HeadStep, Job};
 use crate::status::{Allow, Status};
 use httparse::spans::{HeaderSpan, RequestSpans};
 use plant_base::Id;
-use plant_desk::Question;
 use plant_http_routes::{Kind, Routes, Target};
+use plant_messages::Question;
 use plant_trace::{Direction, Node};
 
 /// The job of a request that is answered by a status alone; no methods are named.

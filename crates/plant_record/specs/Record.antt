@@ -13,10 +13,10 @@ use Rattle.plant_base.specs.declared.rows.RecipeLine.TheVariants as recipe_line
 use Rattle.plant_base.specs.declared.states.Event.{Event}
 use Rattle.plant_base.specs.declared.states.Event.TheVariants as event
 use Rattle.plant_recipe.specs.declared.progress.Progress.{Progress}
-use Rattle.plant_desk.specs.BatchViews.{phases_in}
-use Rattle.plant_desk.specs.declared.question.BatchView.{BatchView}
-use Rattle.plant_desk.specs.declared.question.Booking.{Booking}
-use Rattle.plant_desk.specs.declared.question.MeasuredLine.{MeasuredLine}
+use Rattle.plant_messages.specs.Phases.{phases_in}
+use Rattle.plant_messages.specs.declared.question.BatchView.{BatchView}
+use Rattle.plant_messages.specs.declared.question.Booking.{Booking}
+use Rattle.plant_messages.specs.declared.question.MeasuredLine.{MeasuredLine}
 
 -- ---- lines and their items
 

@@ -2,11 +2,11 @@
 ghost use Rattle.std.specs.Prelude.{◌≡◌, Some};
 ghost use Rattle.plant_record.specs.Record.{batch_text, head_text, open_or_closed, order_text};
 ghost use Rattle.plant_record.specs.Record.{recipe_text, released_text, state_text};
-ghost use Rattle.plant_desk.specs.BatchViews.{phases_in};
+ghost use Rattle.plant_messages.specs.Phases.{phases_in};
 
 use crate::items::AtBy;
 use plant_base::{Batch, Header, Job, OrderRow};
-use plant_desk::{BatchView, phases_in};
+use plant_messages::{BatchView, phases_in};
 use std::fmt;
 
 /// Which batch it is.

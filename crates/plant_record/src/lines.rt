@@ -5,7 +5,7 @@ ghost use Rattle.plant_record.specs.Record.{produced_text, recipe_line_text, sub
 
 use crate::items::{AtBy, InSix, InThree, Measured};
 use plant_base::{BatchEvent, Event, Id, RecipeLine, ShowsItem, Unit};
-use plant_desk::{Booking, MeasuredLine};
+use plant_messages::{Booking, MeasuredLine};
 use std::fmt;
 
 /// A line of a recipe, with the unit of its amount.

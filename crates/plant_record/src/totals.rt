@@ -6,7 +6,7 @@ ghost use Rattle.plant_record.specs.Record.{amount_of, asked_and_booked, booked_
 ghost use Rattle.plant_record.specs.Record.{output_total, totals_text};
 
 use plant_base::{Amount, Each, Id, RecipeLine, ShowsItem};
-use plant_desk::{BatchView, Booking, MeasuredLine};
+use plant_messages::{BatchView, Booking, MeasuredLine};
 use std::fmt;
 
 /// The amount of a booking, if it is one of the definition.

@@ -6,7 +6,7 @@ use crate::head::Head;
 use crate::lines::{ConsumedLine, ControlLine, EventLine, ProducedLine};
 use crate::totals::Totals;
 use plant_base::Each;
-use plant_desk::BatchView;
+use plant_messages::BatchView;
 use std::alloc::{AllocError, Global};
 use std::fmt;
 

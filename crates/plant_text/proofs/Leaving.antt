@@ -2,8 +2,8 @@
 use Rattle.std.proofs.Common.{◌≡◌, ℕ, List, Bool, false, Option, inl, inr}
 use Rattle.plant_base.specs.State.{State}
 use Rattle.plant_desk.specs.Keeping.{States}
-use Rattle.plant_desk.specs.declared.reply.DeskFault.{DeskFault}
-use Rattle.plant_desk.specs.declared.reply.DeskFault.TheVariants.{Store, Memory, Shut}
+use Rattle.plant_messages.specs.declared.reply.DeskFault.{DeskFault}
+use Rattle.plant_messages.specs.declared.reply.DeskFault.TheVariants.{Store, Memory, Shut}
 use Rattle.plant_text.specs.Session.{Entry, nothing, bad, command, question, after, fold, FaultLeaves, StopsAt, Stopped, StoppedAmong, EndsWithin}
 use Rattle.plant_text.specs.Leaving.{LeavesAtFault, LeavesAtStop, LeavesAfterSome, LeavesAmong, RunLeaves}
 use Rattle.plant_text.specs.declared.run.RunEnd.{RunEnd}

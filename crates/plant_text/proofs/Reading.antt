@@ -13,8 +13,8 @@ use Rattle.plant_worklists.specs.declared.list.Worklist.TheVariants as list
 use Rattle.plant_worklists.specs.declared.place.MovementPlace.{MovementPlace}
 use Rattle.plant_worklists.specs.declared.place.RecipePlace.{RecipePlace}
 use Rattle.plant_base.specs.declared.states.RecipeState.{RecipeState}
-use Rattle.plant_desk.specs.declared.question.Question.{Question}
-use Rattle.plant_desk.specs.declared.question.Question.TheVariants as Q
+use Rattle.plant_messages.specs.declared.question.Question.{Question}
+use Rattle.plant_messages.specs.declared.question.Question.TheVariants as Q
 use Rattle.plant_shapes.specs.declared.members.Member.{Member}
 use Rattle.plant_shapes.specs.declared.members.Member.TheVariants as m
 use Rattle.plant_shapes.specs.declared.members.Rule.TheVariants as rule

@@ -7,7 +7,7 @@ use Rattle.plant_desk.specs.Keeping.{States}
 use Rattle.plant_text.specs.declared.turns.Stop.{Stop}
 use Rattle.plant_text.specs.Session.{entry_of, Entry, entry_text, after, is_refused, texts, fold, some_refused, AreAnswered, StopsAt, Stopped}
 use Rattle.plant_text.specs.Turns.{TurnEnds, FaultWritten}
-use Rattle.plant_desk.specs.declared.reply.DeskFault.TheVariants.{Memory}
+use Rattle.plant_messages.specs.declared.reply.DeskFault.TheVariants.{Memory}
 use Rattle.plant_text.proofs.Known.{Appends-nil, Appends-append}
 use Rattle.plant_text.specs.Held.{held_after, entries_after}
 use Rattle.plant_text.proofs.HeldLemmas.{each-append}

@@ -7,9 +7,9 @@ use Rattle.plant_text.proofs.Reading.{line_long}
 use Rattle.plant_base.specs.State.{State}
 use Rattle.plant_desk.specs.Keeping.{States, Executes, Asks, shuts}
 use Rattle.plant_base.specs.declared.command.Envelope.{Envelope}
-use Rattle.plant_desk.specs.declared.question.Question.{Question}
-use Rattle.plant_desk.specs.declared.reply.DeskFault.{DeskFault}
-use Rattle.plant_desk.specs.declared.reply.DeskFault.TheVariants.{Store, Memory, Shut}
+use Rattle.plant_messages.specs.declared.question.Question.{Question}
+use Rattle.plant_messages.specs.declared.reply.DeskFault.{DeskFault}
+use Rattle.plant_messages.specs.declared.reply.DeskFault.TheVariants.{Store, Memory, Shut}
 use Rattle.plant_text.specs.Lines.{longest_line, line_of}
 use Rattle.plant_text_answers.specs.Replies.{fault_text}
 use Rattle.plant_text.specs.declared.read.Line.{Line}
@@ -19,7 +19,7 @@ use Rattle.plant_text.specs.Session.{Entry, nothing, bad, command, question, ent
 use Rattle.plant_text.specs.Writes.{with_lf, AppendsFront}
 use Rattle.plant_text.specs.Turns.{TurnEnds, FaultWritten, AnswerWritten, BadWritten}
 use Rattle.plant_text_answers.specs.Answers.{text_of_answer}
-use Rattle.plant_desk.specs.declared.question.Answer.{Answer}
+use Rattle.plant_messages.specs.declared.question.Answer.{Answer}
 use Rattle.std.specs.Prelude.{IfErr, IfOk, IsErrAnd}
 
 pub stops_by_fault : (k : ℕ) (s : State) (e : Entry) (old new : Option (List ℕ)) (stands : States) (shut : Bool) (leaves : States → Type 0) (f : DeskFault) (stop : Stop)

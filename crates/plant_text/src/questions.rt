@@ -7,7 +7,7 @@ ghost use Rattle.plant_text.specs.Questions.{recipe_place_in, movement_place_in,
 ghost use Rattle.plant_text.specs.Questions.{list_asked, question_for, kind_at, question_of};
 
 use plant_base::Id;
-use plant_desk::Question;
+use plant_messages::Question;
 use plant_shapes::{
     Field, Flaw, ListKind, Member, Problem, QuestionKind, exactly, fields_of, list_members,
     question_kind,

@@ -8,7 +8,7 @@ ghost use Rattle.plant_text.specs.Lines.{longest_line, object_says, value_says, 
 
 use crate::questions::question_of;
 use plant_base::Envelope;
-use plant_desk::Question;
+use plant_messages::Question;
 use plant_shapes::{Fault, Flaw, LineFault, Problem};
 use plant_text_commands::command_of;
 use serde_json::Value;

@@ -10,7 +10,8 @@ ghost use Rattle.plant_text.specs.Turns.{PieceEnds, LastEnds, FaultWritten, end_
 ghost use Rattle.plant_text.specs.Held.{held_with, held_after, entries_after};
 
 use crate::turns::{Stop, take_line, tell_fault};
-use plant_desk::{DeskFault, Keeper};
+use plant_desk::Keeper;
+use plant_messages::DeskFault;
 use std::alloc::Global;
 use std::io::{Read, Write};
 

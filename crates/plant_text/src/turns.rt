@@ -9,7 +9,8 @@ ghost use Rattle.plant_text.specs.Turns.{TurnEnds, FaultWritten, AnswerWritten, 
 use crate::read::{Line, read_line};
 use crate::writes::write_line;
 use plant_base::{Envelope, Refusal};
-use plant_desk::{Answer, DeskFault, Keeper, Question, Reply};
+use plant_desk::Keeper;
+use plant_messages::{Answer, DeskFault, Question, Reply};
 use plant_shapes::LineFault;
 use plant_text_answers::{answer_text, fault_line, reply_line};
 use std::alloc::Global;

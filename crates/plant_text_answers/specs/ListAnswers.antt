@@ -14,11 +14,11 @@ use Rattle.plant_base.specs.declared.rows.Recipe.{Recipe}
 use Rattle.plant_view.specs.Genealogy.{batch_by}
 use Rattle.plant_worklists.specs.Worklists.{other_lot}
 use Rattle.plant_worklists.specs.declared.page.Page.{Page}
-use Rattle.plant_desk.specs.declared.listed.Listed.{Listed}
-use Rattle.plant_desk.specs.declared.listed.Listed.TheVariants as listed
-use Rattle.plant_desk.specs.declared.listed.LotPage.{LotPage}
-use Rattle.plant_desk.specs.declared.listed.OpenBatch.{OpenBatch}
-use Rattle.plant_desk.specs.declared.question.LotAnswer.{LotAnswer}
+use Rattle.plant_messages.specs.declared.listed.Listed.{Listed}
+use Rattle.plant_messages.specs.declared.listed.Listed.TheVariants as listed
+use Rattle.plant_messages.specs.declared.listed.LotPage.{LotPage}
+use Rattle.plant_messages.specs.declared.listed.OpenBatch.{OpenBatch}
+use Rattle.plant_messages.specs.declared.question.LotAnswer.{LotAnswer}
 use Rattle.plant_text_answers.specs.Natural.{natural}
 use Rattle.plant_text_answers.specs.Parts.{id_or_null, number_or_null, sublots_data}
 

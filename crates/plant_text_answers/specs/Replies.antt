@@ -2,10 +2,10 @@
 use Rattle.std.specs.Prelude.{ℕ, List, ◌++◌, codes, decimal}
 use Rattle.plant_base.specs.Refusals.{number_of, name_of}
 use Rattle.plant_base.specs.declared.refusal.Refusal.{Refusal}
-use Rattle.plant_desk.specs.Replies.{fault_number}
-use Rattle.plant_desk.specs.declared.reply.Reply.{Reply}
-use Rattle.plant_desk.specs.declared.reply.Reply.TheVariants.{Accepted, Refused}
-use Rattle.plant_desk.specs.declared.reply.DeskFault.{DeskFault}
+use Rattle.plant_messages.specs.Faults.{fault_number}
+use Rattle.plant_messages.specs.declared.reply.Reply.{Reply}
+use Rattle.plant_messages.specs.declared.reply.Reply.TheVariants.{Accepted, Refused}
+use Rattle.plant_messages.specs.declared.reply.DeskFault.{DeskFault}
 
 abbrev pub accepted_text : ℕ → List ℕ
 accepted_text seq = codes "{\"ok\":" ++ decimal seq ++ codes "}"

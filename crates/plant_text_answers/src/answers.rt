@@ -12,7 +12,7 @@ use crate::recall_answers::recall_value;
 use crate::replies::refusal_line;
 use crate::trace_answers::trace_value;
 use plant_base::Moment;
-use plant_desk::{Answer, OrderAnswer};
+use plant_messages::{Answer, OrderAnswer};
 use serde_json::{Value, json};
 use std::alloc::{AllocError, Global};
 

@@ -8,7 +8,7 @@ ghost use Rattle.plant_text_answers.specs.ListAnswers.{definitions_data, recipes
 use crate::listed_rows::Shown;
 use crate::parts::id_value;
 use plant_base::{Definition, Hold, Job, Movement, Recall, Recipe};
-use plant_desk::{Listed, LotPage, OpenBatch};
+use plant_messages::{Listed, LotPage, OpenBatch};
 use plant_worklists::Page;
 use serde_json::{Value, json};
 use std::alloc::{AllocError, Global};

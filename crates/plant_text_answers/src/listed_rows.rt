@@ -7,7 +7,7 @@ ghost use Rattle.plant_text_answers.specs.ListAnswers.{recipe_item, movement_ite
 use crate::list_answers::rows_value;
 use crate::parts::{id_value, number_value};
 use plant_base::{Definition, Hold, Id, Job, Movement, MovementKind, Recall, Recipe};
-use plant_desk::{LotAnswer, OpenBatch};
+use plant_messages::{LotAnswer, OpenBatch};
 use plant_worklists::other_lot;
 use serde_json::{Value, json};
 use std::alloc::{AllocError, Global};

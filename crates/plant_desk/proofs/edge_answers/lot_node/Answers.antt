@@ -6,7 +6,7 @@ use Rattle.plant_trace.proofs.Sources.{HonestlyTold-then, HonestlyTold-weaker}
 use Rattle.plant_view.specs.Recalls.{is_blocked}
 use Rattle.plant_desk.specs.Genealogy.{lot_node}
 use Rattle.plant_desk.specs.KnownLots.{AreKnown}
-use Rattle.plant_desk.specs.declared.genealogy.NodeAnswer.TheVariants as node
+use Rattle.plant_messages.specs.declared.genealogy.NodeAnswer.TheVariants as node
 use Rattle.plant_desk.proofs.edge_answers.lot_node.Goals as goal
 
 pub returns : goal.returns

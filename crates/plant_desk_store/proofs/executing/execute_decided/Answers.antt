@@ -6,8 +6,8 @@ use Rattle.plant_view.specs.OneBatch.{puts_one_batch}
 use Rattle.plant_view.specs.Tables.{tables_of, changed_all}
 use Rattle.plant_view.specs.declared.change.RowChange.{RowChange}
 use Rattle.plant_rules.specs.Step.{step}
-use Rattle.plant_desk.specs.declared.reply.DeskFault.TheVariants.{Store}
-use Rattle.plant_desk.specs.declared.reply.Reply.TheVariants.{Accepted}
+use Rattle.plant_messages.specs.declared.reply.DeskFault.TheVariants.{Store}
+use Rattle.plant_messages.specs.declared.reply.Reply.TheVariants.{Accepted}
 use Rattle.plant_good.proofs.StepGood.{step_good}
 use Rattle.plant_good_keys.proofs.AddedRows.{fresh}
 use Rattle.plant_desk_store.specs.Looking.{IsDecidedAt}

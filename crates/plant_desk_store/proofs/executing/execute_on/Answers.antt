@@ -5,7 +5,7 @@ use Rattle.sqlite.specs.State.{HasCleanDisk, Survives}
 use Rattle.plant_base.specs.State.{State}
 use Rattle.table_forms.proofs.Ending.{IsStore}
 use Rattle.table_forms.specs.declared.fault.Fault.TheVariants as fault
-use Rattle.plant_desk.specs.declared.reply.DeskFault.TheVariants.{Shut}
+use Rattle.plant_messages.specs.declared.reply.DeskFault.TheVariants.{Shut}
 use Rattle.plant_desk_store.specs.Parts.{HasStepped}
 use Rattle.plant_desk_store.specs.DeskStanding.{IsOpenAt}
 use Rattle.plant_desk_store.proofs.Others.{others_kept}

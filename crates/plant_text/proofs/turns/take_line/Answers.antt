@@ -1,6 +1,6 @@
 use Rattle.std.proofs.Common.{◌≡◌, ◌<◌, length, Err, None, Some, ap, ◌∙◌, arith}
 use Rattle.std.proofs.lemmas.Bool.Decides.{nat_tests}
-use Rattle.plant_desk.specs.declared.reply.DeskFault.TheVariants.{Memory}
+use Rattle.plant_messages.specs.declared.reply.DeskFault.TheVariants.{Memory}
 use Rattle.plant_text.specs.declared.read.Line.TheVariants as L
 use Rattle.plant_text.specs.Lines.{line_of}
 use Rattle.plant_text.specs.Session.{entry_of}

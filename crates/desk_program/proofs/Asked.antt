@@ -2,7 +2,7 @@
 use Rattle.std.proofs.Common.{◌≡◌, ℕ, Result, Ok, Err, subst, sym}
 use Rattle.std.specs.Prelude.{IfOk}
 use Rattle.plant_base.specs.State.{State}
-use Rattle.plant_desk.specs.Answers.{answer}
+use Rattle.plant_answers.specs.Answers.{answer}
 use Rattle.plant_desk.specs.Keeping.{States, Asks}
 use Rattle.plant_messages.specs.declared.question.Answer.{Answer}
 use Rattle.plant_messages.specs.declared.question.Answer.TheVariants as A

@@ -7,7 +7,7 @@ use Rattle.plant_base.specs.State.{newest_schema}
 use Rattle.plant_trace.specs.Nodes.{node_text}
 use Rattle.plant_trace.specs.declared.node.Node.{Node}
 use Rattle.plant_record.specs.Record.{record_text}
-use Rattle.plant_desk.specs.Answers.{answer}
+use Rattle.plant_answers.specs.Answers.{answer}
 use Rattle.plant_messages.specs.declared.question.Question.{Question}
 use Rattle.plant_messages.specs.declared.question.Answer.{Answer}
 use Rattle.plant_messages.specs.declared.question.Answer.TheVariants as A

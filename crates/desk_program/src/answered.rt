@@ -4,7 +4,7 @@ ghost use Rattle.sqlite.specs.Held.{state};
 ghost use Rattle.sqlite.specs.State.{HasCleanDisk};
 ghost use Rattle.plant_base.specs.State.{State, newest_schema};
 ghost use Rattle.plant_trace.specs.Nodes.{node_text};
-ghost use Rattle.plant_desk.specs.Answers.{answer};
+ghost use Rattle.plant_answers.specs.Answers.{answer};
 ghost use Rattle.plant_desk.specs.Keeping.{IsSameDesk};
 ghost use Rattle.plant_desk_store.specs.Adopting.{IsNewlyOpened};
 ghost use Rattle.plant_desk_store.specs.DeskStanding.{IsOpenAt};

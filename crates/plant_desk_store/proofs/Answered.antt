@@ -17,15 +17,15 @@ use Rattle.plant_view.specs.Sound.{IsSound}
 use Rattle.plant_view.specs.Tables.{sublot_row, place_of_row}
 use Rattle.plant_view.proofs.Balanced.{balanced}
 use Rattle.plant_view.proofs.Rows.{all_of, all_mapped}
-use Rattle.plant_desk.specs.Around.{answer_stands}
-use Rattle.plant_desk.specs.Answers.{answer}
-use Rattle.plant_desk.specs.LotAnswers.{answer_lot}
-use Rattle.plant_desk.specs.Traces.{missing, answer_trace}
+use Rattle.plant_answers.specs.Around.{answer_stands}
+use Rattle.plant_answers.specs.Answers.{answer}
+use Rattle.plant_answers.specs.LotAnswers.{answer_lot}
+use Rattle.plant_answers.specs.Traces.{missing, answer_trace}
 use Rattle.plant_messages.specs.declared.question.Question.{Question}
 use Rattle.plant_messages.specs.declared.question.Question.TheVariants as Q
 use Rattle.plant_messages.specs.declared.question.Answer.{Answer}
-use Rattle.plant_desk.proofs.GoodsReached.{standing_sorted, standing_only, standing_all}
-use Rattle.plant_desk.proofs.Reaching.{trace_lists}
+use Rattle.plant_answers.proofs.GoodsReached.{standing_sorted, standing_only, standing_all}
+use Rattle.plant_answers.proofs.Reaching.{trace_lists}
 use Rattle.plant_desk_store.specs.Headline.{IsTraceIn, AreStandingIn, IsLotIn, SaysOf, IsToldIn}
 
 trace_told : (s : State) (direction : Direction) (start : Node) (o : Option Refusal) → missing s start ≡ o → IsTraceIn s direction start (answer_trace s direction start o)

@@ -19,9 +19,9 @@ use Rattle.plant_good.specs.Good.{IsGood}
 use Rattle.table_forms.specs.Standing.{AreFree}
 use Rattle.plant_tables.specs.DeskForms.{desk_forms}
 use Rattle.plant_tables.specs.Keyed.{HoldsTablesOf, HoldsTables}
-use Rattle.plant_desk.specs.AnswerLaws.{StandsFrom, lot_answer_order}
-use Rattle.plant_desk.specs.Answers.{answer}
-use Rattle.plant_desk.specs.Traces.{missing}
+use Rattle.plant_answers.specs.AnswerLaws.{StandsFrom, lot_answer_order}
+use Rattle.plant_answers.specs.Answers.{answer}
+use Rattle.plant_answers.specs.Traces.{missing}
 use Rattle.plant_messages.specs.declared.question.Question.{Question}
 use Rattle.plant_messages.specs.declared.question.Question.TheVariants as Q
 use Rattle.plant_messages.specs.declared.question.Answer.{Answer}

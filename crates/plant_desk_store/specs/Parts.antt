@@ -23,7 +23,7 @@ use Rattle.plant_tables_judged.specs.declared.desk_rows.DeskRows.{DeskRows}
 use Rattle.plant_migrate.specs.Raised.{edges_from}
 use Rattle.plant_migrate.specs.Steps.{IsRaisedBy}
 use Rattle.plant_check.specs.declared.rule.Rule.{Rule}
-use Rattle.plant_desk.specs.Answers.{answer}
+use Rattle.plant_answers.specs.Answers.{answer}
 use Rattle.plant_desk.specs.Keeping.{writes_nothing}
 use Rattle.plant_messages.specs.declared.question.Question.{Question}
 use Rattle.plant_messages.specs.declared.question.Answer.{Answer}

@@ -5,7 +5,7 @@ use Rattle.plant_base.specs.Refusals.{number_of}
 use Rattle.plant_base.specs.declared.refusal.Refusal.TheVariants.{BadForm}
 use Rattle.plant_orders.specs.Orders.{kind_name}
 use Rattle.plant_orders.specs.declared.fault.CsvFault.{CsvFault}
-use Rattle.plant_desk.specs.Answers.{answer}
+use Rattle.plant_answers.specs.Answers.{answer}
 use Rattle.plant_desk.specs.Replies.{reply}
 use Rattle.plant_messages.specs.declared.question.Answer.{Answer as DeskAnswer}
 use Rattle.plant_messages.specs.declared.question.Answer.TheVariants as A

@@ -7,7 +7,7 @@ use Rattle.plant_base.specs.declared.command.Envelope.{Envelope}
 use Rattle.plant_base.specs.declared.refusal.Refusal.TheVariants.{BadForm}
 use Rattle.plant_rules.specs.Step.{step}
 use Rattle.plant_desk.specs.Replies.{reply}
-use Rattle.plant_desk.specs.Answers.{answer}
+use Rattle.plant_answers.specs.Answers.{answer}
 use Rattle.plant_desk.specs.Keeping.{States}
 use Rattle.plant_messages.specs.declared.question.Question.{Question}
 use Rattle.plant_messages.specs.declared.question.Answer.{Answer}

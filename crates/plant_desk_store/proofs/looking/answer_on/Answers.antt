@@ -1,6 +1,6 @@
 use Rattle.std.proofs.Common.{◌≡◌, IfOk, rules}
 use Rattle.plant_base.specs.State.{newest_schema}
-use Rattle.plant_desk.specs.Answers.{answer}
+use Rattle.plant_answers.specs.Answers.{answer}
 use Rattle.plant_desk_store.proofs.Telling.{looked_if, looked_open}
 use Rattle.plant_desk_store.proofs.looking.answer_on.Goals as goal
 

@@ -1,7 +1,7 @@
 use Rattle.std.proofs.Common.{◌≡◌, subst}
 use Rattle.sqlite.specs.Held.{state}
 use Rattle.plant_base.specs.State.{State, newest_schema}
-use Rattle.plant_desk.specs.Answers.{answer}
+use Rattle.plant_answers.specs.Answers.{answer}
 use Rattle.plant_keyed.specs.Steadily.{steady_along}
 use Rattle.plant_desk_store.proofs.Showing.{honest_at}
 use Rattle.plant_desk_store.proofs.looking.answer_over.Goals as goal

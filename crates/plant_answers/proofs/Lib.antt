@@ -1,0 +1,15 @@
+pub mod Along
+pub mod Asked
+pub mod Between
+pub mod EdgesBooked
+pub mod Fitting
+pub mod Gathered
+pub mod GoodsReached
+pub mod KnownDefinition
+pub mod Narrowed
+pub mod NodesThere
+pub mod Picked
+pub mod PlainTables
+pub mod Reaching
+pub mod RecallNodes
+pub mod Totals

@@ -1,0 +1,6 @@
+use Rattle.plant_view.specs.Genealogy.{edges_of}
+use Rattle.plant_view.proofs.MarkRows.{are_the_pairs}
+use Rattle.plant_answers.proofs.laws.marks_law.Goals as goal
+
+pub returns : goal.returns
+returns c s = are_the_pairs s.recalls (edges_of s)

@@ -1,0 +1,10 @@
+use Rattle.std.proofs.Common.{ap}
+use Rattle.plant_answers.specs.Around.{lots_standing, answer_stands}
+use Rattle.plant_answers.specs.Answers.{answer}
+use Rattle.plant_answers.proofs.GoodsReached.{standing_sorted, standing_only, standing_all}
+use Rattle.plant_answers.proofs.laws.stands_law.Goals as goal
+
+pub returns : goal.returns
+unfolding answer
+returns c k s start there =
+    (lots_standing s start, ap (answer_stands s start) there, standing_sorted s start, λ a. (standing_only s start a, standing_all s start a))

@@ -1,0 +1,108 @@
+-- What a reader looks for in the answers and tables of a state.
+use Rattle.std.specs.Prelude.{◌≡◌, ◌<◌, ◌↔◌, ◌⊎◌, ℕ, true, false, List, [], pos, Some, None, map, Contains}
+use Rattle.std.specs.List.Sorted.{IsStrictlySortedBy}
+use Rattle.std.specs.declared.cmp.Ordering.{Ordering}
+use Rattle.plant_base.specs.Edges.{edge_order}
+use Rattle.plant_base.specs.Recalls.{is_open, mark_order}
+use Rattle.plant_base.specs.State.{State, newest_schema, id_cmp, lot_at, recall_at}
+use Rattle.plant_base.specs.declared.rows.Lot.{Lot}
+use Rattle.plant_base.specs.declared.rows.Mark.{Mark}
+use Rattle.plant_base.specs.declared.rows.Movement.{Movement}
+use Rattle.plant_base.specs.declared.rows.Place.{Place}
+use Rattle.plant_base.specs.declared.rows.Recall.{Recall}
+use Rattle.plant_stock.specs.Stock.{stock}
+use Rattle.plant_trace.specs.Reach.{IsReached, Lists}
+use Rattle.plant_trace.specs.Recalls.{IsRecalled}
+use Rattle.plant_trace.specs.declared.direction.Direction.{Direction}
+use Rattle.plant_trace.specs.declared.direction.Direction.TheVariants.{Forward}
+use Rattle.plant_trace.specs.declared.node.Node.{Node}
+use Rattle.plant_trace.specs.declared.node.Node.TheVariants as node
+use Rattle.plant_view.specs.Genealogy.{edge_row_of, edges_of, ends_of}
+use Rattle.plant_view.specs.Recalls.{Reaches, node_of}
+use Rattle.plant_view.specs.Sound.{IsSound}
+use Rattle.plant_view.specs.Tables.{state_without_kept, tables_of, IsWholeIn, sublot_row}
+use Rattle.plant_answers.specs.Answers.{answer}
+use Rattle.plant_answers.specs.Genealogy.{amount_of, named}
+use Rattle.plant_answers.specs.LotAnswers.{lot_answer}
+use Rattle.plant_answers.specs.Traces.{missing}
+use Rattle.plant_messages.specs.declared.genealogy.BookedEdge.{BookedEdge}
+use Rattle.plant_messages.specs.declared.genealogy.Genealogy.{Genealogy}
+use Rattle.plant_messages.specs.declared.question.Question.TheVariants as Q
+use Rattle.plant_messages.specs.declared.question.Answer.TheVariants as A
+use Rattle.plant_messages.specs.declared.question.LotAnswer.{LotAnswer}
+use Rattle.plant_messages.specs.declared.question.RecallAnswer.{RecallAnswer}
+
+-- The trace of a node that is there lists just what the least relation reaches: each such node once, ascending, and no other.
+abbrev pub TracesListReached : Type 0
+TracesListReached = (k : ℕ) (s : State) (direction : Direction) (start : Node) → missing s start ≡ None
+    → (nodes : List Node) × (answer k s (Q.Trace direction start) ≡ A.Trace nodes) × Lists (IsReached direction (edges_of s) start) nodes
+
+-- the node is the start, or the least relation reaches it from there
+abbrev pub IsAround : State → Direction → Node → Node → Type 0
+IsAround s direction start y = (y ≡ start) ⊎ IsReached direction (edges_of s) start y
+
+-- what is known of a lot that is there, that the start is or leads to, and that has stock
+pub record StandsFrom (s : State) (start : Node) (a : LotAnswer) : Type 0 where
+  pub lot : Lot
+  pub reached : IsAround s Forward start (node.Lot a.lot)
+  pub there : lot_at s a.lot ≡ Some lot
+  pub told : a ≡ lot_answer s lot
+  pub stocked : 0 < a.stock
+
+abbrev pub lot_answer_order : LotAnswer → LotAnswer → Ordering
+lot_answer_order a b = id_cmp a.lot b.lot
+
+-- Where the goods of a lot or batch stand that is there: what is told lists just such lots, ascending, each once, and no other.
+abbrev pub StandsListReached : Type 0
+StandsListReached = (k : ℕ) (s : State) (start : Node) → missing s start ≡ None
+    → (lots : List LotAnswer) × (answer k s (Q.Stands start) ≡ A.Stands lots) × IsStrictlySortedBy lot_answer_order lots
+    × ((a : LotAnswer) → Contains lots a ↔ StandsFrom s start a)
+
+-- an edge between nodes around the start, with the amounts of all movements that make it
+pub record IsBooked (s : State) (direction : Direction) (start : Node) (b : BookedEdge) : Type 0 where
+  pub made : (m : Movement) × (Contains s.movements m × (edge_row_of m ≡ Some b.edge))
+  pub first : IsAround s direction start (ends_of b.edge).0
+  pub second : IsAround s direction start (ends_of b.edge).1
+  pub amount : b.amount ≡ amount_of s.movements b.edge
+
+abbrev pub booked_order : BookedEdge → BookedEdge → Ordering
+booked_order a b = edge_order a.edge b.edge
+
+-- The genealogy around a lot or batch that is there: its edges are just those between the start and what the least relation reaches from
+-- it, each once, in the order of table edge, and each has the amounts of all movements that make it.
+abbrev pub EdgesAreBooked : Type 0
+EdgesAreBooked = (k : ℕ) (s : State) (direction : Direction) (start : Node) → missing s start ≡ None
+    → (g : Genealogy) × (answer k s (Q.Edges direction start) ≡ A.Edges g) × IsStrictlySortedBy booked_order g.edges
+    × ((b : BookedEdge) → Contains g.edges b ↔ IsBooked s direction start b)
+
+-- In a sound state its nodes are just the start and what the least relation reaches from it, each once, ascending.
+abbrev pub NodesAreReached : Type 0
+NodesAreReached = (k : ℕ) (s : State) (direction : Direction) (start : Node) → IsSound s → missing s start ≡ None
+    → (g : Genealogy) × (answer k s (Q.Edges direction start) ≡ A.Edges g) × Lists (IsAround s direction start) (map named g.nodes)
+
+-- The stock that stands beside a sublot is the sum of what entered it less the sum of what left it.
+abbrev pub ColumnIsStock : Type 0
+ColumnIsStock = (s : State) → IsSound s → (p : Place) → pos (sublot_row s.movements p).stock ≡ stock s.movements p.lot p.number
+
+-- The tables of a state that has no row which their schema lacks, less the columns that the model doesn't hold, are that state.
+abbrev pub TablesStandForState : Type 0
+TablesStandForState = (k : ℕ) (s : State) → IsWholeIn k s → state_without_kept (tables_of k s) ≡ s
+
+-- what is told of a recall: its lot, whether it is open, and while it is just what it reaches, each such node once, ascending, and no
+-- other
+pub record TellsRecall (s : State) (r : Recall) (a : RecallAnswer) : Type 0 where
+  pub recall : a.recall ≡ r.id
+  pub lot : a.lot ≡ r.lot
+  pub state : a.is_open ≡ is_open r
+  pub reached : is_open r ≡ true → Lists (IsRecalled (edges_of s) r.lot) a.nodes
+  pub lifted : is_open r ≡ false → a.nodes ≡ []
+
+-- The answer to a question about a recall that is there tells that recall.
+abbrev pub RecallsListReached : Type 0
+RecallsListReached = (k : ℕ) (s : State) (recall : List ℕ) (r : Recall) → recall_at s recall ≡ Some r
+    → (a : RecallAnswer) × (answer k s (Q.Recall recall) ≡ A.Recall a) × TellsRecall s r a
+
+-- The marks in the tables of a state are just the pairs of an open recall and a node that it reaches, each once.
+abbrev pub MarksAreThePairs : Type 0
+MarksAreThePairs = (s : State) → IsStrictlySortedBy mark_order (tables_of newest_schema s).marks
+    × ((m : Mark) → Contains (tables_of newest_schema s).marks m ↔ Reaches s.recalls (edges_of s) m.recall (node_of m))

@@ -1,0 +1,25 @@
+-- What is found for an answer about a batch.
+use Rattle.std.specs.Prelude.{◌≡◌, ℕ, List, map}
+use Rattle.std.specs.List.{filter_map}
+use Rattle.plant_base.specs.State.{State, control_lines_of}
+use Rattle.plant_base.specs.declared.rows.BatchRow.{BatchRow}
+use Rattle.plant_view.specs.Tables.{batch_row}
+use Rattle.plant_view.specs.Views.{events_of}
+use Rattle.plant_answers.specs.BatchViews.{measured_line, consumption, production}
+use Rattle.plant_answers.specs.declared.batch_answers.FoundBatch.{FoundBatch}
+use Rattle.plant_answers.specs.declared.bookings.BatchBookings.{BatchBookings}
+
+-- the row's columns are the fold of the events of its batch
+abbrev pub IsRowOf : State → BatchRow → Type 0
+IsRowOf s r = r ≡ batch_row s.control_lines s.events r.batch
+
+-- what the batch of this id took and brought
+pub record AreBookingsOf (s : State) (batch : List ℕ) (found : BatchBookings) : Type 0 where
+  pub consumed : found.consumed.items ≡ filter_map (consumption s batch) s.movements
+  pub produced : found.produced.items ≡ filter_map (production s batch) s.movements
+
+-- what stands in the other tables of the batch of this id
+pub record IsFoundOf (s : State) (batch : List ℕ) (found : FoundBatch) : Type 0 where
+  pub lines : found.lines.items ≡ map (measured_line s.definitions) (control_lines_of s batch)
+  pub events : found.events.items ≡ events_of s batch
+  pub bookings : AreBookingsOf s batch found.bookings

@@ -1,0 +1,39 @@
+-- What a question is answered.
+use Rattle.std.specs.Prelude.{ℕ, List, Option, Some, None, option_map}
+use Rattle.plant_base.specs.State.{State, lot_at, job_at, batch_at, batch_of, recall_at}
+use Rattle.plant_base.specs.declared.rows.Job.{Job}
+use Rattle.plant_base.specs.declared.refusal.Refusal.TheVariants.{UnknownOrder}
+use Rattle.plant_answers.specs.Around.{answer_stands}
+use Rattle.plant_answers.specs.BatchViews.{answer_batch}
+use Rattle.plant_answers.specs.Genealogy.{answer_edges}
+use Rattle.plant_answers.specs.LotAnswers.{answer_lot}
+use Rattle.plant_answers.specs.RecallAnswers.{answer_recall}
+use Rattle.plant_answers.specs.Traces.{missing, answer_trace}
+use Rattle.plant_answers.specs.Worklists.{answer_list, answer_recipes, answer_ledger}
+use Rattle.plant_messages.specs.declared.question.Question.{Question}
+use Rattle.plant_messages.specs.declared.question.Question.TheVariants as Q
+use Rattle.plant_messages.specs.declared.question.Answer.{Answer}
+use Rattle.plant_messages.specs.declared.question.Answer.TheVariants as A
+use Rattle.plant_messages.specs.declared.question.OrderAnswer.{OrderAnswer}
+
+abbrev pub order_answer : State → List ℕ → Job → OrderAnswer
+order_answer s order j = record { job = j; batch = option_map (λ b. b.id) (batch_of s order) }
+
+abbrev pub answer_order : State → List ℕ → Option Job → Answer
+answer_order s order None = A.Unknown UnknownOrder
+answer_order s order (Some j) = A.Order (order_answer s order j)
+
+-- the answer of a desk whose tables are of schema k
+unfoldable pub answer : ℕ → State → Question → Answer
+answer k s Q.Desk = A.Desk k s.seq
+answer k s (Q.Lot lot) = answer_lot s (lot_at s lot)
+answer k s (Q.Order order) = answer_order s order (job_at s order)
+answer k s (Q.Batch batch) = answer_batch s (batch_at s batch)
+answer k s (Q.Trace direction start) = answer_trace s direction start (missing s start)
+answer k s (Q.Stands start) = answer_stands s start (missing s start)
+answer k s (Q.Edges direction start) = answer_edges s direction start (missing s start)
+answer k s (Q.Recall recall) = answer_recall s (recall_at s recall)
+answer k s Q.Moment = A.Moment s.at
+answer k s (Q.List list above) = answer_list s list above
+answer k s (Q.Recipes state above) = answer_recipes s state above
+answer k s (Q.Ledger lot above) = answer_ledger s lot above (lot_at s lot)

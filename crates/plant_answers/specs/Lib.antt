@@ -1,0 +1,12 @@
+pub mod Answering
+pub mod Answers
+pub mod Around
+pub mod BatchViews
+pub mod Booked
+pub mod Genealogy
+pub mod AnswerLaws
+pub mod KnownLots
+pub mod LotAnswers
+pub mod RecallAnswers
+pub mod Traces
+pub mod Worklists

@@ -1,0 +1,92 @@
+-- What is answered of a worklist.
+use Rattle.std.specs.Prelude.{ℕ, ◌-◌, List, Option, Some, None, length, map, nat_lt, option_map, slice_get, if◌then◌else◌}
+use Rattle.std.specs.List.{filter_map}
+use Rattle.plant_base.specs.State.{State, class_at, control_lines_of, definition_at, lot_at}
+use Rattle.plant_base.specs.declared.refusal.Refusal.TheVariants.{UnknownClass, UnknownDefinition, UnknownLot}
+use Rattle.plant_base.specs.declared.rows.BatchRow.{BatchRow}
+use Rattle.plant_base.specs.declared.rows.Class.{Class}
+use Rattle.plant_base.specs.declared.rows.Definition.{Definition}
+use Rattle.plant_base.specs.declared.rows.Lot.{Lot}
+use Rattle.plant_base.specs.declared.rows.RecipeLine.{RecipeLine}
+use Rattle.plant_base.specs.declared.states.RecipeState.{RecipeState}
+use Rattle.plant_base.specs.declared.rows.RecipeLine.TheVariants.{In, Out, Parameter, Phase}
+use Rattle.plant_worklists.specs.Pages.{page_of}
+use Rattle.plant_worklists.specs.Worklists.{orders_in, open_batches, lots_of, holds_on, open_recalls, definitions_in, recipes_in, ledger_of}
+use Rattle.plant_worklists.specs.declared.list.Worklist.{Worklist}
+use Rattle.plant_worklists.specs.declared.list.Worklist.TheVariants as list
+use Rattle.plant_worklists.specs.declared.page.Page.{Page}
+use Rattle.plant_worklists.specs.declared.place.MovementPlace.{MovementPlace}
+use Rattle.plant_worklists.specs.declared.place.RecipePlace.{RecipePlace}
+use Rattle.plant_answers.specs.LotAnswers.{lot_answer}
+use Rattle.plant_messages.specs.declared.listed.Listed.TheVariants as listed
+use Rattle.plant_messages.specs.declared.listed.LotPage.{LotPage}
+use Rattle.plant_messages.specs.declared.listed.OpenBatch.{OpenBatch}
+use Rattle.plant_messages.specs.declared.question.Answer.{Answer}
+use Rattle.plant_messages.specs.declared.question.Answer.TheVariants as A
+use Rattle.plant_messages.specs.declared.question.LotAnswer.{LotAnswer}
+
+-- ---- batches
+
+abbrev pub phase_of : RecipeLine → Option (List ℕ)
+phase_of (In def amount) = None
+phase_of (Out def amount) = None
+phase_of (Parameter name value) = None
+phase_of (Phase unit_procedure operation phase) = Some phase
+
+-- the phases of the control recipe of a batch, in their order
+abbrev pub phases_of : State → List ℕ → List (List ℕ)
+phases_of s batch = filter_map (λ l. phase_of l.line) (control_lines_of s batch)
+
+-- the row of a batch with these phases
+abbrev pub opened : BatchRow → List (List ℕ) → OpenBatch
+opened r phases = record { row = r; phases = length phases; next_phase = slice_get phases (r.next - 1) }
+
+abbrev pub open_batch : State → BatchRow → OpenBatch
+open_batch s r = opened r (phases_of s r.batch.id)
+
+abbrev pub batch_page : State → Page BatchRow → Page OpenBatch
+batch_page s page = record { rows = map (open_batch s) page.rows; has_more = page.has_more }
+
+-- ---- lots
+
+abbrev pub if_stocked : LotAnswer → Option LotAnswer
+if_stocked a = if nat_lt 0 a.stock then Some a else None
+
+-- what is known of a lot, where it has stock
+abbrev pub stocked_lot : State → Lot → Option LotAnswer
+stocked_lot s l = if_stocked (lot_answer s l)
+
+abbrev pub lot_page : State → Page Lot → LotPage
+lot_page s page = record { lots = filter_map (stocked_lot s) page.rows; last = option_map (λ l. l.id) (slice_get page.rows (length page.rows - 1)); has_more = page.has_more }
+
+-- ---- answers
+
+abbrev pub answer_lots : State → List ℕ → Option (List ℕ) → Option Definition → Answer
+answer_lots s def above None = A.Unknown UnknownDefinition
+answer_lots s def above (Some d) = A.List (listed.Lots (lot_page s (page_of (lots_of s def above))))
+
+abbrev pub answer_holds : State → List ℕ → Option (List ℕ) → Option Lot → Answer
+answer_holds s lot above None = A.Unknown UnknownLot
+answer_holds s lot above (Some l) = A.List (listed.Holds (page_of (holds_on s lot above)))
+
+abbrev pub answer_definitions : State → List ℕ → Option (List ℕ) → Option Class → Answer
+answer_definitions s class above None = A.Unknown UnknownClass
+answer_definitions s class above (Some c) = A.List (listed.Definitions (page_of (definitions_in s class above)))
+
+-- a page of what comes after this id, or of the front where none is given; where what the list is of isn't there, the refusal
+abbrev pub answer_list : State → Worklist → Option (List ℕ) → Answer
+answer_list s (list.Orders state) above = A.List (listed.Orders (page_of (orders_in s state above)))
+answer_list s list.OpenBatches above = A.List (listed.Batches (batch_page s (page_of (open_batches s above))))
+answer_list s (list.Lots def) above = answer_lots s def above (definition_at s def)
+answer_list s (list.Holds lot) above = answer_holds s lot above (lot_at s lot)
+answer_list s list.OpenRecalls above = A.List (listed.Recalls (page_of (open_recalls s above)))
+answer_list s (list.Definitions class) above = answer_definitions s class above (class_at s class)
+
+-- a page of the versions of recipes in a state
+abbrev pub answer_recipes : State → RecipeState → Option RecipePlace → Answer
+answer_recipes s state above = A.List (listed.Recipes (page_of (recipes_in s state above)))
+
+-- a page of the ledger of a lot, where the lot is there
+abbrev pub answer_ledger : State → List ℕ → Option MovementPlace → Option Lot → Answer
+answer_ledger s lot above None = A.Unknown UnknownLot
+answer_ledger s lot above (Some l) = A.List (listed.Ledger (page_of (ledger_of s lot above)))

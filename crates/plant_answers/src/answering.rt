@@ -1,0 +1,93 @@
+// What a question is answered, over any view of the state.
+ghost use Rattle.std.specs.Prelude.{◌≡◌, ℕ, List, IfOk};
+ghost use Rattle.plant_base.specs.State.{State, newest_schema, job_at, batch_of};
+ghost use Rattle.plant_trace.specs.Sources.{HonestlyTold};
+ghost use Rattle.plant_view.specs.Sound.{IsSound};
+ghost use Rattle.plant_answers.specs.Answers.{answer, answer_order};
+ghost use Rattle.plant_messages.specs.declared.question.Answer.TheVariants as A;
+
+use crate::batch_answers::batch_answer;
+use crate::edge_answers::edges_answer;
+use crate::list_answers::{ledger_answer, list_answer, recipes_answer};
+use crate::lot_answers::lot_answer;
+use crate::recalls::recall_answer;
+use crate::standing::stands_answer;
+use crate::traces::trace_answer;
+use plant_base::{Batch, Id, Job, NEWEST_SCHEMA, Refusal};
+use plant_messages::{Answer, OrderAnswer, Question};
+use plant_view::{View, ViewFault, look};
+use plant_worklists::Worklists;
+use std::alloc::Global;
+
+/// Answers a question over a view, as a desk of the newest schema. Nothing is written.
+///
+/// The answer is that of the view's state where that is sound, as every state is that commands lead to.
+/// `ViewFault::View` comes where the view failed, `ViewFault::Memory` where memory was refused.
+#[tactic(auto, unfolding(crate::specs::Answers::answer))]
+pub fn answer<V: Worklists>(
+    alloc: Global,
+    view: &mut V,
+    question: &Question,
+) -> Result<Answer, ViewFault<V::Fault>>
+    ensures { HonestlyTold V.honest V.kept V.steady view.old view.new
+        (IsSound (V.state view.old)
+        → IfOk result (λ a. a ≡ answer newest_schema (V.state view.old) question.now)) }
+{
+    match question {
+        Question::Desk => desk_answer(view),
+        Question::Lot(lot) => lot_answer(view, *lot),
+        Question::Order(order) => order_answer(view, *order),
+        Question::Batch(batch) => batch_answer(alloc, view, *batch),
+        Question::Trace(direction, start) => trace_answer(alloc, view, *direction, *start),
+        Question::Stands(start) => stands_answer(alloc, view, *start),
+        Question::Edges(direction, start) => edges_answer(alloc, view, *direction, *start),
+        Question::Recall(recall) => recall_answer(alloc, view, *recall),
+        Question::Moment => moment_answer(view),
+        Question::List(list, above) => list_answer(alloc, view, *list, *above),
+        Question::Recipes(state, above) => recipes_answer(view, *state, *above),
+        Question::Ledger(lot, above) => ledger_answer(view, *lot, *above),
+    }
+}
+
+fn desk_answer<V: View>(view: &mut V) -> Result<Answer, ViewFault<V::Fault>>
+    ensures { HonestlyTold V.honest V.kept V.steady view.old view.new
+        (IfOk result (λ a. a ≡ A.Desk newest_schema (V.state view.old).seq)) }
+{
+    let position = look::position(view)?;
+    Ok(Answer::Desk {
+        schema: NEWEST_SCHEMA,
+        seq: position.seq,
+    })
+}
+
+fn moment_answer<V: View>(view: &mut V) -> Result<Answer, ViewFault<V::Fault>>
+    ensures { HonestlyTold V.honest V.kept V.steady view.old view.new
+        (IfOk result (λ a. a ≡ A.Moment (V.state view.old).at)) }
+{
+    let position = look::position(view)?;
+    Ok(Answer::Moment { at: position.at })
+}
+
+fn order_answer<V: View>(view: &mut V, order: Id) -> Result<Answer, ViewFault<V::Fault>>
+    ensures { HonestlyTold V.honest V.kept V.steady view.old view.new
+        (IfOk result (λ a. a ≡ answer_order (V.state view.old) order
+        (job_at (V.state view.old) order))) }
+{
+    let job = look::job(view, order)?;
+    let batch = look::batch_for(view, order)?;
+    Ok(answer_of_order(job, batch))
+}
+
+// The answer by the rows that were found.
+fn answer_of_order(job: Option<Job>, batch: Option<Batch>) -> Answer
+    ensures { (s : State) → (order : List ℕ) → batch ≡ batch_of s order
+        → result ≡ answer_order s order job }
+{
+    match job {
+        None => Answer::Unknown(Refusal::UnknownOrder),
+        Some(job) => {
+            let batch = batch.map(|b| b.id);
+            Answer::Order(OrderAnswer { job, batch })
+        }
+    }
+}

@@ -1,0 +1,153 @@
+// What is answered of the genealogy around a lot or batch.
+ghost use Rattle.std.specs.Prelude.{◌≡◌, IfOk, option_map};
+ghost use Rattle.plant_base.specs.State.{State, definition_at};
+ghost use Rattle.plant_base.specs.declared.rows.Lot.{Lot};
+ghost use Rattle.plant_trace.specs.Sources.{HonestlyTold};
+ghost use Rattle.plant_view.specs.Recalls.{is_blocked};
+ghost use Rattle.plant_view.specs.Sound.{IsSound};
+ghost use Rattle.plant_answers.specs.Genealogy.{answer_edges, genealogy_around, lot_node, node_answer, node_if};
+ghost use Rattle.plant_answers.specs.KnownLots.{AreKnown};
+ghost use Rattle.plant_answers.specs.LotAnswers.{lot_answer};
+ghost use Rattle.plant_answers.specs.Traces.{missing};
+ghost use Rattle.plant_messages.specs.declared.genealogy.NodeAnswer.TheVariants as node;
+ghost use Rattle.plant_messages.specs.declared.question.Answer.TheVariants as A;
+
+use crate::around::nodes_around;
+use crate::booked::edges_between;
+use crate::each_told::{Telling, each_told};
+use crate::known_lots::{KnownLots, known_definition, known_lot, known_row};
+use crate::traces::missing;
+use plant_base::{Definition, Items, Lot};
+use plant_messages::{Answer, Genealogy, LotAnswer, LotNode, NodeAnswer};
+use plant_trace::{Direction, Node};
+use plant_view::{ViewFault, look};
+use plant_worklists::Worklists;
+use std::alloc::Global;
+
+/// The genealogy around a lot or batch, back or forward.
+pub(crate) fn edges_answer<V: Worklists>(
+    alloc: Global,
+    view: &mut V,
+    direction: Direction,
+    start: Node,
+) -> Result<Answer, ViewFault<V::Fault>>
+    ensures { HonestlyTold V.honest V.kept V.steady view.old view.new
+        (IsSound (V.state view.old) → IfOk result (λ a. a ≡ answer_edges (V.state view.old) direction start
+        (missing (V.state view.old) start))) }
+{
+    let refusal = missing(view, start)?;
+    match refusal {
+        Some(refusal) => Ok(Answer::Unknown(refusal)),
+        None => genealogy_answer(alloc, view, direction, &start),
+    }
+}
+
+fn genealogy_answer<V: Worklists>(
+    alloc: Global,
+    view: &mut V,
+    direction: Direction,
+    start: &Node,
+) -> Result<Answer, ViewFault<V::Fault>>
+    ensures { HonestlyTold V.honest V.kept V.steady view.old view.new
+        (IsSound (V.state view.old)
+        → IfOk result (λ a. a ≡ A.Edges (genealogy_around (V.state view.old) direction start.now))) }
+{
+    match genealogy_around(alloc, view, direction, *start) {
+        Ok(genealogy) => Ok(Answer::Edges(genealogy)),
+        Err(fault) => Err(fault),
+    }
+}
+
+fn genealogy_around<V: Worklists>(
+    alloc: Global,
+    view: &mut V,
+    direction: Direction,
+    start: Node,
+) -> Result<Genealogy, ViewFault<V::Fault>>
+    ensures { HonestlyTold V.honest V.kept V.steady view.old view.new
+        (IsSound (V.state view.old)
+        → IfOk result (λ g. g ≡ genealogy_around (V.state view.old) direction start)) }
+{
+    let around = nodes_around(alloc, view, direction, start)?;
+    let nodes = each_told(alloc, view, around.as_slice())?;
+    let edges = edges_between(alloc, view, around.as_slice())?;
+    Ok(Genealogy {
+        nodes: Items::new(nodes),
+        edges: Items::new(edges),
+    })
+}
+
+impl Telling<NodeAnswer> for Node {
+    ghost told = { node_answer };
+
+    fn tell<V: Worklists>(
+        &self,
+        alloc: Global,
+        view: &mut V,
+        known: &mut KnownLots,
+    ) -> Result<Option<NodeAnswer>, ViewFault<V::Fault>> {
+        match self {
+            Node::Lot(id) => {
+                let lot = known_row(view, known, id)?;
+                node_if(alloc, view, known, lot)
+            }
+            Node::Batch(id) => Ok(Some(NodeAnswer::Batch(*id))),
+        }
+    }
+}
+
+fn node_if<V: Worklists>(
+    alloc: Global,
+    view: &mut V,
+    known: &mut KnownLots,
+    lot: Option<Lot>,
+) -> Result<Option<NodeAnswer>, ViewFault<V::Fault>>
+    ensures { HonestlyTold V.honest V.kept V.steady view.old view.new
+        (IsSound (V.state view.old) → AreKnown (V.state view.old) known.old
+        → IfOk result (λ found. found ≡ node_if (V.state view.old) lot)
+        × AreKnown (V.state view.old) known.new) }
+{
+    let Some(lot) = lot else {
+        return Ok(None);
+    };
+    lot_node(alloc, view, known, &lot)
+}
+
+// A lot that is there, with the unit of its definition.
+fn lot_node<V: Worklists>(
+    alloc: Global,
+    view: &mut V,
+    known: &mut KnownLots,
+    lot: &Lot,
+) -> Result<Option<NodeAnswer>, ViewFault<V::Fault>>
+    ensures { HonestlyTold V.honest V.kept V.steady view.old view.new
+        (IsSound (V.state view.old) → AreKnown (V.state view.old) known.old
+        → IfOk result (λ found. found ≡ option_map (λ d. node.Lot (lot_node (V.state view.old) lot.now d))
+        (definition_at (V.state view.old) lot.now.def))
+        × AreKnown (V.state view.old) known.new) }
+{
+    let definition = known_definition(view, known, lot.def)?;
+    let recalled = look::is_blocked(view, lot.id)?;
+    let told = known_lot(alloc, view, known, lot)?;
+    Ok(node_of_lot(definition, recalled, &told))
+}
+
+// The node by what was found.
+fn node_of_lot(
+    definition: Option<Definition>,
+    recalled: bool,
+    known: &LotAnswer,
+) -> Option<NodeAnswer>
+    ensures { (s : State) (lot : Lot) → recalled ≡ is_blocked s lot.id → known.now ≡ lot_answer s lot
+        → result ≡ option_map (λ d. node.Lot (lot_node s lot d)) definition }
+{
+    let definition = definition?;
+    Some(NodeAnswer::Lot(LotNode {
+        lot: known.lot,
+        def: known.def,
+        unit: definition.unit,
+        held: known.held,
+        recalled,
+        stock: known.stock,
+    }))
+}

@@ -1,0 +1,99 @@
+// What is known of many lots, which are asked for one after another by their ids.
+ghost use Rattle.std.specs.Prelude.{◌≡◌, IfOk, IfSome, Some};
+ghost use Rattle.plant_base.specs.State.{State, definition_at, lot_at};
+ghost use Rattle.plant_trace.specs.Sources.{HonestlyTold};
+ghost use Rattle.plant_view.specs.Sound.{IsSound};
+ghost use Rattle.plant_answers.specs.KnownLots.{AreKnown};
+ghost use Rattle.plant_answers.specs.LotAnswers.{lot_answer};
+
+use crate::lot_answers::answer_of_lot;
+use plant_base::{Definition, Hold, Id, Lot, Sublot};
+use plant_messages::LotAnswer;
+use plant_view::{ViewFault, look};
+use plant_worklists::{Ahead, Worklists, is_held_ahead, lot_ahead, sublots_ahead};
+use std::alloc::Global;
+
+/// What was read ahead of the lots that are asked for, and the definition that was looked up last. Holds are few: whether there
+/// are any is asked at once.
+#[derive(Drop)]
+pub(crate) struct KnownLots {
+    pub(crate) lots: Ahead<Lot>,
+    pub(crate) sublots: Ahead<Sublot>,
+    pub(crate) holds: Ahead<Hold>,
+    pub(crate) definition: Option<Definition>,
+}
+
+impl KnownLots {
+    /// Nothing yet. No memory is taken.
+    pub(crate) fn new(alloc: Global) -> KnownLots
+        ensures { (s : State) → AreKnown s result }
+    {
+        KnownLots {
+            lots: Ahead::unread(alloc, false),
+            sublots: Ahead::unread(alloc, false),
+            holds: Ahead::unread(alloc, true),
+            definition: None,
+        }
+    }
+}
+
+/// The lot of this id.
+pub(crate) fn known_row<V: Worklists>(
+    view: &mut V,
+    known: &mut KnownLots,
+    id: &Id,
+) -> Result<Option<Lot>, ViewFault<V::Fault>>
+    ensures { HonestlyTold V.honest V.kept V.steady view.old view.new
+        (IsSound (V.state view.old) → AreKnown (V.state view.old) known.old
+        → IfOk result (λ found. found ≡ lot_at (V.state view.old) id.now)
+        × AreKnown (V.state view.old) known.new) }
+{
+    lot_ahead(view, &mut known.lots, id)
+}
+
+/// What is known of a lot that is there.
+pub(crate) fn known_lot<V: Worklists>(
+    alloc: Global,
+    view: &mut V,
+    known: &mut KnownLots,
+    lot: &Lot,
+) -> Result<LotAnswer, ViewFault<V::Fault>>
+    ensures { HonestlyTold V.honest V.kept V.steady view.old view.new
+        (IsSound (V.state view.old) → AreKnown (V.state view.old) known.old
+        → IfOk result (λ a. a ≡ lot_answer (V.state view.old) lot.now)
+        × AreKnown (V.state view.old) known.new) }
+{
+    let held = is_held_ahead(view, &mut known.holds, &lot.id)?;
+    let sublots = sublots_ahead(alloc, view, &mut known.sublots, &lot.id)?;
+    Ok(answer_of_lot(*lot, held, sublots))
+}
+
+/// The definition of this id.
+pub(crate) fn known_definition<V: Worklists>(
+    view: &mut V,
+    known: &mut KnownLots,
+    id: Id,
+) -> Result<Option<Definition>, ViewFault<V::Fault>>
+    ensures { HonestlyTold V.honest V.kept V.steady view.old view.new
+        (AreKnown (V.state view.old) known.old
+        → IfOk result (λ found. found ≡ definition_at (V.state view.old) id)
+        × AreKnown (V.state view.old) known.new) }
+{
+    if let Some(last) = last_one(known.definition, id) {
+        return Ok(Some(last));
+    }
+    let found = look::definition(view, id)?;
+    known.definition = found;
+    let found = known.definition;
+    Ok(found)
+}
+
+// The definition that was looked up last, where it is of this id.
+fn last_one(last: Option<Definition>, id: Id) -> Option<Definition>
+    ensures { IfSome result (λ d. (last ≡ Some d) × (d.id ≡ id)) }
+{
+    match last {
+        Some(last) if last.id == id => Some(last),
+        _ => None,
+    }
+}

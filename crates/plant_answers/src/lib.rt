@@ -1,0 +1,24 @@
+//! What a question is answered, over any view of the desk's state.
+#![tactic(auto)]
+
+mod answering;
+mod around;
+mod batch_answers;
+mod booked;
+mod bookings;
+mod each_told;
+mod edge_answers;
+mod known_lots;
+mod laws;
+mod list_answers;
+mod lot_answers;
+mod open_batches;
+mod recalls;
+mod standing;
+mod stocked_lots;
+mod traces;
+
+pub use answering::answer;
+pub use laws::{
+    edges_law, marks_law, recall_answer_law, stands_law, stock_law, tables_law, trace_law,
+};

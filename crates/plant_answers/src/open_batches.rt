@@ -1,0 +1,93 @@
+// What is answered of the batches that aren't closed.
+ghost use Rattle.std.specs.Prelude.{◌≡◌, IfOk, map};
+ghost use Rattle.std.specs.List.{filter_map};
+ghost use Rattle.plant_trace.specs.Sources.{HonestlyTold};
+ghost use Rattle.plant_worklists.specs.Pages.{page_of};
+ghost use Rattle.plant_worklists.specs.Worklists.{open_batches};
+ghost use Rattle.plant_answers.specs.Worklists.{batch_page, open_batch, opened, phase_of};
+ghost use Rattle.plant_messages.specs.declared.listed.Listed.TheVariants as listed;
+ghost use Rattle.plant_messages.specs.declared.question.Answer.TheVariants as A;
+
+use plant_base::{BatchRow, ControlLine, Id, Items, RecipeLine};
+use plant_messages::{Answer, Listed, OpenBatch};
+use plant_view::{View, ViewFault, look};
+use plant_worklists::{Page, Worklists};
+use std::alloc::{AllocError, Global};
+
+/// A page of the batches that aren't closed, each with the phase that is next.
+pub(crate) fn batches_answer<V: Worklists>(
+    alloc: Global,
+    view: &mut V,
+    above: Option<Id>,
+) -> Result<Answer, ViewFault<V::Fault>>
+    ensures { HonestlyTold V.honest V.kept V.steady view.old view.new
+        (IfOk result (λ a. a ≡ A.List (listed.Batches (batch_page (V.state view.old)
+        (page_of (open_batches (V.state view.old) above)))))) }
+{
+    let page = view.open_batches(above).map_err(ViewFault::View)?;
+    let rows = with_phases(alloc, view, page.rows.as_slice())?;
+    Ok(Answer::List(Listed::Batches(Page {
+        rows: Items::new(rows),
+        has_more: page.has_more,
+    })))
+}
+
+fn with_phases<V: View>(
+    alloc: Global,
+    view: &mut V,
+    batches: &[BatchRow],
+) -> Result<Vec<OpenBatch>, ViewFault<V::Fault>>
+    ensures { HonestlyTold V.honest V.kept V.steady view.old view.new
+        (IfOk result (λ v. v.items ≡ map (open_batch (V.state view.old)) batches.now)) }
+{
+    let mut rows = Vec::new(alloc);
+    for batch in batches {
+        let row = open_batch(alloc, view, batch)?;
+        if rows.push(row).is_err() {
+            return Err(ViewFault::Memory);
+        }
+    }
+    Ok(rows)
+}
+
+fn open_batch<V: View>(
+    alloc: Global,
+    view: &mut V,
+    batch: &BatchRow,
+) -> Result<OpenBatch, ViewFault<V::Fault>>
+    ensures { HonestlyTold V.honest V.kept V.steady view.old view.new
+        (IfOk result (λ row. row ≡ open_batch (V.state view.old) batch.now)) }
+{
+    let lines = look::control_lines(view, batch.batch.id)?;
+    match phases_among(alloc, lines.as_slice()) {
+        Ok(phases) => Ok(opened(batch, phases.as_slice())),
+        Err(_) => Err(ViewFault::Memory),
+    }
+}
+
+// The phases among the lines, in their order.
+fn phases_among(alloc: Global, lines: &[ControlLine]) -> Result<Vec<Id>, AllocError>
+    ensures { IfOk result (λ v. v.items ≡ filter_map (λ l. phase_of l.line) lines.now) }
+{
+    lines.iter().filter_map(|l| phase_of(l.line)).collect(alloc)
+}
+
+fn phase_of(line: RecipeLine) -> Option<Id>
+    ensures { result ≡ phase_of line }
+{
+    match line {
+        RecipeLine::In { .. } | RecipeLine::Out { .. } | RecipeLine::Parameter { .. } => None,
+        RecipeLine::Phase { phase, .. } => Some(phase),
+    }
+}
+
+fn opened(row: &BatchRow, phases: &[Id]) -> OpenBatch
+    ensures { result ≡ opened row.now phases.now }
+{
+    let done = usize::from(row.next).saturating_sub(1);
+    OpenBatch {
+        row: *row,
+        phases: phases.len(),
+        next_phase: phases.get(done).copied(),
+    }
+}

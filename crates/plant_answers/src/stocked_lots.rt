@@ -1,0 +1,92 @@
+// What is answered of the lots of a definition.
+ghost use Rattle.std.specs.Prelude.{◌≡◌, ◌-◌, ℕ, List, Option, IfOk, length, option_map, slice_get};
+ghost use Rattle.plant_base.specs.State.{State, definition_at};
+ghost use Rattle.plant_trace.specs.Sources.{HonestlyTold};
+ghost use Rattle.plant_view.specs.Sound.{IsSound};
+ghost use Rattle.plant_worklists.specs.Pages.{page_of};
+ghost use Rattle.plant_worklists.specs.Worklists.{lots_of};
+ghost use Rattle.plant_answers.specs.Worklists.{answer_lots, lot_page, if_stocked, stocked_lot};
+
+use crate::each_told::{Telling, each_told};
+use crate::known_lots::{KnownLots, known_lot};
+use plant_base::{Definition, Id, Items, Lot, Refusal};
+use plant_messages::{Answer, Listed, LotAnswer, LotPage};
+use plant_view::{ViewFault, look};
+use plant_worklists::Worklists;
+use std::alloc::Global;
+
+/// A page of the lots of a definition: those of the page that have stock.
+pub(crate) fn lots_answer<V: Worklists>(
+    alloc: Global,
+    view: &mut V,
+    def: Id,
+    above: Option<Id>,
+) -> Result<Answer, ViewFault<V::Fault>>
+    ensures { HonestlyTold V.honest V.kept V.steady view.old view.new
+        (IsSound (V.state view.old) → IfOk result (λ a. a ≡ answer_lots (V.state view.old) def above
+        (definition_at (V.state view.old) def))) }
+{
+    let known = look::definition(view, def)?;
+    let page = lot_page(alloc, view, def, above)?;
+    Ok(answer_of_lots(known, page))
+}
+
+fn lot_page<V: Worklists>(
+    alloc: Global,
+    view: &mut V,
+    def: Id,
+    above: Option<Id>,
+) -> Result<LotPage, ViewFault<V::Fault>>
+    ensures { HonestlyTold V.honest V.kept V.steady view.old view.new
+        (IsSound (V.state view.old) → IfOk result (λ page. page ≡ lot_page (V.state view.old)
+        (page_of (lots_of (V.state view.old) def above)))) }
+{
+    let page = view.lots_of(def, above).map_err(ViewFault::View)?;
+    let lots = each_told(alloc, view, page.rows.as_slice())?;
+    Ok(LotPage {
+        lots: Items::new(lots),
+        last: last_of(page.rows.as_slice()),
+        has_more: page.has_more,
+    })
+}
+
+fn last_of(lots: &[Lot]) -> Option<Id>
+    ensures { result ≡ option_map (λ l. l.id) (slice_get lots.now (length lots.now - 1)) }
+{
+    match lots.last() {
+        Some(lot) => Some(lot.id),
+        None => None,
+    }
+}
+
+// The answer by what was found.
+fn answer_of_lots(known: Option<Definition>, page: LotPage) -> Answer
+    ensures { (s : State) (def : List ℕ) (above : Option (List ℕ))
+        → page ≡ lot_page s (page_of (lots_of s def above)) → result ≡ answer_lots s def above known }
+{
+    match known {
+        None => Answer::Unknown(Refusal::UnknownDefinition),
+        Some(_) => Answer::List(Listed::Lots(page)),
+    }
+}
+
+impl Telling<LotAnswer> for Lot {
+    ghost told = { stocked_lot };
+
+    fn tell<V: Worklists>(
+        &self,
+        alloc: Global,
+        view: &mut V,
+        known: &mut KnownLots,
+    ) -> Result<Option<LotAnswer>, ViewFault<V::Fault>> {
+        let found = known_lot(alloc, view, known, self)?;
+        Ok(if_stocked(found))
+    }
+}
+
+// What is known of a lot, where it has stock.
+fn if_stocked(answer: LotAnswer) -> Option<LotAnswer>
+    ensures { result ≡ if_stocked answer }
+{
+    if answer.stock > 0 { Some(answer) } else { None }
+}

@@ -1,7 +1,0 @@
-use Rattle.plant_trace.proofs.Sources.{HonestlyTold-weaker}
-use Rattle.plant_desk.proofs.edge_answers.node_if.Goals as goal
-
-pub returns : goal.returns
-returns g c = HonestlyTold-weaker (λ q sound known.
-    let told = q sound known in
-    (rw c.in-Some.is told.0, told.1)) c.lot_node.ensures

@@ -1,2 +1,3 @@
 pub mod AddedRows
 pub mod TableKeys
+pub mod Values

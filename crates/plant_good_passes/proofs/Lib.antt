@@ -12,4 +12,3 @@ mod Stocks
 mod Testing
 mod Times
 pub mod Unbroken
-pub mod Values

@@ -17,7 +17,7 @@ use Rattle.plant_check.specs.Broken.{unless, or_else, are_right_edges, broken_pl
 use Rattle.plant_check.specs.declared.rule.Rule.{Rule}
 use Rattle.plant_check.specs.declared.rule.Rule.TheVariants as rule
 use Rattle.plant_check.proofs.EdgeSets.{same_itself}
-use Rattle.plant_good_passes.proofs.Values.{in_order, good_values}
+use Rattle.plant_good_keys.proofs.Values.{in_order, good_values}
 use Rattle.plant_good_passes.proofs.Recipes.{classes_pass, recipes_pass}
 use Rattle.plant_good_passes.proofs.Orders.{orders_pass}
 use Rattle.plant_good_passes.proofs.Batches.{batches_pass}

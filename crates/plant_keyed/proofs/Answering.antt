@@ -58,7 +58,7 @@ use Rattle.plant_tables_columns.proofs.RowLaws.{meta_reads, class_reads, definit
 use Rattle.plant_tables_judged.proofs.KeyLemmas.{by_text, by_number, by_text_number, by_two_texts, by_two_numbers, by_text_numbers, by_number_two_texts, by_text_number_text}
 use Rattle.plant_tables_judged.proofs.SortedLemmas.{same_sorted, strictly_sorted, sorted_keys}
 use Rattle.plant_tables_judged.proofs.TableLemmas.{map_same, all_again}
-use Rattle.plant_good_passes.proofs.Values.{in_order, good_values, newest_known}
+use Rattle.plant_good_keys.proofs.Values.{in_order, good_values, newest_known}
 use Rattle.plant_worklists.proofs.Found.{first_is, of_mapped}
 use Rattle.plant_keyed.specs.Finding.{AreFound, IsFirstFound}
 use Rattle.plant_keyed.proofs.Shown.{batch_unread, movement_again, recall_again}

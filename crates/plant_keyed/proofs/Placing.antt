@@ -35,7 +35,7 @@ use Rattle.plant_tables_columns.specs.Kinds.{number}
 use Rattle.plant_tables_columns.specs.Obeying.{HasRecipeValues, HasMovementRowValues, HasGoodValues}
 use Rattle.plant_tables_columns.specs.TableColumns.{row_of_recipe, row_of_movement, recipe_from, movement_read}
 use Rattle.plant_tables_columns.proofs.RowLaws.{recipe_reads}
-use Rattle.plant_good_passes.proofs.Values.{in_order, good_values, newest_known}
+use Rattle.plant_good_keys.proofs.Values.{in_order, good_values, newest_known}
 use Rattle.plant_worklists.specs.Pages.{page_size, page_of}
 use Rattle.plant_worklists.specs.Worklists.{recipe_above, recipes_in, movement_above, is_movement_above, lot_made, is_in_ledger, ledger_of}
 use Rattle.plant_worklists.specs.declared.page.Page.{Page}

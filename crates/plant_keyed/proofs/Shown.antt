@@ -31,7 +31,7 @@ use Rattle.plant_tables_columns.specs.Obeying.{HasRecipeValues, HasMasterLineVal
 use Rattle.plant_tables_columns.proofs.KindLemmas as kinds
 use Rattle.plant_tables_columns.proofs.StatedLemmas as states
 use Rattle.plant_tables_columns.proofs.RowLaws.{meta_reads, class_reads, definition_reads, recipe_reads, job_reads, batch_reads, event_reads, lot_reads, sublot_reads, hold_reads, master_line_again, control_line_again, movement_row_again, receipt_again, recall_row_again}
-use Rattle.plant_good_passes.proofs.Values.{in_order, good_values, newest_known}
+use Rattle.plant_good_keys.proofs.Values.{in_order, good_values, newest_known}
 use Rattle.plant_keyed.specs.Shown.{rows_under, table_under, rows_at, rows_shown, position_told, position_shown, shown}
 use Rattle.plant_keyed.specs.ShownLaws.{ShowsItsState}
 use Rattle.plant_keyed.proofs.Sorting.{again_in_order}

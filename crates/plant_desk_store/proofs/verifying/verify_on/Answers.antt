@@ -7,7 +7,7 @@ use Rattle.table_forms.specs.declared.fault.Fault.TheVariants as fault
 use Rattle.plant_tables_stored.specs.Loading.{AreLoaded}
 use Rattle.plant_messages.specs.declared.reply.DeskFault.TheVariants.{Shut}
 use Rattle.plant_good_passes.proofs.Unbroken.{read_good}
-use Rattle.plant_good_passes.proofs.Values.{newest_known}
+use Rattle.plant_good_keys.proofs.Values.{newest_known}
 use Rattle.plant_desk_store.proofs.Telling.{tested_rows, unshut, untested_unshut}
 use Rattle.plant_desk_store.proofs.verifying.verify_on.Goals as goal
 

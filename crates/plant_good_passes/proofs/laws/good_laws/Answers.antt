@@ -1,5 +1,5 @@
 use Rattle.plant_good_passes.proofs.Unbroken.{good_unbroken, read_good}
-use Rattle.plant_good_passes.proofs.Values.{in_order, good_values}
+use Rattle.plant_good_keys.proofs.Values.{in_order, good_values}
 use Rattle.plant_good_passes.proofs.laws.good_laws.Goals as goal
 
 pub returns : goal.returns

@@ -7,9 +7,9 @@ use Rattle.sqlite.specs.State.{IsUnchanged}
 use Rattle.table_forms.specs.Resting.{Keeps}
 use Rattle.table_forms.specs.declared.fault.Fault.{Fault}
 use Rattle.plant_base.specs.State.{newest_schema}
-use Rattle.plant_tables_stored.specs.Version.{IsVersion}
-use Rattle.plant_tables_stored.specs.declared.loaded.Loaded.{Loaded}
-use Rattle.plant_tables_stored.proofs.Versions.{one_version}
+use Rattle.plant_tables_read.specs.Version.{IsVersion}
+use Rattle.plant_tables_read.specs.declared.loaded.Loaded.{Loaded}
+use Rattle.plant_tables_read.proofs.Versions.{one_version}
 use Rattle.plant_check.specs.Broken.{first_broken}
 use Rattle.plant_check.specs.Damaged.{IsDamaged}
 use Rattle.plant_check.specs.declared.rule.Rule.{Rule}
@@ -17,8 +17,8 @@ use Rattle.plant_check_rows.specs.Findings.{first_rule}
 use Rattle.plant_check_rows.proofs.FirstFound.{first_found}
 use Rattle.table_forms.specs.Standing.{AreFree, IsFree}
 use Rattle.plant_tables.specs.DeskForms.{desk_forms}
-use Rattle.plant_tables_stored.specs.declared.finding.FoundTables.{FoundTables}
-use Rattle.plant_tables_stored.specs.declared.finding.FoundTables.TheVariants as tables
+use Rattle.plant_tables_read.specs.declared.finding.FoundTables.{FoundTables}
+use Rattle.plant_tables_read.specs.declared.finding.FoundTables.TheVariants as tables
 use Rattle.plant_check.specs.declared.rule.Rule.TheVariants as rule
 use Rattle.desk_check.specs.Surveys.{HoldsRows, IsHeldBy, IsHeldIn, IsReadAt, IsSurveyOf, IsToldOf, first_told}
 use Rattle.desk_check.specs.declared.barred.DeskIndex.{DeskIndex}

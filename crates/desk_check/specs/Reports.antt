@@ -4,7 +4,7 @@ use Rattle.plant_text.specs.Writes.{with_lf}
 use Rattle.plant_check.specs.Numbered.{rule_number}
 use Rattle.plant_check.specs.declared.rule.Rule.{Rule}
 use Rattle.plant_check.specs.declared.rule.Rule.TheVariants as rule
-use Rattle.plant_tables_judged.specs.Collecting.{rows_listed}
+use Rattle.plant_tables_read.specs.Collecting.{rows_listed}
 use Rattle.plant_check_rows.specs.Findings.{rule_text, finding_of}
 use Rattle.plant_check_rows.specs.Texts.{fault_text}
 use Rattle.plant_check_rows.specs.declared.fault.RowFault.{RowFault}

@@ -7,11 +7,11 @@ use Rattle.plant_base.specs.declared.rows.Meta.{Meta}
 use Rattle.table_forms.specs.Standing.{AreFree, IsFree}
 use Rattle.plant_tables.specs.DeskForms.{desk_forms}
 use Rattle.plant_tables_columns.specs.TableColumns.{only_meta}
-use Rattle.plant_tables_stored.specs.Loading.{AreLoaded, contents_loaded}
-use Rattle.plant_tables_stored.specs.Version.{IsVersion, HasTablesOf}
-use Rattle.plant_tables_stored.specs.declared.finding.FoundTables.{FoundTables}
-use Rattle.plant_tables_stored.specs.declared.finding.FoundTables.TheVariants as tables
-use Rattle.plant_tables_stored.specs.declared.loaded.Loaded.{Loaded}
+use Rattle.plant_tables_read.specs.Loading.{AreLoaded, contents_loaded}
+use Rattle.plant_tables_read.specs.Version.{IsVersion, HasTablesOf}
+use Rattle.plant_tables_read.specs.declared.finding.FoundTables.{FoundTables}
+use Rattle.plant_tables_read.specs.declared.finding.FoundTables.TheVariants as tables
+use Rattle.plant_tables_read.specs.declared.loaded.Loaded.{Loaded}
 use Rattle.plant_check.specs.Damaged.{IsDamaged}
 use Rattle.plant_check.specs.declared.rule.Rule.{Rule}
 use Rattle.plant_check.specs.declared.rule.Rule.TheVariants as rule

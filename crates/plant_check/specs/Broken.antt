@@ -21,11 +21,11 @@ use Rattle.plant_check_stock.specs.Numbering.{are_numbers}
 use Rattle.plant_check_stock.specs.Recalls.{are_recalls}
 use Rattle.plant_check_stock.specs.Receipts.{are_receipts}
 use Rattle.plant_check_stock.specs.Times.{are_times}
-use Rattle.plant_tables_stored.specs.Loading.{contents_loaded}
-use Rattle.plant_tables_stored.specs.declared.loaded.Loaded.{Loaded}
+use Rattle.plant_tables_read.specs.Loading.{contents_loaded}
+use Rattle.plant_tables_read.specs.declared.loaded.Loaded.{Loaded}
 use Rattle.plant_tables_columns.specs.Booked.{movement_from}
 use Rattle.plant_tables_columns.specs.Stated.{recall_from}
-use Rattle.plant_tables_judged.specs.Collecting.{Rows, rows_from}
+use Rattle.plant_tables_read.specs.Collecting.{Rows, rows_from}
 use Rattle.plant_tables_columns.specs.TableColumns.{only_meta}
 use Rattle.plant_tables_columns.specs.declared.booked.BookedRow.{BookedRow}
 use Rattle.plant_tables_columns.specs.declared.recalls.StatedRecall.{StatedRecall}

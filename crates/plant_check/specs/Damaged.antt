@@ -4,9 +4,9 @@ use Rattle.sqlite.specs.Effect.{Database}
 use Rattle.plant_base.specs.State.{newest_schema}
 use Rattle.table_forms.specs.Standing.{IsFree}
 use Rattle.plant_tables.specs.DeskForms.{desk_forms}
-use Rattle.plant_tables_stored.specs.Loading.{AreLoaded}
-use Rattle.plant_tables_stored.specs.Version.{IsVersion, HasTablesOf}
-use Rattle.plant_tables_stored.specs.declared.loaded.Loaded.{Loaded}
+use Rattle.plant_tables_read.specs.Loading.{AreLoaded}
+use Rattle.plant_tables_read.specs.Version.{IsVersion, HasTablesOf}
+use Rattle.plant_tables_read.specs.declared.loaded.Loaded.{Loaded}
 use Rattle.plant_check.specs.Broken.{first_broken}
 use Rattle.plant_check.specs.declared.rule.Rule.{Rule}
 use Rattle.plant_check.specs.declared.rule.Rule.TheVariants as rule

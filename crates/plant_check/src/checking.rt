@@ -1,5 +1,5 @@
 ghost use Rattle.std.specs.Prelude.{◌≡◌, IfOk};
-ghost use Rattle.plant_tables_judged.specs.Collecting.{rows_listed};
+ghost use Rattle.plant_tables_read.specs.Collecting.{rows_listed};
 ghost use Rattle.plant_check.specs.Broken.{broken_plan, broken_lot, broken_history, are_right_movements};
 ghost use Rattle.plant_check.specs.Broken.{are_right_numbers, are_right_edges, broken_receipt};
 ghost use Rattle.plant_check.specs.Broken.{are_kept_recalls, are_right_recalls, broken_recall};
@@ -16,8 +16,8 @@ use plant_check_plans::{are_batches, are_classified, are_events, are_orders, are
 use plant_check_stock::{
     are_marks, are_movements, are_numbers, are_recalls, are_receipts, are_times,
 };
-use plant_tables_judged::{DeskRows, has_meta, rows_of};
-use plant_tables_stored::Loaded;
+use plant_tables_read::{DeskRows, has_meta, rows_of};
+use plant_tables_read::Loaded;
 use std::alloc::{AllocError, Global};
 
 /// The first of the rules of good tables that the loaded rows break, if they break one. The only error is that memory
@@ -56,7 +56,7 @@ pub fn check_rows(alloc: Global, rows: &DeskRows) -> Result<Option<Rule>, AllocE
     broken_recall(alloc, rows)
 }
 
-#[tactic(auto, unfolding(plant_tables_judged::specs::Collecting::rows_listed, crate::specs::Broken::broken_plan))]
+#[tactic(auto, unfolding(plant_tables_read::specs::Collecting::rows_listed, crate::specs::Broken::broken_plan))]
 fn broken_plan(alloc: Global, rows: &DeskRows) -> Result<Option<Rule>, AllocError>
     ensures { IfOk result (λ broken. broken ≡ broken_plan (rows_listed rows.now)) }
 {
@@ -86,7 +86,7 @@ fn broken_plan(alloc: Global, rows: &DeskRows) -> Result<Option<Rule>, AllocErro
     Ok(None)
 }
 
-#[tactic(auto, unfolding(plant_tables_judged::specs::Collecting::rows_listed, crate::specs::Broken::broken_lot))]
+#[tactic(auto, unfolding(plant_tables_read::specs::Collecting::rows_listed, crate::specs::Broken::broken_lot))]
 fn broken_lot(alloc: Global, rows: &DeskRows) -> Result<Option<Rule>, AllocError>
     ensures { IfOk result (λ broken. broken ≡ broken_lot (rows_listed rows.now)) }
 {
@@ -108,7 +108,7 @@ fn broken_lot(alloc: Global, rows: &DeskRows) -> Result<Option<Rule>, AllocError
     Ok(None)
 }
 
-#[tactic(auto, unfolding(plant_tables_judged::specs::Collecting::rows_listed, crate::specs::Broken::broken_history))]
+#[tactic(auto, unfolding(plant_tables_read::specs::Collecting::rows_listed, crate::specs::Broken::broken_history))]
 fn broken_history(alloc: Global, rows: &DeskRows) -> Result<Option<Rule>, AllocError>
     ensures { IfOk result (λ broken. broken ≡ broken_history (rows_listed rows.now)) }
 {
@@ -135,7 +135,7 @@ fn broken_history(alloc: Global, rows: &DeskRows) -> Result<Option<Rule>, AllocE
     Ok(None)
 }
 
-#[tactic(auto, unfolding(plant_tables_judged::specs::Collecting::rows_listed))]
+#[tactic(auto, unfolding(plant_tables_read::specs::Collecting::rows_listed))]
 fn are_movements_of(
     alloc: Global,
     rows: &DeskRows,
@@ -157,7 +157,7 @@ fn are_movements_of(
 }
 
 /// Whether numbers and lines are those of commands, and moments don't fall. The only error is that memory was refused.
-#[tactic(auto, unfolding(plant_tables_judged::specs::Collecting::rows_listed))]
+#[tactic(auto, unfolding(plant_tables_read::specs::Collecting::rows_listed))]
 pub fn are_numbers_of(
     alloc: Global,
     rows: &DeskRows,
@@ -182,7 +182,7 @@ pub fn are_numbers_of(
 
 /// Whether nothing was made from itself, and the edges that are kept are those of the movements. The only error is that memory
 /// was refused.
-#[tactic(auto, unfolding(plant_tables_judged::specs::Collecting::rows_listed))]
+#[tactic(auto, unfolding(plant_tables_read::specs::Collecting::rows_listed))]
 pub fn are_edges_of(
     alloc: Global,
     rows: &DeskRows,
@@ -196,7 +196,7 @@ pub fn are_edges_of(
     are_kept_edges(alloc, rows.meta.schema, rows.edges.as_slice(), movements)
 }
 
-#[tactic(auto, unfolding(plant_tables_judged::specs::Collecting::rows_listed, crate::specs::Broken::broken_receipt))]
+#[tactic(auto, unfolding(plant_tables_read::specs::Collecting::rows_listed, crate::specs::Broken::broken_receipt))]
 fn broken_receipt(alloc: Global, rows: &DeskRows) -> Result<Option<Rule>, AllocError>
     ensures { IfOk result (λ broken. broken ≡ broken_receipt (rows_listed rows.now)) }
 {
@@ -206,7 +206,7 @@ fn broken_receipt(alloc: Global, rows: &DeskRows) -> Result<Option<Rule>, AllocE
     Ok(None)
 }
 
-#[tactic(auto, unfolding(plant_tables_judged::specs::Collecting::rows_listed, crate::specs::Broken::broken_recall))]
+#[tactic(auto, unfolding(plant_tables_read::specs::Collecting::rows_listed, crate::specs::Broken::broken_recall))]
 fn broken_recall(alloc: Global, rows: &DeskRows) -> Result<Option<Rule>, AllocError>
     ensures { IfOk result (λ broken. broken ≡ broken_recall (rows_listed rows.now)) }
 {
@@ -218,7 +218,7 @@ fn broken_recall(alloc: Global, rows: &DeskRows) -> Result<Option<Rule>, AllocEr
 
 /// Whether each recall's lot is there, its lifting fits its state and no moment of it is to come, and the marks are those of what
 /// the open ones reach. The only error is that memory was refused.
-#[tactic(auto, unfolding(plant_tables_judged::specs::Collecting::rows_listed))]
+#[tactic(auto, unfolding(plant_tables_read::specs::Collecting::rows_listed))]
 pub fn are_right_recalls(alloc: Global, rows: &DeskRows) -> Result<bool, AllocError>
     ensures { IfOk result (λ b. b ≡ are_right_recalls (rows_listed rows.now)) }
 {
@@ -231,7 +231,7 @@ pub fn are_right_recalls(alloc: Global, rows: &DeskRows) -> Result<bool, AllocEr
     are_kept_recalls(alloc, rows, recalls.as_slice(), movements.as_slice())
 }
 
-#[tactic(auto, unfolding(plant_tables_judged::specs::Collecting::rows_listed))]
+#[tactic(auto, unfolding(plant_tables_read::specs::Collecting::rows_listed))]
 fn are_kept_recalls(
     alloc: Global,
     rows: &DeskRows,

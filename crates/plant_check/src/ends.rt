@@ -6,7 +6,7 @@ ghost use Rattle.plant_check.specs.Ends.{has_right_stock, are_stocks};
 
 use plant_base::{Id, Sublot};
 use plant_check_groups::{Grouped, Grouping};
-use plant_tables_judged::{BookedRow, MovementSort};
+use plant_tables_read::{BookedRow, MovementSort};
 use std::alloc::{AllocError, Global};
 
 /// Rows by the sublot that they bring their amount to.

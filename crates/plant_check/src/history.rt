@@ -6,7 +6,7 @@ ghost use Rattle.plant_view.specs.Genealogy.{edges_among};
 ghost use Rattle.plant_check.specs.Broken.{are_whole, movements_in, are_acyclic};
 
 use plant_base::Movement;
-use plant_tables_judged::BookedRow;
+use plant_tables_read::BookedRow;
 use plant_trace::{Node, acyclic};
 use plant_view::edges;
 use std::alloc::{AllocError, Global};

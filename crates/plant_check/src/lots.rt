@@ -13,7 +13,7 @@ use plant_check_groups::{Grouped, Grouping};
 use plant_check_plans::keys::{Definitions, has_definition};
 use plant_check_plans::numbered::are_numbered;
 use plant_check_stock::keys::Lots;
-use plant_tables_judged::{BookedRow, MovementSort};
+use plant_tables_read::{BookedRow, MovementSort};
 use std::alloc::{AllocError, Global};
 
 /// Sublots by their lot.

@@ -25,7 +25,7 @@ use Rattle.plant_view.specs.Production.{is_defined, is_known, is_size_of_recipe,
 use Rattle.plant_view.specs.Tables.{phases_among, events_among}
 use Rattle.plant_tables_columns.specs.Booked.{movement_from}
 use Rattle.plant_tables_columns.specs.declared.booked.BookedRow.{BookedRow}
-use Rattle.plant_tables_judged.specs.Collecting.{Rows}
+use Rattle.plant_tables_read.specs.Collecting.{Rows}
 use Rattle.plant_check_plans.specs.Batches.{control_asked_for, is_control, is_row_among, is_right_batch}
 use Rattle.plant_check_plans.specs.Catalogue.{is_class_among}
 use Rattle.plant_check_plans.specs.Events.{is_run, kept_progress, has_right_run}

@@ -10,7 +10,7 @@ use crate::keys::edge_key;
 use plant_base::{EdgeRow, Movement};
 use plant_check::edges::edges_in;
 use plant_check_groups::{Grouped, Grouping};
-use plant_tables_judged::DeskRows;
+use plant_tables_read::DeskRows;
 use plant_view::edge_row;
 use std::alloc::{AllocError, Global};
 

@@ -12,7 +12,7 @@ use plant_check_groups::Grouped;
 use plant_check_plans::events::{events_in, kept_progress, phases_of};
 use plant_check_plans::keys::{Batches, ControlLines, Events, events_of, has_batch};
 use plant_recipe::Progress;
-use plant_tables_judged::DeskRows;
+use plant_tables_read::DeskRows;
 use std::alloc::{AllocError, Global};
 
 /// The batch, where this stands in a column and that is wanted.

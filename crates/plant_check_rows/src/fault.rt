@@ -3,7 +3,7 @@ ghost use Rattle.std.specs.Prelude.{◌≡◌};
 ghost use Rattle.plant_check_rows.specs.Naming.{column_name, table_name};
 
 use plant_base::{Amount, BatchState, Id, JobState, Refusal};
-use plant_tables_judged::MovementSort;
+use plant_tables_read::MovementSort;
 
 /// A table of the desk.
 #[derive(Clone, Copy, Debug, PartialEq, Eq)]

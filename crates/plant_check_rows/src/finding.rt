@@ -1,6 +1,6 @@
 //! The broken rules, each with the first row that breaks it.
 ghost use Rattle.std.specs.Prelude.{◌≡◌, IfOk, filter};
-ghost use Rattle.plant_tables_judged.specs.Collecting.{rows_listed};
+ghost use Rattle.plant_tables_read.specs.Collecting.{rows_listed};
 ghost use Rattle.plant_check_rows.specs.Findings as spec;
 ghost use Rattle.plant_check_rows.specs.Findings.{AreFindingsOf, IsFoundWhereBroken, IsFirstFound, IsTestOf};
 
@@ -21,8 +21,8 @@ use plant_check::Rule;
 use plant_check::checking::{are_edges_of, are_numbers_of, are_right_recalls};
 use plant_check::history::movements_in;
 use plant_check_stock::are_receipts;
-use plant_tables_judged::{DeskRows, has_meta, rows_of};
-use plant_tables_stored::Loaded;
+use plant_tables_read::{DeskRows, has_meta, rows_of};
+use plant_tables_read::Loaded;
 use std::alloc::{AllocError, Global};
 
 /// A rule that is broken.
@@ -111,7 +111,7 @@ fn found_by_test(rule: Rule, obeyed: bool, row: Option<RowFault>) -> Option<Find
 }
 
 /// What is found of a rule.
-#[tactic(auto, unfolding(plant_tables_judged::specs::Collecting::rows_listed))]
+#[tactic(auto, unfolding(plant_tables_read::specs::Collecting::rows_listed))]
 fn finding_of(
     alloc: Global,
     rule: Rule,
@@ -204,7 +204,7 @@ fn broken_among(
 }
 
 /// Tests rows whose values obey theirs by each other rule. The only error is that memory was refused.
-#[tactic(auto, unfolding(plant_tables_judged::specs::Collecting::rows_listed))]
+#[tactic(auto, unfolding(plant_tables_read::specs::Collecting::rows_listed))]
 pub fn test_rows(alloc: Global, rows: DeskRows) -> Result<Tested, AllocError>
     ensures { IfOk result (IsTestOf rows) }
 {

@@ -12,7 +12,7 @@ use plant_check::lots::{SublotsOfLots, are_from_zero, has_lot, is_born, sublots_
 use plant_check_groups::Grouped;
 use plant_check_plans::keys::{Definitions, has_definition};
 use plant_check_stock::keys::Lots;
-use plant_tables_judged::DeskRows;
+use plant_tables_read::DeskRows;
 use std::alloc::{AllocError, Global};
 
 /// That a lot's definition is there, and its sublots are numbered from 0 on.

@@ -12,7 +12,7 @@ use plant_check_groups::Grouped;
 use plant_check_stock::keys::{Parts, is_there};
 use plant_check_stock::movements::{Named, batch_by, is_of_right_merge};
 use plant_stock::{source, target};
-use plant_tables_judged::{BookedRow, DeskRows};
+use plant_tables_read::{BookedRow, DeskRows};
 use std::alloc::{AllocError, Global};
 
 /// That the columns of a row are those of its kind.

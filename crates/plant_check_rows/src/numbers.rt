@@ -3,7 +3,7 @@ ghost use Rattle.std.specs.Prelude.{◌≡◌, IfOk, None};
 ghost use Rattle.plant_check_rows.specs.Numbers.{event_as, event_fall_fault, event_fall_fault_in, fall_fault};
 ghost use Rattle.plant_check_rows.specs.Numbers.{fall_fault_in, late_fault_in, line_fault, line_fault_in};
 ghost use Rattle.plant_check_rows.specs.Numbers.{moment_fault, number_as, number_fault, number_fault_in};
-ghost use Rattle.plant_tables_judged.specs.Collecting.{rows_listed};
+ghost use Rattle.plant_tables_read.specs.Collecting.{rows_listed};
 ghost use Rattle.plant_check_rows.specs.Findings.{numbered_fault_in};
 ghost use Rattle.plant_check_rows.specs.First.{first_told};
 
@@ -16,7 +16,7 @@ use plant_check_groups::Grouped;
 use plant_check_stock::keys::{EnteredSublots, EventNumbers, has_event};
 use plant_check_stock::numbering::{is_entered_before, is_given, is_next_line};
 use plant_stock::source;
-use plant_tables_judged::DeskRows;
+use plant_tables_read::DeskRows;
 use std::alloc::{AllocError, Global};
 
 /// The movement, where it isn't the next line behind the one before it.
@@ -284,7 +284,7 @@ fn falling_event(events: &[BatchEvent]) -> Option<RowFault>
 
 /// The first row whose number or moment breaks the rule: a number that wasn't given, or else a moment that is later than the
 /// desk's, or else one that falls. The only error is that memory was refused.
-#[tactic(auto, unfolding(plant_tables_judged::specs::Collecting::rows_listed))]
+#[tactic(auto, unfolding(plant_tables_read::specs::Collecting::rows_listed))]
 pub(crate) fn number_fault(
     alloc: Global,
     rows: &DeskRows,

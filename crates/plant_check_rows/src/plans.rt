@@ -18,7 +18,7 @@ use plant_check_plans::keys::{
 };
 use plant_check_plans::numbered::are_numbered;
 use plant_check_plans::orders::is_started;
-use plant_tables_judged::DeskRows;
+use plant_tables_read::DeskRows;
 use plant_view::is_size_of_recipe;
 use std::alloc::{AllocError, Global};
 

@@ -1,6 +1,6 @@
 //! Recalls that break a rule.
 ghost use Rattle.std.specs.Prelude.{◌≡◌, IfOk};
-ghost use Rattle.plant_tables_judged.specs.Collecting.{rows_listed};
+ghost use Rattle.plant_tables_read.specs.Collecting.{rows_listed};
 ghost use Rattle.plant_check.specs.Broken.{recalls_told};
 ghost use Rattle.plant_check_rows.specs.Findings.{recalled_fault_in};
 ghost use Rattle.plant_check_rows.specs.Recalls.{recall_as, recall_fault_in};
@@ -14,7 +14,7 @@ use plant_check::recalls::recalls_told;
 use plant_check_groups::Grouped;
 use plant_check_stock::keys::{Lots, lot_at};
 use plant_check_stock::recalls::is_timely;
-use plant_tables_judged::{DeskRows, StatedRecall};
+use plant_tables_read::{DeskRows, StatedRecall};
 use std::alloc::{AllocError, Global};
 
 /// The recall, where this stands in a column and that is wanted.
@@ -81,7 +81,7 @@ fn stated_fault(
 }
 
 /// The first row that breaks the rule, or else the mark that does. The only error is that memory was refused.
-#[tactic(auto, unfolding(plant_tables_judged::specs::Collecting::rows_listed))]
+#[tactic(auto, unfolding(plant_tables_read::specs::Collecting::rows_listed))]
 pub(crate) fn recall_fault(
     alloc: Global,
     rows: &DeskRows,

@@ -10,7 +10,7 @@ use plant_base::Receipt;
 use plant_check_groups::{Grouped, Grouping};
 use plant_check_stock::numbering::is_given;
 use plant_check_stock::receipts::is_content;
-use plant_tables_judged::DeskRows;
+use plant_tables_read::DeskRows;
 use std::alloc::{AllocError, Global};
 
 /// Numbers, each under itself.

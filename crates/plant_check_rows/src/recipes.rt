@@ -16,7 +16,7 @@ use plant_check_plans::keys::{
 use plant_check_plans::numbered::are_numbered;
 use plant_check_plans::recipes::is_known;
 use plant_recipe::is_well_formed;
-use plant_tables_judged::DeskRows;
+use plant_tables_read::DeskRows;
 use plant_view::lines_in;
 use std::alloc::{AllocError, Global};
 

@@ -8,7 +8,7 @@ use crate::keys::sublot_key;
 use plant_base::Sublot;
 use plant_check::ends::{EnteredPlaces, LeftPlaces, entries, exits, total_booked};
 use plant_check_groups::Grouped;
-use plant_tables_judged::DeskRows;
+use plant_tables_read::DeskRows;
 use std::alloc::{AllocError, Global};
 
 /// That a sublot's stock is what entered it less what left it.

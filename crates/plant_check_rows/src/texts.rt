@@ -4,7 +4,7 @@ ghost use Rattle.plant_check_rows.specs.Texts.{fault_text, found_text, key_text,
 ghost use Rattle.plant_check_rows.specs.Texts.{sort_name, stock_text, wanted_text};
 
 use crate::fault::{Found, Key, RowFault, Wanted};
-use plant_tables_judged::MovementSort;
+use plant_tables_read::MovementSort;
 use std::fmt;
 
 impl fmt::Display for Key {

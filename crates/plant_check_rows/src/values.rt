@@ -10,8 +10,8 @@ use plant_base::{
     MasterLine, Recipe, Sublot,
 };
 use plant_tables_columns::{Judged, judge_receipts};
-use plant_tables_judged::{BookedRow, StatedRecall};
-use plant_tables_stored::Loaded;
+use plant_tables_read::{BookedRow, StatedRecall};
+use plant_tables_read::Loaded;
 use sqlite::Row;
 use std::alloc::{AllocError, Global};
 use std::slice;

@@ -10,7 +10,7 @@ use Rattle.table_forms.specs.Resting.{Keeps}
 use Rattle.table_forms.specs.Standing.{AreFree, IsFree}
 use Rattle.table_forms.proofs.Ending.{IsStore}
 use Rattle.plant_tables.specs.DeskForms.{desk_forms}
-use Rattle.plant_tables_stored.specs.Version.{IsVersion}
+use Rattle.plant_tables_read.specs.Version.{IsVersion}
 use Rattle.plant_desk_store.specs.Adopting.{Adopts, HoldsGood, IsRaised, IsRefusedBy, IsRisingAt, IsUnraised, NamesFirst}
 use Rattle.plant_desk_store.specs.Calls.{HasAdopted, HasRefused}
 use Rattle.plant_desk_store.specs.Parts.{HasMade, HasTaken}

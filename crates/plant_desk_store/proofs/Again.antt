@@ -23,9 +23,9 @@ use Rattle.table_forms.specs.Standing.{HasTable, Stands, AreFree, IsFree}
 use Rattle.plant_tables.specs.DeskForms.{desk_forms, meta_form, forms_of, later_forms}
 use Rattle.plant_tables.specs.Keyed.{HoldsTablesOf}
 use Rattle.plant_good.specs.Good.{IsGood}
-use Rattle.plant_tables_stored.specs.Version.{IsVersion, IsKnown, HasTablesOf}
-use Rattle.plant_tables_stored.specs.Loading.{AreLoaded}
-use Rattle.plant_tables_stored.proofs.Versions.{one_version, each_free, free_tells_nothing}
+use Rattle.plant_tables_read.specs.Version.{IsVersion, IsKnown, HasTablesOf}
+use Rattle.plant_tables_read.specs.Loading.{AreLoaded}
+use Rattle.plant_tables_read.proofs.Versions.{one_version, each_free, free_tells_nothing}
 use Rattle.plant_good_passes.proofs.Unbroken.{read_good}
 use Rattle.plant_desk_store.specs.Adopting.{HoldsGood, IsRefusedBy, IsFirstBroken}
 use Rattle.plant_desk_store.specs.DeskLaws.{IsAdoptable}

@@ -4,13 +4,13 @@ use Rattle.std.proofs.lemmas.Result.{IfOk-weaker}
 use Rattle.sqlite.specs.Order.{Row}
 use Rattle.plant_base.specs.declared.rows.Meta.{Meta}
 use Rattle.plant_view.proofs.Tests.{and_left}
-use Rattle.plant_tables_stored.specs.Loading.{contents_loaded}
-use Rattle.plant_tables_stored.specs.declared.loaded.Loaded.{Loaded}
-use Rattle.plant_tables_judged.specs.Collecting.{Rows, rows_from, rows_listed}
-use Rattle.plant_tables_judged.proofs.StandLemmas.{rows_back}
+use Rattle.plant_tables_read.specs.Loading.{contents_loaded}
+use Rattle.plant_tables_read.specs.declared.loaded.Loaded.{Loaded}
+use Rattle.plant_tables_read.specs.Collecting.{Rows, rows_from, rows_listed}
+use Rattle.plant_tables_read.proofs.StandLemmas.{rows_back}
 use Rattle.plant_tables_columns.specs.TableColumns.{only_meta}
 use Rattle.plant_tables_columns.proofs.RowLaws.{meta_reads}
-use Rattle.plant_tables_judged.specs.declared.desk_rows.DeskRows.{DeskRows}
+use Rattle.plant_tables_read.specs.declared.desk_rows.DeskRows.{DeskRows}
 use Rattle.plant_check.specs.Broken.{first_broken, first_broken_of, broken_rows, unless}
 use Rattle.plant_check.specs.declared.rule.Rule.TheVariants as rule
 use Rattle.plant_desk_store.specs.Testing.{IsUnfit, IsFit, IsUnfitBy, IsFitOf, IsUnfitOf}

@@ -21,12 +21,12 @@ use Rattle.plant_tables.specs.Keyed.{HoldsTablesOf, HoldsTables}
 use Rattle.plant_tables.proofs.Ended.{finds_same}
 use Rattle.plant_view.specs.Tables.{Tables, tables_of, IsWholeIn}
 use Rattle.plant_good.specs.Good.{IsGood}
-use Rattle.plant_tables_stored.specs.Loading.{AreLoaded, AreRising, contents_loaded}
-use Rattle.plant_tables_stored.specs.Version.{IsVersion, IsKnown}
-use Rattle.plant_tables_stored.specs.declared.loaded.Loaded.{Loaded}
-use Rattle.plant_tables_stored.proofs.Versions.{one_version}
-use Rattle.plant_tables_judged.specs.Collecting.{rows_in, rows_listed}
-use Rattle.plant_tables_judged.specs.declared.desk_rows.DeskRows.{DeskRows}
+use Rattle.plant_tables_read.specs.Loading.{AreLoaded, AreRising, contents_loaded}
+use Rattle.plant_tables_read.specs.Version.{IsVersion, IsKnown}
+use Rattle.plant_tables_read.specs.declared.loaded.Loaded.{Loaded}
+use Rattle.plant_tables_read.proofs.Versions.{one_version}
+use Rattle.plant_tables_read.specs.Collecting.{rows_in, rows_listed}
+use Rattle.plant_tables_read.specs.declared.desk_rows.DeskRows.{DeskRows}
 use Rattle.plant_migrate.specs.Leaving.{IsCutShortAmid}
 use Rattle.plant_migrate.proofs.Ends.{raised_to_is}
 use Rattle.plant_migrate.proofs.Kept.{at_still, keeps_itself}

@@ -9,8 +9,8 @@ use Rattle.table_forms.specs.Standing.{AreFree}
 use Rattle.table_forms.specs.Stopping.{IsSettled}
 use Rattle.plant_tables.specs.DeskForms.{desk_forms}
 use Rattle.plant_tables.specs.DeskStopping.{FindsTables, opening_tables}
-use Rattle.plant_tables_judged.specs.Collecting.{rows_in, rows_listed}
-use Rattle.plant_tables_judged.specs.declared.desk_rows.DeskRows.{DeskRows}
+use Rattle.plant_tables_read.specs.Collecting.{rows_in, rows_listed}
+use Rattle.plant_tables_read.specs.declared.desk_rows.DeskRows.{DeskRows}
 use Rattle.plant_good_keys.proofs.TableKeys.{keyed}
 use Rattle.plant_migrate.specs.Raised.{edges_from}
 use Rattle.plant_migrate.specs.Steps.{IsRaisedBy}

@@ -33,7 +33,7 @@ use Rattle.plant_desk_store.specs.Running.{RunEnds}
 use Rattle.plant_desk_store.specs.DeskStanding.{IsOpenAt, DeskStands, Leaves}
 use Rattle.plant_desk_store.specs.declared.adopting.AdoptFault.{AdoptFault}
 use Rattle.plant_desk_store.specs.declared.adopting.AdoptFault.TheVariants as fault
-use Rattle.plant_tables_stored.proofs.Versions.{each_free, free_tells_nothing}
+use Rattle.plant_tables_read.proofs.Versions.{each_free, free_tells_nothing}
 use Rattle.plant_desk_store.proofs.Again.{not_free, unrefused}
 use Rattle.plant_desk_store.proofs.Answered.{answered}
 use Rattle.plant_desk_store.proofs.Lasting.{accounted_good}

@@ -10,7 +10,7 @@ use Rattle.plant_base.specs.State.{newest_schema}
 use Rattle.table_forms.specs.Resting.{Keeps}
 use Rattle.table_forms.specs.Standing.{KeepsOthers}
 use Rattle.plant_tables.specs.DeskForms.{desk_forms}
-use Rattle.plant_tables_stored.specs.Version.{IsVersion}
+use Rattle.plant_tables_read.specs.Version.{IsVersion}
 use Rattle.plant_desk_store.specs.Adopting.{HoldsGood, ShowsStill, IsUnraised, NamesFirst}
 use Rattle.plant_desk_store.specs.declared.adopting.AdoptFault.{AdoptFault}
 use Rattle.plant_desk_store.specs.declared.adopting.AdoptFault.TheVariants as fault

@@ -12,7 +12,7 @@ use Rattle.table_forms.specs.Standing.{AreFree, IsFree, KeepsOthers}
 use Rattle.plant_tables.specs.DeskForms.{desk_forms, later_forms}
 use Rattle.plant_tables.specs.DeskStopping.{FindsOf}
 use Rattle.plant_tables.specs.Keyed.{HoldsTablesOf}
-use Rattle.plant_tables_stored.specs.Version.{IsKnown}
+use Rattle.plant_tables_read.specs.Version.{IsKnown}
 use Rattle.plant_desk_store.specs.Adopting.{HoldsGood, IsRaised}
 use Rattle.plant_desk_store.specs.DeskLaws.{IsAdoptable, IsOpenedAfter, GoodIsAdoptedAgain}
 use Rattle.plant_desk_store.specs.DeskStanding.{FindsStateOf}

@@ -6,8 +6,8 @@ use Rattle.sqlite.specs.State.{HasCleanDisk, IsUnchanged, Survives}
 use Rattle.sqlite.proofs.StateLemmas.{survives_then, survives_weaker}
 use Rattle.plant_base.specs.State.{State, newest_schema}
 use Rattle.table_forms.proofs.Ending.{IsStore}
-use Rattle.plant_tables_stored.specs.Version.{IsKnown}
-use Rattle.plant_tables_judged.specs.declared.desk_rows.DeskRows.{DeskRows}
+use Rattle.plant_tables_read.specs.Version.{IsKnown}
+use Rattle.plant_tables_read.specs.declared.desk_rows.DeskRows.{DeskRows}
 use Rattle.plant_migrate.proofs.Ends.{raised_since}
 use Rattle.plant_desk_store.specs.Adopting.{HoldsGood, IsNewlyOpened, IsRaised}
 use Rattle.plant_desk_store.specs.Parts.{HasJudged, HasRaised, HasTaken}

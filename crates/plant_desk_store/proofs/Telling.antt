@@ -7,15 +7,15 @@ use lib.IntN.{negsuc}
 use Rattle.sqlite.specs.State as store
 use Rattle.sqlite.specs.State.{IsUnchanged}
 use Rattle.plant_base.specs.State.{newest_schema}
-use Rattle.plant_tables_stored.specs.Version.{IsVersion, IsKnown}
-use Rattle.plant_tables_stored.specs.declared.finding.FoundTables.{FoundTables}
-use Rattle.plant_tables_stored.specs.declared.finding.FoundTables.TheVariants as tables
+use Rattle.plant_tables_read.specs.Version.{IsVersion, IsKnown}
+use Rattle.plant_tables_read.specs.declared.finding.FoundTables.{FoundTables}
+use Rattle.plant_tables_read.specs.declared.finding.FoundTables.TheVariants as tables
 use Rattle.plant_migrate.proofs.Versions.{version_number}
 use Rattle.table_forms.specs.declared.fault.Fault.{Fault}
 use Rattle.table_forms.specs.declared.fault.Fault.TheVariants as below
 use Rattle.plant_view.specs.declared.fault.ViewFault.{ViewFault}
 use Rattle.plant_view.specs.declared.fault.ViewFault.TheVariants as view
-use Rattle.plant_tables_stored.specs.declared.loaded.Loaded.{Loaded}
+use Rattle.plant_tables_read.specs.declared.loaded.Loaded.{Loaded}
 use Rattle.plant_check.specs.declared.rule.Rule.TheVariants as rule
 use Rattle.plant_messages.specs.declared.reply.DeskFault.{DeskFault}
 use Rattle.plant_messages.specs.declared.reply.DeskFault.TheVariants.{Store, Memory, Shut}

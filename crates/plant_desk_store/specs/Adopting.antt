@@ -14,8 +14,8 @@ pub use Rattle.plant_check.specs.Damaged.{LacksTables, AreFirstBroken, IsFirstBr
 use Rattle.plant_tables.specs.DeskForms.{desk_forms, later_forms}
 use Rattle.plant_tables.specs.DeskStopping.{MakesDesk, IsAtOf, FindsTables, opening_tables}
 use Rattle.plant_tables.specs.Keyed.{HoldsTablesOf}
-use Rattle.plant_tables_stored.specs.Version.{IsVersion, IsKnown}
-use Rattle.plant_tables_stored.specs.declared.loaded.Loaded.{Loaded}
+use Rattle.plant_tables_read.specs.Version.{IsVersion, IsKnown}
+use Rattle.plant_tables_read.specs.declared.loaded.Loaded.{Loaded}
 use Rattle.plant_migrate.specs.Leaving.{IsBetween}
 use Rattle.plant_migrate.specs.Steps.{FindsRisable}
 use Rattle.plant_check.specs.Broken.{first_broken}

@@ -13,7 +13,7 @@ use Rattle.table_forms.specs.Standing.{AreFree, IsFree, KeepsOthers, Stands}
 use Rattle.plant_tables_columns.specs.TableColumns.{row_of_mark}
 use Rattle.plant_tables.specs.DeskForms.{desk_forms, later_forms, mark_form}
 use Rattle.plant_tables.specs.Keyed.{HoldsTables}
-use Rattle.plant_tables_stored.specs.Version.{IsKnown}
+use Rattle.plant_tables_read.specs.Version.{IsKnown}
 use Rattle.plant_desk_store.specs.Adopting.{HoldsGood, IsAdopted, IsRefusedBy}
 use Rattle.plant_desk_store.specs.DeskStanding.{FindsStateOf}
 use Rattle.plant_desk_store.specs.declared.adopting.AdoptFault.{AdoptFault}

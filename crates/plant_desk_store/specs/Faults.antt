@@ -6,9 +6,9 @@ use Rattle.plant_base.specs.State.{newest_schema}
 use Rattle.plant_view.specs.declared.fault.ViewFault.{ViewFault}
 use Rattle.plant_view.specs.declared.fault.ViewFault.TheVariants as view
 use Rattle.plant_check.specs.declared.rule.Rule.TheVariants as rule
-use Rattle.plant_tables_stored.specs.declared.finding.FoundTables.{FoundTables}
-use Rattle.plant_tables_stored.specs.declared.finding.FoundTables.TheVariants as tables
-use Rattle.plant_tables_stored.specs.declared.loaded.Loaded.{Loaded}
+use Rattle.plant_tables_read.specs.declared.finding.FoundTables.{FoundTables}
+use Rattle.plant_tables_read.specs.declared.finding.FoundTables.TheVariants as tables
+use Rattle.plant_tables_read.specs.declared.loaded.Loaded.{Loaded}
 use Rattle.plant_messages.specs.declared.reply.DeskFault.{DeskFault}
 use Rattle.plant_messages.specs.declared.reply.DeskFault.TheVariants as desk
 use Rattle.plant_desk_store.specs.declared.adopting.AdoptFault.{AdoptFault}

@@ -17,9 +17,9 @@ use Rattle.table_forms.specs.Stopping.{IsSettled}
 use Rattle.plant_tables.specs.DeskForms.{desk_forms}
 use Rattle.plant_tables.specs.Keyed.{AreFresh}
 use Rattle.plant_tables.specs.Missing.{AddsMissing, AreAllTaken}
-use Rattle.plant_tables_stored.specs.Version.{IsKnown, IsVersion}
-use Rattle.plant_tables_judged.specs.Collecting.{rows_in, rows_listed}
-use Rattle.plant_tables_judged.specs.declared.desk_rows.DeskRows.{DeskRows}
+use Rattle.plant_tables_read.specs.Version.{IsKnown, IsVersion}
+use Rattle.plant_tables_read.specs.Collecting.{rows_in, rows_listed}
+use Rattle.plant_tables_read.specs.declared.desk_rows.DeskRows.{DeskRows}
 use Rattle.plant_migrate.specs.Raised.{edges_from}
 use Rattle.plant_migrate.specs.Steps.{IsRaisedBy}
 use Rattle.plant_check.specs.declared.rule.Rule.{Rule}

@@ -4,7 +4,7 @@ ghost use Rattle.std.specs.Prelude.{◌≡◌};
 ghost use Rattle.plant_desk_store.specs.Faults as spec;
 
 use plant_messages::DeskFault;
-use plant_tables_stored::Loaded;
+use plant_tables_read::Loaded;
 use plant_view::ViewFault;
 use table_forms::Fault;
 

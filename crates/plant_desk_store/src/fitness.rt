@@ -4,8 +4,8 @@ ghost use Rattle.std.specs.Prelude.{IfOk, IfErr};
 ghost use Rattle.plant_desk_store.specs.Testing.{IsFit, IsUnfitBy, IsFitOf, IsUnfitOf};
 
 use plant_check::{Rule, check_rows};
-use plant_tables_judged::{DeskRows, has_meta, rows_of};
-use plant_tables_stored::Loaded;
+use plant_tables_read::{DeskRows, has_meta, rows_of};
+use plant_tables_read::Loaded;
 use std::alloc::Global;
 
 /// Why loaded rows aren't those of a desk of a schema.

@@ -10,7 +10,7 @@ use crate::fitness::{Unfit, judge};
 use plant_base::NEWEST_SCHEMA;
 use plant_check::Rule;
 use plant_messages::DeskFault;
-use plant_tables_stored::Loaded;
+use plant_tables_read::Loaded;
 use sqlite::{Alter, Connection};
 use std::alloc::Global;
 

@@ -31,7 +31,7 @@ use Rattle.plant_stock.specs.Stock as flows
 use Rattle.plant_good.specs.Keeping.{IsAsked, KeepToRecipes}
 use Rattle.plant_good.specs.Valued.{HasMovementValues}
 use Rattle.plant_tables_columns.specs.Booked.{booked_of}
-use Rattle.plant_tables_judged.specs.Collecting.{Rows}
+use Rattle.plant_tables_read.specs.Collecting.{Rows}
 use Rattle.plant_check.specs.Broken.{movements_in}
 use Rattle.plant_check.specs.Ends.{are_stocks, total_booked}
 use Rattle.plant_check.specs.Lots.{are_lots}

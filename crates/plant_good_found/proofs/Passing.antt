@@ -13,7 +13,7 @@ use Rattle.plant_check_stock.specs.Numbering.{are_numbers}
 use Rattle.plant_check_stock.specs.Recalls.{are_recalls}
 use Rattle.plant_check_stock.specs.Receipts.{are_receipts}
 use Rattle.plant_check_stock.specs.Times.{are_times}
-use Rattle.plant_tables_judged.specs.Collecting.{Rows}
+use Rattle.plant_tables_read.specs.Collecting.{Rows}
 use Rattle.plant_check.specs.Broken.{unless, or_else, are_whole, movements_in, are_acyclic, are_kept_edges, are_right_edges, broken_plan, broken_lot, broken_history, broken_receipt, are_fitting, recalls_told, are_kept_recalls, are_right_recalls, broken_recall, are_right_movements, are_right_numbers, first_broken_of}
 use Rattle.plant_check.specs.Ends.{are_stocks}
 use Rattle.plant_check.specs.Lots.{are_lots}

@@ -18,13 +18,13 @@ use Rattle.plant_good.specs.Good.{IsGood}
 use Rattle.plant_good.specs.Valued.{HasRowValues, HasPlaceValues, HasMovementValues}
 use Rattle.table_forms.specs.Standing.{Stands}
 use Rattle.plant_tables.specs.DeskTables.{contents_of}
-use Rattle.plant_tables_stored.specs.Loading.{contents_loaded}
+use Rattle.plant_tables_read.specs.Loading.{contents_loaded}
 use Rattle.plant_tables_columns.specs.Booked.{movement_from, booked_of}
 use Rattle.plant_tables_columns.specs.Stated.{recall_from}
-use Rattle.plant_tables_judged.specs.Collecting.{Rows, rows_from, tables_in, AreWhole, AreInOrder}
+use Rattle.plant_tables_read.specs.Collecting.{Rows, rows_from, tables_in, AreWhole, AreInOrder}
 use Rattle.plant_tables_columns.specs.TableColumns.{only_meta}
 use Rattle.plant_tables_columns.specs.declared.booked.BookedRow.{BookedRow}
-use Rattle.plant_tables_judged.proofs.StandLemmas.{are_stored, stands_for}
+use Rattle.plant_tables_read.proofs.StandLemmas.{are_stored, stands_for}
 use Rattle.plant_check.specs.Broken.{movements_in, recalls_told, broken_rows, first_broken_of, first_broken}
 use Rattle.plant_check.specs.Ends.{are_stocks}
 use Rattle.plant_check.specs.Lots.{are_lots}

@@ -20,13 +20,13 @@ use Rattle.table_reads.specs.Selects.{first_of}
 use Rattle.table_reads.proofs.KeyOrder.{key_total}
 use Rattle.plant_tables.specs.DeskForms.{class_form, definition_form, recipe_form, recipe_line_form, job_form, batch_form, control_line_form, batch_event_form, lot_form, sublot_form, movement_form, hold_form, receipt_form, recall_form, forms_of}
 use Rattle.plant_tables.proofs.DeskMoves.{receipt_place, recall_place, no_receipt_place, no_recall_place}
-use Rattle.plant_tables_stored.specs.Loading.{AreRising, contents_loaded}
-use Rattle.plant_tables_stored.specs.declared.loaded.Loaded.{Loaded}
-use Rattle.plant_tables_judged.specs.Collecting.{Rows, rows_from, tables_in, AreWhole, AreInOrder}
-use Rattle.plant_tables_judged.proofs.KeyLemmas.{by_text, by_number, by_text_number, by_two_texts, by_two_numbers, by_text_numbers}
-use Rattle.plant_tables_judged.proofs.SortedLemmas.{strictly_sorted}
-use Rattle.plant_tables_judged.proofs.TableLemmas.{map_same}
-use Rattle.plant_tables_judged.proofs.StandLemmas.{are_stored}
+use Rattle.plant_tables_read.specs.Loading.{AreRising, contents_loaded}
+use Rattle.plant_tables_read.specs.declared.loaded.Loaded.{Loaded}
+use Rattle.plant_tables_read.specs.Collecting.{Rows, rows_from, tables_in, AreWhole, AreInOrder}
+use Rattle.plant_tables_read.proofs.KeyLemmas.{by_text, by_number, by_text_number, by_two_texts, by_two_numbers, by_text_numbers}
+use Rattle.plant_tables_read.proofs.SortedLemmas.{strictly_sorted}
+use Rattle.plant_tables_read.proofs.TableLemmas.{map_same}
+use Rattle.plant_tables_read.proofs.StandLemmas.{are_stored}
 
 -- ---- from keys that rise to rows that do
 

@@ -14,14 +14,14 @@ use Rattle.plant_base.specs.declared.rows.Receipt.{Receipt}
 use Rattle.plant_base.specs.declared.rows.Sublot.{Sublot}
 use Rattle.plant_good.specs.Valued.{HasMasterValues, HasControlValues, HasEventValues}
 use Rattle.plant_view.specs.Production.{HasBatchValues, HasGoodOrder}
-use Rattle.plant_tables_stored.specs.declared.loaded.Loaded.{Loaded}
+use Rattle.plant_tables_read.specs.declared.loaded.Loaded.{Loaded}
 use Rattle.plant_tables_columns.specs.All.{all_from}
 use Rattle.plant_tables_columns.specs.TableColumns.{only_meta}
 use Rattle.plant_tables_columns.proofs.Options.{bound, some_same}
 use Rattle.plant_tables_columns.proofs.TableLaws.{HasBookedColumns, HasStatedColumns}
 use Rattle.plant_tables_columns.proofs.RowLaws.{Reads, meta_reads, class_reads, definition_reads, recipe_reads, master_line_reads, job_reads, batch_reads, control_line_reads, event_reads, lot_reads, sublot_reads, booked_reads, hold_reads, receipt_reads, stated_reads}
-use Rattle.plant_tables_judged.specs.Collecting.{Rows, rows_from}
-use Rattle.plant_tables_judged.proofs.StandLemmas.{rows_back}
+use Rattle.plant_tables_read.specs.Collecting.{Rows, rows_from}
+use Rattle.plant_tables_read.proofs.StandLemmas.{rows_back}
 
 -- ---- in the words of good states
 

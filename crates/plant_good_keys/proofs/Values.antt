@@ -54,8 +54,8 @@ use Rattle.plant_good.proofs.KeptColumns.{columns}
 use Rattle.plant_good.proofs.Listing.{all_append, all_swap, all_passing}
 use Rattle.plant_good_keys.proofs.TableKeys.{keyed}
 use Rattle.plant_tables_columns.specs.Reading.{is_in, greatest_number}
-use Rattle.plant_tables_stored.specs.Version.{IsKnown}
-use Rattle.plant_tables_judged.specs.Collecting.{AreInOrder}
+use Rattle.plant_tables_read.specs.Version.{IsKnown}
+use Rattle.plant_tables_read.specs.Collecting.{AreInOrder}
 use Rattle.plant_tables_columns.specs.Obeying.{HasRecipeValues, IsLineNumber, HasMasterLineValues, HasBatchRowValues, HasControlLineValues, HasEventRowValues, HasSublotValues, HasKindRowValues, HasMovementRowValues, HasEdgeValues, HasReceiptRowValues, HasMarkValues, HasGoodValues}
 
 -- ---- order

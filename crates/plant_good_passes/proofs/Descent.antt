@@ -5,7 +5,7 @@ use Rattle.plant_view.specs.Genealogy.{edges_among}
 use Rattle.plant_view.specs.Sound.{IsSound}
 use Rattle.plant_view.specs.Tables.{Tables, tables_of}
 use Rattle.plant_tables_columns.specs.Booked.{booked_of}
-use Rattle.plant_tables_judged.proofs.WholeLemmas.{same_tables}
+use Rattle.plant_tables_read.proofs.WholeLemmas.{same_tables}
 use Rattle.plant_check.specs.Broken.{movements_in, are_acyclic}
 use Rattle.plant_check.proofs.Cycles.{acyclic_tested}
 

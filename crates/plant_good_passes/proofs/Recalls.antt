@@ -19,8 +19,8 @@ use Rattle.plant_check_stock.specs.Recalls.{is_lifted_between, is_timely, is_rig
 use Rattle.plant_check_stock.proofs.Expecting.{same_itself}
 use Rattle.plant_tables_columns.specs.Stated.{stated_of}
 use Rattle.plant_tables_columns.proofs.StatedLemmas.{recall_again}
-use Rattle.plant_tables_judged.specs.Collecting.{rows_in}
-use Rattle.plant_tables_judged.proofs.WholeLemmas.{same_tables}
+use Rattle.plant_tables_read.specs.Collecting.{rows_in}
+use Rattle.plant_tables_read.proofs.WholeLemmas.{same_tables}
 use Rattle.plant_check.specs.Broken.{are_fitting, recalls_told, are_kept_recalls, are_right_recalls}
 use Rattle.plant_good_passes.proofs.Descent.{movements_again}
 use Rattle.plant_good_passes.proofs.Testing.{all_pass}

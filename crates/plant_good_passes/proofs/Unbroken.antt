@@ -7,12 +7,12 @@ use Rattle.plant_base.specs.declared.rows.Meta.{Meta}
 use Rattle.plant_view.specs.Tables.{tables_of, edges_in}
 use Rattle.plant_good.specs.Good.{IsGood}
 use Rattle.plant_tables.specs.Keyed.{HoldsTablesOf, LacksLater}
-use Rattle.plant_tables_stored.specs.Loading.{AreLoaded, contents_loaded}
-use Rattle.plant_tables_stored.specs.Version.{IsKnown}
-use Rattle.plant_tables_stored.specs.declared.loaded.Loaded.{Loaded}
-use Rattle.plant_tables_judged.specs.Collecting.{Rows, rows_from, rows_in}
+use Rattle.plant_tables_read.specs.Loading.{AreLoaded, contents_loaded}
+use Rattle.plant_tables_read.specs.Version.{IsKnown}
+use Rattle.plant_tables_read.specs.declared.loaded.Loaded.{Loaded}
+use Rattle.plant_tables_read.specs.Collecting.{Rows, rows_from, rows_in}
 use Rattle.plant_tables_columns.specs.TableColumns.{only_meta}
-use Rattle.plant_tables_judged.proofs.AgainLemmas.{read_again}
+use Rattle.plant_tables_read.proofs.AgainLemmas.{read_again}
 use Rattle.plant_check.specs.Broken.{unless, or_else, are_right_edges, broken_plan, broken_lot, broken_history, broken_receipt, broken_recall, first_broken_of, are_right_movements, are_right_numbers, broken_rows, first_broken}
 use Rattle.plant_check.specs.declared.rule.Rule.{Rule}
 use Rattle.plant_check.specs.declared.rule.Rule.TheVariants as rule

@@ -5,10 +5,10 @@ use Rattle.plant_base.specs.State.{State}
 use Rattle.plant_view.specs.Tables.{tables_of}
 use Rattle.plant_good.specs.Good.{IsGood}
 use Rattle.plant_tables.specs.Keyed.{HoldsTablesOf}
-use Rattle.plant_tables_stored.specs.Loading.{AreLoaded}
-use Rattle.plant_tables_stored.specs.Version.{IsKnown}
-use Rattle.plant_tables_stored.specs.declared.loaded.Loaded.{Loaded}
-use Rattle.plant_tables_judged.specs.Collecting.{rows_from, rows_in, AreInOrder}
+use Rattle.plant_tables_read.specs.Loading.{AreLoaded}
+use Rattle.plant_tables_read.specs.Version.{IsKnown}
+use Rattle.plant_tables_read.specs.declared.loaded.Loaded.{Loaded}
+use Rattle.plant_tables_read.specs.Collecting.{rows_from, rows_in, AreInOrder}
 use Rattle.plant_tables_columns.specs.Obeying.{HasGoodValues}
 use Rattle.plant_check.specs.Broken.{first_broken_of, first_broken}
 

@@ -55,9 +55,9 @@ use Rattle.plant_tables_columns.specs.All.{all_from}
 use Rattle.plant_tables_columns.specs.Obeying.{HasMetaValues, HasRecipeValues, HasMasterLineValues, HasJobValues, HasBatchRowValues, HasControlLineValues, HasEventRowValues, HasSublotValues, HasMovementRowValues, HasEdgeValues, HasReceiptRowValues, HasMarkValues, HasGoodValues}
 use Rattle.plant_tables_columns.proofs.Options.{some_same}
 use Rattle.plant_tables_columns.proofs.RowLaws.{meta_reads, class_reads, definition_reads, recipe_reads, job_reads, batch_reads, event_reads, lot_reads, sublot_reads, hold_reads, edge_reads, master_line_again, control_line_again, receipt_again, mark_reads}
-use Rattle.plant_tables_judged.proofs.KeyLemmas.{by_text, by_number, by_text_number, by_two_texts, by_two_numbers, by_text_numbers, by_number_two_texts, by_text_number_text}
-use Rattle.plant_tables_judged.proofs.SortedLemmas.{same_sorted, strictly_sorted, sorted_keys}
-use Rattle.plant_tables_judged.proofs.TableLemmas.{map_same, all_again}
+use Rattle.plant_tables_read.proofs.KeyLemmas.{by_text, by_number, by_text_number, by_two_texts, by_two_numbers, by_text_numbers, by_number_two_texts, by_text_number_text}
+use Rattle.plant_tables_read.proofs.SortedLemmas.{same_sorted, strictly_sorted, sorted_keys}
+use Rattle.plant_tables_read.proofs.TableLemmas.{map_same, all_again}
 use Rattle.plant_good_keys.proofs.Values.{in_order, good_values, newest_known}
 use Rattle.plant_worklists.proofs.Found.{first_is, of_mapped}
 use Rattle.plant_keyed.specs.Finding.{AreFound, IsFirstFound}

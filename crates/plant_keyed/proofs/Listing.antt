@@ -29,7 +29,7 @@ use Rattle.plant_tables_columns.specs.Kinds.{number, flag}
 use Rattle.plant_tables_columns.specs.Obeying.{HasJobValues, HasBatchRowValues, HasSublotValues, HasGoodValues}
 use Rattle.plant_tables_columns.specs.TableColumns.{row_of_definition, row_of_job, row_of_batch, row_of_lot, row_of_hold, row_of_recall, row_of_sublot, definition_from, job_from, batch_from, lot_from, hold_from, recall_read, sublot_from}
 use Rattle.plant_tables_columns.proofs.RowLaws.{definition_reads, job_reads, batch_reads, lot_reads, hold_reads, sublot_reads}
-use Rattle.plant_tables_judged.proofs.SortedLemmas.{int_cmp_pos}
+use Rattle.plant_tables_read.proofs.SortedLemmas.{int_cmp_pos}
 use Rattle.plant_good_keys.proofs.Values.{in_order, good_values, newest_known}
 use Rattle.table_reads.specs.Paging.{is_beyond}
 use Rattle.plant_worklists.specs.Pages.{page_size, page_of}

@@ -27,8 +27,8 @@ use Rattle.table_reads.specs.Paging.{is_beyond, stored_order}
 use Rattle.plant_tables.proofs.Bridge.{all_filter}
 use Rattle.plant_tables_columns.specs.All.{all_from}
 use Rattle.plant_tables_columns.proofs.Options.{some_same}
-use Rattle.plant_tables_judged.proofs.SortedLemmas.{sorted_keys}
-use Rattle.plant_tables_judged.proofs.TableLemmas.{map_same, all_again}
+use Rattle.plant_tables_read.proofs.SortedLemmas.{sorted_keys}
+use Rattle.plant_tables_read.proofs.TableLemmas.{map_same, all_again}
 use Rattle.plant_keyed.specs.Sorting.{in_order}
 use Rattle.plant_keyed.specs.Paging.{IsPaged}
 use Rattle.plant_keyed.proofs.Sorting.{again_in_order}

@@ -18,7 +18,7 @@ use Rattle.plant_tables_columns.specs.Booked.{other_lot as column_lot}
 use Rattle.plant_tables_columns.specs.Kinds.{number, null_or}
 use Rattle.plant_tables_columns.specs.TableColumns.{row_of_movement}
 use Rattle.plant_tables.proofs.KeyTests.{and_true}
-use Rattle.plant_tables_judged.proofs.SortedLemmas.{int_cmp_pos}
+use Rattle.plant_tables_read.proofs.SortedLemmas.{int_cmp_pos}
 use Rattle.std.proofs.Math.Bool.{and-true, and_comm}
 
 pub text_is : (a b : List ℕ) → is_eq (value_cmp (Text a) (Text b)) ≡ same a b

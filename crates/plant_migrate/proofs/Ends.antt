@@ -16,8 +16,8 @@ use Rattle.plant_tables.specs.DeskForms.{desk_forms, later_forms}
 use Rattle.plant_tables.specs.Keyed.{HoldsTablesOf, AreKeyed}
 use Rattle.plant_tables.specs.DeskStopping.{IsAtOf, FindsOf}
 use Rattle.plant_tables.proofs.Raised.{lacks_later}
-use Rattle.plant_tables_judged.specs.Collecting.{Rows, rows_in, rows_listed}
-use Rattle.plant_tables_judged.specs.declared.desk_rows.DeskRows.{DeskRows}
+use Rattle.plant_tables_read.specs.Collecting.{Rows, rows_in, rows_listed}
+use Rattle.plant_tables_read.specs.declared.desk_rows.DeskRows.{DeskRows}
 use Rattle.plant_migrate.specs.Raised.{edges_from, raised_by}
 use Rattle.plant_migrate.specs.Steps.{IsRisable, IsCutShortWithin, FindsRisable, IsRaisedBy}
 use Rattle.plant_migrate.specs.Leaving.{IsCutShortAmid, raised_to}

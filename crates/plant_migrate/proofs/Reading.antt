@@ -16,12 +16,12 @@ use Rattle.plant_tables.specs.DeskStopping.{IsAtOf}
 use Rattle.plant_tables.proofs.Raised.{lacks_later}
 use Rattle.plant_tables_columns.specs.TableColumns.{only_meta, row_of_meta}
 use Rattle.plant_tables_columns.proofs.RowLaws.{meta_reads}
-use Rattle.plant_tables_stored.specs.Loading.{AreLoaded, Loads}
-use Rattle.plant_tables_stored.specs.declared.loaded.Loaded.{Loaded}
-use Rattle.plant_tables_judged.specs.Collecting.{rows_from, rows_in, rows_listed}
-use Rattle.plant_tables_judged.specs.declared.desk_rows.DeskRows.{DeskRows}
-use Rattle.plant_tables_judged.proofs.AgainLemmas.{read_again}
-use Rattle.plant_tables_judged.proofs.TableLemmas.{loaded_rows}
+use Rattle.plant_tables_read.specs.Loading.{AreLoaded, Loads}
+use Rattle.plant_tables_read.specs.declared.loaded.Loaded.{Loaded}
+use Rattle.plant_tables_read.specs.Collecting.{rows_from, rows_in, rows_listed}
+use Rattle.plant_tables_read.specs.declared.desk_rows.DeskRows.{DeskRows}
+use Rattle.plant_tables_read.proofs.AgainLemmas.{read_again}
+use Rattle.plant_tables_read.proofs.TableLemmas.{loaded_rows}
 use Rattle.plant_migrate.specs.Raised.{edges_from}
 use Rattle.plant_migrate.specs.Steps.{IsRaisedBy}
 use Rattle.plant_migrate.specs.Leaving.{IsReadable, IsCutShortAmid, IsRead, IsRaisedFrom}

@@ -23,9 +23,9 @@ use Rattle.plant_tables.specs.DeskForms.{desk_forms, meta_form}
 use Rattle.plant_tables.specs.Keyed.{HoldsTablesOf}
 use Rattle.plant_tables.specs.DeskStopping.{IsAtOf}
 use Rattle.plant_tables_columns.specs.TableColumns.{row_of_meta}
-use Rattle.plant_tables_stored.specs.Loading.{Loads}
-use Rattle.plant_tables_stored.specs.Version.{IsVersion}
-use Rattle.plant_tables_judged.proofs.TableLemmas.{loaded_rows}
+use Rattle.plant_tables_read.specs.Loading.{Loads}
+use Rattle.plant_tables_read.specs.Version.{IsVersion}
+use Rattle.plant_tables_read.proofs.TableLemmas.{loaded_rows}
 use Rattle.plant_migrate.specs.Leaving.{IsReadable, IsCutShortAmid, IsRaisedFrom, IsRaisedTo, TellsKnown, raised_to}
 use Rattle.plant_migrate.proofs.Ends.{raised_to_is}
 use Rattle.plant_migrate.proofs.Reading.{from_since}

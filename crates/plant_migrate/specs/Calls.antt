@@ -14,9 +14,9 @@ use Rattle.table_forms.specs.declared.fault.Fault.TheVariants as fault
 use Rattle.plant_tables.specs.DeskForms.{desk_forms}
 use Rattle.plant_tables.specs.DeskStopping.{IsAtOf}
 use Rattle.plant_tables.specs.Keyed.{AreKeyed}
-use Rattle.plant_tables_judged.specs.Collecting.{rows_in, rows_listed}
-use Rattle.plant_tables_judged.specs.declared.desk_rows.DeskRows.{DeskRows}
-use Rattle.plant_tables_stored.specs.Version.{IsVersion}
+use Rattle.plant_tables_read.specs.Collecting.{rows_in, rows_listed}
+use Rattle.plant_tables_read.specs.declared.desk_rows.DeskRows.{DeskRows}
+use Rattle.plant_tables_read.specs.Version.{IsVersion}
 use Rattle.plant_migrate.specs.Raised.{raised_by}
 use Rattle.plant_migrate.specs.Leaving.{IsReadable, IsCutShortAmid, TellsKnown, raised_to}
 use Rattle.plant_migrate.specs.Steps.{IsRisable, IsCutShortWithin}

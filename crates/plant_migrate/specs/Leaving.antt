@@ -14,10 +14,10 @@ use Rattle.plant_tables.specs.DeskStopping.{IsAtOf, FindsOf}
 use Rattle.plant_tables_columns.specs.Obeying.{HasGoodValues}
 use Rattle.plant_tables_columns.specs.TableColumns.{only_meta}
 use Rattle.plant_tables_columns.specs.declared.booked.BookedRow.{BookedRow}
-use Rattle.plant_tables_judged.specs.Collecting.{AreInOrder, Rows, rows_from}
-use Rattle.plant_tables_stored.specs.Loading.{AreLoaded, Loads}
-use Rattle.plant_tables_stored.specs.Version.{IsVersion, IsKnown}
-use Rattle.plant_tables_stored.specs.declared.loaded.Loaded.{Loaded}
+use Rattle.plant_tables_read.specs.Collecting.{AreInOrder, Rows, rows_from}
+use Rattle.plant_tables_read.specs.Loading.{AreLoaded, Loads}
+use Rattle.plant_tables_read.specs.Version.{IsVersion, IsKnown}
+use Rattle.plant_tables_read.specs.declared.loaded.Loaded.{Loaded}
 use Rattle.plant_migrate.specs.Raised.{edges_from}
 use Rattle.plant_migrate.specs.Steps.{IsRaisedBy}
 

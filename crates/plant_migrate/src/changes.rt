@@ -5,7 +5,7 @@ ghost use Rattle.std.specs.List.{filter_map};
 ghost use Rattle.plant_migrate.specs.Raised.{edge_booked, edge_change, edges_from, added_rows, AreEdges};
 
 use plant_base::{EdgeRow, MovementKind};
-use plant_tables_judged::BookedRow;
+use plant_tables_read::BookedRow;
 use plant_view::{RowChange, RowParts, edge_row};
 use std::alloc::{AllocError, Global};
 use table_forms::Fault;

@@ -18,7 +18,7 @@ use crate::changes::added_rows;
 use plant_base::Position;
 use plant_tables::commit_raising;
 use plant_tables::forms::{desk_forms, tables_in};
-use plant_tables_stored::lacks_counts;
+use plant_tables_read::lacks_counts;
 use plant_view::RowChange;
 use sqlite::{Alter, Connection};
 use sqlite_schema::schema::Schema;

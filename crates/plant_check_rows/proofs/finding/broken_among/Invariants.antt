@@ -1,6 +1,6 @@
 use Rattle.std.proofs.Common.{◌≡◌, ◌++◌, drop}
 use Rattle.std.specs.Prelude.{filter}
-use Rattle.plant_tables_judged.specs.Collecting.{rows_listed}
+use Rattle.plant_tables_read.specs.Collecting.{rows_listed}
 use Rattle.plant_check_rows.specs.Findings.{is_broken}
 use Rattle.plant_check_rows.proofs.finding.broken_among.Given as goal
 

@@ -2,8 +2,8 @@ use Rattle.std.proofs.Common.{◌≡◌, pos, ℤ, Ok, refl, inl}
 use Rattle.sqlite.specs.Held.{state}
 use Rattle.sqlite.proofs.StateLemmas.{survives_weaker}
 use Rattle.table_forms.proofs.Ending.{IsStore}
-use Rattle.plant_tables_stored.specs.Version.{IsVersion}
-use Rattle.plant_tables_stored.specs.declared.finding.FoundTables.TheVariants as tables
+use Rattle.plant_tables_read.specs.Version.{IsVersion}
+use Rattle.plant_tables_read.specs.declared.finding.FoundTables.TheVariants as tables
 use Rattle.plant_desk_store.specs.Adopting.{IsRefusedBy}
 use Rattle.plant_desk_store.proofs.Adoptions.{made_or_not, taken_or_not}
 use Rattle.plant_desk_store.proofs.Judging.{stays_good}

@@ -4,7 +4,7 @@ use Rattle.sqlite.specs.Held.{state}
 use Rattle.sqlite.specs.State.{HasCleanDisk, IsUnchanged}
 use Rattle.table_forms.specs.Standing.{StandIn}
 use Rattle.plant_tables.specs.DeskForms.{forms_of}
-use Rattle.plant_tables_stored.specs.Loading.{AreLoaded, AreRising, contents_loaded}
+use Rattle.plant_tables_read.specs.Loading.{AreLoaded, AreRising, contents_loaded}
 use Rattle.plant_desk_store.specs.Adopting.{NamesFirst}
 use Rattle.plant_desk_store.proofs.Fitting.{numbered}
 use Rattle.plant_desk_store.proofs.Judging.{good_rows, rows_of_good, broken_tables}

@@ -1,7 +1,7 @@
 use Rattle.std.proofs.Common.{◌≡◌, ◌∙◌, ap, true, false, None, Some, is_some, rules}
 use Rattle.std.proofs.lemmas.Result.{IfErr-weaker}
-use Rattle.plant_tables_stored.specs.Loading.{contents_loaded}
-use Rattle.plant_tables_judged.specs.Collecting.{rows_from, rows_listed}
+use Rattle.plant_tables_read.specs.Loading.{contents_loaded}
+use Rattle.plant_tables_read.specs.Collecting.{rows_from, rows_listed}
 use Rattle.plant_tables_columns.specs.TableColumns.{only_meta}
 use Rattle.plant_check.specs.Broken.{broken_rows}
 use Rattle.plant_desk_store.proofs.Fitting.{broken_where, fit_of, unfit_by}

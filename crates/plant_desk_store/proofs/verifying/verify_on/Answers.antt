@@ -4,7 +4,7 @@ use Rattle.sqlite.specs.Held.{state}
 use Rattle.sqlite.specs.State.{HasCleanDisk, IsUnchanged}
 use Rattle.plant_base.specs.State.{newest_schema}
 use Rattle.table_forms.specs.declared.fault.Fault.TheVariants as fault
-use Rattle.plant_tables_stored.specs.Loading.{AreLoaded}
+use Rattle.plant_tables_read.specs.Loading.{AreLoaded}
 use Rattle.plant_messages.specs.declared.reply.DeskFault.TheVariants.{Shut}
 use Rattle.plant_good_passes.proofs.Unbroken.{read_good}
 use Rattle.plant_good_keys.proofs.Values.{newest_known}

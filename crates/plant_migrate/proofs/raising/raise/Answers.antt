@@ -7,8 +7,8 @@ use Rattle.sqlite.proofs.StateLemmas.{survives_then, survives_weaker}
 use Rattle.plant_base.specs.State.{newest_schema}
 use Rattle.plant_view.specs.Tables.{tables_of}
 use Rattle.table_forms.proofs.Ending.{IsStore}
-use Rattle.plant_tables_stored.specs.Version.{IsVersion}
-use Rattle.plant_tables_stored.proofs.Versions.{one_version}
+use Rattle.plant_tables_read.specs.Version.{IsVersion}
+use Rattle.plant_tables_read.proofs.Versions.{one_version}
 use Rattle.plant_migrate.specs.Leaving.{IsRaisedTo}
 use Rattle.plant_migrate.proofs.Kept.{settled_still, not_raised}
 use Rattle.plant_migrate.proofs.Versions.{version_is, not_below, below, tells_known, stays_at, handed_on, rises_to, cut_from, raised_told}

@@ -6,8 +6,8 @@ use Rattle.sqlite.proofs.StateLemmas.{survives_then, survives_weaker}
 use Rattle.plant_view.specs.Tables.{tables_of}
 use Rattle.table_forms.proofs.Ending.{IsStore}
 use Rattle.plant_tables.specs.DeskStopping.{IsAtOf}
-use Rattle.plant_tables_judged.specs.Collecting.{rows_from, rows_in, rows_listed}
-use Rattle.plant_tables_stored.specs.Loading.{AreLoaded}
+use Rattle.plant_tables_read.specs.Collecting.{rows_from, rows_in, rows_listed}
+use Rattle.plant_tables_read.specs.Loading.{AreLoaded}
 use Rattle.plant_migrate.proofs.Kept.{at_still, settled_still, not_raised}
 use Rattle.plant_migrate.proofs.Reading.{rows_read, ends_since, cut_since, first_raised}
 use Rattle.plant_migrate.proofs.raising.raise_first.Given.{Over}

@@ -1,6 +1,0 @@
-pub mod SortedLemmas
-pub mod KeyLemmas
-pub mod TableLemmas
-pub mod AgainLemmas
-pub mod StandLemmas
-pub mod WholeLemmas

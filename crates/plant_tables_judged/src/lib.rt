@@ -1,7 +1,0 @@
-//! What was loaded of the desk's tables as rows of the desk: each value is judged by its rule.
-#![tactic(auto)]
-
-mod desk_rows;
-
-pub use desk_rows::{DeskRows, has_meta, only_meta, reading_laws, rows_of};
-pub use plant_tables_columns::{BookedRow, MovementSort, RecallState, StatedRecall};

@@ -1,0 +1,11 @@
+pub mod Fronts
+pub mod Joined
+pub mod Parted
+pub mod Texts
+pub mod Versions
+pub mod SortedLemmas
+pub mod KeyLemmas
+pub mod TableLemmas
+pub mod AgainLemmas
+pub mod StandLemmas
+pub mod WholeLemmas

@@ -1,0 +1,43 @@
+-- What table meta tells of the version of the tables.
+use Rattle.std.specs.Prelude.{◌≡◌, ◌≤◌, ◌≤ℤ◌, ◌∷◌, [], ℕ, ℤ, pos, All}
+use Rattle.sqlite.specs.Effect.{Database}
+use Rattle.sqlite.specs.Order.{Row}
+use Rattle.sqlite.specs.Schema.{Schema}
+use Rattle.sqlite.specs.declared.types.Value.TheVariants.{Int}
+use Rattle.table_reads.specs.Reading.{Lists}
+use Rattle.plant_base.specs.State.{newest_schema}
+use Rattle.plant_base.specs.Values.{greatest_moment, greatest_seq}
+use Rattle.table_forms.specs.Standing.{HasTable, IsFree}
+use Rattle.plant_tables.specs.DeskForms.{meta_form, forms_of, later_forms}
+use Rattle.plant_tables_read.specs.declared.finding.MetaNumbers.{MetaNumbers}
+
+-- the row of these numbers
+abbrev pub row_of : MetaNumbers → Row
+row_of meta = Int meta.k ∷ Int meta.schema ∷ Int meta.seq ∷ Int meta.at ∷ []
+
+-- four numbers: k is 1, the schema is at least 1, seq is 0 to the greatest, and at is a moment
+pub record IsGoodMeta (row : Row) : Type 0 where
+  pub schema : ℤ
+  pub seq : ℤ
+  pub at : ℤ
+  pub is : row ≡ Int (pos 1) ∷ Int schema ∷ Int seq ∷ Int at ∷ []
+  pub schema_low : pos 1 ≤ℤ schema
+  pub seq_low : pos 0 ≤ℤ seq
+  pub seq_high : seq ≤ℤ pos greatest_seq
+  pub at_low : pos 0 ≤ℤ at
+  pub at_high : at ≤ℤ pos greatest_moment
+
+-- table meta has one row, which is good and tells this version
+pub record IsVersion (db : Database) (n : ℤ) : Type 0 where
+  pub row : Row
+  pub alone : Lists db meta_form (row ∷ [])
+  pub good : IsGoodMeta row
+  pub tells : good.schema ≡ n
+
+-- the desk knows the schema
+abbrev pub IsKnown : ℕ → Type 0
+IsKnown schema = (1 ≤ schema) × (schema ≤ newest_schema)
+
+-- the tables of the schema stand as they are declared, and none that a later one adds
+abbrev pub HasTablesOf : ℕ → Schema → Type 0
+HasTablesOf schema there = All (HasTable there) (forms_of schema) × All (IsFree there) (later_forms schema)

@@ -1,0 +1,130 @@
+ghost use Rattle.std.specs.Prelude.{◌≡◌, IfOk, is_some, option_map};
+ghost use Rattle.plant_tables_read.specs.Loading.{contents_loaded};
+ghost use Rattle.plant_tables_columns.specs.TableColumns.{only_meta};
+ghost use Rattle.plant_tables_read.specs.Collecting.{rows_listed, rows_from};
+ghost use Rattle.plant_tables_read.specs.ReadingLaws.{StandFor, AreReadAgain, AreWholeRows, AreSameTables};
+ghost use Rattle.plant_tables_read.specs.ReadingLaws.{IsBookedAgain, IsStatedAgain};
+
+use plant_base::{
+    BatchEvent, BatchRow, Class, ControlLine, Definition, EdgeRow, Hold, Job, Lot, Mark,
+    MasterLine, Meta, Receipt, Recipe, Sublot,
+};
+use plant_tables_columns::{BookedRow, Judged, StatedRecall, judge_all, judge_receipts};
+use crate::Loaded;
+use sqlite::Row;
+use std::alloc::{AllocError, Global};
+
+/// The rows of the desk's tables, each table in the order in which it was read: no edges in the first schema, no
+/// receipts before the third, and no recalls and marks before the fourth.
+#[derive(Drop)]
+pub struct DeskRows {
+    /// The schema, and the position of the desk.
+    pub meta: Meta,
+    /// The material classes.
+    pub classes: Vec<Class>,
+    /// The material definitions.
+    pub definitions: Vec<Definition>,
+    /// The versions of master recipes, without their lines.
+    pub recipes: Vec<Recipe>,
+    /// The lines of master recipes.
+    pub master_lines: Vec<MasterLine>,
+    /// The orders with their states.
+    pub jobs: Vec<Job>,
+    /// The batches with their progress.
+    pub batches: Vec<BatchRow>,
+    /// The lines of control recipes.
+    pub control_lines: Vec<ControlLine>,
+    /// What happened to batches.
+    pub events: Vec<BatchEvent>,
+    /// The lots.
+    pub lots: Vec<Lot>,
+    /// The sublots with their stock.
+    pub sublots: Vec<Sublot>,
+    /// The movements, of which a row may lack what its kind asks for.
+    pub movements: Vec<BookedRow>,
+    /// The holds of lots.
+    pub holds: Vec<Hold>,
+    /// The edges of the genealogy.
+    pub edges: Vec<EdgeRow>,
+    /// The receipts of commands with references.
+    pub receipts: Vec<Receipt>,
+    /// The recalls, of which a row may lack what its state asks for.
+    pub recalls: Vec<StatedRecall>,
+    /// The marks of open recalls on lots and batches.
+    pub marks: Vec<Mark>,
+}
+
+/// The one row of meta. `None` where there isn't one, or a value of it breaks its rule.
+#[tactic(auto, unfolding(plant_tables_columns::specs::TableColumns::only_meta))]
+pub fn only_meta(rows: &[Row]) -> Option<Meta>
+    ensures { result ≡ only_meta rows.now }
+{
+    match rows {
+        [row] => Meta::judge(row),
+        _ => None,
+    }
+}
+
+/// Whether meta has one row, whose values obey their rules: k is 1, the schema at least 1, seq 0 to the greatest, `at` a
+/// moment.
+pub fn has_meta(loaded: &Loaded) -> bool
+    ensures { result ≡ is_some (only_meta (contents_loaded loaded.now 0)) }
+{
+    only_meta(loaded.rows(0)).is_some()
+}
+
+// What was read of a table: where that is nothing, nothing is read of all.
+macro_rules! read {
+    ($rows:expr) => {
+        match $rows {
+            Some(rows) => rows,
+            None => return Ok(None),
+        }
+    };
+}
+
+/// The rows of the desk that the stored rows stand for. `None` exactly where a value breaks its rule, or meta hasn't
+/// one row; an error where there is no memory.
+#[tactic(auto, unfolding(crate::specs::Collecting::rows_from, crate::specs::Collecting::rows_listed))]
+pub fn rows_of(alloc: Global, loaded: &Loaded) -> Result<Option<DeskRows>, AllocError>
+    ensures { IfOk result (λ rows. option_map rows_listed rows ≡ rows_from loaded.now) }
+{
+    Ok(Some(DeskRows {
+        meta: read!(only_meta(loaded.rows(0))),
+        classes: read!(judge_all(alloc, loaded.rows(1))?),
+        definitions: read!(judge_all(alloc, loaded.rows(2))?),
+        recipes: read!(judge_all(alloc, loaded.rows(3))?),
+        master_lines: read!(judge_all(alloc, loaded.rows(4))?),
+        jobs: read!(judge_all(alloc, loaded.rows(5))?),
+        batches: read!(judge_all(alloc, loaded.rows(6))?),
+        control_lines: read!(judge_all(alloc, loaded.rows(7))?),
+        events: read!(judge_all(alloc, loaded.rows(8))?),
+        lots: read!(judge_all(alloc, loaded.rows(9))?),
+        sublots: read!(judge_all(alloc, loaded.rows(10))?),
+        movements: read!(judge_all(alloc, loaded.rows(11))?),
+        holds: read!(judge_all(alloc, loaded.rows(12))?),
+        edges: read!(judge_all(alloc, loaded.rows(13))?),
+        receipts: read!(judge_receipts(alloc, loaded.rows(14))?),
+        recalls: read!(judge_all(alloc, loaded.rows(15))?),
+        marks: read!(judge_all(alloc, loaded.rows(16))?),
+    }))
+}
+
+/// What the reading of rows keeps, as laws that a proof above may cite. It does nothing when it runs.
+///
+/// - `stand_for`: rows whose lines have numbers, whose movements have the columns of their kinds, whose receipts have
+///   contents and whose recalls have the columns of their states are the tables that were loaded.
+/// - `read_again`: what a database holds is read as it was written, where the keys of the tables rise and each value
+///   obeys its rule.
+/// - `whole`: the rows of such tables have numbers, the columns of their kinds and states, and contents.
+/// - `tables`: the tables of the rows of tables are those tables.
+/// - `booked`: the row that books a movement books that movement.
+/// - `stated`: the row that tells of a recall tells of that recall.
+pub fn reading_laws()
+    ensures stand_for { StandFor }
+    ensures read_again { AreReadAgain }
+    ensures whole { AreWholeRows }
+    ensures tables { AreSameTables }
+    ensures booked { IsBookedAgain }
+    ensures stated { IsStatedAgain }
+{}

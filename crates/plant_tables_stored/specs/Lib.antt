@@ -1,4 +1,0 @@
-pub mod Loading
-pub mod Readings
-pub mod Version
-pub mod Calls

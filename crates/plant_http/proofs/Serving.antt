@@ -6,17 +6,17 @@ use Rattle.std.proofs.lemmas.Bool.Decides.{nat_tests}
 use Rattle.std.proofs.lemmas.List.{length-append}
 use Rattle.plant_base.specs.State.{State}
 use Rattle.plant_desk.specs.Keeping.{States}
-use Rattle.plant_http_input.specs.Head.{end_of_head, end_where}
-use Rattle.plant_http_input.specs.Reading.{Agrees, SpentAll}
-use Rattle.plant_http_input.specs.declared.reading.HeadEnd.{HeadEnd}
-use Rattle.plant_http_input.specs.declared.reading.HeadEnd.TheVariants as head
+use Rattle.plant_http_requests.specs.Head.{end_of_head, end_where}
+use Rattle.plant_http_requests.specs.Reading.{Agrees, SpentAll}
+use Rattle.plant_http_requests.specs.declared.reading.HeadEnd.{HeadEnd}
+use Rattle.plant_http_requests.specs.declared.reading.HeadEnd.TheVariants as head
 use Rattle.plant_http_requests.specs.Jobs.{AsksFor, EndJob}
 use Rattle.plant_http_requests.specs.declared.job.Job.{Job}
 use Rattle.plant_http.specs.Answers.{shut_out}
 use Rattle.plant_http.specs.Serving.{Serves, ServesShut, Answers, AnswersJobShut, end_of}
 use Rattle.plant_text.specs.Leaving.{LeavesAlone}
-use Rattle.plant_http_input.specs.declared.reading.InputFault.{InputFault}
-use Rattle.plant_http_input.specs.declared.reading.InputFault.TheVariants as input
+use Rattle.plant_http_requests.specs.declared.reading.InputFault.{InputFault}
+use Rattle.plant_http_requests.specs.declared.reading.InputFault.TheVariants as input
 use Rattle.plant_http.specs.declared.serve.Served.{Served}
 use Rattle.plant_http.specs.declared.serve.Served.TheVariants.{Answered, Nothing}
 use Rattle.plant_http.specs.declared.serve.ServeFault.{ServeFault}

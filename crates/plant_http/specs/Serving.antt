@@ -8,8 +8,8 @@ use Rattle.plant_messages.specs.declared.reply.DeskFault.TheVariants as fault
 use Rattle.plant_text.specs.Leaving.{LeavesAlone, LeavesAtFault}
 use Rattle.plant_text.specs.Session.{Entry, nothing, command, question, after, FaultLeaves}
 use Rattle.plant_text.specs.Writes.{AppendsFront}
-use Rattle.plant_http_input.specs.declared.reading.InputFault.{InputFault}
-use Rattle.plant_http_input.specs.declared.reading.InputFault.TheVariants as input
+use Rattle.plant_http_requests.specs.declared.reading.InputFault.{InputFault}
+use Rattle.plant_http_requests.specs.declared.reading.InputFault.TheVariants as input
 use Rattle.plant_http_requests.specs.Jobs.{JobOf, is_of_body}
 use Rattle.plant_http_requests.specs.declared.job.Job.{Job}
 use Rattle.plant_http_requests.specs.declared.job.Job.TheVariants as J

@@ -2,14 +2,14 @@
 ghost use Rattle.std.specs.Prelude.{◌≡◌, ℕ, true, false, List};
 ghost use Rattle.plant_base.specs.State.{State};
 ghost use Rattle.plant_desk.specs.Keeping.{IsSameDesk};
-ghost use Rattle.plant_http_input.specs.Reading.{Agrees};
+ghost use Rattle.plant_http_requests.specs.Reading.{Agrees};
 ghost use Rattle.plant_http.specs.Serving.{Serves, ServesShut, IfUnasked, Answers, AnswersJobShut, end_of};
 
 use crate::perform::perform;
 use crate::send::send;
 use crate::status::code_of;
 use plant_desk::Keeper;
-use plant_http_input::InputFault;
+use plant_http_requests::InputFault;
 use plant_http_requests::{Job, read_job};
 use plant_http_routes::Routes;
 use std::alloc::Global;

@@ -4,12 +4,12 @@ use Rattle.std.specs.Prelude.{slice_range}
 use Rattle.std.specs.Io.KnownBytes.{Consumes, IsAtEnd}
 use Rattle.std.proofs.lemmas.Bool.Decides.{nat_tests}
 use Rattle.std.proofs.lemmas.List.{append-nil, take-append-le, length-append, length-drop, drop-append-le}
-use Rattle.plant_http_input.specs.Head.{end_of_head}
-use Rattle.plant_http_input.specs.Reading.{Agrees, FindsHead, GoesOn, SpentAll}
-use Rattle.plant_http_input.specs.declared.reading.HeadEnd.{HeadEnd}
-use Rattle.plant_http_input.specs.declared.reading.HeadEnd.TheVariants as end
-use Rattle.plant_http_input.proofs.BodyLemmas.{gone_on}
-use Rattle.plant_http_input.proofs.HeadLemmas.{known_end}
+use Rattle.plant_http_requests.specs.Head.{end_of_head}
+use Rattle.plant_http_requests.specs.Reading.{Agrees, FindsHead, GoesOn, SpentAll}
+use Rattle.plant_http_requests.specs.declared.reading.HeadEnd.{HeadEnd}
+use Rattle.plant_http_requests.specs.declared.reading.HeadEnd.TheVariants as end
+use Rattle.plant_http_requests.proofs.BodyLemmas.{gone_on}
+use Rattle.plant_http_requests.proofs.HeadLemmas.{known_end}
 use Rattle.plant_http_requests.specs.Jobs.{body_job, finish, EndJob, HeadJob, HeadAsksFor, AsksFor, Reads, ReadsSome, StepOf}
 use Rattle.plant_http_requests.specs.Steps.{refusal_of}
 use Rattle.plant_http_requests.specs.declared.job.Content.{Content}

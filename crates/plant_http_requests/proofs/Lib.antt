@@ -1,2 +1,4 @@
+pub mod HeadLemmas
+pub mod BodyLemmas
 pub mod JobLemmas
 pub mod InputLemmas

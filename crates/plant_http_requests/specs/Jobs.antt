@@ -15,9 +15,9 @@ use Rattle.plant_text.specs.declared.read.Line.{Line}
 use Rattle.plant_text.specs.declared.read.Line.TheVariants as L
 use Rattle.plant_text.specs.declared.LineFault.{LineFault}
 use Rattle.plant_text.specs.declared.LineFault.TheVariants as line
-use Rattle.plant_http_input.specs.Head.{end_of_head}
-use Rattle.plant_http_input.specs.declared.reading.HeadEnd.{HeadEnd}
-use Rattle.plant_http_input.specs.declared.reading.HeadEnd.TheVariants as end
+use Rattle.plant_http_requests.specs.Head.{end_of_head}
+use Rattle.plant_http_requests.specs.declared.reading.HeadEnd.{HeadEnd}
+use Rattle.plant_http_requests.specs.declared.reading.HeadEnd.TheVariants as end
 use Rattle.plant_http_requests.specs.Heads.{field_lines, Parsed}
 use Rattle.plant_http_requests.specs.Steps.{refusal_of, fails, request_step}
 use Rattle.plant_http_requests.specs.declared.job.Job.{Job}

@@ -1,3 +1,5 @@
+pub mod Head
+pub mod Reading
 pub mod Fields
 pub mod Heads
 pub mod Steps

@@ -4,14 +4,18 @@
 mod bodies;
 mod fields;
 mod head;
+mod head_end;
 mod job;
 mod law;
 mod parse;
 mod read;
+mod reading;
 mod status;
 mod steps;
 
+pub use head_end::head_length;
 pub use job::{Form, Job};
 pub use law::job_law;
 pub use read::{MOST_READS, read_job};
+pub use reading::{HeadEnd, InputFault, LONGEST_HEAD, read_head, read_to};
 pub use status::{Allow, Status};

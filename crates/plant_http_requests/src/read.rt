@@ -1,7 +1,7 @@
 //! From the input to what it asks for.
 ghost use Rattle.std.specs.Prelude.{◌≡◌, ℕ, ◌≤◌, ◌+◌, ◌++◌, List, [], Some, None, length, take, drop, IfOk};
 ghost use Rattle.std.specs.Prelude.{IsErrOf, OnErr};
-ghost use Rattle.plant_http_input.specs.Reading.{Agrees, SpentAll};
+ghost use Rattle.plant_http_requests.specs.Reading.{Agrees, SpentAll};
 ghost use Rattle.plant_http_requests.specs.Jobs.{AsksFor, HeadAsksFor, LacksBody, most_reads};
 
 use crate::bodies::body_job;
@@ -9,7 +9,7 @@ use crate::head::step_of_head;
 use crate::job::{HeadStep, Job};
 use crate::status::Status;
 use crate::steps::refusal_of;
-use plant_http_input::{HeadEnd, InputFault, read_head, read_to};
+use crate::{HeadEnd, InputFault, read_head, read_to};
 use plant_http_routes::Routes;
 use std::alloc::Global;
 use std::io::Read;

@@ -1,6 +1,6 @@
 use Rattle.std.proofs.Common.{◌≡◌, Some, Err, false, refl, ap}
-use Rattle.plant_http_input.specs.declared.reading.HeadEnd.TheVariants as end
-use Rattle.plant_http_input.specs.declared.reading.InputFault.TheVariants as fault
+use Rattle.plant_http_requests.specs.declared.reading.HeadEnd.TheVariants as end
+use Rattle.plant_http_requests.specs.declared.reading.InputFault.TheVariants as fault
 use Rattle.plant_http_requests.specs.Jobs.{most_reads}
 use Rattle.plant_http_requests.specs.Steps.{refusal_of}
 use Rattle.plant_http_requests.specs.declared.status.Status.TheVariants as status

@@ -5,10 +5,10 @@ use Rattle.std.specs.Io.KnownBytes.{Consumes}
 use Rattle.std.proofs.Math.Seq.{take-append-add}
 use Rattle.std.proofs.lemmas.Bool.Decides.{nat_tests}
 use Rattle.std.proofs.lemmas.List.{append-nil, length-append, take-append-le, take_all, at_drop_more, drop_all}
-use Rattle.plant_http_input.specs.Head.{end_of_head, end_where, head_length, blank_length, or_else}
-use Rattle.plant_http_input.specs.Reading.{Agrees, FindsHead}
-use Rattle.plant_http_input.specs.declared.reading.HeadEnd.{HeadEnd}
-use Rattle.plant_http_input.specs.declared.reading.HeadEnd.TheVariants.{Found, TooLong, Early, Nothing}
+use Rattle.plant_http_requests.specs.Head.{end_of_head, end_where, head_length, blank_length, or_else}
+use Rattle.plant_http_requests.specs.Reading.{Agrees, FindsHead}
+use Rattle.plant_http_requests.specs.declared.reading.HeadEnd.{HeadEnd}
+use Rattle.plant_http_requests.specs.declared.reading.HeadEnd.TheVariants.{Found, TooLong, Early, Nothing}
 
 -- ---- the search, a place after the other
 

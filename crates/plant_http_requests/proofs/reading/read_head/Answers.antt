@@ -1,7 +1,7 @@
 use Rattle.std.proofs.Common.{rules}
-use Rattle.plant_http_input.specs.declared.reading.HeadEnd.TheVariants as end
-use Rattle.plant_http_input.proofs.HeadLemmas.{known_whole}
-use Rattle.plant_http_input.proofs.reading.read_head.Goals as goal
+use Rattle.plant_http_requests.specs.declared.reading.HeadEnd.TheVariants as end
+use Rattle.plant_http_requests.proofs.HeadLemmas.{known_whole}
+use Rattle.plant_http_requests.proofs.reading.read_head.Goals as goal
 
 pub returns-in-Some-clause-end : goal.returns-in-Some-clause-end
 returns-in-Some-clause-end g c = known_whole _ _ c.loop-bytes.bytes.items (end.Found c.in-Some.n) c.loop-bytes.invariant.0 (search rules)

@@ -1,7 +1,7 @@
 -- Where the head of a request ends.
 use Rattle.std.specs.Prelude.{ℕ, ◌+◌, ◌≤◌, ◌&&◌, ◌==◌, List, [], ◌∷◌, length, slice_index, take, nat_le, Option, Some, None, option_map, if◌then◌else◌, ⊤, ◌≡◌}
-use Rattle.plant_http_input.specs.declared.reading.HeadEnd.{HeadEnd}
-use Rattle.plant_http_input.specs.declared.reading.HeadEnd.TheVariants.{Found, TooLong, Early, Nothing}
+use Rattle.plant_http_requests.specs.declared.reading.HeadEnd.{HeadEnd}
+use Rattle.plant_http_requests.specs.declared.reading.HeadEnd.TheVariants.{Found, TooLong, Early, Nothing}
 
 -- the first of them that is there
 abbrev pub or_else : Option ℕ → Option ℕ → Option ℕ

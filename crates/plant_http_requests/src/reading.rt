@@ -1,11 +1,11 @@
 //! Reads, one after another, and what was found in them.
 ghost use Rattle.std.specs.Prelude.{◌≡◌, ℕ, ◌≤◌, ◌<◌, ◌+◌, List, [], length, IfOk, IsErrOf, OnErr};
 ghost use Rattle.std.specs.Io.KnownBytes.{Consumes};
-ghost use Rattle.plant_http_input.specs.Head.{end_of_head, LiesWithin};
-ghost use Rattle.plant_http_input.specs.Reading.{Agrees, TakesPiece, GoesOn, FindsHead, FindsBody};
-ghost use Rattle.plant_http_input.specs.Reading.{Spent, SpentAll};
+ghost use Rattle.plant_http_requests.specs.Head.{end_of_head, LiesWithin};
+ghost use Rattle.plant_http_requests.specs.Reading.{Agrees, TakesPiece, GoesOn, FindsHead, FindsBody};
+ghost use Rattle.plant_http_requests.specs.Reading.{Spent, SpentAll};
 
-use crate::head::head_length;
+use crate::head_end::head_length;
 use std::io::Read;
 use thiserror::Error;
 

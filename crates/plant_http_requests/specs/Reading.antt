@@ -2,9 +2,9 @@
 use Rattle.std.specs.Prelude.{◌≡◌, ℕ, ◌+◌, ◌<◌, ◌≤◌, List, ◌++◌, length, Option, Some, None, Bool, ⊤}
 use Rattle.std.specs.Bool.{MatchBool}
 use Rattle.std.specs.Io.KnownBytes.{Consumes, IsAtEnd}
-use Rattle.plant_http_input.specs.Head.{head_length, longest_head}
-use Rattle.plant_http_input.specs.declared.reading.HeadEnd.{HeadEnd}
-use Rattle.plant_http_input.specs.declared.reading.HeadEnd.TheVariants.{Found, TooLong, Early, Nothing}
+use Rattle.plant_http_requests.specs.Head.{head_length, longest_head}
+use Rattle.plant_http_requests.specs.declared.reading.HeadEnd.{HeadEnd}
+use Rattle.plant_http_requests.specs.declared.reading.HeadEnd.TheVariants.{Found, TooLong, Early, Nothing}
 
 -- An input is these bytes, as far as its reader tells them: those that it has left, where it tells them, and some bytes
 -- where it tells none, as a socket.

@@ -1,6 +1,6 @@
 use Rattle.std.proofs.Common.{◌∙◌, sym, arith, rules}
-use Rattle.plant_http_input.proofs.HeadLemmas.{found_here, found_later, found_nowhere}
-use Rattle.plant_http_input.proofs.head.head_length.Goals as goal
+use Rattle.plant_http_requests.proofs.HeadLemmas.{found_here, found_later, found_nowhere}
+use Rattle.plant_http_requests.proofs.head_end.head_length.Goals as goal
 
 pub returns-in-Some-clause-value : goal.returns-in-Some-clause-value
 returns-in-Some-clause-value c = sym (c.loop-at.invariant ∙ found_here c.args.bytes.now c.loop-at.at c.in-Some.n c.loop-at-test.true (search rules))

@@ -2,7 +2,7 @@
 use Rattle.std.proofs.Common.{◌≡◌, ℕ, List, [], ◌++◌, Option, Some, None, refl, sym, ap, ◌∙◌, append_assoc}
 use Rattle.std.specs.Io.KnownBytes.{IsAtEnd}
 use Rattle.std.proofs.lemmas.List.{append-nil}
-use Rattle.plant_http_input.specs.Reading.{Agrees, GoesOn}
+use Rattle.plant_http_requests.specs.Reading.{Agrees, GoesOn}
 
 -- the bytes are there now and those behind them, which are none where the reader is at its end
 pub gone_on : (start left : Option (List ℕ)) (old new : List ℕ) → GoesOn start left old new

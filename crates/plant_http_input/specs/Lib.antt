@@ -1,2 +1,0 @@
-pub mod Head
-pub mod Reading

@@ -108,7 +108,7 @@ fn words(rt: &HostRuntime) -> io::Result<Vec<String>> {
     Ok(words)
 }
 
-fn tell(rt: &HostRuntime, shape: Shape, count: u64) -> bool {
+fn print_shape(rt: &HostRuntime, shape: Shape, count: u64) -> bool {
     match run(rt.alloc(), shape, count) {
         Ok(nodes) => {
             let _ = println!(rt; "{count} edges: {nodes} nodes");
@@ -122,16 +122,16 @@ fn main(rt: HostRuntime) -> ExitCode {
     let Ok(words) = words(&rt) else {
         return ExitCode::from(FAILED);
     };
-    let told = match words.as_slice() {
+    let reported = match words.as_slice() {
         [_, word, count] => match shape_of(word.as_str()) {
-            Some(shape) => tell(&rt, shape, count.as_str().parse::<u64>().unwrap_or(FEW)),
+            Some(shape) => print_shape(&rt, shape, count.as_str().parse::<u64>().unwrap_or(FEW)),
             None => false,
         },
         _ => {
-            tell(&rt, Shape::Chain, FEW)
-                && tell(&rt, Shape::Fan, FEW)
-                && tell(&rt, Shape::Mesh, FEW)
+            print_shape(&rt, Shape::Chain, FEW)
+                && print_shape(&rt, Shape::Fan, FEW)
+                && print_shape(&rt, Shape::Mesh, FEW)
         }
     };
-    ExitCode::from(if told { 0 } else { FAILED })
+    ExitCode::from(if reported { 0 } else { FAILED })
 }

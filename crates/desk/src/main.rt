@@ -5,8 +5,8 @@
 mod opening;
 mod working;
 
-use desk_program::tell_words;
-use desk_words::{WordsFault, read_arguments, read_words, texts_of};
+use desk_cli::{WordsFault, read_arguments, read_words, texts_of};
+use desk_program::write_words_fault;
 use opening::perform_over;
 use sqlite::Wary;
 use std::io;
@@ -15,7 +15,7 @@ use std::process::ExitCode;
 fn main(rt: HostRuntime) -> ExitCode {
     let status = match perform_words(&rt) {
         Ok(status) => status,
-        Err(fault) => tell_words(&fault, &mut io::writer(&rt), &mut rt.stderr()),
+        Err(fault) => write_words_fault(&fault, &mut io::writer(&rt), &mut rt.stderr()),
     };
     ExitCode::from(status)
 }

@@ -1,18 +1,18 @@
 //! What the words tell, done over the file that they name.
 ghost use Rattle.std.specs.Prelude.{◌≡◌};
-ghost use Rattle.desk_program.specs.Performing.{after_closing};
+ghost use Rattle.desk_program.specs.Performs.{after_closing};
 
 use crate::working::do_work;
-use desk_opening::{Ended, StoreWork, Worked, work_over};
-use desk_program::{Fault, Performed, after_closing, tell_opening, tell_outcome};
-use desk_words::{Words, Work};
+use desk_cli::{Words, Work};
+use desk_file::{Ended, StoreWork, Worked, work_over};
+use desk_program::{Fault, Performed, after_closing, write_opening, write_outcome};
 use sqlite::{Alter, Connection, Start};
 
 /// The work that the words tell.
 #[derive(Clone, Copy)]
-struct ToldWork(Work);
+struct DeskWork(Work);
 
-impl StoreWork for ToldWork {
+impl StoreWork for DeskWork {
     type Outcome = Result<bool, Fault>;
 
     fn work<S: Alter + Drop>(
@@ -35,9 +35,9 @@ impl StoreWork for ToldWork {
 ///
 /// `start` stands for what the file holds before it is opened, whatever that is.
 pub(crate) fn perform_over<S: Start>(rt: &HostRuntime, words: &Words<'_>, start: S) -> u8 {
-    match work_over(rt, words.file, start, ToldWork(words.work)) {
-        Ok(ended) => tell_outcome(outcome_of(ended), &mut rt.stderr()),
-        Err(error) => tell_opening(&error, &mut rt.stderr()),
+    match work_over(rt, words.file, start, DeskWork(words.work)) {
+        Ok(ended) => write_outcome(outcome_of(ended), &mut rt.stderr()),
+        Err(error) => write_opening(&error, &mut rt.stderr()),
     }
 }
 

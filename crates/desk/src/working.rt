@@ -4,9 +4,9 @@ ghost use Rattle.sqlite.specs.Held.{state};
 ghost use Rattle.desk.specs.Served.{outcome_of};
 ghost use Rattle.desk_server.specs.Serving.{EndsServing};
 
+use desk_cli::{Serving, Work};
 use desk_program::{Fault, Performed, adopt, perform_task, performed_of};
 use desk_server::{AccessLog, ServingFault, listen_at, local_at, serve_listener};
-use desk_words::{Serving, Work};
 use plant_desk_store::Desk;
 use sqlite::{Alter, Connection};
 use std::alloc::Global;
@@ -111,7 +111,7 @@ fn serve_listening<S: Alter + Drop>(
     requires { desk.old.is_shut ≡ false }
     ensures ends { OnOk listening (EndsServing desk.new.is_shut result) }
     ensures fault { IfErr listening (λ fault. result ≡ Err fault) }
-    ensures still { OnErr listening (desk.new ≡ desk.old) }
+    ensures unchanged { OnErr listening (desk.new ≡ desk.old) }
 {
     match listening {
         Ok(listener) => serve_listener(alloc, &listener, count, desk, log),

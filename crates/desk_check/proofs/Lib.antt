@@ -1,4 +1,4 @@
-pub mod Surveying
-pub mod Reporting
-mod Floatless
-mod Listing
+pub mod FileReportIsRight
+pub mod SentencesInSequence
+mod OutcomeHasNoFloats
+mod EachDataReported

@@ -1,17 +1,17 @@
 -- How a check of a desk's file ends.
 use Rattle.std.specs.Prelude.{ℕ, List, codes, Result, Ok, Err}
 use Rattle.desk_check.specs.Outcomes.{outcome_status}
-use Rattle.desk_check.specs.declared.ending.Untold.{Untold}
-use Rattle.desk_check.specs.declared.ending.Untold.TheVariants as untold
+use Rattle.desk_check.specs.declared.ending.ReportError.{ReportError}
+use Rattle.desk_check.specs.declared.ending.ReportError.TheVariants as report_error
 use Rattle.desk_check.specs.declared.outcome.Outcome.{Outcome}
 
 -- what is told on standard error, without its LF
-abbrev pub untold_text : Untold → List ℕ
-untold_text untold.Write = codes "fault: write"
-untold_text untold.Memory = codes "fault: memory"
+abbrev pub report_error_text : ReportError → List ℕ
+report_error_text report_error.Write = codes "fault: write"
+report_error_text report_error.Memory = codes "fault: memory"
 
 -- the exit status, which is that of the outcome where this was told whole
-abbrev pub status_of : Outcome → Result (Unit {0}) Untold → ℕ
+abbrev pub status_of : Outcome → Result (Unit {0}) ReportError → ℕ
 status_of o (Ok u) = outcome_status o
-status_of o (Err untold.Write) = 3
-status_of o (Err untold.Memory) = 4
+status_of o (Err report_error.Write) = 3
+status_of o (Err report_error.Memory) = 4

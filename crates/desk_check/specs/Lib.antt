@@ -1,6 +1,6 @@
-pub mod Obstacles
+pub mod OpenErrors
 pub mod Barred
-pub mod Surveys
+pub mod FileReports
 pub mod Reports
 pub mod Rooms
 pub mod Outcomes

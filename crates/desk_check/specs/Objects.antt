@@ -17,14 +17,14 @@ use Rattle.plant_check_rows.specs.declared.finding.Findings.{Findings}
 use Rattle.plant_check_rows.specs.declared.finding.Findings.TheVariants as findings
 use Rattle.plant_check_rows.specs.declared.finding.Tested.{Tested}
 use Rattle.desk_check.specs.Barred.{index_name}
-use Rattle.desk_check.specs.Obstacles.{obstacle_name, cause_text, advice_text}
+use Rattle.desk_check.specs.OpenErrors.{open_error_name, cause_text, advice_text}
 use Rattle.desk_check.specs.Reports.{found_in}
 use Rattle.desk_check.specs.declared.barred.DeskIndex.{DeskIndex}
-use Rattle.desk_check.specs.declared.obstacle.Obstacle.{Obstacle}
+use Rattle.desk_check.specs.declared.open_error.OpenError.{OpenError}
 use Rattle.desk_check.specs.declared.outcome.Outcome.{Outcome}
-use Rattle.desk_check.specs.declared.survey.Standing.{Standing}
-use Rattle.desk_check.specs.declared.survey.Survey.{Survey}
-use Rattle.desk_check.specs.declared.survey.Survey.TheVariants as survey
+use Rattle.desk_check.specs.declared.file_report.DeskSummary.{DeskSummary}
+use Rattle.desk_check.specs.declared.file_report.FileReport.{FileReport}
+use Rattle.desk_check.specs.declared.file_report.FileReport.TheVariants as file_report
 
 abbrev pub count : ℕ → Data
 count n = number (unsigned n)
@@ -62,8 +62,8 @@ row_data (Some f) = object
 -- ---- rules
 
 abbrev pub broken_data : Rule → Option RowFault → Data
-broken_data r told = object
-    (member (codes "row") (row_data told)
+broken_data r reported = object
+    (member (codes "row") (row_data reported)
     (member (codes "rule") (count (rule_number r))
     (member (codes "says") (string (rule_text r)) no_members)))
 
@@ -77,12 +77,12 @@ each_data t (r ∷ rs) = found_data (found_in t r) ++ each_data t rs
 
 abbrev pub findings_data : Findings → Data
 findings_data findings.NoMeta = list (broken_data rule.Tables None ∷ [])
-findings_data (findings.Values told) = list (broken_data rule.Values told ∷ [])
+findings_data (findings.Values reported) = list (broken_data rule.Values reported ∷ [])
 findings_data (findings.Rows t) = list (each_data t t.rules.items)
 
 -- ---- the desk
 
-abbrev pub desk_data : Standing → Findings → Data
+abbrev pub desk_data : DeskSummary → Findings → Data
 desk_data s found = object
     (member (codes "at") (count s.at)
     (member (codes "batches") (count s.batches)
@@ -93,23 +93,23 @@ desk_data s found = object
     (member (codes "schema") (count s.schema)
     (member (codes "seq") (count s.seq) no_members))))))))
 
-abbrev pub survey_data : Option Survey → Data
-survey_data None = null
-survey_data (Some (survey.Nothing barred)) = null
-survey_data (Some (survey.Newer n)) = object (member (codes "newer") (count n) no_members)
-survey_data (Some survey.Lacking) = object (member (codes "broken") (findings_data findings.NoMeta) no_members)
-survey_data (Some (survey.Desk standing barred found)) = desk_data standing found
+abbrev pub file_report_data : Option FileReport → Data
+file_report_data None = null
+file_report_data (Some (file_report.Nothing barred)) = null
+file_report_data (Some (file_report.Newer n)) = object (member (codes "newer") (count n) no_members)
+file_report_data (Some file_report.Lacking) = object (member (codes "broken") (findings_data findings.NoMeta) no_members)
+file_report_data (Some (file_report.Desk summary barred found)) = desk_data summary found
 
 abbrev pub index_data : Option DeskIndex → Data
 index_data None = null
 index_data (Some i) = string (index_name i)
 
-abbrev pub taken_data : Option Survey → Data
+abbrev pub taken_data : Option FileReport → Data
 taken_data None = null
-taken_data (Some (survey.Nothing barred)) = index_data barred
-taken_data (Some (survey.Newer n)) = null
-taken_data (Some survey.Lacking) = null
-taken_data (Some (survey.Desk standing barred found)) = index_data barred
+taken_data (Some (file_report.Nothing barred)) = index_data barred
+taken_data (Some (file_report.Newer n)) = null
+taken_data (Some file_report.Lacking) = null
+taken_data (Some (file_report.Desk summary barred found)) = index_data barred
 
 -- ---- the whole, with the toolkit's own sentence, where there is one
 
@@ -117,17 +117,17 @@ abbrev pub sentence_data : Option (List ℕ) → Data
 sentence_data None = null
 sentence_data (Some text) = string text
 
-abbrev pub obstacle_data : Option Obstacle → Option (List ℕ) → Data
-obstacle_data None told = null
-obstacle_data (Some o) told = object
+abbrev pub open_error_data : Option OpenError → Option (List ℕ) → Data
+open_error_data None reported = null
+open_error_data (Some o) reported = object
     (member (codes "advice") (string (advice_text o))
-    (member (codes "cause") (string (obstacle_name o))
-    (member (codes "error") (sentence_data told)
+    (member (codes "cause") (string (open_error_name o))
+    (member (codes "error") (sentence_data reported)
     (member (codes "says") (string (cause_text o)) no_members))))
 
 abbrev pub outcome_data : Outcome → Option (List ℕ) → Data
-outcome_data o told = object
-    (member (codes "desk") (survey_data o.survey)
-    (member (codes "obstacle") (obstacle_data o.obstacle told)
-    (member (codes "opens") (boolean (is_none o.obstacle))
-    (member (codes "taken") (taken_data o.survey) no_members))))
+outcome_data o reported = object
+    (member (codes "desk") (file_report_data o.file_report)
+    (member (codes "obstacle") (open_error_data o.open_error reported)
+    (member (codes "opens") (boolean (is_none o.open_error))
+    (member (codes "taken") (taken_data o.file_report) no_members))))

@@ -4,18 +4,18 @@ use Rattle.plant_text.specs.Writes.{with_lf}
 use Rattle.plant_check.specs.declared.rule.Rule.{Rule}
 use Rattle.plant_check_rows.specs.declared.finding.Findings.{Findings}
 use Rattle.plant_check_rows.specs.declared.finding.Findings.TheVariants as findings
-use Rattle.desk_check.specs.Reports.{survey_text, obstacle_text}
+use Rattle.desk_check.specs.Reports.{file_report_text, open_error_text}
 use Rattle.desk_check.specs.declared.barred.DeskIndex.{DeskIndex}
-use Rattle.desk_check.specs.declared.obstacle.Obstacle.{Obstacle}
-use Rattle.desk_check.specs.declared.obstacle.Obstacle.TheVariants as obstacle
+use Rattle.desk_check.specs.declared.open_error.OpenError.{OpenError}
+use Rattle.desk_check.specs.declared.open_error.OpenError.TheVariants as open_error
 use Rattle.desk_check.specs.declared.outcome.Outcome.{Outcome}
-use Rattle.desk_check.specs.declared.survey.Survey.{Survey}
-use Rattle.desk_check.specs.declared.survey.Survey.TheVariants as survey
+use Rattle.desk_check.specs.declared.file_report.FileReport.{FileReport}
+use Rattle.desk_check.specs.declared.file_report.FileReport.TheVariants as file_report
 
 -- why a file doesn't open, or what it holds and what else keeps the desk from it
-abbrev pub outcome_of : Result Survey Obstacle → Option Obstacle → Outcome
-outcome_of (Err o) hindered = record { obstacle = Some o; survey = None }
-outcome_of (Ok s) hindered = record { obstacle = hindered; survey = Some s }
+abbrev pub outcome_of : Result FileReport OpenError → Option OpenError → Outcome
+outcome_of (Err o) hindered = record { open_error = Some o; file_report = None }
+outcome_of (Ok s) hindered = record { open_error = hindered; file_report = Some s }
 
 -- ---- the exit status
 
@@ -25,7 +25,7 @@ status_by (r ∷ rs) = 3
 
 abbrev pub findings_status : Findings → ℕ
 findings_status findings.NoMeta = 3
-findings_status (findings.Values told) = 3
+findings_status (findings.Values reported) = 3
 findings_status (findings.Rows t) = status_by t.rules.items
 
 -- this, where no index is barred
@@ -33,34 +33,34 @@ abbrev pub status_unless : Option DeskIndex → ℕ → ℕ
 status_unless None status = status
 status_unless (Some i) status = 3
 
-abbrev pub survey_status : Survey → ℕ
-survey_status (survey.Nothing barred) = status_unless barred 1
-survey_status (survey.Newer n) = 3
-survey_status survey.Lacking = 3
-survey_status (survey.Desk standing barred found) = status_unless barred (findings_status found)
+abbrev pub file_report_status : FileReport → ℕ
+file_report_status (file_report.Nothing barred) = status_unless barred 1
+file_report_status (file_report.Newer n) = 3
+file_report_status file_report.Lacking = 3
+file_report_status (file_report.Desk summary barred found) = status_unless barred (findings_status found)
 
-abbrev pub held_status : Option Survey → ℕ
+abbrev pub held_status : Option FileReport → ℕ
 held_status None = 3
-held_status (Some s) = survey_status s
+held_status (Some s) = file_report_status s
 
-abbrev pub obstacle_status : Obstacle → ℕ
-obstacle_status obstacle.Memory = 4
-obstacle_status _ = 3
+abbrev pub open_error_status : OpenError → ℕ
+open_error_status open_error.Memory = 4
+open_error_status _ = 3
 
-abbrev pub status_by_obstacle : Option Obstacle → Option Survey → ℕ
-status_by_obstacle None held = held_status held
-status_by_obstacle (Some o) held = obstacle_status o
+abbrev pub status_by_open_error : Option OpenError → Option FileReport → ℕ
+status_by_open_error None held = held_status held
+status_by_open_error (Some o) held = open_error_status o
 
 abbrev pub outcome_status : Outcome → ℕ
-outcome_status o = status_by_obstacle o.obstacle o.survey
+outcome_status o = status_by_open_error o.open_error o.file_report
 
 -- ---- sentences
 
 -- that it opens, or why it doesn't and what to do
-abbrev pub opening_text : Option Obstacle → List ℕ
+abbrev pub opening_text : Option OpenError → List ℕ
 opening_text None = with_lf (codes "The file opens.")
-opening_text (Some o) = with_lf (obstacle_text o)
+opening_text (Some o) = with_lf (open_error_text o)
 
-abbrev pub held_text : Option Survey → List ℕ
+abbrev pub held_text : Option FileReport → List ℕ
 held_text None = []
-held_text (Some s) = survey_text s
+held_text (Some s) = file_report_text s

@@ -13,20 +13,20 @@ use Rattle.plant_check_rows.specs.declared.finding.Findings.{Findings}
 use Rattle.plant_check_rows.specs.declared.finding.Findings.TheVariants as findings
 use Rattle.plant_check_rows.specs.declared.finding.Tested.{Tested}
 use Rattle.desk_check.specs.Barred.{index_name}
-use Rattle.desk_check.specs.Obstacles.{cause_text, advice_text}
+use Rattle.desk_check.specs.OpenErrors.{cause_text, advice_text}
 use Rattle.desk_check.specs.declared.barred.DeskIndex.{DeskIndex}
-use Rattle.desk_check.specs.declared.obstacle.Obstacle.{Obstacle}
-use Rattle.desk_check.specs.declared.survey.Standing.{Standing}
-use Rattle.desk_check.specs.declared.survey.Survey.{Survey}
-use Rattle.desk_check.specs.declared.survey.Survey.TheVariants as survey
+use Rattle.desk_check.specs.declared.open_error.OpenError.{OpenError}
+use Rattle.desk_check.specs.declared.file_report.DeskSummary.{DeskSummary}
+use Rattle.desk_check.specs.declared.file_report.FileReport.{FileReport}
+use Rattle.desk_check.specs.declared.file_report.FileReport.TheVariants as file_report
 
 abbrev pub rule_line : Rule → List ℕ
 rule_line r = codes "Rule " ++ (decimal (rule_number r) ++ (codes " is broken: " ++ (rule_text r ++ codes ".")))
 
-abbrev pub standing_text : Standing → List ℕ
-standing_text s = codes "It holds a desk of schema " ++ decimal s.schema ++ codes " and " ++ decimal s.seq ++ codes " commands, the last at " ++ decimal s.at ++ codes "."
+abbrev pub summary_text : DeskSummary → List ℕ
+summary_text s = codes "It holds a desk of schema " ++ decimal s.schema ++ codes " and " ++ decimal s.seq ++ codes " commands, the last at " ++ decimal s.at ++ codes "."
 
-abbrev pub counts_text : Standing → List ℕ
+abbrev pub counts_text : DeskSummary → List ℕ
 counts_text s =
     codes "Orders: " ++ decimal s.orders ++ codes ", batches: " ++ decimal s.batches ++ codes ", lots: " ++ decimal s.lots
     ++ codes ", movements: " ++ decimal s.movements ++ codes "."
@@ -39,7 +39,7 @@ row_text None = []
 row_text (Some f) = with_lf (fault_text f)
 
 abbrev pub broken_text : Rule → Option RowFault → List ℕ
-broken_text r told = with_lf (rule_line r) ++ row_text told
+broken_text r reported = with_lf (rule_line r) ++ row_text reported
 
 abbrev pub found_text : Option Finding → List ℕ
 found_text None = []
@@ -59,7 +59,7 @@ tested_text t (r ∷ rs) = each_text t (r ∷ rs)
 
 abbrev pub findings_text : Findings → List ℕ
 findings_text findings.NoMeta = broken_text rule.Tables None
-findings_text (findings.Values told) = broken_text rule.Values told
+findings_text (findings.Values reported) = broken_text rule.Values reported
 findings_text (findings.Rows t) = tested_text t t.rules.items
 
 -- that something else bears the name of an index
@@ -74,14 +74,14 @@ abbrev pub nothing_text : Option DeskIndex → List ℕ
 nothing_text None = with_lf (codes "It holds no desk: the next word of the desk over it makes one.")
 nothing_text (Some i) = with_lf (codes "It holds no desk, and none can be made in it.") ++ with_lf (index_text i)
 
-abbrev pub desk_text : Standing → List ℕ
-desk_text s = with_lf (standing_text s) ++ with_lf (counts_text s)
+abbrev pub desk_text : DeskSummary → List ℕ
+desk_text s = with_lf (summary_text s) ++ with_lf (counts_text s)
 
-abbrev pub survey_text : Survey → List ℕ
-survey_text (survey.Nothing barred) = nothing_text barred
-survey_text (survey.Newer schema) = with_lf (newer_text schema)
-survey_text survey.Lacking = with_lf (rule_line rule.Tables)
-survey_text (survey.Desk standing barred found) = desk_text standing ++ (findings_text found ++ barred_text barred)
+abbrev pub file_report_text : FileReport → List ℕ
+file_report_text (file_report.Nothing barred) = nothing_text barred
+file_report_text (file_report.Newer schema) = with_lf (newer_text schema)
+file_report_text file_report.Lacking = with_lf (rule_line rule.Tables)
+file_report_text (file_report.Desk summary barred found) = desk_text summary ++ (findings_text found ++ barred_text barred)
 
-abbrev pub obstacle_text : Obstacle → List ℕ
-obstacle_text o = cause_text o ++ codes " " ++ advice_text o
+abbrev pub open_error_text : OpenError → List ℕ
+open_error_text o = cause_text o ++ codes " " ++ advice_text o

@@ -1,7 +1,7 @@
 -- What keeps the desk from a file that opens.
 use Rattle.std.specs.Prelude.{ℕ, ◌+◌, Bool, true, not, ◌||◌, ◌==◌, nat_le, bit_and, if◌then◌else◌, Option, Some, None}
-use Rattle.desk_check.specs.declared.obstacle.Obstacle.{Obstacle}
-use Rattle.desk_check.specs.declared.obstacle.Obstacle.TheVariants as obstacle
+use Rattle.desk_check.specs.declared.open_error.OpenError.{OpenError}
+use Rattle.desk_check.specs.declared.open_error.OpenError.TheVariants as open_error
 use Rattle.desk_check.specs.declared.room.Rights.{Rights}
 
 -- a page of the log with its head
@@ -23,7 +23,7 @@ lets_make folder user = if user == 0 then true
     else (allows folder.mode 0o030 || allows folder.mode 0o003))
 
 -- what keeps the desk from a file that may be written or not, may grow with its log or not, and whose log is there or may be made or not
-abbrev pub hindrance : Bool → Bool → Bool → Option Obstacle
-hindrance writable grows logs = if not writable then Some obstacle.Unwritable
-    else (if not grows then Some obstacle.Limited
-    else (if not logs then Some obstacle.NoLog else None))
+abbrev pub hindrance : Bool → Bool → Bool → Option OpenError
+hindrance writable grows logs = if not writable then Some open_error.Unwritable
+    else (if not grows then Some open_error.Limited
+    else (if not logs then Some open_error.NoLog else None))

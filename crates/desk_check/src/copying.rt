@@ -1,7 +1,7 @@
 //! The bytes of a file and of its log, read into memory. Nothing is written to either.
-use crate::obstacle::Obstacle;
+use crate::open_error::OpenError;
 use crate::room::{Rights, growth_limit, hindrance, lets_make, takes_page};
-use crate::trying::tried_beside;
+use crate::trying::tried_sibling;
 use os::RangeLock;
 use std::fs::{self, File, Metadata, OpenOptions};
 use std::io::{self, ErrorKind, Read};
@@ -13,7 +13,7 @@ use std::os::unix::fs::MetadataExt;
 pub(crate) struct Copied {
     pub(crate) log: Vec<u8>,
     pub(crate) db: Vec<u8>,
-    pub(crate) hindered: Option<Obstacle>,
+    pub(crate) hindered: Option<OpenError>,
 }
 
 /// The folder of a file, as the name tells it.
@@ -25,21 +25,21 @@ fn folder_of(file: &str) -> &str {
 }
 
 /// Why a file isn't found.
-fn unfound(rt: &HostRuntime, file: &str) -> Obstacle {
+fn unfound(rt: &HostRuntime, file: &str) -> OpenError {
     if fs::symlink_metadata(rt, file).is_ok() {
-        return Obstacle::NoFile;
+        return OpenError::NoFile;
     }
     match fs::metadata(rt, folder_of(file)) {
-        Ok(found) if found.is_dir() => Obstacle::Missing,
-        _ => Obstacle::NoFolder,
+        Ok(found) if found.is_dir() => OpenError::Missing,
+        _ => OpenError::NoFolder,
     }
 }
 
 /// Whether there is such a file, which is a regular one with no second name, by what the system says of it.
-fn is_there(found: io::Result<Metadata>) -> Result<bool, Obstacle> {
+fn is_there(found: io::Result<Metadata>) -> Result<bool, OpenError> {
     match found {
-        Ok(found) if !found.is_file() => Err(Obstacle::NoFile),
-        Ok(found) if found.nlink() != 1 => Err(Obstacle::Linked),
+        Ok(found) if !found.is_file() => Err(OpenError::NoFile),
+        Ok(found) if found.nlink() != 1 => Err(OpenError::Linked),
         Ok(_) => Ok(true),
         Err(error) if error.kind() == ErrorKind::NotFound => Ok(false),
         Err(error) => Err(error.into()),
@@ -47,7 +47,7 @@ fn is_there(found: io::Result<Metadata>) -> Result<bool, Obstacle> {
 }
 
 /// Opens a file that is there, for writing as well where this user may write it; and whether that is so. Nothing is written.
-fn open_there(rt: &HostRuntime, file: &str) -> Result<(File, bool), Obstacle> {
+fn open_there(rt: &HostRuntime, file: &str) -> Result<(File, bool), OpenError> {
     match OpenOptions::new().read(true).write(true).open(rt, file) {
         Ok(opened) => Ok((apart(opened)?, true)),
         Err(_) => Ok((apart(fs::open(rt, file)?)?, false)),
@@ -55,7 +55,7 @@ fn open_there(rt: &HostRuntime, file: &str) -> Result<(File, bool), Obstacle> {
 }
 
 /// An open file that isn't in the place of a standard stream: what is written to a stream that was closed must not land in it.
-fn apart(file: File) -> Result<File, Obstacle> {
+fn apart(file: File) -> Result<File, OpenError> {
     if file.as_raw_fd() > 2 {
         return Ok(file);
     }
@@ -63,7 +63,7 @@ fn apart(file: File) -> Result<File, Obstacle> {
 }
 
 /// Locks an open file as the desk does, until it is closed; where it may only be read, so that others may still read it.
-fn lock(file: &File, writable: bool) -> Result<(), Obstacle> {
+fn lock(file: &File, writable: bool) -> Result<(), OpenError> {
     let kind = if writable {
         RangeLock::Exclusive
     } else {
@@ -75,13 +75,13 @@ fn lock(file: &File, writable: bool) -> Result<(), Obstacle> {
     }
     let error = io::Error::from_raw_os_error(os::errno());
     if error.kind() == ErrorKind::WouldBlock {
-        return Err(Obstacle::Locked);
+        return Err(OpenError::Locked);
     }
     Err(error.into())
 }
 
 /// All bytes of an open file.
-fn bytes_of(rt: &HostRuntime, file: &mut File) -> Result<Vec<u8>, Obstacle> {
+fn bytes_of(rt: &HostRuntime, file: &mut File) -> Result<Vec<u8>, OpenError> {
     let mut bytes = Vec::new(rt.alloc());
     file.read_to_end(&mut bytes)?;
     Ok(bytes)
@@ -96,12 +96,12 @@ fn begins_with_something(bytes: &[u8]) -> bool {
 }
 
 /// The name of what stands beside a file.
-fn beside(rt: &HostRuntime, file: &str, end: &str) -> Result<String, Obstacle> {
-    format!(in rt.alloc(); "{file}{end}").map_err(|_| Obstacle::Memory)
+fn sibling(rt: &HostRuntime, file: &str, end: &str) -> Result<String, OpenError> {
+    format!(in rt.alloc(); "{file}{end}").map_err(|_| OpenError::Memory)
 }
 
 /// Whether SQLite left a journal of this name, which has something to play back.
-fn has_journal(rt: &HostRuntime, file: &str) -> Result<bool, Obstacle> {
+fn has_journal(rt: &HostRuntime, file: &str) -> Result<bool, OpenError> {
     match fs::symlink_metadata(rt, file) {
         Ok(found) if found.is_file() => {}
         Ok(_) => return Ok(true),
@@ -121,7 +121,7 @@ struct Log {
 }
 
 /// The log of this name.
-fn log_of(rt: &HostRuntime, file: &str) -> Result<Log, Obstacle> {
+fn log_of(rt: &HostRuntime, file: &str) -> Result<Log, OpenError> {
     // No link is followed to a log.
     if !is_there(fs::symlink_metadata(rt, file))? {
         return Ok(Log {
@@ -160,7 +160,7 @@ fn hindered(
     bytes: usize,
     writable: bool,
     log: &Log,
-) -> Option<Obstacle> {
+) -> Option<OpenError> {
     let limit = growth_limit();
     let grows = takes_page(limit, bytes) && takes_page(limit, log.bytes.len());
     let logs = log.is_there || may_make(rt, folder_of(real));
@@ -171,11 +171,11 @@ fn hindered(
 fn tried(
     rt: &HostRuntime,
     real: &str,
-    hindered: Option<Obstacle>,
+    hindered: Option<OpenError>,
     tries_room: bool,
-) -> Option<Obstacle> {
+) -> Option<OpenError> {
     match hindered {
-        None if tries_room => tried_beside(rt, real),
+        None if tries_room => tried_sibling(rt, real),
         found => found,
     }
 }
@@ -189,18 +189,18 @@ pub(crate) fn copy_file(
     rt: &HostRuntime,
     file: &str,
     tries_room: bool,
-) -> Result<Copied, Obstacle> {
+) -> Result<Copied, OpenError> {
     if !is_there(fs::metadata(rt, file))? {
         return Err(unfound(rt, file));
     }
     let real = fs::canonicalize(rt, file)?;
     let (mut db, writable) = open_there(rt, real.as_str())?;
     lock(&db, writable)?;
-    let journal = beside(rt, real.as_str(), "-journal")?;
+    let journal = sibling(rt, real.as_str(), "-journal")?;
     if has_journal(rt, journal.as_str())? {
-        return Err(Obstacle::Journal);
+        return Err(OpenError::Journal);
     }
-    let log = beside(rt, real.as_str(), "-wal")?;
+    let log = sibling(rt, real.as_str(), "-wal")?;
     let log = log_of(rt, log.as_str())?;
     let bytes = bytes_of(rt, &mut db)?;
     let hindered = hindered(rt, real.as_str(), bytes.len(), writable, &log);

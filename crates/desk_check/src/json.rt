@@ -8,11 +8,11 @@ ghost use Rattle.desk_check.specs.Reports.{found_in};
 ghost use Rattle.desk_check.specs.Objects as spec;
 
 use crate::barred::DeskIndex;
-use crate::ending::Untold;
-use crate::obstacle::Obstacle;
+use crate::ending::ReportError;
+use crate::file_report::{DeskSummary, FileReport};
+use crate::open_error::OpenError;
 use crate::outcome::Outcome;
-use crate::report::tell;
-use crate::survey::{Standing, Survey};
+use crate::report::write_report;
 use plant_check::Rule;
 use plant_check_rows::{Column, Findings, Key, RowFault, Tested, rule_text};
 use serde_json::{Value, json};
@@ -75,7 +75,7 @@ fn broken_value(alloc: Global, rule: Rule, row: &Option<RowFault>) -> Result<Val
 }
 
 /// A list of this one.
-#[tactic(auto, using(crate::proofs::Listing::listed))]
+#[tactic(auto, using(crate::proofs::EachDataReported::listed))]
 fn alone(alloc: Global, value: Value) -> Result<Value, AllocError>
     ensures { IfOk result (λ v. view v ≡ spec.list (view value ∷ [])) }
 {
@@ -124,7 +124,7 @@ fn each_value(alloc: Global, tested: &Tested, rules: &[Rule]) -> Result<Vec<Valu
     Ok(list)
 }
 
-#[tactic(auto, using(crate::proofs::Listing::listed))]
+#[tactic(auto, using(crate::proofs::EachDataReported::listed))]
 fn findings_value(alloc: Global, findings: &Findings) -> Result<Value, AllocError>
     ensures { IfOk result (λ v. view v ≡ spec.findings_data findings.now) }
 {
@@ -139,38 +139,42 @@ fn findings_value(alloc: Global, findings: &Findings) -> Result<Value, AllocErro
     }
 }
 
-fn desk_value(alloc: Global, standing: &Standing, findings: &Findings) -> Result<Value, AllocError>
-    ensures { IfOk result (λ v. view v ≡ spec.desk_data standing.now findings.now) }
+fn desk_value(
+    alloc: Global,
+    summary: &DeskSummary,
+    findings: &Findings,
+) -> Result<Value, AllocError>
+    ensures { IfOk result (λ v. view v ≡ spec.desk_data summary.now findings.now) }
 {
     let broken = findings_value(alloc, findings)?;
     json!(in alloc; {
-        "at": (standing.at), "batches": (standing.batches), "broken": broken, "lots": (standing.lots),
-        "movements": (standing.movements), "orders": (standing.orders), "schema": (standing.schema), "seq": (standing.seq)
+        "at": (summary.at), "batches": (summary.batches), "broken": broken, "lots": (summary.lots),
+        "movements": (summary.movements), "orders": (summary.orders), "schema": (summary.schema), "seq": (summary.seq)
     })
 }
 
 /// What is told of a desk whose tables don't stand.
 fn lacking_value(alloc: Global) -> Result<Value, AllocError>
-    ensures { IfOk result (λ v. view v ≡ spec.survey_data (Some Survey.Lacking)) }
+    ensures { IfOk result (λ v. view v ≡ spec.file_report_data (Some FileReport.Lacking)) }
 {
     let broken = findings_value(alloc, &Findings::NoMeta)?;
     json!(in alloc; {"broken": broken})
 }
 
-fn survey_value(alloc: Global, survey: &Option<Survey>) -> Result<Value, AllocError>
-    ensures { IfOk result (λ v. view v ≡ spec.survey_data survey.now) }
+fn file_report_value(alloc: Global, file_report: &Option<FileReport>) -> Result<Value, AllocError>
+    ensures { IfOk result (λ v. view v ≡ spec.file_report_data file_report.now) }
 {
-    match survey {
-        None | Some(Survey::Nothing(_)) => Ok(Value::Null),
-        Some(Survey::Newer(schema)) => json!(in alloc; {"newer": (*schema)}),
-        Some(Survey::Lacking) => lacking_value(alloc),
+    match file_report {
+        None | Some(FileReport::Nothing(_)) => Ok(Value::Null),
+        Some(FileReport::Newer(schema)) => json!(in alloc; {"newer": (*schema)}),
+        Some(FileReport::Lacking) => lacking_value(alloc),
         Some(
-            Survey::Desk {
-                standing,
+            FileReport::Desk {
+                summary,
                 findings,
                 ..
             },
-        ) => desk_value(alloc, standing, findings),
+        ) => desk_value(alloc, summary, findings),
     }
 }
 
@@ -184,13 +188,13 @@ fn index_value(alloc: Global, index: Option<DeskIndex>) -> Result<Value, AllocEr
 }
 
 /// The name of the index that can't be made, where there is one.
-fn taken_value(alloc: Global, survey: &Option<Survey>) -> Result<Value, AllocError>
-    ensures { IfOk result (λ v. view v ≡ spec.taken_data survey.now) }
+fn taken_value(alloc: Global, file_report: &Option<FileReport>) -> Result<Value, AllocError>
+    ensures { IfOk result (λ v. view v ≡ spec.taken_data file_report.now) }
 {
-    match survey {
-        Some(Survey::Nothing(barred)) => index_value(alloc, *barred),
-        Some(Survey::Desk { barred, .. }) => index_value(alloc, *barred),
-        None | Some(Survey::Newer(_)) | Some(Survey::Lacking) => Ok(Value::Null),
+    match file_report {
+        Some(FileReport::Nothing(barred)) => index_value(alloc, *barred),
+        Some(FileReport::Desk { barred, .. }) => index_value(alloc, *barred),
+        None | Some(FileReport::Newer(_)) | Some(FileReport::Lacking) => Ok(Value::Null),
     }
 }
 
@@ -202,7 +206,7 @@ fn text_value(alloc: Global, text: &str) -> Result<Value, AllocError>
 
 /// The toolkit's own sentence, where it has one.
 fn error_value(alloc: Global, error: Option<Error>) -> Result<Value, AllocError>
-    ensures { IfOk result (λ v. (told : Option (List ℕ)) × (view v ≡ spec.sentence_data told)) }
+    ensures { IfOk result (λ v. (reported : Option (List ℕ)) × (view v ≡ spec.sentence_data reported)) }
 {
     match error {
         None => Ok(Value::Null),
@@ -213,52 +217,52 @@ fn error_value(alloc: Global, error: Option<Error>) -> Result<Value, AllocError>
     }
 }
 
-fn cause_value(alloc: Global, obstacle: Obstacle) -> Result<Value, AllocError>
-    ensures { IfOk result (λ v. (told : Option (List ℕ)) × (view v ≡ spec.obstacle_data (Some obstacle) told)) }
+fn cause_value(alloc: Global, open_error: OpenError) -> Result<Value, AllocError>
+    ensures { IfOk result (λ v. (reported : Option (List ℕ)) × (view v ≡ spec.open_error_data (Some open_error) reported)) }
 {
-    let error = error_value(alloc, obstacle.error())?;
+    let error = error_value(alloc, open_error.error())?;
     json!(in alloc; {
-        "advice": (obstacle.advice()), "cause": (obstacle.name()), "error": error, "says": (obstacle.cause())
+        "advice": (open_error.advice()), "cause": (open_error.name()), "error": error, "says": (open_error.cause())
     })
 }
 
-fn obstacle_value(alloc: Global, obstacle: &Option<Obstacle>) -> Result<Value, AllocError>
-    ensures { IfOk result (λ v. (told : Option (List ℕ)) × (view v ≡ spec.obstacle_data obstacle.now told)) }
+fn open_error_value(alloc: Global, open_error: &Option<OpenError>) -> Result<Value, AllocError>
+    ensures { IfOk result (λ v. (reported : Option (List ℕ)) × (view v ≡ spec.open_error_data open_error.now reported)) }
 {
-    match obstacle {
+    match open_error {
         None => Ok(Value::Null),
-        Some(obstacle) => cause_value(alloc, *obstacle),
+        Some(open_error) => cause_value(alloc, *open_error),
     }
 }
 
 fn outcome_value(alloc: Global, outcome: &Outcome) -> Result<Value, AllocError>
-    ensures { IfOk result (λ v. (told : Option (List ℕ)) × (view v ≡ spec.outcome_data outcome.now told)) }
+    ensures { IfOk result (λ v. (reported : Option (List ℕ)) × (view v ≡ spec.outcome_data outcome.now reported)) }
 {
-    let desk = survey_value(alloc, &outcome.survey)?;
-    let obstacle = obstacle_value(alloc, &outcome.obstacle)?;
-    let taken = taken_value(alloc, &outcome.survey)?;
-    let opens = outcome.obstacle.is_none();
-    json!(in alloc; {"desk": desk, "obstacle": obstacle, "opens": opens, "taken": taken})
+    let desk = file_report_value(alloc, &outcome.file_report)?;
+    let open_error = open_error_value(alloc, &outcome.open_error)?;
+    let taken = taken_value(alloc, &outcome.file_report)?;
+    let opens = outcome.open_error.is_none();
+    json!(in alloc; {"desk": desk, "obstacle": open_error, "opens": opens, "taken": taken})
 }
 
 fn object_text(alloc: Global, outcome: &Outcome) -> Result<String, AllocError>
-    ensures { IfOk result (λ text. (told : Option (List ℕ)) × (string_bytes text ≡ compact_text (spec.outcome_data outcome.now told))) }
+    ensures { IfOk result (λ text. (reported : Option (List ℕ)) × (string_bytes text ≡ compact_text (spec.outcome_data outcome.now reported))) }
 {
     let value = outcome_value(alloc, outcome)?;
     value.to_string(alloc)
 }
 
 /// Tells an outcome as one JSON object, in a line.
-pub(crate) fn tell_object<W: Write>(
+pub(crate) fn write_object<W: Write>(
     alloc: Global,
     writer: &mut W,
     outcome: &Outcome,
-) -> Result<(), Untold>
-    ensures { OnOk result ((told : Option (List ℕ)) × Appends (W.contents writer.old) (W.contents writer.new)
-        (with_lf (compact_text (spec.outcome_data outcome.now told)))) }
+) -> Result<(), ReportError>
+    ensures { OnOk result ((reported : Option (List ℕ)) × Appends (W.contents writer.old) (W.contents writer.new)
+        (with_lf (compact_text (spec.outcome_data outcome.now reported)))) }
 {
     match object_text(alloc, outcome) {
-        Ok(text) => tell(writer, text.as_bytes()),
-        Err(_) => Err(Untold::Memory),
+        Ok(text) => write_report(writer, text.as_bytes()),
+        Err(_) => Err(ReportError::Memory),
     }
 }

@@ -5,25 +5,25 @@
 mod barred;
 mod copying;
 mod ending;
+mod file_report;
 mod json;
-mod obstacle;
+mod open_error;
 mod opening;
 mod outcome;
 mod report;
 mod room;
-mod survey;
 mod trying;
 
-use desk_words::{WordsFault, read_arguments, read_desk_check, tell_refused, texts_of};
+use desk_cli::{WordsFault, print_refused, read_arguments, read_desk_check, texts_of};
 use ending::status_of;
-use outcome::{check_file, tell_outcome};
+use outcome::{check_file, write_outcome};
 use std::io;
 use std::process::ExitCode;
 
 fn main(rt: HostRuntime) -> ExitCode {
     let status = match check_named(&rt) {
         Ok(status) => status,
-        Err(fault) => tell_refused(&rt, &fault),
+        Err(fault) => print_refused(&rt, &fault),
     };
     ExitCode::from(status)
 }
@@ -34,9 +34,9 @@ fn check_named(rt: &HostRuntime) -> Result<u8, WordsFault> {
     let texts = texts_of(rt.alloc(), arguments.as_slice())?;
     let check = read_desk_check(rt.alloc(), texts.as_slice())?;
     let outcome = check_file(rt, check.file, check.tries_room);
-    let told = tell_outcome(rt.alloc(), &mut io::writer(rt), check.is_json, &outcome);
-    if let Err(untold) = &told {
-        let _ = eprintln!(rt; "{untold}");
+    let reported = write_outcome(rt.alloc(), &mut io::writer(rt), check.is_json, &outcome);
+    if let Err(report_error) = &reported {
+        let _ = eprintln!(rt; "{report_error}");
     }
-    Ok(status_of(&outcome, &told))
+    Ok(status_of(&outcome, &reported))
 }

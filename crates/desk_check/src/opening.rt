@@ -2,14 +2,14 @@
 ghost use Rattle.std.specs.Prelude.{IfOk, IsTrue};
 ghost use Rattle.sqlite_disk.specs.Memory.{memory_is_usable};
 
-use crate::obstacle::{Obstacle, obstacle_in, obstacle_of};
-use crate::survey::{Survey, survey_store};
+use crate::file_report::{FileReport, report_on_store};
+use crate::open_error::{OpenError, open_error_in, open_error_of};
 use sqlite::{Connection, FileStore, Files, Options};
 use sqlite_disk::{Disk, Memory};
 use std::alloc::Global;
 
 /// The bytes as a file in memory. `Memory` where there is none.
-fn memory_of(alloc: Global, bytes: &[u8]) -> Result<Memory, Obstacle>
+fn memory_of(alloc: Global, bytes: &[u8]) -> Result<Memory, OpenError>
     ensures { IfOk result (λ memory. IsTrue (memory_is_usable memory)) }
 {
     let mut memory = Memory::new(alloc);
@@ -18,7 +18,7 @@ fn memory_of(alloc: Global, bytes: &[u8]) -> Result<Memory, Obstacle>
     }
     match memory.write_at(0, bytes) {
         Ok(()) => Ok(memory),
-        Err(_) => Err(Obstacle::Memory),
+        Err(_) => Err(OpenError::Memory),
     }
 }
 
@@ -28,20 +28,24 @@ fn store_over(
     alloc: Global,
     log: &[u8],
     db: &[u8],
-) -> Result<Connection<FileStore<Memory>>, Obstacle> {
+) -> Result<Connection<FileStore<Memory>>, OpenError> {
     let log = memory_of(alloc, log)?;
     let db = memory_of(alloc, db)?;
     match Connection::open_files(alloc, Files { log, db }, Options::new(7)) {
         Ok(connection) => Ok(connection),
-        Err((error, _)) => Err(obstacle_of(error)),
+        Err((error, _)) => Err(open_error_of(error)),
     }
 }
 
 /// What is told of the store that these bytes of a log and of a file hold, or why it doesn't open.
-pub(crate) fn survey_bytes(alloc: Global, log: &[u8], db: &[u8]) -> Result<Survey, Obstacle> {
+pub(crate) fn report_on_bytes(
+    alloc: Global,
+    log: &[u8],
+    db: &[u8],
+) -> Result<FileReport, OpenError> {
     let mut connection = store_over(alloc, log, db)?;
-    match survey_store(alloc, &mut connection) {
-        Ok(survey) => Ok(survey),
-        Err(fault) => Err(obstacle_in(fault)),
+    match report_on_store(alloc, &mut connection) {
+        Ok(file_report) => Ok(file_report),
+        Err(fault) => Err(open_error_in(fault)),
     }
 }

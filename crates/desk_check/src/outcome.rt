@@ -5,12 +5,12 @@ ghost use Rattle.desk_check.specs.Outcomes as spec;
 
 use crate::barred::DeskIndex;
 use crate::copying::copy_file;
-use crate::ending::Untold;
-use crate::json::tell_object;
-use crate::obstacle::Obstacle;
-use crate::opening::survey_bytes;
-use crate::report::{tell, tell_obstacle, tell_survey};
-use crate::survey::Survey;
+use crate::ending::ReportError;
+use crate::file_report::FileReport;
+use crate::json::write_object;
+use crate::open_error::OpenError;
+use crate::opening::report_on_bytes;
+use crate::report::{write_file_report, write_open_error, write_report};
 use plant_check_rows::Findings;
 use std::alloc::Global;
 use std::io::Write;
@@ -18,22 +18,22 @@ use std::io::Write;
 /// What came of a check: why the file doesn't open, and what it holds, where that could be read.
 #[derive(Drop)]
 pub(crate) struct Outcome {
-    pub(crate) obstacle: Option<Obstacle>,
-    pub(crate) survey: Option<Survey>,
+    pub(crate) open_error: Option<OpenError>,
+    pub(crate) file_report: Option<FileReport>,
 }
 
 /// The outcome of a check whose bytes were surveyed so, of a file from which else this keeps the desk.
-fn outcome_of(surveyed: Result<Survey, Obstacle>, hindered: Option<Obstacle>) -> Outcome
-    ensures { result ≡ spec.outcome_of surveyed hindered }
+fn outcome_of(reported_on: Result<FileReport, OpenError>, hindered: Option<OpenError>) -> Outcome
+    ensures { result ≡ spec.outcome_of reported_on hindered }
 {
-    match surveyed {
-        Err(obstacle) => Outcome {
-            obstacle: Some(obstacle),
-            survey: None,
+    match reported_on {
+        Err(open_error) => Outcome {
+            open_error: Some(open_error),
+            file_report: None,
         },
-        Ok(survey) => Outcome {
-            obstacle: hindered,
-            survey: Some(survey),
+        Ok(file_report) => Outcome {
+            open_error: hindered,
+            file_report: Some(file_report),
         },
     }
 }
@@ -42,9 +42,9 @@ fn outcome_of(surveyed: Result<Survey, Obstacle>, hindered: Option<Obstacle>) ->
 /// written.
 pub(crate) fn check_file(rt: &HostRuntime, file: &str, tries_room: bool) -> Outcome {
     match copy_file(rt, file, tries_room) {
-        Err(obstacle) => outcome_of(Err(obstacle), None),
+        Err(open_error) => outcome_of(Err(open_error), None),
         Ok(copied) => outcome_of(
-            survey_bytes(rt.alloc(), copied.log.as_slice(), copied.db.as_slice()),
+            report_on_bytes(rt.alloc(), copied.log.as_slice(), copied.db.as_slice()),
             copied.hindered,
         ),
     }
@@ -75,13 +75,13 @@ fn status_unless(barred: Option<DeskIndex>, status: u8) -> u8
 
 /// The exit status by what a file holds that opens: 0 where that is a desk that breaks no rule, 1 where it is none and one can be made
 /// in it, and else 3.
-fn survey_status(survey: &Survey) -> u8
-    ensures { result ≡ spec.survey_status survey.now }
+fn file_report_status(file_report: &FileReport) -> u8
+    ensures { result ≡ spec.file_report_status file_report.now }
 {
-    match survey {
-        Survey::Nothing(barred) => status_unless(*barred, 1),
-        Survey::Newer(_) | Survey::Lacking => 3,
-        Survey::Desk {
+    match file_report {
+        FileReport::Nothing(barred) => status_unless(*barred, 1),
+        FileReport::Newer(_) | FileReport::Lacking => 3,
+        FileReport::Desk {
             barred,
             findings,
             ..
@@ -90,21 +90,21 @@ fn survey_status(survey: &Survey) -> u8
 }
 
 /// The exit status by what is held, which is 3 where that isn't known.
-fn held_status(survey: &Option<Survey>) -> u8
-    ensures { result ≡ spec.held_status survey.now }
+fn held_status(file_report: &Option<FileReport>) -> u8
+    ensures { result ≡ spec.held_status file_report.now }
 {
-    match survey {
+    match file_report {
         None => 3,
-        Some(survey) => survey_status(survey),
+        Some(file_report) => file_report_status(file_report),
     }
 }
 
 /// The exit status by why a file doesn't open: 4 for want of memory, and else 3.
-fn obstacle_status(obstacle: Obstacle) -> u8
-    ensures { result ≡ spec.obstacle_status obstacle }
+fn open_error_status(open_error: OpenError) -> u8
+    ensures { result ≡ spec.open_error_status open_error }
 {
-    match obstacle {
-        Obstacle::Memory => 4,
+    match open_error {
+        OpenError::Memory => 4,
         _ => 3,
     }
 }
@@ -115,65 +115,73 @@ impl Outcome {
     pub(crate) fn status(&self) -> u8
         ensures { result ≡ spec.outcome_status self.now }
     {
-        match &self.obstacle {
-            None => held_status(&self.survey),
-            Some(obstacle) => obstacle_status(*obstacle),
+        match &self.open_error {
+            None => held_status(&self.file_report),
+            Some(open_error) => open_error_status(*open_error),
         }
     }
 }
 
 /// Tells that the file opens.
-fn tell_opens<W: Write>(writer: &mut W) -> Result<(), Untold>
+fn write_opens<W: Write>(writer: &mut W) -> Result<(), ReportError>
     ensures { OnOk result ((sentence : List ℕ) × Appends (W.contents writer.old) (W.contents writer.new)
         (sentence ++ spec.opening_text None)) }
 {
-    tell(writer, b"The file opens.")
+    write_report(writer, b"The file opens.")
 }
 
 /// Tells whether the file opens, and why not.
-fn tell_opening<W: Write>(
+fn write_opening<W: Write>(
     alloc: Global,
     writer: &mut W,
-    obstacle: &Option<Obstacle>,
-) -> Result<(), Untold>
+    open_error: &Option<OpenError>,
+) -> Result<(), ReportError>
     ensures { OnOk result ((sentence : List ℕ) × Appends (W.contents writer.old) (W.contents writer.new)
-        (sentence ++ spec.opening_text obstacle.now)) }
+        (sentence ++ spec.opening_text open_error.now)) }
 {
-    match obstacle {
-        None => tell_opens(writer),
-        Some(obstacle) => tell_obstacle(alloc, writer, *obstacle),
+    match open_error {
+        None => write_opens(writer),
+        Some(open_error) => write_open_error(alloc, writer, *open_error),
     }
 }
 
-fn tell_held<W: Write>(alloc: Global, writer: &mut W, survey: &Option<Survey>) -> Result<(), Untold>
+fn write_held<W: Write>(
+    alloc: Global,
+    writer: &mut W,
+    file_report: &Option<FileReport>,
+) -> Result<(), ReportError>
     ensures { OnOk result (Appends (W.contents writer.old) (W.contents writer.new)
-        (spec.held_text survey.now)) }
+        (spec.held_text file_report.now)) }
 {
-    match survey {
+    match file_report {
         None => Ok(()),
-        Some(survey) => tell_survey(alloc, writer, survey),
+        Some(file_report) => write_file_report(alloc, writer, file_report),
     }
 }
 
 /// Tells an outcome in sentences: whether the file opens, and why not, then what it holds, and which rules that breaks.
-fn tell_sentences<W: Write>(alloc: Global, writer: &mut W, outcome: &Outcome) -> Result<(), Untold>
+fn write_sentences<W: Write>(
+    alloc: Global,
+    writer: &mut W,
+    outcome: &Outcome,
+) -> Result<(), ReportError>
     ensures { OnOk result ((sentence : List ℕ) × Appends (W.contents writer.old) (W.contents writer.new)
-        (sentence ++ spec.opening_text outcome.now.obstacle ++ spec.held_text outcome.now.survey)) }
+        (sentence ++ spec.opening_text outcome.now.open_error ++ spec.held_text outcome.now.file_report)) }
 {
-    tell_opening(alloc, writer, &outcome.obstacle)?;
-    tell_held(alloc, writer, &outcome.survey)
+    write_opening(alloc, writer, &outcome.open_error)?;
+    write_held(alloc, writer, &outcome.file_report)
 }
 
 /// Tells an outcome, in sentences or as one JSON object.
-pub(crate) fn tell_outcome<W: Write>(
+pub(crate) fn write_outcome<W: Write>(
     alloc: Global,
     writer: &mut W,
     json: bool,
     outcome: &Outcome,
-) -> Result<(), Untold> {
+) -> Result<(), ReportError> {
     if json {
-        tell_object(alloc, writer, outcome)
+        write_object(alloc, writer, outcome)
     } else {
-        tell_sentences(alloc, writer, outcome)
+        write_sentences(alloc, writer, outcome)
     }
 }

@@ -5,38 +5,38 @@ ghost use Rattle.plant_text.specs.Writes.{with_lf};
 ghost use Rattle.desk_check.specs.Reports as spec;
 
 use crate::barred::DeskIndex;
-use crate::ending::Untold;
-use crate::obstacle::Obstacle;
-use crate::survey::{Standing, Survey};
+use crate::ending::ReportError;
+use crate::file_report::{DeskSummary, FileReport};
+use crate::open_error::OpenError;
 use plant_check::Rule;
 use plant_check_rows::{Findings, RowFault, Tested, rule_text};
-use plant_text::{Unwritten, write_line};
+use plant_text::{WriteError, write_line};
 use std::alloc::Global;
 use std::fmt;
 use std::io::Write;
 
 /// Writes a text and an LF.
-pub(crate) fn tell<W: Write>(writer: &mut W, text: &[u8]) -> Result<(), Untold>
+pub(crate) fn write_report<W: Write>(writer: &mut W, text: &[u8]) -> Result<(), ReportError>
     ensures { OnOk result (Appends (W.contents writer.old) (W.contents writer.new) (with_lf text.now)) }
 {
     match write_line(writer, text) {
         Ok(()) => Ok(()),
-        Err(Unwritten) => Err(Untold::Write),
+        Err(WriteError) => Err(ReportError::Write),
     }
 }
 
 /// Writes what is shown, and an LF.
-fn tell_shown<W: Write, T: fmt::Display>(
+fn write_shown<W: Write, T: fmt::Display>(
     alloc: Global,
     writer: &mut W,
     shown: &T,
-) -> Result<(), Untold>
+) -> Result<(), ReportError>
     ensures { OnOk result (IfSome (T.output shown.now)
         (λ text. Appends (W.contents writer.old) (W.contents writer.new) (with_lf text))) }
 {
     match shown.to_string(alloc) {
-        Ok(text) => tell(writer, text.as_bytes()),
-        Err(_) => Err(Untold::Memory),
+        Ok(text) => write_report(writer, text.as_bytes()),
+        Err(_) => Err(ReportError::Memory),
     }
 }
 
@@ -45,7 +45,7 @@ fn tell_shown<W: Write, T: fmt::Display>(
 struct BrokenRule(Rule);
 
 impl fmt::Display for BrokenRule {
-    ghost output = { λ told. Some (spec.rule_line told.0) };
+    ghost output = { λ reported. Some (spec.rule_line reported.0) };
 
     fn fmt<W: fmt::Write>(&self, f: &mut fmt::Formatter<W>) -> fmt::Result {
         let number = self.0.number();
@@ -54,8 +54,8 @@ impl fmt::Display for BrokenRule {
     }
 }
 
-impl fmt::Display for Standing {
-    ghost output = { λ standing. Some (spec.standing_text standing) };
+impl fmt::Display for DeskSummary {
+    ghost output = { λ summary. Some (spec.summary_text summary) };
 
     fn fmt<W: fmt::Write>(&self, f: &mut fmt::Formatter<W>) -> fmt::Result {
         let schema = self.schema;
@@ -70,10 +70,10 @@ impl fmt::Display for Standing {
 
 /// How many rows a desk has of some tables.
 #[derive(Clone, Copy)]
-struct Counts(Standing);
+struct Counts(DeskSummary);
 
 impl fmt::Display for Counts {
-    ghost output = { λ told. Some (spec.counts_text told.0) };
+    ghost output = { λ reported. Some (spec.counts_text reported.0) };
 
     fn fmt<W: fmt::Write>(&self, f: &mut fmt::Formatter<W>) -> fmt::Result {
         let orders = self.0.orders;
@@ -92,7 +92,7 @@ impl fmt::Display for Counts {
 struct Later(u64);
 
 impl fmt::Display for Later {
-    ghost output = { λ told. Some (spec.newer_text told.0) };
+    ghost output = { λ reported. Some (spec.newer_text reported.0) };
 
     fn fmt<W: fmt::Write>(&self, f: &mut fmt::Formatter<W>) -> fmt::Result {
         let schema = self.0;
@@ -108,7 +108,7 @@ impl fmt::Display for Later {
 struct TakenName(DeskIndex);
 
 impl fmt::Display for TakenName {
-    ghost output = { λ told. Some (spec.index_text told.0) };
+    ghost output = { λ reported. Some (spec.index_text reported.0) };
 
     fn fmt<W: fmt::Write>(&self, f: &mut fmt::Formatter<W>) -> fmt::Result {
         let name = self.0.name();
@@ -121,10 +121,10 @@ impl fmt::Display for TakenName {
 
 /// What an obstacle is, and what to do about it.
 #[derive(Clone, Copy)]
-struct Cause(Obstacle);
+struct Cause(OpenError);
 
 impl fmt::Display for Cause {
-    ghost output = { λ told. Some (spec.obstacle_text told.0) };
+    ghost output = { λ reported. Some (spec.open_error_text reported.0) };
 
     fn fmt<W: fmt::Write>(&self, f: &mut fmt::Formatter<W>) -> fmt::Result {
         let cause = self.0.cause();
@@ -134,190 +134,202 @@ impl fmt::Display for Cause {
 }
 
 /// Tells a rule that is broken, and its row where one is told.
-fn tell_broken<W: Write>(
+fn write_broken<W: Write>(
     alloc: Global,
     writer: &mut W,
     rule: Rule,
     row: &Option<RowFault>,
-) -> Result<(), Untold>
+) -> Result<(), ReportError>
     ensures { OnOk result (Appends (W.contents writer.old) (W.contents writer.new)
         (spec.broken_text rule row.now)) }
 {
-    tell_shown(alloc, writer, &BrokenRule(rule))?;
+    write_shown(alloc, writer, &BrokenRule(rule))?;
     match row {
         None => Ok(()),
-        Some(row) => tell_shown(alloc, writer, row),
+        Some(row) => write_shown(alloc, writer, row),
     }
 }
 
 /// Tells what is found of a rule, where something is.
-fn tell_rule<W: Write>(
+fn write_rule<W: Write>(
     alloc: Global,
     writer: &mut W,
     tested: &Tested,
     rule: Rule,
-) -> Result<(), Untold>
+) -> Result<(), ReportError>
     ensures { OnOk result (Appends (W.contents writer.old) (W.contents writer.new)
         (spec.found_text (spec.found_in tested.now rule))) }
 {
     match tested.of_rule(alloc, rule) {
         Ok(None) => Ok(()),
-        Ok(Some(finding)) => tell_broken(alloc, writer, finding.rule, &finding.row),
-        Err(_) => Err(Untold::Memory),
+        Ok(Some(finding)) => write_broken(alloc, writer, finding.rule, &finding.row),
+        Err(_) => Err(ReportError::Memory),
     }
 }
 
 /// Tells the rules that are broken, each with its row.
-fn tell_each<W: Write>(
+fn write_each_rule<W: Write>(
     alloc: Global,
     writer: &mut W,
     tested: &Tested,
     rules: &[Rule],
-) -> Result<(), Untold>
+) -> Result<(), ReportError>
     ensures { OnOk result (Appends (W.contents writer.old) (W.contents writer.new)
         (spec.each_text tested.now rules.now)) }
 {
     for rule in rules {
-        tell_rule(alloc, writer, tested, *rule)?;
+        write_rule(alloc, writer, tested, *rule)?;
     }
     Ok(())
 }
 
 /// Tells which rules rows break that were tested, or that they break none.
-fn tell_tested<W: Write>(alloc: Global, writer: &mut W, tested: &Tested) -> Result<(), Untold>
+fn write_tested<W: Write>(alloc: Global, writer: &mut W, tested: &Tested) -> Result<(), ReportError>
     ensures { OnOk result (Appends (W.contents writer.old) (W.contents writer.new)
         (spec.tested_text tested.now tested.now.rules.items)) }
 {
     match tested.rules.as_slice() {
-        [] => tell(writer, b"No rule is broken."),
-        [_, ..] => tell_each(alloc, writer, tested, tested.rules.as_slice()),
+        [] => write_report(writer, b"No rule is broken."),
+        [_, ..] => write_each_rule(alloc, writer, tested, tested.rules.as_slice()),
     }
 }
 
 /// Tells which rules a desk breaks, or that it breaks none.
-fn tell_findings<W: Write>(alloc: Global, writer: &mut W, findings: &Findings) -> Result<(), Untold>
+fn write_findings<W: Write>(
+    alloc: Global,
+    writer: &mut W,
+    findings: &Findings,
+) -> Result<(), ReportError>
     ensures { OnOk result (Appends (W.contents writer.old) (W.contents writer.new)
         (spec.findings_text findings.now)) }
 {
     match findings {
-        Findings::NoMeta => tell_broken(alloc, writer, Rule::Tables, &None),
-        Findings::Values(row) => tell_broken(alloc, writer, Rule::Values, row),
-        Findings::Rows(tested) => tell_tested(alloc, writer, tested),
+        Findings::NoMeta => write_broken(alloc, writer, Rule::Tables, &None),
+        Findings::Values(row) => write_broken(alloc, writer, Rule::Values, row),
+        Findings::Rows(tested) => write_tested(alloc, writer, tested),
     }
 }
 
 /// Tells of an index that can't be made, where there is one.
-fn tell_barred<W: Write>(
+fn write_barred<W: Write>(
     alloc: Global,
     writer: &mut W,
     barred: Option<DeskIndex>,
-) -> Result<(), Untold>
+) -> Result<(), ReportError>
     ensures { OnOk result (Appends (W.contents writer.old) (W.contents writer.new)
         (spec.barred_text barred)) }
 {
     match barred {
         None => Ok(()),
-        Some(index) => tell_shown(alloc, writer, &TakenName(index)),
+        Some(index) => write_shown(alloc, writer, &TakenName(index)),
     }
 }
 
 /// Tells that a file holds no desk, and whether one can be made in it.
-fn tell_nothing<W: Write>(
+fn write_nothing<W: Write>(
     alloc: Global,
     writer: &mut W,
     barred: Option<DeskIndex>,
-) -> Result<(), Untold>
+) -> Result<(), ReportError>
     ensures { OnOk result (Appends (W.contents writer.old) (W.contents writer.new)
         (spec.nothing_text barred)) }
 {
     match barred {
-        None => tell(
+        None => write_report(
             writer,
             b"It holds no desk: the next word of the desk over it makes one.",
         ),
         Some(index) => {
-            tell(writer, b"It holds no desk, and none can be made in it.")?;
-            tell_shown(alloc, writer, &TakenName(index))
+            write_report(writer, b"It holds no desk, and none can be made in it.")?;
+            write_shown(alloc, writer, &TakenName(index))
         }
     }
 }
 
 /// Tells where a desk stands, and how many rows it has.
-fn tell_standing<W: Write>(alloc: Global, writer: &mut W, standing: &Standing) -> Result<(), Untold>
+fn write_summary<W: Write>(
+    alloc: Global,
+    writer: &mut W,
+    summary: &DeskSummary,
+) -> Result<(), ReportError>
     ensures { OnOk result (Appends (W.contents writer.old) (W.contents writer.new)
-        (spec.desk_text standing.now)) }
+        (spec.desk_text summary.now)) }
 {
-    tell_shown(alloc, writer, standing)?;
-    tell_shown(alloc, writer, &Counts(*standing))
+    write_shown(alloc, writer, summary)?;
+    write_shown(alloc, writer, &Counts(*summary))
 }
 
 /// Tells what a desk breaks, and of an index that can't be made.
-fn tell_wrong<W: Write>(
+fn write_wrong<W: Write>(
     alloc: Global,
     writer: &mut W,
     findings: &Findings,
     barred: Option<DeskIndex>,
-) -> Result<(), Untold>
+) -> Result<(), ReportError>
     ensures { OnOk result (Appends (W.contents writer.old) (W.contents writer.new)
         (spec.findings_text findings.now ++ spec.barred_text barred)) }
 {
-    tell_findings(alloc, writer, findings)?;
-    tell_barred(alloc, writer, barred)
+    write_findings(alloc, writer, findings)?;
+    write_barred(alloc, writer, barred)
 }
 
 /// Tells what a file holds that opens.
-pub(crate) fn tell_survey<W: Write>(
+pub(crate) fn write_file_report<W: Write>(
     alloc: Global,
     writer: &mut W,
-    survey: &Survey,
-) -> Result<(), Untold>
+    file_report: &FileReport,
+) -> Result<(), ReportError>
     ensures { OnOk result (Appends (W.contents writer.old) (W.contents writer.new)
-        (spec.survey_text survey.now)) }
+        (spec.file_report_text file_report.now)) }
 {
-    match survey {
-        Survey::Nothing(barred) => tell_nothing(alloc, writer, *barred),
-        Survey::Newer(schema) => tell_shown(alloc, writer, &Later(*schema)),
-        Survey::Lacking => tell_shown(alloc, writer, &BrokenRule(Rule::Tables)),
-        Survey::Desk {
-            standing,
+    match file_report {
+        FileReport::Nothing(barred) => write_nothing(alloc, writer, *barred),
+        FileReport::Newer(schema) => write_shown(alloc, writer, &Later(*schema)),
+        FileReport::Lacking => write_shown(alloc, writer, &BrokenRule(Rule::Tables)),
+        FileReport::Desk {
+            summary,
             barred,
             findings,
         } => {
-            tell_standing(alloc, writer, standing)?;
-            tell_wrong(alloc, writer, findings, *barred)
+            write_summary(alloc, writer, summary)?;
+            write_wrong(alloc, writer, findings, *barred)
         }
     }
 }
 
 /// That a file doesn't open, in the toolkit's words where it has some.
-fn error_text(alloc: Global, obstacle: Obstacle) -> Result<String, Untold> {
-    let text = match obstacle.error() {
+fn error_text(alloc: Global, open_error: OpenError) -> Result<String, ReportError> {
+    let text = match open_error.error() {
         None => String::from_str(alloc, "The file doesn't open."),
         Some(error) => format!(in alloc; "The file doesn't open: {error}."),
     };
     match text {
         Ok(text) => Ok(text),
-        Err(_) => Err(Untold::Memory),
+        Err(_) => Err(ReportError::Memory),
     }
 }
 
 /// Tells that a file doesn't open.
-fn tell_error<W: Write>(alloc: Global, writer: &mut W, obstacle: Obstacle) -> Result<(), Untold>
+fn write_error<W: Write>(
+    alloc: Global,
+    writer: &mut W,
+    open_error: OpenError,
+) -> Result<(), ReportError>
     ensures { OnOk result ((sentence : List ℕ) × Appends (W.contents writer.old) (W.contents writer.new) sentence) }
 {
-    let text = error_text(alloc, obstacle)?;
-    tell(writer, text.as_bytes())
+    let text = error_text(alloc, open_error)?;
+    write_report(writer, text.as_bytes())
 }
 
 /// Tells why a file doesn't open: in the toolkit's words where it has some, then in plain ones, and what to do.
-pub(crate) fn tell_obstacle<W: Write>(
+pub(crate) fn write_open_error<W: Write>(
     alloc: Global,
     writer: &mut W,
-    obstacle: Obstacle,
-) -> Result<(), Untold>
+    open_error: OpenError,
+) -> Result<(), ReportError>
     ensures { OnOk result ((sentence : List ℕ) × Appends (W.contents writer.old) (W.contents writer.new)
-        (sentence ++ with_lf (spec.obstacle_text obstacle))) }
+        (sentence ++ with_lf (spec.open_error_text open_error))) }
 {
-    tell_error(alloc, writer, obstacle)?;
-    tell_shown(alloc, writer, &Cause(obstacle))
+    write_error(alloc, writer, open_error)?;
+    write_shown(alloc, writer, &Cause(open_error))
 }

@@ -2,7 +2,7 @@
 ghost use Rattle.std.specs.Prelude.{◌≡◌};
 ghost use Rattle.desk_check.specs.Rooms as spec;
 
-use crate::obstacle::Obstacle;
+use crate::open_error::OpenError;
 
 /// Linux's number of the limit of how large a file may become.
 const FILE_SIZE: i32 = 1;
@@ -67,17 +67,17 @@ pub(crate) fn lets_make(folder: Rights, user: u32) -> bool
 
 /// What keeps the desk from a file that this user may write or not, that may grow with its log or not, and whose log is there or may be
 /// made or not.
-pub(crate) fn hindrance(writable: bool, grows: bool, logs: bool) -> Option<Obstacle>
+pub(crate) fn hindrance(writable: bool, grows: bool, logs: bool) -> Option<OpenError>
     ensures { result ≡ spec.hindrance writable grows logs }
 {
     if !writable {
-        return Some(Obstacle::Unwritable);
+        return Some(OpenError::Unwritable);
     }
     if !grows {
-        return Some(Obstacle::Limited);
+        return Some(OpenError::Limited);
     }
     if !logs {
-        return Some(Obstacle::NoLog);
+        return Some(OpenError::NoLog);
     }
     None
 }

@@ -1,5 +1,5 @@
 //! A page that is written beside a file: whether the disk has room for it only a write tells.
-use crate::obstacle::{Obstacle, obstacle_beside};
+use crate::open_error::{OpenError, open_error_of_sibling};
 use std::fs::{self, File};
 use std::io::{self, Write};
 
@@ -23,13 +23,13 @@ fn make_page(rt: &HostRuntime, name: &str) -> io::Result<()> {
 }
 
 /// What keeps a page from being written beside a file, where something does.
-pub(crate) fn tried_beside(rt: &HostRuntime, file: &str) -> Option<Obstacle> {
+pub(crate) fn tried_sibling(rt: &HostRuntime, file: &str) -> Option<OpenError> {
     let number = libc::getpid();
     let Ok(name) = format!(in rt.alloc(); "{file}-{number}-room") else {
-        return Some(Obstacle::Memory);
+        return Some(OpenError::Memory);
     };
     match make_page(rt, name.as_str()) {
         Ok(()) => None,
-        Err(error) => Some(obstacle_beside(error.kind())),
+        Err(error) => Some(open_error_of_sibling(error.kind())),
     }
 }

@@ -1,5 +1,5 @@
-mod Adopted
-mod Asked
-mod Imports
-mod OneLine
-mod Told
+mod AdoptedState
+mod AskedKeeper
+mod ImportEnds
+mod OneLinePrinted
+mod FaultOrigins

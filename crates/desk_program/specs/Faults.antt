@@ -8,11 +8,11 @@ use Rattle.plant_desk_store.specs.declared.adopting.AdoptFault.{AdoptFault}
 use Rattle.plant_desk_store.specs.declared.adopting.AdoptFault.TheVariants as adopt
 use Rattle.plant_text.specs.declared.run.RunEnd.{RunEnd}
 use Rattle.plant_text.specs.declared.run.RunEnd.TheVariants as end
-use Rattle.plant_text.specs.declared.turns.Stop.{Stop}
-use Rattle.plant_text.specs.declared.turns.Stop.TheVariants as stop
+use Rattle.plant_text.specs.declared.turns.TurnError.{TurnError}
+use Rattle.plant_text.specs.declared.turns.TurnError.TheVariants as stop
 use Rattle.desk_program.specs.declared.fault.Fault.{Fault}
 use Rattle.desk_program.specs.declared.fault.Fault.TheVariants as fault
-use Rattle.desk_program.specs.declared.standing.Standing.{Standing}
+use Rattle.desk_program.specs.declared.summary.DeskSummary.{DeskSummary}
 
 abbrev pub status_of : Fault → ℕ
 status_of fault.Memory = 4
@@ -40,18 +40,18 @@ outcome_of end.Endless = Err fault.Endless
 outcome_of (end.Fault f) = Err (desk_fault f)
 
 -- whether a command was refused, or the fault
-abbrev pub outcome_of_turn : Result Bool Stop → Result Bool Fault
+abbrev pub outcome_of_turn : Result Bool TurnError → Result Bool Fault
 outcome_of_turn (Ok refused) = Ok refused
 outcome_of_turn (Err stop.Write) = Err fault.Write
 outcome_of_turn (Err (stop.Fault f)) = Err (desk_fault f)
 
 -- where a keeper stands by what it answered when it was asked for that; an answer of another kind is a fault of the store
-abbrev pub standing_of : Result Answer DeskFault → Result Standing Fault
-standing_of (Ok (A.Desk schema seq)) = Ok (record { schema = schema; seq = seq })
-standing_of (Ok _) = Err fault.Store
-standing_of (Err f) = Err (desk_fault f)
+abbrev pub summary_of : Result Answer DeskFault → Result DeskSummary Fault
+summary_of (Ok (A.Desk schema seq)) = Ok (record { schema = schema; seq = seq })
+summary_of (Ok _) = Err fault.Store
+summary_of (Err f) = Err (desk_fault f)
 
 -- at this fault nothing was written, or, where the writer failed, what is said of it
 abbrev pub NothingBut : Type 0 → Option (List ℕ) → Option (List ℕ) → Fault → Type 0
-NothingBut front old new fault.Write = front
-NothingBut front old new _ = new ≡ old
+NothingBut prefix old new fault.Write = prefix
+NothingBut prefix old new _ = new ≡ old

@@ -1,7 +1,7 @@
-pub mod Answered
+pub mod AnswersWritten
 pub mod Faults
-pub mod Imported
-pub mod Performing
-pub mod Running
+pub mod ImportOutcomes
+pub mod Performs
+pub mod Runs
 pub mod Tasks
 pub mod Texts

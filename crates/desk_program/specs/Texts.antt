@@ -11,15 +11,15 @@ abbrev pub good_text : ℕ → ℕ → List ℕ
 good_text schema seq = codes "good schema " ++ decimal schema ++ codes " seq " ++ decimal seq
 
 -- what stands behind `fault: `
-unfoldable pub fault_word : Fault → List ℕ
-fault_word fault.Store = codes "store"
-fault_word (fault.Newer schema) = codes "newer " ++ decimal schema
-fault_word (fault.Damaged rule) = codes "damaged G" ++ decimal (rule_number rule)
-fault_word fault.Memory = codes "memory"
-fault_word fault.Read = codes "read"
-fault_word fault.Write = codes "write"
-fault_word fault.Endless = codes "endless"
-fault_word fault.Net = codes "net"
+unfoldable pub fault_name : Fault → List ℕ
+fault_name fault.Store = codes "store"
+fault_name (fault.Newer schema) = codes "newer " ++ decimal schema
+fault_name (fault.Damaged rule) = codes "damaged G" ++ decimal (rule_number rule)
+fault_name fault.Memory = codes "memory"
+fault_name fault.Read = codes "read"
+fault_name fault.Write = codes "write"
+fault_name fault.Endless = codes "endless"
+fault_name fault.Net = codes "net"
 
 abbrev pub fault_text : Fault → List ℕ
-fault_text f = codes "fault: " ++ fault_word f
+fault_text f = codes "fault: " ++ fault_name f

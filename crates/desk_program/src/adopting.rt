@@ -4,9 +4,9 @@ ghost use Rattle.sqlite.specs.Held.{state};
 ghost use Rattle.sqlite.specs.State.{HasCleanDisk};
 ghost use Rattle.plant_desk_store.specs.Adopting.{IsNewlyOpened, AdoptedFrom};
 ghost use Rattle.plant_base.specs.State.{State};
-ghost use Rattle.plant_desk_store.specs.DeskStanding.{IsOpenAt, DeskStands};
+ghost use Rattle.plant_desk_store.specs.DeskStates.{IsDurablyAt, Represents};
 ghost use Rattle.desk_program.specs.Faults.{adopt_fault};
-ghost use Rattle.desk_program.specs.Running.{IsRefused};
+ghost use Rattle.desk_program.specs.Runs.{IsRefused};
 
 use crate::fault::Fault;
 use plant_desk_store::{AdoptRefused, Desk};
@@ -15,7 +15,7 @@ use std::alloc::Global;
 
 /// A store that a word of the program stopped at a fault, for who opened it to close.
 #[derive(Drop)]
-pub struct Stopped<S: Alter> {
+pub struct TaskError<S: Alter> {
     /// Why the word isn't done.
     pub fault: Fault,
     /// The store.
@@ -32,7 +32,7 @@ pub struct Performed<S: Alter> {
 }
 
 /// What came of a task that stopped at a fault.
-pub fn performed_of<S: Alter + Drop>(stopped: Stopped<S>) -> Performed<S>
+pub fn performed_of<S: Alter + Drop>(stopped: TaskError<S>) -> Performed<S>
     ensures outcome { result.outcome ≡ Err stopped.fault }
     ensures store { result.connection ≡ stopped.connection }
 {
@@ -43,11 +43,11 @@ pub fn performed_of<S: Alter + Drop>(stopped: Stopped<S>) -> Performed<S>
 }
 
 /// What is told of a store that wasn't adopted.
-fn stopped_by<S: Alter + Drop>(refused: AdoptRefused<S>) -> Stopped<S>
+fn task_error<S: Alter + Drop>(refused: AdoptRefused<S>) -> TaskError<S>
     ensures fault { result.fault ≡ adopt_fault refused.fault }
     ensures store { result.connection ≡ refused.connection }
 {
-    Stopped {
+    TaskError {
         fault: Fault::from(refused.fault),
         connection: refused.connection,
     }
@@ -59,9 +59,9 @@ fn with_indexes<S: Alter>(mut desk: Desk<S>) -> Desk<S>
     requires { desk.is_shut ≡ false }
     ensures honest { HasCleanDisk (state S.Store result.connection)
         → HasCleanDisk (state S.Store desk.connection) }
-    ensures stands { HasCleanDisk (state S.Store result.connection) → (s : State)
-        → DeskStands (state S.Store desk.connection) false s
-        → DeskStands (state S.Store result.connection) false s }
+    ensures represents { HasCleanDisk (state S.Store result.connection) → (s : State)
+        → Represents (state S.Store desk.connection) false s
+        → Represents (state S.Store result.connection) false s }
     ensures open { result.is_shut ≡ false }
 {
     let _added = desk.add_indexes();
@@ -69,22 +69,22 @@ fn with_indexes<S: Alter>(mut desk: Desk<S>) -> Desk<S>
 }
 
 /// Adopts a store, as [`Desk::adopt`] does, and makes the indexes that its tables lack, as [`Desk::add_indexes`] does.
-/// Where the store isn't adopted, `Stopped` has the fault and gives the connection back; the fault is never `Write`.
+/// Where the store isn't adopted, `TaskError` has the fault and gives the connection back; the fault is never `Write`.
 pub fn adopt<S: Alter + Drop>(
     alloc: Global,
     connection: Connection<S>,
-) -> Result<Desk<S>, Stopped<S>>
+) -> Result<Desk<S>, TaskError<S>>
     requires { (state S.Store connection).in_transaction ≡ false }
     ensures adopted { IfOk result (λ desk. HasCleanDisk (state S.Store desk.connection)
         → IsNewlyOpened (state S.Store connection)
-        → AdoptedFrom (state S.Store connection) (IsOpenAt (state S.Store desk.connection))) }
+        → AdoptedFrom (state S.Store connection) (IsDurablyAt (state S.Store desk.connection))) }
     ensures open { IfOk result (λ desk. desk.is_shut ≡ false) }
     ensures refused { IfErr result
         (λ stopped. IsRefused S.Store connection stopped.connection stopped.fault) }
-    ensures unwritten { IfErr result (λ stopped. stopped.fault ≢ Fault.Write) }
+    ensures write_error { IfErr result (λ stopped. stopped.fault ≢ Fault.Write) }
 {
     match Desk::adopt(alloc, connection) {
         Ok(desk) => Ok(with_indexes(desk)),
-        Err(refused) => Err(stopped_by(refused)),
+        Err(refused) => Err(task_error(refused)),
     }
 }

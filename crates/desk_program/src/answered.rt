@@ -5,17 +5,17 @@ ghost use Rattle.sqlite.specs.State.{HasCleanDisk};
 ghost use Rattle.plant_base.specs.State.{State, newest_schema};
 ghost use Rattle.plant_trace.specs.Nodes.{node_text};
 ghost use Rattle.plant_answers.specs.Answers.{answer};
-ghost use Rattle.plant_desk.specs.Keeping.{IsSameDesk};
+ghost use Rattle.plant_desk.specs.Keepers.{IsSameDesk};
 ghost use Rattle.plant_desk_store.specs.Adopting.{IsNewlyOpened};
-ghost use Rattle.plant_desk_store.specs.DeskStanding.{IsOpenAt};
+ghost use Rattle.plant_desk_store.specs.DeskStates.{IsDurablyAt};
 ghost use Rattle.plant_text_answers.specs.Answers.{text_of_answer};
 ghost use Rattle.plant_text.specs.Writes.{with_lf};
-ghost use Rattle.desk_program.specs.Answered.{told_text};
-ghost use Rattle.desk_program.specs.Answered.{AnswerPrinted, AnswerTold, AskedTold, AskGives};
+ghost use Rattle.desk_program.specs.AnswersWritten.{answer_lines};
+ghost use Rattle.desk_program.specs.AnswersWritten.{AnswerPrinted, AnswerWritten, AskedWritten, AskGives};
 
 use crate::adopting::{Performed, adopt, performed_of};
 use crate::fault::Fault;
-use plant_base::{Each, ShowsItem};
+use plant_base::{DisplayItem, Joined};
 use plant_desk::Keeper;
 use plant_desk_store::Desk;
 use plant_messages::{Answer, DeskFault, Question};
@@ -30,7 +30,7 @@ use std::io::Write;
 #[derive(Clone, Copy)]
 struct NodeLine;
 
-impl ShowsItem<Node> for NodeLine {
+impl DisplayItem<Node> for NodeLine {
     ghost text = { λ _ n. with_lf (node_text n) };
 
     fn show<W: fmt::Write>(&self, node: &Node, f: &mut fmt::Formatter<W>) -> fmt::Result {
@@ -48,11 +48,11 @@ fn line_of(alloc: Global, answer: &Answer) -> Result<String, AllocError>
 }
 
 /// What is printed of an answer: the nodes of a trace, the record of a batch, else the answer's line.
-fn told_text(alloc: Global, answer: &Answer) -> Result<String, AllocError>
-    ensures { IfOk result (λ text. string_bytes text ≡ told_text answer.now) }
+fn answer_lines(alloc: Global, answer: &Answer) -> Result<String, AllocError>
+    ensures { IfOk result (λ text. string_bytes text ≡ answer_lines answer.now) }
 {
     match answer {
-        Answer::Trace(nodes) => Each(nodes.as_slice(), NodeLine).to_string(alloc),
+        Answer::Trace(nodes) => Joined(nodes.as_slice(), NodeLine).to_string(alloc),
         Answer::Batch(view) => record(alloc, view),
         _ => line_of(alloc, answer),
     }
@@ -62,7 +62,7 @@ fn told_text(alloc: Global, answer: &Answer) -> Result<String, AllocError>
 fn print_answer<W: Write>(alloc: Global, writer: &mut W, answer: &Answer) -> Result<bool, Fault>
     ensures { AnswerPrinted answer.now (W.contents writer.old) (W.contents writer.new) result }
 {
-    match told_text(alloc, answer) {
+    match answer_lines(alloc, answer) {
         Ok(text) => match write_text(writer, text.as_bytes()) {
             Ok(()) => Ok(is_unknown(answer)),
             Err(_) => Err(Fault::Write),
@@ -77,7 +77,7 @@ fn print_asked<W: Write>(
     writer: &mut W,
     asked: Result<Answer, DeskFault>,
 ) -> Result<bool, Fault>
-    ensures { AskedTold asked (W.contents writer.old) (W.contents writer.new) result }
+    ensures { AskedWritten asked (W.contents writer.old) (W.contents writer.new) result }
 {
     match asked {
         Ok(answer) => print_answer(alloc, writer, &answer),
@@ -89,18 +89,18 @@ fn print_asked<W: Write>(
 ///
 /// The keeper stays open, and where it was. At `Write` a front of the answer may stand there; at every other fault nothing
 /// does.
-pub fn tell_answer<W: Write, K: Keeper>(
+pub fn write_answer<W: Write, K: Keeper>(
     alloc: Global,
     writer: &mut W,
     keeper: &mut K,
     question: &Question,
 ) -> Result<bool, Fault>
     requires { K.shut keeper.old ≡ false }
-    ensures same { IsSameDesk K.honest K.schema K.beside keeper.old keeper.new }
+    ensures same { IsSameDesk K.honest K.schema K.foreign_tables keeper.old keeper.new }
     ensures open { K.shut keeper.new ≡ false }
-    ensures stays { K.honest keeper.new → (s : State) → K.stands keeper.old s → K.stands keeper.new s }
-    ensures told { K.honest keeper.new → (s : State) → K.stands keeper.old s
-        → AnswerTold (answer (K.schema keeper.old) s question.now)
+    ensures stays { K.honest keeper.new → (s : State) → K.represents keeper.old s → K.represents keeper.new s }
+    ensures reported { K.honest keeper.new → (s : State) → K.represents keeper.old s
+        → AnswerWritten (answer (K.schema keeper.old) s question.now)
         (W.contents writer.old) (W.contents writer.new) result }
 {
     print_asked(alloc, writer, keeper.ask(question))
@@ -116,20 +116,20 @@ fn ask_desk<S: Alter + Drop, W: Write>(
     requires { desk.is_shut ≡ false }
     ensures honest { HasCleanDisk (state S.Store result.connection)
         → HasCleanDisk (state S.Store desk.connection) }
-    ensures told { HasCleanDisk (state S.Store result.connection)
-        → (s : State) → IsOpenAt (state S.Store desk.connection) s
-        → IsOpenAt (state S.Store result.connection) s
-        × AnswerTold (answer newest_schema s question.now)
+    ensures reported { HasCleanDisk (state S.Store result.connection)
+        → (s : State) → IsDurablyAt (state S.Store desk.connection) s
+        → IsDurablyAt (state S.Store result.connection) s
+        × AnswerWritten (answer newest_schema s question.now)
         (W.contents writer.old) (W.contents writer.new) result.outcome }
 {
-    let outcome = tell_answer(alloc, writer, &mut desk, question);
+    let outcome = write_answer(alloc, writer, &mut desk, question);
     Performed {
         outcome,
         connection: desk.close(),
     }
 }
 
-/// Adopts the store, asks the desk a question, and prints the answer, as [`tell_answer`] does.
+/// Adopts the store, asks the desk a question, and prints the answer, as [`write_answer`] does.
 pub(crate) fn ask_store<S: Alter + Drop, W: Write>(
     alloc: Global,
     connection: Connection<S>,

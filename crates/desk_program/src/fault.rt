@@ -6,7 +6,7 @@ ghost use Rattle.desk_program.specs.Faults as spec;
 use plant_check::Rule;
 use plant_desk_store::AdoptFault;
 use plant_messages::DeskFault;
-use plant_text::{RunEnd, Stop};
+use plant_text::{RunEnd, TurnError};
 use sqlite::{Error, ErrorCode};
 
 /// Why the program doesn't do what it is told.
@@ -46,7 +46,7 @@ impl From<AdoptFault> for Fault {
     ghost use Rattle.std.specs.Prelude.{◌≡◌};
     ghost use Rattle.desk_program.specs.Faults.{adopt_fault};
 
-    ghost from_gives = { λ fault told. told ≡ adopt_fault fault };
+    ghost from_gives = { λ fault reported. reported ≡ adopt_fault fault };
 
     fn from(fault: AdoptFault) -> Fault {
         match fault {
@@ -62,7 +62,7 @@ impl From<DeskFault> for Fault {
     ghost use Rattle.std.specs.Prelude.{◌≡◌};
     ghost use Rattle.desk_program.specs.Faults.{desk_fault};
 
-    ghost from_gives = { λ fault told. told ≡ desk_fault fault };
+    ghost from_gives = { λ fault reported. reported ≡ desk_fault fault };
 
     fn from(fault: DeskFault) -> Fault {
         match fault {
@@ -86,13 +86,13 @@ pub(crate) fn outcome_of(end: RunEnd) -> Result<bool, Fault>
 }
 
 /// Whether a command was refused, or the fault that stopped its reply.
-pub(crate) fn outcome_of_turn(turn: Result<bool, Stop>) -> Result<bool, Fault>
+pub(crate) fn outcome_of_turn(turn: Result<bool, TurnError>) -> Result<bool, Fault>
     ensures { result ≡ spec.outcome_of_turn turn }
 {
     match turn {
         Ok(refused) => Ok(refused),
-        Err(Stop::Write) => Err(Fault::Write),
-        Err(Stop::Fault(fault)) => Err(Fault::from(fault)),
+        Err(TurnError::Write) => Err(Fault::Write),
+        Err(TurnError::Fault(fault)) => Err(Fault::from(fault)),
     }
 }
 

@@ -1,6 +1,6 @@
 //! The lines that the program writes, in a room of fixed size: they take no memory.
 ghost use Rattle.std.specs.Prelude.{◌≡◌, ◌+◌, ◌≤◌, ◌++◌, length, decimal};
-ghost use Rattle.plant_orders.specs.Telling.{csv_text};
+ghost use Rattle.plant_orders.specs.FaultsOfFiles.{csv_text};
 ghost use Rattle.desk_program.specs.Texts as spec;
 
 use crate::fault::Fault;
@@ -31,7 +31,7 @@ pub(crate) fn ready_line(schema: u64) -> ShortLine
     line
 }
 
-/// `good schema N seq S`
+/// `valid schema N seq S`
 pub(crate) fn good_line(schema: u64, seq: u64) -> ShortLine
     ensures { result.bytes ≡ spec.good_text schema seq }
 {
@@ -56,7 +56,7 @@ fn word_and_number(word: &str, number: u64) -> ShortLine
 }
 
 /// The first fault of an order file: `csv row R KIND`
-#[tactic(auto, using(plant_orders::proofs::Names::name_is_short))]
+#[tactic(auto, using(plant_orders::proofs::FaultNames::name_is_short))]
 pub(crate) fn csv_line(fault: CsvFault) -> ShortLine
     ensures { result.bytes ≡ csv_text fault }
 {
@@ -77,9 +77,9 @@ fn one_word(word: &str) -> ShortLine
 }
 
 /// What stands behind `fault: `.
-#[tactic(auto, unfolding(crate::specs::Texts::fault_word))]
-pub(crate) fn fault_word(fault: Fault) -> ShortLine
-    ensures text { result.bytes ≡ spec.fault_word fault }
+#[tactic(auto, unfolding(crate::specs::Texts::fault_name))]
+pub(crate) fn fault_name(fault: Fault) -> ShortLine
+    ensures text { result.bytes ≡ spec.fault_name fault }
     ensures short { length result.bytes ≤ 40 }
 {
     match fault {
@@ -100,6 +100,6 @@ pub(crate) fn fault_line(fault: Fault) -> ShortLine
 {
     let mut line = ArrayString::new();
     line.push_str("fault: ");
-    line.push_str(fault_word(fault).as_str());
+    line.push_str(fault_name(fault).as_str());
     line
 }

@@ -1,24 +1,24 @@
 //! What the program does for its words.
 ghost use Rattle.std.specs.Prelude.{◌≡◌, false, Bool, Result};
 ghost use Rattle.sqlite.specs.Held.{state};
-ghost use Rattle.desk_program.specs.Imported.{ImportGives};
-ghost use Rattle.desk_program.specs.Performing.{Exits, IsGoodLine, IsReady, PrintsLine, after_closing};
-ghost use Rattle.desk_program.specs.Running.{RunGives};
-ghost use Rattle.desk_program.specs.Tasks.{Asked, TaskGives, import_heading};
+ghost use Rattle.desk_program.specs.ImportOutcomes.{ImportGives};
+ghost use Rattle.desk_program.specs.Performs.{Exits, IsGoodLine, IsReady, PrintsLine, after_closing};
+ghost use Rattle.desk_program.specs.Runs.{RunGives};
+ghost use Rattle.desk_program.specs.Tasks.{Asked, TaskGives, metadata_of_import};
 ghost use Rattle.desk_program.specs.declared.fault.Fault.{Fault};
 
 use crate::adopting::{Performed, performed_of};
 use crate::answered::ask_store;
 use crate::fault::{Fault, outcome_of};
-use crate::imported::import_store;
+use crate::fault_lines::write_fault;
+use crate::importing_orders::import_store;
 use crate::ready::init;
 use crate::session::{Session, run};
-use crate::telling::tell_fault;
-use crate::verified::verify;
-use desk_words::Task;
+use crate::verification::verify;
+use desk_cli::Task;
 use plant_base::{Id, Moment, Stamp, Text};
 use plant_messages::Question;
-use plant_orders::Heading;
+use plant_orders::ImportMetadata;
 use plant_trace::Node;
 use sqlite::{Alter, Connection};
 use std::alloc::Global;
@@ -84,11 +84,11 @@ fn perform_verify<S: Alter + Drop, W: Write>(
 }
 
 /// When, by whom and under which reference orders came; they are noted with nothing.
-fn import_heading(at: Moment, by: Text, reference: Option<Id>) -> Heading
-    ensures { result ≡ import_heading at by reference }
+fn metadata_of_import(at: Moment, by: Text, reference: Option<Id>) -> ImportMetadata
+    ensures { result ≡ metadata_of_import at by reference }
 {
     match Text::read(b"") {
-        Some(note) => Heading {
+        Some(note) => ImportMetadata {
             stamp: Stamp { at, by, note },
             reference,
         },
@@ -102,13 +102,13 @@ fn perform_import<S: Alter + Drop, R: Read, W: Write>(
     connection: Connection<S>,
     reader: &mut R,
     writer: &mut W,
-    heading: Heading,
+    import_metadata: ImportMetadata,
 ) -> Performed<S>
     requires { (state S.Store connection).in_transaction ≡ false }
-    ensures { ImportGives S.Store connection heading (R.remaining reader.old)
+    ensures { ImportGives S.Store connection import_metadata (R.remaining reader.old)
         (W.contents writer.old) (W.contents writer.new) result.outcome }
 {
-    import_store(alloc, connection, reader, writer, heading)
+    import_store(alloc, connection, reader, writer, import_metadata)
 }
 
 /// Asks a question.
@@ -128,7 +128,7 @@ fn perform_question<S: Alter + Drop, W: Write>(
 /// Does a task over a store that was just opened, and gives it back to be closed.
 ///
 /// The clause says what came of the task where every connection of the store keeps its word: of a run what [`run`] does, of
-/// an import what [`take_file`] does, of a trace and a record what [`tell_answer`] does; what the store holds after the other
+/// an import what [`take_file`] does, of a trace and a record what [`write_answer`] does; what the store holds after the other
 /// words is said by the clauses of [`init`] and [`verify`], which hand the desk back.
 pub fn perform_task<S: Alter + Drop, R: Read, W: Write>(
     alloc: Global,
@@ -145,8 +145,8 @@ pub fn perform_task<S: Alter + Drop, R: Read, W: Write>(
         Task::Init => perform_init(alloc, connection, writer),
         Task::Run => perform_run(alloc, connection, reader, writer),
         Task::Import { at, by, reference } => {
-            let heading = import_heading(at, by, reference);
-            perform_import(alloc, connection, reader, writer, heading)
+            let import_metadata = metadata_of_import(at, by, reference);
+            perform_import(alloc, connection, reader, writer, import_metadata)
         }
         Task::Trace { direction, lot } => {
             let question = Question::Trace(direction, Node::Lot(lot));
@@ -176,17 +176,17 @@ pub fn after_closing(outcome: Result<bool, Fault>, is_closed: bool) -> Result<bo
 
 /// Tells how a task ended, and gives the exit status: 0; 1 where something was refused; 3 or 4 at a fault, whose line is
 /// then the one line on standard error.
-pub fn tell_outcome<E: Write>(outcome: Result<bool, Fault>, errors: &mut E) -> u8
+pub fn write_outcome<E: Write>(outcome: Result<bool, Fault>, errors: &mut E) -> u8
     ensures { Exits (E.contents errors.old) (E.contents errors.new) result outcome }
 {
     match outcome {
         Ok(refused) => u8::from(refused),
-        Err(fault) => tell_fault(fault, errors),
+        Err(fault) => write_fault(fault, errors),
     }
 }
 
 /// Does a task over a store that was just opened and the three standard streams, and gives the exit status, as
-/// [`tell_outcome`] does. The store is dropped at the end; [`perform_task`] gives it back instead.
+/// [`write_outcome`] does. The store is dropped at the end; [`perform_task`] gives it back instead.
 pub fn perform<S: Alter + Drop, R: Read, W: Write, E: Write>(
     alloc: Global,
     task: &Task,
@@ -202,5 +202,5 @@ pub fn perform<S: Alter + Drop, R: Read, W: Write, E: Write>(
         (W.contents writer.old) (W.contents writer.new) outcome }
 {
     let performed = perform_task(alloc, task, connection, reader, writer);
-    tell_outcome(performed.outcome, errors)
+    write_outcome(performed.outcome, errors)
 }

@@ -1,7 +1,7 @@
 //! Lines on standard output.
 ghost use Rattle.std.specs.Prelude.{◌≡◌, OnOk, IfErr};
 ghost use Rattle.std.specs.Io.KnownBytes.{Appends};
-ghost use Rattle.plant_text.specs.Writes.{with_lf, AppendsFront};
+ghost use Rattle.plant_text.specs.Writes.{with_lf, AppendsPrefix};
 
 use crate::fault::Fault;
 use crate::lines::ShortLine;
@@ -13,7 +13,7 @@ pub(crate) fn print_line<W: Write>(writer: &mut W, line: &ShortLine) -> Result<(
     ensures ok { OnOk result (Appends (W.contents writer.old) (W.contents writer.new)
         (with_lf line.now.bytes)) }
     ensures fault { IfErr result (λ fault. fault ≡ Fault.Write) }
-    ensures front { IfErr result (λ _. AppendsFront (W.contents writer.old) (W.contents writer.new)
+    ensures prefix { IfErr result (λ _. AppendsPrefix (W.contents writer.old) (W.contents writer.new)
         (with_lf line.now.bytes)) }
 {
     match write_line(writer, line.as_bytes()) {

@@ -4,18 +4,18 @@ ghost use Rattle.std.specs.Io.KnownBytes.{Appends};
 ghost use Rattle.sqlite.specs.Held.{state};
 ghost use Rattle.sqlite.specs.State.{HasCleanDisk};
 ghost use Rattle.plant_base.specs.State.{State, newest_schema};
-ghost use Rattle.plant_desk.specs.Keeping.{IsSameDesk};
+ghost use Rattle.plant_desk.specs.Keepers.{IsSameDesk};
 ghost use Rattle.plant_desk_store.specs.Adopting.{IsNewlyOpened, AdoptedFrom};
-ghost use Rattle.plant_desk_store.specs.DeskStanding.{IsOpenAt};
+ghost use Rattle.plant_desk_store.specs.DeskStates.{IsDurablyAt};
 ghost use Rattle.plant_text.specs.Writes.{with_lf};
 ghost use Rattle.desk_program.specs.Texts.{ready_text};
-ghost use Rattle.desk_program.specs.Performing.{IsReady, Printed, Unprinted};
+ghost use Rattle.desk_program.specs.Performs.{IsReady, Printed, Unprinted};
 
-use crate::adopting::{Stopped, adopt};
+use crate::adopting::{TaskError, adopt};
 use crate::fault::Fault;
 use crate::lines::ready_line;
 use crate::printing::print_line;
-use crate::standing::ask_standing;
+use crate::summary::ask_summary;
 use plant_desk::Keeper;
 use plant_desk_store::Desk;
 use sqlite::{Alter, Connection};
@@ -23,18 +23,18 @@ use std::alloc::Global;
 use std::io::Write;
 
 /// Prints `ready schema N`, N being the schema of the keeper's tables.
-fn tell_ready<W: Write, K: Keeper>(writer: &mut W, keeper: &mut K) -> Result<(), Fault>
+fn write_ready<W: Write, K: Keeper>(writer: &mut W, keeper: &mut K) -> Result<(), Fault>
     requires { K.shut keeper.old ≡ false }
-    ensures same { IsSameDesk K.honest K.schema K.beside keeper.old keeper.new }
+    ensures same { IsSameDesk K.honest K.schema K.foreign_tables keeper.old keeper.new }
     ensures open { K.shut keeper.new ≡ false }
-    ensures stays { K.honest keeper.new → (s : State) → K.stands keeper.old s → K.stands keeper.new s }
-    ensures told { K.honest keeper.new → (s : State) → K.stands keeper.old s
+    ensures stays { K.honest keeper.new → (s : State) → K.represents keeper.old s → K.represents keeper.new s }
+    ensures reported { K.honest keeper.new → (s : State) → K.represents keeper.old s
         → OnOk result (Appends (W.contents writer.old) (W.contents writer.new)
         (with_lf (ready_text (K.schema keeper.old)))) }
     ensures printed { MatchResult result (λ _. Printed IsReady (W.contents writer.old)
         (W.contents writer.new)) (Unprinted IsReady (W.contents writer.old) (W.contents writer.new)) }
 {
-    let at = ask_standing(keeper)?;
+    let at = ask_summary(keeper)?;
     print_line(writer, &ready_line(at.schema))
 }
 
@@ -47,11 +47,11 @@ pub fn init<S: Alter + Drop, W: Write>(
     alloc: Global,
     connection: Connection<S>,
     writer: &mut W,
-) -> Result<Desk<S>, Stopped<S>>
+) -> Result<Desk<S>, TaskError<S>>
     requires { (state S.Store connection).in_transaction ≡ false }
     ensures adopted { IfOk result (λ desk. HasCleanDisk (state S.Store desk.connection)
         → IsNewlyOpened (state S.Store connection)
-        → AdoptedFrom (state S.Store connection) (IsOpenAt (state S.Store desk.connection))) }
+        → AdoptedFrom (state S.Store connection) (IsDurablyAt (state S.Store desk.connection))) }
     ensures ready { IfOk result (λ desk. HasCleanDisk (state S.Store desk.connection)
         → IsNewlyOpened (state S.Store connection)
         → Appends (W.contents writer.old) (W.contents writer.new) (with_lf (ready_text newest_schema))) }
@@ -60,9 +60,9 @@ pub fn init<S: Alter + Drop, W: Write>(
         (W.contents writer.new) stopped.fault) }
 {
     let mut desk = adopt(alloc, connection)?;
-    match tell_ready(writer, &mut desk) {
+    match write_ready(writer, &mut desk) {
         Ok(()) => Ok(desk),
-        Err(fault) => Err(Stopped {
+        Err(fault) => Err(TaskError {
             fault,
             connection: desk.close(),
         }),

@@ -1,9 +1,9 @@
 //! The word `run`.
 ghost use Rattle.std.specs.Prelude.{◌≡◌, false, IfOk, IfErr, OnErr};
 ghost use Rattle.sqlite.specs.Held.{state};
-ghost use Rattle.desk_program.specs.Running.{HasRun, IsRefused};
+ghost use Rattle.desk_program.specs.Runs.{HasRun, IsRefused};
 
-use crate::adopting::{Stopped, adopt};
+use crate::adopting::{TaskError, adopt};
 use plant_desk_store::Desk;
 use plant_text::{RunEnd, run_lines};
 use sqlite::{Alter, Connection};
@@ -22,13 +22,13 @@ pub struct Session<S: Alter> {
 /// Does `run FILE`: adopts the store, and answers the lines of the input as [`run_lines`] does.
 ///
 /// At a fault of the adoption nothing was read and nothing written.
-/// `Stopped` has that fault and gives the connection back.
+/// `TaskError` has that fault and gives the connection back.
 pub fn run<S: Alter + Drop, R: Read, W: Write>(
     alloc: Global,
     connection: Connection<S>,
     reader: &mut R,
     writer: &mut W,
-) -> Result<Session<S>, Stopped<S>>
+) -> Result<Session<S>, TaskError<S>>
     requires { (state S.Store connection).in_transaction ≡ false }
     ensures ends { IfOk result (λ session. HasRun S.Store connection session.desk.connection
         session.desk.is_shut (R.remaining reader.old) (R.remaining reader.new)
@@ -36,7 +36,7 @@ pub fn run<S: Alter + Drop, R: Read, W: Write>(
     ensures refused { IfErr result
         (λ stopped. IsRefused S.Store connection stopped.connection stopped.fault) }
     ensures unread { OnErr result (R.remaining reader.new ≡ R.remaining reader.old) }
-    ensures unwritten { OnErr result (W.contents writer.new ≡ W.contents writer.old) }
+    ensures write_error { OnErr result (W.contents writer.new ≡ W.contents writer.old) }
 {
     let mut desk = adopt(alloc, connection)?;
     let end = run_lines(alloc, reader, writer, &mut desk);

@@ -5,10 +5,10 @@ use Rattle.sqlite.specs.Held.{state}
 use Rattle.sqlite.specs.State.{HasCleanDisk}
 use Rattle.sqlite_trees.specs.declared.store.Store.{Ghosts}
 use Rattle.plant_base.specs.State.{State, newest_schema}
-use Rattle.plant_desk.specs.Keeping.{States, IsSameDesk}
-use Rattle.plant_desk_store.specs.DeskStanding.{DeskStands, Leaves, IsBeside}
+use Rattle.plant_desk.specs.Keepers.{States, IsSameDesk}
+use Rattle.plant_desk_store.specs.DeskStates.{Represents, HasCrashStates, HasForeignTables}
 use Rattle.plant_desk_store.specs.declared.stored.Desk.{Desk}
-use Rattle.plant_text.specs.Leaving.{LeavesAlone, LeavesEither}
+use Rattle.plant_text.specs.CrashStates.{RepresentsDurably, RepresentsEither}
 use Rattle.plant_text.specs.Session.{Entry, fold}
 use Rattle.plant_http_requests.specs.Jobs.{JobOf}
 use Rattle.plant_http_requests.specs.declared.job.Job.{Job}
@@ -38,21 +38,21 @@ entries jobs = map (λ (a : Asked). entry_of a.job) jobs
 -- and in their order, and a stop leaves that state and no other; jobs in whose place a fault was answered are not among them.
 -- Where it is shut, a fault of its store came at a further job: a stop leaves the state before it or the state after it.
 abbrev pub HasServed : ℕ → State → States → Bool → (States → Type 0) → Type 0
-HasServed most s stands false leaves = (jobs : List Asked) × (length jobs ≤ most) × LeavesAlone stands leaves (fold s (entries jobs))
-HasServed most s stands true leaves =
-    (jobs : List Asked) × (last : Asked) × (length jobs < most) × LeavesEither stands leaves (fold s (entries jobs)) (entry_of last.job)
+HasServed most s represents false crash_states = (jobs : List Asked) × (length jobs ≤ most) × RepresentsDurably represents crash_states (fold s (entries jobs))
+HasServed most s represents true crash_states =
+    (jobs : List Asked) × (last : Asked) × (length jobs < most) × RepresentsEither represents crash_states (fold s (entries jobs)) (entry_of last.job)
 
 -- the same of a desk over a store that has kept its word, at each state that it stood at
 abbrev pub ServesAtMost : {S : Type 0} (g : Ghosts S) → ℕ → Desk S g → Desk S g → Type 0
 ServesAtMost {S} g most old new =
-    HasCleanDisk (state g new.connection) → (s : State) → DeskStands (state g old.connection) old.is_shut s
-    → HasServed most s (DeskStands (state g new.connection) new.is_shut) new.is_shut (λ states. Leaves (state g new.connection) states)
+    HasCleanDisk (state g new.connection) → (s : State) → Represents (state g old.connection) old.is_shut s
+    → HasServed most s (Represents (state g new.connection) new.is_shut) new.is_shut (λ states. HasCrashStates (state g new.connection) states)
 
 -- the desk is one and the same: what it stood on has kept its word, and what stands beside its tables stands there still
 abbrev pub IsSameStore : {S : Type 0} (g : Ghosts S) → Desk S g → Desk S g → Type 0
 IsSameStore {S} g old new =
     IsSameDesk (λ (d : Desk S g). HasCleanDisk (state g d.connection)) (λ _. newest_schema)
-    (λ (d : Desk S g) (before : Database). IsBeside (state g d.connection) d.is_shut before) old new
+    (λ (d : Desk S g) (before : Database). HasForeignTables (state g d.connection) d.is_shut before) old new
 
 -- The end of the connections: all were served, or no further one could be taken, or memory was refused before the first,
 -- by a desk that is open; or a fault of the store has shut it.

@@ -2,7 +2,7 @@
 ghost use Rattle.std.specs.Prelude.{◌≡◌, ◌*◌, true, false};
 ghost use Rattle.std.specs.Duration.{as_nanos};
 ghost use Rattle.plant_base.specs.State.{State};
-ghost use Rattle.plant_desk.specs.Keeping.{IsSameDesk};
+ghost use Rattle.plant_desk.specs.Keepers.{IsSameDesk};
 ghost use Rattle.desk_server.specs.Serving.{HasServed, status_of};
 
 use crate::log::{AccessLog, Heard};
@@ -105,10 +105,10 @@ pub(crate) fn serve_stream<K: Keeper>(
     keeper: &mut K,
     log: AccessLog<'_>,
 ) -> Option<TcpStream>
-    ensures same { IsSameDesk K.honest K.schema K.beside keeper.old keeper.new }
-    ensures serves { K.honest keeper.new → K.shut keeper.old ≡ false → (s : State) → K.stands keeper.old s
-        → HasServed 1 s (K.stands keeper.new) (K.shut keeper.new) (K.leaves keeper.new) }
-    ensures still { K.shut keeper.old ≡ true → keeper.new ≡ keeper.old }
+    ensures same { IsSameDesk K.honest K.schema K.foreign_tables keeper.old keeper.new }
+    ensures serves { K.honest keeper.new → K.shut keeper.old ≡ false → (s : State) → K.represents keeper.old s
+        → HasServed 1 s (K.represents keeper.new) (K.shut keeper.new) (K.crash_states keeper.new) }
+    ensures unchanged { K.shut keeper.old ≡ true → keeper.new ≡ keeper.old }
 {
     bound_waits(&stream);
     let arrival = log.arrival();
@@ -117,7 +117,7 @@ pub(crate) fn serve_stream<K: Keeper>(
         let mut output = &stream;
         let served = serve_one(alloc, routes, &mut input, &mut output, keeper);
         let status = status_of(&served);
-        log.note_request(arrival, input.front(), status);
+        log.note_request(arrival, input.prefix(), status);
         status
     };
     match status {

@@ -64,7 +64,7 @@ fn routes_of(made: Result<Routes, RoutesFault>) -> Result<Routes, ServingFault>
 ///
 /// `Store`: a fault of the store has shut the desk; no further connection is taken. `Net`: no connection could be taken.
 /// `Memory`: memory was refused for the routes, before the first connection. No other fault comes.
-#[tactic(auto, using(crate::proofs::Served::desk_unasked))]
+#[tactic(auto, using(crate::proofs::ServedRequests::desk_unasked))]
 pub fn serve_listener<S: Alter + Drop>(
     alloc: Global,
     listener: &TcpListener,

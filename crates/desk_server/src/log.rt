@@ -1,6 +1,6 @@
 //! Requests noted on standard error, a line each.
 ghost use Rattle.std.specs.Prelude.{◌≡◌, ◌≤◌, length, Some};
-ghost use Rattle.desk_server.specs.Noting.{is_shown, shown_status, noted_text};
+ghost use Rattle.desk_server.specs.Noting.{is_printable, logged_status, noted_text};
 
 use arrayvec::ArrayVec;
 use std::io::{self, Read};
@@ -41,15 +41,15 @@ impl fmt::Display for Noted<'_> {
     fn fmt<W: fmt::Write>(&self, f: &mut fmt::Formatter<W>) -> fmt::Result {
         let moment = self.moment;
         let line = self.line;
-        let status = shown_status(self.status);
+        let status = logged_status(self.status);
         let microseconds = self.microseconds;
         write!(f, "{moment} \"{line}\" {status} {microseconds}")
     }
 }
 
 /// The status as it is noted, 0 where nothing was answered.
-fn shown_status(status: Option<u16>) -> u16
-    ensures { result ≡ shown_status status }
+fn logged_status(status: Option<u16>) -> u16
+    ensures { result ≡ logged_status status }
 {
     match status {
         Some(status) => status,
@@ -117,16 +117,16 @@ fn microseconds_since(rt: &HostRuntime, instant: Option<Instant>) -> u128 {
 }
 
 /// Whether a byte is noted as it is: a visible character of ASCII or a space, and no quotation mark.
-fn is_shown(b: u8) -> bool
-    ensures { result ≡ is_shown b }
+fn is_printable(b: u8) -> bool
+    ensures { result ≡ is_printable b }
 {
     (b' '..=b'~').contains(&b) && b != b'"'
 }
 
 /// The front of the bytes up to the first that isn't noted.
-fn shown_front(heard: &[u8]) -> &[u8] {
+fn printable_prefix(heard: &[u8]) -> &[u8] {
     for (index, b) in heard.iter().enumerate() {
-        if !is_shown(*b) {
+        if !is_printable(*b) {
             return &heard[..index];
         }
     }
@@ -135,7 +135,7 @@ fn shown_front(heard: &[u8]) -> &[u8] {
 
 /// The first line of a request, as far as it is noted.
 fn request_line(heard: &[u8]) -> &str {
-    match str::from_utf8(shown_front(heard)) {
+    match str::from_utf8(printable_prefix(heard)) {
         Ok(line) => line,
         Err(_) => "",
     }
@@ -167,7 +167,7 @@ impl<R> Heard<R> {
     }
 
     /// The first bytes that were read, 120 at most.
-    pub(crate) fn front(&self) -> &[u8] {
+    pub(crate) fn prefix(&self) -> &[u8] {
         self.bytes.as_slice()
     }
 }

@@ -1,4 +1,4 @@
-pub mod Counting
-pub mod Drawn
-pub mod Refusing
-pub mod Saying
+pub mod MembersCounted
+pub mod DrawnInput
+pub mod RefusalKinds
+pub mod LineSays

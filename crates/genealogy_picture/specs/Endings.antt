@@ -1,28 +1,28 @@
 -- How the program ends.
 use Rattle.std.specs.Prelude.{ℕ, List, ◌++◌, codes, decimal, Result, Ok, Err}
-use Rattle.plant_picture.specs.Telling.{problem_text}
+use Rattle.genealogy_graph.specs.Reported.{graph_error_text}
 use Rattle.genealogy_picture.specs.declared.ending.Refusal.{Refusal}
 use Rattle.genealogy_picture.specs.declared.ending.Refusal.TheVariants as refusal
-use Rattle.genealogy_picture.specs.declared.ending.Stop.{Stop}
-use Rattle.genealogy_picture.specs.declared.ending.Stop.TheVariants as stop
-use Rattle.genealogy_picture.specs.Answers.{why_text}
+use Rattle.genealogy_picture.specs.declared.ending.DrawError.{DrawError}
+use Rattle.genealogy_picture.specs.declared.ending.DrawError.TheVariants as stop
+use Rattle.genealogy_picture.specs.Answers.{line_error_text}
 
 -- why an input makes no picture
 abbrev pub refusal_text : Refusal → List ℕ
-refusal_text (refusal.Line number why) = codes "line " ++ (decimal number ++ (codes ": " ++ why_text why))
-refusal_text (refusal.Whole p) = problem_text p
+refusal_text (refusal.Line number line_error) = codes "line " ++ (decimal number ++ (codes ": " ++ line_error_text line_error))
+refusal_text (refusal.Whole p) = graph_error_text p
 refusal_text refusal.Circle = codes "the edges lead in a circle"
 
 -- what is told on standard error, without its LF
-abbrev pub stop_text : Stop → List ℕ
-stop_text (stop.Refused r) = refusal_text r
-stop_text stop.Open = codes "fault: open"
-stop_text stop.Read = codes "fault: read"
-stop_text stop.Write = codes "fault: write"
-stop_text stop.Memory = codes "fault: memory"
+abbrev pub draw_error_text : DrawError → List ℕ
+draw_error_text (stop.Refused r) = refusal_text r
+draw_error_text stop.Open = codes "fault: open"
+draw_error_text stop.Read = codes "fault: read"
+draw_error_text stop.Write = codes "fault: write"
+draw_error_text stop.Memory = codes "fault: memory"
 
 -- the exit status
-abbrev pub status_of : Result Unit Stop → ℕ
+abbrev pub status_of : Result Unit DrawError → ℕ
 status_of (Ok u) = 0
 status_of (Err (stop.Refused r)) = 1
 status_of (Err stop.Open) = 3

@@ -4,5 +4,5 @@ pub mod Endings
 pub mod Gathering
 pub mod Members
 pub mod Reading
-pub mod Stand
+pub mod ReadingState
 pub mod Words

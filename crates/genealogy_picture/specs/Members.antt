@@ -3,12 +3,12 @@ use Rattle.std.specs.Prelude.{ℕ, suc, ◌==◌, List, Bool, false, if◌then�
 use Rattle.serde_json.specs.Data.{Data, Members, no_members, member}
 use Rattle.serde_json.specs.Find.{get, as_bool, as_number, as_u64, as_str, as_object}
 use Rattle.plant_base.specs.Values.{is_id, is_unit, only}
-use Rattle.plant_picture.specs.declared.model.PictureLot.{PictureLot}
-use Rattle.plant_picture.specs.declared.told.ToldEdge.{ToldEdge}
+use Rattle.genealogy_graph.specs.declared.model.PictureLot.{PictureLot}
+use Rattle.genealogy_graph.specs.declared.reported.ReportedEdge.{ReportedEdge}
 use Rattle.plant_trace.specs.declared.node.Node.{Node}
 use Rattle.plant_trace.specs.declared.node.Node.TheVariants as node
-use Rattle.genealogy_picture.specs.declared.members.ToldNode.{ToldNode}
-use Rattle.genealogy_picture.specs.declared.members.ToldNode.TheVariants as told
+use Rattle.genealogy_picture.specs.declared.members.ReportedNode.{ReportedNode}
+use Rattle.genealogy_picture.specs.declared.members.ReportedNode.TheVariants as reported
 
 -- ---- members
 
@@ -62,8 +62,8 @@ abbrev pub batch_of : Data → Option (List ℕ)
 batch_of d = if has_members 1 d then id_at (codes "batch") d else None
 
 -- an object with `lot` is a lot or nothing, and another a batch or nothing
-abbrev pub node_of : Data → Option ToldNode
-node_of d = if is_some (get (codes "lot") d) then option_map told.Lot (lot_of d) else option_map told.Batch (batch_of d)
+abbrev pub node_of : Data → Option ReportedNode
+node_of d = if is_some (get (codes "lot") d) then option_map reported.Lot (lot_of d) else option_map reported.Batch (batch_of d)
 
 -- ---- edges
 
@@ -77,7 +77,7 @@ end_of d = if has_members 1 d then end_in d else None
 abbrev pub end_at : List ℕ → Data → Option Node
 end_at name d = get name d >>= end_of
 
-abbrev pub edge_in : Data → Option ToldEdge
+abbrev pub edge_in : Data → Option ReportedEdge
 edge_in d =
     end_at (codes "from") d >>= (λ from.
     end_at (codes "to") d >>= (λ to.
@@ -85,5 +85,5 @@ edge_in d =
     Some (record { from = from; to = to; amount = amount }))))
 
 -- an edge has these three members and no more
-abbrev pub edge_of : Data → Option ToldEdge
+abbrev pub edge_of : Data → Option ReportedEdge
 edge_of d = if has_members 3 d then edge_in d else None

@@ -2,7 +2,7 @@
 use Rattle.std.specs.Prelude.{List, codes, true, Some, if◌then◌else◌}
 use Rattle.clap.specs.declared.builder.action.ArgAction.TheVariants.{SetTrue}
 use Rattle.clap.specs.Words.{App, Row, Rule, Text, first_of, new_app, new_rule, with_rule}
-use Rattle.desk_words.specs.Meaning.{is_set}
+use Rattle.desk_cli.specs.Meaning.{is_set}
 use Rattle.genealogy_picture.specs.declared.words.Format.{Format}
 use Rattle.genealogy_picture.specs.declared.words.Format.TheVariants.{Dot, Svg}
 

@@ -2,7 +2,7 @@
 ghost use Rattle.std.specs.Prelude.{◌≡◌, Some, false, true, option_map};
 ghost use Rattle.serde_json.specs.Errors.{IsMemory};
 ghost use Rattle.serde_json.specs.View.{view, items_view};
-ghost use Rattle.genealogy_picture.specs.Answers.{Tells, why_text, node_into, nodes_into, edge_into, edges_into, parts_into, answer_into};
+ghost use Rattle.genealogy_picture.specs.Answers.{Reports, line_error_text, node_into, nodes_into, edge_into, edges_into, parts_into, answer_into};
 ghost use Rattle.genealogy_picture.specs.Answers.{is_blank, line_into, list_at};
 
 use crate::gathered::Gathered;
@@ -14,7 +14,7 @@ use std::fmt;
 
 /// Why a line is no answer with edges.
 #[derive(Clone, Copy, Debug, PartialEq, Eq)]
-pub(crate) enum Why {
+pub(crate) enum LineError {
     /// It is no JSON text.
     NoJson,
     /// It is a refusal of the desk.
@@ -27,19 +27,21 @@ pub(crate) enum Why {
     Edge(usize),
 }
 
-impl fmt::Display for Why {
-    ghost output = { λ why. Some (why_text why) };
+impl fmt::Display for LineError {
+    ghost output = { λ line_error. Some (line_error_text line_error) };
 
     fn fmt<W: fmt::Write>(&self, f: &mut fmt::Formatter<W>) -> fmt::Result {
         match self {
-            Why::NoJson => f.write_str("not a JSON text"),
-            Why::Refused => f.write_str("the desk refused the question"),
-            Why::NoAnswer => f.write_str("not an answer with edges and nodes, and these alone"),
-            Why::Node(number) => write!(
+            LineError::NoJson => f.write_str("not a JSON text"),
+            LineError::Refused => f.write_str("the desk refused the question"),
+            LineError::NoAnswer => f.write_str(
+                "not an answer with edges and nodes, and these alone",
+            ),
+            LineError::Node(number) => write!(
                 f,
                 "nodes {number}: neither a lot with def, held, lot, recalled, stock and unit nor a batch"
             ),
-            Why::Edge(number) => {
+            LineError::Edge(number) => {
                 write!(
                     f,
                     "edges {number}: not an amount with from and to, each a lot or a batch"
@@ -53,7 +55,7 @@ impl fmt::Display for Why {
 #[derive(Clone, Copy, Debug, PartialEq, Eq)]
 pub(crate) enum LineFault {
     /// It is no answer with edges.
-    Told(Why),
+    Reported(LineError),
     /// Memory was refused.
     Memory,
 }
@@ -70,17 +72,17 @@ impl From<AllocError> for LineFault {
 
 /// Takes the node of a number.
 fn node_into(gathered: &mut Gathered, number: usize, value: &Value) -> Result<(), LineFault>
-    ensures { Tells gathered.new result (node_into gathered.old number (view value.now)) }
+    ensures { Reports gathered.new result (node_into gathered.old number (view value.now)) }
 {
     match node_of(value) {
         Some(node) => Ok(gathered.add_node(&node)?),
-        None => Err(LineFault::Told(Why::Node(number))),
+        None => Err(LineFault::Reported(LineError::Node(number))),
     }
 }
 
 /// Takes the nodes of an answer.
 fn nodes_into(gathered: &mut Gathered, values: &[Value]) -> Result<(), LineFault>
-    ensures { Tells gathered.new result (nodes_into gathered.old 1 (items_view values.now)) }
+    ensures { Reports gathered.new result (nodes_into gathered.old 1 (items_view values.now)) }
 {
     for (index, value) in values.iter().enumerate() {
         node_into(gathered, index + 1, value)?;
@@ -90,7 +92,7 @@ fn nodes_into(gathered: &mut Gathered, values: &[Value]) -> Result<(), LineFault
 
 /// Takes the edge of a number.
 fn edge_into(gathered: &mut Gathered, number: usize, value: &Value) -> Result<(), LineFault>
-    ensures { Tells gathered.new result (edge_into gathered.old number (view value.now)) }
+    ensures { Reports gathered.new result (edge_into gathered.old number (view value.now)) }
 {
     match edge_of(value) {
         Some(edge) => {
@@ -98,13 +100,13 @@ fn edge_into(gathered: &mut Gathered, number: usize, value: &Value) -> Result<()
             let to: Node = edge.to;
             Ok(gathered.add_edge(from, to, edge.amount)?)
         }
-        None => Err(LineFault::Told(Why::Edge(number))),
+        None => Err(LineFault::Reported(LineError::Edge(number))),
     }
 }
 
 /// Takes the edges of an answer.
 fn edges_into(gathered: &mut Gathered, values: &[Value]) -> Result<(), LineFault>
-    ensures { Tells gathered.new result (edges_into gathered.old 1 (items_view values.now)) }
+    ensures { Reports gathered.new result (edges_into gathered.old 1 (items_view values.now)) }
 {
     for (index, value) in values.iter().enumerate() {
         edge_into(gathered, index + 1, value)?;
@@ -120,27 +122,27 @@ fn list_at<'a>(value: &'a Value, name: &str) -> Option<&'a Vec<Value>>
 
 /// Takes the nodes and the edges of an object, where both are there.
 fn parts_into(gathered: &mut Gathered, value: &Value) -> Result<(), LineFault>
-    ensures { Tells gathered.new result (parts_into gathered.old (view value.now)) }
+    ensures { Reports gathered.new result (parts_into gathered.old (view value.now)) }
 {
     match (list_at(value, "nodes"), list_at(value, "edges")) {
         (Some(nodes), Some(edges)) => {
             nodes_into(gathered, nodes)?;
             edges_into(gathered, edges)
         }
-        _ => Err(LineFault::Told(Why::NoAnswer)),
+        _ => Err(LineFault::Reported(LineError::NoAnswer)),
     }
 }
 
 /// Takes the answer that a value is.
 fn answer_into(gathered: &mut Gathered, value: &Value) -> Result<(), LineFault>
-    ensures { Tells gathered.new result (answer_into gathered.old (view value.now)) }
+    ensures { Reports gathered.new result (answer_into gathered.old (view value.now)) }
 {
     if value.get("refused").is_some() {
-        Err(LineFault::Told(Why::Refused))
+        Err(LineFault::Reported(LineError::Refused))
     } else if has_members(value, 2) {
         parts_into(gathered, value)
     } else {
-        Err(LineFault::Told(Why::NoAnswer))
+        Err(LineFault::Reported(LineError::NoAnswer))
     }
 }
 
@@ -162,7 +164,7 @@ fn is_blank(line: &[u8]) -> bool
 ///
 /// The line is a JSON text (RFC 8259) in UTF-8: an object with exactly `edges` and `nodes`, lists of objects. Of members with one name the last counts.
 ///
-/// - `Told`: it is no such answer, and this is the first thing that is wrong with it, nodes before edges. What stands before it may have been taken.
+/// - `Reported`: it is no such answer, and this is the first thing that is wrong with it, nodes before edges. What stands before it may have been taken.
 /// - `Memory`: memory was refused.
 #[tactic(auto, unfolding(crate::specs::Answers::line_into))]
 pub(crate) fn line_into(
@@ -170,7 +172,7 @@ pub(crate) fn line_into(
     gathered: &mut Gathered,
     line: &[u8],
 ) -> Result<(), LineFault>
-    ensures { Tells gathered.new result (line_into gathered.old line.now) }
+    ensures { Reports gathered.new result (line_into gathered.old line.now) }
 {
     if is_blank(line) {
         return Ok(());
@@ -179,7 +181,7 @@ pub(crate) fn line_into(
         Ok(value) => answer_into(gathered, &value),
         Err(error) => {
             if is_refusal(&error) {
-                Err(LineFault::Told(Why::NoJson))
+                Err(LineFault::Reported(LineError::NoJson))
             } else {
                 Err(LineFault::Memory)
             }

@@ -1,9 +1,9 @@
 //! How the program ends: why no picture is drawn, and the exit status.
 ghost use Rattle.std.specs.Prelude.{◌≡◌, Some};
-ghost use Rattle.genealogy_picture.specs.Endings.{refusal_text, status_of, stop_text};
+ghost use Rattle.genealogy_picture.specs.Endings.{refusal_text, status_of, draw_error_text};
 
-use crate::answers::Why;
-use plant_picture::Problem;
+use crate::answers::LineError;
+use genealogy_graph::GraphError;
 use std::alloc::AllocError;
 use std::fmt;
 
@@ -11,9 +11,9 @@ use std::fmt;
 #[derive(Clone, Copy, Debug, PartialEq, Eq)]
 pub(crate) enum Refusal {
     /// The line of this number is no answer with edges, and this is why.
-    Line(u64, Why),
+    Line(u64, LineError),
     /// What its answers tell makes none.
-    Whole(Problem),
+    Whole(GraphError),
     /// Its edges lead in a circle, so that it has no layers: only in SVG.
     Circle,
 }
@@ -23,8 +23,8 @@ impl fmt::Display for Refusal {
 
     fn fmt<W: fmt::Write>(&self, f: &mut fmt::Formatter<W>) -> fmt::Result {
         match self {
-            Refusal::Line(number, why) => write!(f, "line {number}: {why}"),
-            Refusal::Whole(problem) => write!(f, "{problem}"),
+            Refusal::Line(number, line_error) => write!(f, "line {number}: {line_error}"),
+            Refusal::Whole(graph_error) => write!(f, "{graph_error}"),
             Refusal::Circle => f.write_str("the edges lead in a circle"),
         }
     }
@@ -32,7 +32,7 @@ impl fmt::Display for Refusal {
 
 /// Why no picture is drawn, or not whole.
 #[derive(Clone, Copy, Debug, PartialEq, Eq)]
-pub(crate) enum Stop {
+pub(crate) enum DrawError {
     /// The input makes none.
     Refused(Refusal),
     /// The file can't be opened.
@@ -45,38 +45,38 @@ pub(crate) enum Stop {
     Memory,
 }
 
-impl From<AllocError> for Stop {
-    ghost use Rattle.genealogy_picture.specs.declared.ending.Stop.TheVariants as stop;
+impl From<AllocError> for DrawError {
+    ghost use Rattle.genealogy_picture.specs.declared.ending.DrawError.TheVariants as stop;
 
     ghost from_gives = { λ _ made. made ≡ stop.Memory };
 
     fn from(_error: AllocError) -> Self {
-        Stop::Memory
+        DrawError::Memory
     }
 }
 
-impl fmt::Display for Stop {
-    ghost output = { λ stop. Some (stop_text stop) };
+impl fmt::Display for DrawError {
+    ghost output = { λ stop. Some (draw_error_text stop) };
 
     fn fmt<W: fmt::Write>(&self, f: &mut fmt::Formatter<W>) -> fmt::Result {
         match self {
-            Stop::Refused(refusal) => write!(f, "{refusal}"),
-            Stop::Open => f.write_str("fault: open"),
-            Stop::Read => f.write_str("fault: read"),
-            Stop::Write => f.write_str("fault: write"),
-            Stop::Memory => f.write_str("fault: memory"),
+            DrawError::Refused(refusal) => write!(f, "{refusal}"),
+            DrawError::Open => f.write_str("fault: open"),
+            DrawError::Read => f.write_str("fault: read"),
+            DrawError::Write => f.write_str("fault: write"),
+            DrawError::Memory => f.write_str("fault: memory"),
         }
     }
 }
 
 /// The exit status of a program that ended so.
-pub(crate) fn status_of(end: &Result<(), Stop>) -> u8
+pub(crate) fn status_of(end: &Result<(), DrawError>) -> u8
     ensures { result ≡ status_of end.now }
 {
     match end {
         Ok(()) => 0,
-        Err(Stop::Refused(_)) => 1,
-        Err(Stop::Open | Stop::Read | Stop::Write) => 3,
-        Err(Stop::Memory) => 4,
+        Err(DrawError::Refused(_)) => 1,
+        Err(DrawError::Open | DrawError::Read | DrawError::Write) => 3,
+        Err(DrawError::Memory) => 4,
     }
 }

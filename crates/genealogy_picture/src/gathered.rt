@@ -2,9 +2,9 @@
 ghost use Rattle.std.specs.Prelude.{◌≡◌, OnOk};
 ghost use Rattle.genealogy_picture.specs.Gathering.{nothing, with_lot, with_batch, with_node, with_edge};
 
-use crate::members::ToldNode;
+use crate::members::ReportedNode;
+use genealogy_graph::{PictureLot, Reported, ReportedEdge};
 use plant_base::{Id, Items};
-use plant_picture::{PictureLot, Told, ToldEdge};
 use plant_trace::Node;
 use std::alloc::{AllocError, Global};
 use std::marker::Model;
@@ -14,13 +14,13 @@ use std::marker::Model;
 pub(crate) struct Gathered {
     lots: Vec<PictureLot>,
     batches: Vec<Id>,
-    edges: Vec<ToldEdge>,
+    edges: Vec<ReportedEdge>,
 }
 
 impl Model for Gathered {
-    ghost use Rattle.plant_picture.specs.declared.told.Told.{Told};
+    ghost use Rattle.genealogy_graph.specs.declared.reported.Reported.{Reported};
 
-    ghost Value = { Told };
+    ghost Value = { Reported };
 
     ghost view = { λ g. record { lots = g.lots.items; batches = g.batches.items; edges = g.edges.items } };
 }
@@ -38,12 +38,12 @@ impl Gathered {
     }
 
     /// A node more. The only error is that memory was refused.
-    pub(crate) fn add_node(&mut self, node: &ToldNode) -> Result<(), AllocError>
+    pub(crate) fn add_node(&mut self, node: &ReportedNode) -> Result<(), AllocError>
         ensures { OnOk result (self.new ≡ with_node self.old node.now) }
     {
         match node {
-            ToldNode::Lot(lot) => self.add_lot(lot),
-            ToldNode::Batch(batch) => self.add_batch(batch),
+            ReportedNode::Lot(lot) => self.add_lot(lot),
+            ReportedNode::Batch(batch) => self.add_batch(batch),
         }
     }
 
@@ -65,15 +65,15 @@ impl Gathered {
     pub(crate) fn add_edge(&mut self, from: Node, to: Node, amount: u64) -> Result<(), AllocError>
         ensures { OnOk result (self.new ≡ with_edge self.old (record { from = from; to = to; amount = amount })) }
     {
-        self.edges.push(ToldEdge { from, to, amount })?;
+        self.edges.push(ReportedEdge { from, to, amount })?;
         Ok(())
     }
 
     /// All that was told.
-    pub(crate) fn into_told(self) -> Told
+    pub(crate) fn into_reported(self) -> Reported
         ensures { result ≡ self }
     {
-        Told {
+        Reported {
             lots: Items::new(self.lots),
             batches: Items::new(self.batches),
             edges: Items::new(self.edges),

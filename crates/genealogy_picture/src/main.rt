@@ -9,9 +9,9 @@ mod members;
 mod reading;
 mod words;
 
-use desk_words::{WordsFault, read_arguments, tell_refused, texts_of};
+use desk_cli::{WordsFault, print_refused, read_arguments, texts_of};
 use drawing::draw;
-use ending::{Stop, status_of};
+use ending::{DrawError, status_of};
 use std::fs::File;
 use std::process::ExitCode;
 use words::{Words, read_words};
@@ -19,7 +19,7 @@ use words::{Words, read_words};
 fn main(rt: HostRuntime) -> ExitCode {
     let status = match draw_named(&rt) {
         Ok(status) => status,
-        Err(fault) => tell_refused(&rt, &fault),
+        Err(fault) => print_refused(&rt, &fault),
     };
     ExitCode::from(status)
 }
@@ -37,20 +37,20 @@ fn draw_named(rt: &HostRuntime) -> Result<u8, WordsFault> {
 }
 
 /// Prints the picture that the words ask for.
-fn print_drawn(rt: &HostRuntime, words: Words<'_>) -> Result<(), Stop> {
+fn print_drawn(rt: &HostRuntime, words: Words<'_>) -> Result<(), DrawError> {
     let text = draw_file(rt, words)?;
     match print!(rt; "{text}") {
         Ok(()) => Ok(()),
-        Err(_) => Err(Stop::Write),
+        Err(_) => Err(DrawError::Write),
     }
 }
 
-fn draw_file(rt: &HostRuntime, words: Words<'_>) -> Result<String, Stop> {
+fn draw_file(rt: &HostRuntime, words: Words<'_>) -> Result<String, DrawError> {
     match words.file {
         None => draw(rt.alloc(), words.format, &mut rt.reader()),
         Some(name) => match File::open(rt, name) {
             Ok(mut opened) => draw(rt.alloc(), words.format, &mut opened),
-            Err(_) => Err(Stop::Open),
+            Err(_) => Err(DrawError::Open),
         },
     }
 }

@@ -5,14 +5,14 @@ ghost use Rattle.plant_base.specs.Values.{is_id, is_unit, only};
 ghost use Rattle.genealogy_picture.specs.Members.{has_members, id_at, unit_at, number_at, flag_at, lot_in, lot_of, batch_of, node_of};
 ghost use Rattle.genealogy_picture.specs.Members.{end_in, end_of, end_at, edge_in, edge_of};
 
+use genealogy_graph::{PictureLot, ReportedEdge};
 use plant_base::{Id, Unit};
-use plant_picture::{PictureLot, ToldEdge};
 use plant_trace::Node;
 use serde_json::Value;
 
 /// A node, as an answer tells it.
 #[derive(Clone, Copy, Debug, PartialEq, Eq)]
-pub(crate) enum ToldNode {
+pub(crate) enum ReportedNode {
     /// A lot.
     Lot(PictureLot),
     /// A batch.
@@ -20,7 +20,7 @@ pub(crate) enum ToldNode {
 }
 
 /// Whether a value is an object of so many members.
-#[tactic(auto, using(crate::proofs::Counting::members_counted))]
+#[tactic(auto, using(crate::proofs::MembersCounted::members_counted))]
 pub(crate) fn has_members(value: &Value, count: usize) -> bool
     ensures { result ≡ has_members count (view value.now) }
 {
@@ -104,13 +104,13 @@ fn batch_of(value: &Value) -> Option<Id>
 }
 
 /// The node that an object is.
-pub(crate) fn node_of(value: &Value) -> Option<ToldNode>
+pub(crate) fn node_of(value: &Value) -> Option<ReportedNode>
     ensures { result ≡ node_of (view value.now) }
 {
     if value.get("lot").is_some() {
-        Some(ToldNode::Lot(lot_of(value)?))
+        Some(ReportedNode::Lot(lot_of(value)?))
     } else {
-        Some(ToldNode::Batch(batch_of(value)?))
+        Some(ReportedNode::Batch(batch_of(value)?))
     }
 }
 
@@ -144,10 +144,10 @@ fn end_at(value: &Value, name: &str) -> Option<Node>
     end_of(value.get(name)?)
 }
 
-fn edge_in(value: &Value) -> Option<ToldEdge>
+fn edge_in(value: &Value) -> Option<ReportedEdge>
     ensures { result ≡ edge_in (view value.now) }
 {
-    Some(ToldEdge {
+    Some(ReportedEdge {
         from: end_at(value, "from")?,
         to: end_at(value, "to")?,
         amount: number_at(value, "amount")?,
@@ -155,7 +155,7 @@ fn edge_in(value: &Value) -> Option<ToldEdge>
 }
 
 /// The edge that an object is: exactly `{"amount":N,"from":END,"to":END}`, in any order.
-pub(crate) fn edge_of(value: &Value) -> Option<ToldEdge>
+pub(crate) fn edge_of(value: &Value) -> Option<ReportedEdge>
     ensures { result ≡ edge_of (view value.now) }
 {
     if has_members(value, 3) {

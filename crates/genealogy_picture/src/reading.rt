@@ -1,11 +1,11 @@
 //! What all lines of an input tell.
 ghost use Rattle.std.specs.Prelude.{◌≡◌, IfOk};
-ghost use Rattle.genealogy_picture.specs.Reading.{start, numbered, line_ended, taken, read_from, told_of, TellsAs};
+ghost use Rattle.genealogy_picture.specs.Reading.{start, numbered, line_ended, taken, read_from, reported_of, ReportsAs};
 
-use crate::answers::{LineFault, Why, line_into};
-use crate::ending::{Refusal, Stop};
+use crate::answers::{LineError, LineFault, line_into};
+use crate::ending::{DrawError, Refusal};
 use crate::gathered::Gathered;
-use plant_picture::Told;
+use genealogy_graph::Reported;
 use std::alloc::Global;
 use std::marker::Model;
 
@@ -20,21 +20,23 @@ struct Reading {
 }
 
 impl Model for Reading {
-    ghost use Rattle.genealogy_picture.specs.Stand.{Stand};
+    ghost use Rattle.genealogy_picture.specs.ReadingState.{ReadingState};
 
-    ghost Value = { Stand };
+    ghost Value = { ReadingState };
 
-    ghost view = { λ r. record { told = r.gathered; number = r.number; held = r.held.items } };
+    ghost view = { λ r. record { reported = r.gathered; number = r.number; held = r.held.items } };
 }
 
 /// What a line of a number is told as, where it isn't taken.
-fn numbered(number: u64, taken: Result<(), LineFault>) -> Result<(), Stop>
+fn numbered(number: u64, taken: Result<(), LineFault>) -> Result<(), DrawError>
     ensures { result ≡ numbered number taken }
 {
     match taken {
         Ok(()) => Ok(()),
-        Err(LineFault::Told(why)) => Err(Stop::Refused(Refusal::Line(number, why))),
-        Err(LineFault::Memory) => Err(Stop::Memory),
+        Err(LineFault::Reported(line_error)) => Err(DrawError::Refused(Refusal::Line(
+            number, line_error,
+        ))),
+        Err(LineFault::Memory) => Err(DrawError::Memory),
     }
 }
 
@@ -51,8 +53,8 @@ impl Reading {
     }
 
     /// Takes the line that is held.
-    fn end_line(&mut self, alloc: Global) -> Result<(), Stop>
-        ensures { TellsAs (λ _. self.new) result (line_ended self.old) }
+    fn end_line(&mut self, alloc: Global) -> Result<(), DrawError>
+        ensures { ReportsAs (λ _. self.new) result (line_ended self.old) }
     {
         numbered(
             self.number,
@@ -64,26 +66,26 @@ impl Reading {
                 self.number = number;
                 Ok(())
             }
-            None => Err(Stop::Memory),
+            None => Err(DrawError::Memory),
         }
     }
 
     /// Takes a byte.
-    fn take(&mut self, alloc: Global, b: u8) -> Result<(), Stop>
-        ensures { TellsAs (λ _. self.new) result (taken self.old b) }
+    fn take(&mut self, alloc: Global, b: u8) -> Result<(), DrawError>
+        ensures { ReportsAs (λ _. self.new) result (taken self.old b) }
     {
         if b == b'\n' {
             return self.end_line(alloc);
         }
         match self.held.push(b) {
             Ok(()) => Ok(()),
-            Err(_) => Err(Stop::Memory),
+            Err(_) => Err(DrawError::Memory),
         }
     }
 }
 
-fn read_from(alloc: Global, bytes: &[u8]) -> Result<Reading, Stop>
-    ensures { TellsAs (λ reading. reading) result (read_from start bytes.now) }
+fn read_from(alloc: Global, bytes: &[u8]) -> Result<Reading, DrawError>
+    ensures { ReportsAs (λ reading. reading) result (read_from start bytes.now) }
 {
     let mut reading = Reading::new(alloc);
     for b in bytes {
@@ -95,11 +97,11 @@ fn read_from(alloc: Global, bytes: &[u8]) -> Result<Reading, Stop>
 /// What the lines tell, each ended by an LF but the last, which may be empty.
 ///
 /// `Refused` comes where a line is no answer with edges, with its number and why. `Memory` comes where memory was refused. No other stop comes.
-#[tactic(auto, unfolding(crate::specs::Reading::told_of))]
-pub(crate) fn told_of(alloc: Global, bytes: &[u8]) -> Result<Told, Stop>
-    ensures { TellsAs (λ told. told) result (told_of bytes.now) }
+#[tactic(auto, unfolding(crate::specs::Reading::reported_of))]
+pub(crate) fn reported_of(alloc: Global, bytes: &[u8]) -> Result<Reported, DrawError>
+    ensures { ReportsAs (λ reported. reported) result (reported_of bytes.now) }
 {
     let mut reading = read_from(alloc, bytes)?;
     reading.end_line(alloc)?;
-    Ok(reading.gathered.into_told())
+    Ok(reading.gathered.into_reported())
 }

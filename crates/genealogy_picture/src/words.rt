@@ -1,11 +1,11 @@
 //! The words of the command line.
 ghost use Rattle.std.specs.Prelude.{◌≡◌, IfErr, IfOk, [], codes, false, map, option_map};
 ghost use Rattle.clap.specs.Words.{app_of, fault_of, first_of, found_of, matches_of, rows_of, rule_of};
-ghost use Rattle.desk_words.specs.Meaning.{IsRefusalOf, is_set};
+ghost use Rattle.desk_cli.specs.Meaning.{IsRefusalOf, is_set};
 ghost use Rattle.genealogy_picture.specs.Words.{file_rule, format_of, flag_rule, picture_app};
 
 use clap::{Arg, ArgAction, ArgMatches, Command};
-use desk_words::{WordsFault, refusal_of};
+use desk_cli::{WordsFault, refusal_of};
 use std::alloc::{AllocError, Global};
 
 /// The version of the program, which is that of the desk.

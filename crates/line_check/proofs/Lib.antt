@@ -1,4 +1,4 @@
-pub mod Fitting
-pub mod Judging
-pub mod Places
-pub mod Reports
+pub mod NoErrorIfWhole
+pub mod VerdictOfLine
+pub mod IndexesInLists
+pub mod ReportedLines

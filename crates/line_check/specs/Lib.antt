@@ -1,4 +1,4 @@
 pub mod Endings
-pub mod Misfits
+pub mod CommandErrors
 pub mod Report
 pub mod Verdicts

@@ -2,13 +2,13 @@
 use Rattle.std.specs.Prelude.{◌≡◌, ℕ, ◌+◌, ◌==◌, List, [], ◌∷◌, ◌++◌, map, Bool, true, false, if◌then◌else◌, codes, decimal, Option}
 use Rattle.std.specs.Str.Lines.{lines}
 use Rattle.std.specs.Io.KnownBytes.{Appends}
-use Rattle.plant_text.specs.Held.{ended_after}
+use Rattle.plant_text.specs.HeldLines.{ended_after}
 use Rattle.plant_text.specs.Writes.{with_lf}
 use Rattle.line_check.specs.declared.judge.Verdict.{Verdict}
 use Rattle.line_check.specs.declared.judge.Verdict.TheVariants as verdict
-use Rattle.line_check.specs.declared.judge.Why.{Why}
+use Rattle.line_check.specs.declared.judge.LineError.{LineError}
 use Rattle.line_check.specs.declared.lines.Tally.{Tally}
-use Rattle.line_check.specs.Verdicts.{verdict_of, why_text}
+use Rattle.line_check.specs.Verdicts.{verdict_of, line_error_text}
 
 -- ---- the report on an input
 
@@ -16,15 +16,15 @@ abbrev pub verdicts : List (List ℕ) → List Verdict
 verdicts ls = map verdict_of ls
 
 -- what is told of the line of a number, without its LF
-abbrev pub told_text : ℕ → Why → List ℕ
-told_text number why = codes "line " ++ decimal number ++ codes ": " ++ why_text why
+abbrev pub answer_lines : ℕ → LineError → List ℕ
+answer_lines number line_error = codes "line " ++ decimal number ++ codes ": " ++ line_error_text line_error
 
 -- a bad line is told, and no other
 abbrev pub line_text : ℕ → Verdict → List ℕ
 line_text number verdict.Nothing = []
 line_text number verdict.Command = []
 line_text number verdict.Question = []
-line_text number (verdict.Bad why) = with_lf (told_text number why)
+line_text number (verdict.Bad line_error) = with_lf (answer_lines number line_error)
 
 -- what is told of the lines behind so many
 abbrev pub texts : ℕ → List Verdict → List ℕ
@@ -36,7 +36,7 @@ abbrev pub tally_with : Tally → Verdict → Tally
 tally_with t verdict.Nothing = record { lines = t.lines + 1; commands = t.commands; questions = t.questions; bad = t.bad }
 tally_with t verdict.Command = record { lines = t.lines + 1; commands = t.commands + 1; questions = t.questions; bad = t.bad }
 tally_with t verdict.Question = record { lines = t.lines + 1; commands = t.commands; questions = t.questions + 1; bad = t.bad }
-tally_with t (verdict.Bad why) = record { lines = t.lines + 1; commands = t.commands; questions = t.questions; bad = true }
+tally_with t (verdict.Bad line_error) = record { lines = t.lines + 1; commands = t.commands; questions = t.questions; bad = true }
 
 abbrev pub tally_after : Tally → List Verdict → Tally
 tally_after t [] = t
@@ -68,6 +68,6 @@ abbrev pub verdicts_after : List ℕ → List ℕ → List Verdict
 verdicts_after held bs = verdicts (ended_after held bs)
 
 -- these verdicts were told and counted
-pub record AreToldAndCounted (start : Tally) (vs : List Verdict) (old new : Option (List ℕ)) (now : Tally) : Type 0 where
+pub record AreWrittenAndCounted (start : Tally) (vs : List Verdict) (old new : Option (List ℕ)) (now : Tally) : Type 0 where
   pub text : Appends old new (texts start.lines vs)
   pub tally : now ≡ tally_after start vs

@@ -2,7 +2,7 @@
 ghost use Rattle.std.specs.Prelude.{◌≡◌};
 ghost use Rattle.line_check.specs.Endings.{status_of};
 
-use desk_words::CheckFault;
+use desk_cli::CheckFault;
 
 /// The exit status of a check that ended so.
 pub(crate) fn status_of(end: &Result<bool, CheckFault>) -> u8

@@ -2,16 +2,16 @@
 ghost use Rattle.std.specs.Prelude.{◌≡◌, ℕ, ◌+◌, ◌<◌, List, [], ◌∷◌, ◌++◌, length, Option, Some, OnOk, IfErr, IfOk};
 ghost use Rattle.std.specs.Str.Lines.{strip_carriage_return};
 ghost use Rattle.std.specs.Io.KnownBytes.{Appends, Consumes, IsAtEnd};
-ghost use Rattle.plant_text.specs.Held.{held_with, held_after};
+ghost use Rattle.plant_text.specs.HeldLines.{held_with, held_after};
 ghost use Rattle.plant_text.specs.Writes.{with_lf};
 ghost use Rattle.line_check.specs.Verdicts.{verdict_of};
-ghost use Rattle.line_check.specs.Report.{told_text, line_text, tally_with, counts_text, end_text, no_lines};
+ghost use Rattle.line_check.specs.Report.{answer_lines, line_text, tally_with, counts_text, end_text, no_lines};
 ghost use Rattle.line_check.specs.Report.{report};
-ghost use Rattle.line_check.specs.Report.{some_bad, verdicts_after, AreToldAndCounted};
+ghost use Rattle.line_check.specs.Report.{some_bad, verdicts_after, AreWrittenAndCounted};
 
-use crate::judge::{NoMemory, Verdict, Why, judge};
-use desk_words::CheckFault;
-use plant_text::{Unwritten, write_line};
+use crate::judge::{LineError, MemoryError, Verdict, judge};
+use desk_cli::CheckFault;
+use plant_text::{WriteError, write_line};
 use std::alloc::Global;
 use std::fmt;
 use std::io::{Read, Write};
@@ -35,18 +35,18 @@ const MOST_READS: u64 = 1_000_000_000;
 
 /// What is told of a bad line.
 #[derive(Clone, Copy)]
-struct ToldLine {
+struct NumberedVerdict {
     number: u64,
-    why: Why,
+    line_error: LineError,
 }
 
-impl fmt::Display for ToldLine {
-    ghost output = { λ told. Some (told_text told.number told.why) };
+impl fmt::Display for NumberedVerdict {
+    ghost output = { λ reported. Some (answer_lines reported.number reported.line_error) };
 
     fn fmt<W: fmt::Write>(&self, f: &mut fmt::Formatter<W>) -> fmt::Result {
         let number = self.number;
-        let why = self.why;
-        write!(f, "line {number}: {why}")
+        let line_error = self.line_error;
+        write!(f, "line {number}: {line_error}")
     }
 }
 
@@ -61,41 +61,41 @@ impl fmt::Display for Tally {
 }
 
 /// Writes a text and an LF.
-fn tell<W: Write>(writer: &mut W, text: &[u8]) -> Result<(), CheckFault>
+fn write_verdict<W: Write>(writer: &mut W, text: &[u8]) -> Result<(), CheckFault>
     ensures text { OnOk result (Appends (W.contents writer.old) (W.contents writer.new)
         (with_lf text.now)) }
-    ensures unwritten { IfErr result (λ fault. fault ≡ CheckFault.Write) }
+    ensures write_error { IfErr result (λ fault. fault ≡ CheckFault.Write) }
 {
     match write_line(writer, text) {
         Ok(()) => Ok(()),
-        Err(Unwritten) => Err(CheckFault::Write),
+        Err(WriteError) => Err(CheckFault::Write),
     }
 }
 
 /// Tells why the line of a number is bad.
-fn tell_line<W: Write>(
+fn write_verdict_line<W: Write>(
     alloc: Global,
     writer: &mut W,
     number: u64,
-    why: Why,
+    line_error: LineError,
 ) -> Result<(), CheckFault>
     ensures { OnOk result (Appends (W.contents writer.old) (W.contents writer.new)
-        (with_lf (told_text number why))) }
+        (with_lf (answer_lines number line_error))) }
 {
-    let told = ToldLine { number, why };
-    match told.to_string(alloc) {
-        Ok(text) => tell(writer, text.as_bytes()),
+    let reported = NumberedVerdict { number, line_error };
+    match reported.to_string(alloc) {
+        Ok(text) => write_verdict(writer, text.as_bytes()),
         Err(_) => Err(CheckFault::Memory),
     }
 }
 
 /// Tells the counts.
-fn tell_counts<W: Write>(alloc: Global, writer: &mut W, tally: Tally) -> Result<(), CheckFault>
+fn write_counts<W: Write>(alloc: Global, writer: &mut W, tally: Tally) -> Result<(), CheckFault>
     ensures { OnOk result (Appends (W.contents writer.old) (W.contents writer.new)
         (with_lf (counts_text tally))) }
 {
     match tally.to_string(alloc) {
-        Ok(text) => tell(writer, text.as_bytes()),
+        Ok(text) => write_verdict(writer, text.as_bytes()),
         Err(_) => Err(CheckFault::Memory),
     }
 }
@@ -138,7 +138,12 @@ fn take_verdict<W: Write>(
 {
     let now = tally_with(tally, verdict)?;
     match &verdict {
-        Verdict::Bad(why) => match tell_line(alloc, writer, now.lines, *why) {
+        Verdict::Bad(line_error) => match write_verdict_line(
+            alloc,
+            writer,
+            now.lines,
+            *line_error,
+        ) {
             Ok(()) => Ok(now),
             Err(fault) => Err(fault),
         },
@@ -153,12 +158,12 @@ fn take_line<W: Write>(
     tally: Tally,
     line: &[u8],
 ) -> Result<Tally, CheckFault>
-    ensures { IfOk result (λ now. AreToldAndCounted tally (verdict_of line.now ∷ [])
+    ensures { IfOk result (λ now. AreWrittenAndCounted tally (verdict_of line.now ∷ [])
         (W.contents writer.old) (W.contents writer.new) now) }
 {
     match judge(alloc, line) {
         Ok(verdict) => take_verdict(alloc, writer, tally, verdict),
-        Err(NoMemory) => Err(CheckFault::Memory),
+        Err(MemoryError) => Err(CheckFault::Memory),
     }
 }
 
@@ -182,7 +187,7 @@ fn end_line<W: Write>(
     tally: Tally,
 ) -> Result<Tally, CheckFault>
     ensures held { OnOk result (held.new.items ≡ []) }
-    ensures told { IfOk result (λ now. AreToldAndCounted tally
+    ensures reported { IfOk result (λ now. AreWrittenAndCounted tally
         (verdict_of (strip_carriage_return held.old.items) ∷ [])
         (W.contents writer.old) (W.contents writer.new) now) }
 {
@@ -214,7 +219,7 @@ fn take_byte<W: Write>(
     b: u8,
 ) -> Result<Tally, CheckFault>
     ensures held { OnOk result (held.new.items ≡ held_after held.old.items (b ∷ [])) }
-    ensures told { IfOk result (λ now. AreToldAndCounted tally (verdicts_after held.old.items (b ∷ []))
+    ensures reported { IfOk result (λ now. AreWrittenAndCounted tally (verdicts_after held.old.items (b ∷ []))
         (W.contents writer.old) (W.contents writer.new) now) }
 {
     if b == b'\n' {
@@ -235,7 +240,7 @@ fn take_piece<W: Write>(
     piece: &[u8],
 ) -> Result<Tally, CheckFault>
     ensures held { OnOk result (held.new.items ≡ held_after held.old.items piece.now) }
-    ensures told { IfOk result (λ now. AreToldAndCounted tally (verdicts_after held.old.items piece.now)
+    ensures reported { IfOk result (λ now. AreWrittenAndCounted tally (verdicts_after held.old.items piece.now)
         (W.contents writer.old) (W.contents writer.new) now) }
 {
     let mut tally = tally;
@@ -249,15 +254,15 @@ fn take_piece<W: Write>(
 }
 
 /// Tells the end: the counts, where no line was bad.
-fn tell_end<W: Write>(alloc: Global, writer: &mut W, tally: Tally) -> Result<bool, CheckFault>
-    ensures good { IfOk result (λ bad. bad ≡ tally.bad) }
+fn write_end<W: Write>(alloc: Global, writer: &mut W, tally: Tally) -> Result<bool, CheckFault>
+    ensures valid { IfOk result (λ bad. bad ≡ tally.bad) }
     ensures text { OnOk result (Appends (W.contents writer.old) (W.contents writer.new)
         (end_text tally)) }
 {
     if tally.bad {
         return Ok(true);
     }
-    match tell_counts(alloc, writer, tally) {
+    match write_counts(alloc, writer, tally) {
         Ok(()) => Ok(false),
         Err(fault) => Err(fault),
     }
@@ -271,11 +276,11 @@ fn end_input<W: Write>(
     tally: Tally,
 ) -> Result<bool, CheckFault>
     ensures { IfOk result (λ bad. (now : Tally) × (between : Option (List ℕ))
-        × AreToldAndCounted tally (verdict_of held.now ∷ []) (W.contents writer.old) between now
+        × AreWrittenAndCounted tally (verdict_of held.now ∷ []) (W.contents writer.old) between now
         × Appends between (W.contents writer.new) (end_text now) × (bad ≡ now.bad)) }
 {
     match take_line(alloc, writer, tally, held) {
-        Ok(now) => tell_end(alloc, writer, now),
+        Ok(now) => write_end(alloc, writer, now),
         Err(fault) => Err(fault),
     }
 }
@@ -306,8 +311,8 @@ fn check_pieces<R: Read, W: Write>(
         match reader.read(piece) {
             Ok(0) => return end_input(alloc, writer, &held, tally),
             Ok(n) => {
-                let (front, _) = piece.split_at(n);
-                match take_piece(alloc, writer, &mut held, tally, front) {
+                let (prefix, _) = piece.split_at(n);
+                match take_piece(alloc, writer, &mut held, tally, prefix) {
                     Ok(now) => tally = now,
                     Err(fault) => return Err(fault),
                 }

@@ -1,13 +1,14 @@
 //! Checks lines before they are sent: what is wrong with each that the desk would answer BadForm.
 #![tactic(auto)]
 
+mod command_errors;
 mod ending;
 mod judge;
 mod lines;
-mod misfits;
 
-use desk_words::{
-    CheckFault, CheckProgram, WordsFault, read_arguments, read_checked_file, tell_refused, texts_of,
+use desk_cli::{
+    CheckFault, CheckProgram, WordsFault, print_refused, read_arguments, read_checked_file,
+    texts_of,
 };
 use ending::status_of;
 use lines::check_lines;
@@ -18,7 +19,7 @@ use std::process::ExitCode;
 fn main(rt: HostRuntime) -> ExitCode {
     let status = match check_named(&rt) {
         Ok(status) => status,
-        Err(fault) => tell_refused(&rt, &fault),
+        Err(fault) => print_refused(&rt, &fault),
     };
     ExitCode::from(status)
 }

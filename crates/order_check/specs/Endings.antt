@@ -2,9 +2,9 @@
 use Rattle.std.specs.Prelude.{ℕ, Bool, true, false, Result, Ok, Err}
 use Rattle.plant_orders.specs.declared.source.OrdersFault.{OrdersFault}
 use Rattle.plant_orders.specs.declared.source.OrdersFault.TheVariants as orders
-use Rattle.desk_words.specs.CheckFaults.{fault_status}
-use Rattle.desk_words.specs.declared.check_fault.CheckFault.{CheckFault}
-use Rattle.desk_words.specs.declared.check_fault.CheckFault.TheVariants as fault
+use Rattle.desk_cli.specs.CheckFaults.{fault_status}
+use Rattle.desk_cli.specs.declared.check_fault.CheckFault.{CheckFault}
+use Rattle.desk_cli.specs.declared.check_fault.CheckFault.TheVariants as fault
 use Rattle.order_check.specs.declared.verdict.Verdict.{Verdict}
 use Rattle.order_check.specs.declared.verdict.Verdict.TheVariants as verdict
 

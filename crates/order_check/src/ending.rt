@@ -3,7 +3,7 @@ ghost use Rattle.std.specs.Prelude.{◌≡◌};
 ghost use Rattle.order_check.specs.Endings.{end_of, status_of};
 
 use crate::verdict::Verdict;
-use desk_words::CheckFault;
+use desk_cli::CheckFault;
 
 /// The end of a check with this verdict, which was written or not.
 pub(crate) fn end_of(verdict: Verdict, is_written: bool) -> Result<Verdict, CheckFault>

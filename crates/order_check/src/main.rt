@@ -5,8 +5,9 @@ mod ending;
 mod reason;
 mod verdict;
 
-use desk_words::{
-    CheckFault, CheckProgram, WordsFault, read_arguments, read_checked_file, tell_refused, texts_of,
+use desk_cli::{
+    CheckFault, CheckProgram, WordsFault, print_refused, read_arguments, read_checked_file,
+    texts_of,
 };
 use ending::{end_of, status_of};
 use std::fs::File;
@@ -16,7 +17,7 @@ use verdict::{Verdict, judge};
 fn main(rt: HostRuntime) -> ExitCode {
     let status = match check_named(&rt) {
         Ok(status) => status,
-        Err(fault) => tell_refused(&rt, &fault),
+        Err(fault) => print_refused(&rt, &fault),
     };
     ExitCode::from(status)
 }

@@ -2,8 +2,8 @@
 ghost use Rattle.std.specs.Prelude.{◌≡◌, Some};
 ghost use Rattle.order_check.specs.Verdicts.{reason_of, reason_text};
 
+use plant_message_schema::{Member, ShapeError};
 use plant_orders::CsvKind;
-use plant_shapes::{Flaw, Member};
 use std::fmt;
 
 /// Why a file has a fault.
@@ -16,7 +16,7 @@ pub(crate) enum Reason {
     /// A row hasn't six fields.
     Shape,
     /// A field of a row breaks its rule, which is that of the member of a line.
-    Field(Flaw),
+    Field(ShapeError),
     /// It has more than 1,000 orders.
     TooManyRows,
     /// Memory was refused, which is no fault of a file.
@@ -33,7 +33,7 @@ impl fmt::Display for Reason {
                 "the first line isn't order,recipe,version,size,due,priority, with commas between and neither semicolons nor tabs",
             ),
             Reason::Shape => f.write_str("the row hasn't six fields with commas between"),
-            Reason::Field(flaw) => write!(f, "{flaw}"),
+            Reason::Field(shape_error) => write!(f, "{shape_error}"),
             Reason::TooManyRows => f.write_str("the file has more than 1000 orders"),
             Reason::Memory => f.write_str("memory was refused"),
         }
@@ -48,12 +48,12 @@ pub(crate) fn reason_of(kind: CsvKind) -> Reason
         CsvKind::TooLong => Reason::TooLong,
         CsvKind::Header => Reason::Header,
         CsvKind::Shape => Reason::Shape,
-        CsvKind::Order => Reason::Field(Flaw::Breaks(Member::Order)),
-        CsvKind::Recipe => Reason::Field(Flaw::Breaks(Member::Recipe)),
-        CsvKind::Version => Reason::Field(Flaw::Breaks(Member::Version)),
-        CsvKind::Size => Reason::Field(Flaw::Breaks(Member::Size)),
-        CsvKind::Due => Reason::Field(Flaw::Breaks(Member::Due)),
-        CsvKind::Priority => Reason::Field(Flaw::Breaks(Member::Priority)),
+        CsvKind::Order => Reason::Field(ShapeError::Breaks(Member::Order)),
+        CsvKind::Recipe => Reason::Field(ShapeError::Breaks(Member::Recipe)),
+        CsvKind::Version => Reason::Field(ShapeError::Breaks(Member::Version)),
+        CsvKind::Size => Reason::Field(ShapeError::Breaks(Member::Size)),
+        CsvKind::Due => Reason::Field(ShapeError::Breaks(Member::Due)),
+        CsvKind::Priority => Reason::Field(ShapeError::Breaks(Member::Priority)),
         CsvKind::TooManyRows => Reason::TooManyRows,
         CsvKind::Memory => Reason::Memory,
     }

@@ -5,7 +5,7 @@ ghost use Rattle.order_check.specs.Endings.{judged_as};
 ghost use Rattle.order_check.specs.Verdicts.{verdict_of, verdict_text};
 
 use crate::reason::reason_of;
-use desk_words::CheckFault;
+use desk_cli::CheckFault;
 use plant_orders::{CsvFault, OrdersFault, orders_from};
 use std::alloc::Global;
 use std::fmt;

@@ -19,7 +19,7 @@ use Rattle.plant_trace.specs.declared.node.Node.{Node}
 use Rattle.plant_trace.specs.declared.node.Node.TheVariants as node
 use Rattle.plant_view.specs.Genealogy.{edge_row_of, edges_of, ends_of}
 use Rattle.plant_view.specs.Recalls.{Reaches, node_of}
-use Rattle.plant_view.specs.Sound.{IsSound}
+use Rattle.plant_view.specs.DecisionInvariant.{DecisionInvariant}
 use Rattle.plant_view.specs.Tables.{state_without_kept, tables_of, IsWholeIn, sublot_row}
 use Rattle.plant_answers.specs.Answers.{answer}
 use Rattle.plant_answers.specs.Genealogy.{amount_of, named}
@@ -46,7 +46,7 @@ pub record StandsFrom (s : State) (start : Node) (a : LotAnswer) : Type 0 where
   pub lot : Lot
   pub reached : IsAround s Forward start (node.Lot a.lot)
   pub there : lot_at s a.lot ≡ Some lot
-  pub told : a ≡ lot_answer s lot
+  pub reported : a ≡ lot_answer s lot
   pub stocked : 0 < a.stock
 
 abbrev pub lot_answer_order : LotAnswer → LotAnswer → Ordering
@@ -55,7 +55,7 @@ lot_answer_order a b = id_cmp a.lot b.lot
 -- Where the goods of a lot or batch stand that is there: what is told lists just such lots, ascending, each once, and no other.
 abbrev pub StandsListReached : Type 0
 StandsListReached = (k : ℕ) (s : State) (start : Node) → missing s start ≡ None
-    → (lots : List LotAnswer) × (answer k s (Q.Stands start) ≡ A.Stands lots) × IsStrictlySortedBy lot_answer_order lots
+    → (lots : List LotAnswer) × (answer k s (Q.HasStoredRows start) ≡ A.HasStoredRows lots) × IsStrictlySortedBy lot_answer_order lots
     × ((a : LotAnswer) → Contains lots a ↔ StandsFrom s start a)
 
 -- an edge between nodes around the start, with the amounts of all movements that make it
@@ -77,20 +77,20 @@ EdgesAreBooked = (k : ℕ) (s : State) (direction : Direction) (start : Node) �
 
 -- In a sound state its nodes are just the start and what the least relation reaches from it, each once, ascending.
 abbrev pub NodesAreReached : Type 0
-NodesAreReached = (k : ℕ) (s : State) (direction : Direction) (start : Node) → IsSound s → missing s start ≡ None
+NodesAreReached = (k : ℕ) (s : State) (direction : Direction) (start : Node) → DecisionInvariant s → missing s start ≡ None
     → (g : Genealogy) × (answer k s (Q.Edges direction start) ≡ A.Edges g) × Lists (IsAround s direction start) (map named g.nodes)
 
 -- The stock that stands beside a sublot is the sum of what entered it less the sum of what left it.
 abbrev pub ColumnIsStock : Type 0
-ColumnIsStock = (s : State) → IsSound s → (p : Place) → pos (sublot_row s.movements p).stock ≡ stock s.movements p.lot p.number
+ColumnIsStock = (s : State) → DecisionInvariant s → (p : Place) → pos (sublot_row s.movements p).stock ≡ stock s.movements p.lot p.number
 
 -- The tables of a state that has no row which their schema lacks, less the columns that the model doesn't hold, are that state.
-abbrev pub TablesStandForState : Type 0
-TablesStandForState = (k : ℕ) (s : State) → IsWholeIn k s → state_without_kept (tables_of k s) ≡ s
+abbrev pub TablesRepresentState : Type 0
+TablesRepresentState = (k : ℕ) (s : State) → IsWholeIn k s → state_without_kept (tables_of k s) ≡ s
 
 -- what is told of a recall: its lot, whether it is open, and while it is just what it reaches, each such node once, ascending, and no
 -- other
-pub record TellsRecall (s : State) (r : Recall) (a : RecallAnswer) : Type 0 where
+pub record AnswersRecall (s : State) (r : Recall) (a : RecallAnswer) : Type 0 where
   pub recall : a.recall ≡ r.id
   pub lot : a.lot ≡ r.lot
   pub state : a.is_open ≡ is_open r
@@ -100,7 +100,7 @@ pub record TellsRecall (s : State) (r : Recall) (a : RecallAnswer) : Type 0 wher
 -- The answer to a question about a recall that is there tells that recall.
 abbrev pub RecallsListReached : Type 0
 RecallsListReached = (k : ℕ) (s : State) (recall : List ℕ) (r : Recall) → recall_at s recall ≡ Some r
-    → (a : RecallAnswer) × (answer k s (Q.Recall recall) ≡ A.Recall a) × TellsRecall s r a
+    → (a : RecallAnswer) × (answer k s (Q.Recall recall) ≡ A.Recall a) × AnswersRecall s r a
 
 -- The marks in the tables of a state are just the pairs of an open recall and a node that it reaches, each once.
 abbrev pub MarksAreThePairs : Type 0

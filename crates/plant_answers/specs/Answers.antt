@@ -3,7 +3,7 @@ use Rattle.std.specs.Prelude.{ℕ, List, Option, Some, None, option_map}
 use Rattle.plant_base.specs.State.{State, lot_at, job_at, batch_at, batch_of, recall_at}
 use Rattle.plant_base.specs.declared.rows.Job.{Job}
 use Rattle.plant_base.specs.declared.refusal.Refusal.TheVariants.{UnknownOrder}
-use Rattle.plant_answers.specs.Around.{answer_stands}
+use Rattle.plant_answers.specs.Surroundings.{answer_stands}
 use Rattle.plant_answers.specs.BatchViews.{answer_batch}
 use Rattle.plant_answers.specs.Genealogy.{answer_edges}
 use Rattle.plant_answers.specs.LotAnswers.{answer_lot}
@@ -30,10 +30,10 @@ answer k s (Q.Lot lot) = answer_lot s (lot_at s lot)
 answer k s (Q.Order order) = answer_order s order (job_at s order)
 answer k s (Q.Batch batch) = answer_batch s (batch_at s batch)
 answer k s (Q.Trace direction start) = answer_trace s direction start (missing s start)
-answer k s (Q.Stands start) = answer_stands s start (missing s start)
+answer k s (Q.HasStoredRows start) = answer_stands s start (missing s start)
 answer k s (Q.Edges direction start) = answer_edges s direction start (missing s start)
 answer k s (Q.Recall recall) = answer_recall s (recall_at s recall)
 answer k s Q.Moment = A.Moment s.at
-answer k s (Q.List list above) = answer_list s list above
-answer k s (Q.Recipes state above) = answer_recipes s state above
-answer k s (Q.Ledger lot above) = answer_ledger s lot above (lot_at s lot)
+answer k s (Q.List list cursor) = answer_list s list cursor
+answer k s (Q.Recipes state cursor) = answer_recipes s state cursor
+answer k s (Q.Ledger lot cursor) = answer_ledger s lot cursor (lot_at s lot)

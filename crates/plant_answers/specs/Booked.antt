@@ -19,18 +19,18 @@ use Rattle.plant_answers.specs.Genealogy.{is_between, is_among}
 use Rattle.plant_messages.specs.declared.genealogy.BookedEdge.{BookedEdge}
 
 -- the node whose movements tell of an edge: the batch at one of its ends, or else the lot that it leads to
-abbrev pub told_by : EdgeKind → List ℕ → List ℕ → Node
-told_by edge.LotToBatch from to = node.Batch to
-told_by edge.BatchToLot from to = node.Batch from
-told_by edge.LotToLot from to = node.Lot to
+abbrev pub reported_by : EdgeKind → List ℕ → List ℕ → Node
+reported_by edge.LotToBatch from to = node.Batch to
+reported_by edge.BatchToLot from to = node.Batch from
+reported_by edge.LotToLot from to = node.Lot to
 
-abbrev pub told_at : EdgeRow → Node
-told_at e = told_by e.kind e.from e.to
+abbrev pub reported_at : EdgeRow → Node
+reported_at e = reported_by e.kind e.from e.to
 
 -- an amount along an edge between these nodes, where that is told at this one
 abbrev pub booked_if : List Node → Node → ℕ → Option EdgeRow → Option BookedEdge
 booked_if nodes at amount None = None
-booked_if nodes at amount (Some e) = if node_eq at (told_at e) && is_between nodes e then Some (record { edge = e; amount = amount }) else None
+booked_if nodes at amount (Some e) = if node_eq at (reported_at e) && is_between nodes e then Some (record { edge = e; amount = amount }) else None
 
 -- what a movement books
 abbrev pub booked_at : List Node → Node → Movement → Option BookedEdge

@@ -14,8 +14,8 @@ use Rattle.plant_trace.specs.declared.node.Node.{Node}
 use Rattle.plant_trace.specs.declared.node.Node.TheVariants as node
 use Rattle.plant_view.specs.Genealogy.{edge_row_of, edge_rows, ends_of}
 use Rattle.plant_view.specs.Recalls.{is_blocked}
-use Rattle.plant_view.specs.Refusing.{is_held}
-use Rattle.plant_answers.specs.Around.{nodes_around}
+use Rattle.plant_view.specs.Refusals.{is_held}
+use Rattle.plant_answers.specs.Surroundings.{nodes_around}
 use Rattle.plant_answers.specs.LotAnswers.{lot_answer}
 use Rattle.plant_messages.specs.declared.genealogy.BookedEdge.{BookedEdge}
 use Rattle.plant_messages.specs.declared.genealogy.Genealogy.{Genealogy}

@@ -1,6 +1,6 @@
 pub mod Answering
 pub mod Answers
-pub mod Around
+pub mod Surroundings
 pub mod BatchViews
 pub mod Booked
 pub mod Genealogy

@@ -3,7 +3,7 @@ use Rattle.std.specs.Prelude.{Option, Some, None, sum_by}
 use Rattle.plant_base.specs.State.{State}
 use Rattle.plant_base.specs.declared.rows.Lot.{Lot}
 use Rattle.plant_base.specs.declared.refusal.Refusal.TheVariants.{UnknownLot}
-use Rattle.plant_view.specs.Refusing.{is_held}
+use Rattle.plant_view.specs.Refusals.{is_held}
 use Rattle.plant_view.specs.Tables.{sublots_of}
 use Rattle.plant_messages.specs.declared.question.Answer.{Answer}
 use Rattle.plant_messages.specs.declared.question.Answer.TheVariants as A

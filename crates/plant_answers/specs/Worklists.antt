@@ -15,8 +15,8 @@ use Rattle.plant_worklists.specs.Worklists.{orders_in, open_batches, lots_of, ho
 use Rattle.plant_worklists.specs.declared.list.Worklist.{Worklist}
 use Rattle.plant_worklists.specs.declared.list.Worklist.TheVariants as list
 use Rattle.plant_worklists.specs.declared.page.Page.{Page}
-use Rattle.plant_worklists.specs.declared.place.MovementPlace.{MovementPlace}
-use Rattle.plant_worklists.specs.declared.place.RecipePlace.{RecipePlace}
+use Rattle.plant_worklists.specs.declared.cursors.MovementCursor.{MovementCursor}
+use Rattle.plant_worklists.specs.declared.cursors.RecipeCursor.{RecipeCursor}
 use Rattle.plant_answers.specs.LotAnswers.{lot_answer}
 use Rattle.plant_messages.specs.declared.listed.Listed.TheVariants as listed
 use Rattle.plant_messages.specs.declared.listed.LotPage.{LotPage}
@@ -62,31 +62,31 @@ lot_page s page = record { lots = filter_map (stocked_lot s) page.rows; last = o
 -- ---- answers
 
 abbrev pub answer_lots : State → List ℕ → Option (List ℕ) → Option Definition → Answer
-answer_lots s def above None = A.Unknown UnknownDefinition
-answer_lots s def above (Some d) = A.List (listed.Lots (lot_page s (page_of (lots_of s def above))))
+answer_lots s def cursor None = A.Unknown UnknownDefinition
+answer_lots s def cursor (Some d) = A.List (listed.Lots (lot_page s (page_of (lots_of s def cursor))))
 
 abbrev pub answer_holds : State → List ℕ → Option (List ℕ) → Option Lot → Answer
-answer_holds s lot above None = A.Unknown UnknownLot
-answer_holds s lot above (Some l) = A.List (listed.Holds (page_of (holds_on s lot above)))
+answer_holds s lot cursor None = A.Unknown UnknownLot
+answer_holds s lot cursor (Some l) = A.List (listed.Holds (page_of (holds_on s lot cursor)))
 
 abbrev pub answer_definitions : State → List ℕ → Option (List ℕ) → Option Class → Answer
-answer_definitions s class above None = A.Unknown UnknownClass
-answer_definitions s class above (Some c) = A.List (listed.Definitions (page_of (definitions_in s class above)))
+answer_definitions s class cursor None = A.Unknown UnknownClass
+answer_definitions s class cursor (Some c) = A.List (listed.Definitions (page_of (definitions_in s class cursor)))
 
 -- a page of what comes after this id, or of the front where none is given; where what the list is of isn't there, the refusal
 abbrev pub answer_list : State → Worklist → Option (List ℕ) → Answer
-answer_list s (list.Orders state) above = A.List (listed.Orders (page_of (orders_in s state above)))
-answer_list s list.OpenBatches above = A.List (listed.Batches (batch_page s (page_of (open_batches s above))))
-answer_list s (list.Lots def) above = answer_lots s def above (definition_at s def)
-answer_list s (list.Holds lot) above = answer_holds s lot above (lot_at s lot)
-answer_list s list.OpenRecalls above = A.List (listed.Recalls (page_of (open_recalls s above)))
-answer_list s (list.Definitions class) above = answer_definitions s class above (class_at s class)
+answer_list s (list.Orders state) cursor = A.List (listed.Orders (page_of (orders_in s state cursor)))
+answer_list s list.OpenBatches cursor = A.List (listed.Batches (batch_page s (page_of (open_batches s cursor))))
+answer_list s (list.Lots def) cursor = answer_lots s def cursor (definition_at s def)
+answer_list s (list.Holds lot) cursor = answer_holds s lot cursor (lot_at s lot)
+answer_list s list.OpenRecalls cursor = A.List (listed.Recalls (page_of (open_recalls s cursor)))
+answer_list s (list.Definitions class) cursor = answer_definitions s class cursor (class_at s class)
 
 -- a page of the versions of recipes in a state
-abbrev pub answer_recipes : State → RecipeState → Option RecipePlace → Answer
-answer_recipes s state above = A.List (listed.Recipes (page_of (recipes_in s state above)))
+abbrev pub answer_recipes : State → RecipeState → Option RecipeCursor → Answer
+answer_recipes s state cursor = A.List (listed.Recipes (page_of (recipes_in s state cursor)))
 
 -- a page of the ledger of a lot, where the lot is there
-abbrev pub answer_ledger : State → List ℕ → Option MovementPlace → Option Lot → Answer
-answer_ledger s lot above None = A.Unknown UnknownLot
-answer_ledger s lot above (Some l) = A.List (listed.Ledger (page_of (ledger_of s lot above)))
+abbrev pub answer_ledger : State → List ℕ → Option MovementCursor → Option Lot → Answer
+answer_ledger s lot cursor None = A.Unknown UnknownLot
+answer_ledger s lot cursor (Some l) = A.List (listed.Ledger (page_of (ledger_of s lot cursor)))

@@ -1,8 +1,8 @@
 // What a question is answered, over any view of the state.
 ghost use Rattle.std.specs.Prelude.{◌≡◌, ℕ, List, IfOk};
 ghost use Rattle.plant_base.specs.State.{State, newest_schema, job_at, batch_of};
-ghost use Rattle.plant_trace.specs.Sources.{HonestlyTold};
-ghost use Rattle.plant_view.specs.Sound.{IsSound};
+ghost use Rattle.plant_trace.specs.HoldsIfHonest.{HoldsIfHonest};
+ghost use Rattle.plant_view.specs.DecisionInvariant.{DecisionInvariant};
 ghost use Rattle.plant_answers.specs.Answers.{answer, answer_order};
 ghost use Rattle.plant_messages.specs.declared.question.Answer.TheVariants as A;
 
@@ -15,7 +15,7 @@ use crate::standing::stands_answer;
 use crate::traces::trace_answer;
 use plant_base::{Batch, Id, Job, NEWEST_SCHEMA, Refusal};
 use plant_messages::{Answer, OrderAnswer, Question};
-use plant_view::{View, ViewFault, look};
+use plant_view::{View, ViewFault, lookup};
 use plant_worklists::Worklists;
 use std::alloc::Global;
 
@@ -29,8 +29,8 @@ pub fn answer<V: Worklists>(
     view: &mut V,
     question: &Question,
 ) -> Result<Answer, ViewFault<V::Fault>>
-    ensures { HonestlyTold V.honest V.kept V.steady view.old view.new
-        (IsSound (V.state view.old)
+    ensures { HoldsIfHonest V.honest V.kept V.frame view.old view.new
+        (DecisionInvariant (V.state view.old)
         → IfOk result (λ a. a ≡ answer newest_schema (V.state view.old) question.now)) }
 {
     match question {
@@ -39,21 +39,21 @@ pub fn answer<V: Worklists>(
         Question::Order(order) => order_answer(view, *order),
         Question::Batch(batch) => batch_answer(alloc, view, *batch),
         Question::Trace(direction, start) => trace_answer(alloc, view, *direction, *start),
-        Question::Stands(start) => stands_answer(alloc, view, *start),
+        Question::HasStoredRows(start) => stands_answer(alloc, view, *start),
         Question::Edges(direction, start) => edges_answer(alloc, view, *direction, *start),
         Question::Recall(recall) => recall_answer(alloc, view, *recall),
         Question::Moment => moment_answer(view),
-        Question::List(list, above) => list_answer(alloc, view, *list, *above),
-        Question::Recipes(state, above) => recipes_answer(view, *state, *above),
-        Question::Ledger(lot, above) => ledger_answer(view, *lot, *above),
+        Question::List(list, cursor) => list_answer(alloc, view, *list, *cursor),
+        Question::Recipes(state, cursor) => recipes_answer(view, *state, *cursor),
+        Question::Ledger(lot, cursor) => ledger_answer(view, *lot, *cursor),
     }
 }
 
 fn desk_answer<V: View>(view: &mut V) -> Result<Answer, ViewFault<V::Fault>>
-    ensures { HonestlyTold V.honest V.kept V.steady view.old view.new
+    ensures { HoldsIfHonest V.honest V.kept V.frame view.old view.new
         (IfOk result (λ a. a ≡ A.Desk newest_schema (V.state view.old).seq)) }
 {
-    let position = look::position(view)?;
+    let position = lookup::position(view)?;
     Ok(Answer::Desk {
         schema: NEWEST_SCHEMA,
         seq: position.seq,
@@ -61,20 +61,20 @@ fn desk_answer<V: View>(view: &mut V) -> Result<Answer, ViewFault<V::Fault>>
 }
 
 fn moment_answer<V: View>(view: &mut V) -> Result<Answer, ViewFault<V::Fault>>
-    ensures { HonestlyTold V.honest V.kept V.steady view.old view.new
+    ensures { HoldsIfHonest V.honest V.kept V.frame view.old view.new
         (IfOk result (λ a. a ≡ A.Moment (V.state view.old).at)) }
 {
-    let position = look::position(view)?;
+    let position = lookup::position(view)?;
     Ok(Answer::Moment { at: position.at })
 }
 
 fn order_answer<V: View>(view: &mut V, order: Id) -> Result<Answer, ViewFault<V::Fault>>
-    ensures { HonestlyTold V.honest V.kept V.steady view.old view.new
+    ensures { HoldsIfHonest V.honest V.kept V.frame view.old view.new
         (IfOk result (λ a. a ≡ answer_order (V.state view.old) order
         (job_at (V.state view.old) order))) }
 {
-    let job = look::job(view, order)?;
-    let batch = look::batch_for(view, order)?;
+    let job = lookup::job(view, order)?;
+    let batch = lookup::batch_for(view, order)?;
     Ok(answer_of_order(job, batch))
 }
 

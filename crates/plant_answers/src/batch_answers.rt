@@ -1,8 +1,8 @@
 // What is answered of a batch.
 ghost use Rattle.std.specs.Prelude.{◌≡◌, IfOk, map};
 ghost use Rattle.plant_base.specs.State.{State, batch_at, job_at, recipe_at, control_lines_of};
-ghost use Rattle.plant_trace.specs.Sources.{HonestlyTold};
-ghost use Rattle.plant_view.specs.Sound.{IsSound};
+ghost use Rattle.plant_trace.specs.HoldsIfHonest.{HoldsIfHonest};
+ghost use Rattle.plant_view.specs.DecisionInvariant.{DecisionInvariant};
 ghost use Rattle.plant_view.specs.Tables.{progress_at};
 ghost use Rattle.plant_answers.specs.Answering.{IsRowOf, IsFoundOf};
 ghost use Rattle.plant_answers.specs.BatchViews.{material_of, unit_among, measured_line, batch_view};
@@ -14,7 +14,7 @@ use plant_base::{
 };
 use plant_messages::{Answer, BatchView, MeasuredLine};
 use plant_recipe::Progress;
-use plant_view::{View, ViewFault, look};
+use plant_view::{View, ViewFault, lookup};
 use std::alloc::Global;
 
 /// What is known of a batch.
@@ -23,11 +23,11 @@ pub(crate) fn batch_answer<V: View>(
     view: &mut V,
     id: Id,
 ) -> Result<Answer, ViewFault<V::Fault>>
-    ensures { HonestlyTold V.honest V.kept V.steady view.old view.new
-        (IsSound (V.state view.old)
+    ensures { HoldsIfHonest V.honest V.kept V.frame view.old view.new
+        (DecisionInvariant (V.state view.old)
         → IfOk result (λ a. a ≡ answer_batch (V.state view.old) (batch_at (V.state view.old) id))) }
 {
-    let Some(row) = look::batch(view, id)? else {
+    let Some(row) = lookup::batch(view, id)? else {
         return Ok(Answer::Unknown(Refusal::UnknownBatch));
     };
     planned_answer(alloc, view, &row)
@@ -38,12 +38,12 @@ fn planned_answer<V: View>(
     view: &mut V,
     row: &BatchRow,
 ) -> Result<Answer, ViewFault<V::Fault>>
-    ensures { HonestlyTold V.honest V.kept V.steady view.old view.new
+    ensures { HoldsIfHonest V.honest V.kept V.frame view.old view.new
         (IsRowOf (V.state view.old) row.now → IfOk result (λ a. a
         ≡ answer_planned (V.state view.old) row.now.batch
         (job_at (V.state view.old) row.now.batch.job))) }
 {
-    let Some(job) = look::job(view, row.batch.job)? else {
+    let Some(job) = lookup::job(view, row.batch.job)? else {
         return Ok(Answer::Unknown(Refusal::UnknownOrder));
     };
     headed_answer(alloc, view, row, job)
@@ -55,13 +55,13 @@ fn headed_answer<V: View>(
     row: &BatchRow,
     job: Job,
 ) -> Result<Answer, ViewFault<V::Fault>>
-    ensures { HonestlyTold V.honest V.kept V.steady view.old view.new
+    ensures { HoldsIfHonest V.honest V.kept V.frame view.old view.new
         (IsRowOf (V.state view.old) row.now → IfOk result (λ a. a
         ≡ answer_headed (V.state view.old) row.now.batch job
         (recipe_at (V.state view.old) job.order.recipe job.order.version))) }
 {
     let order = job.order;
-    let Some(recipe) = look::recipe(view, order.recipe, order.version)? else {
+    let Some(recipe) = lookup::recipe(view, order.recipe, order.version)? else {
         return Ok(Answer::Unknown(Refusal::UnknownRecipe));
     };
     let found = batch_view(alloc, view, row, job, recipe.header)?;
@@ -75,7 +75,7 @@ fn batch_view<V: View>(
     job: Job,
     header: Header,
 ) -> Result<BatchView, ViewFault<V::Fault>>
-    ensures { HonestlyTold V.honest V.kept V.steady view.old view.new
+    ensures { HoldsIfHonest V.honest V.kept V.frame view.old view.new
         (IsRowOf (V.state view.old) row.now
         → IfOk result (λ v. v ≡ batch_view (V.state view.old) row.now.batch job header)) }
 {
@@ -96,11 +96,11 @@ fn found_batch<V: View>(
     view: &mut V,
     batch: Id,
 ) -> Result<FoundBatch, ViewFault<V::Fault>>
-    ensures { HonestlyTold V.honest V.kept V.steady view.old view.new
+    ensures { HoldsIfHonest V.honest V.kept V.frame view.old view.new
         (IfOk result (IsFoundOf (V.state view.old) batch)) }
 {
     let lines = measured_lines(alloc, view, batch)?;
-    let events = look::events(view, batch)?;
+    let events = lookup::events(view, batch)?;
     let bookings = bookings_of(alloc, view, batch)?;
     Ok(FoundBatch {
         lines,
@@ -145,11 +145,11 @@ fn measured_lines<V: View>(
     view: &mut V,
     batch: Id,
 ) -> Result<Vec<MeasuredLine>, ViewFault<V::Fault>>
-    ensures { HonestlyTold V.honest V.kept V.steady view.old view.new
+    ensures { HoldsIfHonest V.honest V.kept V.frame view.old view.new
         (IfOk result (λ v. v.items ≡ map (measured_line (V.state view.old).definitions)
         (control_lines_of (V.state view.old) batch))) }
 {
-    let lines = look::control_lines(view, batch)?;
+    let lines = lookup::control_lines(view, batch)?;
     lines_with_units(alloc, view, lines.as_slice())
 }
 
@@ -159,7 +159,7 @@ fn lines_with_units<V: View>(
     view: &mut V,
     lines: &[ControlLine],
 ) -> Result<Vec<MeasuredLine>, ViewFault<V::Fault>>
-    ensures { HonestlyTold V.honest V.kept V.steady view.old view.new
+    ensures { HoldsIfHonest V.honest V.kept V.frame view.old view.new
         (IfOk result (λ v. v.items ≡ map (measured_line (V.state view.old).definitions) lines.now)) }
 {
     let mut rows = Vec::new(alloc);
@@ -176,7 +176,7 @@ fn measured_line<V: View>(
     view: &mut V,
     line: &ControlLine,
 ) -> Result<MeasuredLine, ViewFault<V::Fault>>
-    ensures { HonestlyTold V.honest V.kept V.steady view.old view.new
+    ensures { HoldsIfHonest V.honest V.kept V.frame view.old view.new
         (IfOk result (λ row. row ≡ measured_line (V.state view.old).definitions line.now)) }
 {
     let unit = unit_among(view, material_of(line.line))?;
@@ -184,13 +184,13 @@ fn measured_line<V: View>(
 }
 
 fn unit_among<V: View>(view: &mut V, def: Option<Id>) -> Result<Option<Unit>, ViewFault<V::Fault>>
-    ensures { HonestlyTold V.honest V.kept V.steady view.old view.new
+    ensures { HoldsIfHonest V.honest V.kept V.frame view.old view.new
         (IfOk result (λ unit. unit ≡ unit_among (V.state view.old).definitions def)) }
 {
     match def {
         None => Ok(None),
         Some(def) => {
-            let definition = look::definition(view, def)?;
+            let definition = lookup::definition(view, def)?;
             Ok(definition.map(|d| d.unit))
         }
     }

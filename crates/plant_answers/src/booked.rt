@@ -5,17 +5,17 @@ ghost use Rattle.std.specs.List.{filter_map};
 ghost use Rattle.std.specs.List.Sorted.{IsStrictlySortedBy};
 ghost use Rattle.plant_base.specs.Edges.{edge_order};
 ghost use Rattle.plant_trace.specs.Nodes.{node_cmp};
-ghost use Rattle.plant_trace.specs.Sources.{HonestlyTold};
+ghost use Rattle.plant_trace.specs.HoldsIfHonest.{HoldsIfHonest};
 ghost use Rattle.plant_trace.specs.declared.node.Node.{Node};
-ghost use Rattle.plant_view.specs.Sound.{IsSound};
-ghost use Rattle.plant_answers.specs.Booked.{Fits, IsSetOf, booked_at, bookings_around, movements_at, sum_with, summed, told_at};
+ghost use Rattle.plant_view.specs.DecisionInvariant.{DecisionInvariant};
+ghost use Rattle.plant_answers.specs.Booked.{Fits, IsSetOf, booked_at, bookings_around, movements_at, sum_with, summed, reported_at};
 ghost use Rattle.plant_answers.specs.Genealogy.{edges_between};
 
 use crate::bookings::push_found;
 use plant_base::{EdgeKind, EdgeRow, Movement};
 use plant_messages::BookedEdge;
 use plant_trace::Node;
-use plant_view::{ViewFault, edge_row, ends, look};
+use plant_view::{ViewFault, edge_row, ends, lookup};
 use plant_worklists::{Worklists, movements_into};
 use std::alloc::{AllocError, Global};
 use std::collections::{BTreeMap, BTreeSet};
@@ -26,8 +26,8 @@ pub(crate) fn edges_between<V: Worklists>(
     view: &mut V,
     nodes: &[Node],
 ) -> Result<Vec<BookedEdge>, ViewFault<V::Fault>>
-    ensures { HonestlyTold V.honest V.kept V.steady view.old view.new
-        (IsSound (V.state view.old) → IsStrictlySortedBy node_cmp nodes.now
+    ensures { HoldsIfHonest V.honest V.kept V.frame view.old view.new
+        (DecisionInvariant (V.state view.old) → IsStrictlySortedBy node_cmp nodes.now
         → IfOk result (λ v. v.items ≡ edges_between (V.state view.old).movements nodes.now)) }
 {
     let bookings = bookings_around(alloc, view, nodes)?;
@@ -45,7 +45,7 @@ fn bookings_around<V: Worklists>(
     view: &mut V,
     nodes: &[Node],
 ) -> Result<Vec<BookedEdge>, ViewFault<V::Fault>>
-    ensures { HonestlyTold V.honest V.kept V.steady view.old view.new
+    ensures { HoldsIfHonest V.honest V.kept V.frame view.old view.new
         (IfOk result (λ v. v.items ≡ bookings_around (V.state view.old).movements nodes.now)) }
 {
     let Ok(among) = set_of(alloc, nodes) else {
@@ -77,12 +77,12 @@ fn movements_at<V: Worklists>(
     view: &mut V,
     node: Node,
 ) -> Result<Vec<Movement>, ViewFault<V::Fault>>
-    ensures { HonestlyTold V.honest V.kept V.steady view.old view.new
+    ensures { HoldsIfHonest V.honest V.kept V.frame view.old view.new
         (IfOk result (λ v. v.items ≡ movements_at (V.state view.old) node)) }
 {
     match node {
         Node::Lot(id) => movements_into(view, id),
-        Node::Batch(id) => look::batch_movements(view, id),
+        Node::Batch(id) => lookup::batch_movements(view, id),
     }
 }
 
@@ -108,7 +108,7 @@ fn booked_at(among: &BTreeSet<Node>, at: &Node, movement: &Movement) -> Option<B
 {
     let edge = edge_row(movement)?;
     let (near, far) = ends(&edge);
-    if *at == told_at(&edge) && among.contains(&near) && among.contains(&far) {
+    if *at == reported_at(&edge) && among.contains(&near) && among.contains(&far) {
         let amount = movement.amount.get();
         return Some(BookedEdge { edge, amount });
     }
@@ -116,8 +116,8 @@ fn booked_at(among: &BTreeSet<Node>, at: &Node, movement: &Movement) -> Option<B
 }
 
 // The node whose movements tell of the edge: the batch at one of its ends, or else the lot that it leads to.
-fn told_at(edge: &EdgeRow) -> Node
-    ensures { result ≡ told_at edge.now }
+fn reported_at(edge: &EdgeRow) -> Node
+    ensures { result ≡ reported_at edge.now }
 {
     match edge.kind {
         EdgeKind::LotToBatch => Node::Batch(edge.to),

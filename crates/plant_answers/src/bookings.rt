@@ -1,14 +1,14 @@
 // What a batch took and brought.
 ghost use Rattle.std.specs.Prelude.{◌≡◌, ◌++◌, IfOk, OnOk, option_to_list, sum_by};
 ghost use Rattle.std.specs.List.{filter_map};
-ghost use Rattle.plant_trace.specs.Sources.{HonestlyTold};
+ghost use Rattle.plant_trace.specs.HoldsIfHonest.{HoldsIfHonest};
 ghost use Rattle.plant_answers.specs.Answering.{AreBookingsOf};
 ghost use Rattle.plant_answers.specs.BatchViews.{is_consumed_by, is_produced_by, scrapped_of, booking};
 ghost use Rattle.plant_answers.specs.BatchViews.{definition_of, booking_in, consumption, production, booked_on};
 
 use plant_base::{Definition, Id, Lot, Movement, MovementKind};
 use plant_messages::Booking;
-use plant_view::{View, ViewFault, look};
+use plant_view::{View, ViewFault, lookup};
 use std::alloc::{AllocError, Global};
 
 // Whether what a batch took or what it brought is asked for.
@@ -31,10 +31,10 @@ pub(crate) fn bookings_of<V: View>(
     view: &mut V,
     batch: Id,
 ) -> Result<BatchBookings, ViewFault<V::Fault>>
-    ensures { HonestlyTold V.honest V.kept V.steady view.old view.new
+    ensures { HoldsIfHonest V.honest V.kept V.frame view.old view.new
         (IfOk result (AreBookingsOf (V.state view.old) batch)) }
 {
-    let movements = look::batch_movements(view, batch)?;
+    let movements = lookup::batch_movements(view, batch)?;
     let consumed = booked_by(alloc, view, Side::Consumed, batch, movements.as_slice())?;
     let produced = booked_by(alloc, view, Side::Produced, batch, movements.as_slice())?;
     Ok(BatchBookings { consumed, produced })
@@ -48,7 +48,7 @@ fn booked_by<V: View>(
     batch: Id,
     movements: &[Movement],
 ) -> Result<Vec<Booking>, ViewFault<V::Fault>>
-    ensures { HonestlyTold V.honest V.kept V.steady view.old view.new
+    ensures { HoldsIfHonest V.honest V.kept V.frame view.old view.new
         (IfOk result (λ v. v.items
         ≡ filter_map (booked_on side (V.state view.old) batch) movements.now)) }
 {
@@ -78,7 +78,7 @@ fn booked_on<V: View>(
     batch: Id,
     movement: &Movement,
 ) -> Result<Option<Booking>, ViewFault<V::Fault>>
-    ensures { HonestlyTold V.honest V.kept V.steady view.old view.new
+    ensures { HoldsIfHonest V.honest V.kept V.frame view.old view.new
         (IfOk result (λ b. b ≡ booked_on side (V.state view.old) batch movement.now)) }
 {
     match side {
@@ -92,7 +92,7 @@ fn consumption<V: View>(
     batch: Id,
     movement: &Movement,
 ) -> Result<Option<Booking>, ViewFault<V::Fault>>
-    ensures { HonestlyTold V.honest V.kept V.steady view.old view.new
+    ensures { HoldsIfHonest V.honest V.kept V.frame view.old view.new
         (IfOk result (λ b. b ≡ consumption (V.state view.old) batch movement.now)) }
 {
     if !is_consumed_by(batch, movement.kind) {
@@ -106,7 +106,7 @@ fn production<V: View>(
     batch: Id,
     movement: &Movement,
 ) -> Result<Option<Booking>, ViewFault<V::Fault>>
-    ensures { HonestlyTold V.honest V.kept V.steady view.old view.new
+    ensures { HoldsIfHonest V.honest V.kept V.frame view.old view.new
         (IfOk result (λ b. b ≡ production (V.state view.old) batch movement.now)) }
 {
     if !is_produced_by(batch, movement.kind) {
@@ -118,10 +118,10 @@ fn production<V: View>(
 
 // What was scrapped of a lot, of all its sublots.
 fn scrapped_of<V: View>(view: &mut V, lot: Id) -> Result<u128, ViewFault<V::Fault>>
-    ensures { HonestlyTold V.honest V.kept V.steady view.old view.new
+    ensures { HoldsIfHonest V.honest V.kept V.frame view.old view.new
         (IfOk result (λ n. n ≡ scrapped_of (V.state view.old).movements lot)) }
 {
-    let scraps = look::scraps(view, lot)?;
+    let scraps = lookup::scraps(view, lot)?;
     Ok(total_of(scraps.as_slice()))
 }
 
@@ -141,10 +141,10 @@ fn booking_in<V: View>(
     scrapped: u128,
     movement: &Movement,
 ) -> Result<Option<Booking>, ViewFault<V::Fault>>
-    ensures { HonestlyTold V.honest V.kept V.steady view.old view.new
+    ensures { HoldsIfHonest V.honest V.kept V.frame view.old view.new
         (IfOk result (λ b. b ≡ booking_in (V.state view.old) scrapped movement.now)) }
 {
-    let lot = look::lot(view, movement.lot)?;
+    let lot = lookup::lot(view, movement.lot)?;
     let definition = definition_of(view, lot)?;
     Ok(definition.map(|d| booking(movement, scrapped, &d)))
 }
@@ -153,12 +153,12 @@ fn definition_of<V: View>(
     view: &mut V,
     lot: Option<Lot>,
 ) -> Result<Option<Definition>, ViewFault<V::Fault>>
-    ensures { HonestlyTold V.honest V.kept V.steady view.old view.new
+    ensures { HoldsIfHonest V.honest V.kept V.frame view.old view.new
         (IfOk result (λ d. d ≡ definition_of (V.state view.old) lot)) }
 {
     match lot {
         None => Ok(None),
-        Some(lot) => look::definition(view, lot.def),
+        Some(lot) => lookup::definition(view, lot.def),
     }
 }
 

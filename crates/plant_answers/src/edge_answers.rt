@@ -2,9 +2,9 @@
 ghost use Rattle.std.specs.Prelude.{◌≡◌, IfOk, option_map};
 ghost use Rattle.plant_base.specs.State.{State, definition_at};
 ghost use Rattle.plant_base.specs.declared.rows.Lot.{Lot};
-ghost use Rattle.plant_trace.specs.Sources.{HonestlyTold};
+ghost use Rattle.plant_trace.specs.HoldsIfHonest.{HoldsIfHonest};
 ghost use Rattle.plant_view.specs.Recalls.{is_blocked};
-ghost use Rattle.plant_view.specs.Sound.{IsSound};
+ghost use Rattle.plant_view.specs.DecisionInvariant.{DecisionInvariant};
 ghost use Rattle.plant_answers.specs.Genealogy.{answer_edges, genealogy_around, lot_node, node_answer, node_if};
 ghost use Rattle.plant_answers.specs.KnownLots.{AreKnown};
 ghost use Rattle.plant_answers.specs.LotAnswers.{lot_answer};
@@ -14,13 +14,13 @@ ghost use Rattle.plant_messages.specs.declared.question.Answer.TheVariants as A;
 
 use crate::around::nodes_around;
 use crate::booked::edges_between;
-use crate::each_told::{Telling, each_told};
+use crate::each_told::{RowOf, each_row};
 use crate::known_lots::{KnownLots, known_definition, known_lot, known_row};
 use crate::traces::missing;
 use plant_base::{Definition, Items, Lot};
 use plant_messages::{Answer, Genealogy, LotAnswer, LotNode, NodeAnswer};
 use plant_trace::{Direction, Node};
-use plant_view::{ViewFault, look};
+use plant_view::{ViewFault, lookup};
 use plant_worklists::Worklists;
 use std::alloc::Global;
 
@@ -31,8 +31,8 @@ pub(crate) fn edges_answer<V: Worklists>(
     direction: Direction,
     start: Node,
 ) -> Result<Answer, ViewFault<V::Fault>>
-    ensures { HonestlyTold V.honest V.kept V.steady view.old view.new
-        (IsSound (V.state view.old) → IfOk result (λ a. a ≡ answer_edges (V.state view.old) direction start
+    ensures { HoldsIfHonest V.honest V.kept V.frame view.old view.new
+        (DecisionInvariant (V.state view.old) → IfOk result (λ a. a ≡ answer_edges (V.state view.old) direction start
         (missing (V.state view.old) start))) }
 {
     let refusal = missing(view, start)?;
@@ -48,8 +48,8 @@ fn genealogy_answer<V: Worklists>(
     direction: Direction,
     start: &Node,
 ) -> Result<Answer, ViewFault<V::Fault>>
-    ensures { HonestlyTold V.honest V.kept V.steady view.old view.new
-        (IsSound (V.state view.old)
+    ensures { HoldsIfHonest V.honest V.kept V.frame view.old view.new
+        (DecisionInvariant (V.state view.old)
         → IfOk result (λ a. a ≡ A.Edges (genealogy_around (V.state view.old) direction start.now))) }
 {
     match genealogy_around(alloc, view, direction, *start) {
@@ -64,12 +64,12 @@ fn genealogy_around<V: Worklists>(
     direction: Direction,
     start: Node,
 ) -> Result<Genealogy, ViewFault<V::Fault>>
-    ensures { HonestlyTold V.honest V.kept V.steady view.old view.new
-        (IsSound (V.state view.old)
+    ensures { HoldsIfHonest V.honest V.kept V.frame view.old view.new
+        (DecisionInvariant (V.state view.old)
         → IfOk result (λ g. g ≡ genealogy_around (V.state view.old) direction start)) }
 {
     let around = nodes_around(alloc, view, direction, start)?;
-    let nodes = each_told(alloc, view, around.as_slice())?;
+    let nodes = each_row(alloc, view, around.as_slice())?;
     let edges = edges_between(alloc, view, around.as_slice())?;
     Ok(Genealogy {
         nodes: Items::new(nodes),
@@ -77,10 +77,10 @@ fn genealogy_around<V: Worklists>(
     })
 }
 
-impl Telling<NodeAnswer> for Node {
-    ghost told = { node_answer };
+impl RowOf<NodeAnswer> for Node {
+    ghost reported = { node_answer };
 
-    fn tell<V: Worklists>(
+    fn row_of<V: Worklists>(
         &self,
         alloc: Global,
         view: &mut V,
@@ -102,8 +102,8 @@ fn node_if<V: Worklists>(
     known: &mut KnownLots,
     lot: Option<Lot>,
 ) -> Result<Option<NodeAnswer>, ViewFault<V::Fault>>
-    ensures { HonestlyTold V.honest V.kept V.steady view.old view.new
-        (IsSound (V.state view.old) → AreKnown (V.state view.old) known.old
+    ensures { HoldsIfHonest V.honest V.kept V.frame view.old view.new
+        (DecisionInvariant (V.state view.old) → AreKnown (V.state view.old) known.old
         → IfOk result (λ found. found ≡ node_if (V.state view.old) lot)
         × AreKnown (V.state view.old) known.new) }
 {
@@ -120,16 +120,16 @@ fn lot_node<V: Worklists>(
     known: &mut KnownLots,
     lot: &Lot,
 ) -> Result<Option<NodeAnswer>, ViewFault<V::Fault>>
-    ensures { HonestlyTold V.honest V.kept V.steady view.old view.new
-        (IsSound (V.state view.old) → AreKnown (V.state view.old) known.old
+    ensures { HoldsIfHonest V.honest V.kept V.frame view.old view.new
+        (DecisionInvariant (V.state view.old) → AreKnown (V.state view.old) known.old
         → IfOk result (λ found. found ≡ option_map (λ d. node.Lot (lot_node (V.state view.old) lot.now d))
         (definition_at (V.state view.old) lot.now.def))
         × AreKnown (V.state view.old) known.new) }
 {
     let definition = known_definition(view, known, lot.def)?;
-    let recalled = look::is_blocked(view, lot.id)?;
-    let told = known_lot(alloc, view, known, lot)?;
-    Ok(node_of_lot(definition, recalled, &told))
+    let recalled = lookup::is_blocked(view, lot.id)?;
+    let reported = known_lot(alloc, view, known, lot)?;
+    Ok(node_of_lot(definition, recalled, &reported))
 }
 
 // The node by what was found.

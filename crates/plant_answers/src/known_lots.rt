@@ -1,25 +1,27 @@
 // What is known of many lots, which are asked for one after another by their ids.
 ghost use Rattle.std.specs.Prelude.{◌≡◌, IfOk, IfSome, Some};
 ghost use Rattle.plant_base.specs.State.{State, definition_at, lot_at};
-ghost use Rattle.plant_trace.specs.Sources.{HonestlyTold};
-ghost use Rattle.plant_view.specs.Sound.{IsSound};
+ghost use Rattle.plant_trace.specs.HoldsIfHonest.{HoldsIfHonest};
+ghost use Rattle.plant_view.specs.DecisionInvariant.{DecisionInvariant};
 ghost use Rattle.plant_answers.specs.KnownLots.{AreKnown};
 ghost use Rattle.plant_answers.specs.LotAnswers.{lot_answer};
 
 use crate::lot_answers::answer_of_lot;
 use plant_base::{Definition, Hold, Id, Lot, Sublot};
 use plant_messages::LotAnswer;
-use plant_view::{ViewFault, look};
-use plant_worklists::{Ahead, Worklists, is_held_ahead, lot_ahead, sublots_ahead};
+use plant_view::{ViewFault, lookup};
+use plant_worklists::{
+    ReadAhead, Worklists, prefetched_is_held, prefetched_lot, prefetched_sublots,
+};
 use std::alloc::Global;
 
 /// What was read ahead of the lots that are asked for, and the definition that was looked up last. Holds are few: whether there
 /// are any is asked at once.
 #[derive(Drop)]
 pub(crate) struct KnownLots {
-    pub(crate) lots: Ahead<Lot>,
-    pub(crate) sublots: Ahead<Sublot>,
-    pub(crate) holds: Ahead<Hold>,
+    pub(crate) lots: ReadAhead<Lot>,
+    pub(crate) sublots: ReadAhead<Sublot>,
+    pub(crate) holds: ReadAhead<Hold>,
     pub(crate) definition: Option<Definition>,
 }
 
@@ -29,9 +31,9 @@ impl KnownLots {
         ensures { (s : State) → AreKnown s result }
     {
         KnownLots {
-            lots: Ahead::unread(alloc, false),
-            sublots: Ahead::unread(alloc, false),
-            holds: Ahead::unread(alloc, true),
+            lots: ReadAhead::unread(alloc, false),
+            sublots: ReadAhead::unread(alloc, false),
+            holds: ReadAhead::unread(alloc, true),
             definition: None,
         }
     }
@@ -43,12 +45,12 @@ pub(crate) fn known_row<V: Worklists>(
     known: &mut KnownLots,
     id: &Id,
 ) -> Result<Option<Lot>, ViewFault<V::Fault>>
-    ensures { HonestlyTold V.honest V.kept V.steady view.old view.new
-        (IsSound (V.state view.old) → AreKnown (V.state view.old) known.old
+    ensures { HoldsIfHonest V.honest V.kept V.frame view.old view.new
+        (DecisionInvariant (V.state view.old) → AreKnown (V.state view.old) known.old
         → IfOk result (λ found. found ≡ lot_at (V.state view.old) id.now)
         × AreKnown (V.state view.old) known.new) }
 {
-    lot_ahead(view, &mut known.lots, id)
+    prefetched_lot(view, &mut known.lots, id)
 }
 
 /// What is known of a lot that is there.
@@ -58,13 +60,13 @@ pub(crate) fn known_lot<V: Worklists>(
     known: &mut KnownLots,
     lot: &Lot,
 ) -> Result<LotAnswer, ViewFault<V::Fault>>
-    ensures { HonestlyTold V.honest V.kept V.steady view.old view.new
-        (IsSound (V.state view.old) → AreKnown (V.state view.old) known.old
+    ensures { HoldsIfHonest V.honest V.kept V.frame view.old view.new
+        (DecisionInvariant (V.state view.old) → AreKnown (V.state view.old) known.old
         → IfOk result (λ a. a ≡ lot_answer (V.state view.old) lot.now)
         × AreKnown (V.state view.old) known.new) }
 {
-    let held = is_held_ahead(view, &mut known.holds, &lot.id)?;
-    let sublots = sublots_ahead(alloc, view, &mut known.sublots, &lot.id)?;
+    let held = prefetched_is_held(view, &mut known.holds, &lot.id)?;
+    let sublots = prefetched_sublots(alloc, view, &mut known.sublots, &lot.id)?;
     Ok(answer_of_lot(*lot, held, sublots))
 }
 
@@ -74,7 +76,7 @@ pub(crate) fn known_definition<V: Worklists>(
     known: &mut KnownLots,
     id: Id,
 ) -> Result<Option<Definition>, ViewFault<V::Fault>>
-    ensures { HonestlyTold V.honest V.kept V.steady view.old view.new
+    ensures { HoldsIfHonest V.honest V.kept V.frame view.old view.new
         (AreKnown (V.state view.old) known.old
         → IfOk result (λ found. found ≡ definition_at (V.state view.old) id)
         × AreKnown (V.state view.old) known.new) }
@@ -82,7 +84,7 @@ pub(crate) fn known_definition<V: Worklists>(
     if let Some(last) = last_one(known.definition, id) {
         return Ok(Some(last));
     }
-    let found = look::definition(view, id)?;
+    let found = lookup::definition(view, id)?;
     known.definition = found;
     let found = known.definition;
     Ok(found)

@@ -1,6 +1,6 @@
 //! Laws of answers and tables, each as the contract of a function that does nothing.
 
-ghost use Rattle.plant_answers.specs.AnswerLaws.{TracesListReached, ColumnIsStock, TablesStandForState};
+ghost use Rattle.plant_answers.specs.AnswerLaws.{TracesListReached, ColumnIsStock, TablesRepresentState};
 ghost use Rattle.plant_answers.specs.AnswerLaws.{RecallsListReached, MarksAreThePairs, StandsListReached, EdgesAreBooked, NodesAreReached};
 
 /// A trace lists exactly what the least relation reaches that is closed under recorded consumption, production, split
@@ -31,7 +31,7 @@ pub fn stock_law()
 
 /// The tables of a state stand for that state and no other.
 pub fn tables_law()
-    ensures { TablesStandForState }
+    ensures { TablesRepresentState }
 {}
 
 /// What is answered of a recall lists exactly what it reaches while it is open, and nothing once it is lifted.

@@ -1,12 +1,12 @@
 // What is answered of a worklist.
 ghost use Rattle.std.specs.Prelude.{◌≡◌, ℕ, List, Option, IfOk};
 ghost use Rattle.plant_base.specs.State.{State, class_at, lot_at};
-ghost use Rattle.plant_trace.specs.Sources.{HonestlyTold};
-ghost use Rattle.plant_view.specs.Sound.{IsSound};
+ghost use Rattle.plant_trace.specs.HoldsIfHonest.{HoldsIfHonest};
+ghost use Rattle.plant_view.specs.DecisionInvariant.{DecisionInvariant};
 ghost use Rattle.plant_worklists.specs.Pages.{page_of};
 ghost use Rattle.plant_worklists.specs.Worklists.{orders_in, holds_on, open_recalls, definitions_in, ledger_of};
 ghost use Rattle.plant_answers.specs.Worklists.{answer_list, answer_holds, answer_definitions, answer_recipes, answer_ledger};
-ghost use Rattle.plant_worklists.specs.declared.place.MovementPlace.{MovementPlace};
+ghost use Rattle.plant_worklists.specs.declared.cursors.MovementCursor.{MovementCursor};
 ghost use Rattle.plant_messages.specs.declared.listed.Listed.TheVariants as listed;
 ghost use Rattle.plant_messages.specs.declared.question.Answer.TheVariants as A;
 
@@ -14,8 +14,8 @@ use crate::open_batches::batches_answer;
 use crate::stocked_lots::lots_answer;
 use plant_base::{Class, Definition, Hold, Id, JobState, Lot, Movement, RecipeState, Refusal};
 use plant_messages::{Answer, Listed};
-use plant_view::{ViewFault, look};
-use plant_worklists::{MovementPlace, Page, RecipePlace, Worklist, Worklists};
+use plant_view::{ViewFault, lookup};
+use plant_worklists::{MovementCursor, Page, RecipeCursor, Worklist, Worklists};
 use std::alloc::Global;
 
 /// A page of a worklist: what comes after an id, or its front where none is given.
@@ -23,65 +23,65 @@ pub(crate) fn list_answer<V: Worklists>(
     alloc: Global,
     view: &mut V,
     list: Worklist,
-    above: Option<Id>,
+    cursor: Option<Id>,
 ) -> Result<Answer, ViewFault<V::Fault>>
-    ensures { HonestlyTold V.honest V.kept V.steady view.old view.new
-        (IsSound (V.state view.old)
-        → IfOk result (λ a. a ≡ answer_list (V.state view.old) list above)) }
+    ensures { HoldsIfHonest V.honest V.kept V.frame view.old view.new
+        (DecisionInvariant (V.state view.old)
+        → IfOk result (λ a. a ≡ answer_list (V.state view.old) list cursor)) }
 {
     match list {
-        Worklist::Orders(state) => orders_answer(view, state, above),
-        Worklist::OpenBatches => batches_answer(alloc, view, above),
-        Worklist::Lots(def) => lots_answer(alloc, view, def, above),
-        Worklist::Holds(lot) => holds_answer(view, lot, above),
-        Worklist::OpenRecalls => recalls_answer(view, above),
-        Worklist::Definitions(class) => definitions_answer(view, class, above),
+        Worklist::Orders(state) => orders_answer(view, state, cursor),
+        Worklist::OpenBatches => batches_answer(alloc, view, cursor),
+        Worklist::Lots(def) => lots_answer(alloc, view, def, cursor),
+        Worklist::Holds(lot) => holds_answer(view, lot, cursor),
+        Worklist::OpenRecalls => recalls_answer(view, cursor),
+        Worklist::Definitions(class) => definitions_answer(view, class, cursor),
     }
 }
 
 fn orders_answer<V: Worklists>(
     view: &mut V,
     state: JobState,
-    above: Option<Id>,
+    cursor: Option<Id>,
 ) -> Result<Answer, ViewFault<V::Fault>>
-    ensures { HonestlyTold V.honest V.kept V.steady view.old view.new
+    ensures { HoldsIfHonest V.honest V.kept V.frame view.old view.new
         (IfOk result (λ a. a
-        ≡ A.List (listed.Orders (page_of (orders_in (V.state view.old) state above))))) }
+        ≡ A.List (listed.Orders (page_of (orders_in (V.state view.old) state cursor))))) }
 {
-    let page = view.orders_in(state, above).map_err(ViewFault::View)?;
+    let page = view.orders_in(state, cursor).map_err(ViewFault::View)?;
     Ok(Answer::List(Listed::Orders(page)))
 }
 
 fn recalls_answer<V: Worklists>(
     view: &mut V,
-    above: Option<Id>,
+    cursor: Option<Id>,
 ) -> Result<Answer, ViewFault<V::Fault>>
-    ensures { HonestlyTold V.honest V.kept V.steady view.old view.new
+    ensures { HoldsIfHonest V.honest V.kept V.frame view.old view.new
         (IfOk result (λ a. a
-        ≡ A.List (listed.Recalls (page_of (open_recalls (V.state view.old) above))))) }
+        ≡ A.List (listed.Recalls (page_of (open_recalls (V.state view.old) cursor))))) }
 {
-    let page = view.open_recalls(above).map_err(ViewFault::View)?;
+    let page = view.open_recalls(cursor).map_err(ViewFault::View)?;
     Ok(Answer::List(Listed::Recalls(page)))
 }
 
 fn holds_answer<V: Worklists>(
     view: &mut V,
     lot: Id,
-    above: Option<Id>,
+    cursor: Option<Id>,
 ) -> Result<Answer, ViewFault<V::Fault>>
-    ensures { HonestlyTold V.honest V.kept V.steady view.old view.new
-        (IfOk result (λ a. a ≡ answer_holds (V.state view.old) lot above
+    ensures { HoldsIfHonest V.honest V.kept V.frame view.old view.new
+        (IfOk result (λ a. a ≡ answer_holds (V.state view.old) lot cursor
         (lot_at (V.state view.old) lot))) }
 {
-    let known = look::lot(view, lot)?;
-    let page = view.holds_on(lot, above).map_err(ViewFault::View)?;
+    let known = lookup::lot(view, lot)?;
+    let page = view.holds_on(lot, cursor).map_err(ViewFault::View)?;
     Ok(answer_of_holds(known, page))
 }
 
 // The answer by what was found.
 fn answer_of_holds(known: Option<Lot>, page: Page<Hold>) -> Answer
-    ensures { (s : State) (lot : List ℕ) (above : Option (List ℕ)) → page ≡ page_of (holds_on s lot above)
-        → result ≡ answer_holds s lot above known }
+    ensures { (s : State) (lot : List ℕ) (cursor : Option (List ℕ)) → page ≡ page_of (holds_on s lot cursor)
+        → result ≡ answer_holds s lot cursor known }
 {
     match known {
         None => Answer::Unknown(Refusal::UnknownLot),
@@ -92,21 +92,21 @@ fn answer_of_holds(known: Option<Lot>, page: Page<Hold>) -> Answer
 fn definitions_answer<V: Worklists>(
     view: &mut V,
     class: Id,
-    above: Option<Id>,
+    cursor: Option<Id>,
 ) -> Result<Answer, ViewFault<V::Fault>>
-    ensures { HonestlyTold V.honest V.kept V.steady view.old view.new
-        (IfOk result (λ a. a ≡ answer_definitions (V.state view.old) class above
+    ensures { HoldsIfHonest V.honest V.kept V.frame view.old view.new
+        (IfOk result (λ a. a ≡ answer_definitions (V.state view.old) class cursor
         (class_at (V.state view.old) class))) }
 {
-    let known = look::class(view, class)?;
-    let page = view.definitions_in(class, above).map_err(ViewFault::View)?;
+    let known = lookup::class(view, class)?;
+    let page = view.definitions_in(class, cursor).map_err(ViewFault::View)?;
     Ok(answer_of_definitions(known, page))
 }
 
 // The answer by what was found.
 fn answer_of_definitions(known: Option<Class>, page: Page<Definition>) -> Answer
-    ensures { (s : State) (class : List ℕ) (above : Option (List ℕ)) → page ≡ page_of (definitions_in s class above)
-        → result ≡ answer_definitions s class above known }
+    ensures { (s : State) (class : List ℕ) (cursor : Option (List ℕ)) → page ≡ page_of (definitions_in s class cursor)
+        → result ≡ answer_definitions s class cursor known }
 {
     match known {
         None => Answer::Unknown(Refusal::UnknownClass),
@@ -118,12 +118,12 @@ fn answer_of_definitions(known: Option<Class>, page: Page<Definition>) -> Answer
 pub(crate) fn recipes_answer<V: Worklists>(
     view: &mut V,
     state: RecipeState,
-    above: Option<RecipePlace>,
+    cursor: Option<RecipeCursor>,
 ) -> Result<Answer, ViewFault<V::Fault>>
-    ensures { HonestlyTold V.honest V.kept V.steady view.old view.new
-        (IfOk result (λ a. a ≡ answer_recipes (V.state view.old) state above)) }
+    ensures { HoldsIfHonest V.honest V.kept V.frame view.old view.new
+        (IfOk result (λ a. a ≡ answer_recipes (V.state view.old) state cursor)) }
 {
-    let page = view.recipes_in(state, above).map_err(ViewFault::View)?;
+    let page = view.recipes_in(state, cursor).map_err(ViewFault::View)?;
     Ok(Answer::List(Listed::Recipes(page)))
 }
 
@@ -131,21 +131,21 @@ pub(crate) fn recipes_answer<V: Worklists>(
 pub(crate) fn ledger_answer<V: Worklists>(
     view: &mut V,
     lot: Id,
-    above: Option<MovementPlace>,
+    cursor: Option<MovementCursor>,
 ) -> Result<Answer, ViewFault<V::Fault>>
-    ensures { HonestlyTold V.honest V.kept V.steady view.old view.new
-        (IfOk result (λ a. a ≡ answer_ledger (V.state view.old) lot above
+    ensures { HoldsIfHonest V.honest V.kept V.frame view.old view.new
+        (IfOk result (λ a. a ≡ answer_ledger (V.state view.old) lot cursor
         (lot_at (V.state view.old) lot))) }
 {
-    let known = look::lot(view, lot)?;
-    let page = view.ledger_of(lot, above).map_err(ViewFault::View)?;
+    let known = lookup::lot(view, lot)?;
+    let page = view.ledger_of(lot, cursor).map_err(ViewFault::View)?;
     Ok(answer_of_ledger(known, page))
 }
 
 // The answer by what was found.
 fn answer_of_ledger(known: Option<Lot>, page: Page<Movement>) -> Answer
-    ensures { (s : State) (lot : List ℕ) (above : Option MovementPlace) → page ≡ page_of (ledger_of s lot above)
-        → result ≡ answer_ledger s lot above known }
+    ensures { (s : State) (lot : List ℕ) (cursor : Option MovementCursor) → page ≡ page_of (ledger_of s lot cursor)
+        → result ≡ answer_ledger s lot cursor known }
 {
     match known {
         None => Answer::Unknown(Refusal::UnknownLot),

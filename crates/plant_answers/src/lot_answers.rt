@@ -1,23 +1,23 @@
 // What is answered of a lot.
 ghost use Rattle.std.specs.Prelude.{◌≡◌, ◌<◌, ◌^◌, IfOk, sum_by};
 ghost use Rattle.plant_base.specs.State.{State, lot_at};
-ghost use Rattle.plant_trace.specs.Sources.{HonestlyTold};
-ghost use Rattle.plant_view.specs.Refusing.{is_held};
-ghost use Rattle.plant_view.specs.Sound.{IsSound};
+ghost use Rattle.plant_trace.specs.HoldsIfHonest.{HoldsIfHonest};
+ghost use Rattle.plant_view.specs.Refusals.{is_held};
+ghost use Rattle.plant_view.specs.DecisionInvariant.{DecisionInvariant};
 ghost use Rattle.plant_view.specs.Tables.{sublots_of};
 ghost use Rattle.plant_answers.specs.LotAnswers.{answer_lot, lot_answer};
 
 use plant_base::{Id, Items, Lot, Refusal, Sublot};
 use plant_messages::{Answer, LotAnswer};
-use plant_view::{View, ViewFault, look};
+use plant_view::{View, ViewFault, lookup};
 
 /// What is known of a lot.
 pub(crate) fn lot_answer<V: View>(view: &mut V, lot: Id) -> Result<Answer, ViewFault<V::Fault>>
-    ensures { HonestlyTold V.honest V.kept V.steady view.old view.new
-        (IsSound (V.state view.old)
+    ensures { HoldsIfHonest V.honest V.kept V.frame view.old view.new
+        (DecisionInvariant (V.state view.old)
         → IfOk result (λ a. a ≡ answer_lot (V.state view.old) (lot_at (V.state view.old) lot))) }
 {
-    let Some(row) = look::lot(view, lot)? else {
+    let Some(row) = lookup::lot(view, lot)? else {
         return Ok(Answer::Unknown(Refusal::UnknownLot));
     };
     Ok(Answer::Lot(found_lot(view, row)?))
@@ -25,17 +25,17 @@ pub(crate) fn lot_answer<V: View>(view: &mut V, lot: Id) -> Result<Answer, ViewF
 
 /// What is known of a lot that is there.
 pub(crate) fn found_lot<V: View>(view: &mut V, lot: Lot) -> Result<LotAnswer, ViewFault<V::Fault>>
-    ensures { HonestlyTold V.honest V.kept V.steady view.old view.new
-        (IsSound (V.state view.old) → IfOk result (λ a. a ≡ lot_answer (V.state view.old) lot)) }
+    ensures { HoldsIfHonest V.honest V.kept V.frame view.old view.new
+        (DecisionInvariant (V.state view.old) → IfOk result (λ a. a ≡ lot_answer (V.state view.old) lot)) }
 {
-    let held = look::is_held(view, lot.id)?;
-    let sublots = look::sublots(view, lot.id)?;
+    let held = lookup::is_held(view, lot.id)?;
+    let sublots = lookup::sublots(view, lot.id)?;
     Ok(answer_of_lot(lot, held, sublots))
 }
 
 /// The answer by what was found.
 pub(crate) fn answer_of_lot(lot: Lot, held: bool, sublots: Vec<Sublot>) -> LotAnswer
-    ensures { (s : State) → IsSound s → held ≡ is_held s lot.id → sublots.items ≡ sublots_of s lot.id
+    ensures { (s : State) → DecisionInvariant s → held ≡ is_held s lot.id → sublots.items ≡ sublots_of s lot.id
         → result ≡ lot_answer s lot }
 {
     let stock = total_of(&sublots);

@@ -1,7 +1,7 @@
 // What is answered of the batches that aren't closed.
 ghost use Rattle.std.specs.Prelude.{◌≡◌, IfOk, map};
 ghost use Rattle.std.specs.List.{filter_map};
-ghost use Rattle.plant_trace.specs.Sources.{HonestlyTold};
+ghost use Rattle.plant_trace.specs.HoldsIfHonest.{HoldsIfHonest};
 ghost use Rattle.plant_worklists.specs.Pages.{page_of};
 ghost use Rattle.plant_worklists.specs.Worklists.{open_batches};
 ghost use Rattle.plant_answers.specs.Worklists.{batch_page, open_batch, opened, phase_of};
@@ -10,7 +10,7 @@ ghost use Rattle.plant_messages.specs.declared.question.Answer.TheVariants as A;
 
 use plant_base::{BatchRow, ControlLine, Id, Items, RecipeLine};
 use plant_messages::{Answer, Listed, OpenBatch};
-use plant_view::{View, ViewFault, look};
+use plant_view::{View, ViewFault, lookup};
 use plant_worklists::{Page, Worklists};
 use std::alloc::{AllocError, Global};
 
@@ -18,13 +18,13 @@ use std::alloc::{AllocError, Global};
 pub(crate) fn batches_answer<V: Worklists>(
     alloc: Global,
     view: &mut V,
-    above: Option<Id>,
+    cursor: Option<Id>,
 ) -> Result<Answer, ViewFault<V::Fault>>
-    ensures { HonestlyTold V.honest V.kept V.steady view.old view.new
+    ensures { HoldsIfHonest V.honest V.kept V.frame view.old view.new
         (IfOk result (λ a. a ≡ A.List (listed.Batches (batch_page (V.state view.old)
-        (page_of (open_batches (V.state view.old) above)))))) }
+        (page_of (open_batches (V.state view.old) cursor)))))) }
 {
-    let page = view.open_batches(above).map_err(ViewFault::View)?;
+    let page = view.open_batches(cursor).map_err(ViewFault::View)?;
     let rows = with_phases(alloc, view, page.rows.as_slice())?;
     Ok(Answer::List(Listed::Batches(Page {
         rows: Items::new(rows),
@@ -37,7 +37,7 @@ fn with_phases<V: View>(
     view: &mut V,
     batches: &[BatchRow],
 ) -> Result<Vec<OpenBatch>, ViewFault<V::Fault>>
-    ensures { HonestlyTold V.honest V.kept V.steady view.old view.new
+    ensures { HoldsIfHonest V.honest V.kept V.frame view.old view.new
         (IfOk result (λ v. v.items ≡ map (open_batch (V.state view.old)) batches.now)) }
 {
     let mut rows = Vec::new(alloc);
@@ -55,10 +55,10 @@ fn open_batch<V: View>(
     view: &mut V,
     batch: &BatchRow,
 ) -> Result<OpenBatch, ViewFault<V::Fault>>
-    ensures { HonestlyTold V.honest V.kept V.steady view.old view.new
+    ensures { HoldsIfHonest V.honest V.kept V.frame view.old view.new
         (IfOk result (λ row. row ≡ open_batch (V.state view.old) batch.now)) }
 {
-    let lines = look::control_lines(view, batch.batch.id)?;
+    let lines = lookup::control_lines(view, batch.batch.id)?;
     match phases_among(alloc, lines.as_slice()) {
         Ok(phases) => Ok(opened(batch, phases.as_slice())),
         Err(_) => Err(ViewFault::Memory),

@@ -1,13 +1,13 @@
 // Where the goods of a lot or batch stand.
 ghost use Rattle.std.specs.Prelude.{◌≡◌, IfOk};
-ghost use Rattle.plant_trace.specs.Sources.{HonestlyTold};
-ghost use Rattle.plant_view.specs.Sound.{IsSound};
-ghost use Rattle.plant_answers.specs.Around.{answer_stands, lots_standing, stocked_at, stocked_if};
+ghost use Rattle.plant_trace.specs.HoldsIfHonest.{HoldsIfHonest};
+ghost use Rattle.plant_view.specs.DecisionInvariant.{DecisionInvariant};
+ghost use Rattle.plant_answers.specs.Surroundings.{answer_stands, lots_standing, stocked_at, stocked_if};
 ghost use Rattle.plant_answers.specs.KnownLots.{AreKnown};
 ghost use Rattle.plant_answers.specs.Traces.{missing};
 
 use crate::around::nodes_around;
-use crate::each_told::{Telling, each_told};
+use crate::each_told::{RowOf, each_row};
 use crate::known_lots::{KnownLots, known_row};
 use crate::traces::missing;
 use plant_base::{Items, Lot};
@@ -23,14 +23,14 @@ pub(crate) fn stands_answer<V: Worklists>(
     view: &mut V,
     start: Node,
 ) -> Result<Answer, ViewFault<V::Fault>>
-    ensures { HonestlyTold V.honest V.kept V.steady view.old view.new
-        (IsSound (V.state view.old) → IfOk result (λ a. a ≡ answer_stands (V.state view.old) start
+    ensures { HoldsIfHonest V.honest V.kept V.frame view.old view.new
+        (DecisionInvariant (V.state view.old) → IfOk result (λ a. a ≡ answer_stands (V.state view.old) start
         (missing (V.state view.old) start))) }
 {
     if let Some(refusal) = missing(view, start)? {
         return Ok(Answer::Unknown(refusal));
     }
-    Ok(Answer::Stands(Items::new(lots_standing(alloc, view, start)?)))
+    Ok(Answer::HasStoredRows(Items::new(lots_standing(alloc, view, start)?)))
 }
 
 fn lots_standing<V: Worklists>(
@@ -38,18 +38,18 @@ fn lots_standing<V: Worklists>(
     view: &mut V,
     start: Node,
 ) -> Result<Vec<LotAnswer>, ViewFault<V::Fault>>
-    ensures { HonestlyTold V.honest V.kept V.steady view.old view.new
-        (IsSound (V.state view.old)
+    ensures { HoldsIfHonest V.honest V.kept V.frame view.old view.new
+        (DecisionInvariant (V.state view.old)
         → IfOk result (λ v. v.items ≡ lots_standing (V.state view.old) start)) }
 {
     let nodes = nodes_around(alloc, view, Direction::Forward, start)?;
-    each_told(alloc, view, nodes.as_slice())
+    each_row(alloc, view, nodes.as_slice())
 }
 
-impl Telling<LotAnswer> for Node {
-    ghost told = { stocked_at };
+impl RowOf<LotAnswer> for Node {
+    ghost reported = { stocked_at };
 
-    fn tell<V: Worklists>(
+    fn row_of<V: Worklists>(
         &self,
         alloc: Global,
         view: &mut V,
@@ -71,13 +71,13 @@ fn stocked_if<V: Worklists>(
     known: &mut KnownLots,
     lot: Option<Lot>,
 ) -> Result<Option<LotAnswer>, ViewFault<V::Fault>>
-    ensures { HonestlyTold V.honest V.kept V.steady view.old view.new
-        (IsSound (V.state view.old) → AreKnown (V.state view.old) known.old
+    ensures { HoldsIfHonest V.honest V.kept V.frame view.old view.new
+        (DecisionInvariant (V.state view.old) → AreKnown (V.state view.old) known.old
         → IfOk result (λ found. found ≡ stocked_if (V.state view.old) lot)
         × AreKnown (V.state view.old) known.new) }
 {
     let Some(lot) = lot else {
         return Ok(None);
     };
-    lot.tell(alloc, view, known)
+    lot.row_of(alloc, view, known)
 }

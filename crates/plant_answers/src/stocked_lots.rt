@@ -1,17 +1,17 @@
 // What is answered of the lots of a definition.
 ghost use Rattle.std.specs.Prelude.{◌≡◌, ◌-◌, ℕ, List, Option, IfOk, length, option_map, slice_get};
 ghost use Rattle.plant_base.specs.State.{State, definition_at};
-ghost use Rattle.plant_trace.specs.Sources.{HonestlyTold};
-ghost use Rattle.plant_view.specs.Sound.{IsSound};
+ghost use Rattle.plant_trace.specs.HoldsIfHonest.{HoldsIfHonest};
+ghost use Rattle.plant_view.specs.DecisionInvariant.{DecisionInvariant};
 ghost use Rattle.plant_worklists.specs.Pages.{page_of};
 ghost use Rattle.plant_worklists.specs.Worklists.{lots_of};
 ghost use Rattle.plant_answers.specs.Worklists.{answer_lots, lot_page, if_stocked, stocked_lot};
 
-use crate::each_told::{Telling, each_told};
+use crate::each_told::{RowOf, each_row};
 use crate::known_lots::{KnownLots, known_lot};
 use plant_base::{Definition, Id, Items, Lot, Refusal};
 use plant_messages::{Answer, Listed, LotAnswer, LotPage};
-use plant_view::{ViewFault, look};
+use plant_view::{ViewFault, lookup};
 use plant_worklists::Worklists;
 use std::alloc::Global;
 
@@ -20,14 +20,14 @@ pub(crate) fn lots_answer<V: Worklists>(
     alloc: Global,
     view: &mut V,
     def: Id,
-    above: Option<Id>,
+    cursor: Option<Id>,
 ) -> Result<Answer, ViewFault<V::Fault>>
-    ensures { HonestlyTold V.honest V.kept V.steady view.old view.new
-        (IsSound (V.state view.old) → IfOk result (λ a. a ≡ answer_lots (V.state view.old) def above
+    ensures { HoldsIfHonest V.honest V.kept V.frame view.old view.new
+        (DecisionInvariant (V.state view.old) → IfOk result (λ a. a ≡ answer_lots (V.state view.old) def cursor
         (definition_at (V.state view.old) def))) }
 {
-    let known = look::definition(view, def)?;
-    let page = lot_page(alloc, view, def, above)?;
+    let known = lookup::definition(view, def)?;
+    let page = lot_page(alloc, view, def, cursor)?;
     Ok(answer_of_lots(known, page))
 }
 
@@ -35,14 +35,14 @@ fn lot_page<V: Worklists>(
     alloc: Global,
     view: &mut V,
     def: Id,
-    above: Option<Id>,
+    cursor: Option<Id>,
 ) -> Result<LotPage, ViewFault<V::Fault>>
-    ensures { HonestlyTold V.honest V.kept V.steady view.old view.new
-        (IsSound (V.state view.old) → IfOk result (λ page. page ≡ lot_page (V.state view.old)
-        (page_of (lots_of (V.state view.old) def above)))) }
+    ensures { HoldsIfHonest V.honest V.kept V.frame view.old view.new
+        (DecisionInvariant (V.state view.old) → IfOk result (λ page. page ≡ lot_page (V.state view.old)
+        (page_of (lots_of (V.state view.old) def cursor)))) }
 {
-    let page = view.lots_of(def, above).map_err(ViewFault::View)?;
-    let lots = each_told(alloc, view, page.rows.as_slice())?;
+    let page = view.lots_of(def, cursor).map_err(ViewFault::View)?;
+    let lots = each_row(alloc, view, page.rows.as_slice())?;
     Ok(LotPage {
         lots: Items::new(lots),
         last: last_of(page.rows.as_slice()),
@@ -61,8 +61,8 @@ fn last_of(lots: &[Lot]) -> Option<Id>
 
 // The answer by what was found.
 fn answer_of_lots(known: Option<Definition>, page: LotPage) -> Answer
-    ensures { (s : State) (def : List ℕ) (above : Option (List ℕ))
-        → page ≡ lot_page s (page_of (lots_of s def above)) → result ≡ answer_lots s def above known }
+    ensures { (s : State) (def : List ℕ) (cursor : Option (List ℕ))
+        → page ≡ lot_page s (page_of (lots_of s def cursor)) → result ≡ answer_lots s def cursor known }
 {
     match known {
         None => Answer::Unknown(Refusal::UnknownDefinition),
@@ -70,10 +70,10 @@ fn answer_of_lots(known: Option<Definition>, page: LotPage) -> Answer
     }
 }
 
-impl Telling<LotAnswer> for Lot {
-    ghost told = { stocked_lot };
+impl RowOf<LotAnswer> for Lot {
+    ghost reported = { stocked_lot };
 
-    fn tell<V: Worklists>(
+    fn row_of<V: Worklists>(
         &self,
         alloc: Global,
         view: &mut V,

@@ -1,13 +1,13 @@
 // What is answered of a trace.
 ghost use Rattle.std.specs.Prelude.{◌≡◌, IfOk, None, not};
-ghost use Rattle.plant_trace.specs.Sources.{HonestlyTold};
-ghost use Rattle.plant_view.specs.Refusing.{refuse};
+ghost use Rattle.plant_trace.specs.HoldsIfHonest.{HoldsIfHonest};
+ghost use Rattle.plant_view.specs.Refusals.{refuse};
 ghost use Rattle.plant_answers.specs.Traces.{trace_of, missing, answer_trace};
 
 use plant_base::{Items, Refusal};
 use plant_messages::Answer;
 use plant_trace::{Direction, Node, closure};
-use plant_view::{View, ViewFault, look};
+use plant_view::{View, ViewFault, lookup};
 use std::alloc::Global;
 
 /// What was made from a node, or what it was made from.
@@ -17,7 +17,7 @@ pub(crate) fn trace_answer<V: View>(
     direction: Direction,
     start: Node,
 ) -> Result<Answer, ViewFault<V::Fault>>
-    ensures { HonestlyTold V.honest V.kept V.steady view.old view.new
+    ensures { HoldsIfHonest V.honest V.kept V.frame view.old view.new
         (IfOk result (λ a. a ≡ answer_trace (V.state view.old) direction start
         (missing (V.state view.old) start))) }
 {
@@ -32,16 +32,16 @@ pub(crate) fn missing<V: View>(
     view: &mut V,
     node: Node,
 ) -> Result<Option<Refusal>, ViewFault<V::Fault>>
-    ensures { HonestlyTold V.honest V.kept V.steady view.old view.new
+    ensures { HoldsIfHonest V.honest V.kept V.frame view.old view.new
         (IfOk result (λ refusal. refusal ≡ missing (V.state view.old) node)) }
 {
     match node {
         Node::Lot(lot) => {
-            let row = look::lot(view, lot)?;
+            let row = lookup::lot(view, lot)?;
             Ok(unless(row.is_some(), Refusal::UnknownLot))
         }
         Node::Batch(batch) => {
-            let there = look::is_batch(view, batch)?;
+            let there = lookup::is_batch(view, batch)?;
             Ok(unless(there, Refusal::UnknownBatch))
         }
     }
@@ -61,7 +61,7 @@ pub(crate) fn trace<V: View>(
     direction: Direction,
     start: Node,
 ) -> Result<Vec<Node>, ViewFault<V::Fault>>
-    ensures { HonestlyTold V.honest V.kept V.steady view.old view.new
+    ensures { HoldsIfHonest V.honest V.kept V.frame view.old view.new
         (IfOk result (λ nodes. nodes.items ≡ trace_of (V.state view.old) direction start)) }
 {
     match closure(alloc, view, start, direction) {

@@ -1,3 +1,3 @@
-pub mod BookedEnds
-pub mod Cycles
-pub mod EdgeSets
+pub mod BookedRowsMove
+pub mod CycleTestIsExact
+pub mod EdgeListsCompared

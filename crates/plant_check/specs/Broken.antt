@@ -24,7 +24,7 @@ use Rattle.plant_check_stock.specs.Times.{are_times}
 use Rattle.plant_tables_read.specs.Loading.{contents_loaded}
 use Rattle.plant_tables_read.specs.declared.loaded.Loaded.{Loaded}
 use Rattle.plant_tables_columns.specs.Booked.{movement_from}
-use Rattle.plant_tables_columns.specs.Stated.{recall_from}
+use Rattle.plant_tables_columns.specs.StatedRecalls.{recall_from}
 use Rattle.plant_tables_read.specs.Collecting.{Rows, rows_from}
 use Rattle.plant_tables_columns.specs.TableColumns.{only_meta}
 use Rattle.plant_tables_columns.specs.declared.booked.BookedRow.{BookedRow}
@@ -102,15 +102,15 @@ broken_receipt r = unless (are_receipts r.meta.position.seq r.receipts) rule.Rec
 abbrev pub are_fitting : List StatedRecall → Bool
 are_fitting rows = list_all (λ r. is_some (recall_from r)) rows
 
-abbrev pub recalls_told : List StatedRecall → List Recall
-recalls_told rows = filter_map recall_from rows
+abbrev pub recalls_read : List StatedRecall → List Recall
+recalls_read rows = filter_map recall_from rows
 
 -- the recalls' lots are there and their moments fit, and the marks are those of what the open ones reach
 abbrev pub are_kept_recalls : Rows → List Recall → List Movement → Bool
 are_kept_recalls r recalls ms = are_recalls r.meta.position.at r.lots recalls && are_marks recalls ms r.marks
 
 abbrev pub are_right_recalls : Rows → Bool
-are_right_recalls r = are_fitting r.recalls && are_kept_recalls r (recalls_told r.recalls) (movements_in r.movements)
+are_right_recalls r = are_fitting r.recalls && are_kept_recalls r (recalls_read r.recalls) (movements_in r.movements)
 
 -- the one on recalls, where it is broken
 unfoldable pub broken_recall : Rows → Option Rule

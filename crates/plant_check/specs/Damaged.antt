@@ -2,8 +2,8 @@
 use Rattle.std.specs.Prelude.{◌≡◌, ◌⊎◌, ◌<◌, ℕ, ℤ, pos, All, Some}
 use Rattle.sqlite.specs.Effect.{Database}
 use Rattle.plant_base.specs.State.{newest_schema}
-use Rattle.table_forms.specs.Standing.{IsFree}
-use Rattle.plant_tables.specs.DeskForms.{desk_forms}
+use Rattle.sql_tables.specs.StoredRows.{IsFree}
+use Rattle.plant_tables.specs.DeskTableDefs.{desk_table_defs}
 use Rattle.plant_tables_read.specs.Loading.{AreLoaded}
 use Rattle.plant_tables_read.specs.Version.{IsVersion, HasTablesOf}
 use Rattle.plant_tables_read.specs.declared.loaded.Loaded.{Loaded}
@@ -27,6 +27,6 @@ IsFirstBroken db r = ((r ≡ rule.Tables) × LacksTables db) ⊎ AreFirstBroken 
 -- There is something of the desk, for not all of its tables' names are free; table meta tells no version above the
 -- newest; and this is the first rule that the tables break.
 pub record IsDamaged (db : Database) (r : Rule) : Type 0 where
-  pub taken : ¬ All (IsFree db.schema) desk_forms
+  pub taken : ¬ All (IsFree db.schema) desk_table_defs
   pub known : (n : ℕ) → newest_schema < n → ¬ IsVersion db (pos n)
   pub broken : IsFirstBroken db r

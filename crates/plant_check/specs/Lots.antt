@@ -10,8 +10,8 @@ use Rattle.plant_base.specs.declared.rows.Sublot.{Sublot}
 use Rattle.plant_check_plans.specs.Recipes.{are_numbered}
 use Rattle.plant_view.specs.Production.{is_defined}
 use Rattle.plant_tables_columns.specs.declared.booked.BookedRow.{BookedRow}
-use Rattle.plant_tables_columns.specs.declared.booked.MovementSort.{MovementSort}
-use Rattle.plant_tables_columns.specs.declared.booked.MovementSort.TheVariants as sort
+use Rattle.plant_tables_columns.specs.declared.booked.MovementKindCode.{MovementKindCode}
+use Rattle.plant_tables_columns.specs.declared.booked.MovementKindCode.TheVariants as kind_code
 use Rattle.plant_check.specs.Ends.{entries, total_booked}
 
 -- 0, or 0 and 1, and so on
@@ -26,30 +26,30 @@ unfoldable pub is_right_lot : List Definition → List Sublot → Lot → Bool
 is_right_lot definitions sublots l = is_defined definitions l.def && are_from_zero (map (λ s. s.number) (sublots_among sublots l.id))
 
 -- a movement of this sort makes a lot
-abbrev pub makes_a_lot : MovementSort → Bool
-makes_a_lot sort.Received = true
-makes_a_lot sort.Consumed = false
-makes_a_lot sort.Produced = true
-makes_a_lot sort.Scrapped = false
-makes_a_lot sort.Divided = false
-makes_a_lot sort.Split = true
-makes_a_lot sort.Merged = true
+abbrev pub makes_a_lot : MovementKindCode → Bool
+makes_a_lot kind_code.Received = true
+makes_a_lot kind_code.Consumed = false
+makes_a_lot kind_code.Produced = true
+makes_a_lot kind_code.Scrapped = false
+makes_a_lot kind_code.Divided = false
+makes_a_lot kind_code.Split = true
+makes_a_lot kind_code.Merged = true
 
-abbrev pub is_division_sort : MovementSort → Bool
-is_division_sort sort.Divided = true
-is_division_sort _ = false
+abbrev pub is_division_code : MovementKindCode → Bool
+is_division_code kind_code.Divided = true
+is_division_code _ = false
 
 -- both are of this sort
-abbrev pub are_of_one_sort : MovementSort → MovementSort → Bool
-are_of_one_sort sort.Received sort.Received = true
-are_of_one_sort sort.Produced sort.Produced = true
-are_of_one_sort sort.Split sort.Split = true
-are_of_one_sort sort.Merged sort.Merged = true
-are_of_one_sort _ _ = false
+abbrev pub have_same_kind_code : MovementKindCode → MovementKindCode → Bool
+have_same_kind_code kind_code.Received kind_code.Received = true
+have_same_kind_code kind_code.Produced kind_code.Produced = true
+have_same_kind_code kind_code.Split kind_code.Split = true
+have_same_kind_code kind_code.Merged kind_code.Merged = true
+have_same_kind_code _ _ = false
 
 -- of the same number and the same sort, which makes a lot
 abbrev pub is_of_one_birth : BookedRow → BookedRow → Bool
-is_of_one_birth first r = r.seq == first.seq && are_of_one_sort first.sort r.sort
+is_of_one_birth first r = r.seq == first.seq && have_same_kind_code first.kind_code r.kind_code
 
 -- there are some, all of one number and of one sort that makes a lot, and they bring no more than an amount
 abbrev pub is_one_birth : List BookedRow → Bool
@@ -59,7 +59,7 @@ is_one_birth (r ∷ rows) = list_all (is_of_one_birth r) (r ∷ rows) && nat_le 
 -- it is one, and a division
 abbrev pub is_one_division : List BookedRow → Bool
 is_one_division [] = false
-is_one_division (r ∷ []) = is_division_sort r.sort
+is_one_division (r ∷ []) = is_division_code r.kind_code
 is_one_division (r ∷ s ∷ rows) = false
 
 -- sublot 0 came to be with its lot, each other sublot by one division

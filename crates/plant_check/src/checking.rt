@@ -9,15 +9,14 @@ use crate::edges::are_kept_edges;
 use crate::ends::are_stocks;
 use crate::history::{are_acyclic, are_whole, movements_in};
 use crate::lots::are_lots;
-use crate::recalls::{are_fitting, recalls_told};
+use crate::recalls::{are_fitting, recalls_read};
 use crate::rule::Rule;
 use plant_base::{Movement, Recall};
 use plant_check_plans::{are_batches, are_classified, are_events, are_orders, are_recipes};
 use plant_check_stock::{
     are_marks, are_movements, are_numbers, are_recalls, are_receipts, are_times,
 };
-use plant_tables_read::{DeskRows, has_meta, rows_of};
-use plant_tables_read::Loaded;
+use plant_tables_read::{DeskRows, Loaded, has_meta, rows_of};
 use std::alloc::{AllocError, Global};
 
 /// The first of the rules of good tables that the loaded rows break, if they break one. The only error is that memory
@@ -226,7 +225,7 @@ pub fn are_right_recalls(alloc: Global, rows: &DeskRows) -> Result<bool, AllocEr
     if !are_fitting(stated) {
         return Ok(false);
     }
-    let recalls = recalls_told(alloc, stated)?;
+    let recalls = recalls_read(alloc, stated)?;
     let movements = movements_in(alloc, rows.movements.as_slice())?;
     are_kept_recalls(alloc, rows, recalls.as_slice(), movements.as_slice())
 }

@@ -4,22 +4,22 @@ ghost use Rattle.std.specs.Prelude.{◌≡◌, ◌<◌, ◌^◌, IfOk};
 ghost use Rattle.plant_check.specs.Ends.{other_end, entered_by, left_by, entries, exits, total_booked};
 ghost use Rattle.plant_check.specs.Ends.{has_right_stock, are_stocks};
 
+use grouped_rows::{Grouped, Grouping};
 use plant_base::{Id, Sublot};
-use plant_check_groups::{Grouped, Grouping};
-use plant_tables_read::{BookedRow, MovementSort};
+use plant_tables_read::{BookedRow, MovementKindCode};
 use std::alloc::{AllocError, Global};
 
 /// Rows by the sublot that they bring their amount to.
-pub struct EnteredPlaces;
+pub struct BySublotEntered;
 
-impl Grouping for EnteredPlaces {
+impl Grouping for BySublotEntered {
     ghost use Rattle.plant_check.specs.Ends.{entered_by};
 
     type Row = BookedRow;
 
     type Key = (Id, u16);
 
-    ghost key_of = { λ r. entered_by r.sort r };
+    ghost key_of = { λ r. entered_by r.kind_code r };
 
     fn key(row: &BookedRow) -> Option<(Id, u16)> {
         entered_by(row)
@@ -27,16 +27,16 @@ impl Grouping for EnteredPlaces {
 }
 
 /// Rows by the sublot that they take their amount from.
-pub struct LeftPlaces;
+pub struct BySublotLeft;
 
-impl Grouping for LeftPlaces {
+impl Grouping for BySublotLeft {
     ghost use Rattle.plant_check.specs.Ends.{left_by};
 
     type Row = BookedRow;
 
     type Key = (Id, u16);
 
-    ghost key_of = { λ r. left_by r.sort r };
+    ghost key_of = { λ r. left_by r.kind_code r };
 
     fn key(row: &BookedRow) -> Option<(Id, u16)> {
         left_by(row)
@@ -56,35 +56,35 @@ fn other_end(lot: Option<Id>, sub: Option<u16>) -> Option<(Id, u16)>
 }
 
 fn entered_by(row: &BookedRow) -> Option<(Id, u16)>
-    ensures { result ≡ entered_by row.now.sort row.now }
+    ensures { result ≡ entered_by row.now.kind_code row.now }
 {
-    match row.sort {
-        MovementSort::Received | MovementSort::Produced => Some((row.lot, row.sub)),
-        MovementSort::Consumed | MovementSort::Scrapped => None,
-        MovementSort::Divided | MovementSort::Split | MovementSort::Merged => {
+    match row.kind_code {
+        MovementKindCode::Received | MovementKindCode::Produced => Some((row.lot, row.sub)),
+        MovementKindCode::Consumed | MovementKindCode::Scrapped => None,
+        MovementKindCode::Divided | MovementKindCode::Split | MovementKindCode::Merged => {
             other_end(row.lot2, row.sub2)
         }
     }
 }
 
 fn left_by(row: &BookedRow) -> Option<(Id, u16)>
-    ensures { result ≡ left_by row.now.sort row.now }
+    ensures { result ≡ left_by row.now.kind_code row.now }
 {
-    match row.sort {
-        MovementSort::Received | MovementSort::Produced => None,
+    match row.kind_code {
+        MovementKindCode::Received | MovementKindCode::Produced => None,
         _ => Some((row.lot, row.sub)),
     }
 }
 
 /// The rows that bring their amount to the sublot.
-pub fn entries<'a>(entered: &'a Grouped<EnteredPlaces>, lot: Id, number: u16) -> &'a [BookedRow]
+pub fn entries<'a>(entered: &'a Grouped<BySublotEntered>, lot: Id, number: u16) -> &'a [BookedRow]
     ensures { result.now ≡ entries entered.now.rows.now lot number }
 {
     entered.at((lot, number))
 }
 
 /// The rows that take their amount from the sublot.
-pub fn exits<'a>(left: &'a Grouped<LeftPlaces>, lot: Id, number: u16) -> &'a [BookedRow]
+pub fn exits<'a>(left: &'a Grouped<BySublotLeft>, lot: Id, number: u16) -> &'a [BookedRow]
     ensures { result.now ≡ exits left.now.rows.now lot number }
 {
     left.at((lot, number))
@@ -110,15 +110,15 @@ pub(crate) fn are_stocks(
 ) -> Result<bool, AllocError>
     ensures { IfOk result (λ b. b ≡ are_stocks rows.now sublots.now) }
 {
-    let entered = Grouped::<EnteredPlaces>::new(alloc, rows)?;
-    let left = Grouped::<LeftPlaces>::new(alloc, rows)?;
+    let entered = Grouped::<BySublotEntered>::new(alloc, rows)?;
+    let left = Grouped::<BySublotLeft>::new(alloc, rows)?;
     Ok(sublots.iter().all(|s| has_right_stock(&entered, &left, s)))
 }
 
 #[tactic(auto, unfolding(crate::specs::Ends::has_right_stock))]
 fn has_right_stock(
-    entered: &Grouped<EnteredPlaces>,
-    left: &Grouped<LeftPlaces>,
+    entered: &Grouped<BySublotEntered>,
+    left: &Grouped<BySublotLeft>,
     sublot: &Sublot,
 ) -> bool
     requires { entered.now.rows.now ≡ left.now.rows.now }

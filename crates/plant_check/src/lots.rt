@@ -3,17 +3,17 @@
 ghost use Rattle.std.specs.Prelude.{◌≡◌, IfOk, map};
 ghost use Rattle.std.specs.List.{list_all};
 ghost use Rattle.plant_check.specs.Lots.{are_from_zero, sublots_among, is_right_lot, makes_a_lot};
-ghost use Rattle.plant_check.specs.Lots.{is_division_sort, are_of_one_sort, is_of_one_birth, is_one_birth};
+ghost use Rattle.plant_check.specs.Lots.{is_division_code, have_same_kind_code, is_of_one_birth, is_one_birth};
 ghost use Rattle.plant_check.specs.Lots.{is_one_division, is_born, is_lot_among, is_right_sublot};
 ghost use Rattle.plant_check.specs.Lots.{are_in_lots, are_lots};
 
-use crate::ends::{EnteredPlaces, entries, total_booked};
+use crate::ends::{BySublotEntered, entries, total_booked};
+use grouped_rows::{Grouped, Grouping};
 use plant_base::{Definition, GREATEST_AMOUNT, Hold, Id, Lot, Sublot};
-use plant_check_groups::{Grouped, Grouping};
 use plant_check_plans::keys::{Definitions, has_definition};
 use plant_check_plans::numbered::are_numbered;
 use plant_check_stock::keys::Lots;
-use plant_tables_read::{BookedRow, MovementSort};
+use plant_tables_read::{BookedRow, MovementKindCode};
 use std::alloc::{AllocError, Global};
 
 /// Sublots by their lot.
@@ -75,13 +75,13 @@ fn are_in_lots(
     ensures { IfOk result (λ b. b ≡ are_in_lots lots.now sublots.now holds.now rows.now) }
 {
     let known = Grouped::<Lots>::new(alloc, lots)?;
-    let entered = Grouped::<EnteredPlaces>::new(alloc, rows)?;
+    let entered = Grouped::<BySublotEntered>::new(alloc, rows)?;
     Ok(are_within(&known, &entered, sublots, holds))
 }
 
 fn are_within(
     lots: &Grouped<Lots>,
-    entered: &Grouped<EnteredPlaces>,
+    entered: &Grouped<BySublotEntered>,
     sublots: &[Sublot],
     holds: &[Hold],
 ) -> bool
@@ -123,7 +123,7 @@ pub fn are_from_zero(sublots: &[Sublot]) -> bool
 
 fn are_right_sublots(
     lots: &Grouped<Lots>,
-    entered: &Grouped<EnteredPlaces>,
+    entered: &Grouped<BySublotEntered>,
     sublots: &[Sublot],
 ) -> bool
     ensures { result ≡ list_all (is_right_sublot lots.now.rows.now entered.now.rows.now) sublots.now }
@@ -132,14 +132,18 @@ fn are_right_sublots(
 }
 
 #[tactic(auto, unfolding(crate::specs::Lots::is_right_sublot))]
-fn is_right_sublot(lots: &Grouped<Lots>, entered: &Grouped<EnteredPlaces>, sublot: &Sublot) -> bool
+fn is_right_sublot(
+    lots: &Grouped<Lots>,
+    entered: &Grouped<BySublotEntered>,
+    sublot: &Sublot,
+) -> bool
     ensures { result ≡ is_right_sublot lots.now.rows.now entered.now.rows.now sublot.now }
 {
     has_lot(lots, sublot.lot) && is_born(entered, sublot)
 }
 
 /// Whether the sublot came to be: sublot 0 with its lot, each other one by one division.
-pub fn is_born(entered: &Grouped<EnteredPlaces>, sublot: &Sublot) -> bool
+pub fn is_born(entered: &Grouped<BySublotEntered>, sublot: &Sublot) -> bool
     ensures { result ≡ is_born entered.now.rows.now sublot.now }
 {
     let rows = entries(entered, sublot.lot, sublot.number);
@@ -170,18 +174,18 @@ fn are_of_one_birth(first: &BookedRow, rows: &[BookedRow]) -> bool
 fn is_of_one_birth(first: &BookedRow, row: &BookedRow) -> bool
     ensures { result ≡ is_of_one_birth first.now row.now }
 {
-    row.seq == first.seq && are_of_one_sort(first.sort, row.sort)
+    row.seq == first.seq && have_same_kind_code(first.kind_code, row.kind_code)
 }
 
 // Whether both are of one sort that makes a lot.
-fn are_of_one_sort(a: MovementSort, b: MovementSort) -> bool
-    ensures { result ≡ are_of_one_sort a b }
+fn have_same_kind_code(a: MovementKindCode, b: MovementKindCode) -> bool
+    ensures { result ≡ have_same_kind_code a b }
 {
     match a {
-        MovementSort::Received => matches!(b, MovementSort::Received),
-        MovementSort::Produced => matches!(b, MovementSort::Produced),
-        MovementSort::Split => matches!(b, MovementSort::Split),
-        MovementSort::Merged => matches!(b, MovementSort::Merged),
+        MovementKindCode::Received => matches!(b, MovementKindCode::Received),
+        MovementKindCode::Produced => matches!(b, MovementKindCode::Produced),
+        MovementKindCode::Split => matches!(b, MovementKindCode::Split),
+        MovementKindCode::Merged => matches!(b, MovementKindCode::Merged),
         _ => false,
     }
 }
@@ -190,7 +194,7 @@ fn is_one_division(rows: &[BookedRow]) -> bool
     ensures { result ≡ is_one_division rows.now }
 {
     match rows {
-        [row] => matches!(row.sort, MovementSort::Divided),
+        [row] => matches!(row.kind_code, MovementKindCode::Divided),
         _ => false,
     }
 }

@@ -1,7 +1,7 @@
 //! The recalls that rows of table recall tell of.
 
 ghost use Rattle.std.specs.Prelude.{◌≡◌, IfOk};
-ghost use Rattle.plant_check.specs.Broken.{are_fitting, recalls_told};
+ghost use Rattle.plant_check.specs.Broken.{are_fitting, recalls_read};
 
 use plant_base::Recall;
 use plant_tables_read::StatedRecall;
@@ -16,8 +16,8 @@ pub(crate) fn are_fitting(rows: &[StatedRecall]) -> bool
 
 /// The recalls of the rows that have them.
 /// The only error is that memory was refused.
-pub fn recalls_told(alloc: Global, rows: &[StatedRecall]) -> Result<Vec<Recall>, AllocError>
-    ensures { IfOk result (λ list. list.items ≡ recalls_told rows.now) }
+pub fn recalls_read(alloc: Global, rows: &[StatedRecall]) -> Result<Vec<Recall>, AllocError>
+    ensures { IfOk result (λ list. list.items ≡ recalls_read rows.now) }
 {
     rows.iter().filter_map(|r| r.recall()).collect(alloc)
 }

@@ -1,2 +1,2 @@
-pub mod Counting
-pub mod Keying
+pub mod CountedTwice
+pub mod KeyTests

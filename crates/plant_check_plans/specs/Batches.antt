@@ -11,7 +11,7 @@ use Rattle.plant_base.specs.declared.rows.Job.{Job}
 use Rattle.plant_base.specs.declared.rows.MasterLine.{MasterLine}
 use Rattle.plant_base.specs.declared.rows.Recipe.{Recipe}
 use Rattle.plant_base.specs.declared.rows.RecipeLine.{RecipeLine}
-use Rattle.plant_recipe.specs.Form.{is_well_formed}
+use Rattle.plant_recipe.specs.WellFormed.{is_well_formed}
 use Rattle.plant_recipe.specs.Control.{is_size_of, control_of}
 use Rattle.plant_view.specs.Production.{lines_among, control_among, job_among}
 use Rattle.plant_check_plans.specs.Orders.{recipe_among}
@@ -22,12 +22,12 @@ abbrev pub control_sized : Header → List RecipeLine → ℕ → Option (List R
 control_sized header lines size = if is_size_of header size then control_of header lines size else None
 
 -- the same of a recipe that is well formed
-abbrev pub control_where_formed : Header → List RecipeLine → ℕ → Option (List RecipeLine)
-control_where_formed header lines size = if is_well_formed header lines then control_sized header lines size else None
+abbrev pub control_if_well_formed : Header → List RecipeLine → ℕ → Option (List RecipeLine)
+control_if_well_formed header lines size = if is_well_formed header lines then control_sized header lines size else None
 
 abbrev pub control_of_found : List MasterLine → ℕ → Option Recipe → Option (List RecipeLine)
 control_of_found rows size None = None
-control_of_found rows size (Some r) = control_where_formed r.header (lines_among rows r.header.recipe r.header.version) size
+control_of_found rows size (Some r) = control_if_well_formed r.header (lines_among rows r.header.recipe r.header.version) size
 
 -- the control recipe that an order asks for, where the order and its recipe are there
 abbrev pub control_asked_for : List Recipe → List MasterLine → Option Job → Option (List RecipeLine)

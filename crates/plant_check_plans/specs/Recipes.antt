@@ -5,7 +5,7 @@ use Rattle.plant_base.specs.State.{same}
 use Rattle.plant_base.specs.declared.rows.Definition.{Definition}
 use Rattle.plant_base.specs.declared.rows.MasterLine.{MasterLine}
 use Rattle.plant_base.specs.declared.rows.Recipe.{Recipe}
-use Rattle.plant_recipe.specs.Form.{is_well_formed}
+use Rattle.plant_recipe.specs.WellFormed.{is_well_formed}
 use Rattle.plant_view.specs.Production.{is_defined, is_known, rows_among, lines_among}
 
 -- the numbers are k, k + 1 and so on

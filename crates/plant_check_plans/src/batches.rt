@@ -4,7 +4,7 @@ ghost use Rattle.std.specs.Prelude.{◌≡◌, IfOk, ◌&&◌, ◌==◌, map, le
 ghost use Rattle.std.specs.List.{list_all};
 ghost use Rattle.plant_base.specs.State.{same};
 ghost use Rattle.plant_view.specs.Production.{lines_among};
-ghost use Rattle.plant_check_plans.specs.Batches.{control_sized, control_where_formed, control_of_found};
+ghost use Rattle.plant_check_plans.specs.Batches.{control_sized, control_if_well_formed, control_of_found};
 ghost use Rattle.plant_check_plans.specs.Batches.{control_asked_for, is_control, is_row_among};
 ghost use Rattle.plant_check_plans.specs.Batches.{is_right_batch};
 ghost use Rattle.plant_check_plans.specs.Batches.{are_batches};
@@ -14,10 +14,10 @@ use crate::keys::{
     has_one_batch, job_at, lines_of, recipe_at,
 };
 use crate::numbered::are_numbered;
+use grouped_rows::Grouped;
 use plant_base::{
     Amount, BatchRow, ControlLine, Header, Items, Job, MasterLine, Recipe, RecipeLine,
 };
-use plant_check_groups::Grouped;
 use plant_recipe::{Master, RecipeFault, control, is_size_of};
 use plant_view::lines_in;
 use std::alloc::{AllocError, Global};
@@ -109,20 +109,20 @@ impl<'a> Plans<'a> {
             Some(recipe) => {
                 let header = recipe.header;
                 let rows = lines_of(&self.lines, header.recipe, header.version);
-                control_where_formed(alloc, header, lines_in(alloc, rows)?, size)
+                control_if_well_formed(alloc, header, lines_in(alloc, rows)?, size)
             }
         }
     }
 }
 
 // The control recipe of a well-formed recipe for one of its sizes.
-fn control_where_formed(
+fn control_if_well_formed(
     alloc: Global,
     header: Header,
     lines: Vec<RecipeLine>,
     size: Amount,
 ) -> Result<Option<Items<RecipeLine>>, AllocError>
-    ensures { IfOk result (λ c. c ≡ control_where_formed header lines.items size) }
+    ensures { IfOk result (λ c. c ≡ control_if_well_formed header lines.items size) }
 {
     match Master::check(header, lines) {
         Err(_) => Ok(None),

@@ -4,8 +4,8 @@ ghost use Rattle.std.specs.Prelude.{◌≡◌, IfOk};
 ghost use Rattle.plant_check_plans.specs.Catalogue.{are_classified};
 
 use crate::keys::{Classes, has_class};
+use grouped_rows::Grouped;
 use plant_base::{Class, Definition};
-use plant_check_groups::Grouped;
 use std::alloc::{AllocError, Global};
 
 /// Whether each definition's class is there. The only error is that memory was refused.

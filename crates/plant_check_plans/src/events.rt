@@ -2,15 +2,15 @@
 
 ghost use Rattle.std.specs.Prelude.{◌≡◌, IfOk, map, min, count_by, Result};
 ghost use Rattle.std.specs.List.{list_all};
-ghost use Rattle.plant_recipe.specs.Form.{is_phase};
+ghost use Rattle.plant_recipe.specs.WellFormed.{is_phase};
 ghost use Rattle.plant_recipe.specs.Progress.{greatest_phases, run_of};
 ghost use Rattle.plant_view.specs.Tables.{phases_among, events_among};
 ghost use Rattle.plant_check_plans.specs.Batches.{is_row_among};
 ghost use Rattle.plant_check_plans.specs.Events.{kept_progress, is_run, has_right_run, are_events};
 
 use crate::keys::{Batches, ControlLines, Events, control_of, events_of, has_batch};
+use grouped_rows::Grouped;
 use plant_base::{BatchEvent, BatchRow, ControlLine, Event, Id, Refusal};
-use plant_check_groups::Grouped;
 use plant_recipe::{GREATEST_PHASES, Progress, is_phase};
 use std::alloc::{AllocError, Global};
 
@@ -51,7 +51,7 @@ fn are_right(
     Ok(true)
 }
 
-#[tactic(auto, using(plant_recipe::proofs::Runs::run_capped), unfolding(crate::specs::Events::has_right_run))]
+#[tactic(auto, using(plant_recipe::proofs::EventFold::run_capped), unfolding(crate::specs::Events::has_right_run))]
 fn is_right(
     alloc: Global,
     controls: &Grouped<ControlLines>,
@@ -96,7 +96,7 @@ pub fn kept_progress(batch: &BatchRow) -> Progress
 }
 
 /// How many phases the control recipe of a batch has, as far as a progress counts them.
-#[tactic(auto, using(crate::proofs::Counting::counted_among))]
+#[tactic(auto, using(crate::proofs::CountedTwice::counted_among))]
 pub fn phases_of(controls: &Grouped<ControlLines>, batch: Id) -> u8
     ensures { result ≡ min (phases_among controls.now.rows.now batch) greatest_phases }
 {

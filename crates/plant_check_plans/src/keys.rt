@@ -8,10 +8,10 @@ ghost use Rattle.plant_check_plans.specs.Recipes.{is_recipe_among};
 ghost use Rattle.plant_check_plans.specs.Orders.{recipe_among, row_of_order};
 ghost use Rattle.plant_check_plans.specs.Batches.{is_row_among};
 
+use grouped_rows::{Grouped, Grouping};
 use plant_base::{
     BatchEvent, BatchRow, Class, ControlLine, Definition, Id, Job, MasterLine, Recipe,
 };
-use plant_check_groups::{Grouped, Grouping};
 
 /// Classes by their id.
 pub struct Classes;

@@ -5,8 +5,8 @@ ghost use Rattle.plant_check_plans.specs.Orders.{is_left_open, is_closed, is_sta
 ghost use Rattle.plant_check_plans.specs.Orders.{is_right_order, are_orders};
 
 use crate::keys::{BatchesOfOrders, Recipes, batch_of, recipe_at};
+use grouped_rows::Grouped;
 use plant_base::{BatchRow, Job, JobState, Recipe};
-use plant_check_groups::Grouped;
 use plant_view::is_size_of_recipe;
 use std::alloc::{AllocError, Global};
 

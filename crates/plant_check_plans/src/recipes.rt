@@ -2,15 +2,15 @@
 
 ghost use Rattle.std.specs.Prelude.{◌≡◌, IfOk, ◌&&◌, map};
 ghost use Rattle.std.specs.List.{list_all};
-ghost use Rattle.plant_recipe.specs.Form.{is_well_formed};
+ghost use Rattle.plant_recipe.specs.WellFormed.{is_well_formed};
 ghost use Rattle.plant_view.specs.Production.{is_defined, is_known};
 ghost use Rattle.plant_check_plans.specs.Recipes.{are_numbered, is_whole_recipe, is_recipe_among};
 ghost use Rattle.plant_check_plans.specs.Recipes.{are_recipes};
 
 use crate::keys::{Definitions, RecipeLines, Recipes, has_definition, has_recipe, lines_of};
 use crate::numbered::are_numbered;
+use grouped_rows::Grouped;
 use plant_base::{Definition, Header, MasterLine, Recipe, RecipeLine};
-use plant_check_groups::Grouped;
 use plant_recipe::is_well_formed;
 use plant_view::lines_in;
 use std::alloc::{AllocError, Global};

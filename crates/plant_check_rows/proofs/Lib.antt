@@ -1,3 +1,3 @@
-pub mod Exactly
-pub mod Obeyed
-pub mod FirstFound
+pub mod FaultIfBroken
+pub mod FoundIfDisobeyed
+pub mod FirstFoundIsFirstBroken

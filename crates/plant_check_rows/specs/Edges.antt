@@ -8,7 +8,7 @@ use Rattle.plant_base.specs.declared.rows.Movement.{Movement}
 use Rattle.plant_view.specs.Genealogy.{edge_row_of}
 use Rattle.plant_view.specs.Tables.{edges_in}
 use Rattle.plant_check_rows.specs.Keys.{edge_key}
-use Rattle.plant_check_rows.specs.First.{as_a_whole, told_unless, or_told, first_told}
+use Rattle.plant_check_rows.specs.First.{as_a_whole, fault_unless, or_fault, first_reported}
 use Rattle.plant_check_rows.specs.declared.fault.RowFault.{RowFault}
 use Rattle.plant_check_rows.specs.declared.fault.Table.TheVariants as table
 use Rattle.plant_check_rows.specs.declared.fault.Found.TheVariants as found
@@ -19,12 +19,12 @@ is_edge_among edges e = list_any (λ d. is_eq (edge_order d e)) edges
 
 -- the edge, where it is none of these
 abbrev pub stray_edge_fault : List EdgeRow → EdgeRow → Option RowFault
-stray_edge_fault made e = told_unless (is_edge_among made e) (as_a_whole (table.Edge, edge_key e) wanted.NoRow)
+stray_edge_fault made e = fault_unless (is_edge_among made e) (as_a_whole (table.Edge, edge_key e) wanted.NoRow)
 
 -- the edge that a movement makes, where it isn't there in a schema that keeps edges
 abbrev pub missing_edge : ℕ → List EdgeRow → Movement → Option EdgeRow → Option RowFault
 missing_edge schema rows m None = None
-missing_edge schema rows m (Some e) = told_unless (nat_lt schema 2 || is_edge_among rows e) (record {
+missing_edge schema rows m (Some e) = fault_unless (nat_lt schema 2 || is_edge_among rows e) (record {
   table = table.Edge;
   key = edge_key e;
   column = None;
@@ -37,4 +37,4 @@ missing_edge_fault schema rows m = missing_edge schema rows m (edge_row_of m)
 
 -- the first edge that no movement makes, or else the first that a movement makes and that isn't there
 abbrev pub edge_fault_in : ℕ → List EdgeRow → List Movement → Option RowFault
-edge_fault_in schema rows ms = or_told (first_told (stray_edge_fault (edges_in schema ms)) rows) (first_told (missing_edge_fault schema rows) ms)
+edge_fault_in schema rows ms = or_fault (first_reported (stray_edge_fault (edges_in schema ms)) rows) (first_reported (missing_edge_fault schema rows) ms)

@@ -14,7 +14,7 @@ use Rattle.plant_check_rows.specs.Keys.{id_key, number_key}
 use Rattle.plant_check_rows.specs.declared.fault.Column.{Column}
 use Rattle.plant_check_rows.specs.declared.fault.Found.{Found}
 use Rattle.plant_check_rows.specs.declared.fault.Wanted.{Wanted}
-use Rattle.plant_check_rows.specs.First.{in_column, names_none, told_unless, or_told, first_told}
+use Rattle.plant_check_rows.specs.First.{in_column, names_none, fault_unless, or_fault, first_reported}
 use Rattle.plant_check_rows.specs.declared.fault.RowFault.{RowFault}
 use Rattle.plant_check_rows.specs.declared.fault.Table.TheVariants as table
 use Rattle.plant_check_rows.specs.declared.fault.Column.TheVariants as column
@@ -48,19 +48,19 @@ progress_fault p b =
     else batch_as b column.State (found.State b.state) (wanted.State p.state)))
 
 -- the batch, where one of its events was refused, or it has come elsewhere than they lead to
-abbrev pub run_told : Result Progress Refusal → BatchRow → Option RowFault
-run_told (Err refusal) b = Some (refused_event b refusal)
-run_told (Ok p) b = told_unless (equal.eq p (kept_progress b)) (progress_fault p b)
+abbrev pub run_found : Result Progress Refusal → BatchRow → Option RowFault
+run_found (Err refusal) b = Some (refused_event b refusal)
+run_found (Ok p) b = fault_unless (equal.eq p (kept_progress b)) (progress_fault p b)
 
 abbrev pub run_fault : List ControlLine → List BatchEvent → BatchRow → Option RowFault
-run_fault control events b = run_told (run_of (phases_among control b.batch.id) (events_among events b.batch.id)) b
+run_fault control events b = run_found (run_of (phases_among control b.batch.id) (events_among events b.batch.id)) b
 
 abbrev pub stray_event : BatchEvent → RowFault
 stray_event e = names_none (table.BatchEvent, number_key e.seq) column.Batch e.batch table.Batch
 
 -- the event, where its batch isn't there
 abbrev pub event_fault : List BatchRow → BatchEvent → Option RowFault
-event_fault batches e = told_unless (is_row_among batches e.batch) (stray_event e)
+event_fault batches e = fault_unless (is_row_among batches e.batch) (stray_event e)
 
 abbrev pub event_fault_in : List ControlLine → List BatchEvent → List BatchRow → Option RowFault
-event_fault_in control events batches = or_told (first_told (run_fault control events) batches) (first_told (event_fault batches) events)
+event_fault_in control events batches = or_fault (first_reported (run_fault control events) batches) (first_reported (event_fault batches) events)

@@ -13,12 +13,12 @@ use Rattle.plant_check_plans.specs.Events.{are_events}
 use Rattle.plant_check_plans.specs.Orders.{are_orders}
 use Rattle.plant_check_plans.specs.Recipes.{are_recipes}
 use Rattle.plant_check_stock.specs.Receipts.{are_receipts}
-use Rattle.plant_check.specs.Broken.{movements_in, recalls_told, are_right_movements, are_right_numbers, are_right_edges, are_right_recalls, first_broken}
+use Rattle.plant_check.specs.Broken.{movements_in, recalls_read, are_right_movements, are_right_numbers, are_right_edges, are_right_recalls, first_broken}
 use Rattle.plant_check.specs.Ends.{are_stocks}
 use Rattle.plant_check.specs.Lots.{are_lots}
 use Rattle.plant_check.specs.declared.rule.Rule.{Rule}
 use Rattle.plant_check.specs.declared.rule.Rule.TheVariants as rule
-use Rattle.plant_check_rows.specs.First.{or_told}
+use Rattle.plant_check_rows.specs.First.{or_fault}
 use Rattle.plant_check_rows.specs.Edges.{edge_fault_in}
 use Rattle.plant_check_rows.specs.Events.{event_fault_in}
 use Rattle.plant_check_rows.specs.Lots.{lot_fault_in}
@@ -88,19 +88,19 @@ found_by_row broken (Some f) = Some (record { rule = broken; row = Some f })
 
 -- the rule, where it isn't obeyed, with the row where one is told
 abbrev pub found_by_test : Rule → Bool → Option RowFault → Option Finding
-found_by_test broken true told = None
-found_by_test broken false told = Some (record { rule = broken; row = told })
+found_by_test broken true reported = None
+found_by_test broken false reported = Some (record { rule = broken; row = reported })
 
 -- the row that breaks the rule of numbers and moments
 abbrev pub numbered_fault_in : Rows → List Movement → Option RowFault
 numbered_fault_in r ms =
-    or_told (number_fault_in r.meta.position.seq r.events ms)
-    (or_told (late_fault_in r.meta.position.at ms r.events r.batches r.holds)
-    (or_told (fall_fault_in 0 ms) (event_fall_fault_in 0 r.events)))
+    or_fault (number_fault_in r.meta.position.seq r.events ms)
+    (or_fault (late_fault_in r.meta.position.at ms r.events r.batches r.holds)
+    (or_fault (fall_fault_in 0 ms) (event_fall_fault_in 0 r.events)))
 
 -- the row that breaks the rule of recalls, or the mark that breaks it
 abbrev pub recalled_fault_in : Rows → List Recall → List Movement → Option RowFault
-recalled_fault_in r recalls ms = or_told (recall_fault_in r.meta.position.at r.recalls r.lots recalls) (mark_fault_in recalls ms r.marks)
+recalled_fault_in r recalls ms = or_fault (recall_fault_in r.meta.position.at r.recalls r.lots recalls) (mark_fault_in recalls ms r.marks)
 
 -- what is found of a rule
 abbrev pub finding_of : Rule → Rows → List Movement → Option Finding
@@ -117,7 +117,7 @@ finding_of rule.Events r ms = found_by_row rule.Events (event_fault_in r.control
 finding_of rule.Numbers r ms = found_by_test rule.Numbers (are_right_numbers r ms) (numbered_fault_in r ms)
 finding_of rule.Descent r ms = found_by_test rule.Descent (are_right_edges r ms) (edge_fault_in r.meta.schema r.edges ms)
 finding_of rule.Receipts r ms = found_by_test rule.Receipts (are_receipts r.meta.position.seq r.receipts) (receipt_fault_in r.meta.position.seq r.receipts)
-finding_of rule.Recalls r ms = found_by_test rule.Recalls (are_right_recalls r) (recalled_fault_in r (recalls_told r.recalls) ms)
+finding_of rule.Recalls r ms = found_by_test rule.Recalls (are_right_recalls r) (recalled_fault_in r (recalls_read r.recalls) ms)
 
 -- something is found of the rule
 abbrev pub is_broken : Rule → Rows → List Movement → Bool
@@ -140,13 +140,13 @@ head (t ∷ ts) = Some t
 -- what is found of rows is so: it is the first rule, the second, or each other that they break
 abbrev pub AreFindingsOf : Loaded → Findings → Type 0
 AreFindingsOf x findings.NoMeta = is_some (only_meta (contents_loaded x 0)) ≡ false
-AreFindingsOf x (findings.Values told) = (is_some (only_meta (contents_loaded x 0)) ≡ true) × (rows_from x ≡ None) × (told ≡ value_fault_in x)
+AreFindingsOf x (findings.Values reported) = (is_some (only_meta (contents_loaded x 0)) ≡ true) × (rows_from x ≡ None) × (reported ≡ value_fault_in x)
 AreFindingsOf x (findings.Rows t) = (is_some (only_meta (contents_loaded x 0)) ≡ true) × (rows_from x ≡ Some (rows_listed t.rows)) × IsTestOf t.rows t
 
 -- the first rule that is found
 abbrev pub first_rule : Findings → Option Rule
 first_rule findings.NoMeta = Some rule.Tables
-first_rule (findings.Values told) = Some rule.Values
+first_rule (findings.Values reported) = Some rule.Values
 first_rule (findings.Rows t) = head t.rules.items
 
 -- ---- laws

@@ -8,7 +8,7 @@ use Rattle.plant_view.specs.Production.{is_defined}
 use Rattle.plant_tables_columns.specs.declared.booked.BookedRow.{BookedRow}
 use Rattle.plant_check.specs.Lots.{are_from_zero, sublots_among, is_lot_among, is_born}
 use Rattle.plant_check_rows.specs.Keys.{id_key, sublot_key, hold_key}
-use Rattle.plant_check_rows.specs.First.{names_none, as_a_whole, told_unless, or_told, first_told}
+use Rattle.plant_check_rows.specs.First.{names_none, as_a_whole, fault_unless, or_fault, first_reported}
 use Rattle.plant_check_rows.specs.declared.fault.RowFault.{RowFault}
 use Rattle.plant_check_rows.specs.declared.fault.Table.TheVariants as table
 use Rattle.plant_check_rows.specs.declared.fault.Column.TheVariants as column
@@ -23,8 +23,8 @@ unnumbered_lot l = as_a_whole (table.Lot, id_key l.id) (wanted.NumberedFrom tabl
 -- the lot, where its definition isn't there, or its sublots aren't numbered from 0 on
 abbrev pub lot_fault : List Definition → List Sublot → Lot → Option RowFault
 lot_fault definitions sublots l =
-    or_told (told_unless (is_defined definitions l.def) (undefined_lot l))
-    (told_unless (are_from_zero (map (λ s. s.number) (sublots_among sublots l.id))) (unnumbered_lot l))
+    or_fault (fault_unless (is_defined definitions l.def) (undefined_lot l))
+    (fault_unless (are_from_zero (map (λ s. s.number) (sublots_among sublots l.id))) (unnumbered_lot l))
 
 abbrev pub stray_sublot : Sublot → RowFault
 stray_sublot s = names_none (table.Sublot, sublot_key s) column.Lot s.lot table.Lot
@@ -34,16 +34,16 @@ unborn_sublot s = as_a_whole (table.Sublot, sublot_key s) wanted.Birth
 
 -- the sublot, where its lot isn't there, or it didn't come to be once
 abbrev pub sublot_fault : List Lot → List BookedRow → Sublot → Option RowFault
-sublot_fault lots rows s = or_told (told_unless (is_lot_among lots s.lot) (stray_sublot s)) (told_unless (is_born rows s) (unborn_sublot s))
+sublot_fault lots rows s = or_fault (fault_unless (is_lot_among lots s.lot) (stray_sublot s)) (fault_unless (is_born rows s) (unborn_sublot s))
 
 abbrev pub stray_hold : Hold → RowFault
 stray_hold h = names_none (table.Hold, hold_key h) column.Lot h.lot table.Lot
 
 -- the hold, where its lot isn't there
 abbrev pub hold_fault : List Lot → Hold → Option RowFault
-hold_fault lots h = told_unless (is_lot_among lots h.lot) (stray_hold h)
+hold_fault lots h = fault_unless (is_lot_among lots h.lot) (stray_hold h)
 
 abbrev pub lot_fault_in : List Definition → List Lot → List Sublot → List Hold → List BookedRow → Option RowFault
 lot_fault_in definitions lots sublots holds rows =
-    or_told (first_told (lot_fault definitions sublots) lots)
-    (or_told (first_told (sublot_fault lots rows) sublots) (first_told (hold_fault lots) holds))
+    or_fault (first_reported (lot_fault definitions sublots) lots)
+    (or_fault (first_reported (sublot_fault lots rows) sublots) (first_reported (hold_fault lots) holds))

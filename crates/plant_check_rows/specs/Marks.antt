@@ -9,7 +9,7 @@ use Rattle.plant_base.specs.declared.rows.Recall.{Recall}
 use Rattle.plant_view.specs.Genealogy.{edges_among}
 use Rattle.plant_view.specs.Recalls.{marks}
 use Rattle.plant_check_rows.specs.Keys.{mark_key}
-use Rattle.plant_check_rows.specs.First.{told_unless, or_told, first_told}
+use Rattle.plant_check_rows.specs.First.{fault_unless, or_fault, first_reported}
 use Rattle.plant_check_rows.specs.declared.fault.Found.{Found}
 use Rattle.plant_check_rows.specs.declared.fault.RowFault.{RowFault}
 use Rattle.plant_check_rows.specs.declared.fault.Wanted.{Wanted}
@@ -22,7 +22,7 @@ is_mark_among among m = list_any (λ d. is_eq (mark_order d m)) among
 
 -- the mark, where it is none of these: this stands there, and that is wanted
 abbrev pub mark_fault : Found → Wanted → List Mark → Mark → Option RowFault
-mark_fault f w among m = told_unless (is_mark_among among m) (record {
+mark_fault f w among m = fault_unless (is_mark_among among m) (record {
   table = table.Mark;
   key = mark_key m;
   column = None;
@@ -32,7 +32,7 @@ mark_fault f w among m = told_unless (is_mark_among among m) (record {
 
 -- the first of the rows that marks what no open recall reaches, or else the first mark that isn't among them
 abbrev pub mark_fault_among : List Mark → List Mark → Option RowFault
-mark_fault_among reached rows = or_told (first_told (mark_fault found.Row wanted.NoRow reached) rows) (first_told (mark_fault found.Nothing wanted.Mark rows) reached)
+mark_fault_among reached rows = or_fault (first_reported (mark_fault found.Row wanted.NoRow reached) rows) (first_reported (mark_fault found.Nothing wanted.Mark rows) reached)
 
 abbrev pub mark_fault_in : List Recall → List Movement → List Mark → Option RowFault
 mark_fault_in recalls movements rows = mark_fault_among (marks recalls (edges_among movements)) rows

@@ -14,7 +14,7 @@ use Rattle.plant_check_rows.specs.Keys.{booked_key}
 use Rattle.plant_check_rows.specs.declared.fault.Column.{Column}
 use Rattle.plant_check_rows.specs.declared.fault.Found.{Found}
 use Rattle.plant_check_rows.specs.declared.fault.Wanted.{Wanted}
-use Rattle.plant_check_rows.specs.First.{in_column, told_unless, or_told, first_told}
+use Rattle.plant_check_rows.specs.First.{in_column, fault_unless, or_fault, first_reported}
 use Rattle.plant_check_rows.specs.declared.fault.RowFault.{RowFault}
 use Rattle.plant_check_rows.specs.declared.fault.Table.TheVariants as table
 use Rattle.plant_check_rows.specs.declared.fault.Column.TheVariants as column
@@ -22,11 +22,11 @@ use Rattle.plant_check_rows.specs.declared.fault.Found.TheVariants as found
 use Rattle.plant_check_rows.specs.declared.fault.Wanted.TheVariants as wanted
 
 abbrev pub wrong_columns : BookedRow → RowFault
-wrong_columns r = in_column (table.Movement, booked_key r.seq r.line) column.Kind (found.Sort r.sort) wanted.Columns
+wrong_columns r = in_column (table.Movement, booked_key r.seq r.line) column.Kind (found.Sort r.kind_code) wanted.Columns
 
 -- the row, where its columns aren't those of its kind
 abbrev pub kind_fault : BookedRow → Option RowFault
-kind_fault r = told_unless (is_some (movement_from r)) (wrong_columns r)
+kind_fault r = fault_unless (is_some (movement_from r)) (wrong_columns r)
 
 -- the movement, where this stands in a column, or in the row as a whole, and that is wanted
 abbrev pub movement_as : Movement → Option Column → Found → Wanted → RowFault
@@ -60,26 +60,26 @@ wrong_merge m = movement_as m None found.Row wanted.Parts
 
 -- the movement, where the sublot that it brings its amount to isn't there
 abbrev pub target_fault : List Sublot → Movement → Option RowFault
-target_fault sublots m = told_unless (is_there sublots (goes_to m.kind m.lot m.sub)) (no_target m)
+target_fault sublots m = fault_unless (is_there sublots (goes_to m.kind m.lot m.sub)) (no_target m)
 
 -- the same of the one that it takes it from
 abbrev pub source_fault : List Sublot → Movement → Option RowFault
-source_fault sublots m = told_unless (is_there sublots (comes_from m.kind m.lot m.sub)) (no_source m)
+source_fault sublots m = fault_unless (is_there sublots (comes_from m.kind m.lot m.sub)) (no_source m)
 
 -- and of the batch that it names
 abbrev pub batch_named_fault : List BatchRow → Movement → Option RowFault
-batch_named_fault batches m = told_unless (is_batch_there batches (batch_by m.kind)) (no_batch m)
+batch_named_fault batches m = fault_unless (is_batch_there batches (batch_by m.kind)) (no_batch m)
 
 -- the movement, where a sublot or the batch that it names isn't there
 abbrev pub naming_fault : List Sublot → List BatchRow → Movement → Option RowFault
-naming_fault sublots batches m = or_told (target_fault sublots m) (or_told (source_fault sublots m) (batch_named_fault batches m))
+naming_fault sublots batches m = or_fault (target_fault sublots m) (or_fault (source_fault sublots m) (batch_named_fault batches m))
 
 abbrev pub movement_fault : List Lot → List Sublot → List BatchRow → List ControlLine → List Movement → Movement → Option RowFault
 movement_fault lots sublots batches control ms m =
-    or_told (naming_fault sublots batches m)
-    (or_told (told_unless (is_of_right_definition lots control m.kind m.lot) (other_definition m))
-    (told_unless (is_of_right_merge ms m) (wrong_merge m)))
+    or_fault (naming_fault sublots batches m)
+    (or_fault (fault_unless (is_of_right_definition lots control m.kind m.lot) (other_definition m))
+    (fault_unless (is_of_right_merge ms m) (wrong_merge m)))
 
 -- the first row whose columns aren't those of its kind, or else the first movement that breaks its rule
 abbrev pub movement_fault_in : List BookedRow → List Lot → List Sublot → List BatchRow → List ControlLine → List Movement → Option RowFault
-movement_fault_in rows lots sublots batches control ms = or_told (first_told kind_fault rows) (first_told (movement_fault lots sublots batches control ms) ms)
+movement_fault_in rows lots sublots batches control ms = or_fault (first_reported kind_fault rows) (first_reported (movement_fault lots sublots batches control ms) ms)

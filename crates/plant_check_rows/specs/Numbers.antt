@@ -13,7 +13,7 @@ use Rattle.plant_check_rows.specs.declared.fault.Found.{Found}
 use Rattle.plant_check_rows.specs.declared.fault.Key.{Key}
 use Rattle.plant_check_rows.specs.declared.fault.Table.{Table}
 use Rattle.plant_check_rows.specs.declared.fault.Wanted.{Wanted}
-use Rattle.plant_check_rows.specs.First.{in_column, told_unless, or_told, first_told}
+use Rattle.plant_check_rows.specs.First.{in_column, fault_unless, or_fault, first_reported}
 use Rattle.plant_check_rows.specs.declared.fault.RowFault.{RowFault}
 use Rattle.plant_check_rows.specs.declared.fault.Table.TheVariants as table
 use Rattle.plant_check_rows.specs.declared.fault.Column.TheVariants as column
@@ -24,12 +24,12 @@ use Rattle.plant_check_rows.specs.declared.fault.Wanted.TheVariants as wanted
 
 -- the movement, where it isn't the next line behind the one before it
 abbrev pub line_fault : Option Movement → Movement → Option RowFault
-line_fault before m = told_unless (is_next_line before m) (movement_as m (Some column.Line) (found.Number m.line) wanted.NextLine)
+line_fault before m = fault_unless (is_next_line before m) (movement_as m (Some column.Line) (found.Number m.line) wanted.NextLine)
 
 -- the first of them
 abbrev pub line_fault_in : Option Movement → List Movement → Option RowFault
 line_fault_in before [] = None
-line_fault_in before (m ∷ ms) = or_told (line_fault before m) (line_fault_in (Some m) ms)
+line_fault_in before (m ∷ ms) = or_fault (line_fault before m) (line_fault_in (Some m) ms)
 
 -- the movement, where another number is wanted
 abbrev pub number_as : Movement → Wanted → RowFault
@@ -38,9 +38,9 @@ number_as m w = movement_as m (Some column.Seq) (found.Number m.seq) w
 -- the movement, where its number wasn't given, is that of an event, or isn't above those of what entered its sublot
 abbrev pub number_fault : ℕ → List BatchEvent → List Movement → Movement → Option RowFault
 number_fault greatest events ms m =
-    or_told (told_unless (is_given greatest m.seq) (number_as m (wanted.Given greatest)))
-    (or_told (told_unless (is_apart events m) (number_as m wanted.Apart))
-    (told_unless (is_entered_before ms m.seq (comes_from m.kind m.lot m.sub)) (number_as m wanted.Later)))
+    or_fault (fault_unless (is_given greatest m.seq) (number_as m (wanted.Given greatest)))
+    (or_fault (fault_unless (is_apart events m) (number_as m wanted.Apart))
+    (fault_unless (is_entered_before ms m.seq (comes_from m.kind m.lot m.sub)) (number_as m wanted.Later)))
 
 -- the event, where this stands in a column and that is wanted
 abbrev pub event_as : BatchEvent → Column → Found → Wanted → RowFault
@@ -48,18 +48,18 @@ event_as e c f w = in_column (table.BatchEvent, number_key e.seq) c f w
 
 -- the event, where its number wasn't given
 abbrev pub given_fault : ℕ → BatchEvent → Option RowFault
-given_fault greatest e = told_unless (is_given greatest e.seq) (event_as e column.Seq (found.Number e.seq) (wanted.Given greatest))
+given_fault greatest e = fault_unless (is_given greatest e.seq) (event_as e column.Seq (found.Number e.seq) (wanted.Given greatest))
 
 abbrev pub number_fault_in : ℕ → List BatchEvent → List Movement → Option RowFault
 number_fault_in greatest events ms =
-    or_told (line_fault_in None ms)
-    (or_told (first_told (number_fault greatest events ms) ms) (first_told (given_fault greatest) events))
+    or_fault (line_fault_in None ms)
+    (or_fault (first_reported (number_fault greatest events ms) ms) (first_reported (given_fault greatest) events))
 
 -- ---- moments
 
 -- the row of the table, where its moment is later than the desk's
 abbrev pub moment_fault : ℕ → Table → Key → ℕ → Option RowFault
-moment_fault at t k moment = told_unless (nat_le moment at) (in_column (t, k) column.At (found.Number moment) (wanted.NotAfter at))
+moment_fault at t k moment = fault_unless (nat_le moment at) (in_column (t, k) column.At (found.Number moment) (wanted.NotAfter at))
 
 abbrev pub late_movement : ℕ → Movement → Option RowFault
 late_movement at m = moment_fault at table.Movement (booked_key m.seq m.line) m.at
@@ -76,25 +76,25 @@ late_hold at h = moment_fault at table.Hold (hold_key h) h.at
 -- the first movement, event, batch or hold that is later than the desk's moment
 abbrev pub late_fault_in : ℕ → List Movement → List BatchEvent → List BatchRow → List Hold → Option RowFault
 late_fault_in at ms es batches holds =
-    or_told (first_told (late_movement at) ms)
-    (or_told (first_told (late_event at) es)
-    (or_told (first_told (late_batch at) batches) (first_told (late_hold at) holds)))
+    or_fault (first_reported (late_movement at) ms)
+    (or_fault (first_reported (late_event at) es)
+    (or_fault (first_reported (late_batch at) batches) (first_reported (late_hold at) holds)))
 
 -- ---- moments that fall
 
 -- the movement, where it is earlier than this moment, which stands with a lower number
 abbrev pub fall_fault : ℕ → Movement → Option RowFault
-fall_fault latest m = told_unless (nat_le latest m.at) (movement_as m (Some column.At) (found.Number m.at) (wanted.NotBefore latest))
+fall_fault latest m = fault_unless (nat_le latest m.at) (movement_as m (Some column.At) (found.Number m.at) (wanted.NotBefore latest))
 
 -- the first movement that is earlier than the one before it
 abbrev pub fall_fault_in : ℕ → List Movement → Option RowFault
 fall_fault_in latest [] = None
-fall_fault_in latest (m ∷ ms) = or_told (fall_fault latest m) (fall_fault_in m.at ms)
+fall_fault_in latest (m ∷ ms) = or_fault (fall_fault latest m) (fall_fault_in m.at ms)
 
 abbrev pub event_fall_fault : ℕ → BatchEvent → Option RowFault
-event_fall_fault latest e = told_unless (nat_le latest e.at) (event_as e column.At (found.Number e.at) (wanted.NotBefore latest))
+event_fall_fault latest e = fault_unless (nat_le latest e.at) (event_as e column.At (found.Number e.at) (wanted.NotBefore latest))
 
 -- the first event that is earlier than the one before it
 abbrev pub event_fall_fault_in : ℕ → List BatchEvent → Option RowFault
 event_fall_fault_in latest [] = None
-event_fall_fault_in latest (e ∷ es) = or_told (event_fall_fault latest e) (event_fall_fault_in e.at es)
+event_fall_fault_in latest (e ∷ es) = or_fault (event_fall_fault latest e) (event_fall_fault_in e.at es)

@@ -2,7 +2,7 @@
 use Rattle.std.specs.Prelude.{ℕ, List, Option, is_some}
 use Rattle.plant_base.specs.declared.rows.Lot.{Lot}
 use Rattle.plant_base.specs.declared.rows.Recall.{Recall}
-use Rattle.plant_tables_columns.specs.Stated.{recall_from}
+use Rattle.plant_tables_columns.specs.StatedRecalls.{recall_from}
 use Rattle.plant_tables_columns.specs.declared.recalls.StatedRecall.{StatedRecall}
 use Rattle.plant_check_stock.specs.Movements.{lot_among}
 use Rattle.plant_check_stock.specs.Recalls.{is_timely}
@@ -10,7 +10,7 @@ use Rattle.plant_check_rows.specs.Keys.{id_key}
 use Rattle.plant_check_rows.specs.declared.fault.Column.{Column}
 use Rattle.plant_check_rows.specs.declared.fault.Found.{Found}
 use Rattle.plant_check_rows.specs.declared.fault.Wanted.{Wanted}
-use Rattle.plant_check_rows.specs.First.{in_column, told_unless, or_told, first_told}
+use Rattle.plant_check_rows.specs.First.{in_column, fault_unless, or_fault, first_reported}
 use Rattle.plant_check_rows.specs.declared.fault.RowFault.{RowFault}
 use Rattle.plant_check_rows.specs.declared.fault.Table.TheVariants as table
 use Rattle.plant_check_rows.specs.declared.fault.Column.TheVariants as column
@@ -23,7 +23,7 @@ recall_as id c f w = in_column (table.Recall, id_key id) c f w
 
 -- the row, where the columns of its lifting aren't those of its state
 abbrev pub lifting_fault : StatedRecall → Option RowFault
-lifting_fault r = told_unless (is_some (recall_from r)) (recall_as r.id column.State found.Row wanted.Columns)
+lifting_fault r = fault_unless (is_some (recall_from r)) (recall_as r.id column.State found.Row wanted.Columns)
 
 -- the recall, by its own moment, where its moments don't fit
 abbrev pub untimely : Recall → RowFault
@@ -32,9 +32,9 @@ untimely r = recall_as r.id column.At (found.Number r.at) wanted.Between
 -- the recall, where its lot isn't there, or its moments don't fit
 abbrev pub recall_fault : ℕ → List Lot → Recall → Option RowFault
 recall_fault at lots r =
-    or_told (told_unless (is_some (lot_among lots r.lot)) (recall_as r.id column.Lot (found.Id r.lot) (wanted.Key table.Lot)))
-    (told_unless (is_timely at r) (untimely r))
+    or_fault (fault_unless (is_some (lot_among lots r.lot)) (recall_as r.id column.Lot (found.Id r.lot) (wanted.Key table.Lot)))
+    (fault_unless (is_timely at r) (untimely r))
 
 -- the first row whose columns aren't those of its state, or else the first recall that breaks its rule
 abbrev pub recall_fault_in : ℕ → List StatedRecall → List Lot → List Recall → Option RowFault
-recall_fault_in at rows lots recalls = or_told (first_told lifting_fault rows) (first_told (recall_fault at lots) recalls)
+recall_fault_in at rows lots recalls = or_fault (first_reported lifting_fault rows) (first_reported (recall_fault at lots) recalls)

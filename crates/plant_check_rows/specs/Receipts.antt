@@ -5,7 +5,7 @@ use Rattle.plant_base.specs.declared.rows.Receipt.{Receipt}
 use Rattle.plant_check_stock.specs.Numbering.{is_given}
 use Rattle.plant_check_stock.specs.Receipts.{seqs_of}
 use Rattle.plant_check_rows.specs.Keys.{id_key}
-use Rattle.plant_check_rows.specs.First.{in_column, told_unless, or_told, first_told}
+use Rattle.plant_check_rows.specs.First.{in_column, fault_unless, or_fault, first_reported}
 use Rattle.plant_check_rows.specs.declared.fault.Column.{Column}
 use Rattle.plant_check_rows.specs.declared.fault.Found.{Found}
 use Rattle.plant_check_rows.specs.declared.fault.Wanted.{Wanted}
@@ -22,9 +22,9 @@ receipt_as r c f w = in_column (table.Receipt, id_key r.reference) c f w
 -- the receipt, where its number wasn't given, its content isn't made of what contents are made of, or its number isn't once among these
 abbrev pub receipt_fault : ℕ → List ℕ → Receipt → Option RowFault
 receipt_fault greatest seqs r =
-    or_told (told_unless (is_given greatest r.seq) (receipt_as r column.Seq (found.Number r.seq) (wanted.Given greatest)))
-    (or_told (told_unless (is_content r.content) (receipt_as r column.Content found.Row wanted.Content))
-    (told_unless (length (filter (λ n. n == r.seq) seqs) == 1) (receipt_as r column.Seq (found.Number r.seq) wanted.OwnNumber)))
+    or_fault (fault_unless (is_given greatest r.seq) (receipt_as r column.Seq (found.Number r.seq) (wanted.Given greatest)))
+    (or_fault (fault_unless (is_content r.content) (receipt_as r column.Content found.Row wanted.Content))
+    (fault_unless (length (filter (λ n. n == r.seq) seqs) == 1) (receipt_as r column.Seq (found.Number r.seq) wanted.OwnNumber)))
 
 abbrev pub receipt_fault_in : ℕ → List Receipt → Option RowFault
-receipt_fault_in greatest rs = first_told (receipt_fault greatest (seqs_of rs)) rs
+receipt_fault_in greatest rs = first_reported (receipt_fault greatest (seqs_of rs)) rs

@@ -3,7 +3,7 @@ use Rattle.std.specs.Prelude.{ℕ, ◌+◌, ◌==◌, List, Option}
 use Rattle.plant_base.specs.declared.rows.Sublot.{Sublot}
 use Rattle.plant_tables_columns.specs.declared.booked.BookedRow.{BookedRow}
 use Rattle.plant_check.specs.Ends.{entries, exits, total_booked}
-use Rattle.plant_check_rows.specs.First.{in_column, told_unless, first_told}
+use Rattle.plant_check_rows.specs.First.{in_column, fault_unless, first_reported}
 use Rattle.plant_check_rows.specs.Keys.{sublot_key}
 use Rattle.plant_check_rows.specs.declared.fault.RowFault.{RowFault}
 use Rattle.plant_check_rows.specs.declared.fault.Table.TheVariants as table
@@ -16,12 +16,12 @@ abbrev pub wrong_stock : ℕ → ℕ → Sublot → RowFault
 wrong_stock entered left s = in_column (table.Sublot, sublot_key s) column.Stock (found.Number s.stock) (wanted.Stock entered left)
 
 -- the sublot, where its stock isn't what entered less what left
-abbrev pub stock_told : ℕ → ℕ → Sublot → Option RowFault
-stock_told entered left s = told_unless (s.stock + left == entered) (wrong_stock entered left s)
+abbrev pub stock_found : ℕ → ℕ → Sublot → Option RowFault
+stock_found entered left s = fault_unless (s.stock + left == entered) (wrong_stock entered left s)
 
 abbrev pub stock_fault : List BookedRow → List BookedRow → Sublot → Option RowFault
-stock_fault entering leaving s = stock_told (total_booked (entries entering s.lot s.number)) (total_booked (exits leaving s.lot s.number)) s
+stock_fault entering leaving s = stock_found (total_booked (entries entering s.lot s.number)) (total_booked (exits leaving s.lot s.number)) s
 
 -- the first of them
 abbrev pub stock_fault_in : List BookedRow → List Sublot → Option RowFault
-stock_fault_in rows sublots = first_told (stock_fault rows rows) sublots
+stock_fault_in rows sublots = first_reported (stock_fault rows rows) sublots

@@ -2,8 +2,8 @@
 use Rattle.std.specs.Prelude.{ℕ, ◌-◌, nat_lt, if◌then◌else◌, List, ◌++◌, codes, decimal, Option, Some, None}
 use Rattle.plant_base.specs.Refusals.{name_of}
 use Rattle.plant_base.specs.Words.{batch_state_name, job_state_name}
-use Rattle.plant_tables_columns.specs.declared.booked.MovementSort.{MovementSort}
-use Rattle.plant_tables_columns.specs.declared.booked.MovementSort.TheVariants as sort
+use Rattle.plant_tables_columns.specs.declared.booked.MovementKindCode.{MovementKindCode}
+use Rattle.plant_tables_columns.specs.declared.booked.MovementKindCode.TheVariants as kind_code
 use Rattle.plant_check_rows.specs.Naming.{table_name, column_name}
 use Rattle.plant_check_rows.specs.declared.fault.Key.{Key}
 use Rattle.plant_check_rows.specs.declared.fault.Key.TheVariants as key
@@ -25,21 +25,21 @@ key_text (key.NumberIds n a b) = decimal n ++ codes " " ++ a ++ codes " " ++ b
 key_text (key.IdNumberId a n b) = a ++ codes " " ++ decimal n ++ codes " " ++ b
 key_text (key.Place place) = codes "number " ++ decimal place ++ codes " by its key"
 
-abbrev pub sort_name : MovementSort → List ℕ
-sort_name sort.Received = codes "a receipt"
-sort_name sort.Consumed = codes "a consumption"
-sort_name sort.Produced = codes "a production"
-sort_name sort.Scrapped = codes "a scrapping"
-sort_name sort.Divided = codes "a division"
-sort_name sort.Split = codes "a split"
-sort_name sort.Merged = codes "a merge"
+abbrev pub kind_code_name : MovementKindCode → List ℕ
+kind_code_name kind_code.Received = codes "a receipt"
+kind_code_name kind_code.Consumed = codes "a consumption"
+kind_code_name kind_code.Produced = codes "a production"
+kind_code_name kind_code.Scrapped = codes "a scrapping"
+kind_code_name kind_code.Divided = codes "a division"
+kind_code_name kind_code.Split = codes "a split"
+kind_code_name kind_code.Merged = codes "a merge"
 
 abbrev pub found_text : Found → List ℕ
 found_text (found.Id id) = id
 found_text (found.Number n) = decimal n
 found_text (found.Order s) = job_state_name s
 found_text (found.State s) = batch_state_name s
-found_text (found.Sort s) = sort_name s
+found_text (found.Sort s) = kind_code_name s
 found_text found.Row = codes "the row"
 found_text found.Nothing = codes "no row"
 

@@ -2,14 +2,14 @@
 ghost use Rattle.std.specs.Prelude.{◌≡◌, IfOk, Option};
 ghost use Rattle.plant_check_rows.specs.Edges.{edge_fault_in, is_edge_among, missing_edge, missing_edge_fault};
 ghost use Rattle.plant_check_rows.specs.Edges.{stray_edge_fault};
-ghost use Rattle.plant_check_rows.specs.First.{first_told};
+ghost use Rattle.plant_check_rows.specs.First.{first_reported};
 
 use crate::fault::{Found, RowFault, Table, Wanted};
-use crate::first::{RowRule, as_a_whole, first_fault, or_told, told_unless};
+use crate::first::{RowRule, as_a_whole, fault_unless, first_fault, or_fault};
 use crate::keys::edge_key;
+use grouped_rows::{Grouped, Grouping};
 use plant_base::{EdgeRow, Movement};
 use plant_check::edges::edges_in;
-use plant_check_groups::{Grouped, Grouping};
 use plant_tables_read::DeskRows;
 use plant_view::edge_row;
 use std::alloc::{AllocError, Global};
@@ -44,7 +44,7 @@ impl<'a> RowRule<EdgeRow> for Grouped<'a, Kept> {
 
     fn fault(&self, _alloc: Global, row: &EdgeRow) -> Result<Option<RowFault>, AllocError> {
         let fault = as_a_whole((Table::Edge, edge_key(row)), Wanted::NoRow);
-        Ok(told_unless(has_edge(self, *row), fault))
+        Ok(fault_unless(has_edge(self, *row), fault))
     }
 }
 
@@ -72,7 +72,7 @@ impl<'a> Keeping<'a> {
                         line: movement.line,
                     },
                 };
-                told_unless(self.schema < 2 || has_edge(&self.edges, edge), fault)
+                fault_unless(self.schema < 2 || has_edge(&self.edges, edge), fault)
             }
         }
     }
@@ -91,7 +91,7 @@ fn stray_edge(
     made: &[EdgeRow],
     rows: &[EdgeRow],
 ) -> Result<Option<RowFault>, AllocError>
-    ensures { IfOk result (λ told. told ≡ first_told (stray_edge_fault made.now) rows.now) }
+    ensures { IfOk result (λ reported. reported ≡ first_reported (stray_edge_fault made.now) rows.now) }
 {
     let made = Grouped::<Kept>::new(alloc, made)?;
     first_fault(alloc, &made, rows)
@@ -103,7 +103,7 @@ fn unkept_edge(
     rows: &[EdgeRow],
     movements: &[Movement],
 ) -> Result<Option<RowFault>, AllocError>
-    ensures { IfOk result (λ told. told ≡ first_told (missing_edge_fault schema rows.now) movements.now) }
+    ensures { IfOk result (λ reported. reported ≡ first_reported (missing_edge_fault schema rows.now) movements.now) }
 {
     let edges = Grouped::<Kept>::new(alloc, rows)?;
     first_fault(alloc, &Keeping { schema, edges }, movements)
@@ -116,12 +116,12 @@ pub(crate) fn edge_fault(
     rows: &DeskRows,
     movements: &[Movement],
 ) -> Result<Option<RowFault>, AllocError>
-    ensures { IfOk result (λ told. told ≡ edge_fault_in rows.now.meta.schema rows.now.edges.items movements.now) }
+    ensures { IfOk result (λ reported. reported ≡ edge_fault_in rows.now.meta.schema rows.now.edges.items movements.now) }
 {
     let schema = rows.meta.schema;
     let edges = rows.edges.as_slice();
     let made = edges_in(alloc, schema, movements)?;
     let stray = stray_edge(alloc, made.as_slice(), edges)?;
     let missing = unkept_edge(alloc, schema, edges, movements)?;
-    Ok(or_told(stray, missing))
+    Ok(or_fault(stray, missing))
 }

@@ -1,14 +1,14 @@
 //! Batches and events that break a rule.
 ghost use Rattle.std.specs.Prelude.{◌≡◌, IfOk, Result};
 ghost use Rattle.plant_check_rows.specs.Events.{batch_as, closed_number, differ, event_fault, event_fault_in};
-ghost use Rattle.plant_check_rows.specs.Events.{number_as, progress_fault, refused_event, run_fault, run_told};
-ghost use Rattle.plant_check_rows.specs.First.{first_told};
+ghost use Rattle.plant_check_rows.specs.Events.{number_as, progress_fault, refused_event, run_fault, run_found};
+ghost use Rattle.plant_check_rows.specs.First.{first_reported};
 
 use crate::fault::{Column, Found, RowFault, Table, Wanted};
-use crate::first::{RowRule, first_fault, in_column, names_none, or_told, told_unless};
+use crate::first::{RowRule, fault_unless, first_fault, in_column, names_none, or_fault};
 use crate::keys::{id_key, number_key};
+use grouped_rows::Grouped;
 use plant_base::{BatchEvent, BatchRow, Refusal};
-use plant_check_groups::Grouped;
 use plant_check_plans::events::{events_in, kept_progress, phases_of};
 use plant_check_plans::keys::{Batches, ControlLines, Events, events_of, has_batch};
 use plant_recipe::Progress;
@@ -71,14 +71,14 @@ fn progress_fault(progress: &Progress, batch: &BatchRow) -> RowFault
 }
 
 /// The batch, where one of its events was refused, or it has come elsewhere than they lead to.
-fn run_told(run: Result<Progress, Refusal>, batch: &BatchRow) -> Option<RowFault>
-    ensures { result ≡ run_told run batch.now }
+fn run_found(run: Result<Progress, Refusal>, batch: &BatchRow) -> Option<RowFault>
+    ensures { result ≡ run_found run batch.now }
 {
     match run {
         Err(refusal) => Some(refused_event(batch, refusal)),
         Ok(progress) => {
             let is_kept = progress == kept_progress(batch);
-            told_unless(is_kept, progress_fault(&progress, batch))
+            fault_unless(is_kept, progress_fault(&progress, batch))
         }
     }
 }
@@ -93,12 +93,12 @@ struct Runs<'a> {
 impl<'a> RowRule<BatchRow> for Runs<'a> {
     ghost fault_of = { λ t b. run_fault t.controls.rows.now t.events.rows.now b };
 
-    #[tactic(auto, using(plant_recipe::proofs::Runs::run_capped))]
+    #[tactic(auto, using(plant_recipe::proofs::EventFold::run_capped))]
     fn fault(&self, alloc: Global, row: &BatchRow) -> Result<Option<RowFault>, AllocError> {
         let id = row.batch.id;
         let list = events_in(alloc, events_of(&self.events, id))?;
         let run = Progress::of_events(list.as_slice(), phases_of(&self.controls, id));
-        Ok(run_told(run, row))
+        Ok(run_found(run, row))
     }
 }
 
@@ -109,12 +109,12 @@ impl<'a> RowRule<BatchEvent> for Grouped<'a, Batches> {
     fn fault(&self, _alloc: Global, row: &BatchEvent) -> Result<Option<RowFault>, AllocError> {
         let place = (Table::BatchEvent, number_key(row.seq));
         let fault = names_none(place, Column::Batch, row.batch, Table::Batch);
-        Ok(told_unless(has_batch(self, row.batch), fault))
+        Ok(fault_unless(has_batch(self, row.batch), fault))
     }
 }
 
 fn wrong_run(alloc: Global, rows: &DeskRows) -> Result<Option<RowFault>, AllocError>
-    ensures { IfOk result (λ told. told ≡ first_told
+    ensures { IfOk result (λ reported. reported ≡ first_reported
         (run_fault rows.now.control_lines.items rows.now.events.items) rows.now.batches.items) }
 {
     let controls = Grouped::<ControlLines>::new(alloc, rows.control_lines.as_slice())?;
@@ -124,7 +124,7 @@ fn wrong_run(alloc: Global, rows: &DeskRows) -> Result<Option<RowFault>, AllocEr
 }
 
 fn stray_event(alloc: Global, rows: &DeskRows) -> Result<Option<RowFault>, AllocError>
-    ensures { IfOk result (λ told. told ≡ first_told (event_fault rows.now.batches.items) rows.now.events.items) }
+    ensures { IfOk result (λ reported. reported ≡ first_reported (event_fault rows.now.batches.items) rows.now.events.items) }
 {
     let batches = Grouped::<Batches>::new(alloc, rows.batches.as_slice())?;
     first_fault(alloc, &batches, rows.events.as_slice())
@@ -133,8 +133,8 @@ fn stray_event(alloc: Global, rows: &DeskRows) -> Result<Option<RowFault>, Alloc
 /// The first batch that hasn't come as far as its columns say, or else the first event without its batch. The only error is
 /// that memory was refused.
 pub(crate) fn event_fault(alloc: Global, rows: &DeskRows) -> Result<Option<RowFault>, AllocError>
-    ensures { IfOk result (λ told. told
+    ensures { IfOk result (λ reported. reported
         ≡ event_fault_in rows.now.control_lines.items rows.now.events.items rows.now.batches.items) }
 {
-    Ok(or_told(wrong_run(alloc, rows)?, stray_event(alloc, rows)?))
+    Ok(or_fault(wrong_run(alloc, rows)?, stray_event(alloc, rows)?))
 }

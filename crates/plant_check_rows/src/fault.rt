@@ -3,7 +3,7 @@ ghost use Rattle.std.specs.Prelude.{◌≡◌};
 ghost use Rattle.plant_check_rows.specs.Naming.{column_name, table_name};
 
 use plant_base::{Amount, BatchState, Id, JobState, Refusal};
-use plant_tables_read::MovementSort;
+use plant_tables_read::MovementKindCode;
 
 /// A table of the desk.
 #[derive(Clone, Copy, Debug, PartialEq, Eq)]
@@ -139,7 +139,7 @@ pub enum Found {
     /// The state of a batch.
     State(BatchState),
     /// The kind of a movement.
-    Sort(MovementSort),
+    Sort(MovementKindCode),
     /// The row as a whole.
     Row,
     /// No row.

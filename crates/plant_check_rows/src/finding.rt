@@ -21,8 +21,7 @@ use plant_check::Rule;
 use plant_check::checking::{are_edges_of, are_numbers_of, are_right_recalls};
 use plant_check::history::movements_in;
 use plant_check_stock::are_receipts;
-use plant_tables_read::{DeskRows, has_meta, rows_of};
-use plant_tables_read::Loaded;
+use plant_tables_read::{DeskRows, Loaded, has_meta, rows_of};
 use std::alloc::{AllocError, Global};
 
 /// A rule that is broken.

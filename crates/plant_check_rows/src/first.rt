@@ -1,6 +1,6 @@
 //! What is told of a row, and the first row that breaks a rule.
 ghost use Rattle.std.specs.Prelude.{◌≡◌, IfOk};
-ghost use Rattle.plant_check_rows.specs.First.{as_a_whole, first_told, in_column, names_none, or_told, told_unless};
+ghost use Rattle.plant_check_rows.specs.First.{as_a_whole, first_reported, in_column, names_none, or_fault, fault_unless};
 
 use crate::fault::{Column, Found, Key, RowFault, Table, Wanted};
 use plant_base::Id;
@@ -9,14 +9,14 @@ use std::alloc::{AllocError, Global};
 /// What each row of a table has to obey by itself, beside the rows that it is held against.
 pub(crate) trait RowRule<R> {
     ghost use Rattle.std.specs.Prelude.{◌≡◌, Option, IfOk};
-    ghost use Rattle.plant_check_rows.specs.declared.fault.RowFault.{RowFault as Told};
+    ghost use Rattle.plant_check_rows.specs.declared.fault.RowFault.{RowFault as Reported};
 
     /// What is wrong with a row.
-    ghost fault_of: { Self → R → Option Told };
+    ghost fault_of: { Self → R → Option Reported };
 
     /// What is wrong with the row. The only error is that memory was refused.
     fn fault(&self, alloc: Global, row: &R) -> Result<Option<RowFault>, AllocError>
-        ensures { IfOk result (λ told. told ≡ fault_of self.now row.now) };
+        ensures { IfOk result (λ reported. reported ≡ fault_of self.now row.now) };
 }
 
 /// The row of this table and key, where this stands in a column and that is wanted.
@@ -58,15 +58,15 @@ pub(crate) fn as_a_whole(place: (Table, Key), wanted: Wanted) -> RowFault
 }
 
 /// The fault, where the rule isn't obeyed.
-pub(crate) fn told_unless(obeyed: bool, fault: RowFault) -> Option<RowFault>
-    ensures { result ≡ told_unless obeyed fault }
+pub(crate) fn fault_unless(obeyed: bool, fault: RowFault) -> Option<RowFault>
+    ensures { result ≡ fault_unless obeyed fault }
 {
     if obeyed { None } else { Some(fault) }
 }
 
 /// The one, where it is told, and else the other.
-pub(crate) fn or_told(first: Option<RowFault>, rest: Option<RowFault>) -> Option<RowFault>
-    ensures { result ≡ or_told first rest }
+pub(crate) fn or_fault(first: Option<RowFault>, rest: Option<RowFault>) -> Option<RowFault>
+    ensures { result ≡ or_fault first rest }
 {
     match first {
         None => rest,
@@ -80,7 +80,7 @@ pub(crate) fn first_fault<R, T: RowRule<R>>(
     rule: &T,
     rows: &[R],
 ) -> Result<Option<RowFault>, AllocError>
-    ensures { IfOk result (λ told. told ≡ first_told (T.fault_of rule.now) rows.now) }
+    ensures { IfOk result (λ reported. reported ≡ first_reported (T.fault_of rule.now) rows.now) }
 {
     for row in rows {
         if let Some(fault) = rule.fault(alloc, row)? {

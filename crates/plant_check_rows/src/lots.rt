@@ -1,15 +1,15 @@
 //! Lots, sublots and holds that break a rule.
 ghost use Rattle.std.specs.Prelude.{◌≡◌, IfOk};
 ghost use Rattle.plant_check_rows.specs.Lots.{hold_fault, lot_fault, lot_fault_in, sublot_fault};
-ghost use Rattle.plant_check_rows.specs.First.{first_told};
+ghost use Rattle.plant_check_rows.specs.First.{first_reported};
 
 use crate::fault::{Column, RowFault, Table, Wanted};
-use crate::first::{RowRule, as_a_whole, first_fault, names_none, or_told, told_unless};
+use crate::first::{RowRule, as_a_whole, fault_unless, first_fault, names_none, or_fault};
 use crate::keys::{hold_key, id_key, sublot_key};
+use grouped_rows::Grouped;
 use plant_base::{Hold, Lot, Sublot};
-use plant_check::ends::EnteredPlaces;
+use plant_check::ends::BySublotEntered;
 use plant_check::lots::{SublotsOfLots, are_from_zero, has_lot, is_born, sublots_of};
-use plant_check_groups::Grouped;
 use plant_check_plans::keys::{Definitions, has_definition};
 use plant_check_stock::keys::Lots;
 use plant_tables_read::DeskRows;
@@ -33,9 +33,9 @@ impl<'a> RowRule<Lot> for Defined<'a> {
         let numbered = Wanted::NumberedFrom(Table::Sublot, 0);
         let unnumbered = as_a_whole((Table::Lot, id_key(row.id)), numbered);
         let sublots = sublots_of(&self.sublots, row.id);
-        Ok(or_told(
-            told_unless(has_definition(&self.definitions, row.def), undefined),
-            told_unless(are_from_zero(sublots), unnumbered),
+        Ok(or_fault(
+            fault_unless(has_definition(&self.definitions, row.def), undefined),
+            fault_unless(are_from_zero(sublots), unnumbered),
         ))
     }
 }
@@ -44,7 +44,7 @@ impl<'a> RowRule<Lot> for Defined<'a> {
 #[derive(Drop)]
 struct Born<'a> {
     lots: Grouped<'a, Lots>,
-    entered: Grouped<'a, EnteredPlaces>,
+    entered: Grouped<'a, BySublotEntered>,
 }
 
 impl<'a> RowRule<Sublot> for Born<'a> {
@@ -56,9 +56,9 @@ impl<'a> RowRule<Sublot> for Born<'a> {
         let place = (Table::Sublot, sublot_key(row));
         let stray = names_none(place, Column::Lot, row.lot, Table::Lot);
         let unborn = as_a_whole((Table::Sublot, sublot_key(row)), Wanted::Birth);
-        Ok(or_told(
-            told_unless(has_lot(&self.lots, row.lot), stray),
-            told_unless(is_born(&self.entered, row), unborn),
+        Ok(or_fault(
+            fault_unless(has_lot(&self.lots, row.lot), stray),
+            fault_unless(is_born(&self.entered, row), unborn),
         ))
     }
 }
@@ -72,12 +72,12 @@ impl<'a> RowRule<Hold> for Grouped<'a, Lots> {
     fn fault(&self, _alloc: Global, row: &Hold) -> Result<Option<RowFault>, AllocError> {
         let place = (Table::Hold, hold_key(row));
         let fault = names_none(place, Column::Lot, row.lot, Table::Lot);
-        Ok(told_unless(has_lot(self, row.lot), fault))
+        Ok(fault_unless(has_lot(self, row.lot), fault))
     }
 }
 
 fn undefined_lot(alloc: Global, rows: &DeskRows) -> Result<Option<RowFault>, AllocError>
-    ensures { IfOk result (λ told. told ≡ first_told
+    ensures { IfOk result (λ reported. reported ≡ first_reported
         (lot_fault rows.now.definitions.items rows.now.sublots.items) rows.now.lots.items) }
 {
     let definitions = Grouped::<Definitions>::new(alloc, rows.definitions.as_slice())?;
@@ -90,16 +90,16 @@ fn undefined_lot(alloc: Global, rows: &DeskRows) -> Result<Option<RowFault>, All
 }
 
 fn unborn_sublot(alloc: Global, rows: &DeskRows) -> Result<Option<RowFault>, AllocError>
-    ensures { IfOk result (λ told. told ≡ first_told
+    ensures { IfOk result (λ reported. reported ≡ first_reported
         (sublot_fault rows.now.lots.items rows.now.movements.items) rows.now.sublots.items) }
 {
     let lots = Grouped::<Lots>::new(alloc, rows.lots.as_slice())?;
-    let entered = Grouped::<EnteredPlaces>::new(alloc, rows.movements.as_slice())?;
+    let entered = Grouped::<BySublotEntered>::new(alloc, rows.movements.as_slice())?;
     first_fault(alloc, &Born { lots, entered }, rows.sublots.as_slice())
 }
 
 fn stray_hold(alloc: Global, rows: &DeskRows) -> Result<Option<RowFault>, AllocError>
-    ensures { IfOk result (λ told. told ≡ first_told (hold_fault rows.now.lots.items) rows.now.holds.items) }
+    ensures { IfOk result (λ reported. reported ≡ first_reported (hold_fault rows.now.lots.items) rows.now.holds.items) }
 {
     let lots = Grouped::<Lots>::new(alloc, rows.lots.as_slice())?;
     first_fault(alloc, &lots, rows.holds.as_slice())
@@ -108,11 +108,11 @@ fn stray_hold(alloc: Global, rows: &DeskRows) -> Result<Option<RowFault>, AllocE
 /// The first lot that breaks its rule, or else the first sublot, or else the first hold. The only error is that memory was
 /// refused.
 pub(crate) fn lot_fault(alloc: Global, rows: &DeskRows) -> Result<Option<RowFault>, AllocError>
-    ensures { IfOk result (λ told. told ≡ lot_fault_in rows.now.definitions.items rows.now.lots.items
+    ensures { IfOk result (λ reported. reported ≡ lot_fault_in rows.now.definitions.items rows.now.lots.items
         rows.now.sublots.items rows.now.holds.items rows.now.movements.items) }
 {
     let undefined = undefined_lot(alloc, rows)?;
     let unborn = unborn_sublot(alloc, rows)?;
     let stray = stray_hold(alloc, rows)?;
-    Ok(or_told(undefined, or_told(unborn, stray)))
+    Ok(or_fault(undefined, or_fault(unborn, stray)))
 }

@@ -2,14 +2,14 @@
 ghost use Rattle.std.specs.Prelude.{◌≡◌, IfOk};
 ghost use Rattle.plant_view.specs.Genealogy.{edges_among};
 ghost use Rattle.plant_view.specs.Recalls.{marks};
-ghost use Rattle.plant_check_rows.specs.First.{first_told};
+ghost use Rattle.plant_check_rows.specs.First.{first_reported};
 ghost use Rattle.plant_check_rows.specs.Marks.{is_mark_among, mark_fault, mark_fault_among, mark_fault_in};
 
 use crate::fault::{Found, RowFault, Table, Wanted};
-use crate::first::{RowRule, first_fault, or_told, told_unless};
+use crate::first::{RowRule, fault_unless, first_fault, or_fault};
 use crate::keys::mark_key;
+use grouped_rows::{Grouped, Grouping};
 use plant_base::{Mark, Movement, Recall};
-use plant_check_groups::{Grouped, Grouping};
 use plant_check_stock::marks_within;
 use plant_view::edges;
 use std::alloc::{AllocError, Global};
@@ -59,7 +59,7 @@ impl<'a> RowRule<Mark> for Among<'a> {
             found: self.found,
             wanted: self.wanted,
         };
-        Ok(told_unless(has_mark(&self.among, *row), fault))
+        Ok(fault_unless(has_mark(&self.among, *row), fault))
     }
 }
 
@@ -71,7 +71,7 @@ fn first_apart(
     found: Found,
     wanted: Wanted,
 ) -> Result<Option<RowFault>, AllocError>
-    ensures { IfOk result (λ told. told ≡ first_told (mark_fault found wanted among.now) rows.now) }
+    ensures { IfOk result (λ reported. reported ≡ first_reported (mark_fault found wanted among.now) rows.now) }
 {
     let among = Grouped::<Marked>::new(alloc, among)?;
     let rule = Among {
@@ -87,11 +87,11 @@ fn mark_fault_among(
     reached: &[Mark],
     rows: &[Mark],
 ) -> Result<Option<RowFault>, AllocError>
-    ensures { IfOk result (λ told. told ≡ mark_fault_among reached.now rows.now) }
+    ensures { IfOk result (λ reported. reported ≡ mark_fault_among reached.now rows.now) }
 {
     let stray = first_apart(alloc, reached, rows, Found::Row, Wanted::NoRow)?;
     let missing = first_apart(alloc, rows, reached, Found::Nothing, Wanted::Mark)?;
-    Ok(or_told(stray, missing))
+    Ok(or_fault(stray, missing))
 }
 
 // The marks of the open recalls on what they reach over the edges that the movements make.
@@ -117,7 +117,7 @@ pub(crate) fn mark_fault(
     movements: &[Movement],
     rows: &[Mark],
 ) -> Result<Option<RowFault>, AllocError>
-    ensures { IfOk result (λ told. told ≡ mark_fault_in recalls.now movements.now rows.now) }
+    ensures { IfOk result (λ reported. reported ≡ mark_fault_in recalls.now movements.now rows.now) }
 {
     let reached = marks_reached(alloc, recalls, movements)?;
     mark_fault_among(alloc, reached.as_slice(), rows)

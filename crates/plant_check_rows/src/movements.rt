@@ -2,13 +2,13 @@
 ghost use Rattle.std.specs.Prelude.{◌≡◌, IfOk};
 ghost use Rattle.plant_check_rows.specs.Movements.{batch_named_fault, id_found, movement_as, movement_fault, movement_fault_in};
 ghost use Rattle.plant_check_rows.specs.Movements.{naming_fault, source_fault, target_fault};
-ghost use Rattle.plant_check_rows.specs.First.{first_told};
+ghost use Rattle.plant_check_rows.specs.First.{first_reported};
 
 use crate::fault::{Column, Found, RowFault, Table, Wanted};
-use crate::first::{RowRule, first_fault, in_column, or_told, told_unless};
+use crate::first::{RowRule, fault_unless, first_fault, in_column, or_fault};
 use crate::keys::booked_key;
+use grouped_rows::Grouped;
 use plant_base::{BatchRow, ControlLine, Id, Lot, Movement, Sublot};
-use plant_check_groups::Grouped;
 use plant_check_stock::keys::{Parts, is_there};
 use plant_check_stock::movements::{Named, batch_by, is_of_right_merge};
 use plant_stock::{source, target};
@@ -26,9 +26,14 @@ impl RowRule<BookedRow> for Kinds {
 
     fn fault(&self, _alloc: Global, row: &BookedRow) -> Result<Option<RowFault>, AllocError> {
         let key = booked_key(row.seq, row.line);
-        let sort = Found::Sort(row.sort);
-        let fault = in_column((Table::Movement, key), Column::Kind, sort, Wanted::Columns);
-        Ok(told_unless(row.movement().is_some(), fault))
+        let kind_code = Found::Sort(row.kind_code);
+        let fault = in_column(
+            (Table::Movement, key),
+            Column::Kind,
+            kind_code,
+            Wanted::Columns,
+        );
+        Ok(fault_unless(row.movement().is_some(), fault))
     }
 }
 
@@ -64,7 +69,7 @@ fn target_fault(named: &Named, movement: &Movement) -> Option<RowFault>
     ensures { result ≡ target_fault named.now.sublots.rows.now movement.now }
 {
     let fault = movement_as(movement, None, Found::Row, Wanted::Key(Table::Sublot));
-    told_unless(is_there(&named.sublots, target(movement)), fault)
+    fault_unless(is_there(&named.sublots, target(movement)), fault)
 }
 
 /// The movement, where the sublot that it takes its amount from isn't there.
@@ -77,7 +82,7 @@ fn source_fault(named: &Named, movement: &Movement) -> Option<RowFault>
         Found::Id(movement.lot),
         Wanted::Key(Table::Sublot),
     );
-    told_unless(is_there(&named.sublots, source(movement)), fault)
+    fault_unless(is_there(&named.sublots, source(movement)), fault)
 }
 
 /// The movement, where the batch that it names isn't there.
@@ -90,18 +95,18 @@ fn batch_named_fault(named: &Named, movement: &Movement) -> Option<RowFault>
         id_found(batch_by(movement)),
         Wanted::Key(Table::Batch),
     );
-    told_unless(named.has_batch(batch_by(movement)), fault)
+    fault_unless(named.has_batch(batch_by(movement)), fault)
 }
 
 /// The movement, where a sublot or the batch that it names isn't there.
 fn naming_fault(named: &Named, movement: &Movement) -> Option<RowFault>
     ensures { result ≡ naming_fault named.now.sublots.rows.now named.now.batches.rows.now movement.now }
 {
-    let rest = or_told(
+    let rest = or_fault(
         source_fault(named, movement),
         batch_named_fault(named, movement),
     );
-    or_told(target_fault(named, movement), rest)
+    or_fault(target_fault(named, movement), rest)
 }
 
 /// That a movement names what is there, of the right definition.
@@ -121,11 +126,11 @@ impl<'a> RowRule<Movement> for Moving<'a> {
         let of_lot = Found::Id(row.lot);
         let other = movement_as(row, Some(Column::Lot), of_lot, Wanted::RightDefinition);
         let merge = movement_as(row, None, Found::Row, Wanted::Parts);
-        Ok(or_told(
+        Ok(or_fault(
             naming_fault(&self.named, row),
-            or_told(
-                told_unless(self.named.allows(row), other),
-                told_unless(is_of_right_merge(&self.parts, row), merge),
+            or_fault(
+                fault_unless(self.named.allows(row), other),
+                fault_unless(is_of_right_merge(&self.parts, row), merge),
             ),
         ))
     }
@@ -139,7 +144,7 @@ fn wrong_movement(
     control: &[ControlLine],
     movements: &[Movement],
 ) -> Result<Option<RowFault>, AllocError>
-    ensures { IfOk result (λ told. told ≡ first_told
+    ensures { IfOk result (λ reported. reported ≡ first_reported
         (movement_fault lots.now sublots.now batches.now control.now movements.now) movements.now) }
 {
     let named = Named::new(alloc, lots, sublots, batches, control)?;
@@ -155,7 +160,7 @@ pub(crate) fn movement_fault(
     rows: &DeskRows,
     movements: &[Movement],
 ) -> Result<Option<RowFault>, AllocError>
-    ensures { IfOk result (λ told. told ≡ movement_fault_in rows.now.movements.items rows.now.lots.items
+    ensures { IfOk result (λ reported. reported ≡ movement_fault_in rows.now.movements.items rows.now.lots.items
         rows.now.sublots.items rows.now.batches.items rows.now.control_lines.items movements.now) }
 {
     let kind = first_fault(alloc, &Kinds, rows.movements.as_slice())?;
@@ -167,5 +172,5 @@ pub(crate) fn movement_fault(
         rows.control_lines.as_slice(),
         movements,
     )?;
-    Ok(or_told(kind, wrong))
+    Ok(or_fault(kind, wrong))
 }

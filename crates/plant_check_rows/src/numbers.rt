@@ -5,14 +5,14 @@ ghost use Rattle.plant_check_rows.specs.Numbers.{fall_fault_in, late_fault_in, l
 ghost use Rattle.plant_check_rows.specs.Numbers.{moment_fault, number_as, number_fault, number_fault_in};
 ghost use Rattle.plant_tables_read.specs.Collecting.{rows_listed};
 ghost use Rattle.plant_check_rows.specs.Findings.{numbered_fault_in};
-ghost use Rattle.plant_check_rows.specs.First.{first_told};
+ghost use Rattle.plant_check_rows.specs.First.{first_reported};
 
 use crate::fault::{Column, Found, Key, RowFault, Table, Wanted};
-use crate::first::{RowRule, first_fault, in_column, or_told, told_unless};
+use crate::first::{RowRule, fault_unless, first_fault, in_column, or_fault};
 use crate::keys::{booked_key, hold_key, id_key, number_key};
 use crate::movements::movement_as;
+use grouped_rows::Grouped;
 use plant_base::{BatchEvent, BatchRow, Hold, Moment, Movement};
-use plant_check_groups::Grouped;
 use plant_check_stock::keys::{EnteredSublots, EventNumbers, has_event};
 use plant_check_stock::numbering::{is_entered_before, is_given, is_next_line};
 use plant_stock::source;
@@ -29,7 +29,7 @@ fn line_fault(before: Option<Movement>, movement: &Movement) -> Option<RowFault>
         Found::Number(u64::from(movement.line)),
         Wanted::NextLine,
     );
-    told_unless(is_next_line(before, movement), fault)
+    fault_unless(is_next_line(before, movement), fault)
 }
 
 /// The first movement that isn't the next line behind the one before it.
@@ -73,17 +73,17 @@ impl<'a> RowRule<Movement> for NumberedMovements<'a> {
 
     fn fault(&self, _alloc: Global, row: &Movement) -> Result<Option<RowFault>, AllocError> {
         let is_after = is_entered_before(&self.entered, row.seq, source(row));
-        let shared = told_unless(
+        let shared = fault_unless(
             !has_event(&self.events, row.seq),
             number_as(row, Wanted::Apart),
         );
-        let early = told_unless(is_after, number_as(row, Wanted::Later));
-        Ok(or_told(
-            told_unless(
+        let early = fault_unless(is_after, number_as(row, Wanted::Later));
+        Ok(or_fault(
+            fault_unless(
                 is_given(self.greatest, row.seq),
                 number_as(row, Wanted::Given(self.greatest)),
             ),
-            or_told(shared, early),
+            or_fault(shared, early),
         ))
     }
 }
@@ -113,7 +113,7 @@ impl RowRule<BatchEvent> for NumberedEvents {
             Found::Number(row.seq),
             Wanted::Given(self.greatest),
         );
-        Ok(told_unless(is_given(self.greatest, row.seq), fault))
+        Ok(fault_unless(is_given(self.greatest, row.seq), fault))
     }
 }
 
@@ -123,7 +123,7 @@ fn wrongly_numbered(
     events: &[BatchEvent],
     movements: &[Movement],
 ) -> Result<Option<RowFault>, AllocError>
-    ensures { IfOk result (λ told. told ≡ first_told (number_fault greatest events.now movements.now) movements.now) }
+    ensures { IfOk result (λ reported. reported ≡ first_reported (number_fault greatest events.now movements.now) movements.now) }
 {
     let events = Grouped::<EventNumbers>::new(alloc, events)?;
     let entered = Grouped::<EnteredSublots>::new(alloc, movements)?;
@@ -143,11 +143,11 @@ fn wrong_number(
     events: &[BatchEvent],
     movements: &[Movement],
 ) -> Result<Option<RowFault>, AllocError>
-    ensures { IfOk result (λ told. told ≡ number_fault_in greatest events.now movements.now) }
+    ensures { IfOk result (λ reported. reported ≡ number_fault_in greatest events.now movements.now) }
 {
     let number = wrongly_numbered(alloc, greatest, events, movements)?;
     let given = first_fault(alloc, &NumberedEvents { greatest }, events)?;
-    Ok(or_told(first_line_fault(movements), or_told(number, given)))
+    Ok(or_fault(first_line_fault(movements), or_fault(number, given)))
 }
 
 /// The row of the table, where its moment is later than the desk's.
@@ -156,7 +156,7 @@ fn moment_fault(at: Moment, table: Table, key: Key, moment: Moment) -> Option<Ro
 {
     let found = Found::Number(moment.get());
     let fault = in_column((table, key), Column::At, found, Wanted::NotAfter(at.get()));
-    told_unless(moment.get() <= at.get(), fault)
+    fault_unless(moment.get() <= at.get(), fault)
 }
 
 /// That a row is no later than the desk.
@@ -218,14 +218,14 @@ fn late_fault(
     holds: &[Hold],
 ) -> Result<Option<RowFault>, AllocError>
     ensures { IfOk result
-        (λ told. told ≡ late_fault_in at movements.now events.now batches.now holds.now) }
+        (λ reported. reported ≡ late_fault_in at movements.now events.now batches.now holds.now) }
 {
     let timely = Timely { at };
     let movement = first_fault(alloc, &timely, movements)?;
     let event = first_fault(alloc, &timely, events)?;
     let batch = first_fault(alloc, &timely, batches)?;
     let hold = first_fault(alloc, &timely, holds)?;
-    Ok(or_told(movement, or_told(event, or_told(batch, hold))))
+    Ok(or_fault(movement, or_fault(event, or_fault(batch, hold))))
 }
 
 /// The movement, where it is earlier than this moment, which stands with a lower number.
@@ -238,7 +238,7 @@ fn fall_fault(latest: u64, movement: &Movement) -> Option<RowFault>
         Found::Number(movement.at.get()),
         Wanted::NotBefore(latest),
     );
-    told_unless(latest <= movement.at.get(), fault)
+    fault_unless(latest <= movement.at.get(), fault)
 }
 
 /// The first movement that is earlier than the one before it.
@@ -265,7 +265,7 @@ fn event_fall_fault(latest: u64, event: &BatchEvent) -> Option<RowFault>
         Found::Number(event.at.get()),
         Wanted::NotBefore(latest),
     );
-    told_unless(latest <= event.at.get(), fault)
+    fault_unless(latest <= event.at.get(), fault)
 }
 
 /// The first event that is earlier than the one before it.
@@ -290,7 +290,7 @@ pub(crate) fn number_fault(
     rows: &DeskRows,
     movements: &[Movement],
 ) -> Result<Option<RowFault>, AllocError>
-    ensures { IfOk result (λ told. told ≡ numbered_fault_in (rows_listed rows.now) movements.now) }
+    ensures { IfOk result (λ reported. reported ≡ numbered_fault_in (rows_listed rows.now) movements.now) }
 {
     let events = rows.events.as_slice();
     let number = wrong_number(alloc, rows.meta.position.seq, events, movements)?;
@@ -302,6 +302,6 @@ pub(crate) fn number_fault(
         rows.batches.as_slice(),
         rows.holds.as_slice(),
     )?;
-    let fall = or_told(falling_movement(movements), falling_event(events));
-    Ok(or_told(number, or_told(late, fall)))
+    let fall = or_fault(falling_movement(movements), falling_event(events));
+    Ok(or_fault(number, or_fault(late, fall)))
 }

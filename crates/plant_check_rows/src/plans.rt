@@ -2,15 +2,17 @@
 ghost use Rattle.std.specs.Prelude.{◌≡◌, IfOk};
 ghost use Rattle.plant_check_rows.specs.Plans.{batch_as_a_whole, batch_fault, batch_fault_in, batch_wanted};
 ghost use Rattle.plant_check_rows.specs.Plans.{class_fault_in, control_line_fault};
-ghost use Rattle.plant_check_rows.specs.First.{first_told};
+ghost use Rattle.plant_check_rows.specs.First.{first_reported};
 ghost use Rattle.plant_check_rows.specs.Plans.{missing_recipe, order_fault_in, shared_order, size_fault};
 ghost use Rattle.plant_check_rows.specs.Plans.{start_fault, wrong_size};
 
 use crate::fault::{Column, Found, RowFault, Table, Wanted};
-use crate::first::{RowRule, as_a_whole, first_fault, in_column, names_none, or_told, told_unless};
+use crate::first::{
+    RowRule, as_a_whole, fault_unless, first_fault, in_column, names_none, or_fault,
+};
 use crate::keys::{control_line_key, id_key};
+use grouped_rows::Grouped;
 use plant_base::{BatchRow, ControlLine, Definition, Job, JobState, MasterLine, Recipe};
-use plant_check_groups::Grouped;
 use plant_check_plans::batches::{Plans, is_control, lines_among};
 use plant_check_plans::keys::{
     Batches, BatchesOfOrders, Classes, ControlLines, Recipes, batch_of, control_of, has_batch,
@@ -31,13 +33,13 @@ impl<'a> RowRule<Definition> for Grouped<'a, Classes> {
     fn fault(&self, _alloc: Global, row: &Definition) -> Result<Option<RowFault>, AllocError> {
         let place = (Table::Definition, id_key(row.id));
         let fault = names_none(place, Column::Class, row.class, Table::Class);
-        Ok(told_unless(has_class(self, row.class), fault))
+        Ok(fault_unless(has_class(self, row.class), fault))
     }
 }
 
 /// The first definition whose class isn't there. The only error is that memory was refused.
 pub(crate) fn class_fault(alloc: Global, rows: &DeskRows) -> Result<Option<RowFault>, AllocError>
-    ensures { IfOk result (λ told. told ≡ class_fault_in rows.now.classes.items rows.now.definitions.items) }
+    ensures { IfOk result (λ reported. reported ≡ class_fault_in rows.now.classes.items rows.now.definitions.items) }
 {
     let classes = Grouped::<Classes>::new(alloc, rows.classes.as_slice())?;
     first_fault(alloc, &classes, rows.definitions.as_slice())
@@ -68,7 +70,7 @@ fn size_fault(recipe: Option<Recipe>, job: &Job) -> Option<RowFault>
 {
     match recipe {
         None => Some(missing_recipe(job)),
-        Some(recipe) => told_unless(
+        Some(recipe) => fault_unless(
             is_size_of_recipe(Some(recipe), job.order.size),
             wrong_size(&recipe, job),
         ),
@@ -93,7 +95,7 @@ fn start_fault(batch: Option<BatchRow>, job: &Job) -> Option<RowFault>
     let place = (Table::Job, id_key(job.order.order));
     let (found, wanted) = (Found::Order(job.state), batch_wanted(job.state));
     let fault = in_column(place, Column::State, found, wanted);
-    told_unless(is_started(job.state, batch), fault)
+    fault_unless(is_started(job.state, batch), fault)
 }
 
 /// That an order's recipe is there with its size, and that it has a batch as its state says.
@@ -111,14 +113,14 @@ impl<'a> RowRule<Job> for Ordered<'a> {
     fn fault(&self, _alloc: Global, row: &Job) -> Result<Option<RowFault>, AllocError> {
         let recipe = recipe_at(&self.recipes, row.order.recipe, row.order.version);
         let batch = batch_of(&self.batches, row.order.order);
-        Ok(or_told(size_fault(recipe, row), start_fault(batch, row)))
+        Ok(or_fault(size_fault(recipe, row), start_fault(batch, row)))
     }
 }
 
 /// The first order that breaks its rule. The only error is that memory was refused.
 pub(crate) fn order_fault(alloc: Global, rows: &DeskRows) -> Result<Option<RowFault>, AllocError>
     ensures { IfOk result
-        (λ told. told ≡ order_fault_in rows.now.recipes.items rows.now.batches.items rows.now.jobs.items) }
+        (λ reported. reported ≡ order_fault_in rows.now.recipes.items rows.now.batches.items rows.now.jobs.items) }
 {
     let recipes = Grouped::<Recipes>::new(alloc, rows.recipes.as_slice())?;
     let batches = Grouped::<BatchesOfOrders>::new(alloc, rows.batches.as_slice())?;
@@ -160,14 +162,14 @@ impl<'a> RowRule<BatchRow> for Released<'a> {
             .plans
             .control_asked_for(alloc, job_at(&self.plans.jobs, order))?;
         let found = lines_among(alloc, lines)?;
-        let shared = told_unless(has_one_batch(&self.batches, order), shared_order(row));
+        let shared = fault_unless(has_one_batch(&self.batches, order), shared_order(row));
         let numbering = Wanted::NumberedFrom(Table::ControlLine, 1);
-        let numbered = told_unless(are_numbered(1, lines), batch_as_a_whole(row, numbering));
-        let controlled = told_unless(
+        let numbered = fault_unless(are_numbered(1, lines), batch_as_a_whole(row, numbering));
+        let controlled = fault_unless(
             is_control(&wanted, found.as_slice()),
             batch_as_a_whole(row, Wanted::Control),
         );
-        Ok(or_told(shared, or_told(numbered, controlled)))
+        Ok(or_fault(shared, or_fault(numbered, controlled)))
     }
 }
 
@@ -178,7 +180,7 @@ impl<'a> RowRule<ControlLine> for Grouped<'a, Batches> {
     fn fault(&self, _alloc: Global, row: &ControlLine) -> Result<Option<RowFault>, AllocError> {
         let place = (Table::ControlLine, control_line_key(row));
         let fault = names_none(place, Column::Batch, row.batch, Table::Batch);
-        Ok(told_unless(has_batch(self, row.batch), fault))
+        Ok(fault_unless(has_batch(self, row.batch), fault))
     }
 }
 
@@ -190,7 +192,7 @@ fn wrong_batch(
     batches: &[BatchRow],
     control: &[ControlLine],
 ) -> Result<Option<RowFault>, AllocError>
-    ensures { IfOk result (λ told. told ≡ first_told
+    ensures { IfOk result (λ reported. reported ≡ first_reported
         (batch_fault recipes.now lines.now jobs.now batches.now control.now) batches.now) }
 {
     let released = Released {
@@ -202,7 +204,7 @@ fn wrong_batch(
 }
 
 fn stray_control_line(alloc: Global, rows: &DeskRows) -> Result<Option<RowFault>, AllocError>
-    ensures { IfOk result (λ told. told ≡ first_told (control_line_fault rows.now.batches.items) rows.now.control_lines.items) }
+    ensures { IfOk result (λ reported. reported ≡ first_reported (control_line_fault rows.now.batches.items) rows.now.control_lines.items) }
 {
     let batches = Grouped::<Batches>::new(alloc, rows.batches.as_slice())?;
     first_fault(alloc, &batches, rows.control_lines.as_slice())
@@ -211,7 +213,7 @@ fn stray_control_line(alloc: Global, rows: &DeskRows) -> Result<Option<RowFault>
 /// The first batch that breaks its rule, or else the first line of a control recipe without its batch. The only error is that
 /// memory was refused.
 pub(crate) fn batch_fault(alloc: Global, rows: &DeskRows) -> Result<Option<RowFault>, AllocError>
-    ensures { IfOk result (λ told. told ≡ batch_fault_in rows.now.recipes.items
+    ensures { IfOk result (λ reported. reported ≡ batch_fault_in rows.now.recipes.items
         rows.now.master_lines.items rows.now.jobs.items rows.now.batches.items rows.now.control_lines.items) }
 {
     let wrong = wrong_batch(
@@ -222,5 +224,5 @@ pub(crate) fn batch_fault(alloc: Global, rows: &DeskRows) -> Result<Option<RowFa
         rows.batches.as_slice(),
         rows.control_lines.as_slice(),
     )?;
-    Ok(or_told(wrong, stray_control_line(alloc, rows)?))
+    Ok(or_fault(wrong, stray_control_line(alloc, rows)?))
 }

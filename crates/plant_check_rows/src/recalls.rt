@@ -1,17 +1,17 @@
 //! Recalls that break a rule.
 ghost use Rattle.std.specs.Prelude.{◌≡◌, IfOk};
 ghost use Rattle.plant_tables_read.specs.Collecting.{rows_listed};
-ghost use Rattle.plant_check.specs.Broken.{recalls_told};
+ghost use Rattle.plant_check.specs.Broken.{recalls_read};
 ghost use Rattle.plant_check_rows.specs.Findings.{recalled_fault_in};
 ghost use Rattle.plant_check_rows.specs.Recalls.{recall_as, recall_fault_in};
 
 use crate::fault::{Column, Found, RowFault, Table, Wanted};
-use crate::first::{RowRule, first_fault, in_column, or_told, told_unless};
+use crate::first::{RowRule, fault_unless, first_fault, in_column, or_fault};
 use crate::keys::id_key;
 use crate::marks::mark_fault;
+use grouped_rows::Grouped;
 use plant_base::{Id, Lot, Moment, Movement, Recall};
-use plant_check::recalls::recalls_told;
-use plant_check_groups::Grouped;
+use plant_check::recalls::recalls_read;
 use plant_check_stock::keys::{Lots, lot_at};
 use plant_check_stock::recalls::is_timely;
 use plant_tables_read::{DeskRows, StatedRecall};
@@ -35,7 +35,7 @@ impl RowRule<StatedRecall> for Stated {
 
     fn fault(&self, _alloc: Global, row: &StatedRecall) -> Result<Option<RowFault>, AllocError> {
         let fault = recall_as(row.id, Column::State, Found::Row, Wanted::Columns);
-        Ok(told_unless(row.recall().is_some(), fault))
+        Ok(fault_unless(row.recall().is_some(), fault))
     }
 }
 
@@ -56,9 +56,9 @@ impl<'a> RowRule<Recall> for Recalling<'a> {
         let at = Found::Number(row.at.get());
         let no_lot = recall_as(row.id, Column::Lot, of_lot, Wanted::Key(Table::Lot));
         let untimely = recall_as(row.id, Column::At, at, Wanted::Between);
-        Ok(or_told(
-            told_unless(lot_at(&self.lots, row.lot).is_some(), no_lot),
-            told_unless(is_timely(self.at, row), untimely),
+        Ok(or_fault(
+            fault_unless(lot_at(&self.lots, row.lot).is_some(), no_lot),
+            fault_unless(is_timely(self.at, row), untimely),
         ))
     }
 }
@@ -72,12 +72,12 @@ fn stated_fault(
     lots: &[Lot],
     recalls: &[Recall],
 ) -> Result<Option<RowFault>, AllocError>
-    ensures { IfOk result (λ told. told ≡ recall_fault_in at rows.now lots.now recalls.now) }
+    ensures { IfOk result (λ reported. reported ≡ recall_fault_in at rows.now lots.now recalls.now) }
 {
     let first = first_fault(alloc, &Stated, rows)?;
     let lots = Grouped::<Lots>::new(alloc, lots)?;
     let rest = first_fault(alloc, &Recalling { at, lots }, recalls)?;
-    Ok(or_told(first, rest))
+    Ok(or_fault(first, rest))
 }
 
 /// The first row that breaks the rule, or else the mark that does. The only error is that memory was refused.
@@ -87,14 +87,14 @@ pub(crate) fn recall_fault(
     rows: &DeskRows,
     movements: &[Movement],
 ) -> Result<Option<RowFault>, AllocError>
-    ensures { IfOk result (λ told. told ≡ recalled_fault_in (rows_listed rows.now)
-        (recalls_told rows.now.recalls.items) movements.now) }
+    ensures { IfOk result (λ reported. reported ≡ recalled_fault_in (rows_listed rows.now)
+        (recalls_read rows.now.recalls.items) movements.now) }
 {
     let stated = rows.recalls.as_slice();
-    let recalls = recalls_told(alloc, stated)?;
+    let recalls = recalls_read(alloc, stated)?;
     let at = rows.meta.position.at;
     let lots = rows.lots.as_slice();
     let by_row = stated_fault(alloc, at, stated, lots, recalls.as_slice())?;
     let marked = mark_fault(alloc, recalls.as_slice(), movements, rows.marks.as_slice())?;
-    Ok(or_told(by_row, marked))
+    Ok(or_fault(by_row, marked))
 }

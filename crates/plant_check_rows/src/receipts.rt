@@ -4,10 +4,10 @@ ghost use Rattle.plant_check_stock.specs.Receipts.{seqs_of};
 ghost use Rattle.plant_check_rows.specs.Receipts.{receipt_as, receipt_fault_in};
 
 use crate::fault::{Column, Found, RowFault, Table, Wanted};
-use crate::first::{RowRule, first_fault, in_column, or_told, told_unless};
+use crate::first::{RowRule, fault_unless, first_fault, in_column, or_fault};
 use crate::keys::id_key;
+use grouped_rows::{Grouped, Grouping};
 use plant_base::Receipt;
-use plant_check_groups::{Grouped, Grouping};
 use plant_check_stock::numbering::is_given;
 use plant_check_stock::receipts::is_content;
 use plant_tables_read::DeskRows;
@@ -71,11 +71,11 @@ impl<'a> RowRule<Receipt> for Receiving<'a> {
         let unmade = receipt_as(row, Column::Content, Found::Row, Wanted::Content);
         let shared = receipt_as(row, Column::Seq, Found::Number(row.seq), Wanted::OwnNumber);
         let is_made = is_content(row.content.as_str().as_bytes());
-        Ok(or_told(
-            told_unless(is_given(self.greatest, row.seq), not_given),
-            or_told(
-                told_unless(is_made, unmade),
-                told_unless(is_once(&self.seqs, row.seq), shared),
+        Ok(or_fault(
+            fault_unless(is_given(self.greatest, row.seq), not_given),
+            or_fault(
+                fault_unless(is_made, unmade),
+                fault_unless(is_once(&self.seqs, row.seq), shared),
             ),
         ))
     }
@@ -85,7 +85,7 @@ impl<'a> RowRule<Receipt> for Receiving<'a> {
 /// of what contents are made of. The only error is that memory was refused.
 pub(crate) fn receipt_fault(alloc: Global, rows: &DeskRows) -> Result<Option<RowFault>, AllocError>
     ensures { IfOk result
-        (λ told. told ≡ receipt_fault_in rows.now.meta.position.seq rows.now.receipts.items) }
+        (λ reported. reported ≡ receipt_fault_in rows.now.meta.position.seq rows.now.receipts.items) }
 {
     let greatest = rows.meta.position.seq;
     let numbers = seqs_of(alloc, rows.receipts.as_slice())?;

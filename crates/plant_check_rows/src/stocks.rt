@@ -3,19 +3,19 @@ ghost use Rattle.std.specs.Prelude.{◌≡◌, IfOk};
 ghost use Rattle.plant_check_rows.specs.Stocks.{stock_fault_in};
 
 use crate::fault::{Column, Found, RowFault, Table, Wanted};
-use crate::first::{RowRule, first_fault, in_column, told_unless};
+use crate::first::{RowRule, fault_unless, first_fault, in_column};
 use crate::keys::sublot_key;
+use grouped_rows::Grouped;
 use plant_base::Sublot;
-use plant_check::ends::{EnteredPlaces, LeftPlaces, entries, exits, total_booked};
-use plant_check_groups::Grouped;
+use plant_check::ends::{BySublotEntered, BySublotLeft, entries, exits, total_booked};
 use plant_tables_read::DeskRows;
 use std::alloc::{AllocError, Global};
 
 /// That a sublot's stock is what entered it less what left it.
 #[derive(Drop)]
 struct Stocks<'a> {
-    entered: Grouped<'a, EnteredPlaces>,
-    left: Grouped<'a, LeftPlaces>,
+    entered: Grouped<'a, BySublotEntered>,
+    left: Grouped<'a, BySublotLeft>,
 }
 
 impl<'a> RowRule<Sublot> for Stocks<'a> {
@@ -30,16 +30,16 @@ impl<'a> RowRule<Sublot> for Stocks<'a> {
         let wanted = Wanted::Stock { entered, left };
         let place = (Table::Sublot, sublot_key(row));
         let fault = in_column(place, Column::Stock, stock, wanted);
-        Ok(told_unless(u128::from(row.stock) + left == entered, fault))
+        Ok(fault_unless(u128::from(row.stock) + left == entered, fault))
     }
 }
 
 /// The first sublot whose stock isn't what entered it less what left it. The only error is that memory was refused.
 pub(crate) fn stock_fault(alloc: Global, rows: &DeskRows) -> Result<Option<RowFault>, AllocError>
-    ensures { IfOk result (λ told. told ≡ stock_fault_in rows.now.movements.items rows.now.sublots.items) }
+    ensures { IfOk result (λ reported. reported ≡ stock_fault_in rows.now.movements.items rows.now.sublots.items) }
 {
-    let entered = Grouped::<EnteredPlaces>::new(alloc, rows.movements.as_slice())?;
-    let left = Grouped::<LeftPlaces>::new(alloc, rows.movements.as_slice())?;
+    let entered = Grouped::<BySublotEntered>::new(alloc, rows.movements.as_slice())?;
+    let left = Grouped::<BySublotLeft>::new(alloc, rows.movements.as_slice())?;
     let stocks = Stocks { entered, left };
     first_fault(alloc, &stocks, rows.sublots.as_slice())
 }

@@ -1,10 +1,10 @@
 //! The texts of rows that break rules.
 ghost use Rattle.std.specs.Prelude.{◌≡◌, Some};
 ghost use Rattle.plant_check_rows.specs.Texts.{fault_text, found_text, key_text, plain_wanted};
-ghost use Rattle.plant_check_rows.specs.Texts.{sort_name, stock_text, wanted_text};
+ghost use Rattle.plant_check_rows.specs.Texts.{kind_code_name, stock_text, wanted_text};
 
 use crate::fault::{Found, Key, RowFault, Wanted};
-use plant_tables_read::MovementSort;
+use plant_tables_read::MovementKindCode;
 use std::fmt;
 
 impl fmt::Display for Key {
@@ -59,17 +59,17 @@ impl fmt::Display for Key {
 }
 
 /// The name of a movement's kind.
-pub(crate) fn sort_name(sort: MovementSort) -> &'static str
-    ensures { result.now ≡ sort_name sort }
+pub(crate) fn kind_code_name(kind_code: MovementKindCode) -> &'static str
+    ensures { result.now ≡ kind_code_name kind_code }
 {
-    match sort {
-        MovementSort::Received => "a receipt",
-        MovementSort::Consumed => "a consumption",
-        MovementSort::Produced => "a production",
-        MovementSort::Scrapped => "a scrapping",
-        MovementSort::Divided => "a division",
-        MovementSort::Split => "a split",
-        MovementSort::Merged => "a merge",
+    match kind_code {
+        MovementKindCode::Received => "a receipt",
+        MovementKindCode::Consumed => "a consumption",
+        MovementKindCode::Produced => "a production",
+        MovementKindCode::Scrapped => "a scrapping",
+        MovementKindCode::Divided => "a division",
+        MovementKindCode::Split => "a split",
+        MovementKindCode::Merged => "a merge",
     }
 }
 
@@ -85,7 +85,7 @@ impl fmt::Display for Found {
             }
             Found::Order(state) => f.write_str(state.name()),
             Found::State(state) => f.write_str(state.name()),
-            Found::Sort(sort) => f.write_str(sort_name(*sort)),
+            Found::Sort(kind_code) => f.write_str(kind_code_name(*kind_code)),
             Found::Row => f.write_str("the row"),
             Found::Nothing => f.write_str("no row"),
         }
@@ -133,7 +133,7 @@ struct StockText {
 }
 
 impl fmt::Display for StockText {
-    ghost output = { λ told. Some (stock_text told.entered told.left) };
+    ghost output = { λ reported. Some (stock_text reported.entered reported.left) };
 
     fn fmt<W: fmt::Write>(&self, f: &mut fmt::Formatter<W>) -> fmt::Result {
         let entered = self.entered;

@@ -4,24 +4,23 @@ ghost use Rattle.plant_tables_columns.specs.TableColumns.{receipt_from};
 ghost use Rattle.plant_check_rows.specs.Values as spec;
 
 use crate::fault::{Key, RowFault, Table, Wanted};
-use crate::first::{as_a_whole, or_told};
+use crate::first::{as_a_whole, or_fault};
 use plant_base::{
     BatchEvent, BatchRow, Class, ControlLine, Definition, EdgeRow, Hold, Job, Lot, Mark,
     MasterLine, Recipe, Sublot,
 };
-use plant_tables_columns::{Judged, judge_receipts};
-use plant_tables_read::{BookedRow, StatedRecall};
-use plant_tables_read::Loaded;
+use plant_tables_columns::{Decoded, decode_receipts};
+use plant_tables_read::{BookedRow, Loaded, StatedRecall};
 use sqlite::Row;
 use std::alloc::{AllocError, Global};
 use std::slice;
 
 /// The place of the first row that stands for nothing, counted from 1 on.
-fn first_unread<R: Judged>(rows: &[Row]) -> Option<u64>
+fn first_unread<R: Decoded>(rows: &[Row]) -> Option<u64>
     ensures { result ≡ spec.first_unread R.row_from 1 rows.now }
 {
     for at in 0..rows.len() {
-        if R::judge(&rows[at]).is_none() {
+        if R::decode(&rows[at]).is_none() {
             return Some(at as u64 + 1);
         }
     }
@@ -29,8 +28,8 @@ fn first_unread<R: Judged>(rows: &[Row]) -> Option<u64>
 }
 
 /// The row of the table that has this place, where one is given.
-fn place_told(table: Table, place: Option<u64>) -> Option<RowFault>
-    ensures { result ≡ spec.place_told table place }
+fn column_fault(table: Table, place: Option<u64>) -> Option<RowFault>
+    ensures { result ≡ spec.column_fault table place }
 {
     match place {
         None => None,
@@ -39,17 +38,17 @@ fn place_told(table: Table, place: Option<u64>) -> Option<RowFault>
 }
 
 /// The first row of the table that stands for nothing.
-fn value_fault<R: Judged>(table: Table, rows: &[Row]) -> Option<RowFault>
+fn value_fault<R: Decoded>(table: Table, rows: &[Row]) -> Option<RowFault>
     ensures { result ≡ spec.value_fault table R.row_from rows.now }
 {
-    place_told(table, first_unread::<R>(rows))
+    column_fault(table, first_unread::<R>(rows))
 }
 
 /// Whether the row stands for a receipt. The only error is that memory was refused.
 fn is_receipt(alloc: Global, row: &Row) -> Result<bool, AllocError>
     ensures { IfOk result (λ b. b ≡ is_some (receipt_from row.now)) }
 {
-    let receipts = judge_receipts(alloc, slice::from_ref(row))?;
+    let receipts = decode_receipts(alloc, slice::from_ref(row))?;
     Ok(receipts.is_some())
 }
 
@@ -67,10 +66,10 @@ fn first_unread_receipt(alloc: Global, rows: &[Row]) -> Result<Option<u64>, Allo
 
 /// The first row of table receipt that stands for nothing. The only error is that memory was refused.
 fn receipt_value_fault(alloc: Global, rows: &[Row]) -> Result<Option<RowFault>, AllocError>
-    ensures { IfOk result (λ told. told ≡ spec.value_fault Table.Receipt receipt_from rows.now) }
+    ensures { IfOk result (λ reported. reported ≡ spec.value_fault Table.Receipt receipt_from rows.now) }
 {
     let place = first_unread_receipt(alloc, rows)?;
-    Ok(place_told(Table::Receipt, place))
+    Ok(column_fault(Table::Receipt, place))
 }
 
 fn plan_value_fault(loaded: &Loaded) -> Option<RowFault>
@@ -84,9 +83,9 @@ fn plan_value_fault(loaded: &Loaded) -> Option<RowFault>
     let batch = value_fault::<BatchRow>(Table::Batch, loaded.rows(6));
     let control = value_fault::<ControlLine>(Table::ControlLine, loaded.rows(7));
     let event = value_fault::<BatchEvent>(Table::BatchEvent, loaded.rows(8));
-    let of_batches = or_told(batch, or_told(control, event));
-    let of_recipes = or_told(recipe, or_told(line, or_told(job, of_batches)));
-    or_told(class, or_told(definition, of_recipes))
+    let of_batches = or_fault(batch, or_fault(control, event));
+    let of_recipes = or_fault(recipe, or_fault(line, or_fault(job, of_batches)));
+    or_fault(class, or_fault(definition, of_recipes))
 }
 
 fn stock_value_fault(loaded: &Loaded) -> Option<RowFault>
@@ -97,7 +96,10 @@ fn stock_value_fault(loaded: &Loaded) -> Option<RowFault>
     let movement = value_fault::<BookedRow>(Table::Movement, loaded.rows(11));
     let hold = value_fault::<Hold>(Table::Hold, loaded.rows(12));
     let edge = value_fault::<EdgeRow>(Table::Edge, loaded.rows(13));
-    or_told(lot, or_told(sublot, or_told(movement, or_told(hold, edge))))
+    or_fault(
+        lot,
+        or_fault(sublot, or_fault(movement, or_fault(hold, edge))),
+    )
 }
 
 fn recall_value_fault(loaded: &Loaded) -> Option<RowFault>
@@ -105,18 +107,18 @@ fn recall_value_fault(loaded: &Loaded) -> Option<RowFault>
 {
     let recall = value_fault::<StatedRecall>(Table::Recall, loaded.rows(15));
     let mark = value_fault::<Mark>(Table::Mark, loaded.rows(16));
-    or_told(recall, mark)
+    or_fault(recall, mark)
 }
 
 /// The first stored row that stands for nothing, since a value of it breaks its rule, of all tables but meta. It is told by its place
 /// in its table, in the order of the key. The only error is that memory was refused.
 pub(crate) fn value_fault_in(alloc: Global, loaded: &Loaded) -> Result<Option<RowFault>, AllocError>
-    ensures { IfOk result (λ told. told ≡ spec.value_fault_in loaded.now) }
+    ensures { IfOk result (λ reported. reported ≡ spec.value_fault_in loaded.now) }
 {
     let receipt = receipt_value_fault(alloc, loaded.rows(14))?;
-    let rest = or_told(receipt, recall_value_fault(loaded));
-    Ok(or_told(
+    let rest = or_fault(receipt, recall_value_fault(loaded));
+    Ok(or_fault(
         plan_value_fault(loaded),
-        or_told(stock_value_fault(loaded), rest),
+        or_fault(stock_value_fault(loaded), rest),
     ))
 }

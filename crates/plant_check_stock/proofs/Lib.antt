@@ -1,5 +1,5 @@
-pub mod Counting
-pub mod Expecting
-pub mod KeySets
-pub mod Placing
-pub mod Rising
+pub mod CountedOnce
+pub mod MarksByRecall
+pub mod SetsOfKeys
+pub mod SublotTests
+pub mod MomentsRise

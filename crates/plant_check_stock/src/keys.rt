@@ -5,8 +5,8 @@ ghost use Rattle.std.specs.List.{list_any};
 ghost use Rattle.plant_stock.specs.Stock.{entries, goes_to};
 ghost use Rattle.plant_check_stock.specs.Movements.{lot_among, is_merged, is_there, parts_of};
 
+use grouped_rows::{Grouped, Grouping};
 use plant_base::{BatchEvent, Id, Lot, Movement, MovementKind, Sublot};
-use plant_check_groups::{Grouped, Grouping};
 
 /// Lots by their id.
 pub struct Lots;

@@ -94,8 +94,8 @@ fn mark_reached(
     all: &mut BTreeSet<Mark>,
 ) -> Result<(), AllocError>
     ensures same { edges.new.pairs.now ≡ edges.old.pairs.now }
-    ensures marks { (front : List Recall) → all.old.keys ≡ marks front edges.old.pairs.now
-        → OnOk result (all.new.keys ≡ marks (front ++ recall.now ∷ []) edges.old.pairs.now) }
+    ensures marks { (prefix : List Recall) → all.old.keys ≡ marks prefix edges.old.pairs.now
+        → OnOk result (all.new.keys ≡ marks (prefix ++ recall.now ∷ []) edges.old.pairs.now) }
 {
     if !recall.is_open() {
         return Ok(());

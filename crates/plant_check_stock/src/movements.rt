@@ -11,8 +11,8 @@ ghost use Rattle.plant_check_stock.specs.Movements.{are_parts, is_of_right_merge
 ghost use Rattle.plant_check_stock.specs.Movements.{are_movements};
 
 use crate::keys::{Lots, Parts, Sublots, is_there, lot_at, parts_of};
+use grouped_rows::Grouped;
 use plant_base::{BatchRow, ControlLine, Id, Lot, Movement, MovementKind, Sublot};
-use plant_check_groups::Grouped;
 use plant_check_plans::keys::{Batches, ControlLines, control_of, has_batch};
 use plant_stock::{source, target};
 use plant_view::{is_made, is_taken};

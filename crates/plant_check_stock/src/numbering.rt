@@ -9,8 +9,8 @@ ghost use Rattle.plant_check_stock.specs.Numbering.{are_lines};
 ghost use Rattle.plant_check_stock.specs.Numbering.{is_entered_before, has_right_number, are_numbers};
 
 use crate::keys::{EnteredSublots, EventNumbers, entries, has_event};
+use grouped_rows::Grouped;
 use plant_base::{BatchEvent, Id, Movement, MovementKind};
-use plant_check_groups::Grouped;
 use plant_stock::source;
 use std::alloc::{AllocError, Global};
 

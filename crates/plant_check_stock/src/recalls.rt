@@ -5,8 +5,8 @@ ghost use Rattle.plant_check_stock.specs.Recalls.{is_lifted_between, is_timely, 
 ghost use Rattle.plant_check_stock.specs.Recalls.{are_recalls};
 
 use crate::keys::{Lots, lot_at};
+use grouped_rows::Grouped;
 use plant_base::{Lifting, Lot, Moment, Recall};
-use plant_check_groups::Grouped;
 use std::alloc::{AllocError, Global};
 
 /// Whether each recall's lot is there, none is later than the desk's moment, and each that was lifted was lifted no

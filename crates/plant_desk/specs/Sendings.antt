@@ -21,9 +21,9 @@ after s e stopped_before = s
 after s e stopped_after = step s e
 
 -- where a sending leads
-abbrev pub sent : State → Sending → State
-sent s [] = s
-sent s (x ∷ xs) = sent (after s x.0 x.1) xs
+abbrev pub state_after_sending : State → Sending → State
+state_after_sending s [] = s
+state_after_sending s (x ∷ xs) = state_after_sending (after s x.0 x.1) xs
 
 -- the commands that were answered
 abbrev pub with_answer : Envelope → Outcome → List Envelope → List Envelope
@@ -41,12 +41,12 @@ BeginsWith e [] = ⊥
 BeginsWith e (x ∷ xs) = x.0 ≡ e
 
 -- a command that was stopped has a reference, and is the next one again
-abbrev pub IsSentAgain : Envelope → Outcome → Sending → Type 0
-IsSentAgain e answered xs = ⊤
-IsSentAgain e stopped_before xs = IsSome e.reference × BeginsWith e xs
-IsSentAgain e stopped_after xs = IsSome e.reference × BeginsWith e xs
+abbrev pub IsResent : Envelope → Outcome → Sending → Type 0
+IsResent e answered xs = ⊤
+IsResent e stopped_before xs = IsSome e.reference × BeginsWith e xs
+IsResent e stopped_after xs = IsSome e.reference × BeginsWith e xs
 
 -- each command that was stopped is sent again until it is answered
 abbrev pub IsPersistent : Sending → Type 0
 IsPersistent [] = ⊤
-IsPersistent (x ∷ xs) = IsSentAgain x.0 x.1 xs × IsPersistent xs
+IsPersistent (x ∷ xs) = IsResent x.0 x.1 xs × IsPersistent xs

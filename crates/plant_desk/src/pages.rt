@@ -3,7 +3,7 @@ ghost use Rattle.std.specs.Prelude.{◌≡◌, ◌+◌, filter, map, take, IfOk}
 ghost use Rattle.plant_view.specs.Tables.{batch_row};
 ghost use Rattle.plant_view.specs.Views.{is_named};
 ghost use Rattle.plant_worklists.specs.Pages.{page_size};
-ghost use Rattle.plant_worklists.specs.Worklists.{is_above, is_open_batch};
+ghost use Rattle.plant_worklists.specs.Worklists.{is_after, is_open_batch};
 ghost use Rattle.plant_worklists.specs.Worklists.{lot_made};
 
 use crate::batches::batch_row;
@@ -14,64 +14,64 @@ use plant_base::{
     MovementKind, Place, Recall, Recipe, RecipeState, Sublot,
 };
 use plant_worklists::{
-    MovementPlace, PAGE_SIZE, Page, RecipePlace, Worklists, first_page, is_above,
-    is_movement_above, is_recipe_above,
+    MovementCursor, PAGE_SIZE, Page, RecipeCursor, Worklists, first_page, is_after,
+    is_movement_after, is_recipe_after,
 };
 use std::alloc::{AllocError, Global};
 
 impl<'a> Worklists for ListsView<'a> {
-    fn orders_in(&mut self, state: JobState, above: Option<Id>) -> Result<Page<Job>, AllocError> {
+    fn orders_in(&mut self, state: JobState, cursor: Option<Id>) -> Result<Page<Job>, AllocError> {
         let rows = self
             .lists
             .jobs
             .iter()
             .copied()
-            .filter(|job| job.state.name() == state.name() && is_above(&job.order.order, &above))
+            .filter(|job| job.state.name() == state.name() && is_after(&job.order.order, &cursor))
             .collect(self.lists.alloc)?;
         Ok(first_page(rows))
     }
 
-    fn open_batches(&mut self, above: Option<Id>) -> Result<Page<BatchRow>, AllocError> {
+    fn open_batches(&mut self, cursor: Option<Id>) -> Result<Page<BatchRow>, AllocError> {
         let lists = self.lists;
         let rows = batches_open(
             lists.alloc,
             &lists.batches,
             &lists.control_lines,
             &lists.events,
-            above,
+            cursor,
         )?;
         Ok(first_page(rows))
     }
 
-    fn lots_of(&mut self, def: Id, above: Option<Id>) -> Result<Page<Lot>, AllocError> {
+    fn lots_of(&mut self, def: Id, cursor: Option<Id>) -> Result<Page<Lot>, AllocError> {
         let rows = self
             .lists
             .lots
             .iter()
             .copied()
-            .filter(|lot| lot.def == def && is_above(&lot.id, &above))
+            .filter(|lot| lot.def == def && is_after(&lot.id, &cursor))
             .collect(self.lists.alloc)?;
         Ok(first_page(rows))
     }
 
-    fn holds_on(&mut self, lot: Id, above: Option<Id>) -> Result<Page<Hold>, AllocError> {
+    fn holds_on(&mut self, lot: Id, cursor: Option<Id>) -> Result<Page<Hold>, AllocError> {
         let rows = self
             .lists
             .holds
             .iter()
             .copied()
-            .filter(|hold| hold.lot == lot && is_above(&hold.id, &above))
+            .filter(|hold| hold.lot == lot && is_after(&hold.id, &cursor))
             .collect(self.lists.alloc)?;
         Ok(first_page(rows))
     }
 
-    fn open_recalls(&mut self, above: Option<Id>) -> Result<Page<Recall>, AllocError> {
+    fn open_recalls(&mut self, cursor: Option<Id>) -> Result<Page<Recall>, AllocError> {
         let rows = self
             .lists
             .recalls
             .iter()
             .copied()
-            .filter(|recall| recall.is_open() && is_above(&recall.id, &above))
+            .filter(|recall| recall.is_open() && is_after(&recall.id, &cursor))
             .collect(self.lists.alloc)?;
         Ok(first_page(rows))
     }
@@ -79,14 +79,14 @@ impl<'a> Worklists for ListsView<'a> {
     fn definitions_in(
         &mut self,
         class: Id,
-        above: Option<Id>,
+        cursor: Option<Id>,
     ) -> Result<Page<Definition>, AllocError> {
         let rows = self
             .lists
             .definitions
             .iter()
             .copied()
-            .filter(|definition| definition.class == class && is_above(&definition.id, &above))
+            .filter(|definition| definition.class == class && is_after(&definition.id, &cursor))
             .collect(self.lists.alloc)?;
         Ok(first_page(rows))
     }
@@ -94,14 +94,14 @@ impl<'a> Worklists for ListsView<'a> {
     fn recipes_in(
         &mut self,
         state: RecipeState,
-        above: Option<RecipePlace>,
+        cursor: Option<RecipeCursor>,
     ) -> Result<Page<Recipe>, AllocError> {
         let rows = self
             .lists
             .recipes
             .iter()
             .copied()
-            .filter(|row| row.state.name() == state.name() && is_recipe_above(row, &above))
+            .filter(|row| row.state.name() == state.name() && is_recipe_after(row, &cursor))
             .collect(self.lists.alloc)?;
         Ok(first_page(rows))
     }
@@ -109,7 +109,7 @@ impl<'a> Worklists for ListsView<'a> {
     fn ledger_of(
         &mut self,
         lot: Id,
-        above: Option<MovementPlace>,
+        cursor: Option<MovementCursor>,
     ) -> Result<Page<Movement>, AllocError> {
         let rows = self
             .lists
@@ -117,7 +117,7 @@ impl<'a> Worklists for ListsView<'a> {
             .iter()
             .copied()
             .filter(|row| {
-                (row.lot == lot || makes_lot(row.kind, lot)) && is_movement_above(row, &above)
+                (row.lot == lot || makes_lot(row.kind, lot)) && is_movement_after(row, &cursor)
             })
             .collect(self.lists.alloc)?;
         Ok(first_page(rows))
@@ -127,31 +127,31 @@ impl<'a> Worklists for ListsView<'a> {
         movements_into(self.lists.alloc, &self.lists.movements, lot)
     }
 
-    fn lots_after(&mut self, above: Option<Id>) -> Result<Page<Lot>, AllocError> {
-        let rows = lots_beyond(self.lists.alloc, &self.lists.lots, above)?;
+    fn lots_after(&mut self, cursor: Option<Id>) -> Result<Page<Lot>, AllocError> {
+        let rows = lots_beyond(self.lists.alloc, &self.lists.lots, cursor)?;
         Ok(first_page(rows))
     }
 
     // The stock of each place is counted by all movements: of as many as a page has, and one more.
-    fn sublots_after(&mut self, above: Option<Id>) -> Result<Page<Sublot>, AllocError> {
+    fn sublots_after(&mut self, cursor: Option<Id>) -> Result<Page<Sublot>, AllocError> {
         let lists = self.lists;
-        let places = places_beyond(lists.alloc, &lists.places, above)?;
+        let places = sublots_beyond(lists.alloc, &lists.places, cursor)?;
         let rows = stocked(lists.alloc, places.as_slice(), &lists.movements)?;
         Ok(first_page(rows))
     }
 
-    fn holds_after(&mut self, above: Option<Id>) -> Result<Page<Hold>, AllocError> {
-        let rows = holds_beyond(self.lists.alloc, &self.lists.holds, above)?;
+    fn holds_after(&mut self, cursor: Option<Id>) -> Result<Page<Hold>, AllocError> {
+        let rows = holds_beyond(self.lists.alloc, &self.lists.holds, cursor)?;
         Ok(first_page(rows))
     }
 }
 
 // ---- which rows a list means
 
-fn is_open_batch(row: &BatchRow, above: &Option<Id>) -> bool
-    ensures { result ≡ is_open_batch above.now row.now }
+fn is_open_batch(row: &BatchRow, cursor: &Option<Id>) -> bool
+    ensures { result ≡ is_open_batch cursor.now row.now }
 {
-    !row.closed && is_above(&row.batch.id, above)
+    !row.closed && is_after(&row.batch.id, cursor)
 }
 
 // Whether a split or a part of a merge makes this lot.
@@ -171,50 +171,50 @@ fn batches_open(
     batches: &[Batch],
     lines: &[ControlLine],
     events: &[BatchEvent],
-    above: Option<Id>,
+    cursor: Option<Id>,
 ) -> Result<Vec<BatchRow>, AllocError>
     ensures { IfOk result (λ v. v.items
-        ≡ filter (is_open_batch above) (map (batch_row lines.now events.now) batches.now)) }
+        ≡ filter (is_open_batch cursor) (map (batch_row lines.now events.now) batches.now)) }
 {
     batches
         .iter()
         .map(|batch| batch_row(lines, events, *batch))
-        .filter(|row| is_open_batch(row, &above))
+        .filter(|row| is_open_batch(row, &cursor))
         .collect(alloc)
 }
 
-fn lots_beyond(alloc: Global, lots: &[Lot], above: Option<Id>) -> Result<Vec<Lot>, AllocError>
-    ensures { IfOk result (λ v. v.items ≡ filter (λ l. is_above above l.id) lots.now) }
+fn lots_beyond(alloc: Global, lots: &[Lot], cursor: Option<Id>) -> Result<Vec<Lot>, AllocError>
+    ensures { IfOk result (λ v. v.items ≡ filter (λ l. is_after cursor l.id) lots.now) }
 {
     lots.iter()
         .copied()
-        .filter(|lot| is_above(&lot.id, &above))
+        .filter(|lot| is_after(&lot.id, &cursor))
         .collect(alloc)
 }
 
 // As many as a page has and one more: the stock of each is counted by all movements.
-fn places_beyond(
+fn sublots_beyond(
     alloc: Global,
     places: &[Place],
-    above: Option<Id>,
+    cursor: Option<Id>,
 ) -> Result<Vec<Place>, AllocError>
     ensures { IfOk result
-        (λ v. v.items ≡ take (page_size + 1) (filter (λ p. is_above above p.lot) places.now)) }
+        (λ v. v.items ≡ take (page_size + 1) (filter (λ p. is_after cursor p.lot) places.now)) }
 {
     places
         .iter()
         .copied()
-        .filter(|place| is_above(&place.lot, &above))
+        .filter(|place| is_after(&place.lot, &cursor))
         .take(usize::from(PAGE_SIZE) + 1)
         .collect(alloc)
 }
 
-fn holds_beyond(alloc: Global, holds: &[Hold], above: Option<Id>) -> Result<Vec<Hold>, AllocError>
-    ensures { IfOk result (λ v. v.items ≡ filter (λ h. is_above above h.lot) holds.now) }
+fn holds_beyond(alloc: Global, holds: &[Hold], cursor: Option<Id>) -> Result<Vec<Hold>, AllocError>
+    ensures { IfOk result (λ v. v.items ≡ filter (λ h. is_after cursor h.lot) holds.now) }
 {
     holds
         .iter()
         .copied()
-        .filter(|hold| is_above(&hold.lot, &above))
+        .filter(|hold| is_after(&hold.lot, &cursor))
         .collect(alloc)
 }

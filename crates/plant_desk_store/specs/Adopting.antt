@@ -6,40 +6,40 @@ use Rattle.sqlite.specs.State as store
 use Rattle.sqlite.specs.State.{HasCleanDisk}
 use Rattle.plant_base.specs.State.{State, opening, newest_schema}
 use Rattle.plant_view.specs.Tables.{tables_of, IsWholeIn}
-use Rattle.plant_good.specs.Good.{IsGood}
-use Rattle.table_forms.specs.Standing.{AreFree}
-use Rattle.table_forms.specs.Resting.{Keeps}
-pub use Rattle.table_reads.specs.Opened.{IsNewlyOpened}
+use Rattle.plant_invariant.specs.StateInvariant.{StateInvariant}
+use Rattle.sql_tables.specs.StoredRows.{AreFree}
+use Rattle.sql_tables.specs.AtRest.{Keeps}
+pub use Rattle.sql_queries.specs.Opened.{IsNewlyOpened}
 pub use Rattle.plant_check.specs.Damaged.{LacksTables, AreFirstBroken, IsFirstBroken, IsDamaged}
-use Rattle.plant_tables.specs.DeskForms.{desk_forms, later_forms}
-use Rattle.plant_tables.specs.DeskStopping.{MakesDesk, IsAtOf, FindsTables, opening_tables}
+use Rattle.plant_tables.specs.DeskTableDefs.{desk_table_defs, later_table_defs}
+use Rattle.plant_tables.specs.DeskCrashStates.{MakesDesk, IsAtOf, FindsTables, opening_tables}
 use Rattle.plant_tables.specs.Keyed.{HoldsTablesOf}
 use Rattle.plant_tables_read.specs.Version.{IsVersion, IsKnown}
 use Rattle.plant_tables_read.specs.declared.loaded.Loaded.{Loaded}
-use Rattle.plant_migrate.specs.Leaving.{IsBetween}
+use Rattle.plant_migrate.specs.FailureLeaves.{IsBetween}
 use Rattle.plant_migrate.specs.Steps.{FindsRisable}
 use Rattle.plant_check.specs.Broken.{first_broken}
 use Rattle.plant_check.specs.declared.rule.Rule.{Rule}
-use Rattle.plant_desk.specs.Keeping.{States}
-use Rattle.plant_desk_store.specs.DeskStanding.{IsOpenAt, FindsStateOf}
+use Rattle.plant_desk.specs.Keepers.{States}
+use Rattle.plant_desk_store.specs.DeskStates.{IsDurablyAt, FindsStateOf}
 use Rattle.plant_desk_store.specs.declared.adopting.AdoptFault.{AdoptFault}
 use Rattle.plant_desk_store.specs.declared.adopting.AdoptFault.TheVariants as fault
 
 -- The database holds the tables of a good state, of a version that can be read and that lacks no row of the state.
-pub record HoldsGood (version : ℕ) (db : Database) (s : State) : Type 0 where
+pub record HoldsValidState (version : ℕ) (db : Database) (s : State) : Type 0 where
   pub known : IsKnown version
-  pub good : IsGood s
+  pub valid : StateInvariant s
   pub holds : HoldsTablesOf version db (tables_of version s)
   pub whole : IsWholeIn version s
 
 -- the store had none of the desk's tables, and the desk stands at the opening state; or it had those of a good state, of
 -- some version, and the desk stands there
 abbrev pub AdoptedFrom : store.State → States → Type 0
-AdoptedFrom c stands = (AreFree desk_forms c.now.schema × stands opening) ⊎ ((version : ℕ) × ((s : State) × HoldsGood version c.now s × stands s))
+AdoptedFrom c represents = (AreFree desk_table_defs c.now.schema × represents opening) ⊎ ((version : ℕ) × ((s : State) × HoldsValidState version c.now s × represents s))
 
 -- Whatever good state's tables were there, the store stands at that state, and a stop leaves that alone.
-abbrev pub KeepsGood : store.State → store.State → Type 0
-KeepsGood old new = HasCleanDisk new → IsNewlyOpened old → (version : ℕ) (s : State) → HoldsGood version old.now s → IsOpenAt new s
+abbrev pub KeepsValidState : store.State → store.State → Type 0
+KeepsValidState old new = HasCleanDisk new → IsNewlyOpened old → (version : ℕ) (s : State) → HoldsValidState version old.now s → IsDurablyAt new s
 
 -- the store is at the tables of the state in a version above this one and below the newest
 abbrev pub IsOnTheWay : ℕ → store.State → State → Type 0
@@ -48,26 +48,26 @@ IsOnTheWay version c s = (later : ℕ) × (version < later) × (later < newest_s
 -- The store, where it is open, shows the tables of the state as they are in this version, or in one between it and the
 -- newest, and a stop leaves something, and nothing else than tables of the state, of a version from this to the newest.
 pub record IsRisingAt (version : ℕ) (c : store.State) (s : State) : Type 0 where
-  pub good : IsGood s
+  pub valid : StateInvariant s
   pub shows : IsTrue c.is_open → IsAtOf version c (tables_of version s) ⊎ IsOnTheWay version c s
   pub something : ∥ ((db : Trees) × c.may_leave db) ∥₁
   pub nothing_else : (db : Trees) → c.may_leave db → (later : ℕ) × (version ≤ later) × (later ≤ newest_schema) × FindsStateOf later db s
 
 -- Whatever good state's tables were there, they still are, or a stop may leave those of a later version.
-abbrev pub StillGood : store.State → store.State → Type 0
-StillGood old new = HasCleanDisk new → IsNewlyOpened old → (version : ℕ) (s : State) → HoldsGood version old.now s → IsRisingAt version new s
+abbrev pub ValidStateSurvives : store.State → store.State → Type 0
+ValidStateSurvives old new = HasCleanDisk new → IsNewlyOpened old → (version : ℕ) (s : State) → HoldsValidState version old.now s → IsRisingAt version new s
 
 -- The tables of a good state stood there in an older version, and the store is at those of the same state in one between
 -- that and the newest, beside the same tables of other names.
 pub record HasRisen (old new : store.State) : Type 0 where
   pub version : ℕ
   pub state : State
-  pub stood : HoldsGood version old.now state
+  pub represented : HoldsValidState version old.now state
   pub between : IsBetween version newest_schema old new state
 
 -- The store, where it is open, shows what it showed; or, after a fault of the store and no other, what was raised.
-abbrev pub ShowsStill : AdoptFault → store.State → store.State → Type 0
-ShowsStill f old new = IsTrue new.is_open → Keeps old new ⊎ ((f ≡ fault.Store) × HasRisen old new)
+abbrev pub ShowsUnchanged : AdoptFault → store.State → store.State → Type 0
+ShowsUnchanged f old new = IsTrue new.is_open → Keeps old new ⊎ ((f ≡ fault.Store) × HasRisen old new)
 
 -- where a rule is named, it is this one, and where one is broken, it isn't told as a fault of the store
 abbrev pub IsBroken : Option Rule → AdoptFault → Type 0
@@ -104,7 +104,7 @@ AreMade old trees = (db : Database) × MakesDesk old db × (trees ≡ db.trees)
 -- The names of the desk's tables were free, and in the trees those of the opening state are to be found, beside the same
 -- tables of other names.
 pub record IsOpened (old : Database) (trees : Trees) : Type 0 where
-  pub free : AreFree desk_forms old.schema
+  pub free : AreFree desk_table_defs old.schema
   pub finds : FindsTables old trees opening_tables
 
 -- The tables of a good state stood there in a schema below the newest, with the names free that later ones add, and in the
@@ -115,9 +115,9 @@ pub record IsRaised (old : Database) (trees : Trees) : Type 0 where
   pub later : ℕ
   pub above : version < later
   pub known : later ≤ newest_schema
-  pub stood : (s : State) × HoldsGood version old s
-  pub free : AreFree (later_forms version) old.schema
-  pub finds : (s : State) → HoldsGood version old s → FindsRisable later old trees (tables_of later s)
+  pub represented : (s : State) × HoldsValidState version old s
+  pub free : AreFree (later_table_defs version) old.schema
+  pub finds : (s : State) → HoldsValidState version old s → FindsRisable later old trees (tables_of later s)
 
 -- what an adoption may have made of a database, in what a stop leaves
 abbrev pub IsAdopted : Database → Trees → Type 0
@@ -129,5 +129,5 @@ Adopts c trees = IsNewlyOpened c → IsAdopted c.now trees
 
 -- some of the desk's tables are there, and not of a version that is raised
 pub record IsUnraised (db : Database) : Type 0 where
-  pub taken : AreFree desk_forms db.schema → ⊥
+  pub taken : AreFree desk_table_defs db.schema → ⊥
   pub newest : (n : ℕ) → n < newest_schema → ¬ IsVersion db (pos n)

@@ -7,22 +7,22 @@ use Rattle.sqlite.specs.State.{HasCleanDisk, Survives}
 use Rattle.plant_base.specs.State.{State, newest_schema}
 use Rattle.plant_base.specs.declared.command.Envelope.{Envelope}
 use Rattle.plant_trace.specs.Reach.{IsAcyclic}
-use Rattle.plant_view.specs.Conserve.{IsConserved, IsBalanced}
+use Rattle.plant_view.specs.Conservation.{IsConserved, IsBalanced}
 use Rattle.plant_view.specs.Genealogy.{edges_of}
 use Rattle.plant_tables.specs.Missing.{AddsMissing, AreAllTaken}
 use Rattle.plant_check.specs.declared.rule.Rule.{Rule}
-use Rattle.plant_desk.specs.Keeping.{Executes, Asks, shuts, writes_nothing}
+use Rattle.plant_desk.specs.Keepers.{Executes, Asks, shuts, writes_nothing}
 use Rattle.plant_desk.specs.Runs.{fold}
 use Rattle.plant_messages.specs.declared.question.Question.{Question}
 use Rattle.plant_messages.specs.declared.question.Answer.{Answer}
 use Rattle.plant_messages.specs.declared.reply.Reply.{Reply}
 use Rattle.plant_messages.specs.declared.reply.DeskFault.{DeskFault}
 use Rattle.plant_messages.specs.declared.reply.DeskFault.TheVariants.{Shut}
-use Rattle.plant_desk_store.specs.Adopting.{IsNewlyOpened, AdoptedFrom, KeepsGood, StillGood, ShowsStill, IsRefusedBy, IsUnraised, Adopts}
-use Rattle.plant_desk_store.specs.Looking.{IsRepeat}
-use Rattle.plant_desk_store.specs.Running.{Ran}
-use Rattle.plant_desk_store.specs.DeskStanding.{IsOpenAt, OthersStand, DeskStands, Leaves, IsBeside}
-use Rattle.plant_desk_store.specs.Testing.{IsTested}
+use Rattle.plant_desk_store.specs.Adopting.{IsNewlyOpened, AdoptedFrom, KeepsValidState, ValidStateSurvives, ShowsUnchanged, IsRefusedBy, IsUnraised, Adopts}
+use Rattle.plant_desk_store.specs.Lookups.{IsRepeat}
+use Rattle.plant_desk_store.specs.Runs.{Ran}
+use Rattle.plant_desk_store.specs.DeskStates.{IsDurablyAt, KeepsForeignTables, Represents, HasCrashStates, HasForeignTables}
+use Rattle.plant_desk_store.specs.Checks.{IsTested}
 use Rattle.plant_desk_store.specs.declared.adopting.AdoptFault.{AdoptFault}
 use Rattle.plant_desk_store.specs.declared.adopting.AdoptFault.TheVariants as fault
 
@@ -31,13 +31,13 @@ use Rattle.plant_desk_store.specs.declared.adopting.AdoptFault.TheVariants as fa
 -- The store was adopted.
 pub record HasAdopted (old new : store.State) : Type 0 where
   pub rests : new.in_transaction ≡ false
-  pub adopted : HasCleanDisk new → IsNewlyOpened old → AdoptedFrom old (IsOpenAt new)
+  pub adopted : HasCleanDisk new → IsNewlyOpened old → AdoptedFrom old (IsDurablyAt new)
   -- over the tables of a good state the desk stands at this state, and a stop leaves that state alone
-  pub again : KeepsGood old new
+  pub again : KeepsValidState old new
   -- tables of other names stand as they did
-  pub others : HasCleanDisk new → IsNewlyOpened old → OthersStand old.now new
+  pub others : HasCleanDisk new → IsNewlyOpened old → KeepsForeignTables old.now new
   -- a stop leaves what it left before, and only that where there were tables that aren't raised
-  pub spared : IsUnraised old.now → Survives old new (λ _. ⊥)
+  pub no_crash_state_added : IsUnraised old.now → Survives old new (λ _. ⊥)
   pub crash : Survives old new (Adopts old)
 
 -- The store wasn't adopted, for this fault.
@@ -46,11 +46,11 @@ pub record HasRefused (f : AdoptFault) (old new : store.State) : Type 0 where
   pub refused : HasCleanDisk new → IsRefusedBy old.now f
   pub rests : new.in_transaction ≡ false
   -- the store, while it is open, shows what it showed, or good tables that were raised in part
-  pub shows : HasCleanDisk new → IsNewlyOpened old → ShowsStill f old new
+  pub shows : HasCleanDisk new → IsNewlyOpened old → ShowsUnchanged f old new
   -- a stop leaves the tables of a good state as they were, or of a later schema
-  pub still : StillGood old new
+  pub unchanged : ValidStateSurvives old new
   -- it leaves what it left before, and only that where there were tables that aren't raised, and at each fault but Store
-  pub spared : IsUnraised old.now → Survives old new (λ _. ⊥)
+  pub no_crash_state_added : IsUnraised old.now → Survives old new (λ _. ⊥)
   pub unmade : f ≢ fault.Store → Survives old new (λ _. ⊥)
   pub crash : Survives old new (Adopts old)
   pub something : HasCleanDisk new → ∥ ((trees : Trees) × new.may_leave trees) ∥₁
@@ -60,17 +60,17 @@ pub record HasRefused (f : AdoptFault) (old new : store.State) : Type 0 where
 -- A command was executed, which came to this.
 pub record HasExecuted (old new : store.State) (shut : Bool) (e : Envelope) (r : Result Reply DeskFault) : Type 0 where
   pub honest : HasCleanDisk new → HasCleanDisk old
-  pub executes : HasCleanDisk new → (s : State) → DeskStands old false s → Executes s (DeskStands new shut) (Leaves new) e r
+  pub executes : HasCleanDisk new → (s : State) → Represents old false s → Executes s (Represents new shut) (HasCrashStates new) e r
   pub is_shut : shut ≡ shuts r
   -- a stop leaves what it left before, where the command was refused or memory was, and where it was accepted before: nothing is
   -- written for it then
-  pub spared : writes_nothing r ≡ true → Survives old new (λ _. ⊥)
-  pub repeated : HasCleanDisk new → (s : State) → DeskStands old false s → IsRepeat s e → Survives old new (λ _. ⊥)
+  pub no_crash_state_added : writes_nothing r ≡ true → Survives old new (λ _. ⊥)
+  pub repeated : HasCleanDisk new → (s : State) → Represents old false s → IsRepeat s e → Survives old new (λ _. ⊥)
 
 -- A question was asked, which came to this.
 pub record HasAsked (old new : store.State) (q : Question) (r : Result Answer DeskFault) : Type 0 where
   pub honest : HasCleanDisk new → HasCleanDisk old
-  pub asks : HasCleanDisk new → (s : State) → DeskStands old false s → Asks newest_schema s (DeskStands new false) q r
+  pub asks : HasCleanDisk new → (s : State) → Represents old false s → Asks newest_schema s (Represents new false) q r
 
 -- Nothing is lost and nothing made, of each definition and in each lot, and nothing was made from itself.
 pub record IsAccounted (s : State) : Type 0 where
@@ -82,30 +82,30 @@ pub record IsAccounted (s : State) : Type 0 where
 pub record HasRun (old new : store.State) (shut : Bool) (list : List Envelope) (answered : List Reply) (end : Option DeskFault) : Type 0 where
   pub honest : HasCleanDisk new → HasCleanDisk old
   pub within : length answered ≤ length list
-  pub live : end ≢ Some Shut
-  pub ran : HasCleanDisk new → (s : State) → DeskStands old false s → Ran s list answered end (DeskStands new shut) (Leaves new) shut
-  pub accounted : HasCleanDisk new → (s : State) → DeskStands old false s → IsAccounted (fold s (take (length answered) list))
+  pub is_live : end ≢ Some Shut
+  pub ran : HasCleanDisk new → (s : State) → Represents old false s → Ran s list answered end (Represents new shut) (HasCrashStates new) shut
+  pub accounted : HasCleanDisk new → (s : State) → Represents old false s → IsAccounted (fold s (take (length answered) list))
   -- tables of other names stand as they did, also in what a stop leaves
-  pub others : HasCleanDisk new → (before : Database) → IsBeside old false before → IsBeside new shut before
+  pub others : HasCleanDisk new → (before : Database) → HasForeignTables old false before → HasForeignTables new shut before
 
 -- The indexes were made that the tables lacked, or weren't for this fault; the desk stands where it stood, and so does what a
 -- stop leaves.
 pub record HasIndexed (old new : store.State) (r : Result (Unit {0}) DeskFault) : Type 0 where
   pub honest : HasCleanDisk new → HasCleanDisk old
-  pub live : IfErr r (λ f. f ≢ Shut)
-  pub stands : HasCleanDisk new → (s : State) → DeskStands old false s → DeskStands new false s
+  pub is_live : IfErr r (λ f. f ≢ Shut)
+  pub represents : HasCleanDisk new → (s : State) → Represents old false s → Represents new false s
   -- each index whose name was free is there
-  pub made : HasCleanDisk new → (s : State) → DeskStands old false s → OnOk r (AddsMissing old.now new.now)
+  pub made : HasCleanDisk new → (s : State) → Represents old false s → OnOk r (AddsMissing old.now new.now)
   -- tables of other names stand as they did, also in what a stop leaves
-  pub others : HasCleanDisk new → (before : Database) → IsBeside old false before → IsBeside new false before
+  pub others : HasCleanDisk new → (before : Database) → HasForeignTables old false before → HasForeignTables new false before
   -- where no name is free, a stop leaves what it left before
-  pub spared : HasCleanDisk new → AreAllTaken old.now.schema → (trees : Trees) → new.may_leave trees → old.may_leave trees
+  pub no_crash_state_added : HasCleanDisk new → AreAllTaken old.now.schema → (trees : Trees) → new.may_leave trees → old.may_leave trees
 
 -- All tables were tested: the first rule that they break is told, which none does where the desk stood at a state.
 pub record HasVerified (old new : store.State) (r : Result (Option Rule) DeskFault) : Type 0 where
   pub honest : HasCleanDisk new → HasCleanDisk old
-  pub live : IfErr r (λ f. f ≢ Shut)
+  pub is_live : IfErr r (λ f. f ≢ Shut)
   pub tested : HasCleanDisk new → IfOk r (IsTested old.now)
-  pub unbroken : HasCleanDisk new → (s : State) → DeskStands old false s → IfOk r (λ broken. broken ≡ None) × DeskStands new false s
+  pub unbroken : HasCleanDisk new → (s : State) → Represents old false s → IfOk r (λ broken. broken ≡ None) × Represents new false s
   -- a stop leaves what it left before
   pub crash : Survives old new (λ _. ⊥)

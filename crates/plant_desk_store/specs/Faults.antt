@@ -1,7 +1,7 @@
 -- What calls below the desk came to, as the desk and an adoption tell it.
 use Rattle.std.specs.Prelude.{ℕ, ℤ, pos, negsuc, nat_lt, if◌then◌else◌, Option, Some, None, Result, Ok, Err}
-use Rattle.table_forms.specs.declared.fault.Fault.{Fault}
-use Rattle.table_forms.specs.declared.fault.Fault.TheVariants as below
+use Rattle.sql_tables.specs.declared.fault.Fault.{Fault}
+use Rattle.sql_tables.specs.declared.fault.Fault.TheVariants as below
 use Rattle.plant_base.specs.State.{newest_schema}
 use Rattle.plant_view.specs.declared.fault.ViewFault.{ViewFault}
 use Rattle.plant_view.specs.declared.fault.ViewFault.TheVariants as view
@@ -20,9 +20,9 @@ desk_fault below.Store = desk.Store
 desk_fault below.Memory = desk.Memory
 
 -- a fault of look-ups, or of what is made of their rows
-abbrev pub look_fault : ViewFault Fault → DeskFault
-look_fault (view.View f) = desk_fault f
-look_fault view.Memory = desk.Memory
+abbrev pub lookup_fault : ViewFault Fault → DeskFault
+lookup_fault (view.View f) = desk_fault f
+lookup_fault view.Memory = desk.Memory
 
 -- a fault of the store, as an adoption tells it
 abbrev pub adopt_fault : Fault → AdoptFault
@@ -30,9 +30,9 @@ adopt_fault below.Store = adopting.Store
 adopt_fault below.Memory = adopting.Memory
 
 -- what look-ups came to
-abbrev pub looked : {A : Type 0} → Result A (ViewFault Fault) → Result A DeskFault
-looked (Ok a) = Ok a
-looked (Err f) = Err (look_fault f)
+abbrev pub looked_up : {A : Type 0} → Result A (ViewFault Fault) → Result A DeskFault
+looked_up (Ok a) = Ok a
+looked_up (Err f) = Err (lookup_fault f)
 
 -- the rows that a test reads: a table that doesn't stand as it is declared is a fault of the store
 abbrev pub rows_to_test : Result (Option Loaded) Fault → Result Loaded DeskFault
@@ -47,13 +47,13 @@ rows_to_adopt (Ok None) = Err (adopting.Damaged rule.Tables)
 rows_to_adopt (Err f) = Err (adopt_fault f)
 
 -- The schema of a version that table meta tells, where it is known; a number below 0, which meta can't tell, is that of none.
-abbrev pub schema_told : ℤ → Result (Option ℕ) AdoptFault
-schema_told (pos n) = if nat_lt newest_schema n then Err (adopting.Newer n) else Ok (Some n)
-schema_told (negsuc n) = Ok (Some 0)
+abbrev pub schema_of_version : ℤ → Result (Option ℕ) AdoptFault
+schema_of_version (pos n) = if nat_lt newest_schema n then Err (adopting.Newer n) else Ok (Some n)
+schema_of_version (negsuc n) = Ok (Some 0)
 
 -- what an adoption finds: none of the desk's tables, or those of a schema
 abbrev pub schema_found : Result FoundTables Fault → Result (Option ℕ) AdoptFault
 schema_found (Ok tables.Nothing) = Ok None
 schema_found (Ok tables.NoMeta) = Err (adopting.Damaged rule.Tables)
-schema_found (Ok (tables.Version v)) = schema_told v
+schema_found (Ok (tables.Version v)) = schema_of_version v
 schema_found (Err f) = Err (adopt_fault f)

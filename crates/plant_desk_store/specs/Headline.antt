@@ -15,9 +15,9 @@ use Rattle.plant_trace.specs.declared.direction.Direction.{Direction}
 use Rattle.plant_trace.specs.declared.node.Node.{Node}
 use Rattle.plant_view.specs.Genealogy.{edges_of}
 use Rattle.plant_view.specs.Tables.{tables_of, IsWholeIn, place_of_row}
-use Rattle.plant_good.specs.Good.{IsGood}
-use Rattle.table_forms.specs.Standing.{AreFree}
-use Rattle.plant_tables.specs.DeskForms.{desk_forms}
+use Rattle.plant_invariant.specs.StateInvariant.{StateInvariant}
+use Rattle.sql_tables.specs.StoredRows.{AreFree}
+use Rattle.plant_tables.specs.DeskTableDefs.{desk_table_defs}
 use Rattle.plant_tables.specs.Keyed.{HoldsTablesOf, HoldsTables}
 use Rattle.plant_answers.specs.AnswerLaws.{StandsFrom, lot_answer_order}
 use Rattle.plant_answers.specs.Answers.{answer}
@@ -28,7 +28,7 @@ use Rattle.plant_messages.specs.declared.question.Answer.{Answer}
 use Rattle.plant_messages.specs.declared.question.Answer.TheVariants as A
 use Rattle.plant_messages.specs.declared.question.LotAnswer.{LotAnswer}
 use Rattle.plant_desk_store.specs.Calls.{IsAccounted, HasRefused, HasAsked}
-use Rattle.plant_desk_store.specs.Life.{Sent, MayLeadTo, IsOpened, Place, opened, desk, refused, Lived}
+use Rattle.plant_desk_store.specs.Executions.{Attempt, PossibleOutcome, IsOpened, StorePhase, opened, desk, refused, Execution}
 use Rattle.plant_desk_store.specs.declared.adopting.AdoptFault.{AdoptFault}
 use Rattle.plant_desk_store.specs.declared.adopting.AdoptFault.TheVariants.{Store, Memory}
 
@@ -41,7 +41,7 @@ IsTraceIn s direction start _ = ¬ (missing s start ≡ None)
 
 -- the lots that are told are just those with stock that the start is or leads to, ascending, each once, or it isn't there
 abbrev pub AreStandingIn : State → Node → Answer → Type 0
-AreStandingIn s start (A.Stands lots) = IsStrictlySortedBy lot_answer_order lots × ((a : LotAnswer) → Contains lots a ↔ StandsFrom s start a)
+AreStandingIn s start (A.HasStoredRows lots) = IsStrictlySortedBy lot_answer_order lots × ((a : LotAnswer) → Contains lots a ↔ StandsFrom s start a)
 AreStandingIn s start _ = ¬ (missing s start ≡ None)
 
 -- The stock of the lot is what entered it less what left it; its sublots are just those of the state, each at its place, and
@@ -60,13 +60,13 @@ IsLotIn s lot _ = lot_at s lot ≡ None
 -- what an answer says of a trace, of where goods stand or of a lot, in words of movements and of the least relation
 abbrev pub SaysOf : State → Question → Answer → Type 0
 SaysOf s (Q.Trace direction start) a = IsTraceIn s direction start a
-SaysOf s (Q.Stands start) a = AreStandingIn s start a
+SaysOf s (Q.HasStoredRows start) a = AreStandingIn s start a
 SaysOf s (Q.Lot lot) a = IsLotIn s lot a
 SaysOf s _ a = ⊤
 
 -- Each question is answered by the definitions' answer at the state, of tables in the newest schema; and of a trace, of where
 -- goods stand and of a lot that says what follows.
-pub record IsToldIn (s : State) (q : Question) (a : Answer) : Type 0 where
+pub record IsAnsweredIn (s : State) (q : Question) (a : Answer) : Type 0 where
   pub answered : a ≡ answer newest_schema s q
   pub says : SaysOf s q a
 
@@ -75,12 +75,12 @@ pub record IsToldIn (s : State) (q : Question) (a : Answer) : Type 0 where
 -- the database holds the tables of the state, in a schema that lacks no row of it; or the names of the desk's tables are
 -- free, and the state is the opening one
 abbrev pub IsAtState : State → Database → Type 0
-IsAtState s db = (AreFree desk_forms db.schema × (s ≡ opening)) ⊎ ((version : ℕ) × HoldsTablesOf version db (tables_of version s) × IsWholeIn version s)
+IsAtState s db = (AreFree desk_table_defs db.schema × (s ≡ opening)) ⊎ ((version : ℕ) × HoldsTablesOf version db (tables_of version s) × IsWholeIn version s)
 
 -- A store that was opened is at the state, which is good: nothing in it is lost or made. An adoption refuses it by a fault of
 -- the store or for want of memory alone.
 pub record IsFoundAt {S : Type 0} (g : Ghosts S) (c : Held S) (s : State) : Type 0 where
-  pub good : IsGood s
+  pub valid : StateInvariant s
   pub accounted : IsAccounted s
   pub tables : IsAtState s (state g c).now
   pub accepted : (f : AdoptFault) (new : Held S) → HasRefused f (state g c) (state g new) → HasCleanDisk (state g new) → (f ≡ Store) ⊎ (f ≡ Memory)
@@ -88,17 +88,17 @@ pub record IsFoundAt {S : Type 0} (g : Ghosts S) (c : Held S) (s : State) : Type
 -- The store of a desk that isn't shut, while it is open, holds the tables of the state, which is good: nothing in it is lost
 -- or made. What is asked is told of it.
 pub record IsKeptAt {S : Type 0} (g : Ghosts S) (c : Held S) (s : State) : Type 0 where
-  pub good : IsGood s
+  pub valid : StateInvariant s
   pub accounted : IsAccounted s
   pub tables : IsTrue (state g c).is_open → HoldsTables (state g c).now (tables_of newest_schema s)
-  pub told : (q : Question) (a : Answer) (new : Held S) → HasAsked (state g c) (state g new) q (Ok a) → HasCleanDisk (state g new) → IsToldIn s q a
+  pub reported : (q : Question) (a : Answer) (new : Held S) → HasAsked (state g c) (state g new) q (Ok a) → HasCleanDisk (state g new) → IsAnsweredIn s q a
 
 -- a stop leaves something that can be opened: the trees of a sound database
-abbrev pub LeavesSomething : store.State → Type 0
-LeavesSomething c = ∥ ((db : Database) × IsDatabase db × c.may_leave db.trees) ∥₁
+abbrev pub HasOpenableCrashState : store.State → Type 0
+HasOpenableCrashState c = ∥ ((db : Database) × IsDatabase db × c.may_leave db.trees) ∥₁
 
 -- what is so at each place; of a desk that is shut and of a store that was given back nothing is told but by the next opening
-abbrev pub IsSoAt : {S : Type 0} → Ghosts S → Held S → State → Place → Type 0
+abbrev pub IsSoAt : {S : Type 0} → Ghosts S → Held S → State → StorePhase → Type 0
 IsSoAt g c s opened = IsFoundAt g c s
 IsSoAt g c s (desk false) = IsKeptAt g c s
 IsSoAt g c s (desk true) = ⊤
@@ -109,5 +109,5 @@ IsSoAt g c s refused = ⊤
 -- of its own; and a stop leaves something. There each trace is exactly the least relation that is closed under recorded consumption, production, split and
 -- merge, and every lot's stock is what entered it less what left it.
 abbrev pub Headline : {S : Type 0} → Ghosts S → Type 0
-Headline {S} g = (first c : Held S) (place : Place) (sent : List Sent) → IsOpened (state g first) → Lived g first c place sent → HasCleanDisk (state g c)
-    → (s : State) × IsAtState s (state g first).now × ((now : State) × MayLeadTo s sent now × IsSoAt g c now place) × LeavesSomething (state g c)
+Headline {S} g = (first c : Held S) (phase : StorePhase) (attempts : List Attempt) → IsOpened (state g first) → Execution g first c phase attempts → HasCleanDisk (state g c)
+    → (s : State) × IsAtState s (state g first).now × ((now : State) × PossibleOutcome s attempts now × IsSoAt g c now phase) × HasOpenableCrashState (state g c)

@@ -10,11 +10,11 @@ use Rattle.plant_base.specs.declared.command.Envelope.{Envelope}
 use Rattle.plant_view.specs.OneBatch.{PutsOneBatch}
 use Rattle.plant_view.specs.Tables.{tables_of, changed_all}
 use Rattle.plant_view.specs.declared.change.RowChange.{RowChange}
-use Rattle.plant_good.specs.Good.{IsGood}
-use Rattle.table_forms.specs.Resting.{Keeps}
-use Rattle.table_forms.specs.Standing.{AreFree}
-use Rattle.table_forms.specs.Stopping.{IsSettled}
-use Rattle.plant_tables.specs.DeskForms.{desk_forms}
+use Rattle.plant_invariant.specs.StateInvariant.{StateInvariant}
+use Rattle.sql_tables.specs.AtRest.{Keeps}
+use Rattle.sql_tables.specs.StoredRows.{AreFree}
+use Rattle.sql_tables.specs.CrashStates.{IsSettled}
+use Rattle.plant_tables.specs.DeskTableDefs.{desk_table_defs}
 use Rattle.plant_tables.specs.Keyed.{AreFresh}
 use Rattle.plant_tables.specs.Missing.{AddsMissing, AreAllTaken}
 use Rattle.plant_tables_read.specs.Version.{IsKnown, IsVersion}
@@ -24,20 +24,20 @@ use Rattle.plant_migrate.specs.Raised.{edges_from}
 use Rattle.plant_migrate.specs.Steps.{IsRaisedBy}
 use Rattle.plant_check.specs.declared.rule.Rule.{Rule}
 use Rattle.plant_answers.specs.Answers.{answer}
-use Rattle.plant_desk.specs.Keeping.{writes_nothing}
+use Rattle.plant_desk.specs.Keepers.{writes_nothing}
 use Rattle.plant_messages.specs.declared.question.Question.{Question}
 use Rattle.plant_messages.specs.declared.question.Answer.{Answer}
 use Rattle.plant_messages.specs.declared.reply.Reply.{Reply}
 use Rattle.plant_messages.specs.declared.reply.Reply.TheVariants.{Accepted}
 use Rattle.plant_messages.specs.declared.reply.DeskFault.{DeskFault}
 use Rattle.plant_messages.specs.declared.reply.DeskFault.TheVariants.{Store, Shut}
-use Rattle.plant_desk_store.specs.Adopting.{IsNewlyOpened, HoldsGood, IsRisingAt, IsRaised, ShowsStill, NamesFirst, AreMade}
-use Rattle.plant_desk_store.specs.Looking.{IsDecidedAt, IsRepeat}
-use Rattle.plant_desk_store.specs.DeskStanding.{StandsAt, Leaves, IsOpenAt, Executed, OthersStand}
-use Rattle.plant_desk_store.specs.Testing.{IsTested}
+use Rattle.plant_desk_store.specs.Adopting.{IsNewlyOpened, HoldsValidState, IsRisingAt, IsRaised, ShowsUnchanged, NamesFirst, AreMade}
+use Rattle.plant_desk_store.specs.Lookups.{IsDecidedAt, IsRepeat}
+use Rattle.plant_desk_store.specs.DeskStates.{ShowsState, HasCrashStates, IsDurablyAt, Executed, KeepsForeignTables}
+use Rattle.plant_desk_store.specs.Checks.{IsTested}
 use Rattle.plant_desk_store.specs.declared.adopting.AdoptFault.{AdoptFault}
 use Rattle.plant_desk_store.specs.declared.adopting.AdoptFault.TheVariants as fault
-use Rattle.plant_desk_store.specs.declared.looking.Decided.{Decided}
+use Rattle.plant_desk_store.specs.declared.lookups.Decided.{Decided}
 
 -- ---- calls that only read
 
@@ -50,68 +50,68 @@ pub record OnlyReads (old new : store.State) : Type 0 where
 -- A command was decided by look-ups.
 pub record HasDecided (old new : store.State) (e : Envelope) (r : Result Decided DeskFault) : Type 0 where
   pub reads : OnlyReads old new
-  pub decided : HasCleanDisk new → (s : State) → StandsAt old s → IfOk r (IsDecidedAt s e)
+  pub decided : HasCleanDisk new → (s : State) → ShowsState old s → IfOk r (IsDecidedAt s e)
   pub one_batch : IfOk r (λ d. PutsOneBatch d.decision)
   pub small : IfOk r (λ d. d.seq ≤ greatest_seq)
-  pub live : HasCleanDisk new → OnOk r (IsTrue new.is_open)
+  pub is_live : HasCleanDisk new → OnOk r (IsTrue new.is_open)
   pub unshut : IfErr r (λ f. f ≢ Shut)
 
 -- A question was answered by look-ups.
 pub record HasAnswered (old new : store.State) (q : Question) (r : Result Answer DeskFault) : Type 0 where
   pub reads : OnlyReads old new
-  pub answers : HasCleanDisk new → (s : State) → StandsAt old s → IfOk r (λ a. a ≡ answer newest_schema s q)
+  pub answers : HasCleanDisk new → (s : State) → ShowsState old s → IfOk r (λ a. a ≡ answer newest_schema s q)
   pub unshut : IfErr r (λ f. f ≢ Shut)
 
 -- All tables were tested.
 pub record HasTested (old new : store.State) (r : Result (Option Rule) DeskFault) : Type 0 where
   pub reads : OnlyReads old new
   pub tested : HasCleanDisk new → IfOk r (IsTested old.now)
-  pub unbroken : HasCleanDisk new → (s : State) → StandsAt old s → IfOk r (λ broken. broken ≡ None)
+  pub unbroken : HasCleanDisk new → (s : State) → ShowsState old s → IfOk r (λ broken. broken ≡ None)
   pub unshut : IfErr r (λ f. f ≢ Shut)
 
 -- ---- commands
 
 -- tables of other names that stood as in some database still do
-abbrev pub KeepsBeside : store.State → store.State → Type 0
-KeepsBeside old new = (before : Database) → OthersStand before old → OthersStand before new
+abbrev pub PreservesForeignTables : store.State → store.State → Type 0
+PreservesForeignTables old new = (before : Database) → KeepsForeignTables before old → KeepsForeignTables before new
 
 -- The changes lead from the tables of one state to those of another, which is good, each row under a key of its own.
-pub record LeadTo (changes : List RowChange) (s next : State) : Type 0 where
-  pub good : IsGood next
+pub record PossibleOutcomes (changes : List RowChange) (s next : State) : Type 0 where
+  pub valid : StateInvariant next
   pub leads : changed_all changes (tables_of newest_schema s) ≡ tables_of newest_schema next
   pub fresh : AreFresh changes (tables_of newest_schema s)
 
 -- what a commit that leads from s to the next state came to
 abbrev pub IsCommitted : State → State → store.State → Result Reply DeskFault → Type 0
-IsCommitted s next new r = MatchResult r (λ _. IsOpenAt new next) (λ _. StandsAt new s × Leaves new (λ u. (u ≡ s) ⊎ (u ≡ next)))
+IsCommitted s next new r = MatchResult r (λ _. IsDurablyAt new next) (λ _. ShowsState new s × HasCrashStates new (λ u. (u ≡ s) ⊎ (u ≡ next)))
 
 -- The changes of a command, of which so many were accepted before it, were committed or not.
 pub record HasCommitted (seq : ℕ) (changes : List RowChange) (old new : store.State) (r : Result Reply DeskFault) : Type 0 where
   pub rests : new.in_transaction ≡ false
   pub clean : HasCleanDisk new → HasCleanDisk old
   pub answered : MatchResult r (λ x. x ≡ Accepted (seq + 1)) (λ f. f ≡ Store)
-  pub committed : HasCleanDisk new → (s next : State) → IsOpenAt old s → IsTrue old.is_open → LeadTo changes s next → IsCommitted s next new r
-  pub others : HasCleanDisk new → (s next : State) → IsOpenAt old s → IsTrue old.is_open → LeadTo changes s next → KeepsBeside old new
+  pub committed : HasCleanDisk new → (s next : State) → IsDurablyAt old s → IsTrue old.is_open → PossibleOutcomes changes s next → IsCommitted s next new r
+  pub others : HasCleanDisk new → (s next : State) → IsDurablyAt old s → IsTrue old.is_open → PossibleOutcomes changes s next → PreservesForeignTables old new
 
 -- What was decided of a command was done.
 pub record HasWritten (d : Decided) (e : Envelope) (old new : store.State) (r : Result Reply DeskFault) : Type 0 where
   pub rests : new.in_transaction ≡ false
   pub clean : HasCleanDisk new → HasCleanDisk old
-  pub executed : HasCleanDisk new → (s : State) → IsOpenAt old s → IsTrue old.is_open → IsDecidedAt s e d → Executed s new e r
-  pub others : HasCleanDisk new → (s : State) → IsOpenAt old s → IsTrue old.is_open → IsDecidedAt s e d → KeepsBeside old new
+  pub executed : HasCleanDisk new → (s : State) → IsDurablyAt old s → IsTrue old.is_open → IsDecidedAt s e d → Executed s new e r
+  pub others : HasCleanDisk new → (s : State) → IsDurablyAt old s → IsTrue old.is_open → IsDecidedAt s e d → PreservesForeignTables old new
   -- Store comes of the commit of a command that is accepted
-  pub told : IfErr r (λ f. f ≡ Store)
+  pub reported : IfErr r (λ f. f ≡ Store)
 
 -- A command was executed over the store.
 pub record HasStepped (e : Envelope) (old new : store.State) (r : Result Reply DeskFault) : Type 0 where
   pub rests : new.in_transaction ≡ false
   pub clean : HasCleanDisk new → HasCleanDisk old
-  pub executed : HasCleanDisk new → (s : State) → IsOpenAt old s → Executed s new e r
-  pub others : HasCleanDisk new → (s : State) → IsOpenAt old s → KeepsBeside old new
+  pub executed : HasCleanDisk new → (s : State) → IsDurablyAt old s → Executed s new e r
+  pub others : HasCleanDisk new → (s : State) → IsDurablyAt old s → PreservesForeignTables old new
   pub unshut : IfErr r (λ f. f ≢ Shut)
   -- where nothing was to be written, and for a command that was accepted before, a stop leaves what it left
-  pub spared : writes_nothing r ≡ true → Survives old new (λ _. ⊥)
-  pub repeated : HasCleanDisk new → (s : State) → StandsAt old s → IsRepeat s e → Survives old new (λ _. ⊥)
+  pub no_crash_state_added : writes_nothing r ≡ true → Survives old new (λ _. ⊥)
+  pub repeated : HasCleanDisk new → (s : State) → ShowsState old s → IsRepeat s e → Survives old new (λ _. ⊥)
 
 -- ---- indexes
 
@@ -120,18 +120,18 @@ pub record HasMended (old new : store.State) (r : Result (Unit {0}) DeskFault) :
   pub rests : new.in_transaction ≡ false
   pub clean : HasCleanDisk new → HasCleanDisk old
   pub unshut : IfErr r (λ f. f ≢ Shut)
-  pub stands : HasCleanDisk new → (s : State) → IsOpenAt old s → IsOpenAt new s
-  pub made : HasCleanDisk new → (s : State) → IsOpenAt old s → OnOk r (AddsMissing old.now new.now)
-  pub others : HasCleanDisk new → (s : State) → IsOpenAt old s → KeepsBeside old new
-  pub spared : HasCleanDisk new → AreAllTaken old.now.schema → (trees : Trees) → new.may_leave trees → old.may_leave trees
+  pub represents : HasCleanDisk new → (s : State) → IsDurablyAt old s → IsDurablyAt new s
+  pub made : HasCleanDisk new → (s : State) → IsDurablyAt old s → OnOk r (AddsMissing old.now new.now)
+  pub others : HasCleanDisk new → (s : State) → IsDurablyAt old s → PreservesForeignTables old new
+  pub no_crash_state_added : HasCleanDisk new → AreAllTaken old.now.schema → (trees : Trees) → new.may_leave trees → old.may_leave trees
 
 -- ---- adoption
 
 -- The desk's tables were made, with the opening state, or weren't.
 pub record HasMade (old new : store.State) (r : Result (Unit {0}) AdoptFault) : Type 0 where
   pub rests : new.in_transaction ≡ false
-  pub made : HasCleanDisk new → IsSettled old → IsDatabase old.now → AreFree desk_forms old.now.schema → MatchResult r (λ _. IsOpenAt new opening × OthersStand old.now new) (λ _. Keeps old new)
-  pub told : IfErr r (λ f. f ≡ fault.Store)
+  pub made : HasCleanDisk new → IsSettled old → IsDatabase old.now → AreFree desk_table_defs old.now.schema → MatchResult r (λ _. IsDurablyAt new opening × KeepsForeignTables old.now new) (λ _. Keeps old new)
+  pub reported : IfErr r (λ f. f ≡ fault.Store)
   pub crash : Survives old new (AreMade old.now)
 
 -- the rows of the tables of the state in this version
@@ -139,10 +139,10 @@ abbrev pub AreRowsOf : ℕ → State → DeskRows → Type 0
 AreRowsOf version s rows = rows_listed rows ≡ rows_in (tables_of version s)
 
 -- The tables of a version were read and tested.
-pub record HasJudged (version : ℕ) (old new : store.State) (r : Result DeskRows AdoptFault) : Type 0 where
+pub record HasChecked (version : ℕ) (old new : store.State) (r : Result DeskRows AdoptFault) : Type 0 where
   pub reads : OnlyReads old new
-  pub good : HasCleanDisk new → IsNewlyOpened old → IsKnown version → IfOk r (λ rows. (s : State) × HoldsGood version old.now s × AreRowsOf version s rows)
-  pub told : HasCleanDisk new → (s : State) → HoldsGood version old.now s → IfOk r (AreRowsOf version s)
+  pub valid : HasCleanDisk new → IsNewlyOpened old → IsKnown version → IfOk r (λ rows. (s : State) × HoldsValidState version old.now s × AreRowsOf version s rows)
+  pub reported : HasCleanDisk new → (s : State) → HoldsValidState version old.now s → IfOk r (AreRowsOf version s)
   pub numbered : OnOk r (1 ≤ version)
   pub unchanged : HasCleanDisk new → OnOk r (IsUnchanged old new)
   pub named : HasCleanDisk new → IsVersion old.now (pos version) → IfErr r (NamesFirst old.now)
@@ -150,18 +150,18 @@ pub record HasJudged (version : ℕ) (old new : store.State) (r : Result DeskRow
 -- Good tables of an older version, of which these rows were read, were raised to the newest, or in part.
 pub record HasRaised (version : ℕ) (rows : DeskRows) (old new : store.State) (r : Result (Unit {0}) AdoptFault) : Type 0 where
   pub rests : new.in_transaction ≡ false
-  pub raised : HasCleanDisk new → IsSettled old → (s : State) → HoldsGood version old.now s → AreRowsOf version s rows
-      → MatchResult r (λ _. IsOpenAt new s × OthersStand old.now new) (λ f. IsRisingAt version new s × ShowsStill f old new)
-  pub told : IfErr r (λ f. (f ≡ fault.Store) ⊎ (f ≡ fault.Memory))
+  pub raised : HasCleanDisk new → IsSettled old → (s : State) → HoldsValidState version old.now s → AreRowsOf version s rows
+      → MatchResult r (λ _. IsDurablyAt new s × KeepsForeignTables old.now new) (λ f. IsRisingAt version new s × ShowsUnchanged f old new)
+  pub reported : IfErr r (λ f. (f ≡ fault.Store) ⊎ (f ≡ fault.Memory))
   pub unmade : IfErr r (λ f. f ≢ fault.Store → Survives old new (λ _. ⊥))
   pub crash : Survives old new (IsRaisedBy version (newest_schema - version) rows.meta.position (edges_from version rows.movements.items) old)
 
 -- The tables of a version, which are there, were tested, and raised where they are good and older than the newest.
 pub record HasTaken (version : ℕ) (old new : store.State) (r : Result (Unit {0}) AdoptFault) : Type 0 where
   pub rests : new.in_transaction ≡ false
-  pub good : HasCleanDisk new → IsNewlyOpened old → IsKnown version
-      → MatchResult r (λ _. (s : State) × HoldsGood version old.now s × IsOpenAt new s × OthersStand old.now new) (λ f. ShowsStill f old new)
-  pub again : HasCleanDisk new → IsNewlyOpened old → (s : State) → HoldsGood version old.now s → MatchResult r (λ _. IsOpenAt new s) (λ _. IsRisingAt version new s)
+  pub valid : HasCleanDisk new → IsNewlyOpened old → IsKnown version
+      → MatchResult r (λ _. (s : State) × HoldsValidState version old.now s × IsDurablyAt new s × KeepsForeignTables old.now new) (λ f. ShowsUnchanged f old new)
+  pub again : HasCleanDisk new → IsNewlyOpened old → (s : State) → HoldsValidState version old.now s → MatchResult r (λ _. IsDurablyAt new s) (λ _. IsRisingAt version new s)
   pub named : HasCleanDisk new → IsVersion old.now (pos version) → IfErr r (NamesFirst old.now)
   pub unmade : IfErr r (λ f. f ≢ fault.Store → Survives old new (λ _. ⊥))
   pub newest : version ≡ newest_schema → Survives old new (λ _. ⊥)

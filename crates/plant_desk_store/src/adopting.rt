@@ -6,20 +6,19 @@ ghost use Rattle.plant_base.specs.State.{newest_schema};
 ghost use Rattle.plant_desk_store.specs.Adopting.{BrokenBy};
 ghost use Rattle.plant_desk_store.specs.Calls.{HasAdopted, HasRefused};
 ghost use Rattle.plant_desk_store.specs.Faults as spec;
-ghost use Rattle.plant_desk_store.specs.Parts.{HasMade, HasJudged, HasRaised, HasTaken};
-ghost use Rattle.plant_desk_store.specs.Testing.{IsFit};
+ghost use Rattle.plant_desk_store.specs.Parts.{HasMade, HasChecked, HasRaised, HasTaken};
+ghost use Rattle.plant_desk_store.specs.Checks.{PassesChecks};
 
-use crate::fitness::{Unfit, judge};
+use crate::check_error::{CheckError, check_desk};
 use crate::stored::Desk;
 use plant_base::NEWEST_SCHEMA;
 use plant_check::Rule;
 use plant_migrate::raise_rows;
 use plant_tables::commit_opening;
-use plant_tables_read::DeskRows;
-use plant_tables_read::{FoundTables, Loaded, found};
+use plant_tables_read::{DeskRows, FoundTables, Loaded, found};
+use sql_tables::Fault;
 use sqlite::{Alter, Connection};
 use std::alloc::Global;
-use table_forms::Fault;
 
 /// Why a store is no desk's.
 #[derive(Clone, Copy, Debug, PartialEq, Eq, thiserror::Error)]
@@ -123,15 +122,15 @@ fn schema_found(found: Result<FoundTables, Fault>) -> Result<Option<u64>, AdoptF
     match found {
         Ok(FoundTables::Nothing) => Ok(None),
         Ok(FoundTables::NoMeta) => Err(AdoptFault::Damaged(Rule::Tables)),
-        Ok(FoundTables::Version(version)) => schema_told(version),
+        Ok(FoundTables::Version(version)) => schema_of_version(version),
         Err(fault) => Err(fault_of(fault)),
     }
 }
 
 /// The schema of a version, where it is known; `Newer` where it is above the newest. Of a number that meta can't tell, as
 /// none is below 1, this is 0, which is no schema's.
-fn schema_told(version: i64) -> Result<Option<u64>, AdoptFault>
-    ensures { result ≡ spec.schema_told version }
+fn schema_of_version(version: i64) -> Result<Option<u64>, AdoptFault>
+    ensures { result ≡ spec.schema_of_version version }
 {
     let schema = u64::try_from(version).unwrap_or(0);
     if schema > NEWEST_SCHEMA {
@@ -149,7 +148,7 @@ fn adopt_tables<S: Alter>(
     requires { (state S.Store connection.old).in_transaction ≡ false }
     ensures { HasTaken schema (state S.Store connection.old) (state S.Store connection.new) result }
 {
-    let rows = judge_tables(alloc, connection, schema)?;
+    let rows = check_tables(alloc, connection, schema)?;
     if schema < NEWEST_SCHEMA {
         raise_tables(alloc, connection, schema, &rows)
     } else {
@@ -169,30 +168,30 @@ fn make_opening<S: Alter>(connection: &mut Connection<S>) -> Result<(), AdoptFau
 }
 
 /// Reads all tables of a schema, and tests whether they are those of a good state. Nothing is changed.
-fn judge_tables<S: Alter>(
+fn check_tables<S: Alter>(
     alloc: Global,
     connection: &mut Connection<S>,
     schema: u64,
 ) -> Result<DeskRows, AdoptFault>
-    ensures { HasJudged schema (state S.Store connection.old) (state S.Store connection.new) result }
+    ensures { HasChecked schema (state S.Store connection.old) (state S.Store connection.new) result }
 {
     match rows_to_adopt(Loaded::read(alloc, connection, schema)) {
-        Ok(loaded) => judge_rows(alloc, loaded, schema),
+        Ok(loaded) => check_loaded(alloc, loaded, schema),
         Err(fault) => Err(fault),
     }
 }
 
 /// Tests whether the rows that were loaded of the tables of a schema are those of a good state.
-fn judge_rows(alloc: Global, loaded: Loaded, schema: u64) -> Result<DeskRows, AdoptFault>
-    ensures fit { IfOk result (IsFit loaded schema) }
+fn check_loaded(alloc: Global, loaded: Loaded, schema: u64) -> Result<DeskRows, AdoptFault>
+    ensures fit { IfOk result (PassesChecks loaded schema) }
     ensures broken { IfErr result (BrokenBy loaded) }
 {
-    match judge(alloc, loaded, schema) {
+    match check_desk(alloc, loaded, schema) {
         Ok(rows) => Ok(rows),
-        Err(Unfit::Broken(rule)) => Err(AdoptFault::Damaged(rule)),
+        Err(CheckError::Broken(rule)) => Err(AdoptFault::Damaged(rule)),
         // The version was found to be this one.
-        Err(Unfit::Schema) => Err(AdoptFault::Store),
-        Err(Unfit::Memory) => Err(AdoptFault::Memory),
+        Err(CheckError::Schema) => Err(AdoptFault::Store),
+        Err(CheckError::Memory) => Err(AdoptFault::Memory),
     }
 }
 

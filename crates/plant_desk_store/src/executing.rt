@@ -4,10 +4,10 @@ ghost use Rattle.std.specs.Prelude.{◌≡◌, ◌+◌, ◌<◌, ◌≤◌, ◌^
 ghost use Rattle.sqlite.specs.Held.{state};
 ghost use Rattle.plant_base.specs.Values.{greatest_seq};
 ghost use Rattle.plant_view.specs.OneBatch.{PutsOneBatch};
-ghost use Rattle.plant_desk.specs.Keeping.{writes_nothing};
+ghost use Rattle.plant_desk.specs.Keepers.{writes_nothing};
 ghost use Rattle.plant_desk_store.specs.Parts.{HasCommitted, HasStepped, HasWritten};
 
-use crate::looking::{Decided, decide_on};
+use crate::lookups::{Decided, decide_on};
 use plant_base::Envelope;
 use plant_messages::{DeskFault, Reply};
 use plant_tables::commit_changes;

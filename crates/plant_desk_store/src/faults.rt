@@ -6,7 +6,7 @@ ghost use Rattle.plant_desk_store.specs.Faults as spec;
 use plant_messages::DeskFault;
 use plant_tables_read::Loaded;
 use plant_view::ViewFault;
-use table_forms::Fault;
+use sql_tables::Fault;
 
 /// The fault of the desk that a fault of its store is.
 pub(crate) fn fault_of(fault: Fault) -> DeskFault
@@ -20,7 +20,7 @@ pub(crate) fn fault_of(fault: Fault) -> DeskFault
 
 /// The fault of the desk where look-ups over its store, or what is made of their rows, came to none.
 pub(crate) fn fault_in(fault: ViewFault<Fault>) -> DeskFault
-    ensures { result ≡ spec.look_fault fault }
+    ensures { result ≡ spec.lookup_fault fault }
 {
     match fault {
         ViewFault::View(fault) => fault_of(fault),
@@ -29,8 +29,8 @@ pub(crate) fn fault_in(fault: ViewFault<Fault>) -> DeskFault
 }
 
 /// What look-ups came to, as the desk tells it.
-pub(crate) fn looked<T>(answer: Result<T, ViewFault<Fault>>) -> Result<T, DeskFault>
-    ensures { result ≡ spec.looked answer }
+pub(crate) fn looked_up<T>(answer: Result<T, ViewFault<Fault>>) -> Result<T, DeskFault>
+    ensures { result ≡ spec.looked_up answer }
 {
     match answer {
         Ok(answer) => Ok(answer),

@@ -4,10 +4,10 @@ ghost use Rattle.std.specs.Prelude.{◌≡◌, false};
 ghost use Rattle.sqlite.specs.Held.{state};
 ghost use Rattle.plant_desk_store.specs.Calls.{HasExecuted, HasAsked};
 ghost use Rattle.plant_desk_store.specs.Headline.{Headline};
-ghost use Rattle.plant_desk_store.specs.DeskLaws.{StopsAreReopened, GoodIsUnrefused};
-ghost use Rattle.plant_desk_store.specs.DeskLaws.{GoodIsAdoptedAgain, OpeningIsAdopted, OthersAreSpared};
+ghost use Rattle.plant_desk_store.specs.DeskLaws.{StopsAreReopened, ValidIsNotRefused};
+ghost use Rattle.plant_desk_store.specs.DeskLaws.{ValidIsAdoptedAgain, OpeningIsAdopted, UnknownTablesAreKept};
 ghost use Rattle.plant_desk_store.specs.DeskLaws.{MarksAreReached};
-ghost use Rattle.plant_desk_store.specs.SentAgain.{LivesAreSendings, LivesActOnce, StoresActOnce};
+ghost use Rattle.plant_desk_store.specs.Resent.{ExecutionsAreSendings, ExecutionsApplyOnce, StoresApplyOnce};
 
 use crate::stored::Desk;
 use plant_base::Envelope;
@@ -20,7 +20,7 @@ use sqlite::Alter;
 /// production, split and merge, and every lot's stock is what entered less what left.
 ///
 /// What it supposes of a call is what the call ensures: [`Desk::adopt`], [`Desk::run`], [`Desk::verify`], and `execute` and
-/// `ask` of a desk, as [`execute_told`] and [`ask_told`] tell them.
+/// `ask` of a desk, as [`execute_with_outcome`] and [`ask_with_outcome`] tell them.
 pub fn headline_law<S: Alter>()
     ensures { Headline S.Store }
 {}
@@ -31,16 +31,19 @@ pub fn headline_law<S: Alter>()
 /// by the definitions' reply, or stopped before it acted or behind that. `once`: such a client's commands lead, but for receipts,
 /// where the acknowledged ones lead, each taken once, in a desk without receipts. `stores`: of such a state are what the headline
 /// says of a store, whatever it has been through.
-pub fn sent_again_law<S: Alter>()
-    ensures sendings { LivesAreSendings }
-    ensures once { LivesActOnce }
-    ensures stores { StoresActOnce S.Store }
+pub fn resend_law<S: Alter>()
+    ensures sendings { ExecutionsAreSendings }
+    ensures once { ExecutionsApplyOnce }
+    ensures stores { StoresApplyOnce S.Store }
 {}
 
 /// Executes a command over a desk that isn't shut: what comes of it, in the words of the headline.
 /// `Store` where the store failed; the desk is then shut, and the command is stored or not. `Memory` where memory was
 /// refused; nothing has changed then.
-pub fn execute_told<S: Alter>(desk: &mut Desk<S>, envelope: &Envelope) -> Result<Reply, DeskFault>
+pub fn execute_with_outcome<S: Alter>(
+    desk: &mut Desk<S>,
+    envelope: &Envelope,
+) -> Result<Reply, DeskFault>
     requires { desk.old.is_shut ≡ false }
     ensures { HasExecuted (state S.Store desk.old.connection) (state S.Store desk.new.connection)
         desk.new.is_shut envelope.now result }
@@ -50,9 +53,12 @@ pub fn execute_told<S: Alter>(desk: &mut Desk<S>, envelope: &Envelope) -> Result
 
 /// Asks a desk that isn't shut: what comes of it, in the words of the headline.
 /// `Store` where the store failed; `Memory` where memory was refused. The desk isn't shut by either.
-pub fn ask_told<S: Alter>(desk: &mut Desk<S>, question: &Question) -> Result<Answer, DeskFault>
+pub fn ask_with_outcome<S: Alter>(
+    desk: &mut Desk<S>,
+    question: &Question,
+) -> Result<Answer, DeskFault>
     requires { desk.old.is_shut ≡ false }
-    ensures told { HasAsked (state S.Store desk.old.connection) (state S.Store desk.new.connection)
+    ensures reported { HasAsked (state S.Store desk.old.connection) (state S.Store desk.new.connection)
         question.now result }
     ensures open { desk.new.is_shut ≡ false }
 {
@@ -72,13 +78,13 @@ pub fn ask_told<S: Alter>(desk: &mut Desk<S>, question: &Question) -> Result<Ans
 /// `adopted_again`: where a good state could be adopted, its tables stand there, in the same schema or a later one, and it
 /// can be adopted again; of a schema between the one that was found and the newest, where the names that later ones add are
 /// still free. `opening_adopted`: where the names of the desk's tables were free, nothing was changed, or the opening state
-/// can be adopted. `others_spared`: where they weren't free and no good state stood there, nothing was changed. Tables of
+/// can be adopted. `foreign_tables_kept`: where they weren't free and no good state stood there, nothing was changed. Tables of
 /// other names stand as they did.
 pub fn desk_laws()
     ensures reopened { StopsAreReopened }
-    ensures unrefused { GoodIsUnrefused }
+    ensures unrefused { ValidIsNotRefused }
     ensures marks { MarksAreReached }
-    ensures adopted_again { GoodIsAdoptedAgain }
+    ensures adopted_again { ValidIsAdoptedAgain }
     ensures opening_adopted { OpeningIsAdopted }
-    ensures others_spared { OthersAreSpared }
+    ensures foreign_tables_kept { UnknownTablesAreKept }
 {}

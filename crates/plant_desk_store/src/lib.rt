@@ -2,16 +2,16 @@
 #![tactic(auto)]
 
 mod adopting;
+mod check_error;
 mod executing;
 mod faults;
-mod fitness;
 mod indexing;
 mod laws;
-mod looking;
+mod lookups;
 mod running;
 mod stored;
 mod verifying;
 
 pub use adopting::{AdoptFault, AdoptRefused};
-pub use laws::{ask_told, desk_laws, execute_told, headline_law};
+pub use laws::{ask_with_outcome, desk_laws, execute_with_outcome, headline_law};
 pub use stored::Desk;

@@ -2,9 +2,9 @@
 
 ghost use Rattle.std.specs.Prelude.{◌≡◌, ◌≢◌, ◌≤◌, [], false, true, Some, length};
 ghost use Rattle.plant_base.specs.State.{State};
-ghost use Rattle.plant_desk.specs.Keeping.{IsSameDesk};
+ghost use Rattle.plant_desk.specs.Keepers.{IsSameDesk};
 ghost use Rattle.plant_messages.specs.declared.reply.DeskFault.TheVariants as fault;
-ghost use Rattle.plant_desk_store.specs.Running.{Ran};
+ghost use Rattle.plant_desk_store.specs.Runs.{Ran};
 
 use plant_base::{Envelope, Items};
 use plant_desk::{Keeper, RunReport};
@@ -15,11 +15,11 @@ use std::alloc::Global;
 /// is refused, nothing is executed.
 pub(crate) fn run_over<K: Keeper>(alloc: Global, keeper: &mut K, list: &[Envelope]) -> RunReport
     requires { K.shut keeper.old ≡ false }
-    ensures same { IsSameDesk K.honest K.schema K.beside keeper.old keeper.new }
+    ensures same { IsSameDesk K.honest K.schema K.foreign_tables keeper.old keeper.new }
     ensures within { length result.replies ≤ length list.now }
-    ensures live { result.end ≢ Some DeskFault.Shut }
-    ensures ran { K.honest keeper.new → (s : State) → K.stands keeper.old s
-        → Ran s list.now result.replies result.end (K.stands keeper.new) (K.leaves keeper.new)
+    ensures is_live { result.end ≢ Some DeskFault.Shut }
+    ensures ran { K.honest keeper.new → (s : State) → K.represents keeper.old s
+        → Ran s list.now result.replies result.end (K.represents keeper.new) (K.crash_states keeper.new)
         (K.shut keeper.new) }
 {
     let mut items = Vec::new(alloc);

@@ -1,9 +1,9 @@
 ghost use Rattle.std.specs.Prelude.{◌≡◌, false};
-ghost use Rattle.plant_desk.specs.Keeping.{shuts};
+ghost use Rattle.plant_desk.specs.Keepers.{shuts};
 
 use crate::executing::execute_on;
 use crate::indexing::index_on;
-use crate::looking::answer_on;
+use crate::lookups::answer_on;
 use crate::running::run_over;
 use crate::verifying::verify_on;
 use plant_base::{Envelope, Items};
@@ -37,7 +37,7 @@ impl<S: Alter> Desk<S> {
             (state S.Store self.new.connection) self.new.is_shut list.now result.replies result.end }
         ensures shut { self.old.is_shut ≡ true
             → (result.replies ≡ []) × (result.end ≡ Some DeskFault.Shut) }
-        ensures still { self.old.is_shut ≡ true → self.new ≡ self.old }
+        ensures unchanged { self.old.is_shut ≡ true → self.new ≡ self.old }
     {
         if self.is_shut {
             return RunReport {
@@ -56,7 +56,7 @@ impl<S: Alter> Desk<S> {
             (state S.Store self.new.connection) result }
         ensures open { self.new.is_shut ≡ self.old.is_shut }
         ensures shut { self.old.is_shut ≡ true → IsErrOf result DeskFault.Shut }
-        ensures still { self.old.is_shut ≡ true → self.new ≡ self.old }
+        ensures unchanged { self.old.is_shut ≡ true → self.new ≡ self.old }
     {
         if self.is_shut {
             return Err(DeskFault::Shut);
@@ -73,7 +73,7 @@ impl<S: Alter> Desk<S> {
             (state S.Store self.new.connection) result }
         ensures open { self.new.is_shut ≡ self.old.is_shut }
         ensures shut { self.old.is_shut ≡ true → IsErrOf result DeskFault.Shut }
-        ensures still { self.old.is_shut ≡ true → self.new ≡ self.old }
+        ensures unchanged { self.old.is_shut ≡ true → self.new ≡ self.old }
     {
         if self.is_shut {
             return Err(DeskFault::Shut);
@@ -110,46 +110,46 @@ impl<S: Alter> Keeper for Desk<S> {
     ghost use Rattle.sqlite.specs.State.{HasCleanDisk, Survives};
     ghost use Rattle.plant_base.specs.State.{State, newest_schema};
     ghost use Rattle.sqlite.specs.Effect.{Database};
-    ghost use Rattle.plant_desk.specs.Keeping.{IsSameDesk, Executes, writes_nothing};
-    ghost use Rattle.plant_desk_store.specs.Looking.{IsRepeat};
-    ghost use Rattle.plant_desk_store.specs.DeskStanding.{DeskStands, Leaves, IsBeside};
-    ghost use Rattle.plant_desk_store.specs.Left.{never_nothing, spared_leaves};
+    ghost use Rattle.plant_desk.specs.Keepers.{IsSameDesk, Executes, writes_nothing};
+    ghost use Rattle.plant_desk_store.specs.Lookups.{IsRepeat};
+    ghost use Rattle.plant_desk_store.specs.DeskStates.{Represents, HasCrashStates, HasForeignTables};
+    ghost use Rattle.plant_desk_store.specs.KeptCrashStates.{never_nothing, kept_crash_states};
 
     ghost honest = { λ d. HasCleanDisk (state S.Store d.connection) };
 
-    ghost stands = { λ d. DeskStands (state S.Store d.connection) d.is_shut };
+    ghost represents = { λ d. Represents (state S.Store d.connection) d.is_shut };
 
     ghost schema = { λ _. newest_schema };
 
     ghost shut = { λ d. d.is_shut };
 
-    ghost leaves = { λ d states. Leaves (state S.Store d.connection) states };
+    ghost crash_states = { λ d states. HasCrashStates (state S.Store d.connection) states };
 
     ghost has_store = { true };
 
-    ghost spares = { λ a b. Survives (state S.Store a.connection) (state S.Store b.connection) (λ _. ⊥) };
+    ghost adds_no_crash_state = { λ a b. Survives (state S.Store a.connection) (state S.Store b.connection) (λ _. ⊥) };
 
     // Tables of other names, as they stand in a database.
-    ghost Beside = { Database };
+    ghost ForeignTables = { Database };
 
-    ghost beside = { λ d before. IsBeside (state S.Store d.connection) d.is_shut before };
+    ghost foreign_tables = { λ d before. HasForeignTables (state S.Store d.connection) d.is_shut before };
 
     // The clauses of every keeper, and that nothing is written for a command that was accepted before.
     fn execute(&mut self, envelope: &Envelope) -> Result<Reply, DeskFault>
         ensures same { IsSameDesk (λ d. HasCleanDisk (state S.Store d.connection)) (λ _. newest_schema)
-            (λ d before. IsBeside (state S.Store d.connection) d.is_shut before) self.old self.new }
+            (λ d before. HasForeignTables (state S.Store d.connection) d.is_shut before) self.old self.new }
         ensures executes { HasCleanDisk (state S.Store self.new.connection) → self.old.is_shut ≡ false
-            → (s : State) → DeskStands (state S.Store self.old.connection) self.old.is_shut s
-            → Executes s (DeskStands (state S.Store self.new.connection) self.new.is_shut)
-            (Leaves (state S.Store self.new.connection)) envelope.now result }
-        ensures spared { writes_nothing result ≡ true
+            → (s : State) → Represents (state S.Store self.old.connection) self.old.is_shut s
+            → Executes s (Represents (state S.Store self.new.connection) self.new.is_shut)
+            (HasCrashStates (state S.Store self.new.connection)) envelope.now result }
+        ensures no_crash_state_added { writes_nothing result ≡ true
             → Survives (state S.Store self.old.connection) (state S.Store self.new.connection) (λ _. ⊥) }
         ensures open { self.old.is_shut ≡ false → self.new.is_shut ≡ shuts result }
-        ensures live { self.old.is_shut ≡ false → IfErr result (λ fault. fault ≢ DeskFault.Shut) }
+        ensures is_live { self.old.is_shut ≡ false → IfErr result (λ fault. fault ≢ DeskFault.Shut) }
         ensures shut { self.old.is_shut ≡ true → IsErrOf result DeskFault.Shut }
-        ensures still { self.old.is_shut ≡ true → self.new ≡ self.old }
+        ensures unchanged { self.old.is_shut ≡ true → self.new ≡ self.old }
         ensures repeated { HasCleanDisk (state S.Store self.new.connection) → self.old.is_shut ≡ false
-            → (s : State) → DeskStands (state S.Store self.old.connection) self.old.is_shut s → IsRepeat s envelope.now
+            → (s : State) → Represents (state S.Store self.old.connection) self.old.is_shut s → IsRepeat s envelope.now
             → Survives (state S.Store self.old.connection) (state S.Store self.new.connection) (λ _. ⊥) }
     {
         if self.is_shut {
@@ -167,10 +167,10 @@ impl<S: Alter> Keeper for Desk<S> {
         answer_on(self.alloc, &mut self.connection, question)
     }
 
-    ghost leaves_state = { λ d s h is_open stood. stood.1 is_open };
+    ghost open_crash_state = { λ d s h is_open represented. represented.1 is_open };
 
-    ghost leaves_something = { λ d left. never_nothing _ left };
+    ghost crash_states_nonempty = { λ d left. never_nothing _ left };
 
-    ghost spares_leaves = { λ a b s clean spares left. spared_leaves _ _ (λ u. u ≡ s) left clean spares
+    ghost keeps_crash_state = { λ a b s clean adds_no_crash_state left. kept_crash_states _ _ (λ u. u ≡ s) left clean adds_no_crash_state
         (S.Store.survives b.connection.store) };
 }

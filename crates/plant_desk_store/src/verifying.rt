@@ -5,8 +5,8 @@ ghost use Rattle.sqlite.specs.Held.{state};
 ghost use Rattle.plant_check.specs.Broken.{first_broken};
 ghost use Rattle.plant_desk_store.specs.Parts.{HasTested};
 
+use crate::check_error::{CheckError, check_desk};
 use crate::faults::rows_to_test;
-use crate::fitness::{Unfit, judge};
 use plant_base::NEWEST_SCHEMA;
 use plant_check::Rule;
 use plant_messages::DeskFault;
@@ -33,10 +33,10 @@ fn broken_rule(alloc: Global, loaded: Loaded) -> Result<Option<Rule>, DeskFault>
     ensures broken { IfOk result (λ broken. broken ≡ first_broken loaded) }
     ensures memory { IfErr result (λ fault. fault ≡ DeskFault.Memory) }
 {
-    match judge(alloc, loaded, NEWEST_SCHEMA) {
+    match check_desk(alloc, loaded, NEWEST_SCHEMA) {
         Ok(_) => Ok(None),
-        Err(Unfit::Broken(rule)) => Ok(Some(rule)),
-        Err(Unfit::Schema) => Ok(None),
-        Err(Unfit::Memory) => Err(DeskFault::Memory),
+        Err(CheckError::Broken(rule)) => Ok(Some(rule)),
+        Err(CheckError::Schema) => Ok(None),
+        Err(CheckError::Memory) => Err(DeskFault::Memory),
     }
 }

@@ -1,2 +1,2 @@
-pub mod Performing
-pub mod Serving
+pub mod JobPerforms
+pub mod RequestOfInput

@@ -19,8 +19,8 @@ use Rattle.plant_text_answers.specs.Answers.{text_of_answer}
 use Rattle.plant_text_answers.specs.Replies.{reply_text, fault_text}
 use Rattle.plant_http_requests.specs.declared.job.Job.{Job}
 use Rattle.plant_http_requests.specs.declared.job.Job.TheVariants as J
-use Rattle.plant_http_requests.specs.declared.job.Form.{Form}
-use Rattle.plant_http_requests.specs.declared.job.Form.TheVariants.{Json, Record}
+use Rattle.plant_http_requests.specs.declared.job.BodyFormat.{BodyFormat}
+use Rattle.plant_http_requests.specs.declared.job.BodyFormat.TheVariants.{Json, Record}
 use Rattle.plant_http_requests.specs.declared.status.Status.{Status}
 use Rattle.plant_http_requests.specs.declared.status.Status.TheVariants as st
 use Rattle.plant_http_requests.specs.declared.status.Allow.{Allow}
@@ -60,17 +60,17 @@ allow_line Unsaid = []
 allow_line Get = codes "Allow: GET, HEAD\r\n"
 allow_line Post = codes "Allow: POST\r\n"
 
-abbrev pub type_of : Form → List ℕ
+abbrev pub type_of : BodyFormat → List ℕ
 type_of Json = codes "application/json"
 type_of Record = codes "text/plain"
 
 -- ---- the text of an answer
 
 -- the lines before a body of so many bytes
-unfoldable pub head_text : Status → Allow → Form → ℕ → List ℕ
-head_text status allow form size =
+unfoldable pub head_text : Status → Allow → BodyFormat → ℕ → List ℕ
+head_text status allow body_format size =
     codes "HTTP/1.1 " ++ decimal (code_of status) ++ codes " " ++ phrase_of status
-    ++ codes "\r\nContent-Type: " ++ type_of form
+    ++ codes "\r\nContent-Type: " ++ type_of body_format
     ++ codes "\r\nContent-Length: " ++ decimal size
     ++ codes "\r\nConnection: close\r\n" ++ allow_line allow ++ codes "\r\n"
 
@@ -78,12 +78,12 @@ head_text status allow form size =
 pub record Out : Type 0 where
   pub status : Status
   pub allow : Allow
-  pub form : Form
+  pub body_format : BodyFormat
   pub body : List ℕ
 
 -- the bytes of an answer, whose body may be left out
 unfoldable pub answer_bytes : Bool → Out → List ℕ
-answer_bytes silent out = head_text out.status out.allow out.form (length out.body) ++ (if silent then [] else out.body)
+answer_bytes silent out = head_text out.status out.allow out.body_format (length out.body) ++ (if silent then [] else out.body)
 
 -- ---- bodies
 
@@ -94,11 +94,11 @@ abbrev pub csv_text : CsvFault → List ℕ
 csv_text f = codes "{\"csv\":\"" ++ kind_name f.kind ++ codes "\",\"row\":" ++ decimal f.row ++ codes "}"
 
 abbrev pub json_out : Status → List ℕ → Out
-json_out status body = record { status = status; allow = Unsaid; form = Json; body = body }
+json_out status body = record { status = status; allow = Unsaid; body_format = Json; body = body }
 
 -- a status alone
 abbrev pub error_out : Status → Allow → Out
-error_out status allow = record { status = status; allow = allow; form = Json; body = status_text status }
+error_out status allow = record { status = status; allow = allow; body_format = Json; body = status_text status }
 
 -- a fault of the keeper, or want of memory
 abbrev pub fault_out : DeskFault → Out
@@ -123,46 +123,46 @@ answer_status (A.Unknown r) = st.NotFound
 answer_status _ = st.Success
 
 -- only a batch has a record
-abbrev pub form_for : Form → DeskAnswer → Form
-form_for form (A.Batch v) = form
-form_for form _ = Json
+abbrev pub body_format_for : BodyFormat → DeskAnswer → BodyFormat
+body_format_for body_format (A.Batch v) = body_format
+body_format_for body_format _ = Json
 
 -- what is known of a batch, in JSON or as its record
-abbrev pub batch_in : Form → BatchView → List ℕ
+abbrev pub batch_in : BodyFormat → BatchView → List ℕ
 batch_in Json v = text_of_answer (A.Batch v)
 batch_in Record v = record_text v
 
-abbrev pub text_in : Form → DeskAnswer → List ℕ
-text_in form (A.Batch v) = batch_in form v
-text_in form a = text_of_answer a
+abbrev pub text_in : BodyFormat → DeskAnswer → List ℕ
+text_in body_format (A.Batch v) = batch_in body_format v
+text_in body_format a = text_of_answer a
 
-abbrev pub answer_out : Form → DeskAnswer → Out
-answer_out form a = record { status = answer_status a; allow = Unsaid; form = form_for form a; body = text_in form a }
+abbrev pub answer_out : BodyFormat → DeskAnswer → Out
+answer_out body_format a = record { status = answer_status a; allow = Unsaid; body_format = body_format_for body_format a; body = text_in body_format a }
 
 -- ---- jobs
 
 -- what is answered to a job by a keeper of schema k that stands at s
 abbrev pub out_of : ℕ → State → Job → Out
 out_of k s (J.Refuse status allow silent) = error_out status allow
-out_of k s (J.Ask question form silent) = answer_out form (answer k s question)
+out_of k s (J.Ask question body_format silent) = answer_out body_format (answer k s question)
 out_of k s (J.Command e) = reply_out (reply s e)
 out_of k s J.BadForm = reply_out (Refused BadForm)
 out_of k s (J.BadFile f) = csv_out f
-out_of k s J.NoMemory = fault_out fault.Memory
+out_of k s J.MemoryError = fault_out fault.Memory
 
 -- what is answered to it by a keeper that is shut: the fault 3 where it is asked
 abbrev pub shut_out : Job → Out
 shut_out (J.Refuse status allow silent) = error_out status allow
-shut_out (J.Ask question form silent) = fault_out fault.Shut
+shut_out (J.Ask question body_format silent) = fault_out fault.Shut
 shut_out (J.Command e) = fault_out fault.Shut
 shut_out J.BadForm = reply_out (Refused BadForm)
 shut_out (J.BadFile f) = csv_out f
-shut_out J.NoMemory = fault_out fault.Memory
+shut_out J.MemoryError = fault_out fault.Memory
 
 -- whether the answer's body is left out
 abbrev pub is_silent : Job → Bool
 is_silent (J.Refuse status allow silent) = silent
-is_silent (J.Ask question form silent) = silent
+is_silent (J.Ask question body_format silent) = silent
 is_silent _ = false
 
 -- ---- answers in the code
@@ -172,12 +172,12 @@ body_bytes (B.Reply text) = text
 body_bytes (B.Short text) = text
 body_bytes (B.Long text) = string_bytes text
 
-abbrev pub shown : Answer → Out
-shown a = record { status = a.status; allow = a.allow; form = a.form; body = body_bytes a.body }
+abbrev pub rendered : Answer → Out
+rendered a = record { status = a.status; allow = a.allow; body_format = a.body_format; body = body_bytes a.body }
 
 -- the answer has these parts
 pub record Is (out : Out) (silent : Bool) (a : Answer) : Type 0 where
-  pub parts : shown a ≡ out
+  pub parts : rendered a ≡ out
   pub silence : a.silent ≡ silent
 
 -- the answer to what came of a command
@@ -186,6 +186,6 @@ Executed (Ok r) a = Is (reply_out r) false a
 Executed (Err f) a = Is (fault_out f) false a
 
 -- the answer to what came of a question; memory may be refused for its text
-abbrev pub Asked : Form → Result DeskAnswer DeskFault → Out → Type 0
-Asked form (Ok x) out = (out ≡ answer_out form x) ⊎ (out ≡ fault_out fault.Memory)
-Asked form (Err f) out = out ≡ fault_out f
+abbrev pub Asked : BodyFormat → Result DeskAnswer DeskFault → Out → Type 0
+Asked body_format (Ok x) out = (out ≡ answer_out body_format x) ⊎ (out ≡ fault_out fault.Memory)
+Asked body_format (Err f) out = out ≡ fault_out f

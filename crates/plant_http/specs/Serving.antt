@@ -2,12 +2,12 @@
 use Rattle.std.specs.Prelude.{◌≡◌, ℕ, ◌≤◌, Bool, true, false, List, [], length, Option, Some, ◌⊎◌, Result, Ok, Err, ⊤}
 use Rattle.std.specs.Io.KnownBytes.{Appends, Keeps}
 use Rattle.plant_base.specs.State.{State}
-use Rattle.plant_desk.specs.Keeping.{States}
+use Rattle.plant_desk.specs.Keepers.{States}
 use Rattle.plant_messages.specs.declared.reply.DeskFault.{DeskFault}
 use Rattle.plant_messages.specs.declared.reply.DeskFault.TheVariants as fault
-use Rattle.plant_text.specs.Leaving.{LeavesAlone, LeavesAtFault}
-use Rattle.plant_text.specs.Session.{Entry, nothing, command, question, after, FaultLeaves}
-use Rattle.plant_text.specs.Writes.{AppendsFront}
+use Rattle.plant_text.specs.CrashStates.{RepresentsDurably, CrashStatesAtFault}
+use Rattle.plant_text.specs.Session.{Entry, nothing, command, question, after, CrashStatesOfFault}
+use Rattle.plant_text.specs.Writes.{AppendsPrefix}
 use Rattle.plant_http_requests.specs.declared.reading.InputFault.{InputFault}
 use Rattle.plant_http_requests.specs.declared.reading.InputFault.TheVariants as input
 use Rattle.plant_http_requests.specs.Jobs.{JobOf, is_of_body}
@@ -22,11 +22,11 @@ use Rattle.plant_http.specs.declared.serve.ServeFault.TheVariants as end
 -- what a job is to the keeper
 abbrev pub entry_of : Job → Entry
 entry_of (J.Refuse status allow silent) = nothing
-entry_of (J.Ask q form silent) = question q
+entry_of (J.Ask q body_format silent) = question q
 entry_of (J.Command e) = command e
 entry_of J.BadForm = nothing
 entry_of (J.BadFile f) = nothing
-entry_of J.NoMemory = nothing
+entry_of J.MemoryError = nothing
 
 -- whether a fault may be answered in place of the job: the keeper is asked, or memory is taken for what a body says
 abbrev pub may_fail : Job → Bool
@@ -36,31 +36,31 @@ may_fail _ = true
 -- The keeper stood at s. What is answered to the job, where the keeper stands now, and what a stop leaves: the definitions'
 -- answer and the state after the job, or a fault and what it leaves.
 abbrev pub Performs : ℕ → State → Job → Out → States → Bool → (States → Type 0) → Type 0
-Performs k s job out stands shut leaves =
-    ((out ≡ out_of k s job) × LeavesAlone stands leaves (after s (entry_of job)) × (shut ≡ false))
+Performs k s job out represents shut crash_states =
+    ((out ≡ out_of k s job) × RepresentsDurably represents crash_states (after s (entry_of job)) × (shut ≡ false))
     ⊎ ((f : DeskFault) × (may_fail job ≡ true) × (out ≡ fault_out f)
-    × FaultLeaves f s (entry_of job) stands shut leaves × LeavesAtFault f stands leaves s (entry_of job))
+    × CrashStatesOfFault f s (entry_of job) represents shut crash_states × CrashStatesAtFault f represents crash_states s (entry_of job))
 
 -- nothing was executed, and nothing was written
-pub record Untouched (s : State) (old new : Option (List ℕ)) (stands : States) (shut : Bool) (leaves : States → Type 0) : Type 0 where
-  pub state : LeavesAlone stands leaves s
-  pub live : shut ≡ false
+pub record Untouched (s : State) (old new : Option (List ℕ)) (represents : States) (shut : Bool) (crash_states : States → Type 0) : Type 0 where
+  pub state : RepresentsDurably represents crash_states s
+  pub is_live : shut ≡ false
   pub text : Keeps old new
 
 -- The request was answered, wholly or by a front: its job was done, and the text of the answer was written so.
 abbrev pub AnswersBy : (Out → List ℕ → Type 0) → ℕ → State → List ℕ → States → Bool → (States → Type 0) → Type 0
-AnswersBy Wrote k s whole stands shut leaves =
-    (job : Job) × JobOf whole (Some job) × (out : Out) × Performs k s job out stands shut leaves × Wrote out (answer_bytes (is_silent job) out)
+AnswersBy Wrote k s whole represents shut crash_states =
+    (job : Job) × JobOf whole (Some job) × (out : Out) × Performs k s job out represents shut crash_states × Wrote out (answer_bytes (is_silent job) out)
 
 -- how serving the request of an input ended, where the keeper stood at s
 abbrev pub Serves : ℕ → State → List ℕ → Option (List ℕ) → Option (List ℕ) → States → Bool → (States → Type 0) → Result Served ServeFault → Type 0
-Serves k s whole old new stands shut leaves (Ok Nothing) = (whole ≡ []) × Untouched s old new stands shut leaves
-Serves k s whole old new stands shut leaves (Ok (Answered code)) =
-    AnswersBy (λ out text. (code ≡ code_of out.status) × Appends old new text) k s whole stands shut leaves
-Serves k s whole old new stands shut leaves (Err end.Write) = AnswersBy (λ out text. AppendsFront old new text) k s whole stands shut leaves
-Serves k s whole old new stands shut leaves (Err end.Read) = Untouched s old new stands shut leaves
-Serves k s whole old new stands shut leaves (Err end.Endless) = Untouched s old new stands shut leaves × (4096 ≤ length whole)
-Serves k s whole old new stands shut leaves (Err end.Memory) = Untouched s old new stands shut leaves
+Serves k s whole old new represents shut crash_states (Ok Nothing) = (whole ≡ []) × Untouched s old new represents shut crash_states
+Serves k s whole old new represents shut crash_states (Ok (Answered code)) =
+    AnswersBy (λ out text. (code ≡ code_of out.status) × Appends old new text) k s whole represents shut crash_states
+Serves k s whole old new represents shut crash_states (Err end.Write) = AnswersBy (λ out text. AppendsPrefix old new text) k s whole represents shut crash_states
+Serves k s whole old new represents shut crash_states (Err end.Read) = Untouched s old new represents shut crash_states
+Serves k s whole old new represents shut crash_states (Err end.Endless) = Untouched s old new represents shut crash_states × (4096 ≤ length whole)
+Serves k s whole old new represents shut crash_states (Err end.Memory) = Untouched s old new represents shut crash_states
 
 -- the keeper wasn't asked and nothing was written: the input had no byte, or the request couldn't be read
 abbrev pub IfUnasked : Result Served ServeFault → Type 0 → Type 0
@@ -84,7 +84,7 @@ AnswersShut Wrote whole = (job : Job) × JobOf whole (Some job) × (out : Out) �
 abbrev pub ServesShut : List ℕ → Option (List ℕ) → Option (List ℕ) → Result Served ServeFault → Type 0
 ServesShut whole old new (Ok Nothing) = (whole ≡ []) × Keeps old new
 ServesShut whole old new (Ok (Answered code)) = AnswersShut (λ out text. (code ≡ code_of out.status) × Appends old new text) whole
-ServesShut whole old new (Err end.Write) = AnswersShut (λ out text. AppendsFront old new text) whole
+ServesShut whole old new (Err end.Write) = AnswersShut (λ out text. AppendsPrefix old new text) whole
 ServesShut whole old new (Err end.Read) = Keeps old new
 ServesShut whole old new (Err end.Endless) = Keeps old new × (4096 ≤ length whole)
 ServesShut whole old new (Err end.Memory) = Keeps old new
@@ -93,16 +93,16 @@ ServesShut whole old new (Err end.Memory) = Keeps old new
 
 -- how doing a job and writing its answer ended
 abbrev pub Answers : ℕ → State → Job → Option (List ℕ) → Option (List ℕ) → States → Bool → (States → Type 0) → Result Served ServeFault → Type 0
-Answers k s job old new stands shut leaves (Ok (Answered code)) =
-    (out : Out) × Performs k s job out stands shut leaves × (code ≡ code_of out.status) × Appends old new (answer_bytes (is_silent job) out)
-Answers k s job old new stands shut leaves (Err end.Write) =
-    (out : Out) × Performs k s job out stands shut leaves × AppendsFront old new (answer_bytes (is_silent job) out)
-Answers k s job old new stands shut leaves _ = ⊥
+Answers k s job old new represents shut crash_states (Ok (Answered code)) =
+    (out : Out) × Performs k s job out represents shut crash_states × (code ≡ code_of out.status) × Appends old new (answer_bytes (is_silent job) out)
+Answers k s job old new represents shut crash_states (Err end.Write) =
+    (out : Out) × Performs k s job out represents shut crash_states × AppendsPrefix old new (answer_bytes (is_silent job) out)
+Answers k s job old new represents shut crash_states _ = ⊥
 
 -- the same by a keeper that is shut
 abbrev pub AnswersJobShut : Job → Option (List ℕ) → Option (List ℕ) → Result Served ServeFault → Type 0
 AnswersJobShut job old new (Ok (Answered code)) = (code ≡ code_of (shut_out job).status) × Appends old new (answer_bytes (is_silent job) (shut_out job))
-AnswersJobShut job old new (Err end.Write) = AppendsFront old new (answer_bytes (is_silent job) (shut_out job))
+AnswersJobShut job old new (Err end.Write) = AppendsPrefix old new (answer_bytes (is_silent job) (shut_out job))
 AnswersJobShut job old new _ = ⊥
 
 abbrev pub end_of : InputFault → ServeFault

@@ -3,11 +3,11 @@ ghost use Rattle.std.specs.Prelude.{◌≡◌, ◌⊎◌, false, IfOk, string_by
 ghost use Rattle.plant_base.specs.Refusals.{number_of};
 ghost use Rattle.plant_http.specs.Answers.{body_bytes, Is, error_out, fault_out, csv_out, reply_out};
 ghost use Rattle.plant_http.specs.Answers.{answer_out, text_in, refused_status, reply_status, answer_status};
-ghost use Rattle.plant_http.specs.Answers.{form_for};
+ghost use Rattle.plant_http.specs.Answers.{body_format_for};
 
 use crate::room::{Room, csv_text, status_text};
 use plant_base::Refusal;
-use plant_http_requests::{Allow, Form, Status};
+use plant_http_requests::{Allow, BodyFormat, Status};
 use plant_messages::{Answer as DeskAnswer, DeskFault, Reply};
 use plant_orders::CsvFault;
 use plant_record::record;
@@ -30,7 +30,7 @@ pub(crate) enum Body {
 pub(crate) struct Answer {
     pub(crate) status: Status,
     pub(crate) allow: Allow,
-    pub(crate) form: Form,
+    pub(crate) body_format: BodyFormat,
     pub(crate) body: Body,
     pub(crate) silent: bool,
 }
@@ -49,13 +49,13 @@ impl Body {
 }
 
 fn json(status: Status, body: Body, silent: bool) -> Answer
-    ensures { (result.status ≡ status) × (result.allow ≡ Allow.Unsaid) × (result.form ≡ Form.Json)
+    ensures { (result.status ≡ status) × (result.allow ≡ Allow.Unsaid) × (result.body_format ≡ BodyFormat.Json)
         × (body_bytes result.body ≡ body_bytes body) × (result.silent ≡ silent) }
 {
     Answer {
         status,
         allow: Allow::Unsaid,
-        form: Form::Json,
+        body_format: BodyFormat::Json,
         body,
         silent,
     }
@@ -68,7 +68,7 @@ pub(crate) fn error_answer(status: Status, allow: Allow, silent: bool) -> Answer
     Answer {
         status,
         allow,
-        form: Form::Json,
+        body_format: BodyFormat::Json,
         body: Body::Short(status_text(status)),
         silent,
     }
@@ -125,37 +125,46 @@ fn answer_status(answer: &DeskAnswer) -> Status
 }
 
 /// The form in which an answer is written: only a batch has a record.
-fn form_for(form: Form, answer: &DeskAnswer) -> Form
-    ensures { result ≡ form_for form answer.now }
+fn body_format_for(body_format: BodyFormat, answer: &DeskAnswer) -> BodyFormat
+    ensures { result ≡ body_format_for body_format answer.now }
 {
     match answer {
-        DeskAnswer::Batch(_) => form,
-        _ => Form::Json,
+        DeskAnswer::Batch(_) => body_format,
+        _ => BodyFormat::Json,
     }
 }
 
 /// The text of an answer in a form.
-fn text_in(alloc: Global, form: Form, answer: &DeskAnswer) -> Result<String, AllocError>
-    ensures { IfOk result (λ text. string_bytes text ≡ text_in form answer.now) }
+fn text_in(
+    alloc: Global,
+    body_format: BodyFormat,
+    answer: &DeskAnswer,
+) -> Result<String, AllocError>
+    ensures { IfOk result (λ text. string_bytes text ≡ text_in body_format answer.now) }
 {
     match answer {
-        DeskAnswer::Batch(view) => match form {
-            Form::Json => answer_text(alloc, answer),
-            Form::Record => record(alloc, view),
+        DeskAnswer::Batch(view) => match body_format {
+            BodyFormat::Json => answer_text(alloc, answer),
+            BodyFormat::Record => record(alloc, view),
         },
         _ => answer_text(alloc, answer),
     }
 }
 
 /// The answer to a question. Its text is made before anything is written; where memory is refused for it, the answer tells that fault.
-pub(crate) fn asked_answer(alloc: Global, form: Form, answer: &DeskAnswer, silent: bool) -> Answer
-    ensures { Is (answer_out form answer.now) silent result ⊎ Is (fault_out DeskFault.Memory) silent result }
+pub(crate) fn asked_answer(
+    alloc: Global,
+    body_format: BodyFormat,
+    answer: &DeskAnswer,
+    silent: bool,
+) -> Answer
+    ensures { Is (answer_out body_format answer.now) silent result ⊎ Is (fault_out DeskFault.Memory) silent result }
 {
-    match text_in(alloc, form, answer) {
+    match text_in(alloc, body_format, answer) {
         Ok(text) => Answer {
             status: answer_status(answer),
             allow: Allow::Unsaid,
-            form: form_for(form, answer),
+            body_format: body_format_for(body_format, answer),
             body: Body::Long(text),
             silent,
         },

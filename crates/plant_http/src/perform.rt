@@ -1,15 +1,15 @@
 //! A job, done by a keeper.
 ghost use Rattle.std.specs.Prelude.{◌≡◌, true, false};
 ghost use Rattle.plant_base.specs.State.{State};
-ghost use Rattle.plant_desk.specs.Keeping.{IsSameDesk};
-ghost use Rattle.plant_http.specs.Answers.{is_silent, shown, shut_out, Executed, Asked};
+ghost use Rattle.plant_desk.specs.Keepers.{IsSameDesk};
+ghost use Rattle.plant_http.specs.Answers.{is_silent, rendered, shut_out, Executed, Asked};
 ghost use Rattle.plant_http.specs.Serving.{Performs};
 ghost use Rattle.plant_http_requests.specs.declared.job.Job.TheVariants as J;
 
 use crate::answer::{Answer, asked_answer, csv_answer, error_answer, fault_answer, reply_answer};
 use plant_base::{Envelope, Refusal};
 use plant_desk::Keeper;
-use plant_http_requests::{Form, Job};
+use plant_http_requests::{BodyFormat, Job};
 use plant_messages::{Answer as DeskAnswer, DeskFault, Question, Reply};
 use std::alloc::Global;
 
@@ -25,29 +25,29 @@ fn executed_answer(executed: &Result<Reply, DeskFault>) -> Answer
 /// Has a command executed. It is handed no allocator, and a reply's text stands in a room of fixed size: from here to the end of the answer
 /// no memory is taken.
 fn execute<K: Keeper>(keeper: &mut K, envelope: &Envelope) -> Answer
-    ensures same { IsSameDesk K.honest K.schema K.beside keeper.old keeper.new }
-    ensures performs { K.honest keeper.new → K.shut keeper.old ≡ false → (s : State) → K.stands keeper.old s
-        → Performs (K.schema keeper.old) s (J.Command envelope.now) (shown result)
-        (K.stands keeper.new) (K.shut keeper.new) (K.leaves keeper.new) }
-    ensures still { K.shut keeper.old ≡ true → keeper.new ≡ keeper.old }
-    ensures shut { K.shut keeper.old ≡ true → shown result ≡ shut_out (J.Command envelope.now) }
+    ensures same { IsSameDesk K.honest K.schema K.foreign_tables keeper.old keeper.new }
+    ensures performs { K.honest keeper.new → K.shut keeper.old ≡ false → (s : State) → K.represents keeper.old s
+        → Performs (K.schema keeper.old) s (J.Command envelope.now) (rendered result)
+        (K.represents keeper.new) (K.shut keeper.new) (K.crash_states keeper.new) }
+    ensures unchanged { K.shut keeper.old ≡ true → keeper.new ≡ keeper.old }
+    ensures shut { K.shut keeper.old ≡ true → rendered result ≡ shut_out (J.Command envelope.now) }
     ensures loud { result.silent ≡ false }
 {
     let executed = keeper.execute(envelope);
     executed_answer(&executed)
 }
 
-fn told_answer(
+fn reported_answer(
     alloc: Global,
     asked: &Result<DeskAnswer, DeskFault>,
-    form: Form,
+    body_format: BodyFormat,
     silent: bool,
 ) -> Answer
-    ensures told { Asked form asked.now (shown result) }
+    ensures reported { Asked body_format asked.now (rendered result) }
     ensures silence { result.silent ≡ silent }
 {
     match asked {
-        Ok(answer) => asked_answer(alloc, form, answer, silent),
+        Ok(answer) => asked_answer(alloc, body_format, answer, silent),
         Err(fault) => fault_answer(*fault, silent),
     }
 }
@@ -57,37 +57,37 @@ fn ask<K: Keeper>(
     alloc: Global,
     keeper: &mut K,
     question: &Question,
-    form: Form,
+    body_format: BodyFormat,
     silent: bool,
 ) -> Answer
-    ensures same { IsSameDesk K.honest K.schema K.beside keeper.old keeper.new }
-    ensures performs { K.honest keeper.new → K.shut keeper.old ≡ false → (s : State) → K.stands keeper.old s
-        → Performs (K.schema keeper.old) s (J.Ask question.now form silent) (shown result)
-        (K.stands keeper.new) (K.shut keeper.new) (K.leaves keeper.new) }
-    ensures still { K.shut keeper.old ≡ true → keeper.new ≡ keeper.old }
-    ensures shut { K.shut keeper.old ≡ true → shown result ≡ shut_out (J.Ask question.now form silent) }
+    ensures same { IsSameDesk K.honest K.schema K.foreign_tables keeper.old keeper.new }
+    ensures performs { K.honest keeper.new → K.shut keeper.old ≡ false → (s : State) → K.represents keeper.old s
+        → Performs (K.schema keeper.old) s (J.Ask question.now body_format silent) (rendered result)
+        (K.represents keeper.new) (K.shut keeper.new) (K.crash_states keeper.new) }
+    ensures unchanged { K.shut keeper.old ≡ true → keeper.new ≡ keeper.old }
+    ensures shut { K.shut keeper.old ≡ true → rendered result ≡ shut_out (J.Ask question.now body_format silent) }
     ensures silence { result.silent ≡ silent }
 {
     let asked = keeper.ask(question);
-    told_answer(alloc, &asked, form, silent)
+    reported_answer(alloc, &asked, body_format, silent)
 }
 
 /// Does a job, and gives its answer.
 pub(crate) fn perform<K: Keeper>(alloc: Global, keeper: &mut K, job: &Job) -> Answer
-    ensures same { IsSameDesk K.honest K.schema K.beside keeper.old keeper.new }
-    ensures performs { K.honest keeper.new → K.shut keeper.old ≡ false → (s : State) → K.stands keeper.old s
-        → Performs (K.schema keeper.old) s job.now (shown result)
-        (K.stands keeper.new) (K.shut keeper.new) (K.leaves keeper.new) }
-    ensures still { K.shut keeper.old ≡ true → keeper.new ≡ keeper.old }
-    ensures shut { K.shut keeper.old ≡ true → shown result ≡ shut_out job.now }
+    ensures same { IsSameDesk K.honest K.schema K.foreign_tables keeper.old keeper.new }
+    ensures performs { K.honest keeper.new → K.shut keeper.old ≡ false → (s : State) → K.represents keeper.old s
+        → Performs (K.schema keeper.old) s job.now (rendered result)
+        (K.represents keeper.new) (K.shut keeper.new) (K.crash_states keeper.new) }
+    ensures unchanged { K.shut keeper.old ≡ true → keeper.new ≡ keeper.old }
+    ensures shut { K.shut keeper.old ≡ true → rendered result ≡ shut_out job.now }
     ensures silence { result.silent ≡ is_silent job.now }
 {
     match job {
         Job::Ask {
             question,
-            form,
+            body_format,
             silent,
-        } => ask(alloc, keeper, question, *form, *silent),
+        } => ask(alloc, keeper, question, *body_format, *silent),
         Job::Command(envelope) => execute(keeper, envelope),
         Job::Refuse {
             status,
@@ -96,6 +96,6 @@ pub(crate) fn perform<K: Keeper>(alloc: Global, keeper: &mut K, job: &Job) -> An
         } => error_answer(*status, *allow, *silent),
         Job::BadForm => reply_answer(&Reply::Refused(Refusal::BadForm)),
         Job::BadFile(fault) => csv_answer(*fault),
-        Job::NoMemory => fault_answer(DeskFault::Memory, false),
+        Job::MemoryError => fault_answer(DeskFault::Memory, false),
     }
 }

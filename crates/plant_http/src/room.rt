@@ -6,7 +6,7 @@ ghost use Rattle.plant_http.specs.Answers.{head_text, status_text, csv_text};
 use crate::status::{allow_line, code_of, phrase_of, type_of};
 use arrayvec::ArrayString;
 use itoa::Buffer;
-use plant_http_requests::{Allow, Form, Status};
+use plant_http_requests::{Allow, BodyFormat, Status};
 use plant_orders::{CsvFault, CsvKind};
 use std::marker::Model;
 
@@ -62,8 +62,13 @@ impl Room {
 /// They are a status line (RFC 9112, section 4), the fields of the answer and an empty line; `Connection: close` says
 /// that the connection ends after it (section 9.6).
 #[tactic(auto, unfolding(crate::specs::Answers::head_text))]
-pub(crate) fn head_text(status: Status, allow: Allow, form: Form, length: usize) -> Room
-    ensures { result ≡ head_text status allow form length }
+pub(crate) fn head_text(
+    status: Status,
+    allow: Allow,
+    body_format: BodyFormat,
+    length: usize,
+) -> Room
+    ensures { result ≡ head_text status allow body_format length }
 {
     let mut text = Room::new();
     text.push("HTTP/1.1 ");
@@ -71,7 +76,7 @@ pub(crate) fn head_text(status: Status, allow: Allow, form: Form, length: usize)
     text.push(" ");
     text.push(phrase_of(status));
     text.push("\r\nContent-Type: ");
-    text.push(type_of(form));
+    text.push(type_of(body_format));
     text.push("\r\nContent-Length: ");
     text.push_number(length as u64);
     text.push("\r\nConnection: close\r\n");
@@ -91,7 +96,7 @@ pub(crate) fn status_text(status: Status) -> Room
     text
 }
 
-#[tactic(auto, using(plant_orders::proofs::Names::name_is_short))]
+#[tactic(auto, using(plant_orders::proofs::FaultNames::name_is_short))]
 fn kind_name(kind: CsvKind) -> &'static str
     ensures value { result.now ≡ kind_name kind }
     ensures short { length result.now ≤ 12 }

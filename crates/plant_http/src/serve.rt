@@ -1,16 +1,15 @@
 //! One request, served.
 ghost use Rattle.std.specs.Prelude.{◌≡◌, ℕ, true, false, List};
 ghost use Rattle.plant_base.specs.State.{State};
-ghost use Rattle.plant_desk.specs.Keeping.{IsSameDesk};
-ghost use Rattle.plant_http_requests.specs.Reading.{Agrees};
+ghost use Rattle.plant_desk.specs.Keepers.{IsSameDesk};
+ghost use Rattle.plant_http_requests.specs.PieceReading.{Agrees};
 ghost use Rattle.plant_http.specs.Serving.{Serves, ServesShut, IfUnasked, Answers, AnswersJobShut, end_of};
 
 use crate::perform::perform;
 use crate::send::send;
 use crate::status::code_of;
 use plant_desk::Keeper;
-use plant_http_requests::InputFault;
-use plant_http_requests::{Job, read_job};
+use plant_http_requests::{InputFault, Job, read_job};
 use plant_http_routes::Routes;
 use std::alloc::Global;
 use std::io::{Read, Write};
@@ -59,11 +58,11 @@ fn answer_job<W: Write, K: Keeper>(
     keeper: &mut K,
     job: &Job,
 ) -> Result<Served, ServeFault>
-    ensures same { IsSameDesk K.honest K.schema K.beside keeper.old keeper.new }
-    ensures answers { K.honest keeper.new → K.shut keeper.old ≡ false → (s : State) → K.stands keeper.old s
+    ensures same { IsSameDesk K.honest K.schema K.foreign_tables keeper.old keeper.new }
+    ensures answers { K.honest keeper.new → K.shut keeper.old ≡ false → (s : State) → K.represents keeper.old s
         → Answers (K.schema keeper.old) s job.now (W.contents writer.old) (W.contents writer.new)
-        (K.stands keeper.new) (K.shut keeper.new) (K.leaves keeper.new) result }
-    ensures still { K.shut keeper.old ≡ true → keeper.new ≡ keeper.old }
+        (K.represents keeper.new) (K.shut keeper.new) (K.crash_states keeper.new) result }
+    ensures unchanged { K.shut keeper.old ≡ true → keeper.new ≡ keeper.old }
     ensures shut { K.shut keeper.old ≡ true → AnswersJobShut job.now
         (W.contents writer.old) (W.contents writer.new) result }
     ensures asked { IfUnasked result ⊥ }
@@ -96,17 +95,17 @@ pub fn serve_one<R: Read, W: Write, K: Keeper>(
     writer: &mut W,
     keeper: &mut K,
 ) -> Result<Served, ServeFault>
-    ensures same { IsSameDesk K.honest K.schema K.beside keeper.old keeper.new }
+    ensures same { IsSameDesk K.honest K.schema K.foreign_tables keeper.old keeper.new }
 
     // How the request ended, where the keeper stands then, and what a stop leaves.
     ensures serves { (whole : List ℕ) × Agrees (R.remaining reader.old) whole
-        × (K.honest keeper.new → K.shut keeper.old ≡ false → (s : State) → K.stands keeper.old s
+        × (K.honest keeper.new → K.shut keeper.old ≡ false → (s : State) → K.represents keeper.old s
         → Serves (K.schema keeper.old) s whole (W.contents writer.old) (W.contents writer.new)
-        (K.stands keeper.new) (K.shut keeper.new) (K.leaves keeper.new) result)
+        (K.represents keeper.new) (K.shut keeper.new) (K.crash_states keeper.new) result)
         × (K.shut keeper.old ≡ true → ServesShut whole
         (W.contents writer.old) (W.contents writer.new) result) }
     ensures unasked { IfUnasked result ((keeper.new ≡ keeper.old) × (writer.new ≡ writer.old)) }
-    ensures still { K.shut keeper.old ≡ true → keeper.new ≡ keeper.old }
+    ensures unchanged { K.shut keeper.old ≡ true → keeper.new ≡ keeper.old }
 {
     match read_job(alloc, routes, reader) {
         Ok(None) => Ok(Served::Nothing),

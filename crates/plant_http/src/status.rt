@@ -3,7 +3,7 @@ ghost use Rattle.std.specs.Prelude.{◌≡◌, ◌≤◌, Some, length};
 ghost use Rattle.http.specs.StatusCode.{reason_phrase};
 ghost use Rattle.plant_http.specs.Answers.{code_of, phrase_of, allow_line, type_of};
 
-use plant_http_requests::{Allow, Form, Status};
+use plant_http_requests::{Allow, BodyFormat, Status};
 
 /// The number of a status (RFC 9110, section 15; of `HeadTooLarge` RFC 6585, section 5).
 pub(crate) fn code_of(status: Status) -> u16
@@ -56,12 +56,12 @@ pub(crate) fn allow_line(allow: Allow) -> &'static str
 }
 
 /// The media type of a form.
-pub(crate) fn type_of(form: Form) -> &'static str
-    ensures value { result.now ≡ type_of form }
+pub(crate) fn type_of(body_format: BodyFormat) -> &'static str
+    ensures value { result.now ≡ type_of body_format }
     ensures short { length result.now ≤ 16 }
 {
-    match form {
-        Form::Json => "application/json",
-        Form::Record => "text/plain",
+    match body_format {
+        BodyFormat::Json => "application/json",
+        BodyFormat::Record => "text/plain",
     }
 }

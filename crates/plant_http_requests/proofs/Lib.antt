@@ -1,4 +1,4 @@
-pub mod HeadLemmas
-pub mod BodyLemmas
-pub mod JobLemmas
-pub mod InputLemmas
+pub mod HeadEnds
+pub mod BodyIsOfInput
+pub mod OneJob
+pub mod WholeInput

@@ -5,7 +5,7 @@ use Rattle.plant_base.specs.Options.{◌>>=◌}
 use Rattle.plant_base.specs.Digits.{digits_of}
 use Rattle.plant_base.specs.Values.{is_id, is_moment, is_text, only}
 use Rattle.plant_base.specs.declared.command.Stamp.{Stamp}
-use Rattle.plant_orders.specs.declared.importing.Heading.{Heading}
+use Rattle.plant_orders.specs.declared.importing.ImportMetadata.{ImportMetadata}
 use Rattle.plant_http_requests.specs.declared.status.Status.{Status}
 use Rattle.plant_http_requests.specs.declared.status.Status.TheVariants.{BadRequest, PayloadTooLarge, NotImplemented}
 
@@ -88,8 +88,8 @@ reference_in fs =
     else if count_named (codes "desk-ref") fs == 1 then option_map Some (reference_named fs)
     else None
 
-abbrev pub heading_in : Fields → Option Heading
-heading_in fs = do
+abbrev pub import_metadata_in : Fields → Option ImportMetadata
+import_metadata_in fs = do
   stamp ← stamp_in fs
   reference ← reference_in fs
   Some (record { stamp = stamp; reference = reference })

@@ -9,19 +9,19 @@ use Rattle.plant_orders.specs.Orders.{orders_of}
 use Rattle.plant_orders.specs.declared.fault.CsvFault.{CsvFault}
 use Rattle.plant_orders.specs.declared.fault.CsvKind.{CsvKind}
 use Rattle.plant_orders.specs.declared.fault.CsvKind.TheVariants as csv
-use Rattle.plant_orders.specs.declared.importing.Heading.{Heading}
+use Rattle.plant_orders.specs.declared.importing.ImportMetadata.{ImportMetadata}
 use Rattle.plant_text.specs.Lines.{line_of}
 use Rattle.plant_text.specs.declared.read.Line.{Line}
 use Rattle.plant_text.specs.declared.read.Line.TheVariants as L
 use Rattle.plant_text.specs.declared.LineFault.{LineFault}
 use Rattle.plant_text.specs.declared.LineFault.TheVariants as line
-use Rattle.plant_http_requests.specs.Head.{end_of_head}
+use Rattle.plant_http_requests.specs.HeadEnd.{end_of_head}
 use Rattle.plant_http_requests.specs.declared.reading.HeadEnd.{HeadEnd}
 use Rattle.plant_http_requests.specs.declared.reading.HeadEnd.TheVariants as end
 use Rattle.plant_http_requests.specs.Heads.{field_lines, Parsed}
 use Rattle.plant_http_requests.specs.Steps.{refusal_of, fails, request_step}
 use Rattle.plant_http_requests.specs.declared.job.Job.{Job}
-use Rattle.plant_http_requests.specs.declared.job.Job.TheVariants.{Refuse, Ask, Command, BadForm, BadFile, NoMemory}
+use Rattle.plant_http_requests.specs.declared.job.Job.TheVariants.{Refuse, Ask, Command, BadForm, BadFile, MemoryError}
 use Rattle.plant_http_requests.specs.declared.job.Content.{Content}
 use Rattle.plant_http_requests.specs.declared.job.Content.TheVariants as content
 use Rattle.plant_http_requests.specs.declared.job.HeadStep.{HeadStep}
@@ -45,15 +45,15 @@ abbrev pub command_of : Result Line LineFault → Job
 command_of (Ok (L.Command e)) = Command e
 command_of (Ok (L.Question q)) = BadForm
 command_of (Err line.BadForm) = BadForm
-command_of (Err line.Memory) = NoMemory
+command_of (Err line.Memory) = MemoryError
 
-abbrev pub file_job : Heading → Result (List OrderRow) CsvFault → Job
-file_job heading (Ok orders) = Command (import heading orders)
-file_job heading (Err fault) = BadFile fault
+abbrev pub file_job : ImportMetadata → Result (List OrderRow) CsvFault → Job
+file_job import_metadata (Ok orders) = Command (import import_metadata orders)
+file_job import_metadata (Err fault) = BadFile fault
 
 -- what the reader of order files tells as a fault: the file's, or want of memory
 abbrev pub fault_job_of : CsvKind → CsvFault → Job
-fault_job_of csv.Memory fault = NoMemory
+fault_job_of csv.Memory fault = MemoryError
 fault_job_of _ fault = BadFile fault
 
 abbrev pub fault_job : CsvFault → Job
@@ -63,14 +63,14 @@ fault_job fault = fault_job_of fault.kind fault
 abbrev pub body_job : Content → List ℕ → Job
 body_job content.Command body = command_job (line_of body)
 body_job (content.Orders None) body = refusal_of BadRequest false
-body_job (content.Orders (Some heading)) body = file_job heading (orders_of body)
+body_job (content.Orders (Some import_metadata)) body = file_job import_metadata (orders_of body)
 
 -- ---- heads
 
 -- what a head and the bytes behind it ask for
 abbrev pub finish : HeadStep → List ℕ → Job
 finish (S.Refuse status allow silent) rest = Refuse status allow silent
-finish (S.Ask question form silent) rest = Ask question form silent
+finish (S.Ask question body_format silent) rest = Ask question body_format silent
 finish (S.Body n c) rest = if nat_le n (length rest) then body_job c (take n rest) else refusal_of BadRequest false
 
 abbrev pub parsed_step : Option RequestHead → HeadStep
@@ -103,17 +103,17 @@ JobOf whole job = EndJob (end_of_head whole) whole job
 -- the job comes of what a body says
 abbrev pub is_of_body : Job → Bool
 is_of_body (Refuse status allow silent) = false
-is_of_body (Ask question form silent) = false
+is_of_body (Ask question body_format silent) = false
 is_of_body (Command e) = true
 is_of_body BadForm = true
 is_of_body (BadFile fault) = true
-is_of_body NoMemory = false
+is_of_body MemoryError = false
 
 -- a body was read for what it says; want of memory comes only where it says something
 abbrev pub Reads : Job → Job → Type 0
-Reads NoMemory job = is_of_body job ≡ true
+Reads MemoryError job = is_of_body job ≡ true
 Reads (Refuse status allow silent) job = Refuse status allow silent ≡ job
-Reads (Ask question form silent) job = Ask question form silent ≡ job
+Reads (Ask question body_format silent) job = Ask question body_format silent ≡ job
 Reads (Command e) job = Command e ≡ job
 Reads BadForm job = BadForm ≡ job
 Reads (BadFile fault) job = BadFile fault ≡ job

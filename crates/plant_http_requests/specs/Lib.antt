@@ -1,5 +1,5 @@
-pub mod Head
-pub mod Reading
+pub mod HeadEnd
+pub mod PieceReading
 pub mod Fields
 pub mod Heads
 pub mod Steps

@@ -9,11 +9,11 @@ use Rattle.plant_http_routes.specs.declared.routes.Kind.{Kind}
 use Rattle.plant_http_routes.specs.declared.routes.Kind.TheVariants as kind
 use Rattle.plant_http_routes.specs.declared.routes.Target.{Target}
 use Rattle.plant_http_routes.specs.declared.routes.Target.TheVariants as target
-use Rattle.plant_http_requests.specs.Fields.{Fields, framing, heading_in}
+use Rattle.plant_http_requests.specs.Fields.{Fields, framing, import_metadata_in}
 use Rattle.plant_http_requests.specs.declared.job.Job.{Job}
 use Rattle.plant_http_requests.specs.declared.job.Job.TheVariants.{Refuse}
-use Rattle.plant_http_requests.specs.declared.job.Form.{Form}
-use Rattle.plant_http_requests.specs.declared.job.Form.TheVariants.{Json, Record}
+use Rattle.plant_http_requests.specs.declared.job.BodyFormat.{BodyFormat}
+use Rattle.plant_http_requests.specs.declared.job.BodyFormat.TheVariants.{Json, Record}
 use Rattle.plant_http_requests.specs.declared.job.Content.{Content}
 use Rattle.plant_http_requests.specs.declared.job.Content.TheVariants as content
 use Rattle.plant_http_requests.specs.declared.job.HeadStep.{HeadStep}
@@ -41,16 +41,16 @@ question_of kind.Batch id = Q.Batch id
 question_of kind.BatchBack id = Q.Trace Back (node.Batch id)
 question_of kind.BatchForward id = Q.Trace Forward (node.Batch id)
 question_of kind.Record id = Q.Batch id
-question_of kind.LotStands id = Q.Stands (node.Lot id)
-question_of kind.BatchStands id = Q.Stands (node.Batch id)
+question_of kind.LotStands id = Q.HasStoredRows (node.Lot id)
+question_of kind.BatchStands id = Q.HasStoredRows (node.Batch id)
 question_of kind.LotBackEdges id = Q.Edges Back (node.Lot id)
 question_of kind.LotForwardEdges id = Q.Edges Forward (node.Lot id)
 question_of kind.BatchBackEdges id = Q.Edges Back (node.Batch id)
 question_of kind.BatchForwardEdges id = Q.Edges Forward (node.Batch id)
 
-abbrev pub form_of : Kind → Form
-form_of kind.Record = Record
-form_of _ = Json
+abbrev pub body_format_of : Kind → BodyFormat
+body_format_of kind.Record = Record
+body_format_of _ = Json
 
 -- a POST has a length
 abbrev pub post_step : Content → Option ℕ → HeadStep
@@ -63,20 +63,20 @@ posted_step c method length =
     if bytes_eq method (codes "POST") then post_step c length else S.Refuse MethodNotAllowed Post (is_head method)
 
 -- a path that is asked; a HEAD is answered as a GET, the body left out
-abbrev pub asked_step : Question → Form → List ℕ → HeadStep
-asked_step question form method =
-    if bytes_eq method (codes "GET") || is_head method then S.Ask question form (is_head method)
+abbrev pub asked_step : Question → BodyFormat → List ℕ → HeadStep
+asked_step question body_format method =
+    if bytes_eq method (codes "GET") || is_head method then S.Ask question body_format (is_head method)
     else S.Refuse MethodNotAllowed Get false
 
 abbrev pub target_step : Target → List ℕ → Option ℕ → Fields → HeadStep
 target_step target.Desk method length fs = asked_step Q.Desk Json method
 target_step target.Moment method length fs = asked_step Q.Moment Json method
 target_step target.Commands method length fs = posted_step content.Command method length
-target_step target.Orders method length fs = posted_step (content.Orders (heading_in fs)) method length
-target_step (target.Named k id) method length fs = asked_step (question_of k id) (form_of k) method
-target_step (target.List list above) method length fs = asked_step (Q.List list above) Json method
-target_step (target.Recipes state above) method length fs = asked_step (Q.Recipes state above) Json method
-target_step (target.Ledger lot above) method length fs = asked_step (Q.Ledger lot above) Json method
+target_step target.Orders method length fs = posted_step (content.Orders (import_metadata_in fs)) method length
+target_step (target.Named k id) method length fs = asked_step (question_of k id) (body_format_of k) method
+target_step (target.List list cursor) method length fs = asked_step (Q.List list cursor) Json method
+target_step (target.Recipes state cursor) method length fs = asked_step (Q.Recipes state cursor) Json method
+target_step (target.Ledger lot cursor) method length fs = asked_step (Q.Ledger lot cursor) Json method
 
 abbrev pub routed_step : Option Target → List ℕ → Option ℕ → Fields → HeadStep
 routed_step None method length fs = fails NotFound (is_head method)

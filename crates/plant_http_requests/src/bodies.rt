@@ -7,7 +7,7 @@ ghost use Rattle.plant_http_requests.specs.Jobs.{command_job, command_of, file_j
 use crate::job::{Content, Job};
 use crate::status::Status;
 use crate::steps::refusal_of;
-use plant_orders::{CsvFault, CsvKind, Heading, import, read_orders};
+use plant_orders::{CsvFault, CsvKind, ImportMetadata, import, read_orders};
 use plant_text::{Line, LineFault, read_line};
 use std::alloc::Global;
 
@@ -19,7 +19,7 @@ fn command_of(read: Result<Line, LineFault>) -> Job
         Ok(Line::Command(envelope)) => Job::Command(envelope),
         Ok(Line::Question(_)) => Job::BadForm,
         Err(LineFault::BadForm) => Job::BadForm,
-        Err(LineFault::Memory) => Job::NoMemory,
+        Err(LineFault::Memory) => Job::MemoryError,
     }
 }
 
@@ -33,16 +33,16 @@ fn fault_job(fault: CsvFault) -> Job
     ensures { result ≡ fault_job fault }
 {
     match fault.kind {
-        CsvKind::Memory => Job::NoMemory,
+        CsvKind::Memory => Job::MemoryError,
         _ => Job::BadFile(fault),
     }
 }
 
-fn file_job(alloc: Global, heading: Heading, body: &[u8]) -> Job
-    ensures { Reads result (file_job heading (orders_of body.now)) }
+fn file_job(alloc: Global, import_metadata: ImportMetadata, body: &[u8]) -> Job
+    ensures { Reads result (file_job import_metadata (orders_of body.now)) }
 {
     match read_orders(alloc, body) {
-        Ok(orders) => Job::Command(import(heading, orders)),
+        Ok(orders) => Job::Command(import(import_metadata, orders)),
         Err(fault) => fault_job(fault),
     }
 }
@@ -53,7 +53,7 @@ pub(crate) fn body_job(alloc: Global, content: Content, body: &[u8]) -> Job
 {
     match content {
         Content::Command => command_job(alloc, body),
-        Content::Orders(Some(heading)) => file_job(alloc, heading, body),
+        Content::Orders(Some(import_metadata)) => file_job(alloc, import_metadata, body),
         Content::Orders(None) => refusal_of(Status::BadRequest, false),
     }
 }

@@ -4,12 +4,12 @@ ghost use Rattle.httparse.specs.Spans.{IsHeaderWithin, header_bytes};
 ghost use Rattle.plant_base.specs.Values.{is_id, is_moment, is_text, only};
 ghost use Rattle.plant_http_requests.specs.Fields.{is_name, count_named, value_named, body_length, framing};
 ghost use Rattle.plant_http_requests.specs.Fields.{moment_in, only_moment, operator_in, reference_in};
-ghost use Rattle.plant_http_requests.specs.Fields.{reference_named, stamp_in, heading_in};
+ghost use Rattle.plant_http_requests.specs.Fields.{reference_named, stamp_in, import_metadata_in};
 
 use crate::status::Status;
 use httparse::spans::HeaderSpan;
 use plant_base::{Id, Moment, Stamp, Text, read_digits};
-use plant_orders::Heading;
+use plant_orders::ImportMetadata;
 
 /// Whether a field has this name; the case of letters doesn't count (RFC 9110, section 5.1).
 fn has_name(head: &[u8], field: &HeaderSpan, name: &[u8]) -> bool
@@ -180,11 +180,11 @@ fn stamp_in(head: &[u8], fields: &[HeaderSpan]) -> Option<Stamp>
 
 /// The same with the reference that an order file is taken under. `None` also where there are several fields Desk-Ref or
 /// one with no id.
-pub(crate) fn heading_in(head: &[u8], fields: &[HeaderSpan]) -> Option<Heading>
+pub(crate) fn import_metadata_in(head: &[u8], fields: &[HeaderSpan]) -> Option<ImportMetadata>
     requires { All (IsHeaderWithin (length head.now)) fields.now }
-    ensures { result ≡ heading_in (map (header_bytes head.now) fields.now) }
+    ensures { result ≡ import_metadata_in (map (header_bytes head.now) fields.now) }
 {
     let stamp = stamp_in(head, fields)?;
     let reference = reference_in(head, fields)?;
-    Some(Heading { stamp, reference })
+    Some(ImportMetadata { stamp, reference })
 }

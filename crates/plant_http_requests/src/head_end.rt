@@ -1,6 +1,6 @@
 //! Where a head ends.
 ghost use Rattle.std.specs.Prelude.{◌≡◌, ◌≤◌, ◌+◌, length, drop, slice_index, IfSome};
-ghost use Rattle.plant_http_requests.specs.Head.{blank_length, head_length};
+ghost use Rattle.plant_http_requests.specs.HeadEnd.{blank_length, head_length};
 
 /// The byte at a place, 0 past the end.
 fn byte_at(bytes: &[u8], at: usize) -> u8

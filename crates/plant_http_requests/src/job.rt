@@ -1,11 +1,11 @@
 use crate::status::{Allow, Status};
 use plant_base::Envelope;
 use plant_messages::Question;
-use plant_orders::{CsvFault, Heading};
+use plant_orders::{CsvFault, ImportMetadata};
 
 /// As what an answer is written.
 #[derive(Clone, Copy, Debug, PartialEq, Eq)]
-pub enum Form {
+pub enum BodyFormat {
     /// JSON.
     Json,
     /// The batch record, a plain text.
@@ -29,7 +29,7 @@ pub enum Job {
         /// What the desk is asked.
         question: Question,
         /// The form of the answer.
-        form: Form,
+        body_format: BodyFormat,
         /// Whether the answer's body is left out, since the request is a HEAD.
         silent: bool,
     },
@@ -40,7 +40,7 @@ pub enum Job {
     /// An order file with this fault.
     BadFile(CsvFault),
     /// Memory was refused while a body was read as a command or an order file. Nothing is said of the body.
-    NoMemory,
+    MemoryError,
 }
 
 /// What a body is to be.
@@ -50,7 +50,7 @@ pub(crate) enum Content {
     Command,
     /// An order file, to be taken with this moment and operator and under this reference; `None` where the fields of the
     /// head don't name them as they should.
-    Orders(Option<Heading>),
+    Orders(Option<ImportMetadata>),
 }
 
 /// What the head alone decides.
@@ -65,7 +65,7 @@ pub(crate) enum HeadStep {
     /// A question to the desk.
     Ask {
         question: Question,
-        form: Form,
+        body_format: BodyFormat,
         silent: bool,
     },
     /// A body of so many bytes, at most 262,144, is to be read.

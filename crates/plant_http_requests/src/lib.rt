@@ -14,7 +14,7 @@ mod status;
 mod steps;
 
 pub use head_end::head_length;
-pub use job::{Form, Job};
+pub use job::{BodyFormat, Job};
 pub use law::job_law;
 pub use read::{MOST_READS, read_job};
 pub use reading::{HeadEnd, InputFault, LONGEST_HEAD, read_head, read_to};

@@ -1,7 +1,7 @@
 //! From the input to what it asks for.
 ghost use Rattle.std.specs.Prelude.{◌≡◌, ℕ, ◌≤◌, ◌+◌, ◌++◌, List, [], Some, None, length, take, drop, IfOk};
 ghost use Rattle.std.specs.Prelude.{IsErrOf, OnErr};
-ghost use Rattle.plant_http_requests.specs.Reading.{Agrees, SpentAll};
+ghost use Rattle.plant_http_requests.specs.PieceReading.{Agrees, SpentAll};
 ghost use Rattle.plant_http_requests.specs.Jobs.{AsksFor, HeadAsksFor, LacksBody, most_reads};
 
 use crate::bodies::body_job;
@@ -50,11 +50,11 @@ fn head_job<R: Read>(
         }),
         HeadStep::Ask {
             question,
-            form,
+            body_format,
             silent,
         } => Ok(Job::Ask {
             question,
-            form,
+            body_format,
             silent,
         }),
         HeadStep::Body { size, content } => {
@@ -75,7 +75,7 @@ fn head_job<R: Read>(
 /// in which they come.
 ///
 /// `Read`: a read failed, or was interrupted. `Endless`: the request has taken its 4,096 reads, each of which gave a byte at least. `Memory`: memory was
-/// refused for the bytes. Want of memory in reading a body as a command or an order file is `Job::NoMemory`.
+/// refused for the bytes. Want of memory in reading a body as a command or an order file is `Job::MemoryError`.
 pub fn read_job<R: Read>(
     alloc: Global,
     routes: &Routes,

@@ -1,11 +1,11 @@
 //! What the head of a request decides.
 ghost use Rattle.std.specs.Prelude.{◌≡◌, length, map, All};
 ghost use Rattle.httparse.specs.Spans.{IsHeaderWithin, IsWithin, header_bytes, span_bytes};
-ghost use Rattle.plant_http_requests.specs.Steps.{refusal_of, fails, is_head, question_of, form_of, post_step};
+ghost use Rattle.plant_http_requests.specs.Steps.{refusal_of, fails, is_head, question_of, body_format_of, post_step};
 ghost use Rattle.plant_http_requests.specs.Steps.{posted_step, asked_step, target_step, request_step};
 
-use crate::fields::{framing, heading_in};
-use crate::job::{Content, Form, HeadStep, Job};
+use crate::fields::{framing, import_metadata_in};
+use crate::job::{BodyFormat, Content, HeadStep, Job};
 use crate::status::{Allow, Status};
 use httparse::spans::{HeaderSpan, RequestSpans};
 use plant_base::Id;
@@ -53,8 +53,8 @@ fn question_of(kind: Kind, id: Id) -> Question
         Kind::Batch | Kind::Record => Question::Batch(id),
         Kind::BatchBack => Question::Trace(Direction::Back, Node::Batch(id)),
         Kind::BatchForward => Question::Trace(Direction::Forward, Node::Batch(id)),
-        Kind::LotStands => Question::Stands(Node::Lot(id)),
-        Kind::BatchStands => Question::Stands(Node::Batch(id)),
+        Kind::LotStands => Question::HasStoredRows(Node::Lot(id)),
+        Kind::BatchStands => Question::HasStoredRows(Node::Batch(id)),
         Kind::LotBackEdges => Question::Edges(Direction::Back, Node::Lot(id)),
         Kind::LotForwardEdges => Question::Edges(Direction::Forward, Node::Lot(id)),
         Kind::BatchBackEdges => Question::Edges(Direction::Back, Node::Batch(id)),
@@ -62,12 +62,12 @@ fn question_of(kind: Kind, id: Id) -> Question
     }
 }
 
-fn form_of(kind: Kind) -> Form
-    ensures { result ≡ form_of kind }
+fn body_format_of(kind: Kind) -> BodyFormat
+    ensures { result ≡ body_format_of kind }
 {
     match kind {
-        Kind::Record => Form::Record,
-        _ => Form::Json,
+        Kind::Record => BodyFormat::Record,
+        _ => BodyFormat::Json,
     }
 }
 
@@ -91,14 +91,14 @@ fn posted_step(content: Content, method: &[u8], size: Option<u32>) -> HeadStep
 
 /// A path that is asked by GET, or by HEAD.
 /// Another method is answered 405 with those that the path allows (RFC 9110, section 15.5.6).
-fn asked_step(question: Question, form: Form, method: &[u8]) -> HeadStep
-    ensures { result ≡ asked_step question form method.now }
+fn asked_step(question: Question, body_format: BodyFormat, method: &[u8]) -> HeadStep
+    ensures { result ≡ asked_step question body_format method.now }
 {
     let silent = is_head(method);
     if method == b"GET".as_slice() || silent {
         return HeadStep::Ask {
             question,
-            form,
+            body_format,
             silent,
         };
     }
@@ -120,16 +120,28 @@ fn target_step(
     ensures { result ≡ target_step target method.now size (map (header_bytes head.now) fields.now) }
 {
     match target {
-        Target::Desk => asked_step(Question::Desk, Form::Json, method),
-        Target::Moment => asked_step(Question::Moment, Form::Json, method),
+        Target::Desk => asked_step(Question::Desk, BodyFormat::Json, method),
+        Target::Moment => asked_step(Question::Moment, BodyFormat::Json, method),
         Target::Commands => posted_step(Content::Command, method, size),
-        Target::Orders => posted_step(Content::Orders(heading_in(head, fields)), method, size),
-        Target::Named(kind, id) => asked_step(question_of(kind, id), form_of(kind), method),
-        Target::List(list, above) => asked_step(Question::List(list, above), Form::Json, method),
-        Target::Recipes(state, above) => {
-            asked_step(Question::Recipes(state, above), Form::Json, method)
+        Target::Orders => posted_step(
+            Content::Orders(import_metadata_in(head, fields)),
+            method,
+            size,
+        ),
+        Target::Named(kind, id) => asked_step(question_of(kind, id), body_format_of(kind), method),
+        Target::List(list, cursor) => asked_step(
+            Question::List(list, cursor),
+            BodyFormat::Json,
+            method,
+        ),
+        Target::Recipes(state, cursor) => {
+            asked_step(Question::Recipes(state, cursor), BodyFormat::Json, method)
         }
-        Target::Ledger(lot, above) => asked_step(Question::Ledger(lot, above), Form::Json, method),
+        Target::Ledger(lot, cursor) => asked_step(
+            Question::Ledger(lot, cursor),
+            BodyFormat::Json,
+            method,
+        ),
     }
 }
 

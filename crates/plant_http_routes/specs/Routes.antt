@@ -8,14 +8,14 @@ use Rattle.matchit.specs.Order.{placed}
 use Rattle.matchit.specs.Params.{walk}
 use Rattle.matchit.specs.Seek.{first}
 use Rattle.plant_base.specs.Values.{is_id, only}
-use Rattle.plant_shapes.specs.Words.{order_state, recipe_state}
-use Rattle.plant_shapes.specs.declared.words.ListKind.{ListKind}
-use Rattle.plant_shapes.specs.declared.words.ListKind.TheVariants as k
+use Rattle.plant_message_schema.specs.Words.{order_state, recipe_state}
+use Rattle.plant_message_schema.specs.declared.words.ListKind.{ListKind}
+use Rattle.plant_message_schema.specs.declared.words.ListKind.TheVariants as k
 use Rattle.plant_worklists.specs.declared.list.Worklist.{Worklist}
 use Rattle.plant_worklists.specs.declared.list.Worklist.TheVariants as list
-use Rattle.plant_worklists.specs.declared.place.MovementPlace.{MovementPlace}
-use Rattle.plant_worklists.specs.declared.place.RecipePlace.{RecipePlace}
-use Rattle.plant_worklists.specs.Places.{recipe_place, movement_place}
+use Rattle.plant_worklists.specs.declared.cursors.MovementCursor.{MovementCursor}
+use Rattle.plant_worklists.specs.declared.cursors.RecipeCursor.{RecipeCursor}
+use Rattle.plant_worklists.specs.Cursors.{recipe_cursor, movement_cursor}
 use Rattle.plant_http_routes.specs.declared.routes.Kind.{Kind}
 use Rattle.plant_http_routes.specs.declared.routes.Kind.TheVariants as kind
 use Rattle.plant_http_routes.specs.declared.routes.Route.{Route}
@@ -101,15 +101,15 @@ list_routes rows =
     (routes_of (codes "/v1/lists/orders/") (codes "state") k.Orders rows)))))
 
 -- the routes of lists whose places have two values
-abbrev pub placed_routes : RowsOf (RouteOf Route) → RowsOf (RouteOf Route)
-placed_routes rows =
+abbrev pub cursor_routes : RowsOf (RouteOf Route) → RowsOf (RouteOf Route)
+cursor_routes rows =
     routes_of (codes "/v1/lists/movements/") (codes "lot") k.Movements
     (routes_of (codes "/v1/lists/recipes/") (codes "state") k.Recipes rows)
 
 -- all routes
 abbrev pub the_routes : RowsOf (RouteOf Route)
 the_routes =
-    placed_routes (list_routes (around_routes (adds (plain (codes "/v1/moment") route.Moment)
+    cursor_routes (list_routes (around_routes (adds (plain (codes "/v1/moment") route.Moment)
     (batch_routes (lot_routes (order_routes
     (adds (plain (codes "/v1/orders") route.Orders)
     (adds (plain (codes "/v1/commands") route.Commands)
@@ -126,9 +126,9 @@ second_part [] = None
 second_part (p ∷ rest) = first_part rest
 
 -- the place that a page goes on from, none where none is given
-abbrev pub place_at : Option (List ℕ) → Option (Option (List ℕ))
-place_at None = Some None
-place_at (Some part) = option_map Some (only is_id part)
+abbrev pub cursor_at : Option (List ℕ) → Option (Option (List ℕ))
+cursor_at None = Some None
+cursor_at (Some part) = option_map Some (only is_id part)
 
 -- the list of a kind that is of what this part names
 abbrev pub list_named : ListKind → List ℕ → Option Worklist
@@ -143,26 +143,26 @@ list_named k.Movements part = None
 
 -- a page of a list, from a place that is named or from its front
 abbrev pub page_at : Option Worklist → Option (List ℕ) → Option Target
-page_at None above = None
-page_at (Some w) above = option_map (target.List w) (place_at above)
+page_at None cursor = None
+page_at (Some w) cursor = option_map (target.List w) (cursor_at cursor)
 
 -- the place in a list of recipes that a page goes on from, none where none is given
-abbrev pub recipe_place_at : Option (List ℕ) → Option (Option RecipePlace)
-recipe_place_at None = Some None
-recipe_place_at (Some part) = option_map Some (recipe_place part)
+abbrev pub recipe_cursor_at : Option (List ℕ) → Option (Option RecipeCursor)
+recipe_cursor_at None = Some None
+recipe_cursor_at (Some part) = option_map Some (recipe_cursor part)
 
 -- and in a ledger
-abbrev pub movement_place_at : Option (List ℕ) → Option (Option MovementPlace)
-movement_place_at None = Some None
-movement_place_at (Some part) = option_map Some (movement_place part)
+abbrev pub movement_cursor_at : Option (List ℕ) → Option (Option MovementCursor)
+movement_cursor_at None = Some None
+movement_cursor_at (Some part) = option_map Some (movement_cursor part)
 
 -- a page of the recipes in a state that is named
 abbrev pub recipes_at : List ℕ → Option (List ℕ) → Option Target
-recipes_at state above = option_and_then (λ s. option_map (target.Recipes s) (recipe_place_at above)) (recipe_state state)
+recipes_at state cursor = option_and_then (λ s. option_map (target.Recipes s) (recipe_cursor_at cursor)) (recipe_state state)
 
 -- a page of the ledger of a lot that is named
 abbrev pub ledger_at : List ℕ → Option (List ℕ) → Option Target
-ledger_at lot above = option_and_then (λ id. option_map (target.Ledger id) (movement_place_at above)) (only is_id lot)
+ledger_at lot cursor = option_and_then (λ id. option_map (target.Ledger id) (movement_cursor_at cursor)) (only is_id lot)
 
 -- the page that the parts of a path name: what the list is of, where it is of something, and the place to go on from
 abbrev pub listed_at : ListKind → Option (List ℕ) → Option (List ℕ) → Option Target

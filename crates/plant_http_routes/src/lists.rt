@@ -2,19 +2,19 @@
 ghost use Rattle.std.specs.Prelude.{◌≡◌, option_copied};
 ghost use Rattle.std.specs.Str.{IsAscii};
 ghost use Rattle.matchit.specs.Params.{walk};
-ghost use Rattle.plant_http_routes.specs.Routes.{first_part, second_part, place_at, list_named, page_at, listed_at};
-ghost use Rattle.plant_http_routes.specs.Routes.{recipe_place_at, movement_place_at, recipes_at, ledger_at};
+ghost use Rattle.plant_http_routes.specs.Routes.{first_part, second_part, cursor_at, list_named, page_at, listed_at};
+ghost use Rattle.plant_http_routes.specs.Routes.{recipe_cursor_at, movement_cursor_at, recipes_at, ledger_at};
 
 use crate::path::{first_in, read_id, second_in};
 use crate::routes::Target;
 use matchit::Params;
 use plant_base::Id;
-use plant_shapes::{ListKind, order_state, recipe_state};
-use plant_worklists::{MovementPlace, RecipePlace, Worklist};
+use plant_message_schema::{ListKind, order_state, recipe_state};
+use plant_worklists::{MovementCursor, RecipeCursor, Worklist};
 
 /// The place that a page goes on from, nothing where none is given.
-fn place_at(part: Option<&str>) -> Option<Option<Id>>
-    ensures { result ≡ place_at (option_copied part.entry) }
+fn cursor_at(part: Option<&str>) -> Option<Option<Id>>
+    ensures { result ≡ cursor_at (option_copied part.entry) }
 {
     match part {
         None => Some(None),
@@ -39,19 +39,19 @@ fn list_named(kind: ListKind, part: &str) -> Option<Worklist>
 }
 
 /// A page of a list, from a place that is named or from its front.
-fn page_at(list: Option<Worklist>, above: Option<&str>) -> Option<Target>
-    ensures { result ≡ page_at list (option_copied above.entry) }
+fn page_at(list: Option<Worklist>, cursor: Option<&str>) -> Option<Target>
+    ensures { result ≡ page_at list (option_copied cursor.entry) }
 {
-    Some(Target::List(list?, place_at(above)?))
+    Some(Target::List(list?, cursor_at(cursor)?))
 }
 
 /// The place in a list of recipes that a page goes on from, nothing where none is given.
-fn recipe_place_at(part: Option<&str>) -> Option<Option<RecipePlace>>
-    ensures { result ≡ recipe_place_at (option_copied part.entry) }
+fn recipe_cursor_at(part: Option<&str>) -> Option<Option<RecipeCursor>>
+    ensures { result ≡ recipe_cursor_at (option_copied part.entry) }
 {
     match part {
         None => Some(None),
-        Some(part) => match RecipePlace::read(part) {
+        Some(part) => match RecipeCursor::read(part) {
             Some(place) => Some(Some(place)),
             None => None,
         },
@@ -59,12 +59,12 @@ fn recipe_place_at(part: Option<&str>) -> Option<Option<RecipePlace>>
 }
 
 /// The place in a ledger that a page goes on from, nothing where none is given.
-fn movement_place_at(part: Option<&str>) -> Option<Option<MovementPlace>>
-    ensures { result ≡ movement_place_at (option_copied part.entry) }
+fn movement_cursor_at(part: Option<&str>) -> Option<Option<MovementCursor>>
+    ensures { result ≡ movement_cursor_at (option_copied part.entry) }
 {
     match part {
         None => Some(None),
-        Some(part) => match MovementPlace::read(part) {
+        Some(part) => match MovementCursor::read(part) {
             Some(place) => Some(Some(place)),
             None => None,
         },
@@ -72,19 +72,19 @@ fn movement_place_at(part: Option<&str>) -> Option<Option<MovementPlace>>
 }
 
 /// A page of the recipes in a state that is named, from a place that is named or from the front.
-fn recipes_at(state: &str, above: Option<&str>) -> Option<Target>
-    ensures { result ≡ recipes_at state.now (option_copied above.entry) }
+fn recipes_at(state: &str, cursor: Option<&str>) -> Option<Target>
+    ensures { result ≡ recipes_at state.now (option_copied cursor.entry) }
 {
     let state = recipe_state(state)?;
-    Some(Target::Recipes(state, recipe_place_at(above)?))
+    Some(Target::Recipes(state, recipe_cursor_at(cursor)?))
 }
 
 /// A page of the ledger of a lot that is named, from a place that is named or from its front.
-fn ledger_at(lot: &str, above: Option<&str>) -> Option<Target>
-    ensures { result ≡ ledger_at lot.now (option_copied above.entry) }
+fn ledger_at(lot: &str, cursor: Option<&str>) -> Option<Target>
+    ensures { result ≡ ledger_at lot.now (option_copied cursor.entry) }
 {
     let lot = read_id(lot.as_bytes())?;
-    Some(Target::Ledger(lot, movement_place_at(above)?))
+    Some(Target::Ledger(lot, movement_cursor_at(cursor)?))
 }
 
 /// The page that the parts of a path name, in the place of the route's parameters.

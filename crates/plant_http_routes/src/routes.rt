@@ -2,14 +2,14 @@
 ghost use Rattle.std.specs.Prelude.{◌≡◌, IfOk, OnOk, option_and_then};
 ghost use Rattle.std.specs.Str.{IsAscii};
 ghost use Rattle.matchit.specs.Seek.{first};
-ghost use Rattle.plant_http_routes.specs.Routes.{the_routes, around_routes, list_routes, placed_routes, target_by, found_in, target_of};
+ghost use Rattle.plant_http_routes.specs.Routes.{the_routes, around_routes, list_routes, cursor_routes, target_by, found_in, target_of};
 
 use crate::lists::list_at;
 use crate::path::{ascii_text, id_in};
 use matchit::{InsertError, Router};
 use plant_base::{Id, RecipeState};
-use plant_shapes::ListKind;
-use plant_worklists::{MovementPlace, RecipePlace, Worklist};
+use plant_message_schema::ListKind;
+use plant_worklists::{MovementCursor, RecipeCursor, Worklist};
 use std::alloc::Global;
 use std::marker::Model;
 use thiserror::Error;
@@ -33,9 +33,9 @@ pub enum Kind {
     BatchForward,
     /// `/v1/batches/{batch}/record`: the batch record.
     Record,
-    /// `/v1/lots/{lot}/stands`: where the goods of the lot stand.
+    /// `/v1/lots/{lot}/represents`: where the goods of the lot stand.
     LotStands,
-    /// `/v1/batches/{batch}/stands`: where the goods of the batch stand.
+    /// `/v1/batches/{batch}/represents`: where the goods of the batch stand.
     BatchStands,
     /// `/v1/lots/{lot}/back_edges`: the genealogy back from the lot.
     LotBackEdges,
@@ -75,9 +75,9 @@ pub enum Target {
     /// for the list, what it is of where it is of something, and the id where one is given, each behind a `/`.
     List(Worklist, Option<Id>),
     /// A page of the versions of recipes in a state, `/v1/lists/recipes/{state}`, and behind it `/` and a place where one is given.
-    Recipes(RecipeState, Option<RecipePlace>),
+    Recipes(RecipeState, Option<RecipeCursor>),
     /// A page of the ledger of a lot, `/v1/lists/movements/{lot}`, and behind it `/` and a place where one is given.
-    Ledger(Id, Option<MovementPlace>),
+    Ledger(Id, Option<MovementCursor>),
 }
 
 /// Memory was refused for the routes.
@@ -128,7 +128,7 @@ fn desk_router(alloc: Global) -> Result<Router<Route>, InsertError>
     router.insert("/v1/moment", Route::Moment)?;
     add_around(&mut router)?;
     add_lists(&mut router)?;
-    add_placed(&mut router)?;
+    add_cursor_routes(&mut router)?;
     Ok(router)
 }
 
@@ -162,30 +162,30 @@ fn add_lists(router: &mut Router<Route>) -> Result<(), InsertError>
     let recalls = Route::List(ListKind::Recalls);
     let definitions = Route::List(ListKind::Definitions);
     router.insert("/v1/lists/orders/{state}", orders)?;
-    router.insert("/v1/lists/orders/{state}/{above}", orders)?;
+    router.insert("/v1/lists/orders/{state}/{cursor}", orders)?;
     router.insert("/v1/lists/batches", batches)?;
-    router.insert("/v1/lists/batches/{above}", batches)?;
+    router.insert("/v1/lists/batches/{cursor}", batches)?;
     router.insert("/v1/lists/lots/{def}", lots)?;
-    router.insert("/v1/lists/lots/{def}/{above}", lots)?;
+    router.insert("/v1/lists/lots/{def}/{cursor}", lots)?;
     router.insert("/v1/lists/holds/{lot}", holds)?;
-    router.insert("/v1/lists/holds/{lot}/{above}", holds)?;
+    router.insert("/v1/lists/holds/{lot}/{cursor}", holds)?;
     router.insert("/v1/lists/recalls", recalls)?;
-    router.insert("/v1/lists/recalls/{above}", recalls)?;
+    router.insert("/v1/lists/recalls/{cursor}", recalls)?;
     router.insert("/v1/lists/definitions/{class}", definitions)?;
-    router.insert("/v1/lists/definitions/{class}/{above}", definitions)?;
+    router.insert("/v1/lists/definitions/{class}/{cursor}", definitions)?;
     Ok(())
 }
 
 /// Adds the routes of lists whose places have two values.
-fn add_placed(router: &mut Router<Route>) -> Result<(), InsertError>
-    ensures { OnOk result (router.new ≡ placed_routes router.old) }
+fn add_cursor_routes(router: &mut Router<Route>) -> Result<(), InsertError>
+    ensures { OnOk result (router.new ≡ cursor_routes router.old) }
 {
     let recipes = Route::List(ListKind::Recipes);
     let movements = Route::List(ListKind::Movements);
     router.insert("/v1/lists/recipes/{state}", recipes)?;
-    router.insert("/v1/lists/recipes/{state}/{above}", recipes)?;
+    router.insert("/v1/lists/recipes/{state}/{cursor}", recipes)?;
     router.insert("/v1/lists/movements/{lot}", movements)?;
-    router.insert("/v1/lists/movements/{lot}/{above}", movements)?;
+    router.insert("/v1/lists/movements/{lot}/{cursor}", movements)?;
     Ok(())
 }
 

@@ -1,13 +1,13 @@
-mod Answering
-mod Directing
-mod EdgesAt
-mod Judging
-mod Keeping
-mod Listing
-mod Paged
-mod Placing
-mod Selected
-pub mod Shown
-mod Sorting
-mod Telling
-mod Tests
+mod LookupFinds
+mod CachedEdges
+mod EdgesAtNode
+mod FirstDecoded
+mod LookupsKeep
+mod PagesFind
+mod PageIsFirstRows
+mod TwoKeyPages
+mod TextsSelect
+pub mod AbstractionIsState
+mod InOrderAgain
+mod LookupsReport
+mod ComparisonTests

@@ -1,9 +1,9 @@
 pub mod Edges
-pub mod Finding
-pub mod Keeping
-pub mod ShownLaws
+pub mod Decoding
+pub mod LookupOutcomes
+pub mod AbstractionLaws
 pub mod Paging
-pub mod Remembering
-pub mod Shown
+pub mod EdgeCaching
+pub mod Abstraction
 pub mod Sorting
-pub mod Steadily
+pub mod Frames

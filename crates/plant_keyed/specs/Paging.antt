@@ -5,17 +5,17 @@ use Rattle.std.specs.declared.cmp.Ordering.{Ordering}
 use Rattle.sqlite.specs.Effect.{Database}
 use Rattle.sqlite.specs.Order.{Row}
 use Rattle.sqlite.specs.declared.types.Value.{Value}
-use Rattle.table_forms.specs.Forms.{Form}
-use Rattle.table_reads.specs.Paging.{IsPage}
-use Rattle.plant_tables_columns.specs.All.{all_from}
+use Rattle.sql_tables.specs.TableDefs.{TableDef}
+use Rattle.sql_queries.specs.Paging.{IsPage}
+use Rattle.plant_tables_columns.specs.DecodedRows.{all_from}
 use Rattle.plant_tables_columns.specs.Kinds.{number}
 use Rattle.plant_worklists.specs.Pages.{page_size, page_of}
 use Rattle.plant_worklists.specs.declared.page.Page.{Page}
 
 -- These rows of the desk were read of a page of the table's rows.
-pub record IsPaged (db : Database) (form : Form) {R : Type 0} (row_from : Row → Option R) (places : List ℕ) (next : ℕ) (values : Row) (page : Page R) : Type 0 where
+pub record IsPaged (db : Database) (table_def : TableDef) {R : Type 0} (row_from : Row → Option R) (places : List ℕ) (next : ℕ) (values : Row) (page : Page R) : Type 0 where
   pub stored : List Row
-  pub paged : IsPage db form places next values page_size stored page.has_more
+  pub paged : IsPage db table_def places next values page_size stored page.has_more
   pub read : all_from row_from stored ≡ Some page.rows
 
 -- The page is that of two lists in order as one, of which these are the first pages.
@@ -28,7 +28,7 @@ pub record IsOfBoth {R : Type 0} (order : R → R → Ordering) (is_first is_sec
 
 -- The rows with a given value in one column, and after a place of two values in two others: those with its first value and after its
 -- second, and those after its first.
-abbrev pub IsPagedBeyond : Database → Form → {R : Type 0} → (Row → Option R) → (R → R → Ordering) → ℕ → ℕ → ℕ → Value → Value → Value → Page R → Type 0
-IsPagedBeyond db form row_from order place next last given first second =
-    IsOfBoth order (IsPaged db form row_from (place ∷ next ∷ []) last (given ∷ first ∷ second ∷ number (page_size + 1) ∷ []))
-    (IsPaged db form row_from (place ∷ []) next (given ∷ first ∷ number (page_size + 1) ∷ []))
+abbrev pub IsPagedBeyond : Database → TableDef → {R : Type 0} → (Row → Option R) → (R → R → Ordering) → ℕ → ℕ → ℕ → Value → Value → Value → Page R → Type 0
+IsPagedBeyond db table_def row_from order place next last given first second =
+    IsOfBoth order (IsPaged db table_def row_from (place ∷ next ∷ []) last (given ∷ first ∷ second ∷ number (page_size + 1) ∷ []))
+    (IsPaged db table_def row_from (place ∷ []) next (given ∷ first ∷ number (page_size + 1) ∷ []))

@@ -7,28 +7,28 @@ ghost use Rattle.plant_base.specs.State.{State};
 ghost use Rattle.plant_trace.specs.Reach.{IsNext, Lists};
 ghost use Rattle.plant_view.specs.Genealogy.{edge_rows, edges_of, ends_of};
 ghost use Rattle.plant_keyed.specs.Edges.{begins_at, id_of, AreKindsAt, AreTurned, HasEdgesAt};
-ghost use Rattle.plant_keyed.specs.Keeping.{IsSteady, IsTold};
-ghost use Rattle.plant_keyed.specs.Remembering.{AreEdgesOf, IsTraced, StaysTrue, one_more, are_few};
-ghost use Rattle.plant_keyed.specs.Shown.{shown};
+ghost use Rattle.plant_keyed.specs.LookupOutcomes.{PreservesFrame, IsReported};
+ghost use Rattle.plant_keyed.specs.EdgeCaching.{AreEdgesOf, IsTraced, CacheStaysValid, one_more, are_few};
+ghost use Rattle.plant_keyed.specs.Abstraction.{abstraction};
 
-use crate::directed::Directed;
+use crate::edge_cache::EdgeCache;
 use crate::faults::if_memory;
 use crate::keyed::Keyed;
 use crate::texts;
 use plant_base::{EdgeKind, EdgeRow, Id};
-use plant_tables::forms::EDGE;
+use plant_tables::table_defs::EDGE;
 use plant_tables_columns::storing::{id as text_of, small};
 use plant_trace::{Direction, Node, neighbours};
 use plant_view::ends;
+use sql_tables::Fault;
 use sqlite::Alter;
 use std::alloc::{AllocError, Global};
-use table_forms::Fault;
 
 /// So many nodes are looked up before all edges are read, and one more for each so many commands that the desk has
 /// accepted: reading the edges that these made takes about as long as the look-ups of a node.
 const FEW: u64 = 256;
 
-const A_LOOK_UP: u64 = 16;
+const A_LOOKUP: u64 = 16;
 
 impl<'a, S: Alter> Keyed<'a, S> {
     /// The edges of a kind that begin at the lot or batch of this id, as the direction sees them. The faults are those
@@ -40,11 +40,11 @@ impl<'a, S: Alter> Keyed<'a, S> {
         direction: Direction,
     ) -> Result<Vec<EdgeRow>, Fault>
         ensures same_reference { self.new.conn.ghost_name ≡ self.old.conn.ghost_name }
-        ensures told { IsTold (state S.Store self.old.conn.now) (state S.Store self.new.conn.now)
+        ensures reported { IsReported (state S.Store self.old.conn.now) (state S.Store self.new.conn.now)
             self.old.has_failed self.new.has_failed
             (IfOk result (λ rows. rows.items ≡ filter (begins_at direction kind id.now)
-            (edge_rows (shown (state S.Store self.old.conn.now).now).movements))) }
-        ensures remembers { self.new.edges.now ≡ self.old.edges.now }
+            (edge_rows (abstraction (state S.Store self.old.conn.now).now).movements))) }
+        ensures cached { self.new.edges.now ≡ self.old.edges.now }
     {
         let key = [small(kind.number()), text_of(id)];
         match direction {
@@ -56,11 +56,11 @@ impl<'a, S: Alter> Keyed<'a, S> {
     /// The edges that begin at the node, as the direction sees them. The faults are those of each look-up.
     fn edges_at(&mut self, node: &Node, direction: Direction) -> Result<Vec<EdgeRow>, Fault>
         ensures same_reference { self.new.conn.ghost_name ≡ self.old.conn.ghost_name }
-        ensures told { IsTold (state S.Store self.old.conn.now) (state S.Store self.new.conn.now)
+        ensures reported { IsReported (state S.Store self.old.conn.now) (state S.Store self.new.conn.now)
             self.old.has_failed self.new.has_failed
             (IfOk result (λ rows. HasEdgesAt direction node.now
-            (edges_of (shown (state S.Store self.old.conn.now).now)) (map ends_of rows.items))) }
-        ensures remembers { self.new.edges.now ≡ self.old.edges.now }
+            (edges_of (abstraction (state S.Store self.old.conn.now).now)) (map ends_of rows.items))) }
+        ensures cached { self.new.edges.now ≡ self.old.edges.now }
     {
         let (kind, second) = kinds_at(node, direction);
         let id = id_of(node);
@@ -77,11 +77,11 @@ impl<'a, S: Alter> Keyed<'a, S> {
     /// faults are those of each look-up.
     fn look_up_next(&mut self, node: Node, direction: Direction) -> Result<Vec<Node>, Fault>
         ensures same_reference { self.new.conn.ghost_name ≡ self.old.conn.ghost_name }
-        ensures told { IsTold (state S.Store self.old.conn.now) (state S.Store self.new.conn.now)
+        ensures reported { IsReported (state S.Store self.old.conn.now) (state S.Store self.new.conn.now)
             self.old.has_failed self.new.has_failed
             (IfOk result (λ nodes. Lists (IsNext direction
-            (edges_of (shown (state S.Store self.old.conn.now).now)) node) nodes.items)) }
-        ensures remembers { self.new.edges.now ≡ self.old.edges.now }
+            (edges_of (abstraction (state S.Store self.old.conn.now).now)) node) nodes.items)) }
+        ensures cached { self.new.edges.now ≡ self.old.edges.now }
     {
         let edges = self.edges_at(&node, direction)?;
         let nodes = if_memory(nodes_by(self.alloc, edges.as_slice(), node, direction))?;
@@ -91,40 +91,40 @@ impl<'a, S: Alter> Keyed<'a, S> {
     /// All edges. The faults are those of each look-up.
     fn all_edges(&mut self) -> Result<Vec<EdgeRow>, Fault>
         ensures same_reference { self.new.conn.ghost_name ≡ self.old.conn.ghost_name }
-        ensures told { IsTold (state S.Store self.old.conn.now) (state S.Store self.new.conn.now)
+        ensures reported { IsReported (state S.Store self.old.conn.now) (state S.Store self.new.conn.now)
             self.old.has_failed self.new.has_failed
             (IfOk result (λ rows. rows.items
-            ≡ edge_rows (shown (state S.Store self.old.conn.now).now).movements)) }
-        ensures remembers { self.new.edges.now ≡ self.old.edges.now }
+            ≡ edge_rows (abstraction (state S.Store self.old.conn.now).now).movements)) }
+        ensures cached { self.new.edges.now ≡ self.old.edges.now }
         ensures asked { self.new.asked ≡ self.old.asked }
     {
         self.found(&EDGE, texts::EDGES, &[])
     }
 
     /// Reads all edges and remembers them as the direction sees them. The faults are those of each look-up.
-    fn remember(&mut self, direction: Direction) -> Result<(), Fault>
+    fn fill(&mut self, direction: Direction) -> Result<(), Fault>
         requires { self.old.edges.now.are_read ≡ false }
         ensures same_reference { self.new.conn.ghost_name ≡ self.old.conn.ghost_name }
-        ensures steady { IsSteady (state S.Store self.old.conn.now) (state S.Store self.new.conn.now)
+        ensures frame { PreservesFrame (state S.Store self.old.conn.now) (state S.Store self.new.conn.now)
             self.old.has_failed self.new.has_failed }
-        ensures stays { StaysTrue (state S.Store self.old.conn.now).now (state S.Store self.new.conn.now)
+        ensures stays { CacheStaysValid (state S.Store self.old.conn.now).now (state S.Store self.new.conn.now)
             self.new.has_failed self.old.edges.now self.new.edges.now }
         ensures read { OnOk result (self.new.edges.now.are_read ≡ true) }
         ensures asked { self.new.asked ≡ self.old.asked }
     {
         let rows = self.all_edges()?;
-        let all = if_memory(directed_by(self.alloc, rows.as_slice(), direction))?;
+        let all = if_memory(cached_by(self.alloc, rows.as_slice(), direction))?;
         *self.edges = all;
         Ok(())
     }
 
     /// Reads and remembers all edges, where the nodes that were asked for are so many that this is no dearer than what was
     /// looked up for them. The faults are those of each look-up.
-    fn remember_if_many(&mut self, direction: Direction) -> Result<(), Fault>
+    fn fill_if_many(&mut self, direction: Direction) -> Result<(), Fault>
         ensures same_reference { self.new.conn.ghost_name ≡ self.old.conn.ghost_name }
-        ensures steady { IsSteady (state S.Store self.old.conn.now) (state S.Store self.new.conn.now)
+        ensures frame { PreservesFrame (state S.Store self.old.conn.now) (state S.Store self.new.conn.now)
             self.old.has_failed self.new.has_failed }
-        ensures stays { StaysTrue (state S.Store self.old.conn.now).now (state S.Store self.new.conn.now)
+        ensures stays { CacheStaysValid (state S.Store self.old.conn.now).now (state S.Store self.new.conn.now)
             self.new.has_failed self.old.edges.now self.new.edges.now }
         ensures counted { self.new.asked ≡ one_more self.old.asked }
         ensures few { are_few (one_more self.old.asked) self.old.commands ≡ true → self.new.edges.now ≡ self.old.edges.now }
@@ -134,7 +134,7 @@ impl<'a, S: Alter> Keyed<'a, S> {
         if self.edges.are_read || are_few(self.asked, self.commands) {
             return Ok(());
         }
-        self.remember(direction)
+        self.fill(direction)
     }
 
     /// The nodes that come right after this one in the direction, strictly ascending. The faults are those of each
@@ -148,9 +148,9 @@ impl<'a, S: Alter> Keyed<'a, S> {
         ensures traced { IsTraced (state S.Store self.old.conn.now) (state S.Store self.new.conn.now)
             self.old.has_failed self.new.has_failed self.old.edges.now self.new.edges.now
             (IfOk result (λ nodes. Lists (IsNext direction
-            (edges_of (shown (state S.Store self.old.conn.now).now)) node) nodes.items)) }
+            (edges_of (abstraction (state S.Store self.old.conn.now).now)) node) nodes.items)) }
     {
-        self.remember_if_many(direction)?;
+        self.fill_if_many(direction)?;
         let known = if_memory(recalled(self.alloc, self.edges, &node, direction))?;
         match known {
             Some(nodes) => Ok(nodes),
@@ -163,7 +163,7 @@ impl<'a, S: Alter> Keyed<'a, S> {
 fn are_few(asked: u64, commands: u64) -> bool
     ensures { result ≡ are_few asked commands }
 {
-    asked <= FEW + commands / A_LOOK_UP
+    asked <= FEW + commands / A_LOOKUP
 }
 
 // The kind of the edges that begin at the node, as the direction sees them, and the second kind where there are two.
@@ -209,24 +209,24 @@ fn pairs_of(alloc: Global, edges: &[EdgeRow]) -> Result<Vec<(Node, Node)>, Alloc
 }
 
 // All of these edges as the direction sees them. The only error is that memory was refused.
-fn directed_by(
+fn cached_by(
     alloc: Global,
     edges: &[EdgeRow],
     direction: Direction,
-) -> Result<Directed, AllocError>
+) -> Result<EdgeCache, AllocError>
     ensures way { IfOk result (λ d. d.direction ≡ direction) }
     ensures turned { IfOk result (λ d. AreTurned direction (map ends_of edges.now) d.links.items) }
     ensures read { IfOk result (λ d. d.are_read ≡ true) }
 {
     let pairs = pairs_of(alloc, edges)?;
-    Directed::new(alloc, pairs.as_slice(), direction)
+    EdgeCache::new(alloc, pairs.as_slice(), direction)
 }
 
 // The nodes that come right after this one in the direction, strictly ascending, where edges are remembered as that
 // direction sees them. The only error is that memory was refused.
 fn recalled(
     alloc: Global,
-    edges: &Directed,
+    edges: &EdgeCache,
     node: &Node,
     direction: Direction,
 ) -> Result<Option<Vec<Node>>, AllocError>
@@ -245,7 +245,7 @@ fn recalled(
 }
 
 // Whether edges were read, as this direction sees them.
-fn are_seen(edges: &Directed, direction: Direction) -> bool
+fn are_seen(edges: &EdgeCache, direction: Direction) -> bool
     ensures read { result ≡ true → edges.now.are_read ≡ true }
     ensures way { result ≡ true → edges.now.direction ≡ direction }
 {

@@ -2,8 +2,8 @@
 
 ghost use Rattle.std.specs.Prelude.{◌≡◌, Ok, Err, IfOk, IfErr};
 
+use sql_tables::Fault;
 use std::alloc::AllocError;
-use table_forms::Fault;
 
 /// What was made of the rows of a look-up. The fault is Memory, where there was none for it.
 pub(crate) fn if_memory<T>(made: Result<T, AllocError>) -> Result<T, Fault>

@@ -1,7 +1,7 @@
 //! The desk's rows, each found by its key by a query over a connection.
 #![tactic(auto)]
 
-mod directed;
+mod edge_cache;
 mod edges;
 mod faults;
 mod found;
@@ -15,6 +15,6 @@ mod texts;
 mod view;
 mod worklists;
 
-pub use directed::Directed;
+pub use edge_cache::EdgeCache;
 pub use keyed::Keyed;
-pub use laws::shown_law;
+pub use laws::abstraction_law;

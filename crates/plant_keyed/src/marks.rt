@@ -4,18 +4,18 @@ ghost use Rattle.std.specs.Prelude.{◌≡◌, IfOk};
 ghost use Rattle.sqlite.specs.Held.{state};
 ghost use Rattle.plant_view.specs.Recalls.{node_at, marks_on};
 ghost use Rattle.plant_keyed.specs.Edges.{id_of};
-ghost use Rattle.plant_keyed.specs.Keeping.{IsTold};
-ghost use Rattle.plant_keyed.specs.Shown.{shown};
+ghost use Rattle.plant_keyed.specs.LookupOutcomes.{IsReported};
+ghost use Rattle.plant_keyed.specs.Abstraction.{abstraction};
 
 use crate::edges::id_of;
 use crate::keyed::Keyed;
 use crate::texts;
 use plant_base::{Mark, MarkKind};
-use plant_tables::forms::MARK;
+use plant_tables::table_defs::MARK;
 use plant_tables_columns::storing::{id as text_of, small};
 use plant_trace::Node;
+use sql_tables::Fault;
 use sqlite::Alter;
-use table_forms::Fault;
 
 /// What a mark on the node is on.
 fn kind_of(node: &Node) -> MarkKind
@@ -32,11 +32,11 @@ impl<'a, S: Alter> Keyed<'a, S> {
     /// each look-up.
     pub(crate) fn marks_at(&mut self, node: &Node) -> Result<Vec<Mark>, Fault>
         ensures same_reference { self.new.conn.ghost_name ≡ self.old.conn.ghost_name }
-        ensures told { IsTold (state S.Store self.old.conn.now) (state S.Store self.new.conn.now)
+        ensures reported { IsReported (state S.Store self.old.conn.now) (state S.Store self.new.conn.now)
             self.old.has_failed self.new.has_failed
             (IfOk result (λ rows. rows.items
-            ≡ marks_on (shown (state S.Store self.old.conn.now).now) node.now)) }
-        ensures remembers { self.new.edges.now ≡ self.old.edges.now }
+            ≡ marks_on (abstraction (state S.Store self.old.conn.now).now) node.now)) }
+        ensures cached { self.new.edges.now ≡ self.old.edges.now }
     {
         let kind = kind_of(node);
         let key = [small(kind.number()), text_of(id_of(node))];

@@ -3,26 +3,26 @@
 ghost use Rattle.std.specs.Prelude.{◌≡◌, IfOk};
 ghost use Rattle.sqlite.specs.Held.{state};
 ghost use Rattle.plant_view.specs.Views.{movements_of};
-ghost use Rattle.plant_keyed.specs.Keeping.{IsTold};
-ghost use Rattle.plant_keyed.specs.Shown.{shown};
+ghost use Rattle.plant_keyed.specs.LookupOutcomes.{IsReported};
+ghost use Rattle.plant_keyed.specs.Abstraction.{abstraction};
 
 use crate::keyed::Keyed;
 use crate::texts;
 use plant_base::{Id, Movement};
-use plant_tables::forms::MOVEMENT;
+use plant_tables::table_defs::MOVEMENT;
 use plant_tables_columns::storing::id;
+use sql_tables::Fault;
 use sqlite::Alter;
-use table_forms::Fault;
 
 impl<'a, S: Alter> Keyed<'a, S> {
     /// The movements of a batch.
     pub(crate) fn movements_of_batch(&mut self, batch: &Id) -> Result<Vec<Movement>, Fault>
         ensures same_reference { self.new.conn.ghost_name ≡ self.old.conn.ghost_name }
-        ensures told { IsTold (state S.Store self.old.conn.now) (state S.Store self.new.conn.now)
+        ensures reported { IsReported (state S.Store self.old.conn.now) (state S.Store self.new.conn.now)
             self.old.has_failed self.new.has_failed
             (IfOk result (λ rows. rows.items
-            ≡ movements_of (shown (state S.Store self.old.conn.now).now) batch.now)) }
-        ensures remembers { self.new.edges.now ≡ self.old.edges.now }
+            ≡ movements_of (abstraction (state S.Store self.old.conn.now).now) batch.now)) }
+        ensures cached { self.new.edges.now ≡ self.old.edges.now }
     {
         self.found(&MOVEMENT, texts::MOVEMENTS_OF_BATCH, &[id(batch)])
     }

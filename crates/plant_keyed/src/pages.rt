@@ -7,48 +7,48 @@ ghost use Rattle.sqlite.specs.Values.{bound, bound_value};
 ghost use Rattle.sqlite.specs.declared.types.Value.TheVariants.{Text};
 ghost use Rattle.sqlite_sql.specs.Ops.{is_null};
 ghost use Rattle.sqlite_value.specs.Value.{owned};
-ghost use Rattle.table_reads.specs.Calls.{AnswersUnchanged, BeginsNone, KeepsShown};
-ghost use Rattle.table_reads.specs.Paging.{SelectsPage, AreBounds};
+ghost use Rattle.sql_queries.specs.Calls.{AnswersUnchanged, BeginsNone, KeepsVisible};
+ghost use Rattle.sql_queries.specs.Paging.{SelectsPage, AreBounds};
 ghost use Rattle.plant_tables_columns.specs.Kinds.{number};
 ghost use Rattle.plant_worklists.specs.Pages.{page_size};
-ghost use Rattle.plant_worklists.specs.Worklists.{text_above};
-ghost use Rattle.plant_keyed.specs.Keeping.{IsSteady};
-ghost use Rattle.plant_keyed.specs.Keeping.{IsTold};
+ghost use Rattle.plant_worklists.specs.Worklists.{text_after};
+ghost use Rattle.plant_keyed.specs.LookupOutcomes.{PreservesFrame};
+ghost use Rattle.plant_keyed.specs.LookupOutcomes.{IsReported};
 ghost use Rattle.plant_keyed.specs.Paging.{IsPaged, IsPagedBeyond};
 
 use crate::faults::if_memory;
 use crate::keyed::Keyed;
 use plant_base::{Id, Items};
 use plant_tables_columns::storing::{small, word};
-use plant_tables_columns::{Judged, judge_all};
-use plant_worklists::{PAGE_SIZE, Page, Placed, merge_pages, text_above};
+use plant_tables_columns::{Decoded, decode_all};
+use plant_worklists::{HasKeyOrder, PAGE_SIZE, Page, merge_pages, text_after};
+use sql_queries::find_page;
+use sql_tables::{Fault, TableDef};
 use sqlite::types::ValueRef;
 use sqlite::{Alter, Connection};
 use std::alloc::Global;
-use table_forms::{Fault, Form};
-use table_reads::find_page;
 
 /// A page of the rows of a table. Store where a value of a row breaks its rule, and as `find_page`; Memory where there is
 /// none. Nothing is changed.
-fn page_over<S: Alter, R: Judged>(
+fn page_over<S: Alter, R: Decoded>(
     alloc: Global,
     conn: &mut Connection<S>,
-    form: &Form<'_>,
+    table_def: &TableDef<'_>,
     sql: &str,
     values: &[ValueRef<'_>],
 ) -> Result<Page<R>, Fault>
-    requires { (places : List ℕ) × (next : ℕ) × SelectsPage form.now places next sql.now }
-    ensures rows { (places : List ℕ) (next : ℕ) → SelectsPage form.now places next sql.now
+    requires { (places : List ℕ) × (next : ℕ) × SelectsPage table_def.now places next sql.now }
+    ensures rows { (places : List ℕ) (next : ℕ) → SelectsPage table_def.now places next sql.now
         → AreBounds places page_size (bound values.now) → HasCleanDisk (state S.Store conn.new)
-        → IfOk result (IsPaged (state S.Store conn.old).now form.now R.row_from places next
+        → IfOk result (IsPaged (state S.Store conn.old).now table_def.now R.row_from places next
         (bound values.now)) }
     ensures same { AnswersUnchanged (state S.Store conn.old) (state S.Store conn.new) result }
-    ensures kept { KeepsShown (state S.Store conn.old) (state S.Store conn.new) }
+    ensures kept { KeepsVisible (state S.Store conn.old) (state S.Store conn.new) }
     ensures mode { BeginsNone (state S.Store conn.old) (state S.Store conn.new) }
     ensures crash { Survives (state S.Store conn.old) (state S.Store conn.new) (λ _. ⊥) }
 {
-    let page = find_page(alloc, conn, form, sql, values, usize::from(PAGE_SIZE))?;
-    match judge_all(alloc, page.rows.as_slice()) {
+    let page = find_page(alloc, conn, table_def, sql, values, usize::from(PAGE_SIZE))?;
+    match decode_all(alloc, page.rows.as_slice()) {
         Ok(Some(rows)) => Ok(Page {
             rows: Items::new(rows),
             has_more: page.has_more,
@@ -60,24 +60,24 @@ fn page_over<S: Alter, R: Judged>(
 
 impl<'a, S: Alter> Keyed<'a, S> {
     /// The same over the lent connection: whether the look-up failed is kept.
-    fn page_found<R: Judged>(
+    fn page_found<R: Decoded>(
         &mut self,
-        form: &Form<'_>,
+        table_def: &TableDef<'_>,
         sql: &str,
         values: &[ValueRef<'_>],
     ) -> Result<Page<R>, Fault>
-        requires { (places : List ℕ) × (next : ℕ) × SelectsPage form.now places next sql.now }
+        requires { (places : List ℕ) × (next : ℕ) × SelectsPage table_def.now places next sql.now }
         ensures same_reference { self.new.conn.ghost_name ≡ self.old.conn.ghost_name }
-        ensures rows { (places : List ℕ) (next : ℕ) → SelectsPage form.now places next sql.now
+        ensures rows { (places : List ℕ) (next : ℕ) → SelectsPage table_def.now places next sql.now
             → AreBounds places page_size (bound values.now)
             → HasCleanDisk (state S.Store self.new.conn.now)
-            → IfOk result (IsPaged (state S.Store self.old.conn.now).now form.now R.row_from
+            → IfOk result (IsPaged (state S.Store self.old.conn.now).now table_def.now R.row_from
             places next (bound values.now)) }
-        ensures steady { IsSteady (state S.Store self.old.conn.now) (state S.Store self.new.conn.now)
+        ensures frame { PreservesFrame (state S.Store self.old.conn.now) (state S.Store self.new.conn.now)
             self.old.has_failed self.new.has_failed }
-        ensures remembers { self.new.edges.now ≡ self.old.edges.now }
+        ensures cached { self.new.edges.now ≡ self.old.edges.now }
     {
-        match page_over(self.alloc, self.conn, form, sql, values) {
+        match page_over(self.alloc, self.conn, table_def, sql, values) {
             Ok(page) => Ok(page),
             Err(fault) => {
                 self.has_failed = true;
@@ -87,57 +87,57 @@ impl<'a, S: Alter> Keyed<'a, S> {
     }
 
     /// A page of the rows that have this value in one column, and after this id one in another.
-    pub(crate) fn page_with<'v, R: Judged>(
+    pub(crate) fn page_with<'v, R: Decoded>(
         &mut self,
-        form: &Form<'_>,
+        table_def: &TableDef<'_>,
         sql: &str,
         given: ValueRef<'v>,
-        above: &'v Option<Id>,
+        cursor: &'v Option<Id>,
     ) -> Result<Page<R>, Fault>
-        requires { (place : ℕ) × (next : ℕ) × SelectsPage form.now (place ∷ []) next sql.now }
+        requires { (place : ℕ) × (next : ℕ) × SelectsPage table_def.now (place ∷ []) next sql.now }
         ensures same_reference { self.new.conn.ghost_name ≡ self.old.conn.ghost_name }
-        ensures rows { (place next : ℕ) → SelectsPage form.now (place ∷ []) next sql.now
+        ensures rows { (place next : ℕ) → SelectsPage table_def.now (place ∷ []) next sql.now
             → is_null (bound_value (owned given.entry)) ≡ false
             → HasCleanDisk (state S.Store self.new.conn.now)
-            → IfOk result (IsPaged (state S.Store self.old.conn.now).now form.now R.row_from
+            → IfOk result (IsPaged (state S.Store self.old.conn.now).now table_def.now R.row_from
             (place ∷ []) next
-            (bound_value (owned given.entry) ∷ Text (text_above above.now)
+            (bound_value (owned given.entry) ∷ Text (text_after cursor.now)
             ∷ number (page_size + 1) ∷ [])) }
-        ensures steady { IsSteady (state S.Store self.old.conn.now) (state S.Store self.new.conn.now)
+        ensures frame { PreservesFrame (state S.Store self.old.conn.now) (state S.Store self.new.conn.now)
             self.old.has_failed self.new.has_failed }
-        ensures remembers { self.new.edges.now ≡ self.old.edges.now }
+        ensures cached { self.new.edges.now ≡ self.old.edges.now }
     {
-        let bounds = [given, word(text_above(above)), small(PAGE_SIZE + 1)];
-        self.page_found(form, sql, &bounds)
+        let bounds = [given, word(text_after(cursor)), small(PAGE_SIZE + 1)];
+        self.page_found(table_def, sql, &bounds)
     }
 
     /// A page of the rows that have an id after this one in a column.
-    pub(crate) fn page_after<R: Judged>(
+    pub(crate) fn page_after<R: Decoded>(
         &mut self,
-        form: &Form<'_>,
+        table_def: &TableDef<'_>,
         sql: &str,
-        above: &Option<Id>,
+        cursor: &Option<Id>,
     ) -> Result<Page<R>, Fault>
-        requires { (next : ℕ) × SelectsPage form.now [] next sql.now }
+        requires { (next : ℕ) × SelectsPage table_def.now [] next sql.now }
         ensures same_reference { self.new.conn.ghost_name ≡ self.old.conn.ghost_name }
-        ensures rows { (next : ℕ) → SelectsPage form.now [] next sql.now
+        ensures rows { (next : ℕ) → SelectsPage table_def.now [] next sql.now
             → HasCleanDisk (state S.Store self.new.conn.now)
-            → IfOk result (IsPaged (state S.Store self.old.conn.now).now form.now R.row_from [] next
-            (Text (text_above above.now) ∷ number (page_size + 1) ∷ [])) }
-        ensures steady { IsSteady (state S.Store self.old.conn.now) (state S.Store self.new.conn.now)
+            → IfOk result (IsPaged (state S.Store self.old.conn.now).now table_def.now R.row_from [] next
+            (Text (text_after cursor.now) ∷ number (page_size + 1) ∷ [])) }
+        ensures frame { PreservesFrame (state S.Store self.old.conn.now) (state S.Store self.new.conn.now)
             self.old.has_failed self.new.has_failed }
-        ensures remembers { self.new.edges.now ≡ self.old.edges.now }
+        ensures cached { self.new.edges.now ≡ self.old.edges.now }
     {
-        let bounds = [word(text_above(above)), small(PAGE_SIZE + 1)];
-        self.page_found(form, sql, &bounds)
+        let bounds = [word(text_after(cursor)), small(PAGE_SIZE + 1)];
+        self.page_found(table_def, sql, &bounds)
     }
 
     /// A page of the rows that have this value in one column, and come after a place of two values in two others: by one text
     /// those with its first value and after its second, by another those after its first. The faults are those of each
     /// look-up.
-    pub(crate) fn page_beyond<'v, R: Judged + Placed + Copy + Drop>(
+    pub(crate) fn page_beyond<'v, R: Decoded + HasKeyOrder + Copy + Drop>(
         &mut self,
-        form: &Form<'_>,
+        table_def: &TableDef<'_>,
         at: &str,
         beyond: &str,
         given: ValueRef<'v>,
@@ -145,25 +145,25 @@ impl<'a, S: Alter> Keyed<'a, S> {
         second: ValueRef<'v>,
     ) -> Result<Page<R>, Fault>
         requires { (place : ℕ) × (next : ℕ) × (last : ℕ)
-            × SelectsPage form.now (place ∷ next ∷ []) last at.now
-            × SelectsPage form.now (place ∷ []) next beyond.now }
+            × SelectsPage table_def.now (place ∷ next ∷ []) last at.now
+            × SelectsPage table_def.now (place ∷ []) next beyond.now }
         ensures same_reference { self.new.conn.ghost_name ≡ self.old.conn.ghost_name }
-        ensures told { (place next last : ℕ) → SelectsPage form.now (place ∷ next ∷ []) last at.now
-            → SelectsPage form.now (place ∷ []) next beyond.now
+        ensures reported { (place next last : ℕ) → SelectsPage table_def.now (place ∷ next ∷ []) last at.now
+            → SelectsPage table_def.now (place ∷ []) next beyond.now
             → is_null (bound_value (owned given.entry)) ≡ false
             → is_null (bound_value (owned first.entry)) ≡ false
             → is_null (bound_value (owned second.entry)) ≡ false
-            → IsTold (state S.Store self.old.conn.now) (state S.Store self.new.conn.now)
+            → IsReported (state S.Store self.old.conn.now) (state S.Store self.new.conn.now)
             self.old.has_failed self.new.has_failed
-            (IfOk result (IsPagedBeyond (state S.Store self.old.conn.now).now form.now R.row_from
+            (IfOk result (IsPagedBeyond (state S.Store self.old.conn.now).now table_def.now R.row_from
             R.order place next last (bound_value (owned given.entry))
             (bound_value (owned first.entry)) (bound_value (owned second.entry)))) }
-        ensures steady { IsSteady (state S.Store self.old.conn.now) (state S.Store self.new.conn.now)
+        ensures frame { PreservesFrame (state S.Store self.old.conn.now) (state S.Store self.new.conn.now)
             self.old.has_failed self.new.has_failed }
-        ensures remembers { self.new.edges.now ≡ self.old.edges.now }
+        ensures cached { self.new.edges.now ≡ self.old.edges.now }
     {
-        let near = self.page_found(form, at, &[given, first, second, small(PAGE_SIZE + 1)])?;
-        let far = self.page_found(form, beyond, &[given, first, small(PAGE_SIZE + 1)])?;
+        let near = self.page_found(table_def, at, &[given, first, second, small(PAGE_SIZE + 1)])?;
+        let far = self.page_found(table_def, beyond, &[given, first, small(PAGE_SIZE + 1)])?;
         if_memory(merge_pages(self.alloc, &near, &far))
     }
 }

@@ -4,28 +4,28 @@ ghost use Rattle.std.specs.Prelude.{◌≡◌, ℕ, List, Some, None, Err, IfOk,
 ghost use Rattle.sqlite.specs.State.{HasCleanDisk, Survives};
 ghost use Rattle.sqlite.specs.Held.{state};
 ghost use Rattle.sqlite.specs.Values.{bound};
-ghost use Rattle.table_reads.specs.Calls.{AnswersUnchanged, BeginsNone, KeepsShown};
-ghost use Rattle.table_reads.specs.Found.{AreGiven};
-ghost use Rattle.table_reads.specs.Selects.{Selects};
+ghost use Rattle.sql_queries.specs.Calls.{AnswersUnchanged, BeginsNone, KeepsVisible};
+ghost use Rattle.sql_queries.specs.Found.{AreGiven};
+ghost use Rattle.sql_queries.specs.Selects.{Selects};
 ghost use Rattle.plant_base.specs.State.{receipt_at};
-ghost use Rattle.plant_tables_columns.specs.All.{all_from};
+ghost use Rattle.plant_tables_columns.specs.DecodedRows.{all_from};
 ghost use Rattle.plant_tables_columns.specs.TableColumns.{receipt_from};
-ghost use Rattle.plant_keyed.specs.Finding.{AreFound};
-ghost use Rattle.plant_keyed.specs.Keeping.{IsSteady, IsTold};
-ghost use Rattle.plant_keyed.specs.Shown.{shown};
+ghost use Rattle.plant_keyed.specs.Decoding.{AreFound};
+ghost use Rattle.plant_keyed.specs.LookupOutcomes.{PreservesFrame, IsReported};
+ghost use Rattle.plant_keyed.specs.Abstraction.{abstraction};
 
 use crate::faults::if_memory;
 use crate::keyed::Keyed;
 use crate::texts;
 use plant_base::{Id, Receipt};
-use plant_tables::forms::RECEIPT;
-use plant_tables_columns::judge_receipts;
+use plant_tables::table_defs::RECEIPT;
+use plant_tables_columns::decode_receipts;
 use plant_tables_columns::storing::id;
+use sql_queries::find_rows;
+use sql_tables::{Fault, TableDef};
 use sqlite::types::ValueRef;
 use sqlite::{Alter, Connection, Row};
 use std::alloc::Global;
-use table_forms::{Fault, Form};
-use table_reads::find_rows;
 
 /// The receipts that were read. The faults are those of the reading; Store where a value of a row breaks its rule, and
 /// Memory where there is none for the receipts and their contents.
@@ -37,7 +37,7 @@ fn receipts_by(alloc: Global, read: Result<Vec<Row>, Fault>) -> Result<Vec<Recei
         (λ fault. fault ≡ Fault.Store → all_from receipt_from stored.items ≡ None)) }
 {
     let stored = read?;
-    match if_memory(judge_receipts(alloc, stored.as_slice()))? {
+    match if_memory(decode_receipts(alloc, stored.as_slice()))? {
         Some(rows) => Ok(rows),
         None => Err(Fault::Store),
     }
@@ -54,43 +54,43 @@ fn first_of(receipts: Vec<Receipt>) -> Option<Receipt>
 fn found_receipts<S: Alter>(
     alloc: Global,
     conn: &mut Connection<S>,
-    form: &Form<'_>,
+    table_def: &TableDef<'_>,
     sql: &str,
     values: &[ValueRef<'_>],
 ) -> Result<Vec<Receipt>, Fault>
-    requires { (places : List ℕ) × Selects form.now places sql.now }
-    ensures rows { (places : List ℕ) → Selects form.now places sql.now
+    requires { (places : List ℕ) × Selects table_def.now places sql.now }
+    ensures rows { (places : List ℕ) → Selects table_def.now places sql.now
         → AreGiven places (bound values.now) → HasCleanDisk (state S.Store conn.new)
-        → IfOk result (λ rows. AreFound (state S.Store conn.old).now form.now receipt_from places
+        → IfOk result (λ rows. AreFound (state S.Store conn.old).now table_def.now receipt_from places
         (bound values.now) rows.items) }
     ensures same { AnswersUnchanged (state S.Store conn.old) (state S.Store conn.new) result }
-    ensures kept { KeepsShown (state S.Store conn.old) (state S.Store conn.new) }
+    ensures kept { KeepsVisible (state S.Store conn.old) (state S.Store conn.new) }
     ensures mode { BeginsNone (state S.Store conn.old) (state S.Store conn.new) }
     ensures crash { Survives (state S.Store conn.old) (state S.Store conn.new) (λ _. ⊥) }
 {
-    receipts_by(alloc, find_rows(alloc, conn, form, sql, values))
+    receipts_by(alloc, find_rows(alloc, conn, table_def, sql, values))
 }
 
 impl<'a, S: Alter> Keyed<'a, S> {
     /// The receipts of a table that have the given values, by the first key of the table.
     fn receipts_found(
         &mut self,
-        form: &Form<'_>,
+        table_def: &TableDef<'_>,
         sql: &str,
         values: &[ValueRef<'_>],
     ) -> Result<Vec<Receipt>, Fault>
-        requires { (places : List ℕ) × Selects form.now places sql.now }
+        requires { (places : List ℕ) × Selects table_def.now places sql.now }
         ensures same_reference { self.new.conn.ghost_name ≡ self.old.conn.ghost_name }
-        ensures rows { (places : List ℕ) → Selects form.now places sql.now
+        ensures rows { (places : List ℕ) → Selects table_def.now places sql.now
             → AreGiven places (bound values.now)
             → HasCleanDisk (state S.Store self.new.conn.now)
-            → IfOk result (λ rows. AreFound (state S.Store self.old.conn.now).now form.now
+            → IfOk result (λ rows. AreFound (state S.Store self.old.conn.now).now table_def.now
             receipt_from places (bound values.now) rows.items) }
-        ensures steady { IsSteady (state S.Store self.old.conn.now) (state S.Store self.new.conn.now)
+        ensures frame { PreservesFrame (state S.Store self.old.conn.now) (state S.Store self.new.conn.now)
             self.old.has_failed self.new.has_failed }
-        ensures remembers { self.new.edges.now ≡ self.old.edges.now }
+        ensures cached { self.new.edges.now ≡ self.old.edges.now }
     {
-        match found_receipts(self.alloc, self.conn, form, sql, values) {
+        match found_receipts(self.alloc, self.conn, table_def, sql, values) {
             Ok(rows) => Ok(rows),
             Err(fault) => {
                 self.has_failed = true;
@@ -102,11 +102,11 @@ impl<'a, S: Alter> Keyed<'a, S> {
     /// The receipt of the command of a reference.
     pub(crate) fn receipt_of(&mut self, reference: &Id) -> Result<Option<Receipt>, Fault>
         ensures same_reference { self.new.conn.ghost_name ≡ self.old.conn.ghost_name }
-        ensures told { IsTold (state S.Store self.old.conn.now) (state S.Store self.new.conn.now)
+        ensures reported { IsReported (state S.Store self.old.conn.now) (state S.Store self.new.conn.now)
             self.old.has_failed self.new.has_failed
             (IfOk result (λ row. row
-            ≡ receipt_at (shown (state S.Store self.old.conn.now).now) reference.now)) }
-        ensures remembers { self.new.edges.now ≡ self.old.edges.now }
+            ≡ receipt_at (abstraction (state S.Store self.old.conn.now).now) reference.now)) }
+        ensures cached { self.new.edges.now ≡ self.old.edges.now }
     {
         let rows = self.receipts_found(&RECEIPT, texts::RECEIPT_BY_ID, &[id(reference)])?;
         Ok(first_of(rows))

@@ -3,12 +3,12 @@
 ghost use Rattle.std.specs.Prelude.{◌≡◌, refl};
 ghost use Rattle.std.proofs.Common.{ap};
 ghost use Rattle.sqlite.specs.Held.{state};
-ghost use Rattle.plant_trace.specs.Sources.{same_along};
+ghost use Rattle.plant_trace.specs.HoldsIfHonest.{same_along};
 ghost use Rattle.plant_view.specs.Genealogy.{edges_of};
-ghost use Rattle.plant_keyed.specs.Keeping.{IsHonest, IsSteady};
-ghost use Rattle.plant_keyed.specs.Shown.{shown};
-ghost use Rattle.plant_keyed.specs.Remembering.{AreEdgesOf, StaysTrue};
-ghost use Rattle.plant_keyed.specs.Steadily.{steady_itself, steady_along, stays_itself, stays_along};
+ghost use Rattle.plant_keyed.specs.LookupOutcomes.{IsHonest, PreservesFrame};
+ghost use Rattle.plant_keyed.specs.Abstraction.{abstraction};
+ghost use Rattle.plant_keyed.specs.EdgeCaching.{AreEdgesOf, CacheStaysValid};
+ghost use Rattle.plant_keyed.specs.Frames.{frame_refl, frame_trans, stays_refl, stays_trans};
 
 use crate::keyed::Keyed;
 use crate::texts;
@@ -16,29 +16,29 @@ use plant_base::{
     Batch, BatchEvent, BatchRow, Class, ControlLine, Definition, Hold, Id, Job, Lot, Mark,
     MasterLine, Movement, Position, Recall, Receipt, Recipe, Sublot,
 };
-use plant_tables::forms::{
+use plant_tables::table_defs::{
     BATCH, BATCH_EVENT, CLASS, CONTROL_LINE, DEFINITION, HOLD, JOB, LOT, MOVEMENT, RECALL, RECIPE,
     RECIPE_LINE, SUBLOT,
 };
 use plant_tables_columns::storing::{id as text_of, small};
 use plant_trace::{Direction, Edges, Node};
 use plant_view::View;
+use sql_tables::Fault;
 use sqlite::Alter;
-use table_forms::Fault;
 
 impl<'a, S: Alter> Edges for Keyed<'a, S> {
     type Fault = Fault;
 
     ghost honest = { λ k. IsHonest (state S.Store k.conn.now) k.has_failed
-        × AreEdgesOf (shown (state S.Store k.conn.now).now) k.edges.now };
+        × AreEdgesOf (abstraction (state S.Store k.conn.now).now) k.edges.now };
 
-    ghost pairs = { λ k. edges_of (shown (state S.Store k.conn.now).now) };
+    ghost pairs = { λ k. edges_of (abstraction (state S.Store k.conn.now).now) };
 
     ghost kept = { λ k l. (state S.Store l.conn.now).now ≡ (state S.Store k.conn.now).now };
 
-    ghost steady = { λ k l. (l.conn.ghost_name ≡ k.conn.ghost_name)
-        × IsSteady (state S.Store k.conn.now) (state S.Store l.conn.now) k.has_failed l.has_failed
-        × StaysTrue (state S.Store k.conn.now).now (state S.Store l.conn.now) l.has_failed k.edges.now l.edges.now };
+    ghost frame = { λ k l. (l.conn.ghost_name ≡ k.conn.ghost_name)
+        × PreservesFrame (state S.Store k.conn.now) (state S.Store l.conn.now) k.has_failed l.has_failed
+        × CacheStaysValid (state S.Store k.conn.now).now (state S.Store l.conn.now) l.has_failed k.edges.now l.edges.now };
 
     fn succ(&mut self, node: Node) -> Result<Vec<Node>, Fault> {
         self.next_nodes(node, Direction::Forward)
@@ -48,27 +48,27 @@ impl<'a, S: Alter> Edges for Keyed<'a, S> {
         self.next_nodes(node, Direction::Back)
     }
 
-    ghost kept_itself = { λ k. refl };
+    ghost kept_refl = { λ k. refl };
 
-    ghost kept_along = { λ k l m a b. same_along a b };
+    ghost kept_trans = { λ k l m a b. same_along a b };
 
-    ghost steady_itself = { λ k. (
+    ghost frame_refl = { λ k. (
       refl,
-      steady_itself _ k.has_failed,
-      stays_itself _ k.has_failed k.edges.now,
+      frame_refl _ k.has_failed,
+      stays_refl _ k.has_failed k.edges.now,
     ) };
 
-    ghost steady_along = { λ k l m a b. (
+    ghost frame_trans = { λ k l m a b. (
       same_along a.0 b.0,
-      steady_along _ _ _ _ _ _ a.1 b.1,
-      stays_along _ _ _ k.has_failed l.has_failed m.has_failed k.edges.now l.edges.now m.edges.now b.1 a.2 b.2,
+      frame_trans _ _ _ _ _ _ a.1 b.1,
+      stays_trans _ _ _ k.has_failed l.has_failed m.has_failed k.edges.now l.edges.now m.edges.now b.1 a.2 b.2,
     ) };
 
-    ghost kept_pairs = { λ k l a. ap (λ db. edges_of (shown db)) a };
+    ghost kept_pairs = { λ k l a. ap (λ db. edges_of (abstraction db)) a };
 }
 
 impl<'a, S: Alter> View for Keyed<'a, S> {
-    ghost state = { λ k. shown (state S.Store k.conn.now).now };
+    ghost state = { λ k. abstraction (state S.Store k.conn.now).now };
 
     fn position(&mut self) -> Result<Position, Fault> {
         self.read_position()
@@ -158,7 +158,7 @@ impl<'a, S: Alter> View for Keyed<'a, S> {
         self.marks_at(&node)
     }
 
-    ghost kept_state = { λ k l a. ap shown a };
+    ghost kept_state = { λ k l a. ap abstraction a };
 
     ghost pairs_of_state = { λ k. refl };
 }

@@ -8,72 +8,74 @@ use plant_base::{
     BatchRow, Definition, Hold, Id, Job, JobState, Lot, Movement, Recall, Recipe, RecipeState,
     Sublot,
 };
-use plant_tables::forms::{BATCH, DEFINITION, HOLD, JOB, LOT, MOVEMENT, RECALL, RECIPE, SUBLOT};
+use plant_tables::table_defs::{
+    BATCH, DEFINITION, HOLD, JOB, LOT, MOVEMENT, RECALL, RECIPE, SUBLOT,
+};
 use plant_tables_columns::RecallState;
 use plant_tables_columns::storing::{id as text_of, large, small, truth, word};
 use plant_worklists::{
-    MovementPlace, Page, RecipePlace, Worklists, merge_pages, movement_above, recipe_text_above,
-    version_above,
+    MovementCursor, Page, RecipeCursor, Worklists, merge_pages, movement_after, recipe_text_after,
+    version_after,
 };
+use sql_tables::Fault;
 use sqlite::Alter;
-use table_forms::Fault;
 
 impl<'a, S: Alter> Worklists for Keyed<'a, S> {
-    fn orders_in(&mut self, state: JobState, above: Option<Id>) -> Result<Page<Job>, Fault> {
-        self.page_with(&JOB, texts::ORDERS_IN_STATE, word(state.name()), &above)
+    fn orders_in(&mut self, state: JobState, cursor: Option<Id>) -> Result<Page<Job>, Fault> {
+        self.page_with(&JOB, texts::ORDERS_IN_STATE, word(state.name()), &cursor)
     }
 
-    fn open_batches(&mut self, above: Option<Id>) -> Result<Page<BatchRow>, Fault> {
-        self.page_with(&BATCH, texts::BATCHES_BY_CLOSED, truth(false), &above)
+    fn open_batches(&mut self, cursor: Option<Id>) -> Result<Page<BatchRow>, Fault> {
+        self.page_with(&BATCH, texts::BATCHES_BY_CLOSED, truth(false), &cursor)
     }
 
-    fn lots_of(&mut self, def: Id, above: Option<Id>) -> Result<Page<Lot>, Fault> {
-        self.page_with(&LOT, texts::LOTS_OF_DEFINITION, text_of(&def), &above)
+    fn lots_of(&mut self, def: Id, cursor: Option<Id>) -> Result<Page<Lot>, Fault> {
+        self.page_with(&LOT, texts::LOTS_OF_DEFINITION, text_of(&def), &cursor)
     }
 
-    fn holds_on(&mut self, lot: Id, above: Option<Id>) -> Result<Page<Hold>, Fault> {
-        self.page_with(&HOLD, texts::HOLDS_ON_LOT, text_of(&lot), &above)
+    fn holds_on(&mut self, lot: Id, cursor: Option<Id>) -> Result<Page<Hold>, Fault> {
+        self.page_with(&HOLD, texts::HOLDS_ON_LOT, text_of(&lot), &cursor)
     }
 
-    fn open_recalls(&mut self, above: Option<Id>) -> Result<Page<Recall>, Fault> {
+    fn open_recalls(&mut self, cursor: Option<Id>) -> Result<Page<Recall>, Fault> {
         self.page_with(
             &RECALL,
             texts::RECALLS_IN_STATE,
             word(RecallState::Open.name()),
-            &above,
+            &cursor,
         )
     }
 
-    fn definitions_in(&mut self, class: Id, above: Option<Id>) -> Result<Page<Definition>, Fault> {
+    fn definitions_in(&mut self, class: Id, cursor: Option<Id>) -> Result<Page<Definition>, Fault> {
         self.page_with(
             &DEFINITION,
             texts::DEFINITIONS_OF_CLASS,
             text_of(&class),
-            &above,
+            &cursor,
         )
     }
 
     fn recipes_in(
         &mut self,
         state: RecipeState,
-        above: Option<RecipePlace>,
+        cursor: Option<RecipeCursor>,
     ) -> Result<Page<Recipe>, Fault> {
         self.page_beyond(
             &RECIPE,
             texts::RECIPES_IN_STATE_AT,
             texts::RECIPES_IN_STATE,
             word(state.name()),
-            word(recipe_text_above(&above)),
-            small(version_above(&above)),
+            word(recipe_text_after(&cursor)),
+            small(version_after(&cursor)),
         )
     }
 
     fn ledger_of(
         &mut self,
         lot: Id,
-        above: Option<MovementPlace>,
+        cursor: Option<MovementCursor>,
     ) -> Result<Page<Movement>, Fault> {
-        let place = movement_above(&above);
+        let place = movement_after(&cursor);
         let seq = large(place.seq)?;
         let line = small(place.line);
         let named = self.page_beyond(
@@ -99,15 +101,15 @@ impl<'a, S: Alter> Worklists for Keyed<'a, S> {
         self.found(&MOVEMENT, texts::MOVEMENTS_INTO_LOT, &[text_of(&lot)])
     }
 
-    fn lots_after(&mut self, above: Option<Id>) -> Result<Page<Lot>, Fault> {
-        self.page_after(&LOT, texts::LOTS_AFTER, &above)
+    fn lots_after(&mut self, cursor: Option<Id>) -> Result<Page<Lot>, Fault> {
+        self.page_after(&LOT, texts::LOTS_AFTER, &cursor)
     }
 
-    fn sublots_after(&mut self, above: Option<Id>) -> Result<Page<Sublot>, Fault> {
-        self.page_after(&SUBLOT, texts::SUBLOTS_AFTER, &above)
+    fn sublots_after(&mut self, cursor: Option<Id>) -> Result<Page<Sublot>, Fault> {
+        self.page_after(&SUBLOT, texts::SUBLOTS_AFTER, &cursor)
     }
 
-    fn holds_after(&mut self, above: Option<Id>) -> Result<Page<Hold>, Fault> {
-        self.page_after(&HOLD, texts::HOLDS_AFTER, &above)
+    fn holds_after(&mut self, cursor: Option<Id>) -> Result<Page<Hold>, Fault> {
+        self.page_after(&HOLD, texts::HOLDS_AFTER, &cursor)
     }
 }

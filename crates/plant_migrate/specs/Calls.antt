@@ -7,25 +7,25 @@ use Rattle.plant_base.specs.State.{State, newest_schema}
 use Rattle.plant_base.specs.declared.rows.Position.{Position}
 use Rattle.plant_view.specs.Tables.{Tables, tables_of, IsWholeIn}
 use Rattle.plant_view.specs.declared.change.RowChange.{RowChange}
-use Rattle.table_forms.specs.Standing.{KeepsOthers}
-use Rattle.table_forms.specs.Stopping.{IsSettled}
-use Rattle.table_forms.specs.declared.fault.Fault.{Fault}
-use Rattle.table_forms.specs.declared.fault.Fault.TheVariants as fault
-use Rattle.plant_tables.specs.DeskForms.{desk_forms}
-use Rattle.plant_tables.specs.DeskStopping.{IsAtOf}
+use Rattle.sql_tables.specs.StoredRows.{KeepsOtherTables}
+use Rattle.sql_tables.specs.CrashStates.{IsSettled}
+use Rattle.sql_tables.specs.declared.fault.Fault.{Fault}
+use Rattle.sql_tables.specs.declared.fault.Fault.TheVariants as fault
+use Rattle.plant_tables.specs.DeskTableDefs.{desk_table_defs}
+use Rattle.plant_tables.specs.DeskCrashStates.{IsAtOf}
 use Rattle.plant_tables.specs.Keyed.{AreKeyed}
 use Rattle.plant_tables_read.specs.Collecting.{rows_in, rows_listed}
 use Rattle.plant_tables_read.specs.declared.desk_rows.DeskRows.{DeskRows}
 use Rattle.plant_tables_read.specs.Version.{IsVersion}
 use Rattle.plant_migrate.specs.Raised.{raised_by}
-use Rattle.plant_migrate.specs.Leaving.{IsReadable, IsCutShortAmid, TellsKnown, raised_to}
-use Rattle.plant_migrate.specs.Steps.{IsRisable, IsCutShortWithin}
+use Rattle.plant_migrate.specs.FailureLeaves.{IsReadable, FailureLeavesAmid, HasKnownVersion, raised_to}
+use Rattle.plant_migrate.specs.Steps.{IsRisable, FailureLeavesWithin}
 use Rattle.plant_migrate.specs.declared.raising.RaiseFault.{RaiseFault}
 use Rattle.plant_migrate.specs.declared.raising.RaiseFault.TheVariants as raising
 
 -- the store is at the tables of the state in a version, and tables of other names stand as they did
 abbrev pub IsRaisedAt : ℕ → store.State → store.State → State → Type 0
-IsRaisedAt version old new s = IsAtOf version new (tables_of version s) × KeepsOthers desk_forms old.now new.now
+IsRaisedAt version old new s = IsAtOf version new (tables_of version s) × KeepsOtherTables desk_table_defs old.now new.now
 
 -- the fault of a raising that a fault of its store is
 abbrev pub raise_fault : Fault → RaiseFault
@@ -37,8 +37,8 @@ abbrev pub Raises : ℕ → ℕ → store.State → store.State → Result (Unit
 Raises version to old new r = HasCleanDisk new → (s : State) → IsReadable version old s → OnOk r (IsRaisedAt to old new s)
 
 -- or that was cut short
-abbrev pub CutsShort : ℕ → ℕ → store.State → store.State → Result (Unit {0}) Fault → Type 0
-CutsShort version to old new r = HasCleanDisk new → (s : State) → IsReadable version old s → OnErr r (IsCutShortAmid version to old new s)
+abbrev pub FailureLeavesTables : ℕ → ℕ → store.State → store.State → Result (Unit {0}) Fault → Type 0
+FailureLeavesTables version to old new r = HasCleanDisk new → (s : State) → IsReadable version old s → OnErr r (FailureLeavesAmid version to old new s)
 
 -- where memory was refused a stop leaves what it left
 abbrev pub WritesNothing : store.State → store.State → Result (Unit {0}) Fault → Type 0
@@ -49,12 +49,12 @@ WritesNothing old new r = IfErr r (λ f. f ≡ fault.Memory → Survives old new
 abbrev pub RaisesFound : {E : Type 0} → ℕ → store.State → store.State → Result (Unit {0}) E → Type 0
 RaisesFound to old new r = HasCleanDisk new → (version : ℕ) → (s : State) → IsReadable version old s → OnOk r (IsRaisedAt (raised_to version to) old new s)
 
-abbrev pub CutsFoundShort : {E : Type 0} → ℕ → store.State → store.State → Result (Unit {0}) E → Type 0
-CutsFoundShort to old new r = HasCleanDisk new → (version : ℕ) → (s : State) → IsReadable version old s → OnErr r (IsCutShortAmid version to old new s)
+abbrev pub FailureLeavesFound : {E : Type 0} → ℕ → store.State → store.State → Result (Unit {0}) E → Type 0
+FailureLeavesFound to old new r = HasCleanDisk new → (version : ℕ) → (s : State) → IsReadable version old s → OnErr r (FailureLeavesAmid version to old new s)
 
 -- what was raised told a version, and a known one
-abbrev pub RaisesTold : {E : Type 0} → store.State → store.State → Result (Unit {0}) E → Type 0
-RaisesTold old new r = HasCleanDisk new → OnOk r (TellsKnown old.now)
+abbrev pub RaisesKnownVersion : {E : Type 0} → store.State → store.State → Result (Unit {0}) E → Type 0
+RaisesKnownVersion old new r = HasCleanDisk new → OnOk r (HasKnownVersion old.now)
 
 -- none that is above the newest
 abbrev pub RaisesNoNewer : {E : Type 0} → store.State → store.State → Result (Unit {0}) E → Type 0
@@ -75,17 +75,17 @@ RaisesRows version to rows old new r = HasCleanDisk new → (s : State) → IsAt
     → AreKeyed (tables_of version s) → IsWholeIn version s → rows_listed rows ≡ rows_in (tables_of version s)
     → OnOk r (IsRaisedAt to old new s)
 
-abbrev pub CutsRowsShort : ℕ → ℕ → DeskRows → store.State → store.State → Result (Unit {0}) Fault → Type 0
-CutsRowsShort version to rows old new r = HasCleanDisk new → (s : State) → IsAtOf version old (tables_of version s)
+abbrev pub FailureLeavesRows : ℕ → ℕ → DeskRows → store.State → store.State → Result (Unit {0}) Fault → Type 0
+FailureLeavesRows version to rows old new r = HasCleanDisk new → (s : State) → IsAtOf version old (tables_of version s)
     → AreKeyed (tables_of version s) → IsWholeIn version s → rows_listed rows ≡ rows_in (tables_of version s)
-    → OnErr r (IsCutShortAmid version to old new s)
+    → OnErr r (FailureLeavesAmid version to old new s)
 
 -- ---- tables of a version, whatever state they stand for, by so many versions
 
 abbrev pub RaisesBy : ℕ → ℕ → Position → List RowChange → store.State → store.State → Result (Unit {0}) Fault → Type 0
 RaisesBy version steps position edges old new r = HasCleanDisk new → IsSettled old → (t : Tables) → IsRisable version old.now t
-    → OnOk r (IsAtOf (version + steps) new (raised_by steps version position edges t) × KeepsOthers desk_forms old.now new.now)
+    → OnOk r (IsAtOf (version + steps) new (raised_by steps version position edges t) × KeepsOtherTables desk_table_defs old.now new.now)
 
-abbrev pub CutsShortBy : ℕ → ℕ → Position → List RowChange → store.State → store.State → Result (Unit {0}) Fault → Type 0
-CutsShortBy version steps position edges old new r = HasCleanDisk new → IsSettled old → (t : Tables) → IsRisable version old.now t
-    → OnErr r (IsCutShortWithin version steps (λ done. raised_by done version position edges t) old new)
+abbrev pub FailureLeavesBy : ℕ → ℕ → Position → List RowChange → store.State → store.State → Result (Unit {0}) Fault → Type 0
+FailureLeavesBy version steps position edges old new r = HasCleanDisk new → IsSettled old → (t : Tables) → IsRisable version old.now t
+    → OnErr r (FailureLeavesWithin version steps (λ done. raised_by done version position edges t) old new)

@@ -1,4 +1,4 @@
 pub mod Raised
 pub mod Steps
-pub mod Leaving
+pub mod FailureLeaves
 pub mod Calls

@@ -7,7 +7,7 @@ use Rattle.plant_view.specs.Genealogy.{edge_row_of}
 use Rattle.plant_view.specs.Tables.{Tables, changed_all}
 use Rattle.plant_view.specs.declared.change.RowChange.{RowChange}
 use Rattle.plant_view.specs.declared.change.RowChange.TheVariants as change
-use Rattle.plant_tables.specs.Raising.{raising}
+use Rattle.plant_tables.specs.Schemas.{raising}
 use Rattle.plant_tables_columns.specs.Booked.{movement_from}
 use Rattle.plant_tables_columns.specs.declared.booked.BookedRow.{BookedRow}
 

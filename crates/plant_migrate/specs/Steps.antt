@@ -6,12 +6,12 @@ use Rattle.sqlite.specs.State as store
 use Rattle.plant_base.specs.declared.rows.Position.{Position}
 use Rattle.plant_view.specs.Tables.{Tables}
 use Rattle.plant_view.specs.declared.change.RowChange.{RowChange}
-use Rattle.table_forms.specs.Standing.{AreFree, KeepsOthers}
-use Rattle.table_forms.specs.Stopping.{IsSettled}
-use Rattle.plant_tables.specs.DeskForms.{desk_forms, later_forms}
-use Rattle.plant_tables.specs.DeskStopping.{IsAtOf, FindsOf}
+use Rattle.sql_tables.specs.StoredRows.{AreFree, KeepsOtherTables}
+use Rattle.sql_tables.specs.CrashStates.{IsSettled}
+use Rattle.plant_tables.specs.DeskTableDefs.{desk_table_defs, later_table_defs}
+use Rattle.plant_tables.specs.DeskCrashStates.{IsAtOf, FindsOf}
 use Rattle.plant_tables.specs.Keyed.{HoldsTablesOf, LacksLater, AreKeyed}
-use Rattle.plant_tables.specs.Raising.{RaisesTables}
+use Rattle.plant_tables.specs.Schemas.{RaisesTables}
 use Rattle.plant_migrate.specs.Raised.{added_rows, raised_by}
 
 -- The database holds these tables of a version, with keys in their order, and they have no rows of later tables.
@@ -23,7 +23,7 @@ pub record IsRisable (version : ℕ) (db : Database) (t : Tables) : Type 0 where
 -- The later tables could be made in this database, and the trees are those that it has once its tables were raised to the
 -- next version.
 pub record IsRaisedOnce (version : ℕ) (position : Position) (edges : List RowChange) (old : Database) (trees : Trees) : Type 0 where
-  pub free : AreFree (later_forms version) old.schema
+  pub free : AreFree (later_table_defs version) old.schema
   pub new : Database
   pub raises : RaisesTables version position (added_rows version edges) old new
   pub same : trees ≡ new.trees
@@ -34,13 +34,13 @@ pub record IsWithin (version steps : ℕ) (tables : ℕ → Tables) (old new : s
   pub some : 0 < done
   pub few : done < steps
   pub at : IsAtOf (version + done) new (tables done)
-  pub others : KeepsOthers desk_forms old.now new.now
+  pub others : KeepsOtherTables desk_table_defs old.now new.now
 
 -- The raising by so many steps was cut short: a stop leaves at least one, and nothing else than the tables after some of
 -- the steps, beside the same tables of other names; and the store, where it is still open, shows what it showed, or the
 -- tables after some of the steps.
-pub record IsCutShortWithin (version steps : ℕ) (tables : ℕ → Tables) (old new : store.State) : Type 0 where
-  pub leaves : ∥ ((db : Trees) × new.may_leave db) ∥₁
+pub record FailureLeavesWithin (version steps : ℕ) (tables : ℕ → Tables) (old new : store.State) : Type 0 where
+  pub crash_states : ∥ ((db : Trees) × new.may_leave db) ∥₁
   pub nothing_else : (db : Trees) → new.may_leave db → (done : ℕ) × (done ≤ steps) × FindsOf (version + done) old.now db (tables done)
   pub shows : IsTrue new.is_open → (IsAtOf version new (tables 0) × (new.now ≡ old.now)) ⊎ IsWithin version steps tables old new
 
@@ -48,13 +48,13 @@ pub record IsCutShortWithin (version steps : ℕ) (tables : ℕ → Tables) (old
 -- that later versions add can still be made.
 pub record FindsRisable (version : ℕ) (before : Database) (trees : Trees) (t : Tables) : Type 0 where
   pub finds : FindsOf version before trees t
-  pub free : AreFree (later_forms version) finds.schema
+  pub free : AreFree (later_table_defs version) finds.schema
 
 -- The later tables could be made in the database that the store showed, and in the trees whatever tables of the version it
 -- held are to be found, raised by some of the steps, beside the same tables of other names, and can be raised further; by
 -- more than one where a stop left of the store what it showed, and nothing else.
 pub record IsRaisedBy (version steps : ℕ) (position : Position) (edges : List RowChange) (old : store.State) (trees : Trees) : Type 0 where
-  pub free : AreFree (later_forms version) old.now.schema
+  pub free : AreFree (later_table_defs version) old.now.schema
   pub done : ℕ
   pub some : 0 < done
   pub few : done ≤ steps

@@ -7,8 +7,8 @@ ghost use Rattle.plant_migrate.specs.Raised.{edge_booked, edge_change, edges_fro
 use plant_base::{EdgeRow, MovementKind};
 use plant_tables_read::BookedRow;
 use plant_view::{RowChange, RowParts, edge_row};
+use sql_tables::Fault;
 use std::alloc::{AllocError, Global};
-use table_forms::Fault;
 
 /// The edge that a booked movement makes, where its columns are those of its kind and it makes one.
 fn edge_booked(booked: &BookedRow) -> Option<EdgeRow>

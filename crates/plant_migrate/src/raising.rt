@@ -4,18 +4,17 @@ ghost use Rattle.std.specs.Prelude.{◌≡◌, ◌≤◌, ◌<◌, false};
 ghost use Rattle.sqlite.specs.State.{HasCleanDisk, Survives};
 ghost use Rattle.sqlite.specs.Held.{state};
 ghost use Rattle.plant_base.specs.State.{newest_schema};
-ghost use Rattle.plant_migrate.specs.Calls.{CutsFoundShort, CutsShort, Raises, RaisesFound, RaisesNoNewer};
-ghost use Rattle.plant_migrate.specs.Calls.{RaisesTold, RefusesNewer, WritesAtStore, WritesNothing, raise_fault};
-ghost use Rattle.plant_migrate.specs.Leaving.{IsRaisedFrom, IsRaisedTo};
+ghost use Rattle.plant_migrate.specs.Calls.{FailureLeavesFound, FailureLeavesTables, Raises, RaisesFound, RaisesNoNewer};
+ghost use Rattle.plant_migrate.specs.Calls.{RaisesKnownVersion, RefusesNewer, WritesAtStore, WritesNothing, raise_fault};
+ghost use Rattle.plant_migrate.specs.FailureLeaves.{IsRaisedFrom, IsRaisedTo};
 
 use crate::rows::raise_rows;
 use crate::steps::raise_by;
 use plant_base::NEWEST_SCHEMA;
-use plant_tables_read::{only_meta, rows_of};
-use plant_tables_read::{FoundTables, Loaded, found, read_meta};
+use plant_tables_read::{FoundTables, Loaded, found, only_meta, read_meta, rows_of};
+use sql_tables::Fault;
 use sqlite::{Alter, Connection};
 use std::alloc::Global;
-use table_forms::Fault;
 
 /// Why tables weren't raised.
 #[derive(Clone, Copy, Debug, PartialEq, Eq, thiserror::Error)]
@@ -50,8 +49,8 @@ fn raise_first<S: Alter>(alloc: Global, conn: &mut Connection<S>, to: u64) -> Re
     requires newest { to ≤ newest_schema }
     ensures mode { conn.new.in_transaction ≡ false }
     ensures raised { Raises 1 to (state S.Store conn.old) (state S.Store conn.new) result }
-    ensures cut_short { CutsShort 1 to (state S.Store conn.old) (state S.Store conn.new) result }
-    ensures unwritten { WritesNothing (state S.Store conn.old) (state S.Store conn.new) result }
+    ensures after_failure { FailureLeavesTables 1 to (state S.Store conn.old) (state S.Store conn.new) result }
+    ensures write_error { WritesNothing (state S.Store conn.old) (state S.Store conn.new) result }
     ensures crash { Survives (state S.Store conn.old) (state S.Store conn.new)
         (IsRaisedFrom 1 to (state S.Store conn.old)) }
 {
@@ -82,8 +81,8 @@ fn raise_later<S: Alter>(
     requires newest { to ≤ newest_schema }
     ensures mode { conn.new.in_transaction ≡ false }
     ensures raised { Raises version to (state S.Store conn.old) (state S.Store conn.new) result }
-    ensures cut_short { CutsShort version to (state S.Store conn.old) (state S.Store conn.new) result }
-    ensures unwritten { WritesNothing (state S.Store conn.old) (state S.Store conn.new) result }
+    ensures after_failure { FailureLeavesTables version to (state S.Store conn.old) (state S.Store conn.new) result }
+    ensures write_error { WritesNothing (state S.Store conn.old) (state S.Store conn.new) result }
     ensures crash { Survives (state S.Store conn.old) (state S.Store conn.new)
         (IsRaisedFrom version to (state S.Store conn.old)) }
 {
@@ -111,8 +110,8 @@ fn raise_from<S: Alter>(
     ensures mode { conn.new.in_transaction ≡ false }
     ensures clean { HasCleanDisk (state S.Store conn.new) → HasCleanDisk (state S.Store conn.old) }
     ensures raised { Raises version to (state S.Store conn.old) (state S.Store conn.new) result }
-    ensures cut_short { CutsShort version to (state S.Store conn.old) (state S.Store conn.new) result }
-    ensures unwritten { WritesNothing (state S.Store conn.old) (state S.Store conn.new) result }
+    ensures after_failure { FailureLeavesTables version to (state S.Store conn.old) (state S.Store conn.new) result }
+    ensures write_error { WritesNothing (state S.Store conn.old) (state S.Store conn.new) result }
     // A stop leaves what it left before, or, only where the rows that were read obey the rules of values and the later tables
     // could be made, the tables raised from those rows.
     ensures crash { Survives (state S.Store conn.old) (state S.Store conn.new)
@@ -135,14 +134,14 @@ pub fn raise<S: Alter>(alloc: Global, conn: &mut Connection<S>, to: u64) -> Resu
     requires known { to ≤ newest_schema }
     ensures mode { conn.new.in_transaction ≡ false }
     ensures raised { RaisesFound to (state S.Store conn.old) (state S.Store conn.new) result }
-    ensures cut_short { CutsFoundShort to (state S.Store conn.old) (state S.Store conn.new) result }
+    ensures after_failure { FailureLeavesFound to (state S.Store conn.old) (state S.Store conn.new) result }
     // Of whatever store: a stop leaves what it left before, and nothing else at a fault but Store; else also raised tables,
     // only where table meta tells an older schema than is asked for, the rows that are read obey the rules of values and
     // the later tables could be made.
-    ensures unwritten { WritesAtStore (state S.Store conn.old) (state S.Store conn.new) result }
+    ensures write_error { WritesAtStore (state S.Store conn.old) (state S.Store conn.new) result }
     ensures crash { Survives (state S.Store conn.old) (state S.Store conn.new)
         (IsRaisedTo to (state S.Store conn.old)) }
-    ensures told { RaisesTold (state S.Store conn.old) (state S.Store conn.new) result }
+    ensures reported { RaisesKnownVersion (state S.Store conn.old) (state S.Store conn.new) result }
     ensures newer { RefusesNewer (state S.Store conn.old) (state S.Store conn.new) result }
     ensures not_newer { RaisesNoNewer (state S.Store conn.old) (state S.Store conn.new) result }
 {

@@ -4,16 +4,16 @@ ghost use Rattle.std.specs.Prelude.{◌≡◌, ◌≤◌, ◌-◌, false, IfErr}
 ghost use Rattle.sqlite.specs.State.{Survives};
 ghost use Rattle.sqlite.specs.Held.{state};
 ghost use Rattle.plant_base.specs.State.{newest_schema};
-ghost use Rattle.plant_migrate.specs.Calls.{CutsRowsShort, RaisesRows};
+ghost use Rattle.plant_migrate.specs.Calls.{FailureLeavesRows, RaisesRows};
 ghost use Rattle.plant_migrate.specs.Raised.{edges_from};
 ghost use Rattle.plant_migrate.specs.Steps.{IsRaisedBy};
 
 use crate::changes::edges_from;
 use crate::steps::raise_by;
 use plant_tables_read::DeskRows;
+use sql_tables::Fault;
 use sqlite::{Alter, Connection};
 use std::alloc::Global;
-use table_forms::Fault;
 
 /// Raises tables of a version, whose rows these are, to this schema, one version after the other, each in one transaction:
 /// an edge for each movement that makes one, where the next is the second, and the version. Store where the later tables
@@ -33,9 +33,9 @@ pub fn raise_rows<S: Alter>(
     ensures mode { conn.new.in_transaction ≡ false }
     ensures raised { RaisesRows version to rows.now (state S.Store conn.old) (state S.Store conn.new)
         result }
-    ensures cut_short { CutsRowsShort version to rows.now (state S.Store conn.old)
+    ensures after_failure { FailureLeavesRows version to rows.now (state S.Store conn.old)
         (state S.Store conn.new) result }
-    ensures unwritten { IfErr result (λ fault. fault ≡ Fault.Memory → conn.new ≡ conn.old) }
+    ensures write_error { IfErr result (λ fault. fault ≡ Fault.Memory → conn.new ≡ conn.old) }
     // A stop leaves what it left before, or, only where the later tables could be made, the raised ones.
     ensures survives { Survives (state S.Store conn.old) (state S.Store conn.new)
         (IsRaisedBy version (to - version) rows.now.meta.position

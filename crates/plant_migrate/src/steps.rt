@@ -5,33 +5,33 @@ ghost use Rattle.sqlite.specs.State.{HasCleanDisk, Survives};
 ghost use Rattle.sqlite.specs.Held.{state};
 ghost use Rattle.plant_base.specs.State.{newest_schema};
 ghost use Rattle.plant_view.specs.Tables.{Tables};
-ghost use Rattle.table_forms.specs.Standing.{AreFree, KeepsOthers};
-ghost use Rattle.table_forms.specs.Stopping.{IsSettled};
-ghost use Rattle.plant_tables.specs.DeskForms.{desk_forms, later_forms};
-ghost use Rattle.plant_tables.specs.DeskStopping.{IsAtOf, IsCutShortOf};
-ghost use Rattle.plant_tables.specs.Raising.{IsOlder};
-ghost use Rattle.plant_migrate.specs.Calls.{CutsShortBy, RaisesBy};
+ghost use Rattle.sql_tables.specs.StoredRows.{AreFree, KeepsOtherTables};
+ghost use Rattle.sql_tables.specs.CrashStates.{IsSettled};
+ghost use Rattle.plant_tables.specs.DeskTableDefs.{desk_table_defs, later_table_defs};
+ghost use Rattle.plant_tables.specs.DeskCrashStates.{IsAtOf, FailureLeavesOf};
+ghost use Rattle.plant_tables.specs.Schemas.{IsOlder};
+ghost use Rattle.plant_migrate.specs.Calls.{FailureLeavesBy, RaisesBy};
 ghost use Rattle.plant_migrate.specs.Raised.{AreEdges, raised_once};
 ghost use Rattle.plant_migrate.specs.Steps.{IsRisable, IsRaisedOnce, IsRaisedBy};
 
 use crate::changes::added_rows;
 use plant_base::Position;
 use plant_tables::commit_raising;
-use plant_tables::forms::{desk_forms, tables_in};
+use plant_tables::table_defs::{desk_table_defs, tables_in};
 use plant_tables_read::lacks_counts;
 use plant_view::RowChange;
+use sql_queries::all_free;
+use sql_tables::Fault;
 use sqlite::{Alter, Connection};
 use sqlite_schema::schema::Schema;
-use table_forms::Fault;
-use table_reads::all_free;
 
 /// Whether the tables that later schemas add to those of this version can be made: their names are free, and no table
 /// still wants SQLite's own table of counts.
 fn can_rise(schema: &Schema, version: u64) -> bool
-    ensures { (result ≡ true) ↔ AreFree (later_forms version) schema.now }
+    ensures { (result ≡ true) ↔ AreFree (later_table_defs version) schema.now }
 {
-    let forms = desk_forms();
-    let (_, later) = forms.split_at(tables_in(version));
+    let table_defs = desk_table_defs();
+    let (_, later) = table_defs.split_at(tables_in(version));
     all_free(schema, later) && !lacks_counts(schema)
 }
 
@@ -53,12 +53,12 @@ fn raise_one<S: Alter>(
         → (t : Tables) → IsRisable version (state S.Store conn.old).now t
         → OnOk result (IsAtOf (version + 1) (state S.Store conn.new)
         (raised_once version position.now edges.now t)
-        × KeepsOthers desk_forms (state S.Store conn.old).now (state S.Store conn.new).now) }
-    ensures cut_short { HasCleanDisk (state S.Store conn.new) → IsSettled (state S.Store conn.old)
+        × KeepsOtherTables desk_table_defs (state S.Store conn.old).now (state S.Store conn.new).now) }
+    ensures after_failure { HasCleanDisk (state S.Store conn.new) → IsSettled (state S.Store conn.old)
         → (t : Tables) → IsRisable version (state S.Store conn.old).now t
-        → OnErr result (IsCutShortOf version (version + 1) (state S.Store conn.old)
+        → OnErr result (FailureLeavesOf version (version + 1) (state S.Store conn.old)
         (state S.Store conn.new) t (raised_once version position.now edges.now t)) }
-    ensures could { OnOk result (AreFree (later_forms version) (state S.Store conn.old).now.schema) }
+    ensures could { OnOk result (AreFree (later_table_defs version) (state S.Store conn.old).now.schema) }
     ensures survives { Survives (state S.Store conn.old) (state S.Store conn.new)
         (IsRaisedOnce version position.now edges.now (state S.Store conn.old).now) }
 {
@@ -85,7 +85,7 @@ pub(crate) fn raise_by<S: Alter>(
     ensures mode { conn.new.in_transaction ≡ false }
     ensures raised { RaisesBy version steps position.now edges.now (state S.Store conn.old)
         (state S.Store conn.new) result }
-    ensures cut_short { CutsShortBy version steps position.now edges.now (state S.Store conn.old)
+    ensures after_failure { FailureLeavesBy version steps position.now edges.now (state S.Store conn.old)
         (state S.Store conn.new) result }
     ensures survives { Survives (state S.Store conn.old) (state S.Store conn.new)
         (IsRaisedBy version steps position.now edges.now (state S.Store conn.old)) }

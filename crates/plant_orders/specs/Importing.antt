@@ -3,14 +3,14 @@ use Rattle.std.specs.Prelude.{List}
 use Rattle.plant_base.specs.declared.command.Command.TheVariants.{ImportOrders}
 use Rattle.plant_base.specs.declared.command.Envelope.{Envelope}
 use Rattle.plant_base.specs.declared.rows.OrderRow.{OrderRow}
-use Rattle.plant_orders.specs.declared.importing.Heading.{Heading}
+use Rattle.plant_orders.specs.declared.importing.ImportMetadata.{ImportMetadata}
 
 -- one command that takes all orders of a file
-abbrev pub import : Heading → List OrderRow → Envelope
-import heading orders = record {
-  at = heading.stamp.at;
-  by = heading.stamp.by;
-  note = heading.stamp.note;
-  reference = heading.reference;
+abbrev pub import : ImportMetadata → List OrderRow → Envelope
+import import_metadata orders = record {
+  at = import_metadata.stamp.at;
+  by = import_metadata.stamp.by;
+  note = import_metadata.stamp.note;
+  reference = import_metadata.reference;
   body = ImportOrders (record { orders = orders });
 }

@@ -1,5 +1,5 @@
 pub mod Importing
 pub mod Numbers
 pub mod Orders
-pub mod ReaderStanding
-pub mod Telling
+pub mod ReaderPosition
+pub mod FaultsOfFiles

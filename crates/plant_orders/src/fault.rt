@@ -1,6 +1,6 @@
 ghost use Rattle.std.specs.Prelude.{◌≡◌, Some};
 ghost use Rattle.plant_orders.specs.Orders.{kind_name};
-ghost use Rattle.plant_orders.specs.Telling.{csv_text};
+ghost use Rattle.plant_orders.specs.FaultsOfFiles.{csv_text};
 
 use std::error::Error;
 use std::fmt;

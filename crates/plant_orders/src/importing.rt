@@ -6,7 +6,7 @@ use plant_base::{Command, Envelope, Id, ImportOrders, Items, OrderRow, Stamp};
 
 /// What stands in an envelope beside its command.
 #[derive(Clone, Copy, Debug, PartialEq, Eq)]
-pub struct Heading {
+pub struct ImportMetadata {
     /// When and by whom the command is given, and what is noted with it.
     pub stamp: Stamp,
     /// The reference under which it acts once, where it has one.
@@ -15,14 +15,14 @@ pub struct Heading {
 
 /// One command that takes all orders of a file, or none (the job orders of IEC 62264-4): given when, by whom, with the
 /// note and under the reference that the heading tells.
-pub fn import(heading: Heading, orders: Items<OrderRow>) -> Envelope
-    ensures { result ≡ import heading orders }
+pub fn import(import_metadata: ImportMetadata, orders: Items<OrderRow>) -> Envelope
+    ensures { result ≡ import import_metadata orders }
 {
     Envelope {
-        at: heading.stamp.at,
-        by: heading.stamp.by,
-        note: heading.stamp.note,
-        reference: heading.reference,
+        at: import_metadata.stamp.at,
+        by: import_metadata.stamp.by,
+        note: import_metadata.stamp.note,
+        reference: import_metadata.reference,
         body: Command::ImportOrders(ImportOrders { orders }),
     }
 }

@@ -8,6 +8,6 @@ mod row;
 mod source;
 
 pub use fault::{CsvFault, CsvKind};
-pub use importing::{Heading, import};
+pub use importing::{ImportMetadata, import};
 pub use read::{LONGEST_FILE, read_orders};
 pub use source::{OrdersFault, orders_from};

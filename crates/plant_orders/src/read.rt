@@ -3,7 +3,7 @@ ghost use Rattle.csv.specs.Records.{fields_of};
 ghost use Rattle.csv.specs.Reading.{strip_bom, error_kind};
 ghost use Rattle.csv.specs.declared.parser.State.TheVariants as st;
 ghost use Rattle.plant_orders.specs.Orders.{Gives, orders_of, read_fault};
-ghost use Rattle.plant_orders.specs.ReaderStanding.{ReaderStands, NextOf};
+ghost use Rattle.plant_orders.specs.ReaderPosition.{ReaderIsAt, NextOf};
 
 use crate::fault::{CsvFault, CsvKind, HEADER, MEMORY};
 use crate::row::{is_header, order_of};
@@ -68,7 +68,7 @@ pub fn read_orders(alloc: Global, bytes: &[u8]) -> Result<Items<OrderRow>, CsvFa
 // A reader at the start of a text, past a byte order mark. The header is a record like the others, and a record may
 // be of any length.
 fn reader(alloc: Global, bytes: &[u8]) -> Reader<&[u8]>
-    ensures { ReaderStands result st.StartRecord (strip_bom bytes.entry.now) }
+    ensures { ReaderIsAt result st.StartRecord (strip_bom bytes.entry.now) }
 {
     ReaderBuilder::new()
         .has_headers(false)
@@ -95,8 +95,8 @@ fn fault_of(error: &Error) -> CsvFault
 // The next record. A reader that takes records of all lengths fails for want of memory alone.
 fn next<'t>(reader: &mut Reader<&'t [u8]>, row: &mut ByteRecord) -> Result<bool, CsvFault>
     ensures reads { IfOk result (λ found. (s : _) (text : List ℕ)
-        → ReaderStands reader.old s text → NextOf s text found reader.new (fields_of row.new)) }
-    ensures memory { IfErr result (λ e. (s : _) (text : List ℕ) → ReaderStands reader.old s text → e ≡ MEMORY) }
+        → ReaderIsAt reader.old s text → NextOf s text found reader.new (fields_of row.new)) }
+    ensures memory { IfErr result (λ e. (s : _) (text : List ℕ) → ReaderIsAt reader.old s text → e ≡ MEMORY) }
 {
     match reader.read_byte_record(row) {
         Ok(found) => Ok(found),

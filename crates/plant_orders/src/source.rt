@@ -2,7 +2,7 @@
 ghost use Rattle.std.specs.Prelude.{◌≡◌, ◌≢◌, IfOk, IfErr, IfSome, Ok};
 ghost use Rattle.std.specs.IoError.{error_kind};
 ghost use Rattle.plant_orders.specs.Orders.{orders_of};
-ghost use Rattle.plant_orders.specs.Telling.{TellsOf, fault_of_kind, told_reading};
+ghost use Rattle.plant_orders.specs.FaultsOfFiles.{FaultOfFile, fault_of_kind, read_count};
 
 use crate::fault::{CsvFault, CsvKind};
 use crate::read::{LONGEST_FILE, read_orders};
@@ -48,8 +48,8 @@ fn read_fault(error: &io::Error) -> OrdersFault
 }
 
 /// How many bytes a reading to the end gave, or what its error is told as.
-fn told_reading(reading: io::Result<usize>) -> Result<usize, OrdersFault>
-    ensures { result ≡ told_reading reading }
+fn read_count(reading: io::Result<usize>) -> Result<usize, OrdersFault>
+    ensures { result ≡ read_count reading }
 {
     match reading {
         Ok(n) => Ok(n),
@@ -65,19 +65,19 @@ pub fn orders_from<R: Read>(alloc: Global, reader: &mut R) -> Result<Items<Order
     ensures orders { IfOk result (λ orders. IfSome (R.remaining reader.old)
         (λ bytes. orders_of bytes ≡ Ok orders)) }
     ensures fault { IfErr result (λ fault. IfSome (R.remaining reader.old)
-        (λ bytes. TellsOf fault (orders_of bytes))) }
+        (λ bytes. FaultOfFile fault (orders_of bytes))) }
 {
     let mut bytes = Vec::new(alloc);
-    let mut front = reader.take(LONGEST_FILE as u64 + 1);
-    told_reading(front.read_to_end(&mut bytes))?;
+    let mut prefix = reader.take(LONGEST_FILE as u64 + 1);
+    read_count(prefix.read_to_end(&mut bytes))?;
     orders_in(alloc, &bytes)
 }
 
 /// The orders of a file that was read.
 fn orders_in(alloc: Global, bytes: &[u8]) -> Result<Items<OrderRow>, OrdersFault>
     ensures orders { IfOk result (λ orders. orders_of bytes.now ≡ Ok orders) }
-    ensures fault { IfErr result (λ fault. TellsOf fault (orders_of bytes.now)) }
-    ensures judged { IfErr result (λ fault. fault ≢ OrdersFault.Read) }
+    ensures fault { IfErr result (λ fault. FaultOfFile fault (orders_of bytes.now)) }
+    ensures decoded { IfErr result (λ fault. fault ≢ OrdersFault.Read) }
 {
     match read_orders(alloc, bytes) {
         Ok(orders) => Ok(orders),

@@ -1,3 +1,3 @@
-pub mod Lines
-pub mod Moves
-pub mod Runs
+pub mod RecipeLines
+pub mod TableIsCases
+pub mod EventFold

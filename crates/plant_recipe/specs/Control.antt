@@ -4,7 +4,7 @@ use Rattle.std.specs.List.{list_any}
 use Rattle.plant_base.specs.declared.rows.Header.{Header}
 use Rattle.plant_base.specs.declared.rows.RecipeLine.{RecipeLine}
 use Rattle.plant_base.specs.declared.rows.RecipeLine.TheVariants.{In, Out, Parameter, Phase}
-use Rattle.plant_recipe.specs.Form.{phases_of}
+use Rattle.plant_recipe.specs.WellFormed.{phases_of}
 use Rattle.plant_recipe.specs.Scaling.{scaled_of}
 
 -- the size is one of the recipe's

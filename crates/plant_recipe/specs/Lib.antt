@@ -1,5 +1,5 @@
 pub mod Control
-pub mod Form
+pub mod WellFormed
 pub mod Progress
 pub mod Scaling
 pub mod StateTable

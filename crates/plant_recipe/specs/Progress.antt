@@ -58,8 +58,8 @@ abbrev pub moved_to : Progress → Word → BatchState → Progress
 moved_to p word to = if is_reset word then (record { state = to; attempt = p.attempt + 1; next = 1; closed = p.closed }) else (record { state = to; attempt = p.attempt; next = p.next; closed = p.closed })
 
 -- the running ends only when every phase is done
-abbrev pub leaves_phases : ℕ → Progress → Word → Bool
-leaves_phases phases p word = is_done word && is_running p.state && is_phase_left phases p
+abbrev pub ends_with_phases_left : ℕ → Progress → Word → Bool
+ends_with_phases_left phases p word = is_done word && is_running p.state && is_phase_left phases p
 
 abbrev pub has_no_attempt_left : Progress → Word → Bool
 has_no_attempt_left p word = is_reset word && nat_le greatest_attempt p.attempt
@@ -67,7 +67,7 @@ has_no_attempt_left p word = is_reset word && nat_le greatest_attempt p.attempt
 abbrev pub turn_to : ℕ → Progress → Word → Option BatchState → Result Progress Refusal
 turn_to phases p word None = Err BadMove
 turn_to phases p word (Some to) =
-    refuse_event (leaves_phases phases p word) PhasesLeft
+    refuse_event (ends_with_phases_left phases p word) PhasesLeft
     (refuse_event p.closed BatchClosed
     (refuse_event (has_no_attempt_left p word) TooMany
     (Ok (moved_to p word to))))
@@ -123,8 +123,8 @@ progress_after phases events = fold (turn_or_stay phases) opening_progress event
 -- ---- laws
 
 -- a closed batch accepts no event
-abbrev pub EndsForGood : Type 0
-EndsForGood = (phases : ℕ) (p : Progress) (event : Event) → IsTrue p.closed → IsErr (turn phases p event)
+abbrev pub ClosingIsFinal : Type 0
+ClosingIsFinal = (phases : ℕ) (p : Progress) (event : Event) → IsTrue p.closed → IsErr (turn phases p event)
 
 pub record IsInRange (phases : ℕ) (p : Progress) : Type 0 where
   pub first_attempt : 1 ≤ p.attempt

@@ -2,7 +2,7 @@
 ghost use Rattle.std.specs.Prelude.{◌≡◌, ◌==◌, ◌≤◌, if◌then◌else◌, IfOk, IfErr, IsTrue, Some, None};
 ghost use Rattle.plant_base.specs.Values.{greatest_amount};
 ghost use Rattle.plant_recipe.specs.Scaling.{scaled_of};
-ghost use Rattle.plant_recipe.specs.Form.{fits, all_fit};
+ghost use Rattle.plant_recipe.specs.WellFormed.{fits, all_fit};
 ghost use Rattle.plant_recipe.specs.Control.{is_size_of, line_scaled, scales_to_nothing, lines_scaled};
 ghost use Rattle.plant_recipe.specs.Control.{control_of, KeepsProcedure};
 ghost use Rattle.plant_recipe.specs.declared.control_recipe.RecipeFault.TheVariants.{Nothing, Memory};
@@ -70,7 +70,7 @@ pub fn control_law()
     ensures { KeepsProcedure }
 {}
 
-#[tactic(auto, using(crate::proofs::Lines::passes_at))]
+#[tactic(auto, using(crate::proofs::RecipeLines::passes_at))]
 fn scale_lines(
     alloc: Global,
     base: Amount,

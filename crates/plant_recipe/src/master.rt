@@ -1,9 +1,9 @@
 //! Master recipes.
 ghost use Rattle.std.specs.Prelude.{◌≡◌, ◌↔◌, IsOk, IfOk, IfErr, IsTrue};
 ghost use Rattle.plant_base.specs.declared.refusal.Refusal.TheVariants.{BadForm};
-ghost use Rattle.plant_recipe.specs.Form.{is_well_formed};
+ghost use Rattle.plant_recipe.specs.WellFormed.{is_well_formed};
 
-use crate::form::is_well_formed;
+use crate::well_formed::is_well_formed;
 use plant_base::{Header, RecipeLine, Refusal};
 use std::marker::Model;
 
@@ -16,7 +16,7 @@ pub struct Master {
 
 impl Model for Master {
     ghost use Rattle.std.specs.Prelude.{IsTrue};
-    ghost use Rattle.plant_recipe.specs.Form.{WholeRecipe, is_well_formed};
+    ghost use Rattle.plant_recipe.specs.WellFormed.{WholeRecipe, is_well_formed};
 
     ghost Value = { WholeRecipe };
 

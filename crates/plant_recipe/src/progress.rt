@@ -2,7 +2,7 @@
 ghost use Rattle.std.specs.Prelude.{◌≡◌};
 ghost use Rattle.plant_recipe.specs.Progress.{is_running, is_ended, is_done, is_reset, is_phase_left};
 ghost use Rattle.plant_recipe.specs.Progress.{opening_progress, turn_moved, turn_phase_done, turn_closed};
-ghost use Rattle.plant_recipe.specs.Progress.{turn, run_of, EndsForGood, StaysInRange, NeverFalls, GoesAlong};
+ghost use Rattle.plant_recipe.specs.Progress.{turn, run_of, ClosingIsFinal, StaysInRange, NeverFalls, GoesAlong};
 
 use crate::table::next_state;
 use plant_base::{BatchState, Event, Refusal, Word};
@@ -177,7 +177,7 @@ fn is_reset_word(word: Word) -> bool
 /// - `attempt`: more events never lower the attempt.
 /// - `total`: where no event is refused, the fold that passes refused events over is the fold.
 pub fn progress_laws()
-    ensures closed { EndsForGood }
+    ensures closed { ClosingIsFinal }
     ensures range { StaysInRange }
     ensures attempt { NeverFalls }
     ensures total { GoesAlong }

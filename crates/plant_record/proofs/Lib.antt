@@ -1,1 +1,1 @@
-mod Places
+mod PaddedNumbers

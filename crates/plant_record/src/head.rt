@@ -70,12 +70,12 @@ impl fmt::Display for ReleasedLine {
     ghost output = { λ l. Some (released_text l.0) };
 
     fn fmt<W: fmt::Write>(&self, f: &mut fmt::Formatter<W>) -> fmt::Result {
-        let told = AtBy {
+        let reported = AtBy {
             at: self.0.at,
             by: self.0.by,
             note: self.0.note,
         };
-        write!(f, "released {told}")
+        write!(f, "released {reported}")
     }
 }
 

@@ -57,7 +57,7 @@ pub(crate) struct AtBy {
 }
 
 impl fmt::Display for AtBy {
-    ghost output = { λ told. Some (at_by told.at told.by told.note) };
+    ghost output = { λ reported. Some (at_by reported.at reported.by reported.note) };
 
     fn fmt<W: fmt::Write>(&self, f: &mut fmt::Formatter<W>) -> fmt::Result {
         let at = self.at.get();
@@ -69,9 +69,9 @@ impl fmt::Display for AtBy {
 
 /// The unit of an amount, `?` where it isn't known.
 #[derive(Clone, Copy)]
-pub(crate) struct UnitWord(pub(crate) Option<Unit>);
+pub(crate) struct UnitText(pub(crate) Option<Unit>);
 
-impl fmt::Display for UnitWord {
+impl fmt::Display for UnitText {
     ghost output = { λ unit. Some (unit_word unit.0) };
 
     fn fmt<W: fmt::Write>(&self, f: &mut fmt::Formatter<W>) -> fmt::Result {
@@ -96,7 +96,7 @@ impl fmt::Display for Measured {
     fn fmt<W: fmt::Write>(&self, f: &mut fmt::Formatter<W>) -> fmt::Result {
         let def = self.def.as_str();
         let amount = self.amount.get();
-        let unit = UnitWord(self.unit);
+        let unit = UnitText(self.unit);
         write!(f, "{def} {amount} {unit}")
     }
 }

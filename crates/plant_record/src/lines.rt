@@ -4,7 +4,7 @@ ghost use Rattle.plant_record.specs.Record.{consumed_text, control_text, event_t
 ghost use Rattle.plant_record.specs.Record.{produced_text, recipe_line_text, sublot_text, with_lf};
 
 use crate::items::{AtBy, InSix, InThree, Measured};
-use plant_base::{BatchEvent, Event, Id, RecipeLine, ShowsItem, Unit};
+use plant_base::{BatchEvent, DisplayItem, Event, Id, RecipeLine, Unit};
 use plant_messages::{Booking, MeasuredLine};
 use std::fmt;
 
@@ -52,7 +52,7 @@ impl fmt::Display for RecipeWords {
 #[derive(Clone, Copy)]
 pub(crate) struct ControlLine;
 
-impl ShowsItem<MeasuredLine> for ControlLine {
+impl DisplayItem<MeasuredLine> for ControlLine {
     ghost text = { λ _ m. with_lf (control_text m) };
 
     fn show<W: fmt::Write>(
@@ -71,9 +71,9 @@ impl ShowsItem<MeasuredLine> for ControlLine {
 
 /// What an event is called.
 #[derive(Clone, Copy)]
-struct EventWord(Event);
+struct EventName(Event);
 
-impl fmt::Display for EventWord {
+impl fmt::Display for EventName {
     ghost output = { λ e. Some (event_word e.0) };
 
     fn fmt<W: fmt::Write>(&self, f: &mut fmt::Formatter<W>) -> fmt::Result {
@@ -89,29 +89,29 @@ impl fmt::Display for EventWord {
 #[derive(Clone, Copy)]
 pub(crate) struct EventLine;
 
-impl ShowsItem<BatchEvent> for EventLine {
+impl DisplayItem<BatchEvent> for EventLine {
     ghost text = { λ _ e. with_lf (event_text e) };
 
     fn show<W: fmt::Write>(&self, event: &BatchEvent, f: &mut fmt::Formatter<W>) -> fmt::Result {
         let seq = InSix(event.seq);
-        let word = EventWord(event.event);
-        let told = AtBy {
+        let word = EventName(event.event);
+        let reported = AtBy {
             at: event.at,
             by: event.by,
             note: event.note,
         };
-        writeln!(f, "{seq} {word} {told}")
+        writeln!(f, "{seq} {word} {reported}")
     }
 }
 
 /// A sublot by its lot and its number.
 #[derive(Clone, Copy)]
-struct SublotWord {
+struct SublotText {
     lot: Id,
     sub: u16,
 }
 
-impl fmt::Display for SublotWord {
+impl fmt::Display for SublotText {
     ghost output = { λ s. Some (sublot_text s.lot s.sub) };
 
     fn fmt<W: fmt::Write>(&self, f: &mut fmt::Formatter<W>) -> fmt::Result {
@@ -125,12 +125,12 @@ impl fmt::Display for SublotWord {
 #[derive(Clone, Copy)]
 pub(crate) struct ConsumedLine;
 
-impl ShowsItem<Booking> for ConsumedLine {
+impl DisplayItem<Booking> for ConsumedLine {
     ghost text = { λ _ b. with_lf (consumed_text b) };
 
     fn show<W: fmt::Write>(&self, booking: &Booking, f: &mut fmt::Formatter<W>) -> fmt::Result {
         let seq = InSix(booking.seq);
-        let sublot = SublotWord {
+        let sublot = SublotText {
             lot: booking.lot,
             sub: booking.sub,
         };
@@ -139,12 +139,12 @@ impl ShowsItem<Booking> for ConsumedLine {
             amount: booking.amount,
             unit: Some(booking.unit),
         };
-        let told = AtBy {
+        let reported = AtBy {
             at: booking.at,
             by: booking.by,
             note: booking.note,
         };
-        writeln!(f, "{seq} {sublot} {what} {told}")
+        writeln!(f, "{seq} {sublot} {what} {reported}")
     }
 }
 
@@ -152,7 +152,7 @@ impl ShowsItem<Booking> for ConsumedLine {
 #[derive(Clone, Copy)]
 pub(crate) struct ProducedLine;
 
-impl ShowsItem<Booking> for ProducedLine {
+impl DisplayItem<Booking> for ProducedLine {
     ghost text = { λ _ b. with_lf (produced_text b) };
 
     fn show<W: fmt::Write>(&self, booking: &Booking, f: &mut fmt::Formatter<W>) -> fmt::Result {
@@ -164,11 +164,11 @@ impl ShowsItem<Booking> for ProducedLine {
             unit: Some(booking.unit),
         };
         let scrapped = booking.scrapped;
-        let told = AtBy {
+        let reported = AtBy {
             at: booking.at,
             by: booking.by,
             note: booking.note,
         };
-        writeln!(f, "{seq} {lot} {what} scrapped {scrapped} {told}")
+        writeln!(f, "{seq} {lot} {what} scrapped {scrapped} {reported}")
     }
 }

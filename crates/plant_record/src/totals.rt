@@ -5,7 +5,7 @@ ghost use Rattle.plant_base.specs.Values.{greatest_amount};
 ghost use Rattle.plant_record.specs.Record.{amount_of, asked_and_booked, booked_of, input_total};
 ghost use Rattle.plant_record.specs.Record.{output_total, totals_text};
 
-use plant_base::{Amount, Each, Id, RecipeLine, ShowsItem};
+use plant_base::{Amount, DisplayItem, Id, Joined, RecipeLine};
 use plant_messages::{BatchView, Booking, MeasuredLine};
 use std::fmt;
 
@@ -56,7 +56,7 @@ impl fmt::Display for AskedAndBooked<'_> {
 #[derive(Clone, Copy)]
 struct InputTotal<'a>(&'a [Booking]);
 
-impl ShowsItem<MeasuredLine> for InputTotal<'_> {
+impl DisplayItem<MeasuredLine> for InputTotal<'_> {
     ghost text = { λ t l. input_total t.0.now l.line.line };
 
     fn show<W: fmt::Write>(
@@ -84,7 +84,7 @@ impl ShowsItem<MeasuredLine> for InputTotal<'_> {
 #[derive(Clone, Copy)]
 struct OutputTotal<'a>(&'a [Booking]);
 
-impl ShowsItem<MeasuredLine> for OutputTotal<'_> {
+impl DisplayItem<MeasuredLine> for OutputTotal<'_> {
     ghost text = { λ t l. output_total t.0.now l.line.line };
 
     fn show<W: fmt::Write>(
@@ -117,8 +117,8 @@ impl fmt::Display for Totals<'_> {
 
     fn fmt<W: fmt::Write>(&self, f: &mut fmt::Formatter<W>) -> fmt::Result {
         let view = self.0;
-        let inputs = Each(view.lines.as_slice(), InputTotal(view.consumed.as_slice()));
-        let outputs = Each(view.lines.as_slice(), OutputTotal(view.produced.as_slice()));
+        let inputs = Joined(view.lines.as_slice(), InputTotal(view.consumed.as_slice()));
+        let outputs = Joined(view.lines.as_slice(), OutputTotal(view.produced.as_slice()));
         write!(f, "TOTALS\n{inputs}{outputs}")
     }
 }

@@ -5,7 +5,7 @@ ghost use Rattle.plant_record.specs.Record.{record_text};
 use crate::head::Head;
 use crate::lines::{ConsumedLine, ControlLine, EventLine, ProducedLine};
 use crate::totals::Totals;
-use plant_base::Each;
+use plant_base::Joined;
 use plant_messages::BatchView;
 use std::alloc::{AllocError, Global};
 use std::fmt;
@@ -21,10 +21,10 @@ impl fmt::Display for WholeRecord<'_> {
     fn fmt<W: fmt::Write>(&self, f: &mut fmt::Formatter<W>) -> fmt::Result {
         let view = self.0;
         let head = Head(view);
-        let lines = Each(view.lines.as_slice(), ControlLine);
-        let events = Each(view.events.as_slice(), EventLine);
-        let consumed = Each(view.consumed.as_slice(), ConsumedLine);
-        let produced = Each(view.produced.as_slice(), ProducedLine);
+        let lines = Joined(view.lines.as_slice(), ControlLine);
+        let events = Joined(view.events.as_slice(), EventLine);
+        let consumed = Joined(view.consumed.as_slice(), ConsumedLine);
+        let produced = Joined(view.produced.as_slice(), ProducedLine);
         let totals = Totals(view);
         write!(f, "{head}")?;
         write!(f, "CONTROL RECIPE\n{lines}")?;

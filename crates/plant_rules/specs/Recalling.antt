@@ -12,7 +12,7 @@ use Rattle.plant_base.specs.declared.rows.Lot.{Lot}
 use Rattle.plant_base.specs.declared.rows.Recall.{Recall}
 use Rattle.plant_trace.specs.declared.node.Node.{Node}
 use Rattle.plant_view.specs.Recalls.{mark_on}
-use Rattle.plant_view.specs.Refusing.{refuse, at_limit}
+use Rattle.plant_view.specs.Refusals.{refuse, at_limit}
 use Rattle.plant_view.specs.declared.change.RowChange.{RowChange}
 use Rattle.plant_view.specs.declared.change.RowChange.TheVariants as row
 

@@ -1,14 +1,14 @@
 // The keys of the rows and of the nodes.
-use crate::sorted::Keyed;
+use crate::sorted::HasKey;
 use plant_base::{
     Batch, Class, ControlLine, Definition, Hold, Job, Lot, MasterLine, Place, Recall, Receipt,
     Recipe,
 };
 use plant_trace::Node;
-use plant_worklists::Placed;
+use plant_worklists::HasKeyOrder;
 use std::cmp::Ordering;
 
-impl Keyed for Class {
+impl HasKey for Class {
     ghost use Rattle.plant_base.specs.State.{class_order};
 
     ghost order = { class_order };
@@ -18,7 +18,7 @@ impl Keyed for Class {
     }
 }
 
-impl Keyed for Definition {
+impl HasKey for Definition {
     ghost use Rattle.plant_base.specs.State.{definition_order};
 
     ghost order = { definition_order };
@@ -28,17 +28,17 @@ impl Keyed for Definition {
     }
 }
 
-impl Keyed for Recipe {
+impl HasKey for Recipe {
     ghost use Rattle.plant_base.specs.State.{recipe_order};
 
     ghost order = { recipe_order };
 
     fn compare(&self, other: &Self) -> Ordering {
-        Placed::compare(self, other)
+        HasKeyOrder::compare(self, other)
     }
 }
 
-impl Keyed for MasterLine {
+impl HasKey for MasterLine {
     ghost use Rattle.plant_base.specs.State.{master_line_order};
 
     ghost order = { master_line_order };
@@ -51,7 +51,7 @@ impl Keyed for MasterLine {
     }
 }
 
-impl Keyed for Job {
+impl HasKey for Job {
     ghost use Rattle.plant_base.specs.State.{job_order};
 
     ghost order = { job_order };
@@ -61,7 +61,7 @@ impl Keyed for Job {
     }
 }
 
-impl Keyed for Batch {
+impl HasKey for Batch {
     ghost use Rattle.plant_base.specs.State.{batch_order};
 
     ghost order = { batch_order };
@@ -71,7 +71,7 @@ impl Keyed for Batch {
     }
 }
 
-impl Keyed for ControlLine {
+impl HasKey for ControlLine {
     ghost use Rattle.plant_base.specs.State.{control_line_order};
 
     ghost order = { control_line_order };
@@ -83,7 +83,7 @@ impl Keyed for ControlLine {
     }
 }
 
-impl Keyed for Lot {
+impl HasKey for Lot {
     ghost use Rattle.plant_base.specs.State.{lot_order};
 
     ghost order = { lot_order };
@@ -93,7 +93,7 @@ impl Keyed for Lot {
     }
 }
 
-impl Keyed for Place {
+impl HasKey for Place {
     ghost use Rattle.plant_base.specs.State.{place_order};
 
     ghost order = { place_order };
@@ -105,7 +105,7 @@ impl Keyed for Place {
     }
 }
 
-impl Keyed for Hold {
+impl HasKey for Hold {
     ghost use Rattle.plant_base.specs.State.{hold_order};
 
     ghost order = { hold_order };
@@ -115,7 +115,7 @@ impl Keyed for Hold {
     }
 }
 
-impl Keyed for Receipt {
+impl HasKey for Receipt {
     ghost use Rattle.plant_base.specs.State.{receipt_order};
 
     ghost order = { receipt_order };
@@ -125,7 +125,7 @@ impl Keyed for Receipt {
     }
 }
 
-impl Keyed for Recall {
+impl HasKey for Recall {
     ghost use Rattle.plant_base.specs.State.{recall_order};
 
     ghost order = { recall_order };
@@ -135,7 +135,7 @@ impl Keyed for Recall {
     }
 }
 
-impl Keyed for Node {
+impl HasKey for Node {
     ghost use Rattle.plant_trace.specs.Nodes.{node_cmp};
 
     ghost order = { node_cmp };

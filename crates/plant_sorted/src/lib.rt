@@ -4,4 +4,4 @@
 mod keys;
 mod sorted;
 
-pub use sorted::{Keyed, put_row};
+pub use sorted::{HasKey, put_row};

@@ -29,19 +29,19 @@ comes_from (Divided to) lot sub = Some (lot, sub)
 comes_from (Split to) lot sub = Some (lot, sub)
 comes_from (Merged to) lot sub = Some (lot, sub)
 
-abbrev pub is_place : Option (List ℕ × ℕ) → List ℕ → ℕ → Bool
-is_place None lot number = false
-is_place (Some place) lot number = same place.0 lot && place.1 == number
+abbrev pub is_sublot_key : Option (List ℕ × ℕ) → List ℕ → ℕ → Bool
+is_sublot_key None lot number = false
+is_sublot_key (Some place) lot number = same place.0 lot && place.1 == number
 
 abbrev pub entering : Movement → List ℕ → ℕ → ℕ
-entering m lot number = if is_place (goes_to m.kind m.lot m.sub) lot number then m.amount else 0
+entering m lot number = if is_sublot_key (goes_to m.kind m.lot m.sub) lot number then m.amount else 0
 
 abbrev pub leaving : Movement → List ℕ → ℕ → ℕ
-leaving m lot number = if is_place (comes_from m.kind m.lot m.sub) lot number then m.amount else 0
+leaving m lot number = if is_sublot_key (comes_from m.kind m.lot m.sub) lot number then m.amount else 0
 
 -- the movements that brought an amount to the sublot
 abbrev pub entries : List Movement → List ℕ → ℕ → List Movement
-entries ms lot number = filter (λ m. is_place (goes_to m.kind m.lot m.sub) lot number) ms
+entries ms lot number = filter (λ m. is_sublot_key (goes_to m.kind m.lot m.sub) lot number) ms
 
 -- what entered the sublot, and what left it
 unfoldable pub entered : List Movement → List ℕ → ℕ → ℕ

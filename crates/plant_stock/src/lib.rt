@@ -3,7 +3,7 @@
 
 ghost use Rattle.std.specs.Prelude.{◌≡◌, ◌≤◌, length, pos};
 ghost use Rattle.plant_base.specs.Values.{greatest_amount};
-ghost use Rattle.plant_stock.specs.Stock.{goes_to, comes_from, is_place, entering, leaving, stock};
+ghost use Rattle.plant_stock.specs.Stock.{goes_to, comes_from, is_sublot_key, entering, leaving, stock};
 ghost use Rattle.plant_stock.specs.Stock.{is_division, is_in_lot, entering_lot, leaving_lot, born_of};
 ghost use Rattle.plant_stock.specs.Stock.{left_of, merged_total_of};
 
@@ -160,7 +160,7 @@ pub fn source(movement: &Movement) -> Option<(Id, u16)>
 }
 
 fn is_at(place: Option<(Id, u16)>, lot: Id, number: u16) -> bool
-    ensures { result ≡ is_place place lot number }
+    ensures { result ≡ is_sublot_key place lot number }
 {
     match place {
         None => false,

@@ -4,23 +4,23 @@ use Rattle.sqlite.specs.State.{State, HasCleanDisk}
 use Rattle.plant_base.specs.declared.rows.Position.{Position}
 use Rattle.plant_view.specs.Tables.{Tables, changed_all}
 use Rattle.plant_view.specs.declared.change.RowChange.{RowChange}
-use Rattle.table_forms.specs.Standing.{KeepsOthers, AreFree}
-use Rattle.table_forms.specs.Stopping.{IsSettled}
-use Rattle.plant_tables.specs.DeskForms.{desk_forms, later_forms}
-use Rattle.plant_tables.specs.DeskStopping.{IsAtOf, IsCutShortOf}
-use Rattle.plant_tables.specs.Raising.{AreRisable, raising}
+use Rattle.sql_tables.specs.StoredRows.{KeepsOtherTables, AreFree}
+use Rattle.sql_tables.specs.CrashStates.{IsSettled}
+use Rattle.plant_tables.specs.DeskTableDefs.{desk_table_defs, later_table_defs}
+use Rattle.plant_tables.specs.DeskCrashStates.{IsAtOf, FailureLeavesOf}
+use Rattle.plant_tables.specs.Schemas.{AreRisable, raising}
 
 -- done, the store is at the raised tables, and tables of other names stand as they did
 abbrev pub RaisesNext : {A E : Type 0} → ℕ → Position → List RowChange → State → State → Result A E → Type 0
 RaisesNext version position added old new r = HasCleanDisk new → IsSettled old → (t : Tables) → AreRisable version added old.now t
-    → OnOk r (IsAtOf (version + 1) new (changed_all (raising version position added) t) × KeepsOthers desk_forms old.now new.now)
+    → OnOk r (IsAtOf (version + 1) new (changed_all (raising version position added) t) × KeepsOtherTables desk_table_defs old.now new.now)
 
 -- and those that later schemas add can still be made
-abbrev pub SparesLater : {A E : Type 0} → ℕ → List RowChange → State → State → Result A E → Type 0
-SparesLater version added old new r = HasCleanDisk new → IsSettled old → (t : Tables) → AreRisable version added old.now t
-    → OnOk r (AreFree (later_forms (version + 1)) new.now.schema)
+abbrev pub KeepsLaterNamesFree : {A E : Type 0} → ℕ → List RowChange → State → State → Result A E → Type 0
+KeepsLaterNamesFree version added old new r = HasCleanDisk new → IsSettled old → (t : Tables) → AreRisable version added old.now t
+    → OnOk r (AreFree (later_table_defs (version + 1)) new.now.schema)
 
 -- failed, it was cut short
-abbrev pub CutsNextShort : {A E : Type 0} → ℕ → Position → List RowChange → State → State → Result A E → Type 0
-CutsNextShort version position added old new r = HasCleanDisk new → IsSettled old → (t : Tables) → AreRisable version added old.now t
-    → OnErr r (IsCutShortOf version (version + 1) old new t (changed_all (raising version position added) t))
+abbrev pub FailureLeavesNext : {A E : Type 0} → ℕ → Position → List RowChange → State → State → Result A E → Type 0
+FailureLeavesNext version position added old new r = HasCleanDisk new → IsSettled old → (t : Tables) → AreRisable version added old.now t
+    → OnErr r (FailureLeavesOf version (version + 1) old new t (changed_all (raising version position added) t))

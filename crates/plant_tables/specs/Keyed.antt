@@ -9,13 +9,13 @@ use Rattle.plant_base.specs.State.{newest_schema, same, class_order, definition_
 use Rattle.plant_view.specs.Tables.{Tables, batch_row_order, sublot_order, changed, changed_all}
 use Rattle.plant_view.specs.declared.change.RowChange.{RowChange}
 use Rattle.plant_view.specs.declared.change.RowChange.TheVariants as change
-use Rattle.table_forms.specs.Standing.{StandIn, KeepsOthers}
-use Rattle.plant_tables.specs.DeskForms.{forms_of}
+use Rattle.sql_tables.specs.StoredRows.{HaveStoredRows, KeepsOtherTables}
+use Rattle.plant_tables.specs.DeskTableDefs.{table_defs_of}
 use Rattle.plant_tables.specs.DeskTables.{contents_of}
 
 -- The database is sound, and each table of the schema is declared as its form says and has these rows.
 abbrev pub HoldsTablesOf : ℕ → Database → Tables → Type 0
-HoldsTablesOf schema db t = StandIn (forms_of schema) db (contents_of t)
+HoldsTablesOf schema db t = HaveStoredRows (table_defs_of schema) db (contents_of t)
 
 -- those of the newest schema
 abbrev pub HoldsTables : Database → Tables → Type 0
@@ -74,7 +74,7 @@ AreOfSchema schema changes = AllByRecursion (IsOfSchema schema) changes
 -- holds, with keys as above, the other holds the changed ones, and tables of other names stand as they did.
 abbrev pub MovesTablesOf : ℕ → List RowChange → Database → Database → Type 0
 MovesTablesOf schema changes old new =
-    (t : Tables) → AreKeyed t → AreFresh changes t → HoldsTablesOf schema old t → HoldsTablesOf schema new (changed_all changes t) × KeepsOthers (forms_of schema) old new
+    (t : Tables) → AreKeyed t → AreFresh changes t → HoldsTablesOf schema old t → HoldsTablesOf schema new (changed_all changes t) × KeepsOtherTables (table_defs_of schema) old new
 
 -- those of the newest schema
 abbrev pub MovesTables : List RowChange → Database → Database → Type 0

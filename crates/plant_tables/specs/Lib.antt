@@ -1,9 +1,9 @@
-pub mod DeskForms
+pub mod DeskTableDefs
 pub mod DeskIndexes
 pub mod DeskTables
 pub mod Keyed
-pub mod DeskStopping
-pub mod PutTexts
-pub mod Raising
+pub mod DeskCrashStates
+pub mod PutStatements
+pub mod Schemas
 pub mod Calls
 pub mod Missing

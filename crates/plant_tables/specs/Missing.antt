@@ -6,55 +6,55 @@ use Rattle.sqlite.specs.Schema.{Schema}
 use Rattle.sqlite.specs.State.{State, HasCleanDisk, Survives}
 use Rattle.sqlite_rules.specs.Lists.{Has}
 use Rattle.plant_view.specs.Tables.{Tables}
-use Rattle.table_forms.specs.declared.fault.Fault.{Fault}
-use Rattle.table_forms.specs.declared.fault.Fault.TheVariants as fault
-use Rattle.table_forms.specs.declared.form.IndexText.{IndexText}
-use Rattle.table_forms.specs.Indexes.{IndexForm, HasIndex, AreOf, AreIndexTexts}
-use Rattle.table_forms.specs.Standing.{KeepsOthers}
-use Rattle.plant_tables.specs.DeskForms.{desk_forms}
+use Rattle.sql_tables.specs.declared.fault.Fault.{Fault}
+use Rattle.sql_tables.specs.declared.fault.Fault.TheVariants as fault
+use Rattle.sql_tables.specs.declared.table_def.CreateIndexStatement.{CreateIndexStatement}
+use Rattle.sql_tables.specs.Indexes.{IndexDef, HasIndex, AreOf, AreCreateIndexStatements}
+use Rattle.sql_tables.specs.StoredRows.{KeepsOtherTables}
+use Rattle.plant_tables.specs.DeskTableDefs.{desk_table_defs}
 use Rattle.plant_tables.specs.DeskIndexes.{desk_indexes, HasIndexes}
-use Rattle.plant_tables.specs.DeskStopping.{IsAt, IsCutShort}
+use Rattle.plant_tables.specs.DeskCrashStates.{IsAt, FailureLeaves}
 use Rattle.plant_tables.specs.Keyed.{HoldsTables}
 
 -- the index, where its name is that of no table, index or view
-abbrev pub missing_in : Schema → IndexText → Option IndexText
+abbrev pub missing_in : Schema → CreateIndexStatement → Option CreateIndexStatement
 missing_in schema text = if is_used schema text.name.now then None else Some text
 
 -- those of the newest schema whose names are free
-abbrev pub is_missing : Schema → IndexForm → Bool
+abbrev pub is_missing : Schema → IndexDef → Bool
 is_missing schema index = not (is_used schema index.name)
 
-abbrev pub lacking : Schema → List IndexForm
+abbrev pub lacking : Schema → List IndexDef
 lacking schema = filter (is_missing schema) desk_indexes
 
 -- the texts make just these
-abbrev pub MakeLacking : Schema → List IndexText → Type 0
-MakeLacking schema texts = AreIndexTexts (map (λ (text : IndexText). text.sql.now) texts) (lacking schema)
+abbrev pub CreateLacking : Schema → List CreateIndexStatement → Type 0
+CreateLacking schema texts = AreCreateIndexStatements (map (λ (text : CreateIndexStatement). text.sql.now) texts) (lacking schema)
 
 -- the name of each index is taken
 abbrev pub AreAllTaken : Schema → Type 0
-AreAllTaken schema = (index : IndexForm) → Has desk_indexes index → is_used schema index.name ≡ true
+AreAllTaken schema = (index : IndexDef) → Has desk_indexes index → is_used schema index.name ≡ true
 
 -- The texts were run: whatever tables of the desk the one database holds, the other holds them, with the indexes that the
 -- texts make, and tables of other names stand as they did.
-abbrev pub GainsIndexes : List (List ℕ) → Database → Database → Type 0
-GainsIndexes texts old new =
-    (indexes : List IndexForm) → AreOf indexes desk_forms → AreIndexTexts texts indexes → (t : Tables) → HoldsTables old t → HoldsTables new t × KeepsOthers desk_forms old new × HasIndexes indexes new.schema
+abbrev pub CreatesIndexes : List (List ℕ) → Database → Database → Type 0
+CreatesIndexes texts old new =
+    (indexes : List IndexDef) → AreOf indexes desk_table_defs → AreCreateIndexStatements texts indexes → (t : Tables) → HoldsTables old t → HoldsTables new t × KeepsOtherTables desk_table_defs old new × HasIndexes indexes new.schema
 
 -- Each index of the desk whose name was free is there, and tables of other names stand as they did.
 pub record AddsMissing (old new : Database) : Type 0 where
-  pub made : (index : IndexForm) → Has desk_indexes index → is_used old.schema index.name ≡ false → HasIndex new.schema index
-  pub others : KeepsOthers desk_forms old new
+  pub made : (index : IndexDef) → Has desk_indexes index → is_used old.schema index.name ≡ false → HasIndex new.schema index
+  pub others : KeepsOtherTables desk_table_defs old new
 
 -- whatever tables of the desk the one database holds, the other holds them, with the indexes that they lacked
-abbrev pub GainsMissing : Database → Database → Type 0
-GainsMissing old new = (t : Tables) → HoldsTables old t → HoldsTables new t × AddsMissing old new
+abbrev pub CreatesMissingIndexes : Database → Database → Type 0
+CreatesMissingIndexes old new = (t : Tables) → HoldsTables old t → HoldsTables new t × AddsMissing old new
 
 -- The indexes that the tables lacked were made, or weren't.
-pub record HasGained (old new : State) (r : Result (Unit {0}) Fault) : Type 0 where
+pub record HasCreatedIndexes (old new : State) (r : Result (Unit {0}) Fault) : Type 0 where
   pub honest : HasCleanDisk new → HasCleanDisk old
-  pub gained : HasCleanDisk new → (t : Tables) → IsAt old t → MatchResult r (λ _. IsAt new t × AddsMissing old.now new.now) (λ _. IsCutShort old new t t)
+  pub gained : HasCleanDisk new → (t : Tables) → IsAt old t → MatchResult r (λ _. IsAt new t × AddsMissing old.now new.now) (λ _. FailureLeaves old new t t)
   -- where no name is free, and for want of memory, nothing is written
-  pub spared : AreAllTaken old.now.schema → Survives old new (λ _. ⊥)
+  pub no_crash_state_added : AreAllTaken old.now.schema → Survives old new (λ _. ⊥)
   pub unmade : IfErr r (λ f. f ≢ fault.Store → Survives old new (λ _. ⊥))
-  pub survives : Survives old new (λ trees. (db : Database) × GainsMissing old.now db × (trees ≡ db.trees))
+  pub survives : Survives old new (λ trees. (db : Database) × CreatesMissingIndexes old.now db × (trees ≡ db.trees))

@@ -3,17 +3,17 @@ ghost use Rattle.sqlite.specs.Effect.{Database, IsDatabase};
 ghost use Rattle.sqlite.specs.State.{HasCleanDisk, Survives, KeepsCommit};
 ghost use Rattle.sqlite.specs.Held.{state};
 ghost use Rattle.plant_view.specs.Tables.{Tables, changed_all};
-ghost use Rattle.table_forms.specs.Standing.{KeepsOthers, AreFree};
-ghost use Rattle.table_forms.specs.Stopping.{IsSettled};
-ghost use Rattle.plant_tables.specs.DeskForms.{desk_forms};
+ghost use Rattle.sql_tables.specs.StoredRows.{KeepsOtherTables, AreFree};
+ghost use Rattle.sql_tables.specs.CrashStates.{IsSettled};
+ghost use Rattle.plant_tables.specs.DeskTableDefs.{desk_table_defs};
 ghost use Rattle.plant_tables.specs.Keyed.{AreKeyed, AreFresh, MovesTables};
-ghost use Rattle.plant_tables.specs.DeskStopping.{IsAt, IsCutShort, opening_tables, MakesDesk, IsUnopened};
+ghost use Rattle.plant_tables.specs.DeskCrashStates.{IsAt, FailureLeaves, opening_tables, MakesDesk, IsUnopened};
 
 use crate::write::{create, write_change, write_changes};
 use plant_base::{Meta, Moment, NEWEST_SCHEMA, Position};
 use plant_view::RowChange;
+use sql_tables::{Fault, Work, in_one};
 use sqlite::{Alter, Connection, Transaction};
-use table_forms::{Fault, Work, in_one};
 
 /// The writing of some changes.
 #[derive(Clone, Copy)]
@@ -42,10 +42,10 @@ pub fn commit_changes<S: Alter>(
     ensures accepted { HasCleanDisk (state S.Store conn.new) → (t : Tables)
         → IsAt (state S.Store conn.old) t → AreKeyed t → AreFresh changes.now t
         → OnOk result (IsAt (state S.Store conn.new) (changed_all changes.now t)
-        × KeepsOthers desk_forms (state S.Store conn.old).now (state S.Store conn.new).now) }
-    ensures cut_short { HasCleanDisk (state S.Store conn.new) → (t : Tables)
+        × KeepsOtherTables desk_table_defs (state S.Store conn.old).now (state S.Store conn.new).now) }
+    ensures after_failure { HasCleanDisk (state S.Store conn.new) → (t : Tables)
         → IsAt (state S.Store conn.old) t → AreKeyed t → AreFresh changes.now t
-        → OnErr result (IsCutShort (state S.Store conn.old) (state S.Store conn.new) t
+        → OnErr result (FailureLeaves (state S.Store conn.old) (state S.Store conn.new) t
         (changed_all changes.now t)) }
     ensures survives { Survives (state S.Store conn.old) (state S.Store conn.new)
         (λ trees. (db : Database) × MovesTables changes.now (state S.Store conn.old).now db
@@ -83,11 +83,11 @@ pub fn commit_opening<S: Alter>(conn: &mut Connection<S>) -> Result<(), Fault>
     ensures fault { IsOkUnless result Fault.Store }
     ensures mode { conn.new.in_transaction ≡ false }
     ensures made { HasCleanDisk (state S.Store conn.new) → IsSettled (state S.Store conn.old)
-        → IsDatabase (state S.Store conn.old).now → AreFree desk_forms (state S.Store conn.old).now.schema
+        → IsDatabase (state S.Store conn.old).now → AreFree desk_table_defs (state S.Store conn.old).now.schema
         → OnOk result (IsAt (state S.Store conn.new) opening_tables
-        × KeepsOthers desk_forms (state S.Store conn.old).now (state S.Store conn.new).now) }
-    ensures cut_short { HasCleanDisk (state S.Store conn.new) → IsSettled (state S.Store conn.old)
-        → IsDatabase (state S.Store conn.old).now → AreFree desk_forms (state S.Store conn.old).now.schema
+        × KeepsOtherTables desk_table_defs (state S.Store conn.old).now (state S.Store conn.new).now) }
+    ensures after_failure { HasCleanDisk (state S.Store conn.new) → IsSettled (state S.Store conn.old)
+        → IsDatabase (state S.Store conn.old).now → AreFree desk_table_defs (state S.Store conn.old).now.schema
         → OnErr result (IsUnopened (state S.Store conn.old) (state S.Store conn.new)) }
     ensures survives { Survives (state S.Store conn.old) (state S.Store conn.new)
         (λ trees. (db : Database) × MakesDesk (state S.Store conn.old).now db × (trees ≡ db.trees)) }

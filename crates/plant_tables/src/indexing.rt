@@ -3,18 +3,21 @@
 ghost use Rattle.std.specs.Prelude.{◌≡◌, false, map, IfOk};
 ghost use Rattle.std.specs.List.{filter_map};
 ghost use Rattle.sqlite.specs.Held.{state};
-ghost use Rattle.table_forms.specs.Indexes.{AreIndexTexts};
+ghost use Rattle.sql_tables.specs.Indexes.{AreCreateIndexStatements};
 ghost use Rattle.plant_tables.specs.DeskIndexes.{desk_indexes};
-ghost use Rattle.plant_tables.specs.Missing.{missing_in, MakeLacking, GainsIndexes, HasGained};
+ghost use Rattle.plant_tables.specs.Missing.{missing_in, CreateLacking, CreatesIndexes, HasCreatedIndexes};
 
-use crate::forms;
+use crate::table_defs;
+use sql_tables::{CreateIndexStatement, Fault, Work, in_one, is_taken, run_create_indexes};
 use sqlite::{Alter, Connection, Transaction};
 use sqlite_schema::schema::Schema;
 use std::alloc::{AllocError, Global};
-use table_forms::{Fault, IndexText, Work, in_one, is_taken, make_indexes};
 
 /// The index, where its name is free.
-fn missing_in(schema: &Schema, index: &IndexText<'static>) -> Option<IndexText<'static>>
+fn missing_in(
+    schema: &Schema,
+    index: &CreateIndexStatement<'static>,
+) -> Option<CreateIndexStatement<'static>>
     ensures { result ≡ missing_in schema.now index.now }
 {
     if is_taken(schema, index.name) {
@@ -28,8 +31,8 @@ fn missing_in(schema: &Schema, index: &IndexText<'static>) -> Option<IndexText<'
 fn missing_among(
     alloc: Global,
     schema: &Schema,
-    indexes: &[IndexText<'static>],
-) -> Result<Vec<IndexText<'static>>, AllocError>
+    indexes: &[CreateIndexStatement<'static>],
+) -> Result<Vec<CreateIndexStatement<'static>>, AllocError>
     ensures { IfOk result (λ missing. missing.items ≡ filter_map (missing_in schema.now) indexes.now) }
 {
     indexes
@@ -39,31 +42,34 @@ fn missing_among(
 }
 
 /// The indexes of the newest schema whose names are free. The only error is that memory was refused.
-fn all_missing(alloc: Global, schema: &Schema) -> Result<Vec<IndexText<'static>>, AllocError>
-    ensures { IfOk result (λ missing. MakeLacking schema.now missing.items) }
+fn all_missing(
+    alloc: Global,
+    schema: &Schema,
+) -> Result<Vec<CreateIndexStatement<'static>>, AllocError>
+    ensures { IfOk result (λ missing. CreateLacking schema.now missing.items) }
 {
     missing_among(alloc, schema, all_indexes())
 }
 
 /// The indexes of the newest schema.
-fn all_indexes() -> &'static [IndexText<'static>]
+fn all_indexes() -> &'static [CreateIndexStatement<'static>]
     ensures named { map (λ text. text.name.now) result.now ≡ map (λ index. index.name) desk_indexes }
-    ensures made { AreIndexTexts (map (λ text. text.sql.now) result.now) desk_indexes }
+    ensures made { AreCreateIndexStatements (map (λ text. text.sql.now) result.now) desk_indexes }
 {
-    &forms::DESK_INDEXES
+    &table_defs::DESK_INDEXES
 }
 
 /// The making of some indexes.
 #[derive(Clone, Copy)]
 struct Indexing<'a> {
-    texts: &'a [IndexText<'a>],
+    texts: &'a [CreateIndexStatement<'a>],
 }
 
 impl<'a> Work for Indexing<'a> {
-    ghost makes = { λ w. GainsIndexes (map (λ text. text.sql.now) w.texts.now) };
+    ghost makes = { λ w. CreatesIndexes (map (λ text. text.sql.now) w.texts.now) };
 
     fn run<S: Alter>(&self, tx: &mut Transaction<'_, S>) -> Result<(), Fault> {
-        make_indexes(tx, self.texts)
+        run_create_indexes(tx, self.texts)
     }
 }
 
@@ -73,7 +79,7 @@ impl<'a> Work for Indexing<'a> {
 /// stop; Memory where there is none, and then nothing was written.
 pub fn commit_missing<S: Alter>(alloc: Global, conn: &mut Connection<S>) -> Result<(), Fault>
     requires { conn.old.in_transaction ≡ false }
-    ensures gained { HasGained (state S.Store conn.old) (state S.Store conn.new) result }
+    ensures gained { HasCreatedIndexes (state S.Store conn.old) (state S.Store conn.new) result }
     ensures mode { conn.new.in_transaction ≡ false }
 {
     match all_missing(alloc, conn.schema()) {
@@ -85,11 +91,11 @@ pub fn commit_missing<S: Alter>(alloc: Global, conn: &mut Connection<S>) -> Resu
 /// Makes these indexes, which are those that the tables lack, in one transaction. The one fault is [`Fault::Store`].
 fn commit_these<S: Alter>(
     conn: &mut Connection<S>,
-    missing: &[IndexText<'static>],
+    missing: &[CreateIndexStatement<'static>],
 ) -> Result<(), Fault>
     requires rest { conn.old.in_transaction ≡ false }
-    requires lacked { MakeLacking (state S.Store conn.old).now.schema missing.now }
-    ensures gained { HasGained (state S.Store conn.old) (state S.Store conn.new) result }
+    requires lacked { CreateLacking (state S.Store conn.old).now.schema missing.now }
+    ensures gained { HasCreatedIndexes (state S.Store conn.old) (state S.Store conn.new) result }
     ensures mode { conn.new.in_transaction ≡ false }
 {
     if missing.is_empty() {

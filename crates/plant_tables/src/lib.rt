@@ -2,10 +2,10 @@
 #![tactic(auto)]
 
 mod commit;
-pub mod forms;
 mod indexing;
 mod laws;
 mod raising;
+pub mod table_defs;
 mod write;
 
 pub use commit::{commit_changes, commit_opening};

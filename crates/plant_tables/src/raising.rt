@@ -2,19 +2,19 @@ ghost use Rattle.std.specs.Prelude.{◌≡◌, false, OnOk, IsOkUnless};
 ghost use Rattle.sqlite.specs.Effect.{Database};
 ghost use Rattle.sqlite.specs.State.{HasCleanDisk, Survives, KeepsCommit};
 ghost use Rattle.sqlite.specs.Held.{state};
-ghost use Rattle.table_forms.specs.Indexes.{AddsIndexes};
-ghost use Rattle.table_forms.specs.Moves.{Founds, LeavesFree};
-ghost use Rattle.plant_tables.specs.DeskForms.{forms_of, added_forms};
+ghost use Rattle.sql_tables.specs.Indexes.{AddsIndexes};
+ghost use Rattle.sql_tables.specs.Moves.{Founds, KeepsFurtherNamesFree};
+ghost use Rattle.plant_tables.specs.DeskTableDefs.{table_defs_of, added_table_defs};
 ghost use Rattle.plant_tables.specs.DeskIndexes.{added_indexes};
-ghost use Rattle.plant_tables.specs.Calls.{RaisesNext, SparesLater, CutsNextShort};
-ghost use Rattle.plant_tables.specs.Raising.{IsOlder, RaisesTables};
+ghost use Rattle.plant_tables.specs.Calls.{RaisesNext, KeepsLaterNamesFree, FailureLeavesNext};
+ghost use Rattle.plant_tables.specs.Schemas.{IsOlder, RaisesTables};
 
-use crate::forms;
+use crate::table_defs;
 use crate::write::{write_change, write_changes};
 use plant_base::{Meta, Position};
 use plant_view::RowChange;
+use sql_tables::{Fault, Work, create_tables, in_one, run_create_indexes};
 use sqlite::{Alter, Connection, Transaction};
-use table_forms::{Fault, Work, in_one, make_indexes, make_tables};
 
 /// Makes the tables that a schema adds to the one before it, and leaves them empty; those of later ones can still be made
 /// where they could. The one fault is
@@ -23,25 +23,25 @@ fn create_added<S: Alter>(tx: &mut Transaction<'_, S>, schema: u64) -> Result<()
     ensures fault { IsOkUnless result Fault.Store }
     ensures same_reference { tx.new.conn.ghost_name ≡ tx.old.conn.ghost_name }
     ensures founded { HasCleanDisk (state S.Store tx.new.conn.now)
-        → OnOk result (Founds (added_forms schema) (state S.Store tx.old.conn.now)
+        → OnOk result (Founds (added_table_defs schema) (state S.Store tx.old.conn.now)
         (state S.Store tx.new.conn.now)) }
-    ensures spared { HasCleanDisk (state S.Store tx.new.conn.now)
-        → OnOk result (LeavesFree (added_forms schema) (state S.Store tx.old.conn.now).now
+    ensures no_crash_state_added { HasCleanDisk (state S.Store tx.new.conn.now)
+        → OnOk result (KeepsFurtherNamesFree (added_table_defs schema) (state S.Store tx.old.conn.now).now
         (state S.Store tx.new.conn.now).now) }
     ensures kept { HasCleanDisk (state S.Store tx.new.conn.now)
         → KeepsCommit (state S.Store tx.old.conn.now) (state S.Store tx.new.conn.now) }
     ensures survives { Survives (state S.Store tx.old.conn.now) (state S.Store tx.new.conn.now) (λ _. ⊥) }
 {
     if schema == 2 {
-        return make_tables(tx, &[forms::CREATE_EDGE]);
+        return create_tables(tx, &[table_defs::CREATE_EDGE]);
     }
     if schema == 3 {
-        return make_tables(tx, &[forms::CREATE_RECEIPT]);
+        return create_tables(tx, &[table_defs::CREATE_RECEIPT]);
     }
     if schema == 4 {
-        return make_tables(tx, &[forms::CREATE_RECALL, forms::CREATE_MARK]);
+        return create_tables(tx, &[table_defs::CREATE_RECALL, table_defs::CREATE_MARK]);
     }
-    make_tables(tx, &[])
+    create_tables(tx, &[])
 }
 
 /// Makes the indexes that a schema adds to the one before it, of tables that stand and keep their rows. The one fault is
@@ -50,20 +50,20 @@ fn index_added<S: Alter>(tx: &mut Transaction<'_, S>, schema: u64) -> Result<(),
     ensures fault { IsOkUnless result Fault.Store }
     ensures same_reference { tx.new.conn.ghost_name ≡ tx.old.conn.ghost_name }
     ensures indexed { HasCleanDisk (state S.Store tx.new.conn.now)
-        → OnOk result (AddsIndexes (forms_of schema) (added_indexes schema)
+        → OnOk result (AddsIndexes (table_defs_of schema) (added_indexes schema)
         (state S.Store tx.old.conn.now) (state S.Store tx.new.conn.now)) }
     ensures kept { HasCleanDisk (state S.Store tx.new.conn.now)
         → KeepsCommit (state S.Store tx.old.conn.now) (state S.Store tx.new.conn.now) }
     ensures survives { Survives (state S.Store tx.old.conn.now) (state S.Store tx.new.conn.now) (λ _. ⊥) }
 {
-    let (second, fourth) = forms::DESK_INDEXES.split_at(forms::indexes_in(2));
+    let (second, fourth) = table_defs::DESK_INDEXES.split_at(table_defs::indexes_in(2));
     if schema == 2 {
-        return make_indexes(tx, second);
+        return run_create_indexes(tx, second);
     }
     if schema == 4 {
-        return make_indexes(tx, fourth);
+        return run_create_indexes(tx, fourth);
     }
-    make_indexes(tx, &[])
+    run_create_indexes(tx, &[])
 }
 
 /// The raising of tables of a version to the next, with rows of the tables that this adds.
@@ -109,9 +109,9 @@ pub fn commit_raising<S: Alter>(
     ensures mode { conn.new.in_transaction ≡ false }
     ensures raised { RaisesNext version position added.now (state S.Store conn.old)
         (state S.Store conn.new) result }
-    ensures spared { SparesLater version added.now (state S.Store conn.old)
+    ensures no_crash_state_added { KeepsLaterNamesFree version added.now (state S.Store conn.old)
         (state S.Store conn.new) result }
-    ensures cut_short { CutsNextShort version position added.now (state S.Store conn.old)
+    ensures after_failure { FailureLeavesNext version position added.now (state S.Store conn.old)
         (state S.Store conn.new) result }
     ensures survives { Survives (state S.Store conn.old) (state S.Store conn.new)
         (λ trees. (db : Database)

@@ -2,16 +2,16 @@ ghost use Rattle.std.specs.Prelude.{◌≡◌, ◌≤◌, ℕ, map, IfOk, OnOk, 
 ghost use Rattle.sqlite.specs.Effect.{IsDatabase};
 ghost use Rattle.sqlite.specs.State.{HasCleanDisk, Survives, KeepsCommit};
 ghost use Rattle.sqlite.specs.Held.{state};
-ghost use Rattle.table_forms.specs.Moves.{Moves, Founds};
-ghost use Rattle.table_forms.specs.Indexes.{AddsIndexes};
-ghost use Rattle.table_forms.specs.Standing.{AreFree};
-ghost use Rattle.plant_tables.specs.DeskForms.{forms_of};
+ghost use Rattle.sql_tables.specs.Moves.{Moves, Founds};
+ghost use Rattle.sql_tables.specs.Indexes.{AddsIndexes};
+ghost use Rattle.sql_tables.specs.StoredRows.{AreFree};
+ghost use Rattle.plant_tables.specs.DeskTableDefs.{table_defs_of};
 ghost use Rattle.plant_tables.specs.DeskIndexes.{indexes_of, HasIndexes};
 ghost use Rattle.plant_tables.specs.DeskTables.{rows_changed, all_rows_changed};
 ghost use Rattle.plant_tables.specs.Keyed.{MovesTablesOf, IsOfSchema, AreOfSchema};
 ghost use Rattle.plant_base.specs.State.{newest_schema};
 
-use crate::forms;
+use crate::table_defs;
 use plant_tables_columns::storing::{id, large};
 use plant_tables_columns::{
     batch_values, class_values, control_line_values, definition_values, edge_values, event_values,
@@ -19,8 +19,8 @@ use plant_tables_columns::{
     movement_values, recall_values, receipt_values, recipe_values, sublot_values,
 };
 use plant_view::{RowChange, RowParts};
+use sql_tables::{Fault, create_tables, delete_rows, put_row, run_create_indexes};
 use sqlite::{Alter, Transaction};
-use table_forms::{Fault, make_indexes, make_tables, put_row, take_rows};
 
 /// Makes one change inside the transaction, by one statement, in tables of whatever schema has the change's table. The
 /// one fault is [`Fault::Store`], where the store refuses it, or where a number is above 2^63 - 1.
@@ -29,7 +29,7 @@ pub fn write_change<S: Alter>(tx: &mut Transaction<'_, S>, change: &RowChange) -
     ensures same_reference { tx.new.conn.ghost_name ≡ tx.old.conn.ghost_name }
     ensures moved { HasCleanDisk (state S.Store tx.new.conn.now)
         → (schema : ℕ) → IsOfSchema schema change.now
-        → OnOk result (Moves (forms_of schema) (state S.Store tx.old.conn.now)
+        → OnOk result (Moves (table_defs_of schema) (state S.Store tx.old.conn.now)
         (state S.Store tx.new.conn.now) (rows_changed change.now)) }
     ensures kept { HasCleanDisk (state S.Store tx.new.conn.now)
         → KeepsCommit (state S.Store tx.old.conn.now) (state S.Store tx.new.conn.now) }
@@ -40,42 +40,48 @@ pub fn write_change<S: Alter>(tx: &mut Transaction<'_, S>, change: &RowChange) -
         RowChange::Meta(row) => {
             let schema = large(row.schema)?;
             let seq = large(row.position.seq)?;
-            put_row(tx, forms::PUT_META, &meta_values(row, schema, seq))
+            put_row(tx, table_defs::PUT_META, &meta_values(row, schema, seq))
         }
-        RowChange::Class(row) => put_row(tx, forms::PUT_CLASS, &class_values(row)),
-        RowChange::Definition(row) => put_row(tx, forms::PUT_DEFINITION, &definition_values(row)),
-        RowChange::Recipe(row) => put_row(tx, forms::PUT_RECIPE, &recipe_values(row)),
+        RowChange::Class(row) => put_row(tx, table_defs::PUT_CLASS, &class_values(row)),
+        RowChange::Definition(row) => put_row(
+            tx,
+            table_defs::PUT_DEFINITION,
+            &definition_values(row),
+        ),
+        RowChange::Recipe(row) => put_row(tx, table_defs::PUT_RECIPE, &recipe_values(row)),
         RowChange::MasterLine(row) => {
-            put_row(tx, forms::PUT_RECIPE_LINE, &master_line_values(row))
+            put_row(tx, table_defs::PUT_RECIPE_LINE, &master_line_values(row))
         }
-        RowChange::Job(row) => put_row(tx, forms::PUT_JOB, &job_values(row)),
-        RowChange::Batch(row) => put_row(tx, forms::PUT_BATCH, &batch_values(row)),
+        RowChange::Job(row) => put_row(tx, table_defs::PUT_JOB, &job_values(row)),
+        RowChange::Batch(row) => put_row(tx, table_defs::PUT_BATCH, &batch_values(row)),
         RowChange::ControlLine(row) => {
-            put_row(tx, forms::PUT_CONTROL_LINE, &control_line_values(row))
+            put_row(tx, table_defs::PUT_CONTROL_LINE, &control_line_values(row))
         }
         RowChange::Event(row) => {
             let seq = large(row.seq)?;
-            put_row(tx, forms::PUT_BATCH_EVENT, &event_values(row, seq))
+            put_row(tx, table_defs::PUT_BATCH_EVENT, &event_values(row, seq))
         }
-        RowChange::Lot(row) => put_row(tx, forms::PUT_LOT, &lot_values(row)),
+        RowChange::Lot(row) => put_row(tx, table_defs::PUT_LOT, &lot_values(row)),
         RowChange::Sublot(row) => {
             let stock = large(row.stock)?;
-            put_row(tx, forms::PUT_SUBLOT, &sublot_values(row, stock))
+            put_row(tx, table_defs::PUT_SUBLOT, &sublot_values(row, stock))
         }
         RowChange::Movement(row) => {
             let seq = large(row.seq)?;
-            put_row(tx, forms::PUT_MOVEMENT, &movement_values(row, seq))
+            put_row(tx, table_defs::PUT_MOVEMENT, &movement_values(row, seq))
         }
-        RowChange::Hold(row) => put_row(tx, forms::PUT_HOLD, &hold_values(row)),
-        RowChange::Edge(row) => put_row(tx, forms::PUT_EDGE, &edge_values(row)),
+        RowChange::Hold(row) => put_row(tx, table_defs::PUT_HOLD, &hold_values(row)),
+        RowChange::Edge(row) => put_row(tx, table_defs::PUT_EDGE, &edge_values(row)),
         RowChange::Receipt(row) => {
             let seq = large(row.seq)?;
-            put_row(tx, forms::PUT_RECEIPT, &receipt_values(row, seq))
+            put_row(tx, table_defs::PUT_RECEIPT, &receipt_values(row, seq))
         }
-        RowChange::Recall(row) => put_row(tx, forms::PUT_RECALL, &recall_values(row)),
-        RowChange::Mark(row) => put_row(tx, forms::PUT_MARK, &mark_values(row)),
-        RowChange::Unhold { lot, hold } => { take_rows(tx, forms::TAKE_HOLD, &[id(lot), id(hold)]) }
-        RowChange::Unmark { recall } => take_rows(tx, forms::TAKE_MARKS, &[id(recall)]),
+        RowChange::Recall(row) => put_row(tx, table_defs::PUT_RECALL, &recall_values(row)),
+        RowChange::Mark(row) => put_row(tx, table_defs::PUT_MARK, &mark_values(row)),
+        RowChange::Unhold { lot, hold } => {
+            delete_rows(tx, table_defs::DELETE_HOLD, &[id(lot), id(hold)])
+        }
+        RowChange::Unmark { recall } => delete_rows(tx, table_defs::DELETE_MARKS, &[id(recall)]),
     }
 }
 
@@ -89,7 +95,7 @@ pub fn write_changes<S: Alter>(
     ensures same_reference { tx.new.conn.ghost_name ≡ tx.old.conn.ghost_name }
     ensures moved { HasCleanDisk (state S.Store tx.new.conn.now)
         → (schema : ℕ) → AreOfSchema schema changes.now
-        → OnOk result (Moves (forms_of schema) (state S.Store tx.old.conn.now)
+        → OnOk result (Moves (table_defs_of schema) (state S.Store tx.old.conn.now)
         (state S.Store tx.new.conn.now) (all_rows_changed changes.now)) }
     ensures tables { HasCleanDisk (state S.Store tx.new.conn.now)
         → (schema : ℕ) → AreOfSchema schema changes.now
@@ -114,14 +120,14 @@ pub(crate) fn create_indexes<S: Alter>(
     ensures fault { IsOkUnless result Fault.Store }
     ensures same_reference { tx.new.conn.ghost_name ≡ tx.old.conn.ghost_name }
     ensures indexed { HasCleanDisk (state S.Store tx.new.conn.now)
-        → OnOk result (AddsIndexes (forms_of schema) (indexes_of schema) (state S.Store tx.old.conn.now)
+        → OnOk result (AddsIndexes (table_defs_of schema) (indexes_of schema) (state S.Store tx.old.conn.now)
         (state S.Store tx.new.conn.now)) }
     ensures kept { HasCleanDisk (state S.Store tx.new.conn.now)
         → KeepsCommit (state S.Store tx.old.conn.now) (state S.Store tx.new.conn.now) }
     ensures survives { Survives (state S.Store tx.old.conn.now) (state S.Store tx.new.conn.now) (λ _. ⊥) }
 {
-    let (own, _) = forms::DESK_INDEXES.split_at(forms::indexes_in(schema));
-    make_indexes(tx, own)
+    let (own, _) = table_defs::DESK_INDEXES.split_at(table_defs::indexes_in(schema));
+    run_create_indexes(tx, own)
 }
 
 /// Makes the tables of a schema, with its indexes, and leaves the tables empty. The one fault is [`Fault::Store`],
@@ -132,17 +138,17 @@ pub fn create<S: Alter>(tx: &mut Transaction<'_, S>, schema: u64) -> Result<(), 
     ensures fault { IsOkUnless result Fault.Store }
     ensures same_reference { tx.new.conn.ghost_name ≡ tx.old.conn.ghost_name }
     ensures founded { HasCleanDisk (state S.Store tx.new.conn.now)
-        → OnOk result (Founds (forms_of schema) (state S.Store tx.old.conn.now)
+        → OnOk result (Founds (table_defs_of schema) (state S.Store tx.old.conn.now)
         (state S.Store tx.new.conn.now)) }
     ensures indexed { HasCleanDisk (state S.Store tx.new.conn.now)
         → IsDatabase (state S.Store tx.old.conn.now).now
-        → AreFree (forms_of schema) (state S.Store tx.old.conn.now).now.schema
+        → AreFree (table_defs_of schema) (state S.Store tx.old.conn.now).now.schema
         → OnOk result (HasIndexes (indexes_of schema) (state S.Store tx.new.conn.now).now.schema) }
     ensures kept { HasCleanDisk (state S.Store tx.new.conn.now)
         → KeepsCommit (state S.Store tx.old.conn.now) (state S.Store tx.new.conn.now) }
     ensures survives { Survives (state S.Store tx.old.conn.now) (state S.Store tx.new.conn.now) (λ _. ⊥) }
 {
-    let (own, _) = forms::CREATE_TABLES.split_at(forms::tables_in(schema));
-    make_tables(tx, own)?;
+    let (own, _) = table_defs::CREATE_TABLES.split_at(table_defs::tables_in(schema));
+    create_tables(tx, own)?;
     create_indexes(tx, schema)
 }

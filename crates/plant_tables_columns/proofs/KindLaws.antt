@@ -12,20 +12,20 @@ use Rattle.plant_base.specs.Values.{only, is_id, is_text, is_unit, is_moment, gr
 use Rattle.plant_base.specs.Content.{is_there}
 use Rattle.plant_base.specs.Dates.{is_due}
 use Rattle.sqlite_schema.specs.declared.schema.Column.{Column}
-use Rattle.table_forms.specs.Forms.{integer, text, integer_or_null, text_or_null}
-use Rattle.table_forms.specs.Rows.{fits_columns}
+use Rattle.sql_tables.specs.TableDefs.{integer, text, integer_or_null, text_or_null}
+use Rattle.sql_tables.specs.Rows.{fits_columns}
 use Rattle.plant_tables_columns.specs.Columns.{Kind}
 use Rattle.plant_tables_columns.specs.Kinds.{number, flag, null_or, ids, texts, units, dues, contents, numbers, line_numbers, always_one, flags, ids_or_none, sublot_numbers_or_none, moments_or_none, texts_or_none}
 use Rattle.plant_tables_columns.specs.Reading.{text_in, integer_in, is_null, by_text, by_number, id_from, text_from, unit_from, due_from, content_in, content_from, is_in, number_in, number_from, line_number, line_number_from, flag_from, or_null, id_or_null, sublot_or_null, moment_or_null, readable_or_null}
-use Rattle.plant_tables_columns.proofs.Options.{bound, mapped, some_same, only_back, only_again}
+use Rattle.plant_tables_columns.proofs.OptionalValues.{bound, mapped, some_same, only_back, only_again}
 
 -- How a kind of value is stored in a column and read of it: it is stored as the column is declared; what was read is what
 -- was stored, but for one that isn't whole; a good one that is whole is read again; and each that was read is good.
-pub record IsKind {A : Type 0} (kind : Kind A) (good whole : A → Type 0) : Type 0 where
+pub record IsKind {A : Type 0} (kind : Kind A) (valid whole : A → Type 0) : Type 0 where
   pub fits : (name : List ℕ) (a : A) → fits_columns (kind.declared name ∷ []) (kind.stored a ∷ []) ≡ true
   pub back : (v : Value) (a : A) → kind.read v ≡ Some a → whole a → v ≡ kind.stored a
-  pub again : (a : A) → good a → whole a → kind.read (kind.stored a) ≡ Some a
-  pub keeps : (v : Value) (a : A) → kind.read v ≡ Some a → good a
+  pub again : (a : A) → valid a → whole a → kind.read (kind.stored a) ≡ Some a
+  pub keeps : (v : Value) (a : A) → kind.read v ≡ Some a → valid a
 
 -- nothing more is asked
 abbrev pub Any : {A : Type 0} → A → Type 0
@@ -37,12 +37,12 @@ pub text_is : (v : Value) (bytes : List ℕ) → text_in v ≡ Some bytes → v 
 text_is (Text other) bytes h = ap Text (some_same other bytes h)
 text_is _ bytes h = absurd (cc)
 
-pub text_kind : {A : Type 0} (read : List ℕ → Option A) (stored : A → List ℕ) (good : A → Type 0)
+pub text_kind : {A : Type 0} (read : List ℕ → Option A) (stored : A → List ℕ) (valid : A → Type 0)
     → ((bytes : List ℕ) (a : A) → read bytes ≡ Some a → bytes ≡ stored a)
-    → ((a : A) → good a → read (stored a) ≡ Some a)
-    → ((bytes : List ℕ) (a : A) → read bytes ≡ Some a → good a)
-    → IsKind (record { declared = text; stored = λ a. Text (stored a); read = by_text read }) good Any
-text_kind read stored good back again keeps = record {
+    → ((a : A) → valid a → read (stored a) ≡ Some a)
+    → ((bytes : List ℕ) (a : A) → read bytes ≡ Some a → valid a)
+    → IsKind (record { declared = text; stored = λ a. Text (stored a); read = by_text read }) valid Any
+text_kind read stored valid back again keeps = record {
   fits = λ name a. refl;
   back = λ v a h _. let p = bound (text_in v) read a h in text_is v p.0 p.1 ∙ ap Text (back p.0 a p.2);
   again = λ a is _. again a is;
@@ -80,7 +80,7 @@ unfolding content_from
 content_kind = record {
   fits = λ name c. refl;
   back = λ v c h there. let p = bound (text_in v) (λ bytes. Some (content_in bytes)) c h in text_is v p.0 p.1 ∙ ap Text ((content_read p.0 c (some_same _ _ p.2)).1 there);
-  again = λ c good _. rw good refl;
+  again = λ c valid _. rw valid refl;
   keeps = λ v c h. let p = bound (text_in v) (λ bytes. Some (content_in bytes)) c h in (content_read p.0 c (some_same _ _ p.2)).0;
 }
 
@@ -90,12 +90,12 @@ pub integer_is : (v : Value) (n : ℤ) → integer_in v ≡ Some n → v ≡ Int
 integer_is (Int m) n h = ap Int (some_same m n h)
 integer_is _ n h = absurd (cc)
 
-pub integer_kind : {A : Type 0} (read : ℤ → Option A) (stored : A → ℤ) (good whole : A → Type 0)
+pub integer_kind : {A : Type 0} (read : ℤ → Option A) (stored : A → ℤ) (valid whole : A → Type 0)
     → ((n : ℤ) (a : A) → read n ≡ Some a → whole a → n ≡ stored a)
-    → ((a : A) → good a → whole a → read (stored a) ≡ Some a)
-    → ((n : ℤ) (a : A) → read n ≡ Some a → good a)
-    → IsKind (record { declared = integer; stored = λ a. Int (stored a); read = by_number read }) good whole
-integer_kind read stored good whole back again keeps = record {
+    → ((a : A) → valid a → whole a → read (stored a) ≡ Some a)
+    → ((n : ℤ) (a : A) → read n ≡ Some a → valid a)
+    → IsKind (record { declared = integer; stored = λ a. Int (stored a); read = by_number read }) valid whole
+integer_kind read stored valid whole back again keeps = record {
   fits = λ name a. refl;
   back = λ v a h is. let p = bound (integer_in v) read a h in integer_is v p.0 p.1 ∙ ap Int (back p.0 a p.2 is);
   again = again;
@@ -109,7 +109,7 @@ number_back low high (negsuc m) n h = absurd (cc)
 
 pub number_again : (low high n : ℕ) → is_in low high n ≡ true → number_in low high (pos n) ≡ Some n
 unfolding number_in
-number_again low high n good = only_again (is_in low high) n good
+number_again low high n valid = only_again (is_in low high) n valid
 
 pub number_keeps : (low high : ℕ) (z : ℤ) (n : ℕ) → number_in low high z ≡ Some n → is_in low high n ≡ true
 unfolding number_in
@@ -124,7 +124,7 @@ up_to high n h =
 
 pub number_kind : (low high : ℕ) → IsKind (numbers low high) (λ n. is_in low high n ≡ true) Any
 unfolding number_from
-number_kind low high = integer_kind (number_in low high) pos (λ n. is_in low high n ≡ true) Any (λ z n h _. number_back low high z n h) (λ n good _. number_again low high n good) (number_keeps low high)
+number_kind low high = integer_kind (number_in low high) pos (λ n. is_in low high n ≡ true) Any (λ z n h _. number_back low high z n h) (λ n valid _. number_again low high n valid) (number_keeps low high)
 
 -- the same in the words of a greatest number
 pub below_kind : (high : ℕ) → IsKind (numbers 0 high) (λ n. nat_le n high ≡ true) Any
@@ -168,8 +168,8 @@ numbered_again : (n : ℕ) → n ≤ 65535 → 1 ≤ n → line_number (pos n) �
 numbered_again n most least =
     let low : nat_le 1 n ≡ true = grind (arith, nat_tests) in
     let high : nat_le n 65535 ≡ true = grind (arith, nat_tests) in
-    let good : is_in 1 65535 n ≡ true = rw (low, high) refl in
-    rw (number_again 1 65535 n good) refl
+    let valid : is_in 1 65535 n ≡ true = rw (low, high) refl in
+    rw (number_again 1 65535 n valid) refl
 
 pub line_number_kind : IsKind line_numbers (λ n. n ≤ 65535) IsNumbered
 unfolding line_number_from
@@ -200,19 +200,19 @@ flag_kind = record { fits = flag_fits; back = λ v b h _. flag_back v b h; again
 
 -- ---- what may be left out
 
-abbrev pub GoodOrNone : {A : Type 0} → (A → Type 0) → Option A → Type 0
-GoodOrNone good None = ⊤
-GoodOrNone good (Some a) = good a
+abbrev pub ValidOrNone : {A : Type 0} → (A → Type 0) → Option A → Type 0
+ValidOrNone valid None = ⊤
+ValidOrNone valid (Some a) = valid a
 
 pub null_is : (v : Value) → is_null v ≡ true → v ≡ Null
 null_is Null h = refl
 null_is _ h = absurd (cc)
 
-pub or_null_kind : {A : Type 0} (declared : List ℕ → Column) (kind : Kind A) (good : A → Type 0) → IsKind kind good Any
+pub or_null_kind : {A : Type 0} (declared : List ℕ → Column) (kind : Kind A) (valid : A → Type 0) → IsKind kind valid Any
     → ((name : List ℕ) (o : Option A) → fits_columns (declared name ∷ []) (null_or kind.stored o ∷ []) ≡ true)
     → ((a : A) → is_null (kind.stored a) ≡ false)
-    → IsKind (record { declared = declared; stored = null_or kind.stored; read = or_null kind.read }) (GoodOrNone good) Any
-or_null_kind {A} declared kind good laws fit there = record { fits = fit; back = λ v o h _. back v o h; again = λ o is _. again o is; keeps = keeps }
+    → IsKind (record { declared = declared; stored = null_or kind.stored; read = or_null kind.read }) (ValidOrNone valid) Any
+or_null_kind {A} declared kind valid laws fit there = record { fits = fit; back = λ v o h _. back v o h; again = λ o is _. again o is; keeps = keeps }
   where
     back : (v : Value) (o : Option A) → or_null kind.read v ≡ Some o → v ≡ null_or kind.stored o
     back v o h = elim (is_null v) as (λ b. is_null v ≡ b → (if b then Some None else option_map Some (kind.read v)) ≡ Some o → v ≡ null_or kind.stored o) [
@@ -220,21 +220,21 @@ or_null_kind {A} declared kind good laws fit there = record { fits = fit; back =
       | false ↦ λ e f. let p = mapped Some (kind.read v) o f in laws.back v p.0 p.1 tt ∙ ap (null_or kind.stored) p.2
     ] refl h
 
-    again : (o : Option A) → GoodOrNone good o → or_null kind.read (null_or kind.stored o) ≡ Some o
+    again : (o : Option A) → ValidOrNone valid o → or_null kind.read (null_or kind.stored o) ≡ Some o
     again None is = refl
     again (Some a) is = rw (there a, laws.again a is tt) refl
 
-    keeps : (v : Value) (o : Option A) → or_null kind.read v ≡ Some o → GoodOrNone good o
-    keeps v o h = elim (is_null v) as (λ b. (if b then Some None else option_map Some (kind.read v)) ≡ Some o → GoodOrNone good o) [
-      | true ↦ λ f. subst (GoodOrNone good) (some_same None o f) tt
-      | false ↦ λ f. let p = mapped Some (kind.read v) o f in subst (GoodOrNone good) p.2 (laws.keeps v p.0 p.1)
+    keeps : (v : Value) (o : Option A) → or_null kind.read v ≡ Some o → ValidOrNone valid o
+    keeps v o h = elim (is_null v) as (λ b. (if b then Some None else option_map Some (kind.read v)) ≡ Some o → ValidOrNone valid o) [
+      | true ↦ λ f. subst (ValidOrNone valid) (some_same None o f) tt
+      | false ↦ λ f. let p = mapped Some (kind.read v) o f in subst (ValidOrNone valid) p.2 (laws.keeps v p.0 p.1)
     ] h
 
 text_fits : (name : List ℕ) (o : Option (List ℕ)) → fits_columns (text_or_null name ∷ []) (null_or Text o ∷ []) ≡ true
 text_fits name None = refl
 text_fits name (Some bytes) = refl
 
-pub optional_id_kind : IsKind ids_or_none (GoodOrNone (λ a. is_id a ≡ true)) Any
+pub optional_id_kind : IsKind ids_or_none (ValidOrNone (λ a. is_id a ≡ true)) Any
 unfolding id_or_null
 optional_id_kind = or_null_kind text_or_null ids (λ a. is_id a ≡ true) id_kind text_fits (λ a. refl)
 
@@ -242,14 +242,14 @@ number_fits : (name : List ℕ) (o : Option ℕ) → fits_columns (integer_or_nu
 number_fits name None = refl
 number_fits name (Some n) = refl
 
-pub optional_sublot_kind : IsKind sublot_numbers_or_none (GoodOrNone (λ n. nat_le n greatest_sublot ≡ true)) Any
+pub optional_sublot_kind : IsKind sublot_numbers_or_none (ValidOrNone (λ n. nat_le n greatest_sublot ≡ true)) Any
 unfolding sublot_or_null
 optional_sublot_kind = or_null_kind integer_or_null (numbers 0 greatest_sublot) (λ n. nat_le n greatest_sublot ≡ true) (below_kind greatest_sublot) number_fits (λ a. refl)
 
-pub optional_moment_kind : IsKind moments_or_none (GoodOrNone (λ n. is_moment n ≡ true)) Any
+pub optional_moment_kind : IsKind moments_or_none (ValidOrNone (λ n. is_moment n ≡ true)) Any
 unfolding moment_or_null
 optional_moment_kind = or_null_kind integer_or_null (numbers 0 greatest_moment) (λ n. is_moment n ≡ true) (below_kind greatest_moment) number_fits (λ a. refl)
 
-pub optional_text_kind : IsKind texts_or_none (GoodOrNone (λ a. is_text a ≡ true)) Any
+pub optional_text_kind : IsKind texts_or_none (ValidOrNone (λ a. is_text a ≡ true)) Any
 unfolding readable_or_null
 optional_text_kind = or_null_kind text_or_null texts (λ a. is_text a ≡ true) text_like text_fits (λ a. refl)

@@ -1,10 +1,10 @@
-pub mod Options
+pub mod OptionalValues
 pub mod KindLaws
 pub mod ColumnLaws
-pub mod NameLemmas
+pub mod WordsAndNumbers
 pub mod LineLaws
-pub mod KindLemmas
-pub mod StatedLemmas
+pub mod MovementColumns
+pub mod RecallColumns
 pub mod TableLaws
 pub mod RowLaws
-pub mod ListLemmas
+pub mod DecodedLists

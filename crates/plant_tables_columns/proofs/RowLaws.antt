@@ -21,20 +21,20 @@ use Rattle.plant_tables_columns.specs.Reading.{is_in, greatest_number}
 use Rattle.plant_tables_columns.specs.Columns.{Columns, read_row}
 use Rattle.plant_tables_columns.specs.TableColumns.{meta_columns, class_columns, definition_columns, recipe_columns, master_line_columns, control_line_columns, job_columns, batch_columns, batch_event_columns, lot_columns, sublot_columns, booked_columns, hold_columns, edge_columns, receipt_columns, stated_columns, mark_columns, row_of_meta, row_of_class, row_of_definition, row_of_recipe, row_of_master_line, row_of_job, row_of_batch, row_of_control_line, row_of_event, row_of_lot, row_of_sublot, row_of_booked, row_of_movement, row_of_hold, row_of_edge, row_of_receipt, row_of_stated, row_of_recall, row_of_mark, meta_from, class_from, definition_from, recipe_from, master_line_from, control_line_from, job_from, batch_from, batch_event_from, lot_from, sublot_from, booked_from, hold_from, edge_from, receipt_from, stated_from, mark_from}
 use Rattle.plant_tables_columns.specs.Booked.{booked_of}
-use Rattle.plant_tables_columns.specs.Stated.{stated_of}
-use Rattle.plant_tables_columns.specs.Obeying.{HasMetaValues, HasRecipeValues, HasMasterLineValues, HasControlLineValues, HasJobValues, HasBatchRowValues, HasEventRowValues, HasSublotValues, HasKindRowValues, HasMovementRowValues, HasEdgeValues, HasReceiptRowValues, HasMarkValues}
+use Rattle.plant_tables_columns.specs.StatedRecalls.{stated_of}
+use Rattle.plant_tables_columns.specs.ValidValues.{HasMetaValues, HasRecipeValues, HasMasterLineValues, HasControlLineValues, HasJobValues, HasBatchRowValues, HasEventRowValues, HasSublotValues, HasKindRowValues, HasMovementRowValues, HasEdgeValues, HasReceiptRowValues, HasMarkValues}
 use Rattle.plant_tables_columns.proofs.KindLaws.{Any, IsNumbered, id_kind, text_like, unit_kind, content_kind, number_kind, below_kind, one_kind}
 use Rattle.plant_tables_columns.proofs.ColumnLaws.{AreLawful, one_lawful, ◌⊕◌, made_lawful, in_words, row_back, row_again, row_keeps}
 use Rattle.plant_tables_columns.proofs.TableLaws.{recipe_state_kind, job_state_kind, edge_kind_kind, mark_kind_kind, header_lawful, HasMasterColumns, master_line_lawful, HasControlColumns, control_line_lawful, order_lawful, batch_lawful, event_lawful, HasBookedColumns, booked_lawful, HasStatedColumns, stated_lawful}
 
 -- How rows are read and stored: what was read has the columns of the row, but where it isn't whole; a good one that is
 -- whole is read of its own columns; and each that was read is good.
-pub record Reads {A : Type 0} (row_from : Row → Option A) (stored : A → Row) (good whole : A → Type 0) : Type 0 where
+pub record Reads {A : Type 0} (row_from : Row → Option A) (stored : A → Row) (valid whole : A → Type 0) : Type 0 where
   pub back : (row : Row) (a : A) → row_from row ≡ Some a → whole a → row ≡ stored a
-  pub again : (a : A) → good a → whole a → row_from (stored a) ≡ Some a
-  pub keeps : (row : Row) (a : A) → row_from row ≡ Some a → good a
+  pub again : (a : A) → valid a → whole a → row_from (stored a) ≡ Some a
+  pub keeps : (row : Row) (a : A) → row_from row ≡ Some a → valid a
 
-reads : {A : Type 0} (c : Columns A) {good whole : A → Type 0} → AreLawful c good whole → Reads (read_row c) c.stored good whole
+reads : {A : Type 0} (c : Columns A) {valid whole : A → Type 0} → AreLawful c valid whole → Reads (read_row c) c.stored valid whole
 reads c laws = record { back = row_back laws; again = row_again laws; keeps = row_keeps laws }
 
 pub meta_reads : Reads meta_from row_of_meta HasMetaValues Any
@@ -135,22 +135,22 @@ pub number_low : (n : ℕ) → is_in 1 65535 n ≡ true → 1 ≤ n
 number_low n h = leb-true 1 n (and_parts (nat_le 1 n) (nat_le n 65535) h).0
 
 pub master_line_again : (l : MasterLine) → HasMasterLineValues l → master_line_from (row_of_master_line l) ≡ Some l
-master_line_again l good = master_line_reads.again l (record { recipe = good.recipe; version = good.version; number = number_high l.number good.number; line = good.line }) (number_low l.number good.number)
+master_line_again l valid = master_line_reads.again l (record { recipe = valid.recipe; version = valid.version; number = number_high l.number valid.number; line = valid.line }) (number_low l.number valid.number)
 
 pub control_line_again : (l : ControlLine) → HasControlLineValues l → control_line_from (row_of_control_line l) ≡ Some l
-control_line_again l good = control_line_reads.again l (record { batch = good.batch; number = number_high l.number good.number; line = good.line }) (number_low l.number good.number)
+control_line_again l valid = control_line_reads.again l (record { batch = valid.batch; number = number_high l.number valid.number; line = valid.line }) (number_low l.number valid.number)
 
-booked_good : (m : Movement) (k : MovementKind) → m.kind ≡ k → HasKindRowValues k → HasMovementRowValues m → HasBookedColumns (booked_of (record m { kind = k }))
-booked_good m kind.Received is named good = record { seq = good.seq; line = number_high m.line good.line; lot = good.lot; sub = good.sub; lot2 = tt; sub2 = tt; batch = tt; amount = good.amount; at = good.at; by = good.by; note = good.note }
-booked_good m (kind.Consumed batch) is named good = record { seq = good.seq; line = number_high m.line good.line; lot = good.lot; sub = good.sub; lot2 = tt; sub2 = tt; batch = named; amount = good.amount; at = good.at; by = good.by; note = good.note }
-booked_good m (kind.Produced batch) is named good = record { seq = good.seq; line = number_high m.line good.line; lot = good.lot; sub = good.sub; lot2 = tt; sub2 = tt; batch = named; amount = good.amount; at = good.at; by = good.by; note = good.note }
-booked_good m kind.Scrapped is named good = record { seq = good.seq; line = number_high m.line good.line; lot = good.lot; sub = good.sub; lot2 = tt; sub2 = tt; batch = tt; amount = good.amount; at = good.at; by = good.by; note = good.note }
-booked_good m (kind.Divided to) is named good = record { seq = good.seq; line = number_high m.line good.line; lot = good.lot; sub = good.sub; lot2 = good.lot; sub2 = named; batch = tt; amount = good.amount; at = good.at; by = good.by; note = good.note }
-booked_good m (kind.Split to) is named good = record { seq = good.seq; line = number_high m.line good.line; lot = good.lot; sub = good.sub; lot2 = named; sub2 = refl; batch = tt; amount = good.amount; at = good.at; by = good.by; note = good.note }
-booked_good m (kind.Merged to) is named good = record { seq = good.seq; line = number_high m.line good.line; lot = good.lot; sub = good.sub; lot2 = named; sub2 = refl; batch = tt; amount = good.amount; at = good.at; by = good.by; note = good.note }
+booked_valid : (m : Movement) (k : MovementKind) → m.kind ≡ k → HasKindRowValues k → HasMovementRowValues m → HasBookedColumns (booked_of (record m { kind = k }))
+booked_valid m kind.Received is named valid = record { seq = valid.seq; line = number_high m.line valid.line; lot = valid.lot; sub = valid.sub; lot2 = tt; sub2 = tt; batch = tt; amount = valid.amount; at = valid.at; by = valid.by; note = valid.note }
+booked_valid m (kind.Consumed batch) is named valid = record { seq = valid.seq; line = number_high m.line valid.line; lot = valid.lot; sub = valid.sub; lot2 = tt; sub2 = tt; batch = named; amount = valid.amount; at = valid.at; by = valid.by; note = valid.note }
+booked_valid m (kind.Produced batch) is named valid = record { seq = valid.seq; line = number_high m.line valid.line; lot = valid.lot; sub = valid.sub; lot2 = tt; sub2 = tt; batch = named; amount = valid.amount; at = valid.at; by = valid.by; note = valid.note }
+booked_valid m kind.Scrapped is named valid = record { seq = valid.seq; line = number_high m.line valid.line; lot = valid.lot; sub = valid.sub; lot2 = tt; sub2 = tt; batch = tt; amount = valid.amount; at = valid.at; by = valid.by; note = valid.note }
+booked_valid m (kind.Divided to) is named valid = record { seq = valid.seq; line = number_high m.line valid.line; lot = valid.lot; sub = valid.sub; lot2 = valid.lot; sub2 = named; batch = tt; amount = valid.amount; at = valid.at; by = valid.by; note = valid.note }
+booked_valid m (kind.Split to) is named valid = record { seq = valid.seq; line = number_high m.line valid.line; lot = valid.lot; sub = valid.sub; lot2 = named; sub2 = refl; batch = tt; amount = valid.amount; at = valid.at; by = valid.by; note = valid.note }
+booked_valid m (kind.Merged to) is named valid = record { seq = valid.seq; line = number_high m.line valid.line; lot = valid.lot; sub = valid.sub; lot2 = named; sub2 = refl; batch = tt; amount = valid.amount; at = valid.at; by = valid.by; note = valid.note }
 
 pub movement_row_again : (m : Movement) → HasMovementRowValues m → booked_from (row_of_movement m) ≡ Some (booked_of m)
-movement_row_again m good = booked_reads.again (booked_of m) (booked_good m m.kind refl good.kind good) (number_low m.line good.line)
+movement_row_again m valid = booked_reads.again (booked_of m) (booked_valid m m.kind refl valid.kind valid) (number_low m.line valid.line)
 
 -- ---- receipts
 
@@ -165,18 +165,18 @@ content_ascii (b ∷ bs) h =
 
 -- a content that obeys its rule isn't empty
 pub content_there : (r : Receipt) → HasReceiptRowValues r → is_there r.content ≡ true
-content_there r good = (and_parts (is_there r.content) (list_all is_content_byte r.content) good.content).0
+content_there r valid = (and_parts (is_there r.content) (list_all is_content_byte r.content) valid.content).0
 
 pub receipt_again : (r : Receipt) → HasReceiptRowValues r → receipt_from (row_of_receipt r) ≡ Some r
-receipt_again r good =
-    let bytes = (and_parts (is_there r.content) (list_all is_content_byte r.content) good.content).1 in
-    receipt_reads.again r (record { reference = good.reference; seq = good.seq; content = content_ascii r.content bytes }) (content_there r good)
+receipt_again r valid =
+    let bytes = (and_parts (is_there r.content) (list_all is_content_byte r.content) valid.content).1 in
+    receipt_reads.again r (record { reference = valid.reference; seq = valid.seq; content = content_ascii r.content bytes }) (content_there r valid)
 
 -- ---- recalls
 
-stated_good : (r : Recall) (o : Option Lifting) → IfSome o HasLiftingValues → HasRecallValues r → HasStatedColumns (stated_of (record r { lifting = o }))
-stated_good r None told good = record { id = good.id; lot = good.lot; at = good.at; by = good.by; note = good.note; lift_at = tt; lift_by = tt; lift_note = tt }
-stated_good r (Some l) told good = record { id = good.id; lot = good.lot; at = good.at; by = good.by; note = good.note; lift_at = told.at; lift_by = told.by; lift_note = told.note }
+stated_valid : (r : Recall) (o : Option Lifting) → IfSome o HasLiftingValues → HasRecallValues r → HasStatedColumns (stated_of (record r { lifting = o }))
+stated_valid r None reported valid = record { id = valid.id; lot = valid.lot; at = valid.at; by = valid.by; note = valid.note; lift_at = tt; lift_by = tt; lift_note = tt }
+stated_valid r (Some l) reported valid = record { id = valid.id; lot = valid.lot; at = valid.at; by = valid.by; note = valid.note; lift_at = reported.at; lift_by = reported.by; lift_note = reported.note }
 
 pub recall_row_again : (r : Recall) → HasRecallValues r → stated_from (row_of_recall r) ≡ Some (stated_of r)
-recall_row_again r good = stated_reads.again (stated_of r) (stated_good r r.lifting good.lifting good) tt
+recall_row_again r valid = stated_reads.again (stated_of r) (stated_valid r r.lifting valid.lifting valid) tt

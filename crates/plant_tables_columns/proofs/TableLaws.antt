@@ -6,7 +6,7 @@ use Rattle.sqlite.specs.declared.types.Value.{Value}
 use Rattle.sqlite.specs.declared.types.Value.TheVariants.{Int, Text}
 use Rattle.sqlite.specs.Order.{Row, column}
 use Rattle.plant_base.specs.Values.{is_id, is_text, is_amount, is_moment, greatest_amount, greatest_moment, greatest_phase, greatest_priority, greatest_seq, greatest_sublot, greatest_version}
-use Rattle.plant_base.specs.Formed.{is_version, is_priority, HasHeaderValues, HasLineValues}
+use Rattle.plant_base.specs.WellFormedCommands.{is_version, is_priority, HasHeaderValues, HasLineValues}
 use Rattle.plant_base.specs.Words.{recipe_state_name, job_state_name, batch_state_name}
 use Rattle.plant_base.specs.declared.rows.Header.{Header}
 use Rattle.plant_base.specs.declared.rows.MasterLine.{MasterLine}
@@ -16,19 +16,19 @@ use Rattle.plant_base.specs.Edges.{edge_kind_number}
 use Rattle.plant_base.specs.Recalls.{mark_kind_number}
 use Rattle.plant_base.specs.RowValues.{HasPhaseNumber}
 use Rattle.plant_recipe.specs.Progress.{greatest_attempt}
-use Rattle.plant_view.specs.Production.{HasBatchValues, HasGoodOrder}
-use Rattle.plant_tables_columns.specs.Kinds.{number, recipe_states, job_states, batch_states, recall_states, movement_sorts, edge_kinds, mark_kinds}
+use Rattle.plant_view.specs.Production.{HasBatchValues, HasValidOrder}
+use Rattle.plant_tables_columns.specs.Kinds.{number, recipe_states, job_states, batch_states, recall_states, movement_kind_codes, edge_kinds, mark_kinds}
 use Rattle.plant_tables_columns.specs.Reading.{text_in, integer_in}
-use Rattle.plant_tables_columns.specs.Naming.{all_recipe_states, all_job_states, all_batch_states, all_recall_states, all_movement_sorts, all_edge_kinds, all_mark_kinds, event_phase, recipe_state_from, job_state_from, batch_state_from, recall_state_name, recall_state_from, event_named, event_from, movement_sort_number, movement_sort_from, edge_kind_from, mark_kind_from}
+use Rattle.plant_tables_columns.specs.Naming.{all_recipe_states, all_job_states, all_batch_states, all_recall_states, all_movement_kind_codes, all_edge_kinds, all_mark_kinds, event_phase, recipe_state_from, job_state_from, batch_state_from, recall_state_name, recall_state_from, event_named, event_from, movement_kind_number, movement_kind_from, edge_kind_from, mark_kind_from}
 use Rattle.plant_tables_columns.specs.TableColumns.{event_columns, header_columns, master_line_columns, control_line_columns, order_columns, released_columns, batch_columns, booked_columns, stated_columns}
-use Rattle.plant_tables_columns.specs.Obeying.{HasBatchRowValues}
+use Rattle.plant_tables_columns.specs.ValidValues.{HasBatchRowValues}
 use Rattle.plant_tables_columns.specs.declared.booked.BookedRow.{BookedRow}
 use Rattle.plant_tables_columns.specs.declared.recalls.StatedRecall.{StatedRecall}
-use Rattle.plant_tables_columns.proofs.Options.{bound}
-use Rattle.plant_tables_columns.proofs.KindLaws.{IsKind, Any, GoodOrNone, text_is, integer_is, id_kind, text_like, due_kind, number_kind, below_kind, line_number_kind, IsNumbered, flag_kind, optional_id_kind, optional_sublot_kind, optional_moment_kind, optional_text_kind}
-use Rattle.plant_tables_columns.proofs.NameLemmas.{named_kind, numbered_kind, recipe_state_own, job_state_own, batch_state_own, recall_state_own, event_back, event_own, movement_sort_own, edge_kind_own, mark_kind_own}
+use Rattle.plant_tables_columns.proofs.OptionalValues.{bound}
+use Rattle.plant_tables_columns.proofs.KindLaws.{IsKind, Any, ValidOrNone, text_is, integer_is, id_kind, text_like, due_kind, number_kind, below_kind, line_number_kind, IsNumbered, flag_kind, optional_id_kind, optional_sublot_kind, optional_moment_kind, optional_text_kind}
+use Rattle.plant_tables_columns.proofs.WordsAndNumbers.{named_kind, numbered_kind, recipe_state_own, job_state_own, batch_state_own, recall_state_own, event_back, event_own, movement_kind_own, edge_kind_own, mark_kind_own}
 use Rattle.plant_tables_columns.proofs.LineLaws.{line_lawful}
-use Rattle.plant_tables_columns.proofs.ColumnLaws.{AreLawful, StandFrom, one_lawful, ◌⊕◌, made_lawful, in_words}
+use Rattle.plant_tables_columns.proofs.ColumnLaws.{AreLawful, StoredFrom, one_lawful, ◌⊕◌, made_lawful, in_words}
 
 -- ---- words
 
@@ -48,9 +48,9 @@ recall_state_kind : IsKind recall_states Any Any
 unfolding recall_state_from
 recall_state_kind = named_kind recall_state_name all_recall_states recall_state_own
 
-movement_sort_kind : IsKind movement_sorts Any Any
-unfolding movement_sort_from
-movement_sort_kind = numbered_kind movement_sort_number all_movement_sorts movement_sort_own
+movement_sort_kind : IsKind movement_kind_codes Any Any
+unfolding movement_kind_from
+movement_sort_kind = numbered_kind movement_kind_number all_movement_kind_codes movement_kind_own
 
 pub edge_kind_kind : IsKind edge_kinds Any Any
 unfolding edge_kind_from
@@ -74,7 +74,7 @@ event_parts v w e h =
     let p2 = bound (integer_in w) (λ number. event_named p1.0 number) e p1.2 in
     record { name = p1.0; phase = p2.0; is_word = text_is v p1.0 p1.1; is_phase = integer_is w p2.0 p2.1; says = p2.2 }
 
-event_back_whole : (row : Row) (at : ℕ) (e : Event) → event_columns.read row at ≡ Some e → StandFrom row at (event_columns.stored e)
+event_back_whole : (row : Row) (at : ℕ) (e : Event) → event_columns.read row at ≡ Some e → StoredFrom row at (event_columns.stored e)
 event_back_whole row at e h =
     let p = event_parts (column row at) (column row (at + 1)) e h in
     let is = event_back p.name p.phase e p.says in
@@ -132,8 +132,8 @@ control_line_lawful = in_words HasControlColumns (λ l. IsNumbered l.number) (λ
 
 -- ---- orders and batches
 
-pub order_lawful : AreLawful order_columns HasGoodOrder Any
-order_lawful = in_words HasGoodOrder Any
+pub order_lawful : AreLawful order_columns HasValidOrder Any
+order_lawful = in_words HasValidOrder Any
     (λ o g. (record { order = g.0; recipe = g.1.0; size = g.1.1.1.0; due = g.1.1.1.1.0 }, and_from (is_version o.version) (is_priority o.priority) g.1.1.0 g.1.1.1.1.1))
     (λ o h. let numbers = and_parts (is_version o.version) (is_priority o.priority) h.1 in (h.0.order, (h.0.recipe, (numbers.0, (h.0.size, (h.0.due, numbers.1))))))
     (λ o _. (tt, (tt, (tt, (tt, (tt, tt))))))
@@ -157,9 +157,9 @@ pub record HasBookedColumns (r : BookedRow) : Type 0 where
   pub line : r.line ≤ 65535
   pub lot : is_id r.lot ≡ true
   pub sub : nat_le r.sub greatest_sublot ≡ true
-  pub lot2 : GoodOrNone (λ id. is_id id ≡ true) r.lot2
-  pub sub2 : GoodOrNone (λ n. nat_le n greatest_sublot ≡ true) r.sub2
-  pub batch : GoodOrNone (λ id. is_id id ≡ true) r.batch
+  pub lot2 : ValidOrNone (λ id. is_id id ≡ true) r.lot2
+  pub sub2 : ValidOrNone (λ n. nat_le n greatest_sublot ≡ true) r.sub2
+  pub batch : ValidOrNone (λ id. is_id id ≡ true) r.batch
   pub amount : is_amount r.amount ≡ true
   pub at : is_moment r.at ≡ true
   pub by : is_text r.by ≡ true
@@ -193,9 +193,9 @@ pub record HasStatedColumns (r : StatedRecall) : Type 0 where
   pub at : is_moment r.at ≡ true
   pub by : is_text r.by ≡ true
   pub note : is_text r.note ≡ true
-  pub lift_at : GoodOrNone (λ n. is_moment n ≡ true) r.lift_at
-  pub lift_by : GoodOrNone (λ t. is_text t ≡ true) r.lift_by
-  pub lift_note : GoodOrNone (λ t. is_text t ≡ true) r.lift_note
+  pub lift_at : ValidOrNone (λ n. is_moment n ≡ true) r.lift_at
+  pub lift_by : ValidOrNone (λ t. is_text t ≡ true) r.lift_by
+  pub lift_note : ValidOrNone (λ t. is_text t ≡ true) r.lift_note
 
 pub stated_lawful : AreLawful stated_columns HasStatedColumns Any
 stated_lawful = in_words HasStatedColumns Any

@@ -4,8 +4,8 @@ use Rattle.plant_base.specs.State.{same}
 use Rattle.plant_base.specs.declared.rows.MovementKind.{MovementKind}
 use Rattle.plant_base.specs.declared.rows.MovementKind.TheVariants as kind
 use Rattle.plant_base.specs.declared.rows.Movement.{Movement}
-use Rattle.plant_tables_columns.specs.declared.booked.MovementSort.{MovementSort}
-use Rattle.plant_tables_columns.specs.declared.booked.MovementSort.TheVariants as sort
+use Rattle.plant_tables_columns.specs.declared.booked.MovementKindCode.{MovementKindCode}
+use Rattle.plant_tables_columns.specs.declared.booked.MovementKindCode.TheVariants as kind_code
 use Rattle.plant_tables_columns.specs.declared.booked.BookedRow.{BookedRow}
 use Rattle.plant_view.specs.Genealogy.{batch_by}
 
@@ -33,17 +33,17 @@ abbrev pub sublot_named : BookedRow → Option ℕ
 sublot_named r = if is_lot r.lot r.lot2 && is_none r.batch then r.sub2 else None
 
 -- what a movement of this sort does, where the row names just what the sort asks for
-abbrev pub kind_of_sort : MovementSort → BookedRow → Option MovementKind
-kind_of_sort sort.Received r = if names_nothing r then Some kind.Received else None
-kind_of_sort sort.Consumed r = option_map kind.Consumed (batch_named r)
-kind_of_sort sort.Produced r = option_map kind.Produced (batch_named r)
-kind_of_sort sort.Scrapped r = if names_nothing r then Some kind.Scrapped else None
-kind_of_sort sort.Divided r = option_map kind.Divided (sublot_named r)
-kind_of_sort sort.Split r = option_map kind.Split (lot_named r)
-kind_of_sort sort.Merged r = option_map kind.Merged (lot_named r)
+abbrev pub kind_of_code : MovementKindCode → BookedRow → Option MovementKind
+kind_of_code kind_code.Received r = if names_nothing r then Some kind.Received else None
+kind_of_code kind_code.Consumed r = option_map kind.Consumed (batch_named r)
+kind_of_code kind_code.Produced r = option_map kind.Produced (batch_named r)
+kind_of_code kind_code.Scrapped r = if names_nothing r then Some kind.Scrapped else None
+kind_of_code kind_code.Divided r = option_map kind.Divided (sublot_named r)
+kind_of_code kind_code.Split r = option_map kind.Split (lot_named r)
+kind_of_code kind_code.Merged r = option_map kind.Merged (lot_named r)
 
 abbrev pub kind_from : BookedRow → Option MovementKind
-kind_from r = kind_of_sort r.sort r
+kind_from r = kind_of_code r.kind_code r
 
 -- the row's movement, of this kind
 abbrev pub moved_as : BookedRow → MovementKind → Movement
@@ -65,14 +65,14 @@ movement_from r = option_map (moved_as r) (kind_from r)
 
 -- ---- the row that books a movement
 
-abbrev pub sort_of : MovementKind → MovementSort
-sort_of kind.Received = sort.Received
-sort_of (kind.Consumed batch) = sort.Consumed
-sort_of (kind.Produced batch) = sort.Produced
-sort_of kind.Scrapped = sort.Scrapped
-sort_of (kind.Divided to) = sort.Divided
-sort_of (kind.Split to) = sort.Split
-sort_of (kind.Merged to) = sort.Merged
+abbrev pub code_of : MovementKind → MovementKindCode
+code_of kind.Received = kind_code.Received
+code_of (kind.Consumed batch) = kind_code.Consumed
+code_of (kind.Produced batch) = kind_code.Produced
+code_of kind.Scrapped = kind_code.Scrapped
+code_of (kind.Divided to) = kind_code.Divided
+code_of (kind.Split to) = kind_code.Split
+code_of (kind.Merged to) = kind_code.Merged
 
 abbrev pub other_lot : MovementKind → List ℕ → Option (List ℕ)
 other_lot kind.Received lot = None
@@ -96,7 +96,7 @@ abbrev pub booked_of : Movement → BookedRow
 booked_of m = record {
   seq = m.seq;
   line = m.line;
-  sort = sort_of m.kind;
+  kind_code = code_of m.kind;
   lot = m.lot;
   sub = m.sub;
   lot2 = other_lot m.kind m.lot;

@@ -11,11 +11,11 @@ use Rattle.plant_base.specs.declared.rows.MarkKind.{MarkKind}
 use Rattle.plant_base.specs.declared.states.RecipeState.{RecipeState}
 use Rattle.plant_base.specs.declared.states.JobState.{JobState}
 use Rattle.plant_base.specs.declared.states.BatchState.{BatchState}
-use Rattle.table_forms.specs.Forms.{integer, text, integer_or_null, text_or_null}
+use Rattle.sql_tables.specs.TableDefs.{integer, text, integer_or_null, text_or_null}
 use Rattle.plant_tables_columns.specs.Reading.{id_from, text_from, unit_from, due_from, content_from, number_from, one_from, line_number_from, flag_from, id_or_null, sublot_or_null, moment_or_null, readable_or_null}
-use Rattle.plant_tables_columns.specs.Naming.{recipe_state_from, job_state_from, batch_state_from, recall_state_name, recall_state_from, movement_sort_number, movement_sort_from, edge_kind_from, mark_kind_from}
+use Rattle.plant_tables_columns.specs.Naming.{recipe_state_from, job_state_from, batch_state_from, recall_state_name, recall_state_from, movement_kind_number, movement_kind_from, edge_kind_from, mark_kind_from}
 use Rattle.plant_tables_columns.specs.Columns.{Kind}
-use Rattle.plant_tables_columns.specs.declared.booked.MovementSort.{MovementSort}
+use Rattle.plant_tables_columns.specs.declared.booked.MovementKindCode.{MovementKindCode}
 use Rattle.plant_tables_columns.specs.declared.recalls.RecallState.{RecallState}
 
 -- ---- values
@@ -96,8 +96,8 @@ batch_states = record { declared = text; stored = λ s. Text (batch_state_name s
 abbrev pub recall_states : Kind RecallState
 recall_states = record { declared = text; stored = λ s. Text (recall_state_name s); read = recall_state_from }
 
-abbrev pub movement_sorts : Kind MovementSort
-movement_sorts = record { declared = integer; stored = λ s. number (movement_sort_number s); read = movement_sort_from }
+abbrev pub movement_kind_codes : Kind MovementKindCode
+movement_kind_codes = record { declared = integer; stored = λ s. number (movement_kind_number s); read = movement_kind_from }
 
 abbrev pub edge_kinds : Kind EdgeKind
 edge_kinds = record { declared = integer; stored = λ k. number (edge_kind_number k); read = edge_kind_from }

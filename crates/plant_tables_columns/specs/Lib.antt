@@ -2,8 +2,8 @@ pub mod Reading
 pub mod Columns
 pub mod Naming
 pub mod Booked
-pub mod Stated
+pub mod StatedRecalls
 pub mod Kinds
 pub mod TableColumns
-pub mod All
-pub mod Obeying
+pub mod DecodedRows
+pub mod ValidValues

@@ -23,10 +23,10 @@ use Rattle.plant_base.specs.declared.states.Word.TheVariants as word
 use Rattle.plant_base.specs.declared.states.Event.{Event}
 use Rattle.plant_base.specs.declared.states.Event.TheVariants as event
 use Rattle.plant_tables_columns.specs.Reading.{text_in, integer_in, by_text, by_number, number_in}
-use Rattle.plant_tables_columns.specs.declared.line.LineSort.{LineSort}
-use Rattle.plant_tables_columns.specs.declared.line.LineSort.TheVariants as line_sort
-use Rattle.plant_tables_columns.specs.declared.booked.MovementSort.{MovementSort}
-use Rattle.plant_tables_columns.specs.declared.booked.MovementSort.TheVariants as movement_sort
+use Rattle.plant_tables_columns.specs.declared.line.LineKindCode.{LineKindCode}
+use Rattle.plant_tables_columns.specs.declared.line.LineKindCode.TheVariants as line_kind_code
+use Rattle.plant_tables_columns.specs.declared.booked.MovementKindCode.{MovementKindCode}
+use Rattle.plant_tables_columns.specs.declared.booked.MovementKindCode.TheVariants as movement_kind_code
 use Rattle.plant_tables_columns.specs.declared.recalls.RecallState.{RecallState}
 use Rattle.plant_tables_columns.specs.declared.recalls.RecallState.TheVariants as recall_state
 
@@ -110,35 +110,35 @@ event_from word phase = do
 
 -- ---- kinds
 
-abbrev pub line_sort_number : LineSort → ℕ
-line_sort_number line_sort.In = 1
-line_sort_number line_sort.Out = 2
-line_sort_number line_sort.Parameter = 3
-line_sort_number line_sort.Phase = 4
+abbrev pub line_kind_number : LineKindCode → ℕ
+line_kind_number line_kind_code.In = 1
+line_kind_number line_kind_code.Out = 2
+line_kind_number line_kind_code.Parameter = 3
+line_kind_number line_kind_code.Phase = 4
 
-abbrev pub all_line_sorts : List LineSort
-all_line_sorts = line_sort.In ∷ line_sort.Out ∷ line_sort.Parameter ∷ line_sort.Phase ∷ []
+abbrev pub all_line_kind_codes : List LineKindCode
+all_line_kind_codes = line_kind_code.In ∷ line_kind_code.Out ∷ line_kind_code.Parameter ∷ line_kind_code.Phase ∷ []
 
 -- the kind of line of the number
-unfoldable pub line_sort_from : Value → Option LineSort
-line_sort_from = by_number (numbered line_sort_number all_line_sorts)
+unfoldable pub line_kind_from : Value → Option LineKindCode
+line_kind_from = by_number (numbered line_kind_number all_line_kind_codes)
 
-abbrev pub movement_sort_number : MovementSort → ℕ
-movement_sort_number movement_sort.Received = 1
-movement_sort_number movement_sort.Consumed = 2
-movement_sort_number movement_sort.Produced = 3
-movement_sort_number movement_sort.Scrapped = 4
-movement_sort_number movement_sort.Divided = 5
-movement_sort_number movement_sort.Split = 6
-movement_sort_number movement_sort.Merged = 7
+abbrev pub movement_kind_number : MovementKindCode → ℕ
+movement_kind_number movement_kind_code.Received = 1
+movement_kind_number movement_kind_code.Consumed = 2
+movement_kind_number movement_kind_code.Produced = 3
+movement_kind_number movement_kind_code.Scrapped = 4
+movement_kind_number movement_kind_code.Divided = 5
+movement_kind_number movement_kind_code.Split = 6
+movement_kind_number movement_kind_code.Merged = 7
 
-abbrev pub all_movement_sorts : List MovementSort
-all_movement_sorts =
-    movement_sort.Received ∷ movement_sort.Consumed ∷ movement_sort.Produced ∷ movement_sort.Scrapped ∷ movement_sort.Divided ∷ movement_sort.Split ∷ movement_sort.Merged ∷ []
+abbrev pub all_movement_kind_codes : List MovementKindCode
+all_movement_kind_codes =
+    movement_kind_code.Received ∷ movement_kind_code.Consumed ∷ movement_kind_code.Produced ∷ movement_kind_code.Scrapped ∷ movement_kind_code.Divided ∷ movement_kind_code.Split ∷ movement_kind_code.Merged ∷ []
 
 -- the kind of movement of the number
-unfoldable pub movement_sort_from : Value → Option MovementSort
-movement_sort_from = by_number (numbered movement_sort_number all_movement_sorts)
+unfoldable pub movement_kind_from : Value → Option MovementKindCode
+movement_kind_from = by_number (numbered movement_kind_number all_movement_kind_codes)
 
 abbrev pub all_edge_kinds : List EdgeKind
 all_edge_kinds = edge_kind.LotToBatch ∷ edge_kind.BatchToLot ∷ edge_kind.LotToLot ∷ []

@@ -30,18 +30,18 @@ use Rattle.plant_base.specs.declared.rows.Movement.{Movement}
 use Rattle.plant_base.specs.declared.rows.Receipt.{Receipt}
 use Rattle.plant_base.specs.declared.rows.Recall.{Recall}
 use Rattle.plant_base.specs.declared.rows.Mark.{Mark}
-use Rattle.table_forms.specs.Forms.{integer, text, text_or_null}
+use Rattle.sql_tables.specs.TableDefs.{integer, text, text_or_null}
 use Rattle.plant_tables_columns.specs.Reading.{id_from, text_from, amount_from, greatest_number, is_null, is_empty, is_zero}
 use Rattle.plant_tables_columns.specs.Columns.{Columns, one, ◌⊗◌, made, read_row}
-use Rattle.plant_tables_columns.specs.Kinds.{number, ids, texts, units, dues, contents, numbers, amounts, stocks, moments, seqs, sublot_numbers, line_numbers, always_one, flags, recipe_states, job_states, batch_states, recall_states, movement_sorts, edge_kinds, mark_kinds, ids_or_none, sublot_numbers_or_none, moments_or_none, texts_or_none}
-use Rattle.plant_tables_columns.specs.Naming.{event_name, event_phase, event_from, line_sort_from}
-use Rattle.plant_tables_columns.specs.declared.line.LineSort.{LineSort}
-use Rattle.plant_tables_columns.specs.declared.line.LineSort.TheVariants as line_sort
+use Rattle.plant_tables_columns.specs.Kinds.{number, ids, texts, units, dues, contents, numbers, amounts, stocks, moments, seqs, sublot_numbers, line_numbers, always_one, flags, recipe_states, job_states, batch_states, recall_states, movement_kind_codes, edge_kinds, mark_kinds, ids_or_none, sublot_numbers_or_none, moments_or_none, texts_or_none}
+use Rattle.plant_tables_columns.specs.Naming.{event_name, event_phase, event_from, line_kind_from}
+use Rattle.plant_tables_columns.specs.declared.line.LineKindCode.{LineKindCode}
+use Rattle.plant_tables_columns.specs.declared.line.LineKindCode.TheVariants as line_kind_code
 use Rattle.plant_tables_columns.specs.declared.line.Material.{Material}
 use Rattle.plant_tables_columns.specs.declared.booked.BookedRow.{BookedRow}
 use Rattle.plant_tables_columns.specs.declared.recalls.StatedRecall.{StatedRecall}
 use Rattle.plant_tables_columns.specs.Booked.{movement_from, booked_of}
-use Rattle.plant_tables_columns.specs.Stated.{recall_from, stated_of}
+use Rattle.plant_tables_columns.specs.StatedRecalls.{recall_from, stated_of}
 
 -- ---- meta
 
@@ -129,17 +129,17 @@ phase_from def qty t1 t2 t3 = if has_no_material def qty then (do
   Some (line.Phase unit_procedure operation phase)) else None
 
 -- a line of this kind, from its columns
-abbrev pub line_of_sort : LineSort → Value → Value → Value → Value → Value → Option RecipeLine
-line_of_sort line_sort.In def qty t1 t2 t3 = option_map (λ m. line.In m.def m.amount) (material_from def qty t1 t2 t3)
-line_of_sort line_sort.Out def qty t1 t2 t3 = option_map (λ m. line.Out m.def m.amount) (material_from def qty t1 t2 t3)
-line_of_sort line_sort.Parameter def qty t1 t2 t3 = parameter_from def qty t1 t2 t3
-line_of_sort line_sort.Phase def qty t1 t2 t3 = phase_from def qty t1 t2 t3
+abbrev pub line_of_code : LineKindCode → Value → Value → Value → Value → Value → Option RecipeLine
+line_of_code line_kind_code.In def qty t1 t2 t3 = option_map (λ m. line.In m.def m.amount) (material_from def qty t1 t2 t3)
+line_of_code line_kind_code.Out def qty t1 t2 t3 = option_map (λ m. line.Out m.def m.amount) (material_from def qty t1 t2 t3)
+line_of_code line_kind_code.Parameter def qty t1 t2 t3 = parameter_from def qty t1 t2 t3
+line_of_code line_kind_code.Phase def qty t1 t2 t3 = phase_from def qty t1 t2 t3
 
 -- the line that has these columns: kind, def, qty, t1, t2, t3
 unfoldable pub line_from : Value → Value → Value → Value → Value → Value → Option RecipeLine
 line_from kind def qty t1 t2 t3 = do
-  sort ← line_sort_from kind
-  line_of_sort sort def qty t1 t2 t3
+  kind_code ← line_kind_from kind
+  line_of_code kind_code def qty t1 t2 t3
 
 -- kind, def, qty, t1, t2 and t3 of a line
 abbrev pub columns_of_line : RecipeLine → Row
@@ -256,10 +256,10 @@ sublot_from = read_row sublot_columns
 
 -- the columns of a movement, whatever its kind asks of them
 abbrev pub booked_columns : Columns BookedRow
-booked_columns = made (λ (seq, (line, (sort, (lot, (sub, (lot2, (sub2, (batch, (amount, (at, (by, note))))))))))). record {
+booked_columns = made (λ (seq, (line, (kind_code, (lot, (sub, (lot2, (sub2, (batch, (amount, (at, (by, note))))))))))). record {
   seq = seq;
   line = line;
-  sort = sort;
+  kind_code = kind_code;
   lot = lot;
   sub = sub;
   lot2 = lot2;
@@ -270,8 +270,8 @@ booked_columns = made (λ (seq, (line, (sort, (lot, (sub, (lot2, (sub2, (batch, 
   by = by;
   note = note;
 })
-    (λ r. (r.seq, (r.line, (r.sort, (r.lot, (r.sub, (r.lot2, (r.sub2, (r.batch, (r.amount, (r.at, (r.by, r.note))))))))))))
-    (one (codes "seq") seqs ⊗ one (codes "line") line_numbers ⊗ one (codes "kind") movement_sorts ⊗ one (codes "lot") ids ⊗ one (codes "sub") sublot_numbers ⊗ one (codes "lot2") ids_or_none ⊗ one (codes "sub2") sublot_numbers_or_none ⊗ one (codes "batch") ids_or_none ⊗ one (codes "amount") amounts ⊗ one (codes "at") moments ⊗ one (codes "by_who") texts ⊗ one (codes "note") texts)
+    (λ r. (r.seq, (r.line, (r.kind_code, (r.lot, (r.sub, (r.lot2, (r.sub2, (r.batch, (r.amount, (r.at, (r.by, r.note))))))))))))
+    (one (codes "seq") seqs ⊗ one (codes "line") line_numbers ⊗ one (codes "kind") movement_kind_codes ⊗ one (codes "lot") ids ⊗ one (codes "sub") sublot_numbers ⊗ one (codes "lot2") ids_or_none ⊗ one (codes "sub2") sublot_numbers_or_none ⊗ one (codes "batch") ids_or_none ⊗ one (codes "amount") amounts ⊗ one (codes "at") moments ⊗ one (codes "by_who") texts ⊗ one (codes "note") texts)
 
 abbrev pub row_of_booked : BookedRow → Row
 row_of_booked = booked_columns.stored

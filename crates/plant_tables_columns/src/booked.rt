@@ -2,8 +2,8 @@
 
 ghost use Rattle.std.specs.Prelude.{◌≡◌, pos};
 ghost use Rattle.sqlite.specs.Order.{column};
-ghost use Rattle.plant_tables_columns.specs.Naming.{numbered, movement_sort_number, all_movement_sorts};
-ghost use Rattle.plant_tables_columns.specs.Naming.{movement_sort_from};
+ghost use Rattle.plant_tables_columns.specs.Naming.{numbered, movement_kind_number, all_movement_kind_codes};
+ghost use Rattle.plant_tables_columns.specs.Naming.{movement_kind_from};
 ghost use Rattle.plant_tables_columns.specs.Booked.{names_nothing, batch_named, lot_named, sublot_named};
 ghost use Rattle.plant_tables_columns.specs.Booked.{kind_from, movement_from};
 
@@ -13,7 +13,7 @@ use sqlite::Row;
 
 /// What a movement does.
 #[derive(Clone, Copy, Debug, PartialEq, Eq)]
-pub enum MovementSort {
+pub enum MovementKindCode {
     /// The amount comes to the lot from outside.
     Received,
     /// A batch takes the amount from the lot.
@@ -30,47 +30,47 @@ pub enum MovementSort {
     Merged,
 }
 
-impl MovementSort {
+impl MovementKindCode {
     /// The number that stands for it in the table, 1 to 7.
     pub fn number(self) -> i64
-        ensures { result ≡ pos (movement_sort_number self) }
+        ensures { result ≡ pos (movement_kind_number self) }
     {
         match self {
-            MovementSort::Received => 1,
-            MovementSort::Consumed => 2,
-            MovementSort::Produced => 3,
-            MovementSort::Scrapped => 4,
-            MovementSort::Divided => 5,
-            MovementSort::Split => 6,
-            MovementSort::Merged => 7,
+            MovementKindCode::Received => 1,
+            MovementKindCode::Consumed => 2,
+            MovementKindCode::Produced => 3,
+            MovementKindCode::Scrapped => 4,
+            MovementKindCode::Divided => 5,
+            MovementKindCode::Split => 6,
+            MovementKindCode::Merged => 7,
         }
     }
 }
 
-fn movement_sort_numbered(number: &i64) -> Option<MovementSort>
-    ensures { result ≡ numbered movement_sort_number all_movement_sorts number.now }
+fn movement_kind_numbered(number: &i64) -> Option<MovementKindCode>
+    ensures { result ≡ numbered movement_kind_number all_movement_kind_codes number.now }
 {
     [
-        MovementSort::Received,
-        MovementSort::Consumed,
-        MovementSort::Produced,
-        MovementSort::Scrapped,
-        MovementSort::Divided,
-        MovementSort::Split,
-        MovementSort::Merged,
+        MovementKindCode::Received,
+        MovementKindCode::Consumed,
+        MovementKindCode::Produced,
+        MovementKindCode::Scrapped,
+        MovementKindCode::Divided,
+        MovementKindCode::Split,
+        MovementKindCode::Merged,
     ]
     .iter()
     .copied()
-    .find(|sort| sort.number() == *number)
+    .find(|kind_code| kind_code.number() == *number)
 }
 
 /// The sort of movement of this number.
-#[tactic(auto, unfolding(crate::specs::Naming::movement_sort_from))]
-pub(crate) fn movement_sort(row: &Row, at: usize) -> Option<MovementSort>
-    ensures { result ≡ movement_sort_from (column row.now at) }
+#[tactic(auto, unfolding(crate::specs::Naming::movement_kind_from))]
+pub(crate) fn movement_kind_code(row: &Row, at: usize) -> Option<MovementKindCode>
+    ensures { result ≡ movement_kind_from (column row.now at) }
 {
     let number = integer(row, at)?;
-    movement_sort_numbered(&number)
+    movement_kind_numbered(&number)
 }
 
 /// A row of table movement whose values obey their rules, whatever its kind asks of its columns.
@@ -81,7 +81,7 @@ pub struct BookedRow {
     /// 1 to 65535, or 0 where no line can have the number that is stored.
     pub line: u16,
     /// The kind of the movement.
-    pub sort: MovementSort,
+    pub kind_code: MovementKindCode,
     /// The lot that the amount came to, if received or produced; else the lot that it was taken from.
     pub lot: Id,
     /// 0 to [`GREATEST_SUBLOT`](plant_base::GREATEST_SUBLOT).
@@ -144,38 +144,38 @@ impl BookedRow {
     fn kind(&self) -> Option<MovementKind>
         ensures { result ≡ kind_from self.now }
     {
-        match self.sort {
-            MovementSort::Received => {
+        match self.kind_code {
+            MovementKindCode::Received => {
                 if self.names_nothing() {
                     Some(MovementKind::Received)
                 } else {
                     None
                 }
             }
-            MovementSort::Scrapped => {
+            MovementKindCode::Scrapped => {
                 if self.names_nothing() {
                     Some(MovementKind::Scrapped)
                 } else {
                     None
                 }
             }
-            MovementSort::Consumed => {
+            MovementKindCode::Consumed => {
                 let batch = self.batch_named()?;
                 Some(MovementKind::Consumed { batch })
             }
-            MovementSort::Produced => {
+            MovementKindCode::Produced => {
                 let batch = self.batch_named()?;
                 Some(MovementKind::Produced { batch })
             }
-            MovementSort::Divided => {
+            MovementKindCode::Divided => {
                 let to = self.sublot_named()?;
                 Some(MovementKind::Divided { to })
             }
-            MovementSort::Split => {
+            MovementKindCode::Split => {
                 let to = self.lot_named()?;
                 Some(MovementKind::Split { to })
             }
-            MovementSort::Merged => {
+            MovementKindCode::Merged => {
                 let to = self.lot_named()?;
                 Some(MovementKind::Merged { to })
             }

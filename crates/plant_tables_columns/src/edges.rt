@@ -6,7 +6,7 @@ ghost use Rattle.sqlite.specs.Values.{bound};
 ghost use Rattle.plant_tables_columns.specs.Naming.{edge_kind_from};
 ghost use Rattle.plant_tables_columns.specs.TableColumns.{row_of_edge, edge_from};
 
-use crate::judged::Judged;
+use crate::decoded::Decoded;
 use crate::reading::{columns, id, integer};
 use crate::storing;
 use plant_base::{EdgeKind, EdgeRow};
@@ -39,11 +39,11 @@ pub fn edge_values(row: &EdgeRow) -> [ValueRef<'_>; 3]
     ]
 }
 
-impl Judged for EdgeRow {
+impl Decoded for EdgeRow {
     ghost row_from = { edge_from };
 
     #[tactic(auto, unfolding(crate::specs::TableColumns::edge_from))]
-    fn judge(row: &Row) -> Option<EdgeRow> {
+    fn decode(row: &Row) -> Option<EdgeRow> {
         columns(row, 3)?;
         Some(EdgeRow {
             kind: edge_kind(row, 0)?,

@@ -3,8 +3,8 @@
 #![tactic(auto)]
 
 mod booked;
+mod decoded;
 mod edges;
-mod judged;
 mod line;
 mod marks;
 mod masters;
@@ -17,13 +17,13 @@ mod receipts;
 mod stocks;
 pub mod storing;
 
-pub use booked::{BookedRow, MovementSort};
+pub use booked::{BookedRow, MovementKindCode};
+pub use decoded::{Decoded, decode_all};
 pub use edges::edge_values;
-pub use judged::{Judged, judge_all};
 pub use marks::mark_values;
 pub use masters::{class_values, definition_values, master_line_values, recipe_values};
 pub use meta::meta_values;
 pub use orders::{batch_values, control_line_values, event_values, job_values};
 pub use recalls::{RecallState, StatedRecall, recall_values};
-pub use receipts::{judge_receipts, receipt_values};
+pub use receipts::{decode_receipts, receipt_values};
 pub use stocks::{hold_values, lot_values, movement_values, sublot_values};

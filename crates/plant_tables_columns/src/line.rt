@@ -2,7 +2,7 @@
 
 ghost use Rattle.std.specs.Prelude.{◌≡◌, ◌<◌, ◌+◌, pos};
 ghost use Rattle.sqlite.specs.Order.{column};
-ghost use Rattle.plant_tables_columns.specs.Naming.{line_sort_number, line_sort_from};
+ghost use Rattle.plant_tables_columns.specs.Naming.{line_kind_number, line_kind_from};
 ghost use Rattle.sqlite.specs.Values.{bound};
 ghost use Rattle.plant_tables_columns.specs.TableColumns.{columns_of_line, material_from, has_no_material};
 ghost use Rattle.plant_tables_columns.specs.TableColumns.{parameter_from, phase_from, line_from};
@@ -15,7 +15,7 @@ use sqlite_value::value::ValueRef;
 
 /// What a line of a recipe is.
 #[derive(Clone, Copy, Debug, PartialEq, Eq)]
-pub enum LineSort {
+pub enum LineKindCode {
     /// A process input.
     In,
     /// A process output.
@@ -26,34 +26,34 @@ pub enum LineSort {
     Phase,
 }
 
-impl LineSort {
+impl LineKindCode {
     /// The number that stands for it in a table.
     fn number(self) -> i64
-        ensures { result ≡ pos (line_sort_number self) }
+        ensures { result ≡ pos (line_kind_number self) }
     {
         match self {
-            LineSort::In => 1,
-            LineSort::Out => 2,
-            LineSort::Parameter => 3,
-            LineSort::Phase => 4,
+            LineKindCode::In => 1,
+            LineKindCode::Out => 2,
+            LineKindCode::Parameter => 3,
+            LineKindCode::Phase => 4,
         }
     }
 }
 
-#[tactic(auto, unfolding(crate::specs::Naming::line_sort_from))]
-fn line_sort(row: &Row, at: usize) -> Option<LineSort>
-    ensures { result ≡ line_sort_from (column row.now at) }
+#[tactic(auto, unfolding(crate::specs::Naming::line_kind_from))]
+fn line_kind_code(row: &Row, at: usize) -> Option<LineKindCode>
+    ensures { result ≡ line_kind_from (column row.now at) }
 {
     let number = integer(row, at)?;
     [
-        LineSort::In,
-        LineSort::Out,
-        LineSort::Parameter,
-        LineSort::Phase,
+        LineKindCode::In,
+        LineKindCode::Out,
+        LineKindCode::Parameter,
+        LineKindCode::Phase,
     ]
     .iter()
     .copied()
-    .find(|sort| sort.number() == number)
+    .find(|kind_code| kind_code.number() == number)
 }
 
 /// What an in or out line asks for.
@@ -131,17 +131,17 @@ pub(crate) fn line(row: &Row, kind: usize, def: usize) -> Option<RecipeLine>
     ensures { result ≡ line_from (column row.now kind) (column row.now def) (column row.now (def + 1))
         (column row.now (def + 2)) (column row.now (def + 3)) (column row.now (def + 4)) }
 {
-    match line_sort(row, kind)? {
-        LineSort::In => {
+    match line_kind_code(row, kind)? {
+        LineKindCode::In => {
             let Material { def, amount } = material_named(row, def)?;
             Some(RecipeLine::In { def, amount })
         }
-        LineSort::Out => {
+        LineKindCode::Out => {
             let Material { def, amount } = material_named(row, def)?;
             Some(RecipeLine::Out { def, amount })
         }
-        LineSort::Parameter => parameter(row, def),
-        LineSort::Phase => phase(row, def),
+        LineKindCode::Parameter => parameter(row, def),
+        LineKindCode::Phase => phase(row, def),
     }
 }
 

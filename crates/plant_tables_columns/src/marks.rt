@@ -6,7 +6,7 @@ ghost use Rattle.sqlite.specs.Values.{bound};
 ghost use Rattle.plant_tables_columns.specs.Naming.{mark_kind_from};
 ghost use Rattle.plant_tables_columns.specs.TableColumns.{row_of_mark, mark_from};
 
-use crate::judged::Judged;
+use crate::decoded::Decoded;
 use crate::reading::{columns, id, integer};
 use crate::storing;
 use plant_base::{Mark, MarkKind};
@@ -35,11 +35,11 @@ pub fn mark_values(row: &Mark) -> [ValueRef<'_>; 3]
     ]
 }
 
-impl Judged for Mark {
+impl Decoded for Mark {
     ghost row_from = { mark_from };
 
     #[tactic(auto, unfolding(crate::specs::TableColumns::mark_from))]
-    fn judge(row: &Row) -> Option<Mark> {
+    fn decode(row: &Row) -> Option<Mark> {
         columns(row, 3)?;
         Some(Mark {
             recall: id(row, 0)?,

@@ -6,7 +6,7 @@ ghost use Rattle.plant_tables_columns.specs.TableColumns.{row_of_class, class_fr
 ghost use Rattle.plant_tables_columns.specs.TableColumns.{definition_from, header_columns, row_of_recipe};
 ghost use Rattle.plant_tables_columns.specs.TableColumns.{recipe_from, row_of_master_line, master_line_from};
 
-use crate::judged::Judged;
+use crate::decoded::Decoded;
 use crate::line::{line, line_values};
 use crate::naming::recipe_state;
 use crate::reading::{amount, columns, id, line_number, small, text, unit};
@@ -22,11 +22,11 @@ pub fn class_values(row: &Class) -> [ValueRef<'_>; 2]
     [storing::id(&row.id), storing::text(&row.name)]
 }
 
-impl Judged for Class {
+impl Decoded for Class {
     ghost row_from = { class_from };
 
     #[tactic(auto, unfolding(crate::specs::TableColumns::class_from))]
-    fn judge(row: &Row) -> Option<Class> {
+    fn decode(row: &Row) -> Option<Class> {
         columns(row, 2)?;
         Some(Class {
             id: id(row, 0)?,
@@ -47,11 +47,11 @@ pub fn definition_values(row: &Definition) -> [ValueRef<'_>; 4]
     ]
 }
 
-impl Judged for Definition {
+impl Decoded for Definition {
     ghost row_from = { definition_from };
 
     #[tactic(auto, unfolding(crate::specs::TableColumns::definition_from))]
-    fn judge(row: &Row) -> Option<Definition> {
+    fn decode(row: &Row) -> Option<Definition> {
         columns(row, 4)?;
         Some(Definition {
             id: id(row, 0)?,
@@ -94,11 +94,11 @@ pub fn recipe_values(row: &Recipe) -> [ValueRef<'_>; 8]
     ]
 }
 
-impl Judged for Recipe {
+impl Decoded for Recipe {
     ghost row_from = { recipe_from };
 
     #[tactic(auto, unfolding(crate::specs::TableColumns::recipe_from))]
-    fn judge(row: &Row) -> Option<Recipe> {
+    fn decode(row: &Row) -> Option<Recipe> {
         columns(row, 8)?;
         Some(Recipe {
             header: header(row)?,
@@ -125,11 +125,11 @@ pub fn master_line_values(row: &MasterLine) -> [ValueRef<'_>; 9]
     ]
 }
 
-impl Judged for MasterLine {
+impl Decoded for MasterLine {
     ghost row_from = { master_line_from };
 
     #[tactic(auto, unfolding(crate::specs::TableColumns::master_line_from))]
-    fn judge(row: &Row) -> Option<MasterLine> {
+    fn decode(row: &Row) -> Option<MasterLine> {
         columns(row, 9)?;
         Some(MasterLine {
             recipe: id(row, 0)?,

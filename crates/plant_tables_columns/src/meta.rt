@@ -6,7 +6,7 @@ ghost use Rattle.sqlite_value.specs.Value.{owned};
 ghost use Rattle.plant_tables_columns.specs.Kinds.{number};
 ghost use Rattle.plant_tables_columns.specs.TableColumns.{row_of_meta, meta_from};
 
-use crate::judged::Judged;
+use crate::decoded::Decoded;
 use crate::reading::{columns, moment, number};
 use crate::storing;
 use plant_base::{GREATEST_SEQ, Meta, Position};
@@ -31,11 +31,11 @@ pub fn meta_values(
     ]
 }
 
-impl Judged for Meta {
+impl Decoded for Meta {
     ghost row_from = { meta_from };
 
     #[tactic(auto, unfolding(crate::specs::TableColumns::meta_from))]
-    fn judge(row: &Row) -> Option<Meta> {
+    fn decode(row: &Row) -> Option<Meta> {
         columns(row, 4)?;
         number(row, 0, 1, 1)?;
         let schema = number(row, 1, 1, i64::MAX as u64)?;

@@ -10,7 +10,7 @@ ghost use Rattle.plant_tables_columns.specs.TableColumns.{released_columns, row_
 ghost use Rattle.plant_tables_columns.specs.TableColumns.{row_of_control_line, control_line_from};
 ghost use Rattle.plant_tables_columns.specs.TableColumns.{row_of_event, batch_event_from};
 
-use crate::judged::Judged;
+use crate::decoded::Decoded;
 use crate::line::{line, line_values};
 use crate::naming::{batch_state, event, job_state};
 use crate::reading::{
@@ -55,11 +55,11 @@ pub fn job_values(row: &Job) -> [ValueRef<'_>; 7]
     ]
 }
 
-impl Judged for Job {
+impl Decoded for Job {
     ghost row_from = { job_from };
 
     #[tactic(auto, unfolding(crate::specs::TableColumns::job_from))]
-    fn judge(row: &Row) -> Option<Job> {
+    fn decode(row: &Row) -> Option<Job> {
         columns(row, 7)?;
         Some(Job {
             order: order(row)?,
@@ -99,11 +99,11 @@ pub fn batch_values(row: &BatchRow) -> [ValueRef<'_>; 9]
     ]
 }
 
-impl Judged for BatchRow {
+impl Decoded for BatchRow {
     ghost row_from = { batch_from };
 
     #[tactic(auto, unfolding(crate::specs::TableColumns::batch_from))]
-    fn judge(row: &Row) -> Option<BatchRow> {
+    fn decode(row: &Row) -> Option<BatchRow> {
         columns(row, 9)?;
         Some(BatchRow {
             batch: released_batch(row)?,
@@ -132,11 +132,11 @@ pub fn control_line_values(row: &ControlLine) -> [ValueRef<'_>; 8]
     ]
 }
 
-impl Judged for ControlLine {
+impl Decoded for ControlLine {
     ghost row_from = { control_line_from };
 
     #[tactic(auto, unfolding(crate::specs::TableColumns::control_line_from))]
-    fn judge(row: &Row) -> Option<ControlLine> {
+    fn decode(row: &Row) -> Option<ControlLine> {
         columns(row, 8)?;
         Some(ControlLine {
             batch: id(row, 0)?,
@@ -182,11 +182,11 @@ pub fn event_values<'a>(row: &'a BatchEvent, seq: ValueRef<'a>) -> [ValueRef<'a>
     ]
 }
 
-impl Judged for BatchEvent {
+impl Decoded for BatchEvent {
     ghost row_from = { batch_event_from };
 
     #[tactic(auto, unfolding(crate::specs::TableColumns::batch_event_from))]
-    fn judge(row: &Row) -> Option<BatchEvent> {
+    fn decode(row: &Row) -> Option<BatchEvent> {
         columns(row, 7)?;
         Some(BatchEvent {
             seq: number(row, 0, 0, GREATEST_SEQ)?,

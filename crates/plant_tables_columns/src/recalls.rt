@@ -6,11 +6,11 @@ ghost use Rattle.sqlite.specs.Values.{bound};
 ghost use Rattle.sqlite_value.specs.declared.value.Value.TheVariants.{Text as Bytes};
 ghost use Rattle.plant_tables_columns.specs.Kinds.{number, null_or};
 ghost use Rattle.plant_tables_columns.specs.Naming.{named, recall_state_name, all_recall_states, recall_state_from};
-ghost use Rattle.plant_tables_columns.specs.Stated.{tells_no_lifting, lifting_told, lifting_from, recall_from};
-ghost use Rattle.plant_tables_columns.specs.Stated.{state_by, moment_of_lift, person_of_lift, note_of_lift};
+ghost use Rattle.plant_tables_columns.specs.StatedRecalls.{has_no_lifting, complete_lifting, lifting_from, recall_from};
+ghost use Rattle.plant_tables_columns.specs.StatedRecalls.{state_by, moment_of_lift, person_of_lift, note_of_lift};
 ghost use Rattle.plant_tables_columns.specs.TableColumns.{row_of_recall, stated_from, recall_read};
 
-use crate::judged::Judged;
+use crate::decoded::Decoded;
 use crate::reading::{bytes, columns, id, moment, optional_moment, optional_text, text};
 use crate::storing;
 use plant_base::{Id, Lifting, Moment, Recall, Text};
@@ -80,15 +80,15 @@ pub struct StatedRecall {
 
 impl StatedRecall {
     /// Whether it tells of no lifting.
-    fn tells_no_lifting(&self) -> bool
-        ensures { result ≡ tells_no_lifting self.now }
+    fn has_no_lifting(&self) -> bool
+        ensures { result ≡ has_no_lifting self.now }
     {
         self.lift_at.is_none() && self.lift_by.is_none() && self.lift_note.is_none()
     }
 
     /// The lifting, where it tells all of it.
-    fn lifting_told(&self) -> Option<Lifting>
-        ensures { result ≡ lifting_told self.now }
+    fn complete_lifting(&self) -> Option<Lifting>
+        ensures { result ≡ complete_lifting self.now }
     {
         let at = self.lift_at?;
         let by = self.lift_by?;
@@ -102,22 +102,22 @@ impl StatedRecall {
     {
         match self.state {
             RecallState::Open => {
-                if self.tells_no_lifting() {
+                if self.has_no_lifting() {
                     Some(None)
                 } else {
                     None
                 }
             }
             RecallState::Lifted => {
-                let told = self.lifting_told()?;
-                Some(Some(told))
+                let reported = self.complete_lifting()?;
+                Some(Some(reported))
             }
         }
     }
 
     /// The recall that it tells of. `None` exactly where the columns of its lifting aren't those of its state: an open
     /// recall has none of them, and a lifted one has all.
-    #[tactic(auto, unfolding(crate::specs::Stated::recall_from))]
+    #[tactic(auto, unfolding(crate::specs::StatedRecalls::recall_from))]
     pub fn recall(&self) -> Option<Recall>
         ensures { result ≡ recall_from self.now }
     {
@@ -176,11 +176,11 @@ pub fn recall_values(row: &Recall) -> [ValueRef<'_>; 9]
     ]
 }
 
-impl Judged for StatedRecall {
+impl Decoded for StatedRecall {
     ghost row_from = { stated_from };
 
     #[tactic(auto, unfolding(crate::specs::TableColumns::stated_from))]
-    fn judge(row: &Row) -> Option<StatedRecall> {
+    fn decode(row: &Row) -> Option<StatedRecall> {
         columns(row, 9)?;
         Some(StatedRecall {
             id: id(row, 0)?,
@@ -196,14 +196,14 @@ impl Judged for StatedRecall {
     }
 }
 
-impl Judged for Recall {
+impl Decoded for Recall {
     ghost row_from = { recall_read };
 
     #[tactic(auto, unfolding(crate::specs::TableColumns::recall_read))]
-    fn judge(row: &Row) -> Option<Recall> {
+    fn decode(row: &Row) -> Option<Recall> {
         // The checker can't follow recalls, unless the function names these types.
         let _: Option<(Id, Moment, Text, Lifting)> = None;
-        let stated = StatedRecall::judge(row)?;
+        let stated = StatedRecall::decode(row)?;
         stated.recall()
     }
 }

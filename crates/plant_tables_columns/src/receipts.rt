@@ -8,7 +8,7 @@ ghost use Rattle.std.specs.Str.{IsAscii};
 ghost use Rattle.sqlite.specs.Order.{column};
 ghost use Rattle.sqlite.specs.Values.{bound};
 ghost use Rattle.sqlite_value.specs.Value.{owned};
-ghost use Rattle.plant_tables_columns.specs.All.{all_from};
+ghost use Rattle.plant_tables_columns.specs.DecodedRows.{all_from};
 ghost use Rattle.plant_tables_columns.specs.Kinds.{number};
 ghost use Rattle.plant_tables_columns.specs.Reading.{content_in, content_from};
 ghost use Rattle.plant_tables_columns.specs.TableColumns.{row_of_receipt, receipt_from};
@@ -68,7 +68,7 @@ pub fn receipt_values<'a>(row: &'a Receipt, seq: ValueRef<'a>) -> [ValueRef<'a>;
 /// The receipt that a stored row stands for. `None` where the row has another number of columns, or a value breaks its
 /// rule; an error where there is no memory.
 #[tactic(auto, unfolding(crate::specs::TableColumns::receipt_from))]
-fn judge_receipt(alloc: Global, row: &Row) -> Result<Option<Receipt>, AllocError>
+fn decode_receipt(alloc: Global, row: &Row) -> Result<Option<Receipt>, AllocError>
     ensures { IfOk result (λ receipt. receipt ≡ receipt_from row.now) }
 {
     if row.column_count() != 3 {
@@ -93,13 +93,13 @@ fn judge_receipt(alloc: Global, row: &Row) -> Result<Option<Receipt>, AllocError
 /// The receipts that all stored rows stand for, in their order. `None` where one stands for none: where it has another
 /// number of columns, or its reference or its number breaks its rule. Any text is read as a content: the rule on
 /// receipts tells those that are none. An error where there is no memory.
-pub fn judge_receipts(alloc: Global, stored: &[Row]) -> Result<Option<Vec<Receipt>>, AllocError>
+pub fn decode_receipts(alloc: Global, stored: &[Row]) -> Result<Option<Vec<Receipt>>, AllocError>
     ensures { IfOk result (λ rows. option_map (λ list. list.items) rows
         ≡ all_from receipt_from stored.now) }
 {
     let mut rows = Vec::with_capacity(alloc, stored.len())?;
     for row in stored {
-        let Some(row) = judge_receipt(alloc, row)? else {
+        let Some(row) = decode_receipt(alloc, row)? else {
             return Ok(None);
         };
         rows.push(row)?;

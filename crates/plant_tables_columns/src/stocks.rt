@@ -4,16 +4,16 @@ ghost use Rattle.std.specs.Prelude.{◌≡◌, ◌∷◌, []};
 ghost use Rattle.sqlite.specs.Values.{bound};
 ghost use Rattle.sqlite_value.specs.Value.{owned};
 ghost use Rattle.sqlite_value.specs.declared.value.Value.TheVariants.{Text as Bytes};
-ghost use Rattle.plant_tables_columns.specs.Booked.{sort_of, other_lot, other_sublot};
+ghost use Rattle.plant_tables_columns.specs.Booked.{code_of, other_lot, other_sublot};
 ghost use Rattle.plant_view.specs.Genealogy.{batch_by};
 ghost use Rattle.plant_tables_columns.specs.Kinds.{number, null_or};
-ghost use Rattle.plant_tables_columns.specs.Naming.{movement_sort_number};
+ghost use Rattle.plant_tables_columns.specs.Naming.{movement_kind_number};
 ghost use Rattle.plant_tables_columns.specs.TableColumns.{row_of_lot, lot_from, row_of_sublot, sublot_from};
 ghost use Rattle.plant_tables_columns.specs.TableColumns.{booked_from, row_of_movement, movement_read};
 ghost use Rattle.plant_tables_columns.specs.TableColumns.{row_of_hold, hold_from};
 
-use crate::booked::{BookedRow, movement_sort};
-use crate::judged::Judged;
+use crate::booked::{BookedRow, movement_kind_code};
+use crate::decoded::Decoded;
 use crate::reading::{
     amount, columns, id, line_number, moment, number, optional_id, optional_sublot, sublot_number,
     text,
@@ -33,11 +33,11 @@ pub fn lot_values(row: &Lot) -> [ValueRef<'_>; 2]
     [storing::id(&row.id), storing::id(&row.def)]
 }
 
-impl Judged for Lot {
+impl Decoded for Lot {
     ghost row_from = { lot_from };
 
     #[tactic(auto, unfolding(crate::specs::TableColumns::lot_from))]
-    fn judge(row: &Row) -> Option<Lot> {
+    fn decode(row: &Row) -> Option<Lot> {
         columns(row, 2)?;
         Some(Lot {
             id: id(row, 0)?,
@@ -59,11 +59,11 @@ pub fn sublot_values<'a>(row: &'a Sublot, stock: ValueRef<'a>) -> [ValueRef<'a>;
     ]
 }
 
-impl Judged for Sublot {
+impl Decoded for Sublot {
     ghost row_from = { sublot_from };
 
     #[tactic(auto, unfolding(crate::specs::TableColumns::sublot_from))]
-    fn judge(row: &Row) -> Option<Sublot> {
+    fn decode(row: &Row) -> Option<Sublot> {
         columns(row, 4)?;
         Some(Sublot {
             lot: id(row, 0)?,
@@ -75,8 +75,8 @@ impl Judged for Sublot {
 }
 
 /// The number of its sort.
-fn sort_number(kind: &MovementKind) -> u16
-    ensures { result ≡ movement_sort_number (sort_of kind.now) }
+fn kind_code_number(kind: &MovementKind) -> u16
+    ensures { result ≡ movement_kind_number (code_of kind.now) }
 {
     match kind {
         MovementKind::Received => 1,
@@ -123,7 +123,7 @@ pub fn movement_values<'a>(row: &'a Movement, seq: ValueRef<'a>) -> [ValueRef<'a
     [
         seq,
         storing::small(row.line),
-        storing::small(sort_number(&row.kind)),
+        storing::small(kind_code_number(&row.kind)),
         storing::id(&row.lot),
         storing::small(row.sub),
         lot2,
@@ -136,16 +136,16 @@ pub fn movement_values<'a>(row: &'a Movement, seq: ValueRef<'a>) -> [ValueRef<'a
     ]
 }
 
-impl Judged for BookedRow {
+impl Decoded for BookedRow {
     ghost row_from = { booked_from };
 
     #[tactic(auto, unfolding(crate::specs::TableColumns::booked_from))]
-    fn judge(row: &Row) -> Option<BookedRow> {
+    fn decode(row: &Row) -> Option<BookedRow> {
         columns(row, 12)?;
         Some(BookedRow {
             seq: number(row, 0, 0, GREATEST_SEQ)?,
             line: line_number(row, 1)?,
-            sort: movement_sort(row, 2)?,
+            kind_code: movement_kind_code(row, 2)?,
             lot: id(row, 3)?,
             sub: sublot_number(row, 4)?,
             lot2: optional_id(row, 5)?,
@@ -159,14 +159,14 @@ impl Judged for BookedRow {
     }
 }
 
-impl Judged for Movement {
+impl Decoded for Movement {
     ghost row_from = { movement_read };
 
     #[tactic(auto, unfolding(crate::specs::TableColumns::movement_read))]
-    fn judge(row: &Row) -> Option<Movement> {
+    fn decode(row: &Row) -> Option<Movement> {
         // The checker can't follow movements, unless the function names these types.
         let _: Option<(Id, MovementKind, Amount, Moment, Text)> = None;
-        let booked = BookedRow::judge(row)?;
+        let booked = BookedRow::decode(row)?;
         booked.movement()
     }
 }
@@ -184,11 +184,11 @@ pub fn hold_values(row: &Hold) -> [ValueRef<'_>; 5]
     ]
 }
 
-impl Judged for Hold {
+impl Decoded for Hold {
     ghost row_from = { hold_from };
 
     #[tactic(auto, unfolding(crate::specs::TableColumns::hold_from))]
-    fn judge(row: &Row) -> Option<Hold> {
+    fn decode(row: &Row) -> Option<Hold> {
         columns(row, 5)?;
         Some(Hold {
             lot: id(row, 0)?,

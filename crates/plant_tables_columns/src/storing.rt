@@ -5,8 +5,8 @@ ghost use Rattle.sqlite_value.specs.Value.{owned};
 ghost use Rattle.plant_tables_columns.specs.Kinds.{number, flag};
 
 use plant_base::{Amount, Content, Id, Moment, Text};
+use sql_tables::Fault;
 use sqlite_value::value::ValueRef;
-use table_forms::Fault;
 
 /// A number of any size: [`Fault::Store`] exactly where it is above 2^63 - 1, which no column holds.
 pub fn large(n: u64) -> Result<ValueRef<'static>, Fault>

@@ -22,11 +22,11 @@ use Rattle.plant_base.specs.declared.rows.Receipt.{Receipt}
 use Rattle.plant_base.specs.declared.rows.Mark.{Mark}
 use Rattle.plant_view.specs.Tables.{Tables}
 use Rattle.plant_tables.specs.Keyed.{AreKeyed}
-use Rattle.plant_tables_columns.specs.All.{all_from}
+use Rattle.plant_tables_columns.specs.DecodedRows.{all_from}
 use Rattle.plant_tables_read.specs.Loading.{contents_loaded}
 use Rattle.plant_tables_read.specs.declared.loaded.Loaded.{Loaded}
 use Rattle.plant_tables_columns.specs.Booked.{movement_from, booked_of}
-use Rattle.plant_tables_columns.specs.Stated.{recall_from, stated_of}
+use Rattle.plant_tables_columns.specs.StatedRecalls.{recall_from, stated_of}
 use Rattle.plant_tables_columns.specs.TableColumns.{only_meta, class_from, definition_from, recipe_from, master_line_from, job_from, batch_from, control_line_from, batch_event_from, lot_from, sublot_from, booked_from, hold_from, edge_from, receipt_from, stated_from, mark_from}
 use Rattle.plant_tables_columns.specs.declared.booked.BookedRow.{BookedRow}
 use Rattle.plant_tables_columns.specs.declared.recalls.StatedRecall.{StatedRecall}

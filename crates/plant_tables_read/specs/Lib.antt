@@ -1,6 +1,6 @@
 pub mod Loading
 pub mod Readings
 pub mod Version
-pub mod Calls
+pub mod LoadingCalls
 pub mod Collecting
 pub mod ReadingLaws

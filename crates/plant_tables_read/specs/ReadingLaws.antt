@@ -4,31 +4,31 @@ use Rattle.sqlite.specs.Effect.{Database}
 use Rattle.plant_base.specs.declared.rows.Movement.{Movement}
 use Rattle.plant_base.specs.declared.rows.Recall.{Recall}
 use Rattle.plant_view.specs.Tables.{Tables}
-use Rattle.table_forms.specs.Forms.{Form}
-use Rattle.plant_tables.specs.DeskForms.{forms_of}
+use Rattle.sql_tables.specs.TableDefs.{TableDef}
+use Rattle.plant_tables.specs.DeskTableDefs.{table_defs_of}
 use Rattle.plant_tables.specs.DeskTables.{contents_of}
 use Rattle.plant_tables.specs.Keyed.{HoldsTablesOf, LacksLater}
 use Rattle.plant_tables_read.specs.Loading.{AreLoaded, contents_loaded}
 use Rattle.plant_tables_read.specs.declared.loaded.Loaded.{Loaded}
 use Rattle.plant_tables_columns.specs.Booked.{movement_from, booked_of}
-use Rattle.plant_tables_columns.specs.Stated.{recall_from, stated_of}
+use Rattle.plant_tables_columns.specs.StatedRecalls.{recall_from, stated_of}
 use Rattle.plant_tables_read.specs.Collecting.{Rows, rows_from, tables_in, rows_in, AreWhole, AreInOrder}
-use Rattle.plant_tables_columns.specs.Obeying.{HasGoodValues}
+use Rattle.plant_tables_columns.specs.ValidValues.{HasValidValues}
 
 -- Rows whose lines have numbers, whose movements have the columns of their kinds, whose receipts have contents and whose
 -- recalls have the columns of their states are the tables that were loaded.
-abbrev pub StandFor : Type 0
-StandFor = (x : Loaded) (r : Rows) → rows_from x ≡ Some r → AreWhole r → (schema place : ℕ) (form : Form) → slice_get (forms_of schema) place ≡ Some form
+abbrev pub RowsRepresentTables : Type 0
+RowsRepresentTables = (x : Loaded) (r : Rows) → rows_from x ≡ Some r → AreWhole r → (schema place : ℕ) (table_def : TableDef) → slice_get (table_defs_of schema) place ≡ Some table_def
     → contents_loaded x place ≡ contents_of (tables_in r) place
 
 -- What a database holds of the tables of a schema is read as it was written, where keys rise and each value obeys its rule.
 abbrev pub AreReadAgain : Type 0
-AreReadAgain = (schema : ℕ) (db : Database) (t : Tables) (x : Loaded) → HoldsTablesOf schema db t → LacksLater schema t → AreInOrder t → HasGoodValues t → AreLoaded schema db x
+AreReadAgain = (schema : ℕ) (db : Database) (t : Tables) (x : Loaded) → HoldsTablesOf schema db t → LacksLater schema t → AreInOrder t → HasValidValues t → AreLoaded schema db x
     → rows_from x ≡ Some (rows_in t)
 
 -- The rows of good tables have numbers, the columns of their kinds and states, and contents.
 abbrev pub AreWholeRows : Type 0
-AreWholeRows = (t : Tables) → HasGoodValues t → AreWhole (rows_in t)
+AreWholeRows = (t : Tables) → HasValidValues t → AreWhole (rows_in t)
 
 -- The tables of the rows of tables are those.
 abbrev pub AreSameTables : Type 0

@@ -4,11 +4,11 @@ use Rattle.sqlite.specs.Effect.{Database}
 use Rattle.sqlite.specs.Order.{Row}
 use Rattle.sqlite.specs.Schema.{Schema}
 use Rattle.sqlite.specs.declared.types.Value.TheVariants.{Int}
-use Rattle.table_reads.specs.Reading.{Lists}
+use Rattle.sql_queries.specs.Reading.{Lists}
 use Rattle.plant_base.specs.State.{newest_schema}
 use Rattle.plant_base.specs.Values.{greatest_moment, greatest_seq}
-use Rattle.table_forms.specs.Standing.{HasTable, IsFree}
-use Rattle.plant_tables.specs.DeskForms.{meta_form, forms_of, later_forms}
+use Rattle.sql_tables.specs.StoredRows.{HasTable, IsFree}
+use Rattle.plant_tables.specs.DeskTableDefs.{meta_table, table_defs_of, later_table_defs}
 use Rattle.plant_tables_read.specs.declared.finding.MetaNumbers.{MetaNumbers}
 
 -- the row of these numbers
@@ -16,7 +16,7 @@ abbrev pub row_of : MetaNumbers → Row
 row_of meta = Int meta.k ∷ Int meta.schema ∷ Int meta.seq ∷ Int meta.at ∷ []
 
 -- four numbers: k is 1, the schema is at least 1, seq is 0 to the greatest, and at is a moment
-pub record IsGoodMeta (row : Row) : Type 0 where
+pub record IsValidMeta (row : Row) : Type 0 where
   pub schema : ℤ
   pub seq : ℤ
   pub at : ℤ
@@ -30,9 +30,9 @@ pub record IsGoodMeta (row : Row) : Type 0 where
 -- table meta has one row, which is good and tells this version
 pub record IsVersion (db : Database) (n : ℤ) : Type 0 where
   pub row : Row
-  pub alone : Lists db meta_form (row ∷ [])
-  pub good : IsGoodMeta row
-  pub tells : good.schema ≡ n
+  pub alone : Lists db meta_table (row ∷ [])
+  pub valid : IsValidMeta row
+  pub reports : valid.schema ≡ n
 
 -- the desk knows the schema
 abbrev pub IsKnown : ℕ → Type 0
@@ -40,4 +40,4 @@ IsKnown schema = (1 ≤ schema) × (schema ≤ newest_schema)
 
 -- the tables of the schema stand as they are declared, and none that a later one adds
 abbrev pub HasTablesOf : ℕ → Schema → Type 0
-HasTablesOf schema there = All (HasTable there) (forms_of schema) × All (IsFree there) (later_forms schema)
+HasTablesOf schema there = All (HasTable there) (table_defs_of schema) × All (IsFree there) (later_table_defs schema)

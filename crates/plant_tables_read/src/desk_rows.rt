@@ -2,15 +2,15 @@ ghost use Rattle.std.specs.Prelude.{◌≡◌, IfOk, is_some, option_map};
 ghost use Rattle.plant_tables_read.specs.Loading.{contents_loaded};
 ghost use Rattle.plant_tables_columns.specs.TableColumns.{only_meta};
 ghost use Rattle.plant_tables_read.specs.Collecting.{rows_listed, rows_from};
-ghost use Rattle.plant_tables_read.specs.ReadingLaws.{StandFor, AreReadAgain, AreWholeRows, AreSameTables};
+ghost use Rattle.plant_tables_read.specs.ReadingLaws.{RowsRepresentTables, AreReadAgain, AreWholeRows, AreSameTables};
 ghost use Rattle.plant_tables_read.specs.ReadingLaws.{IsBookedAgain, IsStatedAgain};
 
+use crate::Loaded;
 use plant_base::{
     BatchEvent, BatchRow, Class, ControlLine, Definition, EdgeRow, Hold, Job, Lot, Mark,
     MasterLine, Meta, Receipt, Recipe, Sublot,
 };
-use plant_tables_columns::{BookedRow, Judged, StatedRecall, judge_all, judge_receipts};
-use crate::Loaded;
+use plant_tables_columns::{BookedRow, Decoded, StatedRecall, decode_all, decode_receipts};
 use sqlite::Row;
 use std::alloc::{AllocError, Global};
 
@@ -60,7 +60,7 @@ pub fn only_meta(rows: &[Row]) -> Option<Meta>
     ensures { result ≡ only_meta rows.now }
 {
     match rows {
-        [row] => Meta::judge(row),
+        [row] => Meta::decode(row),
         _ => None,
     }
 }
@@ -91,22 +91,22 @@ pub fn rows_of(alloc: Global, loaded: &Loaded) -> Result<Option<DeskRows>, Alloc
 {
     Ok(Some(DeskRows {
         meta: read!(only_meta(loaded.rows(0))),
-        classes: read!(judge_all(alloc, loaded.rows(1))?),
-        definitions: read!(judge_all(alloc, loaded.rows(2))?),
-        recipes: read!(judge_all(alloc, loaded.rows(3))?),
-        master_lines: read!(judge_all(alloc, loaded.rows(4))?),
-        jobs: read!(judge_all(alloc, loaded.rows(5))?),
-        batches: read!(judge_all(alloc, loaded.rows(6))?),
-        control_lines: read!(judge_all(alloc, loaded.rows(7))?),
-        events: read!(judge_all(alloc, loaded.rows(8))?),
-        lots: read!(judge_all(alloc, loaded.rows(9))?),
-        sublots: read!(judge_all(alloc, loaded.rows(10))?),
-        movements: read!(judge_all(alloc, loaded.rows(11))?),
-        holds: read!(judge_all(alloc, loaded.rows(12))?),
-        edges: read!(judge_all(alloc, loaded.rows(13))?),
-        receipts: read!(judge_receipts(alloc, loaded.rows(14))?),
-        recalls: read!(judge_all(alloc, loaded.rows(15))?),
-        marks: read!(judge_all(alloc, loaded.rows(16))?),
+        classes: read!(decode_all(alloc, loaded.rows(1))?),
+        definitions: read!(decode_all(alloc, loaded.rows(2))?),
+        recipes: read!(decode_all(alloc, loaded.rows(3))?),
+        master_lines: read!(decode_all(alloc, loaded.rows(4))?),
+        jobs: read!(decode_all(alloc, loaded.rows(5))?),
+        batches: read!(decode_all(alloc, loaded.rows(6))?),
+        control_lines: read!(decode_all(alloc, loaded.rows(7))?),
+        events: read!(decode_all(alloc, loaded.rows(8))?),
+        lots: read!(decode_all(alloc, loaded.rows(9))?),
+        sublots: read!(decode_all(alloc, loaded.rows(10))?),
+        movements: read!(decode_all(alloc, loaded.rows(11))?),
+        holds: read!(decode_all(alloc, loaded.rows(12))?),
+        edges: read!(decode_all(alloc, loaded.rows(13))?),
+        receipts: read!(decode_receipts(alloc, loaded.rows(14))?),
+        recalls: read!(decode_all(alloc, loaded.rows(15))?),
+        marks: read!(decode_all(alloc, loaded.rows(16))?),
     }))
 }
 
@@ -121,7 +121,7 @@ pub fn rows_of(alloc: Global, loaded: &Loaded) -> Result<Option<DeskRows>, Alloc
 /// - `booked`: the row that books a movement books that movement.
 /// - `stated`: the row that tells of a recall tells of that recall.
 pub fn reading_laws()
-    ensures stand_for { StandFor }
+    ensures stand_for { RowsRepresentTables }
     ensures read_again { AreReadAgain }
     ensures whole { AreWholeRows }
     ensures tables { AreSameTables }

@@ -9,22 +9,22 @@ ghost use Rattle.sqlite.specs.Order.{Row as Values, column};
 ghost use Rattle.sqlite.specs.Rows.{sequence};
 ghost use Rattle.sqlite.specs.State.{HasCleanDisk, IsLive, Survives};
 ghost use Rattle.sqlite.specs.declared.types.Value.TheVariants.{Int};
-ghost use Rattle.table_forms.specs.Standing.{AreFree, IsFree};
-ghost use Rattle.table_reads.specs.Calls.{AnswersUnchanged, BeginsNone, FindsUnchanged, KeepsShown};
+ghost use Rattle.sql_tables.specs.StoredRows.{AreFree, IsFree};
+ghost use Rattle.sql_queries.specs.Calls.{AnswersUnchanged, BeginsNone, FindsUnchanged, KeepsVisible};
 ghost use Rattle.plant_tables_read.specs.Loading.{Loads};
-ghost use Rattle.plant_tables.specs.DeskForms.{desk_forms, meta_form};
-ghost use Rattle.plant_tables_read.specs.Version.{row_of, IsGoodMeta, IsVersion};
-ghost use Rattle.plant_tables_read.specs.Calls.{FindsVersion, FindsVersionUnchanged, WantsMeta};
+ghost use Rattle.plant_tables.specs.DeskTableDefs.{desk_table_defs, meta_table};
+ghost use Rattle.plant_tables_read.specs.Version.{row_of, IsValidMeta, IsVersion};
+ghost use Rattle.plant_tables_read.specs.LoadingCalls.{FindsVersion, FindsVersionUnchanged, WantsMeta};
 
 use crate::readings::SELECT_META;
 use plant_base::{GREATEST_MOMENT, GREATEST_SEQ};
-use plant_tables::forms::{META, desk_forms};
+use plant_tables::table_defs::{META, desk_table_defs};
+use sql_queries::{all_free, are_all_declared, read_table};
+use sql_tables::Fault;
 use sqlite::types::ValueRef;
 use sqlite::{Alter, Connection, Row};
 use sqlite_schema::schema::{Schema, Table};
 use std::alloc::Global;
-use table_forms::Fault;
-use table_reads::{all_free, all_stand, read_table};
 
 /// What a store holds of the desk's tables.
 #[derive(Clone, Copy, Debug, PartialEq, Eq)]
@@ -75,8 +75,8 @@ fn numbers_of(row: &Row) -> Option<MetaNumbers>
 }
 
 /// Whether each number is one that the row of table meta can have.
-fn is_good(meta: &MetaNumbers) -> bool
-    ensures { (result ≡ true) ↔ IsGoodMeta (row_of meta.now) }
+fn is_valid(meta: &MetaNumbers) -> bool
+    ensures { (result ≡ true) ↔ IsValidMeta (row_of meta.now) }
 {
     meta.k == 1
         && meta.schema >= 1
@@ -88,11 +88,11 @@ fn is_good(meta: &MetaNumbers) -> bool
 
 /// The version that a row of table meta tells, where it is good.
 fn version_of(row: &Row) -> Option<i64>
-    ensures some { IfSome result (λ n. (good : IsGoodMeta row.now) × (good.schema ≡ n)) }
-    ensures none { result ≡ None → ¬ IsGoodMeta row.now }
+    ensures some { IfSome result (λ n. (valid : IsValidMeta row.now) × (valid.schema ≡ n)) }
+    ensures none { result ≡ None → ¬ IsValidMeta row.now }
 {
     let meta = numbers_of(row)?;
-    if is_good(&meta) {
+    if is_valid(&meta) {
         Some(meta.schema)
     } else {
         None
@@ -102,8 +102,8 @@ fn version_of(row: &Row) -> Option<i64>
 /// The version that the one row tells, where it is good.
 fn version_in(list: &[Row]) -> Option<i64>
     ensures some { IfSome result (λ n. (row : Values) × (list.now ≡ row ∷ [])
-        × (good : IsGoodMeta row) × (good.schema ≡ n)) }
-    ensures none { result ≡ None → (row : Values) → list.now ≡ row ∷ [] → ¬ IsGoodMeta row }
+        × (valid : IsValidMeta row) × (valid.schema ≡ n)) }
+    ensures none { result ≡ None → (row : Values) → list.now ≡ row ∷ [] → ¬ IsValidMeta row }
 {
     match list {
         [one] => version_of(one),
@@ -119,12 +119,12 @@ fn version<S: Alter>(alloc: Global, conn: &mut Connection<S>) -> Result<Option<i
     ensures none { HasCleanDisk (state S.Store conn.new)
         → IfOk result (λ found. found ≡ None → (n : ℤ) → ¬ IsVersion (state S.Store conn.old).now n) }
     ensures same { FindsUnchanged (state S.Store conn.old) (state S.Store conn.new) result }
-    ensures kept { KeepsShown (state S.Store conn.old) (state S.Store conn.new) }
+    ensures kept { KeepsVisible (state S.Store conn.old) (state S.Store conn.new) }
     ensures mode { BeginsNone (state S.Store conn.old) (state S.Store conn.new) }
     ensures crash { Survives (state S.Store conn.old) (state S.Store conn.new) (λ _. ⊥) }
     ensures memory { WantsMeta (state S.Store conn.old) (state S.Store conn.new) result }
 {
-    if !all_stand(conn.schema(), &[META]) {
+    if !are_all_declared(conn.schema(), &[META]) {
         return Ok(None);
     }
     let list = read_table(alloc, conn, &META, SELECT_META)?;
@@ -135,9 +135,9 @@ fn version<S: Alter>(alloc: Global, conn: &mut Connection<S>) -> Result<Option<i
 /// open, and where the store fails; Memory where there is none. Nothing is changed.
 pub fn read_meta<S: Alter>(alloc: Global, conn: &mut Connection<S>) -> Result<Vec<Row>, Fault>
     ensures rows { HasCleanDisk (state S.Store conn.new)
-        → IfOk result (λ list. Loads (state S.Store conn.old).now meta_form list.items) }
+        → IfOk result (λ list. Loads (state S.Store conn.old).now meta_table list.items) }
     ensures same { AnswersUnchanged (state S.Store conn.old) (state S.Store conn.new) result }
-    ensures kept { KeepsShown (state S.Store conn.old) (state S.Store conn.new) }
+    ensures kept { KeepsVisible (state S.Store conn.old) (state S.Store conn.new) }
     ensures mode { BeginsNone (state S.Store conn.old) (state S.Store conn.new) }
     ensures crash { Survives (state S.Store conn.old) (state S.Store conn.new) (λ _. ⊥) }
     ensures memory { WantsMeta (state S.Store conn.old) (state S.Store conn.new) result }
@@ -174,21 +174,21 @@ pub fn lacks_counts(schema: &Schema) -> bool
 /// where the store fails; Memory where there is none. Nothing is changed.
 pub fn found<S: Alter>(alloc: Global, conn: &mut Connection<S>) -> Result<FoundTables, Fault>
     ensures nothing { IfOk result (λ found. (found ≡ FoundTables.Nothing)
-        ↔ AreFree desk_forms (state S.Store conn.old).now.schema) }
+        ↔ AreFree desk_table_defs (state S.Store conn.old).now.schema) }
     // Where they can be made, there is no fault.
-    ensures free { AreFree desk_forms (state S.Store conn.old).now.schema → IfErr result (λ _. ⊥) }
+    ensures free { AreFree desk_table_defs (state S.Store conn.old).now.schema → IfErr result (λ _. ⊥) }
     ensures taken { IfOk result (λ found. found ≢ FoundTables.Nothing
-        → ¬ All (IsFree (state S.Store conn.old).now.schema) desk_forms) }
+        → ¬ All (IsFree (state S.Store conn.old).now.schema) desk_table_defs) }
     ensures version { FindsVersion (state S.Store conn.old) (state S.Store conn.new) result }
     ensures live { IsLive (state S.Store conn.old) }
     ensures untouched { IfOk result (λ found. found ≡ FoundTables.Nothing → conn.new ≡ conn.old) }
     ensures same { FindsVersionUnchanged (state S.Store conn.old) (state S.Store conn.new) result }
-    ensures kept { KeepsShown (state S.Store conn.old) (state S.Store conn.new) }
+    ensures kept { KeepsVisible (state S.Store conn.old) (state S.Store conn.new) }
     ensures mode { BeginsNone (state S.Store conn.old) (state S.Store conn.new) }
     ensures crash { Survives (state S.Store conn.old) (state S.Store conn.new) (λ _. ⊥) }
     ensures memory { WantsMeta (state S.Store conn.old) (state S.Store conn.new) result }
 {
-    if all_free(conn.schema(), &desk_forms()) {
+    if all_free(conn.schema(), &desk_table_defs()) {
         if lacks_counts(conn.schema()) {
             return Err(Fault::Store);
         }

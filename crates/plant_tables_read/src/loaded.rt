@@ -2,19 +2,19 @@ ghost use Rattle.std.specs.Prelude.{◌≡◌, ◌↔◌, ◌++◌, ◌∷◌, [
 ghost use Rattle.std.specs.Prelude.{IsOkUnless};
 ghost use Rattle.sqlite.specs.Held.{state};
 ghost use Rattle.sqlite.specs.State.{HasCleanDisk, Survives};
-ghost use Rattle.table_reads.specs.Calls.{AnswersUnchanged, BeginsNone, FindsUnchanged, KeepsShown};
+ghost use Rattle.sql_queries.specs.Calls.{AnswersUnchanged, BeginsNone, FindsUnchanged, KeepsVisible};
 ghost use Rattle.plant_tables_read.specs.Loading.{AreLoaded, AreRising, contents_loaded};
 ghost use Rattle.plant_tables_read.specs.Version.{IsKnown, HasTablesOf};
-ghost use Rattle.plant_tables_read.specs.Calls.{FindsLoaded, FindsStanding, TellsLacking};
+ghost use Rattle.plant_tables_read.specs.LoadingCalls.{FindsLoaded, FindsStored, ReportsLacking};
 
 use crate::readings::{desk_readings, readings_of};
 use plant_base::NEWEST_SCHEMA;
-use plant_tables::forms::{desk_forms, tables_in};
+use plant_tables::table_defs::{desk_table_defs, tables_in};
+use sql_queries::{all_free, are_all_declared, read_table};
+use sql_tables::Fault;
 use sqlite::{Alter, Connection, Row};
 use sqlite_schema::schema::Schema;
 use std::alloc::Global;
-use table_forms::Fault;
-use table_reads::{all_free, all_stand, read_table};
 
 /// Every row of the desk's tables as it is stored: the rows of each table by its key, the tables in the order of their
 /// forms. Values that break a rule are kept as they are.
@@ -56,13 +56,13 @@ impl Loaded {
     ) -> Result<Option<Loaded>, Fault>
         ensures rows { FindsLoaded schema (state S.Store conn.old) (state S.Store conn.new) result }
         ensures ordered { IfOk result (λ found. IfSome found (AreRising schema)) }
-        ensures stands { FindsStanding schema (state S.Store conn.old) (state S.Store conn.new)
+        ensures has_rows { FindsStored schema (state S.Store conn.old) (state S.Store conn.new)
             result }
         ensures missing { IfOk result (λ found. found ≡ None
             → ¬ HasTablesOf schema (state S.Store conn.old).now.schema) }
-        ensures lacking { TellsLacking schema (state S.Store conn.old) result }
+        ensures lacking { ReportsLacking schema (state S.Store conn.old) result }
         ensures same { FindsUnchanged (state S.Store conn.old) (state S.Store conn.new) result }
-        ensures kept { KeepsShown (state S.Store conn.old) (state S.Store conn.new) }
+        ensures kept { KeepsVisible (state S.Store conn.old) (state S.Store conn.new) }
         ensures mode { BeginsNone (state S.Store conn.old) (state S.Store conn.new) }
         ensures crash { Survives (state S.Store conn.old) (state S.Store conn.new) (λ _. ⊥) }
         // Memory is wanted for the rows of a schema that is known, all tables of which stand.
@@ -88,14 +88,14 @@ impl Loaded {
             → IfOk result (AreLoaded schema (state S.Store conn.old).now) }
         ensures rising { IfOk result (AreRising schema) }
         ensures same { AnswersUnchanged (state S.Store conn.old) (state S.Store conn.new) result }
-        ensures kept { KeepsShown (state S.Store conn.old) (state S.Store conn.new) }
+        ensures kept { KeepsVisible (state S.Store conn.old) (state S.Store conn.new) }
         ensures mode { BeginsNone (state S.Store conn.old) (state S.Store conn.new) }
         ensures crash { Survives (state S.Store conn.old) (state S.Store conn.new) (λ _. ⊥) }
     {
         let readings = desk_readings();
         let mut tables = Vec::new(alloc);
         for reading in readings_of(&readings, schema) {
-            let rows = read_table(alloc, conn, &reading.form, reading.select)?;
+            let rows = read_table(alloc, conn, &reading.table_def, reading.select)?;
             keep(&mut tables, rows)?;
         }
         Ok(Loaded { tables })
@@ -106,7 +106,7 @@ impl Loaded {
 fn has_tables(there: &Schema, schema: u64) -> bool
     ensures { (result ≡ true) ↔ HasTablesOf schema there.now }
 {
-    let forms = desk_forms();
-    let (own, later) = forms.split_at(tables_in(schema));
-    all_stand(there, own) && all_free(there, later)
+    let table_defs = desk_table_defs();
+    let (own, later) = table_defs.split_at(tables_in(schema));
+    are_all_declared(there, own) && all_free(there, later)
 }

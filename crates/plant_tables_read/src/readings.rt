@@ -2,14 +2,14 @@
 
 ghost use Rattle.std.specs.Prelude.{◌≡◌, map};
 ghost use Rattle.std.specs.List.{AllByRecursion};
-ghost use Rattle.plant_tables.specs.DeskForms.{desk_forms, forms_of};
+ghost use Rattle.plant_tables.specs.DeskTableDefs.{desk_table_defs, table_defs_of};
 ghost use Rattle.plant_tables_read.specs.Readings.{SelectsAll};
 
-use plant_tables::forms::{
+use plant_tables::table_defs::{
     BATCH, BATCH_EVENT, CLASS, CONTROL_LINE, DEFINITION, EDGE, HOLD, JOB, LOT, MARK, META,
     MOVEMENT, RECALL, RECEIPT, RECIPE, RECIPE_LINE, SUBLOT, tables_in,
 };
-use table_forms::Form;
+use sql_tables::TableDef;
 
 // The texts that read all rows of a table: the columns in their order, by the first key.
 
@@ -60,16 +60,16 @@ pub(crate) const SELECT_MARK: &str = "SELECT recall, kind, id FROM mark ORDER BY
 #[derive(Drop)]
 pub(crate) struct Reading {
     /// How the table is declared.
-    pub form: Form<'static>,
+    pub table_def: TableDef<'static>,
     /// The SELECT statement that reads all rows of the table, by its key.
     pub select: &'static str,
 }
 
 // The reading of a table by its text.
 macro_rules! reading {
-    ($form:expr, $select:expr) => {
+    ($table_def:expr, $select:expr) => {
         Reading {
-            form: $form,
+            table_def: $table_def,
             select: $select,
         }
     };
@@ -77,7 +77,7 @@ macro_rules! reading {
 
 /// The reading of each of the desk's tables, in the order of their forms.
 pub(crate) fn desk_readings() -> [Reading; 17]
-    ensures forms { map (λ reading. reading.form) result ≡ desk_forms }
+    ensures table_defs { map (λ reading. reading.table_def) result ≡ desk_table_defs }
     ensures texts { AllByRecursion SelectsAll result }
 {
     [
@@ -103,9 +103,9 @@ pub(crate) fn desk_readings() -> [Reading; 17]
 
 /// Those of the tables of a schema.
 pub(crate) fn readings_of(readings: &[Reading], schema: u64) -> &[Reading]
-    requires forms { map (λ reading. reading.form) readings.now ≡ desk_forms }
+    requires table_defs { map (λ reading. reading.table_def) readings.now ≡ desk_table_defs }
     requires texts { AllByRecursion SelectsAll readings.now }
-    ensures forms { map (λ reading. reading.form) result.now ≡ forms_of schema }
+    ensures table_defs { map (λ reading. reading.table_def) result.now ≡ table_defs_of schema }
     ensures texts { AllByRecursion SelectsAll result.now }
 {
     let (own, _) = readings.split_at(tables_in(schema));

@@ -1,8 +1,8 @@
-pub mod EndLemmas
-pub mod HeldLemmas
-pub mod Known
-pub mod Leaving
-pub mod LineLemmas
-pub mod Reading
-pub mod RunLemmas
-pub mod TurnLemmas
+pub mod RunEnds
+pub mod HeldLine
+pub mod KnownBytes
+pub mod RunCrashStates
+pub mod LinesAreStd
+pub mod LineSays
+pub mod TurnsInSequence
+pub mod TurnEnds

@@ -1,5 +1,5 @@
-pub mod Held
-pub mod Leaving
+pub mod HeldLines
+pub mod CrashStates
 pub mod Lines
 pub mod Questions
 pub mod Session

@@ -5,38 +5,38 @@ use Rattle.std.specs.Str.{is_utf8}
 use Rattle.serde_json.specs.Data.{Data}
 use Rattle.serde_json.specs.Find.{get, as_object}
 use Rattle.serde_json.specs.Read.{read}
-use Rattle.plant_shapes.specs.declared.problems.Flaw.TheVariants as flaw
-use Rattle.plant_shapes.specs.declared.problems.Problem.{Problem}
-use Rattle.plant_shapes.specs.declared.problems.Problem.TheVariants as problem
-use Rattle.plant_shapes.specs.Problems.{◌>>=◌}
+use Rattle.plant_message_schema.specs.declared.format_errors.ShapeError.TheVariants as shape_error
+use Rattle.plant_message_schema.specs.declared.format_errors.FormatError.{FormatError}
+use Rattle.plant_message_schema.specs.declared.format_errors.FormatError.TheVariants as format_error
+use Rattle.plant_message_schema.specs.FormatErrors.{◌>>=◌}
 use Rattle.plant_text_commands.specs.Commands.{command_of}
 use Rattle.plant_text.specs.declared.read.Line.{Line}
 use Rattle.plant_text.specs.declared.read.Line.TheVariants as L
 use Rattle.plant_text.specs.Questions.{question_of}
 
 -- the command or the question that an object is; with `do` and `ask` it would have a member too many for either
-abbrev pub object_says : Data → Result Line Problem
+abbrev pub object_says : Data → Result Line FormatError
 object_says d =
     if is_some (get (codes "do") d) then command_of d >>= (λ c. Ok (L.Command c)) else (
     if is_some (get (codes "ask") d) then question_of d >>= (λ q. Ok (L.Question q)) else
-    Err problem.Neither)
+    Err format_error.Neither)
 
 -- what a JSON value says, or its first problem
-abbrev pub value_says : Data → Result Line Problem
-value_says d = if is_some (as_object d) then object_says d else Err (problem.Object flaw.NoObject)
+abbrev pub value_says : Data → Result Line FormatError
+value_says d = if is_some (as_object d) then object_says d else Err (format_error.Object shape_error.NoObject)
 
 -- the bytes of the longest line that is read, its LF and the one CR before it not counted
 abbrev pub longest_line : ℕ
 longest_line = 262144
 
 -- by what serde_json reads from a text
-abbrev pub text_says : Option Data → Result Line Problem
-text_says None = Err problem.NoJson
+abbrev pub text_says : Option Data → Result Line FormatError
+text_says None = Err format_error.NoJson
 text_says (Some d) = value_says d
 
 -- what a line says, which is a text in UTF-8, or its first problem
-unfoldable pub line_says : List ℕ → Result Line Problem
-line_says bytes = if nat_lt longest_line (length bytes) then Err problem.TooLong else text_says (if is_utf8 bytes then read bytes else None)
+unfoldable pub line_says : List ℕ → Result Line FormatError
+line_says bytes = if nat_lt longest_line (length bytes) then Err format_error.TooLong else text_says (if is_utf8 bytes then read bytes else None)
 
 -- what a line says; one that has a problem says nothing
 abbrev pub line_of : List ℕ → Option Line

@@ -8,28 +8,28 @@ use Rattle.plant_trace.specs.declared.node.Node.{Node}
 use Rattle.plant_trace.specs.declared.node.Node.TheVariants.{Lot, Batch}
 use Rattle.plant_worklists.specs.declared.list.Worklist.{Worklist}
 use Rattle.plant_worklists.specs.declared.list.Worklist.TheVariants as list
-use Rattle.plant_worklists.specs.declared.place.MovementPlace.{MovementPlace}
-use Rattle.plant_worklists.specs.declared.place.RecipePlace.{RecipePlace}
+use Rattle.plant_worklists.specs.declared.cursors.MovementCursor.{MovementCursor}
+use Rattle.plant_worklists.specs.declared.cursors.RecipeCursor.{RecipeCursor}
 use Rattle.plant_messages.specs.declared.question.Question.{Question}
 use Rattle.plant_messages.specs.declared.question.Question.TheVariants as Q
-use Rattle.plant_shapes.specs.declared.members.Member.{Member}
-use Rattle.plant_shapes.specs.declared.members.Member.TheVariants as m
-use Rattle.plant_shapes.specs.declared.words.ListKind.{ListKind}
-use Rattle.plant_shapes.specs.declared.words.ListKind.TheVariants as k
-use Rattle.plant_shapes.specs.declared.words.QuestionKind.{QuestionKind}
-use Rattle.plant_shapes.specs.declared.words.QuestionKind.TheVariants as q
-use Rattle.plant_shapes.specs.declared.fields.Field.{Field}
-use Rattle.plant_shapes.specs.declared.fields.Field.TheVariants as field
-use Rattle.plant_shapes.specs.declared.problems.Flaw.TheVariants as flaw
-use Rattle.plant_shapes.specs.declared.problems.Problem.{Problem}
-use Rattle.plant_shapes.specs.declared.problems.Problem.TheVariants as problem
-use Rattle.plant_shapes.specs.Words.{question_kind}
-use Rattle.plant_shapes.specs.Problems.{◌>>=◌, object, or_no_form}
-use Rattle.plant_shapes.specs.Fields.{fields_of, exactly}
-use Rattle.plant_shapes.specs.Tables.{list_members}
+use Rattle.plant_message_schema.specs.declared.members.Member.{Member}
+use Rattle.plant_message_schema.specs.declared.members.Member.TheVariants as m
+use Rattle.plant_message_schema.specs.declared.words.ListKind.{ListKind}
+use Rattle.plant_message_schema.specs.declared.words.ListKind.TheVariants as k
+use Rattle.plant_message_schema.specs.declared.words.QuestionKind.{QuestionKind}
+use Rattle.plant_message_schema.specs.declared.words.QuestionKind.TheVariants as q
+use Rattle.plant_message_schema.specs.declared.fields.Field.{Field}
+use Rattle.plant_message_schema.specs.declared.fields.Field.TheVariants as field
+use Rattle.plant_message_schema.specs.declared.format_errors.ShapeError.TheVariants as shape_error
+use Rattle.plant_message_schema.specs.declared.format_errors.FormatError.{FormatError}
+use Rattle.plant_message_schema.specs.declared.format_errors.FormatError.TheVariants as format_error
+use Rattle.plant_message_schema.specs.Words.{question_kind}
+use Rattle.plant_message_schema.specs.FormatErrors.{◌>>=◌, object, or_malformed}
+use Rattle.plant_message_schema.specs.Fields.{fields_of, exactly}
+use Rattle.plant_message_schema.specs.Tables.{list_members}
 
 -- a question that names nothing
-abbrev pub asked_alone : Question → Data → Result Question Problem
+abbrev pub asked_alone : Question → Data → Result Question FormatError
 asked_alone question d = object (exactly (m.Ask ∷ []) d) >>= (λ fs. Ok question)
 
 abbrev pub one_id : List Field → Option (List ℕ)
@@ -37,27 +37,27 @@ one_id (field.Chosen ∷ field.Id id ∷ []) = Some id
 one_id _ = None
 
 -- the id that a question names, which with its word is all that it has
-abbrev pub id_named : Member → Data → Result (List ℕ) Problem
-id_named which d = object (exactly (m.Ask ∷ which ∷ []) d >>= (λ fs. or_no_form (one_id fs)))
+abbrev pub id_named : Member → Data → Result (List ℕ) FormatError
+id_named which d = object (exactly (m.Ask ∷ which ∷ []) d >>= (λ fs. or_malformed (one_id fs)))
 
 -- the lot or the batch that a question about the genealogy names
-abbrev pub node_named : Data → Result Node Problem
+abbrev pub node_named : Data → Result Node FormatError
 node_named d =
     if is_some (get (codes "lot") d) then id_named m.Lot d >>= (λ id. Ok (Lot id)) else (
     if is_some (get (codes "batch") d) then id_named m.Batch d >>= (λ id. Ok (Batch id)) else
-    Err problem.NothingTraced)
+    Err format_error.NothingTraced)
 
-abbrev pub trace_of : Direction → Data → Result Question Problem
+abbrev pub trace_of : Direction → Data → Result Question FormatError
 trace_of direction d = node_named d >>= (λ node. Ok (Q.Trace direction node))
 
-abbrev pub edges_of : Direction → Data → Result Question Problem
+abbrev pub edges_of : Direction → Data → Result Question FormatError
 edges_of direction d = node_named d >>= (λ node. Ok (Q.Edges direction node))
 
 -- the place that a page goes on from, none where none is given
-abbrev pub place_in : Field → Option (Option (List ℕ))
-place_in field.Absent = Some None
-place_in (field.Id id) = Some (Some id)
-place_in _ = None
+abbrev pub cursor_in : Field → Option (Option (List ℕ))
+cursor_in field.Absent = Some None
+cursor_in (field.Id id) = Some (Some id)
+cursor_in _ = None
 
 -- the list of a kind that is of nothing
 abbrev pub whole_list : ListKind → Option Worklist
@@ -79,48 +79,48 @@ list_of k.Definitions (field.Id class) = Some (list.Definitions class)
 list_of _ _ = None
 
 abbrev pub page_asked : Option Worklist → Field → Option Question
-page_asked None above = None
-page_asked (Some w) above = option_map (Q.List w) (place_in above)
+page_asked None cursor = None
+page_asked (Some w) cursor = option_map (Q.List w) (cursor_in cursor)
 
 -- the same of the place in a list of recipes
-abbrev pub recipe_place_in : Field → Option (Option RecipePlace)
-recipe_place_in field.Absent = Some None
-recipe_place_in (field.RecipePlace place) = Some (Some place)
-recipe_place_in _ = None
+abbrev pub recipe_cursor_in : Field → Option (Option RecipeCursor)
+recipe_cursor_in field.Absent = Some None
+recipe_cursor_in (field.RecipeCursor place) = Some (Some place)
+recipe_cursor_in _ = None
 
 -- and of the place in a ledger
-abbrev pub movement_place_in : Field → Option (Option MovementPlace)
-movement_place_in field.Absent = Some None
-movement_place_in (field.MovementPlace place) = Some (Some place)
-movement_place_in _ = None
+abbrev pub movement_cursor_in : Field → Option (Option MovementCursor)
+movement_cursor_in field.Absent = Some None
+movement_cursor_in (field.MovementCursor place) = Some (Some place)
+movement_cursor_in _ = None
 
 -- the question for a page of the recipes in a state
 abbrev pub recipes_asked : Field → Field → Option Question
-recipes_asked (field.RecipeState state) above = option_map (Q.Recipes state) (recipe_place_in above)
-recipes_asked _ above = None
+recipes_asked (field.RecipeState state) cursor = option_map (Q.Recipes state) (recipe_cursor_in cursor)
+recipes_asked _ cursor = None
 
 -- the question for a page of the ledger of a lot
 abbrev pub ledger_asked : Field → Field → Option Question
-ledger_asked (field.Id lot) above = option_map (Q.Ledger lot) (movement_place_in above)
-ledger_asked _ above = None
+ledger_asked (field.Id lot) cursor = option_map (Q.Ledger lot) (movement_cursor_in cursor)
+ledger_asked _ cursor = None
 
 -- the question for a page of a list that is of this
 abbrev pub of_asked : ListKind → Field → Field → Option Question
-of_asked k.Recipes of above = recipes_asked of above
-of_asked k.Movements of above = ledger_asked of above
-of_asked kind of above = page_asked (list_of kind of) above
+of_asked k.Recipes of cursor = recipes_asked of cursor
+of_asked k.Movements of cursor = ledger_asked of cursor
+of_asked kind of cursor = page_asked (list_of kind of) cursor
 
 -- the question for a page by the values of its members
 abbrev pub list_in : ListKind → List Field → Option Question
-list_in kind (field.Chosen ∷ above ∷ []) = page_asked (whole_list kind) above
-list_in kind (field.Chosen ∷ of ∷ above ∷ []) = of_asked kind of above
+list_in kind (field.Chosen ∷ cursor ∷ []) = page_asked (whole_list kind) cursor
+list_in kind (field.Chosen ∷ of ∷ cursor ∷ []) = of_asked kind of cursor
 list_in kind _ = None
 
 -- the question for a page of a list of a kind
-abbrev pub list_asked : ListKind → Data → Result Question Problem
-list_asked kind d = object (exactly (list_members kind) d >>= (λ fs. or_no_form (list_in kind fs)))
+abbrev pub list_asked : ListKind → Data → Result Question FormatError
+list_asked kind d = object (exactly (list_members kind) d >>= (λ fs. or_malformed (list_in kind fs)))
 
-abbrev pub question_for : QuestionKind → Data → Result Question Problem
+abbrev pub question_for : QuestionKind → Data → Result Question FormatError
 question_for q.Desk d = asked_alone Q.Desk d
 question_for q.Moment d = asked_alone Q.Moment d
 question_for (q.List kind) d = list_asked kind d
@@ -128,7 +128,7 @@ question_for q.Lot d = id_named m.Lot d >>= (λ id. Ok (Q.Lot id))
 question_for q.Order d = id_named m.Order d >>= (λ id. Ok (Q.Order id))
 question_for q.Batch d = id_named m.Batch d >>= (λ id. Ok (Q.Batch id))
 question_for q.Recall d = id_named m.Recall d >>= (λ id. Ok (Q.Recall id))
-question_for q.Stands d = node_named d >>= (λ node. Ok (Q.Stands node))
+question_for q.HasStoredRows d = node_named d >>= (λ node. Ok (Q.HasStoredRows node))
 question_for q.BackEdges d = edges_of Back d
 question_for q.ForwardEdges d = edges_of Forward d
 question_for q.Back d = trace_of Back d
@@ -138,10 +138,10 @@ abbrev pub kind_at : Data → Option QuestionKind
 kind_at d = option_and_then question_kind (option_and_then as_str (get (codes "ask") d))
 
 -- an object without the word of a question has at least that flaw
-abbrev pub question_by : Option QuestionKind → Data → Result Question Problem
-question_by None d = object (fields_of (m.Ask ∷ []) d >>= (λ fs. Err flaw.NoForm))
+abbrev pub question_by : Option QuestionKind → Data → Result Question FormatError
+question_by None d = object (fields_of (m.Ask ∷ []) d >>= (λ fs. Err shape_error.Malformed))
 question_by (Some kind) d = question_for kind d
 
 -- the question that the object is, or its first problem
-abbrev pub question_of : Data → Result Question Problem
+abbrev pub question_of : Data → Result Question FormatError
 question_of d = question_by (kind_at d) d

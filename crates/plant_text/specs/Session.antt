@@ -8,7 +8,7 @@ use Rattle.plant_base.specs.declared.refusal.Refusal.TheVariants.{BadForm}
 use Rattle.plant_rules.specs.Step.{step}
 use Rattle.plant_desk.specs.Replies.{reply}
 use Rattle.plant_answers.specs.Answers.{answer}
-use Rattle.plant_desk.specs.Keeping.{States}
+use Rattle.plant_desk.specs.Keepers.{States}
 use Rattle.plant_messages.specs.declared.question.Question.{Question}
 use Rattle.plant_messages.specs.declared.question.Answer.{Answer}
 use Rattle.plant_messages.specs.declared.question.Answer.TheVariants as A
@@ -19,13 +19,13 @@ use Rattle.plant_messages.specs.declared.reply.DeskFault.TheVariants.{Store, Mem
 use Rattle.plant_text.specs.Lines.{line_of}
 use Rattle.plant_text_answers.specs.Replies.{reply_text, fault_text}
 use Rattle.plant_text_answers.specs.Answers.{text_of_answer}
-use Rattle.plant_text.specs.Writes.{with_lf, AppendsFront}
+use Rattle.plant_text.specs.Writes.{with_lf, AppendsPrefix}
 use Rattle.plant_text.specs.declared.read.Line.{Line}
 use Rattle.plant_text.specs.declared.read.Line.TheVariants as L
 use Rattle.plant_text.specs.declared.run.RunEnd.{RunEnd}
 use Rattle.plant_text.specs.declared.run.RunEnd.TheVariants as E
-use Rattle.plant_text.specs.declared.turns.Stop.{Stop}
-use Rattle.plant_text.specs.declared.turns.Stop.TheVariants as S
+use Rattle.plant_text.specs.declared.turns.TurnError.{TurnError}
+use Rattle.plant_text.specs.declared.turns.TurnError.TheVariants as S
 
 -- ---- lines
 
@@ -117,44 +117,44 @@ session k s bytes = texts k s (entries (lines bytes))
 -- ---- what a run has done
 
 -- these entries have been answered: their replies were written, and the keeper, which stood at s, stands at their fold
-pub record AreAnswered (k : ℕ) (s : State) (es : List Entry) (old new : Option (List ℕ)) (stands : States) (before now : Bool) : Type 0 where
+pub record AreAnswered (k : ℕ) (s : State) (es : List Entry) (old new : Option (List ℕ)) (represents : States) (before now : Bool) : Type 0 where
   pub text : Appends old new (texts k s es)
-  pub state : stands (fold s es)
+  pub state : represents (fold s es)
   pub refused : now ≡ (before || some_refused k s es)
 
 -- what a fault of the store leaves, which comes from a command or a question alone: a command shuts the keeper, and a
 -- stop leaves the state before it or after it
-abbrev pub StoreLeaves : State → Entry → Bool → (States → Type 0) → Type 0
-StoreLeaves s nothing shut leaves = ⊥
-StoreLeaves s bad shut leaves = ⊥
-StoreLeaves s (command c) shut leaves = (shut ≡ true) × leaves (λ u. (u ≡ s) ⊎ (u ≡ step s c))
-StoreLeaves s (question q) shut leaves = shut ≡ false
+abbrev pub CrashStatesOfStoreFault : State → Entry → Bool → (States → Type 0) → Type 0
+CrashStatesOfStoreFault s nothing shut crash_states = ⊥
+CrashStatesOfStoreFault s bad shut crash_states = ⊥
+CrashStatesOfStoreFault s (command c) shut crash_states = (shut ≡ true) × crash_states (λ u. (u ≡ s) ⊎ (u ≡ step s c))
+CrashStatesOfStoreFault s (question q) shut crash_states = shut ≡ false
 
 -- what a fault leaves a keeper at, which stood at s as the entry e came
-abbrev pub FaultLeaves : DeskFault → State → Entry → States → Bool → (States → Type 0) → Type 0
-FaultLeaves Store s e stands shut leaves = stands s × StoreLeaves s e shut leaves
-FaultLeaves Memory s e stands shut leaves = stands s × (shut ≡ false)
-FaultLeaves Shut s e stands shut leaves = ⊥
+abbrev pub CrashStatesOfFault : DeskFault → State → Entry → States → Bool → (States → Type 0) → Type 0
+CrashStatesOfFault Store s e represents shut crash_states = represents s × CrashStatesOfStoreFault s e shut crash_states
+CrashStatesOfFault Memory s e represents shut crash_states = represents s × (shut ≡ false)
+CrashStatesOfFault Shut s e represents shut crash_states = ⊥
 
 -- the text that comes next, and the keeper beside it: the reply to e, or a fault's line
 abbrev pub ComesNext : ℕ → State → Entry → List ℕ → States → Bool → (States → Type 0) → Type 0
-ComesNext k s e text stands shut leaves = ((text ≡ entry_text k s e) × stands (after s e) × (shut ≡ false))
-    ⊎ ((f : DeskFault) × (text ≡ with_lf (fault_text f)) × FaultLeaves f s e stands shut leaves)
+ComesNext k s e text represents shut crash_states = ((text ≡ entry_text k s e) × represents (after s e) × (shut ≡ false))
+    ⊎ ((f : DeskFault) × (text ≡ with_lf (fault_text f)) × CrashStatesOfFault f s e represents shut crash_states)
 
 -- how a run stops at the entry e: in its next text, or behind a fault's line
-abbrev pub StopsAt : ℕ → State → Entry → Option (List ℕ) → Option (List ℕ) → States → Bool → (States → Type 0) → Stop → Type 0
-StopsAt k s e old new stands shut leaves S.Write = (text : List ℕ) × ComesNext k s e text stands shut leaves × AppendsFront old new text
-StopsAt k s e old new stands shut leaves (S.Fault f) = Appends old new (with_lf (fault_text f)) × FaultLeaves f s e stands shut leaves
+abbrev pub StopsAt : ℕ → State → Entry → Option (List ℕ) → Option (List ℕ) → States → Bool → (States → Type 0) → TurnError → Type 0
+StopsAt k s e old new represents shut crash_states S.Write = (text : List ℕ) × ComesNext k s e text represents shut crash_states × AppendsPrefix old new text
+StopsAt k s e old new represents shut crash_states (S.Fault f) = Appends old new (with_lf (fault_text f)) × CrashStatesOfFault f s e represents shut crash_states
 
 -- some of the entries were answered, and the run stopped at the next one
-pub record Stopped (k : ℕ) (s : State) (es : List Entry) (old new : Option (List ℕ)) (stands : States) (shut : Bool) (leaves : States → Type 0) (stop : Stop) : Type 0 where
+pub record RunStopped (k : ℕ) (s : State) (es : List Entry) (old new : Option (List ℕ)) (represents : States) (shut : Bool) (crash_states : States → Type 0) (stop : TurnError) : Type 0 where
   pub answered : List Entry
   pub next : Entry
   pub more : List Entry
   pub cut : es ≡ answered ++ next ∷ more
   pub between : Option (List ℕ)
-  pub told : Appends old between (texts k s answered)
-  pub stops : StopsAt k (fold s answered) next between new stands shut leaves stop
+  pub reported : Appends old between (texts k s answered)
+  pub stops : StopsAt k (fold s answered) next between new represents shut crash_states stop
 
 -- the most reads that a run makes
 abbrev pub most_reads : ℕ
@@ -162,20 +162,20 @@ most_reads = 1000000000
 
 -- The run stopped: at the end of the input at any line; else at a line whose LF was read, or behind these for want of
 -- memory. For what stands behind the last LF counts there as an empty line: nothing of it is executed or answered.
-abbrev pub StoppedAmong : ℕ → State → List ℕ → Option (List ℕ) → Option (List ℕ) → Option (List ℕ) → States → Bool → (States → Type 0) → Stop → Type 0
-StoppedAmong k s bytes left old new stands shut leaves stop =
-    (IsAtEnd left × Stopped k s (entries (all_lines bytes)) old new stands shut leaves stop)
-    ⊎ Stopped k s (entries (ended_lines bytes) ++ nothing ∷ []) old new stands shut leaves stop
+abbrev pub StoppedAmong : ℕ → State → List ℕ → Option (List ℕ) → Option (List ℕ) → Option (List ℕ) → States → Bool → (States → Type 0) → TurnError → Type 0
+StoppedAmong k s bytes left old new represents shut crash_states stop =
+    (IsAtEnd left × RunStopped k s (entries (all_lines bytes)) old new represents shut crash_states stop)
+    ⊎ RunStopped k s (entries (ended_lines bytes) ++ nothing ∷ []) old new represents shut crash_states stop
 
 -- how a run of so many reads at most over these bytes ended, where `left` is what the reader has left; each read took a
 -- byte at least, so that an endless run has read as many bytes
 abbrev pub EndsWithin : ℕ → ℕ → State → List ℕ → Option (List ℕ) → Option (List ℕ) → Option (List ℕ) → States → Bool → (States → Type 0) → RunEnd → Type 0
-EndsWithin most k s bytes left old new stands shut leaves (E.Done refused) = IsAtEnd left × AreAnswered k s (entries (lines bytes)) old new stands false refused × (shut ≡ false)
-EndsWithin most k s bytes left old new stands shut leaves E.Read = (refused : Bool) × AreAnswered k s (entries (ended_lines bytes)) old new stands false refused × (shut ≡ false)
-EndsWithin most k s bytes left old new stands shut leaves E.Endless = (refused : Bool) × AreAnswered k s (entries (ended_lines bytes)) old new stands false refused × (shut ≡ false) × (most ≤ length bytes)
-EndsWithin most k s bytes left old new stands shut leaves E.Write = StoppedAmong k s bytes left old new stands shut leaves S.Write
-EndsWithin most k s bytes left old new stands shut leaves (E.Fault f) = StoppedAmong k s bytes left old new stands shut leaves (S.Fault f)
+EndsWithin most k s bytes left old new represents shut crash_states (E.Done refused) = IsAtEnd left × AreAnswered k s (entries (lines bytes)) old new represents false refused × (shut ≡ false)
+EndsWithin most k s bytes left old new represents shut crash_states E.Read = (refused : Bool) × AreAnswered k s (entries (ended_lines bytes)) old new represents false refused × (shut ≡ false)
+EndsWithin most k s bytes left old new represents shut crash_states E.Endless = (refused : Bool) × AreAnswered k s (entries (ended_lines bytes)) old new represents false refused × (shut ≡ false) × (most ≤ length bytes)
+EndsWithin most k s bytes left old new represents shut crash_states E.Write = StoppedAmong k s bytes left old new represents shut crash_states S.Write
+EndsWithin most k s bytes left old new represents shut crash_states (E.Fault f) = StoppedAmong k s bytes left old new represents shut crash_states (S.Fault f)
 
 -- how a run over these bytes ended
 abbrev pub Ends : ℕ → State → List ℕ → Option (List ℕ) → Option (List ℕ) → Option (List ℕ) → States → Bool → (States → Type 0) → RunEnd → Type 0
-Ends k s bytes left old new stands shut leaves end = EndsWithin most_reads k s bytes left old new stands shut leaves end
+Ends k s bytes left old new represents shut crash_states end = EndsWithin most_reads k s bytes left old new represents shut crash_states end

@@ -5,5 +5,5 @@ use Rattle.std.specs.Io.KnownBytes.{Appends}
 pub use Rattle.plant_record.specs.Record.{with_lf}
 
 -- a front of the text was written and nothing else, and something of it is missing
-abbrev pub AppendsFront : Option (List ℕ) → Option (List ℕ) → List ℕ → Type 0
-AppendsFront old new text = (front : List ℕ) × (missing : List ℕ) × (text ≡ front ++ missing) × (0 < length missing) × Appends old new front
+abbrev pub AppendsPrefix : Option (List ℕ) → Option (List ℕ) → List ℕ → Type 0
+AppendsPrefix old new text = (prefix : List ℕ) × (missing : List ℕ) × (text ≡ prefix ++ missing) × (0 < length missing) × Appends old new prefix

@@ -8,10 +8,10 @@ mod run;
 mod turns;
 mod writes;
 
+pub use plant_message_schema::{Fault, FormatError, LineFault};
 pub use plant_record::record;
-pub use plant_shapes::{Fault, LineFault, Problem};
 pub use plant_text_answers::{ReplyText, answer_text, fault_line, reply_line};
-pub use read::{Line, read_line, read_told};
+pub use read::{Line, read_line, read_line_or_error};
 pub use run::{RunEnd, run_lines, run_lines_within};
-pub use turns::{Stop, is_unknown, take_command, tell_fault};
-pub use writes::{Unwritten, write_both, write_line, write_text};
+pub use turns::{TurnError, is_unknown, take_command, write_fault};
+pub use writes::{WriteError, write_both, write_line, write_text};

@@ -1,46 +1,46 @@
 //! Questions as JSON: which objects are questions, and what is wrong with the others.
 ghost use Rattle.std.specs.Prelude.{◌≡◌, true, IfErr};
 ghost use Rattle.serde_json.specs.View.{view};
-ghost use Rattle.plant_shapes.specs.Problems.{problem_told};
-ghost use Rattle.plant_text.specs.Questions.{asked_alone, id_named, node_named, trace_of, edges_of, place_in, whole_list, list_of, list_in};
-ghost use Rattle.plant_text.specs.Questions.{recipe_place_in, movement_place_in, recipes_asked, ledger_asked, of_asked};
+ghost use Rattle.plant_message_schema.specs.FormatErrors.{format_error_is_reported};
+ghost use Rattle.plant_text.specs.Questions.{asked_alone, id_named, node_named, trace_of, edges_of, cursor_in, whole_list, list_of, list_in};
+ghost use Rattle.plant_text.specs.Questions.{recipe_cursor_in, movement_cursor_in, recipes_asked, ledger_asked, of_asked};
 ghost use Rattle.plant_text.specs.Questions.{list_asked, question_for, kind_at, question_of};
 
 use plant_base::Id;
-use plant_messages::Question;
-use plant_shapes::{
-    Field, Flaw, ListKind, Member, Problem, QuestionKind, exactly, fields_of, list_members,
-    question_kind,
+use plant_message_schema::{
+    Field, FormatError, ListKind, Member, QuestionKind, ShapeError, exactly, fields_of,
+    list_members, question_kind,
 };
+use plant_messages::Question;
 use plant_trace::{Direction, Node};
-use plant_worklists::{MovementPlace, RecipePlace, Worklist};
+use plant_worklists::{MovementCursor, RecipeCursor, Worklist};
 use serde_json::Value;
 
 /// A question that names nothing.
-fn asked_alone(value: &Value, question: Question) -> Result<Question, Problem>
+fn asked_alone(value: &Value, question: Question) -> Result<Question, FormatError>
     ensures { result ≡ asked_alone question (view value.now) }
 {
     match exactly(value, &[Member::Ask]) {
         Ok(_) => Ok(question),
-        Err(flaw) => Err(Problem::Object(flaw)),
+        Err(shape_error) => Err(FormatError::Object(shape_error)),
     }
 }
 
 /// The id that a question names, which with its word is all that it has.
-fn id_named(value: &Value, member: Member) -> Result<Id, Problem>
+fn id_named(value: &Value, member: Member) -> Result<Id, FormatError>
     ensures { result ≡ id_named member (view value.now) }
 {
     match exactly(value, &[Member::Ask, member]) {
         Ok(fields) => match fields.as_slice() {
             &[Field::Chosen, Field::Id(id)] => Ok(id),
-            _ => Err(Problem::Object(Flaw::NoForm)),
+            _ => Err(FormatError::Object(ShapeError::Malformed)),
         },
-        Err(flaw) => Err(Problem::Object(flaw)),
+        Err(shape_error) => Err(FormatError::Object(shape_error)),
     }
 }
 
 /// The lot or the batch that a question about the genealogy names.
-fn node_named(value: &Value) -> Result<Node, Problem>
+fn node_named(value: &Value) -> Result<Node, FormatError>
     ensures { result ≡ node_named (view value.now) }
 {
     if value.get("lot").is_some() {
@@ -48,33 +48,33 @@ fn node_named(value: &Value) -> Result<Node, Problem>
     } else if value.get("batch").is_some() {
         Ok(Node::Batch(id_named(value, Member::Batch)?))
     } else {
-        Err(Problem::NothingTraced)
+        Err(FormatError::NothingTraced)
     }
 }
 
 /// The question about a trace in a direction.
-fn trace_of(value: &Value, direction: Direction) -> Result<Question, Problem>
+fn trace_of(value: &Value, direction: Direction) -> Result<Question, FormatError>
     ensures { result ≡ trace_of direction (view value.now) }
 {
     match node_named(value) {
         Ok(node) => Ok(Question::Trace(direction, node)),
-        Err(problem) => Err(problem),
+        Err(format_error) => Err(format_error),
     }
 }
 
 /// The question about the edges in a direction.
-fn edges_of(value: &Value, direction: Direction) -> Result<Question, Problem>
+fn edges_of(value: &Value, direction: Direction) -> Result<Question, FormatError>
     ensures { result ≡ edges_of direction (view value.now) }
 {
     match node_named(value) {
         Ok(node) => Ok(Question::Edges(direction, node)),
-        Err(problem) => Err(problem),
+        Err(format_error) => Err(format_error),
     }
 }
 
 /// The place that a page goes on from, nothing where none is given.
-fn place_in(field: Field) -> Option<Option<Id>>
-    ensures { result ≡ place_in field }
+fn cursor_in(field: Field) -> Option<Option<Id>>
+    ensures { result ≡ cursor_in field }
 {
     match field {
         Field::Absent => Some(None),
@@ -113,55 +113,55 @@ fn list_of(kind: ListKind, of: Field) -> Option<Worklist>
 }
 
 /// The place in a list of recipes that a page goes on from, nothing where none is given.
-fn recipe_place_in(field: Field) -> Option<Option<RecipePlace>>
-    ensures { result ≡ recipe_place_in field }
+fn recipe_cursor_in(field: Field) -> Option<Option<RecipeCursor>>
+    ensures { result ≡ recipe_cursor_in field }
 {
     match field {
         Field::Absent => Some(None),
-        Field::RecipePlace(place) => Some(Some(place)),
+        Field::RecipeCursor(place) => Some(Some(place)),
         _ => None,
     }
 }
 
 /// The place in a ledger that a page goes on from, nothing where none is given.
-fn movement_place_in(field: Field) -> Option<Option<MovementPlace>>
-    ensures { result ≡ movement_place_in field }
+fn movement_cursor_in(field: Field) -> Option<Option<MovementCursor>>
+    ensures { result ≡ movement_cursor_in field }
 {
     match field {
         Field::Absent => Some(None),
-        Field::MovementPlace(place) => Some(Some(place)),
+        Field::MovementCursor(place) => Some(Some(place)),
         _ => None,
     }
 }
 
 /// The question for a page of the recipes in a state.
-fn recipes_asked(of: Field, above: Field) -> Option<Question>
-    ensures { result ≡ recipes_asked of above }
+fn recipes_asked(of: Field, cursor: Field) -> Option<Question>
+    ensures { result ≡ recipes_asked of cursor }
 {
     match of {
-        Field::RecipeState(state) => Some(Question::Recipes(state, recipe_place_in(above)?)),
+        Field::RecipeState(state) => Some(Question::Recipes(state, recipe_cursor_in(cursor)?)),
         _ => None,
     }
 }
 
 /// The question for a page of the ledger of a lot.
-fn ledger_asked(of: Field, above: Field) -> Option<Question>
-    ensures { result ≡ ledger_asked of above }
+fn ledger_asked(of: Field, cursor: Field) -> Option<Question>
+    ensures { result ≡ ledger_asked of cursor }
 {
     match of {
-        Field::Id(lot) => Some(Question::Ledger(lot, movement_place_in(above)?)),
+        Field::Id(lot) => Some(Question::Ledger(lot, movement_cursor_in(cursor)?)),
         _ => None,
     }
 }
 
 /// The question for a page of a list that is of this.
-fn of_asked(kind: ListKind, of: Field, above: Field) -> Option<Question>
-    ensures { result ≡ of_asked kind of above }
+fn of_asked(kind: ListKind, of: Field, cursor: Field) -> Option<Question>
+    ensures { result ≡ of_asked kind of cursor }
 {
     match kind {
-        ListKind::Recipes => recipes_asked(of, above),
-        ListKind::Movements => ledger_asked(of, above),
-        _ => Some(Question::List(list_of(kind, of)?, place_in(above)?)),
+        ListKind::Recipes => recipes_asked(of, cursor),
+        ListKind::Movements => ledger_asked(of, cursor),
+        _ => Some(Question::List(list_of(kind, of)?, cursor_in(cursor)?)),
     }
 }
 
@@ -170,27 +170,27 @@ fn list_in(kind: ListKind, fields: &[Field]) -> Option<Question>
     ensures { result ≡ list_in kind fields.now }
 {
     match fields {
-        &[Field::Chosen, above] => Some(Question::List(whole_list(kind)?, place_in(above)?)),
-        &[Field::Chosen, of, above] => of_asked(kind, of, above),
+        &[Field::Chosen, cursor] => Some(Question::List(whole_list(kind)?, cursor_in(cursor)?)),
+        &[Field::Chosen, of, cursor] => of_asked(kind, of, cursor),
         _ => None,
     }
 }
 
 /// The question for a page of a list of a kind.
-fn list_asked(value: &Value, kind: ListKind) -> Result<Question, Problem>
+fn list_asked(value: &Value, kind: ListKind) -> Result<Question, FormatError>
     ensures { result ≡ list_asked kind (view value.now) }
 {
     match exactly(value, list_members(kind)) {
         Ok(fields) => match list_in(kind, fields.as_slice()) {
             Some(question) => Ok(question),
-            None => Err(Problem::Object(Flaw::NoForm)),
+            None => Err(FormatError::Object(ShapeError::Malformed)),
         },
-        Err(flaw) => Err(Problem::Object(flaw)),
+        Err(shape_error) => Err(FormatError::Object(shape_error)),
     }
 }
 
 /// The question of a kind.
-fn question_for(value: &Value, kind: QuestionKind) -> Result<Question, Problem>
+fn question_for(value: &Value, kind: QuestionKind) -> Result<Question, FormatError>
     ensures { result ≡ question_for kind (view value.now) }
 {
     match kind {
@@ -199,23 +199,23 @@ fn question_for(value: &Value, kind: QuestionKind) -> Result<Question, Problem>
         QuestionKind::List(list) => list_asked(value, list),
         QuestionKind::Lot => match id_named(value, Member::Lot) {
             Ok(lot) => Ok(Question::Lot(lot)),
-            Err(problem) => Err(problem),
+            Err(format_error) => Err(format_error),
         },
         QuestionKind::Order => match id_named(value, Member::Order) {
             Ok(order) => Ok(Question::Order(order)),
-            Err(problem) => Err(problem),
+            Err(format_error) => Err(format_error),
         },
         QuestionKind::Batch => match id_named(value, Member::Batch) {
             Ok(batch) => Ok(Question::Batch(batch)),
-            Err(problem) => Err(problem),
+            Err(format_error) => Err(format_error),
         },
         QuestionKind::Recall => match id_named(value, Member::Recall) {
             Ok(recall) => Ok(Question::Recall(recall)),
-            Err(problem) => Err(problem),
+            Err(format_error) => Err(format_error),
         },
-        QuestionKind::Stands => match node_named(value) {
-            Ok(node) => Ok(Question::Stands(node)),
-            Err(problem) => Err(problem),
+        QuestionKind::HasStoredRows => match node_named(value) {
+            Ok(node) => Ok(Question::HasStoredRows(node)),
+            Err(format_error) => Err(format_error),
         },
         QuestionKind::BackEdges => edges_of(value, Direction::Back),
         QuestionKind::ForwardEdges => edges_of(value, Direction::Forward),
@@ -230,22 +230,22 @@ fn kind_at(value: &Value) -> Option<QuestionKind>
     question_kind(value.get("ask")?.as_str()?)
 }
 
-fn read_question(value: &Value) -> Result<Question, Problem>
+fn read_question(value: &Value) -> Result<Question, FormatError>
     ensures { result ≡ question_of (view value.now) }
 {
     match kind_at(value) {
         Some(kind) => question_for(value, kind),
         None => match fields_of(value, &[Member::Ask]) {
-            Ok(_) => Err(Problem::Object(Flaw::NoForm)),
-            Err(flaw) => Err(Problem::Object(flaw)),
+            Ok(_) => Err(FormatError::Object(ShapeError::Malformed)),
+            Err(shape_error) => Err(FormatError::Object(shape_error)),
         },
     }
 }
 
 /// The question that the object is, or its first problem.
-pub(crate) fn question_of(value: &Value) -> Result<Question, Problem>
+pub(crate) fn question_of(value: &Value) -> Result<Question, FormatError>
     ensures reads { result ≡ question_of (view value.now) }
-    ensures told { IfErr result (λ problem. problem_told problem ≡ true) }
+    ensures reported { IfErr result (λ format_error. format_error_is_reported format_error ≡ true) }
 {
     read_question(value)
 }

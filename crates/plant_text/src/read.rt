@@ -2,14 +2,14 @@
 ghost use Rattle.std.specs.Prelude.{◌≡◌, ◌<◌, length, true, false, Some, None, Err, IfOk, IsErrOf};
 ghost use Rattle.serde_json.specs.Errors.{IsMemory};
 ghost use Rattle.serde_json.specs.View.{view};
-ghost use Rattle.plant_shapes.specs.Problems.{Tells, IsTold};
-ghost use Rattle.plant_shapes.specs.declared.problems.Problem.TheVariants as problem;
+ghost use Rattle.plant_message_schema.specs.FormatErrors.{Reports, IsReported};
+ghost use Rattle.plant_message_schema.specs.declared.format_errors.FormatError.TheVariants as format_error;
 ghost use Rattle.plant_text.specs.Lines.{longest_line, object_says, value_says, line_says, line_of};
 
 use crate::questions::question_of;
 use plant_base::Envelope;
+use plant_message_schema::{Fault, FormatError, LineFault, ShapeError};
 use plant_messages::Question;
-use plant_shapes::{Fault, Flaw, LineFault, Problem};
 use plant_text_commands::command_of;
 use serde_json::Value;
 use std::alloc::Global;
@@ -33,8 +33,8 @@ fn is_refusal(error: &serde_json::Error) -> bool
 
 /// The command or the question that an object is, or its first problem.
 fn object_says(alloc: Global, value: &Value) -> Result<Line, Fault>
-    ensures reads { Tells result (object_says (view value.now)) }
-    ensures told { IsTold result }
+    ensures reads { Reports result (object_says (view value.now)) }
+    ensures reported { IsReported result }
 {
     if value.get("do").is_some() {
         match command_of(alloc, value) {
@@ -44,22 +44,22 @@ fn object_says(alloc: Global, value: &Value) -> Result<Line, Fault>
     } else if value.get("ask").is_some() {
         match question_of(value) {
             Ok(question) => Ok(Line::Question(question)),
-            Err(problem) => Err(Fault::Told(problem)),
+            Err(format_error) => Err(Fault::Reported(format_error)),
         }
     } else {
-        Err(Fault::Told(Problem::Neither))
+        Err(Fault::Reported(FormatError::Neither))
     }
 }
 
 /// What a value says, or its first problem.
 fn value_says(alloc: Global, value: &Value) -> Result<Line, Fault>
-    ensures reads { Tells result (value_says (view value.now)) }
-    ensures told { IsTold result }
+    ensures reads { Reports result (value_says (view value.now)) }
+    ensures reported { IsReported result }
 {
     if value.as_object().is_some() {
         object_says(alloc, value)
     } else {
-        Err(Fault::Told(Problem::Object(Flaw::NoObject)))
+        Err(Fault::Reported(FormatError::Object(ShapeError::NoObject)))
     }
 }
 
@@ -71,27 +71,27 @@ const LONGEST_LINE: usize = 262_144;
 /// The line is a JSON text (RFC 8259) of 262,144 bytes at most, in UTF-8, as serde_json reads it; of members with one name the last
 /// counts. An object with `do` is a command where it has the members that each command has (of which the note and the reference may be
 /// left out), those of its word and no other, and in its list objects with exactly the members of their kind; which members these are, and
-/// what each may be, stands in the tables of `plant_shapes`. Another with `ask` is a question: exactly `{"ask":"desk"}`;
+/// what each may be, stands in the tables of `plant_message_schema`. Another with `ask` is a question: exactly `{"ask":"desk"}`;
 /// `{"ask":"lot","lot":ID}` and likewise with `order`, `batch` and `recall`; `{"ask":"back","lot":ID}` or
 /// `{"ask":"back","batch":ID}` and likewise with `forward`; `{"ask":"moment"}`; or one for a page of a list, with its word and what it is of, and
 /// with the id that it goes on from where one is given.
 ///
-/// - `Told`: the line is longer or has none of these shapes, and this is the first thing that is wrong with it, in the order of the
+/// - `Reported`: the line is longer or has none of these shapes, and this is the first thing that is wrong with it, in the order of the
 ///   formats, with a text of its own.
 /// - `Memory`: memory was refused. It may come for any line that isn't longer, since serde_json asks for memory first.
-pub fn read_told(alloc: Global, bytes: &[u8]) -> Result<Line, Fault>
-    ensures reads { Tells result (line_says bytes.now) }
-    ensures told { IsTold result }
-    ensures long { longest_line < length bytes.now → IsErrOf result (Fault.Told problem.TooLong) }
+pub fn read_line_or_error(alloc: Global, bytes: &[u8]) -> Result<Line, Fault>
+    ensures reads { Reports result (line_says bytes.now) }
+    ensures reported { IsReported result }
+    ensures long { longest_line < length bytes.now → IsErrOf result (Fault.Reported format_error.TooLong) }
 {
     if bytes.len() > LONGEST_LINE {
-        return Err(Fault::Told(Problem::TooLong));
+        return Err(Fault::Reported(FormatError::TooLong));
     }
     match Value::from_slice(alloc, bytes) {
         Ok(value) => value_says(alloc, &value),
         Err(error) => {
             if is_refusal(&error) {
-                Err(Fault::Told(Problem::NoJson))
+                Err(Fault::Reported(FormatError::NoJson))
             } else {
                 Err(Fault::Memory)
             }
@@ -99,7 +99,7 @@ pub fn read_told(alloc: Global, bytes: &[u8]) -> Result<Line, Fault>
     }
 }
 
-/// Reads a line, as [`read_told`] does, without its problem.
+/// Reads a line, as [`read_line_or_error`] does, without its problem.
 ///
 /// `BadForm` comes exactly from a line that is longer or has none of the shapes. `Memory` may come for any line that isn't longer.
 pub fn read_line(alloc: Global, bytes: &[u8]) -> Result<Line, LineFault>
@@ -107,9 +107,9 @@ pub fn read_line(alloc: Global, bytes: &[u8]) -> Result<Line, LineFault>
     ensures bad_form { IsErrOf result LineFault.BadForm → line_of bytes.now ≡ None }
     ensures long { longest_line < length bytes.now → IsErrOf result LineFault.BadForm }
 {
-    match read_told(alloc, bytes) {
+    match read_line_or_error(alloc, bytes) {
         Ok(line) => Ok(line),
-        Err(Fault::Told(_)) => Err(LineFault::BadForm),
+        Err(Fault::Reported(_)) => Err(LineFault::BadForm),
         Err(Fault::Memory) => Err(LineFault::Memory),
     }
 }

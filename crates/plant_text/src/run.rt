@@ -3,13 +3,13 @@ ghost use Rattle.std.specs.Prelude.{◌≡◌, ℕ, ◌<◌, List, [], ◌∷◌
 ghost use Rattle.std.specs.Str.Lines.{strip_carriage_return};
 ghost use Rattle.std.specs.Io.KnownBytes.{Consumes};
 ghost use Rattle.plant_base.specs.State.{State};
-ghost use Rattle.plant_desk.specs.Keeping.{IsSameDesk};
+ghost use Rattle.plant_desk.specs.Keepers.{IsSameDesk};
 ghost use Rattle.plant_text.specs.Session.{Ends, EndsWithin, entry_of};
-ghost use Rattle.plant_text.specs.Leaving.{RunLeaves};
+ghost use Rattle.plant_text.specs.CrashStates.{CrashStatesOfRun};
 ghost use Rattle.plant_text.specs.Turns.{PieceEnds, LastEnds, FaultWritten, end_of};
-ghost use Rattle.plant_text.specs.Held.{held_with, held_after, entries_after};
+ghost use Rattle.plant_text.specs.HeldLines.{held_with, held_after, entries_after};
 
-use crate::turns::{Stop, take_line, tell_fault};
+use crate::turns::{TurnError, take_line, write_fault};
 use plant_desk::Keeper;
 use plant_messages::DeskFault;
 use std::alloc::Global;
@@ -49,12 +49,12 @@ fn strip_carriage_return(line: &[u8]) -> &[u8]
     }
 }
 
-fn end_of(stop: Stop) -> RunEnd
+fn end_of(stop: TurnError) -> RunEnd
     ensures { result ≡ end_of stop }
 {
     match stop {
-        Stop::Write => RunEnd::Write,
-        Stop::Fault(fault) => RunEnd::Fault(fault),
+        TurnError::Write => RunEnd::Write,
+        TurnError::Fault(fault) => RunEnd::Fault(fault),
     }
 }
 
@@ -65,16 +65,16 @@ fn end_line<W: Write, K: Keeper>(
     keeper: &mut K,
     held: &mut Vec<u8>,
     refused: bool,
-) -> Result<bool, Stop>
+) -> Result<bool, TurnError>
     requires { K.shut keeper.old ≡ false }
-    ensures same { IsSameDesk K.honest K.schema K.beside keeper.old keeper.new }
+    ensures same { IsSameDesk K.honest K.schema K.foreign_tables keeper.old keeper.new }
     ensures open { OnOk result (K.shut keeper.new ≡ false) }
     ensures held { OnOk result (held.new.items ≡ []) }
-    ensures ends { K.honest keeper.new → (s : State) → K.stands keeper.old s
+    ensures ends { K.honest keeper.new → (s : State) → K.represents keeper.old s
         → PieceEnds (K.schema keeper.old) s
         (entry_of (strip_carriage_return held.old.items) ∷ [])
         (W.contents writer.old) (W.contents writer.new)
-        (K.stands keeper.new) (K.shut keeper.new) (K.leaves keeper.new) refused result }
+        (K.represents keeper.new) (K.shut keeper.new) (K.crash_states keeper.new) refused result }
 {
     match take_line(alloc, writer, keeper, strip_carriage_return(held)) {
         Ok(line_refused) => {
@@ -86,14 +86,14 @@ fn end_line<W: Write, K: Keeper>(
 }
 
 /// Holds a byte more of the line, while there is room.
-fn hold_byte<W: Write>(writer: &mut W, held: &mut Vec<u8>, b: u8) -> Result<(), Stop>
+fn hold_byte<W: Write>(writer: &mut W, held: &mut Vec<u8>, b: u8) -> Result<(), TurnError>
     ensures held { OnOk result (held.new.items ≡ held_with held.old.items b) }
     ensures same { OnOk result (W.contents writer.new ≡ W.contents writer.old) }
     ensures stops { IfErr result (FaultWritten DeskFault.Memory (W.contents writer.old)
         (W.contents writer.new)) }
 {
     if held.len() < ROOM && held.push(b).is_err() {
-        return Err(tell_fault(writer, DeskFault::Memory));
+        return Err(write_fault(writer, DeskFault::Memory));
     }
     Ok(())
 }
@@ -106,15 +106,15 @@ fn take_byte<W: Write, K: Keeper>(
     held: &mut Vec<u8>,
     refused: bool,
     b: u8,
-) -> Result<bool, Stop>
+) -> Result<bool, TurnError>
     requires { K.shut keeper.old ≡ false }
-    ensures same { IsSameDesk K.honest K.schema K.beside keeper.old keeper.new }
+    ensures same { IsSameDesk K.honest K.schema K.foreign_tables keeper.old keeper.new }
     ensures open { OnOk result (K.shut keeper.new ≡ false) }
     ensures held { OnOk result (held.new.items ≡ held_after held.old.items (b ∷ [])) }
-    ensures ends { K.honest keeper.new → (s : State) → K.stands keeper.old s
+    ensures ends { K.honest keeper.new → (s : State) → K.represents keeper.old s
         → PieceEnds (K.schema keeper.old) s (entries_after held.old.items (b ∷ []))
         (W.contents writer.old) (W.contents writer.new)
-        (K.stands keeper.new) (K.shut keeper.new) (K.leaves keeper.new) refused result }
+        (K.represents keeper.new) (K.shut keeper.new) (K.crash_states keeper.new) refused result }
 {
     if b == b'\n' {
         return end_line(alloc, writer, keeper, held, refused);
@@ -133,15 +133,15 @@ fn take_piece<W: Write, K: Keeper>(
     held: &mut Vec<u8>,
     refused: bool,
     piece: &[u8],
-) -> Result<bool, Stop>
+) -> Result<bool, TurnError>
     requires { K.shut keeper.old ≡ false }
-    ensures same { IsSameDesk K.honest K.schema K.beside keeper.old keeper.new }
+    ensures same { IsSameDesk K.honest K.schema K.foreign_tables keeper.old keeper.new }
     ensures open { OnOk result (K.shut keeper.new ≡ false) }
     ensures held { OnOk result (held.new.items ≡ held_after held.old.items piece.now) }
-    ensures ends { K.honest keeper.new → (s : State) → K.stands keeper.old s
+    ensures ends { K.honest keeper.new → (s : State) → K.represents keeper.old s
         → PieceEnds (K.schema keeper.old) s (entries_after held.old.items piece.now)
         (W.contents writer.old) (W.contents writer.new)
-        (K.stands keeper.new) (K.shut keeper.new) (K.leaves keeper.new) refused result }
+        (K.represents keeper.new) (K.shut keeper.new) (K.crash_states keeper.new) refused result }
 {
     let mut refused = refused;
     for b in piece {
@@ -162,11 +162,11 @@ fn end_input<W: Write, K: Keeper>(
     refused: bool,
 ) -> RunEnd
     requires { K.shut keeper.old ≡ false }
-    ensures same { IsSameDesk K.honest K.schema K.beside keeper.old keeper.new }
-    ensures ends { K.honest keeper.new → (s : State) → K.stands keeper.old s
+    ensures same { IsSameDesk K.honest K.schema K.foreign_tables keeper.old keeper.new }
+    ensures ends { K.honest keeper.new → (s : State) → K.represents keeper.old s
         → LastEnds (K.schema keeper.old) s (entry_of held.now)
         (W.contents writer.old) (W.contents writer.new)
-        (K.stands keeper.new) (K.shut keeper.new) (K.leaves keeper.new) refused result }
+        (K.represents keeper.new) (K.shut keeper.new) (K.crash_states keeper.new) refused result }
 {
     match take_line(alloc, writer, keeper, held) {
         Ok(line_refused) => RunEnd::Done {
@@ -187,12 +187,12 @@ fn run_pieces<R: Read, W: Write, K: Keeper>(
 ) -> RunEnd
     requires open { K.shut keeper.old ≡ false }
     requires room { 0 < length piece.old }
-    ensures same { IsSameDesk K.honest K.schema K.beside keeper.old keeper.new }
+    ensures same { IsSameDesk K.honest K.schema K.foreign_tables keeper.old keeper.new }
     ensures ends { (bytes : List ℕ) × Consumes (R.remaining reader.old) (R.remaining reader.new) bytes
-        × (K.honest keeper.new → (s : State) → K.stands keeper.old s
+        × (K.honest keeper.new → (s : State) → K.represents keeper.old s
         → EndsWithin most (K.schema keeper.old) s bytes (R.remaining reader.new)
         (W.contents writer.old) (W.contents writer.new)
-        (K.stands keeper.new) (K.shut keeper.new) (K.leaves keeper.new) result) }
+        (K.represents keeper.new) (K.shut keeper.new) (K.crash_states keeper.new) result) }
 {
     let mut held = Vec::new(alloc);
     let mut refused = false;
@@ -200,8 +200,8 @@ fn run_pieces<R: Read, W: Write, K: Keeper>(
         match reader.read(piece) {
             Ok(0) => return end_input(alloc, writer, keeper, &held, refused),
             Ok(n) => {
-                let (front, _) = piece.split_at(n);
-                match take_piece(alloc, writer, keeper, &mut held, refused, front) {
+                let (prefix, _) = piece.split_at(n);
+                match take_piece(alloc, writer, keeper, &mut held, refused, prefix) {
                     Ok(now) => refused = now,
                     Err(stop) => return end_of(stop),
                 }
@@ -237,15 +237,15 @@ pub fn run_lines<R: Read, W: Write, K: Keeper>(
     keeper: &mut K,
 ) -> RunEnd
     requires { K.shut keeper.old ≡ false }
-    ensures same { IsSameDesk K.honest K.schema K.beside keeper.old keeper.new }
+    ensures same { IsSameDesk K.honest K.schema K.foreign_tables keeper.old keeper.new }
 
     // How the run ended, and what a stop leaves then.
     ensures ends { (bytes : List ℕ) × Consumes (R.remaining reader.old) (R.remaining reader.new) bytes
-        × (K.honest keeper.new → (s : State) → K.stands keeper.old s
+        × (K.honest keeper.new → (s : State) → K.represents keeper.old s
         → Ends (K.schema keeper.old) s bytes (R.remaining reader.new)
         (W.contents writer.old) (W.contents writer.new)
-        (K.stands keeper.new) (K.shut keeper.new) (K.leaves keeper.new) result
-        × RunLeaves s bytes (R.remaining reader.new) (K.stands keeper.new) (K.leaves keeper.new) result) }
+        (K.represents keeper.new) (K.shut keeper.new) (K.crash_states keeper.new) result
+        × CrashStatesOfRun s bytes (R.remaining reader.new) (K.represents keeper.new) (K.crash_states keeper.new) result) }
 {
     run_lines_within(alloc, reader, writer, keeper, MOST_READS)
 }
@@ -259,13 +259,13 @@ pub fn run_lines_within<R: Read, W: Write, K: Keeper>(
     most: u64,
 ) -> RunEnd
     requires { K.shut keeper.old ≡ false }
-    ensures same { IsSameDesk K.honest K.schema K.beside keeper.old keeper.new }
+    ensures same { IsSameDesk K.honest K.schema K.foreign_tables keeper.old keeper.new }
     ensures ends { (bytes : List ℕ) × Consumes (R.remaining reader.old) (R.remaining reader.new) bytes
-        × (K.honest keeper.new → (s : State) → K.stands keeper.old s
+        × (K.honest keeper.new → (s : State) → K.represents keeper.old s
         → EndsWithin most (K.schema keeper.old) s bytes (R.remaining reader.new)
         (W.contents writer.old) (W.contents writer.new)
-        (K.stands keeper.new) (K.shut keeper.new) (K.leaves keeper.new) result
-        × RunLeaves s bytes (R.remaining reader.new) (K.stands keeper.new) (K.leaves keeper.new) result) }
+        (K.represents keeper.new) (K.shut keeper.new) (K.crash_states keeper.new) result
+        × CrashStatesOfRun s bytes (R.remaining reader.new) (K.represents keeper.new) (K.crash_states keeper.new) result) }
 {
     let mut piece = [0; 4096];
     run_pieces(alloc, reader, writer, keeper, &mut piece, most)

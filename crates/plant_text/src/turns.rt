@@ -1,7 +1,7 @@
 //! One line: what it says, what the keeper does, what is written.
 ghost use Rattle.std.specs.Prelude.{◌≡◌, false, IfErr, IfOk, IsErrAnd, OnOk};
 ghost use Rattle.plant_base.specs.State.{State};
-ghost use Rattle.plant_desk.specs.Keeping.{IsSameDesk};
+ghost use Rattle.plant_desk.specs.Keepers.{IsSameDesk};
 ghost use Rattle.plant_text.specs.Session.{entry_of, is_refusal, is_unknown, command as command_entry};
 ghost use Rattle.plant_text.specs.Session.{question as question_entry};
 ghost use Rattle.plant_text.specs.Turns.{TurnEnds, FaultWritten, AnswerWritten, BadWritten};
@@ -10,15 +10,15 @@ use crate::read::{Line, read_line};
 use crate::writes::write_line;
 use plant_base::{Envelope, Refusal};
 use plant_desk::Keeper;
+use plant_message_schema::LineFault;
 use plant_messages::{Answer, DeskFault, Question, Reply};
-use plant_shapes::LineFault;
 use plant_text_answers::{answer_text, fault_line, reply_line};
 use std::alloc::Global;
 use std::io::Write;
 
 /// Why a run stops before the end of its input.
 #[derive(Clone, Copy, Debug, PartialEq, Eq)]
-pub enum Stop {
+pub enum TurnError {
     /// A text couldn't be written whole.
     Write,
     /// The fault, whose line was written.
@@ -28,12 +28,12 @@ pub enum Stop {
 /// Writes a fault's line and an LF.
 ///
 /// `Fault` gives the fault back; `Write` comes where the line couldn't be written whole.
-pub fn tell_fault<W: Write>(writer: &mut W, fault: DeskFault) -> Stop
+pub fn write_fault<W: Write>(writer: &mut W, fault: DeskFault) -> TurnError
     ensures { FaultWritten fault (W.contents writer.old) (W.contents writer.new) result }
 {
     match write_line(writer, fault_line(fault).as_bytes()) {
-        Ok(()) => Stop::Fault(fault),
-        Err(_) => Stop::Write,
+        Ok(()) => TurnError::Fault(fault),
+        Err(_) => TurnError::Write,
     }
 }
 
@@ -57,13 +57,13 @@ pub fn is_unknown(answer: &Answer) -> bool
 }
 
 /// Answers a line that says nothing.
-fn tell_bad_form<W: Write>(writer: &mut W) -> Result<bool, Stop>
+fn write_bad_form<W: Write>(writer: &mut W) -> Result<bool, TurnError>
     ensures { BadWritten (W.contents writer.old) (W.contents writer.new) result }
 {
     let text = reply_line(&Reply::Refused(Refusal::BadForm));
     match write_line(writer, text.as_bytes()) {
         Ok(()) => Ok(true),
-        Err(_) => Err(Stop::Write),
+        Err(_) => Err(TurnError::Write),
     }
 }
 
@@ -77,32 +77,32 @@ pub fn take_command<W: Write, K: Keeper>(
     writer: &mut W,
     keeper: &mut K,
     envelope: &Envelope,
-) -> Result<bool, Stop>
+) -> Result<bool, TurnError>
     requires { K.shut keeper.old ≡ false }
-    ensures same { IsSameDesk K.honest K.schema K.beside keeper.old keeper.new }
+    ensures same { IsSameDesk K.honest K.schema K.foreign_tables keeper.old keeper.new }
     ensures open { OnOk result (K.shut keeper.new ≡ false) }
-    ensures ends { K.honest keeper.new → (s : State) → K.stands keeper.old s
+    ensures ends { K.honest keeper.new → (s : State) → K.represents keeper.old s
         → TurnEnds (K.schema keeper.old) s (command_entry envelope.now)
         (W.contents writer.old) (W.contents writer.new)
-        (K.stands keeper.new) (K.shut keeper.new) (K.leaves keeper.new) result }
+        (K.represents keeper.new) (K.shut keeper.new) (K.crash_states keeper.new) result }
 {
     match keeper.execute(envelope) {
         Ok(reply) => match write_line(writer, reply_line(&reply).as_bytes()) {
             Ok(()) => Ok(is_refusal(&reply)),
-            Err(_) => Err(Stop::Write),
+            Err(_) => Err(TurnError::Write),
         },
-        Err(fault) => Err(tell_fault(writer, fault)),
+        Err(fault) => Err(write_fault(writer, fault)),
     }
 }
 
 /// Writes what came of a question: the answer's text, which may be a refusal, or the line of the fault.
 ///
 /// Where memory is refused for the text, that fault's line is written in its place.
-fn tell_answer<W: Write>(
+fn write_answer<W: Write>(
     alloc: Global,
     writer: &mut W,
     asked: Result<Answer, DeskFault>,
-) -> Result<bool, Stop>
+) -> Result<bool, TurnError>
     ensures answered { IfOk asked (λ answer. AnswerWritten answer (W.contents writer.old)
         (W.contents writer.new) result) }
     ensures faulted { IfErr asked (λ fault. IsErrAnd result
@@ -112,11 +112,11 @@ fn tell_answer<W: Write>(
         Ok(answer) => match answer_text(alloc, &answer) {
             Ok(text) => match write_line(writer, text.as_bytes()) {
                 Ok(()) => Ok(is_unknown(&answer)),
-                Err(_) => Err(Stop::Write),
+                Err(_) => Err(TurnError::Write),
             },
-            Err(_) => Err(tell_fault(writer, DeskFault::Memory)),
+            Err(_) => Err(write_fault(writer, DeskFault::Memory)),
         },
-        Err(cause) => Err(tell_fault(writer, cause)),
+        Err(cause) => Err(write_fault(writer, cause)),
     }
 }
 
@@ -126,16 +126,16 @@ fn take_question<W: Write, K: Keeper>(
     writer: &mut W,
     keeper: &mut K,
     question: &Question,
-) -> Result<bool, Stop>
+) -> Result<bool, TurnError>
     requires { K.shut keeper.old ≡ false }
-    ensures same { IsSameDesk K.honest K.schema K.beside keeper.old keeper.new }
+    ensures same { IsSameDesk K.honest K.schema K.foreign_tables keeper.old keeper.new }
     ensures open { OnOk result (K.shut keeper.new ≡ false) }
-    ensures ends { K.honest keeper.new → (s : State) → K.stands keeper.old s
+    ensures ends { K.honest keeper.new → (s : State) → K.represents keeper.old s
         → TurnEnds (K.schema keeper.old) s (question_entry question.now)
         (W.contents writer.old) (W.contents writer.new)
-        (K.stands keeper.new) (K.shut keeper.new) (K.leaves keeper.new) result }
+        (K.represents keeper.new) (K.shut keeper.new) (K.crash_states keeper.new) result }
 {
-    tell_answer(alloc, writer, keeper.ask(question))
+    write_answer(alloc, writer, keeper.ask(question))
 }
 
 /// Takes one line. `true` where its reply is a refusal.
@@ -144,14 +144,14 @@ pub(crate) fn take_line<W: Write, K: Keeper>(
     writer: &mut W,
     keeper: &mut K,
     line: &[u8],
-) -> Result<bool, Stop>
+) -> Result<bool, TurnError>
     requires { K.shut keeper.old ≡ false }
-    ensures same { IsSameDesk K.honest K.schema K.beside keeper.old keeper.new }
+    ensures same { IsSameDesk K.honest K.schema K.foreign_tables keeper.old keeper.new }
     ensures open { OnOk result (K.shut keeper.new ≡ false) }
-    ensures ends { K.honest keeper.new → (s : State) → K.stands keeper.old s
+    ensures ends { K.honest keeper.new → (s : State) → K.represents keeper.old s
         → TurnEnds (K.schema keeper.old) s (entry_of line.now)
         (W.contents writer.old) (W.contents writer.new)
-        (K.stands keeper.new) (K.shut keeper.new) (K.leaves keeper.new) result }
+        (K.represents keeper.new) (K.shut keeper.new) (K.crash_states keeper.new) result }
 {
     if line.is_empty() {
         return Ok(false);
@@ -159,7 +159,7 @@ pub(crate) fn take_line<W: Write, K: Keeper>(
     match read_line(alloc, line) {
         Ok(Line::Command(envelope)) => take_command(writer, keeper, &envelope),
         Ok(Line::Question(question)) => take_question(alloc, writer, keeper, &question),
-        Err(LineFault::BadForm) => tell_bad_form(writer),
-        Err(LineFault::Memory) => Err(tell_fault(writer, DeskFault::Memory)),
+        Err(LineFault::BadForm) => write_bad_form(writer),
+        Err(LineFault::Memory) => Err(write_fault(writer, DeskFault::Memory)),
     }
 }

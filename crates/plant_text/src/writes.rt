@@ -1,7 +1,7 @@
 //! Whole texts to a writer.
 ghost use Rattle.std.specs.Prelude.{◌++◌, OnOk, OnErr};
 ghost use Rattle.std.specs.Io.KnownBytes.{Appends};
-ghost use Rattle.plant_text.specs.Writes.{with_lf, AppendsFront};
+ghost use Rattle.plant_text.specs.Writes.{with_lf, AppendsPrefix};
 
 use arrayvec::ArrayVec;
 use std::io::Write;
@@ -13,19 +13,19 @@ const MOST_TOGETHER: usize = 4096;
 /// The writer failed, was interrupted, or took no byte. A front of the text may stand there, and no more is written.
 #[derive(Clone, Copy, Debug, PartialEq, Eq, Error)]
 #[error("the writer takes no more")]
-pub struct Unwritten;
+pub struct WriteError;
 
 /// Writes the text, in as many writes as the writer needs.
 ///
-/// `Unwritten`: a front of the text was written, perhaps none of it but never all, and nothing else.
-pub fn write_text<W: Write>(writer: &mut W, text: &[u8]) -> Result<(), Unwritten>
+/// `WriteError`: a front of the text was written, perhaps none of it but never all, and nothing else.
+pub fn write_text<W: Write>(writer: &mut W, text: &[u8]) -> Result<(), WriteError>
     ensures ok { OnOk result (Appends (W.contents writer.old) (W.contents writer.new) text.now) }
-    ensures err { OnErr result (AppendsFront (W.contents writer.old) (W.contents writer.new) text.now) }
+    ensures err { OnErr result (AppendsPrefix (W.contents writer.old) (W.contents writer.new) text.now) }
 {
     let mut rest = text;
     while !rest.is_empty() {
         match writer.write(rest) {
-            Ok(0) | Err(_) => return Err(Unwritten),
+            Ok(0) | Err(_) => return Err(WriteError),
             Ok(n) => {
                 let (_, later) = rest.split_at(n);
                 rest = later;
@@ -36,26 +36,26 @@ pub fn write_text<W: Write>(writer: &mut W, text: &[u8]) -> Result<(), Unwritten
 }
 
 /// Writes two texts, one after the other.
-fn write_each<W: Write>(writer: &mut W, first: &[u8], second: &[u8]) -> Result<(), Unwritten>
+fn write_each<W: Write>(writer: &mut W, first: &[u8], second: &[u8]) -> Result<(), WriteError>
     ensures ok { OnOk result (Appends (W.contents writer.old) (W.contents writer.new)
         (first.now ++ second.now)) }
-    ensures err { OnErr result (AppendsFront (W.contents writer.old) (W.contents writer.new)
+    ensures err { OnErr result (AppendsPrefix (W.contents writer.old) (W.contents writer.new)
         (first.now ++ second.now)) }
 {
     match write_text(writer, first) {
         Ok(()) => write_text(writer, second),
-        Err(unwritten) => Err(unwritten),
+        Err(write_error) => Err(write_error),
     }
 }
 
 /// Writes two texts, one behind the other: as one where both are short, since each write to a pipe or a socket costs more than their
 /// copy, and wakes the reader. No memory is taken.
 ///
-/// `Unwritten`: a front of both was written, perhaps none of them but never all, and nothing else.
-pub fn write_both<W: Write>(writer: &mut W, first: &[u8], second: &[u8]) -> Result<(), Unwritten>
+/// `WriteError`: a front of both was written, perhaps none of them but never all, and nothing else.
+pub fn write_both<W: Write>(writer: &mut W, first: &[u8], second: &[u8]) -> Result<(), WriteError>
     ensures ok { OnOk result (Appends (W.contents writer.old) (W.contents writer.new)
         (first.now ++ second.now)) }
-    ensures err { OnErr result (AppendsFront (W.contents writer.old) (W.contents writer.new)
+    ensures err { OnErr result (AppendsPrefix (W.contents writer.old) (W.contents writer.new)
         (first.now ++ second.now)) }
 {
     let mut both = ArrayVec::<u8, MOST_TOGETHER>::new();
@@ -67,11 +67,11 @@ pub fn write_both<W: Write>(writer: &mut W, first: &[u8], second: &[u8]) -> Resu
 
 /// Writes the text and an LF.
 ///
-/// `Unwritten`: a front of both was written, perhaps none of them but never all, and nothing else.
-pub fn write_line<W: Write>(writer: &mut W, text: &[u8]) -> Result<(), Unwritten>
+/// `WriteError`: a front of both was written, perhaps none of them but never all, and nothing else.
+pub fn write_line<W: Write>(writer: &mut W, text: &[u8]) -> Result<(), WriteError>
     ensures ok { OnOk result (Appends (W.contents writer.old) (W.contents writer.new)
         (with_lf text.now)) }
-    ensures err { OnErr result (AppendsFront (W.contents writer.old) (W.contents writer.new)
+    ensures err { OnErr result (AppendsPrefix (W.contents writer.old) (W.contents writer.new)
         (with_lf text.now)) }
 {
     write_both(writer, text, b"\n")

@@ -55,14 +55,14 @@ recipe_item r = object (member (codes "base") (natural r.header.base) (member (c
     (member (codes "version") (natural r.header.version) no_members)))))))
 
 -- the word of what a movement does
-abbrev pub movement_word : MovementKind → List ℕ
-movement_word kind.Received = codes "received"
-movement_word (kind.Consumed batch) = codes "consumed"
-movement_word (kind.Produced batch) = codes "produced"
-movement_word kind.Scrapped = codes "scrapped"
-movement_word (kind.Divided to) = codes "divided"
-movement_word (kind.Split to) = codes "split"
-movement_word (kind.Merged to) = codes "merged"
+abbrev pub movement_kind_name : MovementKind → List ℕ
+movement_kind_name kind.Received = codes "received"
+movement_kind_name (kind.Consumed batch) = codes "consumed"
+movement_kind_name (kind.Produced batch) = codes "produced"
+movement_kind_name kind.Scrapped = codes "scrapped"
+movement_kind_name (kind.Divided to) = codes "divided"
+movement_kind_name (kind.Split to) = codes "split"
+movement_kind_name (kind.Merged to) = codes "merged"
 
 -- the sublot that a movement brings its amount to from another one
 abbrev pub other_sub : MovementKind → Option ℕ
@@ -73,7 +73,7 @@ other_sub _ = None
 
 abbrev pub movement_item : Movement → Data
 movement_item m = object (member (codes "amount") (natural m.amount) (member (codes "at") (natural m.at) (member (codes "batch") (id_or_null (batch_by m.kind))
-    (member (codes "by") (string m.by) (member (codes "kind") (string (movement_word m.kind)) (member (codes "line") (natural m.line)
+    (member (codes "by") (string m.by) (member (codes "kind") (string (movement_kind_name m.kind)) (member (codes "line") (natural m.line)
     (member (codes "lot") (string m.lot) (member (codes "note") (string m.note) (member (codes "seq") (natural m.seq) (member (codes "sub") (natural m.sub)
     (member (codes "to") (id_or_null (other_lot m.kind m.lot)) (member (codes "to_sub") (number_or_null (other_sub m.kind)) no_members))))))))))))
 

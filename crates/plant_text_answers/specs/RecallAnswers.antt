@@ -4,9 +4,9 @@ use Rattle.serde_json.specs.Data.{Data, string, array, object, member, no_member
 use Rattle.plant_messages.specs.declared.question.RecallAnswer.{RecallAnswer}
 use Rattle.plant_text_answers.specs.TraceAnswers.{nodes_data}
 
-abbrev pub state_word : Bool → List ℕ
-state_word is_open = if is_open then codes "open" else codes "lifted"
+abbrev pub state_name : Bool → List ℕ
+state_name is_open = if is_open then codes "open" else codes "lifted"
 
 abbrev pub recall_data : RecallAnswer → Data
 recall_data a = object (member (codes "lot") (string a.lot) (member (codes "nodes") (array (nodes_data a.nodes)) (member (codes "recall") (string a.recall)
-    (member (codes "state") (string (state_word a.is_open)) no_members))))
+    (member (codes "state") (string (state_name a.is_open)) no_members))))

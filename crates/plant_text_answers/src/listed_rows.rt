@@ -2,7 +2,7 @@
 ghost use Rattle.std.specs.Prelude.{◌≡◌};
 ghost use Rattle.plant_view.specs.Genealogy.{batch_by};
 ghost use Rattle.plant_text_answers.specs.ListAnswers.{order_item, batch_item, lot_item, hold_item, recall_item, definition_item};
-ghost use Rattle.plant_text_answers.specs.ListAnswers.{recipe_item, movement_item, movement_word, other_sub};
+ghost use Rattle.plant_text_answers.specs.ListAnswers.{recipe_item, movement_item, movement_kind_name, other_sub};
 
 use crate::list_answers::rows_value;
 use crate::parts::{id_value, number_value};
@@ -107,8 +107,8 @@ impl Shown for Recipe {
 }
 
 /// The word of what a movement does.
-fn movement_word(kind: MovementKind) -> &'static str
-    ensures { result.now ≡ movement_word kind }
+fn movement_kind_name(kind: MovementKind) -> &'static str
+    ensures { result.now ≡ movement_kind_name kind }
 {
     match kind {
         MovementKind::Received => "received",
@@ -151,7 +151,7 @@ impl Shown for Movement {
         let to_sub = number_value(alloc, other_sub(self.kind))?;
         json!(in alloc; {
             "amount": (self.amount.get()), "at": (self.at.get()), "batch": batch, "by": (self.by.as_str()),
-            "kind": (movement_word(self.kind)), "line": (self.line), "lot": (self.lot.as_str()), "note": (self.note.as_str()),
+            "kind": (movement_kind_name(self.kind)), "line": (self.line), "lot": (self.lot.as_str()), "note": (self.note.as_str()),
             "seq": (self.seq), "sub": (self.sub), "to": to, "to_sub": to_sub
         })
     }

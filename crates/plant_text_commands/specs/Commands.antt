@@ -5,17 +5,17 @@ use Rattle.serde_json.specs.Data.{Data}
 use Rattle.serde_json.specs.Find.{get, as_str}
 use Rattle.plant_base.specs.declared.command.Command.{Command}
 use Rattle.plant_base.specs.declared.command.Envelope.{Envelope}
-use Rattle.plant_shapes.specs.declared.words.CommandKind.{CommandKind}
-use Rattle.plant_shapes.specs.declared.words.CommandKind.TheVariants as c
-use Rattle.plant_shapes.specs.declared.fields.Field.{Field}
-use Rattle.plant_shapes.specs.declared.fields.Field.TheVariants as field
-use Rattle.plant_shapes.specs.declared.problems.Flaw.TheVariants as flaw
-use Rattle.plant_shapes.specs.declared.problems.Problem.{Problem}
-use Rattle.plant_shapes.specs.declared.problems.Problem.TheVariants as problem
-use Rattle.plant_shapes.specs.Words.{command_kind}
-use Rattle.plant_shapes.specs.Tables.{shared_members, own_of}
-use Rattle.plant_shapes.specs.Problems.{◌>>=◌, object, or_no_form}
-use Rattle.plant_shapes.specs.Fields.{fields_of, none_other}
+use Rattle.plant_message_schema.specs.declared.words.CommandKind.{CommandKind}
+use Rattle.plant_message_schema.specs.declared.words.CommandKind.TheVariants as c
+use Rattle.plant_message_schema.specs.declared.fields.Field.{Field}
+use Rattle.plant_message_schema.specs.declared.fields.Field.TheVariants as field
+use Rattle.plant_message_schema.specs.declared.format_errors.ShapeError.TheVariants as shape_error
+use Rattle.plant_message_schema.specs.declared.format_errors.FormatError.{FormatError}
+use Rattle.plant_message_schema.specs.declared.format_errors.FormatError.TheVariants as format_error
+use Rattle.plant_message_schema.specs.Words.{command_kind}
+use Rattle.plant_message_schema.specs.Tables.{shared_members, own_of}
+use Rattle.plant_message_schema.specs.FormatErrors.{◌>>=◌, object, or_malformed}
+use Rattle.plant_message_schema.specs.Fields.{fields_of, none_other}
 use Rattle.plant_text_commands.specs.Plain.{goods_of, blocks_of, plans_of, batches_of}
 use Rattle.plant_text_commands.specs.Listing.{merge_of, add_recipe_of, import_orders_of}
 
@@ -24,11 +24,11 @@ abbrev pub plain_of : CommandKind → List Field → Option Command
 plain_of kind fs = option_or (option_or (option_or (goods_of kind fs) (blocks_of kind fs)) (plans_of kind fs)) (batches_of kind fs)
 
 -- the command that the values make, with its list
-abbrev pub body_of : CommandKind → List Field → Data → Result Command Problem
+abbrev pub body_of : CommandKind → List Field → Data → Result Command FormatError
 body_of c.Merge fs d = merge_of fs d
 body_of c.AddRecipe fs d = add_recipe_of fs d
 body_of c.ImportOrders fs d = import_orders_of fs d
-body_of kind fs d = object (or_no_form (plain_of kind fs))
+body_of kind fs d = object (or_malformed (plain_of kind fs))
 
 -- a text that may be left out, and is empty then
 abbrev pub text_or_empty : Field → Option (List ℕ)
@@ -53,12 +53,12 @@ kind_at d = option_and_then command_kind (option_and_then as_str (get (codes "do
 
 -- first the members that it has of its own, then its list, then a member that doesn't belong there; an object of no kind has a flaw in
 -- `do`, which is told before
-abbrev pub command_by : Option CommandKind → List Field → Data → Result Envelope Problem
-command_by None shared d = Err (problem.Object flaw.NoForm)
+abbrev pub command_by : Option CommandKind → List Field → Data → Result Envelope FormatError
+command_by None shared d = Err (format_error.Object shape_error.Malformed)
 command_by (Some kind) shared d =
     object (fields_of (own_of kind) d) >>= (λ own. body_of kind own d >>= (λ body.
-    object (none_other shared_members (own_of kind) d) >>= (λ u. object (or_no_form (envelope_with shared body)))))
+    object (none_other shared_members (own_of kind) d) >>= (λ u. object (or_malformed (envelope_with shared body)))))
 
 -- the command that the object is, or its first problem, beginning with the members that each command has
-abbrev pub command_of : Data → Result Envelope Problem
+abbrev pub command_of : Data → Result Envelope FormatError
 command_of d = object (fields_of shared_members d) >>= (λ shared. command_by (kind_at d) shared d)

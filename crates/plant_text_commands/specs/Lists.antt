@@ -6,21 +6,21 @@ use Rattle.plant_base.specs.declared.command.Part.{Part}
 use Rattle.plant_base.specs.declared.rows.OrderRow.{OrderRow}
 use Rattle.plant_base.specs.declared.rows.RecipeLine.{RecipeLine}
 use Rattle.plant_base.specs.declared.rows.RecipeLine.TheVariants as line
-use Rattle.plant_shapes.specs.declared.members.Member.{Member}
-use Rattle.plant_shapes.specs.declared.members.Member.TheVariants as m
-use Rattle.plant_shapes.specs.declared.words.Row.{Row}
-use Rattle.plant_shapes.specs.declared.words.Row.TheVariants as row
-use Rattle.plant_shapes.specs.declared.fields.Field.{Field}
-use Rattle.plant_shapes.specs.declared.fields.Field.TheVariants as field
-use Rattle.plant_shapes.specs.declared.problems.Flaw.{Flaw}
-use Rattle.plant_shapes.specs.declared.problems.Flaw.TheVariants as flaw
-use Rattle.plant_shapes.specs.declared.problems.Problem.{Problem}
-use Rattle.plant_shapes.specs.declared.problems.Problem.TheVariants as problem
-use Rattle.plant_shapes.specs.Members.{name_of}
-use Rattle.plant_shapes.specs.Words.{line_kind}
-use Rattle.plant_shapes.specs.Tables.{row_own}
-use Rattle.plant_shapes.specs.Problems.{◌>>=◌, or_no_form}
-use Rattle.plant_shapes.specs.Fields.{fields_of, exactly}
+use Rattle.plant_message_schema.specs.declared.members.Member.{Member}
+use Rattle.plant_message_schema.specs.declared.members.Member.TheVariants as m
+use Rattle.plant_message_schema.specs.declared.words.Row.{Row}
+use Rattle.plant_message_schema.specs.declared.words.Row.TheVariants as row
+use Rattle.plant_message_schema.specs.declared.fields.Field.{Field}
+use Rattle.plant_message_schema.specs.declared.fields.Field.TheVariants as field
+use Rattle.plant_message_schema.specs.declared.format_errors.ShapeError.{ShapeError}
+use Rattle.plant_message_schema.specs.declared.format_errors.ShapeError.TheVariants as shape_error
+use Rattle.plant_message_schema.specs.declared.format_errors.FormatError.{FormatError}
+use Rattle.plant_message_schema.specs.declared.format_errors.FormatError.TheVariants as format_error
+use Rattle.plant_message_schema.specs.Members.{name_of}
+use Rattle.plant_message_schema.specs.Words.{line_kind}
+use Rattle.plant_message_schema.specs.Tables.{row_own}
+use Rattle.plant_message_schema.specs.FormatErrors.{◌>>=◌, or_malformed}
+use Rattle.plant_message_schema.specs.Fields.{fields_of, exactly}
 
 -- ---- what the values of a row make
 
@@ -47,26 +47,26 @@ line_row d = option_and_then line_kind (option_and_then as_str (get (codes "kind
 -- ---- rows and lists, by which row an object is and what its values make
 
 -- an object of no kind has at least that flaw
-abbrev pub item_by : {T : Type 0} → (Row → List Field → Option T) → Option Row → Data → Result T Flaw
-item_by make None d = fields_of (m.Kind ∷ []) d >>= (λ fs. Err flaw.NoForm)
-item_by make (Some r) d = exactly (row_own r) d >>= (λ fs. or_no_form (make r fs))
+abbrev pub item_by : {T : Type 0} → (Row → List Field → Option T) → Option Row → Data → Result T ShapeError
+item_by make None d = fields_of (m.Kind ∷ []) d >>= (λ fs. Err shape_error.Malformed)
+item_by make (Some r) d = exactly (row_own r) d >>= (λ fs. or_malformed (make r fs))
 
-abbrev pub item_of : {T : Type 0} → (Row → List Field → Option T) → (Data → Option Row) → Data → Result T Flaw
-item_of make row_at d = if is_some (as_object d) then item_by make (row_at d) d else Err flaw.NoObject
+abbrev pub item_of : {T : Type 0} → (Row → List Field → Option T) → (Data → Option Row) → Data → Result T ShapeError
+item_of make row_at d = if is_some (as_object d) then item_by make (row_at d) d else Err shape_error.NoObject
 
-abbrev pub numbered : {T : Type 0} → Member → ℕ → Result T Flaw → Result T Problem
+abbrev pub numbered : {T : Type 0} → Member → ℕ → Result T ShapeError → Result T FormatError
 numbered list n (Ok x) = Ok x
-numbered list n (Err f) = Err (problem.Item list n f)
+numbered list n (Err f) = Err (format_error.Item list n f)
 
 -- the items, or the problem of the first that has one; they are counted, here from n on
-abbrev pub items_from : {T : Type 0} → (Row → List Field → Option T) → (Data → Option Row) → Member → ℕ → Items → Result (List T) Problem
+abbrev pub items_from : {T : Type 0} → (Row → List Field → Option T) → (Data → Option Row) → Member → ℕ → Items → Result (List T) FormatError
 items_from make row_at list n no_items = Ok []
 items_from make row_at list n (item d ds) = numbered list n (item_of make row_at d) >>= (λ x. items_from make row_at list (n + 1) ds >>= (λ xs. Ok (x ∷ xs)))
 
-abbrev pub items_where : {T : Type 0} → (Row → List Field → Option T) → (Data → Option Row) → Member → Option Items → Result (List T) Problem
-items_where make row_at list None = Err (problem.Object (flaw.Breaks list))
+abbrev pub items_where : {T : Type 0} → (Row → List Field → Option T) → (Data → Option Row) → Member → Option Items → Result (List T) FormatError
+items_where make row_at list None = Err (format_error.Object (shape_error.Breaks list))
 items_where make row_at list (Some ds) = items_from make row_at list 1 ds
 
 -- the items of the list under a member
-abbrev pub items_at : {T : Type 0} → (Row → List Field → Option T) → (Data → Option Row) → Member → Data → Result (List T) Problem
+abbrev pub items_at : {T : Type 0} → (Row → List Field → Option T) → (Data → Option Row) → Member → Data → Result (List T) FormatError
 items_at make row_at list d = items_where make row_at list (option_and_then as_array (get (name_of list) d))

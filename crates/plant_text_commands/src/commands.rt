@@ -2,16 +2,16 @@
 ghost use Rattle.std.specs.Prelude.{◌≡◌};
 ghost use Rattle.serde_json.specs.View.{view};
 ghost use Rattle.plant_base.specs.Values.{is_text, only};
-ghost use Rattle.plant_shapes.specs.Problems.{Tells, IsTold};
+ghost use Rattle.plant_message_schema.specs.FormatErrors.{Reports, IsReported};
 ghost use Rattle.plant_text_commands.specs.Commands.{plain_of, body_of, text_or_empty, id_or_none, envelope_with};
 ghost use Rattle.plant_text_commands.specs.Commands.{kind_at, command_by, command_of};
 
 use crate::listing::{add_recipe_of, import_orders_of, merge_of};
 use crate::plain::{batches_of, blocks_of, goods_of, plans_of};
 use plant_base::{Command, Envelope, Id, Text};
-use plant_shapes::{
-    CommandKind, Fault, Field, Flaw, Problem, command_kind, fields_of, made, none_other, object,
-    own_of, shared_members,
+use plant_message_schema::{
+    CommandKind, Fault, Field, FormatError, ShapeError, command_kind, fields_of, made, none_other,
+    object, own_of, shared_members,
 };
 use serde_json::Value;
 use std::alloc::Global;
@@ -33,7 +33,7 @@ fn body_of(
     fields: &[Field],
     value: &Value,
 ) -> Result<Command, Fault>
-    ensures { Tells result (body_of kind fields.now (view value.now)) }
+    ensures { Reports result (body_of kind fields.now (view value.now)) }
 {
     match kind {
         CommandKind::Merge => merge_of(alloc, fields, value),
@@ -106,7 +106,7 @@ fn command_by(
     shared: &[Field],
     value: &Value,
 ) -> Result<Envelope, Fault>
-    ensures { Tells result (command_by kind shared.now (view value.now)) }
+    ensures { Reports result (command_by kind shared.now (view value.now)) }
 {
     match kind {
         Some(kind) => {
@@ -116,12 +116,12 @@ fn command_by(
             object(none_other(value, shared_members(), own))?;
             object(made(envelope_with(shared, body)))
         }
-        None => Err(Fault::Told(Problem::Object(Flaw::NoForm))),
+        None => Err(Fault::Reported(FormatError::Object(ShapeError::Malformed))),
     }
 }
 
 fn read_command(alloc: Global, value: &Value) -> Result<Envelope, Fault>
-    ensures { Tells result (command_of (view value.now)) }
+    ensures { Reports result (command_of (view value.now)) }
 {
     let shared = object(fields_of(value, shared_members()))?;
     command_by(alloc, kind_at(value), shared.as_slice(), value)
@@ -129,11 +129,11 @@ fn read_command(alloc: Global, value: &Value) -> Result<Envelope, Fault>
 
 /// The command that the object is, with its moment, operator, note and reference, or its first problem.
 ///
-/// - `Told`: the object is no command, and this is the first thing that is wrong with it, which has a text of its own.
+/// - `Reported`: the object is no command, and this is the first thing that is wrong with it, which has a text of its own.
 /// - `Memory`: memory was refused while its list was read. Nothing is said of the object.
 pub fn command_of(alloc: Global, value: &Value) -> Result<Envelope, Fault>
-    ensures reads { Tells result (command_of (view value.now)) }
-    ensures told { IsTold result }
+    ensures reads { Reports result (command_of (view value.now)) }
+    ensures reported { IsReported result }
 {
     read_command(alloc, value)
 }

@@ -1,26 +1,26 @@
 //! Commands that have a list.
 ghost use Rattle.std.specs.Prelude.{◌≡◌};
 ghost use Rattle.serde_json.specs.View.{view};
-ghost use Rattle.plant_shapes.specs.Problems.{Tells};
+ghost use Rattle.plant_message_schema.specs.FormatErrors.{Reports};
 ghost use Rattle.plant_text_commands.specs.Listing.{merge_of, add_recipe_of, import_orders_of};
 
 use crate::lists::items_at;
 use plant_base::{AddRecipe, Command, Header, ImportOrders, Merge};
-use plant_shapes::Field::{self, Amount, Id, List, Number, Text};
-use plant_shapes::{Fault, Flaw, Problem};
+use plant_message_schema::Field::{self, Amount, Id, List, Number, Text};
+use plant_message_schema::{Fault, FormatError, ShapeError};
 use serde_json::Value;
 use std::alloc::Global;
 
 /// The merge that the fields and the list of its parts make, or the first problem of a part.
 pub(crate) fn merge_of(alloc: Global, fields: &[Field], value: &Value) -> Result<Command, Fault>
-    ensures { Tells result (merge_of fields.now (view value.now)) }
+    ensures { Reports result (merge_of fields.now (view value.now)) }
 {
     match fields {
         &[Id(new), Text(place), List] => {
             let parts = items_at(alloc, value)?;
             Ok(Command::Merge(Merge { new, place, parts }))
         }
-        _ => Err(Fault::Told(Problem::Object(Flaw::NoForm))),
+        _ => Err(Fault::Reported(FormatError::Object(ShapeError::Malformed))),
     }
 }
 
@@ -30,7 +30,7 @@ pub(crate) fn add_recipe_of(
     fields: &[Field],
     value: &Value,
 ) -> Result<Command, Fault>
-    ensures { Tells result (add_recipe_of fields.now (view value.now)) }
+    ensures { Reports result (add_recipe_of fields.now (view value.now)) }
 {
     match fields {
         &[
@@ -57,7 +57,7 @@ pub(crate) fn add_recipe_of(
                 lines,
             }))
         }
-        _ => Err(Fault::Told(Problem::Object(Flaw::NoForm))),
+        _ => Err(Fault::Reported(FormatError::Object(ShapeError::Malformed))),
     }
 }
 
@@ -67,13 +67,13 @@ pub(crate) fn import_orders_of(
     fields: &[Field],
     value: &Value,
 ) -> Result<Command, Fault>
-    ensures { Tells result (import_orders_of fields.now (view value.now)) }
+    ensures { Reports result (import_orders_of fields.now (view value.now)) }
 {
     match fields {
         &[List] => {
             let orders = items_at(alloc, value)?;
             Ok(Command::ImportOrders(ImportOrders { orders }))
         }
-        _ => Err(Fault::Told(Problem::Object(Flaw::NoForm))),
+        _ => Err(Fault::Reported(FormatError::Object(ShapeError::Malformed))),
     }
 }

@@ -1,15 +1,15 @@
 //! The lists of commands: the parts of a merge, the lines of a recipe, orders.
 ghost use Rattle.std.specs.Prelude.{◌≡◌, Some};
 ghost use Rattle.serde_json.specs.View.{view, items_view};
-ghost use Rattle.plant_shapes.specs.Problems.{Tells};
-ghost use Rattle.plant_shapes.specs.declared.members.Member.TheVariants as m;
-ghost use Rattle.plant_shapes.specs.declared.words.Row.TheVariants as row;
+ghost use Rattle.plant_message_schema.specs.FormatErrors.{Reports};
+ghost use Rattle.plant_message_schema.specs.declared.members.Member.TheVariants as m;
+ghost use Rattle.plant_message_schema.specs.declared.words.Row.TheVariants as row;
 ghost use Rattle.plant_text_commands.specs.Lists.{line_row, item_of, items_from, items_at, part_of, order_of, line_of};
 
 use plant_base::{Items, OrderRow, Part, RecipeLine};
-use plant_shapes::Field::{self, Amount, Chosen, Due, Id, Number, Small, Text};
-use plant_shapes::{
-    Fault, Flaw, Member, Problem, Row, exactly, fields_of, line_kind, made, row_own,
+use plant_message_schema::Field::{self, Amount, Chosen, Due, Id, Number, Small, Text};
+use plant_message_schema::{
+    Fault, FormatError, Member, Row, ShapeError, exactly, fields_of, line_kind, made, row_own,
 };
 use serde_json::Value;
 use std::alloc::Global;
@@ -18,9 +18,9 @@ use std::alloc::Global;
 pub(crate) trait Item: Sized + Drop {
     ghost use Rattle.std.specs.Prelude.{Option, List};
     ghost use Rattle.serde_json.specs.Data.{Data};
-    ghost use Rattle.plant_shapes.specs.declared.members.Member.{Member};
-    ghost use Rattle.plant_shapes.specs.declared.words.Row.{Row};
-    ghost use Rattle.plant_shapes.specs.declared.fields.Field.{Field};
+    ghost use Rattle.plant_message_schema.specs.declared.members.Member.{Member};
+    ghost use Rattle.plant_message_schema.specs.declared.words.Row.{Row};
+    ghost use Rattle.plant_message_schema.specs.declared.fields.Field.{Field};
 
     /// The member under which the list stands.
     ghost list: { Member };
@@ -148,11 +148,11 @@ impl Item for RecipeLine {
 }
 
 /// The item of a list that a value is, or its first flaw.
-fn item_of<T: Item>(value: &Value) -> Result<T, Flaw>
+fn item_of<T: Item>(value: &Value) -> Result<T, ShapeError>
     ensures { result ≡ item_of T.make T.row_at (view value.now) }
 {
     if value.as_object().is_none() {
-        return Err(Flaw::NoObject);
+        return Err(ShapeError::NoObject);
     }
     match T::row_at(value) {
         Some(row) => {
@@ -160,15 +160,15 @@ fn item_of<T: Item>(value: &Value) -> Result<T, Flaw>
             made(T::make(row, fields.as_slice()))
         }
         None => match fields_of(value, &[Member::Kind]) {
-            Ok(_) => Err(Flaw::NoForm),
-            Err(flaw) => Err(flaw),
+            Ok(_) => Err(ShapeError::Malformed),
+            Err(shape_error) => Err(shape_error),
         },
     }
 }
 
 /// The items of a list, or the problem of the first that has one.
 fn items_of<T: Item>(alloc: Global, values: &[Value]) -> Result<Items<T>, Fault>
-    ensures { Tells result (items_from T.make T.row_at T.list 1 (items_view values.now)) }
+    ensures { Reports result (items_from T.make T.row_at T.list 1 (items_view values.now)) }
 {
     let list = T::list();
     let mut items = Vec::new(alloc);
@@ -179,7 +179,11 @@ fn items_of<T: Item>(alloc: Global, values: &[Value]) -> Result<Items<T>, Fault>
                 Ok(()) => number += 1,
                 Err(_) => return Err(Fault::Memory),
             },
-            Err(flaw) => return Err(Fault::Told(Problem::Item { list, number, flaw })),
+            Err(shape_error) => return Err(Fault::Reported(FormatError::Item {
+                list,
+                number,
+                shape_error,
+            })),
         }
     }
     Ok(Items::new(items))
@@ -187,10 +191,10 @@ fn items_of<T: Item>(alloc: Global, values: &[Value]) -> Result<Items<T>, Fault>
 
 /// The items of the command's list, or the problem of the first that has one.
 pub(crate) fn items_at<T: Item>(alloc: Global, value: &Value) -> Result<Items<T>, Fault>
-    ensures { Tells result (items_at T.make T.row_at T.list (view value.now)) }
+    ensures { Reports result (items_at T.make T.row_at T.list (view value.now)) }
 {
     match value.get(T::list().name()).and_then(Value::as_array) {
         Some(values) => items_of(alloc, values),
-        None => Err(Fault::Told(Problem::Object(Flaw::Breaks(T::list())))),
+        None => Err(Fault::Reported(FormatError::Object(ShapeError::Breaks(T::list())))),
     }
 }

@@ -7,8 +7,8 @@ use plant_base::{
     Divide, HoldLot, LiftRecall, PhaseDone, Produce, RecallLot, Receive, Release, Scrap, Settle,
     Split, UnholdLot, Withdraw,
 };
-use plant_shapes::CommandKind as Kind;
-use plant_shapes::Field::{self, Amount, Id, Number, Small, Text, Unit, Word};
+use plant_message_schema::CommandKind as Kind;
+use plant_message_schema::Field::{self, Amount, Id, Number, Small, Text, Unit, Word};
 
 /// A command on goods and their classes that the values make; none where they are others, or the kind is.
 pub(crate) fn goods_of(kind: Kind, fields: &[Field]) -> Option<Command>

@@ -7,7 +7,7 @@ use Rattle.plant_trace.specs.declared.node.Node.{Node}
 pub record LeadsInto (b : Node) (pairs added : List (Node × Node)) : Type 0 where
   pub into : (x y : Node) → HasEdge added x y → y ≡ b
   pub apart : (x y : Node) → HasEdge added x y → x ≡ b → ⊥
-  pub ahead : (x y : Node) → HasEdge added x y → Reach (HasEdge pairs) b x → ⊥
+  pub prefetch : (x y : Node) → HasEdge added x y → Reach (HasEdge pairs) b x → ⊥
 
 -- no pair begins at b
 abbrev pub IsEnd : Node → List (Node × Node) → Type 0

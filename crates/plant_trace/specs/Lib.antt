@@ -1,11 +1,11 @@
 pub mod Nodes
 pub mod Reach
 pub mod Seen
-pub mod Sources
+pub mod HoldsIfHonest
 pub mod Turned
 pub mod Index
 pub mod Ranks
 pub mod Growth
-pub mod Places
+pub mod NodeIndexes
 pub mod Mentions
 pub mod Recalls

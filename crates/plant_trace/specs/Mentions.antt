@@ -1,10 +1,10 @@
 -- Places of nodes in the order in which pairs first mention them.
 use Rattle.std.specs.Prelude.{ℕ, ◌+◌, List, [], ◌∷◌, ◌++◌, length, fold, Option, Some, None, find}
-use Rattle.plant_check_groups.specs.Groups.{is_keyed}
+use Rattle.grouped_rows.specs.Groups.{is_keyed}
 use Rattle.plant_trace.specs.Nodes.{node_cmp}
 use Rattle.plant_trace.specs.declared.node.Node.{Node}
 use Rattle.plant_trace.specs.declared.node.Node.TheVariants.{Lot, Batch}
-use Rattle.plant_trace.specs.declared.places.Mention.{Mention}
+use Rattle.plant_trace.specs.declared.mention_order.Mention.{Mention}
 
 abbrev pub mention_at : Node → ℕ → Mention
 mention_at x n = record { node = x; at = n }
@@ -31,14 +31,14 @@ abbrev pub mentions_in : List (Node × Node) → List Mention
 mentions_in pairs = fold mentioned [] pairs
 
 -- a lot that isn't mentioned stands before all, a batch behind
-abbrev pub place_without : Node → ℕ → ℕ
-place_without (Lot id) mentions = 0
-place_without (Batch id) mentions = mentions + 1
+abbrev pub rank_without : Node → ℕ → ℕ
+rank_without (Lot id) mentions = 0
+rank_without (Batch id) mentions = mentions + 1
 
-abbrev pub place_or : Option Mention → ℕ → ℕ
-place_or None other = other
-place_or (Some m) other = m.at
+abbrev pub rank_or : Option Mention → ℕ → ℕ
+rank_or None other = other
+rank_or (Some m) other = m.at
 
 -- the place of the first mention of the node
-abbrev pub place_of : List Mention → Node → ℕ
-place_of mentions x = place_or (find (λ m. is_keyed node_cmp (Some m.node) x) mentions) (place_without x (length mentions))
+abbrev pub mention_rank : List Mention → Node → ℕ
+mention_rank mentions x = rank_or (find (λ m. is_keyed node_cmp (Some m.node) x) mentions) (rank_without x (length mentions))

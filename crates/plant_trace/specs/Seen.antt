@@ -17,6 +17,6 @@ pub record HasSame (seen queue : List Node) : Type 0 where
 
 -- the list got what the set got, at its end
 pub record Queues (seen seen' queue queue' : List Node) : Type 0 where
-  pub front : (n : ℕ) → n ≤ length queue → take n queue' ≡ take n queue
+  pub prefix : (n : ℕ) → n ≤ length queue → take n queue' ≡ take n queue
   pub longer : length queue ≤ length queue'
   pub same : HasSame seen queue → HasSame seen' queue'

@@ -7,8 +7,8 @@ ghost use Rattle.plant_trace.specs.declared.direction.Direction.TheVariants.{For
 
 use crate::direction::Direction;
 use crate::indexed::Indexed;
+use crate::mention_order::rises_by_mention;
 use crate::node::Node;
-use crate::places::stands_in_order;
 use crate::positions::positions_of;
 use crate::worklist::closure;
 use std::alloc::{AllocError, Global};
@@ -22,7 +22,7 @@ use std::collections::BTreeMap;
 pub fn acyclic(alloc: Global, pairs: &[(Node, Node)]) -> Result<bool, AllocError>
     ensures { IfOk result (λ yes. IsTrue yes ↔ IsAcyclic pairs.now) }
 {
-    if stands_in_order(alloc, pairs)? {
+    if rises_by_mention(alloc, pairs)? {
         return Ok(true);
     }
     // The order is only a guess, and is tested.

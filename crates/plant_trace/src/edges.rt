@@ -4,7 +4,7 @@ ghost use Rattle.std.specs.Prelude.{◌≡◌, List, IfOk};
 ghost use Rattle.plant_trace.specs.declared.node.Node.{Node};
 ghost use Rattle.plant_trace.specs.declared.direction.Direction.TheVariants.{Back, Forward};
 ghost use Rattle.plant_trace.specs.Reach.{IsNext, Lists};
-ghost use Rattle.plant_trace.specs.Sources.{HonestlyTold};
+ghost use Rattle.plant_trace.specs.HoldsIfHonest.{HoldsIfHonest};
 
 use crate::node::Node;
 
@@ -27,29 +27,29 @@ pub trait Edges {
     ghost kept: { Self → Self → Type 0 };
 
     /// What no call changes, whatever the source does: old, then new.
-    ghost steady: { Self → Self → Type 0 };
+    ghost frame: { Self → Self → Type 0 };
 
     /// The nodes that an edge leads to from this one, strictly ascending.
     fn succ(&mut self, node: Node) -> Result<Vec<Node>, Self::Fault>
-        ensures { HonestlyTold honest kept steady self.old self.new
+        ensures { HoldsIfHonest honest kept frame self.old self.new
             (IfOk result (λ nodes. Lists (IsNext Forward (pairs self.old) node) nodes.items)) };
 
     /// The nodes from which an edge leads to this one, strictly ascending.
     fn pred(&mut self, node: Node) -> Result<Vec<Node>, Self::Fault>
-        ensures { HonestlyTold honest kept steady self.old self.new
+        ensures { HoldsIfHonest honest kept frame self.old self.new
             (IfOk result (λ nodes. Lists (IsNext Back (pairs self.old) node) nodes.items)) };
 
     /// What is kept stays where nothing is called.
-    ghost kept_itself: { (s : Self) → kept s s };
+    ghost kept_refl: { (s : Self) → kept s s };
 
     /// What each of two calls keeps, both keep.
-    ghost kept_along: { (s t u : Self) → kept s t → kept t u → kept s u };
+    ghost kept_trans: { (s t u : Self) → kept s t → kept t u → kept s u };
 
     /// What is steady stays where nothing is called.
-    ghost steady_itself: { (s : Self) → steady s s };
+    ghost frame_refl: { (s : Self) → frame s s };
 
     /// What is steady over each of two calls is steady over both.
-    ghost steady_along: { (s t u : Self) → steady s t → steady t u → steady s u };
+    ghost frame_trans: { (s t u : Self) → frame s t → frame t u → frame s u };
 
     /// The pairs are kept.
     ghost kept_pairs: { (s t : Self) → kept s t → pairs t ≡ pairs s };

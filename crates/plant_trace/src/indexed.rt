@@ -3,7 +3,7 @@
 ghost use Rattle.std.specs.Prelude.{◌≡◌, OnOk, IfOk, IsTrue, refl};
 ghost use Rattle.plant_trace.specs.Index.{index_has, Indexes, Links};
 ghost use Rattle.plant_trace.specs.Reach.{Lists};
-ghost use Rattle.plant_trace.specs.Sources.{same_along};
+ghost use Rattle.plant_trace.specs.HoldsIfHonest.{same_along};
 ghost use Rattle.plant_trace.specs.declared.direction.Direction.TheVariants.{Back, Forward};
 
 use crate::direction::Direction;
@@ -92,7 +92,7 @@ impl<'a> Edges for Indexed<'a> {
 
     ghost kept = { λ s t. t.pairs.now ≡ s.pairs.now };
 
-    ghost steady = { λ _ _. Unit {0} };
+    ghost frame = { λ _ _. Unit {0} };
 
     fn succ(&mut self, node: Node) -> Result<Vec<Node>, AllocError> {
         list_at(self.alloc, &self.after, node)
@@ -102,13 +102,13 @@ impl<'a> Edges for Indexed<'a> {
         list_at(self.alloc, &self.before, node)
     }
 
-    ghost kept_itself = { λ s. refl };
+    ghost kept_refl = { λ s. refl };
 
-    ghost kept_along = { λ s t u a b. same_along a b };
+    ghost kept_trans = { λ s t u a b. same_along a b };
 
-    ghost steady_itself = { λ s. tt };
+    ghost frame_refl = { λ s. tt };
 
-    ghost steady_along = { λ s t u a b. tt };
+    ghost frame_trans = { λ s t u a b. tt };
 
     ghost kept_pairs = { λ s t a. a };
 }

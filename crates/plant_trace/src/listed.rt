@@ -3,7 +3,7 @@
 ghost use Rattle.std.specs.Prelude.{◌≡◌, IfOk, refl};
 ghost use Rattle.plant_trace.specs.Reach.{IsNext, Lists};
 ghost use Rattle.plant_trace.specs.Turned.{turned};
-ghost use Rattle.plant_trace.specs.Sources.{same_along};
+ghost use Rattle.plant_trace.specs.HoldsIfHonest.{same_along};
 
 use crate::direction::Direction;
 use crate::edges::Edges;
@@ -62,7 +62,7 @@ impl<'a> Edges for Listed<'a> {
 
     ghost kept = { λ s t. t.pairs.now ≡ s.pairs.now };
 
-    ghost steady = { λ _ _. Unit {0} };
+    ghost frame = { λ _ _. Unit {0} };
 
     fn succ(&mut self, node: Node) -> Result<Vec<Node>, AllocError> {
         neighbours(self.alloc, self.pairs, node, Direction::Forward)
@@ -72,13 +72,13 @@ impl<'a> Edges for Listed<'a> {
         neighbours(self.alloc, self.pairs, node, Direction::Back)
     }
 
-    ghost kept_itself = { λ s. refl };
+    ghost kept_refl = { λ s. refl };
 
-    ghost kept_along = { λ s t u a b. same_along a b };
+    ghost kept_trans = { λ s t u a b. same_along a b };
 
-    ghost steady_itself = { λ s. tt };
+    ghost frame_refl = { λ s. tt };
 
-    ghost steady_along = { λ s t u a b. tt };
+    ghost frame_trans = { λ s t u a b. tt };
 
     ghost kept_pairs = { λ s t a. a };
 }

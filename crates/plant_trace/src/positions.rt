@@ -3,7 +3,7 @@
 ghost use Rattle.std.specs.Prelude.{◌≡◌, All, Contains, IfOk, OnOk, Some};
 ghost use Rattle.std.specs.BTreeMap.{Updates};
 ghost use Rattle.plant_trace.specs.Nodes.{node_cmp};
-ghost use Rattle.plant_trace.specs.Places.{ArePositions, Grows, IsUnled};
+ghost use Rattle.plant_trace.specs.NodeIndexes.{ArePositions, Grows, IsUnled};
 
 use crate::edges::Edges;
 use crate::indexed::Indexed;
@@ -31,7 +31,7 @@ pub fn positions_of(
     let mut positions = BTreeMap::new(alloc);
     let mut at = 0;
     'taken: while at < ready.len() {
-        place(&mut positions, ready[at], at)?;
+        assign(&mut positions, ready[at], at)?;
         let node = ready[at];
         take_after(&mut source, &mut left, &mut ready, node)?;
         at += 1;
@@ -40,7 +40,7 @@ pub fn positions_of(
 }
 
 /// Notes the position of a node.
-fn place(positions: &mut BTreeMap<Node, usize>, node: Node, at: usize) -> Result<(), AllocError>
+fn assign(positions: &mut BTreeMap<Node, usize>, node: Node, at: usize) -> Result<(), AllocError>
     ensures { OnOk result (Updates node_cmp positions.old positions.new node (Some at)) }
 {
     positions.insert(node, at)?;

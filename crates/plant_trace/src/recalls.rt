@@ -5,7 +5,7 @@ ghost use Rattle.std.specs.List.Sorted.{IsStrictlySortedBy};
 ghost use Rattle.plant_trace.specs.Nodes.{node_cmp};
 ghost use Rattle.plant_trace.specs.Reach.{Lists};
 ghost use Rattle.plant_trace.specs.Recalls.{IsRecalled, RecalledWhereReached, StaysWhereUnreached, GrowsByNew};
-ghost use Rattle.plant_trace.specs.Sources.{HonestlyTold};
+ghost use Rattle.plant_trace.specs.HoldsIfHonest.{HoldsIfHonest};
 
 use crate::direction::Direction;
 use crate::edges::Edges;
@@ -26,15 +26,15 @@ pub fn reached<E: Edges>(
     edges: &mut E,
     lot: Id,
 ) -> Result<Vec<Node>, TraceFault<E::Fault>>
-    ensures told { HonestlyTold E.honest E.kept E.steady edges.old edges.new
+    ensures reported { HoldsIfHonest E.honest E.kept E.frame edges.old edges.new
         (IfOk result (λ nodes. Lists (IsRecalled (E.pairs edges.old) lot) nodes.items)) }
 
     // of every source
     ensures ascending { IfOk result (λ nodes. IsStrictlySortedBy node_cmp nodes.items) }
 {
-    let ahead = closure(alloc, edges, Node::Lot(lot), Direction::Forward)?;
+    let prefetch = closure(alloc, edges, Node::Lot(lot), Direction::Forward)?;
     let mut all = BTreeSet::new(alloc);
-    note_all(&mut all, &ahead)?;
+    note_all(&mut all, &prefetch)?;
     note_all(&mut all, &[Node::Lot(lot)])?;
     Ok(list_of(alloc, &all)?)
 }

@@ -11,9 +11,9 @@ use Rattle.std.proofs.lemmas.Cmp.{tied_itself}
 use Rattle.std.proofs.lemmas.List.Elements.{Contains-append_cases, Contains-append_left, Contains-append_right}
 use Rattle.std.proofs.lemmas.Map.Lookups.{CmpEqualImpliesEq}
 use Rattle.plant_base.specs.State.{put}
-use Rattle.plant_trace.proofs.Leading.{none_in, first_in, rest_in, first_or_rest}
+use Rattle.plant_trace.proofs.LeadsIsReach.{none_in, first_in, rest_in, first_or_rest}
 use Rattle.plant_view.specs.Rows.{put_all}
-pub use Rattle.plant_view.proofs.Rows.{sorted_put_all}
+pub use Rattle.plant_view.proofs.RowsInTurn.{sorted_put_all}
 
 -- ---- each of them
 

@@ -1,5 +1,5 @@
-pub mod Found
-pub mod Parting
-pub mod Reading
-pub mod Joining
-mod Small
+pub mod FoundRows
+pub mod RowsOfLot
+pub mod PrefetchedPage
+pub mod MergedLists
+mod SmallNumbers

@@ -1,5 +1,5 @@
-pub mod Ahead
+pub mod Prefetching
 pub mod Pages
-pub mod Rising
-pub mod Places
+pub mod RisingIds
+pub mod Cursors
 pub mod Worklists

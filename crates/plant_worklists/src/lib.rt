@@ -2,32 +2,32 @@
 //! questions alone look up.
 #![tactic(auto)]
 
-mod above;
-mod ahead;
+mod after_cursor;
+mod cursors;
+mod key_order;
 mod list;
-mod lots_ahead;
+mod lot_prefetch;
 mod merging;
 mod movements;
 mod of_lot;
-mod pace;
 mod page;
-mod place;
-mod placed;
+mod policy;
+mod prefetch;
 mod runs;
 mod view;
 
-pub use above::{
-    is_above, is_movement_above, is_recipe_above, movement_above, recipe_text_above, text_above,
-    version_above,
+pub use after_cursor::{
+    is_after, is_movement_after, is_recipe_after, movement_after, recipe_text_after, text_after,
+    version_after,
 };
-pub use ahead::Ahead;
+pub use cursors::{MovementCursor, RecipeCursor};
+pub use key_order::HasKeyOrder;
 pub use list::Worklist;
-pub use lots_ahead::{is_held_ahead, lot_ahead, sublots_ahead};
+pub use lot_prefetch::{prefetched_is_held, prefetched_lot, prefetched_sublots};
 pub use merging::merge_pages;
 pub use movements::{movements_into, other_lot};
 pub use of_lot::OfLot;
-pub use pace::Pace;
 pub use page::{PAGE_SIZE, Page, first_page};
-pub use place::{MovementPlace, RecipePlace};
-pub use placed::Placed;
+pub use policy::PrefetchPolicy;
+pub use prefetch::ReadAhead;
 pub use view::Worklists;

@@ -3,14 +3,14 @@ ghost use Rattle.std.specs.Prelude.{◌≡◌, ◌∷◌, [], ◌+◌, ◌<◌, 
 ghost use Rattle.std.specs.Set.{sorted_merge};
 ghost use Rattle.plant_worklists.specs.Pages.{page_of};
 
+use crate::key_order::HasKeyOrder;
 use crate::page::{Page, first_page};
-use crate::placed::Placed;
 use std::alloc::{AllocError, Global};
 use std::cmp::Ordering;
 
 /// The first page of two lists as one, each key once, from the first page of each.
 /// The only error is that memory was refused.
-pub fn merge_pages<R: Placed + Copy + Drop>(
+pub fn merge_pages<R: HasKeyOrder + Copy + Drop>(
     alloc: Global,
     first: &Page<R>,
     second: &Page<R>,
@@ -34,7 +34,7 @@ fn is_any(first: bool, second: bool, third: bool) -> bool
 }
 
 /// The rows of two lists in order as one list in order, each key once.
-fn merged_rows<R: Placed + Copy>(
+fn merged_rows<R: HasKeyOrder + Copy>(
     alloc: Global,
     first: &[R],
     second: &[R],
@@ -53,8 +53,11 @@ fn merged_rows<R: Placed + Copy>(
 }
 
 /// The first row of two lists in order, and what is left of both behind it.
-#[tactic(auto, using(crate::proofs::Joining::first_alone))]
-fn take_first<'r, R: Placed>(first: &'r [R], second: &'r [R]) -> Option<(&'r R, &'r [R], &'r [R])>
+#[tactic(auto, using(crate::proofs::MergedLists::first_alone))]
+fn take_first<'r, R: HasKeyOrder>(
+    first: &'r [R],
+    second: &'r [R],
+) -> Option<(&'r R, &'r [R], &'r [R])>
     ensures none { IfNone result (sorted_merge R.order true first.now second.now ≡ []) }
     ensures some { IfSome result (λ taken. sorted_merge R.order true first.now second.now
         ≡ taken.0.now ∷ sorted_merge R.order true taken.1.now taken.2.now) }

@@ -2,7 +2,7 @@
 
 ghost use Rattle.std.specs.Prelude.{map};
 ghost use Rattle.plant_view.specs.Tables.{sublot_row};
-ghost use Rattle.plant_worklists.specs.Rising.{lots_rise, sublots_rise, holds_rise};
+ghost use Rattle.plant_worklists.specs.RisingIds.{lots_rise, sublots_rise, holds_rise};
 
 use crate::page::Page;
 use crate::view::Worklists;
@@ -13,9 +13,9 @@ use plant_view::ViewFault;
 pub trait OfLot: Sized + Copy {
     ghost use Rattle.std.specs.Prelude.{◌≡◌, ℕ, Bool, List, IfOk, filter};
     ghost use Rattle.plant_base.specs.State.{State};
-    ghost use Rattle.plant_trace.specs.Sources.{HonestlyTold};
-    ghost use Rattle.plant_view.specs.Sound.{IsSound};
-    ghost use Rattle.plant_worklists.specs.Ahead.{Rise, rows_after};
+    ghost use Rattle.plant_trace.specs.HoldsIfHonest.{HoldsIfHonest};
+    ghost use Rattle.plant_view.specs.DecisionInvariant.{DecisionInvariant};
+    ghost use Rattle.plant_worklists.specs.Prefetching.{Rise, rows_after};
     ghost use Rattle.plant_worklists.specs.Pages.{page_of};
 
     /// The id of its lot.
@@ -25,7 +25,7 @@ pub trait OfLot: Sized + Copy {
     ghost all: { State → List Self };
 
     /// In a sound state any of them stand in the order of their lots.
-    ghost rise: { (s : State) (test : Self → Bool) → IsSound s → Rise lot_of (filter test (all s)) };
+    ghost rise: { (s : State) (test : Self → Bool) → DecisionInvariant s → Rise lot_of (filter test (all s)) };
 
     /// The id of its lot.
     fn lot(&self) -> Id
@@ -34,11 +34,11 @@ pub trait OfLot: Sized + Copy {
     /// A page of the rows of the lots that come after one.
     fn page_after<V: Worklists>(
         view: &mut V,
-        above: Option<Id>,
+        cursor: Option<Id>,
     ) -> Result<Page<Self>, ViewFault<V::Fault>>
-        ensures { HonestlyTold V.honest V.kept V.steady view.old view.new
-            (IsSound (V.state view.old)
-            → IfOk result (λ page. page ≡ page_of (rows_after lot_of above (all (V.state view.old))))) };
+        ensures { HoldsIfHonest V.honest V.kept V.frame view.old view.new
+            (DecisionInvariant (V.state view.old)
+            → IfOk result (λ page. page ≡ page_of (rows_after lot_of cursor (all (V.state view.old))))) };
 }
 
 impl OfLot for Lot {
@@ -54,9 +54,9 @@ impl OfLot for Lot {
 
     fn page_after<V: Worklists>(
         view: &mut V,
-        above: Option<Id>,
+        cursor: Option<Id>,
     ) -> Result<Page<Lot>, ViewFault<V::Fault>> {
-        view.lots_after(above).map_err(ViewFault::View)
+        view.lots_after(cursor).map_err(ViewFault::View)
     }
 }
 
@@ -73,9 +73,9 @@ impl OfLot for Sublot {
 
     fn page_after<V: Worklists>(
         view: &mut V,
-        above: Option<Id>,
+        cursor: Option<Id>,
     ) -> Result<Page<Sublot>, ViewFault<V::Fault>> {
-        view.sublots_after(above).map_err(ViewFault::View)
+        view.sublots_after(cursor).map_err(ViewFault::View)
     }
 }
 
@@ -92,8 +92,8 @@ impl OfLot for Hold {
 
     fn page_after<V: Worklists>(
         view: &mut V,
-        above: Option<Id>,
+        cursor: Option<Id>,
     ) -> Result<Page<Hold>, ViewFault<V::Fault>> {
-        view.holds_after(above).map_err(ViewFault::View)
+        view.holds_after(cursor).map_err(ViewFault::View)
     }
 }

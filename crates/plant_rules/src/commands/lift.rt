@@ -1,13 +1,13 @@
 ghost use Rattle.std.specs.Prelude.{◌≡◌, IfOk};
 ghost use Rattle.plant_base.specs.State.{State, recall_at};
-ghost use Rattle.plant_trace.specs.Sources.{HonestlyTold};
+ghost use Rattle.plant_trace.specs.HoldsIfHonest.{HoldsIfHonest};
 ghost use Rattle.plant_rules.specs.Recalling.{wrong_lift, lift, lifted};
 ghost use Rattle.plant_view.specs.OneBatch.{PutsOneBatch};
-ghost use Rattle.plant_view.specs.Sound.{IsSound};
+ghost use Rattle.plant_view.specs.DecisionInvariant.{DecisionInvariant};
 ghost use Rattle.plant_view.specs.Tables.{Decides};
 
 use plant_base::{GREATEST_SEQ, LiftRecall, Lifting, Recall, Refusal, Stamp};
-use plant_view::{Decision, RowChange, View, ViewFault, changes, look, meta_after};
+use plant_view::{Decision, RowChange, View, ViewFault, changes, lookup, meta_after};
 use std::alloc::{AllocError, Global};
 
 pub(crate) fn decide_lift<V: View>(
@@ -18,13 +18,13 @@ pub(crate) fn decide_lift<V: View>(
     c: &LiftRecall,
 ) -> Result<Decision, ViewFault<V::Fault>>
     requires seq { V.honest view.old → seq ≡ (V.state view.old).seq }
-    requires sound { V.honest view.old → IsSound (V.state view.old) }
-    ensures decides { HonestlyTold V.honest V.kept V.steady view.old view.new
+    requires sound { V.honest view.old → DecisionInvariant (V.state view.old) }
+    ensures decides { HoldsIfHonest V.honest V.kept V.frame view.old view.new
         (IfOk result (Decides (wrong_lift (V.state view.old) c.now) (V.state view.old)
         (lift (V.state view.old) stamp.now c.now))) }
     ensures one_batch { IfOk result PutsOneBatch }
 {
-    let known = look::recall(view, c.recall)?;
+    let known = lookup::recall(view, c.recall)?;
     Ok(decide_found(alloc, seq, stamp, c, known)?)
 }
 
@@ -36,7 +36,7 @@ fn decide_found(
     c: &LiftRecall,
     known: Option<Recall>,
 ) -> Result<Decision, AllocError>
-    ensures decides { (s : State) → IsSound s → seq ≡ s.seq → known ≡ recall_at s c.now.recall
+    ensures decides { (s : State) → DecisionInvariant s → seq ≡ s.seq → known ≡ recall_at s c.now.recall
         → IfOk result (Decides (wrong_lift s c.now) s (lift s stamp.now c.now)) }
     ensures one_batch { IfOk result PutsOneBatch }
 {

@@ -3,17 +3,17 @@ ghost use Rattle.plant_base.specs.Values.{greatest_seq};
 ghost use Rattle.plant_base.specs.State.{State, lot_at, recall_at};
 ghost use Rattle.plant_trace.specs.Reach.{Lists};
 ghost use Rattle.plant_trace.specs.Recalls.{IsRecalled};
-ghost use Rattle.plant_trace.specs.Sources.{HonestlyTold};
+ghost use Rattle.plant_trace.specs.HoldsIfHonest.{HoldsIfHonest};
 ghost use Rattle.plant_rules.specs.Recalling.{may_open, wrong_recall, recall, recall_rows, opened};
 ghost use Rattle.plant_view.specs.Genealogy.{edges_of};
 ghost use Rattle.plant_view.specs.Recalls.{mark_on};
 ghost use Rattle.plant_view.specs.OneBatch.{PutsOneBatch};
-ghost use Rattle.plant_view.specs.Sound.{IsSound};
+ghost use Rattle.plant_view.specs.DecisionInvariant.{DecisionInvariant};
 ghost use Rattle.plant_view.specs.Tables.{Decides};
 
 use plant_base::{GREATEST_SEQ, Id, Items, Lot, Recall, RecallLot, Refusal, Stamp};
 use plant_trace::{Node, reached};
-use plant_view::{Decision, RowChange, RowParts, View, ViewFault, look, mark_on, meta_after};
+use plant_view::{Decision, RowChange, RowParts, View, ViewFault, lookup, mark_on, meta_after};
 use std::alloc::{AllocError, Global};
 
 pub(crate) fn decide_recall<V: View>(
@@ -24,14 +24,14 @@ pub(crate) fn decide_recall<V: View>(
     c: &RecallLot,
 ) -> Result<Decision, ViewFault<V::Fault>>
     requires seq { V.honest view.old → seq ≡ (V.state view.old).seq }
-    requires sound { V.honest view.old → IsSound (V.state view.old) }
-    ensures decides { HonestlyTold V.honest V.kept V.steady view.old view.new
+    requires sound { V.honest view.old → DecisionInvariant (V.state view.old) }
+    ensures decides { HoldsIfHonest V.honest V.kept V.frame view.old view.new
         (IfOk result (Decides (wrong_recall (V.state view.old) c.now) (V.state view.old)
         (recall (V.state view.old) stamp.now c.now))) }
     ensures one_batch { IfOk result PutsOneBatch }
 {
-    let lot = look::lot(view, c.lot)?;
-    let known = look::recall(view, c.recall)?;
+    let lot = lookup::lot(view, c.lot)?;
+    let known = lookup::recall(view, c.recall)?;
     let nodes = nodes_reached(alloc, view, c.lot, may_open(seq, &lot, &known))?;
     Ok(decide_found(alloc, seq, stamp, c, lot, known, nodes.as_slice())?)
 }
@@ -50,7 +50,7 @@ fn nodes_reached<V: View>(
     lot: Id,
     is_wanted: bool,
 ) -> Result<Vec<Node>, ViewFault<V::Fault>>
-    ensures { HonestlyTold V.honest V.kept V.steady view.old view.new
+    ensures { HoldsIfHonest V.honest V.kept V.frame view.old view.new
         (IfOk result (λ nodes. is_wanted ≡ true
         → Lists (IsRecalled (edges_of (V.state view.old)) lot) nodes.items)) }
 {
@@ -73,7 +73,7 @@ fn decide_found(
     known: Option<Recall>,
     nodes: &[Node],
 ) -> Result<Decision, AllocError>
-    ensures decides { (s : State) → IsSound s → seq ≡ s.seq → lot ≡ lot_at s c.now.lot
+    ensures decides { (s : State) → DecisionInvariant s → seq ≡ s.seq → lot ≡ lot_at s c.now.lot
         → known ≡ recall_at s c.now.recall
         → (may_open seq lot known ≡ true → Lists (IsRecalled (edges_of s) c.now.lot) nodes.now)
         → IfOk result (Decides (wrong_recall s c.now) s (recall s stamp.now c.now)) }

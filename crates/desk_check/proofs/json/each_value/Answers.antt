@@ -1,11 +1,11 @@
 use Rattle.std.proofs.Common.{◌∙◌, ap}
 use Rattle.std.proofs.lemmas.List.{take_all}
 use Rattle.desk_check.specs.Objects.{each_data}
-use Rattle.desk_check.proofs.Listing.{each_data_told}
+use Rattle.desk_check.proofs.EachDataReported.{each_data_reported}
 use Rattle.desk_check.proofs.json.each_value.Goals as goal
 
 pub loop-rule-preserved : goal.loop-rule-preserved
-loop-rule-preserved c = each_data_told c.args.tested.now c.args.rules.now c.loop-rule.rule-index _ _ _ c.loop-rule-test.true c.loop-rule.invariant c.in_ok-add_found.ensures
+loop-rule-preserved c = each_data_reported c.args.tested.now c.args.rules.now c.loop-rule.rule-index _ _ _ c.loop-rule-test.true c.loop-rule.invariant c.in_ok-add_found.ensures
 
 pub returns : goal.returns
 returns c = c.loop-rule.invariant ∙ ap (each_data c.args.tested.now) (take_all c.loop-rule.rule-index c.args.rules.now c.loop-rule-test.false)

@@ -1,10 +1,10 @@
 use Rattle.std.proofs.Common.{ap, ◌∙◌}
 use Rattle.std.proofs.lemmas.Result.{IfOk-weaker}
 use Rattle.serde_json.specs.Written.{has_float, compact_text}
-use Rattle.desk_check.proofs.Floatless.{of_outcome}
+use Rattle.desk_check.proofs.OutcomeHasNoFloats.{of_outcome}
 use Rattle.desk_check.proofs.json.object_text.Goals as goal
 
 pub returns : goal.returns
 returns c =
-    let told = c.in_ok-value.ensures in
-    IfOk-weaker c.to_string.result _ _ (λ s h. (told.0, h (ap has_float told.1 ∙ of_outcome c.args.outcome.now told.0) ∙ ap compact_text told.1)) c.to_string.ensures.text
+    let reported = c.in_ok-value.ensures in
+    IfOk-weaker c.to_string.result _ _ (λ s h. (reported.0, h (ap has_float reported.1 ∙ of_outcome c.args.outcome.now reported.0) ∙ ap compact_text reported.1)) c.to_string.ensures.text

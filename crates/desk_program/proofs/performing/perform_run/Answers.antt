@@ -1,5 +1,5 @@
 use Rattle.std.proofs.Common.{◌∙◌, Err, ap, inl, inr}
-use Rattle.desk_program.proofs.Adopted.{adopted_so}
+use Rattle.desk_program.proofs.AdoptedState.{adopted_so}
 use Rattle.desk_program.proofs.performing.perform_run.Goals as goal
 
 pub returns-in-Ok : goal.returns-in-Ok
@@ -15,5 +15,5 @@ returns-in-Ok g c = λ clean opened.
 
 pub returns-in-Err : goal.returns-in-Err
 returns-in-Err g c = λ clean opened.
-    let why = c.in-Err.ensures.refused in
-    inr ((why.0, c.performed_of.ensures.outcome ∙ ap Err why.1, why.2 (clean c.in-Err.stopped.connection)), c.in-Err.ensures.unread, c.in-Err.ensures.unwritten)
+    let line_error = c.in-Err.ensures.refused in
+    inr ((line_error.0, c.performed_of.ensures.outcome ∙ ap Err line_error.1, line_error.2 (clean c.in-Err.stopped.connection)), c.in-Err.ensures.unread, c.in-Err.ensures.write_error)

@@ -5,9 +5,9 @@ returns-in-Run g c = rw c.in-Run.is c.perform_run.ensures
 
 pub returns-in-Import : goal.returns-in-Import
 returns-in-Import g c =
-    let told = c.perform_import.ensures in
-    let heading = c.import_heading-heading.ensures in
-    rw c.in-Import.is (rw heading at told)
+    let reported = c.perform_import.ensures in
+    let import_metadata = c.metadata_of_import-import_metadata.ensures in
+    rw c.in-Import.is (rw import_metadata at reported)
 
 pub returns-in-Trace : goal.returns-in-Trace
 returns-in-Trace g c = rw c.in-Trace.is c.perform_question.ensures

@@ -1,7 +1,7 @@
-use Rattle.desk_program.proofs.Adopted.{adopted_so, as_stands}
+use Rattle.desk_program.proofs.AdoptedState.{adopted_so, as_represented}
 use Rattle.desk_program.proofs.session.run.Goals as goal
 
 pub returns-clause-ends : goal.returns-clause-ends
 returns-clause-ends g c =
     let ran = c.run_lines-end.ensures.ends in
-    (ran.0, ran.1, λ h opened. adopted_so _ opened _ _ (λ s at. ran.2 h s (as_stands _ _ s at)) (c.in_ok-desk.ensures.adopted (c.run_lines-end.ensures.same.honest h) opened))
+    (ran.0, ran.1, λ h opened. adopted_so _ opened _ _ (λ s at. ran.2 h s (as_represented _ _ s at)) (c.in_ok-desk.ensures.adopted (c.run_lines-end.ensures.same.honest h) opened))

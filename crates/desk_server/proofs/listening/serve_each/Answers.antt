@@ -1,6 +1,6 @@
 use Rattle.std.proofs.Common.{◌+◌, sym, ◌∙◌, refl, arith}
-use Rattle.plant_desk.proofs.Same.{same_itself, same_after}
-use Rattle.desk_server.proofs.Served.{desk_unasked, desk_fewer, desk_more}
+use Rattle.plant_desk.proofs.SameDesk.{same_itself, same_after}
+use Rattle.desk_server.proofs.ServedRequests.{desk_unasked, desk_fewer, desk_more}
 use Rattle.desk_server.proofs.listening.serve_each.Goals as goal
 
 pub connections-init : goal.connections-init

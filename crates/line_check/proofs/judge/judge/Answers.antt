@@ -1,6 +1,6 @@
 use Rattle.std.proofs.Common.{◌≡◌, ◌<◌, length, Ok, sym, ap, ◌∙◌, arith}
 use Rattle.std.proofs.lemmas.Bool.Decides.{nat_tests}
-use Rattle.line_check.proofs.Judging.{verdict_empty, verdict_said}
+use Rattle.line_check.proofs.VerdictOfLine.{verdict_empty, verdict_said}
 use Rattle.line_check.proofs.judge.judge.Goals as goal
 
 pub returns-then-is_empty-clause-verdict : goal.returns-then-is_empty-clause-verdict
@@ -18,7 +18,7 @@ returns-in-Ok-Question-clause-verdict c =
     let some : 0 < length c.args.line.now = grind (arith, nat_tests) in
     sym (verdict_said c.args.line.now _ some (c.in-Ok-Question.ensures.reads ∙ ap Ok c.in-Ok-Question.field-0-is))
 
-pub returns-in-Err-Told-clause-verdict : goal.returns-in-Err-Told-clause-verdict
-returns-in-Err-Told-clause-verdict c =
+pub returns-in-Err-Reported-clause-verdict : goal.returns-in-Err-Reported-clause-verdict
+returns-in-Err-Reported-clause-verdict c =
     let some : 0 < length c.args.line.now = grind (arith, nat_tests) in
-    sym (verdict_said c.args.line.now _ some (rw c.in-Err-Told.field-0-is at c.in-Err-Told.ensures.reads))
+    sym (verdict_said c.args.line.now _ some (rw c.in-Err-Reported.field-0-is at c.in-Err-Reported.ensures.reads))

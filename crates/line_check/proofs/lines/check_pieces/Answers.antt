@@ -1,13 +1,13 @@
 use Rattle.std.proofs.Common.{◌≡◌, ◌<◌, [], ◌++◌, length, refl, sym, ◌∙◌, arith}
 use Rattle.std.proofs.lemmas.Bool.Decides.{nat_tests}
-use Rattle.plant_text.proofs.Known.{Consumes-nil, Consumes-append, Consumes-none}
-use Rattle.plant_text.proofs.HeldLemmas.{held_more, held_after_none, each_none}
+use Rattle.plant_text.proofs.KnownBytes.{Consumes-nil, Consumes-append, Consumes-none}
+use Rattle.plant_text.proofs.HeldLine.{held_more, held_after_none, each_none}
 use Rattle.line_check.specs.Verdicts.{verdict_of}
-use Rattle.line_check.proofs.Reports.{told_same, piece_told, input_ends}
+use Rattle.line_check.proofs.ReportedLines.{reported_same, piece_reported, input_ends}
 use Rattle.line_check.proofs.lines.check_pieces.Goals as goal
 
 pub reads-init : goal.reads-init
-reads-init g c = ([], Consumes-nil _, c.new-held.ensures.items ∙ sym (held_after_none []), told_same _ _ _ _ (each_none verdict_of []) refl)
+reads-init g c = ([], Consumes-nil _, c.new-held.ensures.items ∙ sym (held_after_none []), reported_same _ _ _ _ (each_none verdict_of []) refl)
 
 pub returns-in-Ok-eq0 : goal.returns-in-Ok-eq0
 returns-in-Ok-eq0 g c =
@@ -21,10 +21,10 @@ returns-in-Ok-eq0 g c =
 pub reads-preserved : goal.reads-preserved
 reads-preserved g c =
     let inv = c.reads.invariant in
-    let front = c.split_at.result.0.now in
+    let prefix = c.split_at.result.0.now in
     let read = rw (← c.split_at.ensures.front) at c.in-Ok.ensures.bytes.0 in (
-      inv.0 ++ front,
-      Consumes-append _ _ _ inv.0 front inv.1 read,
-      held_more [] c.reads.held.items _ inv.0 front (inv.0 ++ front) inv.2 c.in-Ok-take_piece.ensures.held refl,
-      piece_told _ _ _ [] c.reads.held.items inv.0 front (inv.0 ++ front) _ _ _ inv.3 inv.2 c.in-Ok-take_piece.ensures.told refl,
+      inv.0 ++ prefix,
+      Consumes-append _ _ _ inv.0 prefix inv.1 read,
+      held_more [] c.reads.held.items _ inv.0 prefix (inv.0 ++ prefix) inv.2 c.in-Ok-take_piece.ensures.held refl,
+      piece_reported _ _ _ [] c.reads.held.items inv.0 prefix (inv.0 ++ prefix) _ _ _ inv.3 inv.2 c.in-Ok-take_piece.ensures.reported refl,
     )

@@ -1,14 +1,14 @@
 use Rattle.std.proofs.Common.{◌≡◌, ◌+◌, ◌<◌, [], ◌∷◌, ◌++◌, get_or, take, length, refl, sym, arith}
 use Rattle.std.proofs.lemmas.List.{take_more}
-use Rattle.plant_text.proofs.HeldLemmas.{held_more, held_after_none, each_none}
+use Rattle.plant_text.proofs.HeldLine.{held_more, held_after_none, each_none}
 use Rattle.line_check.specs.Verdicts.{verdict_of}
-use Rattle.line_check.proofs.Reports.{told_same, piece_told}
+use Rattle.line_check.proofs.ReportedLines.{reported_same, piece_reported}
 use Rattle.line_check.proofs.lines.take_piece.Goals as goal
 
 pub loop-b-init : goal.loop-b-init
 loop-b-init g c = record {
   held = sym (held_after_none c.args.held.now.items);
-  told = told_same _ _ _ _ (each_none verdict_of c.args.held.now.items) refl;
+  reported = reported_same _ _ _ _ (each_none verdict_of c.args.held.now.items) refl;
 }
 
 pub loop-b-preserved : goal.loop-b-preserved
@@ -20,5 +20,5 @@ loop-b-preserved g c =
     let inv = c.loop-b.invariant in
     record {
       held = held_more c.args.held.now.items c.loop-b.held.items _ (take i xs) (get_or xs i 0 ∷ []) (take (i + 1) xs) inv.held c.in-Ok.ensures.held more;
-      told = piece_told _ _ _ c.args.held.now.items c.loop-b.held.items (take i xs) (get_or xs i 0 ∷ []) (take (i + 1) xs) _ _ _ inv.told inv.held c.in-Ok.ensures.told more;
+      reported = piece_reported _ _ _ c.args.held.now.items c.loop-b.held.items (take i xs) (get_or xs i 0 ∷ []) (take (i + 1) xs) _ _ _ inv.reported inv.held c.in-Ok.ensures.reported more;
     }

@@ -1,5 +1,5 @@
 use Rattle.std.proofs.Common.{◌≡◌, take, map}
-use Rattle.plant_trace.specs.Sources.{HonestlyTold}
+use Rattle.plant_trace.specs.HoldsIfHonest.{HoldsIfHonest}
 use Rattle.plant_answers.specs.BatchViews.{measured_line}
 use Rattle.plant_answers.proofs.batch_answers.lines_with_units.Given as goal
 
@@ -8,4 +8,4 @@ abbrev pub invariant-loop-line : goal.invariant-loop-line
 invariant-loop-line g l =
     let e = g.V.Edges in
     let s = g.V.View.state l.fn.view in
-    HonestlyTold e.honest e.kept e.steady l.fn.view l.view (l.rows.items ≡ map (measured_line s.definitions) (take l.line-index l.lines))
+    HoldsIfHonest e.honest e.kept e.frame l.fn.view l.view (l.rows.items ≡ map (measured_line s.definitions) (take l.line-index l.lines))

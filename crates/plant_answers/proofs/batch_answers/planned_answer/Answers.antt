@@ -1,12 +1,12 @@
 use Rattle.std.proofs.Common.{◌≡◌, ◌∙◌, Some, sym}
 use Rattle.plant_base.specs.State.{job_at}
-use Rattle.plant_trace.proofs.Sources.{HonestlyTold-then}
+use Rattle.plant_trace.proofs.HoldsIfHonest.{HoldsIfHonest-then}
 use Rattle.plant_answers.proofs.batch_answers.planned_answer.Goals as goal
 
 pub returns : goal.returns
 returns g c =
     let s = g.V.View.state c.args.view.now in
-    HonestlyTold-then g.met.V.Edges.kept_along g.met.V.Edges.steady_along c.in_ok-job.ensures c.headed_answer.ensures (λ k p q row.
+    HoldsIfHonest-then g.met.V.Edges.kept_trans g.met.V.Edges.frame_trans c.in_ok-job.ensures c.headed_answer.ensures (λ k p q row.
     let found : job_at s c.args.row.now.batch.job ≡ Some c.in-Some.job = sym p ∙ c.in-Some.is in
     let here = rw (g.met.V.View.kept_state _ _ k) at q in
     rw found (here row))

@@ -1,6 +1,6 @@
 use Rattle.std.proofs.Common.{◌≡◌, take}
 use Rattle.std.specs.List.{filter_map, flat_map}
-use Rattle.plant_trace.specs.Sources.{HonestlyTold}
+use Rattle.plant_trace.specs.HoldsIfHonest.{HoldsIfHonest}
 use Rattle.plant_answers.specs.Booked.{booked_at}
 use Rattle.plant_answers.proofs.booked.bookings_around.Given as goal
 
@@ -9,4 +9,4 @@ abbrev pub invariant-loop-node : goal.invariant-loop-node
 invariant-loop-node g l =
     let e = g.V.Edges in
     let s = g.V.View.state l.fn.view in
-    HonestlyTold e.honest e.kept e.steady l.fn.view l.view (l.rows.items ≡ flat_map (λ x. filter_map (booked_at l.nodes x) s.movements) (take l.node-index l.nodes))
+    HoldsIfHonest e.honest e.kept e.frame l.fn.view l.view (l.rows.items ≡ flat_map (λ x. filter_map (booked_at l.nodes x) s.movements) (take l.node-index l.nodes))

@@ -1,14 +1,14 @@
 use Rattle.std.proofs.Common.{◌≡◌, ◌∙◌}
-use Rattle.plant_trace.proofs.Sources.{HonestlyTold-weaker}
+use Rattle.plant_trace.proofs.HoldsIfHonest.{HoldsIfHonest-weaker}
 use Rattle.plant_answers.specs.Booked.{bookings_around}
-use Rattle.plant_answers.proofs.Between.{summed_between, between_fits}
-use Rattle.plant_answers.proofs.Fitting.{amount_fits}
+use Rattle.plant_answers.proofs.BookingsBetweenNodes.{summed_between, between_fits}
+use Rattle.plant_answers.proofs.BookedSumsFit.{amount_fits}
 use Rattle.plant_answers.proofs.booked.edges_between.Goals as goal
 
 pub returns-in-Ok : goal.returns-in-Ok
 returns-in-Ok g c =
     let s = g.V.View.state c.args.view.now in
-    HonestlyTold-weaker
+    HoldsIfHonest-weaker
     (λ (found : c.in_ok-bookings.bookings.items ≡ bookings_around s.movements c.args.nodes.now) sound sorted.
     let summed = rw (c.as_slice.ensures.value, found) at c.in-Ok.ensures in
     summed (between_fits s.movements c.args.nodes.now sorted (amount_fits s sound)) ∙ summed_between s.movements c.args.nodes.now sorted)

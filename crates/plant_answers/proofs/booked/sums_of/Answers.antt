@@ -5,7 +5,7 @@ use Rattle.std.specs.BTreeMap.{get}
 use Rattle.plant_base.specs.Edges.{edge_order}
 use Rattle.plant_base.specs.declared.rows.EdgeRow.{EdgeRow}
 use Rattle.plant_answers.specs.Booked.{sum_at}
-use Rattle.plant_answers.proofs.Along.{sums_more, entries_summed}
+use Rattle.plant_answers.proofs.SumsByEdge.{sums_more, entries_summed}
 use Rattle.plant_answers.proofs.booked.sums_of.Goals as goal
 
 pub loop-booking-preserved : goal.loop-booking-preserved

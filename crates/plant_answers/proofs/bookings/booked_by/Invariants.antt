@@ -1,6 +1,6 @@
 use Rattle.std.proofs.Common.{◌≡◌, take}
 use Rattle.std.specs.List.{filter_map}
-use Rattle.plant_trace.specs.Sources.{HonestlyTold}
+use Rattle.plant_trace.specs.HoldsIfHonest.{HoldsIfHonest}
 use Rattle.plant_answers.specs.BatchViews.{booked_on}
 use Rattle.plant_answers.proofs.bookings.booked_by.Given as goal
 
@@ -9,4 +9,4 @@ abbrev pub invariant-loop-movement : goal.invariant-loop-movement
 invariant-loop-movement g l =
     let e = g.V.Edges in
     let s = g.V.View.state l.fn.view in
-    HonestlyTold e.honest e.kept e.steady l.fn.view l.view (l.rows.items ≡ filter_map (booked_on l.side s l.batch) (take l.movement-index l.movements))
+    HoldsIfHonest e.honest e.kept e.frame l.fn.view l.view (l.rows.items ≡ filter_map (booked_on l.side s l.batch) (take l.movement-index l.movements))

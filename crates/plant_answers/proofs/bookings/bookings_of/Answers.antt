@@ -1,9 +1,9 @@
 use Rattle.std.proofs.Common.{◌≡◌, ◌∙◌}
 use Rattle.std.specs.List.{filter_map}
-use Rattle.plant_trace.proofs.Sources.{HonestlyTold-then}
+use Rattle.plant_trace.proofs.HoldsIfHonest.{HoldsIfHonest-then}
 use Rattle.plant_view.specs.Views.{movements_of}
 use Rattle.plant_answers.specs.BatchViews.{consumption}
-use Rattle.plant_answers.proofs.Narrowed.{consumed_all, produced_all}
+use Rattle.plant_answers.proofs.NarrowedMovements.{consumed_all, produced_all}
 use Rattle.plant_answers.proofs.bookings.bookings_of.Goals as goal
 
 pub returns : goal.returns
@@ -12,9 +12,9 @@ returns g c =
     let batch = c.args.batch in
     let Moved : Type 0 = c.in_ok-movements.movements.items ≡ movements_of s batch in
     let Consumed : Type 0 = c.in_ok-consumed.consumed.items ≡ filter_map (consumption s batch) s.movements in
-    let looked = HonestlyTold-then {R = Moved × Consumed} g.met.V.Edges.kept_along g.met.V.Edges.steady_along c.in_ok-movements.ensures c.in_ok-consumed.ensures (λ k p q.
+    let looked_up = HoldsIfHonest-then {R = Moved × Consumed} g.met.V.Edges.kept_trans g.met.V.Edges.frame_trans c.in_ok-movements.ensures c.in_ok-consumed.ensures (λ k p q.
     let taken = rw (g.met.V.View.kept_state _ _ k, c.as_slice.ensures.value, p) at q in
     (p, taken ∙ consumed_all s batch)) in
-    HonestlyTold-then g.met.V.Edges.kept_along g.met.V.Edges.steady_along looked c.in_ok-produced.ensures (λ k p q.
+    HoldsIfHonest-then g.met.V.Edges.kept_trans g.met.V.Edges.frame_trans looked_up c.in_ok-produced.ensures (λ k p q.
     let brought = rw (g.met.V.View.kept_state _ _ k, c.as_slice-2.ensures.value, p.0) at q in
     record { consumed = p.1; produced = brought ∙ produced_all s batch })

@@ -1,5 +1,5 @@
 use Rattle.std.proofs.Common.{◌≡◌, ◌∙◌, None, sym, ap}
-use Rattle.plant_trace.proofs.Sources.{HonestlyTold-then, HonestlyTold-weaker}
+use Rattle.plant_trace.proofs.HoldsIfHonest.{HoldsIfHonest-then, HoldsIfHonest-weaker}
 use Rattle.plant_answers.specs.Genealogy.{answer_edges}
 use Rattle.plant_answers.specs.Traces.{missing}
 use Rattle.plant_answers.proofs.edge_answers.edges_answer.Goals as goal
@@ -7,12 +7,12 @@ use Rattle.plant_answers.proofs.edge_answers.edges_answer.Goals as goal
 pub returns-in-Some : goal.returns-in-Some
 returns-in-Some g c =
     let s = g.V.View.state c.args.view.now in
-    HonestlyTold-weaker (λ (p : c.in_ok-refusal.refusal ≡ missing s c.args.start) sound. ap (answer_edges s c.args.direction c.args.start) (sym c.in-Some.is ∙ p)) c.in_ok-refusal.ensures
+    HoldsIfHonest-weaker (λ (p : c.in_ok-refusal.refusal ≡ missing s c.args.start) sound. ap (answer_edges s c.args.direction c.args.start) (sym c.in-Some.is ∙ p)) c.in_ok-refusal.ensures
 
 pub returns-in-None : goal.returns-in-None
 returns-in-None g c =
     let s = g.V.View.state c.args.view.now in
-    HonestlyTold-then g.met.V.Edges.kept_along g.met.V.Edges.steady_along c.in_ok-refusal.ensures c.genealogy_answer.ensures (λ k p q sound.
+    HoldsIfHonest-then g.met.V.Edges.kept_trans g.met.V.Edges.frame_trans c.in_ok-refusal.ensures c.genealogy_answer.ensures (λ k p q sound.
     let found : missing s c.args.start ≡ None = sym p ∙ c.in-None.is in
     let here = rw (g.met.V.View.kept_state _ _ k) at q in
     rw found (here sound))

@@ -1,7 +1,7 @@
-use Rattle.plant_trace.proofs.Sources.{HonestlyTold-weaker}
+use Rattle.plant_trace.proofs.HoldsIfHonest.{HoldsIfHonest-weaker}
 use Rattle.plant_answers.proofs.edge_answers.node_if.Goals as goal
 
 pub returns : goal.returns
-returns g c = HonestlyTold-weaker (λ q sound known.
-    let told = q sound known in
-    (rw c.in-Some.is told.0, told.1)) c.lot_node.ensures
+returns g c = HoldsIfHonest-weaker (λ q sound known.
+    let reported = q sound known in
+    (rw c.in-Some.is reported.0, reported.1)) c.lot_node.ensures

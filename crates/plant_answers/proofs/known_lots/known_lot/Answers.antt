@@ -1,24 +1,24 @@
 use Rattle.std.proofs.lemmas.Result.{IfOk-from_err}
-use Rattle.plant_trace.proofs.Sources.{HonestlyTold-then, HonestlyTold-weaker}
+use Rattle.plant_trace.proofs.HoldsIfHonest.{HoldsIfHonest-then, HoldsIfHonest-weaker}
 use Rattle.plant_answers.proofs.known_lots.known_lot.Goals as goal
 
 pub returns : goal.returns
 returns g c =
     let s = g.V.View.state c.args.view.now in
-    HonestlyTold-then g.met.V.Edges.kept_along g.met.V.Edges.steady_along c.in_ok-held.ensures c.in_ok-sublots.ensures (λ k p q sound known.
+    HoldsIfHonest-then g.met.V.Edges.kept_trans g.met.V.Edges.frame_trans c.in_ok-held.ensures c.in_ok-sublots.ensures (λ k p q sound known.
     let here = rw (g.met.V.View.kept_state _ _ k) at q in
     let held = p sound known.holds in
     let rows = here sound known.sublots in
     (c.answer_of_lot.ensures s sound held.0 rows.0, record { lots = known.lots; sublots = rows.1; holds = held.1; definition = known.definition }))
 
 pub returns-in_err-held : goal.returns-in_err-held
-returns-in_err-held g c = HonestlyTold-weaker (λ q sound known.
+returns-in_err-held g c = HoldsIfHonest-weaker (λ q sound known.
     let held = q sound known.holds in
     (IfOk-from_err _ _ c.from_residual.ensures.0, record { lots = known.lots; sublots = known.sublots; holds = held.1; definition = known.definition })) c.in_err-held.ensures
 
 pub returns-in_err-sublots : goal.returns-in_err-sublots
 returns-in_err-sublots g c =
-    HonestlyTold-then g.met.V.Edges.kept_along g.met.V.Edges.steady_along c.in_ok-held.ensures c.in_err-sublots.ensures (λ k p q sound known.
+    HoldsIfHonest-then g.met.V.Edges.kept_trans g.met.V.Edges.frame_trans c.in_ok-held.ensures c.in_err-sublots.ensures (λ k p q sound known.
     let here = rw (g.met.V.View.kept_state _ _ k) at q in
     let held = p sound known.holds in
     let rows = here sound known.sublots in

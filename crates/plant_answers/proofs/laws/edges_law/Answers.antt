@@ -3,9 +3,9 @@ use Rattle.plant_trace.specs.Reach.{Lists}
 use Rattle.plant_answers.specs.Genealogy.{genealogy_around, answer_edges}
 use Rattle.plant_answers.specs.Answers.{answer}
 use Rattle.plant_answers.specs.AnswerLaws.{IsAround}
-use Rattle.plant_answers.proofs.EdgesBooked.{edges_sorted, edges_only, edges_all}
-use Rattle.plant_answers.proofs.GoodsReached.{around_lists}
-use Rattle.plant_answers.proofs.NodesThere.{nodes_named}
+use Rattle.plant_answers.proofs.EdgesAreBooked.{edges_sorted, edges_only, edges_all}
+use Rattle.plant_answers.proofs.GoodsAreReached.{around_lists}
+use Rattle.plant_answers.proofs.NodesExist.{nodes_named}
 use Rattle.plant_answers.proofs.laws.edges_law.Goals as goal
 
 pub returns-clause-booked : goal.returns-clause-booked

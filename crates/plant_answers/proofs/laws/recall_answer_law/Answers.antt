@@ -5,7 +5,7 @@ use Rattle.plant_trace.specs.declared.node.Node.{Node}
 use Rattle.plant_view.specs.Genealogy.{edges_of}
 use Rattle.plant_answers.specs.Answers.{answer}
 use Rattle.plant_answers.specs.RecallAnswers.{reached_list, recall_answer, answer_recall}
-use Rattle.plant_answers.proofs.RecallNodes.{reached_lists}
+use Rattle.plant_answers.proofs.RecalledNodesAreListed.{reached_lists}
 use Rattle.plant_answers.proofs.laws.recall_answer_law.Goals as goal
 
 pub returns : goal.returns

@@ -1,7 +1,7 @@
 use Rattle.std.proofs.Common.{ap}
-use Rattle.plant_answers.specs.Around.{lots_standing, answer_stands}
+use Rattle.plant_answers.specs.Surroundings.{lots_standing, answer_stands}
 use Rattle.plant_answers.specs.Answers.{answer}
-use Rattle.plant_answers.proofs.GoodsReached.{standing_sorted, standing_only, standing_all}
+use Rattle.plant_answers.proofs.GoodsAreReached.{standing_sorted, standing_only, standing_all}
 use Rattle.plant_answers.proofs.laws.stands_law.Goals as goal
 
 pub returns : goal.returns

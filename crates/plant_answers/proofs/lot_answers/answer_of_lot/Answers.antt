@@ -1,7 +1,7 @@
 use Rattle.std.proofs.Common.{◌≡◌, ◌∙◌}
 use Rattle.plant_view.specs.Tables.{sublots_of}
 use Rattle.plant_answers.specs.LotAnswers.{lot_answer}
-use Rattle.plant_answers.proofs.Totals.{total_fits}
+use Rattle.plant_answers.proofs.TotalStockFits.{total_fits}
 use Rattle.plant_answers.proofs.lot_answers.answer_of_lot.Goals as goal
 
 pub returns : goal.returns

@@ -1,5 +1,5 @@
 use Rattle.std.proofs.Common.{◌≡◌, take, map}
-use Rattle.plant_trace.specs.Sources.{HonestlyTold}
+use Rattle.plant_trace.specs.HoldsIfHonest.{HoldsIfHonest}
 use Rattle.plant_answers.specs.Worklists.{open_batch}
 use Rattle.plant_answers.proofs.open_batches.with_phases.Given as goal
 
@@ -8,4 +8,4 @@ abbrev pub invariant-loop-batch : goal.invariant-loop-batch
 invariant-loop-batch g l =
     let e = g.V.Edges in
     let s = g.V.View.state l.fn.view in
-    HonestlyTold e.honest e.kept e.steady l.fn.view l.view (l.rows.items ≡ map (open_batch s) (take l.batch-index l.batches))
+    HoldsIfHonest e.honest e.kept e.frame l.fn.view l.view (l.rows.items ≡ map (open_batch s) (take l.batch-index l.batches))

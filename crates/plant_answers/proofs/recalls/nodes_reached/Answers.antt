@@ -2,17 +2,17 @@ use Rattle.std.proofs.Common.{List, subst}
 use Rattle.plant_trace.specs.Reach.{Lists}
 use Rattle.plant_trace.specs.Recalls.{IsRecalled}
 use Rattle.plant_trace.specs.declared.node.Node.{Node}
-use Rattle.plant_trace.proofs.Sources.{HonestlyTold-weaker}
+use Rattle.plant_trace.proofs.HoldsIfHonest.{HoldsIfHonest-weaker}
 use Rattle.plant_view.specs.Genealogy.{edges_of}
-use Rattle.plant_answers.proofs.RecallNodes.{reached_is}
+use Rattle.plant_answers.proofs.RecalledNodesAreListed.{reached_is}
 use Rattle.plant_answers.proofs.recalls.nodes_reached.Goals as goal
 
 pub returns-in-Ok : goal.returns-in-Ok
 returns-in-Ok g c =
     let s = g.V.View.state c.args.view.now in
     let nodes = c.in-Ok.nodes.items in
-    HonestlyTold-weaker
+    HoldsIfHonest-weaker
     (λ (listed : Lists (IsRecalled (g.V.Edges.pairs c.args.view.now) c.args.lot) nodes).
     reached_is (edges_of s) c.args.lot nodes
     (subst (λ (pairs : List (Node × Node)). Lists (IsRecalled pairs c.args.lot) nodes) (g.met.V.View.pairs_of_state c.args.view.now) listed))
-    c.in-Ok.ensures.told
+    c.in-Ok.ensures.reported

@@ -1,9 +1,9 @@
 use Rattle.std.proofs.Common.{List, subst}
 use Rattle.plant_trace.specs.Reach.{IsReached, Lists}
 use Rattle.plant_trace.specs.declared.node.Node.{Node}
-use Rattle.plant_trace.proofs.Sources.{HonestlyTold-weaker}
+use Rattle.plant_trace.proofs.HoldsIfHonest.{HoldsIfHonest-weaker}
 use Rattle.plant_view.specs.Genealogy.{edges_of}
-use Rattle.plant_answers.proofs.Reaching.{trace_is}
+use Rattle.plant_answers.proofs.ReachedIsTrace.{trace_is}
 use Rattle.plant_answers.proofs.traces.trace.Goals as goal
 
 pub returns-in-Ok : goal.returns-in-Ok
@@ -12,8 +12,8 @@ returns-in-Ok g c =
     let direction = c.args.direction in
     let start = c.args.start in
     let nodes = c.in-Ok.nodes.items in
-    HonestlyTold-weaker
+    HoldsIfHonest-weaker
     (λ (listed : Lists (IsReached direction (g.V.Edges.pairs c.args.view.now) start) nodes).
     trace_is (edges_of s) direction start nodes
     (subst (λ (pairs : List (Node × Node)). Lists (IsReached direction pairs start) nodes) (g.met.V.View.pairs_of_state c.args.view.now) listed))
-    c.in-Ok.ensures.told
+    c.in-Ok.ensures.reported

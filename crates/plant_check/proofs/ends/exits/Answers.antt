@@ -1,8 +1,8 @@
 use Rattle.std.proofs.Common.{◌∙◌}
 use Rattle.std.specs.Prelude.{filter}
-use Rattle.plant_check_stock.proofs.Placing.{placed}
+use Rattle.plant_check_stock.proofs.SublotTests.{placed}
 use Rattle.plant_check.specs.Ends.{left_by}
 use Rattle.plant_check.proofs.ends.exits.Goals as goal
 
 pub returns : goal.returns
-returns c = c.at.ensures ∙ (λ i. filter (λ r. placed (left_by r.sort r) c.args.lot c.args.number i) c.args.left.now.rows.now)
+returns c = c.at.ensures ∙ (λ i. filter (λ r. placed (left_by r.kind_code r) c.args.lot c.args.number i) c.args.left.now.rows.now)

@@ -1,6 +1,6 @@
 use Rattle.std.proofs.Common.{◌∙◌}
 use Rattle.std.specs.List.{list_any}
-use Rattle.plant_check_plans.proofs.Keying.{pairs_tie}
+use Rattle.plant_check_plans.proofs.KeyTests.{pairs_tie}
 use Rattle.plant_check_plans.proofs.keys.has_recipe.Goals as goal
 
 pub returns : goal.returns

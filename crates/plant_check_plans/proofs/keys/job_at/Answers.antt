@@ -1,5 +1,5 @@
 use Rattle.std.proofs.Common.{◌∙◌, find}
-use Rattle.plant_check_plans.proofs.Keying.{ids_tie}
+use Rattle.plant_check_plans.proofs.KeyTests.{ids_tie}
 use Rattle.plant_check_plans.proofs.keys.job_at.Goals as goal
 
 pub returns : goal.returns

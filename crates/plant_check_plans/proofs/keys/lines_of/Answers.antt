@@ -1,6 +1,6 @@
 use Rattle.std.proofs.Common.{◌∙◌}
 use Rattle.std.specs.Prelude.{filter}
-use Rattle.plant_check_plans.proofs.Keying.{pairs_tie}
+use Rattle.plant_check_plans.proofs.KeyTests.{pairs_tie}
 use Rattle.plant_check_plans.proofs.keys.lines_of.Goals as goal
 
 pub returns : goal.returns

@@ -1,5 +1,5 @@
 use Rattle.std.proofs.Common.{◌∙◌, find}
-use Rattle.plant_check_plans.proofs.Keying.{pairs_tie}
+use Rattle.plant_check_plans.proofs.KeyTests.{pairs_tie}
 use Rattle.plant_check_plans.proofs.keys.recipe_at.Goals as goal
 
 pub returns : goal.returns

@@ -1,5 +1,5 @@
-use Rattle.plant_check_rows.proofs.Obeyed.{found_where_broken}
-use Rattle.plant_check_rows.proofs.FirstFound.{first_found}
+use Rattle.plant_check_rows.proofs.FoundIfDisobeyed.{found_where_broken}
+use Rattle.plant_check_rows.proofs.FirstFoundIsFirstBroken.{first_found}
 use Rattle.plant_check_rows.proofs.finding.findings_law.Goals as goal
 
 pub returns : goal.returns

@@ -4,4 +4,4 @@ use Rattle.plant_check_rows.proofs.values.first_unread.Given as goal
 
 -- the rows so far stand for something: the first that doesn't is one of those that are left
 abbrev pub invariant-loop-at : goal.invariant-loop-at
-invariant-loop-at g l = first_unread (g.R.Judged.row_from) (l.at + 1) (drop l.at l.rows) ≡ first_unread (g.R.Judged.row_from) 1 l.rows
+invariant-loop-at g l = first_unread (g.R.Decoded.row_from) (l.at + 1) (drop l.at l.rows) ≡ first_unread (g.R.Decoded.row_from) 1 l.rows

@@ -1,7 +1,7 @@
 use Rattle.std.proofs.Common.{◌∙◌}
 use Rattle.std.specs.Prelude.{filter}
 use Rattle.plant_stock.specs.Stock.{goes_to}
-use Rattle.plant_check_stock.proofs.Placing.{placed}
+use Rattle.plant_check_stock.proofs.SublotTests.{placed}
 use Rattle.plant_check_stock.proofs.keys.entries.Goals as goal
 
 pub returns : goal.returns

@@ -1,5 +1,5 @@
 use Rattle.std.proofs.Common.{◌∙◌}
-use Rattle.plant_check_stock.proofs.Rising.{rising}
+use Rattle.plant_check_stock.proofs.MomentsRise.{rising}
 use Rattle.plant_check_stock.proofs.times.never_fall.Goals as goal
 
 pub returns : goal.returns

@@ -1,13 +1,13 @@
 use Rattle.std.proofs.Common.{◌≡◌, pos, ℤ, Ok, refl, inl}
 use Rattle.sqlite.specs.Held.{state}
 use Rattle.sqlite.proofs.StateLemmas.{survives_weaker}
-use Rattle.table_forms.proofs.Ending.{IsStore}
+use Rattle.sql_tables.proofs.TransactionEnds.{IsStore}
 use Rattle.plant_tables_read.specs.Version.{IsVersion}
 use Rattle.plant_tables_read.specs.declared.finding.FoundTables.TheVariants as tables
 use Rattle.plant_desk_store.specs.Adopting.{IsRefusedBy}
-use Rattle.plant_desk_store.proofs.Adoptions.{made_or_not, taken_or_not}
-use Rattle.plant_desk_store.proofs.Judging.{stays_good}
-use Rattle.plant_desk_store.proofs.Telling.{nothing_found, known_found, something_found, unfound}
+use Rattle.plant_desk_store.proofs.AdoptionOutcomes.{made_or_not, taken_or_not}
+use Rattle.plant_desk_store.proofs.CheckedStore.{stays_valid}
+use Rattle.plant_desk_store.proofs.FaultsOfCalls.{nothing_found, known_found, something_found, unfound}
 use Rattle.plant_desk_store.proofs.adopting.adopt_on.Goals as goal
 
 pub returns-in-Ok-None : goal.returns-in-Ok-None
@@ -15,7 +15,7 @@ returns-in-Ok-None g c =
     let end = c.make_opening.new.connection in
     let laws : IsStore (state g.S.Store end) = record { settled = g.met.S.Store.settled end.store; stays = g.met.S.Store.stays end.store; something = g.met.S.Store.survives end.store } in
     let is : c.found.result ≡ Ok tables.Nothing = nothing_found c.found.result (rw c.in-Ok-None.field-0-is at c.in-Ok-None.ensures) in
-    made_or_not (state g.S.Store c.args.connection.now) (state g.S.Store end) laws c.found.ensures.live ((rw is at c.found.ensures.nothing).0 refl) c.make_opening.result
+    made_or_not (state g.S.Store c.args.connection.now) (state g.S.Store end) laws c.found.ensures.is_live ((rw is at c.found.ensures.nothing).0 refl) c.make_opening.result
     (rw ((rw is at c.found.ensures.untouched) refl) at c.make_opening.ensures)
 
 pub returns-in-Ok-Some : goal.returns-in-Ok-Some
@@ -26,10 +26,10 @@ returns-in-Ok-Some g c =
     let mid = state g.S.Store held in
     let first : IsStore mid = record { settled = g.met.S.Store.settled held.store; stays = g.met.S.Store.stays held.store; something = g.met.S.Store.survives held.store } in
     let laws : IsStore (state g.S.Store end) = record { settled = g.met.S.Store.settled end.store; stays = g.met.S.Store.stays end.store; something = g.met.S.Store.survives end.store } in
-    let told = rw c.in-Ok-Some.field-0-is at c.in-Ok-Some.ensures in
+    let reported = rw c.in-Ok-Some.field-0-is at c.in-Ok-Some.ensures in
     taken_or_not c.in-Ok-Some.schema old mid (state g.S.Store end) first laws c.found.ensures.crash c.found.ensures.kept
-    (λ was. known_found old mid c.found.result c.in-Ok-Some.schema told (c.found.ensures.version was) (c.found.ensures.same was))
-    (something_found _ c.found.result c.in-Ok-Some.schema told c.found.ensures.taken) c.adopt_tables.result c.adopt_tables.ensures
+    (λ was. known_found old mid c.found.result c.in-Ok-Some.schema reported (c.found.ensures.version was) (c.found.ensures.same was))
+    (something_found _ c.found.result c.in-Ok-Some.schema reported c.found.ensures.taken) c.adopt_tables.result c.adopt_tables.ensures
 
 -- nothing that can be adopted was found
 pub returns-in-Err : goal.returns-in-Err
@@ -41,7 +41,7 @@ returns-in-Err g c =
     record {
       refused = λ clean. unfound (IsRefusedBy old.now) c.found.result c.in-Err.fault c.in-Err.ensures
           (λ is.
-          let none : (n : ℤ) → ¬ IsVersion old.now n = λ n v. absurd (let told = ((rw is at c.found.ensures.version clean) n).1 v in cc) in
+          let none : (n : ℤ) → ¬ IsVersion old.now n = λ n v. absurd (let reported = ((rw is at c.found.ensures.version clean) n).1 v in cc) in
           record {
             taken = (rw is at c.found.ensures.taken) (λ e. absurd cc);
             known = λ n above. none (pos n);
@@ -49,9 +49,9 @@ returns-in-Err g c =
           })
           (λ n is above. (((rw is at c.found.ensures.version clean) (pos n)).0 refl, above)) tt tt;
       rests = c.found.ensures.mode c.requires;
-      shows = λ clean newly live. inl (c.found.ensures.kept clean);
-      still = stays_good old new c.found.ensures.kept c.found.ensures.crash laws;
-      spared = λ _. c.found.ensures.crash;
+      shows = λ clean newly is_live. inl (c.found.ensures.kept clean);
+      unchanged = stays_valid old new c.found.ensures.kept c.found.ensures.crash laws;
+      no_crash_state_added = λ _. c.found.ensures.crash;
       unmade = λ _. c.found.ensures.crash;
       crash = survives_weaker _ _ _ _ (λ clean db none. absurd none) c.found.ensures.crash;
       something = laws.something;

@@ -2,20 +2,20 @@ use Rattle.std.proofs.Common.{◌≡◌, ◌<◌, Err, sym, subst, rules, arith}
 use Rattle.sqlite.specs.Held.{state}
 use Rattle.sqlite.specs.State.{IsUnchanged}
 use Rattle.sqlite.proofs.StateLemmas.{survives_weaker}
-use Rattle.table_forms.proofs.Ending.{IsStore}
+use Rattle.sql_tables.proofs.TransactionEnds.{IsStore}
 use Rattle.plant_base.specs.State.{newest_schema}
 use Rattle.plant_view.specs.Tables.{tables_of}
 use Rattle.plant_tables.specs.Keyed.{HoldsTablesOf}
 use Rattle.plant_desk_store.specs.Parts.{HasTaken}
-use Rattle.plant_desk_store.proofs.Judging.{still_new, opens_new, others_unchanged}
-use Rattle.plant_desk_store.proofs.Taking.{raised_or_not, unread}
+use Rattle.plant_desk_store.proofs.CheckedStore.{still_new, opens_new, others_unchanged}
+use Rattle.plant_desk_store.proofs.TablesTested.{raised_or_not, unread}
 use Rattle.plant_desk_store.proofs.adopting.adopt_tables.Goals as goal
 
 -- the rows weren't read, or break a rule
 pub returns-in_err-rows : goal.returns-in_err-rows
 returns-in_err-rows g c =
     let old = state g.S.Store c.args.connection.now in
-    let end = c.judge_tables.new.connection in
+    let end = c.check_tables.new.connection in
     let new = state g.S.Store end in
     let laws : IsStore new = record { settled = g.met.S.Store.settled end.store; stays = g.met.S.Store.stays end.store; something = g.met.S.Store.survives end.store } in
     let is : c.from_residual.result ≡ Err c.in_err-rows.field-0.0 = search rules in
@@ -24,7 +24,7 @@ returns-in_err-rows g c =
 -- they are good, and the tables are raised
 pub returns-then-schema-lt-NEWEST_SCHEMA : goal.returns-then-schema-lt-NEWEST_SCHEMA
 returns-then-schema-lt-NEWEST_SCHEMA g c =
-    let held = c.judge_tables.new.connection in
+    let held = c.check_tables.new.connection in
     let mid = state g.S.Store held in
     let first : IsStore mid = record { settled = g.met.S.Store.settled held.store; stays = g.met.S.Store.stays held.store; something = g.met.S.Store.survives held.store } in
     let older : c.args.schema < newest_schema = search rules in
@@ -35,22 +35,22 @@ returns-then-schema-lt-NEWEST_SCHEMA g c =
 pub returns : goal.returns
 returns g c =
     let old = state g.S.Store c.args.connection.now in
-    let end = c.judge_tables.new.connection in
+    let end = c.check_tables.new.connection in
     let new = state g.S.Store end in
     let laws : IsStore new = record { settled = g.met.S.Store.settled end.store; stays = g.met.S.Store.stays end.store; something = g.met.S.Store.survives end.store } in
-    let did = c.judge_tables.ensures in
+    let did = c.check_tables.ensures in
     let rows = c.in_ok-rows.ensures in
     record {
       rests = did.reads.rests c.requires;
-      good = λ clean newly known.
-          let good = rows.good clean newly known in
+      valid = λ clean newly known.
+          let valid = rows.valid clean newly known in
           let newest : c.args.schema ≡ newest_schema = search (rules, arith, known.1) in
           let same : IsUnchanged old new = rows.unchanged clean in
-          (good.0, good.1, opens_new old new newly clean same (did.reads.kept clean) laws good.0 good.1.good (subst (λ k. HoldsTablesOf k old.now (tables_of k good.0)) newest good.1.holds), others_unchanged old new (still_new old new newly same laws) same.0.now_is good.1.holds.sound);
+          (valid.0, valid.1, opens_new old new newly clean same (did.reads.kept clean) laws valid.0 valid.1.valid (subst (λ k. HoldsTablesOf k old.now (tables_of k valid.0)) newest valid.1.holds), others_unchanged old new (still_new old new newly same laws) same.0.now_is valid.1.holds.sound);
       again = λ clean newly s at.
           let newest : c.args.schema ≡ newest_schema = search (rules, arith, at.known.1) in
-          opens_new old new newly clean (rows.unchanged clean) (did.reads.kept clean) laws s at.good (subst (λ k. HoldsTablesOf k old.now (tables_of k s)) newest at.holds);
-      named = λ clean told. tt;
+          opens_new old new newly clean (rows.unchanged clean) (did.reads.kept clean) laws s at.valid (subst (λ k. HoldsTablesOf k old.now (tables_of k s)) newest at.holds);
+      named = λ clean reported. tt;
       unmade = tt;
       newest = λ _. did.reads.crash;
       crash = survives_weaker _ _ _ _ (λ clean db none. absurd none) did.reads.crash;

@@ -1,12 +1,12 @@
 use Rattle.std.proofs.Common.{refl, rules}
 use Rattle.sqlite.specs.Held.{state}
 use Rattle.plant_base.specs.State.{opening}
-use Rattle.plant_good.proofs.StepGood.{opening_good}
-use Rattle.table_forms.proofs.Ending.{IsStore}
-use Rattle.plant_tables.specs.DeskStopping.{opening_tables}
-use Rattle.plant_desk_store.proofs.Judging.{unopened_keeps}
-use Rattle.plant_desk_store.proofs.Others.{others_at}
-use Rattle.plant_desk_store.proofs.Resting.{open_at}
+use Rattle.plant_invariant.proofs.StepPreservesInvariant.{opening_is_valid}
+use Rattle.sql_tables.proofs.TransactionEnds.{IsStore}
+use Rattle.plant_tables.specs.DeskCrashStates.{opening_tables}
+use Rattle.plant_desk_store.proofs.CheckedStore.{unopened_keeps}
+use Rattle.plant_desk_store.proofs.ForeignTablesKept.{others_at}
+use Rattle.plant_desk_store.proofs.ReadingKeepsState.{open_at}
 use Rattle.plant_desk_store.proofs.adopting.make_opening.Goals as goal
 
 pub returns-in-Ok : goal.returns-in-Ok
@@ -19,15 +19,15 @@ returns-in-Ok g c =
       rests = search rules;
       made = λ clean settled sound free.
           let done = c.in-Ok.ensures.made clean settled sound free in
-          (open_at new opening opening_good done.0 clean laws, others_at old.now new opening_tables done.0 done.1);
-      told = tt;
+          (open_at new opening opening_is_valid done.0 clean laws, others_at old.now new opening_tables done.0 done.1);
+      reported = tt;
       crash = search rules;
     }
 
 pub returns-in-Err : goal.returns-in-Err
 returns-in-Err g c = record {
   rests = search rules;
-  made = λ clean settled sound free. unopened_keeps (state g.S.Store c.args.connection.now) (state g.S.Store c.commit_opening.new.conn) settled (c.in-Err.ensures.cut_short clean settled sound free);
-  told = refl;
+  made = λ clean settled sound free. unopened_keeps (state g.S.Store c.args.connection.now) (state g.S.Store c.commit_opening.new.conn) settled (c.in-Err.ensures.after_failure clean settled sound free);
+  reported = refl;
   crash = search rules;
 }

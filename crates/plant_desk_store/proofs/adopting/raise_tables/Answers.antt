@@ -1,12 +1,12 @@
 use Rattle.std.proofs.Common.{ap, rules}
 use Rattle.sqlite.specs.Held.{state}
-use Rattle.table_forms.proofs.Ending.{IsStore}
+use Rattle.sql_tables.proofs.TransactionEnds.{IsStore}
 use Rattle.plant_base.specs.State.{newest_schema}
 use Rattle.plant_view.specs.Tables.{tables_of}
-use Rattle.plant_good_keys.proofs.TableKeys.{keyed}
-use Rattle.plant_desk_store.proofs.Judging.{rises, told_shows, told_known, told_unmade}
-use Rattle.plant_desk_store.proofs.Others.{others_at}
-use Rattle.plant_desk_store.proofs.Resting.{open_at}
+use Rattle.plant_invariant_tables.proofs.RowsInKeyOrder.{keyed}
+use Rattle.plant_desk_store.proofs.CheckedStore.{rises, reported_shows, reported_known, reported_unmade}
+use Rattle.plant_desk_store.proofs.ForeignTablesKept.{others_at}
+use Rattle.plant_desk_store.proofs.ReadingKeepsState.{open_at}
 use Rattle.plant_desk_store.proofs.adopting.raise_tables.Goals as goal
 
 pub returns-in-Ok : goal.returns-in-Ok
@@ -18,9 +18,9 @@ returns-in-Ok g c =
     record {
       rests = search rules;
       raised = λ clean settled s held are.
-          let done = c.in-Ok.ensures.raised clean s (record { settled = settled; holds = held.holds }) (keyed c.args.schema s held.good) held.whole are in
-          (open_at new s held.good done.0 clean laws, others_at old.now new (tables_of newest_schema s) done.0 done.1);
-      told = tt;
+          let done = c.in-Ok.ensures.raised clean s (record { settled = settled; holds = held.holds }) (keyed c.args.schema s held.valid) held.whole are in
+          (open_at new s held.valid done.0 clean laws, others_at old.now new (tables_of newest_schema s) done.0 done.1);
+      reported = tt;
       unmade = tt;
       crash = search rules;
     }
@@ -32,11 +32,11 @@ returns-in-Err g c =
     record {
       rests = search rules;
       raised = λ clean settled s held are.
-          let cut = c.in-Err.ensures.cut_short clean s (record { settled = settled; holds = held.holds }) (keyed c.args.schema s held.good) held.whole are in (
+          let cut = c.in-Err.ensures.after_failure clean s (record { settled = settled; holds = held.holds }) (keyed c.args.schema s held.valid) held.whole are in (
             rises c.args.schema old new s held cut,
-            told_shows c.args.schema old new s c.in-Err.fault c.fault_of.result settled held cut (λ memory. ap (λ held. state g.S.Store held) (c.in-Err.ensures.unwritten memory)) c.fault_of.ensures,
+            reported_shows c.args.schema old new s c.in-Err.fault c.fault_of.result settled held cut (λ memory. ap (λ held. state g.S.Store held) (c.in-Err.ensures.write_error memory)) c.fault_of.ensures,
           );
-      told = told_known c.in-Err.fault c.fault_of.result c.fault_of.ensures;
-      unmade = told_unmade old new c.in-Err.fault c.fault_of.result c.fault_of.ensures (λ memory. ap (λ held. state g.S.Store held) (c.in-Err.ensures.unwritten memory));
+      reported = reported_known c.in-Err.fault c.fault_of.result c.fault_of.ensures;
+      unmade = reported_unmade old new c.in-Err.fault c.fault_of.result c.fault_of.ensures (λ memory. ap (λ held. state g.S.Store held) (c.in-Err.ensures.write_error memory));
       crash = search rules;
     }

@@ -1,6 +1,6 @@
-use Rattle.plant_desk_store.proofs.Again.{unrefused}
-use Rattle.plant_desk_store.proofs.Marked.{marks_reached}
-use Rattle.plant_desk_store.proofs.Reopening.{reopened, adopted_again, opening_adopted, others_spared}
+use Rattle.plant_desk_store.proofs.ValidIsAdoptedAgain.{unrefused}
+use Rattle.plant_desk_store.proofs.MarksAreReached.{marks_reached}
+use Rattle.plant_desk_store.proofs.CrashStatesReopen.{reopened, adopted_again, opening_adopted, foreign_tables_kept}
 use Rattle.plant_desk_store.proofs.laws.desk_laws.Goals as goal
 
 pub returns-clause-reopened : goal.returns-clause-reopened
@@ -18,5 +18,5 @@ returns-clause-adopted_again c = adopted_again
 pub returns-clause-opening_adopted : goal.returns-clause-opening_adopted
 returns-clause-opening_adopted c = opening_adopted
 
-pub returns-clause-others_spared : goal.returns-clause-others_spared
-returns-clause-others_spared c = others_spared
+pub returns-clause-foreign_tables_kept : goal.returns-clause-foreign_tables_kept
+returns-clause-foreign_tables_kept c = foreign_tables_kept

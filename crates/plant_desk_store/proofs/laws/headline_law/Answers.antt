@@ -1,4 +1,4 @@
-use Rattle.plant_desk_store.proofs.Living.{headline}
+use Rattle.plant_desk_store.proofs.HeadlineByInduction.{headline}
 use Rattle.plant_desk_store.proofs.laws.headline_law.Goals as goal
 
 pub returns : goal.returns

@@ -1,8 +1,8 @@
 use Rattle.std.proofs.Common.{◌∙◌, ◌++◌, ◌∷◌, [], sym, subst, take, arith}
 use Rattle.std.proofs.lemmas.Grind.{common_steps}
 use Rattle.plant_desk.specs.Runs.{fold}
-use Rattle.plant_desk.proofs.Same.{same_after}
-use Rattle.plant_desk.proofs.Turns.{fold_more, replies_more}
+use Rattle.plant_desk.proofs.SameDesk.{same_after}
+use Rattle.plant_desk.proofs.RunExtends.{fold_more, replies_more}
 use Rattle.plant_desk_store.proofs.running.run_over.Goals as goal
 
 pub loop-envelope-preserved : goal.loop-envelope-preserved
@@ -11,20 +11,20 @@ loop-envelope-preserved g c =
     let list = c.args.list.now in
     let e = c.envelope-item.result in
     let within = c.loop-envelope-test.true in
-    let live = c.loop-envelope.invariant.is_open in
+    let is_live = c.loop-envelope.invariant.is_open in
     record {
       count = grind (arith, common_steps);
       room = grind (arith, common_steps);
-      is_open = c.in-Ok.ensures.open live;
+      is_open = c.in-Ok.ensures.open is_live;
       same = same_after _ _ _ _ _ _ c.loop-envelope.invariant.same c.execute.ensures.same;
-      told = λ h s stood.
+      reported = λ h s represented.
           let was = c.execute.ensures.same.honest h in
-          let ran = c.in-Ok.ensures.executes h live (fold s (take i list)) (c.loop-envelope.invariant.stands was s stood) in
+          let ran = c.in-Ok.ensures.executes h is_live (fold s (take i list)) (c.loop-envelope.invariant.represents was s represented) in
           c.push_reserved.ensures.items
-          ∙ (λ k. c.loop-envelope.invariant.told was s stood k ++ ran.0 k ∷ [])
+          ∙ (λ k. c.loop-envelope.invariant.reported was s represented k ++ ran.0 k ∷ [])
           ∙ sym (replies_more s list i e within c.envelope-item.is);
-      stands = λ h s stood.
+      represents = λ h s represented.
           let was = c.execute.ensures.same.honest h in
-          let ran = c.in-Ok.ensures.executes h live (fold s (take i list)) (c.loop-envelope.invariant.stands was s stood) in
-          subst (g.K.Keeper.stands c.execute.new.self) (sym (fold_more s list i e within c.envelope-item.is)) ran.1;
+          let ran = c.in-Ok.ensures.executes h is_live (fold s (take i list)) (c.loop-envelope.invariant.represents was s represented) in
+          subst (g.K.Keeper.represents c.execute.new.self) (sym (fold_more s list i e within c.envelope-item.is)) ran.1;
     }

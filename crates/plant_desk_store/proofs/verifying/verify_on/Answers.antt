@@ -3,12 +3,12 @@ use Rattle.std.proofs.lemmas.Result.{IfOk-weaker, IfErr-weaker}
 use Rattle.sqlite.specs.Held.{state}
 use Rattle.sqlite.specs.State.{HasCleanDisk, IsUnchanged}
 use Rattle.plant_base.specs.State.{newest_schema}
-use Rattle.table_forms.specs.declared.fault.Fault.TheVariants as fault
+use Rattle.sql_tables.specs.declared.fault.Fault.TheVariants as fault
 use Rattle.plant_tables_read.specs.Loading.{AreLoaded}
 use Rattle.plant_messages.specs.declared.reply.DeskFault.TheVariants.{Shut}
-use Rattle.plant_good_passes.proofs.Unbroken.{read_good}
-use Rattle.plant_good_keys.proofs.Values.{newest_known}
-use Rattle.plant_desk_store.proofs.Telling.{tested_rows, unshut, untested_unshut}
+use Rattle.plant_check_complete.proofs.InvariantImpliesChecksPass.{read_valid}
+use Rattle.plant_invariant_tables.proofs.TablesHaveValidValues.{newest_known}
+use Rattle.plant_desk_store.proofs.FaultsOfCalls.{tested_rows, unshut, untested_unshut}
 use Rattle.plant_desk_store.proofs.verifying.verify_on.Goals as goal
 
 pub returns-in-Ok : goal.returns-in-Ok
@@ -21,12 +21,12 @@ returns-in-Ok g c =
     let loaded : HasCleanDisk new → AreLoaded newest_schema old.now x = λ clean. tested_rows (AreLoaded newest_schema old.now) c.read.result x is (c.read.ensures.rows clean) in
     record {
       reads = record { rests = c.read.ensures.mode; kept = c.read.ensures.kept; crash = c.read.ensures.crash };
-      tested = λ clean. IfOk-weaker did.result _ _ (λ broken told. (x, loaded clean, told)) did.ensures.broken;
-      unbroken = λ clean s stands.
+      tested = λ clean. IfOk-weaker did.result _ _ (λ broken reported. (x, loaded clean, reported)) did.ensures.broken;
+      unbroken = λ clean s represents.
           let same : IsUnchanged old new = tested_rows (λ _. IsUnchanged old new) c.read.result x is (c.read.ensures.same clean) in
-          let holds = (stands.shows same.0.was_open).holds in
-          let none = (read_good newest_schema old.now s x newest_known stands.good holds (loaded clean)).1 in
-          IfOk-weaker did.result _ _ (λ broken told. told ∙ none) did.ensures.broken;
+          let holds = (represents.shows same.0.was_open).holds in
+          let none = (read_valid newest_schema old.now s x newest_known represents.valid holds (loaded clean)).1 in
+          IfOk-weaker did.result _ _ (λ broken reported. reported ∙ none) did.ensures.broken;
       unshut = IfErr-weaker did.result _ _ (λ f memory. subst (λ x. x ≢ Shut) (sym memory) (unshut fault.Memory)) did.ensures.memory;
     }
 
@@ -34,6 +34,6 @@ pub returns-in-Err : goal.returns-in-Err
 returns-in-Err g c = record {
   reads = record { rests = c.read.ensures.mode; kept = c.read.ensures.kept; crash = c.read.ensures.crash };
   tested = λ clean. tt;
-  unbroken = λ clean s stands. tt;
+  unbroken = λ clean s represents. tt;
   unshut = untested_unshut c.read.result c.in-Err.fault c.in-Err.ensures;
 }

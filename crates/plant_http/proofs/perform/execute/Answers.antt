@@ -1,10 +1,10 @@
-use Rattle.plant_http.proofs.Performing.{command_performs}
+use Rattle.plant_http.proofs.JobPerforms.{command_performs}
 use Rattle.plant_http.proofs.perform.execute.Goals as goal
 
 pub returns-clause-performs : goal.returns-clause-performs
-returns-clause-performs g c = λ honest live s stood.
+returns-clause-performs g c = λ honest is_live s represented.
     let keeper = g.K.Keeper in
     let now = c.execute-executed.new.self in
-    command_performs (keeper.schema c.args.keeper.now) s c.args.envelope.now c.execute-executed.result _ (keeper.stands now) (keeper.shut now) (keeper.leaves now)
-    (λ is_open t stands. g.met.K.Keeper.leaves_state now t honest is_open stands)
-    (c.execute-executed.ensures.open live) (c.execute-executed.ensures.executes honest live s stood) c.executed_answer.ensures
+    command_performs (keeper.schema c.args.keeper.now) s c.args.envelope.now c.execute-executed.result _ (keeper.represents now) (keeper.shut now) (keeper.crash_states now)
+    (λ is_open t represents. g.met.K.Keeper.open_crash_state now t honest is_open represents)
+    (c.execute-executed.ensures.open is_live) (c.execute-executed.ensures.executes honest is_live s represented) c.executed_answer.ensures

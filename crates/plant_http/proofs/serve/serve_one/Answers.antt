@@ -1,5 +1,5 @@
 use Rattle.std.proofs.Common.{Some, Err, ap, ◌∙◌}
-use Rattle.plant_http.proofs.Serving.{serves_by_job, shut_by_job, serves_nothing, shut_nothing, fault_whole, fault_serves, fault_shut}
+use Rattle.plant_http.proofs.RequestOfInput.{serves_by_job, shut_by_job, serves_nothing, shut_nothing, fault_whole, fault_serves, fault_shut}
 use Rattle.plant_http.proofs.serve.serve_one.Goals as goal
 
 pub returns-in-Ok-None-clause-serves : goal.returns-in-Ok-None-clause-serves
@@ -9,8 +9,8 @@ returns-in-Ok-None-clause-serves g c =
     let same = c.args.keeper.now in (
       whole,
       agrees,
-      λ honest live s stood. serves_nothing (keeper.schema same) s whole _ (keeper.stands same) (keeper.shut same) (keeper.leaves same)
-          (stood, g.met.K.Keeper.leaves_state same s honest live stood) live asks,
+      λ honest is_live s represented. serves_nothing (keeper.schema same) s whole _ (keeper.represents same) (keeper.shut same) (keeper.crash_states same)
+          (represented, g.met.K.Keeper.open_crash_state same s honest is_live represented) is_live asks,
       λ closed. shut_nothing whole _ asks,
     )
 
@@ -21,8 +21,8 @@ returns-in-Ok-Some-clause-serves g c =
     let now = c.answer_job.new.keeper in (
       whole,
       agrees,
-      λ honest live s stood. serves_by_job (keeper.schema c.args.keeper.now) s whole c.in-Ok-Some.job _ _ (keeper.stands now) (keeper.shut now) (keeper.leaves now) c.answer_job.result
-          asks (c.answer_job.ensures.answers honest live s stood),
+      λ honest is_live s represented. serves_by_job (keeper.schema c.args.keeper.now) s whole c.in-Ok-Some.job _ _ (keeper.represents now) (keeper.shut now) (keeper.crash_states now) c.answer_job.result
+          asks (c.answer_job.ensures.answers honest is_live s represented),
       λ closed. shut_by_job whole c.in-Ok-Some.job _ _ c.answer_job.result asks (c.answer_job.ensures.shut closed),
     )
 
@@ -34,7 +34,7 @@ returns-in-Err-clause-serves g c =
     let same = c.args.keeper.now in (
       whole,
       agrees,
-      λ honest live s stood. rw c.end_of.ensures (fault_serves (keeper.schema same) s whole _ (keeper.stands same) (keeper.shut same) (keeper.leaves same) fault
-          (stood, g.met.K.Keeper.leaves_state same s honest live stood) live fits),
+      λ honest is_live s represented. rw c.end_of.ensures (fault_serves (keeper.schema same) s whole _ (keeper.represents same) (keeper.shut same) (keeper.crash_states same) fault
+          (represented, g.met.K.Keeper.open_crash_state same s honest is_live represented) is_live fits),
       λ closed. rw c.end_of.ensures (fault_shut whole _ fault fits),
     )

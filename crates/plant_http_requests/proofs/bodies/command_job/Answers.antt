@@ -1,5 +1,5 @@
 use Rattle.plant_text.specs.Lines.{line_of}
-use Rattle.plant_http_requests.proofs.JobLemmas.{command_reads}
+use Rattle.plant_http_requests.proofs.OneJob.{command_reads}
 use Rattle.plant_http_requests.proofs.bodies.command_job.Goals as goal
 
 pub returns : goal.returns

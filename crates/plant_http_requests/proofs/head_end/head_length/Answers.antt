@@ -1,5 +1,5 @@
 use Rattle.std.proofs.Common.{◌∙◌, sym, arith, rules}
-use Rattle.plant_http_requests.proofs.HeadLemmas.{found_here, found_later, found_nowhere}
+use Rattle.plant_http_requests.proofs.HeadEnds.{found_here, found_later, found_nowhere}
 use Rattle.plant_http_requests.proofs.head_end.head_length.Goals as goal
 
 pub returns-in-Some-clause-value : goal.returns-in-Some-clause-value

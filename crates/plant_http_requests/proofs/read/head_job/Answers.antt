@@ -1,6 +1,6 @@
 use Rattle.std.proofs.Common.{refl, arith}
 use Rattle.std.proofs.lemmas.List.{length-drop}
-use Rattle.plant_http_requests.proofs.InputLemmas.{whole_body, cut_body, by_head}
+use Rattle.plant_http_requests.proofs.WholeInput.{whole_body, cut_body, by_head}
 use Rattle.plant_http_requests.specs.declared.job.Job.TheVariants as J
 use Rattle.plant_http_requests.proofs.read.head_job.Goals as goal
 
@@ -34,4 +34,4 @@ pub returns-in-Ask-clause-asks : goal.returns-in-Ask-clause-asks
 returns-in-Ask-clause-asks g c =
     let so = rw (c.split_at.ensures.front, c.as_slice.ensures.value) at c.step_of_head-step.ensures in
     let it = c.in-Ask in
-    by_head _ _ c.args.n c.step_of_head-step.result (J.Ask it.question it.form it.silent) so (λ rest. rw it.is refl) refl
+    by_head _ _ c.args.n c.step_of_head-step.result (J.Ask it.question it.body_format it.silent) so (λ rest. rw it.is refl) refl

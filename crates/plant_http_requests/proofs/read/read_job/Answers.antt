@@ -4,7 +4,7 @@ use Rattle.plant_http_requests.specs.declared.reading.InputFault.TheVariants as 
 use Rattle.plant_http_requests.specs.Jobs.{most_reads}
 use Rattle.plant_http_requests.specs.Steps.{refusal_of}
 use Rattle.plant_http_requests.specs.declared.status.Status.TheVariants as status
-use Rattle.plant_http_requests.proofs.InputLemmas.{from_end, from_head, spent_more}
+use Rattle.plant_http_requests.proofs.WholeInput.{from_end, from_head, spent_more}
 use Rattle.plant_http_requests.proofs.read.read_job.Goals as goal
 
 pub returns-in-Ok-Early-clause-asks : goal.returns-in-Ok-Early-clause-asks

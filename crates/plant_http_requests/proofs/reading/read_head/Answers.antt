@@ -1,6 +1,6 @@
 use Rattle.std.proofs.Common.{rules}
 use Rattle.plant_http_requests.specs.declared.reading.HeadEnd.TheVariants as end
-use Rattle.plant_http_requests.proofs.HeadLemmas.{known_whole}
+use Rattle.plant_http_requests.proofs.HeadEnds.{known_whole}
 use Rattle.plant_http_requests.proofs.reading.read_head.Goals as goal
 
 pub returns-in-Some-clause-end : goal.returns-in-Some-clause-end

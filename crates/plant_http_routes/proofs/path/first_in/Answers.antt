@@ -1,6 +1,6 @@
 use Rattle.std.proofs.Common.{Some, sym, ap, ◌∙◌}
 use Rattle.plant_http_routes.specs.Routes.{first_part}
-use Rattle.plant_http_routes.proofs.PathLemmas.{texts_of}
+use Rattle.plant_http_routes.proofs.PathParts.{texts_of}
 use Rattle.plant_http_routes.proofs.path.first_in.Goals as goal
 
 pub returns-in-Some : goal.returns-in-Some

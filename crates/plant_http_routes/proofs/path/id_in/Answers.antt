@@ -2,7 +2,7 @@ use Rattle.std.proofs.Common.{sym, ap, ◌∙◌}
 use Rattle.std.specs.Prelude.{option_and_then}
 use Rattle.plant_base.specs.Values.{is_id, only}
 use Rattle.plant_http_routes.specs.Routes.{first_part}
-use Rattle.plant_http_routes.proofs.PathLemmas.{texts_of}
+use Rattle.plant_http_routes.proofs.PathParts.{texts_of}
 use Rattle.plant_http_routes.proofs.path.id_in.Goals as goal
 
 pub returns-in-Some : goal.returns-in-Some

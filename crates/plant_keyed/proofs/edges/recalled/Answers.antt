@@ -2,7 +2,7 @@ use Rattle.std.proofs.Common.{subst}
 use Rattle.plant_trace.specs.declared.direction.Direction.{Direction}
 use Rattle.plant_view.specs.Genealogy.{edges_of}
 use Rattle.plant_keyed.specs.Edges.{AreTurned}
-use Rattle.plant_keyed.proofs.Directing.{next_turned}
+use Rattle.plant_keyed.proofs.CachedEdges.{next_turned}
 use Rattle.plant_keyed.proofs.edges.recalled.Goals as goal
 
 pub returns-in-Ok : goal.returns-in-Ok

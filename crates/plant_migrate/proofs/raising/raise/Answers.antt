@@ -6,13 +6,13 @@ use Rattle.sqlite.specs.State.{HasCleanDisk, IsUnchanged, Survives}
 use Rattle.sqlite.proofs.StateLemmas.{survives_then, survives_weaker}
 use Rattle.plant_base.specs.State.{newest_schema}
 use Rattle.plant_view.specs.Tables.{tables_of}
-use Rattle.table_forms.proofs.Ending.{IsStore}
+use Rattle.sql_tables.proofs.TransactionEnds.{IsStore}
 use Rattle.plant_tables_read.specs.Version.{IsVersion}
-use Rattle.plant_tables_read.proofs.Versions.{one_version}
-use Rattle.plant_migrate.specs.Leaving.{IsRaisedTo}
-use Rattle.plant_migrate.proofs.Kept.{settled_still, not_raised}
-use Rattle.plant_migrate.proofs.Versions.{version_is, not_below, below, tells_known, stays_at, handed_on, rises_to, cut_from, raised_told}
-use Rattle.plant_migrate.proofs.Faults.{memory_alone}
+use Rattle.plant_tables_read.proofs.OneVersion.{one_version}
+use Rattle.plant_migrate.specs.FailureLeaves.{IsRaisedTo}
+use Rattle.plant_migrate.proofs.NothingWritten.{settled_still, not_raised}
+use Rattle.plant_migrate.proofs.KnownVersion.{version_is, not_below, below, has_known_version, stays_at, handed_on, rises_to, cut_from, raised_reported}
+use Rattle.plant_migrate.proofs.RaisingFaults.{memory_alone}
 use Rattle.plant_migrate.proofs.raising.raise.Given.{Over}
 use Rattle.plant_migrate.proofs.raising.raise.Goals.{After-raise_from}
 use Rattle.plant_migrate.proofs.raising.raise.Goals as goal
@@ -21,8 +21,8 @@ use Rattle.plant_migrate.proofs.raising.raise.Goals as goal
 is_store : (g : Over) (held : Held _) → IsStore (state g.S.Store held)
 is_store g held = record { settled = g.met.S.Store.settled held.store; stays = g.met.S.Store.stays held.store; something = g.met.S.Store.survives held.store }
 
-pub returns-then-version-clause-cut_short : goal.returns-then-version-clause-cut_short
-returns-then-version-clause-cut_short g c clean version s readable =
+pub returns-then-version-clause-after_failure : goal.returns-then-version-clause-after_failure
+returns-then-version-clause-after_failure g c clean version s readable =
     not_raised version c.args.to _ _ s readable.at (c.found.ensures.kept clean) (is_store g c.found.new.conn) clean c.found.ensures.crash
 
 pub returns-then-version-to-clause-raised : goal.returns-then-version-to-clause-raised
@@ -31,8 +31,8 @@ returns-then-version-to-clause-raised g c was version s readable =
     let mid = state g.S.Store c.found.new.conn in
     let store = is_store g c.found.new.conn in
     let same : IsUnchanged old mid = c.in-Ok-Version.ensures.same was _ c.in-Ok-Version.field-0-is in
-    let told : IsVersion old.now c.in-Ok-Version.version = (c.in-Ok-Version.ensures.version was _).0 c.in-Ok-Version.field-0-is in
-    let is : c.in-Ok-Version.version ≡ pos version = version_is version old.now (tables_of version s) c.in-Ok-Version.version readable.at.holds told in
+    let reported : IsVersion old.now c.in-Ok-Version.version = (c.in-Ok-Version.ensures.version was _).0 c.in-Ok-Version.field-0-is in
+    let is : c.in-Ok-Version.version ≡ pos version = version_is version old.now (tables_of version s) c.in-Ok-Version.version readable.at.holds reported in
     let fits : SFits w64 c.in-Ok-Version.version = search rules in
     let low : c.args.to ≤ version = not_below version c.args.to c.in-Ok-Version.version fits is c.requires.known c.if-version-to.true in
     stays_at version c.args.to old mid s low readable (c.found.ensures.kept was) store same.0.is_open
@@ -40,20 +40,20 @@ returns-then-version-to-clause-raised g c was version s readable =
 pub returns-then-version-to-clause-not_newer : goal.returns-then-version-to-clause-not_newer
 returns-then-version-to-clause-not_newer g c was n v =
     let old = state g.S.Store c.args.conn.now in
-    let told : IsVersion old.now c.in-Ok-Version.version = (c.in-Ok-Version.ensures.version was _).0 c.in-Ok-Version.field-0-is in
+    let reported : IsVersion old.now c.in-Ok-Version.version = (c.in-Ok-Version.ensures.version was _).0 c.in-Ok-Version.field-0-is in
     let known : c.in-Ok-Version.version ≤ℤ pos newest_schema = search rules in
-    subst (λ k. k ≤ℤ pos newest_schema) (one_version old.now c.in-Ok-Version.version n told v) known
+    subst (λ k. k ≤ℤ pos newest_schema) (one_version old.now c.in-Ok-Version.version n reported v) known
 
-pub returns-in-Ok-clause-cut_short : goal.returns-in-Ok-clause-cut_short
-returns-in-Ok-clause-cut_short g c clean version s readable =
+pub returns-in-Ok-clause-after_failure : goal.returns-in-Ok-clause-after_failure
+returns-in-Ok-clause-after_failure g c clean version s readable =
     not_raised version c.args.to _ _ s readable.at (c.found.ensures.kept clean) (is_store g c.found.new.conn) clean c.found.ensures.crash
 
-pub returns-in-Err-clause-cut_short : goal.returns-in-Err-clause-cut_short
-returns-in-Err-clause-cut_short g c clean version s readable =
+pub returns-in-Err-clause-after_failure : goal.returns-in-Err-clause-after_failure
+returns-in-Err-clause-after_failure g c clean version s readable =
     not_raised version c.args.to _ _ s readable.at (c.found.ensures.kept clean) (is_store g c.found.new.conn) clean c.found.ensures.crash
 
-pub returns-then-version-lt1-clause-cut_short : goal.returns-then-version-lt1-clause-cut_short
-returns-then-version-lt1-clause-cut_short g c clean version s readable =
+pub returns-then-version-lt1-clause-after_failure : goal.returns-then-version-lt1-clause-after_failure
+returns-then-version-lt1-clause-after_failure g c clean version s readable =
     not_raised version c.args.to _ _ s readable.at (c.found.ensures.kept clean) (is_store g c.found.new.conn) clean c.found.ensures.crash
 
 pub returns-in-Ok-raise_from-clause-raised : goal.returns-in-Ok-raise_from-clause-raised
@@ -64,24 +64,24 @@ returns-in-Ok-raise_from-clause-raised g c clean version s readable =
     let new = state g.S.Store c.raise_from.new.conn in
     let was : HasCleanDisk mid = c.raise_from.ensures.clean clean in
     let same : IsUnchanged old mid = c.in-Ok-Version.ensures.same was _ c.in-Ok-Version.field-0-is in
-    let told : IsVersion old.now c.in-Ok-Version.version = (c.in-Ok-Version.ensures.version was _).0 c.in-Ok-Version.field-0-is in
-    let is : c.in-Ok-Version.version ≡ pos version = version_is version old.now (tables_of version s) c.in-Ok-Version.version readable.at.holds told in
+    let reported : IsVersion old.now c.in-Ok-Version.version = (c.in-Ok-Version.ensures.version was _).0 c.in-Ok-Version.field-0-is in
+    let is : c.in-Ok-Version.version ≡ pos version = version_is version old.now (tables_of version s) c.in-Ok-Version.version readable.at.holds reported in
     let fits : SFits w64 c.in-Ok-Version.version = search rules in
     let under : version < c.args.to = below version c.args.to c.in-Ok-Version.version fits is c.requires.known c.if-version-to.false in
     rises_to version _ c.args.to old mid new s (handed_on version c.in-Ok-Version.version fits is) under readable (c.found.ensures.kept was) store same.0.is_open (c.in-Ok-raise_from.ensures.raised clean)
 
-pub returns-in-Err-raise_from-clause-cut_short : goal.returns-in-Err-raise_from-clause-cut_short
-returns-in-Err-raise_from-clause-cut_short g c clean version s readable =
+pub returns-in-Err-raise_from-clause-after_failure : goal.returns-in-Err-raise_from-clause-after_failure
+returns-in-Err-raise_from-clause-after_failure g c clean version s readable =
     let old = state g.S.Store c.args.conn.now in
     let mid = state g.S.Store c.found.new.conn in
     let store = is_store g c.found.new.conn in
     let new = state g.S.Store c.raise_from.new.conn in
     let was : HasCleanDisk mid = c.raise_from.ensures.clean clean in
     let same : IsUnchanged old mid = c.in-Ok-Version.ensures.same was _ c.in-Ok-Version.field-0-is in
-    let told : IsVersion old.now c.in-Ok-Version.version = (c.in-Ok-Version.ensures.version was _).0 c.in-Ok-Version.field-0-is in
-    let is : c.in-Ok-Version.version ≡ pos version = version_is version old.now (tables_of version s) c.in-Ok-Version.version readable.at.holds told in
+    let reported : IsVersion old.now c.in-Ok-Version.version = (c.in-Ok-Version.ensures.version was _).0 c.in-Ok-Version.field-0-is in
+    let is : c.in-Ok-Version.version ≡ pos version = version_is version old.now (tables_of version s) c.in-Ok-Version.version readable.at.holds reported in
     let fits : SFits w64 c.in-Ok-Version.version = search rules in
-    cut_from version _ c.args.to old mid new s (handed_on version c.in-Ok-Version.version fits is) readable (c.found.ensures.kept was) store same.0.is_open (c.in-Err-raise_from.ensures.cut_short clean)
+    cut_from version _ c.args.to old mid new s (handed_on version c.in-Ok-Version.version fits is) readable (c.found.ensures.kept was) store same.0.is_open (c.in-Err-raise_from.ensures.after_failure clean)
 
 -- what a stop leaves of the raising
 raised_so : (g : Over) (c : After-raise_from g) → Survives (state g.S.Store c.args.conn.now) (state g.S.Store c.raise_from.new.conn) (IsRaisedTo c.args.to (state g.S.Store c.args.conn.now))
@@ -94,9 +94,9 @@ raised_so g c =
     (λ clean trees made.
     let was : HasCleanDisk mid = c.raise_from.ensures.clean clean in
     let same : IsUnchanged old mid = c.in-Ok-Version.ensures.same was _ c.in-Ok-Version.field-0-is in
-    let told : IsVersion old.now c.in-Ok-Version.version = (c.in-Ok-Version.ensures.version was _).0 c.in-Ok-Version.field-0-is in
+    let reported : IsVersion old.now c.in-Ok-Version.version = (c.in-Ok-Version.ensures.version was _).0 c.in-Ok-Version.field-0-is in
     let fits : SFits w64 c.in-Ok-Version.version = search rules in
-    raised_told c.args.to old mid trees c.in-Ok-Version.version fits told c.requires.known c.if-version-to.false same.0.now_is (λ settled. settled_still old mid settled (c.found.ensures.kept was) store same.0.is_open) made) c.found.ensures.crash c.raise_from.ensures.crash
+    raised_reported c.args.to old mid trees c.in-Ok-Version.version fits reported c.requires.known c.if-version-to.false same.0.now_is (λ settled. settled_still old mid settled (c.found.ensures.kept was) store same.0.is_open) made) c.found.ensures.crash c.raise_from.ensures.crash
 
 pub returns-in-Ok-raise_from-clause-crash : goal.returns-in-Ok-raise_from-clause-crash
 returns-in-Ok-raise_from-clause-crash g c = raised_so g (goal.at.returns-in-Ok-raise_from-clause-crash g c).After-raise_from
@@ -108,9 +108,9 @@ pub returns-in-Ok-raise_from-clause-not_newer : goal.returns-in-Ok-raise_from-cl
 returns-in-Ok-raise_from-clause-not_newer g c clean n v =
     let old = state g.S.Store c.args.conn.now in
     let was : HasCleanDisk (state g.S.Store c.found.new.conn) = c.raise_from.ensures.clean clean in
-    let told : IsVersion old.now c.in-Ok-Version.version = (c.in-Ok-Version.ensures.version was _).0 c.in-Ok-Version.field-0-is in
+    let reported : IsVersion old.now c.in-Ok-Version.version = (c.in-Ok-Version.ensures.version was _).0 c.in-Ok-Version.field-0-is in
     let known : c.in-Ok-Version.version ≤ℤ pos newest_schema = search rules in
-    subst (λ k. k ≤ℤ pos newest_schema) (one_version old.now c.in-Ok-Version.version n told v) known
+    subst (λ k. k ≤ℤ pos newest_schema) (one_version old.now c.in-Ok-Version.version n reported v) known
 
 pub returns-then-version-clause-crash : goal.returns-then-version-clause-crash
 returns-then-version-clause-crash g c = survives_weaker _ _ _ _ (λ clean db none. absurd none) c.found.ensures.crash
@@ -118,22 +118,22 @@ returns-then-version-clause-crash g c = survives_weaker _ _ _ _ (λ clean db non
 pub returns-then-version-to-clause-crash : goal.returns-then-version-to-clause-crash
 returns-then-version-to-clause-crash g c = survives_weaker _ _ _ _ (λ clean db none. absurd none) c.found.ensures.crash
 
-pub returns-in-Err-raise_from-clause-unwritten : goal.returns-in-Err-raise_from-clause-unwritten
-returns-in-Err-raise_from-clause-unwritten g c other =
-    survives_then _ _ _ _ _ _ (λ _ db none. none) (λ _ db none. none) c.found.ensures.crash (c.in-Err-raise_from.ensures.unwritten (memory_alone c.in-Err-raise_from.fault c.fault_of-in-Err-raise_from.ensures other))
+pub returns-in-Err-raise_from-clause-write_error : goal.returns-in-Err-raise_from-clause-write_error
+returns-in-Err-raise_from-clause-write_error g c other =
+    survives_then _ _ _ _ _ _ (λ _ db none. none) (λ _ db none. none) c.found.ensures.crash (c.in-Err-raise_from.ensures.write_error (memory_alone c.in-Err-raise_from.fault c.fault_of-in-Err-raise_from.ensures other))
 
 pub returns-in-Ok-clause-crash : goal.returns-in-Ok-clause-crash
 returns-in-Ok-clause-crash g c = survives_weaker _ _ _ _ (λ clean db none. absurd none) c.found.ensures.crash
 
-pub returns-then-version-to-clause-told : goal.returns-then-version-to-clause-told
-returns-then-version-to-clause-told g c was =
+pub returns-then-version-to-clause-reported : goal.returns-then-version-to-clause-reported
+returns-then-version-to-clause-reported g c was =
     let old = state g.S.Store c.args.conn.now in
-    let told : IsVersion old.now c.in-Ok-Version.version = (c.in-Ok-Version.ensures.version was _).0 c.in-Ok-Version.field-0-is in
-    tells_known old.now c.in-Ok-Version.version told (search rules)
+    let reported : IsVersion old.now c.in-Ok-Version.version = (c.in-Ok-Version.ensures.version was _).0 c.in-Ok-Version.field-0-is in
+    has_known_version old.now c.in-Ok-Version.version reported (search rules)
 
-pub returns-in-Ok-raise_from-clause-told : goal.returns-in-Ok-raise_from-clause-told
-returns-in-Ok-raise_from-clause-told g c clean =
+pub returns-in-Ok-raise_from-clause-reported : goal.returns-in-Ok-raise_from-clause-reported
+returns-in-Ok-raise_from-clause-reported g c clean =
     let old = state g.S.Store c.args.conn.now in
     let was : HasCleanDisk (state g.S.Store c.found.new.conn) = c.raise_from.ensures.clean clean in
-    let told : IsVersion old.now c.in-Ok-Version.version = (c.in-Ok-Version.ensures.version was _).0 c.in-Ok-Version.field-0-is in
-    tells_known old.now c.in-Ok-Version.version told (search rules)
+    let reported : IsVersion old.now c.in-Ok-Version.version = (c.in-Ok-Version.ensures.version was _).0 c.in-Ok-Version.field-0-is in
+    has_known_version old.now c.in-Ok-Version.version reported (search rules)

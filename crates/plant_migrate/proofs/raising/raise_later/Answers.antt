@@ -3,15 +3,15 @@ use Rattle.sqlite.specs.Held.{Held, state}
 use Rattle.sqlite.specs.State.{HasCleanDisk, IsUnchanged}
 use Rattle.sqlite.proofs.StateLemmas.{survives_then}
 use Rattle.plant_view.specs.Tables.{tables_of, position_of}
-use Rattle.table_forms.proofs.Ending.{IsStore}
-use Rattle.plant_tables.specs.DeskStopping.{IsAtOf}
+use Rattle.sql_tables.proofs.TransactionEnds.{IsStore}
+use Rattle.plant_tables.specs.DeskCrashStates.{IsAtOf}
 use Rattle.plant_tables_columns.specs.TableColumns.{only_meta}
 use Rattle.plant_migrate.specs.Steps.{IsRaisedBy}
-use Rattle.plant_migrate.proofs.Chains.{none_from}
-use Rattle.plant_migrate.proofs.Ends.{state_risable, state_ends, state_cut}
-use Rattle.plant_migrate.proofs.Kept.{at_still, settled_still, not_raised}
-use Rattle.plant_migrate.proofs.Reading.{meta_read, ends_since, cut_since, later_raised}
-use Rattle.plant_migrate.proofs.StateChanges.{bookings}
+use Rattle.plant_migrate.proofs.RaisedBySteps.{none_from}
+use Rattle.plant_migrate.proofs.RaisingEnds.{state_risable, state_ends, state_cut}
+use Rattle.plant_migrate.proofs.NothingWritten.{at_still, settled_still, not_raised}
+use Rattle.plant_migrate.proofs.RowsBeforeRaising.{meta_read, ends_since, cut_since, later_raised}
+use Rattle.plant_migrate.proofs.ChangesOfState.{bookings}
 use Rattle.plant_migrate.proofs.raising.raise_later.Given.{Over}
 use Rattle.plant_migrate.proofs.raising.raise_later.Goals as goal
 
@@ -19,12 +19,12 @@ use Rattle.plant_migrate.proofs.raising.raise_later.Goals as goal
 is_store : (g : Over) (held : Held _) → IsStore (state g.S.Store held)
 is_store g held = record { settled = g.met.S.Store.settled held.store; stays = g.met.S.Store.stays held.store; something = g.met.S.Store.survives held.store }
 
-pub returns-in-Err-clause-cut_short : goal.returns-in-Err-clause-cut_short
-returns-in-Err-clause-cut_short g c clean s readable =
+pub returns-in-Err-clause-after_failure : goal.returns-in-Err-clause-after_failure
+returns-in-Err-clause-after_failure g c clean s readable =
     not_raised c.args.version c.args.to _ _ s readable.at (c.read_meta.ensures.kept clean) (is_store g c.read_meta.new.conn) clean c.read_meta.ensures.crash
 
-pub returns-clause-cut_short : goal.returns-clause-cut_short
-returns-clause-cut_short g c clean s readable =
+pub returns-clause-after_failure : goal.returns-clause-after_failure
+returns-clause-after_failure g c clean s readable =
     not_raised c.args.version c.args.to _ _ s readable.at (c.read_meta.ensures.kept clean) (is_store g c.read_meta.new.conn) clean c.read_meta.ensures.crash
 
 pub returns-in-Some-clause-raised : goal.returns-in-Some-clause-raised
@@ -36,15 +36,15 @@ returns-in-Some-clause-raised g c clean s readable =
     let was : HasCleanDisk mid = omega (arith, clean, c.raise_by.ensures.survives.clean) in
     let store = is_store g c.read_meta.new.conn in
     let same : IsUnchanged old mid = c.in-Ok.ensures.same was in
-    let told : Some c.in-Some.meta ≡ only_meta c.in-Ok.stored.items = c.in-Some.ensures ∙ ap only_meta c.as_slice.ensures.value in
-    let placed : c.in-Some.meta.position ≡ position_of s = meta_read version old s c.in-Ok.stored.items c.in-Some.meta readable (c.in-Ok.ensures.rows was) told in
+    let reported : Some c.in-Some.meta ≡ only_meta c.in-Ok.stored.items = c.in-Some.ensures ∙ ap only_meta c.as_slice.ensures.value in
+    let placed : c.in-Some.meta.position ≡ position_of s = meta_read version old s c.in-Ok.stored.items c.in-Some.meta readable (c.in-Ok.ensures.rows was) reported in
     let at : IsAtOf version mid (tables_of version s) = at_still version old mid (tables_of version s) readable.at (c.read_meta.ensures.kept was) store same.0.is_open in
     ends_since c.args.to old mid new s c.raise_by.result same.0.now_is
     (state_ends version c.args.to s c.in-Some.meta.position [] (omega (arith, c.requires.later)) (omega (arith, c.requires.below)) c.requires.newest readable.whole placed (sym (none_from version (bookings s) c.requires.later)) mid new c.raise_by.result
     (c.raise_by.ensures.raised clean at.settled (tables_of version s) (state_risable version mid.now s at.holds readable.ordered.keyed)))
 
-pub returns-in-Some-clause-cut_short : goal.returns-in-Some-clause-cut_short
-returns-in-Some-clause-cut_short g c clean s readable =
+pub returns-in-Some-clause-after_failure : goal.returns-in-Some-clause-after_failure
+returns-in-Some-clause-after_failure g c clean s readable =
     let version = c.args.version in
     let old = state g.S.Store c.args.conn.now in
     let mid = state g.S.Store c.read_meta.new.conn in
@@ -52,12 +52,12 @@ returns-in-Some-clause-cut_short g c clean s readable =
     let was : HasCleanDisk mid = omega (arith, clean, c.raise_by.ensures.survives.clean) in
     let store = is_store g c.read_meta.new.conn in
     let same : IsUnchanged old mid = c.in-Ok.ensures.same was in
-    let told : Some c.in-Some.meta ≡ only_meta c.in-Ok.stored.items = c.in-Some.ensures ∙ ap only_meta c.as_slice.ensures.value in
-    let placed : c.in-Some.meta.position ≡ position_of s = meta_read version old s c.in-Ok.stored.items c.in-Some.meta readable (c.in-Ok.ensures.rows was) told in
+    let reported : Some c.in-Some.meta ≡ only_meta c.in-Ok.stored.items = c.in-Some.ensures ∙ ap only_meta c.as_slice.ensures.value in
+    let placed : c.in-Some.meta.position ≡ position_of s = meta_read version old s c.in-Ok.stored.items c.in-Some.meta readable (c.in-Ok.ensures.rows was) reported in
     let at : IsAtOf version mid (tables_of version s) = at_still version old mid (tables_of version s) readable.at (c.read_meta.ensures.kept was) store same.0.is_open in
     cut_since version c.args.to old mid new s c.raise_by.result same.0.now_is
     (state_cut version c.args.to s c.in-Some.meta.position [] (omega (arith, c.requires.later)) (omega (arith, c.requires.below)) c.requires.newest readable.whole placed (sym (none_from version (bookings s) c.requires.later)) mid new c.raise_by.result
-    (c.raise_by.ensures.cut_short clean at.settled (tables_of version s) (state_risable version mid.now s at.holds readable.ordered.keyed)))
+    (c.raise_by.ensures.after_failure clean at.settled (tables_of version s) (state_risable version mid.now s at.holds readable.ordered.keyed)))
 
 pub returns-in-Some-clause-crash : goal.returns-in-Some-clause-crash
 returns-in-Some-clause-crash g c =
@@ -70,6 +70,6 @@ returns-in-Some-clause-crash g c =
     (λ clean trees made.
     let was : HasCleanDisk mid = omega (arith, clean, c.raise_by.ensures.survives.clean) in
     let same : IsUnchanged old mid = c.in-Ok.ensures.same was in
-    let told : Some c.in-Some.meta ≡ only_meta c.in-Ok.stored.items = c.in-Some.ensures ∙ ap only_meta c.as_slice.ensures.value in
+    let reported : Some c.in-Some.meta ≡ only_meta c.in-Ok.stored.items = c.in-Some.ensures ∙ ap only_meta c.as_slice.ensures.value in
     let edged = subst (λ cs. IsRaisedBy version (c.args.to - version) c.in-Some.meta.position cs mid trees) (sym (none_from version [] c.requires.later)) made in
-    later_raised version c.args.to old mid trees c.in-Ok.stored.items c.in-Some.meta c.requires.later same.0.now_is (λ settled. settled_still old mid settled (c.read_meta.ensures.kept was) store same.0.is_open) (c.in-Ok.ensures.rows was) told edged) c.read_meta.ensures.crash c.raise_by.ensures.survives
+    later_raised version c.args.to old mid trees c.in-Ok.stored.items c.in-Some.meta c.requires.later same.0.now_is (λ settled. settled_still old mid settled (c.read_meta.ensures.kept was) store same.0.is_open) (c.in-Ok.ensures.rows was) reported edged) c.read_meta.ensures.crash c.raise_by.ensures.survives

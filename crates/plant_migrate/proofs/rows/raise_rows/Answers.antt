@@ -1,12 +1,12 @@
 use Rattle.std.proofs.Common.{◌≡◌, ◌∙◌, sym, ap, subst}
 use Rattle.sqlite.specs.Held.{state}
-use Rattle.table_forms.proofs.Ending.{IsStore}
-use Rattle.table_forms.proofs.Moving.{survives_none}
+use Rattle.sql_tables.proofs.TransactionEnds.{IsStore}
+use Rattle.sql_tables.proofs.WritesInTurn.{survives_none}
 use Rattle.plant_view.specs.Tables.{tables_of}
 use Rattle.plant_migrate.specs.Raised.{edges_from, AreEdges}
-use Rattle.plant_migrate.proofs.Chains.{edges_from_are, listed_from}
-use Rattle.plant_migrate.proofs.Ends.{state_risable, position_told, bookings_told, state_ends, state_cut}
-use Rattle.plant_migrate.proofs.Kept.{keeps_itself, not_raised}
+use Rattle.plant_migrate.proofs.RaisedBySteps.{edges_from_are, listed_from}
+use Rattle.plant_migrate.proofs.RaisingEnds.{state_risable, position_reported, bookings_reported, state_ends, state_cut}
+use Rattle.plant_migrate.proofs.NothingWritten.{keeps_itself, not_raised}
 use Rattle.plant_migrate.proofs.rows.raise_rows.Goals as goal
 
 pub raise_by-requires-clause-edges : goal.raise_by-requires-clause-edges
@@ -23,22 +23,22 @@ returns-in-Ok-clause-raised g c clean s at keyed whole are =
     let version = c.args.version in
     let edges = c.as_slice-in-Ok.result.now in
     let same : edges ≡ edges_from version rows.movements.items = listed_from version _ _ _ rows.movements.items c.as_slice-in-Ok.ensures.value c.in-Ok.ensures.edges c.as_slice.ensures.value in
-    state_ends version c.args.to s rows.meta.position edges c.requires.known c.requires.low c.requires.newest whole (position_told version s rows are) (same ∙ ap (edges_from version) (bookings_told version s rows are)) old new c.raise_by.result
+    state_ends version c.args.to s rows.meta.position edges c.requires.known c.requires.low c.requires.newest whole (position_reported version s rows are) (same ∙ ap (edges_from version) (bookings_reported version s rows are)) old new c.raise_by.result
     (c.raise_by.ensures.raised clean at.settled (tables_of version s) (state_risable version old.now s at.holds keyed))
 
-pub returns-in-Ok-clause-cut_short : goal.returns-in-Ok-clause-cut_short
-returns-in-Ok-clause-cut_short g c clean s at keyed whole are =
+pub returns-in-Ok-clause-after_failure : goal.returns-in-Ok-clause-after_failure
+returns-in-Ok-clause-after_failure g c clean s at keyed whole are =
     let old = state g.S.Store c.args.conn.now in
     let new = state g.S.Store c.raise_by.new.conn in
     let rows = c.args.rows.now in
     let version = c.args.version in
     let edges = c.as_slice-in-Ok.result.now in
     let same : edges ≡ edges_from version rows.movements.items = listed_from version _ _ _ rows.movements.items c.as_slice-in-Ok.ensures.value c.in-Ok.ensures.edges c.as_slice.ensures.value in
-    state_cut version c.args.to s rows.meta.position edges c.requires.known c.requires.low c.requires.newest whole (position_told version s rows are) (same ∙ ap (edges_from version) (bookings_told version s rows are)) old new c.raise_by.result
-    (c.raise_by.ensures.cut_short clean at.settled (tables_of version s) (state_risable version old.now s at.holds keyed))
+    state_cut version c.args.to s rows.meta.position edges c.requires.known c.requires.low c.requires.newest whole (position_reported version s rows are) (same ∙ ap (edges_from version) (bookings_reported version s rows are)) old new c.raise_by.result
+    (c.raise_by.ensures.after_failure clean at.settled (tables_of version s) (state_risable version old.now s at.holds keyed))
 
-pub returns-in-Err-clause-cut_short : goal.returns-in-Err-clause-cut_short
-returns-in-Err-clause-cut_short g c clean s at keyed whole are =
+pub returns-in-Err-clause-after_failure : goal.returns-in-Err-clause-after_failure
+returns-in-Err-clause-after_failure g c clean s at keyed whole are =
     let held = c.args.conn.now in
     let old = state g.S.Store held in
     let store : IsStore old = record { settled = g.met.S.Store.settled held.store; stays = g.met.S.Store.stays held.store; something = g.met.S.Store.survives held.store } in

@@ -2,15 +2,15 @@ use Rattle.std.proofs.Common.{◌≡◌, ◌<◌, ◌+◌, ap, subst, arith, rul
 use Rattle.sqlite.specs.Held.{state}
 use Rattle.sqlite.specs.State.{HasCleanDisk}
 use Rattle.sqlite.proofs.StateLemmas.{survives_weaker}
-use Rattle.table_forms.proofs.Ending.{err_always}
+use Rattle.sql_tables.proofs.TransactionEnds.{err_always}
 use Rattle.plant_base.specs.State.{newest_schema}
-use Rattle.plant_tables.specs.DeskStopping.{IsAtOf}
+use Rattle.plant_tables.specs.DeskCrashStates.{IsAtOf}
 use Rattle.plant_migrate.specs.Raised.{raised_by}
-use Rattle.plant_migrate.proofs.Stepping.{goes_on, cut_within, could_first, weaker, survives_step}
+use Rattle.plant_migrate.proofs.OneStep.{goes_on, cut_within, could_first, weaker, survives_step}
 use Rattle.plant_migrate.proofs.steps.raise_by.Goals as goal
 
-pub returns-in_err-raise_one-clause-cut_short : goal.returns-in_err-raise_one-clause-cut_short
-returns-in_err-raise_one-clause-cut_short g c clean settled t can =
+pub returns-in_err-raise_one-clause-after_failure : goal.returns-in_err-raise_one-clause-after_failure
+returns-in_err-raise_one-clause-after_failure g c clean settled t can =
     let version = c.args.version in
     let position = c.args.position.now in
     let edges = c.args.edges.now in
@@ -24,7 +24,7 @@ returns-in_err-raise_one-clause-cut_short g c clean settled t can =
     let reached = was.reached early settled t can in
     err_always c.from_residual.result _
     (cut_within version position edges c.requires.known c.requires.edges done c.args.steps old mid new t few (λ none. ap (λ held. (state g.S.Store held).now) (was.first none)) reached.1
-    (c.in_err-raise_one.ensures.cut_short clean reached.0 (raised_by done version position edges t) reached.1.risable))
+    (c.in_err-raise_one.ensures.after_failure clean reached.0 (raised_by done version position edges t) reached.1.risable))
 
 pub returns-in_err-raise_one-clause-survives : goal.returns-in_err-raise_one-clause-survives
 returns-in_err-raise_one-clause-survives g c =

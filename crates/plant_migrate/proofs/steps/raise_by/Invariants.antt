@@ -2,11 +2,11 @@ use Rattle.std.proofs.Common.{◌≡◌, ◌<◌, false}
 use Rattle.sqlite.specs.Held.{state}
 use Rattle.sqlite.specs.State.{HasCleanDisk, Survives}
 use Rattle.plant_view.specs.Tables.{Tables}
-use Rattle.table_forms.specs.Standing.{AreFree}
-use Rattle.table_forms.specs.Stopping.{IsSettled}
-use Rattle.plant_tables.specs.DeskForms.{later_forms}
+use Rattle.sql_tables.specs.StoredRows.{AreFree}
+use Rattle.sql_tables.specs.CrashStates.{IsSettled}
+use Rattle.plant_tables.specs.DeskTableDefs.{later_table_defs}
 use Rattle.plant_migrate.specs.Steps.{IsRisable, IsRaisedBy}
-use Rattle.plant_migrate.proofs.Stepping.{IsReached}
+use Rattle.plant_migrate.proofs.OneStep.{IsReached}
 use Rattle.plant_migrate.proofs.steps.raise_by.Given as goal
 
 -- so many steps were made
@@ -17,7 +17,7 @@ invariant-loop-done g l =
     record {
       mode : l.conn.in_transaction ≡ false;
       first : l.done ≡ 0 → l.conn ≡ l.fn.conn;
-      free : 0 < l.done → AreFree (later_forms l.fn.version) old.now.schema;
+      free : 0 < l.done → AreFree (later_table_defs l.fn.version) old.now.schema;
       reached : HasCleanDisk now → IsSettled old → (t : Tables) → IsRisable l.fn.version old.now t → IsSettled now × IsReached l.fn.version l.done l.position l.edges old.now now.now t;
       survives : Survives old now (IsRaisedBy l.fn.version l.done l.position l.edges old);
     }

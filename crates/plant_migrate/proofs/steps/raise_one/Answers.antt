@@ -3,46 +3,46 @@ use Rattle.sqlite.specs.Effect.{Database}
 use Rattle.sqlite.specs.Held.{state}
 use Rattle.sqlite.specs.State.{Survives}
 use Rattle.sqlite.proofs.StateLemmas.{survives_weaker}
-use Rattle.table_forms.proofs.Ending.{IsStore}
-use Rattle.table_forms.proofs.Moving.{survives_none}
-use Rattle.table_forms.specs.Standing.{AreFree, KeepsOthers}
-use Rattle.plant_tables.specs.DeskForms.{desk_forms, later_forms}
-use Rattle.plant_tables.specs.DeskStopping.{IsAtOf, IsCutShortOf}
-use Rattle.plant_tables.specs.Raising.{RaisesTables}
+use Rattle.sql_tables.proofs.TransactionEnds.{IsStore}
+use Rattle.sql_tables.proofs.WritesInTurn.{survives_none}
+use Rattle.sql_tables.specs.StoredRows.{AreFree, KeepsOtherTables}
+use Rattle.plant_tables.specs.DeskTableDefs.{desk_table_defs, later_table_defs}
+use Rattle.plant_tables.specs.DeskCrashStates.{IsAtOf, FailureLeavesOf}
+use Rattle.plant_tables.specs.Schemas.{RaisesTables}
 use Rattle.plant_migrate.specs.Raised.{raised_once}
-use Rattle.plant_migrate.proofs.Kept.{keeps_itself, not_begun}
-use Rattle.plant_migrate.proofs.Chains.{once_led}
+use Rattle.plant_migrate.proofs.NothingWritten.{keeps_itself, not_begun}
+use Rattle.plant_migrate.proofs.RaisedBySteps.{once_led}
 use Rattle.plant_migrate.proofs.steps.raise_one.Goals as goal
 
 pub returns-clause-raised : goal.returns-clause-raised
 returns-clause-raised g c clean settled t can =
     let old = state g.S.Store c.args.conn.now in
     let new = state g.S.Store c.commit_raising.new.conn in
-    let told : c.can_rise.result ≡ true = search rules in
-    let free : AreFree (later_forms c.args.version) old.now.schema = subst (AreFree (later_forms c.args.version)) c.schema.ensures.value (c.can_rise.ensures.0 told) in
-    once_led (λ u. OnOk c.commit_raising.result (IsAtOf (c.args.version + 1) new u × KeepsOthers desk_forms old.now new.now)) c.args.version c.args.position.now c.args.edges.now c.added_rows.result.now old.now t c.added_rows.ensures c.requires.edges free can
+    let reported : c.can_rise.result ≡ true = search rules in
+    let free : AreFree (later_table_defs c.args.version) old.now.schema = subst (AreFree (later_table_defs c.args.version)) c.schema.ensures.value (c.can_rise.ensures.0 reported) in
+    once_led (λ u. OnOk c.commit_raising.result (IsAtOf (c.args.version + 1) new u × KeepsOtherTables desk_table_defs old.now new.now)) c.args.version c.args.position.now c.args.edges.now c.added_rows.result.now old.now t c.added_rows.ensures c.requires.edges free can
     (c.commit_raising.ensures.raised clean settled t)
 
-pub returns-clause-cut_short : goal.returns-clause-cut_short
-returns-clause-cut_short g c clean settled t can =
+pub returns-clause-after_failure : goal.returns-clause-after_failure
+returns-clause-after_failure g c clean settled t can =
     let old = state g.S.Store c.args.conn.now in
     let new = state g.S.Store c.commit_raising.new.conn in
-    let told : c.can_rise.result ≡ true = search rules in
-    let free : AreFree (later_forms c.args.version) old.now.schema = subst (AreFree (later_forms c.args.version)) c.schema.ensures.value (c.can_rise.ensures.0 told) in
-    once_led (λ u. OnErr c.commit_raising.result (IsCutShortOf c.args.version (c.args.version + 1) old new t u)) c.args.version c.args.position.now c.args.edges.now c.added_rows.result.now old.now t c.added_rows.ensures c.requires.edges free can
-    (c.commit_raising.ensures.cut_short clean settled t)
+    let reported : c.can_rise.result ≡ true = search rules in
+    let free : AreFree (later_table_defs c.args.version) old.now.schema = subst (AreFree (later_table_defs c.args.version)) c.schema.ensures.value (c.can_rise.ensures.0 reported) in
+    once_led (λ u. OnErr c.commit_raising.result (FailureLeavesOf c.args.version (c.args.version + 1) old new t u)) c.args.version c.args.position.now c.args.edges.now c.added_rows.result.now old.now t c.added_rows.ensures c.requires.edges free can
+    (c.commit_raising.ensures.after_failure clean settled t)
 
 pub returns-clause-survives : goal.returns-clause-survives
 returns-clause-survives g c =
     let old = state g.S.Store c.args.conn.now in
     let new = state g.S.Store c.commit_raising.new.conn in
-    let told : c.can_rise.result ≡ true = search rules in
-    let free : AreFree (later_forms c.args.version) old.now.schema = subst (AreFree (later_forms c.args.version)) c.schema.ensures.value (c.can_rise.ensures.0 told) in
+    let reported : c.can_rise.result ≡ true = search rules in
+    let free : AreFree (later_table_defs c.args.version) old.now.schema = subst (AreFree (later_table_defs c.args.version)) c.schema.ensures.value (c.can_rise.ensures.0 reported) in
     let made = subst (λ cs. Survives old new (λ trees. (db : Database) × RaisesTables c.args.version c.args.position.now cs old.now db × (trees ≡ db.trees))) c.added_rows.ensures c.commit_raising.ensures.survives in
     survives_weaker _ _ _ _ (λ clean trees raised. record { free = free; new = raised.0; raises = raised.1; same = raised.2 }) made
 
-pub returns-then-not-can_rise-clause-cut_short : goal.returns-then-not-can_rise-clause-cut_short
-returns-then-not-can_rise-clause-cut_short g c clean settled t can =
+pub returns-then-not-can_rise-clause-after_failure : goal.returns-then-not-can_rise-clause-after_failure
+returns-then-not-can_rise-clause-after_failure g c clean settled t can =
     let held = c.args.conn.now in
     let old = state g.S.Store held in
     let store : IsStore old = record { settled = g.met.S.Store.settled held.store; stays = g.met.S.Store.stays held.store; something = g.met.S.Store.survives held.store } in

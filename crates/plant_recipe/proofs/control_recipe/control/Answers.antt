@@ -1,4 +1,4 @@
-use Rattle.plant_recipe.proofs.Lines.{control_fits}
+use Rattle.plant_recipe.proofs.RecipeLines.{control_fits}
 use Rattle.plant_recipe.proofs.control_recipe.control.Goals as goal
 
 pub scale_lines-requires : goal.scale_lines-requires

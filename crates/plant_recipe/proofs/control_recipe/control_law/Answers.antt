@@ -1,4 +1,4 @@
-use Rattle.plant_recipe.proofs.Lines.{keeps_procedure}
+use Rattle.plant_recipe.proofs.RecipeLines.{keeps_procedure}
 use Rattle.plant_recipe.proofs.control_recipe.control_law.Goals as goal
 
 pub returns : goal.returns

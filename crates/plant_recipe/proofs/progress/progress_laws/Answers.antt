@@ -1,9 +1,9 @@
-use Rattle.plant_recipe.proofs.Runs.{ends_for_good, stays_in_range, never_falls, goes_along}
+use Rattle.plant_recipe.proofs.EventFold.{closing_is_final, stays_in_range, never_falls, goes_along}
 use Rattle.plant_recipe.proofs.progress.progress_laws.Goals as goal
 
 pub returns : goal.returns
 returns c = record {
-  closed = ends_for_good;
+  closed = closing_is_final;
   range = stays_in_range;
   attempt = never_falls;
   total = goes_along;

@@ -1,4 +1,4 @@
-use Rattle.plant_recipe.proofs.Moves.{whole_table}
+use Rattle.plant_recipe.proofs.TableIsCases.{whole_table}
 use Rattle.plant_recipe.proofs.table.table_law.Goals as goal
 
 pub returns : goal.returns

@@ -1,5 +1,5 @@
 use Rattle.std.proofs.Common.{refl}
-use Rattle.plant_tables.proofs.DeskTexts.{all_indexed}
+use Rattle.plant_tables.proofs.DeskStatements.{all_indexed}
 use Rattle.plant_tables.proofs.indexing.all_indexes.Goals as goal
 
 pub returns-clause-named : goal.returns-clause-named

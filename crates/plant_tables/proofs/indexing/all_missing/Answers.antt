@@ -1,5 +1,5 @@
 use Rattle.std.proofs.lemmas.Result.{IfOk-weaker}
-use Rattle.plant_tables.proofs.Missing.{desk_missing}
+use Rattle.plant_tables.proofs.MissingIndexes.{desk_missing}
 use Rattle.plant_tables.proofs.indexing.all_missing.Goals as goal
 
 pub returns : goal.returns

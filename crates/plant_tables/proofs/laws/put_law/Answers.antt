@@ -1,4 +1,4 @@
-use Rattle.plant_tables.proofs.DeskTexts.{upserts_sublot, upserts_edge}
+use Rattle.plant_tables.proofs.DeskStatements.{upserts_sublot, upserts_edge}
 use Rattle.plant_tables.proofs.laws.put_law.Goals as goal
 
 pub returns : goal.returns

@@ -2,15 +2,15 @@ use Rattle.std.proofs.lemmas.List.{take_more, take_all}
 use Rattle.std.proofs.Common.{◌+◌, ◌≡◌, ◌∷◌, [], ◌++◌, take, sym, ap, subst, ◌∙◌, arith, rules}
 use Rattle.sqlite.specs.Held.{state}
 use Rattle.sqlite.specs.State.{HasCleanDisk}
-use Rattle.table_forms.specs.Moves.{Moves}
-use Rattle.table_forms.specs.Standing.{Contents}
-use Rattle.table_forms.proofs.Moving.{survives_on, kept_then, moves_then, moves_as}
+use Rattle.sql_tables.specs.Moves.{Moves}
+use Rattle.sql_tables.specs.StoredRows.{Contents}
+use Rattle.sql_tables.proofs.WritesInTurn.{survives_on, kept_then, moves_then, moves_as}
 use Rattle.std.proofs.lemmas.List.Elements.{All-from_recursion}
-use Rattle.plant_tables.specs.DeskForms.{forms_of}
+use Rattle.plant_tables.specs.DeskTableDefs.{table_defs_of}
 use Rattle.plant_tables.specs.DeskTables.{rows_changed, all_rows_changed}
 use Rattle.plant_tables.specs.Keyed.{IsOfSchema, MovesTablesOf}
-use Rattle.plant_tables.proofs.Ended.{tables_moved}
-use Rattle.plant_tables.proofs.DeskMoves.{one_more_change}
+use Rattle.plant_tables.proofs.WritingEnds.{tables_moved}
+use Rattle.plant_tables.proofs.StatementsOnDesk.{one_more_change}
 use Rattle.plant_tables.proofs.write.write_changes.Goals as goal
 
 pub loop-change-preserved : goal.loop-change-preserved
@@ -18,23 +18,23 @@ loop-change-preserved g c =
     let first = state g.S.Store c.args.tx.now.conn.now in
     let mid = state g.S.Store c.loop-change.tx.conn.now in
     let last = state g.S.Store c.write_change.new.tx.conn.now in
-    let front = take c.loop-change.change-index c.args.changes.now in
+    let prefix = take c.loop-change.change-index c.args.changes.now in
     record {
       same = c.write_change.ensures.same_reference ∙ c.loop-change.invariant.same;
       wrote = survives_on first mid last c.loop-change.invariant.wrote c.write_change.ensures.survives;
       kept = λ clean. kept_then first mid last (c.loop-change.invariant.kept (omega (arith, c.write_change.ensures.survives.clean))) (c.write_change.ensures.kept clean);
       moved = λ clean schema of.
           let was : HasCleanDisk mid = omega (arith, c.write_change.ensures.survives.clean) in
-          let more : take (c.loop-change.change-index + 1) c.args.changes.now ≡ front ++ c.change-item.result ∷ [] = search (rules, take_more) in
+          let more : take (c.loop-change.change-index + 1) c.args.changes.now ≡ prefix ++ c.change-item.result ∷ [] = search (rules, take_more) in
           let item : IsOfSchema schema c.change-item.result = search (rules, All-from_recursion (IsOfSchema schema) c.args.changes.now of) in
-          let both = moves_then (forms_of schema) first mid last (all_rows_changed front) (rows_changed c.change-item.result) (c.loop-change.invariant.moved was schema of) (c.in_ok-write_change.ensures.moved clean schema item) in
-          moves_as (forms_of schema) first last _ _ (λ (t : Contents). one_more_change front c.change-item.result t ∙ ap (λ cs. all_rows_changed cs t) (sym more)) both;
+          let both = moves_then (table_defs_of schema) first mid last (all_rows_changed prefix) (rows_changed c.change-item.result) (c.loop-change.invariant.moved was schema of) (c.in_ok-write_change.ensures.moved clean schema item) in
+          moves_as (table_defs_of schema) first last _ _ (λ (t : Contents). one_more_change prefix c.change-item.result t ∙ ap (λ cs. all_rows_changed cs t) (sym more)) both;
     }
 
 pub returns-clause-moved : goal.returns-clause-moved
 returns-clause-moved g c clean schema of =
     let all : take c.loop-change.change-index c.args.changes.now ≡ c.args.changes.now = search (rules, take_all) in
-    subst (λ cs. Moves (forms_of schema) (state g.S.Store c.args.tx.now.conn.now) (state g.S.Store c.loop-change.tx.conn.now) (all_rows_changed cs)) all (c.loop-change.invariant.moved clean schema of)
+    subst (λ cs. Moves (table_defs_of schema) (state g.S.Store c.args.tx.now.conn.now) (state g.S.Store c.loop-change.tx.conn.now) (all_rows_changed cs)) all (c.loop-change.invariant.moved clean schema of)
 
 pub returns-clause-tables : goal.returns-clause-tables
 returns-clause-tables g c clean schema of =

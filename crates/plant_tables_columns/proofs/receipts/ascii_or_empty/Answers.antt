@@ -4,5 +4,5 @@ use Rattle.plant_tables_columns.proofs.receipts.ascii_or_empty.Goals as goal
 
 pub unreachable-requires : goal.unreachable-requires
 unreachable-requires c =
-    let told : c.is_all_ascii.result ≡ true = search rules in
-    c.in-Err.ensures.cases.0 (IsUtf8-from_ascii c.args.bytes.now (rw told at c.is_all_ascii.ensures.ascii))
+    let reported : c.is_all_ascii.result ≡ true = search rules in
+    c.in-Err.ensures.cases.0 (IsUtf8-from_ascii c.args.bytes.now (rw reported at c.is_all_ascii.ensures.ascii))

@@ -1,10 +1,10 @@
 use Rattle.std.proofs.Common.{◌∙◌, subst, sym}
 use Rattle.std.proofs.lemmas.Option.{IfSome_then}
 use Rattle.sqlite.specs.Held.{state}
-use Rattle.table_reads.specs.Reading.{Lists}
-use Rattle.plant_tables.specs.DeskForms.{meta_form}
-use Rattle.plant_tables_read.proofs.Texts.{meta_selected}
-use Rattle.plant_tables_read.proofs.Versions.{no_version}
+use Rattle.sql_queries.specs.Reading.{Lists}
+use Rattle.plant_tables.specs.DeskTableDefs.{meta_table}
+use Rattle.plant_tables_read.proofs.TextsSelectAll.{meta_selected}
+use Rattle.plant_tables_read.proofs.OneVersion.{no_version}
 use Rattle.plant_tables_read.proofs.finding.version.Goals as goal
 
 pub read_table-requires : goal.read_table-requires
@@ -14,9 +14,9 @@ pub returns-clause-some : goal.returns-clause-some
 returns-clause-some g c clean =
     let db = (state g.S.Store c.args.conn.now).now in
     IfSome_then c.version_in.result c.version_in.ensures.some
-    (λ n told.
-    let alone = sym c.as_slice.ensures.value ∙ told.1 in
-    record { row = told.0; alone = subst (Lists db meta_form) alone (c.in_ok-list.ensures.rows clean); good = told.2; tells = told.3 })
+    (λ n reported.
+    let alone = sym c.as_slice.ensures.value ∙ reported.1 in
+    record { row = reported.0; alone = subst (Lists db meta_table) alone (c.in_ok-list.ensures.rows clean); valid = reported.2; reports = reported.3 })
 
 pub returns-clause-none : goal.returns-clause-none
 returns-clause-none g c clean none = no_version (state g.S.Store c.args.conn.now).now c.in_ok-list.list.items (c.in_ok-list.ensures.rows clean)

@@ -1,4 +1,4 @@
-use Rattle.plant_tables_read.proofs.Texts.{all_selected}
+use Rattle.plant_tables_read.proofs.TextsSelectAll.{all_selected}
 use Rattle.plant_tables_read.proofs.readings.desk_readings.Goals as goal
 
 pub returns-clause-texts : goal.returns-clause-texts

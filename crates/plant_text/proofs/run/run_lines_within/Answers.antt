@@ -1,4 +1,4 @@
-use Rattle.plant_text.proofs.Leaving.{run_leaves}
+use Rattle.plant_text.proofs.RunCrashStates.{run_crash_states}
 use Rattle.plant_text.proofs.run.run_lines_within.Goals as goal
 
 pub returns-clause-ends : goal.returns-clause-ends
@@ -8,9 +8,9 @@ returns-clause-ends g c =
     let now = c.run_pieces.new.keeper in (
       ran.0,
       ran.1,
-      λ h s stood. let ended = ran.2 h s stood in (
+      λ h s represented. let ended = ran.2 h s represented in (
         ended,
-        run_leaves c.args.most (keeper.schema c.args.keeper.now) s ran.0 _ _ _ (keeper.stands now) (keeper.shut now) (keeper.leaves now) c.run_pieces.result
-            (λ is_open t stands. g.met.K.Keeper.leaves_state now t h is_open stands) ended,
+        run_crash_states c.args.most (keeper.schema c.args.keeper.now) s ran.0 _ _ _ (keeper.represents now) (keeper.shut now) (keeper.crash_states now) c.run_pieces.result
+            (λ is_open t represents. g.met.K.Keeper.open_crash_state now t h is_open represents) ended,
       ),
     )

@@ -1,9 +1,9 @@
 use Rattle.std.proofs.Common.{◌≡◌, ℕ, ◌≤◌, List, [], length, false}
 use Rattle.std.specs.Io.KnownBytes.{Consumes}
 use Rattle.plant_base.specs.State.{State}
-use Rattle.plant_desk.specs.Keeping.{IsSameDesk}
+use Rattle.plant_desk.specs.Keepers.{IsSameDesk}
 use Rattle.plant_text.specs.Session.{AreAnswered}
-use Rattle.plant_text.specs.Held.{held_after, entries_after}
+use Rattle.plant_text.specs.HeldLines.{held_after, entries_after}
 use Rattle.plant_text.proofs.run.run_pieces.Given as goal
 
 abbrev pub invariant-reads : goal.invariant-reads
@@ -11,10 +11,10 @@ invariant-reads g l =
     let keeper = g.K.Keeper in
     record {
       not_shut : keeper.shut l.keeper ≡ false;
-      same : IsSameDesk keeper.honest keeper.schema keeper.beside l.fn.keeper l.keeper;
+      same : IsSameDesk keeper.honest keeper.schema keeper.foreign_tables l.fn.keeper l.keeper;
       so_far : (bytes : List ℕ) × Consumes (g.R.Read.remaining l.fn.reader) (g.R.Read.remaining l.reader) bytes
           × (l.held.items ≡ held_after [] bytes)
           × (l._made ≤ length bytes)
-          × (keeper.honest l.keeper → (s : State) → keeper.stands l.fn.keeper s → AreAnswered (keeper.schema l.fn.keeper) s (entries_after [] bytes)
-          (g.W.Write.contents l.fn.writer) (g.W.Write.contents l.writer) (keeper.stands l.keeper) false l.refused);
+          × (keeper.honest l.keeper → (s : State) → keeper.represents l.fn.keeper s → AreAnswered (keeper.schema l.fn.keeper) s (entries_after [] bytes)
+          (g.W.Write.contents l.fn.writer) (g.W.Write.contents l.writer) (keeper.represents l.keeper) false l.refused);
     }

@@ -1,8 +1,8 @@
 use Rattle.std.proofs.Common.{◌≡◌, false, take}
 use Rattle.plant_base.specs.State.{State}
-use Rattle.plant_desk.specs.Keeping.{IsSameDesk}
+use Rattle.plant_desk.specs.Keepers.{IsSameDesk}
 use Rattle.plant_text.specs.Session.{AreAnswered}
-use Rattle.plant_text.specs.Held.{held_after, entries_after}
+use Rattle.plant_text.specs.HeldLines.{held_after, entries_after}
 use Rattle.plant_text.proofs.run.take_piece.Given as goal
 
 abbrev pub invariant-loop-b : goal.invariant-loop-b
@@ -10,9 +10,9 @@ invariant-loop-b g l =
     let keeper = g.K.Keeper in
     record {
       not_shut : keeper.shut l.keeper ≡ false;
-      same : IsSameDesk keeper.honest keeper.schema keeper.beside l.fn.keeper l.keeper;
+      same : IsSameDesk keeper.honest keeper.schema keeper.foreign_tables l.fn.keeper l.keeper;
       held : l.held.items ≡ held_after l.fn.held.items (take l.b-index l.piece);
-      told : keeper.honest l.keeper → (s : State) → keeper.stands l.fn.keeper s
+      reported : keeper.honest l.keeper → (s : State) → keeper.represents l.fn.keeper s
           → AreAnswered (keeper.schema l.fn.keeper) s (entries_after l.fn.held.items (take l.b-index l.piece))
-          (g.W.Write.contents l.fn.writer) (g.W.Write.contents l.writer) (keeper.stands l.keeper) l.fn.refused l.refused;
+          (g.W.Write.contents l.fn.writer) (g.W.Write.contents l.writer) (keeper.represents l.keeper) l.fn.refused l.refused;
     }

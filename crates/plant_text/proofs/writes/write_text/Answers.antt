@@ -1,4 +1,4 @@
-use Rattle.plant_text.proofs.Known.{wrote_more}
+use Rattle.plant_text.proofs.KnownBytes.{wrote_more}
 use Rattle.plant_text.proofs.writes.write_text.Goals as goal
 
 pub loop-rest-preserved : goal.loop-rest-preserved

@@ -1,6 +1,6 @@
 use Rattle.std.proofs.Common.{refl}
 use Rattle.plant_trace.specs.Ranks.{rank_of}
-use Rattle.plant_trace.proofs.Ranking.{ranked_acyclic}
+use Rattle.plant_trace.proofs.RankedIsAcyclic.{ranked_acyclic}
 use Rattle.plant_trace.proofs.cycles.acyclic.Goals as goal
 
 pub returns-then-rises : goal.returns-then-rises

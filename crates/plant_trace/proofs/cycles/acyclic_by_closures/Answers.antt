@@ -5,7 +5,7 @@ use Rattle.std.proofs.lemmas.List.Elements.{All-more, All-contains}
 use Rattle.plant_trace.specs.Reach.{Reach, HasEdge, Lists, IsReached}
 use Rattle.plant_trace.specs.declared.direction.Direction.TheVariants.{Forward}
 use Rattle.plant_trace.specs.declared.node.Node.{Node}
-use Rattle.plant_trace.proofs.Growing.{first_edge}
+use Rattle.plant_trace.proofs.AddingKeepsAcyclic.{first_edge}
 use Rattle.plant_trace.proofs.cycles.acyclic_by_closures.Goals as goal
 
 pub returns-then-has : goal.returns-then-has

@@ -1,4 +1,4 @@
-use Rattle.plant_trace.proofs.NodeLemmas.{node_contains}
+use Rattle.plant_trace.proofs.NodeOrder.{node_contains}
 use Rattle.plant_trace.proofs.cycles.has.Goals as goal
 
 pub returns : goal.returns

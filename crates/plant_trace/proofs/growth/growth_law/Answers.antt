@@ -1,4 +1,4 @@
-use Rattle.plant_trace.proofs.Growing.{into_keeps, new_keeps}
+use Rattle.plant_trace.proofs.AddingKeepsAcyclic.{into_keeps, new_keeps}
 use Rattle.plant_trace.proofs.growth.growth_law.Goals as goal
 
 pub returns : goal.returns

@@ -1,4 +1,4 @@
-use Rattle.plant_trace.proofs.Leading.{leads_where_reached}
+use Rattle.plant_trace.proofs.LeadsIsReach.{leads_where_reached}
 use Rattle.plant_trace.proofs.growth.reach_law.Goals as goal
 
 pub returns : goal.returns

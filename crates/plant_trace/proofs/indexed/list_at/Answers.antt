@@ -3,7 +3,7 @@ use Rattle.std.specs.Prelude.{IsTrue}
 use Rattle.std.proofs.lemmas.Result.{IfOk-weaker}
 use Rattle.plant_trace.specs.Index.{index_has}
 use Rattle.plant_trace.specs.Reach.{Lists}
-use Rattle.plant_trace.proofs.Indexing.{listed_some, listed_none}
+use Rattle.plant_trace.proofs.IndexOfPairs.{listed_some, listed_none}
 use Rattle.plant_trace.proofs.indexed.list_at.Goals as goal
 
 pub returns-in-Some : goal.returns-in-Some

@@ -1,7 +1,7 @@
 use Rattle.std.proofs.Common.{◌∙◌, sym, ap}
 use Rattle.plant_trace.specs.declared.node.Node.{Node}
-use Rattle.plant_trace.proofs.Nexts.{Nexts-other, Nexts-here}
-use Rattle.plant_trace.proofs.NodeLemmas.{node_ne_exact, node_not_ne}
+use Rattle.plant_trace.proofs.NeighboursOfNode.{Nexts-other, Nexts-here}
+use Rattle.plant_trace.proofs.NodeOrder.{node_ne_exact, node_not_ne}
 use Rattle.plant_trace.proofs.listed.neighbours.Goals as goal
 
 pub loop-pair-preserved-then-ne : goal.loop-pair-preserved-then-ne

@@ -1,6 +1,6 @@
 use Rattle.std.proofs.Common.{take}
 use Rattle.plant_trace.specs.Reach.{IsNext}
-use Rattle.plant_trace.proofs.Sets.{HasExactly}
+use Rattle.plant_trace.proofs.NodeSets.{HasExactly}
 use Rattle.plant_trace.proofs.listed.neighbours.Given as goal
 
 abbrev pub invariant-loop-pair : goal.invariant-loop-pair

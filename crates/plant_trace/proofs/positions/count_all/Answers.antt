@@ -1,9 +1,9 @@
 use Rattle.std.proofs.Common.{◌∙◌, Contains, take, subst}
 use Rattle.std.proofs.lemmas.List.{take_all}
 use Rattle.std.proofs.lemmas.List.Elements.{All-more, All-weaker}
-use Rattle.plant_trace.specs.Places.{IsUnled}
+use Rattle.plant_trace.specs.NodeIndexes.{IsUnled}
 use Rattle.plant_trace.specs.declared.node.Node.{Node}
-use Rattle.plant_trace.proofs.Placing.{Grows-keeps}
+use Rattle.plant_trace.proofs.IndexesNoted.{Grows-keeps}
 use Rattle.plant_trace.proofs.positions.count_all.Goals as goal
 
 pub loop-node-preserved : goal.loop-node-preserved

@@ -1,6 +1,6 @@
 use Rattle.std.proofs.Common.{◌≡◌, take, Contains}
 use Rattle.std.specs.List.{All}
-use Rattle.plant_trace.specs.Places.{IsUnled}
+use Rattle.plant_trace.specs.NodeIndexes.{IsUnled}
 use Rattle.plant_trace.proofs.positions.count_all.Given as goal
 
 abbrev pub invariant-loop-node : goal.invariant-loop-node

@@ -1,5 +1,5 @@
 use Rattle.std.proofs.Common.{arith}
-use Rattle.plant_trace.proofs.Placing.{none_before}
+use Rattle.plant_trace.proofs.IndexesNoted.{none_before}
 use Rattle.plant_trace.proofs.positions.count_before.Goals as goal
 
 pub returns-clause-none : goal.returns-clause-none

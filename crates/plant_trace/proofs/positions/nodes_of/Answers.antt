@@ -3,7 +3,7 @@ use Rattle.std.specs.List.{All}
 use Rattle.std.proofs.lemmas.List.{take_all}
 use Rattle.std.proofs.lemmas.List.Elements.{All-more, All-weaker}
 use Rattle.plant_trace.specs.declared.node.Node.{Node}
-use Rattle.plant_trace.proofs.Sets.{stays, comes}
+use Rattle.plant_trace.proofs.NodeSets.{stays, comes}
 use Rattle.plant_trace.proofs.positions.nodes_of.Goals as goal
 
 pub loop-pair-preserved : goal.loop-pair-preserved

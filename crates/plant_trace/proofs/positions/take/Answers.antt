@@ -1,4 +1,4 @@
-use Rattle.plant_trace.proofs.Placing.{Grows-none, Grows-then}
+use Rattle.plant_trace.proofs.IndexesNoted.{Grows-none, Grows-then}
 use Rattle.plant_trace.proofs.positions.take.Goals as goal
 
 pub loop-node-init : goal.loop-node-init

@@ -1,4 +1,4 @@
-use Rattle.plant_trace.specs.Places.{Grows}
+use Rattle.plant_trace.specs.NodeIndexes.{Grows}
 use Rattle.plant_trace.proofs.positions.take.Given as goal
 
 abbrev pub invariant-loop-node : goal.invariant-loop-node

@@ -1,4 +1,4 @@
-use Rattle.plant_trace.proofs.Sets.{Adds_more}
+use Rattle.plant_trace.proofs.NodeSets.{Adds_more}
 use Rattle.plant_trace.proofs.seen.note_all.Goals as goal
 
 pub loop-node-preserved : goal.loop-node-preserved

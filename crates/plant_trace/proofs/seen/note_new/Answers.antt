@@ -1,5 +1,5 @@
 use Rattle.std.proofs.lemmas.Bool.{OnFalse_at}
-use Rattle.plant_trace.proofs.Sets.{Adds_more, Queues-then, Queues-push, Queues-still}
+use Rattle.plant_trace.proofs.NodeSets.{Adds_more, Queues-then, Queues-push, Queues-still}
 use Rattle.plant_trace.proofs.seen.note_new.Goals as goal
 use Rattle.plant_trace.proofs.seen.note_new.Goals.{then-branch+in_ok-push, else-branch}
 

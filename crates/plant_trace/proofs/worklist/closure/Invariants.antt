@@ -2,8 +2,8 @@ use Rattle.std.proofs.Common.{◌-◌, ◌^◌, ◌≤◌, length, take}
 use Rattle.std.specs.List.{All}
 use Rattle.plant_trace.specs.Reach.{IsNext}
 use Rattle.plant_trace.specs.Seen.{HasSame}
-use Rattle.plant_trace.specs.Sources.{HonestlyTold}
-use Rattle.plant_trace.proofs.Searching.{Found, Asked}
+use Rattle.plant_trace.specs.HoldsIfHonest.{HoldsIfHonest}
+use Rattle.plant_trace.proofs.SearchFinds.{Found, Asked}
 use Rattle.plant_trace.proofs.worklist.closure.Given as goal
 
 abbrev pub invariant-walk : goal.invariant-walk
@@ -11,7 +11,7 @@ invariant-walk g l =
     let e = g.E.Edges in
     let edge = IsNext l.direction (e.pairs l.fn.edges) in
     record {
-      told : HonestlyTold e.honest e.kept e.steady l.fn.edges l.edges (Found edge l.start l.seen.keys × All (Asked edge l.seen.keys) (take l.at l.queue.items));
+      reported : HoldsIfHonest e.honest e.kept e.frame l.fn.edges l.edges (Found edge l.start l.seen.keys × All (Asked edge l.seen.keys) (take l.at l.queue.items));
       same : HasSame l.seen.keys l.queue.items;
       reached : l.at ≤ length l.queue.items;
     }

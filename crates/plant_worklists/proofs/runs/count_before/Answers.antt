@@ -2,7 +2,7 @@ use Rattle.std.proofs.Common.{rules}
 use Rattle.std.specs.Ordering.{is_lt}
 use Rattle.std.proofs.lemmas.List.Sorted.{IsPartitionPoint-from_clause}
 use Rattle.plant_base.specs.State.{id_cmp}
-use Rattle.plant_worklists.proofs.Parting.{parted_before}
+use Rattle.plant_worklists.proofs.RowsOfLot.{parted_before}
 use Rattle.plant_worklists.proofs.runs.count_before.Goals as goal
 
 pub returns-clause-parted : goal.returns-clause-parted

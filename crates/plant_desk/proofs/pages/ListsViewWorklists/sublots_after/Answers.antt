@@ -1,14 +1,14 @@
 use Rattle.std.proofs.Common.{◌∙◌, map, refl, ap}
 use Rattle.plant_view.specs.Tables.{sublot_row}
 use Rattle.plant_worklists.specs.Pages.{page_of}
-use Rattle.plant_worklists.specs.Worklists.{is_above}
-use Rattle.plant_desk.proofs.Fronts.{front_of_mapped}
+use Rattle.plant_worklists.specs.Worklists.{is_after}
+use Rattle.plant_desk.proofs.PageIsPrefix.{prefix_of_mapped}
 use Rattle.plant_desk.proofs.pages.ListsViewWorklists.sublots_after.Goals as goal
 
 pub returns : goal.returns
 returns c =
     let lists = c.args.self.now.lists.now in
-    let above = c.args.above in
+    let cursor = c.args.cursor in
     record {
       always = tt;
       before = λ h. h;
@@ -18,5 +18,5 @@ returns c =
           let rows = rw moved at (c.in_ok-rows.ensures.stocks (rw moved (record { small = sound.small; covered = sound.covered }))) in
           let found = rw c.deref.ensures.value at c.in_ok-places.ensures in
           let places = c.as_slice.ensures.value ∙ found in
-          c.first_page.ensures ∙ ap page_of (rows ∙ ap (map (sublot_row lists.movements.items)) places) ∙ front_of_mapped (sublot_row lists.movements.items) (λ r. is_above above r.lot) (λ p. is_above above p.lot) (λ p. refl) lists.places.items;
+          c.first_page.ensures ∙ ap page_of (rows ∙ ap (map (sublot_row lists.movements.items)) places) ∙ prefix_of_mapped (sublot_row lists.movements.items) (λ r. is_after cursor r.lot) (λ p. is_after cursor p.lot) (λ p. refl) lists.places.items;
     }

@@ -1,11 +1,11 @@
 use Rattle.std.proofs.Common.{false, arith}
 use Rattle.sqlite.specs.Held.{state}
-use Rattle.table_forms.proofs.Ending.{IsStore}
-use Rattle.plant_desk_store.proofs.Asking.{read_stands}
+use Rattle.sql_tables.proofs.TransactionEnds.{IsStore}
+use Rattle.plant_desk_store.proofs.AskedDesk.{read_represents}
 use Rattle.plant_desk_store.proofs.stored.Desk.verify.Goals as goal
 
 pub returns-clause-verified : goal.returns-clause-verified
-returns-clause-verified g c live =
+returns-clause-verified g c is_live =
     let old = state g.S.Store c.args.self.now.connection in
     let end = c.verify_on.new.connection in
     let new = state g.S.Store end in
@@ -13,8 +13,8 @@ returns-clause-verified g c live =
     let store : IsStore new = record { settled = g.met.S.Store.settled end.store; stays = g.met.S.Store.stays end.store; something = g.met.S.Store.survives end.store } in
     record {
       honest = λ clean. omega (arith, did.reads.crash.clean, clean);
-      live = did.unshut;
+      is_live = did.unshut;
       tested = did.tested;
-      unbroken = λ clean s stood. (did.unbroken clean s stood.0, read_stands old new false s did.reads store clean stood);
+      unbroken = λ clean s represented. (did.unbroken clean s represented.0, read_represents old new false s did.reads store clean represented);
       crash = did.reads.crash;
     }

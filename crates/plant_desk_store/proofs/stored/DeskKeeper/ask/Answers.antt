@@ -1,7 +1,7 @@
 use Rattle.std.proofs.Common.{refl, arith}
 use Rattle.sqlite.specs.Held.{state}
-use Rattle.table_forms.proofs.Ending.{IsStore}
-use Rattle.plant_desk_store.proofs.Asking.{asked_stands, asked_beside}
+use Rattle.sql_tables.proofs.TransactionEnds.{IsStore}
+use Rattle.plant_desk_store.proofs.AskedDesk.{asked_stands, asked_foreign_tables}
 use Rattle.plant_desk_store.proofs.stored.DeskKeeper.ask.Goals as goal
 
 pub returns-clause-same : goal.returns-clause-same
@@ -13,12 +13,12 @@ returns-clause-same g c =
     record {
       honest = λ clean. omega (arith, reads.crash.clean, clean);
       schema = λ clean. refl;
-      beside = λ clean before stood. asked_beside before old (state g.S.Store end) c.args.self.now.is_shut reads laws clean stood;
+      foreign_tables = λ clean before represented. asked_foreign_tables before old (state g.S.Store end) c.args.self.now.is_shut reads laws clean represented;
     }
 
 pub returns-clause-asks : goal.returns-clause-asks
-returns-clause-asks g c clean live s stood =
+returns-clause-asks g c clean is_live s represented =
     let end = c.answer_on.new.connection in
     let did = c.answer_on.ensures in
     let laws : IsStore (state g.S.Store end) = record { settled = g.met.S.Store.settled end.store; stays = g.met.S.Store.stays end.store; something = g.met.S.Store.survives end.store } in
-    asked_stands (state g.S.Store c.args.self.now.connection) (state g.S.Store end) c.args.self.now.is_shut s c.args.question.now c.answer_on.result did laws clean stood
+    asked_stands (state g.S.Store c.args.self.now.connection) (state g.S.Store end) c.args.self.now.is_shut s c.args.question.now c.answer_on.result did laws clean represented

@@ -6,5 +6,5 @@ page_found-requires g c = ([], c.requires.0, c.requires.1)
 
 pub returns-clause-rows : goal.returns-clause-rows
 returns-clause-rows g c next text clean =
-    rw (c.word.ensures, c.text_above.ensures, c.small.ensures) at (c.page_found.ensures.rows [] next text
+    rw (c.word.ensures, c.text_after.ensures, c.small.ensures) at (c.page_found.ensures.rows [] next text
     (record { long = refl; known = rw (c.word.ensures, c.small.ensures) refl; up_to = rw c.small.ensures refl }) clean)

@@ -1,7 +1,7 @@
 use Rattle.std.proofs.Common.{ap, ◌∙◌}
 use Rattle.std.specs.Fmt.{styled_decimal}
 use Rattle.std.proofs.Output.{has_written_of_eq}
-use Rattle.plant_record.proofs.Places.{right_in_three}
+use Rattle.plant_record.proofs.PaddedNumbers.{right_in_three}
 use Rattle.plant_record.proofs.items.InThreeDisplay.fmt.Goals as goal
 
 pub returns-clause-writes : goal.returns-clause-writes

@@ -1,6 +1,6 @@
 use Rattle.std.proofs.Common.{◌∙◌, sym, arith}
 use Rattle.std.proofs.lemmas.Grind.{common_steps}
-use Rattle.plant_rules.proofs.RecallTables.{lift_tables}
+use Rattle.plant_rules.proofs.RecallRows.{lift_tables}
 use Rattle.plant_rules.proofs.commands.lift.decide_found.Goals as goal
 
 pub returns-clause-decides : goal.returns-clause-decides

@@ -2,8 +2,8 @@ use Rattle.std.proofs.Common.{◌≡◌, ◌∙◌, sym, ap, arith}
 use Rattle.std.specs.Prelude.{is_some, true}
 use Rattle.plant_rules.specs.Recalling.{may_open}
 use Rattle.std.proofs.lemmas.Grind.{common_steps}
-use Rattle.plant_rules.proofs.OneBatch.{one_recall}
-use Rattle.plant_rules.proofs.RecallTables.{recall_tables}
+use Rattle.plant_rules.proofs.MergeIsOfNoBatch.{one_recall}
+use Rattle.plant_rules.proofs.RecallRows.{recall_tables}
 use Rattle.plant_rules.proofs.commands.recall.decide_found.Goals as goal
 
 pub returns-clause-decides : goal.returns-clause-decides

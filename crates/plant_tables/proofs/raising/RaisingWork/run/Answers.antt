@@ -3,8 +3,8 @@ use Rattle.std.proofs.lemmas.Result.{on_ok_weaker}
 use Rattle.sqlite.specs.Held.{state}
 use Rattle.sqlite.specs.State.{HasCleanDisk}
 use Rattle.plant_base.specs.State.{newest_schema}
-use Rattle.plant_tables.proofs.DeskMoves.{all_of_newest}
-use Rattle.plant_tables.proofs.Raised.{raised}
+use Rattle.plant_tables.proofs.StatementsOnDesk.{all_of_newest}
+use Rattle.plant_tables.proofs.RaisedSchema.{raised}
 use Rattle.plant_tables.proofs.raising.RaisingWork.run.Goals as goal
 
 pub returns-clause-made : goal.returns-clause-made
@@ -20,10 +20,10 @@ returns-clause-made g c clean =
     let version = c.args.self.now.version in
     let next : c.in-Some.schema ≡ version + 1 = search rules in
     let founds = rw next at (c.in_ok-create_added.ensures.founded was) in
-    let leaves = rw next at (c.in_ok-create_added.ensures.spared was) in
+    let crash_states = rw next at (c.in_ok-create_added.ensures.no_crash_state_added was) in
     let indexes = rw next at (c.in_ok-index_added.ensures.indexed later) in
     let meta = rw next at (c.write_change.ensures.moved clean (version + 1) tt) in
-    raised version c.args.self.now.position c.args.self.now.added.now first founded indexed written last c.write_change.result founds leaves indexes (c.in_ok-write_changes.ensures.moved rows (version + 1)) meta
+    raised version c.args.self.now.position c.args.self.now.added.now first founded indexed written last c.write_change.result founds crash_states indexes (c.in_ok-write_changes.ensures.moved rows (version + 1)) meta
 
 pub returns-clause-inside : goal.returns-clause-inside
 returns-clause-inside g c clean live inside =

@@ -1,11 +1,11 @@
 use Rattle.std.proofs.Common.{◌≡◌, ◌<◌, false, IsTrue, length}
 use Rattle.sqlite.specs.State.{HasCleanDisk, IsUnchanged, Survives}
 use Rattle.sqlite.specs.Held.{state}
-use Rattle.table_reads.specs.Keys.{comes_before}
-use Rattle.table_reads.specs.Reading.{Lists}
-use Rattle.table_reads.specs.Rises.{Rises}
-use Rattle.plant_tables.specs.DeskForms.{forms_of}
-use Rattle.plant_tables_read.proofs.Fronts.{Front}
+use Rattle.sql_queries.specs.Keys.{comes_before}
+use Rattle.sql_queries.specs.Reading.{Lists}
+use Rattle.sql_queries.specs.Rises.{Rises}
+use Rattle.plant_tables.specs.DeskTableDefs.{table_defs_of}
+use Rattle.plant_tables_read.proofs.FirstTablesRead.{Front}
 use Rattle.plant_tables_read.proofs.loaded.Loaded.read_all.Given as goal
 
 -- the first tables were read, and the connection is as it was
@@ -14,7 +14,7 @@ invariant-loop-reading g l =
     let old = state g.S.Store l.fn.conn in
     let now = state g.S.Store l.conn in
     (length l.tables.items ≡ l.reading-index)
-    × Front (λ form rows. Rises (comes_before form) rows) (forms_of l.fn.schema) l.reading-index l.tables.items
+    × Front (λ table_def rows. Rises (comes_before table_def) rows) (table_defs_of l.fn.schema) l.reading-index l.tables.items
     × ((old.in_transaction ≡ false) → now.in_transaction ≡ false)
     × Survives old now (λ _. ⊥)
-    × (HasCleanDisk now → Front (Lists old.now) (forms_of l.fn.schema) l.reading-index l.tables.items × (IsTrue now.is_open → IsUnchanged old now) × (0 < l.reading-index → IsTrue now.is_open))
+    × (HasCleanDisk now → Front (Lists old.now) (table_defs_of l.fn.schema) l.reading-index l.tables.items × (IsTrue now.is_open → IsUnchanged old now) × (0 < l.reading-index → IsTrue now.is_open))

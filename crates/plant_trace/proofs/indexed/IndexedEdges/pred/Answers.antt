@@ -2,7 +2,7 @@ use Rattle.std.proofs.Common.{refl, Vec, Global}
 use Rattle.std.proofs.lemmas.Result.{IfOk-weaker}
 use Rattle.plant_trace.specs.declared.direction.Direction.TheVariants.{Back}
 use Rattle.plant_trace.specs.declared.node.Node.{Node}
-use Rattle.plant_trace.proofs.Indexing.{listed_next}
+use Rattle.plant_trace.proofs.IndexOfPairs.{listed_next}
 use Rattle.plant_trace.proofs.indexed.IndexedEdges.pred.Goals as goal
 
 pub returns : goal.returns

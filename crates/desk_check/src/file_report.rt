@@ -1,0 +1,210 @@
+//! What an opened store holds of a desk.
+ghost use Rattle.std.specs.Prelude.{◌≡◌, IfOk, IfSome};
+ghost use Rattle.sqlite.specs.Held.{state};
+ghost use Rattle.sqlite.specs.State.{HasCleanDisk, Survives};
+ghost use Rattle.sql_tables.specs.AtRest.{Keeps};
+ghost use Rattle.plant_check.specs.Damaged.{IsDamaged};
+ghost use Rattle.desk_check.specs.FileReports.{IsHeldBy, IsHeldIn, IsReadAs, IsReadAt, IsFileReportOf, IsReportOf};
+ghost use Rattle.desk_check.specs.FileReports.{ReportsDesk, first_reported, summary_of};
+
+use crate::barred::{DeskIndex, barred_index};
+use plant_base::{Meta, NEWEST_SCHEMA};
+use plant_check_rows::{Findings, test_loaded};
+use plant_tables_read::{FoundTables, Loaded, found, only_meta};
+use sql_tables::Fault;
+use sqlite::{Alter, Connection};
+use std::alloc::{AllocError, Global};
+
+/// What a store holds of a desk's tables.
+#[derive(Drop)]
+pub(crate) enum Held {
+    /// None of them; and the first index that can't be made with them, where there is one.
+    Nothing(Option<DeskIndex>),
+    /// Those of this schema, which is above the newest.
+    Newer(u64),
+    /// Some, but table meta tells no schema, or not all of that stand as they are declared, or one of a later schema stands.
+    Lacking,
+    /// Those of a schema, with all their rows; and the first index that can't be made as they are raised, where there is one.
+    Tables(Loaded, Option<DeskIndex>),
+}
+
+/// Where a desk stands, and how much it holds.
+#[derive(Clone, Copy, Debug, PartialEq, Eq)]
+pub(crate) struct DeskSummary {
+    /// The schema of its tables, how many commands were accepted, and the moment of the last.
+    pub(crate) schema: u64,
+    pub(crate) seq: u64,
+    pub(crate) at: u64,
+    pub(crate) orders: usize,
+    pub(crate) batches: usize,
+    pub(crate) lots: usize,
+    pub(crate) movements: usize,
+}
+
+/// What is told of a store.
+#[derive(Drop)]
+pub(crate) enum FileReport {
+    /// It holds no desk; and this index of one can't be made, where there is such.
+    Nothing(Option<DeskIndex>),
+    /// It holds one in tables of this schema, which is above the newest.
+    Newer(u64),
+    /// It holds some of a desk's tables: not all are there that its schema asks for, or they don't stand as they are declared.
+    Lacking,
+    /// It holds a desk, which breaks these rules; and this index can't be made as it is raised, where there is such.
+    Desk {
+        summary: DeskSummary,
+        barred: Option<DeskIndex>,
+        findings: Findings,
+    },
+}
+
+/// What a store holds of a desk's tables. Store where the store fails, Memory where there is none. Nothing is changed.
+fn held_in<S: Alter>(alloc: Global, connection: &mut Connection<S>) -> Result<Held, Fault>
+    ensures held { HasCleanDisk (state S.Store connection.new)
+        → IfOk result (IsHeldIn (state S.Store connection.old).now) }
+    ensures kept { HasCleanDisk (state S.Store connection.new)
+        → Keeps (state S.Store connection.old) (state S.Store connection.new) }
+    ensures crash { Survives (state S.Store connection.old) (state S.Store connection.new) (λ _. ⊥) }
+{
+    match found(alloc, connection) {
+        Ok(tables) => held_by(alloc, connection, tables),
+        Err(fault) => Err(fault),
+    }
+}
+
+/// What a store holds in which these tables were found. Store where the store fails, Memory where there is none. Nothing is
+/// changed.
+fn held_by<S: Alter>(
+    alloc: Global,
+    connection: &mut Connection<S>,
+    tables: FoundTables,
+) -> Result<Held, Fault>
+    ensures held { HasCleanDisk (state S.Store connection.new)
+        → IfOk result (IsHeldBy (state S.Store connection.old).now tables) }
+    ensures kept { HasCleanDisk (state S.Store connection.new)
+        → Keeps (state S.Store connection.old) (state S.Store connection.new) }
+    ensures crash { Survives (state S.Store connection.old) (state S.Store connection.new) (λ _. ⊥) }
+{
+    match tables {
+        FoundTables::Nothing => Ok(Held::Nothing(barred_index(connection.schema(), 0))),
+        FoundTables::NoMeta => Ok(Held::Lacking),
+        FoundTables::Version(version) => read_version(alloc, connection, version),
+    }
+}
+
+/// What a store holds whose table meta tells this version. Store where the version is below 0, and where the store fails;
+/// Memory where there is none. Nothing is changed.
+fn read_version<S: Alter>(
+    alloc: Global,
+    connection: &mut Connection<S>,
+    version: i64,
+) -> Result<Held, Fault>
+    ensures held { HasCleanDisk (state S.Store connection.new)
+        → IfOk result (IsReadAs (state S.Store connection.old).now version) }
+    ensures kept { HasCleanDisk (state S.Store connection.new)
+        → Keeps (state S.Store connection.old) (state S.Store connection.new) }
+    ensures crash { Survives (state S.Store connection.old) (state S.Store connection.new) (λ _. ⊥) }
+{
+    match u64::try_from(version) {
+        Ok(schema) => read_schema(alloc, connection, schema),
+        Err(_) => Err(Fault::Store),
+    }
+}
+
+/// What a store holds whose table meta tells this schema. Store where the store fails, Memory where there is none. Nothing is
+/// changed.
+fn read_schema<S: Alter>(
+    alloc: Global,
+    connection: &mut Connection<S>,
+    schema: u64,
+) -> Result<Held, Fault>
+    ensures held { HasCleanDisk (state S.Store connection.new)
+        → IfOk result (IsReadAt (state S.Store connection.old).now schema) }
+    ensures kept { HasCleanDisk (state S.Store connection.new)
+        → Keeps (state S.Store connection.old) (state S.Store connection.new) }
+    ensures crash { Survives (state S.Store connection.old) (state S.Store connection.new) (λ _. ⊥) }
+{
+    if schema > NEWEST_SCHEMA {
+        return Ok(Held::Newer(schema));
+    }
+    let barred = barred_index(connection.schema(), schema);
+    match Loaded::read(alloc, connection, schema) {
+        Ok(None) => Ok(Held::Lacking),
+        Ok(Some(loaded)) => Ok(Held::Tables(loaded, barred)),
+        Err(fault) => Err(fault),
+    }
+}
+
+/// Where the desk of these rows stands, by table meta, and how many rows it has of some tables.
+fn summary_by(meta: &Option<Meta>, loaded: &Loaded) -> DeskSummary
+    ensures { result ≡ summary_of meta.now loaded.now }
+{
+    let orders = loaded.rows(5).len();
+    let batches = loaded.rows(6).len();
+    let lots = loaded.rows(9).len();
+    let movements = loaded.rows(11).len();
+    DeskSummary {
+        schema: meta.map_or(0, |meta| meta.schema),
+        seq: meta.map_or(0, |meta| meta.position.seq),
+        at: meta.map_or(0, |meta| meta.position.at.get()),
+        orders,
+        batches,
+        lots,
+        movements,
+    }
+}
+
+/// What is told of rows that were loaded. The only error is that memory was refused.
+fn report_on_rows(
+    alloc: Global,
+    loaded: &Loaded,
+    barred: Option<DeskIndex>,
+) -> Result<FileReport, AllocError>
+    ensures { IfOk result (λ file_report. ReportsDesk loaded.now barred file_report) }
+{
+    let meta = only_meta(loaded.rows(0));
+    let summary = summary_by(&meta, loaded);
+    let findings = test_loaded(alloc, loaded)?;
+    Ok(FileReport::Desk {
+        summary,
+        barred,
+        findings,
+    })
+}
+
+/// What is told of a store that holds this. The only fault is that memory was refused.
+fn file_report_of(alloc: Global, held: &Held) -> Result<FileReport, Fault>
+    ensures { IfOk result (IsReportOf held.now) }
+{
+    match held {
+        Held::Nothing(barred) => Ok(FileReport::Nothing(*barred)),
+        Held::Newer(schema) => Ok(FileReport::Newer(*schema)),
+        Held::Lacking => Ok(FileReport::Lacking),
+        Held::Tables(loaded, barred) => match report_on_rows(alloc, loaded, *barred) {
+            Ok(file_report) => Ok(file_report),
+            Err(_) => Err(Fault::Memory),
+        },
+    }
+}
+
+/// What is told of an opened store: what its tables are, where the desk stands, and which rules it breaks. Store where the store
+/// fails, Memory where there is none. Nothing is changed.
+///
+/// The first rule that is told is the one that the word `verify` names (`refused` of `Desk::adopt`).
+pub(crate) fn report_on_store<S: Alter>(
+    alloc: Global,
+    connection: &mut Connection<S>,
+) -> Result<FileReport, Fault>
+    ensures reported { HasCleanDisk (state S.Store connection.new)
+        → IfOk result (IsFileReportOf (state S.Store connection.old).now) }
+    ensures first { HasCleanDisk (state S.Store connection.new)
+        → IfOk result (λ file_report. IfSome (first_reported file_report) (IsDamaged (state S.Store connection.old).now)) }
+    ensures kept { HasCleanDisk (state S.Store connection.new)
+        → Keeps (state S.Store connection.old) (state S.Store connection.new) }
+    ensures crash { Survives (state S.Store connection.old) (state S.Store connection.new) (λ _. ⊥) }
+{
+    match held_in(alloc, connection) {
+        Ok(held) => file_report_of(alloc, &held),
+        Err(fault) => Err(fault),
+    }
+}

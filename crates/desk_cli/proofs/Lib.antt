@@ -1,0 +1,4 @@
+mod NumeralsAreRead
+mod RefusalKinds
+mod PlainWordsMean
+mod UncheckedRefusals

@@ -1,0 +1,33 @@
+-- The arguments of the words, and what is told of one whose value breaks its rule.
+use Rattle.std.specs.Prelude.{ℕ, List, ◌++◌, codes}
+use Rattle.desk_cli.specs.declared.argument.Argument.{Argument}
+use Rattle.desk_cli.specs.declared.argument.Argument.TheVariants as argument
+
+-- the name under which clap has it
+abbrev pub name_of : Argument → List ℕ
+name_of argument.Word = codes "word"
+name_of argument.File = codes "file"
+name_of argument.At = codes "at"
+name_of argument.By = codes "by"
+name_of argument.Reference = codes "ref"
+name_of argument.Direction = codes "direction"
+name_of argument.Lot = codes "lot"
+name_of argument.Batch = codes "batch"
+name_of argument.Port = codes "port"
+name_of argument.Count = codes "count"
+
+abbrev pub rule_text : Argument → List ℕ
+rule_text argument.Word = codes "the word is one of init, run, import, trace, record, verify and serve"
+rule_text argument.File = codes "FILE is the name of a file"
+rule_text argument.At = codes "N of --at is a whole number from 0 to 253402300799"
+rule_text argument.By = codes "TEXT of --by is at most 60 characters from the space to ~"
+rule_text argument.Reference = codes "ID of --ref is 1 to 24 of A to Z, 0 to 9 and -, the first a letter"
+rule_text argument.Direction = codes "DIRECTION is back or forward"
+rule_text argument.Lot = codes "LOT is 1 to 24 of A to Z, 0 to 9 and -, the first a letter"
+rule_text argument.Batch = codes "BATCH is 1 to 24 of A to Z, 0 to 9 and -, the first a letter"
+rule_text argument.Port = codes "PORT is a whole number from 1 to 65535"
+rule_text argument.Count = codes "COUNT is a whole number from 1 to 1000000"
+
+-- the lines that refuse words with such a value
+abbrev pub refusal_text : Argument → List ℕ
+refusal_text a = codes "error: " ++ rule_text a ++ codes "\n\nFor more information, try '--help'.\n"

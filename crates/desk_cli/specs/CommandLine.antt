@@ -1,0 +1,107 @@
+-- The command line of the program, as a value.
+use Rattle.std.specs.Prelude.{◌≡◌, ℕ, true, false, [], ◌∷◌, Some, codes, pos}
+use Rattle.clap.specs.declared.builder.command.Command.{Command}
+use Rattle.clap.specs.declared.builder.command.Command.TheViews.{out-Command}
+use Rattle.clap.specs.declared.builder.action.ArgAction.TheVariants.{SetTrue}
+use Rattle.clap.specs.declared.builder.value_parser.ValueParser.{ValueParser}
+use Rattle.clap.specs.declared.builder.value_parser.ValueParser.TheVariants as parser
+use Rattle.clap.specs.Words.{App, Rule, Text, new_app, new_rule, with_rule, with_subcommand}
+use Rattle.plant_base.specs.Values.{greatest_moment}
+
+abbrev pub greatest_port : ℕ
+greatest_port = 65535
+
+-- the most connections that are served
+abbrev pub most_connections : ℕ
+most_connections = 1000000
+
+-- ---- arguments
+
+-- an argument that has to be there
+abbrev pub required_rule : Text → Rule
+required_rule id = record (new_rule id) { required = true; value_names = 1 }
+
+-- a number that has to be there
+abbrev pub number_rule : Text → ValueParser → Rule
+number_rule id p = record (required_rule id) { parser = Some p }
+
+-- the name of a file
+abbrev pub file_rule : Rule
+file_rule = required_rule (codes "file")
+
+-- when the orders came
+abbrev pub at_rule : Rule
+at_rule = record (number_rule (codes "at") (parser.Unsigned 0 greatest_moment)) { long = Some (codes "at") }
+
+-- who brought them: the desk, where nobody is named
+abbrev pub by_rule : Rule
+by_rule = record (new_rule (codes "by")) {
+  long = Some (codes "by");
+  value_names = 1;
+  defaults = codes "desk" ∷ [];
+}
+
+-- the reference of an import, which may be left out
+abbrev pub reference_rule : Rule
+reference_rule = record (new_rule (codes "ref")) {
+  long = Some (codes "ref");
+  value_names = 1;
+}
+
+abbrev pub port_rule : Rule
+port_rule = number_rule (codes "port") (parser.Signed (pos 1) (pos greatest_port))
+
+abbrev pub count_rule : Rule
+count_rule = number_rule (codes "count") (parser.Signed (pos 1) (pos most_connections))
+
+-- whether requests are noted
+abbrev pub log_rule : Rule
+log_rule = record (new_rule (codes "log")) {
+  long = Some (codes "log");
+  action = Some SetTrue;
+}
+
+-- ---- words
+
+-- a word that takes a file
+abbrev pub word_app : Text → App
+word_app name = with_rule (new_app name) file_rule
+
+abbrev pub import_app : App
+import_app = with_rule (with_rule (with_rule (word_app (codes "import")) at_rule) by_rule) reference_rule
+
+abbrev pub trace_app : App
+trace_app = with_rule (with_rule (word_app (codes "trace")) (required_rule (codes "direction"))) (required_rule (codes "lot"))
+
+abbrev pub record_app : App
+record_app = with_rule (word_app (codes "record")) (required_rule (codes "batch"))
+
+abbrev pub serve_app : App
+serve_app = with_rule (with_rule (with_rule (word_app (codes "serve")) port_rule) count_rule) log_rule
+
+-- the program's name alone: the word `help` has no meaning of its own
+abbrev pub bare_program : App
+bare_program =
+    let plain = new_app (codes "desk") in
+    record plain { top = record plain.top { disable_help_subcommand = true; has_version = true } }
+
+-- the words that take commands in
+abbrev pub with_taking : App → App
+with_taking program = with_subcommand (with_subcommand (with_subcommand program
+    (word_app (codes "init")).top)
+    (word_app (codes "run")).top)
+    import_app.top
+
+-- the words that tell of a desk
+abbrev pub with_report_words : App → App
+with_report_words program = with_subcommand (with_subcommand (with_subcommand program
+    trace_app.top)
+    record_app.top)
+    (word_app (codes "verify")).top
+
+abbrev pub the_program : App
+the_program = with_subcommand (with_report_words (with_taking bare_program)) serve_app.top
+
+-- no argument of the command is global
+abbrev pub IsLocal : Command → Type 0
+IsLocal c = (out-Command c).has_globals ≡ false

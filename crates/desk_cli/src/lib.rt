@@ -1,0 +1,23 @@
+//! The words of the command line: what the desk's program is told to do.
+#![tactic(auto)]
+
+mod argument;
+mod check_fault;
+mod checking;
+mod command_line;
+mod desk_checking;
+mod laws;
+mod matched;
+mod meaning;
+mod read;
+mod taken;
+mod values;
+
+pub use argument::Argument;
+pub use check_fault::CheckFault;
+pub use checking::{CheckProgram, read_checked_file};
+pub use desk_checking::{DeskCheck, read_desk_check};
+pub use laws::plain_words_law;
+pub use meaning::{Serving, Task, Words, WordsFault, Work};
+pub use read::{read_words, refusal_of};
+pub use taken::{print_refused, read_arguments, texts_of};

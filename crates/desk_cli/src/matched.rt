@@ -1,0 +1,137 @@
+//! What the words of the command line mean, as clap matched them.
+ghost use Rattle.std.specs.Prelude.{◌≡◌};
+ghost use Rattle.clap.specs.Words.{first_of, found_of, rows_of, subcommand_rows_of};
+ghost use Rattle.desk_cli.specs.Meaning.{all_meant, import_in, is_set, meant_by, meant_in, record_in, serving_in};
+ghost use Rattle.desk_cli.specs.Meaning.{task_work, trace_in, work_in};
+
+use crate::argument::Argument;
+use crate::meaning::{Serving, Task, Words, Work};
+use crate::values::{direction_at, id_at, moment_at, number_at, optional_id_at, text_at, value_of};
+use clap::ArgMatches;
+
+/// The name of the file that stands for memory.
+const IN_MEMORY: &str = ":memory:";
+
+/// The greatest port.
+pub(crate) const GREATEST_PORT: u16 = u16::MAX;
+
+/// The most connections that are served.
+pub(crate) const MOST_CONNECTIONS: u32 = 1_000_000;
+
+/// The import that the arguments tell.
+fn import_in(matches: &ArgMatches<'_>) -> Result<Task, Argument>
+    ensures { result ≡ import_in (rows_of (found_of matches.now)) }
+{
+    let at = moment_at(matches, Argument::At)?;
+    let by = text_at(matches, Argument::By)?;
+    let reference = optional_id_at(matches, Argument::Reference)?;
+    Ok(Task::Import { at, by, reference })
+}
+
+/// The trace that the arguments tell.
+fn trace_in(matches: &ArgMatches<'_>) -> Result<Task, Argument>
+    ensures { result ≡ trace_in (rows_of (found_of matches.now)) }
+{
+    let direction = direction_at(matches, Argument::Direction)?;
+    let lot = id_at(matches, Argument::Lot)?;
+    Ok(Task::Trace { direction, lot })
+}
+
+/// The record that the arguments tell.
+fn record_in(matches: &ArgMatches<'_>) -> Result<Task, Argument>
+    ensures { result ≡ record_in (rows_of (found_of matches.now)) }
+{
+    let batch = id_at(matches, Argument::Batch)?;
+    Ok(Task::Record { batch })
+}
+
+/// Whether the flag of this name is given.
+pub(crate) fn is_set(matches: &ArgMatches<'_>, name: &str) -> bool
+    ensures { result ≡ is_set (first_of name.now (rows_of (found_of matches.now))) }
+{
+    match value_of(matches, name) {
+        Some(text) => text == "true",
+        None => false,
+    }
+}
+
+/// The serving that the arguments tell.
+fn serving_in(matches: &ArgMatches<'_>) -> Result<Serving, Argument>
+    ensures { result ≡ serving_in (rows_of (found_of matches.now)) }
+{
+    let port = number_at(matches, Argument::Port, 1, u64::from(GREATEST_PORT))?;
+    let count = number_at(matches, Argument::Count, 1, u64::from(MOST_CONNECTIONS))?;
+    Ok(Serving {
+        port: port as u16,
+        count: count as u32,
+        is_logged: is_set(matches, "log"),
+    })
+}
+
+/// The work of a task.
+fn task_work(task: Result<Task, Argument>) -> Result<Work, Argument>
+    ensures { result ≡ task_work task }
+{
+    match task {
+        Ok(task) => Ok(Work::Task(task)),
+        Err(argument) => Err(argument),
+    }
+}
+
+/// What the word `name` and its arguments tell to do over the file.
+#[tactic(auto, unfolding(crate::specs::Meaning::work_in))]
+fn work_in(name: &str, matches: &ArgMatches<'_>) -> Result<Work, Argument>
+    ensures { result ≡ work_in name.now (rows_of (found_of matches.now)) }
+{
+    if name == "init" {
+        return Ok(Work::Task(Task::Init));
+    }
+    if name == "run" {
+        return Ok(Work::Task(Task::Run));
+    }
+    if name == "import" {
+        return task_work(import_in(matches));
+    }
+    if name == "trace" {
+        return task_work(trace_in(matches));
+    }
+    if name == "record" {
+        return task_work(record_in(matches));
+    }
+    if name == "verify" {
+        return Ok(Work::Task(Task::Verify));
+    }
+    if name == "serve" {
+        return match serving_in(matches) {
+            Ok(serving) => Ok(Work::Serve(serving)),
+            Err(argument) => Err(argument),
+        };
+    }
+    Err(Argument::Word)
+}
+
+/// What the word `name` and its arguments mean.
+fn words_at<'a>(name: &str, matches: &ArgMatches<'a>) -> Result<Words<'a>, Argument>
+    ensures { all_meant result ≡ meant_by name.now (rows_of (found_of matches.now)) }
+{
+    match value_of(matches, "file") {
+        Some(file) => match work_in(name, matches) {
+            Ok(work) => Ok(Words { file, work }),
+            Err(argument) => Err(argument),
+        },
+        None => Err(Argument::File),
+    }
+}
+
+/// What the words mean, as clap matched them, or the first argument whose value breaks its rule: no word is `run :memory:`.
+pub(crate) fn words_in<'a>(matches: &ArgMatches<'a>) -> Result<Words<'a>, Argument>
+    ensures { all_meant result ≡ meant_in (subcommand_rows_of matches.now) }
+{
+    match matches.subcommand() {
+        None => Ok(Words {
+            file: IN_MEMORY,
+            work: Work::Task(Task::Run),
+        }),
+        Some((name, inner)) => words_at(name, inner),
+    }
+}

@@ -1,0 +1,7 @@
+//! The file of a desk: opened by its name, worked over, and closed.
+#![tactic(auto)]
+
+mod timing;
+mod working;
+
+pub use working::{Ended, StoreWork, Worked, work_over};

@@ -1,7 +1,0 @@
-//! The file of a desk: opened by its name, worked over, and closed.
-#![tactic(auto)]
-
-mod telling;
-mod working;
-
-pub use working::{Ended, StoreWork, Worked, work_over};

@@ -1,0 +1,22 @@
+-- What is known of the state at which a store was adopted.
+use Rattle.std.proofs.Common.{◌≡◌, inl, inr, false, Bool}
+use Rattle.sqlite.specs.State as store
+use Rattle.plant_base.specs.State.{State, opening}
+use Rattle.plant_desk.specs.Keepers.{States}
+use Rattle.plant_desk_store.specs.Adopting.{IsNewlyOpened, AdoptedFrom}
+use Rattle.plant_desk_store.specs.DeskStates.{IsDurablyAt, Represents}
+
+pub adopted_so : (c : store.State) → IsNewlyOpened c → (before after : States) → ((s : State) → before s → after s) → AdoptedFrom c before → AdoptedFrom c after
+adopted_so c opened before after step (inl h) = inl (h.0, step opening h.1)
+adopted_so c opened before after step (inr h) = inr (h.0, (h.1.0, h.1.1, step h.1.0 h.1.2))
+
+-- an open desk at a state
+pub as_represented : (c : store.State) (shut : Bool) (s : State) → IsDurablyAt c s → Represents c shut s
+as_represented c shut s h = (h.represents, λ _. h.crash_states)
+
+pub as_open : (c : store.State) (shut : Bool) (s : State) → shut ≡ false → Represents c shut s → IsDurablyAt c s
+as_open c shut s is_open h = record { represents = h.0; crash_states = h.1 is_open }
+
+pub adopted_at : (c : store.State) → IsNewlyOpened c → (represents : States) → AdoptedFrom c represents → (s : State) × represents s
+adopted_at c opened represents (inl h) = (opening, h.1)
+adopted_at c opened represents (inr h) = (h.1.0, h.1.2)

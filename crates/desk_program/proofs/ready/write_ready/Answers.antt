@@ -1,0 +1,14 @@
+use Rattle.std.proofs.Common.{◌∙◌, ap}
+use Rattle.desk_program.proofs.OneLinePrinted.{line_is, one_printed}
+use Rattle.desk_program.specs.Texts.{ready_text}
+use Rattle.desk_program.specs.Performs.{IsReady}
+use Rattle.desk_program.proofs.ready.write_ready.Goals as goal
+
+pub returns-clause-reported : goal.returns-clause-reported
+returns-clause-reported g c = λ h s represents.
+    let e = (c.in_ok-at.ensures.asked h s represents).0 in
+    line_is _ _ _ _ _ (c.ready_line.ensures ∙ ap ready_text e) c.print_line.ensures.ok
+
+pub returns-clause-printed : goal.returns-clause-printed
+returns-clause-printed g c = one_printed _ IsReady c.ready_line.result.bytes _ _ (c.in_ok-at.at.schema, c.ready_line.ensures)
+    c.print_line.ensures.ok c.print_line.ensures.fault c.print_line.ensures.prefix

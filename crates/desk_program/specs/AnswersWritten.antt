@@ -1,0 +1,56 @@
+-- What the words `trace` and `record` print of an answer.
+use Rattle.std.specs.Prelude.{◌≡◌, ◌⊎◌, ℕ, List, ◌++◌, Bool, Option, Result, Ok, Err, IfOk, flat_map}
+use Rattle.std.specs.Io.KnownBytes.{Appends}
+use Rattle.sqlite.specs.Held.{Held, state}
+use Rattle.sqlite_trees.specs.declared.store.Store.{Ghosts}
+use Rattle.plant_base.specs.State.{newest_schema}
+use Rattle.plant_trace.specs.Nodes.{node_text}
+use Rattle.plant_trace.specs.declared.node.Node.{Node}
+use Rattle.plant_record.specs.Record.{record_text}
+use Rattle.plant_answers.specs.Answers.{answer}
+use Rattle.plant_messages.specs.declared.question.Question.{Question}
+use Rattle.plant_messages.specs.declared.question.Answer.{Answer}
+use Rattle.plant_messages.specs.declared.question.Answer.TheVariants as A
+use Rattle.plant_messages.specs.declared.reply.DeskFault.{DeskFault}
+use Rattle.plant_desk_store.specs.Adopting.{AdoptedFrom}
+use Rattle.plant_desk_store.specs.DeskStates.{IsDurablyAt}
+use Rattle.plant_text_answers.specs.Answers.{text_of_answer}
+use Rattle.plant_text.specs.Session.{is_unknown}
+use Rattle.plant_text.specs.Writes.{with_lf, AppendsPrefix}
+use Rattle.desk_program.specs.Faults.{desk_fault}
+use Rattle.desk_program.specs.Runs.{WasRefused}
+use Rattle.desk_program.specs.declared.fault.Fault.{Fault}
+use Rattle.desk_program.specs.declared.fault.Fault.TheVariants as fault
+
+-- a line for each node
+abbrev pub trace_text : List Node → List ℕ
+trace_text nodes = flat_map (λ n. with_lf (node_text n)) nodes
+
+-- the nodes of a trace, the record of a batch, else the answer's line: a refusal where the id isn't known
+abbrev pub answer_lines : Answer → List ℕ
+answer_lines (A.Batch view) = record_text view
+answer_lines (A.Trace nodes) = trace_text nodes
+answer_lines a = with_lf (text_of_answer a)
+
+-- how the printing of an answer ended: its text was written, or a front of it where the writer failed; or memory was
+-- refused for it, and nothing was written
+abbrev pub AnswerPrinted : Answer → Option (List ℕ) → Option (List ℕ) → Result Bool Fault → Type 0
+AnswerPrinted a old new (Ok refused) = Appends old new (answer_lines a) × (refused ≡ is_unknown a)
+AnswerPrinted a old new (Err f) = ((f ≡ fault.Write) × AppendsPrefix old new (answer_lines a))
+    ⊎ ((f ≡ fault.Memory) × (new ≡ old))
+
+-- how it was told what a keeper answered: the answer was printed; or the keeper's fault is told, and nothing was written
+abbrev pub AskedWritten : Result Answer DeskFault → Option (List ℕ) → Option (List ℕ) → Result Bool Fault → Type 0
+AskedWritten (Ok a) old new done = AnswerPrinted a old new done
+AskedWritten (Err f) old new done = (done ≡ Err (desk_fault f)) × (new ≡ old)
+
+-- how it was told what a keeper answered, which was this answer or a fault
+abbrev pub AnswerWritten : Answer → Option (List ℕ) → Option (List ℕ) → Result Bool Fault → Type 0
+AnswerWritten a old new done = (asked : Result Answer DeskFault) × IfOk asked (λ answered. answered ≡ a) × AskedWritten asked old new done
+
+-- what came of a question to the desk of a store that was just opened: the store was adopted, the answer of its state
+-- printed, and it stands there still; or it wasn't adopted, and nothing was printed
+abbrev pub AskGives : {S : Type 0} → Ghosts S → Held S → Held S → Question → Option (List ℕ) → Option (List ℕ) → Result Bool Fault → Type 0
+AskGives g c after q old new done =
+    AdoptedFrom (state g c) (λ s. IsDurablyAt (state g after) s × AnswerWritten (answer newest_schema s q) old new done)
+    ⊎ (WasRefused g c done × (new ≡ old))

@@ -1,0 +1,72 @@
+-- What comes of the word `import`.
+use Rattle.std.specs.Prelude.{◌≡◌, ◌⊎◌, ℕ, List, Bool, true, false, Option, Result, Ok, Err, IfSome}
+use Rattle.std.specs.Io.KnownBytes.{Appends}
+use Rattle.sqlite.specs.Held.{Held, state}
+use Rattle.sqlite_trees.specs.declared.store.Store.{Ghosts}
+use Rattle.plant_base.specs.State.{State, newest_schema}
+use Rattle.plant_base.specs.declared.rows.OrderRow.{OrderRow}
+use Rattle.plant_desk.specs.Keepers.{States}
+use Rattle.plant_messages.specs.declared.reply.DeskFault.TheVariants as desk
+use Rattle.plant_desk_store.specs.Adopting.{AdoptedFrom, IsNewlyOpened}
+use Rattle.plant_desk_store.specs.DeskStates.{Represents, HasCrashStates}
+use Rattle.plant_orders.specs.Importing.{import}
+use Rattle.plant_orders.specs.Orders.{orders_of}
+use Rattle.plant_orders.specs.FaultsOfFiles.{csv_text, FaultOfFile}
+use Rattle.plant_orders.specs.declared.fault.CsvFault.{CsvFault}
+use Rattle.plant_orders.specs.declared.importing.ImportMetadata.{ImportMetadata}
+use Rattle.plant_orders.specs.declared.source.OrdersFault.{OrdersFault}
+use Rattle.plant_orders.specs.declared.source.OrdersFault.TheVariants as none
+use Rattle.plant_text.specs.Session.{command}
+use Rattle.plant_text.specs.Turns.{TurnEnds, FaultWritten}
+use Rattle.plant_text.specs.Writes.{with_lf, AppendsPrefix}
+use Rattle.plant_text.specs.declared.turns.TurnError.{TurnError}
+use Rattle.desk_program.specs.Faults.{outcome_of_turn}
+use Rattle.desk_program.specs.Runs.{AllClean, WasRefused}
+use Rattle.desk_program.specs.declared.fault.Fault.{Fault}
+use Rattle.desk_program.specs.declared.fault.Fault.TheVariants as fault
+
+-- the first fault of a file was told, wholly or, where the writer failed, by a front
+abbrev pub CsvFaultWritten : CsvFault → Option (List ℕ) → Option (List ℕ) → Result Bool Fault → Type 0
+CsvFaultWritten csv old new done = ((done ≡ Ok true) × Appends old new (with_lf (csv_text csv)))
+    ⊎ ((done ≡ Err fault.Write) × AppendsPrefix old new (with_lf (csv_text csv)))
+
+-- the line of want of memory was written, or a front of it where the writer failed
+abbrev pub MemoryFaultWritten : Option (List ℕ) → Option (List ℕ) → Result Bool Fault → Type 0
+MemoryFaultWritten old new done = (stop : TurnError) × FaultWritten desk.Memory old new stop × (done ≡ outcome_of_turn (Err stop))
+
+-- what was told where a reader gave no orders: the first fault of its file, or want of memory; of a failed read nothing is
+-- written
+abbrev pub NoOrdersWritten : OrdersFault → Option (List ℕ) → Option (List ℕ) → Result Bool Fault → Type 0
+NoOrdersWritten (none.Csv csv) old new done = CsvFaultWritten csv old new done
+NoOrdersWritten none.Read old new done = (done ≡ Err fault.Read) × (new ≡ old)
+NoOrdersWritten none.Memory old new done = MemoryFaultWritten old new done
+
+-- The keeper stood at s. What came of what a reader gave: its orders were executed as one command and the reply was
+-- written, as in a run; or why it gave none was told, and nothing executed.
+abbrev pub OrdersTaken : ℕ → State → ImportMetadata → Result (List OrderRow) OrdersFault → Option (List ℕ) → Option (List ℕ) → States → Bool → (States → Type 0) → Result Bool Fault → Type 0
+OrdersTaken k s import_metadata (Ok orders) old new represents shut crash_states done =
+    (turn : Result Bool TurnError) × TurnEnds k s (command (import import_metadata orders)) old new represents shut crash_states turn × (done ≡ outcome_of_turn turn)
+OrdersTaken k s import_metadata (Err f) old new represents shut crash_states done = NoOrdersWritten f old new done × represents s × (shut ≡ false)
+
+-- what a reader may give of a file that says this: its orders, or a fault that tells of it
+abbrev pub IsGivenOf : Result (List OrderRow) CsvFault → Result (List OrderRow) OrdersFault → Type 0
+IsGivenOf says (Ok orders) = says ≡ Ok orders
+IsGivenOf says (Err f) = FaultOfFile f says
+
+-- what came of a file that says this at a keeper that stood at s
+abbrev pub ImportEnds : ℕ → State → ImportMetadata → Result (List OrderRow) CsvFault → Option (List ℕ) → Option (List ℕ) → States → Bool → (States → Type 0) → Result Bool Fault → Type 0
+ImportEnds k s import_metadata says old new represents shut crash_states done =
+    (given : Result (List OrderRow) OrdersFault) × IsGivenOf says given × OrdersTaken k s import_metadata given old new represents shut crash_states done
+
+-- what came of a file over a store that was just opened: the store was adopted, and the file taken in from there; or it
+-- wasn't adopted, and nothing was written
+abbrev pub ImportLeft : {S : Type 0} → Ghosts S → Held S → Held S → ImportMetadata → List ℕ → Option (List ℕ) → Option (List ℕ) → Result Bool Fault → Type 0
+ImportLeft g c after import_metadata bytes old new done =
+    AdoptedFrom (state g c) (λ s. (shut : Bool)
+    × ImportEnds newest_schema s import_metadata (orders_of bytes) old new (Represents (state g after) shut) shut (HasCrashStates (state g after)) done)
+    ⊎ (WasRefused g c done × (new ≡ old))
+
+-- the same, where every connection of the store keeps its word
+abbrev pub ImportGives : {S : Type 0} → Ghosts S → Held S → ImportMetadata → Option (List ℕ) → Option (List ℕ) → Option (List ℕ) → Result Bool Fault → Type 0
+ImportGives {S} g c import_metadata unread old new done =
+    AllClean g → IsNewlyOpened (state g c) → (after : Held S) × IfSome unread (λ bytes. ImportLeft g c after import_metadata bytes old new done)

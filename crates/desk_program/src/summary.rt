@@ -1,0 +1,42 @@
+//! Where a keeper stands.
+ghost use Rattle.std.specs.Prelude.{◌≡◌, ◌≢◌, false, IfOk, IfErr};
+ghost use Rattle.plant_base.specs.State.{State};
+ghost use Rattle.plant_desk.specs.Keepers.{IsSameDesk};
+ghost use Rattle.desk_program.specs.Faults as spec;
+
+use crate::fault::Fault;
+use plant_desk::Keeper;
+use plant_messages::{Answer, DeskFault, Question};
+
+/// The schema of a keeper's tables, and how many commands it has accepted.
+#[derive(Clone, Copy)]
+pub(crate) struct DeskSummary {
+    pub(crate) schema: u64,
+    pub(crate) seq: u64,
+}
+
+/// Where a keeper stands by what it answered, or its fault.
+fn summary_of(asked: Result<Answer, DeskFault>) -> Result<DeskSummary, Fault>
+    ensures is { result ≡ spec.summary_of asked }
+    ensures write_error { IfErr result (λ fault. fault ≢ Fault.Write) }
+{
+    match asked {
+        Ok(Answer::Desk { schema, seq }) => Ok(DeskSummary { schema, seq }),
+        // No keeper that keeps its word answers anything else.
+        Ok(_) => Err(Fault::Store),
+        Err(fault) => Err(Fault::from(fault)),
+    }
+}
+
+/// Asks an open keeper where it stands. It stays open, and where it was.
+pub(crate) fn ask_summary<K: Keeper>(keeper: &mut K) -> Result<DeskSummary, Fault>
+    requires { K.shut keeper.old ≡ false }
+    ensures same { IsSameDesk K.honest K.schema K.foreign_tables keeper.old keeper.new }
+    ensures open { K.shut keeper.new ≡ false }
+    ensures stays { K.honest keeper.new → (s : State) → K.represents keeper.old s → K.represents keeper.new s }
+    ensures asked { K.honest keeper.new → (s : State) → K.represents keeper.old s
+        → IfOk result (λ at. (at.schema ≡ K.schema keeper.old) × (at.seq ≡ s.seq)) }
+    ensures write_error { IfErr result (λ fault. fault ≢ Fault.Write) }
+{
+    summary_of(keeper.ask(&Question::Desk))
+}

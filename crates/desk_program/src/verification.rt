@@ -1,0 +1,69 @@
+//! The word `verify`.
+ghost use Rattle.std.specs.Prelude.{◌≡◌, false, IfOk, OnOk, MatchResult};
+ghost use Rattle.std.specs.Io.KnownBytes.{Appends};
+ghost use Rattle.sqlite.specs.Held.{state};
+ghost use Rattle.sqlite.specs.State.{HasCleanDisk};
+ghost use Rattle.plant_base.specs.State.{State, newest_schema};
+ghost use Rattle.plant_desk.specs.Keepers.{IsSameDesk};
+ghost use Rattle.plant_desk_store.specs.Adopting.{IsNewlyOpened, AdoptedFrom};
+ghost use Rattle.plant_desk_store.specs.DeskStates.{IsDurablyAt};
+ghost use Rattle.plant_text.specs.Writes.{with_lf};
+ghost use Rattle.desk_program.specs.Texts.{good_text};
+ghost use Rattle.desk_program.specs.Performs.{IsGoodLine, Printed, Unprinted};
+
+use crate::adopting::{TaskError, adopt};
+use crate::fault::Fault;
+use crate::lines::good_line;
+use crate::printing::print_line;
+use crate::summary::ask_summary;
+use plant_desk::Keeper;
+use plant_desk_store::Desk;
+use sqlite::{Alter, Connection};
+use std::alloc::Global;
+use std::io::Write;
+
+/// Prints `valid schema N seq S`: the schema of the keeper's tables, and how many commands it has accepted.
+fn write_good<W: Write, K: Keeper>(writer: &mut W, keeper: &mut K) -> Result<(), Fault>
+    requires { K.shut keeper.old ≡ false }
+    ensures same { IsSameDesk K.honest K.schema K.foreign_tables keeper.old keeper.new }
+    ensures open { K.shut keeper.new ≡ false }
+    ensures stays { K.honest keeper.new → (s : State) → K.represents keeper.old s → K.represents keeper.new s }
+    ensures reported { K.honest keeper.new → (s : State) → K.represents keeper.old s
+        → OnOk result (Appends (W.contents writer.old) (W.contents writer.new)
+        (with_lf (good_text (K.schema keeper.old) s.seq))) }
+    ensures printed { MatchResult result (λ _. Printed IsGoodLine (W.contents writer.old)
+        (W.contents writer.new)) (Unprinted IsGoodLine (W.contents writer.old) (W.contents writer.new)) }
+{
+    let at = ask_summary(keeper)?;
+    print_line(writer, &good_line(at.schema, at.seq))
+}
+
+/// Does `verify FILE`: adopts the store, which tests all its tables, and prints `valid schema N seq S` and an LF, S being
+/// the number of commands that were accepted.
+///
+/// Nothing is printed before the store is adopted. At `Write` a front of the line may stand there; at every other fault
+/// nothing does.
+pub fn verify<S: Alter + Drop, W: Write>(
+    alloc: Global,
+    connection: Connection<S>,
+    writer: &mut W,
+) -> Result<Desk<S>, TaskError<S>>
+    requires { (state S.Store connection).in_transaction ≡ false }
+    ensures valid { IfOk result (λ desk. HasCleanDisk (state S.Store desk.connection)
+        → IsNewlyOpened (state S.Store connection)
+        → AdoptedFrom (state S.Store connection) (λ s. IsDurablyAt (state S.Store desk.connection) s
+        × Appends (W.contents writer.old) (W.contents writer.new)
+        (with_lf (good_text newest_schema s.seq)))) }
+    ensures printed { MatchResult result (λ _. Printed IsGoodLine (W.contents writer.old)
+        (W.contents writer.new)) (λ stopped. Unprinted IsGoodLine (W.contents writer.old)
+        (W.contents writer.new) stopped.fault) }
+{
+    let mut desk = adopt(alloc, connection)?;
+    match write_good(writer, &mut desk) {
+        Ok(()) => Ok(desk),
+        Err(fault) => Err(TaskError {
+            fault,
+            connection: desk.close(),
+        }),
+    }
+}

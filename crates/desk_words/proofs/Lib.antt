@@ -1,4 +1,0 @@
-mod Numerals
-mod Refusals
-mod PlainMeanings
-mod Unchecked

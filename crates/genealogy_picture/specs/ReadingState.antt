@@ -1,0 +1,11 @@
+-- How far an input is read.
+use Rattle.std.specs.Prelude.{ℕ, List}
+use Rattle.genealogy_graph.specs.declared.reported.Reported.{Reported}
+
+pub record ReadingState : Type 0 where
+  -- what its lines told
+  pub reported : Reported
+  -- the number of the line that is coming, counted from 1
+  pub number : ℕ
+  -- what came of it
+  pub held : List ℕ

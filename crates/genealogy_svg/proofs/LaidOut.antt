@@ -1,0 +1,25 @@
+-- A layout, of its parts.
+use Rattle.std.proofs.Common.{◌≡◌, ℕ, List, Ok, subst}
+use Rattle.std.specs.List.{All}
+use Rattle.std.specs.BTreeMap.{BTreeMap}
+use Rattle.std.proofs.lemmas.List.Elements.{All-contains}
+use Rattle.genealogy_graph.specs.declared.model.Picture.{Picture}
+use Rattle.genealogy_graph.specs.declared.model.PictureEdge.{PictureEdge}
+use Rattle.plant_trace.specs.declared.node.Node.{Node}
+use Rattle.genealogy_svg.specs.declared.drawing.Drawing.{Drawing}
+use Rattle.genealogy_svg.specs.declared.drawing.BoxPosition.{BoxPosition}
+use Rattle.genealogy_svg.specs.Layouts.{nodes_of, drawing_in, IsLaidOut}
+use Rattle.genealogy_svg.specs.Layers.{AreSettled, IsLayered}
+use Rattle.genealogy_svg.specs.Positions.{ArePositioned}
+
+pub laid_out : (p : Picture) (d : Drawing) (layers : BTreeMap Node ℕ) (positions : BTreeMap Node BoxPosition) (nodes named : List Node) (edges : List PictureEdge)
+    → nodes ≡ nodes_of p → named ≡ nodes_of p → edges ≡ p.edges → All (IsLayered layers) nodes → AreSettled edges layers → ArePositioned layers named positions
+    → drawing_in positions p ≡ Ok d → IsLaidOut p d
+laid_out p d layers positions nodes named edges is same of all settled placed drawn = record {
+  layers = layers;
+  positions = positions;
+  layered = λ v h. let every : All (IsLayered layers) (nodes_of p) = subst (All (IsLayered layers)) is all in All-contains (IsLayered layers) (nodes_of p) v every h;
+  settled = let P : List PictureEdge → Type 0 = λ es. AreSettled es layers in subst P of settled;
+  placed = let P : List Node → Type 0 = λ ns. ArePositioned layers ns positions in subst P same placed;
+  drawn = drawn;
+}

@@ -1,0 +1,5 @@
+pub mod LaidOut
+pub mod PathsAlongEdges
+pub mod PositionsInTurn
+pub mod EdgesLeadRight
+pub mod LayersInTurn

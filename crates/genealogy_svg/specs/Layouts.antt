@@ -1,0 +1,88 @@
+-- The layout of a picture: its nodes and edges in their places.
+use Rattle.std.specs.Prelude.{◌≡◌, ◌<◌, ℕ, List, [], ◌∷◌, ◌++◌, map, Contains, Option, Some, None, Result, Ok, Err, ⊤}
+use Rattle.std.specs.BTreeMap.{BTreeMap, get}
+use Rattle.genealogy_graph.specs.declared.model.Picture.{Picture}
+use Rattle.genealogy_graph.specs.declared.model.PictureEdge.{PictureEdge}
+use Rattle.genealogy_graph.specs.declared.model.PictureLot.{PictureLot}
+use Rattle.genealogy_svg.specs.Layers.{AreSettled, IsLayered}
+use Rattle.genealogy_svg.specs.Positions.{ArePositioned}
+use Rattle.genealogy_svg.specs.declared.drawing.Drawing.{Drawing}
+use Rattle.genealogy_svg.specs.declared.drawing.DrawnBatch.{DrawnBatch}
+use Rattle.genealogy_svg.specs.declared.drawing.DrawnEdge.{DrawnEdge}
+use Rattle.genealogy_svg.specs.declared.drawing.DrawnLot.{DrawnLot}
+use Rattle.genealogy_svg.specs.declared.drawing.LayoutFault.{LayoutFault}
+use Rattle.genealogy_svg.specs.declared.drawing.LayoutFault.TheVariants as fault
+use Rattle.genealogy_svg.specs.declared.drawing.BoxPosition.{BoxPosition}
+use Rattle.plant_trace.specs.Nodes.{node_cmp}
+use Rattle.plant_trace.specs.declared.node.Node.{Node}
+use Rattle.plant_trace.specs.declared.node.Node.TheVariants.{Lot, Batch}
+
+-- the one, and then the other, where nothing is wrong
+infixl 10 ◌>>=◌
+abbrev pub ◌>>=◌ : {A B : Type 0} → Result A LayoutFault → (A → Result B LayoutFault) → Result B LayoutFault
+Ok a >>= f = f a
+Err e >>= f = Err e
+
+-- the nodes of a picture, lots before batches
+abbrev pub nodes_of : Picture → List Node
+nodes_of p = map (λ lot. Lot lot.id) p.lots ++ map Batch p.batches
+
+abbrev pub placed : Node → Option BoxPosition → Result BoxPosition LayoutFault
+placed node None = Err (fault.Lost node)
+placed node (Some position) = Ok position
+
+-- the place of a node
+abbrev pub position_at : BTreeMap Node BoxPosition → Node → Result BoxPosition LayoutFault
+position_at positions node = placed node (get node_cmp positions node)
+
+-- why the drawing of a picture isn't made: a node has none of these places, or memory was refused
+abbrev pub IsUnpositioned : BTreeMap Node BoxPosition → LayoutFault → Type 0
+IsUnpositioned positions fault.Circle = ⊥
+IsUnpositioned positions (fault.Lost node) = get node_cmp positions node ≡ None
+IsUnpositioned positions fault.Memory = ⊤
+
+-- a node that is told as lost is none of these
+abbrev pub IsOutside : List Node → LayoutFault → Type 0
+IsOutside nodes fault.Circle = ⊤
+IsOutside nodes (fault.Lost node) = ¬ Contains nodes node
+IsOutside nodes fault.Memory = ⊤
+
+-- ---- lots, batches and edges in their places, behind these
+
+abbrev pub lots_in : BTreeMap Node BoxPosition → List DrawnLot → List PictureLot → Result (List DrawnLot) LayoutFault
+lots_in positions done [] = Ok done
+lots_in positions done (lot ∷ more) = position_at positions (Lot lot.id) >>= (λ position. lots_in positions (done ++ record { lot = lot; position = position } ∷ []) more)
+
+abbrev pub batches_in : BTreeMap Node BoxPosition → List DrawnBatch → List (List ℕ) → Result (List DrawnBatch) LayoutFault
+batches_in positions done [] = Ok done
+batches_in positions done (batch ∷ more) = position_at positions (Batch batch) >>= (λ position. batches_in positions (done ++ record { batch = batch; position = position } ∷ []) more)
+
+abbrev pub edges_in : BTreeMap Node BoxPosition → List DrawnEdge → List PictureEdge → Result (List DrawnEdge) LayoutFault
+edges_in positions done [] = Ok done
+edges_in positions done (e ∷ more) =
+    position_at positions e.from >>= (λ from.
+    position_at positions e.to >>= (λ to.
+    edges_in positions (done ++ record { from = from; to = to; amount = e.amount; unit = e.unit } ∷ []) more))
+
+-- the picture, with its nodes in these places
+abbrev pub drawing_in : BTreeMap Node BoxPosition → Picture → Result Drawing LayoutFault
+drawing_in positions p =
+    lots_in positions [] p.lots >>= (λ lots.
+    batches_in positions [] p.batches >>= (λ batches.
+    edges_in positions [] p.edges >>= (λ edges.
+    Ok (record { lots = lots; batches = batches; edges = edges }))))
+
+-- the edge ends in a column to the right of that in which it begins
+abbrev pub LeadsRight : DrawnEdge → Type 0
+LeadsRight e = e.from.layer < e.to.layer
+
+-- ---- the layout
+
+-- the nodes stand in layers, and each in a place of its own there; the drawing is the picture in these places
+pub record IsLaidOut (picture : Picture) (drawing : Drawing) : Type 0 where
+  pub layers : BTreeMap Node ℕ
+  pub positions : BTreeMap Node BoxPosition
+  pub layered : (v : Node) → Contains (nodes_of picture) v → IsLayered layers v
+  pub settled : AreSettled picture.edges layers
+  pub placed : ArePositioned layers (nodes_of picture) positions
+  pub drawn : drawing_in positions picture ≡ Ok drawing

@@ -1,0 +1,4 @@
+pub mod Layouts
+pub mod Layers
+pub mod Positions
+pub mod Svg

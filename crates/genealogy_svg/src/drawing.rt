@@ -1,0 +1,79 @@
+//! What a drawing shows, and where.
+ghost use Rattle.std.specs.Prelude.{◌≡◌};
+
+use genealogy_graph::PictureLot;
+use plant_base::{Id, Items, Unit};
+use plant_trace::Node;
+use std::alloc::AllocError;
+
+/// A place in a drawing.
+#[derive(Clone, Copy, Debug, PartialEq, Eq, PartialOrd, Ord)]
+pub struct BoxPosition {
+    /// How many columns stand to the left of it.
+    pub layer: u32,
+    /// How many places of its column are above it.
+    pub slot: u32,
+}
+
+/// A lot in its place.
+#[derive(Clone, Copy, Debug, PartialEq, Eq)]
+pub struct DrawnLot {
+    /// The lot.
+    pub lot: PictureLot,
+    /// Where it stands.
+    pub position: BoxPosition,
+}
+
+/// A batch in its place.
+#[derive(Clone, Copy, Debug, PartialEq, Eq)]
+pub struct DrawnBatch {
+    /// The batch.
+    pub batch: Id,
+    /// Where it stands.
+    pub position: BoxPosition,
+}
+
+/// An edge between two places.
+#[derive(Clone, Copy, Debug, PartialEq, Eq)]
+pub struct DrawnEdge {
+    /// Where it begins.
+    pub from: BoxPosition,
+    /// Where it ends.
+    pub to: BoxPosition,
+    /// How much, in the unit.
+    pub amount: u64,
+    /// The unit.
+    pub unit: Unit,
+}
+
+/// A picture whose nodes stand in their places.
+#[derive(Debug, Drop)]
+pub struct Drawing {
+    /// Its lots, in the order of the picture.
+    pub lots: Items<DrawnLot>,
+    /// Its batches, in the order of the picture.
+    pub batches: Items<DrawnBatch>,
+    /// Its edges, in the order of the picture.
+    pub edges: Items<DrawnEdge>,
+}
+
+/// Why a picture isn't laid out.
+#[derive(Clone, Copy, Debug, PartialEq, Eq)]
+pub enum LayoutFault {
+    /// Its edges lead in a circle.
+    Circle,
+    /// An edge begins or ends at a node that the picture hasn't.
+    Lost(Node),
+    /// Memory was refused.
+    Memory,
+}
+
+impl From<AllocError> for LayoutFault {
+    ghost use Rattle.genealogy_svg.specs.declared.drawing.LayoutFault.TheVariants as fault;
+
+    ghost from_gives = { λ _ made. made ≡ fault.Memory };
+
+    fn from(_error: AllocError) -> Self {
+        LayoutFault::Memory
+    }
+}

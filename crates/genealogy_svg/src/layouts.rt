@@ -1,0 +1,152 @@
+//! The layout of a picture.
+ghost use Rattle.std.specs.Prelude.{◌≡◌, [], IfErr, IfOk, IsErrOf, Ok};
+ghost use Rattle.genealogy_svg.specs.Layouts.{position_at, nodes_of, lots_in, batches_in, edges_in, drawing_in, IsLaidOut, LeadsRight, IsUnpositioned, IsOutside};
+ghost use Rattle.std.specs.List.{All};
+ghost use Rattle.genealogy_svg.specs.Layers.{HasCircle};
+
+use crate::drawing::{BoxPosition, Drawing, DrawnBatch, DrawnEdge, DrawnLot, LayoutFault};
+use crate::layers::ByEnd;
+use crate::positions::{BoxPositions, positions_of};
+use crate::search::layers_of;
+use crate::wishes::wishes_of;
+use genealogy_graph::{Picture, PictureEdge, PictureLot};
+use grouped_rows::Grouped;
+use plant_base::{Id, Items};
+use plant_trace::Node;
+use std::alloc::{AllocError, Global};
+
+/// The nodes of a picture, lots before batches.
+fn nodes_of(alloc: Global, picture: &Picture) -> Result<Vec<Node>, AllocError>
+    ensures { IfOk result (λ nodes. nodes.items ≡ nodes_of picture.now) }
+{
+    let mut nodes = Vec::new(alloc);
+    for lot in picture.lots.as_slice() {
+        nodes.push(Node::Lot(lot.id))?;
+    }
+    for batch in picture.batches.as_slice() {
+        nodes.push(Node::Batch(*batch))?;
+    }
+    Ok(nodes)
+}
+
+/// The place of a node.
+fn position_at(positions: &BoxPositions, node: Node) -> Result<BoxPosition, LayoutFault>
+    ensures position { result ≡ position_at positions.now node }
+    ensures unpositioned { IfErr result (IsUnpositioned positions.now) }
+{
+    match positions.get(&node) {
+        Some(position) => Ok(*position),
+        None => Err(LayoutFault::Lost(node)),
+    }
+}
+
+fn lots_in(
+    alloc: Global,
+    positions: &BoxPositions,
+    lots: &[PictureLot],
+) -> Result<Vec<DrawnLot>, LayoutFault>
+    ensures drawn { IfOk result (λ drawn. lots_in positions.now [] lots.now ≡ Ok drawn.items) }
+    ensures unpositioned { IfErr result (IsUnpositioned positions.now) }
+{
+    let mut drawn = Vec::new(alloc);
+    for lot in lots {
+        let position = position_at(positions, Node::Lot(lot.id))?;
+        if drawn
+            .push(DrawnLot {
+                lot: *lot,
+                position,
+            })
+            .is_err()
+        {
+            return Err(LayoutFault::Memory);
+        }
+    }
+    Ok(drawn)
+}
+
+fn batches_in(
+    alloc: Global,
+    positions: &BoxPositions,
+    batches: &[Id],
+) -> Result<Vec<DrawnBatch>, LayoutFault>
+    ensures drawn { IfOk result (λ drawn. batches_in positions.now [] batches.now ≡ Ok drawn.items) }
+    ensures unpositioned { IfErr result (IsUnpositioned positions.now) }
+{
+    let mut drawn = Vec::new(alloc);
+    for batch in batches {
+        let position = position_at(positions, Node::Batch(*batch))?;
+        let batch = DrawnBatch {
+            batch: *batch,
+            position,
+        };
+        if drawn.push(batch).is_err() {
+            return Err(LayoutFault::Memory);
+        }
+    }
+    Ok(drawn)
+}
+
+fn edges_in(
+    alloc: Global,
+    positions: &BoxPositions,
+    edges: &[PictureEdge],
+) -> Result<Vec<DrawnEdge>, LayoutFault>
+    ensures drawn { IfOk result (λ drawn. edges_in positions.now [] edges.now ≡ Ok drawn.items) }
+    ensures unpositioned { IfErr result (IsUnpositioned positions.now) }
+{
+    let mut drawn = Vec::new(alloc);
+    for edge in edges {
+        let from = position_at(positions, edge.from)?;
+        let to = position_at(positions, edge.to)?;
+        let edge = DrawnEdge {
+            from,
+            to,
+            amount: edge.amount,
+            unit: edge.unit,
+        };
+        if drawn.push(edge).is_err() {
+            return Err(LayoutFault::Memory);
+        }
+    }
+    Ok(drawn)
+}
+
+fn drawing_in(
+    alloc: Global,
+    positions: &BoxPositions,
+    picture: &Picture,
+) -> Result<Drawing, LayoutFault>
+    ensures drawn { IfOk result (λ drawing. drawing_in positions.now picture.now ≡ Ok drawing) }
+    ensures unpositioned { IfErr result (IsUnpositioned positions.now) }
+{
+    let lots = lots_in(alloc, positions, picture.lots.as_slice())?;
+    let batches = batches_in(alloc, positions, picture.batches.as_slice())?;
+    let edges = edges_in(alloc, positions, picture.edges.as_slice())?;
+    Ok(Drawing {
+        lots: Items::new(lots),
+        batches: Items::new(batches),
+        edges: Items::new(edges),
+    })
+}
+
+/// The drawing of a picture: each node has one place, no two nodes have the same, and each edge leads to the right: a node stands
+/// one to the right of the rightmost of those that lead to it, and at the left where none does. In a column nodes are wished in the order of the middle of
+/// what leads to them, then of their names.
+///
+/// `Circle` comes only where the edges lead in a circle; `Lost` tells a node where an edge begins or ends, and which the picture hasn't; `Memory` where memory was refused.
+pub fn layout(alloc: Global, picture: &Picture) -> Result<Drawing, LayoutFault>
+    ensures laid { IfOk result (IsLaidOut picture.now) }
+    ensures right { IfOk result (λ drawing. All LeadsRight drawing.edges) }
+    ensures circle { IsErrOf result LayoutFault.Circle → HasCircle picture.now.edges }
+    ensures lost { IfErr result (IsOutside (nodes_of picture.now)) }
+{
+    let nodes = nodes_of(alloc, picture)?;
+    let ends = Grouped::<ByEnd>::new(alloc, picture.edges.as_slice())?;
+    let layers = layers_of(alloc, &ends, &nodes)?;
+    let wishes = wishes_of(alloc, &ends, &layers, &nodes)?;
+    let positions = positions_of(alloc, &layers, &wishes, &nodes)?;
+    match drawing_in(alloc, &positions, picture) {
+        Ok(drawing) => Ok(drawing),
+        Err(fault) => Err(fault),
+    }
+}

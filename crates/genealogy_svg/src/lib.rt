@@ -1,0 +1,16 @@
+//! The drawing of a picture: where its nodes stand, and its text in SVG.
+#![tactic(auto)]
+
+mod boxes;
+mod drawing;
+mod layers;
+mod layouts;
+mod points;
+mod positions;
+mod scalable;
+mod search;
+mod wishes;
+
+pub use drawing::{BoxPosition, Drawing, DrawnBatch, DrawnEdge, DrawnLot, LayoutFault};
+pub use layouts::layout;
+pub use scalable::svg;

@@ -1,0 +1,4 @@
+pub mod FirstPassing
+pub mod FilteredRows
+pub mod SortedCopy
+pub mod BinarySearch

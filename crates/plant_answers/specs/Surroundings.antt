@@ -1,0 +1,40 @@
+-- What lies around a lot or batch in the genealogy, and where its goods stand.
+use Rattle.std.specs.Prelude.{List, Option, Some, None}
+use Rattle.std.specs.List.{filter_map}
+use Rattle.plant_base.specs.State.{State, lot_at, put}
+use Rattle.plant_base.specs.declared.refusal.Refusal.{Refusal}
+use Rattle.plant_base.specs.declared.rows.Lot.{Lot}
+use Rattle.plant_trace.specs.Nodes.{node_cmp}
+use Rattle.plant_trace.specs.declared.direction.Direction.{Direction}
+use Rattle.plant_trace.specs.declared.direction.Direction.TheVariants.{Forward}
+use Rattle.plant_trace.specs.declared.node.Node.{Node}
+use Rattle.plant_trace.specs.declared.node.Node.TheVariants as node
+use Rattle.plant_answers.specs.Traces.{trace_of}
+use Rattle.plant_answers.specs.Worklists.{stocked_lot}
+use Rattle.plant_messages.specs.declared.question.Answer.{Answer}
+use Rattle.plant_messages.specs.declared.question.Answer.TheVariants as A
+use Rattle.plant_messages.specs.declared.question.LotAnswer.{LotAnswer}
+
+-- the start and its trace: lots before batches, each ascending
+abbrev pub nodes_around : State → Direction → Node → List Node
+nodes_around s direction start = put node_cmp start (trace_of s direction start)
+
+-- ---- where goods stand
+
+-- what is known of a lot that is there, where it has stock
+abbrev pub stocked_if : State → Option Lot → Option LotAnswer
+stocked_if s None = None
+stocked_if s (Some l) = stocked_lot s l
+
+-- of a node that is a lot
+abbrev pub stocked_at : State → Node → Option LotAnswer
+stocked_at s (node.Lot id) = stocked_if s (lot_at s id)
+stocked_at s (node.Batch id) = None
+
+-- the lots that have stock, of the start and all that it leads to
+abbrev pub lots_standing : State → Node → List LotAnswer
+lots_standing s start = filter_map (stocked_at s) (nodes_around s Forward start)
+
+abbrev pub answer_stands : State → Node → Option Refusal → Answer
+answer_stands s start None = A.HasStoredRows (lots_standing s start)
+answer_stands s start (Some refusal) = A.Unknown refusal

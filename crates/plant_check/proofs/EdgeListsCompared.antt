@@ -1,0 +1,13 @@
+-- Lists of edges that are compared row by row.
+use Rattle.std.proofs.Common.{◌≡◌, List, true}
+use Rattle.plant_base.specs.Edges.{edge_order, edge_eq, edge_ties, edge_total}
+use Rattle.plant_base.specs.declared.rows.EdgeRow.{EdgeRow}
+use Rattle.plant_base.proofs.EdgeIsItsKey.{one_edge}
+use Rattle.plant_check.specs.Broken.{are_same_edges}
+use Rattle.plant_check_stock.proofs.SetsOfKeys as sets
+
+pub same_itself : (es : List EdgeRow) → are_same_edges es es ≡ true
+same_itself = sets.same_itself edge_order one_edge edge_total edge_eq edge_ties
+
+pub same_list : (es fs : List EdgeRow) → are_same_edges es fs ≡ true → es ≡ fs
+same_list = sets.same_list edge_order one_edge edge_total edge_eq edge_ties

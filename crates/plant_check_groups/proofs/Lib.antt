@@ -1,4 +1,0 @@
-pub mod Passing
-pub mod Filtering
-pub mod Sorting
-pub mod Halving

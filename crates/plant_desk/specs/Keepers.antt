@@ -1,0 +1,53 @@
+-- What a keeper does.
+use Rattle.std.specs.Prelude.{◌≡◌, ℕ, Bool, true, false, ◌⊎◌, Result, Ok, Err}
+use Rattle.plant_base.specs.State.{State}
+use Rattle.plant_base.specs.declared.command.Envelope.{Envelope}
+use Rattle.plant_rules.specs.Step.{step}
+use Rattle.plant_desk.specs.Replies.{reply}
+use Rattle.plant_answers.specs.Answers.{answer}
+use Rattle.plant_messages.specs.declared.question.Question.{Question}
+use Rattle.plant_messages.specs.declared.question.Answer.{Answer}
+use Rattle.plant_messages.specs.declared.reply.Reply.{Reply}
+use Rattle.plant_messages.specs.declared.reply.Reply.TheVariants.{Accepted, Refused}
+use Rattle.plant_messages.specs.declared.reply.DeskFault.{DeskFault}
+use Rattle.plant_messages.specs.declared.reply.DeskFault.TheVariants.{Store, Memory, Shut}
+
+-- a set of states
+abbrev pub States : Type 1
+States = State → Type 0
+
+-- what comes of `execute` at an open keeper that stood at s: the reply, where it stands afterwards, and what a stop leaves
+abbrev pub Executes : State → States → (States → Type 0) → Envelope → Result Reply DeskFault → Type 0
+Executes s represents crash_states e (Ok r) = (r ≡ reply s e) × represents (step s e)
+Executes s represents crash_states e (Err Store) = represents s × crash_states (λ u. (u ≡ s) ⊎ (u ≡ step s e))
+Executes s represents crash_states e (Err Memory) = represents s
+Executes s represents crash_states e (Err Shut) = ⊥
+
+-- what comes of `ask` at an open keeper of schema k that stood at s: the answer, and where it stands afterwards
+abbrev pub Asks : ℕ → State → States → Question → Result Answer DeskFault → Type 0
+Asks k s represents q (Ok a) = (a ≡ answer k s q) × represents s
+Asks k s represents q (Err Store) = represents s
+Asks k s represents q (Err Memory) = represents s
+Asks k s represents q (Err Shut) = ⊥
+
+-- whether an open keeper is shut after an `execute`
+abbrev pub shuts : Result Reply DeskFault → Bool
+shuts (Ok r) = false
+shuts (Err Store) = true
+shuts (Err Memory) = false
+shuts (Err Shut) = false
+
+-- whether nothing was written for a command: it was refused, memory was, or the keeper is shut
+abbrev pub writes_nothing : Result Reply DeskFault → Bool
+writes_nothing (Ok (Accepted n)) = false
+writes_nothing (Ok (Refused r)) = true
+writes_nothing (Err Store) = false
+writes_nothing (Err Memory) = true
+writes_nothing (Err Shut) = true
+
+-- What no call changes of a keeper that ends honest: it was honest before, its tables are of the same schema, and what stood
+-- beside its state stands there still.
+pub record IsSameDesk {K : Type 0} {B : Type 0} (is_honest : K → Type 0) (schema_of : K → ℕ) (has_foreign_tables : K → B → Type 0) (old new : K) : Type 0 where
+  pub honest : is_honest new → is_honest old
+  pub schema : is_honest new → schema_of new ≡ schema_of old
+  pub foreign_tables : is_honest new → (b : B) → has_foreign_tables old b → has_foreign_tables new b

@@ -1,0 +1,58 @@
+-- What is answered of a state is what its movements say.
+use Rattle.std.proofs.Common.{◌≡◌, ◌∙◌, ◌+◌, ℕ, List, Option, Some, None, refl, sym, ap, subst, arith}
+use Rattle.std.specs.Prelude.{filter}
+use Rattle.plant_base.specs.State.{State, same, lot_at, newest_schema}
+use Rattle.plant_base.specs.declared.refusal.Refusal.{Refusal}
+use Rattle.plant_base.specs.declared.rows.Lot.{Lot}
+use Rattle.plant_base.specs.declared.rows.StorePhase.{StorePhase}
+use Rattle.plant_base.proofs.FindIsFirst.{found_passes}
+use Rattle.plant_base.proofs.KeyOrders.{same_id}
+use Rattle.plant_base.proofs.PutKeepsOrder.{map_back}
+use Rattle.plant_stock.specs.Stock.{left_of, born_of}
+use Rattle.plant_trace.specs.declared.direction.Direction.{Direction}
+use Rattle.plant_trace.specs.declared.node.Node.{Node}
+use Rattle.plant_view.specs.Conservation.{lot_stock}
+use Rattle.plant_view.specs.Genealogy.{edges_of}
+use Rattle.plant_view.specs.DecisionInvariant.{DecisionInvariant}
+use Rattle.plant_view.specs.Tables.{sublot_row, place_of_row}
+use Rattle.plant_view.proofs.LotsAreBalanced.{balanced}
+use Rattle.plant_view.proofs.RowsInTurn.{all_of, all_mapped}
+use Rattle.plant_answers.specs.Surroundings.{answer_stands}
+use Rattle.plant_answers.specs.Answers.{answer}
+use Rattle.plant_answers.specs.LotAnswers.{answer_lot}
+use Rattle.plant_answers.specs.Traces.{missing, answer_trace}
+use Rattle.plant_messages.specs.declared.question.Question.{Question}
+use Rattle.plant_messages.specs.declared.question.Question.TheVariants as Q
+use Rattle.plant_messages.specs.declared.question.Answer.{Answer}
+use Rattle.plant_answers.proofs.GoodsAreReached.{standing_sorted, standing_only, standing_all}
+use Rattle.plant_answers.proofs.ReachedIsTrace.{trace_lists}
+use Rattle.plant_desk_store.specs.Headline.{IsTraceIn, AreStandingIn, IsLotIn, SaysOf, IsAnsweredIn}
+
+trace_reported : (s : State) (direction : Direction) (start : Node) (o : Option Refusal) → missing s start ≡ o → IsTraceIn s direction start (answer_trace s direction start o)
+trace_reported s direction start None e = trace_lists (edges_of s) direction start
+trace_reported s direction start (Some r) e = λ there. let both : Some r ≡ None = sym e ∙ there in absurd (cc)
+
+represents_reported : (s : State) (start : Node) (o : Option Refusal) → missing s start ≡ o → AreStandingIn s start (answer_stands s start o)
+represents_reported s start None e = (standing_sorted s start, λ a. (standing_only s start a, standing_all s start a))
+represents_reported s start (Some r) e = λ there. let both : Some r ≡ None = sym e ∙ there in absurd (cc)
+
+lot_reported : (s : State) → DecisionInvariant s → (lot : List ℕ) (o : Option Lot) → lot_at s lot ≡ o → IsLotIn s lot (answer_lot s o)
+lot_reported s sound lot None e = e
+lot_reported s sound lot (Some l) e =
+    let named : l.id ≡ lot = same_id l.id lot (found_passes (λ (r : Lot). same r.id lot) s.lots l e) in
+    record {
+      named = named;
+      stock = subst (λ (id : List ℕ). lot_stock s id + left_of s.movements lot ≡ born_of s.movements lot) (sym named) (balanced s sound lot);
+      sublots = map_back place_of_row (sublot_row s.movements) (λ p. refl) (filter (λ (p : StorePhase). same p.lot l.id) s.places) ∙ ap (λ (id : List ℕ). filter (λ (p : StorePhase). same p.lot id) s.places) named;
+      each = all_mapped _ (sublot_row s.movements) (filter (λ (p : StorePhase). same p.lot l.id) s.places) (all_of _ (λ (p : StorePhase). let low = sound.covered p.lot p.number in omega (arith, low)) _);
+    }
+
+said : (s : State) → DecisionInvariant s → (q : Question) → SaysOf s q (answer newest_schema s q)
+unfolding answer
+said s sound (Q.Lot lot) = lot_reported s sound lot (lot_at s lot) refl
+said s sound (Q.Trace direction start) = trace_reported s direction start (missing s start) refl
+said s sound (Q.HasStoredRows start) = represents_reported s start (missing s start) refl
+said s sound _ = tt
+
+pub answered : (s : State) → DecisionInvariant s → (q : Question) (a : Answer) → a ≡ answer newest_schema s q → IsAnsweredIn s q a
+answered s sound q a is = record { answered = is; says = subst (SaysOf s q) (sym is) (said s sound q) }

@@ -1,0 +1,138 @@
+-- What is so of what a call below came to, once the desk or an adoption tells it.
+use Rattle.std.proofs.Common.{◌≡◌, ◌≢◌, ◌≤◌, ◌<◌, ℕ, ℤ, pos, nat_lt, Option, None, Some, Result, Ok, Err, IfOk, IfErr, IfSome, sym, subst, refl, inl, inr, arith}
+use Rattle.std.specs.Prelude.{◌↔◌}
+use Rattle.std.proofs.lemmas.Bool.{cases_Bool}
+use Rattle.std.proofs.lemmas.Bool.Decides.{nat_tests}
+use lib.IntN.{negsuc}
+use Rattle.sqlite.specs.State as store
+use Rattle.sqlite.specs.State.{IsUnchanged}
+use Rattle.plant_base.specs.State.{newest_schema}
+use Rattle.plant_tables_read.specs.Version.{IsVersion, IsKnown}
+use Rattle.plant_tables_read.specs.declared.finding.FoundTables.{FoundTables}
+use Rattle.plant_tables_read.specs.declared.finding.FoundTables.TheVariants as tables
+use Rattle.plant_migrate.proofs.KnownVersion.{version_number}
+use Rattle.sql_tables.specs.declared.fault.Fault.{Fault}
+use Rattle.sql_tables.specs.declared.fault.Fault.TheVariants as below
+use Rattle.plant_view.specs.declared.fault.ViewFault.{ViewFault}
+use Rattle.plant_view.specs.declared.fault.ViewFault.TheVariants as view
+use Rattle.plant_tables_read.specs.declared.loaded.Loaded.{Loaded}
+use Rattle.plant_check.specs.declared.rule.Rule.TheVariants as rule
+use Rattle.plant_messages.specs.declared.reply.DeskFault.{DeskFault}
+use Rattle.plant_messages.specs.declared.reply.DeskFault.TheVariants.{Store, Memory, Shut}
+use Rattle.plant_desk_store.specs.Faults.{desk_fault, looked_up, rows_to_test, rows_to_adopt, schema_found}
+use Rattle.plant_desk_store.specs.declared.adopting.AdoptFault.{AdoptFault}
+use Rattle.plant_desk_store.specs.declared.adopting.AdoptFault.TheVariants as fault
+
+-- no fault of a store tells that a desk is shut
+pub unshut : (f : Fault) → desk_fault f ≢ Shut
+unshut below.Store same = absurd (cc)
+unshut below.Memory same = absurd (cc)
+
+-- ---- look-ups
+
+module _ {A : Type 0} (r : Result A (ViewFault Fault)) (reported : Result A DeskFault) (is : reported ≡ looked_up r) where
+  of_ok : (P : A → Type 0) (q : Result A (ViewFault Fault)) → IfOk q P → IfOk (looked_up q) P
+  of_ok P (Ok a) h = h
+  of_ok P (Err f) h = tt
+
+  never_shut : (q : Result A (ViewFault Fault)) → IfErr (looked_up q) (λ f. f ≢ Shut)
+  never_shut (Ok a) = tt
+  never_shut (Err (view.View f)) = unshut f
+  never_shut (Err view.Memory) = λ e. absurd (cc)
+
+  pub looked_up_if : (P : A → Type 0) → IfOk r P → IfOk reported P
+  looked_up_if P h = subst (λ q. IfOk q P) (sym is) (of_ok P r h)
+
+  pub looked_up_open : IfErr reported (λ f. f ≢ Shut)
+  looked_up_open = subst (λ q. IfErr q (λ f. f ≢ Shut)) (sym is) (never_shut r)
+
+-- ---- rows
+
+pub tested_rows : (P : Loaded → Type 0) (r : Result (Option Loaded) Fault) (x : Loaded) → Ok x ≡ rows_to_test r → IfOk r (λ found. IfSome found P) → P x
+tested_rows P (Ok (Some y)) x is h = let same : y ≡ x = cc in subst P same h
+tested_rows P (Ok None) x is h = absurd (cc)
+tested_rows P (Err f) x is h = absurd (cc)
+
+pub adopted_rows : (P : Loaded → Type 0) (r : Result (Option Loaded) Fault) (x : Loaded) → Ok x ≡ rows_to_adopt r → IfOk r (λ found. IfSome found P) → P x
+adopted_rows P (Ok (Some y)) x is h = let same : y ≡ x = cc in subst P same h
+adopted_rows P (Ok None) x is h = absurd (cc)
+adopted_rows P (Err f) x is h = absurd (cc)
+
+-- no fault of a reading or of a test is that of a desk that is shut
+pub untested_unshut : (r : Result (Option Loaded) Fault) (f : DeskFault) → Err f ≡ rows_to_test r → f ≢ Shut
+untested_unshut (Ok (Some y)) f is = absurd (cc)
+untested_unshut (Ok None) f is = λ shut. (let same : f ≡ Store = cc in let both : Store ≡ Shut = cc in absurd (cc))
+untested_unshut (Err g) f is = let same : desk_fault g ≡ f = cc in subst (λ x. x ≢ Shut) same (unshut g)
+
+-- a fault of the reading names the first rule, where a table doesn't stand, or is none that names one
+pub unread_rows : (P : AdoptFault → Type 0) (r : Result (Option Loaded) Fault) (f : AdoptFault) → Err f ≡ rows_to_adopt r → (r ≡ Ok None → P (fault.Damaged rule.Tables)) → P fault.Store → P fault.Memory → P f
+unread_rows P (Ok (Some y)) f is lacking store memory = absurd (cc)
+unread_rows P (Ok None) f is lacking store memory = let same : fault.Damaged rule.Tables ≡ f = cc in subst P same (lacking refl)
+unread_rows P (Err below.Store) f is lacking store memory = let same : fault.Store ≡ f = cc in subst P same store
+unread_rows P (Err below.Memory) f is lacking store memory = let same : fault.Memory ≡ f = cc in subst P same memory
+
+-- ---- what was found
+
+abbrev version_of : ℤ → Result FoundTables Fault
+version_of v = Ok (tables.Version v)
+
+-- what is so of each answer, and of what an adoption makes of it, is so of any
+by_found : (P : Result FoundTables Fault → Result (Option ℕ) AdoptFault → Type 0) → P (Ok tables.Nothing) (Ok None) → P (Ok tables.NoMeta) (Err (fault.Damaged rule.Tables))
+    → ((n : ℕ) → n ≤ newest_schema → P (version_of (pos n)) (Ok (Some n))) → ((n : ℕ) → newest_schema < n → P (version_of (pos n)) (Err (fault.Newer n)))
+    → ((n : ℕ) → P (version_of (negsuc n)) (Ok (Some 0)))
+    → P (Err below.Store) (Err fault.Store) → P (Err below.Memory) (Err fault.Memory) → (r : Result FoundTables Fault) → P r (schema_found r)
+by_found P nothing unknown known newer none store memory (Ok tables.Nothing) = nothing
+by_found P nothing unknown known newer none store memory (Ok tables.NoMeta) = unknown
+by_found P nothing unknown known newer none store memory (Ok (tables.Version (pos n))) = elim (cases_Bool (nat_lt newest_schema n)) [
+  | inl above ↦ rw above (newer n (grind (arith, nat_tests)))
+  | inr low ↦ rw low (known n (grind (arith, nat_tests)))
+]
+by_found P nothing unknown known newer none store memory (Ok (tables.Version (negsuc n))) = none n
+by_found P nothing unknown known newer none store memory (Err below.Store) = store
+by_found P nothing unknown known newer none store memory (Err below.Memory) = memory
+
+pub nothing_found : (r : Result FoundTables Fault) → Ok None ≡ schema_found r → r ≡ Ok tables.Nothing
+nothing_found =
+    by_found (λ r found. Ok None ≡ found → r ≡ Ok tables.Nothing) (λ _. refl) (λ e. absurd cc) (λ n low e. absurd cc) (λ n above e. absurd cc) (λ n e. absurd cc) (λ e. absurd cc) (λ e. absurd cc)
+
+-- the tables of a known schema were found, as table meta tells it, and nothing was changed
+pub record IsFoundKnown (old mid : store.State) (n : ℕ) : Type 0 where
+  pub same : IsUnchanged old mid
+  pub reported : IsVersion old.now (pos n)
+  pub known : IsKnown n
+
+abbrev IsKnownBy : store.State → store.State → ℕ → Result FoundTables Fault → Result (Option ℕ) AdoptFault → Type 0
+IsKnownBy old mid n r found =
+    Ok (Some n) ≡ found → IfOk r (λ found. (z : ℤ) → (found ≡ tables.Version z) ↔ IsVersion old.now z) → IfOk r (λ found. (z : ℤ) → found ≡ tables.Version z → IsUnchanged old mid)
+    → IsFoundKnown old mid n
+
+pub known_found : (old mid : store.State) (r : Result FoundTables Fault) (n : ℕ) → IsKnownBy old mid n r (schema_found r)
+known_found old mid r n = by_found (IsKnownBy old mid n)
+    (λ e. absurd cc) (λ e. absurd cc)
+    (λ m low e version same.
+    let one : n ≡ m = cc in
+    let reported : IsVersion old.now (pos n) = subst (λ k. IsVersion old.now (pos k)) (sym one) ((version (pos m)).0 refl) in
+    let number = version_number old.now (pos n) reported in
+    let itself : n ≡ number.0 = (let both = number.1 in cc) in
+    record { same = same (pos m) refl; reported = reported; known = (omega (arith, itself, number.2), omega (arith, one, low)) })
+    (λ m above e. absurd cc) (λ m e version. absurd (let number = version_number old.now (negsuc m) ((version (negsuc m)).0 refl) in let both = number.1 in cc)) (λ e. absurd cc) (λ e. absurd cc) r
+
+-- some of the tables were found
+pub something_found : (P : Type 0) (r : Result FoundTables Fault) (n : ℕ) → Ok (Some n) ≡ schema_found r → IfOk r (λ found. found ≢ tables.Nothing → P) → P
+something_found P r n = by_found (λ r found. Ok (Some n) ≡ found → IfOk r (λ found. found ≢ tables.Nothing → P) → P)
+    (λ e. absurd cc) (λ e. absurd cc) (λ m low e h. h (λ e. absurd cc)) (λ m above e. absurd cc) (λ m e h. h (λ e. absurd cc)) (λ e. absurd cc) (λ e. absurd cc) r
+
+-- why nothing was found: the store, want of memory, no version, or one above the newest
+abbrev IsUnfoundFor : (AdoptFault → Type 0) → AdoptFault → Result FoundTables Fault → Result (Option ℕ) AdoptFault → Type 0
+IsUnfoundFor P f r found =
+    Err f ≡ found → (r ≡ Ok tables.NoMeta → P (fault.Damaged rule.Tables)) → ((n : ℕ) → r ≡ Ok (tables.Version (pos n)) → newest_schema < n → P (fault.Newer n))
+    → P fault.Store → P fault.Memory → P f
+
+pub unfound : (P : AdoptFault → Type 0) (r : Result FoundTables Fault) (f : AdoptFault) → IsUnfoundFor P f r (schema_found r)
+unfound P r f = by_found (IsUnfoundFor P f)
+    (λ e. absurd cc) (λ e none newer store memory. subst P (sym (one_fault e)) (none refl)) (λ n low e. absurd cc)
+    (λ n above e none newer store memory. subst P (sym (one_fault e)) (newer n refl above)) (λ n e. absurd cc)
+    (λ e none newer store memory. subst P (sym (one_fault e)) store) (λ e none newer store memory. subst P (sym (one_fault e)) memory) r
+  where
+    one_fault : {g : AdoptFault} → ◌≡◌ {A = Result (Option ℕ) AdoptFault} (Err f) (Err g) → f ≡ g
+    one_fault e = cc

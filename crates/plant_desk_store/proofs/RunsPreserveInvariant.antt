@@ -1,0 +1,31 @@
+-- A run ends at a good state.
+use Rattle.std.proofs.Common.{Bool, List, length, take, Option, None, Some}
+use Rattle.sqlite.specs.State as store
+use Rattle.plant_base.specs.State.{State}
+use Rattle.plant_base.specs.declared.command.Envelope.{Envelope}
+use Rattle.plant_view.proofs.LotsAreBalanced.{balanced}
+use Rattle.plant_view.proofs.StockIsConserved.{conserved}
+use Rattle.plant_invariant.specs.StateInvariant.{StateInvariant}
+use Rattle.plant_desk.specs.Keepers.{States}
+use Rattle.plant_desk.specs.Runs.{fold}
+use Rattle.plant_messages.specs.declared.reply.Reply.{Reply}
+use Rattle.plant_messages.specs.declared.reply.DeskFault.{DeskFault}
+use Rattle.plant_messages.specs.declared.reply.DeskFault.TheVariants.{Store, Memory, Shut}
+use Rattle.plant_desk_store.specs.Calls.{IsAccounted}
+use Rattle.plant_desk_store.specs.Runs.{Ran}
+use Rattle.plant_desk_store.specs.DeskStates.{Represents, HasCrashStates}
+
+pub accounted_valid : (s : State) → StateInvariant s → IsAccounted s
+accounted_valid s valid = record { conserved = conserved s valid.sound; balanced = balanced s valid.sound; acyclic = valid.sound.genealogy.acyclic }
+
+ends_good : (c : store.State) (s : State) (list : List Envelope) (answered : List Reply) (end : Option DeskFault) (crash_states : States → Type 0) (shut : Bool) → Ran s list answered end (Represents c shut) crash_states shut
+    → StateInvariant (fold s (take (length answered) list))
+ends_good c s list answered None crash_states shut ran = ran.ended.1.0.valid
+ends_good c s list answered (Some Store) crash_states shut ran = ran.ended.0.0.valid
+ends_good c s list answered (Some Memory) crash_states shut ran = ran.ended.0.0.valid
+ends_good c s list answered (Some Shut) crash_states shut ran = absurd ran.ended
+
+pub accounted : (c : store.State) (s : State) (list : List Envelope) (answered : List Reply) (end : Option DeskFault) (shut : Bool) → Ran s list answered end (Represents c shut) (HasCrashStates c) shut
+    → IsAccounted (fold s (take (length answered) list))
+accounted c s list answered end shut ran =
+    accounted_valid _ (ends_good c s list answered end (HasCrashStates c) shut ran)

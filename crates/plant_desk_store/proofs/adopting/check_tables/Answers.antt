@@ -1,0 +1,44 @@
+use Rattle.std.proofs.Common.{refl, inl, inr}
+use Rattle.std.proofs.lemmas.Result.{IfOk-weaker, IfErr-weaker}
+use Rattle.sqlite.specs.Held.{state}
+use Rattle.sqlite.specs.State.{HasCleanDisk, IsUnchanged}
+use Rattle.sql_tables.specs.StoredRows.{HaveStoredRows}
+use Rattle.plant_tables.specs.DeskTableDefs.{table_defs_of}
+use Rattle.plant_tables_read.specs.Loading.{AreLoaded, AreRising, contents_loaded}
+use Rattle.plant_desk_store.specs.Adopting.{NamesFirst}
+use Rattle.plant_desk_store.proofs.CheckedRows.{numbered}
+use Rattle.plant_desk_store.proofs.CheckedStore.{valid_rows, rows_of_valid, broken_tables}
+use Rattle.plant_desk_store.proofs.FaultsOfCalls.{adopted_rows, unread_rows}
+use Rattle.plant_desk_store.proofs.adopting.check_tables.Goals as goal
+
+pub returns-in-Ok : goal.returns-in-Ok
+returns-in-Ok g c =
+    let old = state g.S.Store c.args.connection.now in
+    let new = state g.S.Store c.read.new.conn in
+    let version = c.args.schema in
+    let read = c.read.result in
+    let x = c.in-Ok.loaded in
+    let is = c.in-Ok.ensures in
+    let checked = c.check_loaded.result in
+    let loaded : HasCleanDisk new → AreLoaded version old.now x = λ clean. adopted_rows (AreLoaded version old.now) read x is (c.read.ensures.rows clean) in
+    record {
+      reads = record { rests = c.read.ensures.mode; kept = c.read.ensures.kept; crash = c.read.ensures.crash };
+      valid = λ clean newly known. valid_rows version old.now x known (loaded clean) checked (adopted_rows (AreRising version) read x is c.read.ensures.ordered)
+          (adopted_rows (λ x. HaveStoredRows (table_defs_of version) old.now (contents_loaded x)) read x is (c.read.ensures.represents clean newly.rising)) c.check_loaded.ensures.fit;
+      reported = λ clean s held. IfOk-weaker checked _ _ (λ rows. rows_of_valid version old.now x held.known (loaded clean) s rows held) c.check_loaded.ensures.fit;
+      numbered = IfOk-weaker checked _ _ (numbered x version) c.check_loaded.ensures.fit;
+      unchanged = λ clean. IfOk-weaker checked _ _ (λ _ _. adopted_rows (λ _. IsUnchanged old new) read x is (c.read.ensures.same clean)) c.check_loaded.ensures.fit;
+      named = λ clean reported. IfErr-weaker checked _ _ (λ f. broken_tables version old.now x f reported (loaded clean)) c.check_loaded.ensures.broken;
+    }
+
+pub returns-in-Err : goal.returns-in-Err
+returns-in-Err g c =
+    let old = state g.S.Store c.args.connection.now in
+    record {
+      reads = record { rests = c.read.ensures.mode; kept = c.read.ensures.kept; crash = c.read.ensures.crash };
+      valid = λ clean newly known. tt;
+      reported = λ clean s held. tt;
+      numbered = tt;
+      unchanged = λ clean. tt;
+      named = λ clean reported. unread_rows (NamesFirst old.now) c.read.result c.in-Err.fault c.in-Err.ensures (λ none. inl (refl, inr (c.args.schema, reported, (rw none at c.read.ensures.missing) refl))) tt tt;
+    }

@@ -1,0 +1,17 @@
+-- What is decided by look-ups over a store.
+use Rattle.std.specs.Prelude.{◌≡◌, Some, None}
+use Rattle.plant_base.specs.State.{State}
+use Rattle.plant_base.specs.declared.command.Envelope.{Envelope}
+use Rattle.plant_base.specs.declared.rows.Receipt.{Receipt}
+use Rattle.plant_rules.specs.Step.{IsDecision}
+use Rattle.plant_rules.specs.Wrong.{wrong, kept_for}
+use Rattle.plant_desk_store.specs.declared.lookups.Decided.{Decided}
+
+-- the definitions' decision of the command at this state, and the number of commands accepted there
+pub record IsDecidedAt (s : State) (e : Envelope) (d : Decided) : Type 0 where
+  pub seq : d.seq ≡ s.seq
+  pub decides : IsDecision s e d.decision
+
+-- the command was accepted before: its reference is kept, and it fails no condition
+abbrev pub IsRepeat : State → Envelope → Type 0
+IsRepeat s e = (wrong s e ≡ None) × ((r : Receipt) × (kept_for s e ≡ Some r))

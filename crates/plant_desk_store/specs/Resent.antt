@@ -1,0 +1,60 @@
+-- What comes of a client who sends each command that was under way at a stop again, until it is acknowledged.
+use Rattle.std.specs.Prelude.{◌≡◌, List, [], ◌∷◌, IsSome, ⊤}
+use Rattle.sqlite.specs.Held.{Held, state}
+use Rattle.sqlite.specs.State.{HasCleanDisk}
+use Rattle.sqlite_trees.specs.declared.store.Store.{Ghosts}
+use Rattle.plant_base.specs.State.{State}
+use Rattle.plant_base.specs.declared.command.Envelope.{Envelope}
+use Rattle.plant_desk.specs.AppliedOnce.{once, plain, but_receipts}
+use Rattle.plant_desk.specs.Replies.{reply}
+use Rattle.plant_desk.specs.Sendings.{Outcome, answered, stopped_before, stopped_after, Sending, after, attempts}
+use Rattle.plant_desk_store.specs.Headline.{IsAtState, IsSoAt}
+use Rattle.plant_desk_store.specs.Executions.{Attempt, acknowledged, in_flight, PossibleOutcome, IsOpened, StorePhase, Execution}
+
+-- ---- the commands of a life are a sending
+
+-- what became of a command that was sent at this state: it was acknowledged by the definitions' reply, or it was under way at
+-- a stop, before it acted or behind that
+abbrev pub attempt_at : State → Envelope → Outcome → Attempt
+attempt_at s e answered = acknowledged e (reply s e)
+attempt_at s e stopped_before = in_flight e
+attempt_at s e stopped_after = in_flight e
+
+-- and of each command of a sending
+abbrev pub all_attempts : State → Sending → List Attempt
+all_attempts s [] = []
+all_attempts s (x ∷ xs) = attempt_at s x.0 x.1 ∷ all_attempts (after s x.0 x.1) xs
+
+-- Wherever the commands of a life may have led, a sending of just these commands leads.
+abbrev pub ExecutionsAreSendings : Type 0
+ExecutionsAreSendings = (s u : State) (list : List Attempt) → PossibleOutcome s list u → (xs : Sending) × (all_attempts s xs ≡ list) × (attempts s xs ≡ u)
+
+-- ---- each acts once
+
+-- the commands that were acknowledged, in order
+abbrev pub acknowledged_of : List Attempt → List Envelope
+acknowledged_of [] = []
+acknowledged_of (acknowledged e r ∷ more) = e ∷ acknowledged_of more
+acknowledged_of (in_flight e ∷ more) = acknowledged_of more
+
+-- the next command that was sent is this one
+abbrev pub IsNext : Envelope → List Attempt → Type 0
+IsNext e [] = ⊥
+IsNext e (acknowledged d r ∷ more) = d ≡ e
+IsNext e (in_flight d ∷ more) = d ≡ e
+
+-- each command that was under way at a stop has a reference, and is the next one again until it is acknowledged
+abbrev pub AreResent : List Attempt → Type 0
+AreResent [] = ⊤
+AreResent (acknowledged e r ∷ more) = AreResent more
+AreResent (in_flight e ∷ more) = IsSome e.reference × IsNext e more × AreResent more
+
+-- Then they lead, but for receipts, where the acknowledged commands lead, each taken once, in a desk without receipts.
+abbrev pub ExecutionsApplyOnce : Type 0
+ExecutionsApplyOnce = (s u : State) (list : List Attempt) → AreResent list → PossibleOutcome s list u → but_receipts u ≡ but_receipts (plain s (once s (acknowledged_of list)))
+
+-- So it is of a store, whatever it has been through since its first opening: what is found and kept there, as the headline
+-- says it, is of such a state.
+abbrev pub StoresApplyOnce : {S : Type 0} → Ghosts S → Type 0
+StoresApplyOnce {S} g = (first c : Held S) (phase : StorePhase) (list : List Attempt) → IsOpened (state g first) → Execution g first c phase list → HasCleanDisk (state g c) → AreResent list
+    → (s : State) × IsAtState s (state g first).now × ((now : State) × (but_receipts now ≡ but_receipts (plain s (once s (acknowledged_of list)))) × IsSoAt g c now phase)

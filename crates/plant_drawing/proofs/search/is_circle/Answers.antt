@@ -1,8 +1,0 @@
-use Rattle.std.proofs.Common.{◌∙◌, sym}
-use Rattle.plant_drawing.proofs.Leading.{way_more}
-use Rattle.plant_drawing.proofs.search.is_circle.Goals as goal
-
-pub loop-node-preserved : goal.loop-node-preserved
-loop-node-preserved c =
-    way_more c.args.ends.now.rows.now c.args.first.now c.loop-node.last c.node-item.result c.loop-node.node-index c.loop-node.invariant
-    (sym c.leads.ensures ∙ c.if-not-leads.false)

@@ -1,9 +1,0 @@
-use Rattle.plant_trace.specs.declared.node.Node.{Node}
-use Rattle.plant_drawing.specs.Layers.{AreSettled, IsLayered}
-use Rattle.plant_drawing.proofs.search.layer_node.Given as goal
-
-abbrev pub invariant-steps : goal.invariant-steps
-invariant-steps l = record {
-  settled : AreSettled l.ends.rows.now l.fn.layers → AreSettled l.ends.rows.now l.layers;
-  more : (other : Node) → IsLayered l.fn.layers other → IsLayered l.layers other;
-}

@@ -1,4 +1,0 @@
-pub mod Laid
-pub mod Layers
-pub mod Places
-pub mod Svg

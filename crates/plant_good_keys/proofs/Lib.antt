@@ -1,3 +1,0 @@
-pub mod AddedRows
-pub mod TableKeys
-pub mod Values

@@ -1,0 +1,71 @@
+-- What comes of the keeper's replies, where a stop of an open keeper leaves the state that it stands at.
+use Rattle.std.proofs.Common.{◌≡◌, ℕ, Bool, true, false, Result, Ok, Err, refl, sym, ap, ◌∙◌, inl, inr}
+use Rattle.plant_base.specs.State.{State}
+use Rattle.plant_base.specs.declared.command.Envelope.{Envelope}
+use Rattle.plant_desk.specs.Keepers.{States, Executes, Asks, shuts}
+use Rattle.plant_messages.specs.declared.question.Question.{Question}
+use Rattle.plant_messages.specs.declared.question.Answer.{Answer as DeskAnswer}
+use Rattle.plant_messages.specs.declared.reply.Reply.{Reply}
+use Rattle.plant_messages.specs.declared.reply.DeskFault.{DeskFault}
+use Rattle.plant_messages.specs.declared.reply.DeskFault.TheVariants.{Store, Memory, Shut}
+use Rattle.plant_text.specs.CrashStates.{RepresentsDurably}
+use Rattle.plant_text.proofs.RunCrashStates.{CrashStateIsOwn}
+use Rattle.plant_http_requests.specs.Jobs.{is_of_body, Reads}
+use Rattle.plant_http_requests.specs.declared.job.BodyFormat.{BodyFormat}
+use Rattle.plant_http_requests.specs.declared.job.Job.{Job}
+use Rattle.plant_http_requests.specs.declared.job.Job.TheVariants as J
+use Rattle.plant_http.specs.Answers.{Out, fault_out, reply_out, answer_out, shut_out, is_silent, rendered, Executed, Asked}
+use Rattle.plant_http.specs.Serving.{Performs, OutWhenShut}
+use Rattle.plant_http.specs.declared.answer.Answer.{Answer}
+
+pub command_performs : (k : ℕ) (s : State) (e : Envelope) (r : Result Reply DeskFault) (a : Answer) (represents : States) (shut : Bool) (crash_states : States → Type 0)
+    → CrashStateIsOwn represents shut crash_states → shut ≡ shuts r → Executes s represents crash_states e r → Executed r a → Performs k s (J.Command e) (rendered a) represents shut crash_states
+command_performs k s e (Ok r) a represents shut crash_states law is_live (is, represented) reported = inl (reported.parts ∙ ap reply_out is, (represented, law is_live _ represented), is_live)
+command_performs k s e (Err Store) a represents shut crash_states law closed (same, either) reported = inr (Store, refl, reported.parts, (same, (closed, either)), inr (same, either))
+command_performs k s e (Err Memory) a represents shut crash_states law is_live same reported = inr (Memory, refl, reported.parts, (same, is_live), (same, law is_live s same))
+command_performs k s e (Err Shut) a represents shut crash_states law is_live none reported = absurd none
+
+pub question_performs : (k : ℕ) (s : State) (q : Question) (body_format : BodyFormat) (silent : Bool) (r : Result DeskAnswer DeskFault) (out : Out) (represents : States) (shut : Bool) (crash_states : States → Type 0)
+    → CrashStateIsOwn represents shut crash_states → shut ≡ false → Asks k s represents q r → Asked body_format r out → Performs k s (J.Ask q body_format silent) out represents shut crash_states
+question_performs k s q body_format silent (Ok a) out represents shut crash_states law is_live (is, same) (inl e) = inl (e ∙ ap (answer_out body_format) is, (same, law is_live s same), is_live)
+question_performs k s q body_format silent (Ok a) out represents shut crash_states law is_live (is, same) (inr e) = inr (Memory, refl, e, (same, is_live), (same, law is_live s same))
+question_performs k s q body_format silent (Err Store) out represents shut crash_states law is_live same e = inr (Store, refl, e, (same, is_live), inl (same, law is_live s same))
+question_performs k s q body_format silent (Err Memory) out represents shut crash_states law is_live same e = inr (Memory, refl, e, (same, is_live), (same, law is_live s same))
+question_performs k s q body_format silent (Err Shut) out represents shut crash_states law is_live none e = absurd none
+
+-- ---- want of memory in reading a body
+
+no_memory : (k : ℕ) (s : State) (j : Job) (out : Out) (represents : States) (shut : Bool) (crash_states : States → Type 0) → is_of_body j ≡ true → out ≡ fault_out Memory
+    → RepresentsDurably represents crash_states s → shut ≡ false → Performs k s j out represents shut crash_states
+no_memory k s (J.Refuse status allow silent) out represents shut crash_states h e alone is_live = absurd (cc)
+no_memory k s (J.Ask q body_format silent) out represents shut crash_states h e alone is_live = absurd (cc)
+no_memory k s (J.Command c) out represents shut crash_states h e alone is_live = inr (Memory, refl, e, (alone.0, is_live), alone)
+no_memory k s J.BadForm out represents shut crash_states h e alone is_live = inr (Memory, refl, e, (alone.0, is_live), alone)
+no_memory k s (J.BadFile f) out represents shut crash_states h e alone is_live = inr (Memory, refl, e, (alone.0, is_live), alone)
+no_memory k s J.MemoryError out represents shut crash_states h e alone is_live = absurd (cc)
+
+memory_performs : (k : ℕ) (s : State) (j : Job) (out : Out) (represents : States) (shut : Bool) (crash_states : States → Type 0) → is_of_body j ≡ true
+    → Performs k s J.MemoryError out represents shut crash_states → Performs k s j out represents shut crash_states
+memory_performs k s j out represents shut crash_states h (inl (e, alone, is_live)) = no_memory k s j out represents shut crash_states h e alone is_live
+memory_performs k s j out represents shut crash_states h (inr (Store, may, e, left, alone)) = absurd left.1
+memory_performs k s j out represents shut crash_states h (inr (Memory, may, e, left, alone)) = no_memory k s j out represents shut crash_states h e alone left.1
+memory_performs k s j out represents shut crash_states h (inr (Shut, may, e, left, alone)) = absurd left
+
+-- a job that was read is the one that is asked for, want of memory aside
+pub reads_performs : (k : ℕ) (s : State) (job j : Job) (out : Out) (represents : States) (shut : Bool) (crash_states : States → Type 0) → Reads job j
+    → Performs k s job out represents shut crash_states → Performs k s j out represents shut crash_states
+reads_performs k s J.MemoryError j out represents shut crash_states h p = memory_performs k s j out represents shut crash_states h p
+reads_performs k s _ j out represents shut crash_states h p = rw (sym h) p
+
+body_is_loud : (j : Job) → is_of_body j ≡ true → false ≡ is_silent j
+body_is_loud (J.Refuse status allow silent) h = absurd (cc)
+body_is_loud (J.Ask q body_format silent) h = absurd (cc)
+body_is_loud _ h = refl
+
+pub reads_silent : (job j : Job) → Reads job j → is_silent job ≡ is_silent j
+reads_silent J.MemoryError j h = body_is_loud j h
+reads_silent _ j h = ap is_silent h
+
+pub reads_shut : (job j : Job) → Reads job j → OutWhenShut j (shut_out job)
+reads_shut J.MemoryError j h = inr (h, refl)
+reads_shut _ j h = inl (ap shut_out h)

@@ -1,0 +1,74 @@
+-- What bodies ask for, and that an input asks for one thing.
+use Rattle.std.proofs.Common.{◌≡◌, ℕ, Bool, true, false, List, [], drop, take, Option, Some, None, Result, Ok, Err, refl, sym, ap, ◌∙◌}
+use Rattle.std.specs.Prelude.{nat_lt, IfOk, IsErrOf}
+use Rattle.std.specs.Bool.{MatchBool}
+use Rattle.httparse.specs.Grammar.{RequestHead}
+use Rattle.httparse.proofs.GrammarLemmas.{request_unique}
+use Rattle.plant_base.specs.declared.rows.OrderRow.{OrderRow}
+use Rattle.plant_orders.specs.Orders.{FailsAs}
+use Rattle.plant_orders.specs.declared.fault.CsvFault.{CsvFault}
+use Rattle.plant_orders.specs.declared.fault.CsvKind.{CsvKind}
+use Rattle.plant_orders.specs.declared.fault.CsvKind.TheVariants as csv
+use Rattle.plant_orders.specs.declared.importing.ImportMetadata.{ImportMetadata}
+use Rattle.plant_text.specs.declared.read.Line.{Line}
+use Rattle.plant_text.specs.declared.read.Line.TheVariants as L
+use Rattle.plant_text.specs.declared.LineFault.{LineFault}
+use Rattle.plant_text.specs.declared.LineFault.TheVariants as line
+use Rattle.plant_http_requests.specs.declared.reading.HeadEnd.{HeadEnd}
+use Rattle.plant_http_requests.specs.declared.reading.HeadEnd.TheVariants as end
+use Rattle.plant_http_requests.specs.HeadEnd.{end_of_head}
+use Rattle.plant_http_requests.specs.Heads.{field_lines, Parsed}
+use Rattle.plant_http_requests.specs.Steps.{fails}
+use Rattle.plant_http_requests.specs.Jobs.{command_job, command_of, file_job, fault_job_of, is_of_body, Reads, EndJob, JobOf, parsed_step, finish}
+use Rattle.plant_http_requests.specs.declared.job.Job.{Job}
+use Rattle.plant_http_requests.specs.declared.job.HeadStep.{HeadStep}
+use Rattle.plant_http_requests.specs.declared.status.Status.TheVariants.{HeadTooLarge}
+
+command_is_of_body : (o : Option Line) → is_of_body (command_job o) ≡ true
+command_is_of_body None = refl
+command_is_of_body (Some (L.Command e)) = refl
+command_is_of_body (Some (L.Question q)) = refl
+
+-- what was read of a line is what it asks for, want of memory aside
+pub command_reads : (read : Result Line LineFault) (o : Option Line) → IfOk read (λ said. o ≡ Some said) → (IsErrOf read line.BadForm → o ≡ None)
+    → Reads (command_of read) (command_job o)
+command_reads (Ok (L.Command e)) o said bad = ap command_job (sym said)
+command_reads (Ok (L.Question q)) o said bad = ap command_job (sym said)
+command_reads (Err line.BadForm) o said bad = ap command_job (sym (bad refl))
+command_reads (Err line.Memory) o said bad = command_is_of_body o
+
+file_is_of_body : (import_metadata : ImportMetadata) (read : Result (List OrderRow) CsvFault) → is_of_body (file_job import_metadata read) ≡ true
+file_is_of_body import_metadata (Ok orders) = refl
+file_is_of_body import_metadata (Err fault) = refl
+
+pub fault_reads : (kind : CsvKind) (e : CsvFault) (import_metadata : ImportMetadata) (read : Result (List OrderRow) CsvFault) → FailsAs kind e read
+    → Reads (fault_job_of kind e) (file_job import_metadata read)
+fault_reads csv.Memory e import_metadata read h = file_is_of_body import_metadata read
+fault_reads csv.TooLong e import_metadata read h = ap (file_job import_metadata) (sym h)
+fault_reads _ e import_metadata read h = ap (file_job import_metadata) (sym h)
+
+-- ---- an input asks for one thing
+
+one_head : (head : List ℕ) (p q : Option RequestHead) → Parsed head p → Parsed head q → p ≡ q
+one_head head None None a b = refl
+one_head head None (Some h) a b = absurd (a h b.1 b.0)
+one_head head (Some h) None a b = absurd (b h a.1 a.0)
+one_head head (Some h) (Some k) a b = ap Some (request_unique head h k [] [] a.0 b.0).0
+
+abbrev StepBy : Bool → List ℕ → HeadStep → HeadStep → Type 0
+StepBy many head many_step step = MatchBool many (step ≡ many_step) ((p : Option RequestHead) × Parsed head p × (step ≡ parsed_step p))
+
+one_step : (many : Bool) (head : List ℕ) (many_step a b : HeadStep) → StepBy many head many_step a → StepBy many head many_step b → a ≡ b
+one_step true head many_step a b x y = x ∙ sym y
+one_step false head many_step a b x y = x.2 ∙ ap parsed_step (one_head head x.0 y.0 x.1 y.1) ∙ sym y.2
+
+one_at_end : (e : HeadEnd) (whole : List ℕ) (a b : Option Job) → EndJob e whole a → EndJob e whole b → a ≡ b
+one_at_end end.Nothing whole a b x y = x ∙ sym y
+one_at_end end.Early whole a b x y = x ∙ sym y
+one_at_end end.TooLong whole a b x y = x ∙ sym y
+one_at_end (end.Found n) whole a b (i, x, (s, xs, xf)) (j, y, (t, yt, yf)) =
+    let same = one_step (nat_lt 32 (field_lines (take n whole))) (take n whole) (fails HeadTooLarge false) s t xs yt in
+    x ∙ ap Some (xf ∙ ap (λ step. finish step (drop n whole)) same ∙ sym yf) ∙ sym y
+
+pub one_job : (whole : List ℕ) (a b : Option Job) → JobOf whole a → JobOf whole b → a ≡ b
+one_job whole a b x y = one_at_end (end_of_head whole) whole a b x y

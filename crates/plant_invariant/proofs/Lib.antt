@@ -1,0 +1,12 @@
+pub mod BatchesKeepToRecipes
+pub mod SublotBirths
+pub mod OneMoreCommand
+pub mod KeptColumns
+pub mod LineValues
+pub mod ListsThatGrow
+pub mod NumbersAfterCommand
+pub mod MergeIsOneBooking
+pub mod RecallsStayValid
+pub mod ReceiptsStayValid
+pub mod StepPreservesInvariant
+pub mod MomentsAfterCommand

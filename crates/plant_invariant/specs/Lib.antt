@@ -1,0 +1,9 @@
+pub mod Births
+pub mod Bookings
+pub mod Columns
+pub mod StateInvariant
+pub mod KeepToRecipes
+pub mod Recalls
+pub mod Receipts
+pub mod Moments
+pub mod RowValues

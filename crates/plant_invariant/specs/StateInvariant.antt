@@ -1,0 +1,39 @@
+-- The states that commands lead to, with all that their rows tell.
+use Rattle.plant_base.specs.State.{State, opening, newest_schema}
+use Rattle.plant_base.specs.WellFormedCommands.{HasValues}
+use Rattle.plant_base.specs.declared.command.Envelope.{Envelope}
+use Rattle.plant_view.specs.DecisionInvariant.{DecisionInvariant}
+use Rattle.plant_view.specs.Tables.{tables_of}
+use Rattle.plant_rules.specs.Step.{step}
+use Rattle.plant_invariant.specs.RowValues.{HasRowValues}
+use Rattle.plant_invariant.specs.Bookings.{IsNumbered}
+use Rattle.plant_invariant.specs.Moments.{HasMoments}
+use Rattle.plant_invariant.specs.Births.{AreBorn}
+use Rattle.plant_invariant.specs.KeepToRecipes.{KeepToRecipes}
+use Rattle.plant_invariant.specs.Columns.{HasColumns}
+use Rattle.plant_invariant.specs.Receipts.{AreValidReceipts}
+use Rattle.plant_invariant.specs.Recalls.{AreValidRecalls}
+
+pub record StateInvariant (s : State) : Type 0 where
+  pub sound : DecisionInvariant s
+  pub values : HasRowValues s
+  pub births : AreBorn s.lots s.places s.movements
+  pub kept : KeepToRecipes s.lots s.control_lines s.movements
+  pub numbers : IsNumbered s.seq s.movements s.events
+  pub moments : HasMoments s.at s.movements s.events s.batches s.holds
+  pub receipts : AreValidReceipts s.seq s.receipts
+  pub recalls : AreValidRecalls s.at s.lots s.recalls
+
+-- ---- laws
+
+-- the desk opens good
+abbrev pub OpeningHasInvariant : Type 0
+OpeningHasInvariant = StateInvariant opening
+
+-- and each command leaves it so
+abbrev pub StepPreservesInvariant : Type 0
+StepPreservesInvariant = (s : State) → StateInvariant s → (e : Envelope) → HasValues e → StateInvariant (step s e)
+
+-- the tables of a good state keep the rules of their columns
+abbrev pub InvariantImpliesColumns : Type 0
+InvariantImpliesColumns = (s : State) → StateInvariant s → HasColumns (tables_of newest_schema s)

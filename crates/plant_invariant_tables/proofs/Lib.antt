@@ -1,0 +1,3 @@
+pub mod AddedRowsAreFresh
+pub mod RowsInKeyOrder
+pub mod TablesHaveValidValues

@@ -1,0 +1,22 @@
+-- What the tables of good states tell of the rows that commands change: no row that is added has the key of another.
+use Rattle.std.specs.Prelude.{◌≡◌, ℕ, true, List}
+use Rattle.plant_base.specs.State.{State, newest_schema}
+use Rattle.plant_base.specs.WellFormedCommands.{HasValues}
+use Rattle.plant_base.specs.declared.command.Envelope.{Envelope}
+use Rattle.plant_view.specs.OneBatch.{puts_one_batch}
+use Rattle.plant_view.specs.Tables.{tables_of, changed_all}
+use Rattle.plant_view.specs.declared.change.RowChange.{RowChange}
+use Rattle.plant_rules.specs.Step.{step}
+use Rattle.plant_invariant.specs.StateInvariant.{StateInvariant}
+use Rattle.plant_tables.specs.Keyed.{AreKeyed, AreFresh}
+
+-- ---- laws
+
+-- in each schema, the rows of a good state's tables stand in the order of their keys
+abbrev pub InvariantImpliesKeys : Type 0
+InvariantImpliesKeys = (schema : ℕ) (s : State) → StateInvariant s → AreKeyed (tables_of schema s)
+
+-- changes that make the tables after a command of those before it add each row under a key of its own
+abbrev pub StepIsFresh : Type 0
+StepIsFresh = (s : State) → StateInvariant s → (e : Envelope) → HasValues e → (rows : List RowChange)
+    → changed_all rows (tables_of newest_schema s) ≡ tables_of newest_schema (step s e) → puts_one_batch rows ≡ true → AreFresh rows (tables_of newest_schema s)

@@ -1,0 +1,111 @@
+-- A page of a table of a good state is the first of the rows that pass.
+use Rattle.std.proofs.Common.{◌≡◌, ◌∙◌, ◌≤◌, ◌+◌, ℕ, zero, suc, Bool, false, List, [], ◌∷◌, map, filter, take, length, nat_lt, Option, Some, refl, sym, ap, subst, arith}
+use Rattle.std.specs.Prelude.{IsSorted}
+use Rattle.std.specs.List.{AllByRecursion}
+use Rattle.std.specs.List.Sorted.{IsStrictlySortedBy, IsPermutation}
+use Rattle.std.specs.Cmp.{IsTotalOrder}
+use Rattle.std.specs.Ordering.{is_lt, ordering_reverse}
+use Rattle.std.specs.declared.cmp.Ordering.{Ordering}
+use Rattle.std.specs.declared.cmp.Ordering.TheVariants.{Less, Equal, Greater}
+use Rattle.std.proofs.lemmas.Bool.{false≢true}
+use Rattle.std.proofs.lemmas.Cmp.{then_total, on_total}
+use Rattle.std.proofs.lemmas.List.{length-map}
+use Rattle.std.proofs.lemmas.List.Kept.{IsStrictlySortedBy-filter}
+use Rattle.std.proofs.lemmas.List.Sorted.{IsPermutation-sym, IsPermutation-trans, length_permutation}
+use Rattle.sqlite.specs.Effect.{Database}
+use Rattle.sqlite.specs.Order.{Row, column}
+use Rattle.sqlite.specs.declared.types.Value.TheVariants.{Null}
+use Rattle.sqlite_value.proofs.OrderLemmas.{value_cmp_total}
+use Rattle.sqlite_trees.proofs.ListLemmas.{IsPermutation-filter}
+use Rattle.plant_base.specs.State.{put}
+use Rattle.sql_tables.specs.TableDefs.{TableDef}
+use Rattle.sql_tables.specs.Rows.{columns_of}
+use Rattle.sql_tables.specs.StoredRows.{HasStoredRows}
+use Rattle.sql_queries.specs.Selects.{first_of}
+use Rattle.sql_queries.proofs.RowsUpToOrder.{one_tree}
+use Rattle.sql_queries.specs.Paging.{is_beyond, stored_order}
+use Rattle.plant_tables.proofs.RowChangeIsTableChange.{all_filter}
+use Rattle.plant_tables_columns.specs.DecodedRows.{all_from}
+use Rattle.plant_tables_columns.proofs.OptionalValues.{some_same}
+use Rattle.plant_tables_read.proofs.SortedRowsAreUnique.{sorted_keys}
+use Rattle.plant_tables_read.proofs.AllRowsDecoded.{map_same, all_again}
+use Rattle.plant_keyed.specs.Sorting.{in_order}
+use Rattle.plant_keyed.specs.Paging.{IsPaged}
+use Rattle.plant_keyed.proofs.InOrderAgain.{again_in_order}
+use Rattle.plant_worklists.proofs.FoundRows.{of_mapped, take_mapped}
+use Rattle.plant_worklists.specs.Pages.{page_size, page_of}
+use Rattle.plant_worklists.specs.declared.page.Page.{Page}
+
+stored_total : (places : List ℕ) → IsTotalOrder (stored_order places)
+stored_total [] = record { antisymm = λ a b. refl; trans = λ a b c less more. less; congr = λ a b c same. refl }
+stored_total (place ∷ places) = then_total (on_total (λ (row : Row). column (Null ∷ row) place) value_cmp_total) (stored_total places)
+
+module _ {R : Type 0} (order : R → R → Ordering) (total : IsTotalOrder order) where
+  put_by : (y : R) (z : R) (zs : List R) → length (put order y (z ∷ zs)) ≡ suc (length (z ∷ zs)) → is_lt (order z y) ≡ false → (o : Ordering) → order y z ≡ o → put order y (z ∷ zs) ≡ y ∷ z ∷ zs
+  put_by y z zs long after Less e = rw e refl
+  put_by y z zs long after Equal e = absurd (let same = rw e at long in omega (arith, same))
+  put_by y z zs long after Greater e =
+      let back : order z y ≡ Less = total.antisymm z y ∙ ap ordering_reverse e in
+      absurd (false≢true (sym after ∙ ap is_lt back))
+
+  short_by : (y z : R) (zs : List R) → length (put order y zs) ≤ suc (length zs) → (o : Ordering) → order y z ≡ o → length (put order y (z ∷ zs)) ≤ suc (length (z ∷ zs))
+  short_by y z zs less Less e = rw e (omega arith)
+  short_by y z zs less Equal e = rw e (omega arith)
+  short_by y z zs less Greater e = rw e (omega (arith, less))
+
+  short : (y : R) (zs : List R) → length (put order y zs) ≤ suc (length zs)
+  short y [] = omega arith
+  short y (z ∷ zs) = short_by y z zs (short y zs) (order y z) refl
+
+  no_longer : (ys : List R) → length (in_order order ys) ≤ length ys
+  no_longer [] = omega arith
+  no_longer (y ∷ ys) = let one = short y (in_order order ys) in let more = no_longer ys in omega (arith, one, more)
+
+  first_put : (y : R) (ys : List R) → IsSorted order (y ∷ ys) → length (put order y ys) ≡ suc (length ys) → put order y ys ≡ y ∷ ys
+  first_put y [] sorted long = refl
+  first_put y (z ∷ zs) sorted long = put_by y z zs long (sorted 0 y (omega arith) (omega arith)) (order y z) refl
+
+  -- rows in order that have no key twice stay as they are
+  pub stays_in_order : (ys : List R) → IsSorted order ys → length (in_order order ys) ≡ length ys → in_order order ys ≡ ys
+  stays_in_order [] sorted long = refl
+  stays_in_order (y ∷ ys) sorted long =
+      let one = short y (in_order order ys) in
+      let more = no_longer ys in
+      let whole : length (in_order order ys) ≡ length ys = omega (arith, one, more, long) in
+      let rest = stays_in_order ys (λ k d from low.
+      let next : suc k + 1 ≡ suc (k + 1) = omega arith in
+      rw next at (sorted (suc k) d (omega arith) (omega (arith, low)))) whole in
+      let prefix : length (put order y ys) ≡ suc (length ys) = rw rest at long in
+      rw rest (first_put y ys sorted prefix)
+
+all_take : {X : Type 0} (P : X → Type 0) (n : ℕ) (xs : List X) → AllByRecursion P xs → AllByRecursion P (take n xs)
+all_take P zero xs all = tt
+all_take P (suc n) [] all = tt
+all_take P (suc n) (x ∷ xs) all = (all.0, all_take P n xs all.1)
+
+module _ {R : Type 0} (row_from : Row → Option R) (written : R → Row) (P : R → Type 0) (again : (r : R) → P r → row_from (written r) ≡ Some r) (table_def : TableDef) (order : R → R → Ordering)
+    (by_key : (a b : R) → order a b ≡ stored_order (first_of table_def.keys) (written a) (written b))
+    (db : Database) (rs : List R) (represents : HasStoredRows db table_def (map written rs)) (sorted : IsStrictlySortedBy order rs) (all : AllByRecursion P rs)
+    (places : List ℕ) (next : ℕ) (values : Row) (p : R → Bool) (tests : (r : R) → is_beyond places next values (written r) ≡ p r) where
+  -- the rows of a page are the first of those that pass, as they were written
+  pub page_again : (page : Page R) → IsPaged db table_def row_from places next values page → page ≡ page_of (filter p rs)
+  page_again page is =
+      let paged = is.paged in
+      let key = stored_order (first_of table_def.keys) in
+      let total = stored_total (first_of table_def.keys) in
+      let here = map (columns_of table_def) (db.trees represents.tree) in
+      let test = is_beyond places next values in
+      let there : IsPermutation paged.whole (filter test here) = subst (λ tree. IsPermutation paged.whole (filter test (map (columns_of table_def) (db.trees tree)))) (one_tree db.schema table_def paged.at paged.tree represents.at represents.tree paged.declared represents.declared) paged.same in
+      let back : IsPermutation (filter test here) (filter test (map written rs)) = IsPermutation-filter test here (map written rs) (IsPermutation-sym (map written rs) here represents.same) in
+      let list = map written (filter p rs) in
+      let moved : IsPermutation paged.whole list = subst (IsPermutation paged.whole) (of_mapped written test p tests rs) (IsPermutation-trans paged.whole (filter test here) (filter test (map written rs)) there back) in
+      let turned : IsPermutation list paged.whole = IsPermutation-sym paged.whole list moved in
+      let strict : IsStrictlySortedBy key list = sorted_keys written order key by_key (filter p rs) (IsStrictlySortedBy-filter order p rs sorted) in
+      let put_back : in_order key paged.whole ≡ list = again_in_order key total list paged.whole strict turned in
+      let long : length (in_order key paged.whole) ≡ length paged.whole = ap length put_back ∙ length_permutation paged.whole list moved in
+      let one : paged.whole ≡ list = sym (stays_in_order key total paged.whole paged.sorted long) ∙ put_back in
+      let cut : is.stored ≡ map written (take page_size (filter p rs)) = paged.cut ∙ ap (take page_size) one ∙ take_mapped written page_size (filter p rs) in
+      let reported : all_from row_from is.stored ≡ Some (map (λ r. r) (take page_size (filter p rs))) = ap (all_from row_from) cut ∙ all_again row_from written (λ r. r) P again (take page_size (filter p rs)) (all_take P page_size (filter p rs) (all_filter P p rs all)) in
+      let rows_are : page.rows ≡ take page_size (filter p rs) = some_same page.rows (map (λ r. r) (take page_size (filter p rs))) (sym is.read ∙ reported) ∙ map_same (take page_size (filter p rs)) in
+      let more_is : page.has_more ≡ nat_lt page_size (length (filter p rs)) = paged.reported ∙ ap (λ l. nat_lt page_size (length l)) one ∙ ap (nat_lt page_size) (length-map (filter p rs) written) in
+      λ i. record { rows = rows_are i; has_more = more_is i }

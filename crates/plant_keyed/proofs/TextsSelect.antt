@@ -1,0 +1,168 @@
+-- The texts of the look-ups, by computing what the parser reads.
+use Rattle.std.proofs.Common.{refl, [], ◌∷◌, codes}
+use Rattle.sqlite_tied.specs.Compute.{everything}
+use Rattle.sql_queries.specs.Paging.{SelectsPage}
+use Rattle.sql_queries.specs.Selects.{Selects}
+use Rattle.plant_tables.specs.DeskTableDefs.{meta_table, class_table, definition_table, recipe_table, recipe_line_table, job_table, batch_table, control_line_table, batch_event_table, lot_table, sublot_table, movement_table, hold_table, edge_table, receipt_table, recall_table, mark_table}
+
+pub meta : Selects meta_table [] (codes "SELECT k, schema, seq, at FROM meta ORDER BY k")
+unfolding everything
+meta = record { readable = refl; compared = refl; parameters = []; written = refl }
+
+pub class_by_id : Selects class_table (1 ∷ []) (codes "SELECT id, name FROM class WHERE id = ?1 ORDER BY id")
+unfolding everything
+class_by_id = record { readable = refl; compared = refl; parameters = codes "?1" ∷ []; written = refl }
+
+pub definition_by_id : Selects definition_table (1 ∷ []) (codes "SELECT id, class, name, unit FROM definition WHERE id = ?1 ORDER BY id")
+unfolding everything
+definition_by_id = record { readable = refl; compared = refl; parameters = codes "?1" ∷ []; written = refl }
+
+pub recipe_by_key : Selects recipe_table (1 ∷ 2 ∷ []) (codes "SELECT id, version, product, base, low, high, title, state FROM recipe WHERE id = ?1 AND version = ?2 ORDER BY id, version")
+unfolding everything
+recipe_by_key = record { readable = refl; compared = refl; parameters = codes "?1" ∷ codes "?2" ∷ []; written = refl }
+
+pub lines_of_recipe : Selects recipe_line_table (1 ∷ 2 ∷ []) (codes "SELECT recipe, version, no, kind, def, qty, t1, t2, t3 FROM recipe_line WHERE recipe = ?1 AND version = ?2 ORDER BY recipe, version, no")
+unfolding everything
+lines_of_recipe = record { readable = refl; compared = refl; parameters = codes "?1" ∷ codes "?2" ∷ []; written = refl }
+
+pub job_by_id : Selects job_table (1 ∷ []) (codes "SELECT id, recipe, version, size, due, priority, state FROM job WHERE id = ?1 ORDER BY id")
+unfolding everything
+job_by_id = record { readable = refl; compared = refl; parameters = codes "?1" ∷ []; written = refl }
+
+pub batch_by_id : Selects batch_table (1 ∷ []) (codes "SELECT id, job, at, by_who, note, state, attempt, next, closed FROM batch WHERE id = ?1 ORDER BY id")
+unfolding everything
+batch_by_id = record { readable = refl; compared = refl; parameters = codes "?1" ∷ []; written = refl }
+
+pub batch_by_job : Selects batch_table (2 ∷ []) (codes "SELECT id, job, at, by_who, note, state, attempt, next, closed FROM batch WHERE job = ?1 ORDER BY id")
+unfolding everything
+batch_by_job = record { readable = refl; compared = refl; parameters = codes "?1" ∷ []; written = refl }
+
+pub lines_of_batch : Selects control_line_table (1 ∷ []) (codes "SELECT batch, no, kind, def, qty, t1, t2, t3 FROM control_line WHERE batch = ?1 ORDER BY batch, no")
+unfolding everything
+lines_of_batch = record { readable = refl; compared = refl; parameters = codes "?1" ∷ []; written = refl }
+
+pub events_of_batch : Selects batch_event_table (2 ∷ []) (codes "SELECT seq, batch, word, phase, at, by_who, note FROM batch_event WHERE batch = ?1 ORDER BY seq")
+unfolding everything
+events_of_batch = record { readable = refl; compared = refl; parameters = codes "?1" ∷ []; written = refl }
+
+pub lot_by_id : Selects lot_table (1 ∷ []) (codes "SELECT id, def FROM lot WHERE id = ?1 ORDER BY id")
+unfolding everything
+lot_by_id = record { readable = refl; compared = refl; parameters = codes "?1" ∷ []; written = refl }
+
+pub sublot_by_key : Selects sublot_table (1 ∷ 2 ∷ []) (codes "SELECT lot, no, place, stock FROM sublot WHERE lot = ?1 AND no = ?2 ORDER BY lot, no")
+unfolding everything
+sublot_by_key = record { readable = refl; compared = refl; parameters = codes "?1" ∷ codes "?2" ∷ []; written = refl }
+
+pub sublots_of_lot : Selects sublot_table (1 ∷ []) (codes "SELECT lot, no, place, stock FROM sublot WHERE lot = ?1 ORDER BY lot, no")
+unfolding everything
+sublots_of_lot = record { readable = refl; compared = refl; parameters = codes "?1" ∷ []; written = refl }
+
+pub movements_of_batch : Selects movement_table (8 ∷ []) (codes "SELECT seq, line, kind, lot, sub, lot2, sub2, batch, amount, at, by_who, note FROM movement WHERE batch = ?1 ORDER BY seq, line")
+unfolding everything
+movements_of_batch = record { readable = refl; compared = refl; parameters = codes "?1" ∷ []; written = refl }
+
+pub movements_of_lot_and_kind : Selects movement_table (4 ∷ 3 ∷ []) (codes "SELECT seq, line, kind, lot, sub, lot2, sub2, batch, amount, at, by_who, note FROM movement WHERE lot = ?1 AND kind = ?2 ORDER BY seq, line")
+unfolding everything
+movements_of_lot_and_kind = record { readable = refl; compared = refl; parameters = codes "?1" ∷ codes "?2" ∷ []; written = refl }
+
+pub movements_into_lot : Selects movement_table (6 ∷ []) (codes "SELECT seq, line, kind, lot, sub, lot2, sub2, batch, amount, at, by_who, note FROM movement WHERE lot2 = ?1 ORDER BY seq, line")
+unfolding everything
+movements_into_lot = record { readable = refl; compared = refl; parameters = codes "?1" ∷ []; written = refl }
+
+pub hold_by_key : Selects hold_table (1 ∷ 2 ∷ []) (codes "SELECT lot, id, at, by_who, note FROM hold WHERE lot = ?1 AND id = ?2 ORDER BY lot, id")
+unfolding everything
+hold_by_key = record { readable = refl; compared = refl; parameters = codes "?1" ∷ codes "?2" ∷ []; written = refl }
+
+pub holds_of_lot : Selects hold_table (1 ∷ []) (codes "SELECT lot, id, at, by_who, note FROM hold WHERE lot = ?1 ORDER BY lot, id")
+unfolding everything
+holds_of_lot = record { readable = refl; compared = refl; parameters = codes "?1" ∷ []; written = refl }
+
+pub receipt_by_id : Selects receipt_table (1 ∷ []) (codes "SELECT id, seq, content FROM receipt WHERE id = ?1 ORDER BY id")
+unfolding everything
+receipt_by_id = record { readable = refl; compared = refl; parameters = codes "?1" ∷ []; written = refl }
+
+pub recall_by_id : Selects recall_table (1 ∷ []) (codes "SELECT id, lot, state, at, by_who, note, lift_at, lift_by, lift_note FROM recall WHERE id = ?1 ORDER BY id")
+unfolding everything
+recall_by_id = record { readable = refl; compared = refl; parameters = codes "?1" ∷ []; written = refl }
+
+pub marks_on_node : Selects mark_table (2 ∷ 3 ∷ []) (codes "SELECT recall, kind, id FROM mark WHERE kind = ?1 AND id = ?2 ORDER BY recall, kind, id")
+unfolding everything
+marks_on_node = record { readable = refl; compared = refl; parameters = codes "?1" ∷ codes "?2" ∷ []; written = refl }
+
+pub edges_from : Selects edge_table (1 ∷ 2 ∷ []) (codes "SELECT kind, a, b FROM edge WHERE kind = ?1 AND a = ?2 ORDER BY kind, a, b")
+unfolding everything
+edges_from = record { readable = refl; compared = refl; parameters = codes "?1" ∷ codes "?2" ∷ []; written = refl }
+
+pub edges_to : Selects edge_table (1 ∷ 3 ∷ []) (codes "SELECT kind, a, b FROM edge WHERE kind = ?1 AND b = ?2 ORDER BY kind, a, b")
+unfolding everything
+edges_to = record { readable = refl; compared = refl; parameters = codes "?1" ∷ codes "?2" ∷ []; written = refl }
+
+pub edges : Selects edge_table [] (codes "SELECT kind, a, b FROM edge ORDER BY kind, a, b")
+unfolding everything
+edges = record { readable = refl; compared = refl; parameters = []; written = refl }
+
+-- ---- pages
+
+pub orders_in_state : SelectsPage job_table (7 ∷ []) 1 (codes "SELECT id, recipe, version, size, due, priority, state FROM job WHERE state = ?1 AND id > ?2 ORDER BY id LIMIT ?3")
+unfolding everything
+orders_in_state = record { readable = refl; compared = refl; bounded = refl; ordered = refl; parameters = codes "?1" ∷ codes "?2" ∷ codes "?3" ∷ []; written = refl }
+
+pub batches_by_closed : SelectsPage batch_table (9 ∷ []) 1 (codes "SELECT id, job, at, by_who, note, state, attempt, next, closed FROM batch WHERE closed = ?1 AND id > ?2 ORDER BY id LIMIT ?3")
+unfolding everything
+batches_by_closed = record { readable = refl; compared = refl; bounded = refl; ordered = refl; parameters = codes "?1" ∷ codes "?2" ∷ codes "?3" ∷ []; written = refl }
+
+pub lots_of_definition : SelectsPage lot_table (2 ∷ []) 1 (codes "SELECT id, def FROM lot WHERE def = ?1 AND id > ?2 ORDER BY id LIMIT ?3")
+unfolding everything
+lots_of_definition = record { readable = refl; compared = refl; bounded = refl; ordered = refl; parameters = codes "?1" ∷ codes "?2" ∷ codes "?3" ∷ []; written = refl }
+
+pub holds_on_lot : SelectsPage hold_table (1 ∷ []) 2 (codes "SELECT lot, id, at, by_who, note FROM hold WHERE lot = ?1 AND id > ?2 ORDER BY lot, id LIMIT ?3")
+unfolding everything
+holds_on_lot = record { readable = refl; compared = refl; bounded = refl; ordered = refl; parameters = codes "?1" ∷ codes "?2" ∷ codes "?3" ∷ []; written = refl }
+
+pub recalls_in_state : SelectsPage recall_table (3 ∷ []) 1 (codes "SELECT id, lot, state, at, by_who, note, lift_at, lift_by, lift_note FROM recall WHERE state = ?1 AND id > ?2 ORDER BY id LIMIT ?3")
+unfolding everything
+recalls_in_state = record { readable = refl; compared = refl; bounded = refl; ordered = refl; parameters = codes "?1" ∷ codes "?2" ∷ codes "?3" ∷ []; written = refl }
+
+pub definitions_of_class : SelectsPage definition_table (2 ∷ []) 1 (codes "SELECT id, class, name, unit FROM definition WHERE class = ?1 AND id > ?2 ORDER BY id LIMIT ?3")
+unfolding everything
+definitions_of_class = record { readable = refl; compared = refl; bounded = refl; ordered = refl; parameters = codes "?1" ∷ codes "?2" ∷ codes "?3" ∷ []; written = refl }
+
+-- ---- pages of what lots have, lot by lot
+
+pub lots_after : SelectsPage lot_table [] 1 (codes "SELECT id, def FROM lot WHERE id > ?1 ORDER BY id LIMIT ?2")
+unfolding everything
+lots_after = record { readable = refl; compared = refl; bounded = refl; ordered = refl; parameters = codes "?1" ∷ codes "?2" ∷ []; written = refl }
+
+pub sublots_after : SelectsPage sublot_table [] 1 (codes "SELECT lot, no, place, stock FROM sublot WHERE lot > ?1 ORDER BY lot, no LIMIT ?2")
+unfolding everything
+sublots_after = record { readable = refl; compared = refl; bounded = refl; ordered = refl; parameters = codes "?1" ∷ codes "?2" ∷ []; written = refl }
+
+pub holds_after : SelectsPage hold_table [] 1 (codes "SELECT lot, id, at, by_who, note FROM hold WHERE lot > ?1 ORDER BY lot, id LIMIT ?2")
+unfolding everything
+holds_after = record { readable = refl; compared = refl; bounded = refl; ordered = refl; parameters = codes "?1" ∷ codes "?2" ∷ []; written = refl }
+
+-- ---- pages of lists whose keys are of two values
+
+pub recipes_in_state_at : SelectsPage recipe_table (8 ∷ 1 ∷ []) 2 (codes "SELECT id, version, product, base, low, high, title, state FROM recipe WHERE state = ?1 AND id = ?2 AND version > ?3 ORDER BY id, version LIMIT ?4")
+unfolding everything
+recipes_in_state_at = record { readable = refl; compared = refl; bounded = refl; ordered = refl; parameters = codes "?1" ∷ codes "?2" ∷ codes "?3" ∷ codes "?4" ∷ []; written = refl }
+
+pub recipes_in_state : SelectsPage recipe_table (8 ∷ []) 1 (codes "SELECT id, version, product, base, low, high, title, state FROM recipe WHERE state = ?1 AND id > ?2 ORDER BY id, version LIMIT ?3")
+unfolding everything
+recipes_in_state = record { readable = refl; compared = refl; bounded = refl; ordered = refl; parameters = codes "?1" ∷ codes "?2" ∷ codes "?3" ∷ []; written = refl }
+
+pub ledger_at : SelectsPage movement_table (4 ∷ 1 ∷ []) 2 (codes "SELECT seq, line, kind, lot, sub, lot2, sub2, batch, amount, at, by_who, note FROM movement WHERE lot = ?1 AND seq = ?2 AND line > ?3 ORDER BY seq, line LIMIT ?4")
+unfolding everything
+ledger_at = record { readable = refl; compared = refl; bounded = refl; ordered = refl; parameters = codes "?1" ∷ codes "?2" ∷ codes "?3" ∷ codes "?4" ∷ []; written = refl }
+
+pub ledger : SelectsPage movement_table (4 ∷ []) 1 (codes "SELECT seq, line, kind, lot, sub, lot2, sub2, batch, amount, at, by_who, note FROM movement WHERE lot = ?1 AND seq > ?2 ORDER BY seq, line LIMIT ?3")
+unfolding everything
+ledger = record { readable = refl; compared = refl; bounded = refl; ordered = refl; parameters = codes "?1" ∷ codes "?2" ∷ codes "?3" ∷ []; written = refl }
+
+pub ledger_by_second_at : SelectsPage movement_table (6 ∷ 1 ∷ []) 2 (codes "SELECT seq, line, kind, lot, sub, lot2, sub2, batch, amount, at, by_who, note FROM movement WHERE lot2 = ?1 AND seq = ?2 AND line > ?3 ORDER BY seq, line LIMIT ?4")
+unfolding everything
+ledger_by_second_at = record { readable = refl; compared = refl; bounded = refl; ordered = refl; parameters = codes "?1" ∷ codes "?2" ∷ codes "?3" ∷ codes "?4" ∷ []; written = refl }
+
+pub ledger_by_second : SelectsPage movement_table (6 ∷ []) 1 (codes "SELECT seq, line, kind, lot, sub, lot2, sub2, batch, amount, at, by_who, note FROM movement WHERE lot2 = ?1 AND seq > ?2 ORDER BY seq, line LIMIT ?3")
+unfolding everything
+ledger_by_second = record { readable = refl; compared = refl; bounded = refl; ordered = refl; parameters = codes "?1" ∷ codes "?2" ∷ codes "?3" ∷ []; written = refl }

@@ -1,0 +1,173 @@
+-- What a page of a list finds whose keys are of two values.
+use Rattle.std.proofs.Common.{◌≡◌, ◌∙◌, ℕ, ◌+◌, Bool, true, false, ◌&&◌, ◌||◌, List, [], ◌∷◌, filter, map, Option, Some, refl, ap, ap₂, sym}
+use Rattle.std.specs.Cmp.{IsTotalOrder}
+use Rattle.std.specs.List.{AllByRecursion}
+use Rattle.std.specs.List.Sorted.{IsStrictlySortedBy}
+use Rattle.std.specs.Ordering.{is_eq, is_gt, nat_cmp, ordering_then}
+use Rattle.std.specs.declared.cmp.Ordering.{Ordering}
+use Rattle.std.specs.declared.cmp.Ordering.TheVariants.{Less, Equal, Greater}
+use Rattle.std.proofs.lemmas.Cmp.{nat_cmp_total, on_total, then_total}
+use Rattle.sqlite.specs.Effect.{Database}
+use Rattle.sqlite.specs.Order.{Row}
+use Rattle.sqlite.specs.declared.types.Value.{Value}
+use Rattle.sqlite.specs.declared.types.Value.TheVariants.{Text}
+use Rattle.sqlite_value.specs.Order.{value_cmp}
+use Rattle.sqlite_value.proofs.OrderLemmas.{value_cmp-Text}
+use Rattle.plant_base.specs.State.{State, newest_schema, id_cmp, same, recipe_order, movement_order}
+use Rattle.plant_base.specs.Words.{recipe_state_name}
+use Rattle.plant_base.specs.declared.rows.Movement.{Movement}
+use Rattle.plant_base.specs.declared.rows.MovementKind.{MovementKind}
+use Rattle.plant_base.specs.declared.rows.MovementKind.TheVariants as kind
+use Rattle.plant_base.specs.declared.rows.Recipe.{Recipe}
+use Rattle.plant_base.specs.declared.states.RecipeState.{RecipeState}
+use Rattle.plant_view.specs.Tables.{tables_of}
+use Rattle.plant_view.specs.Views.{is_named}
+use Rattle.plant_view.proofs.RowKeys.{recipe_order_total}
+use Rattle.plant_invariant.specs.StateInvariant.{StateInvariant}
+use Rattle.sql_tables.specs.TableDefs.{TableDef}
+use Rattle.sql_tables.specs.StoredRows.{HasStoredRows}
+use Rattle.sql_queries.specs.Paging.{is_beyond, stored_order}
+use Rattle.sql_queries.specs.Selects.{first_of}
+use Rattle.plant_tables.specs.DeskTableDefs.{recipe_table, movement_table}
+use Rattle.plant_tables.specs.Keyed.{HoldsTables}
+use Rattle.plant_tables_columns.specs.Booked.{other_lot}
+use Rattle.plant_tables_columns.specs.Kinds.{number}
+use Rattle.plant_tables_columns.specs.ValidValues.{HasRecipeValues, HasMovementRowValues, HasValidValues}
+use Rattle.plant_tables_columns.specs.TableColumns.{row_of_recipe, row_of_movement, recipe_from, movement_read}
+use Rattle.plant_tables_columns.proofs.RowLaws.{recipe_reads}
+use Rattle.plant_invariant_tables.proofs.TablesHaveValidValues.{in_order, valid_values, newest_known}
+use Rattle.plant_worklists.specs.Pages.{page_size, page_of}
+use Rattle.plant_worklists.specs.Worklists.{recipe_after, recipes_in, movement_after, is_movement_after, lot_made, is_in_ledger, ledger_of}
+use Rattle.plant_worklists.specs.declared.page.Page.{Page}
+use Rattle.plant_worklists.specs.declared.cursors.MovementCursor.{MovementCursor}
+use Rattle.plant_worklists.specs.declared.cursors.RecipeCursor.{RecipeCursor}
+use Rattle.plant_worklists.proofs.MergedLists.{merged_filters}
+use Rattle.plant_keyed.specs.Paging.{IsOfBoth, IsPagedBeyond}
+use Rattle.plant_keyed.proofs.PagesFind.{by_number, by_text_number, number_cmp}
+use Rattle.plant_keyed.proofs.PageIsFirstRows.{page_again}
+use Rattle.plant_keyed.proofs.AbstractionIsState.{movement_again}
+use Rattle.plant_keyed.proofs.ComparisonTests.{named_is, text_is}
+use Rattle.std.proofs.Math.Bool.{or-false, and-or_distrib_right}
+
+-- after the place of two values: with its first value and after its second, or after its first
+after : (s : Bool) (o p : Ordering) → ((s && (is_eq o && is_gt p)) || (s && is_gt o)) ≡ (s && is_gt (ordering_then o p))
+after false o p = refl
+after true Less p = refl
+after true Equal p = or-false (is_gt p)
+after true Greater p = refl
+
+module _ {R : Type 0} (row_from : Row → Option R) (written : R → Row) (P : R → Type 0) (again : (r : R) → P r → row_from (written r) ≡ Some r) (table_def : TableDef) (order : R → R → Ordering) (total : IsTotalOrder order)
+    (by_key : (a b : R) → order a b ≡ stored_order (first_of table_def.keys) (written a) (written b))
+    (db : Database) (rs : List R) (represents : HasStoredRows db table_def (map written rs)) (sorted : IsStrictlySortedBy order rs) (all : AllByRecursion P rs)
+    (place next last : ℕ) (given first second : Value) (s : R → Bool) (o p : R → Ordering)
+    (near : (r : R) → is_beyond (place ∷ next ∷ []) last (given ∷ first ∷ second ∷ number (page_size + 1) ∷ []) (written r) ≡ (s r && (is_eq (o r) && is_gt (p r))))
+    (far : (r : R) → is_beyond (place ∷ []) next (given ∷ first ∷ number (page_size + 1) ∷ []) (written r) ≡ (s r && is_gt (o r))) where
+  abbrev is_near : R → Bool
+  is_near r = s r && (is_eq (o r) && is_gt (p r))
+
+  abbrev is_far : R → Bool
+  is_far r = s r && is_gt (o r)
+
+  -- the rows of such a page are the first of those that come after the place
+  pub beyond_again : (page : Page R) → IsPagedBeyond db table_def row_from order place next last given first second page → page ≡ page_of (filter (λ r. s r && is_gt (ordering_then (o r) (p r))) rs)
+  beyond_again page is =
+      let one = page_again row_from written P again table_def order by_key db rs represents sorted all (place ∷ next ∷ []) last (given ∷ first ∷ second ∷ number (page_size + 1) ∷ []) is_near near is.first is.of_first in
+      let other = page_again row_from written P again table_def order by_key db rs represents sorted all (place ∷ []) next (given ∷ first ∷ number (page_size + 1) ∷ []) is_far far is.second is.of_second in
+      is.as_one (filter is_near rs) (filter is_far rs) one other
+      ∙ ap page_of (merged_filters order total is_near is_far rs sorted ∙ (λ i. filter (λ r. after (s r) (o r) (p r) i) rs))
+
+-- ---- keys and places as a store compares them
+
+by_two_numbers : (a b m n : ℕ) → ordering_then (nat_cmp a b) (nat_cmp m n) ≡ ordering_then (value_cmp (number a) (number b)) (ordering_then (value_cmp (number m) (number n)) Equal)
+by_two_numbers a b m n = ap₂ ordering_then (sym (number_cmp a b)) (by_number m n)
+
+movement_order_total : IsTotalOrder movement_order
+movement_order_total = then_total (on_total (λ m. m.seq) nat_cmp_total) (on_total (λ m. m.line) nat_cmp_total)
+
+both_so : {a b c d : Bool} → a ≡ b → c ≡ d → (a && c) ≡ (b && d)
+both_so e f = ap₂ (λ x y. x && y) e f
+
+-- the columns by which a ledger is read, whatever the kind of the movement
+abbrev IsNear : ℕ → Bool → List ℕ → ℕ → ℕ → Movement → Type 0
+IsNear place s lot seq line m = is_beyond (place ∷ 1 ∷ []) 2 (Text lot ∷ number seq ∷ number line ∷ number (page_size + 1) ∷ []) (row_of_movement m) ≡ (s && (is_eq (nat_cmp m.seq seq) && is_gt (nat_cmp m.line line)))
+
+abbrev IsFar : ℕ → Bool → List ℕ → ℕ → Movement → Type 0
+IsFar place s lot seq m = is_beyond (place ∷ []) 1 (Text lot ∷ number seq ∷ number (page_size + 1) ∷ []) (row_of_movement m) ≡ (s && is_gt (nat_cmp m.seq seq))
+
+-- the lot that a movement names second
+abbrev is_second : List ℕ → Movement → Bool
+is_second lot m = is_named lot (other_lot m.kind m.lot)
+
+near_so : (s t : Bool) (m : Movement) (seq line : ℕ) → s ≡ t → (s && (is_eq (value_cmp (number m.seq) (number seq)) && is_gt (value_cmp (number m.line) (number line)))) ≡ (t && (is_eq (nat_cmp m.seq seq) && is_gt (nat_cmp m.line line)))
+near_so s t m seq line e = both_so e (both_so (ap is_eq (number_cmp m.seq seq)) (ap is_gt (number_cmp m.line line)))
+
+far_so : (s t : Bool) (m : Movement) (seq : ℕ) → s ≡ t → (s && is_gt (value_cmp (number m.seq) (number seq))) ≡ (t && is_gt (nat_cmp m.seq seq))
+far_so s t m seq e = both_so e (ap is_gt (number_cmp m.seq seq))
+
+module _ (lot : List ℕ) (seq line : ℕ) where
+  near_first : (m : Movement) → IsNear 4 (same m.lot lot) lot seq line m
+  near_first m = near_so _ _ m seq line (text_is m.lot lot)
+
+  far_first : (m : Movement) → IsFar 4 (same m.lot lot) lot seq m
+  far_first m = far_so _ _ m seq (text_is m.lot lot)
+
+  near_second : (m : Movement) → IsNear 6 (is_second lot m) lot seq line m
+  near_second m = near_so _ _ m seq line (named_is lot (other_lot m.kind m.lot))
+
+  far_second : (m : Movement) → IsFar 6 (is_second lot m) lot seq m
+  far_second m = far_so _ _ m seq (named_is lot (other_lot m.kind m.lot))
+
+-- what names the lot first or second is in its ledger
+in_ledger : (a b : Bool) → ((a && b) || (a && b)) ≡ ((a || false) && b)
+in_ledger true true = refl
+in_ledger true false = refl
+in_ledger false b = refl
+
+named_so : (lot : List ℕ) (cursor : Option MovementCursor) (m : Movement) → ((same m.lot lot && is_movement_after cursor m) || (is_second lot m && is_movement_after cursor m)) ≡ is_in_ledger lot cursor m
+named_so lot cursor m = by m.kind
+  where
+    b : Bool
+    b = is_movement_after cursor m
+
+    by : (k : MovementKind) → ((same m.lot lot && b) || (is_named lot (other_lot k m.lot) && b)) ≡ ((same m.lot lot || is_named lot (lot_made k)) && b)
+    by (kind.Divided to) = in_ledger (same m.lot lot) b
+    by (kind.Split to) = sym (and-or_distrib_right (same m.lot lot) (same to lot) b)
+    by (kind.Merged to) = sym (and-or_distrib_right (same m.lot lot) (same to lot) b)
+    by _ = sym (and-or_distrib_right (same m.lot lot) false b)
+
+-- ---- the tables of a good state
+
+module _ (db : Database) (s : State) (valid : StateInvariant s) (holds : HoldsTables db (tables_of newest_schema s)) where
+  values : HasValidValues (tables_of newest_schema s)
+  values = valid_values s valid newest_schema newest_known
+
+  pub recipes_are : (state : RecipeState) (cursor : Option RecipeCursor) (page : Page Recipe)
+      → IsPagedBeyond db recipe_table recipe_from recipe_order 8 1 2 (Text (recipe_state_name state)) (Text (recipe_after cursor).recipe) (number (recipe_after cursor).version) page → page ≡ page_of (recipes_in s state cursor)
+  recipes_are state cursor =
+      let place = recipe_after cursor in
+      beyond_again recipe_from row_of_recipe HasRecipeValues (λ r h. recipe_reads.again r h tt) recipe_table recipe_order recipe_order_total (λ a b. by_text_number a.header.recipe b.header.recipe a.header.version b.header.version)
+      db s.recipes (holds.each 3 recipe_table refl) (in_order newest_schema s valid).keyed.recipes values.recipes 8 1 2 (Text (recipe_state_name state)) (Text place.recipe) (number place.version)
+      (λ r. same (recipe_state_name r.state) (recipe_state_name state)) (λ r. id_cmp r.header.recipe place.recipe) (λ r. nat_cmp r.header.version place.version)
+      (λ r. both_so (text_is (recipe_state_name r.state) (recipe_state_name state)) (both_so (ap is_eq (value_cmp-Text r.header.recipe place.recipe)) (ap is_gt (number_cmp r.header.version place.version))))
+      (λ r. both_so (text_is (recipe_state_name r.state) (recipe_state_name state)) (ap is_gt (value_cmp-Text r.header.recipe place.recipe)))
+
+  -- movements that come after a place, by a column that names a lot
+  pub movements_beyond : (place : ℕ) (lot : List ℕ) (cursor : Option MovementCursor) (names : Movement → Bool)
+      → ((m : Movement) → IsNear place (names m) lot (movement_after cursor).seq (movement_after cursor).line m) → ((m : Movement) → IsFar place (names m) lot (movement_after cursor).seq m) → (page : Page Movement)
+      → IsPagedBeyond db movement_table movement_read movement_order place 1 2 (Text lot) (number (movement_after cursor).seq) (number (movement_after cursor).line) page → page ≡ page_of (filter (λ m. names m && is_movement_after cursor m) s.movements)
+  movements_beyond place lot cursor names near far =
+      let start = movement_after cursor in
+      beyond_again movement_read row_of_movement HasMovementRowValues movement_again movement_table movement_order movement_order_total (λ a b. by_two_numbers a.seq b.seq a.line b.line)
+      db s.movements (holds.each 11 movement_table refl) (in_order newest_schema s valid).movements values.movements place 1 2 (Text lot) (number start.seq) (number start.line)
+      names (λ m. nat_cmp m.seq start.seq) (λ m. nat_cmp m.line start.line) near far
+
+  pub ledger_is : (lot : List ℕ) (cursor : Option MovementCursor) (page : Page Movement)
+      → IsOfBoth movement_order (IsPagedBeyond db movement_table movement_read movement_order 4 1 2 (Text lot) (number (movement_after cursor).seq) (number (movement_after cursor).line))
+      (IsPagedBeyond db movement_table movement_read movement_order 6 1 2 (Text lot) (number (movement_after cursor).seq) (number (movement_after cursor).line)) page → page ≡ page_of (ledger_of s lot cursor)
+  ledger_is lot cursor page is =
+      let start = movement_after cursor in
+      let first = movements_beyond 4 lot cursor (λ m. same m.lot lot) (near_first lot start.seq start.line) (far_first lot start.seq start.line) is.first is.of_first in
+      let second = movements_beyond 6 lot cursor (is_second lot) (near_second lot start.seq start.line) (far_second lot start.seq start.line) is.second is.of_second in
+      is.as_one _ _ first second
+      ∙ ap page_of (merged_filters movement_order movement_order_total (λ m. same m.lot lot && is_movement_after cursor m) (λ m. is_second lot m && is_movement_after cursor m) s.movements (in_order newest_schema s valid).movements
+      ∙ (λ i. filter (λ m. named_so lot cursor m i) s.movements))

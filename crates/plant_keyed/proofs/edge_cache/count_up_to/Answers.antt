@@ -1,0 +1,9 @@
+use Rattle.std.proofs.Common.{rules}
+use Rattle.std.specs.Ordering.{is_le}
+use Rattle.std.proofs.lemmas.List.Sorted.{IsPartitionPoint-from_clause}
+use Rattle.plant_trace.specs.Nodes.{node_cmp}
+use Rattle.plant_keyed.proofs.CachedEdges.{parted_up_to}
+use Rattle.plant_keyed.proofs.edge_cache.count_up_to.Goals as goal
+
+pub returns-clause-parted : goal.returns-clause-parted
+returns-clause-parted c = IsPartitionPoint-from_clause (λ l. is_le (node_cmp l.0 c.args.node)) _ _ c.partition_point.ensures.partitioned (parted_up_to c.args.node c.args.links.now c.requires) (λ a r q k. search rules)

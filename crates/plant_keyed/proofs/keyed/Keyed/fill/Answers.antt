@@ -1,0 +1,24 @@
+use Rattle.std.proofs.Common.{◌∙◌, sym, subst}
+use Rattle.std.proofs.lemmas.Bool.{false≢true}
+use Rattle.sqlite.specs.Effect.{Database}
+use Rattle.sqlite.specs.Held.{state}
+use Rattle.plant_trace.specs.declared.direction.Direction.{Direction}
+use Rattle.plant_view.specs.Genealogy.{edges_of}
+use Rattle.plant_keyed.specs.Edges.{AreTurned}
+use Rattle.plant_keyed.specs.EdgeCaching.{AreEdgesOf}
+use Rattle.plant_keyed.specs.Abstraction.{abstraction}
+use Rattle.plant_keyed.proofs.CachedEdges.{all_reported}
+use Rattle.plant_keyed.proofs.keyed.Keyed.fill.Goals as goal
+
+pub returns-clause-stays : goal.returns-clause-stays
+returns-clause-stays g c honest =
+    let old = state g.S.Store c.args.self.now.conn.now in
+    let reported = c.in_ok-rows.ensures.reported in
+    let all = c.in_ok-all.all in
+    let now = reported.always.shows honest.clean honest.unfailed in
+    let turned = rw (c.as_slice.ensures.value, reported.holds honest, c.in_ok-all.ensures.only) at c.cached_by.ensures.turned in
+    let whole = all_reported (abstraction old.now).movements c.args.direction all.links.items turned in
+    let true_of : AreEdgesOf (abstraction old.now) all = λ _. subst (λ (d : Direction). AreTurned d (edges_of (abstraction old.now)) all.links.items) (sym (rw c.in_ok-all.ensures.only at c.cached_by.ensures.way)) whole in (
+      λ _. subst (λ (db : Database). AreEdgesOf (abstraction db) all) (sym now) true_of,
+      λ _ read. absurd (false≢true (sym c.requires ∙ read)),
+    )

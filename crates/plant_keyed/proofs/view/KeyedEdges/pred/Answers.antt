@@ -1,5 +1,0 @@
-use Rattle.plant_keyed.proofs.Telling.{traced_told}
-use Rattle.plant_keyed.proofs.view.KeyedEdges.pred.Goals as goal
-
-pub returns : goal.returns
-returns g c = traced_told g.S.Store c.next_nodes.ensures.same_reference c.next_nodes.ensures.traced

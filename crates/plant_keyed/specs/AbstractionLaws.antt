@@ -1,0 +1,12 @@
+-- What a database shows.
+use Rattle.std.specs.Prelude.{◌≡◌}
+use Rattle.sqlite.specs.Effect.{Database}
+use Rattle.plant_base.specs.State.{State, newest_schema}
+use Rattle.plant_view.specs.Tables.{tables_of}
+use Rattle.plant_invariant.specs.StateInvariant.{StateInvariant}
+use Rattle.plant_tables.specs.Keyed.{HoldsTables}
+use Rattle.plant_keyed.specs.Abstraction.{abstraction}
+
+-- a database that holds the tables of a good state shows that state
+abbrev pub AbstractionIsState : Type 0
+AbstractionIsState = (db : Database) (s : State) → StateInvariant s → HoldsTables db (tables_of newest_schema s) → abstraction db ≡ s

@@ -1,0 +1,31 @@
+-- What look-ups remember of the edges.
+use Rattle.std.specs.Prelude.{◌≡◌, ◌↔◌, ℕ, ◌+◌, ◌/◌, min, Bool, true, nat_le}
+use Rattle.sqlite.specs.Effect.{Database}
+use Rattle.sqlite.specs.State as store
+use Rattle.plant_base.specs.State.{State}
+use Rattle.plant_view.specs.Genealogy.{edges_of}
+use Rattle.plant_keyed.specs.Edges.{AreTurned}
+use Rattle.plant_keyed.specs.LookupOutcomes.{IsHonest, IsReported}
+use Rattle.plant_keyed.specs.Abstraction.{abstraction}
+use Rattle.plant_keyed.specs.declared.edge_cache.EdgeCache.{EdgeCache}
+
+-- what is remembered, if edges were read, is all edges of the state
+abbrev pub AreEdgesOf : State → EdgeCache → Type 0
+AreEdgesOf s d = d.are_read ≡ true → AreTurned d.direction (edges_of s) d.links.items
+
+-- where the look-ups end honest, what is remembered is as true of the state that they show as what was remembered before
+abbrev pub CacheStaysValid : Database → store.State → Bool → EdgeCache → EdgeCache → Type 0
+CacheStaysValid old new failed was is = IsHonest new failed → AreEdgesOf (abstraction old) was ↔ AreEdgesOf (abstraction new.now) is
+
+-- one more node asked for, counted up to the greatest number of 64 bits
+abbrev pub one_more : ℕ → ℕ
+one_more asked = min (asked + 1) 18446744073709551615
+
+-- so few nodes that each is looked up, after so many commands: 256, and one for each 16 commands
+abbrev pub are_few : ℕ → ℕ → Bool
+are_few asked commands = nat_le asked (256 + commands / 16)
+
+-- What look-ups tell of edges: the fact holds where what was remembered is true.
+pub record IsTraced (old new : store.State) (had_failed has_failed : Bool) (was is : EdgeCache) (fact : Type 0) : Type 0 where
+  pub reported : IsReported old new had_failed has_failed (AreEdgesOf (abstraction old.now) was → fact)
+  pub stays : CacheStaysValid old.now new has_failed was is

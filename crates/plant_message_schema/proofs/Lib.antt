@@ -1,0 +1,2 @@
+pub mod EachMember
+pub mod FieldsAreTyped

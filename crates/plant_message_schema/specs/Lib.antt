@@ -1,0 +1,6 @@
+pub mod Fields
+pub mod ValueLaws
+pub mod Members
+pub mod FormatErrors
+pub mod Tables
+pub mod Words

@@ -1,0 +1,18 @@
+//! The shapes of what a line of JSON (RFC 8259) may say, as data: which members an object of each kind has, what each of them may be, and
+//! one reading that gives their values or tells the first problem.
+#![tactic(auto)]
+
+mod fields;
+mod format_errors;
+mod members;
+mod tables;
+mod words;
+
+pub use fields::{Field, Fields, exactly, fields_of, none_other};
+pub use format_errors::{Fault, FormatError, LineFault, ShapeError, made, object};
+pub use members::{Member, Rule};
+pub use tables::{list_members, own_of, row_own, shared_members};
+pub use words::{
+    CommandKind, ListKind, QuestionKind, Row, command_kind, line_kind, order_state, question_kind,
+    recipe_state,
+};

@@ -1,0 +1,98 @@
+-- How the raising of the tables of a state ends.
+use Rattle.std.proofs.Common.{◌≡◌, ◌∙◌, inl, inr, refl, sym, ap, subst, ℕ, ◌+◌, ◌-◌, ◌≤◌, ◌<◌, nat_le, List, Result, OnOk, OnErr, arith}
+use Rattle.std.proofs.lemmas.Bool.{cases_Bool}
+use Rattle.std.proofs.lemmas.Result.{on_ok_weaker, on_err_weaker}
+use Rattle.std.proofs.lemmas.Bool.Decides.{nat_tests}
+use Rattle.sqlite.specs.Tree.{Trees}
+use Rattle.sqlite.specs.Effect.{Database}
+use Rattle.sqlite.specs.State as store
+use Rattle.plant_base.specs.State.{State, newest_schema}
+use Rattle.plant_base.specs.declared.rows.Position.{Position}
+use Rattle.plant_view.specs.Tables.{tables_of, IsWholeIn, position_of}
+use Rattle.plant_view.specs.declared.change.RowChange.{RowChange}
+use Rattle.sql_tables.specs.StoredRows.{AreFree, KeepsOtherTables}
+use Rattle.sql_tables.specs.CrashStates.{IsSettled}
+use Rattle.plant_tables.specs.DeskTableDefs.{desk_table_defs, later_table_defs}
+use Rattle.plant_tables.specs.Keyed.{HoldsTablesOf, AreKeyed}
+use Rattle.plant_tables.specs.DeskCrashStates.{IsAtOf, FindsOf}
+use Rattle.plant_tables.proofs.RaisedSchema.{lacks_later}
+use Rattle.plant_tables_read.specs.Collecting.{Rows, rows_in, rows_listed}
+use Rattle.plant_tables_read.specs.declared.desk_rows.DeskRows.{DeskRows}
+use Rattle.plant_migrate.specs.Raised.{edges_from, raised_by}
+use Rattle.plant_migrate.specs.Steps.{IsRisable, FailureLeavesWithin, FindsRisable, IsRaisedBy}
+use Rattle.plant_migrate.specs.FailureLeaves.{FailureLeavesAmid, raised_to}
+use Rattle.plant_migrate.proofs.ChangesOfState.{bookings, state_raised}
+
+pub state_risable : (version : ℕ) (db : Database) (s : State) → HoldsTablesOf version db (tables_of version s) → AreKeyed (tables_of version s) → IsRisable version db (tables_of version s)
+state_risable version db s holds keyed = record { holds = holds; keyed = keyed; lacks = lacks_later version s }
+
+-- what the rows tell that were read of the tables of a state
+pub position_reported : (version : ℕ) (s : State) (rows : DeskRows) → rows_listed rows ≡ rows_in (tables_of version s) → rows.meta.position ≡ position_of s
+unfolding rows_listed
+position_reported version s rows are = ap (λ (r : Rows). r.meta.position) are
+
+pub bookings_reported : (version : ℕ) (s : State) (rows : DeskRows) → rows_listed rows ≡ rows_in (tables_of version s) → rows.movements.items ≡ bookings s
+unfolding rows_listed
+bookings_reported version s rows are = ap (λ (r : Rows). r.movements) are
+
+pub raised_to_is : (version to : ℕ) → version ≤ to → raised_to version to ≡ to
+raised_to_is version to low = elim (cases_Bool (nat_le to version)) [
+  | inl high ↦ let same : version ≡ to = grind (arith, nat_tests) in rw high same
+  | inr below ↦ rw below refl
+]
+
+-- the position and the edges are those of the state
+module _ (version to : ℕ) (s : State) (position : Position) (edges : List RowChange) (low : 1 ≤ version) (upward : version ≤ to) (high : to ≤ newest_schema) (whole : IsWholeIn version s)
+    (placed : position ≡ position_of s) (edged : edges ≡ edges_from version (bookings s)) where
+  raised_is : (done : ℕ) → version + done ≤ to → raised_by done version position edges (tables_of version s) ≡ tables_of (version + done) s
+  raised_is done few =
+      ap (λ (p : Position). raised_by done version p edges (tables_of version s)) placed
+      ∙ ap (λ cs. raised_by done version (position_of s) cs (tables_of version s)) edged
+      ∙ state_raised s version done low (omega (arith, few, high)) whole
+
+  all_done : version + (to - version) ≡ to
+  all_done = omega (arith, upward)
+
+  pub state_ends : {X E : Type 0} (old new : store.State) (r : Result X E)
+      → OnOk r (IsAtOf (version + (to - version)) new (raised_by (to - version) version position edges (tables_of version s)) × KeepsOtherTables desk_table_defs old.now new.now)
+      → OnOk r (IsAtOf to new (tables_of to s) × KeepsOtherTables desk_table_defs old.now new.now)
+  state_ends old new r = on_ok_weaker r (λ ended.
+      let at : IsAtOf (version + (to - version)) new (tables_of (version + (to - version)) s) = subst (IsAtOf (version + (to - version)) new) (raised_is (to - version) (omega (arith, upward))) ended.0 in
+      (subst (λ k. IsAtOf k new (tables_of k s)) all_done at, ended.1))
+
+  cut_amid : (old new : store.State) → FailureLeavesWithin version (to - version) (λ done. raised_by done version position edges (tables_of version s)) old new → FailureLeavesAmid version to old new s
+  cut_amid old new cut = record {
+    crash_states = cut.crash_states;
+    nothing_else = λ db left.
+        let found = cut.nothing_else db left in
+        let few : version + found.0 ≤ to = omega (arith, upward, found.1) in
+        let is = raised_to_is version to upward in
+        (version + found.0, omega arith, omega (arith, few, is), subst (FindsOf (version + found.0) old.now db) (raised_is found.0 few) found.2);
+    shows = λ live. elim (cut.shows live) [
+      | inl still ↦ inl still
+      | inr amid ↦
+          let few : version + amid.done < to = omega (arith, upward, amid.few) in
+          inr (record { later = version + amid.done; above = omega (arith, amid.some); below = few; at = subst (IsAtOf (version + amid.done) new) (raised_is amid.done (omega (arith, few))) amid.at; others = amid.others })
+    ];
+  }
+
+  pub state_cut : {X E : Type 0} (old new : store.State) (r : Result X E) → OnErr r (FailureLeavesWithin version (to - version) (λ done. raised_by done version position edges (tables_of version s)) old new)
+      → OnErr r (FailureLeavesAmid version to old new s)
+  state_cut old new r = on_err_weaker r (cut_amid old new)
+
+  -- what is to be found where the tables of the state were raised
+  pub finds_raised : (old : store.State) (trees : Trees) → IsSettled old → HoldsTablesOf version old.now (tables_of version s) → AreKeyed (tables_of version s) → (made : IsRaisedBy version (to - version) position edges old trees)
+      → FindsRisable (version + made.done) old.now trees (tables_of (version + made.done) s)
+  finds_raised old trees settled holds keyed made =
+      subst (FindsRisable (version + made.done) old.now trees) (raised_is made.done (omega (arith, upward, made.few))) (made.finds (λ _. settled) (tables_of version s) (state_risable version old.now s holds keyed))
+
+-- what was made of a store that shows what another showed
+pub raised_since : (version steps : ℕ) (position : Position) (edges : List RowChange) (first mid : store.State) (trees : Trees) → mid.now ≡ first.now → (IsSettled first → IsSettled mid)
+    → IsRaisedBy version steps position edges mid trees → IsRaisedBy version steps position edges first trees
+raised_since version steps position edges first mid trees same settles made = record {
+  free = subst (λ (d : Database). AreFree (later_table_defs version) d.schema) same made.free;
+  done = made.done;
+  some = made.some;
+  few = made.few;
+  finds = λ settled t can. subst (λ (d : Database). FindsRisable (version + made.done) d trees (raised_by made.done version position edges t)) same (made.finds (λ more. settles (settled more)) t (subst (λ (d : Database). IsRisable version d t) (sym same) can));
+}

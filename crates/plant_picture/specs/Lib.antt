@@ -1,3 +1,0 @@
-pub mod Dot
-pub mod Telling
-pub mod United

@@ -1,0 +1,51 @@
+-- A division keeps a state sound.
+use Rattle.std.proofs.Common.{◌≡◌, ◌≤◌, true, Some, is_some, refl, arith}
+use Rattle.std.specs.Prelude.{◌==◌, ◌&&◌}
+use Rattle.plant_base.specs.Values.{greatest_amount, greatest_sublot}
+use Rattle.plant_base.specs.State.{State, same, place_order, lot_at, place_at}
+use Rattle.plant_base.specs.declared.rows.Place.{Place}
+use Rattle.plant_base.specs.declared.rows.Movement.{Movement}
+use Rattle.plant_base.specs.declared.rows.MovementKind.TheVariants.{Divided}
+use Rattle.plant_base.specs.declared.command.Stamp.{Stamp}
+use Rattle.plant_base.specs.declared.command.Divide.{Divide}
+use Rattle.plant_base.proofs.PutKeepsOrder.{all_put, all_push, all_weaker, sorted_put, found_put}
+use Rattle.plant_base.proofs.KeyOrders.{key_itself, place_order_total}
+use Rattle.plant_stock.proofs.StockAfterMovement.{entered_push, left_push}
+use Rattle.plant_rules.specs.Booking.{line_of}
+use Rattle.plant_view.specs.Refusals.{sublot_standing}
+use Rattle.plant_rules.specs.Division.{next_number, divide}
+use Rattle.plant_view.specs.DecisionInvariant.{DecisionInvariant}
+use Rattle.plant_view.proofs.GenealogyAfterMovement.{descent_stays}
+use Rattle.plant_view.proofs.CommandsPreserveInvariant.{there_still, entering_new, taking_covered}
+use Rattle.plant_rules.proofs.NextSublotNumber.{next_free}
+
+pub divide_preserves_invariant : (s : State) → DecisionInvariant s → (t : Stamp) (c : Divide) → c.amount ≤ greatest_amount → is_some (lot_at s c.lot) ≡ true → is_some (place_at s c.lot c.sub) ≡ true → c.amount ≤ sublot_standing s c.lot c.sub → next_number s c.lot ≤ greatest_sublot → DecisionInvariant (divide s t c)
+divide_preserves_invariant s sound t c small known there enough room =
+    let new = divide s t c in
+    let next = next_number s c.lot in
+    let p : Place = record { lot = c.lot; number = next; place = c.place } in
+    let m : Movement = line_of s.seq t (Divided next) c.lot c.sub c.amount in
+    record {
+      classes = sound.classes;
+      definitions = sound.definitions;
+      lots = sound.lots;
+      places = sorted_put place_order place_order_total p s.places sound.places;
+      holds = sound.holds;
+      recalls_sorted = sound.recalls_sorted;
+      classified = sound.classified;
+      defined = sound.defined;
+      housed = all_put place_order (λ (q : Place). is_some (lot_at s q.lot) ≡ true) p s.places known sound.housed;
+      placed = sound.placed;
+      numbered = all_put place_order (λ (q : Place). q.number ≤ greatest_sublot) p s.places room sound.numbered;
+      named = all_push _ s.movements m
+          (all_weaker _ _ (λ m n. (there_still s new p refl _ n.0, there_still s new p refl _ n.1)) s.movements sound.named)
+          (found_put place_order p (λ q. same q.lot c.lot && q.number == next) s.places (key_itself c.lot next), there_still s new p refl (Some (c.lot, c.sub)) there);
+      one_material = all_push _ s.movements m sound.one_material (λ def. refl);
+      small = λ l n. let e = entered_push s.movements m l n in let h = entering_new s sound c.lot next c.amount small (next_free s c.lot) l n in omega (arith, e, h);
+      covered = λ l n. let h = taking_covered s sound c.lot c.sub c.amount enough l n in omega (arith, entered_push s.movements m l n, left_push s.movements m l n, h);
+      recipes = sound.recipes;
+      orders = sound.orders;
+      batches = sound.batches;
+      runs = sound.runs;
+      genealogy = descent_stays s.batches s.movements m sound.genealogy refl refl;
+    }

@@ -1,0 +1,67 @@
+-- A hold, and one that is taken away, keep a state sound.
+use Rattle.std.proofs.Common.{◌≡◌, ℕ, true, List, is_some}
+use Rattle.std.specs.List.{AllByRecursion}
+use Rattle.std.specs.List.Sorted.{IsStrictlySortedBy}
+use Rattle.std.specs.Cmp.{IsTotalOrder}
+use Rattle.std.specs.Prelude.{not, ◌&&◌}
+use Rattle.std.proofs.lemmas.Cmp.{then_total, on_total, nat_list_cmp_total}
+use Rattle.std.proofs.lemmas.List.Kept.{IsStrictlySortedBy-filter}
+use Rattle.plant_base.specs.State.{State, same, hold_order, recall_order, lot_at}
+use Rattle.plant_base.specs.declared.rows.Hold.{Hold}
+use Rattle.plant_base.specs.declared.rows.Recall.{Recall}
+use Rattle.plant_base.specs.declared.rows.Receipt.{Receipt}
+use Rattle.plant_base.specs.declared.command.Stamp.{Stamp}
+use Rattle.plant_base.specs.declared.command.HoldLot.{HoldLot}
+use Rattle.plant_base.specs.declared.command.UnholdLot.{UnholdLot}
+use Rattle.plant_base.proofs.PutKeepsOrder.{all_put, sorted_put}
+use Rattle.plant_rules.specs.Holding.{hold, unhold}
+use Rattle.plant_view.specs.DecisionInvariant.{DecisionInvariant}
+use Rattle.plant_view.proofs.RowsInTurn.{all_filtered}
+
+pub hold_order_total : IsTotalOrder hold_order
+hold_order_total = then_total (on_total (λ h. h.lot) nat_list_cmp_total) (on_total (λ h. h.id) nat_list_cmp_total)
+
+-- ---- holds, recalls and receipts
+
+-- no other row names them
+pub with_bars : (s : State) → DecisionInvariant s → (seq at : ℕ) (holds : List Hold) (recalls : List Recall) (receipts : List Receipt)
+    → IsStrictlySortedBy hold_order holds → AllByRecursion (λ h. is_some (lot_at s h.lot) ≡ true) holds → IsStrictlySortedBy recall_order recalls
+    → DecisionInvariant (record s { seq = seq; at = at; holds = holds; recalls = recalls; receipts = receipts })
+with_bars s sound seq at holds recalls receipts sorted placed recalls_sorted = record {
+  classes = sound.classes;
+  definitions = sound.definitions;
+  lots = sound.lots;
+  places = sound.places;
+  holds = sorted;
+  recalls_sorted = recalls_sorted;
+  classified = sound.classified;
+  defined = sound.defined;
+  housed = sound.housed;
+  placed = placed;
+  numbered = sound.numbered;
+  named = sound.named;
+  one_material = sound.one_material;
+  small = sound.small;
+  covered = sound.covered;
+  recipes = sound.recipes;
+  orders = sound.orders;
+  batches = sound.batches;
+  runs = sound.runs;
+  genealogy = sound.genealogy;
+}
+
+pub hold_preserves_invariant : (s : State) → DecisionInvariant s → (t : Stamp) (c : HoldLot) → is_some (lot_at s c.lot) ≡ true → DecisionInvariant (hold s t c)
+hold_preserves_invariant s sound t c known =
+    let r : Hold = record { lot = c.lot; id = c.hold; at = t.at; by = t.by; note = t.note } in
+    with_bars s sound _ t.at _ s.recalls s.receipts
+    (sorted_put hold_order hold_order_total r s.holds sound.holds)
+    (all_put hold_order (λ (h : Hold). is_some (lot_at s h.lot) ≡ true) r s.holds known sound.placed)
+    sound.recalls_sorted
+
+pub unhold_preserves_invariant : (s : State) → DecisionInvariant s → (t : Stamp) (c : UnholdLot) → DecisionInvariant (unhold s t c)
+unhold_preserves_invariant s sound t c =
+    let stays = λ (h : Hold). not (same h.lot c.lot && same h.id c.hold) in
+    with_bars s sound _ t.at _ s.recalls s.receipts
+    (IsStrictlySortedBy-filter hold_order stays s.holds sound.holds)
+    (all_filtered (λ (h : Hold). is_some (lot_at s h.lot) ≡ true) stays s.holds sound.placed)
+    sound.recalls_sorted

@@ -1,7 +1,0 @@
-use Rattle.std.proofs.Common.{◌≡◌, drop}
-use Rattle.plant_tables_columns.specs.All.{all_from}
-use Rattle.plant_tables_columns.proofs.ListLemmas.{reads_on}
-use Rattle.plant_tables_columns.proofs.judged.judge_all.Given as goal
-
-abbrev pub invariant-loop-row : goal.invariant-loop-row
-invariant-loop-row g l = all_from g.R.Judged.row_from l.stored ≡ reads_on g.R.Judged.row_from l.rows.items (drop l.row-index l.stored)

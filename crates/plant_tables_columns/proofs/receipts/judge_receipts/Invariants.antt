@@ -1,8 +1,0 @@
-use Rattle.std.proofs.Common.{◌≡◌, drop}
-use Rattle.plant_tables_columns.specs.All.{all_from}
-use Rattle.plant_tables_columns.specs.TableColumns.{receipt_from}
-use Rattle.plant_tables_columns.proofs.ListLemmas.{reads_on}
-use Rattle.plant_tables_columns.proofs.receipts.judge_receipts.Given as goal
-
-abbrev pub invariant-loop-row : goal.invariant-loop-row
-invariant-loop-row l = all_from receipt_from l.stored ≡ reads_on receipt_from l.rows.items (drop l.row-index l.stored)

@@ -1,0 +1,109 @@
+-- Answers have no floats.
+use Rattle.std.proofs.Common.{◌≡◌, List, [], ◌∷◌, map, ℕ, Bool, true, Option, Some, None, false, Result, refl, ◌∙◌, ap, IfOk}
+use Rattle.serde_json.specs.Data.{Data}
+use Rattle.serde_json.specs.declared.value.Value.{Value}
+use Rattle.serde_json.specs.View.{items_of, view}
+use Rattle.serde_json.specs.Written.{has_float, items_have_float, compact_text}
+use Rattle.plant_base.specs.declared.rows.Movement.{Movement}
+use Rattle.plant_base.specs.declared.rows.Sublot.{Sublot}
+use Rattle.plant_view.specs.Genealogy.{batch_by, ends_of}
+use Rattle.plant_messages.specs.declared.genealogy.BookedEdge.{BookedEdge}
+use Rattle.plant_messages.specs.declared.genealogy.Genealogy.{Genealogy}
+use Rattle.plant_messages.specs.declared.genealogy.NodeAnswer.{NodeAnswer}
+use Rattle.plant_messages.specs.declared.genealogy.NodeAnswer.TheVariants as known
+use Rattle.plant_messages.specs.declared.listed.Listed.{Listed}
+use Rattle.plant_messages.specs.declared.listed.Listed.TheVariants as listed
+use Rattle.plant_messages.specs.declared.listed.OpenBatch.{OpenBatch}
+use Rattle.plant_messages.specs.declared.question.LotAnswer.{LotAnswer}
+use Rattle.plant_messages.specs.declared.question.OrderAnswer.{OrderAnswer}
+use Rattle.plant_messages.specs.declared.question.BatchView.{BatchView}
+use Rattle.plant_messages.specs.declared.question.Booking.{Booking}
+use Rattle.plant_messages.specs.declared.question.RecallAnswer.{RecallAnswer}
+use Rattle.plant_text_answers.specs.BatchAnswers.{booking_data, batch_data}
+use Rattle.plant_trace.specs.declared.node.Node.{Node}
+use Rattle.plant_trace.specs.declared.node.Node.TheVariants.{Lot, Batch}
+use Rattle.plant_text_answers.specs.RecallAnswers.{recall_data}
+use Rattle.plant_text_answers.specs.EdgeAnswers.{node_item, edge_item, genealogy_data}
+use Rattle.plant_text_answers.specs.TraceAnswers.{node_data, trace_data}
+use Rattle.plant_text_answers.specs.Answers.{order_data}
+use Rattle.plant_text_answers.specs.LotAnswers.{lot_data, stands_data}
+use Rattle.plant_text_answers.specs.ListAnswers.{order_item, batch_item, lot_item, hold_item, recall_item, definition_item, recipe_item, movement_item, other_sub, listed_data}
+use Rattle.plant_worklists.specs.Worklists.{other_lot}
+use Rattle.plant_text_answers.specs.Parts.{id_or_null, number_or_null, sublot_data}
+use Rattle.std.proofs.lemmas.Result.{IfOk-weaker}
+
+-- the text of a value that shows this
+pub text_is : {S E : Type 0} (bytes : S → List ℕ) (d : Data) (v : Value) (r : Result S E) → view v ≡ d → has_float d ≡ false
+    → IfOk r (λ s. has_float (view v) ≡ false → bytes s ≡ compact_text (view v)) → IfOk r (λ s. bytes s ≡ compact_text d)
+text_is bytes d v r shows none reported = IfOk-weaker r _ _ (λ s h. h (ap has_float shows ∙ none) ∙ ap compact_text shows) reported
+
+no_float_in_rows : {R : Type 0} (item : R → Data) → ((r : R) → has_float (item r) ≡ false) → (rows : List R) → items_have_float (items_of (map item rows)) ≡ false
+no_float_in_rows item none [] = refl
+no_float_in_rows item none (r ∷ rows) = rw (none r) (no_float_in_rows item none rows)
+
+pub no_float_in_lot : (a : LotAnswer) → has_float (lot_data a) ≡ false
+no_float_in_lot a = rw (no_float_in_rows sublot_data (λ s. refl) a.sublots) refl
+
+no_float_in_id : (id : Option (List ℕ)) → has_float (id_or_null id) ≡ false
+no_float_in_id None = refl
+no_float_in_id (Some id) = refl
+
+pub no_float_in_order : (a : OrderAnswer) → has_float (order_data a) ≡ false
+no_float_in_order a = rw (no_float_in_id a.batch) refl
+
+no_float_in_booking : (taken : Bool) (b : Booking) → has_float (booking_data taken b) ≡ false
+no_float_in_booking true b = refl
+no_float_in_booking false b = refl
+
+pub no_float_in_batch : (v : BatchView) → has_float (batch_data v) ≡ false
+no_float_in_batch v = rw (no_float_in_rows (booking_data true) (no_float_in_booking true) v.consumed, no_float_in_rows (booking_data false) (no_float_in_booking false) v.produced) refl
+
+no_float_in_node : (n : Node) → has_float (node_data n) ≡ false
+no_float_in_node (Lot id) = refl
+no_float_in_node (Batch id) = refl
+
+pub no_float_in_trace : (nodes : List Node) → has_float (trace_data nodes) ≡ false
+no_float_in_trace nodes = rw (no_float_in_rows node_data no_float_in_node nodes) refl
+
+pub no_float_in_recall : (a : RecallAnswer) → has_float (recall_data a) ≡ false
+no_float_in_recall a = rw (no_float_in_rows node_data no_float_in_node a.nodes) refl
+
+pub no_float_in_stands : (lots : List LotAnswer) → has_float (stands_data lots) ≡ false
+no_float_in_stands lots = rw (no_float_in_rows lot_data no_float_in_lot lots) refl
+
+-- ---- genealogy
+
+no_float_in_known : (n : NodeAnswer) → has_float (node_item n) ≡ false
+no_float_in_known (known.Lot l) = refl
+no_float_in_known (known.Batch id) = refl
+
+no_float_in_edge : (b : BookedEdge) → has_float (edge_item b) ≡ false
+no_float_in_edge b = rw (no_float_in_node (ends_of b.edge).0, no_float_in_node (ends_of b.edge).1) refl
+
+pub no_float_in_genealogy : (g : Genealogy) → has_float (genealogy_data g) ≡ false
+no_float_in_genealogy g = rw (no_float_in_rows edge_item no_float_in_edge g.edges, no_float_in_rows node_item no_float_in_known g.nodes) refl
+
+-- ---- pages
+
+no_float_in_open : (b : OpenBatch) → has_float (batch_item b) ≡ false
+no_float_in_open b = rw (no_float_in_id b.next_phase) refl
+
+no_float_in_stocked : (a : LotAnswer) → has_float (lot_item a) ≡ false
+no_float_in_stocked a = rw (no_float_in_rows sublot_data (λ s. refl) a.sublots) refl
+
+no_float_in_number : (n : Option ℕ) → has_float (number_or_null n) ≡ false
+no_float_in_number None = refl
+no_float_in_number (Some n) = refl
+
+no_float_in_movement : (m : Movement) → has_float (movement_item m) ≡ false
+no_float_in_movement m = rw (no_float_in_id (batch_by m.kind), no_float_in_id (other_lot m.kind m.lot), no_float_in_number (other_sub m.kind)) refl
+
+pub no_float_in_listed : (l : Listed) → has_float (listed_data l) ≡ false
+no_float_in_listed (listed.Orders page) = rw (no_float_in_rows order_item (λ j. refl) page.rows) refl
+no_float_in_listed (listed.Batches page) = rw (no_float_in_rows batch_item no_float_in_open page.rows) refl
+no_float_in_listed (listed.Lots page) = rw (no_float_in_id page.last, no_float_in_rows lot_item no_float_in_stocked page.lots) refl
+no_float_in_listed (listed.Holds page) = rw (no_float_in_rows hold_item (λ h. refl) page.rows) refl
+no_float_in_listed (listed.Recalls page) = rw (no_float_in_rows recall_item (λ r. refl) page.rows) refl
+no_float_in_listed (listed.Definitions page) = rw (no_float_in_rows definition_item (λ d. refl) page.rows) refl
+no_float_in_listed (listed.Recipes page) = rw (no_float_in_rows recipe_item (λ r. refl) page.rows) refl
+no_float_in_listed (listed.Ledger page) = rw (no_float_in_rows movement_item no_float_in_movement page.rows) refl

@@ -1,6 +1,0 @@
-use Rattle.std.proofs.Common.{◌≡◌, take}
-use Rattle.plant_trace.specs.Mentions.{mentions_in}
-use Rattle.plant_trace.proofs.places.mentions_in.Given as goal
-
-abbrev pub invariant-loop-pair : goal.invariant-loop-pair
-invariant-loop-pair l = l.mentions.items ≡ mentions_in (take l.pair-index l.pairs)

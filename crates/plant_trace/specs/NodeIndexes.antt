@@ -1,0 +1,27 @@
+-- Positions of nodes, as their places in a list.
+use Rattle.std.specs.Prelude.{◌≡◌, ℕ, List, ◌++◌, Contains, Some, IsSome, slice_get}
+use Rattle.std.specs.BTreeMap.{BTreeMap, get}
+use Rattle.plant_trace.specs.Nodes.{node_cmp}
+use Rattle.plant_trace.specs.Reach.{HasEdge}
+use Rattle.plant_trace.specs.declared.node.Node.{Node}
+
+-- each node of the list has a position, and a node that has one stands in the list there
+pub record AreIndexes (nodes : List Node) (positions : BTreeMap Node ℕ) : Type 0 where
+  pub found : (x : Node) → Contains nodes x → IsSome (get node_cmp positions x)
+  pub there : (x : Node) (n : ℕ) → get node_cmp positions x ≡ Some n → slice_get nodes n ≡ Some x
+
+-- no pair leads to the node
+abbrev pub IsUnled : List (Node × Node) → Node → Type 0
+IsUnled pairs x = (w : Node) → HasEdge pairs w x → ⊥
+
+-- the list has each node at which a pair begins and to which none leads
+abbrev pub HasFirst : List (Node × Node) → List Node → Type 0
+HasFirst pairs nodes = (x y : Node) → HasEdge pairs x y → IsUnled pairs x → Contains nodes x
+
+-- the positions are the places of a list of nodes, each first one among them
+abbrev pub ArePositions : List (Node × Node) → BTreeMap Node ℕ → Type 0
+ArePositions pairs positions = (nodes : List Node) × HasFirst pairs nodes × AreIndexes nodes positions
+
+-- the list got more at its end, or nothing
+abbrev pub Grows : List Node → List Node → Type 0
+Grows old new = (more : List Node) × (new ≡ old ++ more)

@@ -1,5 +1,0 @@
-use Rattle.plant_worklists.proofs.Reading.{page_read}
-use Rattle.plant_worklists.proofs.ahead.Ahead.put.Goals as goal
-
-pub returns : goal.returns
-returns g c all rise is = rw (c.end_of-self.ensures, c.as_slice.ensures) (page_read g.R.OfLot.lot_of all c.args.self.now.last c.args.page rise is)

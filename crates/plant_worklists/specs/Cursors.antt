@@ -1,0 +1,27 @@
+-- Places in lists whose rows have keys of two values, and how such a place is written.
+use Rattle.std.specs.Prelude.{ℕ, Bool, List, Option, Some, None, ◌==◌}
+use Rattle.std.specs.List.{before_first, after_first}
+use Rattle.plant_base.specs.Digits.{digits_of}
+use Rattle.plant_base.specs.Values.{is_id, only}
+use Rattle.plant_worklists.specs.declared.cursors.RecipeCursor.{RecipeCursor}
+use Rattle.plant_worklists.specs.declared.cursors.MovementCursor.{MovementCursor}
+
+-- what parts the two values
+abbrev pub is_dot : ℕ → Bool
+is_dot byte = byte == 46
+
+abbrev pub recipe_cursor_of : Option (List ℕ) → Option ℕ → Option RecipeCursor
+recipe_cursor_of (Some recipe) (Some version) = Some (record { recipe = recipe; version = version })
+recipe_cursor_of _ _ = None
+
+-- a recipe and a version of at most 3 digits, with a dot between them
+abbrev pub recipe_cursor : List ℕ → Option RecipeCursor
+recipe_cursor text = recipe_cursor_of (only is_id (before_first is_dot text)) (digits_of 3 (after_first is_dot text))
+
+abbrev pub movement_cursor_of : Option ℕ → Option ℕ → Option MovementCursor
+movement_cursor_of (Some seq) (Some line) = Some (record { seq = seq; line = line })
+movement_cursor_of _ _ = None
+
+-- a number of at most 16 digits and a line of at most 3, with a dot between them
+abbrev pub movement_cursor : List ℕ → Option MovementCursor
+movement_cursor text = movement_cursor_of (digits_of 16 (before_first is_dot text)) (digits_of 3 (after_first is_dot text))

@@ -1,0 +1,73 @@
+//! The place in a list from which a page goes on.
+ghost use Rattle.std.specs.Prelude.{◌≡◌};
+ghost use Rattle.plant_worklists.specs.Worklists.{text_after, is_after, recipe_after, is_recipe_after};
+ghost use Rattle.plant_worklists.specs.Worklists.{movement_after, is_movement_after};
+
+use crate::cursors::{MovementCursor, RecipeCursor};
+use plant_base::{Id, Movement, Recipe};
+
+/// The text that a list's ids are to come after: where no id is given the empty one, which each id comes after.
+pub fn text_after(cursor: &Option<Id>) -> &str
+    ensures { result.now ≡ text_after cursor.now }
+{
+    match cursor {
+        Some(id) => id.as_str(),
+        None => "",
+    }
+}
+
+/// Whether an id comes after this one.
+pub fn is_after(id: &Id, cursor: &Option<Id>) -> bool
+    ensures { result ≡ is_after cursor.now id.now }
+{
+    id.as_str() > text_after(cursor)
+}
+
+/// The id of the recipe that a list's recipes are to come after, or be: the empty text where no place is given.
+pub fn recipe_text_after(cursor: &Option<RecipeCursor>) -> &str
+    ensures { result.now ≡ (recipe_after cursor.now).recipe }
+{
+    match cursor {
+        Some(place) => place.recipe.as_str(),
+        None => "",
+    }
+}
+
+/// The version of that recipe that its further versions are to come after: 0 where no place is given.
+pub fn version_after(cursor: &Option<RecipeCursor>) -> u16
+    ensures { result ≡ (recipe_after cursor.now).version }
+{
+    match cursor {
+        Some(place) => place.version,
+        None => 0,
+    }
+}
+
+/// Whether a version of a recipe comes after this place.
+pub fn is_recipe_after(row: &Recipe, cursor: &Option<RecipeCursor>) -> bool
+    ensures { result ≡ is_recipe_after cursor.now row.now }
+{
+    let header = &row.header;
+    let by_recipe = header.recipe.as_str().cmp(recipe_text_after(cursor));
+    let by_version = header.version.cmp(&version_after(cursor));
+    by_recipe.then(by_version).is_gt()
+}
+
+/// The place that a ledger's movements are to come after: where none is given, one that each movement comes after.
+pub fn movement_after(cursor: &Option<MovementCursor>) -> MovementCursor
+    ensures { result ≡ movement_after cursor.now }
+{
+    match cursor {
+        Some(place) => *place,
+        None => MovementCursor { seq: 0, line: 0 },
+    }
+}
+
+/// Whether a movement comes after this place.
+pub fn is_movement_after(row: &Movement, cursor: &Option<MovementCursor>) -> bool
+    ensures { result ≡ is_movement_after cursor.now row.now }
+{
+    let place = movement_after(cursor);
+    let by_seq = row.seq.cmp(&place.seq);
+    by_seq.then(row.line.cmp(&place.line)).is_gt()
+}

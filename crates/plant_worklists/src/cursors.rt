@@ -1,0 +1,60 @@
+//! Places in lists whose rows have keys of two values, and how such a place is written.
+ghost use Rattle.std.specs.Prelude.{◌≡◌};
+ghost use Rattle.plant_base.specs.Digits.{digits_of};
+ghost use Rattle.plant_worklists.specs.Cursors.{recipe_cursor, movement_cursor};
+
+use plant_base::{Id, read_digits};
+
+/// A version of a recipe as a place in a list of recipes. It needn't be there.
+#[derive(Clone, Copy, Debug, PartialEq, Eq)]
+pub struct RecipeCursor {
+    /// The recipe, by which the list is ordered first.
+    pub recipe: Id,
+    /// The version of the recipe, at most 3 digits as a text.
+    pub version: u16,
+}
+
+/// A movement as a place in the ledger of a lot: the number of its command, and its line. It needn't be there.
+#[derive(Clone, Copy, Debug, PartialEq, Eq)]
+pub struct MovementCursor {
+    /// The number of the command, by which the list is ordered first; at most 16 digits as a text.
+    pub seq: u64,
+    /// The line of the movement among those of the command, at most 3 digits as a text.
+    pub line: u16,
+}
+
+impl RecipeCursor {
+    /// The place that a text names: a recipe and a version of at most 3 digits, with a dot between them.
+    /// `None` where the text isn't of this form.
+    pub fn read(text: &str) -> Option<Self>
+        ensures { result ≡ recipe_cursor text.now }
+    {
+        let (recipe, version) = text.split_once('.')?;
+        Some(RecipeCursor {
+            recipe: Id::read(recipe.as_bytes())?,
+            version: read_small(version)?,
+        })
+    }
+}
+
+impl MovementCursor {
+    /// The place that a text names: a number of at most 16 digits and a line of at most 3, with a dot between them.
+    /// `None` where the text isn't of this form.
+    pub fn read(text: &str) -> Option<Self>
+        ensures { result ≡ movement_cursor text.now }
+    {
+        let (seq, line) = text.split_once('.')?;
+        Some(MovementCursor {
+            seq: read_digits(seq.as_bytes(), 16)?,
+            line: read_small(line)?,
+        })
+    }
+}
+
+/// The number that at most 3 digits spell.
+fn read_small(text: &str) -> Option<u16>
+    ensures { result ≡ digits_of 3 text.now }
+{
+    let number = read_digits(text.as_bytes(), 3)?;
+    Some(number as u16)
+}

@@ -1,0 +1,13 @@
+//! Reading the rows of described tables: what a fixed SELECT of one table means, and reading its answer row by row.
+#![tactic(auto)]
+
+mod keys;
+mod opening;
+mod page;
+mod reading;
+mod table;
+
+pub use opening::{open_file, open_in_memory, open_over, reopen};
+pub use page::{Page, find_page};
+pub use reading::read_rows;
+pub use table::{all_free, are_all_declared, find_rows, read_table};

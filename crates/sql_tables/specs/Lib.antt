@@ -1,0 +1,10 @@
+pub mod TableDefs
+pub mod Rows
+pub mod StoredRows
+pub mod AtRest
+pub mod Views
+pub mod Written
+pub mod Texts
+pub mod Moves
+pub mod Indexes
+pub mod CrashStates

@@ -1,8 +1,0 @@
-use Rattle.std.proofs.Common.{◌≡◌, refl, length, arith, Bor, List, ℕ}
-use Rattle.table_forms.proofs.Listed.{same_map}
-use Rattle.table_forms.proofs.standing.are_keys.Goals as goal
-
-pub returns : goal.returns
-returns c =
-    let len : length c.args.uniques.now ≡ length c.args.keys.now = omega arith in
-    (λ _. same_map (λ (key : Bor (List ℕ)). key.now) c.args.uniques.now c.args.keys.now len (λ k d e low. c.loop-at.invariant k d e (omega arith)), λ _. refl)

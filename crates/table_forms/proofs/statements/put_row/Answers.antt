@@ -1,8 +1,0 @@
-use Rattle.sqlite.specs.Held.{state}
-use Rattle.sqlite.specs.Values.{bound}
-use Rattle.table_forms.proofs.Moving.{puts_from}
-use Rattle.table_forms.proofs.statements.put_row.Goals as goal
-
-pub returns-in-Ok-clause-put : goal.returns-in-Ok-clause-put
-returns-in-Ok-clause-put g c clean =
-    puts_from c.args.sql.now (bound c.args.values.now) (state g.S.Store c.args.tx.now.conn.now) (state g.S.Store c.run.new.tx.conn.now) c.in-Ok.field-0 (c.in-Ok.ensures.runs clean)

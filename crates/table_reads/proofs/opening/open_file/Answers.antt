@@ -1,6 +1,0 @@
-use Rattle.std.proofs.Common.{inl, refl}
-use Rattle.table_reads.proofs.FileOrder.{file_opened}
-use Rattle.table_reads.proofs.opening.open_file.Goals as goal
-
-pub returns-in-Ok-clause-newly : goal.returns-in-Ok-clause-newly
-returns-in-Ok-clause-newly g c clean = file_opened c.in-Ok.connection _ (λ _. inl refl) (c.in-Ok.ensures.opened clean) (c.in-Ok.ensures.found clean).reads

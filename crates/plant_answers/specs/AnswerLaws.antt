@@ -55,7 +55,7 @@ lot_answer_order a b = id_cmp a.lot b.lot
 -- Where the goods of a lot or batch stand that is there: what is told lists just such lots, ascending, each once, and no other.
 abbrev pub StandsListReached : Type 0
 StandsListReached = (k : ℕ) (s : State) (start : Node) → missing s start ≡ None
-    → (lots : List LotAnswer) × (answer k s (Q.HasStoredRows start) ≡ A.HasStoredRows lots) × IsStrictlySortedBy lot_answer_order lots
+    → (lots : List LotAnswer) × (answer k s (Q.Stands start) ≡ A.Stands lots) × IsStrictlySortedBy lot_answer_order lots
     × ((a : LotAnswer) → Contains lots a ↔ StandsFrom s start a)
 
 -- an edge between nodes around the start, with the amounts of all movements that make it

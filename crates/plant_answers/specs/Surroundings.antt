@@ -36,5 +36,5 @@ abbrev pub lots_standing : State → Node → List LotAnswer
 lots_standing s start = filter_map (stocked_at s) (nodes_around s Forward start)
 
 abbrev pub answer_stands : State → Node → Option Refusal → Answer
-answer_stands s start None = A.HasStoredRows (lots_standing s start)
+answer_stands s start None = A.Stands (lots_standing s start)
 answer_stands s start (Some refusal) = A.Unknown refusal

@@ -39,7 +39,7 @@ pub fn answer<V: Worklists>(
         Question::Order(order) => order_answer(view, *order),
         Question::Batch(batch) => batch_answer(alloc, view, *batch),
         Question::Trace(direction, start) => trace_answer(alloc, view, *direction, *start),
-        Question::HasStoredRows(start) => stands_answer(alloc, view, *start),
+        Question::Stands(start) => stands_answer(alloc, view, *start),
         Question::Edges(direction, start) => edges_answer(alloc, view, *direction, *start),
         Question::Recall(recall) => recall_answer(alloc, view, *recall),
         Question::Moment => moment_answer(view),

@@ -30,7 +30,7 @@ pub(crate) fn stands_answer<V: Worklists>(
     if let Some(refusal) = missing(view, start)? {
         return Ok(Answer::Unknown(refusal));
     }
-    Ok(Answer::HasStoredRows(Items::new(lots_standing(alloc, view, start)?)))
+    Ok(Answer::Stands(Items::new(lots_standing(alloc, view, start)?)))
 }
 
 fn lots_standing<V: Worklists>(

@@ -32,9 +32,9 @@ trace_reported : (s : State) (direction : Direction) (start : Node) (o : Option 
 trace_reported s direction start None e = trace_lists (edges_of s) direction start
 trace_reported s direction start (Some r) e = λ there. let both : Some r ≡ None = sym e ∙ there in absurd (cc)
 
-represents_reported : (s : State) (start : Node) (o : Option Refusal) → missing s start ≡ o → AreStandingIn s start (answer_stands s start o)
-represents_reported s start None e = (standing_sorted s start, λ a. (standing_only s start a, standing_all s start a))
-represents_reported s start (Some r) e = λ there. let both : Some r ≡ None = sym e ∙ there in absurd (cc)
+stands_is_reported : (s : State) (start : Node) (o : Option Refusal) → missing s start ≡ o → AreStandingIn s start (answer_stands s start o)
+stands_is_reported s start None e = (standing_sorted s start, λ a. (standing_only s start a, standing_all s start a))
+stands_is_reported s start (Some r) e = λ there. let both : Some r ≡ None = sym e ∙ there in absurd (cc)
 
 lot_reported : (s : State) → DecisionInvariant s → (lot : List ℕ) (o : Option Lot) → lot_at s lot ≡ o → IsLotIn s lot (answer_lot s o)
 lot_reported s sound lot None e = e
@@ -51,7 +51,7 @@ said : (s : State) → DecisionInvariant s → (q : Question) → SaysOf s q (an
 unfolding answer
 said s sound (Q.Lot lot) = lot_reported s sound lot (lot_at s lot) refl
 said s sound (Q.Trace direction start) = trace_reported s direction start (missing s start) refl
-said s sound (Q.HasStoredRows start) = represents_reported s start (missing s start) refl
+said s sound (Q.Stands start) = stands_is_reported s start (missing s start) refl
 said s sound _ = tt
 
 pub answered : (s : State) → DecisionInvariant s → (q : Question) (a : Answer) → a ≡ answer newest_schema s q → IsAnsweredIn s q a

@@ -41,7 +41,7 @@ IsTraceIn s direction start _ = ¬ (missing s start ≡ None)
 
 -- the lots that are told are just those with stock that the start is or leads to, ascending, each once, or it isn't there
 abbrev pub AreStandingIn : State → Node → Answer → Type 0
-AreStandingIn s start (A.HasStoredRows lots) = IsStrictlySortedBy lot_answer_order lots × ((a : LotAnswer) → Contains lots a ↔ StandsFrom s start a)
+AreStandingIn s start (A.Stands lots) = IsStrictlySortedBy lot_answer_order lots × ((a : LotAnswer) → Contains lots a ↔ StandsFrom s start a)
 AreStandingIn s start _ = ¬ (missing s start ≡ None)
 
 -- The stock of the lot is what entered it less what left it; its sublots are just those of the state, each at its place, and
@@ -60,7 +60,7 @@ IsLotIn s lot _ = lot_at s lot ≡ None
 -- what an answer says of a trace, of where goods stand or of a lot, in words of movements and of the least relation
 abbrev pub SaysOf : State → Question → Answer → Type 0
 SaysOf s (Q.Trace direction start) a = IsTraceIn s direction start a
-SaysOf s (Q.HasStoredRows start) a = AreStandingIn s start a
+SaysOf s (Q.Stands start) a = AreStandingIn s start a
 SaysOf s (Q.Lot lot) a = IsLotIn s lot a
 SaysOf s _ a = ⊤
 

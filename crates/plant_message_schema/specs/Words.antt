@@ -53,7 +53,7 @@ question_kind word =
     if bytes_eq word (codes "recall") then Some q.Recall else (
     if bytes_eq word (codes "back") then Some q.Back else (
     if bytes_eq word (codes "forward") then Some q.Forward else (
-    if bytes_eq word (codes "stands") then Some q.HasStoredRows else (
+    if bytes_eq word (codes "stands") then Some q.Stands else (
     if bytes_eq word (codes "back_edges") then Some q.BackEdges else (
     if bytes_eq word (codes "forward_edges") then Some q.ForwardEdges else (
     if bytes_eq word (codes "moment") then Some q.Moment else (

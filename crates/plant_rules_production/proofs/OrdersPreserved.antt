@@ -122,12 +122,12 @@ module _ (headers : List Header) (rows : List MasterLine) (jobs : List Job) (bat
     pub orders_imported : AllByRecursion (λ (o : OrderRow). is_size_of_some (header_among headers o.recipe o.version) o.size ≡ true) new → AllByRecursion HasValidOrder new → AreConsistentOrders headers imported batches
     orders_imported sized values =
         let Fits : OrderRow → Type 0 = λ o. is_size_of_some (header_among headers o.recipe o.version) o.size ≡ true in
-        let HasStoredRows : Job → Type 0 = λ j. is_some (batch_among batches j.order.order) ≡ has_batch j.state in
+        let Stands : Job → Type 0 = λ j. is_some (batch_among batches j.order.order) ≡ has_batch j.state in
         record {
           sorted = sorted_put_all job_order job_order_total (map opened new) jobs sound.sorted;
           values = all_mapped HasValidOrder (λ (j : Job). j.order) imported (all_put_all job_order job_order_total (λ (j : Job). HasValidOrder j.order) (map opened new) jobs (all_mapped (λ (j : Job). HasValidOrder j.order) opened new values) (all_unmapped HasValidOrder (λ (j : Job). j.order) jobs sound.values));
           sized = all_mapped Fits (λ (j : Job). j.order) imported (all_put_all job_order job_order_total (λ (j : Job). Fits j.order) (map opened new) jobs (all_mapped (λ (j : Job). Fits j.order) opened new sized) (all_unmapped Fits (λ (j : Job). j.order) jobs sound.sized));
-          started = all_put_all job_order job_order_total HasStoredRows (map opened new) jobs (all_mapped HasStoredRows opened new (all_weaker _ _ (λ (o : OrderRow) none. no_batch o.order none) new fresh)) sound.started;
+          started = all_put_all job_order job_order_total Stands (map opened new) jobs (all_mapped Stands opened new (all_weaker _ _ (λ (o : OrderRow) none. no_batch o.order none) new fresh)) sound.started;
         }
 
     pub batches_imported : AreConsistentBatches headers rows (orders_of imported) batches control events
@@ -168,14 +168,14 @@ module _ (headers : List Header) (rows : List MasterLine) (orders : List OrderRo
   orders_released jobs sound j found =
       let r : Job = record { order = j.order; state = Released } in
       let key : j.order.order ≡ b.job = same_id j.order.order b.job (found_passes _ jobs j found) in
-      let HasStoredRows : Job → Type 0 = λ x. is_some (batch_among with_batch x.order.order) ≡ has_batch x.state in
-      let represents : (x : Job) → is_some (batch_among batches x.order.order) ≡ has_batch x.state → is_eq (job_order r x) ≡ false → HasStoredRows x = λ x started apart. ap is_some (batch_stays x.order.order (ap (λ i. same i x.order.order) (sym key) ∙ texts_ties j.order.order x.order.order ∙ apart)) ∙ started in
-      let this : HasStoredRows r = ap (λ i. is_some (batch_among with_batch i)) key ∙ found_put batch_order b (λ (q : Batch). same q.job b.job) batches (same_itself b.job) in
+      let Stands : Job → Type 0 = λ x. is_some (batch_among with_batch x.order.order) ≡ has_batch x.state in
+      let represents : (x : Job) → is_some (batch_among batches x.order.order) ≡ has_batch x.state → is_eq (job_order r x) ≡ false → Stands x = λ x started apart. ap is_some (batch_stays x.order.order (ap (λ i. same i x.order.order) (sym key) ∙ texts_ties j.order.order x.order.order ∙ apart)) ∙ started in
+      let this : Stands r = ap (λ i. is_some (batch_among with_batch i)) key ∙ found_put batch_order b (λ (q : Batch). same q.job b.job) batches (same_itself b.job) in
       record {
         sorted = sorted_put job_order job_order_total r jobs sound.sorted;
         values = subst (AllByRecursion HasValidOrder) (sym (orders_same jobs sound.sorted b.job (Some j) found Released)) sound.values;
         sized = subst (AllByRecursion (λ (o : OrderRow). is_size_of_some (header_among headers o.recipe o.version) o.size ≡ true)) (sym (orders_same jobs sound.sorted b.job (Some j) found Released)) sound.sized;
-        started = all_put_apart job_order job_order_total r HasStoredRows jobs sound.sorted this
+        started = all_put_apart job_order job_order_total r Stands jobs sound.sorted this
             (all_weaker _ _ represents jobs sound.started);
       }
 

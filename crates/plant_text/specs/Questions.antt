@@ -128,7 +128,7 @@ question_for q.Lot d = id_named m.Lot d >>= (λ id. Ok (Q.Lot id))
 question_for q.Order d = id_named m.Order d >>= (λ id. Ok (Q.Order id))
 question_for q.Batch d = id_named m.Batch d >>= (λ id. Ok (Q.Batch id))
 question_for q.Recall d = id_named m.Recall d >>= (λ id. Ok (Q.Recall id))
-question_for q.HasStoredRows d = node_named d >>= (λ node. Ok (Q.HasStoredRows node))
+question_for q.Stands d = node_named d >>= (λ node. Ok (Q.Stands node))
 question_for q.BackEdges d = edges_of Back d
 question_for q.ForwardEdges d = edges_of Forward d
 question_for q.Back d = trace_of Back d

@@ -213,8 +213,8 @@ fn question_for(value: &Value, kind: QuestionKind) -> Result<Question, FormatErr
             Ok(recall) => Ok(Question::Recall(recall)),
             Err(format_error) => Err(format_error),
         },
-        QuestionKind::HasStoredRows => match node_named(value) {
-            Ok(node) => Ok(Question::HasStoredRows(node)),
+        QuestionKind::Stands => match node_named(value) {
+            Ok(node) => Ok(Question::Stands(node)),
             Err(format_error) => Err(format_error),
         },
         QuestionKind::BackEdges => edges_of(value, Direction::Back),

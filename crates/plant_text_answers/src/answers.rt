@@ -73,7 +73,7 @@ pub fn answer_text(alloc: Global, answer: &Answer) -> Result<String, AllocError>
         Answer::Order(order) => order_value(alloc, order)?.to_string(alloc),
         Answer::Batch(batch) => batch_value(alloc, batch)?.to_string(alloc),
         Answer::Trace(nodes) => trace_value(alloc, nodes.as_slice())?.to_string(alloc),
-        Answer::HasStoredRows(lots) => stands_value(alloc, lots.as_slice())?.to_string(alloc),
+        Answer::Stands(lots) => stands_value(alloc, lots.as_slice())?.to_string(alloc),
         Answer::Edges(genealogy) => genealogy_value(alloc, genealogy)?.to_string(alloc),
         Answer::Recall(recall) => recall_value(alloc, recall)?.to_string(alloc),
         Answer::Moment { at } => moment_value(alloc, *at)?.to_string(alloc),

@@ -17,9 +17,9 @@ pub returns-in_ok-trace_value-in-Trace : goal.returns-in_ok-trace_value-in-Trace
 unfolding text_of_answer
 returns-in_ok-trace_value-in-Trace c = rw c.in-Trace.is (text_is string_bytes _ _ _ (c.in_ok-trace_value-in-Trace.ensures ∙ ap trace_data c.as_slice.ensures) (no_float_in_trace c.in-Trace.nodes) c.to_string-in-Trace.ensures.text)
 
-pub returns-in_ok-stands_value-in-HasStoredRows : goal.returns-in_ok-stands_value-in-HasStoredRows
+pub returns-in_ok-stands_value-in-Stands : goal.returns-in_ok-stands_value-in-Stands
 unfolding text_of_answer
-returns-in_ok-stands_value-in-HasStoredRows c = rw c.in-HasStoredRows.is (text_is string_bytes _ _ _ (c.in_ok-stands_value-in-HasStoredRows.ensures ∙ ap stands_data c.as_slice-in-HasStoredRows.ensures) (no_float_in_stands c.in-HasStoredRows.lots) c.to_string-in-HasStoredRows.ensures.text)
+returns-in_ok-stands_value-in-Stands c = rw c.in-Stands.is (text_is string_bytes _ _ _ (c.in_ok-stands_value-in-Stands.ensures ∙ ap stands_data c.as_slice-in-Stands.ensures) (no_float_in_stands c.in-Stands.lots) c.to_string-in-Stands.ensures.text)
 
 pub returns-in_ok-genealogy_value-in-Edges : goal.returns-in_ok-genealogy_value-in-Edges
 unfolding text_of_answer

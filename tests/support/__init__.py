@@ -1,0 +1,1 @@
+"""What the tests share: programs, sessions, HTTP, SQLite, faults, and the test case that counts its checks."""

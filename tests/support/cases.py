@@ -1,0 +1,128 @@
+"""The test case that counts its checks, and that of the built desk."""
+from __future__ import annotations
+
+import atexit
+import collections
+import pathlib
+import sys
+import tempfile
+import unittest
+
+from tests.support import program
+
+# Where files are kept in memory, so that thousands of commands don't wait for a disk.
+MEMORY = pathlib.Path("/dev/shm")
+
+# The most characters that are shown of a value.
+SHOWN = 2000
+
+# How many cases each module checked, and what it has to tell beside that.
+COUNTS = collections.Counter()
+NOTES = collections.defaultdict(list)
+
+
+def report():
+    """Prints for each module how many cases it checked. The process does so at its end."""
+    for module in sorted(COUNTS):
+        for note in NOTES[module]:
+            print(f"{module}: {note}", file=sys.stderr)
+        print(f"{module}: {COUNTS[module]} cases checked", file=sys.stderr)
+
+
+atexit.register(report)
+
+
+def shown(value):
+    """Returns a value as text, of which the middle is left out where it is long."""
+    text = value if isinstance(value, str) else repr(value)
+    return text if len(text) <= SHOWN else f"{text[:SHOWN // 2]} .. {text[-SHOWN // 2:]}"
+
+
+class CountedTestCase(unittest.TestCase):
+    """A test case that counts what it checks."""
+
+    # Whether its tests take so long that tests/run.py gives them a process of their own, before the others.
+    IS_LONG = False
+
+    @classmethod
+    def count(cls, cases=1):
+        """Counts cases that were checked."""
+        COUNTS[cls.__module__] += cases
+
+    @classmethod
+    def note(cls, text):
+        """Has a line printed beside the count of the module."""
+        NOTES[cls.__module__].append(text)
+
+    def check(self, case, found, wanted):
+        """Checks one case, and returns whether it is as wanted. The test goes on where it isn't, and fails."""
+        self.count()
+        with self.subTest(case=shown(case)):
+            if found != wanted:
+                self.fail(f"\n  found:  {shown(found)}\n  wanted: {shown(wanted)}")
+        return found == wanted
+
+    def check_true(self, case, holds):
+        """Checks one case that is a condition."""
+        return self.check(case, bool(holds), True)
+
+    @classmethod
+    def check_set_up(cls, case, found, wanted):
+        """Checks one case of what the tests stand on: without it they can't run."""
+        cls.count()
+        if found != wanted:
+            raise AssertionError(f"{case}: found {shown(found)}, wanted {shown(wanted)}")
+
+
+class FolderTestCase(CountedTestCase):
+    """A test case in which each test has a new folder, `self.folder`."""
+
+    # Whether the folder is kept in memory, if the system has a place for that.
+    IN_MEMORY = False
+
+    @classmethod
+    def new_folder(cls):
+        """Returns a new temporary folder; its `cleanup` removes it."""
+        place = MEMORY if cls.IN_MEMORY and MEMORY.is_dir() else None
+        return tempfile.TemporaryDirectory(prefix="desk-tests-", dir=place)
+
+    def setUp(self):
+        folder = self.new_folder()
+        self.addCleanup(folder.cleanup)
+        self.folder = pathlib.Path(folder.name)
+
+
+class ProgramTestCase(FolderTestCase):
+    """A test case over built programs. Where one of them isn't there, all its tests fail."""
+
+    # The programs that the tests run.
+    PROGRAMS = ()
+
+    @classmethod
+    def setUpClass(cls):
+        super().setUpClass()
+        for name in cls.PROGRAMS:
+            program.path_of(name)
+
+
+class DeskTestCase(ProgramTestCase):
+    """A test case over the built desk, `self.desk`, which runs in the test's folder."""
+
+    PROGRAMS = ("desk",)
+
+    def setUp(self):
+        super().setUp()
+        self.desk = program.Program("desk", self.folder)
+
+    def check_run(self, case, words, wanted, told=b""):
+        """Checks how a run of the desk ends."""
+        return self.check(case, self.desk.run(*words, told=told), wanted)
+
+    def check_verified(self, case, file, count):
+        """Checks that a file is found good, with so many commands."""
+        return self.check_run(case, ["verify", file], good(count))
+
+
+def good(count):
+    """Returns how `verify` ends over a good file of so many commands."""
+    return (0, b"good schema 4 seq %d\n" % count, b"")

@@ -1,0 +1,75 @@
+"""The built programs: where they are, and how they are run."""
+from __future__ import annotations
+
+import os
+import pathlib
+import subprocess
+import typing
+
+TOP = pathlib.Path(__file__).resolve().parent.parent.parent
+EXAMPLES = TOP / "examples"
+
+# The crate of each program, by the name under which the tests ask for the program. The built file has the name of its crate.
+CRATES = {
+    "desk": "desk",
+    "order_check": "order_check",
+    "line_check": "line_check",
+    "desk_check": "desk_check",
+    "genealogy_picture": "genealogy_picture",
+    "lists": "bench_lists",
+}
+
+# The programs that `make dist` packs.
+PACKED = ("desk", "order_check", "line_check", "desk_check", "genealogy_picture")
+
+# The variable that says where the programs are: a folder, or a path in which NAME stands for the crate.
+PLACE = "DESK_PROGRAMS"
+
+# How many seconds a program may run.
+SECONDS = 300
+
+
+class MissingProgram(Exception):
+    """A program isn't built."""
+
+
+class Ended(typing.NamedTuple):
+    """How a program ended."""
+
+    status: int
+    output: bytes
+    errors: bytes
+
+
+def path_of(name):
+    """Returns the path of a program."""
+    crate, place = CRATES[name], os.environ.get(PLACE, "build")
+    path = TOP / (place.replace("NAME", crate) if "NAME" in place else f"{place}/{crate}")
+    if not os.access(path, os.X_OK) or not path.is_file():
+        raise MissingProgram(f"{path} is not there. `make {crate}` builds it in build/; {PLACE} names another place (it is {place!r} now)")
+    return path
+
+
+class Program:
+    """A built program that is run in a folder."""
+
+    def __init__(self, name, folder):
+        self.name, self.path, self.folder = name, path_of(name), folder
+
+    def run(self, *words, told=b"", env=None, **how):
+        """Runs the program to its end, with `told` as its input and `env` added to the environment; returns how it ended."""
+        given = {} if "stdin" in how else {"input": told}
+        streams = {"stdout": subprocess.PIPE, "stderr": subprocess.PIPE}
+        options = {**given, **streams, "cwd": self.folder, "timeout": SECONDS, "env": environment(env), **how}
+        ran = subprocess.run([self.path, *words], **options)
+        return Ended(ran.returncode, ran.stdout, ran.stderr)
+
+    def start(self, *words, env=None, **how):
+        """Starts the program, with `env` added to the environment; returns its process, whose output and errors are pipes."""
+        streams = {"stdin": subprocess.DEVNULL, "stdout": subprocess.PIPE, "stderr": subprocess.PIPE}
+        return subprocess.Popen([self.path, *words], **{**streams, "cwd": self.folder, "env": environment(env), **how})
+
+
+def environment(more):
+    """Returns the environment of this process with some variables more."""
+    return {**os.environ, **(more or {})}

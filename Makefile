@@ -5,10 +5,11 @@
 # make line_check  leaves the built check of lines at build/line_check
 # make desk_check  leaves the built check of a desk's file at build/desk_check
 # make genealogy_picture  leaves the built program that draws genealogies at build/genealogy_picture
+# make bench_lists  leaves the keeper of lists, which tests/test_keepers.py compares with the desk, at build/bench_lists
 # make dist  packs the built programs in build/ with pages of the manual, completions and a unit for systemd, as tar.gz and for Debian
-# make test  the gate (gate/test.sh): every proof, must-fail edit, test and program from nothing, then the built programs
+# make test  the gate (gate/test.sh): every proof, must-fail edit, test and program from nothing, then the tests of the built programs (tests/)
 # make edits has the prover try the edits that the gate doesn't, of all crates or of some: make edits NAMES="plant_tables"
-.PHONY: look run desk order_check line_check desk_check genealogy_picture dist test edits
+.PHONY: look run desk order_check line_check desk_check genealogy_picture bench_lists dist test edits
 
 look:
 	@make/look.py
@@ -19,7 +20,7 @@ run: desk
 	build/desk run build/plant.db < crates/desk/stdin
 	build/desk verify build/plant.db
 
-desk order_check line_check desk_check genealogy_picture:
+desk order_check line_check desk_check genealogy_picture bench_lists:
 	@make/side_by_side.py $@
 
 dist: desk order_check line_check desk_check genealogy_picture

@@ -1,4 +1,5 @@
-"""make/package.py and make/helps.py: what a help is read as, what a program asks of the system, and how archives are put together.
+"""make/package.py with helps.py and completions.py: what a help is read as, what is completed by it, what a program asks of the system, and how
+archives are put together.
 
 The packages of the built programs are looked at in tests/test_packages.py.
 """
@@ -9,6 +10,7 @@ import gzip
 import io
 import pathlib
 import shutil
+import subprocess
 import tarfile
 
 from tests.support.cases import CountedTestCase, FolderTestCase
@@ -29,6 +31,21 @@ Options:
 
 Example: desk trace plant.db back
 """
+
+WHOLE = """\
+A desk.
+
+Usage: desk <COMMAND>
+
+Commands:
+  trace  Traces where goods came from
+
+Options:
+  -h, --help  Print help
+"""
+
+# Completes the words behind a first one, which is the file of the completion.
+BASH = 'source "$0"; COMP_WORDS=("$@"); COMP_CWORD=$(($# - 1)); _desk; printf "%s\\n" "${COMPREPLY[@]}"'
 
 
 class Helps(CountedTestCase):
@@ -68,6 +85,47 @@ class Helps(CountedTestCase):
         page = self.helps.page("line_check", "1.0.0", self.help, {}, ["desk"])
         for part in ('.TH LINE_CHECK 1 "" "desk 1.0.0"', ".SH ARGUMENTS\n", ".SH OPTIONS\n", ".SH SEE ALSO\n.BR desk (1)"):
             self.check_true(part, part in page)
+
+
+class Completions(FolderTestCase):
+    """What is completed behind a program, by its help."""
+
+    def setUp(self):
+        super().setUp()
+        self.completions, helps = loaded("make/completions.py"), loaded("make/helps.py")
+        self.whole, self.words = helps.Help(WHOLE), {"trace": helps.Help(HELP)}
+
+    def test_bash_completes_words_options_and_choices(self):
+        file = self.folder / "desk"
+        file.write_text(self.completions.bash(self.whole, self.words))
+        for typed, wanted in [
+            ("tr", ["trace"]),
+            ("", ["trace", "-h", "--help"]),
+            ("trace --", ["--at", "--help"]),
+            ("trace plant.db ", ["back", "forward"]),
+            ("trace --at 1 plant.db f", ["forward"]),
+            ("trace --at ", [""]),
+            ("sing ", [""]),
+        ]:
+            words = ["bash", "--noprofile", "--norc", "-c", BASH, str(file), "desk", *typed.split(" ")]
+            found = subprocess.run(words, capture_output=True, text=True, check=True).stdout.splitlines()
+            self.check(f"desk {typed}", found, wanted)
+
+    def test_zsh_and_fish_are_told_words_and_options(self):
+        for shell, text, parts in [
+            ("zsh", self.completions.zsh(self.whole, self.words), ("#compdef desk", "'trace:", "--at", "--help")),
+            ("fish", self.completions.fish(self.whole, self.words), ("complete -c desk -f", " -a trace ", " -l at ", " -l help ")),
+        ]:
+            self.check(shell, [it for it in parts if it not in text], [])
+
+    def test_program_without_words_has_its_options_completed(self):
+        told = self.words["trace"]
+        for shell, text, part in [
+            ("bash", self.completions.bash_alone("check", told), "complete -o default -W '--at -h --help' check\n"),
+            ("zsh", self.completions.zsh_alone("check", told), "#compdef check\n"),
+            ("fish", self.completions.fish_alone("check", told), "complete -c check "),
+        ]:
+            self.check_true(f"{shell}: {text}", part in text)
 
 
 class Archives(FolderTestCase):

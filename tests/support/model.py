@@ -1,26 +1,18 @@
-#!/usr/bin/env python3
-"""Has the built desk answer what this script reckons by itself: where each word leads a batch from each state, which recipes are well
-formed, the amounts of control recipes, and of genealogies that are made by chance the traces, where goods stand, the edges with their amounts
-and the recalls. And compares the rows that a
-command of each word leaves with those that stand in examples/tables/rows_of_each_word.txt.
+"""What a desk has to answer, computed here by itself: where each word leads a batch, which recipes are well formed, scaled amounts, and
+of genealogies that are made by chance the traces, the edges with their amounts, where goods stand and what recalls reach."""
+from __future__ import annotations
 
-    examples/rules.py PROGRAM
-
-It looks into the files of the desk with another SQLite.
-"""
 import fractions
 import itertools
 import json
 import math
-import pathlib
 import random
-import sqlite3
-import sys
-import tempfile
 
-from hostile import HERE, changed
-from sessions import GOODS, TABLES, WORDS, Check, Session, compact, imported, merged, moved, received, recipe, searched, split
-from stops import OTHER
+from tests.support.commands import (
+    GOODS, MOST, add_recipe, approve, compact, consume, import_orders, merge, phase_done, produce, recall, receive, release, say, settle, split,
+)
+from tests.support.sessions import Session
+from tests.support.sqlite import reached
 
 # The moves of the state table: where each word leads a batch from each state.
 MOVES = {
@@ -39,32 +31,27 @@ MOVES = {
 }
 STATE_WORDS = ["start", "stop", "hold", "restart", "abort", "reset", "pause", "resume", "done"]
 
-# The greatest amount, and a recipe and an order of a size by which each amount is scaled.
-MOST = 10**15
+# The kinds of nodes, as the desk's tables number them.
+LOT, BATCH = 1, 2
+
+# So many recipes, orders and sizes are made by chance, by which amounts are scaled.
 SCALED = 60
 
 # So many genealogies are made by chance, each of so many batches and bookings.
 GENEALOGIES, BATCHES, BOOKINGS = 12, 3, 40
 
 
+# ---- the state table
+
+
 def plan(name, orders, *recipes):
     """Returns a session of materials, recipes that are approved, and so many orders of the recipe R."""
-    session = Session(name).accepted(*GOODS, *recipes)
-    return session.accepted('"do":"approve","recipe":"R","version":1', imported(orders))
+    return Session(name).accepted(*GOODS, *recipes).accepted(approve(), import_orders(orders))
 
 
-def released(number):
-    return f'"do":"release","order":"O-{number}","batch":"B-{number}"'
-
-
-def said(batch, word):
+def told(word, batch):
     """Returns the command that says a word of the state table to a batch."""
-    body = moved(word).replace("B-1", batch)
-    return f'"do":"settle","batch":"{batch}"' if word == "done" else body
-
-
-def phase_done(batch, number):
-    return f'"do":"phase_done","batch":"{batch}","phase":{number}'
+    return settle(batch) if word == "done" else say(word, batch)
 
 
 def ways():
@@ -78,62 +65,75 @@ def ways():
     return found
 
 
+def lead(session, batch, words):
+    """Leads a released batch by these words; its first phase is done once it has started."""
+    for it in words:
+        session.accepted(told(it, batch), *([phase_done(batch, 1)] if it == "start" else []))
+
+
 def batch_told(number, state, attempt, following, phases=1, closed=False):
     """Returns what is answered about a batch that has booked nothing."""
     rest = {"consumed": [], "order": f"O-{number}", "produced": [], "recipe": "R", "size": 1, "version": 1}
     return compact({**rest, "attempt": attempt, "batch": f"B-{number}", "closed": closed, "next": following, "phases": phases, "state": state})
 
 
-def asked_batch(session, number, *told):
-    return session.asked(f'{{"ask":"batch","batch":"B-{number}"}}', batch_told(number, *told))
+def ask_batch(session, number, *answer):
+    return session.asked(f'{{"ask":"batch","batch":"B-{number}"}}', batch_told(number, *answer))
 
 
 def states():
     """Returns a session in which a batch of its own hears each word in each state, its one phase done once it has started."""
     pairs = list(itertools.product(MOVES, STATE_WORDS))
-    session, way = plan("each word in each state", len(pairs), recipe(1)), ways()
+    session, way = plan("each word in each state", len(pairs), add_recipe(1)), ways()
     for number, (state, word) in enumerate(pairs):
         batch = f"B-{number}"
-        session.accepted(released(number))
-        for it in way[state]:
-            session.accepted(said(batch, it), *([phase_done(batch, 1)] if it == "start" else []))
+        session.accepted(release(f"O-{number}", batch))
+        lead(session, batch, way[state])
         to = MOVES[state].get(word)
-        session = session.accepted(said(batch, word)) if to else session.refused("BadMove", 20, said(batch, word))
+        session = session.accepted(told(word, batch)) if to else session.refused("BadMove", 20, told(word, batch))
         again = word == "reset" and to is not None
-        asked_batch(session, number, to or state, 2 if again else 1, 1 if again or state == "idle" else 2)
+        ask_batch(session, number, to or state, 2 if again else 1, 1 if again or state == "idle" else 2)
     return session
 
 
 def closings():
     """Returns a session of batches that are closed, in each state in which they may be, and of what they refuse then."""
-    session, way = plan("a closed batch moves no more", len(MOVES), recipe(2)), ways()
+    session, way = plan("a closed batch moves no more", len(MOVES), add_recipe(2)), ways()
     for number, state in enumerate(MOVES):
         batch = f"B-{number}"
-        session.accepted(released(number))
+        session.accepted(release(f"O-{number}", batch))
         for it in way[state]:
-            session.accepted(said(batch, it), *([phase_done(batch, 1)] if it == "start" else []))
+            lead(session, batch, [it])
             if it == "start" and state == "complete":
                 session.accepted(phase_done(batch, 2))
         close = f'"do":"close_batch","batch":"{batch}"'
-        if state not in ("complete", "stopped", "aborted"):
+        if state in ("complete", "stopped", "aborted"):
+            session.accepted(close).refused("BatchClosed", 23, close)
+            refuse_when_closed(session, number, state)
+        else:
             session.refused("NotFinished", 30, close)
-            continue
-        session.accepted(close).refused("BatchClosed", 23, close)
-        closed, following = ("BatchClosed", 23), 3 if state == "complete" else 2
-        for word in STATE_WORDS:
-            session.refused(*(closed if word in MOVES[state] else ("BadMove", 20)), said(batch, word))
-        for phase in (1, 2, 3):
-            session.refused(*(closed if phase == following < 3 else ("NotNextPhase", 22)), phase_done(batch, phase))
-        asked_batch(session, number, state, 1, following, 2, True)
     return session
+
+
+def refuse_when_closed(session, number, state):
+    """Says each word and does each phase of a closed batch of two phases: what its state allows is refused as closed, the rest as else."""
+    batch, closed, following = f"B-{number}", ("BatchClosed", 23), 3 if state == "complete" else 2
+    for word in STATE_WORDS:
+        session.refused(*(closed if word in MOVES[state] else ("BadMove", 20)), told(word, batch))
+    for phase in (1, 2, 3):
+        session.refused(*(closed if phase == following < 3 else ("NotNextPhase", 22)), phase_done(batch, phase))
+    ask_batch(session, number, state, 1, following, 2, True)
 
 
 def phases():
     """Returns a session of a batch of 127 phases, the most that a recipe has."""
-    session = plan("a batch has 127 phases", 1, recipe(127)).accepted(released(0), said("B-0", "start"))
+    session = plan("a batch has 127 phases", 1, add_recipe(127)).accepted(release("O-0", "B-0"), say("start", "B-0"))
     for number in range(1, 128):
-        session.refused("PhasesLeft", 21, said("B-0", "done")).accepted(phase_done("B-0", number))
-    return asked_batch(session.accepted(said("B-0", "done")), 0, "complete", 1, 128, 127)
+        session.refused("PhasesLeft", 21, settle("B-0")).accepted(phase_done("B-0", number))
+    return ask_batch(session.accepted(settle("B-0")), 0, "complete", 1, 128, 127)
+
+
+# ---- recipes
 
 
 def line(kind, amount=None, name=None):
@@ -143,9 +143,9 @@ def line(kind, amount=None, name=None):
     return {"kind": "par", "name": name, "value": "80 C"} if kind == "par" else {"def": name, "kind": kind, "qty": amount}
 
 
-def recipe_of(name, base, least, greatest, lines):
-    """Returns a recipe for dough."""
-    head = {"do": "add_recipe", "recipe": name, "version": 1, "product": "DOUGH", "title": ""}
+def recipe_of(name, base, least, greatest, lines, product="DOUGH"):
+    """Returns a recipe of these lines."""
+    head = {"do": "add_recipe", "recipe": name, "version": 1, "product": product, "title": ""}
     return json.dumps({**head, "base": base, "min": least, "max": greatest, "lines": lines}, separators=(",", ":"))[1:-1]
 
 
@@ -203,13 +203,16 @@ def scalings():
             session.refused("BadForm", 1, body)
             continue
         order = {"due": "2027-03-01", "order": f"O-{number}", "priority": 5, "recipe": f"R-{number}", "size": size, "version": 1}
-        session.accepted(body, f'"do":"approve","recipe":"R-{number}","version":1', f'"do":"import_orders","orders":[{compact(order)}]')
+        session.accepted(body, approve(f"R-{number}"), f'"do":"import_orders","orders":[{compact(order)}]')
         if min(taken, made):
-            session.accepted(released(number))
+            session.accepted(release(f"O-{number}", f"B-{number}"))
             amounts[f"B-{number}"] = [taken, made]
         else:
-            session.refused("ScaledToNothing", 19, released(number))
+            session.refused("ScaledToNothing", 19, release(f"O-{number}", f"B-{number}"))
     return session, amounts
+
+
+# ---- genealogies
 
 
 class Genealogy:
@@ -217,60 +220,58 @@ class Genealogy:
 
     def __init__(self, seed):
         self.chance, self.stock, self.edges, self.amounts = random.Random(seed), {}, {}, {}
-        self.nodes = [(2, f"B-{it}") for it in range(BATCHES)]
+        self.nodes = [(BATCH, f"B-{it}") for it in range(BATCHES)]
         lines = [line("in", 1, "SUGAR"), line("out", 1, "SUGAR"), line("phase")]
-        taking = recipe_of("R", 1, 1, 900, lines).replace("DOUGH", "SUGAR")
-        self.session = plan(f"a genealogy by chance, {seed}", BATCHES, taking)
-        self.session.accepted(*[it for batch in range(BATCHES) for it in (released(batch), said(f"B-{batch}", "start"))])
+        self.session = plan(f"a genealogy by chance, {seed}", BATCHES, recipe_of("R", 1, 1, 900, lines, "SUGAR"))
+        for it in range(BATCHES):
+            self.session.accepted(release(f"O-{it}", f"B-{it}"), say("start", f"B-{it}"))
 
-    def lots_with(self, least):
-        return [it for it, stock in self.stock.items() if stock >= least]
-
-    def enters(self, amount, *sources):
+    def enter(self, amount, *sources):
         """Adds a lot that came of these nodes, of each by as much, and returns its id: the first ones have the ids of the batches."""
         lot = f"B-{len(self.stock)}" if len(self.stock) < BATCHES else f"L-{len(self.stock)}"
         self.stock[lot] = amount
-        self.nodes.append((1, lot))
+        self.nodes.append((LOT, lot))
         for it in sources:
-            self.leads(it, (1, lot), amount // len(sources))
+            self.lead(it, (LOT, lot), amount // len(sources))
         return lot
 
-    def leads(self, start, end, amount):
+    def lead(self, start, end, amount):
         """Notes that an amount was booked from one node to another."""
         self.edges.setdefault(start, []).append(end)
         self.amounts[start, end] = self.amounts.get((start, end), 0) + amount
 
     def book(self):
         """Books something, or has it refused where a batch would take what came of it."""
-        known, batch = self.lots_with(3), self.chance.choice(self.nodes[:BATCHES])
+        known, batch = [it for it, stock in self.stock.items() if stock >= 3], self.chance.choice(self.nodes[:BATCHES])
         way = self.chance.choice(["receive", "split", "merge", "consume", "produce"]) if known else "receive"
         amount = self.chance.randint(1, 3)
         if way == "receive":
-            self.session.accepted(received(self.enters(90), 90))
+            self.session.accepted(receive(self.enter(90), 90))
         elif way == "split":
             lot = self.chance.choice(known)
             self.stock[lot] -= amount
-            self.session.accepted(split(lot, amount, self.enters(amount, (1, lot))))
+            self.session.accepted(split(lot, amount, self.enter(amount, (LOT, lot))))
         elif way == "merge":
-            parts = self.chance.sample(known, min(len(known), self.chance.randint(1, 3)))
-            for it in parts:
-                self.stock[it] -= amount
-            new = self.enters(amount * len(parts), *((1, it) for it in parts))
-            self.session.accepted(merged([(it, 0, amount) for it in parts]).replace("M-1", new))
+            self.merge(self.chance.sample(known, min(len(known), self.chance.randint(1, 3))), amount)
         elif way == "produce":
-            made = f'"do":"produce","batch":"{batch[1]}","lot":"{self.enters(amount, batch)}","def":"SUGAR","amount":{amount},"place":""'
-            self.session.accepted(made)
+            self.session.accepted(produce(batch[1], self.enter(amount, batch), "SUGAR", amount))
         else:
             self.consume(batch, self.chance.choice(known), amount)
 
+    def merge(self, lots, amount):
+        for it in lots:
+            self.stock[it] -= amount
+        new = self.enter(amount * len(lots), *((LOT, it) for it in lots))
+        self.session.accepted(merge([(it, 0, amount) for it in lots], new))
+
     def consume(self, batch, lot, amount):
-        body = f'"do":"consume","batch":"{batch[1]}","lot":"{lot}","sub":0,"amount":{amount}'
-        if (1, lot) in searched(self.edges, batch):
+        body = consume(batch[1], lot, amount)
+        if (LOT, lot) in reached(self.edges, batch):
             self.session.refused("OwnProduct", 26, body)
         else:
             self.session.accepted(body)
             self.stock[lot] -= amount
-            self.leads((1, lot), batch, amount)
+            self.lead((LOT, lot), batch, amount)
 
     def ask(self):
         """Asks where each node came from and went, by which edges, where its goods stand, and what a recall of some lots reaches."""
@@ -279,38 +280,42 @@ class Genealogy:
             for end in ends:
                 turned.setdefault(end, []).append(start)
         for kind, name in self.nodes:
+            asked = {"lot" if kind == LOT else "batch": name}
             for word, edges in (("forward", self.edges), ("back", turned)):
-                found, asked = searched(edges, (kind, name)), {"lot" if kind == 1 else "batch": name}
+                found = reached(edges, (kind, name))
                 self.session.asked(compact({"ask": word, **asked}), compact({"nodes": nodes_told(found - {(kind, name)})}))
                 self.session.asked(compact({"ask": f"{word}_edges", **asked}), compact(self.genealogy(found)))
-            self.session.asked(compact({"ask": "stands", **asked}), compact({"lots": self.standing(searched(self.edges, (kind, name)))}))
-        for number, lot in enumerate(self.chance.sample(sorted(self.stock), 4)):
-            self.session.accepted(f'"do":"recall","recall":"RC-{number}","lot":"{lot}"')
-            found = {"lot": lot, "nodes": nodes_told(searched(self.edges, (1, lot))), "recall": f"RC-{number}", "state": "open"}
-            self.session.asked(f'{{"ask":"recall","recall":"RC-{number}"}}', compact(found))
+            self.session.asked(compact({"ask": "stands", **asked}), compact({"lots": self.standing(reached(self.edges, (kind, name)))}))
+        self.recall(self.chance.sample(sorted(self.stock), 4))
         return self.session
 
+    def recall(self, lots):
+        """Recalls lots, and asks what each recall reaches."""
+        for number, lot in enumerate(lots):
+            name, nodes = f"RC-{number}", nodes_told(reached(self.edges, (LOT, lot)))
+            self.session.accepted(recall(lot, name))
+            self.session.asked(f'{{"ask":"recall","recall":"{name}"}}', compact({"lot": lot, "nodes": nodes, "recall": name, "state": "open"}))
 
     def known(self, lot):
         return {"def": "SUGAR", "held": False, "lot": lot, "stock": self.stock[lot]}
 
     def standing(self, nodes):
         """Returns what is answered of those of the nodes that are lots with stock."""
-        lots = [name for kind, name in sorted(nodes) if kind == 1 and self.stock[name]]
+        lots = [name for kind, name in sorted(nodes) if kind == LOT and self.stock[name]]
         return [{**self.known(it), "sublots": [{"no": 0, "place": "", "stock": self.stock[it]}]} for it in lots]
 
     def genealogy(self, nodes):
         """Returns what is answered of the nodes, and of the edges between them: from lots to batches, from batches to lots, from lots to lots."""
-        told = [{**self.known(name), "recalled": False, "unit": "g"} if kind == 1 else {"batch": name} for kind, name in sorted(nodes)]
+        told = [{**self.known(name), "recalled": False, "unit": "g"} if kind == LOT else {"batch": name} for kind, name in sorted(nodes)]
         between = [it for it in self.amounts if it[0] in nodes and it[1] in nodes]
-        between.sort(key=lambda it: ([(1, 2), (2, 1), (1, 1)].index((it[0][0], it[1][0])), it[0][1], it[1][1]))
+        between.sort(key=lambda it: ([(LOT, BATCH), (BATCH, LOT), (LOT, LOT)].index((it[0][0], it[1][0])), it[0][1], it[1][1]))
         edges = [dict(zip(("from", "to"), (nodes_told([end])[0] for end in it)), amount=self.amounts[it]) for it in between]
         return {"edges": edges, "nodes": told}
 
 
 def nodes_told(nodes):
     """Returns nodes as they are answered: lots before batches, each ascending."""
-    return [{"lot" if kind == 1 else "batch": name} for kind, name in sorted(nodes)]
+    return [{"lot" if kind == LOT else "batch": name} for kind, name in sorted(nodes)]
 
 
 def genealogies():
@@ -322,58 +327,6 @@ def genealogies():
         yield genealogy.ask()
 
 
-def reckoned():
-    """Returns all sessions whose answers are reckoned."""
+def every():
+    """Returns all sessions whose answers are computed here."""
     return [states(), closings(), phases(), forms(), scalings()[0], *genealogies()]
-
-
-class Rules(Check):
-    """The built desk, and what is reckoned of it."""
-
-    def control_amounts(self):
-        """Compares the amounts of control recipes, as they stand in the file, with what they are scaled to."""
-        session, amounts = scalings()
-        self.over_a_file(session, "scaled.db")
-        store, found = sqlite3.connect(self.room / "scaled.db"), {}
-        for batch, amount in store.execute("SELECT batch, qty FROM control_line WHERE kind < 3 ORDER BY batch, no"):
-            found.setdefault(batch, []).append(amount)
-        store.close()
-        self.expect("scaled amounts", found, amounts)
-
-    def rows_of_each_word(self):
-        """Tells a desk a command of each word, in two runs, and compares all its rows, and those of another program's table, with what is
-        written."""
-        file, session = self.room / "rows.db", Session("each word")
-        for number, (body, _) in enumerate(WORDS, 1):
-            operator, reference = ("anna", "ben")[number % 2], ',"ref":"K-1"' if number == len(WORDS) else ""
-            session.told += f'{{"at":{100 + number},"by":"{operator}","note":"n{number}",{body}{reference}}}\n'.encode()
-            session.wanted += b'{"ok":%d}\n' % number
-        self.run("init", file.name)
-        changed(file, OTHER)
-        self.over_a_file(session, file.name)
-        store = sqlite3.connect(file)
-        keys = {**{name: keys[0].split() for name, (_, keys) in TABLES.items()}, "shift": ["id"]}
-        found = [row_told(name, row) for name, key in keys.items() for row in store.execute(f"SELECT * FROM {name} ORDER BY {', '.join(key)}")]
-        store.close()
-        self.expect("the rows of each word", found, (HERE / "tables/rows_of_each_word.txt").read_text().splitlines())
-
-
-def row_told(table, row):
-    """Returns a row as it is written: its table, and each value behind a bar."""
-    return "|".join([table, *("NULL" if it is None else str(it).replace("\n", "/") for it in row)])
-
-
-def main(program):
-    with tempfile.TemporaryDirectory() as room:
-        check = Rules(pathlib.Path(program).resolve(), pathlib.Path(room))
-        for number, session in enumerate(reckoned()):
-            check.over_memory(session)
-            check.over_a_file(session, f"{number}.db")
-        check.control_amounts()
-        check.rows_of_each_word()
-    print(f"rules: {check.passed} passed, {check.failed} failed")
-    return 1 if check.failed else 0
-
-
-if __name__ == "__main__":
-    sys.exit(main(*sys.argv[1:]))

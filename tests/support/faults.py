@@ -1,0 +1,65 @@
+"""Faults that are brought about: files that stop, refused memory, streams that are narrow or fail, limits of the system.
+
+The first three are done by libraries of bench, which stand before a program by LD_PRELOAD. Each function returns what is added to the
+environment of the program. A C compiler builds the libraries, each once.
+"""
+from __future__ import annotations
+
+import atexit
+import functools
+import os
+import pathlib
+import resource
+import subprocess
+import tempfile
+
+from tests.support.program import TOP
+
+# A user that owns nothing, where the tests are run by one who may do everything.
+NOBODY = 65534
+
+
+@functools.lru_cache(maxsize=None)
+def library(name):
+    """Builds a library of bench, and returns its path."""
+    folder = tempfile.TemporaryDirectory(prefix="desk-faults-")
+    atexit.register(folder.cleanup)
+    built = pathlib.Path(folder.name) / f"{name}.so"
+    subprocess.run(["cc", "-shared", "-fPIC", "-O1", "-o", built, TOP / "bench" / f"{name}.c", "-ldl"], check=True)
+    return built
+
+
+def preloaded(name, **settings):
+    """Puts a library before the program, with these settings."""
+    return {"LD_PRELOAD": str(library(name)), **{setting: str(value) for setting, value in settings.items()}}
+
+
+def stopped_file(end, calls, error=None):
+    """The files whose names end so fail behind so many calls, by this error or as a failing disk."""
+    more = {} if error is None else {"STOP_ERROR": error}
+    return preloaded("stop", STOPPED=end, STOP_AFTER=calls, **more)
+
+
+def synced_files():
+    """No file fails; what of the desk's files was synced is kept beside them."""
+    return preloaded("stop")
+
+
+def refused_memory(number, mark=None):
+    """The allocation of this number is refused, and then the file `mark` is made."""
+    return preloaded("refuse", REFUSE=number, **({"REFUSED": mark} if mark else {}))
+
+
+def narrow_streams(**limits):
+    """The streams have limits: READ_MOST, WRITE_MOST, READS, READ_ERROR, WRITES, WRITE_ERROR and ACCEPTS, as bench/narrow.c says."""
+    return preloaded("narrow", **limits)
+
+
+def limited(kind, most):
+    """Returns how a program is run with a limit of the system, such as resource.RLIMIT_FSIZE."""
+    return {"preexec_fn": lambda: resource.setrlimit(kind, (most, most))}
+
+
+def as_nobody():
+    """Returns how a program is run by a user that owns nothing."""
+    return {"user": NOBODY, "group": NOBODY, "extra_groups": []} if os.geteuid() == 0 else {}

@@ -1,0 +1,171 @@
+"""HTTP: requests and answers, connections, and servers of the desk."""
+from __future__ import annotations
+
+import pathlib
+import random
+import socket
+import struct
+import time
+
+from tests.support.program import SECONDS, Ended
+
+# How often a server is started at most where another program has taken its port.
+ATTEMPTS = 3
+
+# The ports of which servers take one. Systems give none of these to the connections of clients.
+PORTS = range(20_000, 32_000)
+
+# How a server ends whose port is taken.
+NET = (3, b"", b"fault: net\n")
+
+# How a server ends well.
+WELL = (0, b"", b"")
+
+PHRASES = {
+    200: "OK",
+    400: "Bad Request",
+    404: "Not Found",
+    409: "Conflict",
+    411: "Length Required",
+    413: "Payload Too Large",
+    431: "Request Header Fields Too Large",
+    503: "Service Unavailable",
+}
+
+
+def answer(body, status=200, kind="application/json"):
+    """Returns the answer of this body."""
+    head = f"HTTP/1.1 {status} {PHRASES[status]}\r\nContent-Type: {kind}\r\nContent-Length: {len(body)}\r\nConnection: close\r\n\r\n"
+    return (head + body).encode()
+
+
+def status_answer(status):
+    """Returns the answer that tells its status alone."""
+    return answer(f'{{"status":{status}}}', status)
+
+
+def desk_answer(seq):
+    """Returns the answer of a desk that has so many commands."""
+    return answer('{"schema":4,"seq":%d}' % seq)
+
+
+def got(path):
+    """Returns a request that gets a path."""
+    return f"GET {path} HTTP/1.0\r\n\r\n".encode()
+
+
+def posted(path, body, *fields):
+    """Returns a request that posts a body."""
+    lines = [f"POST {path} HTTP/1.1", "Host: a", f"Content-Length: {len(body)}", *fields, "", ""]
+    return "\r\n".join(lines).encode() + body
+
+
+# A question, and a command, with what a new desk answers.
+ASK = b"GET /v1/desk HTTP/1.0\n\n"
+NEW = desk_answer(0)
+COMMAND = b'{"at":100,"by":"","do":"add_class","class":"RAW","name":""}'
+POST = posted("/v1/commands", COMMAND)
+ACCEPTED = answer('{"ok":1}')
+
+# The head of a question, but for its end.
+HOST = b"GET /v1/desk HTTP/1.1\r\nHost: a\r\n"
+
+
+def free_port():
+    """Returns a port of 127.0.0.1 that is free at this moment."""
+    while True:
+        port = random.choice(PORTS)
+        with socket.socket() as it:
+            try:
+                it.bind(("127.0.0.1", port))
+                return port
+            except OSError:
+                continue
+
+
+def listens(port):
+    """Returns whether something listens on a port of 127.0.0.1, by the system's list of sockets: a connection would count."""
+    return f"0100007F:{port:04X} 00000000:0000 0A" in pathlib.Path("/proc/net/tcp").read_text()
+
+
+def connected(port, address="127.0.0.1", seconds=SECONDS):
+    """Returns a connection to a port."""
+    return socket.create_connection((address, port), seconds)
+
+
+def closed(connection, is_reset):
+    """Closes a connection, or resets it."""
+    if is_reset:
+        connection.setsockopt(socket.SOL_SOCKET, socket.SO_LINGER, struct.pack("ii", 1, 0))
+    connection.close()
+
+
+def rest_of(connection):
+    """Returns what comes on a connection to its end."""
+    text = b""
+    while piece := connection.recv(65536):
+        text += piece
+    return text
+
+
+def answered(port, request, is_last=False):
+    """Returns the answer to a request on a connection of its own, behind which nothing is sent where it is the last."""
+    with connected(port) as it:
+        it.sendall(request)
+        if is_last:
+            it.shutdown(socket.SHUT_WR)
+        return rest_of(it)
+
+
+def answered_or_broken(port, request, is_last=False):
+    """Returns the answer to a request, and nothing where the connection breaks."""
+    try:
+        return answered(port, request, is_last)
+    except (BrokenPipeError, ConnectionRefusedError, ConnectionResetError):
+        return b""
+
+
+def is_refused(address, port):
+    """Returns whether no connection to this address is taken."""
+    try:
+        connected(port, address, 5).close()
+    except ConnectionRefusedError:
+        return True
+    return False
+
+
+class Server:
+    """A desk that serves so many connections over a file, at a port of its own."""
+
+    def __init__(self, desk, file, connections, *options, env=None):
+        for _ in range(ATTEMPTS):
+            self.ended, self.port = None, free_port()
+            words = ["serve", file, str(self.port), str(connections), *options]
+            self.process = desk.start(*words, env=env)
+            while self.process.poll() is None and not listens(self.port):
+                time.sleep(0.001)
+            if self.process.poll() is None or self.end() != NET:
+                return
+
+    def __enter__(self):
+        return self
+
+    def __exit__(self, *_):
+        self.process.kill()
+        self.end()
+
+    def end(self):
+        """Waits until the server has ended, and returns how."""
+        if self.ended is None:
+            output, errors = self.process.communicate(timeout=SECONDS)
+            self.ended = Ended(self.process.returncode, output, errors)
+        return self.ended
+
+    def is_running(self):
+        return self.process.poll() is None
+
+    def answered(self, request, is_last=False):
+        return answered(self.port, request, is_last)
+
+    def answered_or_broken(self, request, is_last=False):
+        return answered_or_broken(self.port, request, is_last)

@@ -1,0 +1,303 @@
+"""Sessions that are long, or no text, so that they are made here and not written out."""
+from __future__ import annotations
+
+from tests.support import sessions
+from tests.support.commands import (
+    GOODS, add_recipe, approve, compact, divide, hold, import_orders, lift, merge, recall, receive, release, say, scrap, settle, split,
+)
+from tests.support.sessions import LINE_LIMIT, Session
+
+BAD_FORM = b'{"name":"BadForm","refused":1}\n'
+DESK = b'{"ask":"desk"}'
+NEW_DESK = b'{"schema":4,"seq":0}\n'
+
+# How many lots the chains and fans of the traces have, and the chain of which it is asked where its goods stand.
+TRACED, STANDING = 600, 260
+
+# The numbers of items of the lists that are told by the page: around one page and two.
+COUNTS = (99, 100, 101, 201)
+
+
+# ---- limits that are reached, and passed by one
+
+
+def lines_of_a_recipe():
+    session = Session("a recipe has 128 lines and an import 1000 orders").accepted(*GOODS)
+    session.refused("BadForm", 1, add_recipe(128)).accepted(add_recipe(127))
+    return session.refused("BadForm", 1, import_orders(1001)).accepted(import_orders(1000)).asked(
+        '{"ask":"order","order":"O-999"}',
+        '{"batch":null,"due":"2027-03-01","order":"O-999","priority":5,"recipe":"R","size":1,"state":"open","version":1}',
+    )
+
+
+def greatest_amount():
+    session = Session("sixteen lots become one of the greatest amount").accepted(*GOODS)
+    session.accepted(*[receive(f"P-{it}", 62_500_000_000_000) for it in range(16)])
+    session.accepted(merge([(f"P-{it}", 0, 62_500_000_000_000) for it in range(16)])).asked(
+        '{"ask":"lot","lot":"M-1"}',
+        '{"def":"SUGAR","held":false,"lot":"M-1","stock":1000000000000000,'
+        '"sublots":[{"no":0,"place":"","stock":1000000000000000}]}',
+    )
+    session.accepted(receive("L-1", 10**15), scrap("L-1", 10**15))
+    return session.refused("TooLittle", 13, scrap("L-1", 1))
+
+
+def parts_of_a_merge():
+    session = Session("a merge has sixteen parts at most").accepted(*GOODS, receive("L-1", 480))
+    session.refused("UnknownSublot", 10, merge([("L-1", it, 1) for it in range(16)]))
+    return session.refused("BadForm", 1, merge([("L-1", it, 1) for it in range(17)]))
+
+
+def attempts_of_a_batch():
+    session = Session("a batch has 99 attempts").accepted(*GOODS, add_recipe(1))
+    session.accepted(approve(), import_orders(1), release("O-0", "B-1"))
+    attempt = [say("start"), say("abort"), settle()]
+    for _ in range(98):
+        session.accepted(*attempt, say("reset"))
+    return session.accepted(*attempt).refused("TooMany", 28, say("reset"))
+
+
+def sublots_of_a_lot():
+    session = Session("a lot has a thousand sublots at most").accepted(*GOODS, receive("L-1", 2000))
+    return session.accepted(*[divide("L-1")] * 999).refused("TooMany", 28, divide("L-1"))
+
+
+def limits():
+    return [lines_of_a_recipe(), greatest_amount(), parts_of_a_merge(), attempts_of_a_batch(), sublots_of_a_lot()]
+
+
+# ---- traces along more nodes than are looked up one by one, and recalls that reach as many
+
+
+def lots_told(lots):
+    """Returns lots as they are answered, in order."""
+    return [{"lot": it} for it in lots]
+
+
+def traced(lots):
+    """Returns the answer of a trace that comes to these lots, which are in order, and to no batch."""
+    return compact({"nodes": lots_told(lots)})
+
+
+def recalled(lots):
+    """Returns the answer of an open recall of the first of these lots, which are in order, and which are all that it reaches."""
+    return compact({"lot": lots[0], "nodes": lots_told(lots), "recall": "RC-1", "state": "open"})
+
+
+def long_chain():
+    lots = [f"C-{it:03}" for it in range(TRACED)]
+    session = Session("a long chain is traced both ways").accepted(*GOODS, receive(lots[0], 1000))
+    session.accepted(*[split(lots[it - 1], 1000 - it, lots[it]) for it in range(1, TRACED)])
+    return trace_and_recall(session, lots[-1], lots[1:], lots[:-1])
+
+
+def wide_fan():
+    lots = [f"D-{it:03}" for it in range(TRACED)]
+    session = Session("a wide fan is traced both ways").accepted(*GOODS, receive("C-000", 1000))
+    session.accepted(*[split("C-000", 1, it) for it in lots])
+    return trace_and_recall(session, lots[-1], lots, ["C-000"])
+
+
+def trace_and_recall(session, last, forward, back):
+    """Traces the first lot forward and the last one back; then recalls the first one, which blocks the last until the recall is lifted."""
+    session.asked('{"ask":"forward","lot":"C-000"}', traced(forward))
+    session.asked(f'{{"ask":"back","lot":"{last}"}}', traced(back))
+    session.accepted(recall("C-000")).refused("Recalled", 32, split(last, 1, "E-000"))
+    session.asked('{"ask":"recall","recall":"RC-1"}', recalled(["C-000", *forward]))
+    return session.accepted(lift(), split(last, 1, "E-000"))
+
+
+# ---- where the goods of many lots stand
+
+
+def standing():
+    """Returns a session of where the goods of a chain of lots stand, and of the genealogy around them: lots that lie close, and lots with more
+    than a page of others between each and the next; some are held, divided or empty."""
+    lots = [f"C-{it:03}" for it in range(STANDING)]
+    session = Session("goods of many lots stand close and apart").accepted(*GOODS, receive(lots[0], 1000))
+    session.accepted(*[split(lots[it - 1], 1000 - 3 * it, lots[it]) for it in range(1, STANDING)])
+    for it in range(200, 212):
+        session.accepted(*[receive(f"{lots[it]}-{other}", 7) for other in range(110)])
+    session.accepted(*[divide(it, place="A1") for it in lots[::7]])
+    session.accepted(*[scrap(it, 2) for it in lots[:259:5]])
+    session.accepted(*[scrap(it, 1) for it in lots[:259:5] if it not in lots[::7]])
+    session.accepted(*[hold(it) for it in (*lots[::50], f"{lots[203]}-9")])
+    known = [lot_standing(lots, it) for it in range(STANDING)]
+    for at in (0, 1, 130, 205):
+        session.asked(f'{{"ask":"stands","lot":"{lots[at]}"}}', compact({"lots": [it for it in known[at:] if it["stock"]]}))
+    genealogy = compact(genealogy_standing(lots, known))
+    session.asked(f'{{"ask":"forward_edges","lot":"{lots[0]}"}}', genealogy)
+    return session.asked(f'{{"ask":"back_edges","lot":"{lots[-1]}"}}', genealogy)
+
+
+def lot_standing(lots, at):
+    """Returns what is answered of a lot of that chain: 3 g, and 223 g of the last, of which each seventh had one divided off, each fifth but the
+    last its first sublot scrapped, and each fiftieth is held."""
+    stock = (223 if at == 259 else 3) - (at % 7 == 0)
+    sublots = [{"no": 0, "place": "", "stock": 0 if at % 5 == 0 and at < 259 else stock}]
+    if at % 7 == 0:
+        sublots.append({"no": 1, "place": "A1", "stock": 1})
+    total = sum(it["stock"] for it in sublots)
+    return {"def": "SUGAR", "held": at % 50 == 0, "lot": lots[at], "stock": total, "sublots": sublots}
+
+
+def genealogy_standing(lots, known):
+    """Returns what is answered of the genealogy of that chain."""
+    edges = [{"amount": 1000 - 3 * it, "from": {"lot": lots[it - 1]}, "to": {"lot": lots[it]}} for it in range(1, STANDING)]
+    nodes = [{**it, "recalled": False, "unit": "g"} for it in known]
+    for it in nodes:
+        del it["sublots"]
+    return {"edges": edges, "nodes": nodes}
+
+
+# ---- lists that are told by the page
+
+
+def question(word, above, **members):
+    """Returns a question for a page that goes on behind a place, or for the front of the list."""
+    place = {} if above is None else {"above": above}
+    return compact({"ask": word, **place, **members})
+
+
+def page(name, items):
+    """Returns the answer of a page of these items, all that come behind a place, in their order."""
+    return compact({"more": len(items) > 100, name: items[:100]})
+
+
+def page_of_lots(lots):
+    """Returns the answer of a page of these lots, of which those with an odd number have one gram left."""
+    told = [
+        {"held": False, "lot": it, "stock": 1, "sublots": [{"no": 0, "place": "", "stock": 1}]}
+        for it in lots[:100]
+        if int(it[2:]) % 2
+    ]
+    return compact({"last": lots[:100][-1] if lots else None, "lots": told, "more": len(lots) > 100})
+
+
+def lists(count):
+    """Returns a session of so many orders, lots, holds and recalls, asked for by the page and from each place around its ends."""
+    session = Session(f"a list of {count} is told by the page").accepted(*GOODS, add_recipe(1))
+    session.accepted(approve(), import_orders(count))
+    session.accepted(*[receive(f"L-{it}", it % 2 + 1) for it in range(count)])
+    session.accepted(*[scrap(f"L-{it}", 1) for it in range(count)])
+    session.accepted(*[hold("L-0", f"H-{it}") for it in range(count)])
+    session.accepted(*[recall(f"L-{it}", f"RC-{it}") for it in range(count)])
+    ask_for_orders(session, sorted(f"O-{it}" for it in range(count)))
+    lots, holds, recalls = (sorted(f"{it}-{n}" for n in range(count)) for it in ("L", "H", "RC"))
+    for at in [None, *holds[96:102]]:
+        rest = [{"at": 100, "by": "", "hold": it, "note": ""} for it in holds if at is None or it > at]
+        session.asked(question("holds", at, lot="L-0"), page("holds", rest))
+    for at in [None, *recalls[96:102]]:
+        rest = [{"at": 100, "by": "", "lot": "L" + it[2:], "note": "", "recall": it} for it in recalls if at is None or it > at]
+        session.asked(question("recalls", at), page("recalls", rest))
+    for at in [None, *lots[96:102]]:
+        session.asked(question("lots", at, **{"def": "SUGAR"}), page_of_lots([it for it in lots if at is None or it > at]))
+    return session
+
+
+def ask_for_orders(session, orders):
+    """Asks for open orders from the front, and behind each order around the ends of pages and behind what comes next to it."""
+    around = [orders[at] for at in (0, 97, 98, 99, 100, 199, 200) if at < len(orders)]
+    order = {"due": "2027-03-01", "priority": 5, "recipe": "R", "size": 1, "version": 1}
+    for at in [None, "A", "Z", *(it for name in around for it in (name, name + "-"))]:
+        rest = [{**order, "order": it} for it in orders if at is None or it > at]
+        session.asked(question("orders", at, state="open"), page("orders", rest))
+
+
+def paired_lists(count):
+    """Returns a session of lists whose places have two values: so many versions of recipes, and a ledger of so many movements."""
+    session = Session(f"recipes and a ledger of {count} are told by the page").accepted(*GOODS)
+    recipes = [(f"R-{it % 7}", it + 1) for it in range(count)]
+    session.accepted(*[add_recipe(1, *it) for it in recipes])
+    recipes.sort()
+    first = session.count() + 1
+    session.accepted(receive("L-1", 900), *[scrap("L-1", 2)] * (count - 1))
+    shown = {"base": 1, "max": 900, "min": 1, "product": "SUGAR", "title": ""}
+    for at in [None, ("A", 999), ("R-2", 0), ("R-2", 999), ("Z", 0), *recipes[96:102]]:
+        rest = [{**shown, "recipe": name, "version": version} for name, version in recipes if at is None or (name, version) > at]
+        session.asked(question("recipes", at and "%s.%d" % at, state="draft"), page("recipes", rest))
+    session.asked(question("recipes", None, state="approved"), page("recipes", []))
+    shown = {"at": 100, "batch": None, "by": "", "line": 1, "lot": "L-1", "note": "", "sub": 0, "to": None, "to_sub": None}
+    moved = [{**shown, "seq": first + it, "kind": "scrapped" if it else "received", "amount": 2 if it else 900} for it in range(count)]
+    for at in [None, (0, 0), (first, 0), (first, 1), (first + 98, 1), (first + 99, 0), (first + 99, 1), (10**15, 999)]:
+        rest = [it for it in moved if at is None or (it["seq"], it["line"]) > at]
+        session.asked(question("movements", at and "%d.%d" % at, lot="L-1"), page("movements", rest))
+    return session
+
+
+# ---- bytes that are a line, a bad one, or none
+
+
+def lines():
+    nested = b"[" * 200 + b"]" * 200 + b"\n"
+    longest = DESK + b" " * (LINE_LIMIT - len(DESK))
+    arne = b'{"at":1,"by":"\\u00e4","do":"add_class","class":"A","name":""}\n'
+    floating = b'{"at":1.0,"by":"","do":"add_class","class":"A","name":""}\n'
+    return [
+        Session("an empty input has no reply"),
+        Session("line ends may vary", b"\n\r\n" + DESK + b"\r\n\n" + DESK, NEW_DESK * 2),
+        Session("a line of a carriage return and another", b"\r\r\n", BAD_FORM),
+        Session("a last line of a carriage return", b"\r", BAD_FORM),
+        Session("a blank is no line", b" \n", BAD_FORM),
+        Session("text is UTF-8, and what is none ends nothing", b'{"ask":"de\xffsk"}\n' + DESK + b"\n", BAD_FORM + NEW_DESK),
+        Session("a question has no other member", b'{"ask":"desk","x":1}\n', BAD_FORM),
+        Session("an id is in capitals", b'{"ask":"lot","lot":"l-1"}\n', BAD_FORM),
+        Session("a line is JSON", b"nonsense\n", BAD_FORM),
+        Session("a moment is a whole number", floating, BAD_FORM),
+        Session("nesting has a limit", nested + DESK + b"\n", BAD_FORM + NEW_DESK),
+        Session("a line of the greatest length is read", longest + b"\r\n", NEW_DESK),
+        Session("a byte order mark is no part of a line", b"\xef\xbb\xbf" + DESK + b"\n", BAD_FORM),
+        Session("a line is one value", DESK + b" {}\n", BAD_FORM),
+        Session("a line is whole", DESK[:-1] + b"\n", BAD_FORM),
+        Session("a text is ASCII", arne, BAD_FORM),
+        Session("a longer line is passed over", longest + b" \n" + DESK + b"\n", BAD_FORM + NEW_DESK),
+        Session("a carriage return at the end of the input counts", longest + b"\r", BAD_FORM),
+    ]
+
+
+# Lines that scrap, by their sublot, their amount and what stands behind these, each with whether it is read.
+SCRAPS = [
+    ("0", "1", "", True),
+    ("-0", "1", "", False),
+    ("00", "1", "", False),
+    ("1000", "1", "", False),
+    ("0", "0", "", False),
+    ("0", "1000000000000001", "", False),
+    ("0", "18446744073709551616", "", False),
+    ("0", "1.0", "", False),
+    ("0", "1e2", "", False),
+    ("0", '"1"', "", False),
+    ("0", "1", ',"note":""', True),
+    ("0", "1", ',"note":null', False),
+    ("0", "1", ',"note":7', False),
+    ("0", "1", ',"x":1', False),
+    ("0", "1", ',"ask":"desk"', False),
+    ("0", "1", ',"note":"a","x":1', False),
+    # the last of two members of one name counts
+    ("0", "1", ',"amount":30', True),
+    ("0", "1", ',"amount":0', False),
+    ("0", "1", ',"note":null,"note":"a"', True),
+    # what the earlier one has must be JSON all the same, and its lists are nested 127 deep at most, with the line itself
+    ("0", "1", ',"note":1e999,"note":"a"', False),
+    ("0", "1", f',"note":{"[" * 126}{"]" * 126},"note":""', True),
+    ("0", "1", f',"note":{"[" * 127}{"]" * 127},"note":""', False),
+]
+
+
+def scraps():
+    """Returns a session of lines that scrap, of which each is read or bad by its numbers and members."""
+    session = Session("numbers and members of a line").accepted(*GOODS, receive("L-1", 480))
+    for sub, amount, more, is_read in SCRAPS:
+        body = scrap("L-1", amount, sub) + more
+        session = session.accepted(body) if is_read else session.refused("BadForm", 1, body)
+    stock = 480 - 4 - 30
+    return session.asked(
+        '{"ask":"lot","lot":"L-1"}',
+        f'{{"def":"SUGAR","held":false,"lot":"L-1","stock":{stock},"sublots":[{{"no":0,"place":"","stock":{stock}}}]}}',
+    )
+
+
+def every():
+    """Returns all sessions, those that are written out and those that are made here."""
+    pages = [session(count) for count in COUNTS for session in (lists, paired_lists)]
+    return [*map(sessions.read, sessions.files()), *limits(), long_chain(), wide_fan(), standing(), *pages, *lines(), scraps()]

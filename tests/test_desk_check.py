@@ -1,0 +1,356 @@
+"""The built check of a desk's file: over good desks, over each cause that keeps the desk from a file, and over each rule broken.
+
+Whatever stands there, the check has to leave every file with its bytes and its moment, and no other behind. Of each statement of
+tests/tables/broken_rules.txt over the rows of good_desk.sql it has to tell first the rule that `desk verify` names. What it tells of a row is
+looked at for one statement of each rule.
+"""
+from __future__ import annotations
+
+import errno
+import json
+import os
+import pathlib
+import resource
+import shutil
+import subprocess
+import sys
+
+from tests.support import faults, sessions, sqlite
+from tests.support.cases import DeskTestCase
+from tests.support.faults import as_nobody
+from tests.support.http import Server
+from tests.support.program import Program
+
+GOOD = """The file opens.
+It holds a desk of schema 4 and 20 commands, the last at 310.
+Orders: 1, batches: 1, lots: 4, movements: 8.
+No rule is broken.
+"""
+
+# What is told of the first row that the statements of sqlite.DAMAGES break, by the number of the rule; of rule 1 no row is told.
+ROWS = {
+    2: ("batch", {"place": 1}, None, "the row"),
+    3: ("definition", ["FLOUR"], "class", "NONE"),
+    4: ("recipe", ["CAKE", 1], None, "the row"),
+    5: ("job", ["O-1"], "size", "99"),
+    6: ("batch", ["B-1"], None, "the row"),
+    7: ("sublot", ["D-2", 0], "stock", "41"),
+    8: ("sublot", ["D-3", 0], "lot", "D-3"),
+    9: ("movement", [10, 1], "batch", "B-9"),
+    10: ("batch", ["B-1"], "attempt", "2"),
+    11: ("movement", [18, 1], "seq", "18"),
+    12: ("edge", [2, "B-1", "D-1"], None, "no row"),
+    13: ("receipt", ["K-1"], "seq", "99"),
+    14: ("mark", ["RC-1", 1, "D-1"], None, "no row"),
+}
+
+# What the rule wants there.
+WANTED = {
+    7: "40, for 100 entered and 60 left",
+    10: "1",
+    12: "the edge that movement 12 1 makes",
+    14: "the mark of an open recall that reaches it",
+}
+
+# The most memory that a check gets which has little, in bytes.
+LITTLE = 24 << 20
+
+# A program that reads a file, tells that it does, and goes on reading until its input ends.
+READER = """
+import sqlite3, sys
+store = sqlite3.connect(sys.argv[1])
+store.execute("BEGIN")
+store.execute("SELECT * FROM meta").fetchall()
+print("reading", flush=True)
+sys.stdin.read()
+"""
+
+
+def standing(folder):
+    """Returns all that stands in a folder: of each file its bytes, where they can be read, and when it was changed."""
+    found = {}
+    for it in sorted(folder.rglob("*")):
+        status = it.lstat()
+        content = it.read_bytes() if it.is_file() and not it.is_symlink() else b""
+        found[str(it.relative_to(folder))] = (content, status.st_mtime_ns, status.st_mode, status.st_size)
+    return found
+
+
+def opened(desk):
+    """Returns the object of a file that opens and holds this."""
+    return {"desk": desk, "obstacle": None, "opens": True, "taken": None}
+
+
+class FileCheckTestCase(DeskTestCase):
+    """A test case over the check, with a file of twenty commands, twenty.db, in the test's folder."""
+
+    PROGRAMS = ("desk", "desk_check")
+
+    @classmethod
+    def setUpClass(cls):
+        super().setUpClass()
+        folder = cls.new_folder()
+        cls.addClassCleanup(folder.cleanup)
+        cls.first, session = pathlib.Path(folder.name) / "twenty.db", sessions.twenty_commands()
+        cls.check_set_up("twenty commands", Program("desk", folder.name).run("run", "twenty.db", told=session.told), session.ended())
+
+    def setUp(self):
+        super().setUp()
+        self.checker = Program("desk_check", self.folder)
+        self.copy("twenty.db")
+
+    def copy(self, name, statements=""):
+        """Returns a fresh copy of the file of twenty commands, over which statements were executed."""
+        file = self.folder / name
+        shutil.copyfile(self.first, file)
+        if statements:
+            sqlite.changed(file, statements)
+        return file
+
+    def checked(self, *words, **how):
+        """Runs the check, which has to leave every file as it is."""
+        before = standing(self.folder)
+        ended = self.checker.run(*words, **{"stdin": subprocess.DEVNULL, **how})
+        self.check(f"{words}: what stands there", standing(self.folder), before)
+        return ended
+
+    def object(self, file, *words, **how):
+        """Returns the status of the check, and the object that it prints."""
+        status, output, errors = self.checked(file, "--json", *words, **how)
+        self.check(f"{file}: {errors}, {output}", (errors, output.count(b"\n")), (b"", 1))
+        return status, json.loads(output)
+
+    def check_cause(self, case, file, cause, status=3, opens=None, words=(), **how):
+        """Checks a file that the desk can't use, for this cause, or that it can."""
+        found, told = self.object(file, *words, **how)
+        obstacle = told["obstacle"] or {}
+        self.check(f"{case}: {told}", (found, obstacle.get("cause"), told["opens"]), (status, cause, cause is None))
+        if cause:
+            self.check_true(f"{case}: in words", all(obstacle[it] for it in ("says", "advice")))
+            _, output, _ = self.checked(file, *words, **how)
+            self.check(f"{case}: in sentences", output.decode().splitlines()[1], f"{obstacle['says']} {obstacle['advice']}")
+        if opens is not None:
+            self.check(f"{case}: what it holds", bool(told["desk"]), opens)
+        return told
+
+    def check_usable(self, case, file, **how):
+        """Checks a file that the desk can use."""
+        return self.check_cause(case, file, None, status=0, opens=True, **how)
+
+
+class Desks(FileCheckTestCase):
+    """Files that hold a desk, or none."""
+
+    def test_good_desk_is_told_in_sentences_and_as_an_object(self):
+        self.check("a desk", self.checked("twenty.db"), (0, GOOD.encode(), b""))
+        wanted = {"at": 310, "batches": 1, "broken": [], "lots": 4, "movements": 8, "orders": 1, "schema": 4, "seq": 20}
+        self.check("a desk as an object", self.object("twenty.db"), (0, opened(wanted)))
+
+    def test_new_desk_and_one_of_a_later_program_are_told(self):
+        self.desk.run("init", "new.db")
+        self.check("a new desk", self.object("new.db")[1]["desk"]["seq"], 0)
+        sqlite.changed(self.folder / "new.db", "UPDATE meta SET schema = 5")
+        self.check("a later desk", self.object("new.db"), (3, opened({"newer": 5})))
+
+    def test_file_without_a_desk_is_told(self):
+        (self.folder / "empty.db").write_bytes(b"")
+        sqlite.changed(self.folder / "other.db", "CREATE TABLE shift (id TEXT)")
+        for name in ["empty.db", "other.db"]:
+            self.check(name, self.object(name), (1, opened(None)))
+
+    def test_taken_name_of_an_index_is_told(self):
+        """Gives something else the name of one of the desk's indexes, in a file without a desk and beside older ones."""
+        file = self.folder / "named.db"
+        for schema, statements, name in [
+            (None, "CREATE TABLE movement_by_lot (a TEXT)", "movement_by_lot"),
+            (1, sqlite.TO_SCHEMA_1 + "CREATE TABLE edge_by_end (a TEXT)", "edge_by_end"),
+            (3, sqlite.TO_SCHEMA_3 + "CREATE VIEW mark_by_node AS SELECT 1;", "mark_by_node"),
+        ]:
+            file.unlink(missing_ok=True)
+            if schema:
+                self.copy(file.name)
+            sqlite.changed(file, statements)
+            status, told = self.object(file.name)
+            desk = told["desk"] and (told["desk"]["schema"], told["desk"]["broken"])
+            self.check(f"{name}: {told}", (status, told["opens"], told["taken"]), (3, True, name))
+            self.check(f"{name}: its desk", desk, (schema, []) if schema else None)
+            sentence = f"Something else has the name {name}, which the desk needs for an index: give it another name with sqlite3."
+            self.check(f"{name}: in sentences", self.checked(file.name).output.decode().splitlines()[-1], sentence)
+            self.check_run(f"{name}: the desk", ["init", file.name], (3, b"", b"fault: store\n"))
+
+    def test_log_of_a_killed_program_is_read(self):
+        """Checks a desk whose program was killed, so that its commands stand in the log."""
+        killed = self.desk.start("run", "killed.db", stdin=subprocess.PIPE)
+        killed.stdin.write(b'{"at":7,"by":"","do":"add_class","class":"RAW","name":""}\n')
+        killed.stdin.flush()
+        killed.stdout.readline()
+        killed.kill()
+        killed.communicate()
+        self.check_true("a log", (self.folder / "killed.db-wal").stat().st_size > 0)
+        status, told = self.object("killed.db")
+        self.check("a desk with a log", (status, told["desk"]["seq"], told["desk"]["at"]), (0, 1, 7))
+
+
+class Causes(FileCheckTestCase):
+    """What keeps the desk from a file."""
+
+    def test_missing_file_and_what_is_no_file_are_told(self):
+        (self.folder / "folder").mkdir()
+        os.mkfifo(self.folder / "pipe")
+        (self.folder / "link").symlink_to("nothing")
+        self.check_cause("a slip", "twnety.db", "missing")
+        self.check_cause("a missing folder", "nowhere/plant.db", "folder")
+        for name in ["folder", "pipe", "link", "/dev/null"]:
+            self.check_cause(name, name, "nofile")
+        self.check_cause("a file as a folder", "twenty.db/plant.db", "folder")
+
+    def test_file_that_a_server_or_a_reader_has_is_locked(self):
+        self.copy("served.db")
+        with Server(self.desk, "served.db", 100):
+            self.check_cause("a server", "served.db", "locked", opens=False)
+        # Another process reads: this one looks at the file's bytes, which would give up locks of its own.
+        words = [sys.executable, "-c", READER, self.folder / "served.db"]
+        reader = subprocess.Popen(words, stdin=subprocess.PIPE, stdout=subprocess.PIPE)
+        try:
+            reader.stdout.readline()
+            self.check_cause("a reader", "served.db", "locked", opens=False)
+        finally:
+            reader.communicate()
+        self.check_usable("none any more", "served.db")
+
+    def test_missing_rights_are_told(self):
+        """Checks files that this user may not read, or not write, and one that has two names."""
+        file, log = self.copy("rights.db"), self.folder / "rights.db-wal"
+        os.chmod(self.folder, 0o755)
+        os.chmod(file, 0o000)
+        self.check_cause("no right to read", "rights.db", "unreadable", **as_nobody())
+        os.chmod(file, 0o444)
+        self.check_cause("no right to write", "rights.db", "unwritable", opens=True, **as_nobody())
+        os.chmod(file, 0o666)
+        self.check_cause("no right to make its log", "rights.db", "nolog", opens=True, **as_nobody())
+        log.touch()
+        os.chmod(log, 0o666)
+        self.check_usable("a log that is there", "rights.db", **as_nobody())
+        log.unlink()
+        os.chmod(self.folder, 0o757)
+        self.check_usable("a folder of everybody's", "rights.db", **as_nobody())
+        os.chmod(self.folder, 0o755)
+        os.chmod(file, 0o644)
+        os.link(file, self.folder / "second.db")
+        self.check_cause("two names", "rights.db", "linked")
+
+    def test_limit_of_the_size_of_files_is_told(self):
+        def limited(bytes_more):
+            return faults.limited(resource.RLIMIT_FSIZE, (self.folder / "twenty.db").stat().st_size + bytes_more)
+
+        page = 4096 + 24
+        self.check_usable("a limit that leaves a page", "twenty.db", **limited(page))
+        self.check_cause("a limit that leaves none", "twenty.db", "limit", opens=True, **limited(page - 1))
+        self.check_cause("a limit below the file", "twenty.db", "limit", opens=True, **limited(-page))
+        (self.folder / "empty.db").write_bytes(b"")
+        self.check_cause("a limit of no byte", "empty.db", "limit", opens=False, **faults.limited(resource.RLIMIT_FSIZE, 0))
+
+    def test_disk_that_is_full_or_fails_is_told_where_it_is_tried(self):
+        """A library put before the programs makes them see what such a disk tells."""
+        self.check_usable("a disk with room", "twenty.db", words=["--room"])
+        self.copy("disk.db")
+        for error, cause in [(errno.ENOSPC, "full"), (errno.EDQUOT, "full"), (errno.EROFS, "unwritable"), (errno.EIO, "store")]:
+            name, room = errno.errorcode[error], faults.stopped_file("-room", 0, error)
+            ended = self.desk.run("verify", "disk.db", env=faults.stopped_file("-wal", 0, error))
+            self.check(f"the desk where the disk tells {name}", (ended.status, ended.errors), (3, b"fault: store\n"))
+            self.check_usable(f"a disk that tells {name}, and isn't tried", "disk.db", env=room)
+            self.check_cause(f"a disk that tells {name}", "disk.db", cause, opens=True, words=["--room"], env=room)
+
+    def test_folder_of_a_group_is_told_where_it_is_tried(self):
+        if os.geteuid() != 0:
+            self.skipTest("only root can give a folder to another group's user")
+        os.chmod(self.copy("group.db"), 0o666)
+        os.chmod(self.folder, 0o775)
+        self.check_usable("a folder of a group, which isn't tried", "group.db", **as_nobody())
+        self.check_cause("a folder of a group that the user isn't of", "group.db", "nolog", opens=True, words=["--room"], **as_nobody())
+
+    def test_file_that_is_no_sound_database_is_told(self):
+        """Checks texts, databases that the desk can't read, and damaged ones."""
+        (self.folder / "text").write_bytes(b"FLOUR 500 kg\n" * 500)
+        sqlite.changed(self.folder / "wide.db", "PRAGMA encoding = 'UTF-16'; CREATE TABLE a (b TEXT); INSERT INTO a VALUES ('c')")
+        sqlite.changed(self.folder / "vacuum.db", "PRAGMA auto_vacuum = FULL; CREATE TABLE a (b TEXT)")
+        self.check_cause("text", "text", "nodatabase")
+        for name in ["wide.db", "vacuum.db"]:
+            self.check_cause(name, name, "damaged")
+        whole = (self.folder / "twenty.db").read_bytes()
+        (self.folder / "cut.db").write_bytes(whole[:8192])
+        (self.folder / "torn.db").write_bytes(whole[:8192] + b"\xff" * 4096 + whole[12288:])
+        for name in ["cut.db", "torn.db"]:
+            told = self.check_cause(name, name, "damaged")
+            self.check(name, told["obstacle"]["error"], "database disk image is malformed")
+        (self.folder / "twenty.db-journal").write_bytes(b"\xd9")
+        self.check_cause("a journal", "twenty.db", "journal")
+
+    def test_want_of_memory_is_told_by_the_status(self):
+        sqlite.changed(self.folder / "large.db", "CREATE TABLE a (b TEXT); INSERT INTO a SELECT hex(randomblob(8000000))")
+        self.check("little memory", self.checked("large.db", **faults.limited(resource.RLIMIT_AS, LITTLE)).status, 4)
+
+
+class Rules(FileCheckTestCase):
+    """Rules of good tables that are broken."""
+
+    def test_each_broken_rule_is_told_with_its_row(self):
+        """Breaks each rule in a file of twenty commands, and looks at the row that is told."""
+        for number, statement in enumerate(sqlite.DAMAGES, 1):
+            file = self.copy("damaged.db", statement)
+            status, told = self.object(file.name)
+            first = told["desk"]["broken"][0]
+            row = first["row"]
+            self.check(f"{statement}: {told}", (status, told["opens"], first["rule"]), (3, True, number))
+            if number in ROWS:
+                found = tuple(row[it] for it in ("table", "key", "column", "found")) if row else None
+                self.check(f"{statement}: the row", found, ROWS[number])
+            if row and number in WANTED:
+                self.check(f"{statement}: what is wanted", row["wanted"], WANTED[number])
+            self.check(f"{statement}: verify", self.desk.run("verify", file.name).errors, b"fault: damaged G%d\n" % number)
+
+    def test_three_broken_rules_are_told_in_order(self):
+        file = self.copy("several.db", "; ".join(sqlite.DAMAGES[it - 1] for it in (13, 7, 3)))
+        _, told = self.object(file.name)
+        self.check("three rules", [it["rule"] for it in told["desk"]["broken"]], [3, 7, 13])
+
+    def test_first_broken_rule_is_that_of_verify_for_each_change_of_a_good_desk(self):
+        first, file, without = self.folder / "good.db", self.folder / "changed.db", {}
+        self.desk.run("init", first.name)
+        sqlite.good_desk(first)
+        for number, statement in sqlite.broken_rules():
+            shutil.copyfile(first, file)
+            sqlite.changed(file, statement)
+            _, told = self.object(file.name)
+            broken = told["desk"]["broken"]
+            self.check(f"{statement}: {told}", [it["rule"] for it in broken[:1]], [number] if number else [])
+            if broken and broken[0]["row"] is None:
+                without[number] = without.get(number, 0) + 1
+        self.note(f"rules told without a row, by their numbers: {without}")
+
+
+class Words(FileCheckTestCase):
+    """The words and streams of the check."""
+
+    def test_help_and_version_are_told_and_wrong_words_refused(self):
+        status, output, errors = self.checked("--help")
+        self.check("--help", (status, b"Usage: desk_check" in output, errors), (0, True, b""))
+        self.check("--version", self.checked("--version").status, 0)
+        for words in [[], ["a.db", "b.db"], ["--jsn", "a.db"]]:
+            status, output, errors = self.checked(*words)
+            self.check(words, (status, output, errors[:7]), (2, b"", b"error: "))
+
+    def test_failed_write_is_a_fault(self):
+        with open("/dev/full", "wb") as full:
+            ended = self.checker.run("twenty.db", stdout=full)
+        self.check("a failed write", (ended.status, ended.errors), (3, b"fault: write\n"))
+
+    def test_closed_standard_streams_are_not_written_into_the_file(self):
+        """Closes the standard streams, into whose places an opened file would come."""
+        def close():
+            for stream in range(3):
+                os.close(stream)
+
+        ended = self.checked("twenty.db", stdin=None, stdout=None, stderr=None, preexec_fn=close)
+        self.check("closed streams", ended.status, 3)
+        self.check("the file behind them", self.checked("twenty.db").status, 0)

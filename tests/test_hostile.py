@@ -1,0 +1,210 @@
+"""The built desk over files that somebody else changed, and on requests of HTTP that end early, pass a limit or come slowly.
+
+For each rule of good tables a file of twenty commands is changed by one statement, which breaks that rule and none before it: the desk
+has to name the rule, to each word, and to leave the tables as they are. So has it where a mark is missing behind a recall, or one is too
+many, and for each statement of tests/tables/broken_rules.txt over the rows of good_desk.sql beside it.
+"""
+from __future__ import annotations
+
+import shutil
+import time
+
+from tests.support import http, sessions, sqlite
+from tests.support.cases import DeskTestCase
+from tests.support.http import ACCEPTED, ASK, HOST, NEW, POST, Server, connected, rest_of, status_answer
+from tests.support.sessions import Session, lines_of
+
+# How many seconds a client may hold the server that says nothing, with what else a busy machine takes; and how many a client may pause.
+MOST_HELD = 20
+PAUSE = 2
+
+# How many seconds the server waits at least for the end of its last client, and how often this is looked at where the machine is busy.
+LAST_WAIT = 0.9
+ATTEMPTS = 5
+
+
+class DamageTestCase(DeskTestCase):
+    """A test case over a file that is changed."""
+
+    def make(self, session):
+        """Makes the file that is changed."""
+        self.check_run(session.name, ["run", "first.db"], session.ended(), session.told)
+
+    def change(self, statements):
+        """Returns a fresh copy of the file, over which statements were executed."""
+        file = self.folder / "changed.db"
+        shutil.copyfile(self.folder / "first.db", file)
+        sqlite.changed(file, statements)
+        return file
+
+    def check_refused(self, case, file, rule, words):
+        """Gives a file that breaks a rule to each word, which has to name it and to leave the rows."""
+        rows = sqlite.dumped(file)
+        told = (3, b"", b"fault: damaged G%d\n" % rule)
+        for word, *others in words:
+            self.check_run(f"{word}: {case}", [word, file.name, *others], told, sessions.MORE[0].encode())
+        self.check(f"rows: {case}", sqlite.dumped(file), rows)
+
+
+class DamagedFiles(DamageTestCase):
+    """Files whose rows or tables somebody else has changed."""
+
+    def test_each_broken_rule_is_named_by_each_word(self):
+        """Breaks each rule in turn in a file of twenty commands."""
+        self.make(sessions.twenty_commands())
+        self.check("their edges", sqlite.edges(self.folder / "first.db"), sessions.EDGES)
+        words = [("verify",), ("init",), ("run",), ("record", "B-1"), ("trace", "back", "D-1")]
+        for rule, statement in enumerate(sqlite.DAMAGES, 1):
+            self.check_refused(statement, self.change(statement), rule, words)
+
+    def test_mark_that_no_recall_makes_or_that_is_missing_is_told(self):
+        """Takes a mark away, and adds one, behind the recall of a lot and a production of the batch that took of it."""
+        whole = sessions.named("a_recall_blocks_what_came_of_a_lot")
+        told, wanted = (b"".join(lines_of(it)[:12]) for it in (whole.told, whole.wanted))
+        self.make(Session("a recall and a production", told, wanted))
+        for statement in [
+            "DELETE FROM mark WHERE id = 'D-1'",
+            "DELETE FROM mark WHERE kind = 2",
+            "INSERT INTO mark VALUES ('RC-1', 2, 'D-1')",
+            "INSERT INTO mark VALUES ('RC-2', 1, 'D-1')",
+        ]:
+            self.check_refused(statement, self.change(statement), 14, [("verify",), ("run",), ("trace", "back", "D-1")])
+
+    def test_first_broken_rule_is_told_of_each_change_of_a_good_desk(self):
+        self.check_changes(sqlite.broken_rules())
+
+    def test_first_broken_rule_is_told_of_files_of_older_schemas(self):
+        """Of the older schemas the third has no recalls, the second no receipts and the first no edges."""
+        self.check_changes([
+            (0, sqlite.TO_SCHEMA_1),
+            (12, sqlite.TO_SCHEMA_1 + "UPDATE movement SET batch = 'B-1' WHERE seq = 15"),
+            (0, sqlite.TO_SCHEMA_3),
+            (13, sqlite.TO_SCHEMA_3 + "UPDATE receipt SET seq = 21 WHERE id = 'K-1'"),
+            (1, sqlite.TO_SCHEMA_3 + "CREATE TABLE mark (a INTEGER)"),
+            (0, sqlite.TO_SCHEMA_2),
+            (12, sqlite.TO_SCHEMA_2 + "DELETE FROM edge WHERE a = 'D-0'"),
+            (1, sqlite.TO_SCHEMA_2 + "CREATE TABLE receipt (a INTEGER)"),
+        ])
+
+    def check_changes(self, changes):
+        """Changes a good desk by each of these statements, each with the first rule that it breaks, 0 for none."""
+        self.desk.run("init", "first.db")
+        sqlite.good_desk(self.folder / "first.db")
+        for rule, statement in changes:
+            file = self.change(statement)
+            if rule:
+                self.check_refused(statement, file, rule, [("verify",)])
+            else:
+                self.check_verified(statement, file.name, 20)
+
+
+# ---- requests
+
+
+def with_length(length):
+    """Returns a command whose length is told so."""
+    return POST.replace(b"Content-Length: 59", b"Content-Length: " + length)
+
+
+def padded(size):
+    """Returns a question whose head has so many bytes."""
+    name, end = b"X: ", b"\r\n\r\n"
+    return HOST + name + b"a" * (size - len(HOST + name + end)) + end
+
+
+# Requests to new desks that come up to a limit or pass it, each with its answer.
+REQUESTS = [
+    ("a head has 32 fields", HOST + b"A: b\r\n" * 31 + b"\r\n", NEW),
+    ("a head has 32 fields at most", HOST + b"A: b\r\n" * 32 + b"\r\n", status_answer(431)),
+    ("a head has 8,192 bytes", padded(8192), NEW),
+    ("a head has 8,192 bytes at most", padded(8193), status_answer(431)),
+    ("a head without an end has as many", (HOST + b"X: " + b"a" * 8192)[:8193], status_answer(431)),
+    ("a host is told once", HOST + b"Host: b\r\n\r\n", status_answer(400)),
+    ("a length has no sign", with_length(b"+5"), status_answer(400)),
+    ("a length has 18 digits", with_length(b"0" * 16 + b"59"), ACCEPTED),
+    ("a length has 18 digits at most", with_length(b"0" * 17 + b"59"), status_answer(400)),
+    ("a length is told", POST.replace(b"Content-Length: 59\r\n", b""), status_answer(411)),
+    ("a body has 262,144 bytes at most", with_length(b"262145"), status_answer(413)),
+    ("an id is in capitals", b"GET /v1/lots/l-1 HTTP/1.1\r\nHost: a\r\n\r\n", status_answer(404)),
+    ("an older version needs no host", b"GET /v1/desk HTTP/1.0\r\n\r\n", NEW),
+]
+
+
+class BrokenRequests(DeskTestCase):
+    """Requests that end early, pass a limit, or have more bytes than they tell."""
+
+    def test_front_of_a_request_is_bad_and_changes_nothing(self):
+        """Sends each front of a question and of a command, which are bad but for the empty one."""
+        fronts = [request[:size] for request in (HOST + b"\r\n", POST) for size in range(1, len(request))] + [b""]
+        with Server(self.desk, "fronts.db", len(fronts) + 1) as server:
+            for front in fronts:
+                self.check(f"the front {front}", server.answered(front, is_last=True), status_answer(400) if front else b"")
+            self.check("a desk behind all fronts", server.answered(ASK), NEW)
+            self.check("its server", server.end().status, 0)
+
+    def test_limits_of_requests_are_kept(self):
+        for case, request, wanted in REQUESTS:
+            with Server(self.desk, ":memory:", 1) as server:
+                self.check(case, server.answered(request), wanted)
+
+    def test_answer_comes_whole_where_bytes_are_not_read(self):
+        """Sends bytes that no request asks for, before its answer and behind it: each answer comes whole, and so does the next."""
+        much = b"-" * 50_000
+        cases = [
+            ("a body that is too large", with_length(b"300000")[:-59] + much, status_answer(413)),
+            ("a question with a body", HOST + b"Content-Length: 50000\r\n\r\n" + much, NEW),
+            ("more than a question", ASK + much, NEW),
+        ]
+        with Server(self.desk, ":memory:", 3 * len(cases) + 2) as server:
+            for case, sent, wanted in cases:
+                self.check(case, server.answered(sent), wanted)
+                with connected(server.port) as slow:
+                    slow.sendall(sent)
+                    self.check(f"{case}, and a client that stays", rest_of(slow), wanted)
+                    self.check(f"the next behind {case}", server.answered(ASK), NEW)
+            with connected(server.port) as late:
+                late.sendall(HOST + b"Content-Length: 50000\r\n\r\n")
+                found = rest_of(late)
+                late.sendall(much)
+                self.check("a body that comes behind the answer", found, NEW)
+            self.check("the next behind it", server.answered(ASK), NEW)
+            self.check("its server", server.end().status, 0)
+
+
+class Clients(DeskTestCase):
+    """Clients that are slow, far away or the last."""
+
+    def test_slow_clients_are_served_and_other_addresses_refused(self):
+        """Serves a client behind one that says nothing, and one that pauses; and from no other address than 127.0.0.1."""
+        with Server(self.desk, ":memory:", 4) as server:
+            for address in ["127.0.0.2", "127.1.2.3"]:
+                self.check_true(f"a connection to {address} is refused", http.is_refused(address, server.port))
+            with connected(server.port) as silent:
+                began = time.monotonic()
+                self.check("a client behind one that says nothing", server.answered(ASK), NEW)
+                held = time.monotonic() - began
+                self.check_true(f"it is served within a bound, {held}", held < MOST_HELD)
+                self.check("the one that says nothing", rest_of(silent), b"")
+            with connected(server.port) as slow:
+                slow.sendall(ASK[:9])
+                time.sleep(PAUSE)
+                slow.sendall(ASK[9:])
+                self.check("a client that pauses", rest_of(slow), NEW)
+            self.check("two requests behind one another", server.answered(ASK + ASK), NEW)
+            self.check("its server", server.end().status, 0)
+
+    def test_end_of_the_last_client_is_waited_for(self):
+        """Sends less than was promised, as the last client, and looks whether the server waits for the rest behind its answer."""
+        for _ in range(ATTEMPTS):
+            with Server(self.desk, ":memory:", 1) as server:
+                with connected(server.port) as last:
+                    last.sendall(HOST + b"Content-Length: 50000\r\n\r\n")
+                    found, began = rest_of(last), time.monotonic()
+                    time.sleep(LAST_WAIT / 3)
+                    is_running = server.is_running()
+                    is_judged = time.monotonic() - began < LAST_WAIT
+                status = server.end().status
+            if is_judged:
+                break
+        self.check("the last client's answer", found, NEW)
+        self.check("the last client is waited for", (is_judged, is_running, status), (True, True, 0))

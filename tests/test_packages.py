@@ -1,0 +1,287 @@
+"""The packages of the built programs: made twice, unpacked, and what stands in them.
+
+What was unpacked runs the batch of examples in a folder of its own, with no toolchain on its PATH. Pages, completions and the unit are looked
+at by groff, bash, zsh, fish and systemd-analyze, by each where it is there.
+"""
+from __future__ import annotations
+
+import gzip
+import hashlib
+import io
+import json
+import os
+import pathlib
+import re
+import shutil
+import subprocess
+import tarfile
+
+from tests.support.cases import ProgramTestCase
+from tests.support.program import PACKED, SECONDS, TOP, path_of
+
+# Folders that are on every machine.
+COMMON = [pathlib.Path(it) for it in ("/", "/usr", "/usr/bin", "/usr/local", "/usr/local/bin")]
+
+# What the unpacked programs are given of the system.
+PLAIN = {"PATH": "/usr/bin:/bin", "LC_ALL": "C"}
+
+# Completes the words behind a first one, which is the file of the completion.
+BASH = 'source "$0"; COMP_WORDS=("$@"); COMP_CWORD=$(($# - 1)); _desk; printf "%s\\n" "${COMPREPLY[@]}"'
+
+# Programs that have no words, each with an option of its help.
+ALONE = [("order_check", "--version"), ("line_check", "--version"), ("desk_check", "--json"), ("genealogy_picture", "--dot")]
+
+# The documents of a package.
+DOC = "share/doc/desk"
+
+
+def ran(*words, **how):
+    """Returns the status of a program, what it printed, and what it printed of errors."""
+    how = {"stdin": subprocess.DEVNULL, "capture_output": True, "text": True, "timeout": SECONDS, **how}
+    it = subprocess.run([str(word) for word in words], **how)
+    return it.returncode, it.stdout, it.stderr
+
+
+def members(package):
+    """Returns the members of an ar archive by their names."""
+    found, content, at = {}, package.read_bytes(), len(b"!<arch>\n")
+    while at < len(content):
+        name, size = content[at:at + 16].decode().strip(), int(content[at + 48:at + 58])
+        found[name] = content[at + 60:at + 60 + size]
+        at += 60 + size + size % 2
+    return found
+
+
+def unpack(archive, folder):
+    """Unpacks a tar archive, given as bytes."""
+    with tarfile.open(fileobj=io.BytesIO(archive)) as tar:
+        tar.extractall(folder, **({"filter": "data"} if hasattr(tarfile, "data_filter") else {}))
+
+
+def files_of(folder):
+    """Returns the files below a folder by their places, each with its bytes and its mode."""
+    return {str(it.relative_to(folder)): (it.read_bytes(), it.stat().st_mode) for it in folder.rglob("*") if it.is_file()}
+
+
+def help_text(program, *words):
+    return ran("desk", *words, "--help", executable=program)[1]
+
+
+def words_of(text):
+    """Returns the words that the help of the desk lists."""
+    return re.findall(r"^  (\w+) ", text.partition("Commands:\n")[2].partition("\n\n")[0], re.M)
+
+
+def long_options(text):
+    """Returns the long options that a help lists."""
+    return re.findall(r"^  (?:-\w, |    )(--[\w-]+)", text.partition("Options:\n")[2], re.M)
+
+
+class PackageTestCase(ProgramTestCase):
+    """A test case over the packages, which are made and unpacked once, in a folder of the class."""
+
+    PROGRAMS = PACKED
+
+    @classmethod
+    def setUpClass(cls):
+        super().setUpClass()
+        folder = cls.new_folder()
+        cls.addClassCleanup(folder.cleanup)
+        cls.place = pathlib.Path(folder.name)
+        cls.programs = {name: path_of(name) for name in PACKED}
+        cls.version = ran("desk", "--version", executable=cls.programs["desk"])[1].split()[-1]
+        cls.words = words_of(help_text(cls.programs["desk"]))
+        cls.options = {it: long_options(help_text(cls.programs["desk"], it)) for it in cls.words}
+        cls.archive, cls.debian = f"desk-{cls.version}.tar.gz", f"desk_{cls.version}_amd64.deb"
+        cls.make("first")
+        cls.unpack()
+
+    @classmethod
+    def make(cls, name, **where):
+        """Makes the packages in a folder of this name, with these variables more in the environment."""
+        folder, copies = cls.place / name, cls.place / f"{name} programs"
+        folder.mkdir()
+        copies.mkdir()
+        given = [shutil.copy(program, copies / it) for it, program in cls.programs.items()]
+        status, _, errors = ran(TOP / "make/package.py", *given, folder, cwd=folder, env={**os.environ, **where})
+        cls.check_set_up(f"the packages are made, {errors}", status, 0)
+
+    @classmethod
+    def unpack(cls):
+        """Unpacks both packages."""
+        cls.parts = members(cls.place / "first" / cls.debian)
+        if shutil.which("dpkg-deb"):
+            cls.unpacked = ran("dpkg-deb", "-x", cls.place / "first" / cls.debian, cls.place / "deb")
+        else:
+            cls.unpacked = (0, "", "")
+            unpack(cls.parts["data.tar.gz"], cls.place / "deb")
+        unpack(cls.parts["control.tar.gz"], cls.place / "control")
+        unpack((cls.place / "first" / cls.archive).read_bytes(), cls.place / "tar")
+        cls.tops = {"tar": cls.place / "tar" / f"desk-{cls.version}", "deb": cls.place / "deb/usr"}
+        cls.files = files_of(cls.tops["deb"])
+
+    def check_names_all(self, case, text, word_form, option_form):
+        """Looks for each word and each long option of the desk's help in a text."""
+        missing = [it for it in self.words if not re.search(word_form.format(word=it), text)]
+        options = sorted({"--help", "--version"}.union(*self.options.values()))
+        missing += [it for it in options if not re.search(option_form.format(option=it, bare=it[2:]), text)]
+        self.check(f"what {case} doesn't name", missing, [])
+
+
+class Packages(PackageTestCase):
+    """The packages as a whole."""
+
+    def test_packages_made_twice_are_the_same_bytes(self):
+        """Makes the packages once more, with another environment."""
+        self.make("second", TZ="Asia/Tokyo", LC_ALL="C", HOME=str(self.place))
+        for name in (self.archive, self.debian):
+            first, second = ((self.place / it / name).read_bytes() for it in ("first", "second"))
+            self.check_true(f"{name}, made twice, is there and the same", first and first == second)
+
+    def test_both_packages_hold_one_tree(self):
+        """The same stands in both, but for README, which stands on top of the archive as well."""
+        self.check("the members", list(self.parts), ["debian-binary", "control.tar.gz", "data.tar.gz"])
+        self.check("dpkg-deb", self.unpacked, (0, "", ""))
+        with_readme = {**self.files, "README.md": self.files[f"{DOC}/README.md"]}
+        self.check_true("one tree in both", files_of(self.tops["tar"]) == with_readme)
+        for name, program in self.programs.items():
+            self.check_true(f"{name} is the built one", self.files[f"bin/{name}"][0] == program.read_bytes())
+
+    def test_debian_is_told_the_version_the_sums_and_the_c_library(self):
+        told = (self.place / "control/control").read_text()
+        fields = dict(it.split(": ", 1) for it in told.splitlines() if not it.startswith(" "))
+        self.check("the package", (fields["Package"], fields["Version"], fields["Architecture"]), ("desk", self.version, "amd64"))
+        sums = dict(reversed(it.split("  ")) for it in (self.place / "control/md5sums").read_text().splitlines())
+        self.check("the sums", sums, {f"usr/{it}": hashlib.md5(content).hexdigest() for it, (content, _) in self.files.items()})
+        if shutil.which("ldd"):
+            self.check("Depends", fields.get("Depends"), self.wanted_of_debian())
+
+    def wanted_of_debian(self):
+        """Returns the package of the C library in the least version that holds all that the programs ask it for, as ldd finds that."""
+        found = []
+        for program in self.programs.values():
+            own = ran("ldd", "-v", program, env=PLAIN)[1].partition("Version information:\n")[2].split("\n\t/")[0]
+            self.check(f"other libraries of {program.name}", re.findall(r"^\t\t(?!lib[cm]\.|ld-linux)\S+", own, re.M), [])
+            found += re.findall(r"\(GLIBC_([\d.]+)\)", own)
+        return f"libc6 (>= {max(found, key=lambda it: [int(part) for part in it.split('.')])})" if found else None
+
+    def test_no_file_names_a_place_of_this_machine(self):
+        """Looks for places of this machine in all files but the programs."""
+        toolchain = shutil.which("rt")
+        places = [TOP, pathlib.Path.home(), self.place, *(it.parent for it in self.programs.values())]
+        places += [pathlib.Path(toolchain).resolve().parent.parent] if toolchain else []
+        forms = [rf"(?<![\w.-]){re.escape(str(it))}(?![\w-])".encode() for it in places if it not in COMMON]
+        for name, (content, _) in self.files.items():
+            text = gzip.decompress(content) if name.endswith(".gz") else content
+            if not name.startswith("bin/"):
+                self.check(f"places in {name}", [it for it in forms if re.search(it, text)], [])
+
+    def test_changelog_begins_with_the_version(self):
+        text = self.files[f"{DOC}/CHANGELOG.md"][0].decode()
+        self.check("the newest version of CHANGELOG", re.findall(r"^## (\S+)", text, re.M)[:1], [self.version])
+
+
+class UnpackedPrograms(PackageTestCase):
+    """The programs of both packages, with the unpacked examples."""
+
+    def test_programs_of_the_archive_run_the_batch(self):
+        self.check_batch("tar")
+
+    def test_programs_of_the_package_for_debian_run_the_batch(self):
+        self.check_batch("deb")
+
+    def check_batch(self, name):
+        """Runs the batch of the examples by the unpacked programs."""
+        top = self.tops[name]
+        examples = top / DOC / "examples"
+
+        def of(program, file, *words):
+            with open(file) as it:
+                return ran(top / "bin" / program, *words, cwd=self.folder, env=PLAIN, stdin=it)
+
+        wanted = (examples / "batch.out").read_text()
+        end = json.loads(wanted.splitlines()[-1])
+        self.check(f"{name}: the batch", of("desk", examples / "batch.jsonl", "run", "plant.db"), (0, wanted, ""))
+        verified = f"good schema {end['schema']} seq {end['seq']}\n"
+        self.check(f"{name}: the file", of("desk", os.devnull, "verify", "plant.db"), (0, verified, ""))
+        status, output, errors = of("desk_check", os.devnull, "plant.db")
+        self.check(f"{name}: desk_check, {output}", (status, output.endswith("\nNo rule is broken.\n"), errors), (0, True, ""))
+        self.check(f"{name}: order_check", of("order_check", examples / "orders.csv"), (0, "3 orders\n", ""))
+        counted = f"{end['seq']} commands, {len(wanted.splitlines()) - end['seq']} questions\n"
+        self.check(f"{name}: line_check", of("line_check", examples / "batch.jsonl"), (0, counted, ""))
+        empty = (0, "digraph genealogy {\n  rankdir=LR;\n}\n", "")
+        self.check(f"{name}: genealogy_picture", of("genealogy_picture", os.devnull, "--dot"), empty)
+
+
+class Texts(PackageTestCase):
+    """What the package for Debian has beside the programs: pages, completions and a unit."""
+
+    def test_pages_are_set_without_a_warning_and_name_each_word_and_option(self):
+        """Sets the page of each program by groff, which has to find nothing wrong."""
+        for name in PACKED:
+            source = gzip.decompress(self.files[f"share/man/man1/{name}.1.gz"][0]).decode()
+            text = source.replace("\\-", "-")
+            if shutil.which("groff"):
+                status, text, errors = ran("groff", "-man", "-ww", "-Kutf8", "-Tascii", "-P-c", stdin=None, input=source)
+                self.check(f"groff on {name}", (status, errors), (0, ""))
+            text = re.sub(r".\x08", "", text)
+            self.check_true(f"the page of {name} names it", re.search(rf"\b{name}\b", text))
+            if name == "desk":
+                self.check_names_all("the page", text, r"\bdesk {word}\b", r"(?<!\S){option}\b")
+
+    def test_bash_completes_words_options_and_values(self):
+        file = self.tops["deb"] / "share/bash-completion/completions/desk"
+        cases = [("ver", ["verify"]), ("", [*self.words, "-h", "--help", "-V", "--version"]), ("trace plant.db ", ["back", "forward"])]
+        cases += [(f"{it} --", options) for it, options in self.options.items()]
+        cases += [("import --at 1 plant.db --b", ["--by"]), ("import --at = 1 plant.db --r", ["--ref"])]
+        cases += [("import --at ", [""]), ("sing ", [""])]
+        for typed, wanted in cases:
+            found = ran("bash", "--noprofile", "--norc", "-c", BASH, file, "desk", *typed.split(" "), env=PLAIN)
+            self.check(f"bash behind desk {typed}", found, (0, "".join(f"{it}\n" for it in wanted), ""))
+
+    def test_zsh_and_fish_are_told_each_word_and_option(self):
+        share = self.tops["deb"] / "share"
+        for shell, place, word_form, option_form in (
+            ("zsh", "zsh/vendor-completions/_desk", r"'{word}:", r"'(\(- \*\))?{option}[=\[]"),
+            ("fish", "fish/vendor_completions.d/desk.fish", r" -a {word} ", r" -l {bare} "),
+        ):
+            self.check_names_all(f"the completion of {shell}", (share / place).read_text(), word_form, option_form)
+            self.check_read(shell, share / place)
+
+    def test_options_of_programs_without_words_are_completed(self):
+        share = self.tops["deb"] / "share"
+        for program, known in ALONE:
+            options = long_options(ran(program, "--help", executable=self.programs[program])[1])
+            self.check_true(f"the options of {program}", known in options)
+            for shell, place, form in (
+                ("bash", f"bash-completion/completions/{program}", r"[' ]{option}[' ]"),
+                ("zsh", f"zsh/vendor-completions/_{program}", r"{option}\["),
+                ("fish", f"fish/vendor_completions.d/{program}.fish", r" -l {bare} "),
+            ):
+                text = (share / place).read_text()
+                missing = [it for it in options if not re.search(form.format(option=it, bare=it[2:]), text)]
+                self.check(f"what the completion of {program} for {shell} doesn't name", missing, [])
+                self.check_read(shell, share / place)
+
+    def check_read(self, shell, file):
+        """Has a shell read a completion, where the shell is there."""
+        if shutil.which(shell):
+            self.check(f"{shell} reads {file.name}", ran(shell, "-n", file), (0, "", ""))
+
+    def test_unit_is_sound_and_its_words_are_understood(self):
+        """Has systemd look at the unit with the unpacked program in the place of the installed one, and gives that program its words."""
+        text = self.files["lib/systemd/system/desk@.service"][0].decode()
+        [line] = re.findall(r"^ExecStart=(.*)$", text, re.M)
+        settings = [re.findall(r"\b([A-Z]+)=(\d+)", it) for it in (text, self.files[f"{DOC}/desk.conf"][0].decode())]
+        self.check("PORT and COUNT", settings, [[("PORT", "8080"), ("COUNT", "1000000")]] * 2)
+        for name, value in settings[0]:
+            line = line.replace("${%s}" % name, value)
+        self.check("the words of the unit", line, "/usr/bin/desk serve /var/lib/desk/%i.db 8080 1000000")
+        words = line.replace("/var/lib/desk/%i.db", "nowhere/plant.db").split()[1:]
+        found = ran(self.tops["deb"] / "bin/desk", *words, cwd=self.folder, env=PLAIN)
+        self.check("the words of the unit, over a file in no folder", found, (3, "", "fault: store\n"))
+        unit = self.folder / "desk@.service"
+        unit.write_text(text.replace("=/usr/bin/desk ", f"={self.tops['deb']}/bin/desk "))
+        if shutil.which("systemd-analyze"):
+            status, _, errors = ran("systemd-analyze", "--man=no", "verify", unit)
+            self.check("the unit", (status, [it for it in errors.splitlines() if "desk@" in it]), (0, []))

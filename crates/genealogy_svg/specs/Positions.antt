@@ -2,7 +2,7 @@
 use Rattle.std.specs.Prelude.{◌≡◌, ℕ, List, Contains, Some, IsSome}
 use Rattle.std.specs.BTreeMap.{BTreeMap, get}
 use Rattle.std.specs.declared.cmp.Ordering.{Ordering}
-use Rattle.genealogy_svg.specs.contracts.drawing.StorePhaseOrd.TheImpl.{ghosts as order}
+use Rattle.genealogy_svg.specs.contracts.drawing.BoxPositionOrd.TheImpl.{ghosts as order}
 use Rattle.genealogy_svg.specs.declared.drawing.BoxPosition.{BoxPosition}
 use Rattle.plant_trace.specs.Nodes.{node_cmp}
 use Rattle.plant_trace.specs.Ranks.{rank_of}

@@ -2,7 +2,7 @@
 -- mark), so nothing in them has to be escaped.
 use Rattle.std.specs.Prelude.{ℕ, ◌+◌, ◌*◌, ◌/◌, max, ◌==◌, List, [], ◌++◌, length, if◌then◌else◌, codes, decimal}
 use Rattle.std.specs.List.{flat_map, fold}
-use Rattle.genealogy_graph.specs.Dot.{mark_colour, mark_word, stock_text}
+use Rattle.genealogy_graph.specs.Dot.{mark_colour, mark_name, stock_text}
 use Rattle.genealogy_graph.specs.declared.model.PictureLot.{PictureLot}
 use Rattle.genealogy_svg.specs.declared.drawing.Drawing.{Drawing}
 use Rattle.genealogy_svg.specs.declared.drawing.DrawnBatch.{DrawnBatch}
@@ -63,7 +63,7 @@ abbrev pub unless_empty : List ℕ → List ℕ → List ℕ
 unless_empty text shown = if length text == 0 then [] else shown
 
 abbrev pub lot_mark : PictureLot → List ℕ
-lot_mark lot = mark_word lot.is_held lot.is_recalled
+lot_mark lot = mark_name lot.is_held lot.is_recalled
 
 abbrev pub mark_end : PictureLot → List ℕ
 mark_end lot = unless_empty (lot_mark lot) (codes ", " ++ lot_mark lot)

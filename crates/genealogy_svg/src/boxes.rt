@@ -6,7 +6,7 @@ ghost use Rattle.genealogy_graph.specs.Dot.{stock_text};
 
 use crate::drawing::{BoxPosition, DrawnBatch, DrawnLot};
 use crate::points::{Point, left_of, middle_of, top_of};
-use genealogy_graph::{PictureLot, StockText, mark_colour, mark_word};
+use genealogy_graph::{PictureLot, StockText, mark_colour, mark_name};
 use plant_base::{DisplayItem, Id};
 use std::fmt;
 
@@ -78,7 +78,7 @@ impl fmt::Display for Outline {
 fn lot_mark(lot: &PictureLot) -> &'static str
     ensures { result.now ≡ lot_mark lot.now }
 {
-    mark_word(lot.is_held, lot.is_recalled)
+    mark_name(lot.is_held, lot.is_recalled)
 }
 
 /// The mark of a lot at the end of its title.

@@ -5,7 +5,7 @@ ghost use Rattle.line_check.specs.Verdicts.{command_verdict, verdict_of, has_rea
 
 use crate::command_errors::{CommandError, command_error_of};
 use plant_base::Command;
-use plant_text::{Fault, Line, Problem, read_line_or_error};
+use plant_text::{Fault, Line, FormatError, read_line_or_error};
 use std::alloc::Global;
 use std::fmt;
 
@@ -13,7 +13,7 @@ use std::fmt;
 #[derive(Clone, Copy, Debug, PartialEq, Eq)]
 pub(crate) enum LineError {
     /// It has the shape of no command and of no question.
-    Shape(Problem),
+    Shape(FormatError),
     /// It is a command that the desk refuses as BadForm, whatever its state.
     Whole(CommandError),
 }

@@ -4,7 +4,7 @@ use Rattle.std.specs.Prelude.{filter}
 use Rattle.plant_base.specs.State.{State, same, lot_at, newest_schema}
 use Rattle.plant_base.specs.declared.refusal.Refusal.{Refusal}
 use Rattle.plant_base.specs.declared.rows.Lot.{Lot}
-use Rattle.plant_base.specs.declared.rows.StorePhase.{StorePhase}
+use Rattle.plant_base.specs.declared.rows.Place.{Place}
 use Rattle.plant_base.proofs.FindIsFirst.{found_passes}
 use Rattle.plant_base.proofs.KeyOrders.{same_id}
 use Rattle.plant_base.proofs.PutKeepsOrder.{map_back}
@@ -43,8 +43,8 @@ lot_reported s sound lot (Some l) e =
     record {
       named = named;
       stock = subst (λ (id : List ℕ). lot_stock s id + left_of s.movements lot ≡ born_of s.movements lot) (sym named) (balanced s sound lot);
-      sublots = map_back place_of_row (sublot_row s.movements) (λ p. refl) (filter (λ (p : StorePhase). same p.lot l.id) s.places) ∙ ap (λ (id : List ℕ). filter (λ (p : StorePhase). same p.lot id) s.places) named;
-      each = all_mapped _ (sublot_row s.movements) (filter (λ (p : StorePhase). same p.lot l.id) s.places) (all_of _ (λ (p : StorePhase). let low = sound.covered p.lot p.number in omega (arith, low)) _);
+      sublots = map_back place_of_row (sublot_row s.movements) (λ p. refl) (filter (λ (p : Place). same p.lot l.id) s.places) ∙ ap (λ (id : List ℕ). filter (λ (p : Place). same p.lot id) s.places) named;
+      each = all_mapped _ (sublot_row s.movements) (filter (λ (p : Place). same p.lot l.id) s.places) (all_of _ (λ (p : Place). let low = sound.covered p.lot p.number in omega (arith, low)) _);
     }
 
 said : (s : State) → DecisionInvariant s → (q : Question) → SaysOf s q (answer newest_schema s q)

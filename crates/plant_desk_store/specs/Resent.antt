@@ -7,7 +7,7 @@ use Rattle.plant_base.specs.State.{State}
 use Rattle.plant_base.specs.declared.command.Envelope.{Envelope}
 use Rattle.plant_desk.specs.AppliedOnce.{once, plain, but_receipts}
 use Rattle.plant_desk.specs.Replies.{reply}
-use Rattle.plant_desk.specs.Sendings.{Outcome, answered, stopped_before, stopped_after, Sending, after, attempts}
+use Rattle.plant_desk.specs.Sendings.{Outcome, answered, stopped_before, stopped_after, Sending, after, state_after_sending}
 use Rattle.plant_desk_store.specs.Headline.{IsAtState, IsSoAt}
 use Rattle.plant_desk_store.specs.Executions.{Attempt, acknowledged, in_flight, PossibleOutcome, IsOpened, StorePhase, Execution}
 
@@ -27,7 +27,7 @@ all_attempts s (x ∷ xs) = attempt_at s x.0 x.1 ∷ all_attempts (after s x.0 x
 
 -- Wherever the commands of a life may have led, a sending of just these commands leads.
 abbrev pub ExecutionsAreSendings : Type 0
-ExecutionsAreSendings = (s u : State) (list : List Attempt) → PossibleOutcome s list u → (xs : Sending) × (all_attempts s xs ≡ list) × (attempts s xs ≡ u)
+ExecutionsAreSendings = (s u : State) (list : List Attempt) → PossibleOutcome s list u → (xs : Sending) × (all_attempts s xs ≡ list) × (state_after_sending s xs ≡ u)
 
 -- ---- each acts once
 

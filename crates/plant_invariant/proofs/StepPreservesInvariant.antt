@@ -27,7 +27,7 @@ use Rattle.plant_base.specs.declared.command.Envelope.{Envelope}
 use Rattle.plant_base.proofs.FindIsFirst.{found_keeps}
 use Rattle.plant_base.proofs.PutKeepsOrder.{all_weaker, all_put, found_new}
 use Rattle.plant_base.proofs.KeyOrders.{same_itself}
-use Rattle.plant_view.specs.Refusals.{stored_rows}
+use Rattle.plant_view.specs.Refusals.{sublot_standing}
 use Rattle.plant_view.specs.DecisionInvariant.{DecisionInvariant}
 use Rattle.plant_view.proofs.CommandsPreserveInvariant.{passed, is_there}
 use Rattle.plant_view.proofs.RowsInTurn.{all_filtered}
@@ -60,7 +60,7 @@ use Rattle.plant_invariant.specs.Receipts.{AreValidReceipts}
 use Rattle.plant_invariant.specs.Recalls.{IsValidRecall}
 use Rattle.plant_invariant.proofs.ReceiptsStayValid.{none_valid, valid_with}
 use Rattle.plant_invariant.proofs.RecallsStayValid.{recalls_lifted}
-use Rattle.plant_rules.proofs.AcceptedHasNumber.{failing, behind, no_crash_state_added, number_left}
+use Rattle.plant_rules.proofs.AcceptedHasNumber.{failing, behind, not_failing, number_left}
 use Rattle.plant_rules.proofs.ReceiptDecisions.{next_number as number_after, next_receipts}
 use Rattle.plant_invariant.proofs.MergeIsOneBooking.{lines_birth, lines_lead, lines_asked, part_booking}
 
@@ -100,7 +100,7 @@ good_body s valid t (body.Scrap c) stamp values formed fine sound =
 good_body s valid t (body.Divide c) stamp values formed fine sound =
     let lot = passed (is_none (lot_at s c.lot)) _ _ fine in
     let sublot = passed (is_none (place_at s c.lot c.sub)) _ _ lot.1 in
-    let enough = passed (nat_lt (stored_rows s c.lot c.sub) c.amount) _ _ sublot.1 in
+    let enough = passed (nat_lt (sublot_standing s c.lot c.sub) c.amount) _ _ sublot.1 in
     let free = passed _ _ _ enough.1 in
     let next = next_number s c.lot in
     let small = ltb-false _ _ free.0 in
@@ -163,14 +163,14 @@ good_body s valid t (body.PhaseDone c) stamp values formed fine sound =
 good_body s valid t (body.CloseBatch c) stamp values formed fine sound =
     valid_happened s valid t stamp (close_batch s t c).jobs (event_row s.seq t c.batch event.Closed) (record { batch = values; phase = tt; at = stamp.at; by = stamp.by; note = stamp.note }) (refl, refl) sound
 good_body s valid t (body.Consume c) stamp values formed fine sound =
-    let taken = no_crash_state_added _ fine (not (is_taken (control_lines_of s c.batch) (def_at s c.lot))) (λ untaken. search (failing, behind) depth 12) in
+    let taken = not_failing _ fine (not (is_taken (control_lines_of s c.batch) (def_at s c.lot))) (λ untaken. search (failing, behind) depth 12) in
     let lot = passed _ _ _ (passed (is_none (batch_at s c.batch)) _ _ fine).1 in
     let sublot = passed (is_none (place_at s c.lot c.sub)) _ _ lot.1 in
     let there = is_there _ sublot.0 in
     valid_taken s valid t stamp (kind.Consumed c.batch) (consumption_takes c.batch) c.lot c.sub c.amount
     (one_line s valid t stamp (kind.Consumed c.batch) c.lot c.sub c.amount values.0 values.1 (sub_small s valid t stamp c.lot c.sub there) values.2 there) (not_false _ taken) sound
 good_body s valid t (body.Produce c) stamp values formed fine sound =
-    let made = no_crash_state_added _ fine (not (is_made (control_lines_of s c.batch) c.def)) (λ unmade. search (failing, behind) depth 12) in
+    let made = not_failing _ fine (not (is_made (control_lines_of s c.batch) c.def)) (λ unmade. search (failing, behind) depth 12) in
     let batch = passed (is_none (batch_at s c.batch)) _ _ fine in
     let known = passed (is_none (definition_at s c.def)) _ _ batch.1 in
     let new = passed (is_some (lot_at s c.lot)) _ _ known.1 in

@@ -219,12 +219,12 @@ puts_at place {text} {table_def} is here = at_place IsPutStatement put_texts des
 pub takes_hold : IsDeleteStatement DELETE_HOLD.now hold_table (1 ∷ 2 ∷ [])
 unfolding everything first_key
 takes_hold = takes_two DELETE_HOLD.now hold_table (parse_or (first DELETE_HOLD.now)) 1 2 refl refl refl (record { above = refl; found = λ tree. (refl, refl, (refl, refl, tt)); tested = λ tree. refl })
-    (λ tree. (record { place = refl; strict = refl; named = refl }, record { place = refl; strict = refl; named = refl }))
+    (λ tree. (record { column_index = refl; strict = refl; named = refl }, record { column_index = refl; strict = refl; named = refl }))
 
 pub takes_marks : IsDeleteStatement DELETE_MARKS.now mark_table (1 ∷ [])
 unfolding everything first_key
 takes_marks = takes_one DELETE_MARKS.now mark_table (parse_or (first DELETE_MARKS.now)) 1 refl refl refl (record { above = refl; found = λ tree. (refl, refl, tt); tested = λ tree. refl })
-    (λ tree. record { place = refl; strict = refl; named = refl })
+    (λ tree. record { column_index = refl; strict = refl; named = refl })
 
 -- ---- the tables of each schema
 

@@ -6,40 +6,40 @@ use Rattle.sql_tables.specs.Indexes.{IndexDef, HasIndex}
 use Rattle.plant_tables.specs.DeskTableDefs.{definition_table, recipe_table, job_table, batch_table, batch_event_table, lot_table, movement_table, edge_table, recall_table, mark_table}
 
 abbrev pub batch_event_by_batch : IndexDef
-batch_event_by_batch = record { name = codes "batch_event_by_batch"; table = batch_event_table; places = 2 ∷ [] }
+batch_event_by_batch = record { name = codes "batch_event_by_batch"; table = batch_event_table; column_indexes = 2 ∷ [] }
 
 abbrev pub movement_by_lot : IndexDef
-movement_by_lot = record { name = codes "movement_by_lot"; table = movement_table; places = 4 ∷ 1 ∷ 2 ∷ [] }
+movement_by_lot = record { name = codes "movement_by_lot"; table = movement_table; column_indexes = 4 ∷ 1 ∷ 2 ∷ [] }
 
 abbrev pub movement_by_batch : IndexDef
-movement_by_batch = record { name = codes "movement_by_batch"; table = movement_table; places = 8 ∷ [] }
+movement_by_batch = record { name = codes "movement_by_batch"; table = movement_table; column_indexes = 8 ∷ [] }
 
 abbrev pub edge_by_end : IndexDef
-edge_by_end = record { name = codes "edge_by_end"; table = edge_table; places = 1 ∷ 3 ∷ 2 ∷ [] }
+edge_by_end = record { name = codes "edge_by_end"; table = edge_table; column_indexes = 1 ∷ 3 ∷ 2 ∷ [] }
 
 abbrev pub mark_by_node : IndexDef
-mark_by_node = record { name = codes "mark_by_node"; table = mark_table; places = 2 ∷ 3 ∷ [] }
+mark_by_node = record { name = codes "mark_by_node"; table = mark_table; column_indexes = 2 ∷ 3 ∷ [] }
 
 abbrev pub definition_by_class : IndexDef
-definition_by_class = record { name = codes "definition_by_class"; table = definition_table; places = 2 ∷ 1 ∷ [] }
+definition_by_class = record { name = codes "definition_by_class"; table = definition_table; column_indexes = 2 ∷ 1 ∷ [] }
 
 abbrev pub job_by_state : IndexDef
-job_by_state = record { name = codes "job_by_state"; table = job_table; places = 7 ∷ 1 ∷ [] }
+job_by_state = record { name = codes "job_by_state"; table = job_table; column_indexes = 7 ∷ 1 ∷ [] }
 
 abbrev pub batch_by_closed : IndexDef
-batch_by_closed = record { name = codes "batch_by_closed"; table = batch_table; places = 9 ∷ 1 ∷ [] }
+batch_by_closed = record { name = codes "batch_by_closed"; table = batch_table; column_indexes = 9 ∷ 1 ∷ [] }
 
 abbrev pub lot_by_def : IndexDef
-lot_by_def = record { name = codes "lot_by_def"; table = lot_table; places = 2 ∷ 1 ∷ [] }
+lot_by_def = record { name = codes "lot_by_def"; table = lot_table; column_indexes = 2 ∷ 1 ∷ [] }
 
 abbrev pub recall_by_state : IndexDef
-recall_by_state = record { name = codes "recall_by_state"; table = recall_table; places = 3 ∷ 1 ∷ [] }
+recall_by_state = record { name = codes "recall_by_state"; table = recall_table; column_indexes = 3 ∷ 1 ∷ [] }
 
 abbrev pub recipe_by_state : IndexDef
-recipe_by_state = record { name = codes "recipe_by_state"; table = recipe_table; places = 8 ∷ 1 ∷ 2 ∷ [] }
+recipe_by_state = record { name = codes "recipe_by_state"; table = recipe_table; column_indexes = 8 ∷ 1 ∷ 2 ∷ [] }
 
 abbrev pub movement_by_lot2 : IndexDef
-movement_by_lot2 = record { name = codes "movement_by_lot2"; table = movement_table; places = 6 ∷ 1 ∷ 2 ∷ [] }
+movement_by_lot2 = record { name = codes "movement_by_lot2"; table = movement_table; column_indexes = 6 ∷ 1 ∷ 2 ∷ [] }
 
 -- those that the second schema adds
 abbrev pub second_indexes : List IndexDef

@@ -15,7 +15,7 @@ returns-in-Ok-None g c =
     let end = c.make_opening.new.connection in
     let laws : IsStore (state g.S.Store end) = record { settled = g.met.S.Store.settled end.store; stays = g.met.S.Store.stays end.store; something = g.met.S.Store.survives end.store } in
     let is : c.found.result ≡ Ok tables.Nothing = nothing_found c.found.result (rw c.in-Ok-None.field-0-is at c.in-Ok-None.ensures) in
-    made_or_not (state g.S.Store c.args.connection.now) (state g.S.Store end) laws c.found.ensures.is_live ((rw is at c.found.ensures.nothing).0 refl) c.make_opening.result
+    made_or_not (state g.S.Store c.args.connection.now) (state g.S.Store end) laws c.found.ensures.live ((rw is at c.found.ensures.nothing).0 refl) c.make_opening.result
     (rw ((rw is at c.found.ensures.untouched) refl) at c.make_opening.ensures)
 
 pub returns-in-Ok-Some : goal.returns-in-Ok-Some

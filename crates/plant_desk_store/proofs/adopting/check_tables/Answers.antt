@@ -24,7 +24,7 @@ returns-in-Ok g c =
     record {
       reads = record { rests = c.read.ensures.mode; kept = c.read.ensures.kept; crash = c.read.ensures.crash };
       valid = λ clean newly known. valid_rows version old.now x known (loaded clean) checked (adopted_rows (AreRising version) read x is c.read.ensures.ordered)
-          (adopted_rows (λ x. HaveStoredRows (table_defs_of version) old.now (contents_loaded x)) read x is (c.read.ensures.represents clean newly.rising)) c.check_loaded.ensures.fit;
+          (adopted_rows (λ x. HaveStoredRows (table_defs_of version) old.now (contents_loaded x)) read x is (c.read.ensures.has_rows clean newly.rising)) c.check_loaded.ensures.fit;
       reported = λ clean s held. IfOk-weaker checked _ _ (λ rows. rows_of_valid version old.now x held.known (loaded clean) s rows held) c.check_loaded.ensures.fit;
       numbered = IfOk-weaker checked _ _ (numbered x version) c.check_loaded.ensures.fit;
       unchanged = λ clean. IfOk-weaker checked _ _ (λ _ _. adopted_rows (λ _. IsUnchanged old new) read x is (c.read.ensures.same clean)) c.check_loaded.ensures.fit;

@@ -15,7 +15,7 @@ returns-clause-decided g c clean s at known =
     let new = state g.S.Store c.decide.new.view.conn.now in
     let first = c.in-Ok.ensures.reported in
     let second = c.in-Ok-decide.ensures.decides in
-    let honest = honest_at old mid new c.args.view.now.has_failed c.read_position.new.self.has_failed c.decide.new.view.has_failed c.args.view.now.edges.now c.read_position.new.self.edges.now c.decide.new.view.edges.now s first.always second.always.1 c.in-Ok.ensures.cached second.always.2 clean c.if-view.false c.in-Ok.ensures.is_live at known in
+    let honest = honest_at old mid new c.args.view.now.has_failed c.read_position.new.self.has_failed c.decide.new.view.has_failed c.args.view.now.edges.now c.read_position.new.self.edges.now c.decide.new.view.edges.now s first.always second.always.1 c.in-Ok.ensures.cached second.always.2 clean c.if-view.false c.in-Ok.ensures.live at known in
     let honestly : IsHonest new c.decide.new.view.has_failed × AreEdgesOf (abstraction new.now) c.decide.new.view.edges.now = (honest.ends, honest.true_of) in
     let e = c.args.envelope.now in
     record {

@@ -5,7 +5,7 @@ ghost use Rattle.line_check.specs.Verdicts.{command_verdict, verdict_of, has_rea
 
 use crate::command_errors::{CommandError, command_error_of};
 use plant_base::Command;
-use plant_text::{Fault, Line, FormatError, read_line_or_error};
+use plant_text::{Fault, FormatError, Line, read_line_or_error};
 use std::alloc::Global;
 use std::fmt;
 

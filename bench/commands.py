@@ -43,7 +43,7 @@ class Keeper:
         self.name = name
         self.process = subprocess.Popen(words, stdin=subprocess.PIPE, stdout=subprocess.PIPE)
 
-    def tell(self, **fields):
+    def send(self, **fields):
         """Gives a line, and returns the reply and how long it took."""
         line = json.dumps(fields, separators=(",", ":")).encode() + b"\n"
         start = time.perf_counter()
@@ -53,7 +53,7 @@ class Keeper:
         return reply, time.perf_counter() - start
 
     def accept(self, do, **fields):
-        reply, took = self.tell(at=AT, by="", do=do, **fields)
+        reply, took = self.send(at=AT, by="", do=do, **fields)
         if not reply.startswith(b'{"ok":'):
             sys.exit(f"{do} {fields}: {reply!r}")
         return took
@@ -229,7 +229,7 @@ def asked(desk):
         "back": {"ask": "back", "lot": "S-0"},
     }
     for name, question in questions.items():
-        print(f"  ask {name:6} {rate([desk.tell(**question)[1] for _ in range(200)])}")
+        print(f"  ask {name:6} {rate([desk.send(**question)[1] for _ in range(200)])}")
 
 
 def opened(program, path, size, is_in_memory):
@@ -237,7 +237,7 @@ def opened(program, path, size, is_in_memory):
     desk = Keeper("desk", program, "run", ":memory:" if is_in_memory else path)
     if is_in_memory:
         fill(desk, size)
-    desk.tell(ask="desk")
+    desk.send(ask="desk")
     return desk
 
 

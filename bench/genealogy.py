@@ -96,10 +96,10 @@ class Desk:
 
     def trace(self, direction, lot):
         """Returns the nodes of a trace, and how long it took to its answer."""
-        answer, took = self.tell(ask=direction, lot=lot)
+        answer, took = self.send(ask=direction, lot=lot)
         return [(int("batch" in it), it.get("lot") or it["batch"]) for it in answer["nodes"]], took
 
-    def tell(self, **fields):
+    def send(self, **fields):
         """Gives a line, and returns what is answered and how long that took."""
         start = time.perf_counter()
         self.process.stdin.write(json.dumps(fields).encode() + b"\n")
@@ -131,7 +131,7 @@ def measure(desk, file, shape, edges):
         found = len(ours[0][0])
         print(f"{shape} of {edges} edges, {direction}: {found} nodes in {took * 1000:.1f} ms, by a query {other * 1000:.1f} ms: {took / other:.2f}")
         for question in AROUND[direction]:
-            told = [desk.tell(ask=question, lot=lot) for _ in range(TIMES)]
+            told = [desk.send(ask=question, lot=lot) for _ in range(TIMES)]
             counts = ", ".join(f"{len(it)} {kind}" for kind, it in told[0][0].items())
             more = statistics.median(seconds for _, seconds in told)
             print(f"{shape} of {edges} edges, {question}: {counts} in {more * 1000:.1f} ms: {more / took:.2f} traces")

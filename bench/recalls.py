@@ -20,7 +20,7 @@ OPEN = 100
 
 def accepted(desk, command):
     """Gives a command, which has to be accepted, and returns how long it took."""
-    reply, took = desk.tell(**command)
+    reply, took = desk.send(**command)
     if "ok" not in reply:
         sys.exit(f"{command}: {reply}")
     return took
@@ -28,7 +28,7 @@ def accepted(desk, command):
 
 def asked(desk, recall, wanted):
     """Asks about a recall, which has to have these nodes, and returns how long it took."""
-    answer, took = desk.tell(ask="recall", recall=recall)
+    answer, took = desk.send(ask="recall", recall=recall)
     if answer["nodes"] != wanted:
         sys.exit(f"{recall} lists {len(answer['nodes'])} nodes, and not {len(wanted)}")
     return took
@@ -37,7 +37,7 @@ def asked(desk, recall, wanted):
 def turn(desk, recall):
     """Traces the first lot, recalls it, asks and lifts the recall, and returns how many nodes were reached and how long each took."""
     lot = name(0)
-    trace, traced = desk.tell(ask="forward", lot=lot)
+    trace, traced = desk.send(ask="forward", lot=lot)
     reached = [{"lot": lot}, *trace["nodes"]]
     recalled = accepted(desk, line("recall", recall=recall, lot=lot))
     told = asked(desk, recall, reached)

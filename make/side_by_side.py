@@ -216,7 +216,7 @@ class Build:
         is_there = not self.is_program or os.path.isfile(f"{self.own}/out/{self.name}")
         return self.process.returncode == wanted and is_there
 
-    def tell_failure(self):
+    def print_failure(self):
         print(f"\n{self.name} is not built. The last lines of build/{self.name}.log:", flush=True)
         with open(f"build/{self.name}.log", errors="replace") as it:
             print("".join(f"  {line}" for line in it.readlines()[-SHOWN:]), flush=True)
@@ -252,13 +252,13 @@ class Work:
         left = f"build/{name}" if name in self.programs else f"crates/{name}/out/rlib"
         return self.noted.get(name) == self.sums[name] and os.path.exists(left)
 
-    def tell(self, words):
+    def print_line(self, words):
         print(f"{clock(time.monotonic() - self.began):>6}  {words}", flush=True)
         self.news = time.monotonic()
 
-    def tell_running(self):
+    def print_running(self):
         shown = ", ".join(f"{it.name} {clock(it.seconds())}" for it in self.running)
-        self.tell(f"{len(self.built)} of {len(self.needed)} done; under way: {shown}")
+        self.print_line(f"{len(self.built)} of {len(self.needed)} done; under way: {shown}")
 
     def ready(self):
         """The crates that can be begun, those first that have the longest chain above them."""
@@ -287,7 +287,7 @@ class Work:
             json.dump(self.noted, it, indent=0)
         os.replace(f"{BUILT}.new", BUILT)
         left = len(self.needed) - len(self.built)
-        self.tell(f"{build.name} is built ({clock(build.seconds())}); {len(self.built)} of {len(self.needed)} done, {left} left")
+        self.print_line(f"{build.name} is built ({clock(build.seconds())}); {len(self.built)} of {len(self.needed)} done, {left} left")
 
     def build_all(self, copies):
         """Builds what isn't built, and tells whether all of it is."""
@@ -298,11 +298,11 @@ class Work:
                 build.end()
                 if not build.is_good():
                     self.running.remove(build)
-                    build.tell_failure()
+                    build.print_failure()
                     return False
                 self.note(build)
             if time.monotonic() - self.news > SILENCE:
-                self.tell_running()
+                self.print_running()
         return True
 
     def locked(self):
@@ -335,7 +335,7 @@ class Work:
                 shutil.rmtree(COPIES, ignore_errors=True)
                 for it in held:
                     os.close(it)
-        self.tell(f"{shown}: proved and built, in build/")
+        self.print_line(f"{shown}: proved and built, in build/")
         return 0
 
 

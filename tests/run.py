@@ -103,7 +103,7 @@ def run_all(units, patterns, at_once):
     return ended
 
 
-def tell(ended):
+def print_ended(ended):
     """Prints for each module how many tests were run and cases checked."""
     for module in sorted({it.unit.module for it in ended}):
         own = [it for it in ended if it.unit.module == module]
@@ -124,7 +124,7 @@ def main():
         sys.exit("\n".join(loader.errors))
     at_once = len(os.sched_getaffinity(0))
     ended = run_all(units_of(classes_of(suite)), words.patterns, at_once)
-    tell(ended)
+    print_ended(ended)
     tests, cases = sum(it.tests() for it in ended), sum(it.cases() for it in ended)
     failed = [it.unit.name() for it in ended if it.status]
     how = f"failed: {', '.join(sorted(failed))}" if failed else "all as wanted"

@@ -84,7 +84,7 @@ class LimitTestCase(DeskTestCase):
     def path(self, file):
         return self.folder / file
 
-    def tell(self, file, *bodies):
+    def send(self, file, *bodies):
         """Tells commands that the test begins with; returns the number of the last."""
         ended = self.desk.run("run", file, told=b"".join(map(line, bodies)))
         assert ended == (0, replies(1, len(bodies)), b""), ended
@@ -285,7 +285,7 @@ class Chains(LimitTestCase):
 
     def chain(self, file, nodes):
         """Makes the file of a chain of so many lots behind the first, and returns the number of its last command."""
-        seq = self.tell(file, *GOODS)
+        seq = self.send(file, *GOODS)
         lots = [f"C-{it}" for it in range(nodes + 1)]
         splits = [split_row(seq + 1 + it, lots[it - 1], lots[it], nodes + 1 - it) for it in range(1, nodes + 1)]
         sqlite.filled(self.path(file), {

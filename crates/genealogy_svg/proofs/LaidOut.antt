@@ -1,5 +1,6 @@
 -- A layout, of its parts.
-use Rattle.std.proofs.Common.{◌≡◌, ℕ, List, Ok, subst}
+use Rattle.std.proofs.Common.{◌≡◌, ℕ, List, Ok, subst, sym, tt}
+use Rattle.std.specs.Prelude.{Contains, IsSome}
 use Rattle.std.specs.List.{All}
 use Rattle.std.specs.BTreeMap.{BTreeMap}
 use Rattle.std.proofs.lemmas.List.Elements.{All-contains}
@@ -8,7 +9,9 @@ use Rattle.genealogy_graph.specs.declared.model.PictureEdge.{PictureEdge}
 use Rattle.plant_trace.specs.declared.node.Node.{Node}
 use Rattle.genealogy_svg.specs.declared.drawing.Drawing.{Drawing}
 use Rattle.genealogy_svg.specs.declared.drawing.BoxPosition.{BoxPosition}
-use Rattle.genealogy_svg.specs.Layouts.{nodes_of, drawing_in, IsLaidOut}
+use Rattle.genealogy_svg.specs.declared.drawing.LayoutFault.{LayoutFault}
+use Rattle.genealogy_svg.specs.declared.drawing.LayoutFault.TheVariants as fault
+use Rattle.genealogy_svg.specs.Layouts.{nodes_of, drawing_in, IsLaidOut, IsOutside, IsUnpositioned}
 use Rattle.genealogy_svg.specs.Layers.{AreSettled, IsLayered}
 use Rattle.genealogy_svg.specs.Positions.{ArePositioned}
 
@@ -23,3 +26,11 @@ laid_out p d layers positions nodes named edges is same of all settled placed dr
   placed = let P : List Node → Type 0 = λ ns. ArePositioned layers ns positions in subst P same placed;
   drawn = drawn;
 }
+
+-- a node that has no position is none of these
+pub outside : (layers : BTreeMap Node ℕ) (positions : BTreeMap Node BoxPosition) (nodes named : List Node) (f : LayoutFault) → named ≡ nodes
+    → ArePositioned layers named positions → IsUnpositioned positions f → IsOutside nodes f
+outside layers positions nodes named fault.Circle same placed none = tt
+outside layers positions nodes named (fault.Lost node) same placed none =
+    λ h. absurd (subst IsSome none (placed.each node (subst (λ ns. Contains ns node) (sym same) h)))
+outside layers positions nodes named fault.Memory same placed none = tt

@@ -162,17 +162,17 @@ fn add_lists(router: &mut Router<Route>) -> Result<(), InsertError>
     let recalls = Route::List(ListKind::Recalls);
     let definitions = Route::List(ListKind::Definitions);
     router.insert("/v1/lists/orders/{state}", orders)?;
-    router.insert("/v1/lists/orders/{state}/{cursor}", orders)?;
+    router.insert("/v1/lists/orders/{state}/{above}", orders)?;
     router.insert("/v1/lists/batches", batches)?;
-    router.insert("/v1/lists/batches/{cursor}", batches)?;
+    router.insert("/v1/lists/batches/{above}", batches)?;
     router.insert("/v1/lists/lots/{def}", lots)?;
-    router.insert("/v1/lists/lots/{def}/{cursor}", lots)?;
+    router.insert("/v1/lists/lots/{def}/{above}", lots)?;
     router.insert("/v1/lists/holds/{lot}", holds)?;
-    router.insert("/v1/lists/holds/{lot}/{cursor}", holds)?;
+    router.insert("/v1/lists/holds/{lot}/{above}", holds)?;
     router.insert("/v1/lists/recalls", recalls)?;
-    router.insert("/v1/lists/recalls/{cursor}", recalls)?;
+    router.insert("/v1/lists/recalls/{above}", recalls)?;
     router.insert("/v1/lists/definitions/{class}", definitions)?;
-    router.insert("/v1/lists/definitions/{class}/{cursor}", definitions)?;
+    router.insert("/v1/lists/definitions/{class}/{above}", definitions)?;
     Ok(())
 }
 
@@ -183,9 +183,9 @@ fn add_cursor_routes(router: &mut Router<Route>) -> Result<(), InsertError>
     let recipes = Route::List(ListKind::Recipes);
     let movements = Route::List(ListKind::Movements);
     router.insert("/v1/lists/recipes/{state}", recipes)?;
-    router.insert("/v1/lists/recipes/{state}/{cursor}", recipes)?;
+    router.insert("/v1/lists/recipes/{state}/{above}", recipes)?;
     router.insert("/v1/lists/movements/{lot}", movements)?;
-    router.insert("/v1/lists/movements/{lot}/{cursor}", movements)?;
+    router.insert("/v1/lists/movements/{lot}/{above}", movements)?;
     Ok(())
 }
 

@@ -1,5 +1,6 @@
 -- A layout, of its parts.
-use Rattle.std.proofs.Common.{◌≡◌, ℕ, List, Ok, subst, sym, tt}
+use Rattle.std.proofs.Common.{◌≡◌, ℕ, List, Ok, subst, sym}
+use Rattle.std.proofs.lemmas.Bool.{false≢true}
 use Rattle.std.specs.Prelude.{Contains, IsSome}
 use Rattle.std.specs.List.{All}
 use Rattle.std.specs.BTreeMap.{BTreeMap}
@@ -32,5 +33,5 @@ pub outside : (layers : BTreeMap Node ℕ) (positions : BTreeMap Node BoxPositio
     → ArePositioned layers named positions → IsUnpositioned positions f → IsOutside nodes f
 outside layers positions nodes named fault.Circle same placed none = tt
 outside layers positions nodes named (fault.Lost node) same placed none =
-    λ h. absurd (subst IsSome none (placed.each node (subst (λ ns. Contains ns node) (sym same) h)))
+    λ h. false≢true (subst IsSome none (placed.each node (subst (λ ns. Contains ns node) (sym same) h)))
 outside layers positions nodes named fault.Memory same placed none = tt

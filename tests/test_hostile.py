@@ -18,6 +18,10 @@ from tests.support.sessions import Session, lines_of
 MOST_HELD = 20
 PAUSE = 2
 
+# For how long a connection waits on which nothing is sent, and how many wait at most.
+SILENCE = 10
+MOST_SILENT = 64
+
 # How many seconds the server waits at least for the end of its last client, and how often this is looked at where the machine is busy.
 LAST_WAIT = 0.9
 ATTEMPTS = 5
@@ -192,6 +196,35 @@ class Clients(DeskTestCase):
                 self.check("a client that pauses", rest_of(slow), NEW)
             self.check("two requests behind one another", server.answered(ASK + ASK), NEW)
             self.check("its server", server.end().status, 0)
+
+    def test_silent_connections_hold_nobody_up(self):
+        """Opens ten connections and sends nothing: fifty clients are served at once, and the silent ones are dropped after ten seconds."""
+        with Server(self.desk, ":memory:", 60) as server:
+            silent = [connected(server.port) for _ in range(10)]
+            began = time.monotonic()
+            for number in range(50):
+                self.check(f"client {number} beside silent ones", server.answered(ASK), NEW)
+            held = time.monotonic() - began
+            self.check_true(f"nobody waits for a silent one, {held}", held < SILENCE / 2)
+            for number, one in enumerate(silent):
+                with one:
+                    self.check(f"silent connection {number} is dropped", rest_of(one), b"")
+            held = time.monotonic() - began
+            self.check_true(f"they are dropped after ten seconds, {held}", SILENCE - PAUSE < held < MOST_HELD)
+            self.check("its server", server.end().status, 0)
+
+    def test_oldest_of_too_many_silent_connections_is_dropped(self):
+        """Opens one silent connection more than may wait: the oldest is dropped at once, and a client is served."""
+        with Server(self.desk, ":memory:", 2) as server:
+            silent = [connected(server.port) for _ in range(MOST_SILENT + 1)]
+            began = time.monotonic()
+            self.check("the oldest is dropped", rest_of(silent[0]), b"")
+            held = time.monotonic() - began
+            self.check_true(f"it is dropped at once, {held}", held < SILENCE / 2)
+            self.check("a client beside 64 silent ones", server.answered(ASK), NEW)
+            self.check("its server", server.end().status, 0)
+            for one in silent:
+                one.close()
 
     def test_end_of_the_last_client_is_waited_for(self):
         """Sends less than was promised, as the last client, and looks whether the server waits for the rest behind its answer."""

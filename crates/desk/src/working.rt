@@ -9,7 +9,6 @@ use desk_program::{Fault, Performed, adopt, perform_task, performed_of};
 use desk_server::{AccessLog, ServingFault, listen_at, local_at, serve_listener};
 use plant_desk_store::Desk;
 use sqlite::{Alter, Connection};
-use std::alloc::Global;
 use std::io;
 use std::net::TcpListener;
 
@@ -97,12 +96,12 @@ fn serve_at<S: Alter + Drop>(
     if listening.is_ok() {
         log.note_serving(serving.port);
     }
-    serve_listening(rt.alloc(), listening, serving.count, desk, log)
+    serve_listening(rt, listening, serving.count, desk, log)
 }
 
 /// Serves the connections that come in where a port is listened on. The fault of one that isn't is handed on.
 fn serve_listening<S: Alter + Drop>(
-    alloc: Global,
+    rt: &HostRuntime,
     listening: Result<TcpListener, ServingFault>,
     count: u32,
     desk: &mut Desk<S>,
@@ -114,7 +113,7 @@ fn serve_listening<S: Alter + Drop>(
     ensures unchanged { OnErr listening (desk.new ≡ desk.old) }
 {
     match listening {
-        Ok(listener) => serve_listener(alloc, &listener, count, desk, log),
+        Ok(listener) => serve_listener(rt, rt.alloc(), &listener, count, desk, log),
         Err(fault) => Err(fault),
     }
 }

@@ -66,19 +66,19 @@ fold_more : (jobs : List Asked) (s : State) (more : List Asked) → fold s (entr
 fold_more [] s more = refl
 fold_more (a ∷ jobs) s more = fold_more jobs (after s (entry_of a.job)) more
 
-pub more_served : (made most : ℕ) (s : State) (jobs : List Asked) (represents : States) (shut : Bool) (crash_states : States → Type 0) → length jobs ≤ made → made + 1 ≤ most
-    → HasServed 1 (fold s (entries jobs)) represents shut crash_states → HasServed most s represents shut crash_states
-more_served made most s jobs represents false crash_states few room (more, one, alone) =
+pub more_served : (made n most : ℕ) (s : State) (jobs : List Asked) (represents : States) (shut : Bool) (crash_states : States → Type 0) → length jobs ≤ made → made + n ≤ most
+    → HasServed n (fold s (entries jobs)) represents shut crash_states → HasServed most s represents shut crash_states
+more_served made n most s jobs represents false crash_states few room (more, one, alone) =
     (jobs ++ more, omega (arith, few, room, one, length-append jobs more), rw (fold_more jobs s more) alone)
-more_served made most s jobs represents true crash_states few room (more, last, one, either) =
+more_served made n most s jobs represents true crash_states few room (more, last, one, either) =
     (jobs ++ more, last, omega (arith, few, room, one, length-append jobs more), rw (fold_more jobs s more) either)
 
--- so many and one, by a keeper that was open in between
-pub then_served : (made most : ℕ) (s : State) (represents now : States) (before shut : Bool) (crash_states left : States → Type 0) → before ≡ false → made + 1 ≤ most
-    → HasServed made s represents before crash_states → ((t : State) → represents t → HasServed 1 t now shut left) → HasServed most s now shut left
-then_served made most s represents now false shut crash_states left is_live room (jobs, few, alone) one =
-    more_served made most s jobs now shut left few room (one (fold s (entries jobs)) alone.0)
-then_served made most s represents now true shut crash_states left is_live room h one = absurd (cc)
+-- so many and so many more, by a keeper that was open in between
+pub then_served : (made n most : ℕ) (s : State) (represents now : States) (before shut : Bool) (crash_states left : States → Type 0) → before ≡ false → made + n ≤ most
+    → HasServed made s represents before crash_states → ((t : State) → represents t → HasServed n t now shut left) → HasServed most s now shut left
+then_served made n most s represents now false shut crash_states left is_live room (jobs, few, alone) one =
+    more_served made n most s jobs now shut left few room (one (fold s (entries jobs)) alone.0)
+then_served made n most s represents now true shut crash_states left is_live room h one = absurd (cc)
 
 fewer_served : (made most : ℕ) (s : State) (represents : States) (shut : Bool) (crash_states : States → Type 0) → made ≤ most → HasServed made s represents shut crash_states → HasServed most s represents shut crash_states
 fewer_served made most s represents false crash_states room (jobs, few, alone) = (jobs, omega (arith, few, room), alone)
@@ -94,10 +94,8 @@ pub desk_fewer : {S : Type 0} (g : Ghosts S) (made most : ℕ) (a b : Desk S g) 
 desk_fewer g made most a b room first = λ clean s represented.
     fewer_served made most s (Represents (state g b.connection) b.is_shut) b.is_shut (λ states. HasCrashStates (state g b.connection) states) room (first clean s represented)
 
-pub desk_more : {S : Type 0} (g : Ghosts S) (made most : ℕ) (a b c : Desk S g) → b.is_shut ≡ false → made + 1 ≤ most → IsSameStore g b c → ServesAtMost g made a b
-    → (HasCleanDisk (state g c.connection) → b.is_shut ≡ false → (s : State) → Represents (state g b.connection) b.is_shut s
-    → HasServed 1 s (Represents (state g c.connection) c.is_shut) c.is_shut (λ states. HasCrashStates (state g c.connection) states))
-    → ServesAtMost g most a c
-desk_more g made most a b c is_live room same first one = λ clean s represented.
-    then_served made most s (Represents (state g b.connection) b.is_shut) (Represents (state g c.connection) c.is_shut) b.is_shut c.is_shut
-    (λ states. HasCrashStates (state g b.connection) states) (λ states. HasCrashStates (state g c.connection) states) is_live room (first (same.honest clean) s represented) (λ t represents. one clean is_live t represents)
+pub desk_more : {S : Type 0} (g : Ghosts S) (made n most : ℕ) (a b c : Desk S g) → b.is_shut ≡ false → made + n ≤ most → IsSameStore g b c → ServesAtMost g made a b
+    → ServesAtMost g n b c → ServesAtMost g most a c
+desk_more g made n most a b c is_live room same first more = λ clean s represented.
+    then_served made n most s (Represents (state g b.connection) b.is_shut) (Represents (state g c.connection) c.is_shut) b.is_shut c.is_shut
+    (λ states. HasCrashStates (state g b.connection) states) (λ states. HasCrashStates (state g c.connection) states) is_live room (first (same.honest clean) s represented) (λ t represents. more clean t represents)

@@ -1,2 +1,3 @@
 pub mod Serving
 pub mod Noting
+pub mod Waiting

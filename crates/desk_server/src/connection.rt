@@ -5,7 +5,7 @@ ghost use Rattle.plant_base.specs.State.{State};
 ghost use Rattle.plant_desk.specs.Keepers.{IsSameDesk};
 ghost use Rattle.desk_server.specs.Serving.{HasServed, status_of};
 
-use crate::log::{AccessLog, Heard};
+use crate::log::{AccessLog, Arrival, Heard};
 use plant_desk::Keeper;
 use plant_http::{ServeFault, Served, serve_one};
 use plant_http_routes::Routes;
@@ -104,6 +104,7 @@ pub(crate) fn serve_stream<K: Keeper>(
     stream: TcpStream,
     keeper: &mut K,
     log: AccessLog<'_>,
+    arrival: Arrival,
 ) -> Option<TcpStream>
     ensures same { IsSameDesk K.honest K.schema K.foreign_tables keeper.old keeper.new }
     ensures serves { K.honest keeper.new → K.shut keeper.old ≡ false → (s : State) → K.represents keeper.old s
@@ -111,7 +112,6 @@ pub(crate) fn serve_stream<K: Keeper>(
     ensures unchanged { K.shut keeper.old ≡ true → keeper.new ≡ keeper.old }
 {
     bound_waits(&stream);
-    let arrival = log.arrival();
     let status = {
         let mut input = Heard::new(&stream);
         let mut output = &stream;

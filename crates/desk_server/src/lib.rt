@@ -1,4 +1,4 @@
-//! Requests of HTTP/1.1 (RFC 9112) that come in on a listener, one connection after the other, answered by a desk.
+//! Requests of HTTP/1.1 (RFC 9112) that come in on a listener, one at a time, answered by a desk.
 #![tactic(auto)]
 
 mod address;
@@ -6,6 +6,8 @@ mod connection;
 mod fault;
 mod listening;
 mod log;
+mod reception;
+mod waiting;
 
 pub use address::{listen_at, local_at};
 pub use fault::ServingFault;

@@ -4,6 +4,7 @@ ghost use Rattle.desk_server.specs.Noting.{is_printable, logged_status, noted_te
 
 use arrayvec::ArrayVec;
 use std::io::{self, Read};
+use std::rt::Clock;
 use std::time::{Instant, SystemTime, UNIX_EPOCH};
 use std::{fmt, str};
 
@@ -110,6 +111,20 @@ fn microseconds_since(rt: &HostRuntime, instant: Option<Instant>) -> u128 {
     match instant {
         Some(began) => match began.elapsed(rt) {
             Ok(passed) => passed.as_micros(),
+            Err(_) => 0,
+        },
+        None => 0,
+    }
+}
+
+/// The milliseconds since an instant, 0 where the clock told none.
+pub(crate) fn milliseconds_since<R: Clock>(clock: &R, instant: Option<Instant>) -> u64 {
+    match instant {
+        Some(began) => match began.elapsed(clock) {
+            Ok(passed) => match u64::try_from(passed.as_millis()) {
+                Ok(milliseconds) => milliseconds,
+                Err(_) => u64::MAX,
+            },
             Err(_) => 0,
         },
         None => 0,

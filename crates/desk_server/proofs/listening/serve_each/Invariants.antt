@@ -1,8 +1,8 @@
-use Rattle.std.proofs.Common.{◌≡◌, ◌≤◌, false}
+use Rattle.std.proofs.Common.{◌≡◌, ◌≤◌, ◌-◌, false}
 use Rattle.desk_server.specs.Serving.{IsSameStore, ServesAtMost}
 use Rattle.desk_server.proofs.listening.serve_each.Given as goal
 
 abbrev pub invariant-connections : goal.invariant-connections
 invariant-connections g l =
-    IsSameStore g.S.Store l.initial.desk l.desk × (l.desk.is_shut ≡ false) × (l._made ≤ l.count)
-    × ServesAtMost g.S.Store l._made l.initial.desk l.desk
+    IsSameStore g.S.Store l.initial.desk l.desk × (l.desk.is_shut ≡ false) × (l.left ≤ l.count)
+    × ServesAtMost g.S.Store (l.count - l.left) l.initial.desk l.desk

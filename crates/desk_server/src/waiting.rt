@@ -1,0 +1,149 @@
+//! Connections that were taken, on which no byte has come so far as is known, and what is done next with them.
+ghost use Rattle.std.specs.Prelude.{◌≡◌, ◌<◌, ◌≤◌, ◌++◌, [], ◌∷◌, length, None, IfOk, IfSome, vec_capacity, slice_index_or};
+ghost use Rattle.std.specs.List.{remove};
+ghost use Rattle.desk_server.specs.Waiting.{FitsStep, IsNext, first_with_bytes, waited};
+
+use crate::log::Arrival;
+use std::alloc::{AllocError, Global};
+use std::net::TcpStream;
+
+/// How many connections wait at most.
+pub(crate) const MOST_WAITING: usize = 64;
+
+/// How long a connection waits for its first byte at most, in milliseconds.
+const MOST_MILLISECONDS: u64 = 10_000;
+
+/// A connection that waits to be served.
+#[derive(Drop)]
+pub(crate) struct Waiter {
+    pub(crate) stream: TcpStream,
+    pub(crate) arrival: Arrival,
+    /// By which the system names it.
+    pub(crate) token: usize,
+    /// When it was taken, in milliseconds since serving began.
+    pub(crate) came: u64,
+    /// Whether there is something to be read: bytes, or that no more come.
+    pub(crate) has_bytes: bool,
+}
+
+/// The connections that wait, 64 at most, in the order in which they came.
+#[derive(Drop)]
+pub(crate) struct Waiting {
+    pub(crate) waiters: Vec<Waiter>,
+    ghost bound: { length waiters.items ≤ 64 },
+    ghost room: { 64 ≤ vec_capacity waiters },
+}
+
+/// What is done next.
+#[derive(Clone, Copy, Debug, PartialEq, Eq)]
+pub(crate) enum Step {
+    /// The connection at this index is served.
+    Serve(usize),
+    /// The oldest connection is dropped.
+    Drop,
+    /// A connection is taken, where one is there.
+    Take,
+    /// Nothing is to be done for so many milliseconds, or for as long as nothing comes.
+    Wait(Option<u64>),
+}
+
+/// The first connection on which bytes came.
+fn first_with_bytes(waiters: &[Waiter]) -> Option<usize>
+    ensures first { result ≡ first_with_bytes waiters.now }
+    ensures bound { IfSome result (λ index. index < length waiters.now) }
+{
+    waiters.iter().position(|waiter| waiter.has_bytes)
+}
+
+/// For how many milliseconds the oldest has waited, 0 where none waits.
+fn waited(waiters: &[Waiter], now: u64) -> u64
+    ensures { result ≡ waited waiters.now now }
+{
+    match waiters.first() {
+        Some(oldest) => now.saturating_sub(oldest.came),
+        None => 0,
+    }
+}
+
+/// What is done next where no bytes came.
+fn step_of_silent(waiters: &[Waiter], now: u64, may_take: bool) -> Step
+    requires bound { length waiters.now ≤ MOST_WAITING }
+    requires silent { first_with_bytes waiters.now ≡ None }
+    ensures next { IsNext waiters.now now may_take result }
+    ensures fits { FitsStep result waiters.now }
+{
+    let waited = waited(waiters, now);
+    if waiters.is_empty() {
+        if may_take {
+            Step::Take
+        } else {
+            Step::Wait(None)
+        }
+    } else if waited >= MOST_MILLISECONDS {
+        Step::Drop
+    } else if !may_take {
+        Step::Wait(Some(MOST_MILLISECONDS - waited))
+    } else if waiters.len() < MOST_WAITING {
+        Step::Take
+    } else {
+        Step::Drop
+    }
+}
+
+/// What is done next with the connections that wait, in the order in which they came: the first on which bytes came is served; else the
+/// oldest is dropped, where its time is over or its place is wanted; else one is taken, where one may be there.
+fn next_step(waiters: &[Waiter], now: u64, may_take: bool) -> Step
+    requires { length waiters.now ≤ MOST_WAITING }
+    ensures next { IsNext waiters.now now may_take result }
+    ensures fits { FitsStep result waiters.now }
+{
+    match first_with_bytes(waiters) {
+        Some(index) => Step::Serve(index),
+        None => step_of_silent(waiters, now, may_take),
+    }
+}
+
+impl Waiting {
+    /// None wait.
+    pub(crate) fn new(alloc: Global) -> Result<Waiting, AllocError>
+        ensures { IfOk result (λ waiting. waiting.waiters.items ≡ []) }
+    {
+        Ok(Waiting {
+            waiters: Vec::with_capacity(alloc, MOST_WAITING)?,
+        })
+    }
+
+    /// What is done next.
+    pub(crate) fn next(&self, now: u64, may_take: bool) -> Step
+        ensures next { IsNext self.now.waiters.items now may_take result }
+        ensures fits { FitsStep result self.now.waiters.items }
+    {
+        next_step(self.waiters.as_slice(), now, may_take)
+    }
+
+    /// Has a connection wait behind the others.
+    pub(crate) fn add(&mut self, waiter: Waiter)
+        requires { length self.old.waiters.items < MOST_WAITING }
+        ensures { self.new.waiters.items ≡ self.old.waiters.items ++ waiter ∷ [] }
+    {
+        self.waiters.push_reserved(waiter);
+    }
+
+    /// Takes a connection out.
+    pub(crate) fn remove(&mut self, index: usize) -> Waiter
+        requires { index < length self.old.waiters.items }
+        ensures value { result ≡ slice_index_or self.old.waiters.items index result }
+        ensures rest { self.new.waiters.items ≡ remove self.old.waiters.items index }
+    {
+        self.waiters.remove(index)
+    }
+
+    /// Notes that there is something to be read on a connection, where it waits.
+    pub(crate) fn mark(&mut self, token: usize)
+        ensures { length self.new.waiters.items ≡ length self.old.waiters.items }
+    {
+        if let Some(index) = self.waiters.iter().position(|waiter| waiter.token == token) {
+            self.waiters[index].has_bytes = true;
+        }
+    }
+}

@@ -25,6 +25,12 @@ HEADER = b"""csv row 0 Header: the first line isn't order,recipe,version,size,du
 
 TOO_LONG = b"csv row 0 TooLong: the file is longer than 262144 bytes\n"
 
+# The first line of an order file.
+ORDER_HEAD = b"order,recipe,version,size,due,priority\n"
+
+# More lines than a million.
+MANY = 1_000_001
+
 GOOD_LINES = b"""{"ask":"desk"}
 
 {"at":1,"by":"","do":"settle","batch":"B"}
@@ -96,6 +102,17 @@ class OrderCheck(CheckTests, ProgramTestCase):
     def test_fault_is_told_in_words(self):
         self.check_tells("a fault in words", FAULTY_ORDERS, 1, FAULT)
 
+    def test_header_alone_is_an_order_file(self):
+        for head in ORDER_HEAD, ORDER_HEAD[:-1], b"\xef\xbb\xbf" + ORDER_HEAD, b"\n" + ORDER_HEAD.replace(b"\n", b"\r\n\r\n"):
+            self.check_tells(f"a header alone, {head}", head, 0, b"0 orders\n")
+        self.check_tells("a header of spaces", ORDER_HEAD.replace(b",size", b", size"), 1, HEADER)
+
+    def test_thousand_orders_are_counted_and_no_more(self):
+        rows = b"O-1,CAKE,1,500,2027-03-01,5\n"
+        self.check_tells("a thousand orders", ORDER_HEAD + rows * 1000, 0, b"1000 orders\n")
+        status, output, errors = self.program.run(told=ORDER_HEAD + rows * 1001)
+        self.check("an order more", (status, output.split(b":")[0], errors), (1, b"csv row 1001 TooManyRows", b""))
+
     def test_file_that_is_too_long_is_told(self):
         self.check_tells("a longest file", b"\n" * LONGEST, 1, HEADER)
         self.check_tells("a file of more than 4 MB", b"\n" * (5 << 20), 1, TOO_LONG)
@@ -118,6 +135,11 @@ class LineCheck(CheckTests, ProgramTestCase):
     def test_good_lines_are_counted(self):
         self.check_tells("good lines", GOOD_LINES, 0, b"1 commands, 2 questions\n")
         self.check_tells("lines of more than 4 MB", b'{"ask":"desk"}\n' * 400_000, 0, b"0 commands, 400000 questions\n")
+
+    def test_more_than_a_million_lines_are_read_and_numbered(self):
+        self.check_tells("a million empty lines and a bad one", b"\n" * MANY + b"{}\n", 1, b"line %d: neither do nor ask is there\n" % (MANY + 1))
+        self.check_tells("a million questions", b'{"ask":"desk"}\n' * MANY, 0, b"0 commands, %d questions\n" % MANY)
+        self.check_tells("a million bad lines", b"x\n" * MANY, 1, b"".join(b"line %d: not a JSON text\n" % it for it in range(1, MANY + 1)))
 
     def test_line_that_is_too_long_is_told(self):
         self.check_tells("a longer line", b" " * (LONGEST + 1), 1, b"line 1: longer than 262144 bytes\n")

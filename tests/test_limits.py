@@ -9,14 +9,13 @@ from __future__ import annotations
 import pathlib
 import re
 import subprocess
-import time
 
 from tests.support import scenarios, sqlite
-from tests.support.cases import DeskTestCase
 from tests.support.commands import (
     GOODS, MOST, PLANNED, add_recipe, approve, begin_batch, compact, consume, import_orders, lift, line, produce, recall, receive, replies, scrap, split,
 )
-from tests.support.http import WELL, Server, answer, got, posted
+from tests.support.http import answer, got, posted
+from tests.support.large import LimitTestCase, consumed_row, received_row, scrapped_row, split_row
 from tests.support.program import SECONDS
 from tests.support.scenarios import lots_told, traced
 from tests.support.sessions import LINE_LIMIT
@@ -55,76 +54,6 @@ RECORD_HEAD = [
     "  3 phase MIX BLEND STIR",
     "EVENTS",
 ]
-
-
-# ---- rows of table movement
-
-
-def received_row(seq, lot, amount):
-    return (seq, 1, 1, lot, 0, None, None, None, amount, 200, "", "")
-
-
-def consumed_row(seq, lot, amount):
-    return (seq, 1, 2, lot, 0, None, None, "B-1", amount, 200, "", "")
-
-
-def scrapped_row(seq, lot):
-    return (seq, 1, 4, lot, 0, None, None, None, 1, 200, "", "")
-
-
-def split_row(seq, lot, new, amount):
-    return (seq, 1, 6, lot, 0, new, 0, None, amount, 200, "", "")
-
-
-class LimitTestCase(DeskTestCase):
-    """A test case of what is large."""
-
-    IN_MEMORY = IS_LONG = True
-
-    def path(self, file):
-        return self.folder / file
-
-    def send(self, file, *bodies):
-        """Tells commands that the test begins with; returns the number of the last."""
-        ended = self.desk.run("run", file, told=b"".join(map(line, bodies)))
-        assert ended == (0, replies(1, len(bodies)), b""), ended
-        return len(bodies)
-
-    def check_lines(self, case, file, told, wanted):
-        """Tells lines, of which none is refused; returns the seconds that it takes."""
-        began = time.monotonic()
-        self.check_run(case, ["run", file], (0, wanted, b""), told)
-        return time.monotonic() - began
-
-    def check_good(self, case, file, seq):
-        """Verifies a file; returns the seconds that it takes."""
-        began = time.monotonic()
-        self.check_verified(f"{case}, verified", file, seq)
-        return time.monotonic() - began
-
-    def check_as_soon(self, case, first, second):
-        """Compares two times: what takes the second is to cost no more than what takes the first."""
-        self.check_true(f"{case}, {[first, second]}", second < 3 * first + 3)
-
-    def check_requests(self, file, requests):
-        """Serves these requests, each with its name and the answer that it has to have."""
-        with Server(self.desk, file, len(requests)) as server:
-            for case, request, wanted in requests:
-                self.check(f"{case}, by a request", server.answered(request), wanted)
-            self.check(f"the server of {file}", server.end(), WELL)
-
-    def check_alike(self, file, cases):
-        """Asks by a line and by a request; each case has a name, the line, the path and the answer."""
-        told = b"".join(question.encode() + b"\n" for _, question, _, _ in cases)
-        wanted = b"".join(text.encode() + b"\n" for *_, text in cases)
-        self.check_run(f"the lines over {file}", ["run", file], (0, wanted, b""), told)
-        self.check_requests(file, [(case, got(path), answer(text)) for case, _, path, text in cases])
-
-    def check_record(self, case, file, lines):
-        """Has the record of batch B-1 printed, by the word and by a request."""
-        text = "".join(it + "\n" for it in lines)
-        self.check_run(f"the record of {case}", ["record", file, "B-1"], (0, text.encode(), b""))
-        self.check_requests(file, [(f"the record of {case}", got("/v1/batches/B-1/record"), answer(text, kind="text/plain"))])
 
 
 class Counts(LimitTestCase):

@@ -99,6 +99,25 @@ class PageSessions(SessionTestCase):
             self.check_session(scenarios.paired_lists(count))
 
 
+    def test_ledger_has_all_that_came_to_a_lot_and_left_it(self):
+        self.check_session(scenarios.long_ledger())
+
+    def test_batches_of_a_recipe_of_128_lines_are_told_by_the_page(self):
+        self.check_session(scenarios.long_batches())
+
+    def test_250_versions_of_one_recipe_are_told_by_the_page(self):
+        self.check_session(scenarios.versions_of_one_recipe())
+
+
+class RecallSessions(SessionTestCase):
+    """A lot under many recalls."""
+
+    IN_MEMORY = True
+
+    def test_lot_under_120_recalls_stays_blocked_until_the_last_is_lifted(self):
+        self.check_session(scenarios.recalls_of_one_lot())
+
+
 class LineSessions(SessionTestCase):
     """Bytes that are a line, a bad one, or none."""
 

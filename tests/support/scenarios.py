@@ -3,7 +3,8 @@ from __future__ import annotations
 
 from tests.support import sessions
 from tests.support.commands import (
-    GOODS, add_recipe, approve, compact, divide, hold, import_orders, lift, merge, recall, receive, release, say, scrap, settle, split,
+    GOODS, PLANNED, add_recipe, approve, begin_batch, compact, consume, divide, hold, import_orders, lift, merge, phase_done, produce, recall,
+    receive, release, say, scrap, settle, split,
 )
 from tests.support.sessions import LINE_LIMIT, Session
 
@@ -225,6 +226,112 @@ def paired_lists(count):
     return session
 
 
+# ---- lists and recalls above a page
+
+
+def long_ledger():
+    """Returns a session of a lot merged of sixteen parts, with more rows than a page that took from it, and as many that came to it."""
+    session = Session("a ledger has all that came to a lot and left it").accepted(*GOODS)
+    parts = [(f"P-{it:02}", 0, 100) for it in range(16)]
+    session.accepted(*[receive(lot, amount) for lot, _, amount in parts], merge(parts))
+    shown, seq = {"at": 100, "batch": None, "by": "", "note": ""}, session.count()
+    came = {"kind": "merged", "to": "M-1", "to_sub": 0, "amount": 100}
+    moved = [{**shown, **came, "seq": seq, "line": line, "lot": lot, "sub": sub} for line, (lot, sub, _) in enumerate(parts, 1)]
+    for it in range(1, 113):
+        for body, rest in [
+            (divide("M-1"), {"kind": "divided", "to": "M-1", "to_sub": it, "amount": 1}),
+            (split("M-1", 2, f"S-{it}"), {"kind": "split", "to": f"S-{it}", "to_sub": 0, "amount": 2}),
+            (scrap("M-1", 3), {"kind": "scrapped", "to": None, "to_sub": None, "amount": 3}),
+        ]:
+            session.accepted(body)
+            moved.append({**shown, **rest, "seq": seq + len(moved) - 15, "line": 1, "lot": "M-1", "sub": 0})
+    around = [moved[at] for at in (0, 14, 15, 16, 99, 100, 115, 199, 251, 252, len(moved) - 2, len(moved) - 1)]
+    for at in [None, (0, 0), (seq, 0), (seq, 999), *((it["seq"], it["line"]) for it in around)]:
+        rest = [it for it in moved if at is None or (it["seq"], it["line"]) > at]
+        session.asked(question("movements", at and "%d.%d" % at, lot="M-1"), page("movements", rest))
+    part = {**moved[3], "seq": 6, "line": 1, "kind": "received", "to": None, "to_sub": None, "lot": "P-03"}
+    return session.asked(question("movements", None, lot="P-03"), page("movements", [part, moved[3]]))
+
+
+def long_batches():
+    """Returns a session of more open batches than a page, of a recipe of 128 lines, of which some have come far."""
+    session = Session("batches of a long recipe are told by the page").accepted(*GOODS)
+    phases = "".join(f',{{"kind":"phase","unit":"U","oper":"O","phase":"P-{it}"}}' for it in range(1, 128))
+    recipe, phase = add_recipe(1), ',{"kind":"phase","unit":"U","oper":"O","phase":"P"}'
+    session.accepted(recipe.replace(phase, phases), approve(), import_orders(103))
+    batches = {f"B-{it:03}": 0 for it in range(103)}
+    session.accepted(*[release(f"O-{it}", batch) for it, batch in enumerate(batches)])
+    for batch, count in {"B-000": 127, "B-001": 126, "B-050": 1, "B-098": 99, "B-099": 100, "B-100": 101, "B-102": 127}.items():
+        session.accepted(say("start", batch), *[phase_done(batch, it) for it in range(1, count + 1)])
+        batches[batch] = count
+    told = []
+    for it, (batch, count) in enumerate(batches.items()):
+        rest = {"phase": None if count == 127 else f"P-{count + 1}", "phases": 127, "state": "running" if count else "idle"}
+        told.append({"attempt": 1, "batch": batch, "next": count + 1, "order": f"O-{it}", **rest})
+    for at in [None, "A", *(f"B-{it:03}" for it in (0, 1, 2, 3, 49, 98, 101, 102))]:
+        session.asked(question("batches", at), page("batches", [it for it in told if at is None or it["batch"] > at]))
+    return session
+
+
+def versions_of_one_recipe():
+    """Returns a session of a recipe that has more versions in one state than a page, and more behind a place within them."""
+    session = Session("versions of one recipe are told by the page").accepted(*GOODS)
+    versions = [("Q", 1), *(("R", it) for it in range(1, 251)), ("S", 1), ("S", 2)]
+    session.accepted(*[add_recipe(1, *it) for it in versions])
+    ask_for_recipes(session, "draft", versions, (0, 1, 50, 51, 149, 150, 151, 249, 250, 999))
+    approved = [("R", it) for it in range(1, 251) if it % 5] + [("S", 2)]
+    session.accepted(*[approve(*it) for it in approved])
+    ask_for_recipes(session, "approved", approved, (0, 1, 2, 5, 99, 124, 125, 126, 249, 250))
+    ask_for_recipes(session, "draft", [it for it in versions if it not in approved], (0, 5, 244, 245, 250))
+    return session
+
+
+def ask_for_recipes(session, state, versions, places):
+    """Asks for the recipes in a state, from the front, and behind these versions of the recipe R."""
+    shown = {"base": 1, "max": 900, "min": 1, "product": "SUGAR", "title": ""}
+    for at in [None, ("Q", 1), *(("R", it) for it in places), ("S", 1)]:
+        rest = [{**shown, "recipe": name, "version": version} for name, version in versions if at is None or (name, version) > at]
+        session.asked(question("recipes", at and "%s.%d" % at, state=state), page("recipes", rest))
+
+
+def recalls_of_one_lot(count=120):
+    """Returns a session of a lot under so many recalls: it and what comes of it are blocked until the last of them is lifted."""
+    session = Session(f"a lot stays blocked under {count} recalls").accepted(*PLANNED)
+    session.accepted(receive("F-1", 900, "FLOUR"), receive("F-2", 9, "FLOUR"), *begin_batch("B-1", 1), consume("B-1", "F-1", 7))
+    recalls = [f"RC-{it:03}" for it in range(count)]
+    session.accepted(*[recall("F-1", it) for it in recalls], produce("B-1", "D-1", amount=40))
+    blocked = [consume("B-1"), split("F-1", 1, "F-3"), split("D-1", 1, "D-2"), merge([("F-2", 0, 1), ("F-1", 0, 1)])]
+    nodes = [{"lot": "D-1"}, {"lot": "F-1"}, {"batch": "B-1"}]
+    for it in [recalls[0], recalls[16], recalls[-1]]:
+        answer = {"lot": "F-1", "nodes": nodes, "recall": it, "state": "open"}
+        session.asked(compact({"ask": "recall", "recall": it}), compact(answer))
+    ask_for_blocked(session, blocked, True)
+    session.accepted(*[lift(it) for it in recalls[:-1]])
+    ask_for_blocked(session, blocked, True)
+    session.accepted(lift(recalls[-1]))
+    ask_for_blocked(session, [], False)
+    return session.accepted(*blocked)
+
+
+def ask_for_blocked(session, blocked, is_recalled):
+    """Tells commands that are refused as recalled, and asks for the genealogy around what they take of, forward and back."""
+    for body in blocked:
+        session.refused("Recalled", 32, body)
+    known = {"held": False, "recalled": is_recalled, "unit": "kg"}
+    answer = compact({
+        "edges": [
+            {"amount": 7, "from": {"lot": "F-1"}, "to": {"batch": "B-1"}},
+            {"amount": 40, "from": {"batch": "B-1"}, "to": {"lot": "D-1"}},
+        ],
+        "nodes": [{**known, "def": "DOUGH", "lot": "D-1", "stock": 40}, {**known, "def": "FLOUR", "lot": "F-1", "stock": 893}, {"batch": "B-1"}],
+    })
+    session.asked('{"ask":"forward_edges","lot":"F-1"}', answer).asked('{"ask":"back_edges","lot":"D-1"}', answer)
+
+
+def above_a_page():
+    return [long_ledger(), long_batches(), versions_of_one_recipe(), recalls_of_one_lot()]
+
+
 # ---- bytes that are a line, a bad one, or none
 
 
@@ -300,4 +407,5 @@ def scraps():
 def every():
     """Returns all sessions, those that are written out and those that are made here."""
     pages = [session(count) for count in COUNTS for session in (lists, paired_lists)]
-    return [*map(sessions.read, sessions.files()), *limits(), long_chain(), wide_fan(), standing(), *pages, *lines(), scraps()]
+    made = [*limits(), long_chain(), wide_fan(), standing(), *pages, *above_a_page(), *lines(), scraps()]
+    return [*map(sessions.read, sessions.files()), *made]

@@ -6,12 +6,18 @@ many, and for each statement of tests/tables/broken_rules.txt over the rows of g
 """
 from __future__ import annotations
 
+import contextlib
 import shutil
+import socket
 import time
 
 from tests.support import http, sessions, sqlite
 from tests.support.cases import DeskTestCase
-from tests.support.http import ACCEPTED, ASK, HOST, NEW, POST, Server, connected, rest_of, status_answer
+from tests.support.commands import GOODS
+from tests.support.http import ACCEPTED, ASK, COMMAND, HOST, NEW, POST, Server, answer, connected, desk_answer, got, posted, rest_of, status_answer
+from tests.support.large import LimitTestCase, fan_tables
+from tests.support.program import SECONDS
+from tests.support.scenarios import traced
 from tests.support.sessions import Session, lines_of
 
 # How many seconds a client may hold the server that says nothing, with what else a busy machine takes; and how many a client may pause.
@@ -21,6 +27,10 @@ PAUSE = 2
 # For how long a connection waits on which nothing is sent, and how many wait at most.
 SILENCE = 10
 MOST_SILENT = 64
+
+# How many lots an answer tells that no client reads, how many seconds a write of it waits, and how many writes take a part of it at most.
+UNREAD = 30_000
+WAIT, MOST_WAITS = 10, 6
 
 # How many seconds the server waits at least for the end of its last client, and how often this is looked at where the machine is busy.
 LAST_WAIT = 0.9
@@ -116,6 +126,16 @@ def padded(size):
     return HOST + name + b"a" * (size - len(HOST + name + end)) + end
 
 
+def small_connection(port):
+    """Returns a connection for which the system keeps few bytes that weren't read."""
+    client = socket.socket()
+    client.setsockopt(socket.SOL_SOCKET, socket.SO_RCVBUF, 4096)
+    client.setsockopt(socket.IPPROTO_TCP, socket.TCP_MAXSEG, 536)
+    client.settimeout(SECONDS)
+    client.connect(("127.0.0.1", port))
+    return client
+
+
 # Requests to new desks that come up to a limit or pass it, each with its answer.
 REQUESTS = [
     ("a head has 32 fields", HOST + b"A: b\r\n" * 31 + b"\r\n", NEW),
@@ -173,6 +193,23 @@ class BrokenRequests(DeskTestCase):
                 self.check("a body that comes behind the answer", found, NEW)
             self.check("the next behind it", server.answered(ASK), NEW)
             self.check("its server", server.end().status, 0)
+
+
+    def test_answers_stay_whole_where_next_connections_come_at_once(self):
+        """Opens connections and sends on each a request, and bytes behind it, before the answer of any is read: each answer comes whole."""
+        much = b"-" * 50_000
+        held = posted("/v1/commands", COMMAND.replace(b"RAW", b"raw"))
+        sent = [ASK + much, HOST + b"Content-Length: 50000\r\n\r\n" + much, POST + much, POST + much, ASK, ASK + much]
+        wanted = [NEW, NEW, ACCEPTED, answer('{"name":"Exists","refused":3}', 409), desk_answer(1), desk_answer(1)]
+        with Server(self.desk, ":memory:", len(sent) + 2) as server, contextlib.ExitStack() as clients:
+            opened = [clients.enter_context(connected(server.port)) for _ in sent]
+            for client, request in zip(opened, sent):
+                client.sendall(request)
+            self.check("a client behind them", server.answered(ASK), desk_answer(1))
+            for number, (client, whole) in enumerate(zip(opened, wanted), 1):
+                self.check(f"answer {number} of connections at once", rest_of(client), whole)
+            self.check("a last client", server.answered(held), answer('{"name":"BadForm","refused":1}', 400))
+            self.check("their server", server.end().status, 0)
 
 
 class Clients(DeskTestCase):
@@ -241,3 +278,25 @@ class Clients(DeskTestCase):
                 break
         self.check("the last client's answer", found, NEW)
         self.check("the last client is waited for", (is_judged, is_running, status), (True, True, 0))
+
+
+class Readers(LimitTestCase):
+    """Clients that read no answer."""
+
+    def test_client_that_never_reads_its_answer_holds_the_server_for_a_while_and_no_longer(self):
+        """Has a client ask for an answer of more bytes than the system keeps for it, and not read it: the next client is answered behind waits
+        of ten seconds. The answer that isn't read is not told as a whole one."""
+        file, lots = "fan.db", [f"T-{it:05}" for it in range(UNREAD)]
+        seq = self.send(file, *GOODS) + 1
+        sqlite.filled(self.path(file), fan_tables(seq, "T", lots), seq + UNREAD)
+        whole = len(answer(traced(lots)))
+        with Server(self.desk, file, 2, "--log") as server, small_connection(server.port) as lazy:
+            lazy.sendall(got("/v1/lots/T/forward"))
+            began = time.monotonic()
+            self.check("a client behind one that doesn't read", server.answered(ASK), desk_answer(seq + UNREAD))
+            held = time.monotonic() - began
+            self.check_true(f"it is served within a bound, {held}", WAIT - 1 < held < MOST_WAITS * WAIT)
+            with contextlib.suppress(ConnectionResetError):
+                read = len(rest_of(lazy))
+                self.check_true(f"the answer that wasn't read is no whole one, {read} of {whole}", read < whole)
+            self.check("its server", server.end().status, 0)

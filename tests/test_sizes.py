@@ -13,7 +13,7 @@ from tests.support.commands import (
     GOODS, PLANNED, add_recipe, approve, begin_batch, compact, import_orders, line, recall, receive, release, replies, say,
 )
 from tests.support.http import ACCEPTED, posted
-from tests.support.large import LimitTestCase, consumed_row, merged_rows, produced_row, received_row, split_row
+from tests.support.large import LimitTestCase, chain_tables, consumed_row, fan_tables, merged_rows, produced_row, received_row, split_row
 from tests.support.program import Program
 from tests.support.scenarios import lots_told
 
@@ -73,15 +73,9 @@ class Around(LimitTestCase):
     def test_8000_lots_in_a_chain_are_told_with_their_edges_and_where_they_stand(self):
         file, seq = "chain.db", self.send("chain.db", *GOODS)
         lots = [f"C-{it:05}" for it in range(NODES + 1)]
-        splits = [(lots[it - 1], lots[it], NODES + 1 - it) for it in range(1, NODES + 1)]
-        sqlite.filled(self.path(file), {
-            "lot": [(it, "SUGAR") for it in lots],
-            "sublot": [(it, 0, "", 1) for it in lots],
-            "movement": [received_row(seq + 1, lots[0], NODES + 1), *(split_row(seq + 1 + at, *it) for at, it in enumerate(splits, 1))],
-            "edge": [(3, first, second) for first, second, _ in splits],
-        }, seq + 1 + NODES)
+        sqlite.filled(self.path(file), chain_tables(seq + 1, lots), seq + 1 + NODES)
         nodes = [node_told(it, 1) for it in lots]
-        edges = [edge_told(("lot", first), ("lot", second), amount) for first, second, amount in splits]
+        edges = [edge_told(("lot", first), ("lot", second), NODES - at) for at, (first, second) in enumerate(zip(lots, lots[1:]))]
         size = self.check_around(file, "a chain", ("lot", lots[0]), "forward", nodes, edges)
         self.check_true(f"an answer of more than a million bytes, {size}", size > 10**6)
         self.check_around(file, "a chain", ("lot", lots[-1]), "back", nodes, edges)
@@ -91,12 +85,7 @@ class Around(LimitTestCase):
     def test_8000_lots_split_off_one_are_told_with_their_edges_and_where_they_stand(self):
         file, seq = "fan.db", self.send("fan.db", *GOODS)
         lots = [f"T-{it:05}" for it in range(NODES)]
-        sqlite.filled(self.path(file), {
-            "lot": [(it, "SUGAR") for it in ["T", *lots]],
-            "sublot": [("T", 0, "", 5)] + [(it, 0, "", 2) for it in lots],
-            "movement": [received_row(seq + 1, "T", 2 * NODES + 5), *(split_row(seq + 2 + at, "T", it, 2) for at, it in enumerate(lots))],
-            "edge": [(3, "T", it) for it in lots],
-        }, seq + 1 + NODES)
+        sqlite.filled(self.path(file), fan_tables(seq + 1, "T", lots, 5, 2), seq + 1 + NODES)
         edges = [edge_told(("lot", "T"), ("lot", it), 2) for it in lots]
         self.check_around(file, "a fan", ("lot", "T"), "forward", [node_told("T", 5), *(node_told(it, 2) for it in lots)], edges)
         self.check_around(file, "a lot of a fan", ("lot", lots[-1]), "back", [node_told("T", 5), node_told(lots[-1], 2)], edges[-1:])
@@ -197,13 +186,7 @@ class Marks(LimitTestCase):
     def test_each_mark_of_a_recall_of_1500_lots_is_checked(self):
         file, seq = "marks.db", self.send("marks.db", *GOODS)
         lots = [f"C-{it:04}" for it in range(MARKED)]
-        sqlite.filled(self.path(file), {
-            "lot": [(it, "SUGAR") for it in lots],
-            "sublot": [(it, 0, "", 1) for it in lots],
-            "movement": [received_row(seq + 1, lots[0], MARKED)]
-            + [split_row(seq + 1 + it, lots[it - 1], lots[it], MARKED - it) for it in range(1, MARKED)],
-            "edge": [(3, lots[it - 1], lots[it]) for it in range(1, MARKED)],
-        }, seq + MARKED)
+        sqlite.filled(self.path(file), chain_tables(seq + 1, lots), seq + MARKED)
         self.check_lines("a recall", file, line(recall(lots[0])), replies(seq + MARKED + 1, 1))
         checker = Program("desk_check", self.folder)
         told = [f"It holds a desk of schema 4 and {seq + MARKED + 1} commands, the last at 200.",
@@ -254,25 +237,14 @@ class Ladders(LimitTestCase):
 
     def chain(self, file, nodes):
         """Makes the file of a chain with so many splits; returns its last number."""
-        seq, lots = self.send(file, *GOODS) + 1, [f"C-{it:05}" for it in range(nodes + 1)]
-        sqlite.filled(self.path(file), {
-            "lot": [(it, "SUGAR") for it in lots],
-            "sublot": [(it, 0, "", 1) for it in lots],
-            "movement": [received_row(seq, lots[0], nodes + 1)]
-            + [split_row(seq + it, lots[it - 1], lots[it], nodes + 1 - it) for it in range(1, nodes + 1)],
-            "edge": [(3, lots[it - 1], lots[it]) for it in range(1, nodes + 1)],
-        }, seq + nodes)
+        seq = self.send(file, *GOODS) + 1
+        sqlite.filled(self.path(file), chain_tables(seq, [f"C-{it:05}" for it in range(nodes + 1)]), seq + nodes)
         return seq + nodes
 
     def fan(self, file, nodes):
         """Makes the file of a lot that was split into so many; returns its last number."""
-        seq, lots = self.send(file, *GOODS) + 1, [f"C-{it:05}" for it in range(nodes)]
-        sqlite.filled(self.path(file), {
-            "lot": [(it, "SUGAR") for it in ["T", *lots]],
-            "sublot": [("T", 0, "", 0)] + [(it, 0, "", 1) for it in lots],
-            "movement": [received_row(seq, "T", nodes)] + [split_row(seq + it, "T", lot, 1) for it, lot in enumerate(lots, 1)],
-            "edge": [(3, "T", it) for it in lots],
-        }, seq + nodes)
+        seq = self.send(file, *GOODS) + 1
+        sqlite.filled(self.path(file), fan_tables(seq, "T", [f"C-{it:05}" for it in range(nodes)]), seq + nodes)
         return seq + nodes
 
     def check_within(self, case, words, wanted, told=b""):

@@ -65,6 +65,9 @@ NOTED = [
 # How far the opening of a file is, as a terminal is told.
 STAGES = [b"opening the file: its pages are tested", b"opened the file: its tables are read and tested"]
 
+# How many seconds a client pauses.
+PAUSE = 0.5
+
 # A line that is accepted by a new desk.
 CLASS = b'{"at":1,"by":"","do":"add_class","class":"RAW","name":""}\n'
 
@@ -89,6 +92,23 @@ class FilesWithoutDesk(DeskTestCase):
         for word, *others in WORDS_OVER_FILES:
             self.check_run(f"{word} of a later schema", [word, file.name, *others], (3, b"", b"fault: newer 99\n"))
         self.check("a later schema stays", sqlite.dumped(file), rows)
+
+    def test_name_that_begins_with_a_colon_is_a_file_but_for_memory(self):
+        """Tells a command to each word over such a name, and looks whether the next run finds it."""
+        orders = b"order,recipe,version,size,due,priority\n"
+        for name in ":x", ":memory", ":memory:x", "::memory:", ":MEMORY:", ":memory: ", "memory:", "./:memory:":
+            self.check_run(f"run of {name}", ["run", name], (0, b'{"ok":1}\n', b""), CLASS)
+            self.check_true(f"{name} is a file", (self.folder / name).is_file())
+            self.check_run(f"{name} again", ["run", name], (1, b'{"name":"Exists","refused":3}\n', b""), CLASS)
+            self.check_run(f"import into {name}", ["import", name, "--at", "1"], (0, b'{"ok":2}\n', b""), orders)
+            self.check_verified(f"{name}, verified", name, 2)
+            self.check(f"the rows of {name}", sqlite.rows(self.folder / name, "SELECT id FROM class"), [("RAW",)])
+            for end in "", "-wal":
+                (self.folder / f"{name}{end}").unlink(missing_ok=True)
+        self.check("no other file is made", list(self.folder.iterdir()), [])
+        for _ in range(2):
+            self.check_run("run of memory", ["run", ":memory:"], (0, b'{"ok":1}\n', b""), CLASS)
+        self.check("memory is no file", list(self.folder.iterdir()), [])
 
     def test_view_beside_a_desk_stays(self):
         file = self.folder / "view.db"
@@ -201,6 +221,25 @@ class Progress(DeskTestCase):
             self.check(f"the end, {log}", (status, output), (0, b""))
             self.check(f"the lines, {log}", lines[:1] + [it and it[2] for it in found], wanted)
             self.check_true(f"the moments, {log}", all(began <= int(it[1]) <= time.time() for it in found))
+
+    def test_microseconds_that_are_noted_are_those_of_the_connection(self):
+        """Has a client pause within its request: so long the connection took at least, and no longer than the client saw; others took some time."""
+        with http.Server(self.desk, ":memory:", 3, "--log") as server:
+            seconds = []
+            for pause in 0, PAUSE, 0:
+                began = time.monotonic()
+                with http.connected(server.port) as client:
+                    client.sendall(http.POST[:-9])
+                    time.sleep(pause)
+                    client.sendall(http.POST[-9:])
+                    http.rest_of(client)
+                seconds.append(time.monotonic() - began)
+            _, _, errors = server.end()
+        found = [re.fullmatch(rb'\d+ "POST /v1/commands HTTP/1.1" (\d+) (\d+)', it) for it in errors.splitlines()[1:]]
+        self.check("the statuses", [it and it[1] for it in found], [b"200", b"409", b"409"])
+        took = [int(it[2]) for it in found]
+        self.check_true(f"each took some time, {took}", all(0 < it < 10**6 * most for it, most in zip(took, seconds)))
+        self.check_true(f"a client that pauses took as long, {took}", took[1] >= 10**6 * PAUSE)
 
     def test_terminal_alone_is_told_how_far_the_opening_of_a_large_file_is(self):
         """Verifies a file that takes seconds to open, and one that takes none."""

@@ -35,6 +35,30 @@ def merged_rows(seq, parts, new):
     return [(seq, number, 7, lot, 0, new, 0, None, amount, 200, "", "") for number, (lot, amount) in enumerate(parts, 1)]
 
 
+# ---- the tables of genealogies
+
+
+def chain_tables(seq, lots, goods="SUGAR"):
+    """A chain of lots from this number on, of which each is split off the one before it, and has 1 left."""
+    size = len(lots)
+    return {
+        "lot": [(it, goods) for it in lots],
+        "sublot": [(it, 0, "", 1) for it in lots],
+        "movement": [received_row(seq, lots[0], size), *(split_row(seq + it, lots[it - 1], lots[it], size - it) for it in range(1, size))],
+        "edge": [(3, first, second) for first, second in zip(lots, lots[1:])],
+    }
+
+
+def fan_tables(seq, first, lots, left=1, amount=1, goods="SUGAR"):
+    """A fan from this number on: lots that are split off one, each with this amount, where so much is left."""
+    return {
+        "lot": [(it, goods) for it in [first, *lots]],
+        "sublot": [(first, 0, "", left), *((it, 0, "", amount) for it in lots)],
+        "movement": [received_row(seq, first, left + amount * len(lots)), *(split_row(seq + at, first, it, amount) for at, it in enumerate(lots, 1))],
+        "edge": [(3, first, it) for it in lots],
+    }
+
+
 class LimitTestCase(DeskTestCase):
     """A test case of what is large."""
 

@@ -12,7 +12,7 @@ from tests.support import faults, http, sessions
 from tests.support.cases import DeskTestCase, good
 from tests.support.commands import GOODS, compact, divide, lift, recall, receive, scrap, split
 from tests.support.http import ACCEPTED, ASK, NEW, POST, Server, answer, posted
-from tests.support.program import Program
+from tests.support.program import PACKED, SECONDS, Program
 from tests.support.sessions import Session, lines_of
 
 # How the words end whose streams fail.
@@ -27,6 +27,9 @@ ONE_WRITE = 4096
 
 # So many empty lines are read, a byte a read.
 MANY = 1_000_000
+
+# So many lines are told whose replies a pipe doesn't hold.
+MANY_LINES = 30_000
 
 # A command whose class isn't there.
 DEFINITION = b'{"at":100,"by":"anna","do":"add_definition","def":"SUGAR","class":"RAW","name":"","unit":"g"}'
@@ -162,6 +165,84 @@ class Lines(StreamTestCase):
             self.check(f"a reply of {size} bytes", len(lines[-1]), size)
             wanted = (WELL, found) if size <= ONE_WRITE else (WRITE, found[:-1])
             self.check(f"the writes of a reply of {size} bytes", self.run_over({"WRITES": len(lines)}, told=told), wanted)
+
+
+class Outputs(StreamTestCase):
+    """What each program and each word prints, where standard output fails within it."""
+
+    PROGRAMS = PACKED
+
+    @classmethod
+    def setUpClass(cls):
+        super().setUpClass()
+        cls.keep("batch", sessions.whole_batch())
+
+    def program(self, name):
+        return Program(name, self.folder)
+
+    def check_failed_writes(self, name, *words, told=b"", copied=None, counts=()):
+        """Fails the output of a program behind some writes of three bytes, by each error: a front of it was written, and one line tells it. The
+        file is a fresh copy of the kept one each time, and has one of these numbers of commands then."""
+        case = f"{name} {' '.join(words)}"
+        whole = self.run_fresh(name, words, told, copied, {}).output
+        last = -(-len(whole) // 3) - 1
+        for error in errno.ENOSPC, errno.EPIPE, 0:
+            for count in sorted({0, 1, last // 2, last}):
+                limits = faults.narrow_streams(WRITE_MOST=3, WRITES=count, WRITE_ERROR=error)
+                status, output, errors = self.run_fresh(name, words, told, copied, limits)
+                is_front = whole.startswith(output) and bool(count) <= len(output) <= 3 * count < len(whole)
+                self.check(f"{case}: {count} writes, {error}: {output}", (status, errors, is_front), (*WRITE, True))
+                if counts:
+                    self.check_copy(f"{case}: {count} writes, {error}", counts)
+
+    def run_fresh(self, name, words, told, copied, limits):
+        """Runs a program over a fresh copy of a kept file."""
+        if copied:
+            self.copied(copied)
+        return self.program(name).run(*words, told=told, env=limits)
+
+    def test_word_of_the_desk_whose_output_fails_within_it_tells_it(self):
+        questions = b"".join(b'{"ask":%s}\n' % it for it in (b'"desk"', b'"batch","batch":"B-1"', b'"movements","lot":"F-1"', b'"desk"'))
+        orders = b"order,recipe,version,size,due,priority\n"
+        seq = sessions.whole_batch().count()
+        for words, told, counts in [
+            (["init", "copy.db"], b"", {seq}),
+            (["verify", "copy.db"], b"", {seq}),
+            (["run", "copy.db"], questions, {seq}),
+            (["trace", "copy.db", "forward", "F-1"], b"", {seq}),
+            (["record", "copy.db", "B-1"], b"", {seq}),
+            (["import", "copy.db", "--at", "400"], orders, {seq + 1}),
+            (["import", "copy.db", "--at", "400"], orders + b"O-9\n", {seq}),
+        ]:
+            self.check_failed_writes("desk", *words, told=told, copied="batch", counts=counts)
+        self.check_failed_writes("desk", told=questions)
+
+    def test_check_or_picture_whose_output_fails_within_it_tells_it(self):
+        self.check_failed_writes("order_check", told=b"order,recipe,version,size,due,priority\n" + b"O-1,R,1,1,2027-03-01,5\n" * 9)
+        self.check_failed_writes("order_check", told=b"order\n")
+        self.check_failed_writes("line_check", told=b"x\n" * 9)
+        self.check_failed_writes("line_check", told=b'{"ask":"desk"}\n' * 9)
+        for words in [], ["--json"]:
+            self.check_failed_writes("desk_check", *words, "copy.db", copied="batch")
+            self.check_failed_writes("desk_check", *words, "nowhere.db")
+        answer = self.kept.run("run", "batch.db", told=b'{"ask":"forward_edges","lot":"F-1"}\n').output
+        for word in "--dot", "--svg":
+            self.check_failed_writes("genealogy_picture", word, told=answer)
+
+    def test_reader_that_goes_within_the_output_is_a_failed_write(self):
+        """Closes the other end of the pipe that is the standard output, behind the first bytes of more than a pipe holds."""
+        self.copied("batch")
+        for name, words, told in [
+            ("desk", [], b'{"ask":"desk"}\n'),
+            ("desk", ["run", "copy.db"], b'{"ask":"lot","lot":"F-1"}\n'),
+            ("line_check", [], b"x\n"),
+        ]:
+            (self.folder / "lines").write_bytes(told * MANY_LINES)
+            with open(self.folder / "lines", "rb") as lines, self.program(name).start(*words, stdin=lines) as run:
+                front = run.stdout.read(8)
+                run.stdout.close()
+                ended = (run.wait(timeout=SECONDS), run.stderr.read())
+            self.check(f"{name} {words}, whose reader goes behind {front}", (ended, len(front)), (WRITE, 8))
 
 
 class Requests(StreamTestCase):

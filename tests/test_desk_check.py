@@ -27,6 +27,26 @@ Orders: 1, batches: 1, lots: 4, movements: 8.
 No rule is broken.
 """
 
+# What is told of a file of a later program, of one without a desk, and of twenty commands behind which three rules are broken.
+LATER = """The file opens.
+Its tables are of schema 5, as a later program writes them: run that program.
+"""
+
+NONE = """The file opens.
+It holds no desk: the next word of the desk over it makes one.
+"""
+
+BROKEN = """The file opens.
+It holds a desk of schema 4 and 20 commands, the last at 310.
+Orders: 1, batches: 1, lots: 4, movements: 8.
+Rule 3 is broken: each definition's class is there.
+table definition, row FLOUR, column class: NONE stands there, wanted is the key of a row of table class, one that fits
+Rule 7 is broken: each sublot's stock is what entered it less what left it.
+table sublot, row D-2 0, column stock: 41 stands there, wanted is 40, for 100 entered and 60 left
+Rule 13 is broken: each receipt has a number of its own that was given.
+table receipt, row K-1, column seq: 99 stands there, wanted is the number of a command, 1 to 20
+"""
+
 # What is told of the first row that the statements of sqlite.DAMAGES break, by the number of the rule; of rule 1 no row is told.
 ROWS = {
     2: ("batch", {"place": 1}, None, "the row"),
@@ -51,6 +71,20 @@ WANTED = {
     12: "the edge that movement 12 1 makes",
     14: "the mark of an open recall that reaches it",
 }
+
+# The toolkit's own error for each cause that it has one for; of a file that isn't there and of a limit it has none.
+UNOPENED = "unable to open database file"
+ERRORS = {
+    **dict.fromkeys(("folder", "nofile", "unreadable", "unwritable", "nolog", "linked", "journal"), UNOPENED),
+    "locked": "database is locked",
+    "nodatabase": "file is not a database that obeys its schema",
+    "damaged": "database disk image is malformed",
+    "full": "database or disk is full",
+    "store": "disk I/O error",
+}
+
+# The least that a file may grow by, in bytes.
+LEAST_GROWTH = 4096 + 24
 
 # The most memory that a check gets which has little, in bytes.
 LITTLE = 24 << 20
@@ -128,10 +162,29 @@ class FileCheckTestCase(DeskTestCase):
         if cause:
             self.check_true(f"{case}: in words", all(obstacle[it] for it in ("says", "advice")))
             _, output, _ = self.checked(file, *words, **how)
-            self.check(f"{case}: in sentences", output.decode().splitlines()[1], f"{obstacle['says']} {obstacle['advice']}")
+            error = ERRORS.get(cause)
+            self.check(f"{case}: the toolkit's error", obstacle["error"], error)
+            wanted = [f"The file doesn't open{f': {error}' if error else ''}.", f"{obstacle['says']} {obstacle['advice']}"]
+            self.check(f"{case}: in sentences", output.decode().splitlines()[:2], wanted)
         if opens is not None:
             self.check(f"{case}: what it holds", bool(told["desk"]), opens)
         return told
+
+    def check_told(self, case, file, text, status):
+        """Checks what is told of a file in sentences."""
+        self.check(f"{case}, in sentences", self.checked(file), (status, text.encode(), b""))
+
+    def killed(self, name):
+        """Makes a file whose program was killed, so that its commands stand in the log; returns the path of the log."""
+        killed = self.desk.start("run", name, stdin=subprocess.PIPE)
+        killed.stdin.write(b'{"at":7,"by":"","do":"add_class","class":"RAW","name":""}\n')
+        killed.stdin.flush()
+        killed.stdout.readline()
+        killed.kill()
+        killed.communicate()
+        log = self.folder / f"{name}-wal"
+        self.check_true(f"a log of {name}", log.stat().st_size > 0)
+        return log
 
     def check_usable(self, case, file, **how):
         """Checks a file that the desk can use."""
@@ -151,12 +204,19 @@ class Desks(FileCheckTestCase):
         self.check("a new desk", self.object("new.db")[1]["desk"]["seq"], 0)
         sqlite.changed(self.folder / "new.db", "UPDATE meta SET schema = 5")
         self.check("a later desk", self.object("new.db"), (3, opened({"newer": 5})))
+        self.check_told("a later desk", "new.db", LATER, 3)
 
     def test_file_without_a_desk_is_told(self):
         (self.folder / "empty.db").write_bytes(b"")
         sqlite.changed(self.folder / "other.db", "CREATE TABLE shift (id TEXT)")
         for name in ["empty.db", "other.db"]:
             self.check(name, self.object(name), (1, opened(None)))
+            self.check_told(name, name, NONE, 1)
+
+    def test_name_that_begins_with_a_colon_is_a_file(self):
+        for name in ":x", ":memory":
+            self.copy(name)
+            self.check_told(name, name, GOOD, 0)
 
     def test_taken_name_of_an_index_is_told(self):
         """Gives something else the name of one of the desk's indexes, in a file without a desk and beside older ones."""
@@ -180,13 +240,7 @@ class Desks(FileCheckTestCase):
 
     def test_log_of_a_killed_program_is_read(self):
         """Checks a desk whose program was killed, so that its commands stand in the log."""
-        killed = self.desk.start("run", "killed.db", stdin=subprocess.PIPE)
-        killed.stdin.write(b'{"at":7,"by":"","do":"add_class","class":"RAW","name":""}\n')
-        killed.stdin.flush()
-        killed.stdout.readline()
-        killed.kill()
-        killed.communicate()
-        self.check_true("a log", (self.folder / "killed.db-wal").stat().st_size > 0)
+        self.killed("killed.db")
         status, told = self.object("killed.db")
         self.check("a desk with a log", (status, told["desk"]["seq"], told["desk"]["at"]), (0, 1, 7))
 
@@ -240,15 +294,27 @@ class Causes(FileCheckTestCase):
         self.check_cause("two names", "rights.db", "linked")
 
     def test_limit_of_the_size_of_files_is_told(self):
-        def limited(bytes_more):
-            return faults.limited(resource.RLIMIT_FSIZE, (self.folder / "twenty.db").stat().st_size + bytes_more)
+        size, page = (self.folder / "twenty.db").stat().st_size, LEAST_GROWTH
+        for limited in faults.limited, faults.softly_limited:
+            def within(bytes_more, limited=limited):
+                return limited(resource.RLIMIT_FSIZE, size + bytes_more)
 
-        page = 4096 + 24
-        self.check_usable("a limit that leaves a page", "twenty.db", **limited(page))
-        self.check_cause("a limit that leaves none", "twenty.db", "limit", opens=True, **limited(page - 1))
-        self.check_cause("a limit below the file", "twenty.db", "limit", opens=True, **limited(-page))
+            name = limited.__name__
+            self.check_usable(f"{name} to a page more", "twenty.db", **within(page))
+            self.check_cause(f"{name} to less than a page more", "twenty.db", "limit", opens=True, **within(page - 1))
+            self.check_cause(f"{name} to less than the file", "twenty.db", "limit", opens=True, **within(-page))
         (self.folder / "empty.db").write_bytes(b"")
         self.check_cause("a limit of no byte", "empty.db", "limit", opens=False, **faults.limited(resource.RLIMIT_FSIZE, 0))
+
+    def test_log_that_may_not_grow_is_told(self):
+        """Checks a file that is smaller than its log, which may grow by a page, or by a byte less."""
+        size = self.killed("killed.db").stat().st_size
+        self.check_true("a log that is larger than its file", size > (self.folder / "killed.db").stat().st_size)
+        for limited in faults.limited, faults.softly_limited:
+            name = limited.__name__
+            self.check_usable(f"a log, {name} to a page more", "killed.db", **limited(resource.RLIMIT_FSIZE, size + LEAST_GROWTH))
+            limit = limited(resource.RLIMIT_FSIZE, size + LEAST_GROWTH - 1)
+            self.check_cause(f"a log, {name} to less than a page more", "killed.db", "limit", opens=True, **limit)
 
     def test_disk_that_is_full_or_fails_is_told_where_it_is_tried(self):
         """A library put before the programs makes them see what such a disk tells."""
@@ -313,6 +379,7 @@ class Rules(FileCheckTestCase):
         file = self.copy("several.db", "; ".join(sqlite.DAMAGES[it - 1] for it in (13, 7, 3)))
         _, told = self.object(file.name)
         self.check("three rules", [it["rule"] for it in told["desk"]["broken"]], [3, 7, 13])
+        self.check_told("three rules", file.name, BROKEN, 3)
 
     def test_first_broken_rule_is_that_of_verify_for_each_change_of_a_good_desk(self):
         first, file, without = self.folder / "good.db", self.folder / "changed.db", {}

@@ -60,6 +60,11 @@ def limited(kind, most):
     return {"preexec_fn": lambda: resource.setrlimit(kind, (most, most))}
 
 
+def softly_limited(kind, most):
+    """Returns how a program is run with a limit that it could raise again."""
+    return {"preexec_fn": lambda: resource.setrlimit(kind, (most, resource.getrlimit(kind)[1]))}
+
+
 def as_nobody():
     """Returns how a program is run by a user that owns nothing."""
     return {"user": NOBODY, "group": NOBODY, "extra_groups": []} if os.geteuid() == 0 else {}

@@ -109,6 +109,10 @@ class PageSessions(SessionTestCase):
         self.check_session(scenarios.versions_of_one_recipe())
 
 
+    def test_201_definitions_and_cancelled_orders_are_told_by_the_page(self):
+        self.check_session(scenarios.definitions_and_cancelled_orders())
+
+
 class RecallSessions(SessionTestCase):
     """A lot under many recalls."""
 

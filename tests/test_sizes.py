@@ -8,14 +8,15 @@ from __future__ import annotations
 
 import json
 
-from tests.support import sqlite
+from tests.support import scenarios, sqlite
 from tests.support.commands import (
     GOODS, PLANNED, add_recipe, approve, begin_batch, compact, import_orders, line, recall, receive, release, replies, say,
 )
-from tests.support.http import ACCEPTED, posted
+from tests.support.http import ACCEPTED, ASK, answer, desk_answer, got, posted
 from tests.support.large import LimitTestCase, chain_tables, consumed_row, fan_tables, merged_rows, produced_row, received_row, split_row
 from tests.support.program import Program
 from tests.support.scenarios import lots_told
+from tests.support.sessions import lines_of
 
 # How many lots stand behind the first of a chain and of a fan, and before and behind a batch: their genealogies are told in more than 10^6 bytes.
 NODES = 8_000
@@ -23,16 +24,25 @@ NODES = 8_000
 # How many lots a recall reaches that the check of a file looks at.
 MARKED = 1_500
 
-# How many receipts a file has.
+# How many receipts a file has, and how many questions a run answers.
 RECEIPTS = 100_001
+QUESTIONS = 1_000_001
 
 # How many rungs a ladder has, each of a split and a merge of both lots, and how many seconds a word over it may take.
 RUNGS = 3_000
 SECONDS = 60
 
+# How many rungs has a ladder that is checked and drawn by the other programs.
+FEWER_RUNGS = 300
+
 # The longest note, and the longest name of somebody.
 NOTE = "n" * 60
 NAME = "a" * 60
+
+# The word of each question for a page, with the member that says of what, where it has one.
+LISTS = {
+    "orders": "state", "batches": None, "lots": "def", "holds": "lot", "recalls": None, "definitions": "class", "recipes": "state", "movements": "lot",
+}
 
 REUSED = b'{"name":"RefReused","refused":31}\n'
 
@@ -119,6 +129,37 @@ class Around(LimitTestCase):
         nodes = [node_told(it, 4, "DOUGH", "kg") for it in products]
         self.check_around(file, "a batch", batch, "forward", [*nodes, dict([batch])], [edge_told(batch, ("lot", it), 4) for it in products])
         self.check_stands(file, "a batch", batch, [lot_told(it, 4, "DOUGH") for it in products])
+
+
+class Pages(LimitTestCase):
+    """Lists above a page."""
+
+    def test_lists_above_a_page_are_told_alike_by_a_line_and_by_a_request(self):
+        for session in [*scenarios.above_a_page(), scenarios.lists(201)]:
+            file = "pages.db"
+            self.check_run(session.name, ["run", file], session.ended(), session.told)
+            asked = [json.loads(it) for it in sorted(set(lines_of(session.told))) if b'"ask":' in it]
+            questions = [it for it in asked if it["ask"] in LISTS]
+            self.check_true(f"{session.name} asks for lists", questions or session.name.endswith("recalls"))
+            answers = self.desk.run("run", file, told=b"".join(compact(it).encode() + b"\n" for it in questions)).output.decode().splitlines()
+            requests = [(str(it), got(path_of(it)), answer(text)) for it, text in zip(questions, answers)]
+            self.check(f"{session.name} is answered", len(requests), len(questions))
+            self.check_requests(file, requests or [("a desk", ASK, desk_answer(session.count()))])
+            self.path(file).unlink()
+
+
+def path_of(asked):
+    """Returns the path of HTTP of a question for a page."""
+    member = LISTS[asked["ask"]]
+    return "/".join(["/v1/lists", asked["ask"], *([asked[member]] if member else []), *([asked["above"]] if "above" in asked else [])])
+
+
+class Lines(LimitTestCase):
+    """A run of very many lines."""
+
+    def test_more_than_a_million_questions_are_answered(self):
+        told, wanted = b'{"ask":"moment"}\n' * QUESTIONS, b'{"at":0}\n' * QUESTIONS
+        self.check_run("a million questions and one", ["run", ":memory:"], (0, wanted, b""), told)
 
 
 class Receipts(LimitTestCase):
@@ -211,6 +252,8 @@ class Marks(LimitTestCase):
 class Ladders(LimitTestCase):
     """A lot that is split and merged again and again, so that two ways lead up each rung: few lots, and very many ways."""
 
+    PROGRAMS = ("desk", "desk_check", "genealogy_picture")
+
     @staticmethod
     def lots_of(rungs):
         """Returns the lots of a ladder of so many rungs, in the order in which they come to be, and what each has at the end."""
@@ -262,6 +305,22 @@ class Ladders(LimitTestCase):
         self.make_circle("ladder.db", seq, last)
         for words in ["verify", "ladder.db"], ["run", "ladder.db"], ["trace", "ladder.db", "back", last]:
             self.check_within(f"{words} of a circle", words, (3, b"", b"fault: damaged G12\n"))
+
+    def test_ladder_and_its_circle_are_told_by_the_check_of_a_file(self):
+        seq, checker = self.ladder("ladder.db", FEWER_RUNGS), Program("desk_check", self.folder)
+        self.check("a ladder, checked", checker.run("ladder.db", timeout=SECONDS).status, 0)
+        self.make_circle("ladder.db", seq, f"R-{FEWER_RUNGS:04}")
+        status, output, errors = checker.run("ladder.db", "--json", timeout=SECONDS)
+        broken = [(it["rule"], it["row"]) for it in json.loads(output)["desk"]["broken"]]
+        self.check("a circle, checked", (status, broken, errors), (3, [(12, None)], b""))
+
+    def test_ladder_is_drawn(self):
+        self.ladder("ladder.db", FEWER_RUNGS)
+        told = self.desk.run("run", "ladder.db", told=b'{"ask":"forward_edges","batch":"B-1"}\n').output
+        picture, edges = Program("genealogy_picture", self.folder), 3 * FEWER_RUNGS + 1
+        for word, mark in ("--dot", b" -> "), ("--svg", b"<line "):
+            status, output, errors = picture.run(word, told=told, timeout=SECONDS)
+            self.check(f"a ladder, drawn by {word}", (status, output.count(mark), errors), (0, edges, b""))
 
     def make_circle(self, file, seq, last):
         """Lets the batch that made the first lot consume of the last one."""

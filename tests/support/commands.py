@@ -97,6 +97,15 @@ def approve(name="R", version=1):
     return f'"do":"approve","recipe":"{name}","version":{version}'
 
 
+def withdraw(name="R", version=1):
+    return f'"do":"withdraw","recipe":"{name}","version":{version}'
+
+
+def add_definition(name, group):
+    """A definition in grams of a class."""
+    return f'"do":"add_definition","def":"{name}","class":"{group}","name":"the {name}","unit":"g"'
+
+
 def import_orders(count):
     """An import of so many orders of the recipe R."""
     rest = '"recipe":"R","version":1,"size":1,"due":"2027-03-01","priority":5'

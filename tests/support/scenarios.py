@@ -3,8 +3,8 @@ from __future__ import annotations
 
 from tests.support import sessions
 from tests.support.commands import (
-    GOODS, PLANNED, add_recipe, approve, begin_batch, compact, consume, divide, hold, import_orders, lift, merge, phase_done, produce, recall,
-    receive, release, say, scrap, settle, split,
+    GOODS, PLANNED, add_definition, add_recipe, approve, begin_batch, compact, consume, divide, hold, import_orders, lift, merge, phase_done,
+    produce, recall, receive, release, say, scrap, settle, split, withdraw,
 )
 from tests.support.sessions import LINE_LIMIT, Session
 
@@ -196,13 +196,13 @@ def lists(count):
     return session
 
 
-def ask_for_orders(session, orders):
-    """Asks for open orders from the front, and behind each order around the ends of pages and behind what comes next to it."""
+def ask_for_orders(session, orders, state="open"):
+    """Asks for the orders in a state from the front, and behind each order around the ends of pages and behind what comes next to it."""
     around = [orders[at] for at in (0, 97, 98, 99, 100, 199, 200) if at < len(orders)]
     order = {"due": "2027-03-01", "priority": 5, "recipe": "R", "size": 1, "version": 1}
     for at in [None, "A", "Z", *(it for name in around for it in (name, name + "-"))]:
         rest = [{**order, "order": it} for it in orders if at is None or it > at]
-        session.asked(question("orders", at, state="open"), page("orders", rest))
+        session.asked(question("orders", at, state=state), page("orders", rest))
 
 
 def paired_lists(count):
@@ -270,6 +270,7 @@ def long_batches():
         told.append({"attempt": 1, "batch": batch, "next": count + 1, "order": f"O-{it}", **rest})
     for at in [None, "A", *(f"B-{it:03}" for it in (0, 1, 2, 3, 49, 98, 101, 102))]:
         session.asked(question("batches", at), page("batches", [it for it in told if at is None or it["batch"] > at]))
+    ask_for_orders(session, sorted(it["order"] for it in told), "released")
     return session
 
 
@@ -283,6 +284,28 @@ def versions_of_one_recipe():
     session.accepted(*[approve(*it) for it in approved])
     ask_for_recipes(session, "approved", approved, (0, 1, 2, 5, 99, 124, 125, 126, 249, 250))
     ask_for_recipes(session, "draft", [it for it in versions if it not in approved], (0, 5, 244, 245, 250))
+    withdrawn = approved[40:180]
+    session.accepted(*[withdraw(*it) for it in withdrawn])
+    ask_for_recipes(session, "withdrawn", withdrawn, (0, 51, 52, 53, 175, 176, 250))
+    ask_for_recipes(session, "approved", [it for it in approved if it not in withdrawn], (0, 49, 51, 226, 249))
+    return session
+
+
+def definitions_and_cancelled_orders():
+    """Returns a session of more definitions of a class than two pages, between those of others, and of as many orders that were cancelled."""
+    session = Session("definitions and cancelled orders are told by the page").accepted(*GOODS, add_recipe(1), approve(), import_orders(402))
+    classes = ["A", "RAX", "Z"]
+    session.accepted(*[f'"do":"add_class","class":"{it}","name":""' for it in classes])
+    names = [f"D-{it}" for it in range(201)]
+    session.accepted(*[add_definition(name, "RAX" if at % 3 else classes[at % 2 * 2]) for at, name in enumerate(f"E-{it}" for it in range(60))])
+    session.accepted(*[add_definition(it, "RAW") for it in names])
+    session.accepted(*[f'"do":"cancel_order","order":"O-{it}"' for it in range(0, 402, 2)])
+    told = [{"def": it, "name": f"the {it}", "unit": "g"} for it in sorted(names)] + [{"def": "SUGAR", "name": "", "unit": "g"}]
+    for at in [None, "A", "Z", *(told[it]["def"] for it in (0, 98, 99, 100, 101, 198, 199, 200, 201))]:
+        rest = [it for it in told if at is None or it["def"] > at]
+        session.asked(question("definitions", at, **{"class": "RAW"}), page("definitions", rest))
+    ask_for_orders(session, sorted(f"O-{it}" for it in range(0, 402, 2)), "cancelled")
+    ask_for_orders(session, sorted(f"O-{it}" for it in range(1, 402, 2)), "open")
     return session
 
 
@@ -329,7 +352,7 @@ def ask_for_blocked(session, blocked, is_recalled):
 
 
 def above_a_page():
-    return [long_ledger(), long_batches(), versions_of_one_recipe(), recalls_of_one_lot()]
+    return [long_ledger(), long_batches(), versions_of_one_recipe(), definitions_and_cancelled_orders(), recalls_of_one_lot()]
 
 
 # ---- bytes that are a line, a bad one, or none

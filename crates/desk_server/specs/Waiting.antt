@@ -18,21 +18,21 @@ waited_of (Some waiter) now = now - waiter.came
 abbrev pub waited : List Waiter → ℕ → ℕ
 waited waiters now = waited_of (slice_get waiters 0) now
 
--- The first on which bytes came is served. Where there is none, the oldest is dropped, where it has waited ten seconds, or where
--- 64 wait and another may be there; one is taken, where one may be there and fewer than 64 wait; and where none may be there, nothing
--- is done until the oldest has waited ten seconds, which is never at once.
+-- The first on which bytes came is served. Where there is none, the oldest is dropped, where it has waited ten seconds or more than 64
+-- wait; else one is taken, where one may be there; and where none may be there, nothing is done until the oldest has waited ten seconds,
+-- which is never at once.
 abbrev pub IsNext : List Waiter → ℕ → Bool → Step → Type 0
 IsNext waiters now may_take (step.Serve index) = first_with_bytes waiters ≡ Some index
 IsNext waiters now may_take step.Drop =
-    (first_with_bytes waiters ≡ None) × (0 < length waiters) × ((10_000 ≤ waited waiters now) ⊎ ((length waiters ≡ 64) × (may_take ≡ true)))
-IsNext waiters now may_take step.Take = (first_with_bytes waiters ≡ None) × (length waiters < 64) × (may_take ≡ true)
+    (first_with_bytes waiters ≡ None) × (0 < length waiters) × ((10_000 ≤ waited waiters now) ⊎ (64 < length waiters))
+IsNext waiters now may_take step.Take = (first_with_bytes waiters ≡ None) × (length waiters ≤ 64) × (may_take ≡ true)
 IsNext waiters now may_take (step.Wait None) = (length waiters ≡ 0) × (may_take ≡ false)
 IsNext waiters now may_take (step.Wait (Some most)) =
-    (first_with_bytes waiters ≡ None) × (0 < length waiters) × (may_take ≡ false) × (0 < most) × (waited waiters now + most ≡ 10_000)
+    (first_with_bytes waiters ≡ None) × (0 < length waiters) × (length waiters ≤ 64) × (may_take ≡ false) × (0 < most) × (waited waiters now + most ≡ 10_000)
 
 -- a step that can be done with these: there is a connection to be served or dropped, or room for another
 abbrev pub FitsStep : Step → List Waiter → Type 0
 FitsStep (step.Serve index) waiters = index < length waiters
 FitsStep step.Drop waiters = 0 < length waiters
-FitsStep step.Take waiters = length waiters < 64
+FitsStep step.Take waiters = length waiters ≤ 64
 FitsStep (step.Wait most) waiters = ⊤

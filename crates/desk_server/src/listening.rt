@@ -26,7 +26,7 @@ fn take_next<R: Clock>(
     waiting: &mut Waiting,
     log: AccessLog<'_>,
 ) -> Result<u32, ServingFault>
-    requires { length waiting.old.waiters.items < 64 }
+    requires { length waiting.old.waiters.items ≤ 64 }
     ensures few { IfOk result (λ done. done ≤ 1) }
     ensures net { IfErr result (λ fault. fault ≡ ServingFault.Net) }
 {

@@ -7,7 +7,7 @@ use crate::log::Arrival;
 use std::alloc::{AllocError, Global};
 use std::net::TcpStream;
 
-/// How many connections wait at most.
+/// How many connections wait at most. One more is taken before the oldest is dropped, so that none is dropped for one that isn't there.
 pub(crate) const MOST_WAITING: usize = 64;
 
 /// How long a connection waits for its first byte at most, in milliseconds.
@@ -26,12 +26,12 @@ pub(crate) struct Waiter {
     pub(crate) has_bytes: bool,
 }
 
-/// The connections that wait, 64 at most, in the order in which they came.
+/// The connections that wait, 64 at most and one that was just taken, in the order in which they came.
 #[derive(Drop)]
 pub(crate) struct Waiting {
     pub(crate) waiters: Vec<Waiter>,
-    ghost bound: { length waiters.items ≤ 64 },
-    ghost room: { 64 ≤ vec_capacity waiters },
+    ghost bound: { length waiters.items ≤ 65 },
+    ghost room: { 65 ≤ vec_capacity waiters },
 }
 
 /// What is done next.
@@ -67,7 +67,7 @@ fn waited(waiters: &[Waiter], now: u64) -> u64
 
 /// What is done next where no bytes came.
 fn step_of_silent(waiters: &[Waiter], now: u64, may_take: bool) -> Step
-    requires bound { length waiters.now ≤ MOST_WAITING }
+    requires bound { length waiters.now ≤ MOST_WAITING + 1 }
     requires silent { first_with_bytes waiters.now ≡ None }
     ensures next { IsNext waiters.now now may_take result }
     ensures fits { FitsStep result waiters.now }
@@ -79,21 +79,19 @@ fn step_of_silent(waiters: &[Waiter], now: u64, may_take: bool) -> Step
         } else {
             Step::Wait(None)
         }
-    } else if waited >= MOST_MILLISECONDS {
+    } else if waited >= MOST_MILLISECONDS || waiters.len() > MOST_WAITING {
         Step::Drop
     } else if !may_take {
         Step::Wait(Some(MOST_MILLISECONDS - waited))
-    } else if waiters.len() < MOST_WAITING {
-        Step::Take
     } else {
-        Step::Drop
+        Step::Take
     }
 }
 
 /// What is done next with the connections that wait, in the order in which they came: the first on which bytes came is served; else the
-/// oldest is dropped, where its time is over or its place is wanted; else one is taken, where one may be there.
+/// oldest is dropped, where its time is over or more than 64 wait; else one is taken, where one may be there.
 fn next_step(waiters: &[Waiter], now: u64, may_take: bool) -> Step
-    requires { length waiters.now ≤ MOST_WAITING }
+    requires { length waiters.now ≤ MOST_WAITING + 1 }
     ensures next { IsNext waiters.now now may_take result }
     ensures fits { FitsStep result waiters.now }
 {
@@ -109,7 +107,7 @@ impl Waiting {
         ensures { IfOk result (λ waiting. waiting.waiters.items ≡ []) }
     {
         Ok(Waiting {
-            waiters: Vec::with_capacity(alloc, MOST_WAITING)?,
+            waiters: Vec::with_capacity(alloc, MOST_WAITING + 1)?,
         })
     }
 
@@ -123,7 +121,7 @@ impl Waiting {
 
     /// Has a connection wait behind the others.
     pub(crate) fn add(&mut self, waiter: Waiter)
-        requires { length self.old.waiters.items < MOST_WAITING }
+        requires { length self.old.waiters.items ≤ MOST_WAITING }
         ensures { self.new.waiters.items ≡ self.old.waiters.items ++ waiter ∷ [] }
     {
         self.waiters.push_reserved(waiter);

@@ -67,7 +67,7 @@ fn waited(waiters: &[Waiter], now: u64) -> u64
 
 /// What is done next where no bytes came.
 fn step_of_silent(waiters: &[Waiter], now: u64, may_take: bool) -> Step
-    requires bound { length waiters.now ≤ MOST_WAITING + 1 }
+    requires bound { length waiters.now ≤ 65 }
     requires silent { first_with_bytes waiters.now ≡ None }
     ensures next { IsNext waiters.now now may_take result }
     ensures fits { FitsStep result waiters.now }
@@ -91,7 +91,7 @@ fn step_of_silent(waiters: &[Waiter], now: u64, may_take: bool) -> Step
 /// What is done next with the connections that wait, in the order in which they came: the first on which bytes came is served; else the
 /// oldest is dropped, where its time is over or more than 64 wait; else one is taken, where one may be there.
 fn next_step(waiters: &[Waiter], now: u64, may_take: bool) -> Step
-    requires { length waiters.now ≤ MOST_WAITING + 1 }
+    requires { length waiters.now ≤ 65 }
     ensures next { IsNext waiters.now now may_take result }
     ensures fits { FitsStep result waiters.now }
 {

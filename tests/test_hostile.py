@@ -251,8 +251,9 @@ class Clients(DeskTestCase):
             self.check("its server", server.end().status, 0)
 
     def test_oldest_of_too_many_silent_connections_is_dropped(self):
-        """Opens one silent connection more than may wait: the oldest is dropped at once, and a client is served."""
-        with Server(self.desk, ":memory:", 2) as server:
+        """Opens one silent connection more than may wait: the oldest is dropped at once. The next is dropped for a client, which is served: of
+        three that are counted, two are dropped."""
+        with Server(self.desk, ":memory:", 3) as server:
             silent = [connected(server.port) for _ in range(MOST_SILENT + 1)]
             began = time.monotonic()
             self.check("the oldest is dropped", rest_of(silent[0]), b"")

@@ -39,7 +39,7 @@ pub rows_damaged : (db : Database) (x : Loaded) (barred : Option DeskIndex) (r :
 rows_damaged db x barred r rows broken = record {
   taken = rows.taken;
   known = only_known db rows.version rows.reported rows.known;
-  broken = inr (rows.version, rows.reported, (x, rows.loaded, broken));
+  broken = inr (rows.version, rows.reported, rows.whole, (x, rows.loaded, broken));
 }
 
 -- ---- what is held, by what was found
@@ -69,8 +69,9 @@ module _ (db : Database) (t : FoundTables) (nothing : (t ≡ tables.Nothing) ↔
     taken = taken (λ e. absurd (cc));
     reported = subst (IsVersion db) number ((version v).0 is);
     known = read.0;
-    loaded = read.1;
-    bars = read.2;
+    whole = read.1;
+    loaded = read.2;
+    bars = read.3;
   }
 
 -- what is held by what was found of a database is held in it

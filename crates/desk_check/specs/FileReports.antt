@@ -27,13 +27,14 @@ use Rattle.desk_check.specs.declared.file_report.FileReport.TheVariants as file_
 
 -- ---- what is held
 
--- there is something of the desk, of a version that is known, these are all of its rows, and this is the first index that can't be made as
+-- there is something of the desk, of a version that is known, whose tables stand as they are declared, these are all of its rows, and this is the first index that can't be made as
 -- they are raised
 pub record HoldsRows (db : Database) (x : Loaded) (barred : Option DeskIndex) : Type 0 where
   pub version : ℕ
   pub taken : ¬ All (IsFree db.schema) desk_table_defs
   pub reported : IsVersion db (pos version)
   pub known : version ≤ newest_schema
+  pub whole : HasTablesOf version db.schema
   pub loaded : AreLoaded version db x
   pub bars : barred ≡ barred_index db.schema version
 
@@ -51,7 +52,7 @@ abbrev pub IsReadAt : Database → ℕ → Held → Type 0
 IsReadAt db schema (held.Nothing barred) = ⊥
 IsReadAt db schema (held.Newer n) = (n ≡ schema) × (newest_schema < n)
 IsReadAt db schema held.Lacking = (schema ≤ newest_schema) × ¬ HasTablesOf schema db.schema
-IsReadAt db schema (held.Tables x barred) = (schema ≤ newest_schema) × AreLoaded schema db x × (barred ≡ barred_index db.schema schema)
+IsReadAt db schema (held.Tables x barred) = (schema ≤ newest_schema) × HasTablesOf schema db.schema × AreLoaded schema db x × (barred ≡ barred_index db.schema schema)
 
 -- the same of a version
 abbrev pub IsReadAs : Database → ℤ → Held → Type 0

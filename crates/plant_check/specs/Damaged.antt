@@ -16,9 +16,9 @@ use Rattle.plant_check.specs.declared.rule.Rule.TheVariants as rule
 abbrev pub LacksTables : Database → Type 0
 LacksTables db = ((n : ℤ) → ¬ IsVersion db n) ⊎ ((version : ℕ) × IsVersion db (pos version) × ¬ HasTablesOf version db.schema)
 
--- the rows of the tables, of the version that meta tells, break this rule first
+-- the tables of the version that meta tells stand as they are declared, with none of a later one, and their rows break this rule first
 abbrev pub AreFirstBroken : Database → Rule → Type 0
-AreFirstBroken db r = (version : ℕ) × IsVersion db (pos version) × ((x : Loaded) × AreLoaded version db x × (first_broken x ≡ Some r))
+AreFirstBroken db r = (version : ℕ) × IsVersion db (pos version) × HasTablesOf version db.schema × ((x : Loaded) × AreLoaded version db x × (first_broken x ≡ Some r))
 
 -- this is the first rule that the tables break
 abbrev pub IsFirstBroken : Database → Rule → Type 0

@@ -22,7 +22,7 @@ use Rattle.plant_tables.proofs.WritingEnds.{finds_same}
 use Rattle.plant_view.specs.Tables.{Tables, tables_of, IsWholeIn}
 use Rattle.plant_invariant.specs.StateInvariant.{StateInvariant}
 use Rattle.plant_tables_read.specs.Loading.{AreLoaded, AreRising, contents_loaded}
-use Rattle.plant_tables_read.specs.Version.{IsVersion, IsKnown}
+use Rattle.plant_tables_read.specs.Version.{IsVersion, IsKnown, HasTablesOf}
 use Rattle.plant_tables_read.specs.declared.loaded.Loaded.{Loaded}
 use Rattle.plant_tables_read.proofs.OneVersion.{one_version}
 use Rattle.plant_tables_read.specs.Collecting.{rows_in, rows_listed}
@@ -47,10 +47,10 @@ use Rattle.plant_migrate.proofs.OneStep.{keeps_all}
 -- ---- the store
 
 -- a rule that the loaded rows break is one that the tables do
-pub broken_tables : (version : ℕ) (db : Database) (x : Loaded) (f : AdoptFault) → IsVersion db (pos version) → AreLoaded version db x → BrokenBy x f → NamesFirst db f
-broken_tables version db x (fault.Newer n) reported loaded h = absurd h
-broken_tables version db x (fault.Damaged r) reported loaded h = inr (version, reported, (x, loaded, h))
-broken_tables version db x _ reported loaded h = tt
+pub broken_tables : (version : ℕ) (db : Database) (x : Loaded) (f : AdoptFault) → IsVersion db (pos version) → HasTablesOf version db.schema → AreLoaded version db x → BrokenBy x f → NamesFirst db f
+broken_tables version db x (fault.Newer n) reported whole loaded h = absurd h
+broken_tables version db x (fault.Damaged r) reported whole loaded h = inr (version, reported, whole, (x, loaded, h))
+broken_tables version db x _ reported whole loaded h = tt
 
 -- there is something of the desk, of no version above the newest
 pub record IsThere (db : Database) : Type 0 where

@@ -94,7 +94,7 @@ module _ (version : ℕ) (db : Database) (s : State) (held : HoldsValidState ver
     unbroken_here : (r : Rule) → IsFirstBroken db r → ⊥
     unbroken_here r (inl (first, inl none)) = absurd (none _ version_held)
     unbroken_here r (inl (first, inr (other, reported, lacking))) = absurd (lacking (subst (λ k. HasTablesOf k db.schema) (sym (one_reported other reported)) (tables_held, later)))
-    unbroken_here r (inr (other, reported, (x, loaded, broken))) =
+    unbroken_here r (inr (other, reported, whole, (x, loaded, broken))) =
         let here : AreLoaded version db x = subst (λ k. AreLoaded k db x) (one_reported other reported) loaded in
         let unbroken = (read_valid version db s x known_version valid holds here).1 in
         let both = sym unbroken ∙ broken in

@@ -60,6 +60,8 @@ impl Loaded {
             result }
         ensures missing { IfOk result (λ found. found ≡ None
             → ¬ HasTablesOf schema (state S.Store conn.old).now.schema) }
+        ensures whole { IfOk result (λ found. IfSome found
+            (λ _. HasTablesOf schema (state S.Store conn.old).now.schema)) }
         ensures lacking { ReportsLacking schema (state S.Store conn.old) result }
         ensures same { FindsUnchanged (state S.Store conn.old) (state S.Store conn.new) result }
         ensures kept { KeepsVisible (state S.Store conn.old) (state S.Store conn.new) }

@@ -5,6 +5,7 @@ use Rattle.sqlite.specs.State.{HasCleanDisk, IsUnchanged}
 use Rattle.sql_tables.specs.StoredRows.{HaveStoredRows}
 use Rattle.plant_tables.specs.DeskTableDefs.{table_defs_of}
 use Rattle.plant_tables_read.specs.Loading.{AreLoaded, AreRising, contents_loaded}
+use Rattle.plant_tables_read.specs.Version.{HasTablesOf}
 use Rattle.plant_desk_store.specs.Adopting.{NamesFirst}
 use Rattle.plant_desk_store.proofs.CheckedRows.{numbered}
 use Rattle.plant_desk_store.proofs.CheckedStore.{valid_rows, rows_of_valid, broken_tables}
@@ -28,7 +29,7 @@ returns-in-Ok g c =
       reported = λ clean s held. IfOk-weaker checked _ _ (λ rows. rows_of_valid version old.now x held.known (loaded clean) s rows held) c.check_loaded.ensures.fit;
       numbered = IfOk-weaker checked _ _ (numbered x version) c.check_loaded.ensures.fit;
       unchanged = λ clean. IfOk-weaker checked _ _ (λ _ _. adopted_rows (λ _. IsUnchanged old new) read x is (c.read.ensures.same clean)) c.check_loaded.ensures.fit;
-      named = λ clean reported. IfErr-weaker checked _ _ (λ f. broken_tables version old.now x f reported (loaded clean)) c.check_loaded.ensures.broken;
+      named = λ clean reported. IfErr-weaker checked _ _ (λ f. broken_tables version old.now x f reported (adopted_rows (λ _. HasTablesOf version old.now.schema) read x is c.read.ensures.whole) (loaded clean)) c.check_loaded.ensures.broken;
     }
 
 pub returns-in-Err : goal.returns-in-Err

@@ -27,3 +27,8 @@ returns-in_err-read_all-clause-memory g c =
     if_error c.from_residual.result _ (λ fault memory.
     let had_rows : c.has_tables.result ≡ true = search rules in
     subst (HasTablesOf c.args.schema) c.schema.ensures.value (c.has_tables.ensures.0 had_rows))
+
+pub returns-clause-whole : goal.returns-clause-whole
+returns-clause-whole g c =
+    let had_rows : c.has_tables.result ≡ true = search rules in
+    subst (HasTablesOf c.args.schema) c.schema.ensures.value (c.has_tables.ensures.0 had_rows)

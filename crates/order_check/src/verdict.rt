@@ -1,5 +1,6 @@
 //! The verdict on an order file.
-ghost use Rattle.std.specs.Prelude.{◌≡◌, IfOk, IfSome, Some};
+ghost use Rattle.std.specs.Prelude.{◌≡◌, ◌⊎◌, ℕ, List, IfOk, IfErr, Some};
+ghost use Rattle.plant_base.specs.Inputs.{Agrees};
 ghost use Rattle.plant_orders.specs.Orders.{orders_of};
 ghost use Rattle.order_check.specs.Endings.{judged_as};
 ghost use Rattle.order_check.specs.Verdicts.{verdict_of, verdict_text};
@@ -37,9 +38,12 @@ impl fmt::Display for Verdict {
 /// The verdict on the order file that a reader gives to its end. No more is read of it than shows that it is too long.
 ///
 /// `Read` comes where a read failed, and `Memory` where memory was refused. No other fault comes.
+///
+/// In the clauses, `bytes` are those that the reader has left, where it tells them, and some bytes where it tells none.
 pub(crate) fn judge<R: Read>(alloc: Global, reader: &mut R) -> Result<Verdict, CheckFault>
-    ensures { IfOk result (λ verdict. IfSome (R.remaining reader.old)
-        (λ bytes. verdict ≡ verdict_of (orders_of bytes))) }
+    ensures judged { IfOk result (λ verdict. (bytes : List ℕ) × Agrees (R.remaining reader.old) bytes
+        × (verdict ≡ verdict_of (orders_of bytes))) }
+    ensures cause { IfErr result (λ fault. (fault ≡ CheckFault.Read) ⊎ (fault ≡ CheckFault.Memory)) }
 {
     match orders_from(alloc, reader) {
         Ok(orders) => Ok(Verdict::Orders(orders.as_slice().len())),
@@ -49,7 +53,8 @@ pub(crate) fn judge<R: Read>(alloc: Global, reader: &mut R) -> Result<Verdict, C
 
 /// What a fault of the reading is judged as.
 fn judged_as(fault: OrdersFault) -> Result<Verdict, CheckFault>
-    ensures { result ≡ judged_as fault }
+    ensures value { result ≡ judged_as fault }
+    ensures cause { IfErr result (λ fault. (fault ≡ CheckFault.Read) ⊎ (fault ≡ CheckFault.Memory)) }
 {
     match fault {
         OrdersFault::Csv(fault) => Ok(Verdict::Fault(fault)),

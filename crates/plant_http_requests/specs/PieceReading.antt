@@ -2,15 +2,10 @@
 use Rattle.std.specs.Prelude.{◌≡◌, ℕ, ◌+◌, ◌<◌, ◌≤◌, List, ◌++◌, length, Option, Some, None, Bool, ⊤}
 use Rattle.std.specs.Bool.{MatchBool}
 use Rattle.std.specs.Io.KnownBytes.{Consumes, IsAtEnd}
+pub use Rattle.plant_base.specs.Inputs.{Agrees}
 use Rattle.plant_http_requests.specs.HeadEnd.{head_length, longest_head}
 use Rattle.plant_http_requests.specs.declared.reading.HeadEnd.{HeadEnd}
 use Rattle.plant_http_requests.specs.declared.reading.HeadEnd.TheVariants.{Found, TooLong, Early, Nothing}
-
--- An input is these bytes, as far as its reader tells them: those that it has left, where it tells them, and some bytes
--- where it tells none, as a socket.
-abbrev pub Agrees : Option (List ℕ) → List ℕ → Type 0
-Agrees None whole = ⊤
-Agrees (Some known) whole = whole ≡ known
 
 -- a read gave n bytes, which stand at the end now, and none only at the input's end
 pub record TakesPiece (left left' : Option (List ℕ)) (old new : List ℕ) (n : ℕ) : Type 0 where

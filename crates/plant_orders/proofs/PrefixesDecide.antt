@@ -6,8 +6,12 @@ use Rattle.std.proofs.lemmas.Bool.{cases_lt}
 use Rattle.std.proofs.lemmas.List.{length-take-le, take_all}
 use Rattle.plant_base.specs.declared.rows.OrderRow.{OrderRow}
 use Rattle.plant_orders.specs.Orders.{fault, orders_of}
+use Rattle.std.specs.IoError.{error_kind}
 use Rattle.std.specs.declared.io.Error.{Error}
-use Rattle.plant_orders.specs.FaultsOfFiles.{FaultOfFile, read_count}
+use Rattle.std.specs.declared.io.ErrorKind.{ErrorKind}
+use Rattle.std.specs.declared.io.ErrorKind.TheVariants as io
+use Rattle.plant_base.specs.Inputs.{Agrees}
+use Rattle.plant_orders.specs.FaultsOfFiles.{FaultOfFile, fault_of_kind, read_count}
 use Rattle.plant_orders.specs.declared.fault.CsvFault.{CsvFault}
 use Rattle.plant_orders.specs.declared.source.OrdersFault.{OrdersFault}
 use Rattle.plant_orders.specs.declared.fault.CsvKind.TheVariants as kind
@@ -28,12 +32,33 @@ said_of_text : (says : Result (List OrderRow) CsvFault → Type 0) (n : ℕ) →
 said_of_text says n limit (Some text) prefix said is = subst says (ap orders_of (is ∙ ap (λ m. take m text) limit) ∙ prefix_says text) said
 said_of_text says n limit None prefix said is = tt
 
+-- what holds of the bytes that a reader tells, and of those that were read, holds of the input
+pub of_input : (P : List ℕ → Type 0) (known : Option (List ℕ)) (read : List ℕ) → IfSome known P → P read → (bytes : List ℕ) × Agrees known bytes × P bytes
+of_input P None read told holds = (read, tt, holds)
+of_input P (Some text) read told holds = (text, refl, told)
+
+-- what a failed reading is told as tells nothing of a file
+of_kind : (k : ErrorKind) (says : Result (List OrderRow) CsvFault) → FaultOfFile (fault_of_kind k) says
+of_kind io.OutOfMemory says = tt
+of_kind _ says = tt
+
+unread : (r : Result ℕ Error) (e : OrdersFault) → read_count r ≡ Err e → (says : Result (List OrderRow) CsvFault) → FaultOfFile e says
+unread (Ok n) e is says = absurd (cc)
+unread (Err error) e is says = let same : fault_of_kind (error_kind error) ≡ e = cc in subst (λ f. FaultOfFile f says) same (of_kind (error_kind error) says)
+
+-- nor of the input
+pub of_unread : (known : Option (List ℕ)) (r : Result ℕ Error) (e : OrdersFault) → read_count r ≡ Err e → (bytes : List ℕ) × Agrees known bytes × FaultOfFile e (orders_of bytes)
+of_unread None r e is = ([], tt, unread r e is (orders_of []))
+of_unread (Some text) r e is = (text, refl, unread r e is (orders_of text))
+
 -- the orders, or the fault, that a front tells
 pub reported_of_prefix : (n : ℕ) → n ≡ 262145 → (r : Result (List OrderRow) OrdersFault) (known : Option (List ℕ)) (prefix : List ℕ)
     → IfOk r (λ orders. orders_of prefix ≡ Ok orders) → IfErr r (λ e. FaultOfFile e (orders_of prefix)) → IfSome (option_map (take n) known) (λ read. prefix ≡ read)
-    → IfOk r (λ orders. IfSome known (λ text. orders_of text ≡ Ok orders)) × IfErr r (λ e. IfSome known (λ text. FaultOfFile e (orders_of text)))
-reported_of_prefix n limit (Ok orders) known prefix gives fails is = (said_of_text (λ says. says ≡ Ok orders) n limit known prefix gives is, tt)
-reported_of_prefix n limit (Err e) known prefix gives fails is = (tt, said_of_text (λ says. FaultOfFile e says) n limit known prefix fails is)
+    → IfOk r (λ orders. (bytes : List ℕ) × Agrees known bytes × (orders_of bytes ≡ Ok orders)) × IfErr r (λ e. (bytes : List ℕ) × Agrees known bytes × FaultOfFile e (orders_of bytes))
+reported_of_prefix n limit (Ok orders) known prefix gives fails is =
+    (of_input (λ text. orders_of text ≡ Ok orders) known prefix (said_of_text (λ says. says ≡ Ok orders) n limit known prefix gives is) gives, tt)
+reported_of_prefix n limit (Err e) known prefix gives fails is =
+    (tt, of_input (λ text. FaultOfFile e (orders_of text)) known prefix (said_of_text (λ says. FaultOfFile e says) n limit known prefix fails is) fails)
 
 -- what was read into an empty room
 pub read_into_nothing : (known : Option (List ℕ)) (old new prefix : List ℕ) → old ≡ [] → prefix ≡ new → IfSome known (λ text. new ≡ old ++ text) → IfSome known (λ text. prefix ≡ text)

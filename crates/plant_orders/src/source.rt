@@ -1,7 +1,8 @@
 //! The reading of an order file from a source, of which no more is read than has to be.
-ghost use Rattle.std.specs.Prelude.{◌≡◌, ◌≢◌, IfOk, IfErr, IfSome, Ok};
+ghost use Rattle.std.specs.Prelude.{◌≡◌, ◌≢◌, ℕ, List, IfOk, IfErr, Ok};
 ghost use Rattle.std.specs.IoError.{error_kind};
 ghost use Rattle.plant_orders.specs.Orders.{orders_of};
+ghost use Rattle.plant_base.specs.Inputs.{Agrees};
 ghost use Rattle.plant_orders.specs.FaultsOfFiles.{FaultOfFile, fault_of_kind, read_count};
 
 use crate::fault::{CsvFault, CsvKind};
@@ -61,16 +62,20 @@ fn read_count(reading: io::Result<usize>) -> Result<usize, OrdersFault>
 /// shows that it is too long: one byte more than the longest file.
 ///
 /// `Csv` tells the first fault of the file, `Read` comes where a read failed, and `Memory` where memory was refused.
+///
+/// In the clauses, `bytes` are those that the reader has left, where it tells them, and some bytes where it tells none.
 pub fn orders_from<R: Read>(alloc: Global, reader: &mut R) -> Result<Items<OrderRow>, OrdersFault>
-    ensures orders { IfOk result (λ orders. IfSome (R.remaining reader.old)
-        (λ bytes. orders_of bytes ≡ Ok orders)) }
-    ensures fault { IfErr result (λ fault. IfSome (R.remaining reader.old)
-        (λ bytes. FaultOfFile fault (orders_of bytes))) }
+    ensures orders { IfOk result (λ orders. (bytes : List ℕ) × Agrees (R.remaining reader.old) bytes
+        × (orders_of bytes ≡ Ok orders)) }
+    ensures fault { IfErr result (λ fault. (bytes : List ℕ) × Agrees (R.remaining reader.old) bytes
+        × FaultOfFile fault (orders_of bytes)) }
 {
     let mut bytes = Vec::new(alloc);
     let mut prefix = reader.take(LONGEST_FILE as u64 + 1);
-    read_count(prefix.read_to_end(&mut bytes))?;
-    orders_in(alloc, &bytes)
+    match read_count(prefix.read_to_end(&mut bytes)) {
+        Ok(_count) => orders_in(alloc, &bytes),
+        Err(fault) => Err(fault),
+    }
 }
 
 /// The orders of a file that was read.

@@ -3,24 +3,32 @@ ghost use Rattle.std.specs.Prelude.{◌≡◌, ◌≤◌, Some, length};
 ghost use Rattle.http.specs.StatusCode.{reason_phrase};
 ghost use Rattle.plant_http.specs.Answers.{code_of, phrase_of, allow_line, type_of};
 
+use http::StatusCode;
 use plant_http_requests::{Allow, BodyFormat, Status};
+
+/// The status of `http` that is answered.
+fn status_code(status: Status) -> StatusCode
+    ensures { result ≡ code_of status }
+{
+    match status {
+        Status::Success => StatusCode::OK,
+        Status::BadRequest => StatusCode::BAD_REQUEST,
+        Status::NotFound => StatusCode::NOT_FOUND,
+        Status::MethodNotAllowed => StatusCode::METHOD_NOT_ALLOWED,
+        Status::Conflict => StatusCode::CONFLICT,
+        Status::LengthRequired => StatusCode::LENGTH_REQUIRED,
+        Status::PayloadTooLarge => StatusCode::PAYLOAD_TOO_LARGE,
+        Status::HeadTooLarge => StatusCode::REQUEST_HEADER_FIELDS_TOO_LARGE,
+        Status::NotImplemented => StatusCode::NOT_IMPLEMENTED,
+        Status::Unavailable => StatusCode::SERVICE_UNAVAILABLE,
+    }
+}
 
 /// The number of a status (RFC 9110, section 15; of `HeadTooLarge` RFC 6585, section 5).
 pub(crate) fn code_of(status: Status) -> u16
     ensures { result ≡ code_of status }
 {
-    match status {
-        Status::Success => 200,
-        Status::BadRequest => 400,
-        Status::NotFound => 404,
-        Status::MethodNotAllowed => 405,
-        Status::Conflict => 409,
-        Status::LengthRequired => 411,
-        Status::PayloadTooLarge => 413,
-        Status::HeadTooLarge => 431,
-        Status::NotImplemented => 501,
-        Status::Unavailable => 503,
-    }
+    status_code(status).as_u16()
 }
 
 /// The phrase of a status, as `http` has it.
@@ -29,17 +37,9 @@ pub(crate) fn phrase_of(status: Status) -> &'static str
     ensures http { reason_phrase (code_of status) ≡ Some (phrase_of status) }
     ensures short { length result.now ≤ 31 }
 {
-    match status {
-        Status::Success => "OK",
-        Status::BadRequest => "Bad Request",
-        Status::NotFound => "Not Found",
-        Status::MethodNotAllowed => "Method Not Allowed",
-        Status::Conflict => "Conflict",
-        Status::LengthRequired => "Length Required",
-        Status::PayloadTooLarge => "Payload Too Large",
-        Status::HeadTooLarge => "Request Header Fields Too Large",
-        Status::NotImplemented => "Not Implemented",
-        Status::Unavailable => "Service Unavailable",
+    match status_code(status).canonical_reason() {
+        Some(phrase) => phrase,
+        None => unreachable!(),
     }
 }
 

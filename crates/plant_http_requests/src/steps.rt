@@ -7,6 +7,7 @@ ghost use Rattle.plant_http_requests.specs.Steps.{posted_step, asked_step, targe
 use crate::fields::{framing, import_metadata_in};
 use crate::job::{BodyFormat, Content, HeadStep, Job};
 use crate::status::{Allow, Status};
+use http::Method;
 use httparse::spans::{HeaderSpan, RequestSpans};
 use plant_base::Id;
 use plant_http_routes::{Kind, Routes, Target};
@@ -35,11 +36,18 @@ pub(crate) fn fails(status: Status, silent: bool) -> HeadStep
     }
 }
 
+/// Whether bytes are the name of a method (RFC 9110, section 9).
+fn is_method(bytes: &[u8], method: &Method) -> bool
+    ensures { result ≡ bytes_eq bytes.now method.now }
+{
+    bytes == method.as_str().as_bytes()
+}
+
 /// Whether the method is HEAD, whose answer has no body (RFC 9110, section 9.3.2).
 fn is_head(method: &[u8]) -> bool
     ensures { result ≡ is_head method.now }
 {
-    method == b"HEAD".as_slice()
+    is_method(method, &Method::HEAD)
 }
 
 fn question_of(kind: Kind, id: Id) -> Question
@@ -76,7 +84,7 @@ fn body_format_of(kind: Kind) -> BodyFormat
 fn posted_step(content: Content, method: &[u8], size: Option<u32>) -> HeadStep
     ensures { result ≡ posted_step content method.now size }
 {
-    if method == b"POST".as_slice() {
+    if is_method(method, &Method::POST) {
         return match size {
             Some(size) => HeadStep::Body { size, content },
             None => fails(Status::LengthRequired, false),
@@ -95,7 +103,7 @@ fn asked_step(question: Question, body_format: BodyFormat, method: &[u8]) -> Hea
     ensures { result ≡ asked_step question body_format method.now }
 {
     let silent = is_head(method);
-    if method == b"GET".as_slice() || silent {
+    if is_method(method, &Method::GET) || silent {
         return HeadStep::Ask {
             question,
             body_format,

@@ -9,6 +9,7 @@ mod turns;
 mod writes;
 
 pub use plant_message_schema::{Fault, FormatError, LineFault};
+pub use plant_orders::{CsvFault, CsvKind, read_orders};
 pub use plant_record::record;
 pub use plant_text_answers::{ReplyText, answer_text, fault_line, reply_line};
 pub use read::{Line, read_line, read_line_or_error};

@@ -8,6 +8,7 @@ use plant_base::{Id, Items};
 use plant_trace::Node;
 use std::alloc::AllocError;
 use std::fmt;
+use thiserror::Error;
 
 /// An edge, as an answer tells it.
 #[derive(Clone, Copy, Debug, PartialEq, Eq)]
@@ -75,11 +76,13 @@ impl fmt::Display for GraphError {
 }
 
 /// Why no picture was made.
-#[derive(Clone, Copy, Debug, PartialEq, Eq)]
+#[derive(Clone, Copy, Debug, PartialEq, Eq, Error)]
 pub enum UnitedFault {
     /// What is told makes none.
+    #[error("{0}")]
     Reported(GraphError),
     /// Memory was refused.
+    #[error("out of memory")]
     Memory,
 }
 

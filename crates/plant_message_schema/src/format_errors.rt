@@ -97,11 +97,13 @@ impl fmt::Display for FormatError {
 }
 
 /// Why nothing was read.
-#[derive(Clone, Copy, Debug, PartialEq, Eq)]
+#[derive(Clone, Copy, Debug, PartialEq, Eq, Error)]
 pub enum Fault {
     /// This is wrong.
+    #[error("{0}")]
     Reported(FormatError),
     /// Memory was refused. Nothing is said of what was to be read.
+    #[error("out of memory")]
     Memory,
 }
 

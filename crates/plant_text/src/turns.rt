@@ -15,13 +15,16 @@ use plant_messages::{Answer, DeskFault, Question, Reply};
 use plant_text_answers::{answer_text, fault_line, reply_line};
 use std::alloc::Global;
 use std::io::Write;
+use thiserror::Error;
 
 /// Why a run stops before the end of its input.
-#[derive(Clone, Copy, Debug, PartialEq, Eq)]
+#[derive(Clone, Copy, Debug, PartialEq, Eq, Error)]
 pub enum TurnError {
     /// A text couldn't be written whole.
+    #[error("a text couldn't be written whole")]
     Write,
     /// The fault, whose line was written.
+    #[error("{0}")]
     Fault(DeskFault),
 }
 

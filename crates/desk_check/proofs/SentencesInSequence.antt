@@ -1,5 +1,5 @@
 -- Sentences that are told one after the other.
-use Rattle.std.proofs.Common.{◌≡◌, ◌∙◌, ◌+◌, ◌<◌, ℕ, length, take, get_or, List, [], ◌∷◌, ◌++◌, Option, Result, Ok, Err, ap, sym, subst, append-nil, append_assoc}
+use Rattle.std.proofs.Common.{◌≡◌, ◌∙◌, refl, ◌+◌, ◌<◌, ℕ, length, take, get_or, List, [], ◌∷◌, ◌++◌, Option, Result, Ok, Err, ap, sym, subst, append-nil, append_assoc}
 use Rattle.std.specs.Prelude.{IfSome, OnOk, Some, None}
 use Rattle.std.specs.Io.KnownBytes.{Appends}
 use Rattle.std.proofs.KnownBytes.{Appends-trans}
@@ -7,7 +7,10 @@ use Rattle.std.proofs.lemmas.List.{take_more}
 use Rattle.plant_text.specs.Writes.{with_lf}
 use Rattle.plant_check.specs.declared.rule.Rule.{Rule}
 use Rattle.plant_check_rows.specs.declared.finding.Tested.{Tested}
-use Rattle.desk_check.specs.Reports.{found_text, found_in, each_text}
+use Rattle.desk_check.specs.declared.open_error.OpenError.{OpenError}
+use Rattle.desk_check.specs.OpenErrors.{IsErrorText, error_of}
+use Rattle.desk_check.specs.Outcomes.{opening_text, IsFirstSentence, WritesOpening}
+use Rattle.desk_check.specs.Reports.{found_text, found_in, each_text, open_error_text}
 
 pub each_more : (t : Tested) (rs : List Rule) (r : Rule) → each_text t (rs ++ r ∷ []) ≡ each_text t rs ++ found_text (found_in t r)
 each_more t [] r = append-nil (found_text (found_in t r))
@@ -28,23 +31,29 @@ reported_behind (Err e) a b c first text one reported = tt
 pub nothing_behind : (a b : Option (List ℕ)) (text : List ℕ) → Appends a b text → Appends a b (text ++ [])
 nothing_behind a b text reported = subst (λ (l : List ℕ). Appends a b l) (sym (append-nil text)) reported
 
--- ---- a sentence that nothing says more of, and what is told behind it
+-- ---- the first sentence, and what is written behind it
 
-pub some_sentence : {A E : Type 0} (r : Result A E) (a b : Option (List ℕ)) (text : List ℕ) → OnOk r (Appends a b text) → OnOk r ((sentence : List ℕ) × Appends a b sentence)
-some_sentence (Ok x) a b text reported = (text, reported)
-some_sentence (Err e) a b text reported = tt
+-- a text of which this holds was written, with its LF
+pub some_text : {A E : Type 0} (r : Result A E) (P : List ℕ → Type 0) (a b : Option (List ℕ)) (text : List ℕ) → P text → OnOk r (Appends a b (with_lf text)) → OnOk r ((text : List ℕ) × P text × Appends a b (with_lf text))
+some_text (Ok x) P a b text holds written = (text, holds, written)
+some_text (Err e) P a b text holds written = tt
 
-pub nothing_before : {A E : Type 0} (r : Result A E) (a b : Option (List ℕ)) (text : List ℕ) → OnOk r (Appends a b text) → OnOk r ((sentence : List ℕ) × Appends a b (sentence ++ text))
-nothing_before (Ok x) a b text reported = ([], reported)
-nothing_before (Err e) a b text reported = tt
+-- nothing goes before that the file opens
+pub opens_alone : {A E : Type 0} (r : Result A E) (a b : Option (List ℕ)) → OnOk r (Appends a b (opening_text None)) → OnOk r (WritesOpening None a b)
+opens_alone (Ok x) a b written = ([], refl, written)
+opens_alone (Err e) a b written = tt
 
-pub reported_after : {A E : Type 0} (r : Result A E) (a b c : Option (List ℕ)) (text : List ℕ) → (sentence : List ℕ) × Appends a b sentence → OnOk r (Appends b c text) → OnOk r ((sentence : List ℕ) × Appends a c (sentence ++ text))
-reported_after (Ok x) a b c text one reported = (one.0, Appends-trans a b c one.0 text one.1 reported)
-reported_after (Err e) a b c text one reported = tt
+-- the cause is written behind that the file doesn't open
+pub cause_behind : {A E : Type 0} (r : Result A E) (o : OpenError) (a b c : Option (List ℕ)) → ((text : List ℕ) × IsErrorText (error_of o) text × Appends a b (with_lf text))
+    → OnOk r (Appends b c (with_lf (open_error_text o))) → OnOk r (WritesOpening (Some o) a c)
+cause_behind (Ok x) o a b c first written = (with_lf first.0, (first.0, first.1, refl), Appends-trans a b c (with_lf first.0) (with_lf (open_error_text o)) first.2 written)
+cause_behind (Err e) o a b c first written = tt
 
-pub reported_further : {A E : Type 0} (r : Result A E) (a b c : Option (List ℕ)) (first text : List ℕ) → (sentence : List ℕ) × Appends a b (sentence ++ first) → OnOk r (Appends b c text) → OnOk r ((sentence : List ℕ) × Appends a c (sentence ++ first ++ text))
-reported_further (Ok x) a b c first text one reported = (one.0, Appends-trans a b c (one.0 ++ first) text one.1 reported)
-reported_further (Err e) a b c first text one reported = tt
+-- what the file holds is written behind that
+pub held_behind : {A E : Type 0} (r : Result A E) (o : Option OpenError) (a b c : Option (List ℕ)) (held : List ℕ) → WritesOpening o a b → OnOk r (Appends b c held)
+    → OnOk r ((sentence : List ℕ) × IsFirstSentence o sentence × Appends a c (sentence ++ opening_text o ++ held))
+held_behind (Ok x) o a b c held first written = (first.0, first.1, Appends-trans a b c (first.0 ++ opening_text o) held first.2 written)
+held_behind (Err e) o a b c held first written = tt
 
 -- ---- what is shown
 

@@ -1,5 +1,5 @@
 -- Why a file can't be read as a desk's, in words.
-use Rattle.std.specs.Prelude.{ℕ, List, codes, Option, Some, None}
+use Rattle.std.specs.Prelude.{◌≡◌, ℕ, List, ◌++◌, codes, Option, Some, None, IsSome}
 use Rattle.std.specs.declared.io.ErrorKind.{ErrorKind}
 use Rattle.std.specs.declared.io.ErrorKind.TheVariants as kind
 use Rattle.sqlite.specs.declared.error.Error.{Error}
@@ -96,6 +96,26 @@ error_of open_error.Unread = Some (SqliteFailure code.SystemIoFailure)
 error_of (open_error.Closed e) = Some e
 error_of open_error.Failed = None
 error_of open_error.Memory = Some (SqliteFailure code.OutOfMemory)
+
+-- ---- the toolkit's words, of which no contract speaks
+
+-- the sentence that a file doesn't open, with the words of an error, where there is one
+abbrev pub closed_text : List ℕ → List ℕ
+closed_text words = (codes "The file doesn't open: " ++ words) ++ codes "."
+
+abbrev pub IsErrorText : Option Error → List ℕ → Type 0
+IsErrorText None text = text ≡ codes "The file doesn't open."
+IsErrorText (Some e) text = (words : List ℕ) × (text ≡ closed_text words)
+
+-- words are there exactly where there is an error
+abbrev pub HasWords : Option Error → Option (List ℕ) → Type 0
+HasWords None words = words ≡ None
+HasWords (Some e) words = IsSome words
+
+-- the same of what keeps a file closed, where something does
+abbrev pub HasWordsOf : Option OpenError → Option (List ℕ) → Type 0
+HasWordsOf None words = words ≡ None
+HasWordsOf (Some o) words = HasWords (error_of o) words
 
 -- ---- where they come from
 

@@ -1,9 +1,13 @@
 -- What came of a check, and its exit status.
-use Rattle.std.specs.Prelude.{ℕ, List, [], ◌∷◌, codes, Bool, true, false, Option, Some, None, Result, Ok, Err}
+use Rattle.std.specs.Prelude.{◌≡◌, ℕ, List, [], ◌∷◌, ◌++◌, codes, Bool, true, false, Option, Some, None, Result, Ok, Err}
+use Rattle.std.specs.Io.KnownBytes.{Appends}
+use Rattle.serde_json.specs.Written.{compact_text}
 use Rattle.plant_text.specs.Writes.{with_lf}
 use Rattle.plant_check.specs.declared.rule.Rule.{Rule}
 use Rattle.plant_check_rows.specs.declared.finding.Findings.{Findings}
 use Rattle.plant_check_rows.specs.declared.finding.Findings.TheVariants as findings
+use Rattle.desk_check.specs.Objects.{outcome_data}
+use Rattle.desk_check.specs.OpenErrors.{IsErrorText, HasWordsOf, error_of}
 use Rattle.desk_check.specs.Reports.{file_report_text, open_error_text}
 use Rattle.desk_check.specs.declared.barred.DeskIndex.{DeskIndex}
 use Rattle.desk_check.specs.declared.open_error.OpenError.{OpenError}
@@ -64,3 +68,25 @@ opening_text (Some o) = with_lf (open_error_text o)
 abbrev pub held_text : Option FileReport → List ℕ
 held_text None = []
 held_text (Some s) = file_report_text s
+
+-- what goes before: where the file doesn't open, that it doesn't
+abbrev pub IsFirstSentence : Option OpenError → List ℕ → Type 0
+IsFirstSentence None sentence = sentence ≡ []
+IsFirstSentence (Some o) sentence = (text : List ℕ) × IsErrorText (error_of o) text × (sentence ≡ with_lf text)
+
+-- whether the file opens, and why not, was written behind what there was
+abbrev pub WritesOpening : Option OpenError → Option (List ℕ) → Option (List ℕ) → Type 0
+WritesOpening o old new = (sentence : List ℕ) × IsFirstSentence o sentence × Appends old new (sentence ++ opening_text o)
+
+-- and then what it holds
+abbrev pub WritesSentences : Outcome → Option (List ℕ) → Option (List ℕ) → Type 0
+WritesSentences o old new = (sentence : List ℕ) × IsFirstSentence o.open_error sentence × Appends old new (sentence ++ opening_text o.open_error ++ held_text o.file_report)
+
+-- the same as one object, in a line
+abbrev pub WritesObject : Outcome → Option (List ℕ) → Option (List ℕ) → Type 0
+WritesObject o old new = (words : Option (List ℕ)) × HasWordsOf o.open_error words × Appends old new (with_lf (compact_text (outcome_data o words)))
+
+-- the one or the other
+abbrev pub WritesOutcome : Bool → Outcome → Option (List ℕ) → Option (List ℕ) → Type 0
+WritesOutcome true o old new = WritesObject o old new
+WritesOutcome false o old new = WritesSentences o old new

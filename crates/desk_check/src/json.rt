@@ -6,6 +6,8 @@ ghost use Rattle.serde_json.specs.Written.{compact_text};
 ghost use Rattle.plant_text.specs.Writes.{with_lf};
 ghost use Rattle.desk_check.specs.Reports.{found_in};
 ghost use Rattle.desk_check.specs.Objects as spec;
+ghost use Rattle.desk_check.specs.OpenErrors.{HasWords, HasWordsOf, error_of};
+ghost use Rattle.desk_check.specs.Outcomes.{WritesObject};
 
 use crate::barred::DeskIndex;
 use crate::ending::ReportError;
@@ -206,7 +208,7 @@ fn text_value(alloc: Global, text: &str) -> Result<Value, AllocError>
 
 /// The toolkit's own sentence, where it has one.
 fn error_value(alloc: Global, error: Option<Error>) -> Result<Value, AllocError>
-    ensures { IfOk result (λ v. (reported : Option (List ℕ)) × (view v ≡ spec.sentence_data reported)) }
+    ensures { IfOk result (λ v. (words : Option (List ℕ)) × HasWords error words × (view v ≡ spec.sentence_data words)) }
 {
     match error {
         None => Ok(Value::Null),
@@ -218,7 +220,8 @@ fn error_value(alloc: Global, error: Option<Error>) -> Result<Value, AllocError>
 }
 
 fn cause_value(alloc: Global, open_error: OpenError) -> Result<Value, AllocError>
-    ensures { IfOk result (λ v. (reported : Option (List ℕ)) × (view v ≡ spec.open_error_data (Some open_error) reported)) }
+    ensures { IfOk result (λ v. (words : Option (List ℕ)) × HasWords (error_of open_error) words
+        × (view v ≡ spec.open_error_data (Some open_error) words)) }
 {
     let error = error_value(alloc, open_error.error())?;
     json!(in alloc; {
@@ -227,7 +230,8 @@ fn cause_value(alloc: Global, open_error: OpenError) -> Result<Value, AllocError
 }
 
 fn open_error_value(alloc: Global, open_error: &Option<OpenError>) -> Result<Value, AllocError>
-    ensures { IfOk result (λ v. (reported : Option (List ℕ)) × (view v ≡ spec.open_error_data open_error.now reported)) }
+    ensures { IfOk result (λ v. (words : Option (List ℕ)) × HasWordsOf open_error.now words
+        × (view v ≡ spec.open_error_data open_error.now words)) }
 {
     match open_error {
         None => Ok(Value::Null),
@@ -236,7 +240,8 @@ fn open_error_value(alloc: Global, open_error: &Option<OpenError>) -> Result<Val
 }
 
 fn outcome_value(alloc: Global, outcome: &Outcome) -> Result<Value, AllocError>
-    ensures { IfOk result (λ v. (reported : Option (List ℕ)) × (view v ≡ spec.outcome_data outcome.now reported)) }
+    ensures { IfOk result (λ v. (words : Option (List ℕ)) × HasWordsOf outcome.now.open_error words
+        × (view v ≡ spec.outcome_data outcome.now words)) }
 {
     let desk = file_report_value(alloc, &outcome.file_report)?;
     let open_error = open_error_value(alloc, &outcome.open_error)?;
@@ -246,7 +251,8 @@ fn outcome_value(alloc: Global, outcome: &Outcome) -> Result<Value, AllocError>
 }
 
 fn object_text(alloc: Global, outcome: &Outcome) -> Result<String, AllocError>
-    ensures { IfOk result (λ text. (reported : Option (List ℕ)) × (string_bytes text ≡ compact_text (spec.outcome_data outcome.now reported))) }
+    ensures { IfOk result (λ text. (words : Option (List ℕ)) × HasWordsOf outcome.now.open_error words
+        × (string_bytes text ≡ compact_text (spec.outcome_data outcome.now words))) }
 {
     let value = outcome_value(alloc, outcome)?;
     value.to_string(alloc)
@@ -258,8 +264,7 @@ pub(crate) fn write_object<W: Write>(
     writer: &mut W,
     outcome: &Outcome,
 ) -> Result<(), ReportError>
-    ensures { OnOk result ((reported : Option (List ℕ)) × Appends (W.contents writer.old) (W.contents writer.new)
-        (with_lf (compact_text (spec.outcome_data outcome.now reported)))) }
+    ensures { OnOk result (WritesObject outcome.now (W.contents writer.old) (W.contents writer.new)) }
 {
     match object_text(alloc, outcome) {
         Ok(text) => write_report(writer, text.as_bytes()),

@@ -1,5 +1,5 @@
 //! What came of a check.
-ghost use Rattle.std.specs.Prelude.{◌≡◌, ℕ, List, ◌++◌, None, OnOk};
+ghost use Rattle.std.specs.Prelude.{◌≡◌, None, OnOk};
 ghost use Rattle.std.specs.Io.KnownBytes.{Appends};
 ghost use Rattle.desk_check.specs.Outcomes as spec;
 
@@ -124,8 +124,7 @@ impl Outcome {
 
 /// Tells that the file opens.
 fn write_opens<W: Write>(writer: &mut W) -> Result<(), ReportError>
-    ensures { OnOk result ((sentence : List ℕ) × Appends (W.contents writer.old) (W.contents writer.new)
-        (sentence ++ spec.opening_text None)) }
+    ensures { OnOk result (spec.WritesOpening None (W.contents writer.old) (W.contents writer.new)) }
 {
     write_report(writer, b"The file opens.")
 }
@@ -136,8 +135,7 @@ fn write_opening<W: Write>(
     writer: &mut W,
     open_error: &Option<OpenError>,
 ) -> Result<(), ReportError>
-    ensures { OnOk result ((sentence : List ℕ) × Appends (W.contents writer.old) (W.contents writer.new)
-        (sentence ++ spec.opening_text open_error.now)) }
+    ensures { OnOk result (spec.WritesOpening open_error.now (W.contents writer.old) (W.contents writer.new)) }
 {
     match open_error {
         None => write_opens(writer),
@@ -165,8 +163,7 @@ fn write_sentences<W: Write>(
     writer: &mut W,
     outcome: &Outcome,
 ) -> Result<(), ReportError>
-    ensures { OnOk result ((sentence : List ℕ) × Appends (W.contents writer.old) (W.contents writer.new)
-        (sentence ++ spec.opening_text outcome.now.open_error ++ spec.held_text outcome.now.file_report)) }
+    ensures { OnOk result (spec.WritesSentences outcome.now (W.contents writer.old) (W.contents writer.new)) }
 {
     write_opening(alloc, writer, &outcome.open_error)?;
     write_held(alloc, writer, &outcome.file_report)
@@ -178,7 +175,9 @@ pub(crate) fn write_outcome<W: Write>(
     writer: &mut W,
     json: bool,
     outcome: &Outcome,
-) -> Result<(), ReportError> {
+) -> Result<(), ReportError>
+    ensures { OnOk result (spec.WritesOutcome json outcome.now (W.contents writer.old) (W.contents writer.new)) }
+{
     if json {
         write_object(alloc, writer, outcome)
     } else {

@@ -1,7 +1,9 @@
 //! What is told of a file, in sentences.
-ghost use Rattle.std.specs.Prelude.{◌≡◌, ℕ, List, ◌++◌, IfSome, OnOk, Some, codes};
+ghost use Rattle.std.specs.Prelude.{◌≡◌, ℕ, List, ◌++◌, IfOk, IfSome, OnOk, Some, codes, string_bytes};
 ghost use Rattle.std.specs.Io.KnownBytes.{Appends};
 ghost use Rattle.plant_text.specs.Writes.{with_lf};
+ghost use Rattle.desk_check.specs.OpenErrors.{IsErrorText, closed_text, error_of};
+ghost use Rattle.desk_check.specs.Outcomes.{WritesOpening};
 ghost use Rattle.desk_check.specs.Reports as spec;
 
 use crate::barred::DeskIndex;
@@ -11,7 +13,8 @@ use crate::open_error::OpenError;
 use plant_check::Rule;
 use plant_check_rows::{Findings, RowFault, Tested, rule_text};
 use plant_text::{WriteError, write_line};
-use std::alloc::Global;
+use sqlite::Error;
+use std::alloc::{AllocError, Global};
 use std::fmt;
 use std::io::Write;
 
@@ -297,15 +300,26 @@ pub(crate) fn write_file_report<W: Write>(
     }
 }
 
+/// That a file doesn't open, with these words.
+fn closed_text(alloc: Global, words: &str) -> Result<String, AllocError>
+    ensures { IfOk result (λ text. string_bytes text ≡ closed_text words.now) }
+{
+    let mut text = String::from_str(alloc, "The file doesn't open: ")?;
+    text.push_str(words)?;
+    text.push_str(".")?;
+    Ok(text)
+}
+
 /// That a file doesn't open, in the toolkit's words where it has some.
-fn error_text(alloc: Global, open_error: OpenError) -> Result<String, ReportError> {
-    let text = match open_error.error() {
+fn error_text(alloc: Global, error: Option<Error>) -> Result<String, AllocError>
+    ensures { IfOk result (λ text. IsErrorText error (string_bytes text)) }
+{
+    match error {
         None => String::from_str(alloc, "The file doesn't open."),
-        Some(error) => format!(in alloc; "The file doesn't open: {error}."),
-    };
-    match text {
-        Ok(text) => Ok(text),
-        Err(_) => Err(ReportError::Memory),
+        Some(error) => {
+            let words = error.to_string(alloc)?;
+            closed_text(alloc, words.as_str())
+        }
     }
 }
 
@@ -315,10 +329,13 @@ fn write_error<W: Write>(
     writer: &mut W,
     open_error: OpenError,
 ) -> Result<(), ReportError>
-    ensures { OnOk result ((sentence : List ℕ) × Appends (W.contents writer.old) (W.contents writer.new) sentence) }
+    ensures { OnOk result ((text : List ℕ) × IsErrorText (error_of open_error) text
+        × Appends (W.contents writer.old) (W.contents writer.new) (with_lf text)) }
 {
-    let text = error_text(alloc, open_error)?;
-    write_report(writer, text.as_bytes())
+    match error_text(alloc, open_error.error()) {
+        Ok(text) => write_report(writer, text.as_bytes()),
+        Err(_) => Err(ReportError::Memory),
+    }
 }
 
 /// Tells why a file doesn't open: in the toolkit's words where it has some, then in plain ones, and what to do.
@@ -327,8 +344,7 @@ pub(crate) fn write_open_error<W: Write>(
     writer: &mut W,
     open_error: OpenError,
 ) -> Result<(), ReportError>
-    ensures { OnOk result ((sentence : List ℕ) × Appends (W.contents writer.old) (W.contents writer.new)
-        (sentence ++ with_lf (spec.open_error_text open_error))) }
+    ensures { OnOk result (WritesOpening (Some open_error) (W.contents writer.old) (W.contents writer.new)) }
 {
     write_error(alloc, writer, open_error)?;
     write_shown(alloc, writer, &Cause(open_error))

@@ -1,6 +1,7 @@
+use Rattle.std.proofs.Common.{refl}
 use Rattle.std.proofs.lemmas.Result.{IfOk-weaker}
 use Rattle.std.specs.Prelude.{Some}
 use Rattle.desk_check.proofs.json.error_value.Goals as goal
 
 pub returns-in_ok-text-in-Some : goal.returns-in_ok-text-in-Some
-returns-in_ok-text-in-Some c = IfOk-weaker c.text_value.result _ _ (λ v shown. (Some c.as_str.result.now, shown)) c.text_value.ensures
+returns-in_ok-text-in-Some c = IfOk-weaker c.text_value.result _ _ (λ v shown. (Some c.as_str.result.now, refl, shown)) c.text_value.ensures

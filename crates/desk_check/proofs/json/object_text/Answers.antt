@@ -7,4 +7,4 @@ use Rattle.desk_check.proofs.json.object_text.Goals as goal
 pub returns : goal.returns
 returns c =
     let reported = c.in_ok-value.ensures in
-    IfOk-weaker c.to_string.result _ _ (λ s h. (reported.0, h (ap has_float reported.1 ∙ of_outcome c.args.outcome.now reported.0) ∙ ap compact_text reported.1)) c.to_string.ensures.text
+    IfOk-weaker c.to_string.result _ _ (λ s h. (reported.0, reported.1, h (ap has_float reported.2 ∙ of_outcome c.args.outcome.now reported.0) ∙ ap compact_text reported.2)) c.to_string.ensures.text

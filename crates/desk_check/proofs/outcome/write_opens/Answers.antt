@@ -1,5 +1,5 @@
-use Rattle.desk_check.proofs.SentencesInSequence.{nothing_before}
+use Rattle.desk_check.proofs.SentencesInSequence.{opens_alone}
 use Rattle.desk_check.proofs.outcome.write_opens.Goals as goal
 
 pub returns : goal.returns
-returns g c = nothing_before c.write_report.result _ _ _ c.write_report.ensures
+returns g c = opens_alone c.write_report.result _ _ c.write_report.ensures

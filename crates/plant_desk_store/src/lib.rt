@@ -10,8 +10,10 @@ mod laws;
 mod lookups;
 mod running;
 mod stored;
+#[cfg(test)]
+mod tests;
 mod verifying;
 
 pub use adopting::{AdoptFault, AdoptRefused};
-pub use laws::{ask_with_outcome, desk_laws, execute_with_outcome, headline_law};
+pub use laws::{ask_with_outcome, desk_laws, execute_with_outcome, headline_law, resend_law};
 pub use stored::Desk;

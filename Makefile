@@ -17,7 +17,7 @@ look:
 run: desk
 	rm -f build/plant.db build/plant.db-wal
 	build/desk init build/plant.db
-	build/desk run build/plant.db < crates/desk/stdin
+	build/desk run build/plant.db < examples/batch.jsonl
 	build/desk verify build/plant.db
 
 desk order_check line_check desk_check genealogy_picture bench_lists:

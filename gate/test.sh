@@ -10,8 +10,6 @@ cd "$(dirname "$0")/.."
 began=$SECONDS
 copy=build/gate
 cmp examples/orders.csv crates/order_check/stdin
-cmp examples/batch.jsonl crates/desk/stdin
-cmp examples/batch.out crates/desk/stdout
 make/crates.py --check
 gate/edits.py apply
 gate/edits.py copy $copy

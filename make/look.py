@@ -3,8 +3,8 @@
 
     make/look.py
 
-Has `rt try` put the program together without a proof and tell it the lines of crates/desk/stdin, and prints each with its reply beneath
-it, as it stands in standard output. Says while it waits how long it has taken. Ends with the status of `rt try`.
+Has `rt try` put the program together without a proof and run it on the lines of examples/batch.jsonl, and prints each with its reply
+beneath it. Says while it waits how long it has taken. Ends with the status of `rt try`.
 """
 import os
 import subprocess
@@ -12,6 +12,7 @@ import sys
 import tempfile
 
 FOLDER = "crates/desk"
+LINES = "examples/batch.jsonl"
 
 # How often it says that it still waits, in seconds.
 TURN = 20
@@ -19,7 +20,7 @@ TURN = 20
 
 def ran(output, errors):
     """Runs the program, and gives its status."""
-    with open(f"{FOLDER}/stdin", "rb") as it:
+    with open(LINES, "rb") as it:
         process = subprocess.Popen(["rt", "try"], cwd=FOLDER, stdin=it, stdout=output, stderr=errors)
     waited = 0
     while True:
@@ -32,9 +33,9 @@ def ran(output, errors):
 
 def main():
     os.chdir(os.path.dirname(os.path.dirname(os.path.realpath(__file__))))
-    with open(f"{FOLDER}/stdin") as it:
+    with open(LINES) as it:
         lines = it.read().splitlines()
-    print(f"The desk is put together without a proof, and told the {len(lines)} lines of {FOLDER}/stdin over a new state in memory.")
+    print(f"The desk is put together without a proof, and told the {len(lines)} lines of {LINES} over a new state in memory.")
     print("This takes three to five minutes and proves nothing; make run proves.", flush=True)
     with tempfile.TemporaryFile("w+") as output, tempfile.TemporaryFile("w+") as errors:
         try:

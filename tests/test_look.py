@@ -15,8 +15,9 @@ class Look(FolderTestCase):
 
     def look(self, replies, ends="0", path=None):
         """Returns how the tool ends where `rt try` prints these replies and ends with this status."""
-        files = {"src/main.rt": "a\n", "stdin": LINES, "src/says": replies, "src/ends": ends}
+        files = {"src/main.rt": "a\n", "src/says": replies, "src/ends": ends}
         self.repository = Repository(self.folder, {"desk:": files}, [TOOL])
+        self.repository.write("examples/batch.jsonl", LINES)
         return self.repository.run(TOOL, path=path)
 
     def test_each_line_is_shown_with_its_reply(self):

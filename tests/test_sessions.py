@@ -7,6 +7,7 @@ from tests.support import http, scenarios, sessions, sqlite
 from tests.support.cases import DeskTestCase, good
 from tests.support.commands import EACH_COMMAND, GOODS, add_recipe, approve, import_orders, lift, recall, scrap, split
 from tests.support.http import ASK, NEW, POST, Server, answered, connected, rest_of
+from tests.support.program import EXAMPLES
 from tests.support.sessions import Session, SessionTestCase
 
 # The record of the batch of the session a_batch_runs_to_its_close.
@@ -52,7 +53,11 @@ def with_a_test_for_each_file(case):
 
 @with_a_test_for_each_file
 class WrittenSessions(SessionTestCase):
-    """The sessions of examples/sessions."""
+    """The sessions of examples/sessions, and the batch of examples."""
+
+    def test_batch_of_the_examples_is_answered_as_written(self):
+        told, wanted = ((EXAMPLES / name).read_bytes() for name in ("batch.jsonl", "batch.out"))
+        self.check_session(Session("the batch of the examples", told, wanted))
 
 
 class LimitSessions(SessionTestCase):

@@ -1,4 +1,4 @@
-"""Allocations of the built desk that are refused while it serves: one at a time, of one question and of one command.
+"""Allocations that are refused: one at a time of one question and one command that the built desk serves, and of whole runs of programs.
 
 The question is answered as without refusals, or told want of memory, or, where memory is refused for its bytes, not at all; and the same
 question is then answered. So is a command, or a fault of the store is told, which ends the server; what was told not to have changed anything
@@ -6,11 +6,12 @@ hasn't.
 """
 from __future__ import annotations
 
+import itertools
 import pathlib
 import shutil
 
 from tests.support import faults, http, sessions
-from tests.support.cases import DeskTestCase, good
+from tests.support.cases import DeskTestCase, ProgramTestCase, good
 from tests.support.http import ASK, Server, answer, desk_answer, got, posted
 from tests.support.program import Program
 
@@ -27,6 +28,8 @@ SEQ = 20
 MEMORY = answer('{"fault":2}', 503)
 STORE = answer('{"fault":1}', 503)
 QUESTION = got("/v1/batches/B-1")
+QUESTIONS = b"".join(b'{"ask":%s}\n' % it for it in (b'"desk"', b'"batch","batch":"B-1"', b'"forward","lot":"F-1"', b'"lot","lot":"D-1"'))
+ORDERS = b"order,recipe,version,size,due,priority\nO-1,CAKE,1,500,2027-03-01,5\nO-2,CAKE,1,300,2027-03-02,4\n"
 COMMAND = posted("/v1/commands", b'{"at":400,"by":"","do":"receive","lot":"F-2","def":"FLOUR","amount":7,"place":""}')
 
 
@@ -113,3 +116,106 @@ class RefusedMemory(DeskTestCase):
     def check_end(self, case, server, wanted):
         ended = server.end()
         self.check(f"{case}, the server", (ended.status, ended.errors), (wanted[0], wanted[2]))
+
+
+class RefusedRuns(ProgramTestCase):
+    """Runs of programs to their end, of which one allocation is refused: each in turn, or each so many-th.
+
+    What is written is all of the right output, or whole lines from its front, then perhaps the line of a fault, with the status and the one line
+    on standard error of that fault: want of memory, or a store that failed for it.
+    """
+
+    PROGRAMS = ("desk", "order_check", "lists")
+
+    # Over a file the allocations of each so many-th number are refused.
+    STEP = 23
+
+    def setUp(self):
+        super().setUp()
+        self.mark = self.folder / "refused"
+
+    def check_runs(self, case, program, words, told, step=1, before=None, after=None):
+        """Refuses allocations of a run in turn, up to the first number that it doesn't come to. `before` makes the file anew, and `after` looks at
+        what a run left in it."""
+        if before:
+            before()
+        whole, ends = program.run(*words, told=told), {}
+        for number in itertools.count(1, step):
+            self.mark.unlink(missing_ok=True)
+            if before:
+                before()
+            found = program.run(*words, told=told, env=faults.refused_memory(number, self.mark))
+            end = how_ended(found, whole)
+            self.check_true(f"{case}, allocation {number}: {found}", end)
+            if after:
+                after(f"{case}, allocation {number}", found, end)
+            if not self.mark.exists():
+                break
+            ends[end] = ends.get(end, 0) + 1
+        self.check(f"{case}, the last run", end, "all was done")
+        self.check_true(f"{case}: {ends}", ends.get("want of memory"))
+        self.note(f"{case}, of {number - 1} allocations{f' each {step}th' if step > 1 else ''}: {ends}")
+
+    def test_keeper_of_lists_answers_a_front_of_twenty_commands(self):
+        told = sessions.twenty_commands().told + QUESTIONS
+        self.check_runs("twenty commands over lists", Program("lists", self.folder), [], told)
+
+    def test_order_check_reports_want_of_memory(self):
+        check = Program("order_check", self.folder)
+        for case, told in [("orders", ORDERS), ("no orders", b"orders\n"), ("a bad row", ORDERS + b"O-9\n")]:
+            self.check_runs(f"order_check of {case}", check, [], told)
+
+    def test_desk_keeps_a_front_of_twenty_commands(self):
+        session = sessions.twenty_commands()
+
+        def check_kept(case, found, _):
+            count = found.output.count(b'{"ok":')
+            kept = Program("desk", self.folder).run("verify", "run.db")
+            # A file whose desk wasn't made yet has accepted nothing.
+            self.check_true(f"{case}, kept {kept}", kept in [good(it) for it in (count, count + 1)])
+
+        desk, told = Program("desk", self.folder), session.told
+        self.check_runs("twenty commands over a file", desk, ["run", "run.db"], told, self.STEP, self.removed("run.db"), check_kept)
+
+    def test_desk_reports_want_of_memory_in_each_word(self):
+        desk, session = Program("desk", self.folder), sessions.whole_batch()
+        self.check("a batch", desk.run("run", "first.db", told=session.told), session.ended())
+        count = session.count()
+
+        def check_kept(case, found, _):
+            kept = desk.run("verify", "copy.db")
+            self.check_true(f"{case}, kept {kept}", kept in [good(count), good(count + 1)][: 1 + is_import])
+
+        for words, told in [
+            (["init", "copy.db"], b""),
+            (["verify", "copy.db"], b""),
+            (["record", "copy.db", "B-1"], b""),
+            (["trace", "copy.db", "forward", "F-1"], b""),
+            (["import", "copy.db", "--at", "400"], b"order,recipe,version,size,due,priority\n"),
+        ]:
+            is_import = words[0] == "import"
+            self.check_runs(" ".join(words), desk, words, told, self.STEP, self.copied("first.db", "copy.db"), check_kept)
+
+    def removed(self, file):
+        """Returns what removes a file with its log."""
+        return lambda: [(self.folder / f"{file}{it}").unlink(missing_ok=True) for it in ("", "-wal")]
+
+    def copied(self, first, file):
+        """Returns what makes a file anew as a copy."""
+        removed = self.removed(file)
+        return lambda: (removed(), shutil.copyfile(self.folder / first, self.folder / file))
+
+
+def how_ended(found, whole):
+    """Returns how a run ended of which an allocation was refused, next to how it ends without that; nothing where it ended wrongly."""
+    if found == whole:
+        return "all was done"
+    lines = sessions.lines_of(found.output)
+    if lines and lines[-1] in (b'{"fault":1}\n', b'{"fault":2}\n'):
+        lines.pop()
+    is_front = whole.output.startswith(b"".join(lines))
+    if is_front and (found.status, found.errors) == (4, b"fault: memory\n"):
+        return "want of memory"
+    if is_front and (found.status, found.errors) == (3, b"fault: store\n"):
+        return "the store failed"
+    return "no words" if found[:2] == (2, b"") else None

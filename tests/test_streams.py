@@ -34,6 +34,9 @@ MANY_LINES = 30_000
 # A command whose class isn't there.
 DEFINITION = b'{"at":100,"by":"anna","do":"add_definition","def":"SUGAR","class":"RAW","name":"","unit":"g"}'
 
+# A command of 72 bytes that a new desk accepts.
+CLASS = b'{"at":100,"by":"anna","do":"add_class","class":"RAW","name":"Raw goods"}'
+
 # Requests to a new desk, one after the other, with what is answered.
 REQUESTS = [
     (b"GET /v1/desk HTTP/1.1\r\nHost: a\r\n\r\n", NEW),
@@ -44,7 +47,7 @@ REQUESTS = [
     (b"GET /v1/desk HTTP/1.1\r\n\r\n", http.status_answer(400)),
     (b"POST /v1/orders HTTP/1.1\r\nHost: a\r\nDesk-At: 7\r\nContent-Length: 6\r\n\r\norders", answer('{"csv":"Header","row":0}', 400)),
     (ASK, NEW),
-    (POST, ACCEPTED),
+    (posted("/v1/commands", CLASS), ACCEPTED),
     (ASK, http.desk_answer(1)),
 ]
 
@@ -261,6 +264,14 @@ class Requests(StreamTestCase):
             for request, wanted in requests:
                 found = self.serve_over({**limits, "READS": reads_of(request) * bool(request) + more}, file, request)
                 self.check(f"{request[:60]}, {limits}", found, (wanted, WELL))
+
+    def test_record_is_answered_alike_in_one_byte_pieces(self):
+        self.keep("batch", sessions.whole_batch())
+        record = self.kept.run("record", "batch.db", "B-1").output
+        wanted = answer(record.decode(), kind="text/plain")
+        for limits in {}, NARROW:
+            found = self.serve_over(limits, self.copied("batch"), http.got("/v1/batches/B-1/record"))
+            self.check(f"the record, {limits}", found, (wanted, WELL))
 
     def test_command_whose_read_fails_is_not_answered_and_changes_nothing(self):
         file = self.copied()

@@ -55,7 +55,8 @@ def attempts_of_a_batch():
     attempt = [say("start"), say("abort"), settle()]
     for _ in range(98):
         session.accepted(*attempt, say("reset"))
-    return session.accepted(*attempt).refused("TooMany", 28, say("reset"))
+    session.accepted(say("start"), say("stop"), settle()).refused("TooMany", 28, say("reset"))
+    return session.accepted(say("abort"), settle()).refused("TooMany", 28, say("reset"))
 
 
 def sublots_of_a_lot():

@@ -20,7 +20,7 @@ LIST = "crates.txt"
 PICTURE = "docs/crates.svg"
 
 # The names of crates that aren't drawn begin with one of these.
-LEFT_OUT = ("bench_", "test_")
+LEFT_OUT = ("bench_", "integration_tests")
 
 # From how many orders sweeps look for one with few crossings, how many sweeps from each, and how many move places.
 STARTS, SWEEPS, MOVES = 200, 8, 600

@@ -22,8 +22,8 @@ A file's other definitions are those of other contracts. Made by bench/reading_l
 
 Not on the list are the relations of plant_desk_store/specs/Calls, `HasAdopted`, `HasRefused`, `HasExecuted`, `HasAsked`, `HasRun`,
 `HasVerified` and `HasIndexed`: the law supposes of each call of a desk one of them, and the call ensures it word for word (`Desk::adopt`,
-`Desk::run`, `Desk::verify`, `Desk::add_indexes`, and `execute_with_outcome` and `ask_with_outcome`, which do nothing but call `execute` and `ask`). Whatever
-they say, what follows from them is the law. Nor is how columns are read again (the fields `read` of `Kind` and `Columns`), which the law
+`Desk::run`, `Desk::verify`, `Desk::add_indexes`, and `execute_with_outcome` and `ask_with_outcome`, which do nothing but call `execute` and `ask`). How a
+relation takes the store before and after a call, its arguments and its result is read in the clause of that call. Nor is how columns are read again (the fields `read` of `Kind` and `Columns`), which the law
 doesn't speak of.
 """
 

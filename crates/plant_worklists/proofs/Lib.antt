@@ -1,5 +1,6 @@
 pub mod FoundRows
 pub mod RowsOfLot
 pub mod PrefetchedPage
+pub mod PrefetchSteps
 pub mod MergedLists
 mod SmallNumbers

@@ -2,4 +2,5 @@ pub mod Prefetching
 pub mod Pages
 pub mod RisingIds
 pub mod Cursors
+pub mod FetchPolicy
 pub mod Worklists

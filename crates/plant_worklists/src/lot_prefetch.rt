@@ -1,12 +1,14 @@
 //! What is known of lots that are asked for one after another, by their ids, with the fault of a decision.
 
-ghost use Rattle.std.specs.Prelude.{◌≡◌, IfOk, length, nat_le, slice_get};
+ghost use Rattle.std.specs.Prelude.{◌≡◌, true, false, IfErr, IfOk, IsOk, length, nat_le, slice_get};
 ghost use Rattle.plant_base.specs.State.{lot_at};
 ghost use Rattle.plant_trace.specs.HoldsIfHonest.{HoldsIfHonest};
 ghost use Rattle.plant_view.specs.Refusals.{is_held};
 ghost use Rattle.plant_view.specs.DecisionInvariant.{DecisionInvariant};
 ghost use Rattle.plant_view.specs.Tables.{sublots_of};
 ghost use Rattle.plant_worklists.specs.Prefetching.{IsValidPrefetch, IsValidHoldPrefetch, IsValidLotPrefetch, IsValidSublotPrefetch};
+ghost use Rattle.plant_worklists.specs.Prefetching.{asked_for, counted, is_answered, prefetched, wants_page};
+ghost use Rattle.plant_worklists.specs.Prefetching.{prefetched_holds, prefetched_lots, prefetched_sublots};
 
 use crate::of_lot::OfLot;
 use crate::prefetch::ReadAhead;
@@ -15,15 +17,21 @@ use plant_base::{Hold, Id, Lot, Sublot};
 use plant_view::{ViewFault, lookup};
 use std::alloc::{AllocError, Global};
 
-/// Reads a page ahead where it is time to.
+/// Reads a page ahead where one is wanted. Else the view is as it was.
 fn prefetch_page<V: Worklists, R: OfLot>(
     view: &mut V,
     prefetch: &mut ReadAhead<R>,
     lot: &Id,
 ) -> Result<(), ViewFault<V::Fault>>
-    ensures { HoldsIfHonest V.honest V.kept V.frame view.old view.new
+    ensures valid { HoldsIfHonest V.honest V.kept V.frame view.old view.new
         (DecisionInvariant (V.state view.old) → IsValidPrefetch R.lot_of (R.all (V.state view.old)) prefetch.old
         → IsValidPrefetch R.lot_of (R.all (V.state view.old)) prefetch.new) }
+    ensures ahead { HoldsIfHonest V.honest V.kept V.frame view.old view.new
+        (DecisionInvariant (V.state view.old) → IfOk result (λ _. prefetch.new
+        ≡ prefetched R.lot_of (R.all (V.state view.old)) lot.now prefetch.old)) }
+    ensures unasked { wants_page lot.now (asked_for lot.now prefetch.old) ≡ false
+        → (view.new ≡ view.old) × (prefetch.new ≡ counted lot.now (asked_for lot.now prefetch.old)) }
+    ensures answered { is_answered lot.now prefetch.new ≡ true → IsOk result }
 {
     prefetch.ask(lot);
     if !prefetch.wants_page(lot) {
@@ -41,10 +49,15 @@ pub fn prefetched_lot<V: Worklists>(
     prefetch: &mut ReadAhead<Lot>,
     id: &Id,
 ) -> Result<Option<Lot>, ViewFault<V::Fault>>
-    ensures { HoldsIfHonest V.honest V.kept V.frame view.old view.new
+    ensures found { HoldsIfHonest V.honest V.kept V.frame view.old view.new
         (DecisionInvariant (V.state view.old) → IsValidLotPrefetch (V.state view.old) prefetch.old
         → IfOk result (λ found. found ≡ lot_at (V.state view.old) id.now)
         × IsValidLotPrefetch (V.state view.old) prefetch.new) }
+    ensures ahead { HoldsIfHonest V.honest V.kept V.frame view.old view.new
+        (DecisionInvariant (V.state view.old)
+        → IfOk result (λ _. prefetch.new ≡ prefetched_lots (V.state view.old) id.now prefetch.old)) }
+    ensures unasked { is_answered id.now prefetch.old ≡ true → view.new ≡ view.old }
+    ensures answered { is_answered id.now prefetch.new ≡ true → IsOk result }
 {
     prefetch_page(view, prefetch, id)?;
     match prefetch.run(id) {
@@ -60,10 +73,15 @@ pub fn prefetched_is_held<V: Worklists>(
     prefetch: &mut ReadAhead<Hold>,
     lot: &Id,
 ) -> Result<bool, ViewFault<V::Fault>>
-    ensures { HoldsIfHonest V.honest V.kept V.frame view.old view.new
+    ensures found { HoldsIfHonest V.honest V.kept V.frame view.old view.new
         (DecisionInvariant (V.state view.old) → IsValidHoldPrefetch (V.state view.old) prefetch.old
         → IfOk result (λ held. held ≡ is_held (V.state view.old) lot.now)
         × IsValidHoldPrefetch (V.state view.old) prefetch.new) }
+    ensures ahead { HoldsIfHonest V.honest V.kept V.frame view.old view.new
+        (DecisionInvariant (V.state view.old)
+        → IfOk result (λ _. prefetch.new ≡ prefetched_holds (V.state view.old) lot.now prefetch.old)) }
+    ensures unasked { is_answered lot.now prefetch.old ≡ true → view.new ≡ view.old }
+    ensures answered { is_answered lot.now prefetch.new ≡ true → IsOk result }
 {
     prefetch_page(view, prefetch, lot)?;
     match prefetch.run(lot) {
@@ -80,10 +98,15 @@ pub fn prefetched_sublots<V: Worklists>(
     prefetch: &mut ReadAhead<Sublot>,
     lot: &Id,
 ) -> Result<Vec<Sublot>, ViewFault<V::Fault>>
-    ensures { HoldsIfHonest V.honest V.kept V.frame view.old view.new
+    ensures found { HoldsIfHonest V.honest V.kept V.frame view.old view.new
         (DecisionInvariant (V.state view.old) → IsValidSublotPrefetch (V.state view.old) prefetch.old
         → IfOk result (λ rows. rows.items ≡ sublots_of (V.state view.old) lot.now)
         × IsValidSublotPrefetch (V.state view.old) prefetch.new) }
+    ensures ahead { HoldsIfHonest V.honest V.kept V.frame view.old view.new
+        (DecisionInvariant (V.state view.old)
+        → IfOk result (λ _. prefetch.new ≡ prefetched_sublots (V.state view.old) lot.now prefetch.old)) }
+    ensures unasked { is_answered lot.now prefetch.old ≡ true → view.new ≡ view.old }
+    ensures answered { is_answered lot.now prefetch.new ≡ true → IfErr result (λ e. e ≡ ViewFault.Memory) }
 {
     prefetch_page(view, prefetch, lot)?;
     match prefetch.run(lot) {
@@ -105,7 +128,8 @@ fn has_rows(rows: &[Hold]) -> bool
 }
 
 fn copied<F>(alloc: Global, rows: &[Sublot]) -> Result<Vec<Sublot>, ViewFault<F>>
-    ensures { IfOk result (λ v. v.items ≡ rows.now) }
+    ensures rows { IfOk result (λ v. v.items ≡ rows.now) }
+    ensures memory { IfErr result (λ e. e ≡ ViewFault.Memory) }
 {
     match rows.iter().copied().collect(alloc) {
         Ok(rows) => Ok(rows),

@@ -1,7 +1,8 @@
 //! Rows of lots that are read ahead: where lots are asked for one after another, by their ids, a page of rows answers many.
 
-ghost use Rattle.std.specs.Prelude.{◌≡◌, IfSome, List};
+ghost use Rattle.std.specs.Prelude.{◌≡◌, IfSome, List, is_some};
 ghost use Rattle.plant_worklists.specs.Prefetching.{IsValidPrefetch, Rise, end_of, is_before, is_between, rows_after, rows_of};
+ghost use Rattle.plant_worklists.specs.Prefetching.{are_near, asked_for, counted, is_answered, unread, wants_page, with_page};
 ghost use Rattle.plant_worklists.specs.Pages.{page_of};
 
 use crate::after_cursor::is_after;
@@ -36,7 +37,8 @@ impl<R: OfLot> ReadAhead<R> {
     /// taken.
     #[tactic(auto, using(crate::proofs::PrefetchedPage::none_read))]
     pub fn unread(alloc: Global, at_once: bool) -> ReadAhead<R>
-        ensures { (all : List R) → IsValidPrefetch R.lot_of all result }
+        ensures valid { (all : List R) → IsValidPrefetch R.lot_of all result }
+        ensures nothing { result ≡ unread at_once }
     {
         ReadAhead {
             rows: Items::new(Vec::new(alloc)),
@@ -58,7 +60,9 @@ impl<R: OfLot> ReadAhead<R> {
 
     /// Whether a page is to be read for a lot. No rows are changed.
     pub(crate) fn wants_page(&mut self, lot: &Id) -> bool
-        ensures { (all : List R) → IsValidPrefetch R.lot_of all self.old → IsValidPrefetch R.lot_of all self.new }
+        ensures wanted { result ≡ wants_page lot.now self.old }
+        ensures counts { self.new ≡ counted lot.now self.old }
+        ensures valid { (all : List R) → IsValidPrefetch R.lot_of all self.old → IsValidPrefetch R.lot_of all self.new }
     {
         if self.is_within(lot) {
             self.policy.record_hit();
@@ -70,7 +74,8 @@ impl<R: OfLot> ReadAhead<R> {
 
     /// Notes the lot that is asked for. No rows are changed.
     pub(crate) fn ask(&mut self, lot: &Id)
-        ensures { (all : List R) → IsValidPrefetch R.lot_of all self.old → IsValidPrefetch R.lot_of all self.new }
+        ensures asked { self.new ≡ asked_for lot.now self.old }
+        ensures valid { (all : List R) → IsValidPrefetch R.lot_of all self.old → IsValidPrefetch R.lot_of all self.new }
     {
         self.last = self.asked;
         self.asked = Some(*lot);
@@ -78,7 +83,8 @@ impl<R: OfLot> ReadAhead<R> {
 
     /// Puts the page of what comes after the lot before in the place of what was read.
     pub(crate) fn put(&mut self, page: Page<R>)
-        ensures { (all : List R) → Rise R.lot_of (rows_after R.lot_of self.old.last all)
+        ensures read { self.new ≡ with_page R.lot_of page self.old }
+        ensures valid { (all : List R) → Rise R.lot_of (rows_after R.lot_of self.old.last all)
             → page ≡ page_of (rows_after R.lot_of self.old.last all) → IsValidPrefetch R.lot_of all self.new }
     {
         let Page { rows, has_more } = page;
@@ -91,7 +97,8 @@ impl<R: OfLot> ReadAhead<R> {
     /// The rows of a lot, where it is between the bounds.
     #[tactic(auto, using(crate::proofs::PrefetchedPage::run_is))]
     pub(crate) fn run(&self, lot: &Id) -> Option<&[R]>
-        ensures { (all : List R) → IsValidPrefetch R.lot_of all self.now
+        ensures answered { is_some result ≡ is_answered lot.now self.now }
+        ensures rows { (all : List R) → IsValidPrefetch R.lot_of all self.now
             → IfSome result (λ rows. rows.now ≡ rows_of R.lot_of lot.now all) }
     {
         if self.is_within(lot) {
@@ -103,7 +110,9 @@ impl<R: OfLot> ReadAhead<R> {
 }
 
 /// Whether a lot's id is that of another but for its last character: such lots mostly stand near each other.
-fn are_near(lot: &Id, other: &Option<Id>) -> bool {
+fn are_near(lot: &Id, other: &Option<Id>) -> bool
+    ensures { result ≡ are_near lot.now other.now }
+{
     let Some(other) = other else {
         return false;
     };

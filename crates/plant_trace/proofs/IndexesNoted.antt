@@ -1,16 +1,13 @@
 -- How the places of a list are noted one by one.
 use Rattle.std.proofs.Common.{◌≡◌, ◌∙◌, ℕ, ◌+◌, ◌<◌, ◌≤◌, Bool, true, false, cond, List, [], ◌∷◌, ◌++◌, take, length, get_or, Option, Some, refl, sym, ap, subst, ⊎_elim, arith, Contains, append_assoc}
 use Rattle.std.specs.Prelude.{zero, suc, IsSome, slice_get}
-use Rattle.std.specs.List.{All}
 use Rattle.std.specs.Ordering.{is_eq}
 use Rattle.std.specs.BTreeMap.{BTreeMap, get, IsEmpty, Updates}
 use Rattle.std.proofs.lemmas.List.{take_more, take-append-le, append-nil, length-take-le, length-append}
-use Rattle.std.proofs.lemmas.List.Elements.{All-contains, Contains-append_left, Contains-get_or, Contains-push_cases}
+use Rattle.std.proofs.lemmas.List.Elements.{Contains-append_left, Contains-push_cases}
 use Rattle.std.proofs.lemmas.Map.Views.{tells_apart}
 use Rattle.plant_trace.specs.Nodes.{node_cmp}
-use Rattle.plant_trace.specs.NodeIndexes.{AreIndexes, Grows, HasFirst, IsUnled}
-use Rattle.plant_trace.specs.Reach.{IsNext, Lists}
-use Rattle.plant_trace.specs.declared.direction.Direction.TheVariants.{Back}
+use Rattle.plant_trace.specs.NodeIndexes.{AreIndexes, Grows}
 use Rattle.plant_trace.specs.declared.node.Node.{Node}
 use Rattle.plant_trace.proofs.NodeOrder.{node_exact}
 use Rattle.plant_trace.proofs.NodeSets.{none_in}
@@ -34,7 +31,7 @@ Grows-prefix n xs ys h (more, e) = rw e (take-append-le n xs more h)
 
 -- ---- places
 
-slice_get_prefix : (xs ys : List Node) (n : ℕ) (x : Node) → slice_get xs n ≡ Some x → slice_get (xs ++ ys) n ≡ Some x
+pub slice_get_prefix : (xs ys : List Node) (n : ℕ) (x : Node) → slice_get xs n ≡ Some x → slice_get (xs ++ ys) n ≡ Some x
 slice_get_prefix [] ys n x e = absurd cc
 slice_get_prefix (y ∷ xs) ys zero x e = e
 slice_get_prefix (y ∷ xs) ys (suc n) x e = slice_get_prefix xs ys n x e
@@ -84,17 +81,3 @@ placed_more ready grown at d x old new is h grows put ranks =
     let prefix : take (at + 1) grown ≡ take at ready ++ x ∷ [] =
     Grows-prefix (at + 1) ready grown (omega (arith, h)) grows ∙ (take_more ready at d h ∙ ap (λ (y : Node). take at ready ++ y ∷ []) (sym is)) in
     subst (λ (l : List Node). AreIndexes l new) (sym prefix) now
-
--- ---- nodes to which no pair leads
-
-pub none_before : (pairs : List (Node × Node)) (x : Node) (nodes : List Node) → Lists (IsNext Back pairs x) nodes → IsUnled pairs x → length nodes ≡ 0
-none_before pairs x [] l h = refl
-none_before pairs x (y ∷ nodes) l h = absurd (h y (l.only y (Contains-get_or (y ∷ nodes) 0 y (omega arith))))
-
--- what was begun at stands among these nodes, of which each to which no pair leads is ready
-pub has_first : (pairs seen : List (Node × Node)) (nodes listed ready : List Node) → seen ≡ pairs → listed ≡ nodes
-    → All (λ p. Contains nodes p.0) pairs → All (λ x. IsUnled seen x → Contains ready x) listed → HasFirst pairs ready
-has_first pairs seen nodes listed ready e f begun counted = λ x y edge u.
-    let here : Contains nodes x = All-contains (λ (p : Node × Node). Contains nodes p.0) pairs (x, y) begun edge in
-    All-contains (λ (z : Node). IsUnled seen z → Contains ready z) listed x counted
-    (subst (λ (l : List Node). Contains l x) (sym f) here) (subst (λ (ps : List (Node × Node)). IsUnled ps x) (sym e) u)

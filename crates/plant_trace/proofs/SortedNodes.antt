@@ -8,7 +8,7 @@ use Rattle.plant_trace.specs.Nodes.{node_total}
 use Rattle.plant_trace.proofs.NodeOrder.{node_exact}
 use Rattle.plant_trace.proofs.NodeSets.{has_iff}
 
-abbrev set_of : List Node → BTreeSet Node
+abbrev pub set_of : List Node → BTreeSet Node
 set_of nodes = record { keys = nodes }
 
 same_test : (a b : Bool) → (a ≡ true → b ≡ true) → (b ≡ true → a ≡ true) → a ≡ b

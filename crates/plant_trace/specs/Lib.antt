@@ -6,6 +6,7 @@ pub mod Turned
 pub mod Index
 pub mod Ranks
 pub mod Growth
+pub mod Waiting
 pub mod NodeIndexes
 pub mod Mentions
 pub mod Recalls

@@ -1,8 +1,10 @@
 -- Positions of nodes, as their places in a list.
-use Rattle.std.specs.Prelude.{◌≡◌, ℕ, List, ◌++◌, Contains, Some, IsSome, slice_get}
-use Rattle.std.specs.BTreeMap.{BTreeMap, get}
+use Rattle.std.specs.Prelude.{◌≡◌, ◌<◌, ℕ, List, ◌++◌, Contains, Some, IsSome, slice_get}
+use Rattle.std.specs.BTreeMap.{BTreeMap, get, btree_map_len}
 use Rattle.plant_trace.specs.Nodes.{node_cmp}
-use Rattle.plant_trace.specs.Reach.{HasEdge}
+use Rattle.plant_trace.specs.Reach.{HasEdge, IsAcyclic}
+use Rattle.plant_trace.specs.Ranks.{rank_of, Rises}
+use Rattle.plant_trace.specs.Waiting.{IsMentioned}
 use Rattle.plant_trace.specs.declared.node.Node.{Node}
 
 -- each node of the list has a position, and a node that has one stands in the list there
@@ -25,3 +27,13 @@ ArePositions pairs positions = (nodes : List Node) × HasFirst pairs nodes × Ar
 -- the list got more at its end, or nothing
 abbrev pub Grows : List Node → List Node → Type 0
 Grows old new = (more : List Node) × (new ≡ old ++ more)
+
+-- the positions are the numbers below that of the nodes which have one: each is of one node, an end of a pair
+pub record IsNumbering (pairs : List (Node × Node)) (positions : BTreeMap Node ℕ) : Type 0 where
+  pub below : (x : Node) (n : ℕ) → get node_cmp positions x ≡ Some n → n < btree_map_len positions
+  pub apart : (x y : Node) (n : ℕ) → get node_cmp positions x ≡ Some n → get node_cmp positions y ≡ Some n → x ≡ y
+  pub only : (x : Node) → IsSome (get node_cmp positions x) → IsMentioned pairs x
+
+-- each pair leads to a later position, where no node reaches itself
+abbrev pub RiseIfAcyclic : List (Node × Node) → BTreeMap Node ℕ → Type 0
+RiseIfAcyclic pairs positions = IsAcyclic pairs → Rises (rank_of positions) pairs

@@ -1,6 +1,7 @@
-use Rattle.std.proofs.Common.{take, Contains}
-use Rattle.std.specs.List.{All}
+use Rattle.std.proofs.Common.{take}
+use Rattle.plant_trace.specs.Waiting.{IsMentioned}
+use Rattle.plant_trace.proofs.NodeSets.{HasExactly}
 use Rattle.plant_trace.proofs.positions.nodes_of.Given as goal
 
 abbrev pub invariant-loop-pair : goal.invariant-loop-pair
-invariant-loop-pair l = All (λ p. Contains l.nodes.keys p.0) (take l.pair-index l.pairs)
+invariant-loop-pair l = HasExactly (IsMentioned (take l.pair-index l.pairs)) l.nodes.keys

@@ -1,6 +1,6 @@
 //! Pages of the rows that a query finds, judged by the rules of their values.
 
-ghost use Rattle.std.specs.Prelude.{◌≡◌, ◌+◌, [], ◌∷◌, false, ℕ, List, Some, IfOk};
+ghost use Rattle.std.specs.Prelude.{◌≡◌, ◌+◌, [], ◌∷◌, false, ℕ, List, Some, Err, IfOk, IfErr, IfSome, IfNone};
 ghost use Rattle.sqlite.specs.State.{HasCleanDisk, Survives};
 ghost use Rattle.sqlite.specs.Held.{state};
 ghost use Rattle.sqlite.specs.Values.{bound, bound_value};
@@ -9,6 +9,7 @@ ghost use Rattle.sqlite_sql.specs.Ops.{is_null};
 ghost use Rattle.sqlite_value.specs.Value.{owned};
 ghost use Rattle.sql_queries.specs.Calls.{AnswersUnchanged, BeginsNone, KeepsVisible};
 ghost use Rattle.sql_queries.specs.Paging.{SelectsPage, AreBounds};
+ghost use Rattle.plant_tables_columns.specs.DecodedRows.{all_from};
 ghost use Rattle.plant_tables_columns.specs.Kinds.{number};
 ghost use Rattle.plant_worklists.specs.Pages.{page_size};
 ghost use Rattle.plant_worklists.specs.Worklists.{text_after};
@@ -26,7 +27,44 @@ use sql_queries::find_page;
 use sql_tables::{Fault, TableDef};
 use sqlite::types::ValueRef;
 use sqlite::{Alter, Connection};
-use std::alloc::Global;
+use std::alloc::{AllocError, Global};
+
+/// The page of a list whose rows were read. The fault is that of the reading; Store where a value of a row breaks its rule, and
+/// Memory where there is none for the rows.
+fn page_by<R: Decoded>(
+    alloc: Global,
+    read: Result<sql_queries::Page, Fault>,
+) -> Result<Page<R>, Fault>
+    ensures handed { IfErr read (λ fault. result ≡ Err fault) }
+    ensures rows { IfOk read (λ stored. IfOk result
+        (λ page. (all_from R.row_from stored.rows.items ≡ Some page.rows)
+        × (page.has_more ≡ stored.has_more))) }
+{
+    let stored = read?;
+    decoded_page(decode_all(alloc, stored.rows.as_slice()), stored.has_more)
+}
+
+/// The page of rows that were decoded. Store where one of them has a value that breaks its rule, and Memory where memory was refused
+/// for them.
+fn decoded_page<R>(
+    decoded: Result<Option<Vec<R>>, AllocError>,
+    has_more: bool,
+) -> Result<Page<R>, Fault>
+    ensures rows { IfOk decoded (λ found. IfSome found (λ rows. IfOk result
+        (λ page. (page.rows ≡ rows.items) × (page.has_more ≡ has_more)))) }
+    ensures broken { IfOk decoded (λ found. IfNone found (result ≡ Err Fault.Store)) }
+    ensures refused { IfErr decoded (λ _. result ≡ Err Fault.Memory) }
+    ensures only { IfOk result (λ page. IfOk decoded (λ found. IfSome found (λ rows. page.rows ≡ rows.items))) }
+{
+    match decoded {
+        Ok(Some(rows)) => Ok(Page {
+            rows: Items::new(rows),
+            has_more,
+        }),
+        Ok(None) => Err(Fault::Store),
+        Err(_) => Err(Fault::Memory),
+    }
+}
 
 /// A page of the rows of a table. Store where a value of a row breaks its rule, and as `find_page`; Memory where there is
 /// none. Nothing is changed.
@@ -47,15 +85,8 @@ fn page_over<S: Alter, R: Decoded>(
     ensures mode { BeginsNone (state S.Store conn.old) (state S.Store conn.new) }
     ensures crash { Survives (state S.Store conn.old) (state S.Store conn.new) (λ _. ⊥) }
 {
-    let page = find_page(alloc, conn, table_def, sql, values, usize::from(PAGE_SIZE))?;
-    match decode_all(alloc, page.rows.as_slice()) {
-        Ok(Some(rows)) => Ok(Page {
-            rows: Items::new(rows),
-            has_more: page.has_more,
-        }),
-        Ok(None) => Err(Fault::Store),
-        Err(_) => Err(Fault::Memory),
-    }
+    let most = usize::from(PAGE_SIZE);
+    page_by(alloc, find_page(alloc, conn, table_def, sql, values, most))
 }
 
 impl<'a, S: Alter> Keyed<'a, S> {

@@ -9,7 +9,6 @@ from __future__ import annotations
 import errno
 import json
 import os
-import pathlib
 import resource
 import shutil
 import subprocess
@@ -123,10 +122,7 @@ class FileCheckTestCase(DeskTestCase):
     @classmethod
     def setUpClass(cls):
         super().setUpClass()
-        folder = cls.new_folder()
-        cls.addClassCleanup(folder.cleanup)
-        cls.first, session = pathlib.Path(folder.name) / "twenty.db", sessions.twenty_commands()
-        cls.check_set_up("twenty commands", Program("desk", folder.name).run("run", "twenty.db", told=session.told), session.ended())
+        cls.first = cls.keep(cls.class_folder(), "twenty", sessions.twenty_commands())
 
     def setUp(self):
         super().setUp()

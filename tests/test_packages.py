@@ -85,9 +85,7 @@ class PackageTestCase(ProgramTestCase):
     @classmethod
     def setUpClass(cls):
         super().setUpClass()
-        folder = cls.new_folder()
-        cls.addClassCleanup(folder.cleanup)
-        cls.place = pathlib.Path(folder.name)
+        cls.place = cls.class_folder()
         cls.programs = {name: path_of(name) for name in PACKED}
         cls.version = ran("desk", "--version", executable=cls.programs["desk"])[1].split()[-1]
         cls.words = words_of(help_text(cls.programs["desk"]))

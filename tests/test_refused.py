@@ -7,7 +7,6 @@ hasn't.
 from __future__ import annotations
 
 import itertools
-import pathlib
 import shutil
 
 from tests.support import faults, http, sessions
@@ -48,11 +47,7 @@ class RefusedMemory(DeskTestCase):
     @classmethod
     def setUpClass(cls):
         super().setUpClass()
-        folder = cls.new_folder()
-        cls.addClassCleanup(folder.cleanup)
-        cls.first, session = pathlib.Path(folder.name) / "first.db", sessions.twenty_commands()
-        desk = Program("desk", folder.name)
-        cls.check_set_up("twenty commands", desk.run("run", "first.db", told=session.told), session.ended())
+        cls.first = cls.keep(cls.class_folder(), "first", sessions.twenty_commands())
 
     def server(self, number, connections):
         """Starts a server over a fresh copy of the file, of which the allocation of this number is refused; then the mark is made."""

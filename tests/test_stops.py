@@ -159,9 +159,7 @@ class StopTestCase(DeskTestCase):
     @classmethod
     def setUpClass(cls):
         super().setUpClass()
-        folder = cls.new_folder()
-        cls.addClassCleanup(folder.cleanup)
-        cls.course = cls.new_course(folder.name)
+        cls.course = cls.new_course(cls.class_folder())
 
     def check_stops(self, end, stride=1, is_followed=False):
         """Stops the course behind each number of calls up to the first that lets it end well."""

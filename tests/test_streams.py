@@ -73,15 +73,13 @@ class StreamTestCase(DeskTestCase):
     @classmethod
     def setUpClass(cls):
         super().setUpClass()
-        folder = cls.new_folder()
-        cls.addClassCleanup(folder.cleanup)
-        cls.kept = Program("desk", folder.name)
-        cls.keep("empty", Session())
+        cls.kept = Program("desk", cls.class_folder())
+        cls.keep_named("empty", Session())
 
     @classmethod
-    def keep(cls, name, session):
-        """Keeps the file that a session leaves."""
-        cls.check_set_up(name, cls.kept.run("run", f"{name}.db", told=session.told), session.ended())
+    def keep_named(cls, name, session):
+        """Keeps the file that a session leaves, of which `copied` makes copies."""
+        cls.keep(cls.kept.folder, name, session)
 
     def copied(self, name="empty"):
         """Returns the name of a fresh copy of a kept file."""
@@ -178,7 +176,7 @@ class Outputs(StreamTestCase):
     @classmethod
     def setUpClass(cls):
         super().setUpClass()
-        cls.keep("batch", sessions.whole_batch())
+        cls.keep_named("batch", sessions.whole_batch())
 
     def program(self, name):
         return Program(name, self.folder)
@@ -266,7 +264,7 @@ class Requests(StreamTestCase):
                 self.check(f"{request[:60]}, {limits}", found, (wanted, WELL))
 
     def test_record_is_answered_alike_in_one_byte_pieces(self):
-        self.keep("batch", sessions.whole_batch())
+        self.keep_named("batch", sessions.whole_batch())
         record = self.kept.run("record", "batch.db", "B-1").output
         wanted = answer(record.decode(), kind="text/plain")
         for limits in {}, NARROW:
@@ -303,7 +301,7 @@ class Requests(StreamTestCase):
             self.check(f"one write of {request[:20]}", found, (wanted, WELL))
 
     def test_refused_recall_and_lift_are_conflicts(self):
-        self.keep("goods", Session().accepted(*GOODS))
+        self.keep_named("goods", Session().accepted(*GOODS))
         file = self.copied("goods")
         for body, status, wanted in RECALLS:
             text, end = self.serve_over({}, file, posted("/v1/commands", b'{"at":100,"by":"",%s}' % body.encode()))

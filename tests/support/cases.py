@@ -86,6 +86,13 @@ class FolderTestCase(CountedTestCase):
         place = MEMORY if cls.IN_MEMORY and MEMORY.is_dir() else None
         return tempfile.TemporaryDirectory(prefix="desk-tests-", dir=place)
 
+    @classmethod
+    def class_folder(cls):
+        """Returns the path of a new folder that is removed after the tests of the class."""
+        folder = cls.new_folder()
+        cls.addClassCleanup(folder.cleanup)
+        return pathlib.Path(folder.name)
+
     def setUp(self):
         folder = self.new_folder()
         self.addCleanup(folder.cleanup)
@@ -113,6 +120,13 @@ class DeskTestCase(ProgramTestCase):
     def setUp(self):
         super().setUp()
         self.desk = program.Program("desk", self.folder)
+
+    @classmethod
+    def keep(cls, folder, name, session):
+        """Keeps the file that a session leaves in a folder, and returns its path."""
+        ended = program.Program("desk", folder).run("run", f"{name}.db", told=session.told)
+        cls.check_set_up(name, ended, session.ended())
+        return pathlib.Path(folder) / f"{name}.db"
 
     def check_run(self, case, words, wanted, told=b""):
         """Checks how a run of the desk ends."""

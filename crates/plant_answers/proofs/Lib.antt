@@ -1,6 +1,7 @@
 pub mod SumsByEdge
 pub mod FoundBatchRow
 pub mod BookingsBetweenNodes
+pub mod BothHold
 pub mod EdgesAreBooked
 pub mod BookedSumsFit
 pub mod GatheredBookings

@@ -1,8 +1,9 @@
 //! What is told of each of many lots or nodes, one after another.
-ghost use Rattle.std.specs.Prelude.{◌≡◌, IfOk};
+ghost use Rattle.std.specs.Prelude.{◌≡◌, IfOk, fold};
 ghost use Rattle.std.specs.List.{filter_map};
 ghost use Rattle.plant_trace.specs.HoldsIfHonest.{HoldsIfHonest};
 ghost use Rattle.plant_view.specs.DecisionInvariant.{DecisionInvariant};
+ghost use Rattle.plant_answers.specs.KnownLots.{AreKnown};
 
 use crate::bookings::push_found;
 use crate::known_lots::KnownLots;
@@ -17,9 +18,13 @@ pub(crate) trait RowOf<R>: Sized {
     ghost use Rattle.plant_trace.specs.HoldsIfHonest.{HoldsIfHonest};
     ghost use Rattle.plant_view.specs.DecisionInvariant.{DecisionInvariant};
     ghost use Rattle.plant_answers.specs.KnownLots.{AreKnown};
+    ghost use Rattle.plant_answers.specs.declared.known_lots.KnownLots.{KnownLots};
 
     /// What a state tells of it.
     ghost reported: { State → Self → Option R };
+
+    /// What is known of lots after it, by what was known before.
+    ghost known_after: { State → KnownLots → Self → KnownLots };
 
     /// What is told of it, by what was read ahead of lots.
     fn row_of<V: Worklists>(
@@ -31,7 +36,8 @@ pub(crate) trait RowOf<R>: Sized {
         ensures { HoldsIfHonest V.honest V.kept V.frame view.old view.new
             (DecisionInvariant (V.state view.old) → AreKnown (V.state view.old) known.old
             → IfOk result (λ found. found ≡ reported (V.state view.old) self.now)
-            × AreKnown (V.state view.old) known.new) };
+            × AreKnown (V.state view.old) known.new
+            × IfOk result (λ _. known.new ≡ known_after (V.state view.old) known.old self.now)) };
 }
 
 /// What is told of each that a row is told of, in their order.
@@ -45,9 +51,24 @@ pub(crate) fn each_row<R: Drop, T: RowOf<R>, V: Worklists>(
         → IfOk result (λ v. v.items ≡ filter_map (T.reported (V.state view.old)) items.now)) }
 {
     let mut known = KnownLots::new(alloc);
+    rows_of_each(alloc, view, &mut known, items)
+}
+
+// The same, by what was known before: what is known after one item is known at the next.
+fn rows_of_each<R: Drop, T: RowOf<R>, V: Worklists>(
+    alloc: Global,
+    view: &mut V,
+    known: &mut KnownLots,
+    items: &[T],
+) -> Result<Vec<R>, ViewFault<V::Fault>>
+    ensures { HoldsIfHonest V.honest V.kept V.frame view.old view.new
+        (DecisionInvariant (V.state view.old) → AreKnown (V.state view.old) known.old
+        → IfOk result (λ v. (v.items ≡ filter_map (T.reported (V.state view.old)) items.now)
+        × (known.new ≡ fold (T.known_after (V.state view.old)) known.old items.now))) }
+{
     let mut rows = Vec::new(alloc);
     for item in items {
-        let found = item.row_of(alloc, view, &mut known)?;
+        let found = item.row_of(alloc, view, known)?;
         if push_found(&mut rows, found).is_err() {
             return Err(ViewFault::Memory);
         }

@@ -6,7 +6,7 @@ ghost use Rattle.plant_trace.specs.HoldsIfHonest.{HoldsIfHonest};
 ghost use Rattle.plant_view.specs.Recalls.{is_blocked};
 ghost use Rattle.plant_view.specs.DecisionInvariant.{DecisionInvariant};
 ghost use Rattle.plant_answers.specs.Genealogy.{answer_edges, genealogy_around, lot_node, node_answer, node_if};
-ghost use Rattle.plant_answers.specs.KnownLots.{AreKnown};
+ghost use Rattle.plant_answers.specs.KnownLots.{AreKnown, after_definition, after_lot, after_node, after_node_if};
 ghost use Rattle.plant_answers.specs.LotAnswers.{lot_answer};
 ghost use Rattle.plant_answers.specs.Traces.{missing};
 ghost use Rattle.plant_messages.specs.declared.genealogy.NodeAnswer.TheVariants as node;
@@ -80,6 +80,8 @@ fn genealogy_around<V: Worklists>(
 impl RowOf<NodeAnswer> for Node {
     ghost reported = { node_answer };
 
+    ghost known_after = { after_node };
+
     fn row_of<V: Worklists>(
         &self,
         alloc: Global,
@@ -105,7 +107,8 @@ fn node_if<V: Worklists>(
     ensures { HoldsIfHonest V.honest V.kept V.frame view.old view.new
         (DecisionInvariant (V.state view.old) → AreKnown (V.state view.old) known.old
         → IfOk result (λ found. found ≡ node_if (V.state view.old) lot)
-        × AreKnown (V.state view.old) known.new) }
+        × AreKnown (V.state view.old) known.new
+        × IfOk result (λ _. known.new ≡ after_node_if (V.state view.old) known.old lot)) }
 {
     let Some(lot) = lot else {
         return Ok(None);
@@ -124,7 +127,9 @@ fn lot_node<V: Worklists>(
         (DecisionInvariant (V.state view.old) → AreKnown (V.state view.old) known.old
         → IfOk result (λ found. found ≡ option_map (λ d. node.Lot (lot_node (V.state view.old) lot.now d))
         (definition_at (V.state view.old) lot.now.def))
-        × AreKnown (V.state view.old) known.new) }
+        × AreKnown (V.state view.old) known.new
+        × IfOk result (λ _. known.new ≡ after_lot (V.state view.old) lot.now
+        (after_definition (V.state view.old) lot.now.def known.old))) }
 {
     let definition = known_definition(view, known, lot.def)?;
     let recalled = lookup::is_blocked(view, lot.id)?;

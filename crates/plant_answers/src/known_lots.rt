@@ -1,9 +1,9 @@
 // What is known of many lots, which are asked for one after another by their ids.
-ghost use Rattle.std.specs.Prelude.{◌≡◌, IfOk, IfSome, Some};
+ghost use Rattle.std.specs.Prelude.{◌≡◌, IfOk, IsSome};
 ghost use Rattle.plant_base.specs.State.{State, definition_at, lot_at};
 ghost use Rattle.plant_trace.specs.HoldsIfHonest.{HoldsIfHonest};
 ghost use Rattle.plant_view.specs.DecisionInvariant.{DecisionInvariant};
-ghost use Rattle.plant_answers.specs.KnownLots.{AreKnown};
+ghost use Rattle.plant_answers.specs.KnownLots.{AreKnown, after_definition, after_lot, after_row, last_one, nothing_known};
 ghost use Rattle.plant_answers.specs.LotAnswers.{lot_answer};
 
 use crate::lot_answers::answer_of_lot;
@@ -28,7 +28,8 @@ pub(crate) struct KnownLots {
 impl KnownLots {
     /// Nothing yet. No memory is taken.
     pub(crate) fn new(alloc: Global) -> KnownLots
-        ensures { (s : State) → AreKnown s result }
+        ensures valid { (s : State) → AreKnown s result }
+        ensures nothing { result ≡ nothing_known }
     {
         KnownLots {
             lots: ReadAhead::unread(alloc, false),
@@ -48,7 +49,8 @@ pub(crate) fn known_row<V: Worklists>(
     ensures { HoldsIfHonest V.honest V.kept V.frame view.old view.new
         (DecisionInvariant (V.state view.old) → AreKnown (V.state view.old) known.old
         → IfOk result (λ found. found ≡ lot_at (V.state view.old) id.now)
-        × AreKnown (V.state view.old) known.new) }
+        × AreKnown (V.state view.old) known.new
+        × IfOk result (λ _. known.new ≡ after_row (V.state view.old) id.now known.old)) }
 {
     prefetched_lot(view, &mut known.lots, id)
 }
@@ -63,23 +65,26 @@ pub(crate) fn known_lot<V: Worklists>(
     ensures { HoldsIfHonest V.honest V.kept V.frame view.old view.new
         (DecisionInvariant (V.state view.old) → AreKnown (V.state view.old) known.old
         → IfOk result (λ a. a ≡ lot_answer (V.state view.old) lot.now)
-        × AreKnown (V.state view.old) known.new) }
+        × AreKnown (V.state view.old) known.new
+        × IfOk result (λ _. known.new ≡ after_lot (V.state view.old) lot.now known.old)) }
 {
     let held = prefetched_is_held(view, &mut known.holds, &lot.id)?;
     let sublots = prefetched_sublots(alloc, view, &mut known.sublots, &lot.id)?;
     Ok(answer_of_lot(*lot, held, sublots))
 }
 
-/// The definition of this id.
+/// The definition of this id. The last one isn't looked up again.
 pub(crate) fn known_definition<V: Worklists>(
     view: &mut V,
     known: &mut KnownLots,
     id: Id,
 ) -> Result<Option<Definition>, ViewFault<V::Fault>>
-    ensures { HoldsIfHonest V.honest V.kept V.frame view.old view.new
+    ensures found { HoldsIfHonest V.honest V.kept V.frame view.old view.new
         (AreKnown (V.state view.old) known.old
         → IfOk result (λ found. found ≡ definition_at (V.state view.old) id)
-        × AreKnown (V.state view.old) known.new) }
+        × AreKnown (V.state view.old) known.new
+        × IfOk result (λ _. known.new ≡ after_definition (V.state view.old) id known.old)) }
+    ensures unasked { IsSome (last_one id known.old.definition) → view.new ≡ view.old }
 {
     if let Some(last) = last_one(known.definition, id) {
         return Ok(Some(last));
@@ -92,7 +97,7 @@ pub(crate) fn known_definition<V: Worklists>(
 
 // The definition that was looked up last, where it is of this id.
 fn last_one(last: Option<Definition>, id: Id) -> Option<Definition>
-    ensures { IfSome result (λ d. (last ≡ Some d) × (d.id ≡ id)) }
+    ensures { result ≡ last_one id last }
 {
     match last {
         Some(last) if last.id == id => Some(last),

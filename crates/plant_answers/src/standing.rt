@@ -3,7 +3,7 @@ ghost use Rattle.std.specs.Prelude.{◌≡◌, IfOk};
 ghost use Rattle.plant_trace.specs.HoldsIfHonest.{HoldsIfHonest};
 ghost use Rattle.plant_view.specs.DecisionInvariant.{DecisionInvariant};
 ghost use Rattle.plant_answers.specs.Surroundings.{answer_stands, lots_standing, stocked_at, stocked_if};
-ghost use Rattle.plant_answers.specs.KnownLots.{AreKnown};
+ghost use Rattle.plant_answers.specs.KnownLots.{AreKnown, after_stocked_at, after_stocked_if};
 ghost use Rattle.plant_answers.specs.Traces.{missing};
 
 use crate::around::nodes_around;
@@ -49,6 +49,8 @@ fn lots_standing<V: Worklists>(
 impl RowOf<LotAnswer> for Node {
     ghost reported = { stocked_at };
 
+    ghost known_after = { after_stocked_at };
+
     fn row_of<V: Worklists>(
         &self,
         alloc: Global,
@@ -74,7 +76,8 @@ fn stocked_if<V: Worklists>(
     ensures { HoldsIfHonest V.honest V.kept V.frame view.old view.new
         (DecisionInvariant (V.state view.old) → AreKnown (V.state view.old) known.old
         → IfOk result (λ found. found ≡ stocked_if (V.state view.old) lot)
-        × AreKnown (V.state view.old) known.new) }
+        × AreKnown (V.state view.old) known.new
+        × IfOk result (λ _. known.new ≡ after_stocked_if (V.state view.old) known.old lot)) }
 {
     let Some(lot) = lot else {
         return Ok(None);

@@ -5,6 +5,7 @@ ghost use Rattle.plant_trace.specs.HoldsIfHonest.{HoldsIfHonest};
 ghost use Rattle.plant_view.specs.DecisionInvariant.{DecisionInvariant};
 ghost use Rattle.plant_worklists.specs.Pages.{page_of};
 ghost use Rattle.plant_worklists.specs.Worklists.{lots_of};
+ghost use Rattle.plant_answers.specs.KnownLots.{after_stocked};
 ghost use Rattle.plant_answers.specs.Worklists.{answer_lots, lot_page, if_stocked, stocked_lot};
 
 use crate::each_told::{RowOf, each_row};
@@ -72,6 +73,8 @@ fn answer_of_lots(known: Option<Definition>, page: LotPage) -> Answer
 
 impl RowOf<LotAnswer> for Lot {
     ghost reported = { stocked_lot };
+
+    ghost known_after = { after_stocked };
 
     fn row_of<V: Worklists>(
         &self,

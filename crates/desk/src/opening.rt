@@ -13,7 +13,11 @@ use sqlite::{Alter, Connection, Start};
 struct DeskWork(Work);
 
 impl StoreWork for DeskWork {
+    ghost use Rattle.desk.specs.Worked.{WorkGives};
+
     type Outcome = Result<bool, Fault>;
+
+    ghost gives = { λ work before done after. WorkGives work.0 before done after };
 
     fn work<S: Alter + Drop>(
         self,
@@ -37,11 +41,11 @@ impl StoreWork for DeskWork {
 pub(crate) fn perform_over<S: Start>(rt: &HostRuntime, words: &Words<'_>, start: S) -> u8 {
     match work_over(rt, words.file, start, DeskWork(words.work)) {
         Ok(ended) => write_outcome(outcome_of(ended), &mut rt.stderr()),
-        Err(error) => write_opening(&error, &mut rt.stderr()),
+        Err(refused) => write_opening(&refused.error, &mut rt.stderr()),
     }
 }
 
-/// What came of the work, behind which the file was closed or couldn't be.
+/// What came of the work whose file was closed after it, or couldn't be.
 fn outcome_of(ended: Ended<Result<bool, Fault>>) -> Result<bool, Fault>
     ensures { result ≡ after_closing ended.outcome ended.is_closed }
 {

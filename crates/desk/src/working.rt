@@ -2,7 +2,9 @@
 ghost use Rattle.std.specs.Prelude.{◌≡◌, false, Err, IfErr, OnErr, OnOk};
 ghost use Rattle.sqlite.specs.Held.{state};
 ghost use Rattle.desk.specs.Served.{outcome_of};
-ghost use Rattle.desk_server.specs.Serving.{EndsServing};
+ghost use Rattle.desk.specs.Worked.{DeskServes, ServingGives, WorkGives};
+ghost use Rattle.desk_program.specs.Runs.{WasHonest};
+ghost use Rattle.desk_server.specs.Serving.{EndsServing, ServesAtMost};
 
 use desk_cli::{Serving, Work};
 use desk_program::{Fault, Performed, adopt, perform_task, performed_of};
@@ -19,6 +21,9 @@ pub(crate) fn do_work<S: Alter + Drop>(
     connection: Connection<S>,
 ) -> Performed<S>
     requires { (state S.Store connection).in_transaction ≡ false }
+    ensures gives { WorkGives work (state S.Store connection) result.outcome
+        (state S.Store result.connection) }
+    ensures honest { WasHonest (state S.Store connection) (state S.Store result.connection) }
 {
     match work {
         Work::Task(task) => perform_task(
@@ -39,6 +44,9 @@ fn serve_store<S: Alter + Drop>(
     connection: Connection<S>,
 ) -> Performed<S>
     requires { (state S.Store connection).in_transaction ≡ false }
+    ensures gives { ServingGives serving.count (state S.Store connection)
+        (state S.Store result.connection) result.outcome }
+    ensures honest { WasHonest (state S.Store connection) (state S.Store result.connection) }
 {
     match adopt(rt.alloc(), connection) {
         Ok(desk) => serve_desk(rt, serving, desk),
@@ -53,6 +61,9 @@ fn serve_desk<S: Alter + Drop>(
     mut desk: Desk<S>,
 ) -> Performed<S>
     requires { desk.is_shut ≡ false }
+    ensures served { DeskServes serving.count (state S.Store desk.connection)
+        (state S.Store result.connection) result.outcome }
+    ensures honest { WasHonest (state S.Store desk.connection) (state S.Store result.connection) }
 {
     let served = serve_at(rt, serving, &mut desk);
     Performed {
@@ -90,6 +101,8 @@ fn serve_at<S: Alter + Drop>(
 ) -> Result<(), ServingFault>
     requires { desk.old.is_shut ≡ false }
     ensures ends { EndsServing desk.new.is_shut result }
+    ensures serves { ServesAtMost S.Store serving.count desk.old desk.new }
+    ensures honest { WasHonest (state S.Store desk.old.connection) (state S.Store desk.new.connection) }
 {
     let log = log_of(rt, serving.is_logged);
     let listening = listen_at(rt, local_at(serving.port));
@@ -111,6 +124,8 @@ fn serve_listening<S: Alter + Drop>(
     ensures ends { OnOk listening (EndsServing desk.new.is_shut result) }
     ensures fault { IfErr listening (λ fault. result ≡ Err fault) }
     ensures unchanged { OnErr listening (desk.new ≡ desk.old) }
+    ensures serves { ServesAtMost S.Store count desk.old desk.new }
+    ensures honest { WasHonest (state S.Store desk.old.connection) (state S.Store desk.new.connection) }
 {
     match listening {
         Ok(listener) => serve_listener(rt, rt.alloc(), &listener, count, desk, log),

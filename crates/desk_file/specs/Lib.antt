@@ -1,1 +1,2 @@
 pub mod Timing
+pub mod Working

@@ -4,4 +4,4 @@
 mod timing;
 mod working;
 
-pub use working::{Ended, StoreWork, Worked, work_over};
+pub use working::{Ended, OpenRefused, StoreWork, Worked, work_over};

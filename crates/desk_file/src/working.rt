@@ -1,27 +1,34 @@
 //! Work over an opened store, and the end of it.
-ghost use Rattle.std.specs.Prelude.{◌≡◌, false, true, is_ok};
+ghost use Rattle.std.specs.Prelude.{◌≡◌, ◌≢◌, ◌↔◌, false, true, is_ok, IsTrue, IfOk, IfErr};
 ghost use Rattle.sqlite.specs.Held.{state};
 ghost use Rattle.sqlite.specs.Files.{file_state};
+ghost use Rattle.sqlite.specs.State.{HasCleanDisk};
 ghost use Rattle.sqlite.specs.Steps.{over_memory};
+ghost use Rattle.sql_queries.specs.Opened.{IsNewlyOpened};
+ghost use Rattle.desk_file.specs.Working.{in_memory, WasDone};
 
 use crate::timing::Progress;
 use sql_queries::{open_file, open_in_memory};
 use sqlite::{Alter, Connection, Error, ErrorCode, FileFrom, FileStore, MemStore, Start};
+use sqlite_trees::store::Store;
 use std::alloc::AllocError;
-
-/// The name of the file that stands for memory.
-const IN_MEMORY: &str = ":memory:";
 
 /// Work over an opened store, whichever it is.
 ///
-/// It is a trait so that no function that tells what is done has to be proved over the store of a file, which is dear: each is proved
+/// It is a trait so that no function that reports what is done has to be proved over the store of a file, which is dear: each is proved
 /// once, over all stores.
-pub trait StoreWork: Copy {
+///
+/// Work need not be `Copy`: what takes it by value can do it once at most.
+pub trait StoreWork {
     ghost use Rattle.std.specs.Prelude.{◌≡◌, false};
     ghost use Rattle.sqlite.specs.Held.{state};
+    ghost use Rattle.sqlite.specs.State.{State, HasCleanDisk};
 
     /// What comes of it.
     type Outcome: Copy;
+
+    /// What came of the work over a store that showed the first state, and was given back in the second.
+    ghost gives: { Self → State → Self.Outcome → State → Type 0 };
 
     /// Does it over a store in no transaction, and gives the store back.
     fn work<S: Alter + Drop>(
@@ -29,7 +36,9 @@ pub trait StoreWork: Copy {
         rt: &HostRuntime,
         connection: Connection<S>,
     ) -> Worked<Self::Outcome, S>
-        requires { (state S.Store connection).in_transaction ≡ false };
+        requires { (state S.Store connection).in_transaction ≡ false }
+        ensures honest { HasCleanDisk (state S.Store result.connection) → HasCleanDisk (state S.Store connection) }
+        ensures given { gives self (state S.Store connection) result.outcome (state S.Store result.connection) };
 }
 
 /// What came of work, and the store that it was done over.
@@ -41,7 +50,7 @@ pub struct Worked<T: Copy, S: Alter> {
     pub connection: Connection<S>,
 }
 
-/// What came of work, behind which the store was closed or couldn't be.
+/// What came of work whose store was closed after it, or couldn't be.
 #[derive(Clone, Copy)]
 pub struct Ended<T: Copy> {
     /// What came of it.
@@ -50,21 +59,48 @@ pub struct Ended<T: Copy> {
     pub is_closed: bool,
 }
 
-/// Opens the file, does the work over it, and closes it: what stands in its log is copied into it, so that the file alone holds what the
+/// Work that wasn't done, because its store didn't open.
+#[derive(Drop)]
+pub struct OpenRefused<W> {
+    /// Why the store didn't open.
+    pub error: Error,
+    /// The work.
+    pub work: W,
+}
+
+/// Whether the name of a file means a new store in memory.
+fn is_in_memory(file: &str) -> bool
+    ensures { IsTrue result ↔ (file.now ≡ in_memory) }
+{
+    file == ":memory:"
+}
+
+/// Opens the file, does the work over it, and closes it: what its log holds is copied into it, so that the file alone holds what the
 /// work left. The file `:memory:` is a new store in memory. Where the opening takes long a terminal is told how far it is.
 ///
-/// `start` stands for what the file holds before it is opened, whatever that is. The error is that of a store that didn't open; over it
-/// nothing was done.
+/// `start` represents what the file holds before it is opened, whatever that is. The error is that of a store that didn't open, and
+/// gives the work back: it wasn't done.
 pub fn work_over<W: StoreWork, S: Start>(
     rt: &HostRuntime,
     file: &str,
     start: S,
     work: W,
-) -> Result<Ended<W::Outcome>, Error> {
-    if file == IN_MEMORY {
+) -> Result<Ended<W::Outcome>, OpenRefused<W>>
+    ensures memory { file.now ≡ in_memory → IfOk result (λ ended.
+        WasDone over_memory (W.gives work) ended.outcome × (ended.is_closed ≡ true)) }
+    ensures file { file.now ≢ in_memory → IfOk result (λ ended.
+        WasDone ⟦<FileStore<FileFrom<S>> as Store>⟧ (W.gives work) ended.outcome) }
+    ensures undone { IfErr result (λ refused. refused.work ≡ work) }
+    ensures memory_error { file.now ≡ in_memory → IfErr result (λ refused.
+        refused.error ≡ Error.SqliteFailure ErrorCode.OutOfMemory) }
+{
+    if is_in_memory(file) {
         return match open_in_memory(rt.alloc()) {
             Ok(connection) => Ok(work_in_memory(rt, work, connection)),
-            Err(refused) => Err(memory_error(refused)),
+            Err(refused) => Err(OpenRefused {
+                error: memory_error(refused),
+                work,
+            }),
         };
     }
     let progress = Progress::begin(rt, file);
@@ -73,7 +109,7 @@ pub fn work_over<W: StoreWork, S: Start>(
             progress.note_opened();
             Ok(work_in_file(rt, work, connection))
         }
-        Err(error) => Err(error),
+        Err(error) => Err(OpenRefused { error, work }),
     }
 }
 
@@ -90,8 +126,10 @@ fn work_in_memory<W: StoreWork>(
     work: W,
     connection: Connection<MemStore>,
 ) -> Ended<W::Outcome>
-    requires { (state over_memory connection).in_transaction ≡ false }
-    ensures { result.is_closed ≡ true }
+    requires rests { (state over_memory connection).in_transaction ≡ false }
+    requires newly { IsNewlyOpened (state over_memory connection) }
+    ensures closed { result.is_closed ≡ true }
+    ensures done { WasDone over_memory (W.gives work) result.outcome }
 {
     Ended {
         outcome: work.work(rt, connection).outcome,
@@ -105,7 +143,9 @@ fn work_in_file<W: StoreWork, S: Start>(
     work: W,
     connection: Connection<FileStore<FileFrom<S>>>,
 ) -> Ended<W::Outcome>
-    requires { (file_state connection).in_transaction ≡ false }
+    requires rests { (file_state connection).in_transaction ≡ false }
+    requires newly { HasCleanDisk (file_state connection) → IsNewlyOpened (file_state connection) }
+    ensures { WasDone ⟦<FileStore<FileFrom<S>> as Store>⟧ (W.gives work) result.outcome }
 {
     let Worked {
         outcome,
@@ -114,7 +154,7 @@ fn work_in_file<W: StoreWork, S: Start>(
     behind_closing(outcome, connection.close())
 }
 
-/// What came of work, behind which the file was closed so.
+/// What came of work whose file was closed so after it.
 fn behind_closing<T: Copy>(outcome: T, closing: Result<(), Error>) -> Ended<T>
     ensures outcome { result.outcome ≡ outcome }
     ensures closed { result.is_closed ≡ is_ok closing }

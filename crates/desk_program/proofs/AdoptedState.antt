@@ -1,10 +1,13 @@
 -- What is known of the state at which a store was adopted.
-use Rattle.std.proofs.Common.{◌≡◌, inl, inr, false, Bool}
+use Rattle.std.proofs.Common.{◌≡◌, inl, inr, false, Bool, arith}
 use Rattle.sqlite.specs.State as store
+use Rattle.sqlite.specs.State.{Survives}
+use Rattle.sqlite.specs.Tree.{Trees}
 use Rattle.plant_base.specs.State.{State, opening}
 use Rattle.plant_desk.specs.Keepers.{States}
 use Rattle.plant_desk_store.specs.Adopting.{IsNewlyOpened, AdoptedFrom}
 use Rattle.plant_desk_store.specs.DeskStates.{IsDurablyAt, Represents}
+use Rattle.desk_program.specs.Runs.{WasHonest}
 
 pub adopted_so : (c : store.State) → IsNewlyOpened c → (before after : States) → ((s : State) → before s → after s) → AdoptedFrom c before → AdoptedFrom c after
 adopted_so c opened before after step (inl h) = inl (h.0, step opening h.1)
@@ -20,3 +23,7 @@ as_open c shut s is_open h = record { represents = h.0; crash_states = h.1 is_op
 pub adopted_at : (c : store.State) → IsNewlyOpened c → (represents : States) → AdoptedFrom c represents → (s : State) × represents s
 adopted_at c opened represents (inl h) = (opening, h.1)
 adopted_at c opened represents (inr h) = (h.1.0, h.1.2)
+
+-- no fault of a disk is forgotten
+pub honest_before : (before after : store.State) (commits : Trees → Type 0) → Survives before after commits → WasHonest before after
+honest_before before after commits crash clean = omega (arith, crash.clean, clean)

@@ -1,4 +1,4 @@
-mod AdoptedState
+pub mod AdoptedState
 mod AskedKeeper
 mod ImportEnds
 mod OneLinePrinted

@@ -1,9 +1,11 @@
 -- One line on standard output.
-use Rattle.std.proofs.Common.{◌≡◌, ℕ, List, Option, Result, Ok, Err, subst, sym}
-use Rattle.std.specs.Prelude.{OnOk, IfErr, MatchResult}
+use Rattle.std.proofs.Common.{◌≡◌, ℕ, List, Option, Result, Ok, Err, subst, sym, refl}
+use Rattle.std.specs.Prelude.{OnOk, IfErr, MatchResult, ◌≢◌}
 use Rattle.std.specs.Io.KnownBytes.{Appends}
 use Rattle.plant_text.specs.Writes.{with_lf, AppendsPrefix}
+use Rattle.desk_program.specs.Faults.{IsPrintFault}
 use Rattle.desk_program.specs.Performs.{Lines, Printed, Unprinted}
+use Rattle.desk_program.specs.Reports.{LineStops}
 use Rattle.desk_program.specs.declared.fault.Fault.{Fault}
 use Rattle.desk_program.specs.declared.fault.Fault.TheVariants as fault
 
@@ -18,3 +20,21 @@ pub one_printed : {A : Type 0} (r : Result A Fault) (lines : Lines) (line : List
     → MatchResult r (λ _. Printed lines old new) (Unprinted lines old new)
 one_printed (Ok x) lines line old new is ok e prefix = (line, is, ok)
 one_printed (Err f) lines line old new is ok e prefix = subst (λ (g : Fault). Unprinted lines old new g) (sym e) (line, is, prefix)
+
+-- a line that wasn't printed whole, by another name
+pub line_stopped : {A : Type 0} (r : Result A Fault) (old new : Option (List ℕ)) (line wanted : List ℕ) → line ≡ wanted
+    → IfErr r (λ f. f ≡ fault.Write) → IfErr r (λ _. AppendsPrefix old new (with_lf line)) → IfErr r (LineStops wanted old new)
+line_stopped (Ok x) old new line wanted e is prefix = tt
+line_stopped (Err f) old new line wanted e is prefix =
+    let left : AppendsPrefix old new (with_lf wanted) = subst (λ (text : List ℕ). AppendsPrefix old new (with_lf text)) e prefix in
+    subst (λ (g : Fault). LineStops wanted old new g) (sym is) left
+
+-- a fault before any of the line was written
+pub line_unbegun : (line : List ℕ) (old : Option (List ℕ)) (f : Fault) → f ≢ fault.Write → LineStops line old old f
+line_unbegun line old fault.Write h = absurd (h refl)
+line_unbegun line old _ h = refl
+
+-- a failed write is one of the faults of printing
+pub printing_failed : {A : Type 0} (r : Result A Fault) → IfErr r (λ f. f ≡ fault.Write) → IfErr r IsPrintFault
+printing_failed (Ok x) is = tt
+printing_failed (Err f) is = subst IsPrintFault (sym is) tt

@@ -1,8 +1,7 @@
 -- What the words `trace` and `record` print of an answer.
 use Rattle.std.specs.Prelude.{◌≡◌, ◌⊎◌, ℕ, List, ◌++◌, Bool, Option, Result, Ok, Err, IfOk, flat_map}
 use Rattle.std.specs.Io.KnownBytes.{Appends}
-use Rattle.sqlite.specs.Held.{Held, state}
-use Rattle.sqlite_trees.specs.declared.store.Store.{Ghosts}
+use Rattle.sqlite.specs.State as store
 use Rattle.plant_base.specs.State.{newest_schema}
 use Rattle.plant_trace.specs.Nodes.{node_text}
 use Rattle.plant_trace.specs.declared.node.Node.{Node}
@@ -12,13 +11,12 @@ use Rattle.plant_messages.specs.declared.question.Question.{Question}
 use Rattle.plant_messages.specs.declared.question.Answer.{Answer}
 use Rattle.plant_messages.specs.declared.question.Answer.TheVariants as A
 use Rattle.plant_messages.specs.declared.reply.DeskFault.{DeskFault}
-use Rattle.plant_desk_store.specs.Adopting.{AdoptedFrom}
 use Rattle.plant_desk_store.specs.DeskStates.{IsDurablyAt}
 use Rattle.plant_text_answers.specs.Answers.{text_of_answer}
 use Rattle.plant_text.specs.Session.{is_unknown}
 use Rattle.plant_text.specs.Writes.{with_lf, AppendsPrefix}
 use Rattle.desk_program.specs.Faults.{desk_fault}
-use Rattle.desk_program.specs.Runs.{WasRefused}
+use Rattle.desk_program.specs.Runs.{AdoptedIfHonest, WasRefused}
 use Rattle.desk_program.specs.declared.fault.Fault.{Fault}
 use Rattle.desk_program.specs.declared.fault.Fault.TheVariants as fault
 
@@ -48,9 +46,9 @@ AskedWritten (Err f) old new done = (done ≡ Err (desk_fault f)) × (new ≡ ol
 abbrev pub AnswerWritten : Answer → Option (List ℕ) → Option (List ℕ) → Result Bool Fault → Type 0
 AnswerWritten a old new done = (asked : Result Answer DeskFault) × IfOk asked (λ answered. answered ≡ a) × AskedWritten asked old new done
 
--- what came of a question to the desk of a store that was just opened: the store was adopted, the answer of its state
--- printed, and it stands there still; or it wasn't adopted, and nothing was printed
-abbrev pub AskGives : {S : Type 0} → Ghosts S → Held S → Held S → Question → Option (List ℕ) → Option (List ℕ) → Result Bool Fault → Type 0
-AskGives g c after q old new done =
-    AdoptedFrom (state g c) (λ s. IsDurablyAt (state g after) s × AnswerWritten (answer newest_schema s q) old new done)
-    ⊎ (WasRefused g c done × (new ≡ old))
+-- What came of a question to the desk of a store: the store was adopted, the answer of its state printed, and it is at that
+-- state still; or it wasn't adopted, and nothing was printed.
+abbrev pub AskGives : store.State → store.State → Question → Option (List ℕ) → Option (List ℕ) → Result Bool Fault → Type 0
+AskGives before after q old new done =
+    AdoptedIfHonest before after (λ s. IsDurablyAt after s × AnswerWritten (answer newest_schema s q) old new done)
+    ⊎ (WasRefused before after done × (new ≡ old))

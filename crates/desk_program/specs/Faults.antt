@@ -1,5 +1,5 @@
 -- The faults that the program ends with: where they come from, and the exit status of each.
-use Rattle.std.specs.Prelude.{◌≡◌, ℕ, List, Bool, Option, Result, Ok, Err}
+use Rattle.std.specs.Prelude.{◌≡◌, ℕ, List, Bool, Option, Result, Ok, Err, ⊤}
 use Rattle.plant_messages.specs.declared.question.Answer.{Answer}
 use Rattle.plant_messages.specs.declared.question.Answer.TheVariants as A
 use Rattle.plant_messages.specs.declared.reply.DeskFault.{DeskFault}
@@ -50,6 +50,13 @@ abbrev pub summary_of : Result Answer DeskFault → Result DeskSummary Fault
 summary_of (Ok (A.Desk schema seq)) = Ok (record { schema = schema; seq = seq })
 summary_of (Ok _) = Err fault.Store
 summary_of (Err f) = Err (desk_fault f)
+
+-- a fault at which no line was printed of an adopted desk: of the store, of memory or of the writer
+abbrev pub IsPrintFault : Fault → Type 0
+IsPrintFault fault.Store = ⊤
+IsPrintFault fault.Memory = ⊤
+IsPrintFault fault.Write = ⊤
+IsPrintFault _ = ⊥
 
 -- at this fault nothing was written, or, where the writer failed, what is said of it
 abbrev pub NothingBut : Type 0 → Option (List ℕ) → Option (List ℕ) → Fault → Type 0

@@ -1,13 +1,11 @@
 -- What comes of the word `import`.
 use Rattle.std.specs.Prelude.{◌≡◌, ◌⊎◌, ℕ, List, Bool, true, false, Option, Result, Ok, Err, IfSome}
 use Rattle.std.specs.Io.KnownBytes.{Appends}
-use Rattle.sqlite.specs.Held.{Held, state}
-use Rattle.sqlite_trees.specs.declared.store.Store.{Ghosts}
+use Rattle.sqlite.specs.State as store
 use Rattle.plant_base.specs.State.{State, newest_schema}
 use Rattle.plant_base.specs.declared.rows.OrderRow.{OrderRow}
 use Rattle.plant_desk.specs.Keepers.{States}
 use Rattle.plant_messages.specs.declared.reply.DeskFault.TheVariants as desk
-use Rattle.plant_desk_store.specs.Adopting.{AdoptedFrom, IsNewlyOpened}
 use Rattle.plant_desk_store.specs.DeskStates.{Represents, HasCrashStates}
 use Rattle.plant_orders.specs.Importing.{import}
 use Rattle.plant_orders.specs.Orders.{orders_of}
@@ -21,7 +19,7 @@ use Rattle.plant_text.specs.Turns.{TurnEnds, FaultWritten}
 use Rattle.plant_text.specs.Writes.{with_lf, AppendsPrefix}
 use Rattle.plant_text.specs.declared.turns.TurnError.{TurnError}
 use Rattle.desk_program.specs.Faults.{outcome_of_turn}
-use Rattle.desk_program.specs.Runs.{AllClean, WasRefused}
+use Rattle.desk_program.specs.Runs.{AdoptedIfHonest, WasRefused}
 use Rattle.desk_program.specs.declared.fault.Fault.{Fault}
 use Rattle.desk_program.specs.declared.fault.Fault.TheVariants as fault
 
@@ -58,15 +56,19 @@ abbrev pub ImportEnds : ℕ → State → ImportMetadata → Result (List OrderR
 ImportEnds k s import_metadata says old new represents shut crash_states done =
     (given : Result (List OrderRow) OrdersFault) × IsGivenOf says given × OrdersTaken k s import_metadata given old new represents shut crash_states done
 
--- what came of a file over a store that was just opened: the store was adopted, and the file taken in from there; or it
--- wasn't adopted, and nothing was written
-abbrev pub ImportLeft : {S : Type 0} → Ghosts S → Held S → Held S → ImportMetadata → List ℕ → Option (List ℕ) → Option (List ℕ) → Result Bool Fault → Type 0
-ImportLeft g c after import_metadata bytes old new done =
-    AdoptedFrom (state g c) (λ s. (shut : Bool)
-    × ImportEnds newest_schema s import_metadata (orders_of bytes) old new (Represents (state g after) shut) shut (HasCrashStates (state g after)) done)
-    ⊎ (WasRefused g c done × (new ≡ old))
+-- what a reader may give that has these bytes left; where they aren't known, any orders or any fault
+abbrev pub IsGivenBy : Option (List ℕ) → Result (List OrderRow) OrdersFault → Type 0
+IsGivenBy unread given = IfSome unread (λ bytes. IsGivenOf (orders_of bytes) given)
 
--- the same, where every connection of the store keeps its word
-abbrev pub ImportGives : {S : Type 0} → Ghosts S → Held S → ImportMetadata → Option (List ℕ) → Option (List ℕ) → Option (List ℕ) → Result Bool Fault → Type 0
-ImportGives {S} g c import_metadata unread old new done =
-    AllClean g → IsNewlyOpened (state g c) → (after : Held S) × IfSome unread (λ bytes. ImportLeft g c after import_metadata bytes old new done)
+-- what came of the file that a reader gave, at a keeper that stood at s
+abbrev pub FileEnds : ℕ → State → ImportMetadata → Option (List ℕ) → Option (List ℕ) → Option (List ℕ) → States → Bool → (States → Type 0) → Result Bool Fault → Type 0
+FileEnds k s import_metadata unread old new represents shut crash_states done =
+    (given : Result (List OrderRow) OrdersFault) × IsGivenBy unread given × OrdersTaken k s import_metadata given old new represents shut crash_states done
+
+-- What came of a file over a store: it was adopted, and the file taken in from there; or it wasn't adopted, and nothing was
+-- written.
+abbrev pub ImportGives : store.State → store.State → ImportMetadata → Option (List ℕ) → Option (List ℕ) → Option (List ℕ) → Result Bool Fault → Type 0
+ImportGives before after import_metadata unread old new done =
+    AdoptedIfHonest before after (λ s. (shut : Bool)
+    × FileEnds newest_schema s import_metadata unread old new (Represents after shut) shut (HasCrashStates after) done)
+    ⊎ (WasRefused before after done × (new ≡ old))

@@ -1,12 +1,12 @@
 //! The adoption of the program's store, and a store that a word stopped at.
-ghost use Rattle.std.specs.Prelude.{◌≡◌, ◌≢◌, false, Err, IfOk, IfErr};
+ghost use Rattle.std.specs.Prelude.{◌≡◌, ◌≢◌, false, Err, IfOk, IfErr, MatchResult};
 ghost use Rattle.sqlite.specs.Held.{state};
 ghost use Rattle.sqlite.specs.State.{HasCleanDisk};
 ghost use Rattle.plant_desk_store.specs.Adopting.{IsNewlyOpened, AdoptedFrom};
 ghost use Rattle.plant_base.specs.State.{State};
 ghost use Rattle.plant_desk_store.specs.DeskStates.{IsDurablyAt, Represents};
 ghost use Rattle.desk_program.specs.Faults.{adopt_fault};
-ghost use Rattle.desk_program.specs.Runs.{IsRefused};
+ghost use Rattle.desk_program.specs.Runs.{IsRefused, WasHonest};
 
 use crate::fault::Fault;
 use plant_desk_store::{AdoptRefused, Desk};
@@ -78,9 +78,12 @@ pub fn adopt<S: Alter + Drop>(
     ensures adopted { IfOk result (λ desk. HasCleanDisk (state S.Store desk.connection)
         → IsNewlyOpened (state S.Store connection)
         → AdoptedFrom (state S.Store connection) (IsDurablyAt (state S.Store desk.connection))) }
+    ensures honest { MatchResult result
+        (λ desk. WasHonest (state S.Store connection) (state S.Store desk.connection))
+        (λ stopped. WasHonest (state S.Store connection) (state S.Store stopped.connection)) }
     ensures open { IfOk result (λ desk. desk.is_shut ≡ false) }
-    ensures refused { IfErr result
-        (λ stopped. IsRefused S.Store connection stopped.connection stopped.fault) }
+    ensures refused { IfErr result (λ stopped. IsRefused (state S.Store connection)
+        (state S.Store stopped.connection) stopped.fault) }
     ensures write_error { IfErr result (λ stopped. stopped.fault ≢ Fault.Write) }
 {
     match Desk::adopt(alloc, connection) {

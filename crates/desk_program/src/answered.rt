@@ -6,12 +6,12 @@ ghost use Rattle.plant_base.specs.State.{State, newest_schema};
 ghost use Rattle.plant_trace.specs.Nodes.{node_text};
 ghost use Rattle.plant_answers.specs.Answers.{answer};
 ghost use Rattle.plant_desk.specs.Keepers.{IsSameDesk};
-ghost use Rattle.plant_desk_store.specs.Adopting.{IsNewlyOpened};
 ghost use Rattle.plant_desk_store.specs.DeskStates.{IsDurablyAt};
 ghost use Rattle.plant_text_answers.specs.Answers.{text_of_answer};
 ghost use Rattle.plant_text.specs.Writes.{with_lf};
 ghost use Rattle.desk_program.specs.AnswersWritten.{answer_lines};
 ghost use Rattle.desk_program.specs.AnswersWritten.{AnswerPrinted, AnswerWritten, AskedWritten, AskGives};
+ghost use Rattle.desk_program.specs.Runs.{WasHonest};
 
 use crate::adopting::{Performed, adopt, performed_of};
 use crate::fault::Fault;
@@ -137,9 +137,9 @@ pub(crate) fn ask_store<S: Alter + Drop, W: Write>(
     question: &Question,
 ) -> Performed<S>
     requires { (state S.Store connection).in_transaction ≡ false }
-    ensures { HasCleanDisk (state S.Store result.connection) → IsNewlyOpened (state S.Store connection)
-        → AskGives S.Store connection result.connection question.now
+    ensures gives { AskGives (state S.Store connection) (state S.Store result.connection) question.now
         (W.contents writer.old) (W.contents writer.new) result.outcome }
+    ensures honest { WasHonest (state S.Store connection) (state S.Store result.connection) }
 {
     match adopt(alloc, connection) {
         Ok(desk) => ask_desk(alloc, desk, writer, question),

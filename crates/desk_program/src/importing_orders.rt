@@ -4,12 +4,12 @@ ghost use Rattle.sqlite.specs.Held.{state};
 ghost use Rattle.sqlite.specs.State.{HasCleanDisk};
 ghost use Rattle.plant_base.specs.State.{State};
 ghost use Rattle.plant_desk.specs.Keepers.{IsSameDesk};
-ghost use Rattle.plant_desk_store.specs.Adopting.{IsNewlyOpened};
 ghost use Rattle.plant_desk_store.specs.DeskStates.{IsDurablyAt, HasCrashStates, Represents};
 ghost use Rattle.plant_base.specs.State.{newest_schema};
 ghost use Rattle.plant_orders.specs.Orders.{orders_of};
-ghost use Rattle.desk_program.specs.ImportOutcomes.{CsvFaultWritten, ImportEnds, ImportLeft, MemoryFaultWritten};
-ghost use Rattle.desk_program.specs.ImportOutcomes.{NoOrdersWritten, OrdersTaken};
+ghost use Rattle.desk_program.specs.ImportOutcomes.{CsvFaultWritten, FileEnds, ImportEnds, ImportGives};
+ghost use Rattle.desk_program.specs.ImportOutcomes.{MemoryFaultWritten, NoOrdersWritten, OrdersTaken};
+ghost use Rattle.desk_program.specs.Runs.{WasHonest};
 
 use crate::adopting::{Performed, adopt, performed_of};
 use crate::fault::{Fault, outcome_of_turn};
@@ -99,6 +99,10 @@ pub fn take_file<R: Read, W: Write, K: Keeper>(
         → IfSome (R.remaining reader.old) (λ bytes. ImportEnds (K.schema keeper.old) s import_metadata
         (orders_of bytes) (W.contents writer.old) (W.contents writer.new)
         (K.represents keeper.new) (K.shut keeper.new) (K.crash_states keeper.new) result) }
+    ensures ends { K.honest keeper.new → (s : State) → K.represents keeper.old s
+        → FileEnds (K.schema keeper.old) s import_metadata (R.remaining reader.old)
+        (W.contents writer.old) (W.contents writer.new)
+        (K.represents keeper.new) (K.shut keeper.new) (K.crash_states keeper.new) result }
 {
     let given = orders_from(alloc, reader);
     take_orders(writer, keeper, import_metadata, given)
@@ -117,10 +121,10 @@ fn import_into<S: Alter + Drop, R: Read, W: Write>(
         → HasCleanDisk (state S.Store desk.connection) }
     ensures taken { HasCleanDisk (state S.Store result.connection)
         → (s : State) → IsDurablyAt (state S.Store desk.connection) s
-        → IfSome (R.remaining reader.old) (λ bytes. (shut : Bool) × ImportEnds newest_schema s import_metadata
-        (orders_of bytes) (W.contents writer.old) (W.contents writer.new)
+        → (shut : Bool) × FileEnds newest_schema s import_metadata (R.remaining reader.old)
+        (W.contents writer.old) (W.contents writer.new)
         (Represents (state S.Store result.connection) shut) shut
-        (HasCrashStates (state S.Store result.connection)) result.outcome) }
+        (HasCrashStates (state S.Store result.connection)) result.outcome }
 {
     let outcome = take_file(alloc, reader, writer, &mut desk, import_metadata);
     Performed {
@@ -138,9 +142,10 @@ pub(crate) fn import_store<S: Alter + Drop, R: Read, W: Write>(
     import_metadata: ImportMetadata,
 ) -> Performed<S>
     requires { (state S.Store connection).in_transaction ≡ false }
-    ensures { HasCleanDisk (state S.Store result.connection) → IsNewlyOpened (state S.Store connection)
-        → IfSome (R.remaining reader.old) (λ bytes. ImportLeft S.Store connection result.connection
-        import_metadata bytes (W.contents writer.old) (W.contents writer.new) result.outcome) }
+    ensures gives { ImportGives (state S.Store connection) (state S.Store result.connection)
+        import_metadata (R.remaining reader.old) (W.contents writer.old) (W.contents writer.new)
+        result.outcome }
+    ensures honest { WasHonest (state S.Store connection) (state S.Store result.connection) }
 {
     match adopt(alloc, connection) {
         Ok(desk) => import_into(alloc, desk, reader, writer, import_metadata),

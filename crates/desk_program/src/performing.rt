@@ -1,10 +1,12 @@
 //! What the program does for its words.
 ghost use Rattle.std.specs.Prelude.{◌≡◌, false, Bool, Result};
-ghost use Rattle.sqlite.specs.Held.{state};
+ghost use Rattle.sqlite.specs.Held.{Held, state};
+ghost use Rattle.desk_program.specs.AnswersWritten.{AskGives};
 ghost use Rattle.desk_program.specs.ImportOutcomes.{ImportGives};
 ghost use Rattle.desk_program.specs.Performs.{Exits, IsGoodLine, IsReady, PrintsLine, after_closing};
-ghost use Rattle.desk_program.specs.Runs.{RunGives};
-ghost use Rattle.desk_program.specs.Tasks.{Asked, TaskGives, metadata_of_import};
+ghost use Rattle.desk_program.specs.Reports.{ReportGives, good_line, ready_line};
+ghost use Rattle.desk_program.specs.Runs.{RunGives, WasHonest};
+ghost use Rattle.desk_program.specs.Tasks.{TaskGives, metadata_of_import};
 ghost use Rattle.desk_program.specs.declared.fault.Fault.{Fault};
 
 use crate::adopting::{Performed, performed_of};
@@ -32,8 +34,10 @@ fn perform_run<S: Alter + Drop, R: Read, W: Write>(
     writer: &mut W,
 ) -> Performed<S>
     requires { (state S.Store connection).in_transaction ≡ false }
-    ensures { RunGives S.Store connection (R.remaining reader.old) (R.remaining reader.new)
+    ensures gives { RunGives (state S.Store connection) (state S.Store result.connection)
+        (R.remaining reader.old) (R.remaining reader.new)
         (W.contents writer.old) (W.contents writer.new) result.outcome }
+    ensures honest { WasHonest (state S.Store connection) (state S.Store result.connection) }
 {
     match run(alloc, connection, reader, writer) {
         Ok(session) => {
@@ -54,7 +58,10 @@ fn perform_init<S: Alter + Drop, W: Write>(
     writer: &mut W,
 ) -> Performed<S>
     requires { (state S.Store connection).in_transaction ≡ false }
-    ensures { PrintsLine IsReady (W.contents writer.old) (W.contents writer.new) result.outcome }
+    ensures printed { PrintsLine IsReady (W.contents writer.old) (W.contents writer.new) result.outcome }
+    ensures gives { ReportGives ready_line (state S.Store connection) (state S.Store result.connection)
+        (W.contents writer.old) (W.contents writer.new) result.outcome }
+    ensures honest { WasHonest (state S.Store connection) (state S.Store result.connection) }
 {
     match init(alloc, connection, writer) {
         Ok(desk) => Performed {
@@ -72,7 +79,10 @@ fn perform_verify<S: Alter + Drop, W: Write>(
     writer: &mut W,
 ) -> Performed<S>
     requires { (state S.Store connection).in_transaction ≡ false }
-    ensures { PrintsLine IsGoodLine (W.contents writer.old) (W.contents writer.new) result.outcome }
+    ensures printed { PrintsLine IsGoodLine (W.contents writer.old) (W.contents writer.new) result.outcome }
+    ensures gives { ReportGives good_line (state S.Store connection) (state S.Store result.connection)
+        (W.contents writer.old) (W.contents writer.new) result.outcome }
+    ensures honest { WasHonest (state S.Store connection) (state S.Store result.connection) }
 {
     match verify(alloc, connection, writer) {
         Ok(desk) => Performed {
@@ -105,8 +115,10 @@ fn perform_import<S: Alter + Drop, R: Read, W: Write>(
     import_metadata: ImportMetadata,
 ) -> Performed<S>
     requires { (state S.Store connection).in_transaction ≡ false }
-    ensures { ImportGives S.Store connection import_metadata (R.remaining reader.old)
-        (W.contents writer.old) (W.contents writer.new) result.outcome }
+    ensures gives { ImportGives (state S.Store connection) (state S.Store result.connection)
+        import_metadata (R.remaining reader.old) (W.contents writer.old) (W.contents writer.new)
+        result.outcome }
+    ensures honest { WasHonest (state S.Store connection) (state S.Store result.connection) }
 {
     import_store(alloc, connection, reader, writer, import_metadata)
 }
@@ -119,17 +131,18 @@ fn perform_question<S: Alter + Drop, W: Write>(
     question: &Question,
 ) -> Performed<S>
     requires { (state S.Store connection).in_transaction ≡ false }
-    ensures { Asked S.Store connection question.now
+    ensures gives { AskGives (state S.Store connection) (state S.Store result.connection) question.now
         (W.contents writer.old) (W.contents writer.new) result.outcome }
+    ensures honest { WasHonest (state S.Store connection) (state S.Store result.connection) }
 {
     ask_store(alloc, connection, writer, question)
 }
 
 /// Does a task over a store that was just opened, and gives it back to be closed.
 ///
-/// The clause says what came of the task where every connection of the store keeps its word: of a run what [`run`] does, of
-/// an import what [`take_file`] does, of a trace and a record what [`write_answer`] does; what the store holds after the other
-/// words is said by the clauses of [`init`] and [`verify`], which hand the desk back.
+/// The clause says what came of the task by the store that is given back, where that has kept its word until then: of a run
+/// what [`run`] does, of an import what [`take_file`] does, of a trace and a record what [`write_answer`] does, and of the
+/// other words what [`init`] and [`verify`] do. Where the store wasn't adopted, it says so in any case, with the fault's cause.
 pub fn perform_task<S: Alter + Drop, R: Read, W: Write>(
     alloc: Global,
     task: &Task,
@@ -138,8 +151,10 @@ pub fn perform_task<S: Alter + Drop, R: Read, W: Write>(
     writer: &mut W,
 ) -> Performed<S>
     requires { (state S.Store connection).in_transaction ≡ false }
-    ensures { TaskGives S.Store connection task.now (R.remaining reader.old) (R.remaining reader.new)
+    ensures gives { TaskGives (state S.Store connection) (state S.Store result.connection) task.now
+        (R.remaining reader.old) (R.remaining reader.new)
         (W.contents writer.old) (W.contents writer.new) result.outcome }
+    ensures honest { WasHonest (state S.Store connection) (state S.Store result.connection) }
 {
     match *task {
         Task::Init => perform_init(alloc, connection, writer),
@@ -186,7 +201,8 @@ pub fn write_outcome<E: Write>(outcome: Result<bool, Fault>, errors: &mut E) -> 
 }
 
 /// Does a task over a store that was just opened and the three standard streams, and gives the exit status, as
-/// [`write_outcome`] does. The store is dropped at the end; [`perform_task`] gives it back instead.
+/// [`write_outcome`] does. The store is dropped at the end, so that the clause can only say that there was one;
+/// [`perform_task`] gives it back instead.
 pub fn perform<S: Alter + Drop, R: Read, W: Write, E: Write>(
     alloc: Global,
     task: &Task,
@@ -198,8 +214,9 @@ pub fn perform<S: Alter + Drop, R: Read, W: Write, E: Write>(
     requires { (state S.Store connection).in_transaction ≡ false }
     ensures { (outcome : Result Bool Fault) × Exits (E.contents errors.old)
         (E.contents errors.new) result outcome
-        × TaskGives S.Store connection task.now (R.remaining reader.old) (R.remaining reader.new)
-        (W.contents writer.old) (W.contents writer.new) outcome }
+        × ((after : Held S) × TaskGives (state S.Store connection) (state S.Store after) task.now
+        (R.remaining reader.old) (R.remaining reader.new)
+        (W.contents writer.old) (W.contents writer.new) outcome) }
 {
     let performed = perform_task(alloc, task, connection, reader, writer);
     write_outcome(performed.outcome, errors)

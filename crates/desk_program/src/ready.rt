@@ -1,5 +1,5 @@
 //! The word `init`.
-ghost use Rattle.std.specs.Prelude.{◌≡◌, false, IfOk, OnOk, MatchResult};
+ghost use Rattle.std.specs.Prelude.{◌≡◌, false, IfOk, IfErr, OnOk, MatchResult};
 ghost use Rattle.std.specs.Io.KnownBytes.{Appends};
 ghost use Rattle.sqlite.specs.Held.{state};
 ghost use Rattle.sqlite.specs.State.{HasCleanDisk};
@@ -9,7 +9,10 @@ ghost use Rattle.plant_desk_store.specs.Adopting.{IsNewlyOpened, AdoptedFrom};
 ghost use Rattle.plant_desk_store.specs.DeskStates.{IsDurablyAt};
 ghost use Rattle.plant_text.specs.Writes.{with_lf};
 ghost use Rattle.desk_program.specs.Texts.{ready_text};
+ghost use Rattle.desk_program.specs.Faults.{IsPrintFault};
 ghost use Rattle.desk_program.specs.Performs.{IsReady, Printed, Unprinted};
+ghost use Rattle.desk_program.specs.Reports.{LineStops, ReportStops, ready_line};
+ghost use Rattle.desk_program.specs.Runs.{WasHonest};
 
 use crate::adopting::{TaskError, adopt};
 use crate::fault::Fault;
@@ -31,6 +34,10 @@ fn write_ready<W: Write, K: Keeper>(writer: &mut W, keeper: &mut K) -> Result<()
     ensures reported { K.honest keeper.new → (s : State) → K.represents keeper.old s
         → OnOk result (Appends (W.contents writer.old) (W.contents writer.new)
         (with_lf (ready_text (K.schema keeper.old)))) }
+    ensures stopped { K.honest keeper.new → (s : State) → K.represents keeper.old s
+        → IfErr result (LineStops (ready_text (K.schema keeper.old)) (W.contents writer.old)
+        (W.contents writer.new)) }
+    ensures fault { IfErr result IsPrintFault }
     ensures printed { MatchResult result (λ _. Printed IsReady (W.contents writer.old)
         (W.contents writer.new)) (Unprinted IsReady (W.contents writer.old) (W.contents writer.new)) }
 {
@@ -41,8 +48,9 @@ fn write_ready<W: Write, K: Keeper>(writer: &mut W, keeper: &mut K) -> Result<()
 /// Does `init FILE`: adopts the store, which gets the desk's tables where it has none of them, and prints
 /// `ready schema N` and an LF.
 ///
-/// Nothing is printed before the store is adopted. At `Write` a front of the line may stand there; at every other fault
-/// nothing does.
+/// Nothing is printed before the store is adopted. A store that isn't adopted is given back with the fault of the adoption.
+/// An adopted one is given back at its state with a fault of the store, of memory or of the writer. At `Write` a front of the
+/// line was written; at every other fault nothing was.
 pub fn init<S: Alter + Drop, W: Write>(
     alloc: Global,
     connection: Connection<S>,
@@ -55,6 +63,12 @@ pub fn init<S: Alter + Drop, W: Write>(
     ensures ready { IfOk result (λ desk. HasCleanDisk (state S.Store desk.connection)
         → IsNewlyOpened (state S.Store connection)
         → Appends (W.contents writer.old) (W.contents writer.new) (with_lf (ready_text newest_schema))) }
+    ensures stopped { IfErr result (λ stopped. ReportStops ready_line (state S.Store connection)
+        (state S.Store stopped.connection) (W.contents writer.old) (W.contents writer.new)
+        stopped.fault) }
+    ensures honest { MatchResult result
+        (λ desk. WasHonest (state S.Store connection) (state S.Store desk.connection))
+        (λ stopped. WasHonest (state S.Store connection) (state S.Store stopped.connection)) }
     ensures printed { MatchResult result (λ _. Printed IsReady (W.contents writer.old)
         (W.contents writer.new)) (λ stopped. Unprinted IsReady (W.contents writer.old)
         (W.contents writer.new) stopped.fault) }

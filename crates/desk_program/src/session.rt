@@ -1,7 +1,7 @@
 //! The word `run`.
-ghost use Rattle.std.specs.Prelude.{◌≡◌, false, IfOk, IfErr, OnErr};
+ghost use Rattle.std.specs.Prelude.{◌≡◌, false, IfOk, IfErr, OnErr, MatchResult};
 ghost use Rattle.sqlite.specs.Held.{state};
-ghost use Rattle.desk_program.specs.Runs.{HasRun, IsRefused};
+ghost use Rattle.desk_program.specs.Runs.{HasRun, IsRefused, WasHonest};
 
 use crate::adopting::{TaskError, adopt};
 use plant_desk_store::Desk;
@@ -30,11 +30,15 @@ pub fn run<S: Alter + Drop, R: Read, W: Write>(
     writer: &mut W,
 ) -> Result<Session<S>, TaskError<S>>
     requires { (state S.Store connection).in_transaction ≡ false }
-    ensures ends { IfOk result (λ session. HasRun S.Store connection session.desk.connection
-        session.desk.is_shut (R.remaining reader.old) (R.remaining reader.new)
+    ensures ends { IfOk result (λ session. HasRun (state S.Store connection)
+        (state S.Store session.desk.connection) session.desk.is_shut
+        (R.remaining reader.old) (R.remaining reader.new)
         (W.contents writer.old) (W.contents writer.new) session.end) }
-    ensures refused { IfErr result
-        (λ stopped. IsRefused S.Store connection stopped.connection stopped.fault) }
+    ensures honest { MatchResult result
+        (λ session. WasHonest (state S.Store connection) (state S.Store session.desk.connection))
+        (λ stopped. WasHonest (state S.Store connection) (state S.Store stopped.connection)) }
+    ensures refused { IfErr result (λ stopped. IsRefused (state S.Store connection)
+        (state S.Store stopped.connection) stopped.fault) }
     ensures unread { OnErr result (R.remaining reader.new ≡ R.remaining reader.old) }
     ensures write_error { OnErr result (W.contents writer.new ≡ W.contents writer.old) }
 {

@@ -1,5 +1,6 @@
 //! Where a keeper stands.
 ghost use Rattle.std.specs.Prelude.{◌≡◌, ◌≢◌, false, IfOk, IfErr};
+ghost use Rattle.desk_program.specs.Faults.{IsPrintFault};
 ghost use Rattle.plant_base.specs.State.{State};
 ghost use Rattle.plant_desk.specs.Keepers.{IsSameDesk};
 ghost use Rattle.desk_program.specs.Faults as spec;
@@ -18,6 +19,7 @@ pub(crate) struct DeskSummary {
 /// Where a keeper stands by what it answered, or its fault.
 fn summary_of(asked: Result<Answer, DeskFault>) -> Result<DeskSummary, Fault>
     ensures is { result ≡ spec.summary_of asked }
+    ensures fault { IfErr result IsPrintFault }
     ensures write_error { IfErr result (λ fault. fault ≢ Fault.Write) }
 {
     match asked {
@@ -36,6 +38,7 @@ pub(crate) fn ask_summary<K: Keeper>(keeper: &mut K) -> Result<DeskSummary, Faul
     ensures stays { K.honest keeper.new → (s : State) → K.represents keeper.old s → K.represents keeper.new s }
     ensures asked { K.honest keeper.new → (s : State) → K.represents keeper.old s
         → IfOk result (λ at. (at.schema ≡ K.schema keeper.old) × (at.seq ≡ s.seq)) }
+    ensures fault { IfErr result IsPrintFault }
     ensures write_error { IfErr result (λ fault. fault ≢ Fault.Write) }
 {
     summary_of(keeper.ask(&Question::Desk))

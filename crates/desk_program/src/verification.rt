@@ -1,5 +1,5 @@
 //! The word `verify`.
-ghost use Rattle.std.specs.Prelude.{◌≡◌, false, IfOk, OnOk, MatchResult};
+ghost use Rattle.std.specs.Prelude.{◌≡◌, false, IfOk, IfErr, OnOk, MatchResult};
 ghost use Rattle.std.specs.Io.KnownBytes.{Appends};
 ghost use Rattle.sqlite.specs.Held.{state};
 ghost use Rattle.sqlite.specs.State.{HasCleanDisk};
@@ -9,7 +9,10 @@ ghost use Rattle.plant_desk_store.specs.Adopting.{IsNewlyOpened, AdoptedFrom};
 ghost use Rattle.plant_desk_store.specs.DeskStates.{IsDurablyAt};
 ghost use Rattle.plant_text.specs.Writes.{with_lf};
 ghost use Rattle.desk_program.specs.Texts.{good_text};
+ghost use Rattle.desk_program.specs.Faults.{IsPrintFault};
 ghost use Rattle.desk_program.specs.Performs.{IsGoodLine, Printed, Unprinted};
+ghost use Rattle.desk_program.specs.Reports.{LineStops, ReportStops, good_line};
+ghost use Rattle.desk_program.specs.Runs.{WasHonest};
 
 use crate::adopting::{TaskError, adopt};
 use crate::fault::Fault;
@@ -31,6 +34,10 @@ fn write_good<W: Write, K: Keeper>(writer: &mut W, keeper: &mut K) -> Result<(),
     ensures reported { K.honest keeper.new → (s : State) → K.represents keeper.old s
         → OnOk result (Appends (W.contents writer.old) (W.contents writer.new)
         (with_lf (good_text (K.schema keeper.old) s.seq))) }
+    ensures stopped { K.honest keeper.new → (s : State) → K.represents keeper.old s
+        → IfErr result (LineStops (good_text (K.schema keeper.old) s.seq) (W.contents writer.old)
+        (W.contents writer.new)) }
+    ensures fault { IfErr result IsPrintFault }
     ensures printed { MatchResult result (λ _. Printed IsGoodLine (W.contents writer.old)
         (W.contents writer.new)) (Unprinted IsGoodLine (W.contents writer.old) (W.contents writer.new)) }
 {
@@ -41,8 +48,9 @@ fn write_good<W: Write, K: Keeper>(writer: &mut W, keeper: &mut K) -> Result<(),
 /// Does `verify FILE`: adopts the store, which tests all its tables, and prints `valid schema N seq S` and an LF, S being
 /// the number of commands that were accepted.
 ///
-/// Nothing is printed before the store is adopted. At `Write` a front of the line may stand there; at every other fault
-/// nothing does.
+/// Nothing is printed before the store is adopted. A store that isn't adopted is given back with the fault of the adoption.
+/// An adopted one is given back at its state with a fault of the store, of memory or of the writer. At `Write` a front of the
+/// line was written; at every other fault nothing was.
 pub fn verify<S: Alter + Drop, W: Write>(
     alloc: Global,
     connection: Connection<S>,
@@ -54,6 +62,12 @@ pub fn verify<S: Alter + Drop, W: Write>(
         → AdoptedFrom (state S.Store connection) (λ s. IsDurablyAt (state S.Store desk.connection) s
         × Appends (W.contents writer.old) (W.contents writer.new)
         (with_lf (good_text newest_schema s.seq)))) }
+    ensures stopped { IfErr result (λ stopped. ReportStops good_line (state S.Store connection)
+        (state S.Store stopped.connection) (W.contents writer.old) (W.contents writer.new)
+        stopped.fault) }
+    ensures honest { MatchResult result
+        (λ desk. WasHonest (state S.Store connection) (state S.Store desk.connection))
+        (λ stopped. WasHonest (state S.Store connection) (state S.Store stopped.connection)) }
     ensures printed { MatchResult result (λ _. Printed IsGoodLine (W.contents writer.old)
         (W.contents writer.new)) (λ stopped. Unprinted IsGoodLine (W.contents writer.old)
         (W.contents writer.new) stopped.fault) }

@@ -1,7 +1,17 @@
-use Rattle.std.proofs.Common.{inl}
+use Rattle.std.proofs.Common.{inl, inr, refl}
 use Rattle.desk_program.proofs.AdoptedState.{adopted_so}
 use Rattle.desk_program.proofs.answered.ask_store.Goals as goal
 
-pub returns-in-Ok : goal.returns-in-Ok
-returns-in-Ok g c = λ clean opened.
-    inl (adopted_so _ opened _ _ (λ s at. c.ask_desk.ensures.reported clean s at) (c.in-Ok.ensures.adopted (c.ask_desk.ensures.honest clean) opened))
+pub returns-in-Ok-clause-gives : goal.returns-in-Ok-clause-gives
+returns-in-Ok-clause-gives g c = inl (λ clean opened.
+    adopted_so _ opened _ _ (λ s at. c.ask_desk.ensures.reported clean s at) (c.in-Ok.ensures.adopted (c.ask_desk.ensures.honest clean) opened))
+
+pub returns-in-Ok-clause-honest : goal.returns-in-Ok-clause-honest
+returns-in-Ok-clause-honest g c = λ clean. c.in-Ok.ensures.honest (c.ask_desk.ensures.honest clean)
+
+pub returns-in-Err-clause-gives : goal.returns-in-Err-clause-gives
+returns-in-Err-clause-gives g c =
+    inr ((c.in-Err.stopped.fault, c.performed_of.ensures.outcome, rw c.performed_of.ensures.store c.in-Err.ensures.refused), refl)
+
+pub returns-in-Err-clause-honest : goal.returns-in-Err-clause-honest
+returns-in-Err-clause-honest g c = rw c.performed_of.ensures.store c.in-Err.ensures.honest

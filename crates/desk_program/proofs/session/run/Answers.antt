@@ -5,3 +5,6 @@ pub returns-clause-ends : goal.returns-clause-ends
 returns-clause-ends g c =
     let ran = c.run_lines-end.ensures.ends in
     (ran.0, ran.1, λ h opened. adopted_so _ opened _ _ (λ s at. ran.2 h s (as_represented _ _ s at)) (c.in_ok-desk.ensures.adopted (c.run_lines-end.ensures.same.honest h) opened))
+
+pub returns-clause-honest : goal.returns-clause-honest
+returns-clause-honest g c = λ h. c.in_ok-desk.ensures.honest (c.run_lines-end.ensures.same.honest h)

@@ -1,0 +1,14 @@
+use Rattle.std.proofs.Common.{refl}
+use Rattle.desk_program.proofs.performing.perform_verify.Goals as goal
+
+pub returns-in-Ok-clause-gives : goal.returns-in-Ok-clause-gives
+returns-in-Ok-clause-gives g c = rw c.close.ensures (refl, c.in-Ok.ensures.valid)
+
+pub returns-in-Ok-clause-honest : goal.returns-in-Ok-clause-honest
+returns-in-Ok-clause-honest g c = rw c.close.ensures c.in-Ok.ensures.honest
+
+pub returns-in-Err-clause-gives : goal.returns-in-Err-clause-gives
+returns-in-Err-clause-gives g c = rw (c.performed_of.ensures.outcome, c.performed_of.ensures.store) c.in-Err.ensures.stopped
+
+pub returns-in-Err-clause-honest : goal.returns-in-Err-clause-honest
+returns-in-Err-clause-honest g c = rw c.performed_of.ensures.store c.in-Err.ensures.honest

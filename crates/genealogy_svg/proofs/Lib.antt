@@ -3,3 +3,4 @@ pub mod PathsAlongEdges
 pub mod PositionsInTurn
 pub mod EdgesLeadRight
 pub mod LayersInTurn
+pub mod LostEnds

@@ -1,5 +1,5 @@
 -- The layout of a picture: its nodes and edges in their places.
-use Rattle.std.specs.Prelude.{◌≡◌, ◌<◌, ℕ, List, [], ◌∷◌, ◌++◌, map, Contains, Option, Some, None, Result, Ok, Err, ⊤}
+use Rattle.std.specs.Prelude.{◌≡◌, ◌<◌, ◌⊎◌, ℕ, List, [], ◌∷◌, ◌++◌, map, Any, Contains, Option, Some, None, Result, Ok, Err, ⊤}
 use Rattle.std.specs.BTreeMap.{BTreeMap, get}
 use Rattle.genealogy_graph.specs.declared.model.Picture.{Picture}
 use Rattle.genealogy_graph.specs.declared.model.PictureEdge.{PictureEdge}
@@ -46,6 +46,22 @@ abbrev pub IsOutside : List Node → LayoutFault → Type 0
 IsOutside nodes fault.Circle = ⊤
 IsOutside nodes (fault.Lost node) = ¬ Contains nodes node
 IsOutside nodes fault.Memory = ⊤
+
+-- an edge begins or ends at the node
+abbrev pub IsEndOf : List PictureEdge → Node → Type 0
+IsEndOf edges node = Any (λ e. (e.from ≡ node) ⊎ (e.to ≡ node)) edges
+
+-- an edge begins or ends at a node that is reported as lost
+abbrev pub IsLostEnd : List PictureEdge → LayoutFault → Type 0
+IsLostEnd edges fault.Circle = ⊤
+IsLostEnd edges (fault.Lost node) = IsEndOf edges node
+IsLostEnd edges fault.Memory = ⊤
+
+-- the fault is this one's; nothing is said where memory was refused
+abbrev pub IsErrorOf : {A : Type 0} → Result A LayoutFault → LayoutFault → Type 0
+IsErrorOf r fault.Circle = r ≡ Err fault.Circle
+IsErrorOf r (fault.Lost node) = r ≡ Err (fault.Lost node)
+IsErrorOf r fault.Memory = ⊤
 
 -- ---- lots, batches and edges in their places, behind these
 

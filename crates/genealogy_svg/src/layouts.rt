@@ -1,6 +1,6 @@
 //! The layout of a picture.
 ghost use Rattle.std.specs.Prelude.{◌≡◌, [], IfErr, IfOk, IsErrOf, Ok};
-ghost use Rattle.genealogy_svg.specs.Layouts.{position_at, nodes_of, lots_in, batches_in, edges_in, drawing_in, IsLaidOut, LeadsRight, IsUnpositioned, IsOutside};
+ghost use Rattle.genealogy_svg.specs.Layouts.{position_at, nodes_of, lots_in, batches_in, edges_in, drawing_in, IsLaidOut, LeadsRight, IsUnpositioned, IsOutside, IsErrorOf, IsLostEnd};
 ghost use Rattle.std.specs.List.{All};
 ghost use Rattle.genealogy_svg.specs.Layers.{HasCircle};
 
@@ -47,6 +47,7 @@ fn lots_in(
 ) -> Result<Vec<DrawnLot>, LayoutFault>
     ensures drawn { IfOk result (λ drawn. lots_in positions.now [] lots.now ≡ Ok drawn.items) }
     ensures unpositioned { IfErr result (IsUnpositioned positions.now) }
+    ensures lost { IfErr result (IsErrorOf (lots_in positions.now [] lots.now)) }
 {
     let mut drawn = Vec::new(alloc);
     for lot in lots {
@@ -71,6 +72,7 @@ fn batches_in(
 ) -> Result<Vec<DrawnBatch>, LayoutFault>
     ensures drawn { IfOk result (λ drawn. batches_in positions.now [] batches.now ≡ Ok drawn.items) }
     ensures unpositioned { IfErr result (IsUnpositioned positions.now) }
+    ensures lost { IfErr result (IsErrorOf (batches_in positions.now [] batches.now)) }
 {
     let mut drawn = Vec::new(alloc);
     for batch in batches {
@@ -93,6 +95,7 @@ fn edges_in(
 ) -> Result<Vec<DrawnEdge>, LayoutFault>
     ensures drawn { IfOk result (λ drawn. edges_in positions.now [] edges.now ≡ Ok drawn.items) }
     ensures unpositioned { IfErr result (IsUnpositioned positions.now) }
+    ensures lost { IfErr result (IsErrorOf (edges_in positions.now [] edges.now)) }
 {
     let mut drawn = Vec::new(alloc);
     for edge in edges {
@@ -118,6 +121,7 @@ fn drawing_in(
 ) -> Result<Drawing, LayoutFault>
     ensures drawn { IfOk result (λ drawing. drawing_in positions.now picture.now ≡ Ok drawing) }
     ensures unpositioned { IfErr result (IsUnpositioned positions.now) }
+    ensures lost { IfErr result (IsErrorOf (drawing_in positions.now picture.now)) }
 {
     let lots = lots_in(alloc, positions, picture.lots.as_slice())?;
     let batches = batches_in(alloc, positions, picture.batches.as_slice())?;
@@ -133,12 +137,13 @@ fn drawing_in(
 /// one to the right of the rightmost of those that lead to it, and at the left where none does. In a column nodes are wished in the order of the middle of
 /// what leads to them, then of their names.
 ///
-/// `Circle` comes only where the edges lead in a circle; `Lost` tells a node where an edge begins or ends, and which the picture hasn't; `Memory` where memory was refused.
+/// `Circle` comes only where the edges lead in a circle; `Lost` reports a node where an edge begins or ends, and which the picture hasn't; `Memory` where memory was refused.
 pub fn layout(alloc: Global, picture: &Picture) -> Result<Drawing, LayoutFault>
     ensures laid { IfOk result (IsLaidOut picture.now) }
     ensures right { IfOk result (λ drawing. All LeadsRight drawing.edges) }
     ensures circle { IsErrOf result LayoutFault.Circle → HasCircle picture.now.edges }
     ensures lost { IfErr result (IsOutside (nodes_of picture.now)) }
+    ensures end { IfErr result (IsLostEnd picture.now.edges) }
 {
     let nodes = nodes_of(alloc, picture)?;
     let ends = Grouped::<ByEnd>::new(alloc, picture.edges.as_slice())?;

@@ -1,6 +1,7 @@
 use Rattle.std.proofs.Common.{◌∙◌}
 use Rattle.genealogy_svg.proofs.LaidOut.{laid_out, outside}
 use Rattle.genealogy_svg.proofs.EdgesLeadRight.{leads_right}
+use Rattle.genealogy_svg.proofs.LostEnds.{lost_end}
 use Rattle.genealogy_svg.specs.Layouts.{nodes_of}
 use Rattle.genealogy_svg.proofs.layouts.layout.Goals as goal
 
@@ -15,3 +16,9 @@ pub returns-clause-lost : goal.returns-clause-lost
 returns-clause-lost c =
     outside c.in_ok-layers.layers c.in_ok-positions.positions (nodes_of c.args.picture.now) c.deref-3.result.now c.in-Err.fault
     (c.deref-3.ensures.value ∙ c.in_ok-nodes.ensures) c.in_ok-positions.ensures c.in-Err.ensures.unpositioned
+
+pub returns-clause-end : goal.returns-clause-end
+returns-clause-end c =
+    lost_end c.in_ok-positions.positions c.args.picture.now c.in-Err.fault c.in-Err.ensures.lost
+    (outside c.in_ok-layers.layers c.in_ok-positions.positions (nodes_of c.args.picture.now) c.deref-3.result.now c.in-Err.fault
+    (c.deref-3.ensures.value ∙ c.in_ok-nodes.ensures) c.in_ok-positions.ensures c.in-Err.ensures.unpositioned)

@@ -1,8 +1,10 @@
 -- What look-ups remember of the edges.
-use Rattle.std.specs.Prelude.{◌≡◌, ◌↔◌, ℕ, ◌+◌, ◌/◌, min, Bool, true, nat_le}
+use Rattle.std.specs.Prelude.{◌≡◌, ◌↔◌, ℕ, ◌+◌, ◌/◌, min, Bool, true, false, nat_le, ◌&&◌}
 use Rattle.sqlite.specs.Effect.{Database}
 use Rattle.sqlite.specs.State as store
 use Rattle.plant_base.specs.State.{State}
+use Rattle.plant_trace.specs.declared.direction.Direction.{Direction}
+use Rattle.plant_trace.specs.declared.direction.Direction.TheVariants.{Forward, Back}
 use Rattle.plant_view.specs.Genealogy.{edges_of}
 use Rattle.plant_keyed.specs.Edges.{AreTurned}
 use Rattle.plant_keyed.specs.LookupOutcomes.{IsHonest, IsReported}
@@ -24,6 +26,16 @@ one_more asked = min (asked + 1) 18446744073709551615
 -- so few nodes that each is looked up, after so many commands: 256, and one for each 16 commands
 abbrev pub are_few : ℕ → ℕ → Bool
 are_few asked commands = nat_le asked (256 + commands / 16)
+
+-- the two directions are one
+abbrev pub is_same_way : Direction → Direction → Bool
+is_same_way Forward Forward = true
+is_same_way Back Back = true
+is_same_way _ _ = false
+
+-- edges were read, as this direction sees them
+abbrev pub are_seen : Direction → EdgeCache → Bool
+are_seen direction d = d.are_read && is_same_way d.direction direction
 
 -- What look-ups tell of edges: the fact holds where what was remembered is true.
 pub record IsTraced (old new : store.State) (had_failed has_failed : Bool) (was is : EdgeCache) (fact : Type 0) : Type 0 where

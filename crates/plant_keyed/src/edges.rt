@@ -1,14 +1,14 @@
 //! The edges of the genealogy, each found from either of its ends by its key; where a trace asks for many nodes, all of
 //! them are read at once.
 
-ghost use Rattle.std.specs.Prelude.{◌≡◌, filter, map, false, true, IfOk, IfSome, OnOk};
+ghost use Rattle.std.specs.Prelude.{◌≡◌, filter, map, false, true, IfOk, IfSome, IsSome, OnOk};
 ghost use Rattle.sqlite.specs.Held.{state};
 ghost use Rattle.plant_base.specs.State.{State};
 ghost use Rattle.plant_trace.specs.Reach.{IsNext, Lists};
 ghost use Rattle.plant_view.specs.Genealogy.{edge_rows, edges_of, ends_of};
 ghost use Rattle.plant_keyed.specs.Edges.{begins_at, id_of, AreKindsAt, AreTurned, HasEdgesAt};
 ghost use Rattle.plant_keyed.specs.LookupOutcomes.{PreservesFrame, IsReported};
-ghost use Rattle.plant_keyed.specs.EdgeCaching.{AreEdgesOf, IsTraced, CacheStaysValid, one_more, are_few};
+ghost use Rattle.plant_keyed.specs.EdgeCaching.{AreEdgesOf, IsTraced, CacheStaysValid, one_more, are_few, are_seen};
 ghost use Rattle.plant_keyed.specs.Abstraction.{abstraction};
 
 use crate::edge_cache::EdgeCache;
@@ -129,6 +129,8 @@ impl<'a, S: Alter> Keyed<'a, S> {
         ensures counted { self.new.asked ≡ one_more self.old.asked }
         ensures few { are_few (one_more self.old.asked) self.old.commands ≡ true → self.new.edges.now ≡ self.old.edges.now }
         ensures many { are_few (one_more self.old.asked) self.old.commands ≡ false → OnOk result (self.new.edges.now.are_read ≡ true) }
+        ensures once { self.old.edges.now.are_read ≡ true
+            → (self.new.edges.now ≡ self.old.edges.now) × (self.new.conn.now ≡ self.old.conn.now) }
     {
         self.asked = self.asked.saturating_add(1);
         if self.edges.are_read || are_few(self.asked, self.commands) {
@@ -149,6 +151,7 @@ impl<'a, S: Alter> Keyed<'a, S> {
             self.old.has_failed self.new.has_failed self.old.edges.now self.new.edges.now
             (IfOk result (λ nodes. Lists (IsNext direction
             (edges_of (abstraction (state S.Store self.old.conn.now).now)) node) nodes.items)) }
+        ensures unasked { are_seen direction self.old.edges.now ≡ true → self.new.conn.now ≡ self.old.conn.now }
     {
         self.fill_if_many(direction)?;
         let known = if_memory(recalled(self.alloc, self.edges, &node, direction))?;
@@ -230,9 +233,10 @@ fn recalled(
     node: &Node,
     direction: Direction,
 ) -> Result<Option<Vec<Node>>, AllocError>
-    ensures { (s : State) → AreEdgesOf s edges.now
+    ensures next { (s : State) → AreEdgesOf s edges.now
         → IfOk result (λ found. IfSome found (λ nodes. Lists (IsNext direction (edges_of s) node.now)
         nodes.items)) }
+    ensures seen { are_seen direction edges.now ≡ true → IfOk result (λ found. IsSome found) }
 {
     if are_seen(edges, direction) {
         match edges.next(alloc, *node) {
@@ -248,6 +252,7 @@ fn recalled(
 fn are_seen(edges: &EdgeCache, direction: Direction) -> bool
     ensures read { result ≡ true → edges.now.are_read ≡ true }
     ensures way { result ≡ true → edges.now.direction ≡ direction }
+    ensures seen { result ≡ are_seen direction edges.now }
 {
     match (edges.direction, direction) {
         (Direction::Forward, Direction::Forward) | (Direction::Back, Direction::Back) =>

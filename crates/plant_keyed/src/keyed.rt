@@ -46,6 +46,7 @@ impl<'a, S: Alter> Keyed<'a, S> {
         ensures same { result.conn.now ≡ conn.old }
         ensures unfailed { result.has_failed ≡ false }
         ensures cached { result.edges.now ≡ edges.old }
+        ensures counts { (result.commands ≡ 0) × (result.asked ≡ 0) }
     {
         Keyed {
             alloc,
@@ -124,6 +125,7 @@ impl<'a, S: Alter> Keyed<'a, S> {
         ensures live { HasCleanDisk (state S.Store self.new.conn.now)
             → OnOk result (IsTrue (state S.Store self.new.conn.now).is_open) }
         ensures cached { self.new.edges.now ≡ self.old.edges.now }
+        ensures commands { IfOk result (λ p. self.new.commands ≡ p.seq) }
     {
         match self.first_found::<Meta>(&META, texts::META, &[])? {
             Some(meta) => {

@@ -5,8 +5,8 @@ use Rattle.plant_keyed.specs.Edges.{AreTurned}
 use Rattle.plant_keyed.proofs.CachedEdges.{next_turned}
 use Rattle.plant_keyed.proofs.edges.recalled.Goals as goal
 
-pub returns-in-Ok : goal.returns-in-Ok
-returns-in-Ok c s true_of =
+pub returns-in-Ok-clause-next : goal.returns-in-Ok-clause-next
+returns-in-Ok-clause-next c s true_of =
     let all = c.args.edges.now in
     let seen = c.are_seen in
     let are = subst (λ (d : Direction). AreTurned d (edges_of s) all.links.items) (seen.ensures.way c.if-are_seen.true) (true_of (seen.ensures.read c.if-are_seen.true)) in

@@ -1,7 +1,8 @@
 -- What comes of the word `import`.
-use Rattle.std.specs.Prelude.{◌≡◌, ◌⊎◌, ℕ, List, Bool, true, false, Option, Result, Ok, Err, IfSome}
+use Rattle.std.specs.Prelude.{◌≡◌, ◌⊎◌, ℕ, List, Bool, true, false, Option, Result, Ok, Err}
 use Rattle.std.specs.Io.KnownBytes.{Appends}
 use Rattle.sqlite.specs.State as store
+use Rattle.plant_base.specs.Inputs.{Agrees}
 use Rattle.plant_base.specs.State.{State, newest_schema}
 use Rattle.plant_base.specs.declared.rows.OrderRow.{OrderRow}
 use Rattle.plant_desk.specs.Keepers.{States}
@@ -56,14 +57,10 @@ abbrev pub ImportEnds : ℕ → State → ImportMetadata → Result (List OrderR
 ImportEnds k s import_metadata says old new represents shut crash_states done =
     (given : Result (List OrderRow) OrdersFault) × IsGivenOf says given × OrdersTaken k s import_metadata given old new represents shut crash_states done
 
--- what a reader may give that has these bytes left; where they aren't known, any orders or any fault
-abbrev pub IsGivenBy : Option (List ℕ) → Result (List OrderRow) OrdersFault → Type 0
-IsGivenBy unread given = IfSome unread (λ bytes. IsGivenOf (orders_of bytes) given)
-
--- what came of the file that a reader gave, at a keeper that stood at s
+-- what came of the file that a reader gave, which has these bytes left, at a keeper that stood at s
 abbrev pub FileEnds : ℕ → State → ImportMetadata → Option (List ℕ) → Option (List ℕ) → Option (List ℕ) → States → Bool → (States → Type 0) → Result Bool Fault → Type 0
 FileEnds k s import_metadata unread old new represents shut crash_states done =
-    (given : Result (List OrderRow) OrdersFault) × IsGivenBy unread given × OrdersTaken k s import_metadata given old new represents shut crash_states done
+    (bytes : List ℕ) × Agrees unread bytes × ImportEnds k s import_metadata (orders_of bytes) old new represents shut crash_states done
 
 -- What came of a file over a store: it was adopted, and the file taken in from there; or it wasn't adopted, and nothing was
 -- written.

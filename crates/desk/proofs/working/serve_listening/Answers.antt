@@ -1,4 +1,6 @@
 use Rattle.std.proofs.Common.{[], arith}
+use Rattle.sqlite.specs.Held.{state}
+use Rattle.plant_desk_store.specs.DeskStates.{HasCrashStates, Represents}
 use Rattle.desk_server.proofs.ServedRequests.{open_served}
 use Rattle.desk.proofs.working.serve_listening.Goals as goal
 
@@ -7,4 +9,7 @@ returns-in-Ok-clause-honest g c = c.serve_listener.ensures.same.honest
 
 pub returns-in-Err-clause-serves : goal.returns-in-Err-clause-serves
 returns-in-Err-clause-serves g c = λ clean s represented.
-    open_served c.args.count s _ _ _ [] c.requires (omega arith) (represented, represented.1 c.requires)
+    let shown = state g.S.Store c.args.desk.now.connection in
+    let shut = c.args.desk.now.is_shut in
+    open_served c.args.count s (Represents shown shut) shut (λ states. HasCrashStates shown states) [] c.requires (omega arith)
+    (represented, represented.1 c.requires)

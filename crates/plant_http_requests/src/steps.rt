@@ -1,5 +1,5 @@
 //! What the head of a request decides.
-ghost use Rattle.std.specs.Prelude.{◌≡◌, length, map, All};
+ghost use Rattle.std.specs.Prelude.{◌≡◌, bytes_eq, length, map, All};
 ghost use Rattle.httparse.specs.Spans.{IsHeaderWithin, IsWithin, header_bytes, span_bytes};
 ghost use Rattle.plant_http_requests.specs.Steps.{refusal_of, fails, is_head, question_of, body_format_of, post_step};
 ghost use Rattle.plant_http_requests.specs.Steps.{posted_step, asked_step, target_step, request_step};

@@ -1,3 +1,4 @@
 pub mod Dot
 pub mod Reported
 pub mod United
+pub mod Ends

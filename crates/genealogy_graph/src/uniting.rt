@@ -2,6 +2,7 @@
 ghost use Rattle.std.specs.Prelude.{◌≡◌, [], Some, None, IfOk, OnOk, if◌then◌else◌};
 ghost use Rattle.std.specs.BTreeSet.{insert_key};
 ghost use Rattle.std.specs.Map.{values_of};
+ghost use Rattle.genealogy_graph.specs.Ends.{HasEnds};
 ghost use Rattle.genealogy_graph.specs.United.{ReportsAs, id_cmp, noted, lots_from, lot_noted, batches_from, edges_from, edge_noted};
 ghost use Rattle.genealogy_graph.specs.United.{unit_at, measured, id_of, edge_in, edges_in, picture_with, picture_of};
 
@@ -222,11 +223,14 @@ fn picture_with(
 
 /// The picture of what is told: each lot, each batch and each edge once, in their order, and of each edge its unit.
 ///
+/// Each edge of a picture that is made begins and ends at one of its lots or batches.
+///
 /// `Reported` comes where it makes none, and tells the first thing that is wrong with it: a lot that is told twice and not alike, then an edge that is told
 /// with two amounts, then an edge that begins or ends at a node that isn't told, or leads from a batch to a batch. `Memory` comes where memory was refused.
 #[tactic(auto, unfolding(crate::specs::United::picture_of))]
 pub fn united(alloc: Global, reported: &Reported) -> Result<Picture, UnitedFault>
-    ensures { ReportsAs (λ picture. picture) result (picture_of reported.now) }
+    ensures picture { ReportsAs (λ picture. picture) result (picture_of reported.now) }
+    ensures ends { IfOk result HasEnds }
 {
     let lots = lots_of(alloc, reported.lots.as_slice())?;
     let amounts = amounts_of(alloc, reported.edges.as_slice())?;

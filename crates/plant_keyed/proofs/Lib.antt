@@ -3,6 +3,7 @@ mod CachedEdges
 mod EdgesAtNode
 mod FirstDecoded
 mod LookupsKeep
+mod DecodedPages
 mod PagesFind
 mod PageIsFirstRows
 mod TwoKeyPages

@@ -371,6 +371,16 @@ class Rules(FileCheckTestCase):
                 self.check(f"{statement}: what is wanted", row["wanted"], WANTED[number])
             self.check(f"{statement}: verify", self.desk.run("verify", file.name).errors, b"fault: damaged G%d\n" % number)
 
+    def test_row_of_the_same_number_is_not_told_as_one_whose_moment_falls(self):
+        """Gives the two movements of a merge two moments, which breaks no rule; then an event has one that falls."""
+        rows = "UPDATE movement SET at = 305 WHERE seq IN (16, 17) OR (seq = 18 AND line = 2)"
+        self.check("two moments of one number", self.checked(self.copy("merged.db", rows).name).status, 0)
+        file = self.copy("falling.db", f"{rows}; UPDATE batch_event SET at = 259 WHERE seq = 15")
+        row = self.object(file.name)[1]["desk"]["broken"][0]["row"]
+        found = tuple(row[it] for it in ("table", "key", "column", "found", "wanted"))
+        wanted = ("batch_event", [15], "at", "259", "no moment before 260, which stands with a lower number")
+        self.check("a moment that falls", found, wanted)
+
     def test_three_broken_rules_are_told_in_order(self):
         file = self.copy("several.db", "; ".join(sqlite.DAMAGES[it - 1] for it in (13, 7, 3)))
         _, told = self.object(file.name)

@@ -1,3 +1,4 @@
 pub mod FaultIfBroken
+pub mod FallBreaksRule
 pub mod FoundIfDisobeyed
 pub mod FirstFoundIsFirstBroken

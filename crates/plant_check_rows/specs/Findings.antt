@@ -96,7 +96,7 @@ abbrev pub numbered_fault_in : Rows → List Movement → Option RowFault
 numbered_fault_in r ms =
     or_fault (number_fault_in r.meta.position.seq r.events ms)
     (or_fault (late_fault_in r.meta.position.at ms r.events r.batches r.holds)
-    (or_fault (fall_fault_in 0 ms) (event_fall_fault_in 0 r.events)))
+    (or_fault (fall_fault_in (0, 0) ms) (event_fall_fault_in (0, 0) r.events)))
 
 -- the row that breaks the rule of recalls, or the mark that breaks it
 abbrev pub recalled_fault_in : Rows → List Recall → List Movement → Option RowFault

@@ -6,6 +6,7 @@ use Rattle.plant_base.specs.declared.rows.Hold.{Hold}
 use Rattle.plant_base.specs.declared.rows.Movement.{Movement}
 use Rattle.plant_stock.specs.Stock.{comes_from}
 use Rattle.plant_check_stock.specs.Numbering.{is_given, is_next_line, is_apart, is_entered_before}
+use Rattle.plant_check_stock.specs.Times.{row_mark_of, row_mark_of_event, is_no_later}
 use Rattle.plant_check_rows.specs.Keys.{booked_key, id_key, number_key, hold_key}
 use Rattle.plant_check_rows.specs.Movements.{movement_as}
 use Rattle.plant_check_rows.specs.declared.fault.Column.{Column}
@@ -82,19 +83,26 @@ late_fault_in at ms es batches holds =
 
 -- ---- moments that fall
 
--- the movement, where it is earlier than this moment, which stands with a lower number
-abbrev pub fall_fault : ℕ → Movement → Option RowFault
-fall_fault latest m = fault_unless (nat_le latest m.at) (movement_as m (Some column.At) (found.Number m.at) (wanted.NotBefore latest))
+-- that the movement is earlier than this row
+abbrev pub movement_before : ℕ × ℕ → Movement → RowFault
+movement_before before m = movement_as m (Some column.At) (found.Number m.at) (wanted.NotBefore before.1)
 
--- the first movement that is earlier than the one before it
-abbrev pub fall_fault_in : ℕ → List Movement → Option RowFault
-fall_fault_in latest [] = None
-fall_fault_in latest (m ∷ ms) = or_fault (fall_fault latest m) (fall_fault_in m.at ms)
+-- the movement, where it is earlier than this row, which has a lower number
+abbrev pub fall_fault : ℕ × ℕ → Movement → Option RowFault
+fall_fault before m = fault_unless (is_no_later before (row_mark_of m)) (movement_before before m)
 
-abbrev pub event_fall_fault : ℕ → BatchEvent → Option RowFault
-event_fall_fault latest e = fault_unless (nat_le latest e.at) (event_as e column.At (found.Number e.at) (wanted.NotBefore latest))
+-- the first movement that is earlier than the one before it, which has a lower number
+abbrev pub fall_fault_in : ℕ × ℕ → List Movement → Option RowFault
+fall_fault_in before [] = None
+fall_fault_in before (m ∷ ms) = or_fault (fall_fault before m) (fall_fault_in (row_mark_of m) ms)
 
--- the first event that is earlier than the one before it
-abbrev pub event_fall_fault_in : ℕ → List BatchEvent → Option RowFault
-event_fall_fault_in latest [] = None
-event_fall_fault_in latest (e ∷ es) = or_fault (event_fall_fault latest e) (event_fall_fault_in e.at es)
+-- the same of events
+abbrev pub event_before : ℕ × ℕ → BatchEvent → RowFault
+event_before before e = event_as e column.At (found.Number e.at) (wanted.NotBefore before.1)
+
+abbrev pub event_fall_fault : ℕ × ℕ → BatchEvent → Option RowFault
+event_fall_fault before e = fault_unless (is_no_later before (row_mark_of_event e)) (event_before before e)
+
+abbrev pub event_fall_fault_in : ℕ × ℕ → List BatchEvent → Option RowFault
+event_fall_fault_in before [] = None
+event_fall_fault_in before (e ∷ es) = or_fault (event_fall_fault before e) (event_fall_fault_in (row_mark_of_event e) es)

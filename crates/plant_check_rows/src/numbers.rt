@@ -1,5 +1,8 @@
 //! Movements, events, batches and holds whose number or moment breaks a rule.
-ghost use Rattle.std.specs.Prelude.{◌≡◌, IfOk, None};
+ghost use Rattle.std.specs.Prelude.{◌≡◌, List, false, IfOk, IfSome, None};
+ghost use Rattle.plant_base.specs.declared.rows.BatchEvent.{BatchEvent as BatchEventRow};
+ghost use Rattle.plant_base.specs.declared.rows.Movement.{Movement as MovementRow};
+ghost use Rattle.plant_check_stock.specs.Times.{is_no_later, never_fall, row_marks};
 ghost use Rattle.plant_check_rows.specs.Numbers.{event_as, event_fall_fault, event_fall_fault_in, fall_fault};
 ghost use Rattle.plant_check_rows.specs.Numbers.{fall_fault_in, late_fault_in, line_fault, line_fault_in};
 ghost use Rattle.plant_check_rows.specs.Numbers.{moment_fault, number_as, number_fault, number_fault_in};
@@ -228,56 +231,69 @@ fn late_fault(
     Ok(or_fault(movement, or_fault(event, or_fault(batch, hold))))
 }
 
-/// The movement, where it is earlier than this moment, which stands with a lower number.
-fn fall_fault(latest: u64, movement: &Movement) -> Option<RowFault>
-    ensures { result ≡ fall_fault latest movement.now }
+/// Whether a row isn't earlier than this one, each by its number and moment, where that has a lower number.
+fn is_no_later(before: (u64, u64), row: (u64, u64)) -> bool
+    ensures { result ≡ is_no_later before row }
+{
+    before.0 >= row.0 || before.1 <= row.1
+}
+
+/// The movement, where it is earlier than this row, which has a lower number.
+fn fall_fault(before: (u64, u64), movement: &Movement) -> Option<RowFault>
+    ensures { result ≡ fall_fault before movement.now }
 {
     let fault = movement_as(
         movement,
         Some(Column::At),
         Found::Number(movement.at.get()),
-        Wanted::NotBefore(latest),
+        Wanted::NotBefore(before.1),
     );
-    fault_unless(latest <= movement.at.get(), fault)
+    let row = (movement.seq, movement.at.get());
+    fault_unless(is_no_later(before, row), fault)
 }
 
-/// The first movement that is earlier than the one before it.
+/// The first movement that is earlier than the one before it, which has a lower number. So it breaks the rule, whatever the events.
+#[tactic(auto, using(crate::proofs::FallBreaksRule::movement_breaks))]
 fn falling_movement(movements: &[Movement]) -> Option<RowFault>
-    ensures { result ≡ fall_fault_in 0 movements.now }
+    ensures reported { result ≡ fall_fault_in (0, 0) movements.now }
+    ensures breaks { IfSome result (λ _. (events : List BatchEventRow) → never_fall (row_marks movements.now events) ≡ false) }
 {
-    let mut latest = 0;
+    let mut before = (0, 0);
     for movement in movements {
-        if let Some(fault) = fall_fault(latest, movement) {
+        if let Some(fault) = fall_fault(before, movement) {
             return Some(fault);
         }
-        latest = movement.at.get();
+        before = (movement.seq, movement.at.get());
     }
     None
 }
 
-/// The event, where it is earlier than this moment, which stands with a lower number.
-fn event_fall_fault(latest: u64, event: &BatchEvent) -> Option<RowFault>
-    ensures { result ≡ event_fall_fault latest event.now }
+/// The event, where it is earlier than this row, which has a lower number.
+fn event_fall_fault(before: (u64, u64), event: &BatchEvent) -> Option<RowFault>
+    ensures { result ≡ event_fall_fault before event.now }
 {
     let fault = event_as(
         event,
         Column::At,
         Found::Number(event.at.get()),
-        Wanted::NotBefore(latest),
+        Wanted::NotBefore(before.1),
     );
-    fault_unless(latest <= event.at.get(), fault)
+    let row = (event.seq, event.at.get());
+    fault_unless(is_no_later(before, row), fault)
 }
 
-/// The first event that is earlier than the one before it.
+/// The first event that is earlier than the one before it, which has a lower number. So it breaks the rule, whatever the movements.
+#[tactic(auto, using(crate::proofs::FallBreaksRule::event_breaks))]
 fn falling_event(events: &[BatchEvent]) -> Option<RowFault>
-    ensures { result ≡ event_fall_fault_in 0 events.now }
+    ensures reported { result ≡ event_fall_fault_in (0, 0) events.now }
+    ensures breaks { IfSome result (λ _. (movements : List MovementRow) → never_fall (row_marks movements events.now) ≡ false) }
 {
-    let mut latest = 0;
+    let mut before = (0, 0);
     for event in events {
-        if let Some(fault) = event_fall_fault(latest, event) {
+        if let Some(fault) = event_fall_fault(before, event) {
             return Some(fault);
         }
-        latest = event.at.get();
+        before = (event.seq, event.at.get());
     }
     None
 }

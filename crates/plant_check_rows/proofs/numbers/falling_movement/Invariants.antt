@@ -4,4 +4,4 @@ use Rattle.plant_check_rows.proofs.numbers.falling_movement.Given as goal
 
 -- no moment fell so far: the first that does is one of those that are left
 abbrev pub invariant-loop-movement : goal.invariant-loop-movement
-invariant-loop-movement l = fall_fault_in l.latest (drop l.movement-index l.movements) ≡ fall_fault_in 0 l.movements
+invariant-loop-movement l = fall_fault_in l.before (drop l.movement-index l.movements) ≡ fall_fault_in (0, 0) l.movements

@@ -1,4 +1,4 @@
-use Rattle.std.proofs.Common.{◌≡◌, Bool, false, true}
+use Rattle.std.proofs.Common.{◌≡◌, false, true}
 use Rattle.desk_file.proofs.working.work_over.Goals as goal
 
 pub returns-in-Ok-open_file-clause-memory : goal.returns-in-Ok-open_file-clause-memory

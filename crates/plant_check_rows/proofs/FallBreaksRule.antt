@@ -1,5 +1,5 @@
 -- A row that is reported as earlier than one of a lower number breaks the rule of moments.
-use Rattle.std.proofs.Common.{◌≡◌, ℕ, Bool, true, false, List, [], ◌∷◌, ◌++◌, map, IfSome, refl, arith, subst, append_assoc}
+use Rattle.std.proofs.Common.{◌≡◌, ℕ, Bool, true, false, List, [], ◌∷◌, ◌++◌, map, Option, Some, None, IfSome, refl, sym, arith, subst, append_assoc}
 use Rattle.std.specs.Prelude.{◌&&◌}
 use Rattle.std.proofs.lemmas.Bool.Decides.{nat_tests}
 use Rattle.std.specs.List.{list_all}
@@ -7,6 +7,7 @@ use Rattle.plant_base.specs.declared.rows.BatchEvent.{BatchEvent}
 use Rattle.plant_base.specs.declared.rows.Movement.{Movement}
 use Rattle.plant_check_stock.specs.Times.{row_mark_of, row_mark_of_event, row_marks, is_no_later, never_fall}
 use Rattle.plant_check_rows.specs.First.{fault_unless, or_fault}
+use Rattle.plant_check_rows.specs.declared.fault.RowFault.{RowFault}
 use Rattle.plant_check_rows.specs.Numbers.{movement_before, fall_fault_in, event_before, event_fall_fault_in}
 
 abbrev Mark : Type 0
@@ -40,36 +41,44 @@ from_start b = grind (arith, nat_tests)
 movement_from : (xs : List Mark) (before : Mark) (ms : List Movement) (rest : List Mark)
     → IfSome (fall_fault_in before ms) (λ _. never_fall (xs ++ before ∷ (map row_mark_of ms ++ rest)) ≡ false)
 movement_from xs before [] rest = tt
-movement_from xs before (m ∷ ms) rest = at (is_no_later before (row_mark_of m)) refl
+movement_from xs before (m ∷ ms) rest = at (movement_from (xs ++ before ∷ []) (row_mark_of m) ms rest) (is_no_later before (row_mark_of m)) refl
   where
     behind : List Mark
     behind = map row_mark_of ms ++ rest
 
-    at : (b : Bool) → is_no_later before (row_mark_of m) ≡ b
+    at : IfSome (fall_fault_in (row_mark_of m) ms) (λ _. never_fall ((xs ++ before ∷ []) ++ row_mark_of m ∷ behind) ≡ false) → (b : Bool) → is_no_later before (row_mark_of m) ≡ b
         → IfSome (or_fault (fault_unless b (movement_before before m)) (fall_fault_in (row_mark_of m) ms)) (λ _. never_fall (xs ++ before ∷ row_mark_of m ∷ behind) ≡ false)
-    at false e = neighbours_fail xs behind before (row_mark_of m) e
-    at true e = subst (λ l. IfSome (fall_fault_in (row_mark_of m) ms) (λ _. never_fall l ≡ false)) (append_assoc xs (before ∷ []) (row_mark_of m ∷ behind))
-        (movement_from (xs ++ before ∷ []) (row_mark_of m) ms rest)
+    at later false e = neighbours_fail xs behind before (row_mark_of m) e
+    at later true e = subst (λ l. IfSome (fall_fault_in (row_mark_of m) ms) (λ _. never_fall l ≡ false)) (append_assoc xs (before ∷ []) (row_mark_of m ∷ behind)) later
 
 pub movement_breaks : (ms : List Movement) (es : List BatchEvent) → IfSome (fall_fault_in (0, 0) ms) (λ _. never_fall (row_marks ms es) ≡ false)
 movement_breaks [] es = tt
 movement_breaks (m ∷ ms) es = rw (from_start (row_mark_of m)) (movement_from [] (row_mark_of m) ms (map row_mark_of_event es))
 
+-- where a movement is reported, it breaks the rule
+pub reported_movement : (o : Option RowFault) (ms : List Movement) → o ≡ fall_fault_in (0, 0) ms → IfSome o (λ _. (es : List BatchEvent) → never_fall (row_marks ms es) ≡ false)
+reported_movement None ms is = tt
+reported_movement (Some f) ms is = λ es. (rw (sym is) at (movement_breaks ms es))
+
 -- ---- events
 
 event_from : (xs : List Mark) (before : Mark) (es : List BatchEvent) → IfSome (event_fall_fault_in before es) (λ _. never_fall (xs ++ before ∷ map row_mark_of_event es) ≡ false)
 event_from xs before [] = tt
-event_from xs before (e ∷ es) = at (is_no_later before (row_mark_of_event e)) refl
+event_from xs before (e ∷ es) = at (event_from (xs ++ before ∷ []) (row_mark_of_event e) es) (is_no_later before (row_mark_of_event e)) refl
   where
     behind : List Mark
     behind = map row_mark_of_event es
 
-    at : (b : Bool) → is_no_later before (row_mark_of_event e) ≡ b
+    at : IfSome (event_fall_fault_in (row_mark_of_event e) es) (λ _. never_fall ((xs ++ before ∷ []) ++ row_mark_of_event e ∷ behind) ≡ false) → (b : Bool) → is_no_later before (row_mark_of_event e) ≡ b
         → IfSome (or_fault (fault_unless b (event_before before e)) (event_fall_fault_in (row_mark_of_event e) es)) (λ _. never_fall (xs ++ before ∷ row_mark_of_event e ∷ behind) ≡ false)
-    at false f = neighbours_fail xs behind before (row_mark_of_event e) f
-    at true f = subst (λ l. IfSome (event_fall_fault_in (row_mark_of_event e) es) (λ _. never_fall l ≡ false)) (append_assoc xs (before ∷ []) (row_mark_of_event e ∷ behind))
-        (event_from (xs ++ before ∷ []) (row_mark_of_event e) es)
+    at later false f = neighbours_fail xs behind before (row_mark_of_event e) f
+    at later true f = subst (λ l. IfSome (event_fall_fault_in (row_mark_of_event e) es) (λ _. never_fall l ≡ false)) (append_assoc xs (before ∷ []) (row_mark_of_event e ∷ behind)) later
 
 pub event_breaks : (ms : List Movement) (es : List BatchEvent) → IfSome (event_fall_fault_in (0, 0) es) (λ _. never_fall (row_marks ms es) ≡ false)
 event_breaks ms [] = tt
 event_breaks ms (e ∷ es) = rw (from_start (row_mark_of_event e)) (event_from (map row_mark_of ms) (row_mark_of_event e) es)
+
+-- where an event is reported, it breaks the rule
+pub reported_event : (o : Option RowFault) (es : List BatchEvent) → o ≡ event_fall_fault_in (0, 0) es → IfSome o (λ _. (ms : List Movement) → never_fall (row_marks ms es) ≡ false)
+reported_event None es is = tt
+reported_event (Some f) es is = λ ms. (rw (sym is) at (event_breaks ms es))

@@ -252,11 +252,9 @@ fn fall_fault(before: (u64, u64), movement: &Movement) -> Option<RowFault>
     fault_unless(is_no_later(before, row), fault)
 }
 
-/// The first movement that is earlier than the one before it, which has a lower number. So it breaks the rule, whatever the events.
-#[tactic(auto, using(crate::proofs::FallBreaksRule::movement_breaks))]
-fn falling_movement(movements: &[Movement]) -> Option<RowFault>
-    ensures reported { result ≡ fall_fault_in (0, 0) movements.now }
-    ensures breaks { IfSome result (λ _. (events : List BatchEventRow) → never_fall (row_marks movements.now events) ≡ false) }
+/// The first movement that is earlier than the one before it, which has a lower number.
+fn first_falling_movement(movements: &[Movement]) -> Option<RowFault>
+    ensures { result ≡ fall_fault_in (0, 0) movements.now }
 {
     let mut before = (0, 0);
     for movement in movements {
@@ -282,11 +280,9 @@ fn event_fall_fault(before: (u64, u64), event: &BatchEvent) -> Option<RowFault>
     fault_unless(is_no_later(before, row), fault)
 }
 
-/// The first event that is earlier than the one before it, which has a lower number. So it breaks the rule, whatever the movements.
-#[tactic(auto, using(crate::proofs::FallBreaksRule::event_breaks))]
-fn falling_event(events: &[BatchEvent]) -> Option<RowFault>
-    ensures reported { result ≡ event_fall_fault_in (0, 0) events.now }
-    ensures breaks { IfSome result (λ _. (movements : List MovementRow) → never_fall (row_marks movements events.now) ≡ false) }
+/// The first event that is earlier than the one before it, which has a lower number.
+fn first_falling_event(events: &[BatchEvent]) -> Option<RowFault>
+    ensures { result ≡ event_fall_fault_in (0, 0) events.now }
 {
     let mut before = (0, 0);
     for event in events {
@@ -296,6 +292,22 @@ fn falling_event(events: &[BatchEvent]) -> Option<RowFault>
         before = (event.seq, event.at.get());
     }
     None
+}
+
+/// The same movement. It breaks the rule of moments, whatever the events.
+fn falling_movement(movements: &[Movement]) -> Option<RowFault>
+    ensures reported { result ≡ fall_fault_in (0, 0) movements.now }
+    ensures breaks { IfSome result (λ _. (events : List BatchEventRow) → never_fall (row_marks movements.now events) ≡ false) }
+{
+    first_falling_movement(movements)
+}
+
+/// The same event. It breaks the rule of moments, whatever the movements.
+fn falling_event(events: &[BatchEvent]) -> Option<RowFault>
+    ensures reported { result ≡ event_fall_fault_in (0, 0) events.now }
+    ensures breaks { IfSome result (λ _. (movements : List MovementRow) → never_fall (row_marks movements events.now) ≡ false) }
+{
+    first_falling_event(events)
 }
 
 /// The first row whose number or moment breaks the rule: a number that wasn't given, or else a moment that is later than the

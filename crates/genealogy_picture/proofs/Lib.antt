@@ -2,3 +2,4 @@ pub mod MembersCounted
 pub mod DrawnInput
 pub mod RefusalKinds
 pub mod LineSays
+pub mod Causes

@@ -14,7 +14,7 @@ use Rattle.genealogy_graph.specs.Dot.{dot_text}
 use Rattle.genealogy_svg.specs.declared.drawing.Drawing.{Drawing}
 use Rattle.genealogy_svg.specs.declared.drawing.LayoutFault.{LayoutFault}
 use Rattle.genealogy_svg.specs.declared.drawing.LayoutFault.TheVariants as layout
-use Rattle.genealogy_svg.specs.Layouts.{IsLaidOut, nodes_of}
+use Rattle.genealogy_svg.specs.Layouts.{IsEndOf, IsLaidOut, nodes_of}
 use Rattle.genealogy_svg.specs.Layers.{HasCircle}
 use Rattle.genealogy_svg.specs.Svg.{svg_text}
 use Rattle.genealogy_picture.specs.declared.words.Format.{Format}
@@ -50,30 +50,35 @@ of_layout (Err layout.Circle) = Err (stop.Refused refusal.Circle)
 of_layout (Err (layout.Lost node)) = Err (stop.Refused (refusal.Whole (graph_error.Lost node)))
 of_layout (Err layout.Memory) = Err stop.Memory
 
--- why a picture has no text: its edges lead in a circle, a node is none of it, or memory was refused
+-- why a picture isn't laid out: its edges lead in a circle, one of them begins or ends at a node that is none of it, or memory was refused
 abbrev pub IsLayoutError : Picture → DrawError → Type 0
 IsLayoutError p (stop.Refused refusal.Circle) = HasCircle p.edges
-IsLayoutError p (stop.Refused (refusal.Whole (graph_error.Lost node))) = ¬ Contains (nodes_of p) node
+IsLayoutError p (stop.Refused (refusal.Whole (graph_error.Lost node))) = IsEndOf p.edges node × (¬ Contains (nodes_of p) node)
 IsLayoutError p stop.Memory = ⊤
 IsLayoutError p _ = ⊥
+
+-- why a picture has no text: in DOT because memory was refused, in SVG because it isn't laid out
+abbrev pub IsTextError : Format → Picture → DrawError → Type 0
+IsTextError Dot p error = error ≡ stop.Memory
+IsTextError Svg p error = IsLayoutError p error
 
 -- the text of a picture: in DOT this one, in SVG that of a layout
 abbrev pub IsTextOf : Format → Picture → List ℕ → Type 0
 IsTextOf Dot p text = text ≡ dot_text p
 IsTextOf Svg p text = (d : Drawing) × IsLaidOut p d × (text ≡ svg_text d)
 
--- the answers in the bytes have no picture, for this, or theirs has no text; or else a read failed, or memory was refused
-abbrev pub IsRefused : List ℕ → DrawError → Type 0
-IsRefused bytes (stop.Refused r) = (picture_in bytes ≡ Err r) ⊎ ((p : Picture) × (picture_in bytes ≡ Ok p) × IsLayoutError p (stop.Refused r))
-IsRefused bytes stop.Open = ⊥
-IsRefused bytes stop.Read = ⊤
-IsRefused bytes stop.Write = ⊥
-IsRefused bytes stop.Memory = ⊤
+-- the answers in the bytes have no picture, for this, or the edges of theirs lead in a circle, in SVG alone; or else a read failed, or memory was refused
+abbrev pub IsRefused : Format → List ℕ → DrawError → Type 0
+IsRefused format bytes (stop.Refused r) = (picture_in bytes ≡ Err r) ⊎ ((p : Picture) × (picture_in bytes ≡ Ok p) × HasCircle p.edges × (format ≡ Svg) × (r ≡ refusal.Circle))
+IsRefused format bytes stop.Open = ⊥
+IsRefused format bytes stop.Read = ⊤
+IsRefused format bytes stop.Write = ⊥
+IsRefused format bytes stop.Memory = ⊤
 
 -- the text of the picture of the answers in the bytes, or why there is none
 abbrev pub Draws : Format → List ℕ → Result (String Global) DrawError → Type 0
 Draws format bytes (Ok text) = (p : Picture) × (picture_in bytes ≡ Ok p) × IsTextOf format p (string_bytes text)
-Draws format bytes (Err stop) = IsRefused bytes stop
+Draws format bytes (Err stop) = IsRefused format bytes stop
 
 -- an error of a reading for want of memory is told as that, and every other as a read that failed
 abbrev pub draw_error_of_kind : ErrorKind → DrawError

@@ -3,7 +3,7 @@ ghost use Rattle.std.specs.Prelude.{◌≡◌, IfErr, IfOk, IfSome, string_bytes
 ghost use Rattle.std.specs.IoError.{error_kind};
 ghost use Rattle.genealogy_picture.specs.Reading.{ReportsAs};
 ghost use Rattle.genealogy_svg.specs.Layouts.{IsLaidOut};
-ghost use Rattle.genealogy_picture.specs.Drawing.{of_whole, picture_in, of_layout, IsLayoutError, IsTextOf, Draws};
+ghost use Rattle.genealogy_picture.specs.Drawing.{of_whole, picture_in, of_layout, IsLayoutError, IsTextError, IsTextOf, Draws};
 ghost use Rattle.genealogy_picture.specs.Drawing.{draw_error_of_kind, read_count};
 
 use crate::ending::{DrawError, Refusal};
@@ -63,7 +63,7 @@ fn drawing_of(alloc: Global, picture: &Picture) -> Result<Drawing, DrawError>
 /// The text of a picture.
 fn text_of(alloc: Global, format: Format, picture: &Picture) -> Result<String, DrawError>
     ensures text { IfOk result (λ text. IsTextOf format picture.now (string_bytes text)) }
-    ensures refused { IfErr result (IsLayoutError picture.now) }
+    ensures refused { IfErr result (IsTextError format picture.now) }
 {
     match format {
         Format::Dot => Ok(dot(alloc, picture)?),
@@ -104,7 +104,7 @@ fn read_count(reading: io::Result<usize>) -> Result<usize, DrawError>
 
 /// The text of the picture of the answers that a reader gives to its end.
 ///
-/// `Refused` tells why they make none, `Read` comes where a read failed, and `Memory` where memory was refused. No other stop comes.
+/// `Refused` reports why they make none; of a picture that they make it comes only where its edges lead in a circle, in SVG. `Read` comes where a read failed, and `Memory` where memory was refused. No other stop comes.
 pub(crate) fn draw<R: Read>(
     alloc: Global,
     format: Format,

@@ -1,0 +1,71 @@
+-- For which causes a picture has no text.
+use Rattle.std.proofs.Common.{◌≡◌, ℕ, List, String, IfOk, IfErr, Result, Ok, Err, inl, inr, ◌⊎◌, refl, subst, sym, Contains}
+use Rattle.genealogy_graph.specs.Ends.{HasEnds, IsBetween, nodes_in}
+use Rattle.genealogy_graph.specs.United.{picture_of}
+use Rattle.genealogy_graph.specs.declared.model.Picture.{Picture}
+use Rattle.genealogy_graph.specs.declared.model.PictureEdge.{PictureEdge}
+use Rattle.genealogy_graph.specs.declared.reported.GraphError.{GraphError}
+use Rattle.genealogy_graph.specs.declared.reported.GraphError.TheVariants as graph_error
+use Rattle.genealogy_graph.specs.declared.reported.Reported.{Reported}
+use Rattle.genealogy_graph.proofs.EndsFound.{ends_found}
+use Rattle.genealogy_svg.specs.Layouts.{IsEndOf, nodes_of}
+use Rattle.plant_trace.specs.declared.node.Node.{Node}
+use Rattle.genealogy_picture.specs.Answers.{◌>>=◌}
+use Rattle.std.specs.declared.alloc.Global.{Global}
+use Rattle.std.specs.Prelude.{string_bytes}
+use Rattle.genealogy_picture.specs.Drawing.{picture_in, whole, Draws, IsLayoutError, IsRefused, IsTextError, IsTextOf}
+use Rattle.genealogy_picture.specs.Reading.{reported_of}
+use Rattle.genealogy_picture.specs.declared.ending.DrawError.{DrawError}
+use Rattle.genealogy_picture.specs.declared.ending.DrawError.TheVariants as stop
+use Rattle.genealogy_picture.specs.declared.ending.Refusal.{Refusal}
+use Rattle.genealogy_picture.specs.declared.ending.Refusal.TheVariants as refusal
+use Rattle.genealogy_picture.specs.declared.words.Format.{Format}
+use Rattle.genealogy_picture.specs.declared.words.Format.TheVariants.{Dot, Svg}
+use Rattle.std.proofs.lemmas.List.Elements.{All-get_or}
+
+ends_whole : (r : Result Picture GraphError) (p : Picture) → ((q : Picture) → r ≡ Ok q → HasEnds q) → whole r ≡ Ok p → HasEnds p
+ends_whole (Ok q) p f h = let same : q ≡ p = cc in subst HasEnds same (f q refl)
+ends_whole (Err e) p f h = absurd cc
+
+ends_reported : (r : Result Reported Refusal) (p : Picture) → (r >>= (λ reported. whole (picture_of reported))) ≡ Ok p → HasEnds p
+ends_reported (Ok reported) p h = ends_whole (picture_of reported) p (ends_found reported) h
+ends_reported (Err e) p h = absurd cc
+
+-- the edges of the picture of an input begin and end at its nodes
+ends_in : (bytes : List ℕ) (p : Picture) → picture_in bytes ≡ Ok p → HasEnds p
+ends_in bytes p h = ends_reported (reported_of bytes) p h
+
+never_lost : (p : Picture) (node : Node) → HasEnds p → IsEndOf p.edges node → Contains (nodes_of p) node
+never_lost p node ends (k, e, h, is, at) = end_at at
+  where
+    between : IsBetween (nodes_in p) e
+    between = subst (IsBetween (nodes_in p)) is (All-get_or (IsBetween (nodes_in p)) p.edges k e h ends)
+
+    end_at : (e.from ≡ node) ⊎ (e.to ≡ node) → Contains (nodes_of p) node
+    end_at (inl from) = subst (Contains (nodes_of p)) from between.0
+    end_at (inr to) = subst (Contains (nodes_of p)) to between.1
+
+refused_for : (format : Format) (bytes : List ℕ) (p : Picture) (r : Refusal) → picture_in bytes ≡ Ok p → format ≡ Svg → IsLayoutError p (stop.Refused r) → IsRefused format bytes (stop.Refused r)
+refused_for format bytes p refusal.Circle made svg circle = inr (p, made, circle, svg, refl)
+refused_for format bytes p (refusal.Whole (graph_error.Lost node)) made svg lost = absurd (lost.1 (never_lost p node (ends_in bytes p made) lost.0))
+refused_for format bytes p (refusal.Whole (graph_error.Lot id)) made svg none = absurd none
+refused_for format bytes p (refusal.Whole (graph_error.Amounts from to)) made svg none = absurd none
+refused_for format bytes p (refusal.Whole (graph_error.Batches from to)) made svg none = absurd none
+refused_for format bytes p (refusal.Line number error) made svg none = absurd none
+
+in_svg : (bytes : List ℕ) (p : Picture) (error : DrawError) → picture_in bytes ≡ Ok p → IsLayoutError p error → IsRefused Svg bytes error
+in_svg bytes p (stop.Refused r) made h = refused_for Svg bytes p r made refl h
+in_svg bytes p stop.Open made h = absurd h
+in_svg bytes p stop.Read made h = tt
+in_svg bytes p stop.Write made h = absurd h
+in_svg bytes p stop.Memory made h = tt
+
+pub no_text : (format : Format) (bytes : List ℕ) (p : Picture) (error : DrawError) → picture_in bytes ≡ Ok p → IsTextError format p error → IsRefused format bytes error
+no_text Dot bytes p error made h = subst (IsRefused Dot bytes) (sym h) tt
+no_text Svg bytes p error made h = in_svg bytes p error made h
+
+-- the text of a picture, or why it has none, is that of the answers whose picture it is
+pub drawn_text : (format : Format) (bytes : List ℕ) (p : Picture) (r : Result (String Global) DrawError) → picture_in bytes ≡ Ok p
+    → IfOk r (λ text. IsTextOf format p (string_bytes text)) → IfErr r (IsTextError format p) → Draws format bytes r
+drawn_text format bytes p (Ok text) made written failed = (p, made, written)
+drawn_text format bytes p (Err error) made written failed = no_text format bytes p error made failed

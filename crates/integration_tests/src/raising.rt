@@ -257,7 +257,7 @@ fn check_left(
     answered: bool,
 ) -> Result<(), Fail> {
     let mut connection = reopened(files, rt.alloc())?;
-    if schema_in(&mut connection)? == case.to as i64 {
+    if u64::try_from(schema_in(&mut connection)?).unwrap_or(0) == case.to {
         return check_tables(rt, &mut connection, case.to, case.after.as_str());
     }
     assert!(rt; !answered);

@@ -8,4 +8,4 @@ pub returns-in-Ok : goal.returns-in-Ok
 returns-in-Ok g c =
     let asked = subst (λ e. IsErrorText e (string_bytes c.in-Ok.text)) c.error.ensures c.in-Ok.ensures in
     some_text c.write_report.result (IsErrorText (error_of c.args.open_error)) _ _ c.as_bytes.result.now
-        (subst (IsErrorText (error_of c.args.open_error)) (sym c.as_bytes.ensures.value) asked) c.write_report.ensures
+    (subst (IsErrorText (error_of c.args.open_error)) (sym c.as_bytes.ensures.value) asked) c.write_report.ensures

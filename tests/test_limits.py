@@ -72,7 +72,7 @@ class Counts(LimitTestCase):
         batch = {"attempt": 99, "batch": "B-1", "closed": False, "consumed": [], "next": 1, "order": "O-0", "phases": 1}
         batch.update({"produced": [], "recipe": "R", "size": 1, "state": "aborted", "version": 1})
         self.check_alike(file, [("99 attempts", '{"ask":"batch","batch":"B-1"}', "/v1/batches/B-1", compact(batch))])
-        words = (["start", "abort", "done", "reset"] * 99)[:-1]
+        words = ["start", "abort", "done", "reset"] * 98 + ["start", "stop", "done", "abort", "done"]
         self.check_record("99 attempts", file, [
             "BATCH RECORD B-1",
             "order O-0 due 2027-03-01 priority 5 state released",

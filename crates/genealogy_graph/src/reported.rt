@@ -45,6 +45,8 @@ pub enum GraphError {
     Batches(Id, Id),
 }
 
+impl std::error::Error for GraphError {}
+
 impl fmt::Display for GraphError {
     ghost output = { λ graph_error. Some (graph_error_text graph_error) };
 

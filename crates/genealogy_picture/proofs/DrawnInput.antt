@@ -1,7 +1,13 @@
 -- What all that a reader gives is drawn as.
-use Rattle.std.proofs.Common.{◌≡◌, ◌∙◌, ℕ, List, [], ◌++◌, Option, Some, None, Result, Ok, Err, OnOk, IfSome, ap, subst}
+use Rattle.std.proofs.Common.{◌≡◌, ◌∙◌, ℕ, List, [], ◌++◌, Option, Some, None, Result, Ok, Err, OnOk, IfSome, refl, ap, subst}
 use Rattle.std.specs.declared.io.Error.{Error}
-use Rattle.genealogy_picture.specs.Drawing.{read_count}
+use Rattle.std.specs.declared.io.ErrorKind.{ErrorKind}
+use Rattle.std.specs.declared.io.ErrorKind.TheVariants as io
+use Rattle.std.specs.IoError.{error_kind}
+use Rattle.plant_base.specs.Inputs.{Agrees}
+use Rattle.genealogy_picture.specs.Drawing.{IsRefused, draw_error_of_kind, read_count}
+use Rattle.genealogy_picture.specs.declared.ending.DrawError.{DrawError}
+use Rattle.genealogy_picture.specs.declared.words.Format.{Format}
 
 -- what was read into an empty room
 pub read_into_nothing : (known : Option (List ℕ)) (old new prefix : List ℕ) → old ≡ [] → prefix ≡ new → IfSome known (λ text. new ≡ old ++ text) → IfSome known (λ text. prefix ≡ text)
@@ -13,7 +19,24 @@ pub was_read : (r : Result ℕ Error) (n : ℕ) (P : Type 0) → read_count r �
 was_read (Ok m) n P reported is = is
 was_read (Err e) n P reported is = cc reported
 
--- what holds of what was read holds of all that the reader had left
-pub said_of_all : (P : List ℕ → Type 0) (known : Option (List ℕ)) (prefix : List ℕ) → P prefix → IfSome known (λ text. prefix ≡ text) → IfSome known P
-said_of_all P None prefix said is = tt
-said_of_all P (Some text) prefix said is = subst P is said
+-- what holds of what was read holds of the input
+pub holds_of_input : (P : List ℕ → Type 0) (known : Option (List ℕ)) (read : List ℕ) → P read → IfSome known (λ text. read ≡ text)
+    → (bytes : List ℕ) × Agrees known bytes × P bytes
+holds_of_input P None read holds is = (read, tt, holds)
+holds_of_input P (Some text) read holds is = (read, is, holds)
+
+-- a failed read and want of memory may be told of any bytes
+of_kind : (format : Format) (bytes : List ℕ) (kind : ErrorKind) → IsRefused format bytes (draw_error_of_kind kind)
+of_kind format bytes io.OutOfMemory = tt
+of_kind format bytes _ = tt
+
+unread : (format : Format) (r : Result ℕ Error) (e : DrawError) → read_count r ≡ Err e → (bytes : List ℕ) → IsRefused format bytes e
+unread format (Ok n) e is bytes = absurd (cc)
+unread format (Err error) e is bytes =
+    let same : draw_error_of_kind (error_kind error) ≡ e = cc in subst (λ f. IsRefused format bytes f) same (of_kind format bytes (error_kind error))
+
+-- so also of an input that wasn't read to its end
+pub of_unread : (format : Format) (known : Option (List ℕ)) (r : Result ℕ Error) (e : DrawError) → read_count r ≡ Err e
+    → (bytes : List ℕ) × Agrees known bytes × IsRefused format bytes e
+of_unread format None r e is = ([], tt, unread format r e is [])
+of_unread format (Some text) r e is = (text, refl, unread format r e is text)

@@ -1,5 +1,6 @@
 //! The picture of an input.
-ghost use Rattle.std.specs.Prelude.{◌≡◌, IfErr, IfOk, IfSome, string_bytes};
+ghost use Rattle.std.specs.Prelude.{◌≡◌, ℕ, List, IfErr, IfOk, string_bytes};
+ghost use Rattle.plant_base.specs.Inputs.{Agrees};
 ghost use Rattle.std.specs.IoError.{error_kind};
 ghost use Rattle.genealogy_picture.specs.Reading.{ReportsAs};
 ghost use Rattle.genealogy_svg.specs.Layouts.{IsLaidOut};
@@ -105,14 +106,18 @@ fn read_count(reading: io::Result<usize>) -> Result<usize, DrawError>
 /// The text of the picture of the answers that a reader gives to its end.
 ///
 /// `Refused` reports why they make none; of a picture that they make it comes only where its edges lead in a circle, in SVG. `Read` comes where a read failed, and `Memory` where memory was refused. No other stop comes.
+///
+/// In the clause, `bytes` are those that the reader has left, where it tells them, and some bytes where it tells none.
 pub(crate) fn draw<R: Read>(
     alloc: Global,
     format: Format,
     reader: &mut R,
 ) -> Result<String, DrawError>
-    ensures { IfSome (R.remaining reader.old) (λ bytes. Draws format bytes result) }
+    ensures { (bytes : List ℕ) × Agrees (R.remaining reader.old) bytes × Draws format bytes result }
 {
     let mut bytes = Vec::new(alloc);
-    read_count(reader.read_to_end(&mut bytes))?;
-    drawn(alloc, format, &bytes)
+    match read_count(reader.read_to_end(&mut bytes)) {
+        Ok(_count) => drawn(alloc, format, &bytes),
+        Err(fault) => Err(fault),
+    }
 }

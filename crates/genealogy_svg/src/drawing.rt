@@ -5,6 +5,7 @@ use genealogy_graph::PictureLot;
 use plant_base::{Id, Items, Unit};
 use plant_trace::Node;
 use std::alloc::AllocError;
+use thiserror::Error;
 
 /// A place in a drawing.
 #[derive(Clone, Copy, Debug, PartialEq, Eq, PartialOrd, Ord)]
@@ -58,13 +59,16 @@ pub struct Drawing {
 }
 
 /// Why a picture isn't laid out.
-#[derive(Clone, Copy, Debug, PartialEq, Eq)]
+#[derive(Clone, Copy, Debug, PartialEq, Eq, Error)]
 pub enum LayoutFault {
     /// Its edges lead in a circle.
+    #[error("edges lead in a circle")]
     Circle,
     /// An edge begins or ends at a node that the picture hasn't.
+    #[error("an edge begins or ends at {0}, which is none of the nodes")]
     Lost(Node),
     /// Memory was refused.
+    #[error("out of memory")]
     Memory,
 }
 

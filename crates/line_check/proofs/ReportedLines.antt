@@ -28,7 +28,7 @@ tally_after-append : (t : Tally) (xs ys : List Verdict) → tally_after t (xs ++
 tally_after-append t [] ys = refl
 tally_after-append t (v ∷ xs) ys = tally_after-append (tally_with t v) xs ys
 
-texts-append : (t : Tally) (xs ys : List Verdict) → texts t.lines (xs ++ ys) ≡ texts t.lines xs ++ texts (tally_after t xs).lines ys
+pub texts-append : (t : Tally) (xs ys : List Verdict) → texts t.lines (xs ++ ys) ≡ texts t.lines xs ++ texts (tally_after t xs).lines ys
 texts-append t [] ys = refl
 texts-append t (v ∷ xs) ys =
     ap (λ zs. line_text (t.lines + 1) v ++ zs)

@@ -3,7 +3,9 @@ use Rattle.std.specs.Prelude.{◌≡◌, ℕ, ◌+◌, ◌==◌, List, [], ◌�
 use Rattle.std.specs.Str.Lines.{lines}
 use Rattle.std.specs.Io.KnownBytes.{Appends}
 use Rattle.plant_text.specs.HeldLines.{ended_after}
-use Rattle.plant_text.specs.Writes.{with_lf}
+use Rattle.plant_text.specs.Writes.{with_lf, AppendsPrefix}
+use Rattle.desk_cli.specs.declared.check_fault.CheckFault.{CheckFault}
+use Rattle.desk_cli.specs.declared.check_fault.CheckFault.TheVariants as fault
 use Rattle.line_check.specs.declared.judge.Verdict.{Verdict}
 use Rattle.line_check.specs.declared.judge.Verdict.TheVariants as verdict
 use Rattle.line_check.specs.declared.judge.LineError.{LineError}
@@ -71,3 +73,16 @@ verdicts_after held bs = verdicts (ended_after held bs)
 pub record AreWrittenAndCounted (start : Tally) (vs : List Verdict) (old new : Option (List ℕ)) (now : Tally) : Type 0 where
   pub text : Appends old new (texts start.lines vs)
   pub tally : now ≡ tally_after start vs
+
+-- ---- a report that ends early
+
+-- a front of the text was written, perhaps all of it
+abbrev pub AppendsFront : Option (List ℕ) → Option (List ℕ) → List ℕ → Type 0
+AppendsFront old new text = (front : List ℕ) × (rest : List ℕ) × (text ≡ front ++ rest) × Appends old new front
+
+-- a fault at which a front of the text had been written, where a write failed not all of it; that a file can't be opened is none
+abbrev pub EndsEarly : CheckFault → Option (List ℕ) → Option (List ℕ) → List ℕ → Type 0
+EndsEarly fault.Open old new text = ⊥
+EndsEarly fault.Read old new text = AppendsFront old new text
+EndsEarly fault.Write old new text = AppendsPrefix old new text
+EndsEarly fault.Memory old new text = AppendsFront old new text

@@ -2,12 +2,13 @@
 ghost use Rattle.std.specs.Prelude.{◌≡◌, ℕ, ◌+◌, ◌<◌, List, [], ◌∷◌, ◌++◌, length, Option, Some, OnOk, IfErr, IfOk};
 ghost use Rattle.std.specs.Str.Lines.{strip_carriage_return};
 ghost use Rattle.std.specs.Io.KnownBytes.{Appends, Consumes, IsAtEnd};
+ghost use Rattle.plant_base.specs.Inputs.{Agrees};
 ghost use Rattle.plant_text.specs.HeldLines.{held_with, held_after};
 ghost use Rattle.plant_text.specs.Writes.{with_lf};
 ghost use Rattle.line_check.specs.Verdicts.{verdict_of};
 ghost use Rattle.line_check.specs.Report.{answer_lines, line_text, tally_with, counts_text, end_text, no_lines};
 ghost use Rattle.line_check.specs.Report.{report};
-ghost use Rattle.line_check.specs.Report.{some_bad, verdicts_after, AreWrittenAndCounted};
+ghost use Rattle.line_check.specs.Report.{some_bad, texts, verdicts_after, AreWrittenAndCounted, EndsEarly};
 
 use crate::judge::{LineError, MemoryError, Verdict, judge};
 use desk_cli::CheckFault;
@@ -65,6 +66,8 @@ fn write_verdict<W: Write>(writer: &mut W, text: &[u8]) -> Result<(), CheckFault
     ensures text { OnOk result (Appends (W.contents writer.old) (W.contents writer.new)
         (with_lf text.now)) }
     ensures write_error { IfErr result (λ fault. fault ≡ CheckFault.Write) }
+    ensures early { IfErr result (λ fault. EndsEarly fault (W.contents writer.old) (W.contents writer.new)
+        (with_lf text.now)) }
 {
     match write_line(writer, text) {
         Ok(()) => Ok(()),
@@ -79,7 +82,9 @@ fn write_verdict_line<W: Write>(
     number: u64,
     line_error: LineError,
 ) -> Result<(), CheckFault>
-    ensures { OnOk result (Appends (W.contents writer.old) (W.contents writer.new)
+    ensures text { OnOk result (Appends (W.contents writer.old) (W.contents writer.new)
+        (with_lf (answer_lines number line_error))) }
+    ensures early { IfErr result (λ fault. EndsEarly fault (W.contents writer.old) (W.contents writer.new)
         (with_lf (answer_lines number line_error))) }
 {
     let reported = NumberedVerdict { number, line_error };
@@ -91,7 +96,9 @@ fn write_verdict_line<W: Write>(
 
 /// Tells the counts.
 fn write_counts<W: Write>(alloc: Global, writer: &mut W, tally: Tally) -> Result<(), CheckFault>
-    ensures { OnOk result (Appends (W.contents writer.old) (W.contents writer.new)
+    ensures text { OnOk result (Appends (W.contents writer.old) (W.contents writer.new)
+        (with_lf (counts_text tally))) }
+    ensures early { IfErr result (λ fault. EndsEarly fault (W.contents writer.old) (W.contents writer.new)
         (with_lf (counts_text tally))) }
 {
     match tally.to_string(alloc) {
@@ -102,7 +109,8 @@ fn write_counts<W: Write>(alloc: Global, writer: &mut W, tally: Tally) -> Result
 
 /// The number after this one. An input has fewer lines than would need another.
 fn next(number: u64) -> Result<u64, CheckFault>
-    ensures { IfOk result (λ n. n ≡ number + 1) }
+    ensures value { IfOk result (λ n. n ≡ number + 1) }
+    ensures error { IfErr result (λ fault. fault ≡ CheckFault.Read) }
 {
     match number.checked_add(1) {
         Some(n) => Ok(n),
@@ -112,7 +120,8 @@ fn next(number: u64) -> Result<u64, CheckFault>
 
 /// Counts a line more.
 fn tally_with(tally: Tally, verdict: Verdict) -> Result<Tally, CheckFault>
-    ensures { IfOk result (λ now. now ≡ tally_with tally verdict) }
+    ensures tally { IfOk result (λ now. now ≡ tally_with tally verdict) }
+    ensures error { IfErr result (λ fault. fault ≡ CheckFault.Read) }
 {
     let mut now = tally;
     now.lines = next(tally.lines)?;
@@ -134,6 +143,8 @@ fn take_verdict<W: Write>(
 ) -> Result<Tally, CheckFault>
     ensures tally { IfOk result (λ now. now ≡ tally_with tally verdict) }
     ensures text { OnOk result (Appends (W.contents writer.old) (W.contents writer.new)
+        (line_text (tally.lines + 1) verdict)) }
+    ensures early { IfErr result (λ fault. EndsEarly fault (W.contents writer.old) (W.contents writer.new)
         (line_text (tally.lines + 1) verdict)) }
 {
     let now = tally_with(tally, verdict)?;
@@ -158,8 +169,10 @@ fn take_line<W: Write>(
     tally: Tally,
     line: &[u8],
 ) -> Result<Tally, CheckFault>
-    ensures { IfOk result (λ now. AreWrittenAndCounted tally (verdict_of line.now ∷ [])
+    ensures reported { IfOk result (λ now. AreWrittenAndCounted tally (verdict_of line.now ∷ [])
         (W.contents writer.old) (W.contents writer.new) now) }
+    ensures early { IfErr result (λ fault. EndsEarly fault (W.contents writer.old) (W.contents writer.new)
+        (texts tally.lines (verdict_of line.now ∷ []))) }
 {
     match judge(alloc, line) {
         Ok(verdict) => take_verdict(alloc, writer, tally, verdict),
@@ -190,6 +203,8 @@ fn end_line<W: Write>(
     ensures reported { IfOk result (λ now. AreWrittenAndCounted tally
         (verdict_of (strip_carriage_return held.old.items) ∷ [])
         (W.contents writer.old) (W.contents writer.new) now) }
+    ensures early { IfErr result (λ fault. EndsEarly fault (W.contents writer.old) (W.contents writer.new)
+        (texts tally.lines (verdict_of (strip_carriage_return held.old.items) ∷ []))) }
 {
     match take_line(alloc, writer, tally, without_carriage_return(held)) {
         Ok(now) => {
@@ -202,7 +217,8 @@ fn end_line<W: Write>(
 
 /// Holds a byte more of the line, while there is room.
 fn hold_byte(held: &mut Vec<u8>, b: u8) -> Result<(), CheckFault>
-    ensures { OnOk result (held.new.items ≡ held_with held.old.items b) }
+    ensures held { OnOk result (held.new.items ≡ held_with held.old.items b) }
+    ensures error { IfErr result (λ fault. fault ≡ CheckFault.Memory) }
 {
     if held.len() < ROOM && held.push(b).is_err() {
         return Err(CheckFault::Memory);
@@ -221,6 +237,8 @@ fn take_byte<W: Write>(
     ensures held { OnOk result (held.new.items ≡ held_after held.old.items (b ∷ [])) }
     ensures reported { IfOk result (λ now. AreWrittenAndCounted tally (verdicts_after held.old.items (b ∷ []))
         (W.contents writer.old) (W.contents writer.new) now) }
+    ensures early { IfErr result (λ fault. EndsEarly fault (W.contents writer.old) (W.contents writer.new)
+        (texts tally.lines (verdicts_after held.old.items (b ∷ [])))) }
 {
     if b == b'\n' {
         return end_line(alloc, writer, held, tally);
@@ -242,6 +260,8 @@ fn take_piece<W: Write>(
     ensures held { OnOk result (held.new.items ≡ held_after held.old.items piece.now) }
     ensures reported { IfOk result (λ now. AreWrittenAndCounted tally (verdicts_after held.old.items piece.now)
         (W.contents writer.old) (W.contents writer.new) now) }
+    ensures early { IfErr result (λ fault. EndsEarly fault (W.contents writer.old) (W.contents writer.new)
+        (texts tally.lines (verdicts_after held.old.items piece.now))) }
 {
     let mut tally = tally;
     for b in piece {
@@ -257,6 +277,8 @@ fn take_piece<W: Write>(
 fn write_end<W: Write>(alloc: Global, writer: &mut W, tally: Tally) -> Result<bool, CheckFault>
     ensures valid { IfOk result (λ bad. bad ≡ tally.bad) }
     ensures text { OnOk result (Appends (W.contents writer.old) (W.contents writer.new)
+        (end_text tally)) }
+    ensures early { IfErr result (λ fault. EndsEarly fault (W.contents writer.old) (W.contents writer.new)
         (end_text tally)) }
 {
     if tally.bad {
@@ -275,9 +297,11 @@ fn end_input<W: Write>(
     held: &[u8],
     tally: Tally,
 ) -> Result<bool, CheckFault>
-    ensures { IfOk result (λ bad. (now : Tally) × (between : Option (List ℕ))
+    ensures reported { IfOk result (λ bad. (now : Tally) × (between : Option (List ℕ))
         × AreWrittenAndCounted tally (verdict_of held.now ∷ []) (W.contents writer.old) between now
         × Appends between (W.contents writer.new) (end_text now) × (bad ≡ now.bad)) }
+    ensures early { IfErr result (λ fault. EndsEarly fault (W.contents writer.old) (W.contents writer.new)
+        (texts tally.lines (verdict_of held.now ∷ []) ++ end_text (tally_with tally (verdict_of held.now)))) }
 {
     match take_line(alloc, writer, tally, held) {
         Ok(now) => write_end(alloc, writer, now),
@@ -294,11 +318,13 @@ fn check_pieces<R: Read, W: Write>(
     most: u64,
 ) -> Result<bool, CheckFault>
     requires { 0 < length piece.old }
-    ensures { IfOk result (λ bad. (bytes : List ℕ)
+    ensures reported { IfOk result (λ bad. (bytes : List ℕ)
         × Consumes (R.remaining reader.old) (R.remaining reader.new) bytes
         × IsAtEnd (R.remaining reader.new)
         × Appends (W.contents writer.old) (W.contents writer.new) (report bytes)
         × (bad ≡ some_bad bytes)) }
+    ensures early { IfErr result (λ fault. (bytes : List ℕ) × Agrees (R.remaining reader.old) bytes
+        × EndsEarly fault (W.contents writer.old) (W.contents writer.new) (report bytes)) }
 {
     let mut held = Vec::new(alloc);
     let mut tally = Tally {
@@ -330,18 +356,23 @@ fn check_pieces<R: Read, W: Write>(
 /// A line ends with LF, and one CR before it is dropped; what stands behind the last LF counts as it stands. An empty
 /// line is passed over. Of a line at most 262,146 bytes are held.
 ///
-/// In the clause, `bytes` are those that the reader has lost, to its end. After a fault some of the lines may have
-/// been told.
+/// `Read`: a read failed, or the input had not ended after 10^9 reads. `Write`: a write failed, or took no byte. `Memory`: memory was refused.
+/// At each of them a front of the report on the input was written, at `Write` not all of it. `Open` never comes.
+///
+/// In the clauses, `bytes` are those that the reader has lost, to its end; after a fault those that it had left, where it tells them, and some bytes
+/// where it tells none.
 pub(crate) fn check_lines<R: Read, W: Write>(
     alloc: Global,
     reader: &mut R,
     writer: &mut W,
 ) -> Result<bool, CheckFault>
-    ensures { IfOk result (λ bad. (bytes : List ℕ)
+    ensures reported { IfOk result (λ bad. (bytes : List ℕ)
         × Consumes (R.remaining reader.old) (R.remaining reader.new) bytes
         × IsAtEnd (R.remaining reader.new)
         × Appends (W.contents writer.old) (W.contents writer.new) (report bytes)
         × (bad ≡ some_bad bytes)) }
+    ensures early { IfErr result (λ fault. (bytes : List ℕ) × Agrees (R.remaining reader.old) bytes
+        × EndsEarly fault (W.contents writer.old) (W.contents writer.new) (report bytes)) }
 {
     let mut piece = [0; 4096];
     check_pieces(alloc, reader, writer, &mut piece, MOST_READS)

@@ -19,9 +19,14 @@ returns-then-b-eq10-clause-reported g c =
 pub returns-in-Ok-clause-held : goal.returns-in-Ok-clause-held
 returns-in-Ok-clause-held g c =
     let other : nat_eq c.args.b 10 ≡ false = grind (arith, nat_tests) in
-    rw (held_after_byte c.args.held.now.items c.args.b other) c.in-Ok.ensures
+    rw (held_after_byte c.args.held.now.items c.args.b other) c.in-Ok.ensures.held
 
 pub returns-in-Ok-clause-reported : goal.returns-in-Ok-clause-reported
 returns-in-Ok-clause-reported g c =
     let other : nat_eq c.args.b 10 ≡ false = grind (arith, nat_tests) in
     reported_same _ _ _ _ (each_byte verdict_of c.args.held.now.items c.args.b other) refl
+
+pub returns-then-b-eq10-clause-early : goal.returns-then-b-eq10-clause-early
+returns-then-b-eq10-clause-early g c =
+    let lf : nat_eq c.args.b 10 ≡ true = grind (arith, nat_tests) in
+    rw (each_lf verdict_of c.args.held.now.items c.args.b lf) c.end_line.ensures.early

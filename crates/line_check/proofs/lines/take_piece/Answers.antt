@@ -1,8 +1,9 @@
-use Rattle.std.proofs.Common.{◌≡◌, ◌+◌, ◌<◌, [], ◌∷◌, ◌++◌, get_or, take, length, refl, sym, arith}
-use Rattle.std.proofs.lemmas.List.{take_more}
+use Rattle.std.proofs.Common.{◌≡◌, ◌+◌, ◌<◌, [], ◌∷◌, ◌++◌, get_or, take, drop, length, refl, sym, ap, ◌∙◌, arith}
+use Rattle.std.proofs.lemmas.List.{take-append-drop, take_more}
 use Rattle.plant_text.proofs.HeldLine.{held_more, held_after_none, each_none}
 use Rattle.line_check.specs.Verdicts.{verdict_of}
 use Rattle.line_check.proofs.ReportedLines.{reported_same, piece_reported}
+use Rattle.line_check.proofs.ReportEndsEarly.{early_at_byte}
 use Rattle.line_check.proofs.lines.take_piece.Goals as goal
 
 pub loop-b-init : goal.loop-b-init
@@ -22,3 +23,13 @@ loop-b-preserved g c =
       held = held_more c.args.held.now.items c.loop-b.held.items _ (take i xs) (get_or xs i 0 ∷ []) (take (i + 1) xs) inv.held c.in-Ok.ensures.held more;
       reported = piece_reported _ _ _ c.args.held.now.items c.loop-b.held.items (take i xs) (get_or xs i 0 ∷ []) (take (i + 1) xs) _ _ _ inv.reported inv.held c.in-Ok.ensures.reported more;
     }
+
+pub returns-in-Err-clause-early : goal.returns-in-Err-clause-early
+returns-in-Err-clause-early g c =
+    let i = c.loop-b.b-index in
+    let xs = c.args.piece.now in
+    let within : i < length xs = omega arith in
+    let more : take (i + 1) xs ≡ take i xs ++ get_or xs i 0 ∷ [] = take_more xs i 0 within in
+    let inv = c.loop-b.invariant in
+    early_at_byte c.in-Err.fault c.args.tally c.loop-b.tally c.args.held.now.items c.loop-b.held.items (take i xs) (get_or xs i 0 ∷ []) (drop (i + 1) xs) xs _ _ _
+    inv.reported inv.held c.in-Err.ensures.early (sym (take-append-drop (i + 1) xs) ∙ ap (λ u. u ++ drop (i + 1) xs) more)

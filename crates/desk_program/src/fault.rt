@@ -10,23 +10,31 @@ use plant_text::{RunEnd, TurnError};
 use sqlite::{Error, ErrorCode};
 
 /// Why the program doesn't do what it is told.
-#[derive(Clone, Copy, Debug, PartialEq, Eq)]
+#[derive(Clone, Copy, Debug, PartialEq, Eq, thiserror::Error)]
 pub enum Fault {
     /// The store failed.
+    #[error("the store failed")]
     Store,
     /// The tables are of this schema, which is above the newest.
+    #[error("the tables are of schema {0}")]
     Newer(u64),
     /// The tables break this rule, and none before it.
+    #[error("the tables break rule {0:?}")]
     Damaged(Rule),
     /// Memory was refused.
+    #[error("out of memory")]
     Memory,
     /// Standard input failed.
+    #[error("standard input failed")]
     Read,
     /// Standard output failed, or took no byte.
+    #[error("standard output failed")]
     Write,
     /// After 10^9 reads standard input had not ended.
+    #[error("too many reads")]
     Endless,
     /// The port couldn't be listened on, or no connection be taken.
+    #[error("the port failed")]
     Net,
 }
 

@@ -48,3 +48,12 @@ further_movements = refl
 pub no_version : target_of (codes "/v1/lists/recipes/approved/CAKE") ≡ None
 unfolding matchit_on_literals found_in digits_of
 no_version = refl
+
+pub recall : target_of (codes "/v1/recalls/R-1") ≡ Some (target.Named kind.Recall (codes "R-1"))
+unfolding matchit_on_literals found_in
+recall = refl
+
+-- the page stands at no route: which profile has it, and who may ask for it, is judged elsewhere
+pub page : target_of (codes "/") ≡ None
+unfolding matchit_on_literals found_in
+page = refl

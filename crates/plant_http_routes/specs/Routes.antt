@@ -68,6 +68,9 @@ batch_routes rows =
     (adds (with_id (codes "/v1/batches/") (codes "batch") (codes "/back") kind.BatchBack)
     (adds (with_id (codes "/v1/batches/") (codes "batch") [] kind.Batch) rows)))
 
+abbrev pub recall_routes : RowsOf (RouteOf Route) → RowsOf (RouteOf Route)
+recall_routes rows = adds (with_id (codes "/v1/recalls/") (codes "recall") [] kind.Recall) rows
+
 -- the routes of what lies around a lot or batch
 abbrev pub around_routes : RowsOf (RouteOf Route) → RowsOf (RouteOf Route)
 around_routes rows =
@@ -110,10 +113,10 @@ cursor_routes rows =
 abbrev pub the_routes : RowsOf (RouteOf Route)
 the_routes =
     cursor_routes (list_routes (around_routes (adds (plain (codes "/v1/moment") route.Moment)
-    (batch_routes (lot_routes (order_routes
+    (recall_routes (batch_routes (lot_routes (order_routes
     (adds (plain (codes "/v1/orders") route.Orders)
     (adds (plain (codes "/v1/commands") route.Commands)
-    (adds (plain (codes "/v1/desk") route.Desk) [])))))))))
+    (adds (plain (codes "/v1/desk") route.Desk) []))))))))))
 
 -- what stands in the place of the first parameter
 abbrev pub first_part : List (List ℕ × List ℕ) → Option (List ℕ)

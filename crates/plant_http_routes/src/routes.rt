@@ -33,9 +33,9 @@ pub enum Kind {
     BatchForward,
     /// `/v1/batches/{batch}/record`: the batch record.
     Record,
-    /// `/v1/lots/{lot}/represents`: where the goods of the lot stand.
+    /// `/v1/lots/{lot}/stands`: where the goods of the lot stand.
     LotStands,
-    /// `/v1/batches/{batch}/represents`: where the goods of the batch stand.
+    /// `/v1/batches/{batch}/stands`: where the goods of the batch stand.
     BatchStands,
     /// `/v1/lots/{lot}/back_edges`: the genealogy back from the lot.
     LotBackEdges,
@@ -45,6 +45,8 @@ pub enum Kind {
     BatchBackEdges,
     /// `/v1/batches/{batch}/forward_edges`: the genealogy forward from the batch.
     BatchForwardEdges,
+    /// `/v1/recalls/{recall}`: the recall, and whether it is lifted.
+    Recall,
 }
 
 /// A route, without what a path gives it.
@@ -125,6 +127,7 @@ fn desk_router(alloc: Global) -> Result<Router<Route>, InsertError>
         Route::Named(Kind::BatchForward),
     )?;
     router.insert("/v1/batches/{batch}/record", Route::Named(Kind::Record))?;
+    router.insert("/v1/recalls/{recall}", Route::Named(Kind::Recall))?;
     router.insert("/v1/moment", Route::Moment)?;
     add_around(&mut router)?;
     add_lists(&mut router)?;

@@ -1,4 +1,5 @@
 pub mod HeadEnds
+pub mod Schemes
 pub mod BodyIsOfInput
 pub mod OneJob
 pub mod WholeInput

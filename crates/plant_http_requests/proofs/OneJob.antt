@@ -22,6 +22,7 @@ use Rattle.plant_http_requests.specs.Steps.{fails}
 use Rattle.plant_http_requests.specs.Jobs.{command_job, command_of, file_job, fault_job_of, is_of_body, Reads, EndJob, JobOf, parsed_step, finish}
 use Rattle.plant_http_requests.specs.declared.job.Job.{Job}
 use Rattle.plant_http_requests.specs.declared.job.HeadStep.{HeadStep}
+use Rattle.plant_http_requests.specs.declared.profile.Profile.{Profile}
 use Rattle.plant_http_requests.specs.declared.status.Status.TheVariants.{HeadTooLarge}
 
 command_is_of_body : (o : Option Line) → is_of_body (command_job o) ≡ true
@@ -55,20 +56,20 @@ one_head head None (Some h) a b = absurd (a h b.1 b.0)
 one_head head (Some h) None a b = absurd (b h a.1 a.0)
 one_head head (Some h) (Some k) a b = ap Some (request_unique head h k [] [] a.0 b.0).0
 
-abbrev StepBy : Bool → List ℕ → HeadStep → HeadStep → Type 0
-StepBy many head many_step step = MatchBool many (step ≡ many_step) ((p : Option RequestHead) × Parsed head p × (step ≡ parsed_step p))
+abbrev StepBy : Profile → Bool → List ℕ → HeadStep → HeadStep → Type 0
+StepBy profile many head many_step step = MatchBool many (step ≡ many_step) ((p : Option RequestHead) × Parsed head p × (step ≡ parsed_step profile p))
 
-one_step : (many : Bool) (head : List ℕ) (many_step a b : HeadStep) → StepBy many head many_step a → StepBy many head many_step b → a ≡ b
-one_step true head many_step a b x y = x ∙ sym y
-one_step false head many_step a b x y = x.2 ∙ ap parsed_step (one_head head x.0 y.0 x.1 y.1) ∙ sym y.2
+one_step : (profile : Profile) (many : Bool) (head : List ℕ) (many_step a b : HeadStep) → StepBy profile many head many_step a → StepBy profile many head many_step b → a ≡ b
+one_step profile true head many_step a b x y = x ∙ sym y
+one_step profile false head many_step a b x y = x.2 ∙ ap (parsed_step profile) (one_head head x.0 y.0 x.1 y.1) ∙ sym y.2
 
-one_at_end : (e : HeadEnd) (whole : List ℕ) (a b : Option Job) → EndJob e whole a → EndJob e whole b → a ≡ b
-one_at_end end.Nothing whole a b x y = x ∙ sym y
-one_at_end end.Early whole a b x y = x ∙ sym y
-one_at_end end.TooLong whole a b x y = x ∙ sym y
-one_at_end (end.Found n) whole a b (i, x, (s, xs, xf)) (j, y, (t, yt, yf)) =
-    let same = one_step (nat_lt 32 (field_lines (take n whole))) (take n whole) (fails HeadTooLarge false) s t xs yt in
+one_at_end : (profile : Profile) (e : HeadEnd) (whole : List ℕ) (a b : Option Job) → EndJob profile e whole a → EndJob profile e whole b → a ≡ b
+one_at_end profile end.Nothing whole a b x y = x ∙ sym y
+one_at_end profile end.Early whole a b x y = x ∙ sym y
+one_at_end profile end.TooLong whole a b x y = x ∙ sym y
+one_at_end profile (end.Found n) whole a b (i, x, (s, xs, xf)) (j, y, (t, yt, yf)) =
+    let same = one_step profile (nat_lt 32 (field_lines (take n whole))) (take n whole) (fails HeadTooLarge false) s t xs yt in
     x ∙ ap Some (xf ∙ ap (λ step. finish step (drop n whole)) same ∙ sym yf) ∙ sym y
 
-pub one_job : (whole : List ℕ) (a b : Option Job) → JobOf whole a → JobOf whole b → a ≡ b
-one_job whole a b x y = one_at_end (end_of_head whole) whole a b x y
+pub one_job : (profile : Profile) (whole : List ℕ) (a b : Option Job) → JobOf profile whole a → JobOf profile whole b → a ≡ b
+one_job profile whole a b x y = one_at_end profile (end_of_head whole) whole a b x y

@@ -1,13 +1,11 @@
--- What the fields of a request say of its body.
-use Rattle.std.specs.Prelude.{ℕ, ◌+◌, Bool, ◌==◌, nat_lt, nat_le, List, [], ◌∷◌, map, codes, bytes_eq, Option, Some, None, option_map, option_and_then, Result, Ok, Err, if◌then◌else◌}
+-- The fields of a request, and what they say of an order file in its body.
+use Rattle.std.specs.Prelude.{ℕ, ◌+◌, Bool, ◌==◌, List, [], ◌∷◌, map, codes, bytes_eq, Option, Some, None, option_map, option_and_then, if◌then◌else◌}
 use Rattle.std.specs.Char.{to_ascii_lowercase}
 use Rattle.plant_base.specs.Options.{◌>>=◌}
 use Rattle.plant_base.specs.Digits.{digits_of}
 use Rattle.plant_base.specs.Values.{is_id, is_moment, is_text, only}
 use Rattle.plant_base.specs.declared.command.Stamp.{Stamp}
 use Rattle.plant_orders.specs.declared.importing.ImportMetadata.{ImportMetadata}
-use Rattle.plant_http_requests.specs.declared.status.Status.{Status}
-use Rattle.plant_http_requests.specs.declared.status.Status.TheVariants.{BadRequest, PayloadTooLarge, NotImplemented}
 
 -- names and values, in their order
 abbrev pub Fields : Type 0
@@ -25,34 +23,6 @@ count_named name (f ∷ fs) = if is_name name f.0 then count_named name fs + 1 e
 abbrev pub value_named : List ℕ → Fields → Option (List ℕ)
 value_named name [] = None
 value_named name (f ∷ fs) = if is_name name f.0 then Some f.1 else value_named name fs
-
--- ---- how long the body is
-
--- the most bytes of a body
-abbrev pub longest_body : ℕ
-longest_body = 262144
-
-abbrev pub length_from : Option ℕ → Result (Option ℕ) Status
-length_from None = Err BadRequest
-length_from (Some n) = if nat_lt longest_body n then Err PayloadTooLarge else Ok (Some n)
-
--- the body's length, where one is named: in 1 to 18 digits
-unfoldable pub body_length : Fields → Result (Option ℕ) Status
-body_length fs =
-    if count_named (codes "content-length") fs == 0 then Ok None
-    else if count_named (codes "content-length") fs == 1 then length_from (option_and_then (digits_of 18) (value_named (codes "content-length") fs))
-    else Err BadRequest
-
--- one Host field in version 1.1, and at most one in version 1.0
-abbrev pub has_host : ℕ → ℕ → Bool
-has_host minor hosts = if minor == 1 then hosts == 1 else nat_le hosts 1
-
--- the body's length, or the status of the first rule that is broken
-unfoldable pub framing : ℕ → Fields → Result (Option ℕ) Status
-framing minor fs =
-    if has_host minor (count_named (codes "host") fs)
-    then (if count_named (codes "transfer-encoding") fs == 0 then body_length fs else Err NotImplemented)
-    else Err BadRequest
 
 -- ---- the moment, the operator and the reference of an order file
 

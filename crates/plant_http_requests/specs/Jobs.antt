@@ -21,11 +21,12 @@ use Rattle.plant_http_requests.specs.declared.reading.HeadEnd.TheVariants as end
 use Rattle.plant_http_requests.specs.Heads.{field_lines, Parsed}
 use Rattle.plant_http_requests.specs.Steps.{refusal_of, fails, request_step}
 use Rattle.plant_http_requests.specs.declared.job.Job.{Job}
-use Rattle.plant_http_requests.specs.declared.job.Job.TheVariants.{Refuse, Ask, Command, BadForm, BadFile, MemoryError}
+use Rattle.plant_http_requests.specs.declared.job.Job.TheVariants.{Refuse, Ask, Page, Command, BadForm, BadFile, MemoryError}
 use Rattle.plant_http_requests.specs.declared.job.Content.{Content}
 use Rattle.plant_http_requests.specs.declared.job.Content.TheVariants as content
 use Rattle.plant_http_requests.specs.declared.job.HeadStep.{HeadStep}
 use Rattle.plant_http_requests.specs.declared.job.HeadStep.TheVariants as S
+use Rattle.plant_http_requests.specs.declared.profile.Profile.{Profile}
 use Rattle.plant_http_requests.specs.declared.status.Status.TheVariants.{BadRequest, HeadTooLarge}
 
 -- the most reads that a request takes
@@ -71,32 +72,33 @@ body_job (content.Orders (Some import_metadata)) body = file_job import_metadata
 abbrev pub finish : HeadStep → List ℕ → Job
 finish (S.Refuse status allow silent) rest = Refuse status allow silent
 finish (S.Ask question body_format silent) rest = Ask question body_format silent
+finish (S.Page silent) rest = Page silent
 finish (S.Body n c) rest = if nat_le n (length rest) then body_job c (take n rest) else refusal_of BadRequest false
 
-abbrev pub parsed_step : Option RequestHead → HeadStep
-parsed_step None = fails BadRequest false
-parsed_step (Some h) = request_step h.method h.target h.minor (map name_and_value h.fields)
+abbrev pub parsed_step : Profile → Option RequestHead → HeadStep
+parsed_step profile None = fails BadRequest false
+parsed_step profile (Some h) = request_step profile h.method h.target h.minor (map name_and_value h.fields)
 
 -- what a head decides: its lines are counted before they are parsed
-abbrev pub StepOf : List ℕ → HeadStep → Type 0
-StepOf head step =
+abbrev pub StepOf : Profile → List ℕ → HeadStep → Type 0
+StepOf profile head step =
     MatchBool (nat_lt 32 (field_lines head)) (step ≡ fails HeadTooLarge false)
-    ((p : Option RequestHead) × Parsed head p × (step ≡ parsed_step p))
+    ((p : Option RequestHead) × Parsed head p × (step ≡ parsed_step profile p))
 
-abbrev pub HeadJob : List ℕ → List ℕ → Job → Type 0
-HeadJob head rest job = (step : HeadStep) × StepOf head step × (job ≡ finish step rest)
+abbrev pub HeadJob : Profile → List ℕ → List ℕ → Job → Type 0
+HeadJob profile head rest job = (step : HeadStep) × StepOf profile head step × (job ≡ finish step rest)
 
 -- ---- inputs
 
-abbrev pub EndJob : HeadEnd → List ℕ → Option Job → Type 0
-EndJob end.Nothing whole job = job ≡ None
-EndJob end.Early whole job = job ≡ Some (refusal_of BadRequest false)
-EndJob end.TooLong whole job = job ≡ Some (refusal_of HeadTooLarge false)
-EndJob (end.Found n) whole job = (j : Job) × (job ≡ Some j) × HeadJob (take n whole) (drop n whole) j
+abbrev pub EndJob : Profile → HeadEnd → List ℕ → Option Job → Type 0
+EndJob profile end.Nothing whole job = job ≡ None
+EndJob profile end.Early whole job = job ≡ Some (refusal_of BadRequest false)
+EndJob profile end.TooLong whole job = job ≡ Some (refusal_of HeadTooLarge false)
+EndJob profile (end.Found n) whole job = (j : Job) × (job ≡ Some j) × HeadJob profile (take n whole) (drop n whole) j
 
--- what an input asks for: none where it has no byte
-abbrev pub JobOf : List ℕ → Option Job → Type 0
-JobOf whole job = EndJob (end_of_head whole) whole job
+-- what an input asks for of a server of this profile: none where it has no byte
+abbrev pub JobOf : Profile → List ℕ → Option Job → Type 0
+JobOf profile whole job = EndJob profile (end_of_head whole) whole job
 
 -- ---- want of memory
 
@@ -104,6 +106,7 @@ JobOf whole job = EndJob (end_of_head whole) whole job
 abbrev pub is_of_body : Job → Bool
 is_of_body (Refuse status allow silent) = false
 is_of_body (Ask question body_format silent) = false
+is_of_body (Page silent) = false
 is_of_body (Command e) = true
 is_of_body BadForm = true
 is_of_body (BadFile fault) = true
@@ -114,17 +117,18 @@ abbrev pub Reads : Job → Job → Type 0
 Reads MemoryError job = is_of_body job ≡ true
 Reads (Refuse status allow silent) job = Refuse status allow silent ≡ job
 Reads (Ask question body_format silent) job = Ask question body_format silent ≡ job
+Reads (Page silent) job = Page silent ≡ job
 Reads (Command e) job = Command e ≡ job
 Reads BadForm job = BadForm ≡ job
 Reads (BadFile fault) job = BadFile fault ≡ job
 
 -- the head asks for a body of which so many bytes are too few
-abbrev pub LacksBody : List ℕ → ℕ → Type 0
-LacksBody head have = (size : ℕ) × (c : Content) × StepOf head (S.Body size c) × (have < size)
+abbrev pub LacksBody : Profile → List ℕ → ℕ → Type 0
+LacksBody profile head have = (size : ℕ) × (c : Content) × StepOf profile head (S.Body size c) × (have < size)
 
 -- a head and the bytes behind it ask for this, want of memory aside
-abbrev pub HeadAsksFor : List ℕ → List ℕ → Job → Type 0
-HeadAsksFor head rest job = (j : Job) × HeadJob head rest j × Reads job j
+abbrev pub HeadAsksFor : Profile → List ℕ → List ℕ → Job → Type 0
+HeadAsksFor profile head rest job = (j : Job) × HeadJob profile head rest j × Reads job j
 
 -- the same of an option of jobs
 abbrev pub ReadsSome : Option Job → Option Job → Type 0
@@ -133,5 +137,5 @@ ReadsSome (Some j) None = ⊥
 ReadsSome (Some j) (Some job) = Reads j job
 
 -- the input asks for this, want of memory aside
-abbrev pub AsksFor : List ℕ → Option Job → Type 0
-AsksFor whole job = (j : Option Job) × JobOf whole j × ReadsSome job j
+abbrev pub AsksFor : Profile → List ℕ → Option Job → Type 0
+AsksFor profile whole job = (j : Option Job) × JobOf profile whole j × ReadsSome job j

@@ -2,7 +2,8 @@
 use Rattle.std.specs.Prelude.{◌≡◌, ℕ, List, Option}
 use Rattle.plant_http_requests.specs.Jobs.{JobOf}
 use Rattle.plant_http_requests.specs.declared.job.Job.{Job}
+use Rattle.plant_http_requests.specs.declared.profile.Profile.{Profile}
 
--- an input asks for one thing
+-- of a server of a profile an input asks for one thing
 abbrev pub AnInputAsksOneThing : Type 0
-AnInputAsksOneThing = (whole : List ℕ) (a b : Option Job) → JobOf whole a → JobOf whole b → a ≡ b
+AnInputAsksOneThing = (profile : Profile) (whole : List ℕ) (a b : Option Job) → JobOf profile whole a → JobOf profile whole b → a ≡ b

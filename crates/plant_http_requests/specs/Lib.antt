@@ -1,6 +1,8 @@
 pub mod HeadEnd
 pub mod PieceReading
 pub mod Fields
+pub mod Origins
+pub mod Framing
 pub mod Heads
 pub mod Steps
 pub mod Jobs

@@ -9,7 +9,8 @@ use Rattle.plant_http_routes.specs.declared.routes.Kind.{Kind}
 use Rattle.plant_http_routes.specs.declared.routes.Kind.TheVariants as kind
 use Rattle.plant_http_routes.specs.declared.routes.Target.{Target}
 use Rattle.plant_http_routes.specs.declared.routes.Target.TheVariants as target
-use Rattle.plant_http_requests.specs.Fields.{Fields, framing, import_metadata_in}
+use Rattle.plant_http_requests.specs.Fields.{Fields, import_metadata_in}
+use Rattle.plant_http_requests.specs.Framing.{framing}
 use Rattle.plant_http_requests.specs.declared.job.Job.{Job}
 use Rattle.plant_http_requests.specs.declared.job.Job.TheVariants.{Refuse}
 use Rattle.plant_http_requests.specs.declared.job.BodyFormat.{BodyFormat}
@@ -18,6 +19,8 @@ use Rattle.plant_http_requests.specs.declared.job.Content.{Content}
 use Rattle.plant_http_requests.specs.declared.job.Content.TheVariants as content
 use Rattle.plant_http_requests.specs.declared.job.HeadStep.{HeadStep}
 use Rattle.plant_http_requests.specs.declared.job.HeadStep.TheVariants as S
+use Rattle.plant_http_requests.specs.declared.profile.Profile.{Profile}
+use Rattle.plant_http_requests.specs.declared.profile.Profile.TheVariants as profile
 use Rattle.plant_http_requests.specs.declared.status.Status.{Status}
 use Rattle.plant_http_requests.specs.declared.status.Status.TheVariants.{NotFound, MethodNotAllowed, LengthRequired}
 use Rattle.plant_http_requests.specs.declared.status.Allow.TheVariants.{Unsaid, Get, Post}
@@ -41,6 +44,7 @@ question_of kind.Batch id = Q.Batch id
 question_of kind.BatchBack id = Q.Trace Back (node.Batch id)
 question_of kind.BatchForward id = Q.Trace Forward (node.Batch id)
 question_of kind.Record id = Q.Batch id
+question_of kind.Recall id = Q.Recall id
 question_of kind.LotStands id = Q.Stands (node.Lot id)
 question_of kind.BatchStands id = Q.Stands (node.Batch id)
 question_of kind.LotBackEdges id = Q.Edges Back (node.Lot id)
@@ -78,14 +82,28 @@ target_step (target.List list cursor) method length fs = asked_step (Q.List list
 target_step (target.Recipes state cursor) method length fs = asked_step (Q.Recipes state cursor) Json method
 target_step (target.Ledger lot cursor) method length fs = asked_step (Q.Ledger lot cursor) Json method
 
-abbrev pub routed_step : Option Target → List ℕ → Option ℕ → Fields → HeadStep
-routed_step None method length fs = fails NotFound (is_head method)
-routed_step (Some t) method length fs = target_step t method length fs
+abbrev pub found_step : Option Target → List ℕ → Option ℕ → Fields → HeadStep
+found_step None method length fs = fails NotFound (is_head method)
+found_step (Some t) method length fs = target_step t method length fs
 
-abbrev pub framed_step : Result (Option ℕ) Status → List ℕ → List ℕ → Fields → HeadStep
-framed_step (Err status) method path fs = fails status (is_head method)
-framed_step (Ok length) method path fs = routed_step (target_of path) method length fs
+-- the page stands at / where the profile has it
+abbrev pub is_page : Profile → List ℕ → Bool
+is_page profile.Open path = false
+is_page (profile.Page hosts) path = bytes_eq path (codes "/")
+
+-- the page; a HEAD is answered as a GET, the body left out
+abbrev pub page_step : List ℕ → HeadStep
+page_step method =
+    if bytes_eq method (codes "GET") || is_head method then S.Page (is_head method)
+    else S.Refuse MethodNotAllowed Get false
+
+abbrev pub routed_step : Profile → List ℕ → List ℕ → Option ℕ → Fields → HeadStep
+routed_step profile path method length fs = if is_page profile path then page_step method else found_step (target_of path) method length fs
+
+abbrev pub framed_step : Profile → Result (Option ℕ) Status → List ℕ → List ℕ → Fields → HeadStep
+framed_step profile (Err status) method path fs = fails status (is_head method)
+framed_step profile (Ok length) method path fs = routed_step profile path method length fs
 
 -- what the parts of a head decide: first by its fields, then by its path, then by its method
-unfoldable pub request_step : List ℕ → List ℕ → ℕ → Fields → HeadStep
-request_step method path minor fs = framed_step (framing minor fs) method path fs
+unfoldable pub request_step : Profile → List ℕ → List ℕ → ℕ → Fields → HeadStep
+request_step profile method path minor fs = framed_step profile (framing profile minor fs) method path fs

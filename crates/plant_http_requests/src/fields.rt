@@ -1,12 +1,11 @@
-//! The fields of a request: what they say of its body.
+//! The fields of a request, and what they say of an order file in its body.
 ghost use Rattle.std.specs.Prelude.{◌≡◌, ◌≤◌, map, length, All, option_map, IfOk, IfSome};
 ghost use Rattle.httparse.specs.Spans.{IsHeaderWithin, header_bytes};
 ghost use Rattle.plant_base.specs.Values.{is_id, is_moment, is_text, only};
-ghost use Rattle.plant_http_requests.specs.Fields.{is_name, count_named, value_named, body_length, framing};
+ghost use Rattle.plant_http_requests.specs.Fields.{is_name, count_named, value_named};
 ghost use Rattle.plant_http_requests.specs.Fields.{moment_in, only_moment, operator_in, reference_in};
 ghost use Rattle.plant_http_requests.specs.Fields.{reference_named, stamp_in, import_metadata_in};
 
-use crate::status::Status;
 use httparse::spans::HeaderSpan;
 use plant_base::{Id, Moment, Stamp, Text, read_digits};
 use plant_orders::ImportMetadata;
@@ -19,7 +18,7 @@ fn has_name(head: &[u8], field: &HeaderSpan, name: &[u8]) -> bool
     field.name.of(head).eq_ignore_ascii_case(name)
 }
 
-fn count_named(head: &[u8], fields: &[HeaderSpan], name: &[u8]) -> usize
+pub(crate) fn count_named(head: &[u8], fields: &[HeaderSpan], name: &[u8]) -> usize
     requires { All (IsHeaderWithin (length head.now)) fields.now }
     ensures { result ≡ count_named name.now (map (header_bytes head.now) fields.now) }
 {
@@ -32,7 +31,11 @@ fn count_named(head: &[u8], fields: &[HeaderSpan], name: &[u8]) -> usize
     count
 }
 
-fn value_named<'h>(head: &'h [u8], fields: &[HeaderSpan], name: &[u8]) -> Option<&'h [u8]>
+pub(crate) fn value_named<'h>(
+    head: &'h [u8],
+    fields: &[HeaderSpan],
+    name: &[u8],
+) -> Option<&'h [u8]>
     requires { All (IsHeaderWithin (length head.now)) fields.now }
     ensures { option_map (λ s. s.now) result ≡ value_named name.now
         (map (header_bytes head.now) fields.now) }
@@ -43,56 +46,6 @@ fn value_named<'h>(head: &'h [u8], fields: &[HeaderSpan], name: &[u8]) -> Option
         }
     }
     None
-}
-
-/// The most bytes of a body.
-const LONGEST_BODY: u64 = 262_144;
-
-/// The length of the body that Content-Length names (RFC 9112, sections 6.2 and 6.3), `None` where there is no such
-/// field.
-#[tactic(auto, unfolding(crate::specs::Fields::body_length))]
-fn body_length(head: &[u8], fields: &[HeaderSpan]) -> Result<Option<u32>, Status>
-    requires { All (IsHeaderWithin (length head.now)) fields.now }
-    ensures { result ≡ body_length (map (header_bytes head.now) fields.now) }
-{
-    let count = count_named(head, fields, b"content-length");
-    if count == 0 {
-        return Ok(None);
-    }
-    if count != 1 {
-        return Err(Status::BadRequest);
-    }
-    let Some(text) = value_named(head, fields, b"content-length") else {
-        return Err(Status::BadRequest);
-    };
-    let Some(number) = read_digits(text, 18) else {
-        return Err(Status::BadRequest);
-    };
-    if number > LONGEST_BODY {
-        return Err(Status::PayloadTooLarge);
-    }
-    Ok(Some(number as u32))
-}
-
-/// The body's length where one is named, or the status of the first rule on fields that is broken: 400 for a number of
-/// Host fields that the version doesn't have, 501 for a Transfer-Encoding, 400 for Content-Length more than once or not
-/// in 1 to 18 digits, 413 for one above 262,144.
-/// The rule of Host is that of RFC 9112, section 3.2; a transfer coding that isn't implemented is answered as in
-/// section 6.1, a length that isn't valid as in section 6.3.
-#[tactic(auto, unfolding(crate::specs::Fields::framing))]
-pub(crate) fn framing(head: &[u8], fields: &[HeaderSpan], minor: u8) -> Result<Option<u32>, Status>
-    requires { All (IsHeaderWithin (length head.now)) fields.now }
-    ensures { result ≡ framing minor (map (header_bytes head.now) fields.now) }
-{
-    let hosts = count_named(head, fields, b"host");
-    let has_host = if minor == 1 { hosts == 1 } else { hosts <= 1 };
-    if !has_host {
-        return Err(Status::BadRequest);
-    }
-    if count_named(head, fields, b"transfer-encoding") != 0 {
-        return Err(Status::NotImplemented);
-    }
-    body_length(head, fields)
 }
 
 fn read_moment(text: &[u8]) -> Option<Moment>

@@ -33,6 +33,11 @@ pub enum Job {
         /// Whether the answer's body is left out, since the request is a HEAD.
         silent: bool,
     },
+    /// The page for browsers.
+    Page {
+        /// Whether the answer's body is left out, since the request is a HEAD.
+        silent: bool,
+    },
     /// A command for the desk to execute, be it the body itself or the import of an order file.
     Command(Envelope),
     /// A body that is to be a command and is none.
@@ -66,6 +71,10 @@ pub(crate) enum HeadStep {
     Ask {
         question: Question,
         body_format: BodyFormat,
+        silent: bool,
+    },
+    /// The page.
+    Page {
         silent: bool,
     },
     /// A body of so many bytes, at most 262,144, is to be read.

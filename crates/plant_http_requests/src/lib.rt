@@ -3,11 +3,14 @@
 
 mod bodies;
 mod fields;
+mod framing;
 mod head;
 mod head_end;
 mod job;
 mod law;
+mod origins;
 mod parse;
+mod profile;
 mod read;
 mod reading;
 mod status;
@@ -16,6 +19,7 @@ mod steps;
 pub use head_end::head_length;
 pub use job::{BodyFormat, Job};
 pub use law::job_law;
+pub use profile::Profile;
 pub use read::{MOST_READS, read_job};
 pub use reading::{HeadEnd, InputFault, LONGEST_HEAD, read_head, read_to};
 pub use status::{Allow, Status};

@@ -7,6 +7,7 @@ ghost use Rattle.plant_http_requests.specs.Jobs.{AsksFor, HeadAsksFor, LacksBody
 use crate::bodies::body_job;
 use crate::head::step_of_head;
 use crate::job::{HeadStep, Job};
+use crate::profile::Profile;
 use crate::status::Status;
 use crate::steps::refusal_of;
 use crate::{HeadEnd, InputFault, read_head, read_to};
@@ -21,6 +22,7 @@ pub const MOST_READS: u32 = 4096;
 fn head_job<R: Read>(
     alloc: Global,
     routes: &Routes,
+    profile: Profile<'_>,
     reader: &mut R,
     bytes: &mut Vec<u8>,
     reads: &mut u32,
@@ -29,14 +31,14 @@ fn head_job<R: Read>(
     requires within { n ≤ length bytes.old.items }
     requires small { length bytes.old.items ≤ 8192 }
     ensures asks { IfOk result (λ job. (left : List ℕ) × Agrees (R.remaining reader.old) left
-        × HeadAsksFor (take n bytes.old.items) (drop n (bytes.old.items ++ left)) job) }
-    ensures lacks { OnErr result (LacksBody (take n bytes.old.items) (length (drop n bytes.old.items))) }
+        × HeadAsksFor profile.entry (take n bytes.old.items) (drop n (bytes.old.items ++ left)) job) }
+    ensures lacks { OnErr result (LacksBody profile.entry (take n bytes.old.items) (length (drop n bytes.old.items))) }
     ensures endless { IsErrOf result InputFault.Endless → SpentAll reads.old
         (R.remaining reader.old) (R.remaining reader.new) }
 {
     let step = {
         let (head, _) = bytes.as_slice().split_at(n);
-        step_of_head(routes, head)
+        step_of_head(profile, routes, head)
     };
     match step {
         HeadStep::Refuse {
@@ -57,6 +59,7 @@ fn head_job<R: Read>(
             body_format,
             silent,
         }),
+        HeadStep::Page { silent } => Ok(Job::Page { silent }),
         HeadStep::Body { size, content } => {
             let want = n + size as usize;
             match read_to(reader, bytes, reads, want) {
@@ -68,7 +71,7 @@ fn head_job<R: Read>(
     }
 }
 
-/// What the input asks for. `None` where it ended without a byte.
+/// What the input asks for, of a server of this profile. `None` where it ended without a byte.
 ///
 /// The head ends at its first empty line, within 8,192 bytes. A body is read where the head asks for one, and not beyond its length;
 /// where the head alone decides, no read follows the one that ended it. The result depends on the bytes of the input and not on the pieces
@@ -79,10 +82,11 @@ fn head_job<R: Read>(
 pub fn read_job<R: Read>(
     alloc: Global,
     routes: &Routes,
+    profile: Profile<'_>,
     reader: &mut R,
 ) -> Result<Option<Job>, InputFault>
     ensures asks { IfOk result (λ job. (whole : List ℕ) × Agrees (R.remaining reader.old) whole
-        × AsksFor whole job) }
+        × AsksFor profile.entry whole job) }
     ensures endless { IsErrOf result InputFault.Endless → SpentAll most_reads
         (R.remaining reader.old) (R.remaining reader.new) }
 {
@@ -93,7 +97,7 @@ pub fn read_job<R: Read>(
         Ok(HeadEnd::Early) => Ok(Some(refusal_of(Status::BadRequest, false))),
         Ok(HeadEnd::TooLong) => Ok(Some(refusal_of(Status::HeadTooLarge, false))),
         Ok(HeadEnd::Found(n)) => {
-            match head_job(alloc, routes, reader, &mut bytes, &mut reads, n) {
+            match head_job(alloc, routes, profile, reader, &mut bytes, &mut reads, n) {
                 Ok(job) => Ok(Some(job)),
                 Err(fault) => Err(fault),
             }

@@ -2,10 +2,13 @@
 ghost use Rattle.std.specs.Prelude.{◌≡◌, bytes_eq, length, map, All};
 ghost use Rattle.httparse.specs.Spans.{IsHeaderWithin, IsWithin, header_bytes, span_bytes};
 ghost use Rattle.plant_http_requests.specs.Steps.{refusal_of, fails, is_head, question_of, body_format_of, post_step};
-ghost use Rattle.plant_http_requests.specs.Steps.{posted_step, asked_step, target_step, request_step};
+ghost use Rattle.plant_http_requests.specs.Steps.{posted_step, asked_step, target_step, is_page, page_step};
+ghost use Rattle.plant_http_requests.specs.Steps.{routed_step, request_step};
 
-use crate::fields::{framing, import_metadata_in};
+use crate::fields::import_metadata_in;
+use crate::framing::framing;
 use crate::job::{BodyFormat, Content, HeadStep, Job};
+use crate::profile::Profile;
 use crate::status::{Allow, Status};
 use http::Method;
 use httparse::spans::{HeaderSpan, RequestSpans};
@@ -59,6 +62,7 @@ fn question_of(kind: Kind, id: Id) -> Question
         Kind::LotBack => Question::Trace(Direction::Back, Node::Lot(id)),
         Kind::LotForward => Question::Trace(Direction::Forward, Node::Lot(id)),
         Kind::Batch | Kind::Record => Question::Batch(id),
+        Kind::Recall => Question::Recall(id),
         Kind::BatchBack => Question::Trace(Direction::Back, Node::Batch(id)),
         Kind::BatchForward => Question::Trace(Direction::Forward, Node::Batch(id)),
         Kind::LotStands => Question::Stands(Node::Lot(id)),
@@ -153,9 +157,57 @@ fn target_step(
     }
 }
 
+/// Whether a path is that of the page: only the profile that serves it has it.
+fn is_page(profile: Profile<'_>, path: &[u8]) -> bool
+    ensures { result ≡ is_page profile.entry path.now }
+{
+    match profile {
+        Profile::Open => false,
+        Profile::Page { .. } => path == b"/".as_slice(),
+    }
+}
+
+/// The page, by GET or by HEAD.
+fn page_step(method: &[u8]) -> HeadStep
+    ensures { result ≡ page_step method.now }
+{
+    let silent = is_head(method);
+    if is_method(method, &Method::GET) || silent {
+        return HeadStep::Page { silent };
+    }
+    HeadStep::Refuse {
+        status: Status::MethodNotAllowed,
+        allow: Allow::Get,
+        silent: false,
+    }
+}
+
+/// What a path and a method decide.
+fn routed_step(
+    profile: Profile<'_>,
+    head: &[u8],
+    fields: &[HeaderSpan],
+    routes: &Routes,
+    method: &[u8],
+    path: &[u8],
+    size: Option<u32>,
+) -> HeadStep
+    requires { All (IsHeaderWithin (length head.now)) fields.now }
+    ensures { result ≡ routed_step profile.entry path.now method.now size (map (header_bytes head.now) fields.now) }
+{
+    if is_page(profile, path) {
+        return page_step(method);
+    }
+    match routes.find(path) {
+        Some(target) => target_step(head, fields, target, method, size),
+        None => fails(Status::NotFound, is_head(method)),
+    }
+}
+
 /// What a parsed head decides.
 #[tactic(auto, unfolding(crate::specs::Steps::request_step))]
 pub(crate) fn request_step(
+    profile: Profile<'_>,
     head: &[u8],
     fields: &[HeaderSpan],
     request: &RequestSpans,
@@ -164,16 +216,13 @@ pub(crate) fn request_step(
     requires fields { All (IsHeaderWithin (length head.now)) fields.now }
     requires method { IsWithin (length head.now) request.now.method }
     requires path { IsWithin (length head.now) request.now.path }
-    ensures { result ≡ request_step (span_bytes head.now request.now.method)
+    ensures { result ≡ request_step profile.entry (span_bytes head.now request.now.method)
         (span_bytes head.now request.now.path) request.now.version (map (header_bytes head.now) fields.now) }
 {
     let method = request.method.of(head);
     let path = request.path.of(head);
-    match framing(head, fields, request.version) {
+    match framing(profile, head, fields, request.version) {
         Err(status) => fails(status, is_head(method)),
-        Ok(size) => match routes.find(path) {
-            Some(target) => target_step(head, fields, target, method, size),
-            None => fails(Status::NotFound, is_head(method)),
-        },
+        Ok(size) => routed_step(profile, head, fields, routes, method, path, size),
     }
 }

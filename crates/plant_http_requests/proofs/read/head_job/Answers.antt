@@ -9,7 +9,7 @@ returns-in-Ok-true-clause-asks g c =
     let so = rw (c.split_at.ensures.front, c.as_slice.ensures.value) at c.step_of_head-step.ensures in
     let there = rw c.in-Ok-true.field-0-test at c.in-Ok-true.ensures.found in
     let reads = rw c.as_slice-in-Ok-true.ensures.value at c.body_job.ensures in
-    whole_body _ _ _ _ c.args.n c.in-Body.size c.in-Body.content c.step_of_head-step.result c.body_job.result so c.in-Body.is c.in-Ok-true.ensures.known there reads
+    whole_body _ _ _ _ _ c.args.n c.in-Body.size c.in-Body.content c.step_of_head-step.result c.body_job.result so c.in-Body.is c.in-Ok-true.ensures.known there reads
 
 pub returns-in-Err-clause-lacks : goal.returns-in-Err-clause-lacks
 returns-in-Err-clause-lacks g c =
@@ -21,17 +21,23 @@ pub returns-in-Ok-false-clause-asks : goal.returns-in-Ok-false-clause-asks
 returns-in-Ok-false-clause-asks g c =
     let so = rw (c.split_at.ensures.front, c.as_slice.ensures.value) at c.step_of_head-step.ensures in
     let (short, end) = rw c.in-Ok-false.field-0-test at c.in-Ok-false.ensures.found in
-    cut_body _ _ _ _ c.args.n c.in-Body.size c.in-Body.content c.step_of_head-step.result c.refusal_of.result so c.in-Body.is c.in-Ok-false.ensures.known short end c.requires.within
+    cut_body _ _ _ _ _ c.args.n c.in-Body.size c.in-Body.content c.step_of_head-step.result c.refusal_of.result so c.in-Body.is c.in-Ok-false.ensures.known short end c.requires.within
     c.refusal_of.ensures
 
 pub returns-in-Refuse-clause-asks : goal.returns-in-Refuse-clause-asks
 returns-in-Refuse-clause-asks g c =
     let so = rw (c.split_at.ensures.front, c.as_slice.ensures.value) at c.step_of_head-step.ensures in
     let it = c.in-Refuse in
-    by_head _ _ c.args.n c.step_of_head-step.result (J.Refuse it.status it.allow it.silent) so (λ rest. rw it.is refl) refl
+    by_head _ _ _ c.args.n c.step_of_head-step.result (J.Refuse it.status it.allow it.silent) so (λ rest. rw it.is refl) refl
 
 pub returns-in-Ask-clause-asks : goal.returns-in-Ask-clause-asks
 returns-in-Ask-clause-asks g c =
     let so = rw (c.split_at.ensures.front, c.as_slice.ensures.value) at c.step_of_head-step.ensures in
     let it = c.in-Ask in
-    by_head _ _ c.args.n c.step_of_head-step.result (J.Ask it.question it.body_format it.silent) so (λ rest. rw it.is refl) refl
+    by_head _ _ _ c.args.n c.step_of_head-step.result (J.Ask it.question it.body_format it.silent) so (λ rest. rw it.is refl) refl
+
+pub returns-in-Page-clause-asks : goal.returns-in-Page-clause-asks
+returns-in-Page-clause-asks g c =
+    let so = rw (c.split_at.ensures.front, c.as_slice.ensures.value) at c.step_of_head-step.ensures in
+    let it = c.in-Page in
+    by_head _ _ _ c.args.n c.step_of_head-step.result (J.Page it.silent) so (λ rest. rw it.is refl) refl

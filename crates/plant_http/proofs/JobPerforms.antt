@@ -39,6 +39,7 @@ no_memory : (k : ℕ) (s : State) (j : Job) (out : Out) (represents : States) (s
     → RepresentsDurably represents crash_states s → shut ≡ false → Performs k s j out represents shut crash_states
 no_memory k s (J.Refuse status allow silent) out represents shut crash_states h e alone is_live = absurd (cc)
 no_memory k s (J.Ask q body_format silent) out represents shut crash_states h e alone is_live = absurd (cc)
+no_memory k s (J.Page silent) out represents shut crash_states h e alone is_live = absurd (cc)
 no_memory k s (J.Command c) out represents shut crash_states h e alone is_live = inr (Memory, refl, e, (alone.0, is_live), alone)
 no_memory k s J.BadForm out represents shut crash_states h e alone is_live = inr (Memory, refl, e, (alone.0, is_live), alone)
 no_memory k s (J.BadFile f) out represents shut crash_states h e alone is_live = inr (Memory, refl, e, (alone.0, is_live), alone)
@@ -60,6 +61,7 @@ reads_performs k s _ j out represents shut crash_states h p = rw (sym h) p
 body_is_loud : (j : Job) → is_of_body j ≡ true → false ≡ is_silent j
 body_is_loud (J.Refuse status allow silent) h = absurd (cc)
 body_is_loud (J.Ask q body_format silent) h = absurd (cc)
+body_is_loud (J.Page silent) h = absurd (cc)
 body_is_loud _ h = refl
 
 pub reads_silent : (job j : Job) → Reads job j → is_silent job ≡ is_silent j

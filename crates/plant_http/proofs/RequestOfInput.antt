@@ -12,6 +12,7 @@ use Rattle.plant_http_requests.specs.declared.reading.HeadEnd.{HeadEnd}
 use Rattle.plant_http_requests.specs.declared.reading.HeadEnd.TheVariants as head
 use Rattle.plant_http_requests.specs.Jobs.{AsksFor, EndJob}
 use Rattle.plant_http_requests.specs.declared.job.Job.{Job}
+use Rattle.plant_http_requests.specs.declared.profile.Profile.{Profile}
 use Rattle.plant_http.specs.Answers.{shut_out}
 use Rattle.plant_http.specs.Serving.{Serves, ServesShut, Answers, AnswersJobShut, end_of}
 use Rattle.plant_text.specs.CrashStates.{RepresentsDurably}
@@ -29,11 +30,11 @@ known_kept (Some x) = refl
 
 -- ---- an input without a byte
 
-nothing_at_end : (e : HeadEnd) (whole : List ℕ) → EndJob e whole None → e ≡ head.Nothing
-nothing_at_end head.Nothing whole h = refl
-nothing_at_end head.Early whole h = absurd (cc)
-nothing_at_end head.TooLong whole h = absurd (cc)
-nothing_at_end (head.Found n) whole (j, h, is) = absurd (cc)
+nothing_at_end : (profile : Profile) (e : HeadEnd) (whole : List ℕ) → EndJob profile e whole None → e ≡ head.Nothing
+nothing_at_end profile head.Nothing whole h = refl
+nothing_at_end profile head.Early whole h = absurd (cc)
+nothing_at_end profile head.TooLong whole h = absurd (cc)
+nothing_at_end profile (head.Found n) whole (j, h, is) = absurd (cc)
 
 empty_end : (o : Option ℕ) (whole : List ℕ) → end_where o whole ≡ head.Nothing → whole ≡ []
 empty_end (Some n) whole h = absurd (cc)
@@ -45,10 +46,10 @@ empty_end None (b ∷ whole) h = by (nat_le 8192 (length (b ∷ whole))) (length
     by false true e h = absurd (cc)
     by false false e h = absurd (cc)
 
-pub none_is_empty : (whole : List ℕ) → AsksFor whole None → whole ≡ []
+pub none_is_empty : (profile : Profile) (whole : List ℕ) → AsksFor profile whole None → whole ≡ []
 unfolding end_of_head
-none_is_empty whole (None, is, reads) = empty_end _ whole (nothing_at_end (end_of_head whole) whole is)
-none_is_empty whole (Some j, is, reads) = absurd (cc)
+none_is_empty profile whole (None, is, reads) = empty_end _ whole (nothing_at_end profile (end_of_head whole) whole is)
+none_is_empty profile whole (Some j, is, reads) = absurd (cc)
 
 -- ---- a request that couldn't be read
 
@@ -72,50 +73,50 @@ fault_whole start left input.Read h = some_whole start
 fault_whole start left input.Endless h = spent_whole start left (h refl)
 fault_whole start left input.Memory h = some_whole start
 
-pub fault_serves : (k : ℕ) (s : State) (whole : List ℕ) (text : Option (List ℕ)) (represents : States) (shut : Bool) (crash_states : States → Type 0) (fault : InputFault)
-    → RepresentsDurably represents crash_states s → shut ≡ false → Fits fault whole → Serves k s whole text text represents shut crash_states (Err (end_of fault))
-fault_serves k s whole text represents shut crash_states input.Read alone is_live h = record { state = alone; is_live = is_live; text = known_kept text }
-fault_serves k s whole text represents shut crash_states input.Endless alone is_live h = (record { state = alone; is_live = is_live; text = known_kept text }, h)
-fault_serves k s whole text represents shut crash_states input.Memory alone is_live h = record { state = alone; is_live = is_live; text = known_kept text }
+pub fault_serves : (profile : Profile) (k : ℕ) (s : State) (whole : List ℕ) (text : Option (List ℕ)) (represents : States) (shut : Bool) (crash_states : States → Type 0) (fault : InputFault)
+    → RepresentsDurably represents crash_states s → shut ≡ false → Fits fault whole → Serves profile k s whole text text represents shut crash_states (Err (end_of fault))
+fault_serves profile k s whole text represents shut crash_states input.Read alone is_live h = record { state = alone; is_live = is_live; text = known_kept text }
+fault_serves profile k s whole text represents shut crash_states input.Endless alone is_live h = (record { state = alone; is_live = is_live; text = known_kept text }, h)
+fault_serves profile k s whole text represents shut crash_states input.Memory alone is_live h = record { state = alone; is_live = is_live; text = known_kept text }
 
-pub fault_shut : (whole : List ℕ) (text : Option (List ℕ)) (fault : InputFault) → Fits fault whole → ServesShut whole text text (Err (end_of fault))
-fault_shut whole text input.Read h = known_kept text
-fault_shut whole text input.Endless h = (known_kept text, h)
-fault_shut whole text input.Memory h = known_kept text
+pub fault_shut : (profile : Profile) (whole : List ℕ) (text : Option (List ℕ)) (fault : InputFault) → Fits fault whole → ServesShut profile whole text text (Err (end_of fault))
+fault_shut profile whole text input.Read h = known_kept text
+fault_shut profile whole text input.Endless h = (known_kept text, h)
+fault_shut profile whole text input.Memory h = known_kept text
 
 -- ---- a job that is there
 
-pub serves_by_job : (k : ℕ) (s : State) (whole : List ℕ) (job : Job) (old new : Option (List ℕ)) (represents : States) (shut : Bool) (crash_states : States → Type 0) (r : Result Served ServeFault)
-    → AsksFor whole (Some job) → Answers k s job old new represents shut crash_states r → Serves k s whole old new represents shut crash_states r
-serves_by_job k s whole job old new represents shut crash_states (Ok Nothing) a h = absurd h
-serves_by_job k s whole job old new represents shut crash_states (Err end.Read) a h = absurd h
-serves_by_job k s whole job old new represents shut crash_states (Err end.Endless) a h = absurd h
-serves_by_job k s whole job old new represents shut crash_states (Err end.Memory) a h = absurd h
-serves_by_job k s whole job old new represents shut crash_states (Ok (Answered code)) (None, is, reads) h = absurd reads
-serves_by_job k s whole job old new represents shut crash_states (Err end.Write) (None, is, reads) h = absurd reads
-serves_by_job k s whole job old new represents shut crash_states (Ok (Answered code)) (Some j, is, reads) (out, did, is_code, wrote) =
+pub serves_by_job : (profile : Profile) (k : ℕ) (s : State) (whole : List ℕ) (job : Job) (old new : Option (List ℕ)) (represents : States) (shut : Bool) (crash_states : States → Type 0) (r : Result Served ServeFault)
+    → AsksFor profile whole (Some job) → Answers k s job old new represents shut crash_states r → Serves profile k s whole old new represents shut crash_states r
+serves_by_job profile k s whole job old new represents shut crash_states (Ok Nothing) a h = absurd h
+serves_by_job profile k s whole job old new represents shut crash_states (Err end.Read) a h = absurd h
+serves_by_job profile k s whole job old new represents shut crash_states (Err end.Endless) a h = absurd h
+serves_by_job profile k s whole job old new represents shut crash_states (Err end.Memory) a h = absurd h
+serves_by_job profile k s whole job old new represents shut crash_states (Ok (Answered code)) (None, is, reads) h = absurd reads
+serves_by_job profile k s whole job old new represents shut crash_states (Err end.Write) (None, is, reads) h = absurd reads
+serves_by_job profile k s whole job old new represents shut crash_states (Ok (Answered code)) (Some j, is, reads) (out, did, is_code, wrote) =
     (j, is, out, reads_performs k s job j out represents shut crash_states reads did, (is_code, rw (sym (reads_silent job j reads)) wrote))
-serves_by_job k s whole job old new represents shut crash_states (Err end.Write) (Some j, is, reads) (out, did, wrote) =
+serves_by_job profile k s whole job old new represents shut crash_states (Err end.Write) (Some j, is, reads) (out, did, wrote) =
     (j, is, out, reads_performs k s job j out represents shut crash_states reads did, rw (sym (reads_silent job j reads)) wrote)
 
-pub shut_by_job : (whole : List ℕ) (job : Job) (old new : Option (List ℕ)) (r : Result Served ServeFault)
-    → AsksFor whole (Some job) → AnswersJobShut job old new r → ServesShut whole old new r
-shut_by_job whole job old new (Ok Nothing) a h = absurd h
-shut_by_job whole job old new (Err end.Read) a h = absurd h
-shut_by_job whole job old new (Err end.Endless) a h = absurd h
-shut_by_job whole job old new (Err end.Memory) a h = absurd h
-shut_by_job whole job old new (Ok (Answered code)) (None, is, reads) h = absurd reads
-shut_by_job whole job old new (Err end.Write) (None, is, reads) h = absurd reads
-shut_by_job whole job old new (Ok (Answered code)) (Some j, is, reads) (is_code, wrote) =
+pub shut_by_job : (profile : Profile) (whole : List ℕ) (job : Job) (old new : Option (List ℕ)) (r : Result Served ServeFault)
+    → AsksFor profile whole (Some job) → AnswersJobShut job old new r → ServesShut profile whole old new r
+shut_by_job profile whole job old new (Ok Nothing) a h = absurd h
+shut_by_job profile whole job old new (Err end.Read) a h = absurd h
+shut_by_job profile whole job old new (Err end.Endless) a h = absurd h
+shut_by_job profile whole job old new (Err end.Memory) a h = absurd h
+shut_by_job profile whole job old new (Ok (Answered code)) (None, is, reads) h = absurd reads
+shut_by_job profile whole job old new (Err end.Write) (None, is, reads) h = absurd reads
+shut_by_job profile whole job old new (Ok (Answered code)) (Some j, is, reads) (is_code, wrote) =
     (j, is, shut_out job, reads_shut job j reads, (is_code, rw (sym (reads_silent job j reads)) wrote))
-shut_by_job whole job old new (Err end.Write) (Some j, is, reads) wrote =
+shut_by_job profile whole job old new (Err end.Write) (Some j, is, reads) wrote =
     (j, is, shut_out job, reads_shut job j reads, rw (sym (reads_silent job j reads)) wrote)
 
 -- ---- no job
 
-pub serves_nothing : (k : ℕ) (s : State) (whole : List ℕ) (text : Option (List ℕ)) (represents : States) (shut : Bool) (crash_states : States → Type 0)
-    → RepresentsDurably represents crash_states s → shut ≡ false → AsksFor whole None → Serves k s whole text text represents shut crash_states (Ok Nothing)
-serves_nothing k s whole text represents shut crash_states alone is_live a = (none_is_empty whole a, record { state = alone; is_live = is_live; text = known_kept text })
+pub serves_nothing : (profile : Profile) (k : ℕ) (s : State) (whole : List ℕ) (text : Option (List ℕ)) (represents : States) (shut : Bool) (crash_states : States → Type 0)
+    → RepresentsDurably represents crash_states s → shut ≡ false → AsksFor profile whole None → Serves profile k s whole text text represents shut crash_states (Ok Nothing)
+serves_nothing profile k s whole text represents shut crash_states alone is_live a = (none_is_empty profile whole a, record { state = alone; is_live = is_live; text = known_kept text })
 
-pub shut_nothing : (whole : List ℕ) (text : Option (List ℕ)) → AsksFor whole None → ServesShut whole text text (Ok Nothing)
-shut_nothing whole text a = (none_is_empty whole a, known_kept text)
+pub shut_nothing : (profile : Profile) (whole : List ℕ) (text : Option (List ℕ)) → AsksFor profile whole None → ServesShut profile whole text text (Ok Nothing)
+shut_nothing profile whole text a = (none_is_empty profile whole a, known_kept text)

@@ -1,5 +1,7 @@
 -- What is answered to a job.
 use Rattle.std.specs.Prelude.{◌≡◌, ℕ, Bool, false, List, [], ◌++◌, length, codes, decimal, string_bytes, if◌then◌else◌, ◌==◌, ◌⊎◌, Result, Ok, Err}
+use Rattle.desk_page.specs.declared.page.TheConstants.{PAGE}
+use Rattle.desk_page.specs.declared.policy.TheConstants.{POLICY}
 use Rattle.plant_base.specs.State.{State}
 use Rattle.plant_base.specs.Refusals.{number_of}
 use Rattle.plant_base.specs.declared.refusal.Refusal.TheVariants.{BadForm}
@@ -25,6 +27,8 @@ use Rattle.plant_http_requests.specs.declared.status.Status.{Status}
 use Rattle.plant_http_requests.specs.declared.status.Status.TheVariants as st
 use Rattle.plant_http_requests.specs.declared.status.Allow.{Allow}
 use Rattle.plant_http_requests.specs.declared.status.Allow.TheVariants.{Unsaid, Get, Post}
+use Rattle.plant_http.specs.declared.media.MediaType.{MediaType}
+use Rattle.plant_http.specs.declared.media.MediaType.TheVariants as media
 use Rattle.plant_http.specs.declared.answer.Answer.{Answer}
 use Rattle.plant_http.specs.declared.answer.Body.{Body}
 use Rattle.plant_http.specs.declared.answer.Body.TheVariants as B
@@ -34,6 +38,7 @@ use Rattle.plant_http.specs.declared.answer.Body.TheVariants as B
 abbrev pub code_of : Status → ℕ
 code_of st.Success = 200
 code_of st.BadRequest = 400
+code_of st.Forbidden = 403
 code_of st.NotFound = 404
 code_of st.MethodNotAllowed = 405
 code_of st.Conflict = 409
@@ -46,6 +51,7 @@ code_of st.Unavailable = 503
 abbrev pub phrase_of : Status → List ℕ
 phrase_of st.Success = codes "OK"
 phrase_of st.BadRequest = codes "Bad Request"
+phrase_of st.Forbidden = codes "Forbidden"
 phrase_of st.NotFound = codes "Not Found"
 phrase_of st.MethodNotAllowed = codes "Method Not Allowed"
 phrase_of st.Conflict = codes "Conflict"
@@ -60,30 +66,47 @@ allow_line Unsaid = []
 allow_line Get = codes "Allow: GET, HEAD\r\n"
 allow_line Post = codes "Allow: POST\r\n"
 
-abbrev pub type_of : BodyFormat → List ℕ
-type_of Json = codes "application/json"
-type_of Record = codes "text/plain"
+abbrev pub media_of : BodyFormat → MediaType
+media_of Json = media.Json
+media_of Record = media.Plain
+
+abbrev pub type_of : MediaType → List ℕ
+type_of media.Json = codes "application/json"
+type_of media.Plain = codes "text/plain"
+type_of media.Html = codes "text/html; charset=utf-8"
+
+-- the policy under which a browser shows the page
+unfoldable pub policy_bytes : List ℕ
+policy_bytes = POLICY.now
+
+-- the lines of the fields that only the page has
+abbrev pub guard_lines : MediaType → List ℕ
+guard_lines media.Json = []
+guard_lines media.Plain = []
+guard_lines media.Html =
+    codes "X-Frame-Options: DENY\r\n" ++ codes "X-Content-Type-Options: nosniff\r\n"
+    ++ codes "Content-Security-Policy: " ++ policy_bytes ++ codes "\r\n"
 
 -- ---- the text of an answer
 
 -- the lines before a body of so many bytes
-unfoldable pub head_text : Status → Allow → BodyFormat → ℕ → List ℕ
-head_text status allow body_format size =
+unfoldable pub head_text : Status → Allow → MediaType → ℕ → List ℕ
+head_text status allow media_type size =
     codes "HTTP/1.1 " ++ decimal (code_of status) ++ codes " " ++ phrase_of status
-    ++ codes "\r\nContent-Type: " ++ type_of body_format
+    ++ codes "\r\nContent-Type: " ++ type_of media_type
     ++ codes "\r\nContent-Length: " ++ decimal size
-    ++ codes "\r\nConnection: close\r\n" ++ allow_line allow ++ codes "\r\n"
+    ++ codes "\r\nConnection: close\r\n" ++ allow_line allow ++ guard_lines media_type ++ codes "\r\n"
 
 -- an answer's parts
 pub record Out : Type 0 where
   pub status : Status
   pub allow : Allow
-  pub body_format : BodyFormat
+  pub media_type : MediaType
   pub body : List ℕ
 
 -- the bytes of an answer, whose body may be left out
 unfoldable pub answer_bytes : Bool → Out → List ℕ
-answer_bytes silent out = head_text out.status out.allow out.body_format (length out.body) ++ (if silent then [] else out.body)
+answer_bytes silent out = head_text out.status out.allow out.media_type (length out.body) ++ (if silent then [] else out.body)
 
 -- ---- bodies
 
@@ -94,11 +117,11 @@ abbrev pub csv_text : CsvFault → List ℕ
 csv_text f = codes "{\"csv\":\"" ++ kind_name f.kind ++ codes "\",\"row\":" ++ decimal f.row ++ codes "}"
 
 abbrev pub json_out : Status → List ℕ → Out
-json_out status body = record { status = status; allow = Unsaid; body_format = Json; body = body }
+json_out status body = record { status = status; allow = Unsaid; media_type = media.Json; body = body }
 
 -- a status alone
 abbrev pub error_out : Status → Allow → Out
-error_out status allow = record { status = status; allow = allow; body_format = Json; body = status_text status }
+error_out status allow = record { status = status; allow = allow; media_type = media.Json; body = status_text status }
 
 -- a fault of the keeper, or want of memory
 abbrev pub fault_out : DeskFault → Out
@@ -137,7 +160,14 @@ text_in body_format (A.Batch v) = batch_in body_format v
 text_in body_format a = text_of_answer a
 
 abbrev pub answer_out : BodyFormat → DeskAnswer → Out
-answer_out body_format a = record { status = answer_status a; allow = Unsaid; body_format = body_format_for body_format a; body = text_in body_format a }
+answer_out body_format a = record { status = answer_status a; allow = Unsaid; media_type = media_of (body_format_for body_format a); body = text_in body_format a }
+
+-- the bytes of the page
+unfoldable pub page_text : List ℕ
+page_text = PAGE.now
+
+abbrev pub page_out : Out
+page_out = record { status = st.Success; allow = Unsaid; media_type = media.Html; body = page_text }
 
 -- ---- jobs
 
@@ -145,6 +175,7 @@ answer_out body_format a = record { status = answer_status a; allow = Unsaid; bo
 abbrev pub out_of : ℕ → State → Job → Out
 out_of k s (J.Refuse status allow silent) = error_out status allow
 out_of k s (J.Ask question body_format silent) = answer_out body_format (answer k s question)
+out_of k s (J.Page silent) = page_out
 out_of k s (J.Command e) = reply_out (reply s e)
 out_of k s J.BadForm = reply_out (Refused BadForm)
 out_of k s (J.BadFile f) = csv_out f
@@ -154,6 +185,7 @@ out_of k s J.MemoryError = fault_out fault.Memory
 abbrev pub shut_out : Job → Out
 shut_out (J.Refuse status allow silent) = error_out status allow
 shut_out (J.Ask question body_format silent) = fault_out fault.Shut
+shut_out (J.Page silent) = page_out
 shut_out (J.Command e) = fault_out fault.Shut
 shut_out J.BadForm = reply_out (Refused BadForm)
 shut_out (J.BadFile f) = csv_out f
@@ -163,6 +195,7 @@ shut_out J.MemoryError = fault_out fault.Memory
 abbrev pub is_silent : Job → Bool
 is_silent (J.Refuse status allow silent) = silent
 is_silent (J.Ask question body_format silent) = silent
+is_silent (J.Page silent) = silent
 is_silent _ = false
 
 -- ---- answers in the code
@@ -171,9 +204,10 @@ abbrev pub body_bytes : Body → List ℕ
 body_bytes (B.Reply text) = text
 body_bytes (B.Short text) = text
 body_bytes (B.Long text) = string_bytes text
+body_bytes B.Page = page_text
 
 abbrev pub rendered : Answer → Out
-rendered a = record { status = a.status; allow = a.allow; body_format = a.body_format; body = body_bytes a.body }
+rendered a = record { status = a.status; allow = a.allow; media_type = a.media_type; body = body_bytes a.body }
 
 -- the answer has these parts
 pub record Is (out : Out) (silent : Bool) (a : Answer) : Type 0 where

@@ -13,6 +13,7 @@ use Rattle.plant_http_requests.specs.declared.reading.InputFault.TheVariants as 
 use Rattle.plant_http_requests.specs.Jobs.{JobOf, is_of_body}
 use Rattle.plant_http_requests.specs.declared.job.Job.{Job}
 use Rattle.plant_http_requests.specs.declared.job.Job.TheVariants as J
+use Rattle.plant_http_requests.specs.declared.profile.Profile.{Profile}
 use Rattle.plant_http.specs.Answers.{Out, out_of, fault_out, shut_out, is_silent, code_of, answer_bytes}
 use Rattle.plant_http.specs.declared.serve.Served.{Served}
 use Rattle.plant_http.specs.declared.serve.Served.TheVariants.{Answered, Nothing}
@@ -23,6 +24,7 @@ use Rattle.plant_http.specs.declared.serve.ServeFault.TheVariants as end
 abbrev pub entry_of : Job → Entry
 entry_of (J.Refuse status allow silent) = nothing
 entry_of (J.Ask q body_format silent) = question q
+entry_of (J.Page silent) = nothing
 entry_of (J.Command e) = command e
 entry_of J.BadForm = nothing
 entry_of (J.BadFile f) = nothing
@@ -31,6 +33,7 @@ entry_of J.MemoryError = nothing
 -- whether a fault may be answered in place of the job: the keeper is asked, or memory is taken for what a body says
 abbrev pub may_fail : Job → Bool
 may_fail (J.Refuse status allow silent) = false
+may_fail (J.Page silent) = false
 may_fail _ = true
 
 -- The keeper stood at s. What is answered to the job, where the keeper stands now, and what a stop leaves: the definitions'
@@ -48,19 +51,19 @@ pub record Untouched (s : State) (old new : Option (List ℕ)) (represents : Sta
   pub text : Keeps old new
 
 -- The request was answered, wholly or by a front: its job was done, and the text of the answer was written so.
-abbrev pub AnswersBy : (Out → List ℕ → Type 0) → ℕ → State → List ℕ → States → Bool → (States → Type 0) → Type 0
-AnswersBy Wrote k s whole represents shut crash_states =
-    (job : Job) × JobOf whole (Some job) × (out : Out) × Performs k s job out represents shut crash_states × Wrote out (answer_bytes (is_silent job) out)
+abbrev pub AnswersBy : Profile → (Out → List ℕ → Type 0) → ℕ → State → List ℕ → States → Bool → (States → Type 0) → Type 0
+AnswersBy profile Wrote k s whole represents shut crash_states =
+    (job : Job) × JobOf profile whole (Some job) × (out : Out) × Performs k s job out represents shut crash_states × Wrote out (answer_bytes (is_silent job) out)
 
--- how serving the request of an input ended, where the keeper stood at s
-abbrev pub Serves : ℕ → State → List ℕ → Option (List ℕ) → Option (List ℕ) → States → Bool → (States → Type 0) → Result Served ServeFault → Type 0
-Serves k s whole old new represents shut crash_states (Ok Nothing) = (whole ≡ []) × Untouched s old new represents shut crash_states
-Serves k s whole old new represents shut crash_states (Ok (Answered code)) =
-    AnswersBy (λ out text. (code ≡ code_of out.status) × Appends old new text) k s whole represents shut crash_states
-Serves k s whole old new represents shut crash_states (Err end.Write) = AnswersBy (λ out text. AppendsPrefix old new text) k s whole represents shut crash_states
-Serves k s whole old new represents shut crash_states (Err end.Read) = Untouched s old new represents shut crash_states
-Serves k s whole old new represents shut crash_states (Err end.Endless) = Untouched s old new represents shut crash_states × (4096 ≤ length whole)
-Serves k s whole old new represents shut crash_states (Err end.Memory) = Untouched s old new represents shut crash_states
+-- how a server of this profile ended with the request of an input, where the keeper stood at s
+abbrev pub Serves : Profile → ℕ → State → List ℕ → Option (List ℕ) → Option (List ℕ) → States → Bool → (States → Type 0) → Result Served ServeFault → Type 0
+Serves profile k s whole old new represents shut crash_states (Ok Nothing) = (whole ≡ []) × Untouched s old new represents shut crash_states
+Serves profile k s whole old new represents shut crash_states (Ok (Answered code)) =
+    AnswersBy profile (λ out text. (code ≡ code_of out.status) × Appends old new text) k s whole represents shut crash_states
+Serves profile k s whole old new represents shut crash_states (Err end.Write) = AnswersBy profile (λ out text. AppendsPrefix old new text) k s whole represents shut crash_states
+Serves profile k s whole old new represents shut crash_states (Err end.Read) = Untouched s old new represents shut crash_states
+Serves profile k s whole old new represents shut crash_states (Err end.Endless) = Untouched s old new represents shut crash_states × (4096 ≤ length whole)
+Serves profile k s whole old new represents shut crash_states (Err end.Memory) = Untouched s old new represents shut crash_states
 
 -- the keeper wasn't asked and nothing was written: the input had no byte, or the request couldn't be read
 abbrev pub IfUnasked : Result Served ServeFault → Type 0 → Type 0
@@ -77,17 +80,17 @@ IfUnasked (Err end.Memory) P = P
 abbrev pub OutWhenShut : Job → Out → Type 0
 OutWhenShut job out = (out ≡ shut_out job) ⊎ ((is_of_body job ≡ true) × (out ≡ fault_out fault.Memory))
 
-abbrev pub AnswersShut : (Out → List ℕ → Type 0) → List ℕ → Type 0
-AnswersShut Wrote whole = (job : Job) × JobOf whole (Some job) × (out : Out) × OutWhenShut job out × Wrote out (answer_bytes (is_silent job) out)
+abbrev pub AnswersShut : Profile → (Out → List ℕ → Type 0) → List ℕ → Type 0
+AnswersShut profile Wrote whole = (job : Job) × JobOf profile whole (Some job) × (out : Out) × OutWhenShut job out × Wrote out (answer_bytes (is_silent job) out)
 
--- how serving the request of an input ended by a keeper that is shut
-abbrev pub ServesShut : List ℕ → Option (List ℕ) → Option (List ℕ) → Result Served ServeFault → Type 0
-ServesShut whole old new (Ok Nothing) = (whole ≡ []) × Keeps old new
-ServesShut whole old new (Ok (Answered code)) = AnswersShut (λ out text. (code ≡ code_of out.status) × Appends old new text) whole
-ServesShut whole old new (Err end.Write) = AnswersShut (λ out text. AppendsPrefix old new text) whole
-ServesShut whole old new (Err end.Read) = Keeps old new
-ServesShut whole old new (Err end.Endless) = Keeps old new × (4096 ≤ length whole)
-ServesShut whole old new (Err end.Memory) = Keeps old new
+-- how it ended by a keeper that is shut
+abbrev pub ServesShut : Profile → List ℕ → Option (List ℕ) → Option (List ℕ) → Result Served ServeFault → Type 0
+ServesShut profile whole old new (Ok Nothing) = (whole ≡ []) × Keeps old new
+ServesShut profile whole old new (Ok (Answered code)) = AnswersShut profile (λ out text. (code ≡ code_of out.status) × Appends old new text) whole
+ServesShut profile whole old new (Err end.Write) = AnswersShut profile (λ out text. AppendsPrefix old new text) whole
+ServesShut profile whole old new (Err end.Read) = Keeps old new
+ServesShut profile whole old new (Err end.Endless) = Keeps old new × (4096 ≤ length whole)
+ServesShut profile whole old new (Err end.Memory) = Keeps old new
 
 -- ---- a job that is there
 

@@ -3,9 +3,11 @@ ghost use Rattle.std.specs.Prelude.{◌≡◌, ◌⊎◌, false, IfOk, string_by
 ghost use Rattle.plant_base.specs.Refusals.{number_of};
 ghost use Rattle.plant_http.specs.Answers.{body_bytes, Is, error_out, fault_out, csv_out, reply_out};
 ghost use Rattle.plant_http.specs.Answers.{answer_out, text_in, refused_status, reply_status, answer_status};
-ghost use Rattle.plant_http.specs.Answers.{body_format_for};
+ghost use Rattle.plant_http.specs.Answers.{body_format_for, page_out};
 
+use crate::media::{MediaType, media_of};
 use crate::room::{Room, csv_text, status_text};
+use desk_page::page_bytes;
 use plant_base::Refusal;
 use plant_http_requests::{Allow, BodyFormat, Status};
 use plant_messages::{Answer as DeskAnswer, DeskFault, Reply};
@@ -23,6 +25,8 @@ pub(crate) enum Body {
     Short(Room),
     /// The text of an answer.
     Long(String),
+    /// The page, which takes no memory.
+    Page,
 }
 
 /// An answer, before it is written. `silent` where its body is left out.
@@ -30,13 +34,14 @@ pub(crate) enum Body {
 pub(crate) struct Answer {
     pub(crate) status: Status,
     pub(crate) allow: Allow,
-    pub(crate) body_format: BodyFormat,
+    pub(crate) media_type: MediaType,
     pub(crate) body: Body,
     pub(crate) silent: bool,
 }
 
 impl Body {
     /// The bytes of the body.
+    #[tactic(auto, unfolding(crate::specs::Answers::page_text))]
     pub(crate) fn as_bytes(&self) -> &[u8]
         ensures { result.now ≡ body_bytes self.now }
     {
@@ -44,18 +49,19 @@ impl Body {
             Body::Reply(text) => text.as_bytes(),
             Body::Short(text) => text.as_bytes(),
             Body::Long(text) => text.as_bytes(),
+            Body::Page => page_bytes(),
         }
     }
 }
 
 fn json(status: Status, body: Body, silent: bool) -> Answer
-    ensures { (result.status ≡ status) × (result.allow ≡ Allow.Unsaid) × (result.body_format ≡ BodyFormat.Json)
+    ensures { (result.status ≡ status) × (result.allow ≡ Allow.Unsaid) × (result.media_type ≡ MediaType.Json)
         × (body_bytes result.body ≡ body_bytes body) × (result.silent ≡ silent) }
 {
     Answer {
         status,
         allow: Allow::Unsaid,
-        body_format: BodyFormat::Json,
+        media_type: MediaType::Json,
         body,
         silent,
     }
@@ -68,8 +74,21 @@ pub(crate) fn error_answer(status: Status, allow: Allow, silent: bool) -> Answer
     Answer {
         status,
         allow,
-        body_format: BodyFormat::Json,
+        media_type: MediaType::Json,
         body: Body::Short(status_text(status)),
+        silent,
+    }
+}
+
+/// The page. It takes no memory.
+pub(crate) fn page_answer(silent: bool) -> Answer
+    ensures { Is page_out silent result }
+{
+    Answer {
+        status: Status::Success,
+        allow: Allow::Unsaid,
+        media_type: MediaType::Html,
+        body: Body::Page,
         silent,
     }
 }
@@ -164,7 +183,7 @@ pub(crate) fn asked_answer(
         Ok(text) => Answer {
             status: answer_status(answer),
             allow: Allow::Unsaid,
-            body_format: body_format_for(body_format, answer),
+            media_type: media_of(body_format_for(body_format, answer)),
             body: Body::Long(text),
             silent,
         },

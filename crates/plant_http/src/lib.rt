@@ -2,6 +2,7 @@
 #![tactic(auto)]
 
 mod answer;
+mod media;
 mod perform;
 mod room;
 mod send;

@@ -6,7 +6,9 @@ ghost use Rattle.plant_http.specs.Answers.{is_silent, rendered, shut_out, Execut
 ghost use Rattle.plant_http.specs.Serving.{Performs};
 ghost use Rattle.plant_http_requests.specs.declared.job.Job.TheVariants as J;
 
-use crate::answer::{Answer, asked_answer, csv_answer, error_answer, fault_answer, reply_answer};
+use crate::answer::{
+    Answer, asked_answer, csv_answer, error_answer, fault_answer, page_answer, reply_answer,
+};
 use plant_base::{Envelope, Refusal};
 use plant_desk::Keeper;
 use plant_http_requests::{BodyFormat, Job};
@@ -94,6 +96,7 @@ pub(crate) fn perform<K: Keeper>(alloc: Global, keeper: &mut K, job: &Job) -> An
             allow,
             silent,
         } => error_answer(*status, *allow, *silent),
+        Job::Page { silent } => page_answer(*silent),
         Job::BadForm => reply_answer(&Reply::Refused(Refusal::BadForm)),
         Job::BadFile(fault) => csv_answer(*fault),
         Job::MemoryError => fault_answer(DeskFault::Memory, false),

@@ -20,7 +20,7 @@ pub(crate) fn send<W: Write>(writer: &mut W, answer: &Answer) -> Result<(), Writ
         (answer_bytes answer.now.silent (rendered answer.now))) }
 {
     let body = answer.body.as_bytes();
-    let head = head_text(answer.status, answer.allow, answer.body_format, body.len());
+    let head = head_text(answer.status, answer.allow, answer.media_type, body.len());
     let rest: &[u8] = if answer.silent { &[] } else { body };
     write_both(writer, head.as_bytes(), rest)
 }

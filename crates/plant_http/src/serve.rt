@@ -9,7 +9,7 @@ use crate::perform::perform;
 use crate::send::send;
 use crate::status::code_of;
 use plant_desk::Keeper;
-use plant_http_requests::{InputFault, Job, read_job};
+use plant_http_requests::{InputFault, Job, Profile, read_job};
 use plant_http_routes::Routes;
 use std::alloc::Global;
 use std::io::{Read, Write};
@@ -80,6 +80,8 @@ fn answer_job<W: Write, K: Keeper>(
 /// command whose body ended early isn't executed. The answer is written after the keeper's reply, and between an executed command and the end of its answer no memory is
 /// taken. Only a keeper's fault and want of memory for what a body says or for an answer's text are answered 503.
 ///
+/// The profile says which requests are served, and whether the page is. No keeper is asked for the page: one that is shut serves it too.
+///
 /// What is written depends on the bytes of the input and not on the pieces in which they come, but for `Endless`.
 ///
 /// `Read`, `Endless` and `Memory`: the request wasn't read whole; nothing was executed and nothing written. `Write`: a front
@@ -91,6 +93,7 @@ fn answer_job<W: Write, K: Keeper>(
 pub fn serve_one<R: Read, W: Write, K: Keeper>(
     alloc: Global,
     routes: &Routes,
+    profile: Profile<'_>,
     reader: &mut R,
     writer: &mut W,
     keeper: &mut K,
@@ -100,14 +103,14 @@ pub fn serve_one<R: Read, W: Write, K: Keeper>(
     // How the request ended, where the keeper stands then, and what a stop leaves.
     ensures serves { (whole : List ℕ) × Agrees (R.remaining reader.old) whole
         × (K.honest keeper.new → K.shut keeper.old ≡ false → (s : State) → K.represents keeper.old s
-        → Serves (K.schema keeper.old) s whole (W.contents writer.old) (W.contents writer.new)
+        → Serves profile.entry (K.schema keeper.old) s whole (W.contents writer.old) (W.contents writer.new)
         (K.represents keeper.new) (K.shut keeper.new) (K.crash_states keeper.new) result)
-        × (K.shut keeper.old ≡ true → ServesShut whole
+        × (K.shut keeper.old ≡ true → ServesShut profile.entry whole
         (W.contents writer.old) (W.contents writer.new) result) }
     ensures unasked { IfUnasked result ((keeper.new ≡ keeper.old) × (writer.new ≡ writer.old)) }
     ensures unchanged { K.shut keeper.old ≡ true → keeper.new ≡ keeper.old }
 {
-    match read_job(alloc, routes, reader) {
+    match read_job(alloc, routes, profile, reader) {
         Ok(None) => Ok(Served::Nothing),
         Ok(Some(job)) => answer_job(alloc, writer, keeper, &job),
         Err(fault) => Err(end_of(fault)),

@@ -1,10 +1,10 @@
 //! The numbers and the phrases of statuses.
 ghost use Rattle.std.specs.Prelude.{◌≡◌, ◌≤◌, Some, length};
 ghost use Rattle.http.specs.StatusCode.{reason_phrase};
-ghost use Rattle.plant_http.specs.Answers.{code_of, phrase_of, allow_line, type_of};
+ghost use Rattle.plant_http.specs.Answers.{code_of, phrase_of, allow_line};
 
 use http::StatusCode;
-use plant_http_requests::{Allow, BodyFormat, Status};
+use plant_http_requests::{Allow, Status};
 
 /// The status of `http` that is answered.
 fn status_code(status: Status) -> StatusCode
@@ -13,6 +13,7 @@ fn status_code(status: Status) -> StatusCode
     match status {
         Status::Success => StatusCode::OK,
         Status::BadRequest => StatusCode::BAD_REQUEST,
+        Status::Forbidden => StatusCode::FORBIDDEN,
         Status::NotFound => StatusCode::NOT_FOUND,
         Status::MethodNotAllowed => StatusCode::METHOD_NOT_ALLOWED,
         Status::Conflict => StatusCode::CONFLICT,
@@ -52,16 +53,5 @@ pub(crate) fn allow_line(allow: Allow) -> &'static str
         Allow::Unsaid => "",
         Allow::Get => "Allow: GET, HEAD\r\n",
         Allow::Post => "Allow: POST\r\n",
-    }
-}
-
-/// The media type of a form.
-pub(crate) fn type_of(body_format: BodyFormat) -> &'static str
-    ensures value { result.now ≡ type_of body_format }
-    ensures short { length result.now ≤ 16 }
-{
-    match body_format {
-        BodyFormat::Json => "application/json",
-        BodyFormat::Record => "text/plain",
     }
 }

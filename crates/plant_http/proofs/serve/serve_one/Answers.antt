@@ -9,9 +9,9 @@ returns-in-Ok-None-clause-serves g c =
     let same = c.args.keeper.now in (
       whole,
       agrees,
-      λ honest is_live s represented. serves_nothing (keeper.schema same) s whole _ (keeper.represents same) (keeper.shut same) (keeper.crash_states same)
+      λ honest is_live s represented. serves_nothing _ (keeper.schema same) s whole _ (keeper.represents same) (keeper.shut same) (keeper.crash_states same)
           (represented, g.met.K.Keeper.open_crash_state same s honest is_live represented) is_live asks,
-      λ closed. shut_nothing whole _ asks,
+      λ closed. shut_nothing _ whole _ asks,
     )
 
 pub returns-in-Ok-Some-clause-serves : goal.returns-in-Ok-Some-clause-serves
@@ -21,9 +21,9 @@ returns-in-Ok-Some-clause-serves g c =
     let now = c.answer_job.new.keeper in (
       whole,
       agrees,
-      λ honest is_live s represented. serves_by_job (keeper.schema c.args.keeper.now) s whole c.in-Ok-Some.job _ _ (keeper.represents now) (keeper.shut now) (keeper.crash_states now) c.answer_job.result
+      λ honest is_live s represented. serves_by_job _ (keeper.schema c.args.keeper.now) s whole c.in-Ok-Some.job _ _ (keeper.represents now) (keeper.shut now) (keeper.crash_states now) c.answer_job.result
           asks (c.answer_job.ensures.answers honest is_live s represented),
-      λ closed. shut_by_job whole c.in-Ok-Some.job _ _ c.answer_job.result asks (c.answer_job.ensures.shut closed),
+      λ closed. shut_by_job _ whole c.in-Ok-Some.job _ _ c.answer_job.result asks (c.answer_job.ensures.shut closed),
     )
 
 pub returns-in-Err-clause-serves : goal.returns-in-Err-clause-serves
@@ -34,7 +34,7 @@ returns-in-Err-clause-serves g c =
     let same = c.args.keeper.now in (
       whole,
       agrees,
-      λ honest is_live s represented. rw c.end_of.ensures (fault_serves (keeper.schema same) s whole _ (keeper.represents same) (keeper.shut same) (keeper.crash_states same) fault
+      λ honest is_live s represented. rw c.end_of.ensures (fault_serves _ (keeper.schema same) s whole _ (keeper.represents same) (keeper.shut same) (keeper.crash_states same) fault
           (represented, g.met.K.Keeper.open_crash_state same s honest is_live represented) is_live fits),
-      λ closed. rw c.end_of.ensures (fault_shut whole _ fault fits),
+      λ closed. rw c.end_of.ensures (fault_shut _ whole _ fault fits),
     )

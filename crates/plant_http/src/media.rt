@@ -1,0 +1,48 @@
+//! The media types of answers, and the fields that only the page has.
+ghost use Rattle.std.specs.Prelude.{◌≡◌, ◌≤◌, length};
+ghost use Rattle.plant_http.specs.Answers.{media_of, type_of, policy_bytes};
+
+use desk_page::policy_text;
+use plant_http_requests::BodyFormat;
+
+/// What the bytes of an answer's body are (RFC 9110, section 8.3.1).
+#[derive(Clone, Copy, Debug, PartialEq, Eq)]
+pub(crate) enum MediaType {
+    /// JSON.
+    Json,
+    /// The batch record, a plain text.
+    Plain,
+    /// The page.
+    Html,
+}
+
+/// The media type of a form in which an answer is written.
+pub(crate) fn media_of(body_format: BodyFormat) -> MediaType
+    ensures { result ≡ media_of body_format }
+{
+    match body_format {
+        BodyFormat::Json => MediaType::Json,
+        BodyFormat::Record => MediaType::Plain,
+    }
+}
+
+/// The name of a media type.
+pub(crate) fn type_of(media_type: MediaType) -> &'static str
+    ensures value { result.now ≡ type_of media_type }
+    ensures short { length result.now ≤ 24 }
+{
+    match media_type {
+        MediaType::Json => "application/json",
+        MediaType::Plain => "text/plain",
+        MediaType::Html => "text/html; charset=utf-8",
+    }
+}
+
+/// The policy under which a browser shows the page.
+#[tactic(auto, unfolding(crate::specs::Answers::policy_bytes))]
+pub(crate) fn policy() -> &'static str
+    ensures value { result.now ≡ policy_bytes }
+    ensures short { length result.now ≤ 400 }
+{
+    policy_text()
+}

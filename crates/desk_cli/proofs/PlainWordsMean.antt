@@ -1,12 +1,19 @@
 -- The plain words, computed.
-use Rattle.std.proofs.Common.{◌≡◌, ◌||◌, Bool, true, false, [], ◌∷◌, None, codes, refl, rules}
+use Rattle.std.proofs.Common.{◌≡◌, ◌||◌, Bool, true, false, List, [], ◌∷◌, None, Some, Ok, Err, codes, refl, ap, ◌∙◌, rules}
 use Rattle.std.specs.Str.{bytes_eq}
 use Rattle.clap.specs.Lexer.{long_of, short_of}
-use Rattle.clap.specs.Words.{Text}
+use Rattle.clap.specs.Words.{Row, Text, fault_of, subcommand_of}
+use Rattle.clap.specs.declared.parser.matches.ValueSource.TheVariants.{CommandLine, DefaultValue}
+use Rattle.clap.specs.declared.builder.value_parser.Reading.TheVariants.{AsWritten, WithoutMinus}
+use Rattle.desk_cli.specs.CommandLine.{the_program}
 use Rattle.clap.proofs.OnLiterals.{clap_on_literals}
 use Rattle.plant_base.specs.Values.{is_id}
-use Rattle.desk_cli.specs.Meaning.{number_in, work_in}
-use Rattle.desk_cli.specs.PlainWords.{FileWords, ImportWords, PlainWords, ServeWords, ReportWords, begins_with_dash}
+use Rattle.desk_cli.specs.Meaning.{Meant, meant_in, number_in, work_in}
+use Rattle.desk_cli.specs.PlainWords.{AreWrong, Break, FileWords, ImportWords, Mean, PlainWords, ServeWords, ReportWords, begins_with_dash}
+use Rattle.desk_cli.specs.Hosts.{hosts_of_names}
+use Rattle.desk_cli.specs.declared.argument.Argument.{Argument}
+use Rattle.desk_cli.specs.declared.argument.Argument.TheVariants as argument
+use Rattle.desk_cli.specs.declared.meaning.Work.TheVariants as work
 
 abbrev dashes : Text
 dashes = 45 ∷ 45 ∷ []
@@ -68,15 +75,139 @@ import_words = record {
   import_wants = λ name file h. rw (not_dashes file h, not_long file h, not_short file h) refl;
 }
 
+-- ---- serving: the rows that clap finds, and what they mean
+
+-- an argument that is given, as it is written
+abbrev given : Text → List Text → Row
+given id values = record { id = id; values = values; count = None; source = Some CommandLine; reading = AsWritten }
+
+-- a number that is given
+abbrev number : Text → Text → Row
+number id text = record { id = id; values = text ∷ []; count = None; source = Some CommandLine; reading = WithoutMinus }
+
+-- a flag that isn't given
+abbrev unset : Text → Row
+unset id = record { id = id; values = codes "false" ∷ []; count = None; source = Some DefaultValue; reading = AsWritten }
+
+-- a file, a port and a number of connections, and these
+abbrev rows_of_serve : Text → List Row → List Row
+rows_of_serve file more = given (codes "file") (file ∷ []) ∷ number (codes "port") (codes "8080") ∷ number (codes "count") (codes "1000") ∷ more
+
+-- what the words mean by their rows
+by_rows : (words : List Text) (rows : List Row) (meant : Meant) → fault_of the_program words ≡ [] → subcommand_of the_program words ≡ Some (codes "serve", rows)
+    → meant_in (Some (codes "serve", rows)) ≡ Ok meant → Mean words meant
+by_rows words rows meant taken found means = (taken, ap meant_in found ∙ means)
+
+broken_by_rows : (words : List Text) (rows : List Row) (a : Argument) → subcommand_of the_program words ≡ Some (codes "serve", rows)
+    → meant_in (Some (codes "serve", rows)) ≡ Err a → Break words a
+broken_by_rows words rows a found means = ap meant_in found ∙ means
+
+serve_port_taken : (name file : Text) → begins_with_dash file ≡ false → fault_of the_program (name ∷ codes "serve" ∷ file ∷ codes "8080" ∷ codes "1000" ∷ []) ≡ []
+unfolding clap_on_literals
+serve_port_taken name file h = rw (not_dashes file h, not_long file h, not_short file h) (refl {a = []})
+
+serve_port_rows : (name file : Text) → begins_with_dash file ≡ false → subcommand_of the_program (name ∷ codes "serve" ∷ file ∷ codes "8080" ∷ codes "1000" ∷ []) ≡ Some (codes "serve", rows_of_serve file (unset (codes "log") ∷ unset (codes "page") ∷ []))
+unfolding clap_on_literals
+serve_port_rows name file h = rw (not_dashes file h, not_long file h, not_short file h) (refl {a = Some (codes "serve", rows_of_serve file (unset (codes "log") ∷ unset (codes "page") ∷ []))})
+
+serve_port : (name file : Text) → begins_with_dash file ≡ false → Mean (name ∷ codes "serve" ∷ file ∷ codes "8080" ∷ codes "1000" ∷ []) (file, work.Serve (record { port = 8080; count = 1000; is_logged = false; page = None }))
+unfolding work_in number_in
+serve_port name file h = by_rows (name ∷ codes "serve" ∷ file ∷ codes "8080" ∷ codes "1000" ∷ []) (rows_of_serve file (unset (codes "log") ∷ unset (codes "page") ∷ [])) (file, work.Serve (record { port = 8080; count = 1000; is_logged = false; page = None })) (serve_port_taken name file h) (serve_port_rows name file h) refl
+
+serve_logged_taken : (name file : Text) → begins_with_dash file ≡ false → fault_of the_program (name ∷ codes "serve" ∷ file ∷ codes "8080" ∷ codes "1000" ∷ codes "--log" ∷ []) ≡ []
+unfolding clap_on_literals
+serve_logged_taken name file h = rw (not_dashes file h, not_long file h, not_short file h) (refl {a = []})
+
+serve_logged_rows : (name file : Text) → begins_with_dash file ≡ false → subcommand_of the_program (name ∷ codes "serve" ∷ file ∷ codes "8080" ∷ codes "1000" ∷ codes "--log" ∷ []) ≡ Some (codes "serve", rows_of_serve file (given (codes "log") (codes "true" ∷ []) ∷ unset (codes "page") ∷ []))
+unfolding clap_on_literals
+serve_logged_rows name file h = rw (not_dashes file h, not_long file h, not_short file h) (refl {a = Some (codes "serve", rows_of_serve file (given (codes "log") (codes "true" ∷ []) ∷ unset (codes "page") ∷ []))})
+
+serve_logged : (name file : Text) → begins_with_dash file ≡ false → Mean (name ∷ codes "serve" ∷ file ∷ codes "8080" ∷ codes "1000" ∷ codes "--log" ∷ []) (file, work.Serve (record { port = 8080; count = 1000; is_logged = true; page = None }))
+unfolding work_in number_in
+serve_logged name file h = by_rows (name ∷ codes "serve" ∷ file ∷ codes "8080" ∷ codes "1000" ∷ codes "--log" ∷ []) (rows_of_serve file (given (codes "log") (codes "true" ∷ []) ∷ unset (codes "page") ∷ [])) (file, work.Serve (record { port = 8080; count = 1000; is_logged = true; page = None })) (serve_logged_taken name file h) (serve_logged_rows name file h) refl
+
+serve_page_taken : (name file : Text) → begins_with_dash file ≡ false → fault_of the_program (name ∷ codes "serve" ∷ file ∷ codes "8080" ∷ codes "1000" ∷ codes "--page" ∷ []) ≡ []
+unfolding clap_on_literals
+serve_page_taken name file h = rw (not_dashes file h, not_long file h, not_short file h) (refl {a = []})
+
+serve_page_rows : (name file : Text) → begins_with_dash file ≡ false → subcommand_of the_program (name ∷ codes "serve" ∷ file ∷ codes "8080" ∷ codes "1000" ∷ codes "--page" ∷ []) ≡ Some (codes "serve", rows_of_serve file (given (codes "page") (codes "true" ∷ []) ∷ unset (codes "log") ∷ []))
+unfolding clap_on_literals
+serve_page_rows name file h = rw (not_dashes file h, not_long file h, not_short file h) (refl {a = Some (codes "serve", rows_of_serve file (given (codes "page") (codes "true" ∷ []) ∷ unset (codes "log") ∷ []))})
+
+serve_page : (name file : Text) → begins_with_dash file ≡ false → Mean (name ∷ codes "serve" ∷ file ∷ codes "8080" ∷ codes "1000" ∷ codes "--page" ∷ []) (file, work.Serve (record { port = 8080; count = 1000; is_logged = false; page = Some (hosts_of_names []) }))
+unfolding work_in number_in
+serve_page name file h = by_rows (name ∷ codes "serve" ∷ file ∷ codes "8080" ∷ codes "1000" ∷ codes "--page" ∷ []) (rows_of_serve file (given (codes "page") (codes "true" ∷ []) ∷ unset (codes "log") ∷ [])) (file, work.Serve (record { port = 8080; count = 1000; is_logged = false; page = Some (hosts_of_names []) })) (serve_page_taken name file h) (serve_page_rows name file h) refl
+
+serve_hosts_taken : (name file : Text) → begins_with_dash file ≡ false → fault_of the_program (name ∷ codes "serve" ∷ file ∷ codes "8080" ∷ codes "1000" ∷ codes "--page" ∷ codes "--host" ∷ codes "a.example" ∷ codes "--host" ∷ codes "b" ∷ []) ≡ []
+unfolding clap_on_literals
+serve_hosts_taken name file h = rw (not_dashes file h, not_long file h, not_short file h) (refl {a = []})
+
+serve_hosts_rows : (name file : Text) → begins_with_dash file ≡ false → subcommand_of the_program (name ∷ codes "serve" ∷ file ∷ codes "8080" ∷ codes "1000" ∷ codes "--page" ∷ codes "--host" ∷ codes "a.example" ∷ codes "--host" ∷ codes "b" ∷ []) ≡ Some (codes "serve", rows_of_serve file (given (codes "page") (codes "true" ∷ []) ∷ given (codes "host") (codes "a.example" ∷ codes "b" ∷ []) ∷ unset (codes "log") ∷ []))
+unfolding clap_on_literals
+serve_hosts_rows name file h = rw (not_dashes file h, not_long file h, not_short file h) (refl {a = Some (codes "serve", rows_of_serve file (given (codes "page") (codes "true" ∷ []) ∷ given (codes "host") (codes "a.example" ∷ codes "b" ∷ []) ∷ unset (codes "log") ∷ []))})
+
+serve_hosts : (name file : Text) → begins_with_dash file ≡ false → Mean (name ∷ codes "serve" ∷ file ∷ codes "8080" ∷ codes "1000" ∷ codes "--page" ∷ codes "--host" ∷ codes "a.example" ∷ codes "--host" ∷ codes "b" ∷ []) (file, work.Serve (record { port = 8080; count = 1000; is_logged = false; page = Some (hosts_of_names (codes "a.example" ∷ codes "b" ∷ [])) }))
+unfolding work_in number_in
+serve_hosts name file h = by_rows (name ∷ codes "serve" ∷ file ∷ codes "8080" ∷ codes "1000" ∷ codes "--page" ∷ codes "--host" ∷ codes "a.example" ∷ codes "--host" ∷ codes "b" ∷ []) (rows_of_serve file (given (codes "page") (codes "true" ∷ []) ∷ given (codes "host") (codes "a.example" ∷ codes "b" ∷ []) ∷ unset (codes "log") ∷ [])) (file, work.Serve (record { port = 8080; count = 1000; is_logged = false; page = Some (hosts_of_names (codes "a.example" ∷ codes "b" ∷ [])) })) (serve_hosts_taken name file h) (serve_hosts_rows name file h) refl
+
+host_alone_rows : (name file : Text) → begins_with_dash file ≡ false → subcommand_of the_program (name ∷ codes "serve" ∷ file ∷ codes "8080" ∷ codes "1000" ∷ codes "--host" ∷ codes "a" ∷ []) ≡ Some (codes "serve", rows_of_serve file (given (codes "host") (codes "a" ∷ []) ∷ unset (codes "log") ∷ unset (codes "page") ∷ []))
+unfolding clap_on_literals
+host_alone_rows name file h = rw (not_dashes file h, not_long file h, not_short file h) (refl {a = Some (codes "serve", rows_of_serve file (given (codes "host") (codes "a" ∷ []) ∷ unset (codes "log") ∷ unset (codes "page") ∷ []))})
+
+host_alone : (name file : Text) → begins_with_dash file ≡ false → Break (name ∷ codes "serve" ∷ file ∷ codes "8080" ∷ codes "1000" ∷ codes "--host" ∷ codes "a" ∷ []) argument.Host
+unfolding work_in number_in
+host_alone name file h = broken_by_rows (name ∷ codes "serve" ∷ file ∷ codes "8080" ∷ codes "1000" ∷ codes "--host" ∷ codes "a" ∷ []) (rows_of_serve file (given (codes "host") (codes "a" ∷ []) ∷ unset (codes "log") ∷ unset (codes "page") ∷ [])) argument.Host (host_alone_rows name file h) refl
+
+host_with_port_rows : (name file : Text) → begins_with_dash file ≡ false → subcommand_of the_program (name ∷ codes "serve" ∷ file ∷ codes "8080" ∷ codes "1000" ∷ codes "--page" ∷ codes "--host" ∷ codes "a:80" ∷ []) ≡ Some (codes "serve", rows_of_serve file (given (codes "page") (codes "true" ∷ []) ∷ given (codes "host") (codes "a:80" ∷ []) ∷ unset (codes "log") ∷ []))
+unfolding clap_on_literals
+host_with_port_rows name file h = rw (not_dashes file h, not_long file h, not_short file h) (refl {a = Some (codes "serve", rows_of_serve file (given (codes "page") (codes "true" ∷ []) ∷ given (codes "host") (codes "a:80" ∷ []) ∷ unset (codes "log") ∷ []))})
+
+host_with_port : (name file : Text) → begins_with_dash file ≡ false → Break (name ∷ codes "serve" ∷ file ∷ codes "8080" ∷ codes "1000" ∷ codes "--page" ∷ codes "--host" ∷ codes "a:80" ∷ []) argument.Host
+unfolding work_in number_in
+host_with_port name file h = broken_by_rows (name ∷ codes "serve" ∷ file ∷ codes "8080" ∷ codes "1000" ∷ codes "--page" ∷ codes "--host" ∷ codes "a:80" ∷ []) (rows_of_serve file (given (codes "page") (codes "true" ∷ []) ∷ given (codes "host") (codes "a:80" ∷ []) ∷ unset (codes "log") ∷ [])) argument.Host (host_with_port_rows name file h) refl
+
+high_host_rows : (name file : Text) → begins_with_dash file ≡ false → subcommand_of the_program (name ∷ codes "serve" ∷ file ∷ codes "8080" ∷ codes "1000" ∷ codes "--page" ∷ codes "--host" ∷ codes "A" ∷ []) ≡ Some (codes "serve", rows_of_serve file (given (codes "page") (codes "true" ∷ []) ∷ given (codes "host") (codes "A" ∷ []) ∷ unset (codes "log") ∷ []))
+unfolding clap_on_literals
+high_host_rows name file h = rw (not_dashes file h, not_long file h, not_short file h) (refl {a = Some (codes "serve", rows_of_serve file (given (codes "page") (codes "true" ∷ []) ∷ given (codes "host") (codes "A" ∷ []) ∷ unset (codes "log") ∷ []))})
+
+high_host : (name file : Text) → begins_with_dash file ≡ false → Break (name ∷ codes "serve" ∷ file ∷ codes "8080" ∷ codes "1000" ∷ codes "--page" ∷ codes "--host" ∷ codes "A" ∷ []) argument.Host
+unfolding work_in number_in
+high_host name file h = broken_by_rows (name ∷ codes "serve" ∷ file ∷ codes "8080" ∷ codes "1000" ∷ codes "--page" ∷ codes "--host" ∷ codes "A" ∷ []) (rows_of_serve file (given (codes "page") (codes "true" ∷ []) ∷ given (codes "host") (codes "A" ∷ []) ∷ unset (codes "log") ∷ [])) argument.Host (high_host_rows name file h) refl
+
+host_wants : (name file : Text) → begins_with_dash file ≡ false → AreWrong (name ∷ codes "serve" ∷ file ∷ codes "8080" ∷ codes "1000" ∷ codes "--page" ∷ codes "--host" ∷ [])
+unfolding clap_on_literals
+host_wants name file h = rw (not_dashes file h, not_long file h, not_short file h) (refl {a = true})
+
+no_port : (name file : Text) → begins_with_dash file ≡ false → AreWrong (name ∷ codes "serve" ∷ file ∷ codes "0" ∷ codes "1" ∷ [])
+unfolding clap_on_literals
+no_port name file h = rw (not_dashes file h, not_long file h, not_short file h) (refl {a = true})
+
+high_port : (name file : Text) → begins_with_dash file ≡ false → AreWrong (name ∷ codes "serve" ∷ file ∷ codes "65536" ∷ codes "1" ∷ [])
+unfolding clap_on_literals
+high_port name file h = rw (not_dashes file h, not_long file h, not_short file h) (refl {a = true})
+
+no_connection : (name file : Text) → begins_with_dash file ≡ false → AreWrong (name ∷ codes "serve" ∷ file ∷ codes "80" ∷ codes "0" ∷ [])
+unfolding clap_on_literals
+no_connection name file h = rw (not_dashes file h, not_long file h, not_short file h) (refl {a = true})
+
+many_connections : (name file : Text) → begins_with_dash file ≡ false → AreWrong (name ∷ codes "serve" ∷ file ∷ codes "80" ∷ codes "1000001" ∷ [])
+unfolding clap_on_literals
+many_connections name file h = rw (not_dashes file h, not_long file h, not_short file h) (refl {a = true})
+
 serve_words : ServeWords
-unfolding clap_on_literals work_in number_in
 serve_words = record {
-  serve_port = λ name file h. rw (not_dashes file h, not_long file h, not_short file h) (refl, refl);
-  serve_logged = λ name file h. rw (not_dashes file h, not_long file h, not_short file h) (refl, refl);
-  no_port = λ name file h. rw (not_dashes file h, not_long file h, not_short file h) refl;
-  high_port = λ name file h. rw (not_dashes file h, not_long file h, not_short file h) refl;
-  no_connection = λ name file h. rw (not_dashes file h, not_long file h, not_short file h) refl;
-  many_connections = λ name file h. rw (not_dashes file h, not_long file h, not_short file h) refl;
+  serve_port = serve_port;
+  serve_logged = serve_logged;
+  serve_page = serve_page;
+  serve_hosts = serve_hosts;
+  host_alone = host_alone;
+  host_with_port = host_with_port;
+  high_host = high_host;
+  host_wants = host_wants;
+  no_port = no_port;
+  high_port = high_port;
+  no_connection = no_connection;
+  many_connections = many_connections;
 }
 
 pub plain_words : PlainWords

@@ -2,7 +2,7 @@
 use Rattle.std.specs.Prelude.{◌≡◌, ℕ, true, false, [], ◌∷◌, Some, codes, pos}
 use Rattle.clap.specs.declared.builder.command.Command.{Command}
 use Rattle.clap.specs.declared.builder.command.Command.TheViews.{out-Command}
-use Rattle.clap.specs.declared.builder.action.ArgAction.TheVariants.{SetTrue}
+use Rattle.clap.specs.declared.builder.action.ArgAction.TheVariants.{Append, SetTrue}
 use Rattle.clap.specs.declared.builder.value_parser.ValueParser.{ValueParser}
 use Rattle.clap.specs.declared.builder.value_parser.ValueParser.TheVariants as parser
 use Rattle.clap.specs.Words.{App, Rule, Text, new_app, new_rule, with_rule, with_subcommand}
@@ -61,6 +61,21 @@ log_rule = record (new_rule (codes "log")) {
   action = Some SetTrue;
 }
 
+-- whether the page is served
+abbrev pub page_rule : Rule
+page_rule = record (new_rule (codes "page")) {
+  long = Some (codes "page");
+  action = Some SetTrue;
+}
+
+-- a further name of a host, which may be given again and again
+abbrev pub host_rule : Rule
+host_rule = record (new_rule (codes "host")) {
+  long = Some (codes "host");
+  action = Some Append;
+  value_names = 1;
+}
+
 -- ---- words
 
 -- a word that takes a file
@@ -76,8 +91,12 @@ trace_app = with_rule (with_rule (word_app (codes "trace")) (required_rule (code
 abbrev pub record_app : App
 record_app = with_rule (word_app (codes "record")) (required_rule (codes "batch"))
 
+-- a port that is served, and how many connections
+abbrev pub port_app : App
+port_app = with_rule (with_rule (with_rule (word_app (codes "serve")) port_rule) count_rule) log_rule
+
 abbrev pub serve_app : App
-serve_app = with_rule (with_rule (with_rule (word_app (codes "serve")) port_rule) count_rule) log_rule
+serve_app = with_rule (with_rule port_app page_rule) host_rule
 
 -- the program's name alone: the word `help` has no meaning of its own
 abbrev pub bare_program : App

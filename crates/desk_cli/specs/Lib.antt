@@ -1,5 +1,6 @@
 pub mod Arguments
 pub mod CommandLine
+pub mod Hosts
 pub mod Meaning
 pub mod PlainWords
 pub mod Taken

@@ -1,10 +1,10 @@
 -- What the words of the command line mean.
-use Rattle.std.specs.Prelude.{◌≡◌, ◌⊎◌, ℕ, ◌&&◌, nat_le, Bool, true, false, List, length, codes, Option, Some, None, Result, Ok, Err, ok_or}
+use Rattle.std.specs.Prelude.{◌≡◌, ◌⊎◌, ℕ, ◌&&◌, nat_le, Bool, true, false, List, [], length, codes, Option, Some, None, Result, Ok, Err, ok_or}
 use Rattle.std.specs.Prelude.{option_and_then, if◌then◌else◌, string_bytes}
 use Rattle.std.specs.List.{list_any}
 use Rattle.std.specs.Str.{all_ascii_digits, bytes_eq}
 use Rattle.std.specs.Str.Parse.{digits_value, without_leading_plus}
-use Rattle.clap.specs.Words.{Kinds, Row, Text, fault_of, first_of, subcommand_of}
+use Rattle.clap.specs.Words.{Kinds, Row, Text, all_of, fault_of, first_of, subcommand_of}
 use Rattle.clap.specs.declared.error.kind.ErrorKind.{ErrorKind}
 use Rattle.clap.specs.declared.error.kind.ErrorKind.TheVariants as kind
 use Rattle.plant_base.specs.Values.{greatest_moment, is_id, is_text, only}
@@ -12,6 +12,8 @@ use Rattle.plant_trace.specs.declared.direction.Direction.{Direction}
 use Rattle.plant_trace.specs.declared.direction.Direction.TheVariants.{Back, Forward}
 use Rattle.desk_cli.specs.Arguments.{name_of, refusal_text}
 use Rattle.desk_cli.specs.CommandLine.{the_program, greatest_port, most_connections}
+use Rattle.desk_cli.specs.Hosts.{hosts_of, hosts_of_names}
+use Rattle.desk_cli.specs.declared.hosts.Hosts.{Hosts}
 use Rattle.desk_cli.specs.declared.argument.Argument.{Argument}
 use Rattle.desk_cli.specs.declared.argument.Argument.TheVariants as argument
 use Rattle.desk_cli.specs.declared.meaning.Words.{Words}
@@ -89,11 +91,28 @@ abbrev pub is_set : Option Text → Bool
 is_set None = false
 is_set (Some text) = bytes_eq text (codes "true")
 
+-- the names of hosts that are given, none where none is
+abbrev pub hosts_given : Option (List Text) → Result Hosts Argument
+hosts_given None = Ok (hosts_of_names [])
+hosts_given (Some texts) = ok_or (hosts_of texts) argument.Host
+
+-- no name is given
+abbrev pub no_hosts_given : Option (List Text) → Result (Option Hosts) Argument
+no_hosts_given None = Ok None
+no_hosts_given (Some texts) = Err argument.Host
+
+-- whether the page is served, and under which further names: these are given with the page alone
+abbrev pub page_in : List Row → Result (Option Hosts) Argument
+page_in rows =
+    if is_set (first_of (codes "page") rows) then (hosts_given (all_of (codes "host") rows) >>= λ hosts. Ok (Some hosts))
+    else no_hosts_given (all_of (codes "host") rows)
+
 abbrev pub serving_in : List Row → Result Serving Argument
 serving_in rows = do
   port ← value_in argument.Port (number_in 1 greatest_port) rows
   count ← value_in argument.Count (number_in 1 most_connections) rows
-  Ok (record { port = port; count = count; is_logged = is_set (first_of (codes "log") rows) })
+  page ← page_in rows
+  Ok (record { port = port; count = count; is_logged = is_set (first_of (codes "log") rows); page = page })
 
 -- ---- words
 

@@ -9,6 +9,7 @@ use Rattle.plant_trace.specs.declared.direction.Direction.TheVariants.{Back, For
 use Rattle.desk_cli.specs.declared.argument.Argument.{Argument}
 use Rattle.desk_cli.specs.declared.argument.Argument.TheVariants as argument
 use Rattle.desk_cli.specs.CommandLine.{the_program}
+use Rattle.desk_cli.specs.Hosts.{hosts_of_names}
 use Rattle.desk_cli.specs.Meaning.{Meant, has_mistake, meant_in}
 use Rattle.desk_cli.specs.declared.meaning.Work.{Work}
 use Rattle.desk_cli.specs.declared.meaning.Work.TheVariants as work
@@ -97,11 +98,27 @@ pub record ImportWords : Type 0 where
 pub record ServeWords : Type 0 where
   pub serve_port : (name file : Text) → begins_with_dash file ≡ false
       → Mean (name ∷ codes "serve" ∷ file ∷ codes "8080" ∷ codes "1000" ∷ [])
-      (file, work.Serve (record { port = 8080; count = 1000; is_logged = false }))
+      (file, work.Serve (record { port = 8080; count = 1000; is_logged = false; page = None }))
   -- each request is noted only where that is asked for
   pub serve_logged : (name file : Text) → begins_with_dash file ≡ false
       → Mean (name ∷ codes "serve" ∷ file ∷ codes "8080" ∷ codes "1000" ∷ codes "--log" ∷ [])
-      (file, work.Serve (record { port = 8080; count = 1000; is_logged = true }))
+      (file, work.Serve (record { port = 8080; count = 1000; is_logged = true; page = None }))
+  -- the page is served where that is asked for, under further names where these are given
+  pub serve_page : (name file : Text) → begins_with_dash file ≡ false
+      → Mean (name ∷ codes "serve" ∷ file ∷ codes "8080" ∷ codes "1000" ∷ codes "--page" ∷ [])
+      (file, work.Serve (record { port = 8080; count = 1000; is_logged = false; page = Some (hosts_of_names []) }))
+  pub serve_hosts : (name file : Text) → begins_with_dash file ≡ false
+      → Mean (name ∷ codes "serve" ∷ file ∷ codes "8080" ∷ codes "1000" ∷ codes "--page" ∷ codes "--host" ∷ codes "a.example" ∷ codes "--host" ∷ codes "b" ∷ [])
+      (file, work.Serve (record { port = 8080; count = 1000; is_logged = false; page = Some (hosts_of_names (codes "a.example" ∷ codes "b" ∷ [])) }))
+  -- a name is given with the page alone, has no port and no upper case, and stands behind its option
+  pub host_alone : (name file : Text) → begins_with_dash file ≡ false
+      → Break (name ∷ codes "serve" ∷ file ∷ codes "8080" ∷ codes "1000" ∷ codes "--host" ∷ codes "a" ∷ []) argument.Host
+  pub host_with_port : (name file : Text) → begins_with_dash file ≡ false
+      → Break (name ∷ codes "serve" ∷ file ∷ codes "8080" ∷ codes "1000" ∷ codes "--page" ∷ codes "--host" ∷ codes "a:80" ∷ []) argument.Host
+  pub high_host : (name file : Text) → begins_with_dash file ≡ false
+      → Break (name ∷ codes "serve" ∷ file ∷ codes "8080" ∷ codes "1000" ∷ codes "--page" ∷ codes "--host" ∷ codes "A" ∷ []) argument.Host
+  pub host_wants : (name file : Text) → begins_with_dash file ≡ false
+      → AreWrong (name ∷ codes "serve" ∷ file ∷ codes "8080" ∷ codes "1000" ∷ codes "--page" ∷ codes "--host" ∷ [])
   -- ports are 1 to 65535, and connections 1 to 1000000
   pub no_port : (name file : Text) → begins_with_dash file ≡ false
       → AreWrong (name ∷ codes "serve" ∷ file ∷ codes "0" ∷ codes "1" ∷ [])

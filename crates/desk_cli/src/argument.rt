@@ -27,6 +27,8 @@ pub enum Argument {
     Port,
     /// How many connections `serve` takes, whose range clap sees to.
     Count,
+    /// A name under which `serve` takes requests beside the page.
+    Host,
 }
 
 impl Argument {
@@ -45,6 +47,7 @@ impl Argument {
             Argument::Batch => "batch",
             Argument::Port => "port",
             Argument::Count => "count",
+            Argument::Host => "host",
         }
     }
 }
@@ -69,6 +72,9 @@ impl fmt::Display for Argument {
             Argument::Batch => "BATCH is 1 to 24 of A to Z, 0 to 9 and -, the first a letter",
             Argument::Port => "PORT is a whole number from 1 to 65535",
             Argument::Count => "COUNT is a whole number from 1 to 1000000",
+            Argument::Host => {
+                "NAME of --host is 1 to 60 of a to z, 0 to 9, - and ., the first no - and no .; 8 of them at most, and only with --page"
+            }
         })
     }
 }

@@ -29,6 +29,8 @@ impl CheckFault {
     }
 }
 
+impl std::error::Error for CheckFault {}
+
 impl fmt::Display for CheckFault {
     ghost output = { λ fault. Some (fault_text fault) };
 

@@ -1,7 +1,7 @@
 //! The command line, as clap is told it.
 ghost use Rattle.std.specs.Prelude.{◌≡◌, IfOk, codes, false};
-ghost use Rattle.clap.specs.Words.{app_of, rule_of, shape_of, with_subcommand};
-ghost use Rattle.desk_cli.specs.CommandLine.{bare_program, import_app, count_rule, log_rule, port_rule, record_app};
+ghost use Rattle.clap.specs.Words.{app_of, rule_of, shape_of, with_rule, with_subcommand};
+ghost use Rattle.desk_cli.specs.CommandLine.{bare_program, import_app, count_rule, host_rule, log_rule, page_rule, port_app, port_rule, record_app};
 ghost use Rattle.desk_cli.specs.CommandLine.{serve_app, the_program, trace_app, required_rule, word_app};
 ghost use Rattle.desk_cli.specs.CommandLine.{at_rule, by_rule, reference_rule, with_taking, with_report_words};
 ghost use Rattle.desk_cli.specs.CommandLine.{IsLocal};
@@ -75,6 +75,31 @@ fn log_argument<'a>(alloc: Global) -> Arg<'a>
         .long("log")
         .action(ArgAction::SetTrue)
         .help("Note each request on standard error, in a line of its own")
+}
+
+/// `--page`, whether `serve` serves the page.
+fn page_argument<'a>(alloc: Global) -> Arg<'a>
+    ensures rule { rule_of result ≡ page_rule }
+    ensures local { result.global ≡ false }
+{
+    Arg::new(alloc, "page")
+        .long("page")
+        .action(ArgAction::SetTrue)
+        .help("Serve the page for browsers at /, to this machine's own browsers alone")
+}
+
+/// `--host NAME`, a further name of a host under which the page is served.
+fn host_argument<'a>(alloc: Global) -> Arg<'a>
+    ensures rule { rule_of result ≡ host_rule }
+    ensures local { result.global ≡ false }
+{
+    Arg::new(alloc, "host")
+        .long("host")
+        .value_name("NAME")
+        .action(ArgAction::Append)
+        .help(
+            "With --page: a further name of this host, under which a proxy on it hands requests on; up to 8 times",
+        )
 }
 
 /// The word `name`, which takes the name of a file alone.
@@ -182,20 +207,38 @@ fn record_command<'a>(alloc: Global) -> Result<Command<'a>, AllocError>
     .arg(batch)
 }
 
-/// The word `serve`.
-fn serve_command<'a>(alloc: Global) -> Result<Command<'a>, AllocError>
-    ensures app { IfOk result (λ c. app_of c ≡ serve_app) }
+/// The word `serve` without the arguments about the page.
+fn port_command<'a>(alloc: Global) -> Result<Command<'a>, AllocError>
+    ensures app { IfOk result (λ c. app_of c ≡ port_app) }
     ensures local { IfOk result (λ c. IsLocal c) }
 {
     word_command(
         alloc,
         "serve",
         "Answer requests of HTTP/1.1 on 127.0.0.1",
-        "Example: desk serve plant.db 8080 1000\nThen: curl http://127.0.0.1:8080/v1/desk",
+        "Example: desk serve plant.db 8080 1000\nThen: curl http://127.0.0.1:8080/v1/desk\n\
+For browsers: desk serve plant.db 8080 1000000 --page\nThen open http://127.0.0.1:8080/",
     )?
     .arg(port_argument(alloc))?
     .arg(count_argument(alloc))?
     .arg(log_argument(alloc))
+}
+
+/// The word with the arguments about the page as well.
+fn with_page<'a>(alloc: Global, word: Command<'a>) -> Result<Command<'a>, AllocError>
+    requires { IsLocal word }
+    ensures app { IfOk result (λ c. app_of c ≡ with_rule (with_rule (app_of word.entry) page_rule) host_rule) }
+    ensures local { IfOk result (λ c. IsLocal c) }
+{
+    word.arg(page_argument(alloc))?.arg(host_argument(alloc))
+}
+
+/// The word `serve`.
+fn serve_command<'a>(alloc: Global) -> Result<Command<'a>, AllocError>
+    ensures app { IfOk result (λ c. app_of c ≡ serve_app) }
+    ensures local { IfOk result (λ c. IsLocal c) }
+{
+    with_page(alloc, port_command(alloc)?)
 }
 
 /// The program with no word.

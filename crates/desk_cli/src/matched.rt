@@ -1,12 +1,15 @@
 //! What the words of the command line mean, as clap matched them.
-ghost use Rattle.std.specs.Prelude.{◌≡◌};
-ghost use Rattle.clap.specs.Words.{first_of, found_of, rows_of, subcommand_rows_of};
-ghost use Rattle.desk_cli.specs.Meaning.{all_meant, import_in, is_set, meant_by, meant_in, record_in, serving_in};
+ghost use Rattle.std.specs.Prelude.{◌≡◌, codes};
+ghost use Rattle.clap.specs.Words.{all_of, first_of, found_of, rows_of, subcommand_rows_of};
+ghost use Rattle.desk_cli.specs.Meaning.{all_meant, hosts_given, import_in, is_set, meant_by, meant_in, page_in, record_in, serving_in};
 ghost use Rattle.desk_cli.specs.Meaning.{task_work, trace_in, work_in};
 
 use crate::argument::Argument;
+use crate::hosts::{Hosts, hosts_of};
 use crate::meaning::{Serving, Task, Words, Work};
-use crate::values::{direction_at, id_at, moment_at, number_at, optional_id_at, text_at, value_of};
+use crate::values::{
+    direction_at, id_at, moment_at, number_at, optional_id_at, text_at, value_of, values_of,
+};
 use clap::ArgMatches;
 
 /// The name of the file that stands for memory.
@@ -55,16 +58,44 @@ pub(crate) fn is_set(matches: &ArgMatches<'_>, name: &str) -> bool
     }
 }
 
+/// The names of hosts that are given, none where none is.
+fn hosts_given(matches: &ArgMatches<'_>) -> Result<Hosts, Argument>
+    ensures { result ≡ hosts_given (all_of (codes "host") (rows_of (found_of matches.now))) }
+{
+    match values_of(matches, "host") {
+        Some(texts) => hosts_of(texts).ok_or(Argument::Host),
+        None => Ok(Hosts::none()),
+    }
+}
+
+/// Whether the page is served, and under which further names. Names are given with the page alone.
+fn page_in(matches: &ArgMatches<'_>) -> Result<Option<Hosts>, Argument>
+    ensures { result ≡ page_in (rows_of (found_of matches.now)) }
+{
+    if is_set(matches, "page") {
+        return match hosts_given(matches) {
+            Ok(hosts) => Ok(Some(hosts)),
+            Err(argument) => Err(argument),
+        };
+    }
+    match values_of(matches, "host") {
+        Some(_) => Err(Argument::Host),
+        None => Ok(None),
+    }
+}
+
 /// The serving that the arguments tell.
 fn serving_in(matches: &ArgMatches<'_>) -> Result<Serving, Argument>
     ensures { result ≡ serving_in (rows_of (found_of matches.now)) }
 {
     let port = number_at(matches, Argument::Port, 1, u64::from(GREATEST_PORT))?;
     let count = number_at(matches, Argument::Count, 1, u64::from(MOST_CONNECTIONS))?;
+    let page = page_in(matches)?;
     Ok(Serving {
         port: port as u16,
         count: count as u32,
         is_logged: is_set(matches, "log"),
+        page,
     })
 }
 

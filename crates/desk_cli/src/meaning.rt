@@ -1,6 +1,7 @@
 //! What the program is told to do.
 ghost use Rattle.std.specs.Prelude.{◌≡◌};
 
+use crate::hosts::Hosts;
 use plant_base::{Id, Moment, Text};
 use plant_trace::Direction;
 use thiserror::Error;
@@ -64,6 +65,8 @@ pub struct Serving {
     pub count: u32,
     /// Whether each request is noted on standard error.
     pub is_logged: bool,
+    /// Where the page is served: the names of hosts under which it is, beside those of this machine.
+    pub page: Option<Hosts>,
 }
 
 /// Why the words tell nothing to do.

@@ -1,12 +1,16 @@
 //! What the words tell, done over the file that they name.
-ghost use Rattle.std.specs.Prelude.{◌≡◌};
+ghost use Rattle.std.specs.Prelude.{◌≡◌, ◌≢◌};
+ghost use Rattle.sqlite.specs.Steps.{over_memory};
+ghost use Rattle.desk_file.specs.Working.{in_memory};
 ghost use Rattle.desk_program.specs.Performs.{after_closing};
+ghost use Rattle.desk.specs.Worked.{ExitsOver};
 
 use crate::working::do_work;
 use desk_cli::{Words, Work};
 use desk_file::{Ended, StoreWork, Worked, work_over};
 use desk_program::{Fault, Performed, after_closing, write_opening, write_outcome};
-use sqlite::{Alter, Connection, Start};
+use sqlite::{Alter, Connection, FileFrom, FileStore, Start};
+use sqlite_trees::store::Store;
 
 /// The work that the words tell.
 #[derive(Clone, Copy)]
@@ -38,7 +42,11 @@ impl StoreWork for DeskWork {
 /// Opens the file that the words name, does over it what they tell, and closes it. Gives the exit status.
 ///
 /// `start` stands for what the file holds before it is opened, whatever that is.
-pub(crate) fn perform_over<S: Start>(rt: &HostRuntime, words: &Words<'_>, start: S) -> u8 {
+pub(crate) fn perform_over<S: Start>(rt: &HostRuntime, words: &Words<'_>, start: S) -> u8
+    ensures memory { words.now.file.now ≡ in_memory → ExitsOver over_memory words.now.work result }
+    ensures file { words.now.file.now ≢ in_memory
+        → ExitsOver ⟦<FileStore<FileFrom<S>> as Store>⟧ words.now.work result }
+{
     match work_over(rt, words.file, start, DeskWork(words.work)) {
         Ok(ended) => write_outcome(outcome_of(ended), &mut rt.stderr()),
         Err(refused) => write_opening(&refused.error, &mut rt.stderr()),

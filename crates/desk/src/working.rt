@@ -2,14 +2,16 @@
 ghost use Rattle.std.specs.Prelude.{◌≡◌, false, Err, IfErr, OnErr, OnOk};
 ghost use Rattle.sqlite.specs.Held.{state};
 ghost use Rattle.desk.specs.Served.{outcome_of};
-ghost use Rattle.desk.specs.Worked.{DeskServes, ServingGives, WorkGives};
+ghost use Rattle.desk.specs.Worked.{DeskServes, IsProfileOf, ServingGives, WorkGives};
 ghost use Rattle.desk_program.specs.Runs.{WasHonest};
 ghost use Rattle.desk_server.specs.Serving.{EndsServing, ServesAtMost};
+ghost use Rattle.plant_http_requests.specs.declared.profile.Profile.{Profile};
 
-use desk_cli::{Serving, Work};
+use desk_cli::{Hosts, Serving, Work};
 use desk_program::{Fault, Performed, adopt, perform_task, performed_of};
 use desk_server::{AccessLog, ServingFault, listen_at, local_at, serve_listener};
 use plant_desk_store::Desk;
+use plant_http_requests::Profile;
 use sqlite::{Alter, Connection};
 use std::io;
 use std::net::TcpListener;
@@ -44,7 +46,7 @@ fn serve_store<S: Alter + Drop>(
     connection: Connection<S>,
 ) -> Performed<S>
     requires { (state S.Store connection).in_transaction ≡ false }
-    ensures gives { ServingGives serving.count (state S.Store connection)
+    ensures gives { ServingGives serving (state S.Store connection)
         (state S.Store result.connection) result.outcome }
     ensures honest { WasHonest (state S.Store connection) (state S.Store result.connection) }
 {
@@ -61,7 +63,7 @@ fn serve_desk<S: Alter + Drop>(
     mut desk: Desk<S>,
 ) -> Performed<S>
     requires { desk.is_shut ≡ false }
-    ensures served { DeskServes serving.count (state S.Store desk.connection)
+    ensures served { DeskServes serving (state S.Store desk.connection)
         (state S.Store result.connection) result.outcome }
     ensures honest { WasHonest (state S.Store desk.connection) (state S.Store result.connection) }
 {
@@ -93,6 +95,28 @@ fn log_of(rt: &HostRuntime, is_logged: bool) -> AccessLog<'_> {
     }
 }
 
+/// Which requests are served: where the page is, those of its own pages and of programs of this machine, under its names and these.
+fn profile_of(page: &Option<Hosts>) -> Profile<'_>
+    ensures { IsProfileOf page.now result }
+{
+    match page {
+        Some(hosts) => Profile::Page {
+            hosts: hosts.as_slice(),
+        },
+        None => Profile::Open,
+    }
+}
+
+/// Tells that the port is listened on: of the page under its address, and else where requests are noted.
+fn note_listening(rt: &HostRuntime, serving: &Serving, log: AccessLog<'_>) {
+    let port = serving.port;
+    if serving.page.is_some() {
+        let _ = eprintln!(rt; "serving http://127.0.0.1:{port}/");
+    } else {
+        log.note_serving(port);
+    }
+}
+
 /// Listens on the port of 127.0.0.1, and serves the connections that come in.
 fn serve_at<S: Alter + Drop>(
     rt: &HostRuntime,
@@ -101,21 +125,24 @@ fn serve_at<S: Alter + Drop>(
 ) -> Result<(), ServingFault>
     requires { desk.old.is_shut ≡ false }
     ensures ends { EndsServing desk.new.is_shut result }
-    ensures serves { ServesAtMost S.Store serving.count desk.old desk.new }
+    ensures serves { (profile : Profile) × IsProfileOf serving.page profile
+        × ServesAtMost S.Store profile serving.count desk.old desk.new }
     ensures honest { WasHonest (state S.Store desk.old.connection) (state S.Store desk.new.connection) }
 {
     let log = log_of(rt, serving.is_logged);
     let listening = listen_at(rt, local_at(serving.port));
     if listening.is_ok() {
-        log.note_serving(serving.port);
+        note_listening(rt, &serving, log);
     }
-    serve_listening(rt, listening, serving.count, desk, log)
+    let profile = profile_of(&serving.page);
+    serve_listening(rt, listening, profile, serving.count, desk, log)
 }
 
 /// Serves the connections that come in where a port is listened on. The fault of one that isn't is handed on.
 fn serve_listening<S: Alter + Drop>(
     rt: &HostRuntime,
     listening: Result<TcpListener, ServingFault>,
+    profile: Profile<'_>,
     count: u32,
     desk: &mut Desk<S>,
     log: AccessLog<'_>,
@@ -124,11 +151,11 @@ fn serve_listening<S: Alter + Drop>(
     ensures ends { OnOk listening (EndsServing desk.new.is_shut result) }
     ensures fault { IfErr listening (λ fault. result ≡ Err fault) }
     ensures unchanged { OnErr listening (desk.new ≡ desk.old) }
-    ensures serves { ServesAtMost S.Store count desk.old desk.new }
+    ensures serves { ServesAtMost S.Store profile.entry count desk.old desk.new }
     ensures honest { WasHonest (state S.Store desk.old.connection) (state S.Store desk.new.connection) }
 {
     match listening {
-        Ok(listener) => serve_listener(rt, rt.alloc(), &listener, count, desk, log),
+        Ok(listener) => serve_listener(rt, rt.alloc(), &listener, profile, count, desk, log),
         Err(fault) => Err(fault),
     }
 }

@@ -1,1 +1,2 @@
 pub mod ServedRequests
+mod MarkedWaiters

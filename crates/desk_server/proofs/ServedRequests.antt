@@ -14,6 +14,7 @@ use Rattle.plant_text.specs.CrashStates.{RepresentsDurably, RepresentsEither}
 use Rattle.plant_text.specs.Session.{Entry, nothing, bad, command, question, after, fold, CrashStatesOfFault, CrashStatesOfStoreFault}
 use Rattle.plant_text.proofs.RunCrashStates.{CrashStateIsOwn}
 use Rattle.plant_http_requests.specs.declared.job.Job.{Job}
+use Rattle.plant_http_requests.specs.declared.profile.Profile.{Profile}
 use Rattle.plant_http.specs.Answers.{Out}
 use Rattle.plant_http.specs.Serving.{entry_of, AnswersBy, Performs, Serves}
 use Rattle.plant_http.specs.declared.serve.Served.{Served}
@@ -24,78 +25,78 @@ use Rattle.desk_server.specs.Serving.{Asked, entries, HasServed, ServesAtMost, I
 
 -- ---- one connection
 
-pub open_served : (most : ℕ) (s : State) (represents : States) (shut : Bool) (crash_states : States → Type 0) (jobs : List Asked) → shut ≡ false → length jobs ≤ most
-    → RepresentsDurably represents crash_states (fold s (entries jobs)) → HasServed most s represents shut crash_states
-open_served most s represents false crash_states jobs is_live few alone = (jobs, few, alone)
-open_served most s represents true crash_states jobs is_live few alone = absurd (cc)
+pub open_served : (profile : Profile) (most : ℕ) (s : State) (represents : States) (shut : Bool) (crash_states : States → Type 0) (jobs : List (Asked profile)) → shut ≡ false → length jobs ≤ most
+    → RepresentsDurably represents crash_states (fold s (entries jobs)) → HasServed profile most s represents shut crash_states
+open_served profile most s represents false crash_states jobs is_live few alone = (jobs, few, alone)
+open_served profile most s represents true crash_states jobs is_live few alone = absurd (cc)
 
 -- a fault of the store at a job that was this to the keeper
-store_served : (s : State) (a : Asked) (e : Entry) → entry_of a.job ≡ e → (represents : States) (shut : Bool) (crash_states : States → Type 0) → CrashStateIsOwn represents shut crash_states
-    → represents s → CrashStatesOfStoreFault s e shut crash_states → HasServed 1 s represents shut crash_states
-store_served s a nothing is represents shut crash_states law same left = absurd left
-store_served s a bad is represents shut crash_states law same left = absurd left
-store_served s a (command c) is represents true crash_states law same (closed, either) = ([], a, omega arith, (same, rw is either))
-store_served s a (command c) is represents false crash_states law same (closed, either) = absurd (cc)
-store_served s a (question q) is represents shut crash_states law same is_live = open_served 1 s represents shut crash_states [] is_live (omega arith) (same, law is_live s same)
+store_served : (profile : Profile) (s : State) (a : Asked profile) (e : Entry) → entry_of a.job ≡ e → (represents : States) (shut : Bool) (crash_states : States → Type 0) → CrashStateIsOwn represents shut crash_states
+    → represents s → CrashStatesOfStoreFault s e shut crash_states → HasServed profile 1 s represents shut crash_states
+store_served profile s a nothing is represents shut crash_states law same left = absurd left
+store_served profile s a bad is represents shut crash_states law same left = absurd left
+store_served profile s a (command c) is represents true crash_states law same (closed, either) = ([], a, omega arith, (same, rw is either))
+store_served profile s a (command c) is represents false crash_states law same (closed, either) = absurd (cc)
+store_served profile s a (question q) is represents shut crash_states law same is_live = open_served profile 1 s represents shut crash_states [] is_live (omega arith) (same, law is_live s same)
 
-fault_served : (f : DeskFault) (s : State) (a : Asked) (represents : States) (shut : Bool) (crash_states : States → Type 0) → CrashStateIsOwn represents shut crash_states
-    → CrashStatesOfFault f s (entry_of a.job) represents shut crash_states → HasServed 1 s represents shut crash_states
-fault_served Store s a represents shut crash_states law (same, left) = store_served s a (entry_of a.job) refl represents shut crash_states law same left
-fault_served Memory s a represents shut crash_states law (same, is_live) = open_served 1 s represents shut crash_states [] is_live (omega arith) (same, law is_live s same)
-fault_served Shut s a represents shut crash_states law left = absurd left
+fault_served : (profile : Profile) (f : DeskFault) (s : State) (a : Asked profile) (represents : States) (shut : Bool) (crash_states : States → Type 0) → CrashStateIsOwn represents shut crash_states
+    → CrashStatesOfFault f s (entry_of a.job) represents shut crash_states → HasServed profile 1 s represents shut crash_states
+fault_served profile Store s a represents shut crash_states law (same, left) = store_served profile s a (entry_of a.job) refl represents shut crash_states law same left
+fault_served profile Memory s a represents shut crash_states law (same, is_live) = open_served profile 1 s represents shut crash_states [] is_live (omega arith) (same, law is_live s same)
+fault_served profile Shut s a represents shut crash_states law left = absurd left
 
-job_served : (k : ℕ) (s : State) (a : Asked) (out : Out) (represents : States) (shut : Bool) (crash_states : States → Type 0) → CrashStateIsOwn represents shut crash_states
-    → Performs k s a.job out represents shut crash_states → HasServed 1 s represents shut crash_states
-job_served k s a out represents shut crash_states law (inl (is, alone, is_live)) = open_served 1 s represents shut crash_states (a ∷ []) is_live (omega arith) alone
-job_served k s a out represents shut crash_states law (inr (f, may, is, left, at_fault)) = fault_served f s a represents shut crash_states law left
+job_served : (profile : Profile) (k : ℕ) (s : State) (a : Asked profile) (out : Out) (represents : States) (shut : Bool) (crash_states : States → Type 0) → CrashStateIsOwn represents shut crash_states
+    → Performs k s a.job out represents shut crash_states → HasServed profile 1 s represents shut crash_states
+job_served profile k s a out represents shut crash_states law (inl (is, alone, is_live)) = open_served profile 1 s represents shut crash_states (a ∷ []) is_live (omega arith) alone
+job_served profile k s a out represents shut crash_states law (inr (f, may, is, left, at_fault)) = fault_served profile f s a represents shut crash_states law left
 
-pub one_served : (k : ℕ) (s : State) (whole : List ℕ) (old new : Option (List ℕ)) (represents : States) (shut : Bool) (crash_states : States → Type 0) (r : Result Served ServeFault)
-    → CrashStateIsOwn represents shut crash_states → Serves k s whole old new represents shut crash_states r → HasServed 1 s represents shut crash_states
-one_served k s whole old new represents shut crash_states (Ok Nothing) law (none, h) = open_served 1 s represents shut crash_states [] h.is_live (omega arith) h.state
-one_served k s whole old new represents shut crash_states (Ok (Answered code)) law (job, asks, out, did, wrote) =
-    job_served k s (record { input = whole; job = job; asks = asks }) out represents shut crash_states law did
-one_served k s whole old new represents shut crash_states (Err end.Write) law (job, asks, out, did, wrote) =
-    job_served k s (record { input = whole; job = job; asks = asks }) out represents shut crash_states law did
-one_served k s whole old new represents shut crash_states (Err end.Read) law h = open_served 1 s represents shut crash_states [] h.is_live (omega arith) h.state
-one_served k s whole old new represents shut crash_states (Err end.Endless) law (h, many) = open_served 1 s represents shut crash_states [] h.is_live (omega arith) h.state
-one_served k s whole old new represents shut crash_states (Err end.Memory) law h = open_served 1 s represents shut crash_states [] h.is_live (omega arith) h.state
+pub one_served : (profile : Profile) (k : ℕ) (s : State) (whole : List ℕ) (old new : Option (List ℕ)) (represents : States) (shut : Bool) (crash_states : States → Type 0) (r : Result Served ServeFault)
+    → CrashStateIsOwn represents shut crash_states → Serves profile k s whole old new represents shut crash_states r → HasServed profile 1 s represents shut crash_states
+one_served profile k s whole old new represents shut crash_states (Ok Nothing) law (none, h) = open_served profile 1 s represents shut crash_states [] h.is_live (omega arith) h.state
+one_served profile k s whole old new represents shut crash_states (Ok (Answered code)) law (job, asks, out, did, wrote) =
+    job_served profile k s (record { input = whole; job = job; asks = asks }) out represents shut crash_states law did
+one_served profile k s whole old new represents shut crash_states (Err end.Write) law (job, asks, out, did, wrote) =
+    job_served profile k s (record { input = whole; job = job; asks = asks }) out represents shut crash_states law did
+one_served profile k s whole old new represents shut crash_states (Err end.Read) law h = open_served profile 1 s represents shut crash_states [] h.is_live (omega arith) h.state
+one_served profile k s whole old new represents shut crash_states (Err end.Endless) law (h, many) = open_served profile 1 s represents shut crash_states [] h.is_live (omega arith) h.state
+one_served profile k s whole old new represents shut crash_states (Err end.Memory) law h = open_served profile 1 s represents shut crash_states [] h.is_live (omega arith) h.state
 
 -- ---- one connection more
 
-fold_more : (jobs : List Asked) (s : State) (more : List Asked) → fold s (entries (jobs ++ more)) ≡ fold (fold s (entries jobs)) (entries more)
-fold_more [] s more = refl
-fold_more (a ∷ jobs) s more = fold_more jobs (after s (entry_of a.job)) more
+fold_more : (profile : Profile) (jobs : List (Asked profile)) (s : State) (more : List (Asked profile)) → fold s (entries (jobs ++ more)) ≡ fold (fold s (entries jobs)) (entries more)
+fold_more profile [] s more = refl
+fold_more profile (a ∷ jobs) s more = fold_more profile jobs (after s (entry_of a.job)) more
 
-pub more_served : (made n most : ℕ) (s : State) (jobs : List Asked) (represents : States) (shut : Bool) (crash_states : States → Type 0) → length jobs ≤ made → made + n ≤ most
-    → HasServed n (fold s (entries jobs)) represents shut crash_states → HasServed most s represents shut crash_states
-more_served made n most s jobs represents false crash_states few room (more, one, alone) =
-    (jobs ++ more, omega (arith, few, room, one, length-append jobs more), rw (fold_more jobs s more) alone)
-more_served made n most s jobs represents true crash_states few room (more, last, one, either) =
-    (jobs ++ more, last, omega (arith, few, room, one, length-append jobs more), rw (fold_more jobs s more) either)
+pub more_served : (profile : Profile) (made n most : ℕ) (s : State) (jobs : List (Asked profile)) (represents : States) (shut : Bool) (crash_states : States → Type 0) → length jobs ≤ made → made + n ≤ most
+    → HasServed profile n (fold s (entries jobs)) represents shut crash_states → HasServed profile most s represents shut crash_states
+more_served profile made n most s jobs represents false crash_states few room (more, one, alone) =
+    (jobs ++ more, omega (arith, few, room, one, length-append jobs more), rw (fold_more profile jobs s more) alone)
+more_served profile made n most s jobs represents true crash_states few room (more, last, one, either) =
+    (jobs ++ more, last, omega (arith, few, room, one, length-append jobs more), rw (fold_more profile jobs s more) either)
 
 -- so many and so many more, by a keeper that was open in between
-pub then_served : (made n most : ℕ) (s : State) (represents now : States) (before shut : Bool) (crash_states left : States → Type 0) → before ≡ false → made + n ≤ most
-    → HasServed made s represents before crash_states → ((t : State) → represents t → HasServed n t now shut left) → HasServed most s now shut left
-then_served made n most s represents now false shut crash_states left is_live room (jobs, few, alone) one =
-    more_served made n most s jobs now shut left few room (one (fold s (entries jobs)) alone.0)
-then_served made n most s represents now true shut crash_states left is_live room h one = absurd (cc)
+pub then_served : (profile : Profile) (made n most : ℕ) (s : State) (represents now : States) (before shut : Bool) (crash_states left : States → Type 0) → before ≡ false → made + n ≤ most
+    → HasServed profile made s represents before crash_states → ((t : State) → represents t → HasServed profile n t now shut left) → HasServed profile most s now shut left
+then_served profile made n most s represents now false shut crash_states left is_live room (jobs, few, alone) one =
+    more_served profile made n most s jobs now shut left few room (one (fold s (entries jobs)) alone.0)
+then_served profile made n most s represents now true shut crash_states left is_live room h one = absurd (cc)
 
-fewer_served : (made most : ℕ) (s : State) (represents : States) (shut : Bool) (crash_states : States → Type 0) → made ≤ most → HasServed made s represents shut crash_states → HasServed most s represents shut crash_states
-fewer_served made most s represents false crash_states room (jobs, few, alone) = (jobs, omega (arith, few, room), alone)
-fewer_served made most s represents true crash_states room (jobs, last, few, either) = (jobs, last, omega (arith, few, room), either)
+fewer_served : (profile : Profile) (made most : ℕ) (s : State) (represents : States) (shut : Bool) (crash_states : States → Type 0) → made ≤ most → HasServed profile made s represents shut crash_states → HasServed profile most s represents shut crash_states
+fewer_served profile made most s represents false crash_states room (jobs, few, alone) = (jobs, omega (arith, few, room), alone)
+fewer_served profile made most s represents true crash_states room (jobs, last, few, either) = (jobs, last, omega (arith, few, room), either)
 
 -- ---- the connections of a desk
 
-pub desk_unasked : {S : Type 0} (g : Ghosts S) (most : ℕ) (d : Desk S g) → d.is_shut ≡ false → ServesAtMost g most d d
-desk_unasked g most d is_live = λ clean s represented.
-    open_served most s (Represents (state g d.connection) d.is_shut) d.is_shut (λ states. HasCrashStates (state g d.connection) states) [] is_live (omega arith) (represented, represented.1 is_live)
+pub desk_unasked : {S : Type 0} (g : Ghosts S) (profile : Profile) (most : ℕ) (d : Desk S g) → d.is_shut ≡ false → ServesAtMost g profile most d d
+desk_unasked g profile most d is_live = λ clean s represented.
+    open_served profile most s (Represents (state g d.connection) d.is_shut) d.is_shut (λ states. HasCrashStates (state g d.connection) states) [] is_live (omega arith) (represented, represented.1 is_live)
 
-pub desk_fewer : {S : Type 0} (g : Ghosts S) (made most : ℕ) (a b : Desk S g) → made ≤ most → ServesAtMost g made a b → ServesAtMost g most a b
-desk_fewer g made most a b room first = λ clean s represented.
-    fewer_served made most s (Represents (state g b.connection) b.is_shut) b.is_shut (λ states. HasCrashStates (state g b.connection) states) room (first clean s represented)
+pub desk_fewer : {S : Type 0} (g : Ghosts S) (profile : Profile) (made most : ℕ) (a b : Desk S g) → made ≤ most → ServesAtMost g profile made a b → ServesAtMost g profile most a b
+desk_fewer g profile made most a b room first = λ clean s represented.
+    fewer_served profile made most s (Represents (state g b.connection) b.is_shut) b.is_shut (λ states. HasCrashStates (state g b.connection) states) room (first clean s represented)
 
-pub desk_more : {S : Type 0} (g : Ghosts S) (made n most : ℕ) (a b c : Desk S g) → b.is_shut ≡ false → made + n ≤ most → IsSameStore g b c → ServesAtMost g made a b
-    → ServesAtMost g n b c → ServesAtMost g most a c
-desk_more g made n most a b c is_live room same first more = λ clean s represented.
-    then_served made n most s (Represents (state g b.connection) b.is_shut) (Represents (state g c.connection) c.is_shut) b.is_shut c.is_shut
+pub desk_more : {S : Type 0} (g : Ghosts S) (profile : Profile) (made n most : ℕ) (a b c : Desk S g) → b.is_shut ≡ false → made + n ≤ most → IsSameStore g b c → ServesAtMost g profile made a b
+    → ServesAtMost g profile n b c → ServesAtMost g profile most a c
+desk_more g profile made n most a b c is_live room same first more = λ clean s represented.
+    then_served profile made n most s (Represents (state g b.connection) b.is_shut) (Represents (state g c.connection) c.is_shut) b.is_shut c.is_shut
     (λ states. HasCrashStates (state g b.connection) states) (λ states. HasCrashStates (state g c.connection) states) is_live room (first (same.honest clean) s represented) (λ t represents. more clean t represents)

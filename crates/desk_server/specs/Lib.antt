@@ -1,3 +1,4 @@
 pub mod Serving
 pub mod Noting
 pub mod Waiting
+pub mod Deadline

@@ -12,6 +12,7 @@ use Rattle.plant_text.specs.CrashStates.{RepresentsDurably, RepresentsEither}
 use Rattle.plant_text.specs.Session.{Entry, fold}
 use Rattle.plant_http_requests.specs.Jobs.{JobOf}
 use Rattle.plant_http_requests.specs.declared.job.Job.{Job}
+use Rattle.plant_http_requests.specs.declared.profile.Profile.{Profile}
 use Rattle.plant_http.specs.Serving.{entry_of}
 use Rattle.plant_http.specs.declared.serve.Served.{Served}
 use Rattle.plant_http.specs.declared.serve.Served.TheVariants.{Answered, Nothing}
@@ -25,28 +26,28 @@ status_of (Ok (Answered status)) = Some status
 status_of (Ok Nothing) = None
 status_of (Err f) = None
 
--- an input of a connection, and the job that it asks for
-pub record Asked : Type 0 where
+-- an input of a connection, and the job that it asks for of a server of this profile
+pub record Asked (profile : Profile) : Type 0 where
   pub input : List ℕ
   pub job : Job
-  pub asks : JobOf input (Some job)
+  pub asks : JobOf profile input (Some job)
 
-abbrev pub entries : List Asked → List Entry
-entries jobs = map (λ (a : Asked). entry_of a.job) jobs
+abbrev pub entries : {profile : Profile} → List (Asked profile) → List Entry
+entries {profile} jobs = map (λ (a : Asked profile). entry_of a.job) jobs
 
--- A keeper that stood at s has served at most so many connections. It stands where the jobs lead that it has done, each once
+-- A keeper that stood at s has served at most so many connections, as this profile says. It stands where the jobs lead that it has done, each once
 -- and in their order, and a stop leaves that state and no other; jobs in whose place a fault was answered are not among them.
 -- Where it is shut, a fault of its store came at a further job: a stop leaves the state before it or the state after it.
-abbrev pub HasServed : ℕ → State → States → Bool → (States → Type 0) → Type 0
-HasServed most s represents false crash_states = (jobs : List Asked) × (length jobs ≤ most) × RepresentsDurably represents crash_states (fold s (entries jobs))
-HasServed most s represents true crash_states =
-    (jobs : List Asked) × (last : Asked) × (length jobs < most) × RepresentsEither represents crash_states (fold s (entries jobs)) (entry_of last.job)
+abbrev pub HasServed : Profile → ℕ → State → States → Bool → (States → Type 0) → Type 0
+HasServed profile most s represents false crash_states = (jobs : List (Asked profile)) × (length jobs ≤ most) × RepresentsDurably represents crash_states (fold s (entries jobs))
+HasServed profile most s represents true crash_states =
+    (jobs : List (Asked profile)) × (last : Asked profile) × (length jobs < most) × RepresentsEither represents crash_states (fold s (entries jobs)) (entry_of last.job)
 
 -- the same of a desk over a store that has kept its word, at each state that it stood at
-abbrev pub ServesAtMost : {S : Type 0} (g : Ghosts S) → ℕ → Desk S g → Desk S g → Type 0
-ServesAtMost {S} g most old new =
+abbrev pub ServesAtMost : {S : Type 0} (g : Ghosts S) → Profile → ℕ → Desk S g → Desk S g → Type 0
+ServesAtMost {S} g profile most old new =
     HasCleanDisk (state g new.connection) → (s : State) → Represents (state g old.connection) old.is_shut s
-    → HasServed most s (Represents (state g new.connection) new.is_shut) new.is_shut (λ states. HasCrashStates (state g new.connection) states)
+    → HasServed profile most s (Represents (state g new.connection) new.is_shut) new.is_shut (λ states. HasCrashStates (state g new.connection) states)
 
 -- the desk is one and the same: what it stood on has kept its word, and what stands beside its tables stands there still
 abbrev pub IsSameStore : {S : Type 0} (g : Ghosts S) → Desk S g → Desk S g → Type 0

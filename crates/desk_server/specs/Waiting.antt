@@ -1,5 +1,5 @@
 -- What is done next with the connections that wait.
-use Rattle.std.specs.Prelude.{⊤, ◌≡◌, ◌<◌, ◌≤◌, ◌+◌, ◌-◌, ◌⊎◌, ℕ, Bool, true, false, List, length, Option, Some, None, slice_get}
+use Rattle.std.specs.Prelude.{⊤, ◌≡◌, ◌<◌, ◌≤◌, ◌+◌, ◌-◌, ◌⊎◌, ℕ, ◌==◌, Bool, true, false, List, [], ◌∷◌, length, if◌then◌else◌, Option, Some, None, slice_get}
 use Rattle.std.specs.List.{position}
 use Rattle.desk_server.specs.declared.waiting.Waiter.{Waiter}
 use Rattle.desk_server.specs.declared.waiting.Step.{Step}
@@ -8,6 +8,15 @@ use Rattle.desk_server.specs.declared.waiting.Step.TheVariants as step
 -- the first connection on which bytes came
 abbrev pub first_with_bytes : List Waiter → Option ℕ
 first_with_bytes waiters = position (λ (w : Waiter). w.has_bytes) waiters
+
+-- the first connection of this token
+abbrev pub position_of : List Waiter → ℕ → Option ℕ
+position_of waiters token = position (λ (w : Waiter). w.token == token) waiters
+
+-- the connections, with something to be read on the first of this token
+abbrev pub marked : List Waiter → ℕ → List Waiter
+marked [] token = []
+marked (w ∷ ws) token = if w.token == token then record w { has_bytes = true } ∷ ws else w ∷ marked ws token
 
 -- for how many milliseconds a connection has waited, if there is one
 abbrev pub waited_of : Option Waiter → ℕ → ℕ

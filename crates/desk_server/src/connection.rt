@@ -5,13 +5,16 @@ ghost use Rattle.plant_base.specs.State.{State};
 ghost use Rattle.plant_desk.specs.Keepers.{IsSameDesk};
 ghost use Rattle.desk_server.specs.Serving.{HasServed, status_of};
 
+use crate::deadline::Timed;
 use crate::log::{AccessLog, Arrival, Heard};
 use plant_desk::Keeper;
 use plant_http::{ServeFault, Served, serve_one};
+use plant_http_requests::Profile;
 use plant_http_routes::Routes;
 use std::alloc::Global;
 use std::io::Read;
 use std::net::{Shutdown, TcpStream};
+use std::rt::Clock;
 use std::time::Duration;
 
 /// How many pieces are read at most of what a client sends behind its answer.
@@ -20,8 +23,8 @@ const MOST_PIECES: u32 = 64;
 /// How many bytes a piece has at most.
 const PIECE_BYTES: usize = 8192;
 
-/// How long a read of a request or a write of its answer waits at most: ten seconds.
-fn most_wait() -> Duration
+/// How long a write of an answer waits at most: ten seconds.
+fn most_write_wait() -> Duration
     ensures { as_nanos result ≡ 10 * 1_000_000_000 }
 {
     Duration::from_secs(10)
@@ -34,13 +37,11 @@ fn most_wait_behind() -> Duration
     Duration::from_secs(1)
 }
 
-/// Bounds the time that a read and a write of the connection wait.
+/// Bounds the time that a write to the connection waits.
 ///
-/// Where the system doesn't take a bound, a client that sends nothing holds the server for as long as it likes.
-fn bound_waits(stream: &TcpStream) {
-    let most = Some(most_wait());
-    let _ = stream.set_read_timeout(most);
-    let _ = stream.set_write_timeout(most);
+/// Where the system doesn't take the bound, a client that reads nothing holds the server for as long as it likes.
+fn bound_writes(stream: &TcpStream) {
+    let _ = stream.set_write_timeout(Some(most_write_wait()));
 }
 
 /// Reads on behind an answer until the client ends its side, for a while.
@@ -96,11 +97,15 @@ fn status_of(served: &Result<Served, ServeFault>) -> Option<u16>
 ///
 /// A socket doesn't tell its bytes, so that no clause says which request it was: the keeper does the job of one request, once, or nothing.
 ///
-/// The connection comes back where its client has all that it needs to end it. Where nothing was answered, for a fault of the connection or
-/// for want of memory, nothing has to reach the client, and the connection is dropped at once.
-pub(crate) fn serve_stream<K: Keeper>(
+/// The request has to be whole within its time by the clock (`Timed`).
+///
+/// The connection comes back where its client has all that it needs to end it. Where nothing was answered, for a fault of the connection, for
+/// want of memory or since the time was over, nothing has to reach the client, and the connection is dropped at once.
+pub(crate) fn serve_stream<R: Clock, K: Keeper>(
     alloc: Global,
+    clock: &R,
     routes: &Routes,
+    profile: Profile<'_>,
     stream: TcpStream,
     keeper: &mut K,
     log: AccessLog<'_>,
@@ -108,14 +113,14 @@ pub(crate) fn serve_stream<K: Keeper>(
 ) -> Option<TcpStream>
     ensures same { IsSameDesk K.honest K.schema K.foreign_tables keeper.old keeper.new }
     ensures serves { K.honest keeper.new → K.shut keeper.old ≡ false → (s : State) → K.represents keeper.old s
-        → HasServed 1 s (K.represents keeper.new) (K.shut keeper.new) (K.crash_states keeper.new) }
+        → HasServed profile.entry 1 s (K.represents keeper.new) (K.shut keeper.new) (K.crash_states keeper.new) }
     ensures unchanged { K.shut keeper.old ≡ true → keeper.new ≡ keeper.old }
 {
-    bound_waits(&stream);
+    bound_writes(&stream);
     let status = {
-        let mut input = Heard::new(&stream);
+        let mut input = Heard::new(Timed::new(clock, &stream));
         let mut output = &stream;
-        let served = serve_one(alloc, routes, &mut input, &mut output, keeper);
+        let served = serve_one(alloc, routes, profile, &mut input, &mut output, keeper);
         let status = status_of(&served);
         log.note_request(arrival, input.prefix(), status);
         status

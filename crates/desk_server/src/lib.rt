@@ -3,6 +3,7 @@
 
 mod address;
 mod connection;
+mod deadline;
 mod fault;
 mod listening;
 mod log;

@@ -11,6 +11,7 @@ use crate::log::{AccessLog, milliseconds_since};
 use crate::reception::Reception;
 use crate::waiting::{Step, Waiter, Waiting};
 use plant_desk_store::Desk;
+use plant_http_requests::Profile;
 use plant_http_routes::{Routes, RoutesFault};
 use sqlite::Alter;
 use std::alloc::{AllocError, Global};
@@ -58,22 +59,33 @@ fn drop_oldest(waiting: &mut Waiting, log: AccessLog<'_>)
 
 /// Serves a connection. `answered` is the last one, where its client has its answer and may not have ended it: this one is served
 /// meanwhile, by when the client mostly has. `Store`: a fault of the store has shut the desk. No other fault comes.
-fn serve_waiter<S: Alter + Drop>(
+fn serve_waiter<R: Clock, S: Alter + Drop>(
     alloc: Global,
+    clock: &R,
     waiter: Waiter,
     routes: &Routes,
+    profile: Profile<'_>,
     desk: &mut Desk<S>,
     log: AccessLog<'_>,
     answered: &mut Option<TcpStream>,
 ) -> Result<(), ServingFault>
     ensures same { IsSameStore S.Store desk.old desk.new }
-    ensures serves { desk.old.is_shut ≡ false → ServesAtMost S.Store 1 desk.old desk.new }
+    ensures serves { desk.old.is_shut ≡ false → ServesAtMost S.Store profile.entry 1 desk.old desk.new }
     ensures open { OnOk result (desk.new.is_shut ≡ false) }
     ensures shut { OnErr result (desk.new.is_shut ≡ true) }
     ensures store { IfErr result (λ fault. fault ≡ ServingFault.Store) }
 {
     let arrival = waiter.arrival;
-    let next = serve_stream(alloc, routes, waiter.stream, desk, log, arrival);
+    let next = serve_stream(
+        alloc,
+        clock,
+        routes,
+        profile,
+        waiter.stream,
+        desk,
+        log,
+        arrival,
+    );
     if let Some(former) = &*answered {
         read_rest(former);
     }
@@ -85,26 +97,28 @@ fn serve_waiter<S: Alter + Drop>(
 }
 
 /// Takes a connection out of those that wait, and serves it.
-fn serve_at<S: Alter + Drop>(
+fn serve_at<R: Clock, S: Alter + Drop>(
     alloc: Global,
+    clock: &R,
     index: usize,
     reception: &Reception<'_>,
     waiting: &mut Waiting,
     routes: &Routes,
+    profile: Profile<'_>,
     desk: &mut Desk<S>,
     log: AccessLog<'_>,
     answered: &mut Option<TcpStream>,
 ) -> Result<(), ServingFault>
     requires { index < length waiting.old.waiters.items }
     ensures same { IsSameStore S.Store desk.old desk.new }
-    ensures serves { desk.old.is_shut ≡ false → ServesAtMost S.Store 1 desk.old desk.new }
+    ensures serves { desk.old.is_shut ≡ false → ServesAtMost S.Store profile.entry 1 desk.old desk.new }
     ensures open { OnOk result (desk.new.is_shut ≡ false) }
     ensures shut { OnErr result (desk.new.is_shut ≡ true) }
     ensures store { IfErr result (λ fault. fault ≡ ServingFault.Store) }
 {
     let waiter = waiting.remove(index);
     reception.leave(&waiter.stream);
-    serve_waiter(alloc, waiter, routes, desk, log, answered)
+    serve_waiter(alloc, clock, waiter, routes, profile, desk, log, answered)
 }
 
 /// Does a step, and returns how many connections were served or dropped, 0 or 1.
@@ -117,6 +131,7 @@ fn do_step<R: Clock, S: Alter + Drop>(
     reception: &mut Reception<'_>,
     waiting: &mut Waiting,
     routes: &Routes,
+    profile: Profile<'_>,
     desk: &mut Desk<S>,
     log: AccessLog<'_>,
     answered: &mut Option<TcpStream>,
@@ -125,14 +140,14 @@ fn do_step<R: Clock, S: Alter + Drop>(
     requires fits { FitsStep step waiting.old.waiters.items }
     ensures same { IsSameStore S.Store desk.old desk.new }
     ensures few { IfOk result (λ done. done ≤ 1) }
-    ensures serves { IfOk result (λ done. ServesAtMost S.Store done desk.old desk.new) }
-    ensures failed { OnErr result (ServesAtMost S.Store 1 desk.old desk.new) }
+    ensures serves { IfOk result (λ done. ServesAtMost S.Store profile.entry done desk.old desk.new) }
+    ensures failed { OnErr result (ServesAtMost S.Store profile.entry 1 desk.old desk.new) }
     ensures ends { EndsStep desk.new.is_shut result }
 {
     match step {
         Step::Serve(index) => {
             match serve_at(
-                alloc, index, reception, waiting, routes, desk, log, answered,
+                alloc, clock, index, reception, waiting, routes, profile, desk, log, answered,
             ) {
                 Ok(()) => Ok(1),
                 Err(fault) => Err(fault),
@@ -156,6 +171,7 @@ fn do_next<R: Clock, S: Alter + Drop>(
     reception: &mut Reception<'_>,
     waiting: &mut Waiting,
     routes: &Routes,
+    profile: Profile<'_>,
     desk: &mut Desk<S>,
     log: AccessLog<'_>,
     answered: &mut Option<TcpStream>,
@@ -163,13 +179,13 @@ fn do_next<R: Clock, S: Alter + Drop>(
     requires open { desk.old.is_shut ≡ false }
     ensures same { IsSameStore S.Store desk.old desk.new }
     ensures few { IfOk result (λ done. done ≤ 1) }
-    ensures serves { IfOk result (λ done. ServesAtMost S.Store done desk.old desk.new) }
-    ensures failed { OnErr result (ServesAtMost S.Store 1 desk.old desk.new) }
+    ensures serves { IfOk result (λ done. ServesAtMost S.Store profile.entry done desk.old desk.new) }
+    ensures failed { OnErr result (ServesAtMost S.Store profile.entry 1 desk.old desk.new) }
     ensures ends { EndsStep desk.new.is_shut result }
 {
     let step = waiting.next(milliseconds_since(clock, began), reception.may_take());
     match do_step(
-        alloc, clock, began, step, reception, waiting, routes, desk, log, answered,
+        alloc, clock, began, step, reception, waiting, routes, profile, desk, log, answered,
     ) {
         Ok(done) => match reception.ask(step, waiting) {
             Ok(()) => Ok(done),
@@ -187,13 +203,14 @@ fn serve_each<R: Clock, S: Alter + Drop>(
     waiting: &mut Waiting,
     count: u32,
     routes: &Routes,
+    profile: Profile<'_>,
     desk: &mut Desk<S>,
     log: AccessLog<'_>,
     answered: &mut Option<TcpStream>,
 ) -> Result<(), ServingFault>
     requires { desk.old.is_shut ≡ false }
     ensures same { IsSameStore S.Store desk.old desk.new }
-    ensures serves { ServesAtMost S.Store count desk.old desk.new }
+    ensures serves { ServesAtMost S.Store profile.entry count desk.old desk.new }
     ensures ends { EndsServing desk.new.is_shut result }
     ensures routed { IfErr result (λ fault. fault ≢ ServingFault.Memory) }
 {
@@ -204,7 +221,7 @@ fn serve_each<R: Clock, S: Alter + Drop>(
             return Ok(());
         }
         let done = do_next(
-            alloc, clock, began, reception, waiting, routes, desk, log, answered,
+            alloc, clock, began, reception, waiting, routes, profile, desk, log, answered,
         )?;
         left -= done;
     }
@@ -233,8 +250,9 @@ fn waiting_of(made: Result<Waiting, AllocError>) -> Result<Waiting, ServingFault
     }
 }
 
-/// Serves so many connections of a listener, one at a time, by an open desk. What is answered to a request ends nothing,
-/// and neither does a fault of a connection; one without a byte counts too. Each is noted in the log where there is one.
+/// Serves so many connections of a listener, one at a time, by an open desk, as the profile says. What is answered to a request ends nothing,
+/// and neither does a fault of a connection; one without a byte counts too, and one whose request isn't whole within its twenty seconds.
+/// Each is noted in the log where there is one.
 ///
 /// `Store`: a fault of the store has shut the desk; no further connection is taken. `Net`: no connection could be taken.
 /// `Memory`: memory was refused for the routes, before the first connection. No other fault comes.
@@ -242,13 +260,14 @@ pub fn serve_listener<R: Net + Clock, S: Alter + Drop>(
     rt: &R,
     alloc: Global,
     listener: &TcpListener,
+    profile: Profile<'_>,
     count: u32,
     desk: &mut Desk<S>,
     log: AccessLog<'_>,
 ) -> Result<(), ServingFault>
     requires { desk.old.is_shut ≡ false }
     ensures same { IsSameStore S.Store desk.old desk.new }
-    ensures serves { ServesAtMost S.Store count desk.old desk.new }
+    ensures serves { ServesAtMost S.Store profile.entry count desk.old desk.new }
     ensures ends { EndsServing desk.new.is_shut result }
 {
     let routes = routes_of(Routes::new(alloc))?;
@@ -262,6 +281,7 @@ pub fn serve_listener<R: Net + Clock, S: Alter + Drop>(
         &mut waiting,
         count,
         &routes,
+        profile,
         desk,
         log,
         &mut answered,

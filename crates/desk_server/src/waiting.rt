@@ -1,7 +1,7 @@
 //! Connections that were taken, on which no byte has come so far as is known, and what is done next with them.
 ghost use Rattle.std.specs.Prelude.{◌≡◌, ◌<◌, ◌≤◌, ◌++◌, [], ◌∷◌, length, None, IfOk, IfSome, vec_capacity, slice_index_or};
 ghost use Rattle.std.specs.List.{remove};
-ghost use Rattle.desk_server.specs.Waiting.{FitsStep, IsNext, first_with_bytes, waited};
+ghost use Rattle.desk_server.specs.Waiting.{FitsStep, IsNext, first_with_bytes, marked, position_of, waited};
 
 use crate::log::Arrival;
 use std::alloc::{AllocError, Global};
@@ -53,6 +53,14 @@ fn first_with_bytes(waiters: &[Waiter]) -> Option<usize>
     ensures bound { IfSome result (λ index. index < length waiters.now) }
 {
     waiters.iter().position(|waiter| waiter.has_bytes)
+}
+
+/// The first connection of a token.
+fn position_of(waiters: &[Waiter], token: usize) -> Option<usize>
+    ensures first { result ≡ position_of waiters.now token }
+    ensures bound { IfSome result (λ index. index < length waiters.now) }
+{
+    waiters.iter().position(|waiter| waiter.token == token)
 }
 
 /// For how many milliseconds the oldest has waited, 0 where none waits.
@@ -136,11 +144,11 @@ impl Waiting {
         self.waiters.remove(index)
     }
 
-    /// Notes that there is something to be read on a connection, where it waits.
+    /// Notes that there is something to be read on the connection of a token, where it waits. Nothing else changes.
     pub(crate) fn mark(&mut self, token: usize)
-        ensures { length self.new.waiters.items ≡ length self.old.waiters.items }
+        ensures { self.new.waiters.items ≡ marked self.old.waiters.items token }
     {
-        if let Some(index) = self.waiters.iter().position(|waiter| waiter.token == token) {
+        if let Some(index) = position_of(self.waiters.as_slice(), token) {
             self.waiters[index].has_bytes = true;
         }
     }

@@ -4,14 +4,17 @@ use Rattle.desk.proofs.working.serve_desk.Goals as goal
 pub returns-clause-served : goal.returns-clause-served
 returns-clause-served g c =
     let did = c.serve_at-served in
+    let serves = did.ensures.serves in
     rw c.close.ensures (
+      serves.0,
+      serves.1,
       did.result,
       c.outcome_of.ensures,
       (
         did.new.desk.is_shut,
         did.ensures.ends,
         λ clean s at.
-            did.ensures.serves clean s (as_represented _ _ s at),
+            serves.2 clean s (as_represented _ _ s at),
       ),
     )
 

@@ -8,11 +8,13 @@ returns-in-Ok-clause-gives g c =
     inl (
       did.served.0,
       did.served.1,
+      did.served.2,
+      did.served.3,
       (
-        did.served.2.0,
-        did.served.2.1,
+        did.served.4.0,
+        did.served.4.1,
         λ clean opened.
-            adopted_so _ opened _ _ (λ s at. did.served.2.2 clean s at) (c.in-Ok.ensures.adopted (did.honest clean) opened),
+            adopted_so _ opened _ _ (λ s at. did.served.4.2 clean s at) (c.in-Ok.ensures.adopted (did.honest clean) opened),
       ),
     )
 

@@ -30,7 +30,7 @@ const LINES: [&[u8]; 20] = [
 ];
 
 /// The command that a line is.
-pub fn command_of(alloc: Global, line: &[u8]) -> Result<Envelope, Fail> {
+pub(crate) fn command_of(alloc: Global, line: &[u8]) -> Result<Envelope, Fail> {
     match read_line(alloc, line) {
         Ok(Line::Command(envelope)) => Ok(envelope),
         _ => Err(Fail::from("no command")),
@@ -38,7 +38,7 @@ pub fn command_of(alloc: Global, line: &[u8]) -> Result<Envelope, Fail> {
 }
 
 /// The first of the twenty commands, so many.
-pub fn first_commands(alloc: Global, count: usize) -> Result<Vec<Envelope>, Fail> {
+pub(crate) fn first_commands(alloc: Global, count: usize) -> Result<Vec<Envelope>, Fail> {
     let mut list = Vec::new(alloc);
     for line in LINES.iter().take(count) {
         list.push(command_of(alloc, line)?)?;

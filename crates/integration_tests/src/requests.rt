@@ -4,6 +4,7 @@ use crate::stores::{desk_over, in_memory};
 use crate::streams::{Narrow, Trickle};
 use plant_desk::{Answer, Keeper, ListKeeper, Question};
 use plant_http::{ServeFault, Served, serve_one};
+use plant_http_requests::Profile;
 use plant_http_routes::Routes;
 use std::alloc::AllocGlobal;
 use std::process::Abort;
@@ -111,7 +112,14 @@ fn served<K: Keeper>(
         writes,
         fails,
     };
-    let end = serve_one(rt.alloc(), &routes, request, &mut writer, keeper);
+    let end = serve_one(
+        rt.alloc(),
+        &routes,
+        Profile::Open,
+        request,
+        &mut writer,
+        keeper,
+    );
     Ok((end, writer.held))
 }
 

@@ -38,12 +38,17 @@ const TABLES: [&str; 17] = [
 ];
 
 /// A new store in memory.
-pub fn in_memory(alloc: Global) -> Result<Connection<MemStore>, Fail> {
+pub(crate) fn in_memory(alloc: Global) -> Result<Connection<MemStore>, Fail> {
     Ok(Connection::open_in_memory(alloc)?)
 }
 
 /// Files with these bytes, which stop after so many calls.
-pub fn files_of(alloc: Global, log: &[u8], db: &[u8], calls: [u64; 2]) -> Result<InMemory, Fail> {
+pub(crate) fn files_of(
+    alloc: Global,
+    log: &[u8],
+    db: &[u8],
+    calls: [u64; 2],
+) -> Result<InMemory, Fail> {
     Ok(Files {
         log: Fuse::new(file_of(alloc, log)?, calls[0]),
         db: Fuse::new(file_of(alloc, db)?, calls[1]),
@@ -60,7 +65,7 @@ fn file_of(alloc: Global, bytes: &[u8]) -> Result<Memory, Fail> {
 }
 
 /// A connection to the files, or the files where they don't open.
-pub fn opened(alloc: Global, files: InMemory) -> Result<Connection<FusedStore>, InMemory> {
+pub(crate) fn opened(alloc: Global, files: InMemory) -> Result<Connection<FusedStore>, InMemory> {
     if !files.log.may_be_used() || !files.db.may_be_used() {
         return Err(files);
     }
@@ -71,7 +76,7 @@ pub fn opened(alloc: Global, files: InMemory) -> Result<Connection<FusedStore>, 
 }
 
 /// The files of a connection that is closed.
-pub fn closed(connection: Connection<FusedStore>) -> InMemory {
+pub(crate) fn closed(connection: Connection<FusedStore>) -> InMemory {
     match connection.close_files() {
         Ok(files) => files,
         Err((_, store)) => store.close(),
@@ -79,7 +84,7 @@ pub fn closed(connection: Connection<FusedStore>) -> InMemory {
 }
 
 /// A desk over the store.
-pub fn desk_over<S: Alter + Drop>(
+pub(crate) fn desk_over<S: Alter + Drop>(
     alloc: Global,
     connection: Connection<S>,
 ) -> Result<Desk<S>, Fail> {
@@ -93,7 +98,7 @@ pub fn desk_over<S: Alter + Drop>(
 }
 
 /// Runs the first ten commands: each is accepted in turn, and the run ends without a fault.
-pub fn run_ten<S: Alter + Drop>(
+pub(crate) fn run_ten<S: Alter + Drop>(
     rt: &(impl Abort + AllocGlobal),
     connection: Connection<S>,
 ) -> Result<Desk<S>, Fail> {
@@ -126,7 +131,7 @@ fn push_value(text: &mut String, alloc: Global, value: ValueRef<'_>) -> Result<(
 }
 
 /// The rows of a table as text, in the order of their rowids: a line each, each value after a bar.
-pub fn rows_of<S: Alter>(
+pub(crate) fn rows_of<S: Alter>(
     alloc: Global,
     connection: &mut Connection<S>,
     table: &str,
@@ -145,7 +150,7 @@ pub fn rows_of<S: Alter>(
 }
 
 /// How many tables a schema has.
-pub fn tables_in(schema: u64) -> usize {
+pub(crate) fn tables_in(schema: u64) -> usize {
     match schema {
         1 => 13,
         2 => 14,
@@ -155,7 +160,7 @@ pub fn tables_in(schema: u64) -> usize {
 }
 
 /// The rows of all tables of a schema as text.
-pub fn tables_of<S: Alter>(
+pub(crate) fn tables_of<S: Alter>(
     alloc: Global,
     connection: &mut Connection<S>,
     schema: u64,

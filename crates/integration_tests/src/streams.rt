@@ -4,7 +4,7 @@ use std::io::{Error, ErrorKind, Read, Write};
 
 /// Gives at most so many bytes a read, and fails after so many reads.
 #[derive(Drop)]
-pub struct Trickle<'a> {
+pub(crate) struct Trickle<'a> {
     /// What is left to be read.
     pub rest: &'a [u8],
     /// The most bytes of a read.
@@ -29,7 +29,7 @@ impl Read for Trickle<'_> {
 
 /// Takes three bytes a write; after so many writes it fails, or takes none.
 #[derive(Drop)]
-pub struct Narrow {
+pub(crate) struct Narrow {
     /// What was taken.
     pub held: Vec<u8>,
     /// How many more writes take something.

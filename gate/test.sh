@@ -11,6 +11,7 @@ began=$SECONDS
 copy=build/gate
 cmp examples/orders.csv crates/order_check/stdin
 make/crates.py --check
+make/page.py --check
 gate/edits.py apply
 gate/edits.py copy $copy
 (cd $copy && rt ci)

@@ -4,7 +4,8 @@
     tests/run.py [-k PATTERN]... [MODULE]...
 
 A process runs the tests of a module, but for the classes of it that take long, each of which has a process of its own and is begun first.
-MODULE is such as tests.test_rules; without one all modules are run. PATTERN picks tests by their names, as with `python3 -m unittest`.
+MODULE is such as tests.test_rules; without one all modules are run. PATTERN picks tests by their names, as with `python3 -m unittest`. Where a
+module wants a browser and there is none, it is installed by apt first, if that may be done; else its tests are left out, which is said at the end.
 
 Prints how each process ended, with all that it printed where a test failed, and at the end for each module how many tests it ran and how many
 cases these checked. Ends with status 1 where a test failed, or none was run.
@@ -24,6 +25,11 @@ import unittest
 
 TOP = pathlib.Path(__file__).resolve().parent.parent
 sys.path.insert(0, str(TOP))
+
+from tests.support import browser  # noqa: E402  (the folder above is on the path now)
+
+# The modules whose tests want a browser.
+IN_A_BROWSER = ("tests.test_browser", "tests.test_cross_site")
 
 
 @dataclasses.dataclass
@@ -123,8 +129,12 @@ def main():
     if loader.errors:
         sys.exit("\n".join(loader.errors))
     at_once = len(os.sched_getaffinity(0))
-    ended = run_all(units_of(classes_of(suite)), words.patterns, at_once)
+    units = units_of(classes_of(suite))
+    without = browser.ensure() if any(it.module in IN_A_BROWSER for it in units) else None
+    ended = run_all(units, words.patterns, at_once)
     print_ended(ended)
+    if without:
+        print(f"the tests in a browser were left out: {without}")
     tests, cases = sum(it.tests() for it in ended), sum(it.cases() for it in ended)
     failed = [it.unit.name() for it in ended if it.status]
     how = f"failed: {', '.join(sorted(failed))}" if failed else "all as wanted"

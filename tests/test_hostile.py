@@ -24,6 +24,9 @@ from tests.support.sessions import Session, lines_of
 MOST_HELD = 20
 PAUSE = 2
 
+# How many seconds a request may take from its first byte on, and how often a byte of one comes that trickles in.
+MOST_TRICKLED, TRICKLE = 20, 0.5
+
 # For how long a connection waits on which nothing is sent, and how many wait at most.
 SILENCE = 10
 MOST_SILENT = 64
@@ -279,6 +282,44 @@ class Clients(DeskTestCase):
                 break
         self.check("the last client's answer", found, NEW)
         self.check("the last client is waited for", (is_judged, is_running, status), (True, True, 0))
+
+
+class Trickling(DeskTestCase):
+    """Requests whose bytes come one by one, each behind a pause."""
+
+    IS_LONG = True
+
+    def test_request_that_trickles_in_is_dropped_after_twenty_seconds(self):
+        """Sends a command of which every byte comes in time and the last one would come too late: it isn't executed, and the next client is served
+        as it is dropped."""
+        with Server(self.desk, "plant.db", 2, "--log") as server, connected(server.port) as slow:
+            began = time.monotonic()
+            slow.sendall(POST[:1])
+            with connected(server.port) as next_client:
+                next_client.sendall(ASK)
+                sent = trickled(slow, POST[1:-1], began + MOST_TRICKLED + PAUSE)
+                self.check("the client behind it", rest_of(next_client), NEW)
+            held = time.monotonic() - began
+            self.check_true(f"{sent} bytes were sent, and fewer than all", 0 < sent < len(POST) - 2)
+            self.check_true(f"it is dropped after twenty seconds, {held}", MOST_TRICKLED - PAUSE < held < MOST_TRICKLED + 2 * PAUSE)
+            with contextlib.suppress(ConnectionResetError):
+                self.check("the one that trickles", rest_of(slow), b"")
+            lines = server.end().errors.decode().splitlines()
+        self.check("its line", [it.split('"')[2].split()[0] for it in lines[1:]], ["0", "200"])
+        self.check("what it left", self.desk.run("verify", "plant.db"), (0, b"good schema 4 seq 0\n", b""))
+
+
+def trickled(connection, text, end):
+    """Sends a text byte by byte, with a pause behind each, until this moment or until the connection breaks; returns how many bytes were sent."""
+    for count, byte in enumerate(text):
+        if time.monotonic() > end:
+            return count
+        time.sleep(TRICKLE)
+        try:
+            connection.sendall(bytes([byte]))
+        except (BrokenPipeError, ConnectionResetError):
+            return count
+    return len(text)
 
 
 class Readers(LimitTestCase):

@@ -37,6 +37,11 @@ WRONG_VALUES = [
     ["serve", "wrong.db", "8080", "0"],
     ["serve", "wrong.db", "8080", "1000001"],
     ["serve", "wrong.db", "x", "1"],
+    ["serve", "wrong.db", "8080", "1", "--page", "--host"],
+    ["serve", "wrong.db", "8080", "1", "--page", "--host", ""],
+    ["serve", "wrong.db", "8080", "1", "--page", "--host", "a" * 61],
+    ["serve", "wrong.db", "8080", "1", "--page", *["--host", "a"] * 9],
+    ["serve", "wrong.db", "8080", "1", "--page=yes"],
     ["import", "wrong.db", "--at", "x"],
     ["import", "wrong.db", "--at", "253402300800"],
     ["import", "wrong.db", "--at", "1", "--by", "a" * 61],
@@ -45,6 +50,9 @@ WRONG_VALUES = [
     ["record", "wrong.db", "b-1"],
 ]
 
+# The rule of a name of a host.
+HOST = b"NAME of --host is 1 to 60 of a to z, 0 to 9, - and ., the first no - and no .; 8 of them at most, and only with --page"
+
 # The rule that is told where clap takes the words and a value breaks it: that of the first such value.
 BROKEN_RULES = [
     (["import", "wrong.db", "--at", "1", "--by", "a" * 61, "--ref", "r-1"], b"TEXT of --by is at most 60 characters from the space to ~"),
@@ -52,6 +60,11 @@ BROKEN_RULES = [
     (["trace", "wrong.db", "up", "l-1"], b"DIRECTION is back or forward"),
     (["trace", "wrong.db", "back", "l-1"], b"LOT is 1 to 24 of A to Z, 0 to 9 and -, the first a letter"),
     (["record", "wrong.db", "b-1"], b"BATCH is 1 to 24 of A to Z, 0 to 9 and -, the first a letter"),
+    (["serve", "wrong.db", "8080", "1", "--host", "a"], HOST),
+    (["serve", "wrong.db", "8080", "1", "--page", "--host", "a", "--host", "A"], HOST),
+    (["serve", "wrong.db", "8080", "1", "--page", "--host", ".a"], HOST),
+    (["serve", "wrong.db", "8080", "1", "--page", "--host", "a:80"], HOST),
+    (["serve", "wrong.db", "8080", "1", "--page", "--host", "a/b"], HOST),
 ]
 
 # What connections send, and how each is noted behind its moment.

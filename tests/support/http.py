@@ -24,11 +24,13 @@ WELL = (0, b"", b"")
 PHRASES = {
     200: "OK",
     400: "Bad Request",
+    403: "Forbidden",
     404: "Not Found",
     409: "Conflict",
     411: "Length Required",
     413: "Payload Too Large",
     431: "Request Header Fields Too Large",
+    501: "Not Implemented",
     503: "Service Unavailable",
 }
 
@@ -135,11 +137,11 @@ def is_refused(address, port):
 
 
 class Server:
-    """A desk that serves so many connections over a file, at a port of its own."""
+    """A desk that serves so many connections over a file, at a port of its own or at the one that is given."""
 
-    def __init__(self, desk, file, connections, *options, env=None):
+    def __init__(self, desk, file, connections, *options, env=None, port=None):
         for _ in range(ATTEMPTS):
-            self.ended, self.port = None, free_port()
+            self.ended, self.port = None, port or free_port()
             words = ["serve", file, str(self.port), str(connections), *options]
             self.process = desk.start(*words, env=env)
             while self.process.poll() is None and not listens(self.port):

@@ -1,0 +1,10 @@
+-- The exit status that an outcome is told with.
+use Rattle.std.proofs.Common.{◌≡◌, ℕ, Bool, true, false, List, Option, Result, Ok, Err}
+use Rattle.desk_program.specs.Performs.{Exits}
+use Rattle.desk_program.specs.declared.fault.Fault.{Fault}
+use Rattle.desk.specs.Worked.{exit_status}
+
+pub told_with : (outcome : Result Bool Fault) (status : ℕ) (old new : Option (List ℕ)) → Exits old new status outcome → status ≡ exit_status outcome
+told_with (Ok false) status old new exits = exits.0
+told_with (Ok true) status old new exits = exits.0
+told_with (Err f) status old new exits = exits.0

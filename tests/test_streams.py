@@ -43,7 +43,7 @@ REQUESTS = [
     (b"HEAD /v1/desk HTTP/1.1\r\nHost: a\r\n\r\n", NEW[: -len(b'{"schema":4,"seq":0}')]),
     (posted("/v1/commands", DEFINITION), answer('{"name":"UnknownClass","refused":4}', 409)),
     (b"GET /v1/lots/L-9 HTTP/1.1\r\nHost: a\r\n\r\n", answer('{"name":"UnknownLot","refused":9}', 404)),
-    (b"GET /v1/recalls/RC-1 HTTP/1.1\r\nHost: a\r\n\r\n", http.status_answer(404)),
+    (b"GET /v1/recalls/RC-1 HTTP/1.1\r\nHost: a\r\n\r\n", http.answer('{"name":"UnknownRecall","refused":33}', 404)),
     (b"GET /v1/desk HTTP/1.1\r\n\r\n", http.status_answer(400)),
     (b"POST /v1/orders HTTP/1.1\r\nHost: a\r\nDesk-At: 7\r\nContent-Length: 6\r\n\r\norders", answer('{"csv":"Header","row":0}', 400)),
     (ASK, NEW),

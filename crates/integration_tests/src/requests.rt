@@ -55,7 +55,7 @@ const REQUESTS: [(&[u8], &[u8]); 15] = [
     ),
     (
         b"GET /v1/recalls/RC-1 HTTP/1.1\r\nHost: a\r\n\r\n",
-        b"HTTP/1.1 404 Not Found\r\nContent-Type: application/json\r\nContent-Length: 14\r\nConnection: close\r\n\r\n{\"status\":404}",
+        b"HTTP/1.1 404 Not Found\r\nContent-Type: application/json\r\nContent-Length: 37\r\nConnection: close\r\n\r\n{\"name\":\"UnknownRecall\",\"refused\":33}",
     ),
     (
         b"DELETE /v1/desk HTTP/1.1\r\nHost: a\r\nContent-Length: 5\r\n\r\n",

@@ -21,6 +21,8 @@ pub(crate) enum DeskIndex {
     RecallByState,
     RecipeByState,
     MovementByLot2,
+    JobByDue,
+    ReceiptBySeq,
 }
 
 impl DeskIndex {
@@ -41,6 +43,8 @@ impl DeskIndex {
             DeskIndex::RecallByState => "recall_by_state",
             DeskIndex::RecipeByState => "recipe_by_state",
             DeskIndex::MovementByLot2 => "movement_by_lot2",
+            DeskIndex::JobByDue => "job_by_due",
+            DeskIndex::ReceiptBySeq => "receipt_by_seq",
         }
     }
 
@@ -60,13 +64,15 @@ impl DeskIndex {
             | DeskIndex::LotByDef
             | DeskIndex::RecallByState
             | DeskIndex::RecipeByState
-            | DeskIndex::MovementByLot2 => 4,
+            | DeskIndex::MovementByLot2
+            | DeskIndex::JobByDue
+            | DeskIndex::ReceiptBySeq => 4,
         }
     }
 }
 
 /// The indexes of the newest schema, in the order in which they are made.
-fn all_indexes() -> [DeskIndex; 12]
+fn all_indexes() -> [DeskIndex; 14]
     ensures all { result ≡ spec.all_indexes }
     ensures named { map spec.index_name result ≡ map (λ i. i.name) desk_indexes }
 {
@@ -83,6 +89,8 @@ fn all_indexes() -> [DeskIndex; 12]
         DeskIndex::RecallByState,
         DeskIndex::RecipeByState,
         DeskIndex::MovementByLot2,
+        DeskIndex::JobByDue,
+        DeskIndex::ReceiptBySeq,
     ]
 }
 

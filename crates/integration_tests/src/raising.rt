@@ -22,7 +22,8 @@ const ALL: [u64; 2] = [u64::MAX, u64::MAX];
 /// What takes tables of the newest schema back to the third, those to the second, and those to the first.
 const LOWER: [&str; 3] = [
     "DROP INDEX definition_by_class; DROP INDEX job_by_state; DROP INDEX batch_by_closed; DROP INDEX lot_by_def;
-    DROP INDEX recipe_by_state; DROP INDEX movement_by_lot2; DROP TABLE mark; DROP TABLE recall; UPDATE meta SET schema = 3",
+    DROP INDEX recipe_by_state; DROP INDEX movement_by_lot2; DROP INDEX job_by_due; DROP INDEX receipt_by_seq;
+    DROP TABLE mark; DROP TABLE recall; UPDATE meta SET schema = 3",
     "DROP TABLE receipt; UPDATE meta SET schema = 2",
     "DROP INDEX batch_event_by_batch; DROP INDEX movement_by_lot; DROP INDEX movement_by_batch; DROP TABLE edge;
     UPDATE meta SET schema = 1",

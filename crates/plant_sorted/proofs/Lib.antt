@@ -1,1 +1,2 @@
+mod PutFromEnd
 pub mod Split

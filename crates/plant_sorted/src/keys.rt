@@ -144,3 +144,31 @@ impl HasKey for Node {
         self.cmp(other)
     }
 }
+
+/// An order, whose place is by its due date and then by its id.
+#[derive(Drop)]
+pub struct ByDue(pub Job);
+
+impl HasKey for ByDue {
+    ghost use Rattle.plant_worklists.specs.Worklists.{due_order};
+
+    ghost order = { λ a b. due_order a.0 b.0 };
+
+    fn compare(&self, other: &Self) -> Ordering {
+        HasKeyOrder::compare(&self.0, &other.0)
+    }
+}
+
+/// A receipt, whose place is by the number of its command.
+#[derive(Drop)]
+pub struct ByNumber(pub Receipt);
+
+impl HasKey for ByNumber {
+    ghost use Rattle.plant_worklists.specs.Worklists.{number_order};
+
+    ghost order = { λ a b. number_order a.0 b.0 };
+
+    fn compare(&self, other: &Self) -> Ordering {
+        self.0.seq.cmp(&other.0.seq)
+    }
+}

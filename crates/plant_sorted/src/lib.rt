@@ -4,4 +4,5 @@
 mod keys;
 mod sorted;
 
-pub use sorted::{HasKey, put_row};
+pub use keys::{ByDue, ByNumber};
+pub use sorted::{HasKey, in_order, put_row};

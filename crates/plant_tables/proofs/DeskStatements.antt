@@ -31,7 +31,7 @@ use Rattle.std.proofs.lemmas.Bool.Decides.{nat_tests}
 use Rattle.sqlite_tied.specs.Compute.{everything}
 use Rattle.sql_tables.specs.Moves.{AreApart, AreCreateStatements}
 use Rattle.plant_tables.specs.DeskIndexes.{second_indexes, fourth_indexes, indexes_of, desk_indexes}
-use Rattle.plant_tables.specs.declared.table_defs.TheConstants.{CREATE_META, PUT_META, CREATE_CLASS, PUT_CLASS, CREATE_DEFINITION, PUT_DEFINITION, CREATE_RECIPE, PUT_RECIPE, CREATE_RECIPE_LINE, PUT_RECIPE_LINE, CREATE_JOB, PUT_JOB, CREATE_BATCH, PUT_BATCH, CREATE_CONTROL_LINE, PUT_CONTROL_LINE, CREATE_BATCH_EVENT, PUT_BATCH_EVENT, CREATE_LOT, PUT_LOT, CREATE_SUBLOT, PUT_SUBLOT, CREATE_MOVEMENT, PUT_MOVEMENT, CREATE_HOLD, PUT_HOLD, CREATE_EDGE, PUT_EDGE, CREATE_RECEIPT, PUT_RECEIPT, CREATE_RECALL, PUT_RECALL, CREATE_MARK, PUT_MARK, DELETE_HOLD, DELETE_MARKS, CREATE_BATCH_EVENT_BY_BATCH, CREATE_MOVEMENT_BY_LOT, CREATE_MOVEMENT_BY_BATCH, CREATE_EDGE_BY_END, CREATE_MARK_BY_NODE, CREATE_DEFINITION_BY_CLASS, CREATE_JOB_BY_STATE, CREATE_BATCH_BY_CLOSED, CREATE_LOT_BY_DEF, CREATE_RECALL_BY_STATE, CREATE_RECIPE_BY_STATE, CREATE_MOVEMENT_BY_LOT2}
+use Rattle.plant_tables.specs.declared.table_defs.TheConstants.{CREATE_META, PUT_META, CREATE_CLASS, PUT_CLASS, CREATE_DEFINITION, PUT_DEFINITION, CREATE_RECIPE, PUT_RECIPE, CREATE_RECIPE_LINE, PUT_RECIPE_LINE, CREATE_JOB, PUT_JOB, CREATE_BATCH, PUT_BATCH, CREATE_CONTROL_LINE, PUT_CONTROL_LINE, CREATE_BATCH_EVENT, PUT_BATCH_EVENT, CREATE_LOT, PUT_LOT, CREATE_SUBLOT, PUT_SUBLOT, CREATE_MOVEMENT, PUT_MOVEMENT, CREATE_HOLD, PUT_HOLD, CREATE_EDGE, PUT_EDGE, CREATE_RECEIPT, PUT_RECEIPT, CREATE_RECALL, PUT_RECALL, CREATE_MARK, PUT_MARK, DELETE_HOLD, DELETE_MARKS, CREATE_BATCH_EVENT_BY_BATCH, CREATE_MOVEMENT_BY_LOT, CREATE_MOVEMENT_BY_BATCH, CREATE_EDGE_BY_END, CREATE_MARK_BY_NODE, CREATE_DEFINITION_BY_CLASS, CREATE_JOB_BY_STATE, CREATE_BATCH_BY_CLOSED, CREATE_LOT_BY_DEF, CREATE_RECALL_BY_STATE, CREATE_RECIPE_BY_STATE, CREATE_MOVEMENT_BY_LOT2, CREATE_JOB_BY_DUE, CREATE_RECEIPT_BY_SEQ}
 
 -- ---- what is computed of a text, and what it comes to
 
@@ -261,7 +261,7 @@ recalls_added = (record { apart = λ tree. refl }, (makes CREATE_RECALL.now reca
 -- ---- the indexes
 
 abbrev pub index_texts : List (List ℕ)
-index_texts = CREATE_BATCH_EVENT_BY_BATCH.now ∷ CREATE_MOVEMENT_BY_LOT.now ∷ CREATE_MOVEMENT_BY_BATCH.now ∷ CREATE_EDGE_BY_END.now ∷ CREATE_MARK_BY_NODE.now ∷ CREATE_DEFINITION_BY_CLASS.now ∷ CREATE_JOB_BY_STATE.now ∷ CREATE_BATCH_BY_CLOSED.now ∷ CREATE_LOT_BY_DEF.now ∷ CREATE_RECALL_BY_STATE.now ∷ CREATE_RECIPE_BY_STATE.now ∷ CREATE_MOVEMENT_BY_LOT2.now ∷ []
+index_texts = CREATE_BATCH_EVENT_BY_BATCH.now ∷ CREATE_MOVEMENT_BY_LOT.now ∷ CREATE_MOVEMENT_BY_BATCH.now ∷ CREATE_EDGE_BY_END.now ∷ CREATE_MARK_BY_NODE.now ∷ CREATE_DEFINITION_BY_CLASS.now ∷ CREATE_JOB_BY_STATE.now ∷ CREATE_BATCH_BY_CLOSED.now ∷ CREATE_LOT_BY_DEF.now ∷ CREATE_RECALL_BY_STATE.now ∷ CREATE_RECIPE_BY_STATE.now ∷ CREATE_MOVEMENT_BY_LOT2.now ∷ CREATE_JOB_BY_DUE.now ∷ CREATE_RECEIPT_BY_SEQ.now ∷ []
 
 -- and such texts make the indexes
 each_indexes : (texts : List (List ℕ)) (indexes : List IndexDef) → AllTexts CreatesIndex texts indexes → AreCreateIndexStatements texts indexes
@@ -272,7 +272,7 @@ each_indexes (text ∷ texts) (index ∷ indexes) all = (creates_index text inde
 
 indexes_made : AllTexts CreatesIndex index_texts desk_indexes
 unfolding everything
-indexes_made = ((refl, λ tree. refl), ((refl, λ tree. refl), ((refl, λ tree. refl), ((refl, λ tree. refl), ((refl, λ tree. refl), ((refl, λ tree. refl), ((refl, λ tree. refl), ((refl, λ tree. refl), ((refl, λ tree. refl), ((refl, λ tree. refl), ((refl, λ tree. refl), ((refl, λ tree. refl), tt))))))))))))
+indexes_made = ((refl, λ tree. refl), ((refl, λ tree. refl), ((refl, λ tree. refl), ((refl, λ tree. refl), ((refl, λ tree. refl), ((refl, λ tree. refl), ((refl, λ tree. refl), ((refl, λ tree. refl), ((refl, λ tree. refl), ((refl, λ tree. refl), ((refl, λ tree. refl), ((refl, λ tree. refl), ((refl, λ tree. refl), ((refl, λ tree. refl), tt))))))))))))))
 
 pub all_indexed : AreCreateIndexStatements index_texts desk_indexes
 all_indexed = each_indexes index_texts desk_indexes indexes_made
@@ -292,7 +292,7 @@ second_of more =
 pub indexes_of_fourth : AreOf fourth_indexes (table_defs_of 4)
 indexes_of_fourth =
     let table_defs = table_defs_of 4 in
-    (has_got table_defs 16 mark_table refl, (has_got table_defs 2 definition_table refl, (has_got table_defs 5 job_table refl, (has_got table_defs 6 batch_table refl, (has_got table_defs 9 lot_table refl, (has_got table_defs 15 recall_table refl, (has_got table_defs 3 recipe_table refl, (has_got table_defs 11 movement_table refl, tt))))))))
+    (has_got table_defs 16 mark_table refl, (has_got table_defs 2 definition_table refl, (has_got table_defs 5 job_table refl, (has_got table_defs 6 batch_table refl, (has_got table_defs 9 lot_table refl, (has_got table_defs 15 recall_table refl, (has_got table_defs 3 recipe_table refl, (has_got table_defs 11 movement_table refl, (has_got table_defs 5 job_table refl, (has_got table_defs 14 receipt_table refl, tt))))))))))
 
 pub indexes_of_desk : AreOf desk_indexes desk_table_defs
 indexes_of_desk = let second = second_of (later_table_defs 2) in (second.0, (second.1.0, (second.1.1.0, (second.1.1.1.0, indexes_of_fourth))))

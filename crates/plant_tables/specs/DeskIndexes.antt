@@ -3,7 +3,7 @@ use Rattle.std.specs.Prelude.{◌≡◌, ℕ, ◌==◌, nat_le, if◌then◌else
 use Rattle.sqlite.specs.Schema.{Schema}
 use Rattle.plant_base.specs.State.{newest_schema}
 use Rattle.sql_tables.specs.Indexes.{IndexDef, HasIndex}
-use Rattle.plant_tables.specs.DeskTableDefs.{definition_table, recipe_table, job_table, batch_table, batch_event_table, lot_table, movement_table, edge_table, recall_table, mark_table}
+use Rattle.plant_tables.specs.DeskTableDefs.{definition_table, recipe_table, job_table, batch_table, batch_event_table, lot_table, movement_table, edge_table, receipt_table, recall_table, mark_table}
 
 abbrev pub batch_event_by_batch : IndexDef
 batch_event_by_batch = record { name = codes "batch_event_by_batch"; table = batch_event_table; column_indexes = 2 ∷ [] }
@@ -41,13 +41,19 @@ recipe_by_state = record { name = codes "recipe_by_state"; table = recipe_table;
 abbrev pub movement_by_lot2 : IndexDef
 movement_by_lot2 = record { name = codes "movement_by_lot2"; table = movement_table; column_indexes = 6 ∷ 1 ∷ 2 ∷ [] }
 
+abbrev pub job_by_due : IndexDef
+job_by_due = record { name = codes "job_by_due"; table = job_table; column_indexes = 7 ∷ 5 ∷ 1 ∷ [] }
+
+abbrev pub receipt_by_seq : IndexDef
+receipt_by_seq = record { name = codes "receipt_by_seq"; table = receipt_table; column_indexes = 2 ∷ [] }
+
 -- those that the second schema adds
 abbrev pub second_indexes : List IndexDef
 second_indexes = batch_event_by_batch ∷ movement_by_lot ∷ movement_by_batch ∷ edge_by_end ∷ []
 
 -- those that the fourth adds
 abbrev pub fourth_indexes : List IndexDef
-fourth_indexes = mark_by_node ∷ definition_by_class ∷ job_by_state ∷ batch_by_closed ∷ lot_by_def ∷ recall_by_state ∷ recipe_by_state ∷ movement_by_lot2 ∷ []
+fourth_indexes = mark_by_node ∷ definition_by_class ∷ job_by_state ∷ batch_by_closed ∷ lot_by_def ∷ recall_by_state ∷ recipe_by_state ∷ movement_by_lot2 ∷ job_by_due ∷ receipt_by_seq ∷ []
 
 -- those of a schema: the first has none, and the third those of the second
 abbrev pub indexes_of : ℕ → List IndexDef

@@ -126,6 +126,9 @@ pub(crate) const CREATE_JOB: &str =
 /// The index that finds the orders in a state, by their ids.
 pub(crate) const CREATE_JOB_BY_STATE: &str = "CREATE INDEX job_by_state ON job (state, id)";
 
+/// The index that finds the orders in a state, by when they are due, and those of one moment by their ids.
+pub(crate) const CREATE_JOB_BY_DUE: &str = "CREATE INDEX job_by_due ON job (state, due, id)";
+
 pub(crate) const PUT_JOB: &str =
     "INSERT INTO job (id, recipe, version, size, due, priority, state) VALUES (?1, ?2, ?3, ?4, ?5, ?6, ?7) ON CONFLICT (id) DO UPDATE SET id = excluded.id, recipe = excluded.recipe, version = excluded.version, size = excluded.size, due = excluded.due, priority = excluded.priority, state = excluded.state";
 
@@ -322,6 +325,9 @@ pub const RECEIPT: TableDef<'static> = TableDef {
 pub(crate) const CREATE_RECEIPT: &str =
     "CREATE TABLE receipt (id TEXT NOT NULL, seq INTEGER NOT NULL, content TEXT NOT NULL, UNIQUE (id)) STRICT";
 
+/// The index that finds the receipts of commands, by their numbers.
+pub(crate) const CREATE_RECEIPT_BY_SEQ: &str = "CREATE INDEX receipt_by_seq ON receipt (seq)";
+
 pub(crate) const PUT_RECEIPT: &str =
     "INSERT INTO receipt (id, seq, content) VALUES (?1, ?2, ?3) ON CONFLICT (id) DO UPDATE SET id = excluded.id, seq = excluded.seq, content = excluded.content";
 
@@ -428,7 +434,7 @@ macro_rules! index {
 }
 
 /// The indexes of the newest schema, each with the text that makes it.
-pub(crate) const DESK_INDEXES: [CreateIndexStatement<'static>; 12] = [
+pub(crate) const DESK_INDEXES: [CreateIndexStatement<'static>; 14] = [
     index!(b"batch_event_by_batch", CREATE_BATCH_EVENT_BY_BATCH),
     index!(b"movement_by_lot", CREATE_MOVEMENT_BY_LOT),
     index!(b"movement_by_batch", CREATE_MOVEMENT_BY_BATCH),
@@ -441,6 +447,8 @@ pub(crate) const DESK_INDEXES: [CreateIndexStatement<'static>; 12] = [
     index!(b"recall_by_state", CREATE_RECALL_BY_STATE),
     index!(b"recipe_by_state", CREATE_RECIPE_BY_STATE),
     index!(b"movement_by_lot2", CREATE_MOVEMENT_BY_LOT2),
+    index!(b"job_by_due", CREATE_JOB_BY_DUE),
+    index!(b"receipt_by_seq", CREATE_RECEIPT_BY_SEQ),
 ];
 
 /// How many of the tables, from the first on, are those of a schema.
@@ -465,10 +473,10 @@ pub fn tables_in(schema: u64) -> usize
 pub(crate) fn indexes_in(schema: u64) -> usize
     ensures own { take result desk_indexes ≡ indexes_of schema }
     ensures later { drop result desk_indexes ≡ later_indexes schema }
-    ensures few { result ≤ 12 }
+    ensures few { result ≤ 14 }
 {
     if schema >= 4 {
-        12
+        14
     } else if schema >= 2 {
         4
     } else {

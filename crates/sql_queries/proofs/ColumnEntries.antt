@@ -9,6 +9,7 @@ use Rattle.sqlite_value.specs.declared.keys.Collation.TheVariants.{Binary}
 use Rattle.sqlite_schema.specs.Names.{column_named}
 use Rattle.sql_tables.specs.TableDefs.{TableDef, strict_column, table_of}
 use Rattle.sqlite_resolve.specs.Lowering.{max_budget}
+use Rattle.sql_queries.specs.Paging.{is_compared, is_orderable}
 use Rattle.sql_queries.specs.Selects.{column_at, names_at, all_column_indexes, first_of, is_at, is_named, is_binary, is_plain, is_readable}
 use Rattle.sql_tables.proofs.WhereGiven.{Entry, AreColumns, IsGiven}
 use Rattle.sql_queries.proofs.SelectResolves.{names_of}
@@ -80,13 +81,14 @@ places_are table_def tree (p ∷ ps) h =
     let back : p - 1 + 1 ≡ p = omega arith in
     ap₂ (λ q qs. q ∷ qs) back (places_are table_def tree ps parts.1)
 
--- what the test of a form says
-pub record Readable (table_def : TableDef) : Type 0 where
+-- its columns, and those that its rows are put in order by, are found by their names
+pub record Readable (table_def : TableDef) (by : List ℕ) : Type 0 where
   pub columns : list_all (is_named table_def) (all_column_indexes table_def) ≡ true
-  pub order : list_all (is_named table_def) (first_of table_def.keys) ≡ true
-  pub few : length table_def.columns + length (first_of table_def.keys) + 12 < max_budget
+  pub order : list_all (is_named table_def) by ≡ true
+  pub few : length table_def.columns + length by + 12 < max_budget
 
-pub readable : (table_def : TableDef) → is_readable table_def ≡ true → Readable table_def
+-- what the test of a form says
+pub readable : (table_def : TableDef) → is_readable table_def ≡ true → Readable table_def (first_of table_def.keys)
 readable table_def h =
     let few = nat_lt (length table_def.columns + length (first_of table_def.keys) + 12) max_budget in
     let one = and_parts (list_all (is_named table_def) (all_column_indexes table_def)) (list_all (is_named table_def) (first_of table_def.keys) && few) h in
@@ -94,3 +96,19 @@ readable table_def h =
     let small : nat_lt (length table_def.columns + length (first_of table_def.keys) + 12) max_budget ≡ true = two.1 in
     let small_is : length table_def.columns + length (first_of table_def.keys) + 12 < max_budget = grind (arith, small) in
     record { columns = one.0; order = two.0; few = small_is }
+
+-- columns that are compared are found by their names
+compared_named : (table_def : TableDef) (by : List ℕ) → list_all (is_compared table_def) by ≡ true → list_all (is_named table_def) by ≡ true
+compared_named table_def [] h = refl
+compared_named table_def (p ∷ ps) h =
+    let parts = and_parts _ _ h in
+    let known : is_named table_def p ≡ true = (and_parts _ _ parts.0).0 in
+    rw known (compared_named table_def ps parts.1)
+
+-- the same where rows are put in order by other columns than the first key's
+pub readable_by : (table_def : TableDef) (by : List ℕ) → is_readable table_def ≡ true → is_orderable table_def by ≡ true → Readable table_def by
+readable_by table_def by h ordered =
+    let parts = and_parts (list_all (is_compared table_def) by) (nat_lt (length table_def.columns + length by + 12) max_budget) ordered in
+    let small : nat_lt (length table_def.columns + length by + 12) max_budget ≡ true = parts.1 in
+    let small_is : length table_def.columns + length by + 12 < max_budget = grind (arith, small) in
+    record { columns = (readable table_def h).columns; order = compared_named table_def by parts.0; few = small_is }

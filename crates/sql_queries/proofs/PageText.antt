@@ -21,14 +21,14 @@ use Rattle.sqlite_rules.proofs.ListLemmas.{has_got, all_has}
 use Rattle.sqlite_resolve.specs.declared.scope.Output.{Output}
 use Rattle.sqlite_resolve.specs.declared.state.Carried.{Carried}
 use Rattle.sqlite_resolve.specs.Compile.{first}
-use Rattle.sqlite_resolve.specs.Lowering.{nothing}
+use Rattle.sqlite_resolve.specs.Lowering.{nothing, max_budget}
 use Rattle.sqlite.specs.Effect.{IsDatabase}
 use Rattle.sqlite.specs.State.{State, Shown}
 use Rattle.sql_tables.specs.TableDefs.{TableDef, table_of}
 use Rattle.sql_tables.specs.Rows.{columns_of}
 use Rattle.sql_tables.specs.StoredRows.{IsDeclared, HasTable}
 use Rattle.sql_queries.specs.Plain.{OnlyReads}
-use Rattle.sql_queries.specs.Selects.{column_at, names_at, all_column_indexes, first_of}
+use Rattle.sql_queries.specs.Selects.{column_at, names_at, all_column_indexes}
 use Rattle.sql_queries.specs.Written.{select_where, filter_after, up_to, parsed_as}
 use Rattle.sql_queries.specs.Paging.{SelectsPage, IsPage, AreBounds, is_beyond, is_compared}
 use Rattle.sql_tables.proofs.WhereGiven.{Entry, test_of}
@@ -36,7 +36,7 @@ use Rattle.sql_queries.proofs.WhereAfter.{above_test, none_above, one_above, two
 use Rattle.sql_queries.proofs.SelectResolves.{names_of}
 use Rattle.sql_queries.proofs.QueryMeaning.{no_limit, limit_read, draft_up_to}
 use Rattle.sql_queries.proofs.ShownRows.{passes_all}
-use Rattle.sql_queries.proofs.ColumnEntries.{entry_at, entries, names_are, places_are, readable, given_column}
+use Rattle.sql_queries.proofs.ColumnEntries.{entry_at, entries, names_are, places_are, readable_by, given_column}
 use Rattle.sql_queries.proofs.StoredColumns.{shown_rows}
 use Rattle.sql_queries.proofs.Comparisons.{compares, next_param}
 use Rattle.sql_queries.proofs.PagesInOrder.{ordered_rows}
@@ -100,7 +100,7 @@ module _ (s : Schema) (table_def : TableDef) (at tree : ℕ) (declared : IsDecla
       let short : length (a ∷ b ∷ c ∷ more) ≤ 2 = grind (arith, few) in
       absurd (omega arith)
 
-  module _ (given : List ℕ) (next : ℕ) (text : List ℕ) (it : SelectsPage table_def given next text) where
+  module _ (by given : List ℕ) (next : ℕ) (text : List ℕ) (it : SelectsPage table_def by given next text) where
     abbrev test : Option Expr
     test = filter_after (names_of (entries table_def given)) (column_at table_def next).name
 
@@ -115,20 +115,20 @@ module _ (s : Schema) (table_def : TableDef) (at tree : ℕ) (declared : IsDecla
         let next_up : length given + 2 ≡ suc (length given + 1) = omega arith in
         rw next_up (limit_read s (length given + 1))
 
-    written : first text ≡ Ok (parsed_as (select_where table_def.name (names_at table_def (all_column_indexes table_def)) test (names_at table_def (first_of table_def.keys)) (up_to (length given + 2))) it.parameters (length text))
+    written : first text ≡ Ok (parsed_as (select_where table_def.name (names_at table_def (all_column_indexes table_def)) test (names_at table_def by) (up_to (length given + 2))) it.parameters (length text))
     written = rw (names_are table_def given) it.written
 
     -- it only reads
     pub page_reads : OnlyReads s text
-    page_reads = only_asks s table_def at tree declared (readable table_def it.readable) test terms lowers (up_to (length given + 2)) (col 0 (length given + 1)) counted text it.parameters written
+    page_reads = only_asks s table_def at tree declared by (readable_by table_def by it.readable it.ordered) test terms lowers (up_to (length given + 2)) (col 0 (length given + 1)) counted text it.parameters written
 
     page_asked : (old new : State) → old.now.schema ≡ s → (values : Row) (rows : List Row) → Shown text values old new rows
-        → IsAnswer (query_of (draft_up_to (table_of table_def tree) (entries table_def (all_column_indexes table_def)) (entries table_def (first_of table_def.keys)) terms (col 0 (length given + 1)))) (overlay old.now.trees []) values rows
-    page_asked = asks_for s table_def at tree declared (readable table_def it.readable) test terms lowers (up_to (length given + 2)) (col 0 (length given + 1)) counted text it.parameters written
+        → IsAnswer (query_of (draft_up_to (table_of table_def tree) (entries table_def (all_column_indexes table_def)) (entries table_def by) terms (col 0 (length given + 1)))) (overlay old.now.trees []) values rows
+    page_asked = asks_for s table_def at tree declared by (readable_by table_def by it.readable it.ordered) test terms lowers (up_to (length given + 2)) (col 0 (length given + 1)) counted text it.parameters written
 
 -- ---- the answer
 
-module _ (old new : State) (table_def : TableDef) (given : List ℕ) (next : ℕ) (text : List ℕ) (it : SelectsPage table_def given next text) (has : HasTable old.now.schema table_def) where
+module _ (old new : State) (table_def : TableDef) (by given : List ℕ) (next : ℕ) (text : List ℕ) (it : SelectsPage table_def by given next text) (has : HasTable old.now.schema table_def) where
   abbrev schema : Schema
   schema = old.now.schema
 
@@ -142,22 +142,23 @@ module _ (old new : State) (table_def : TableDef) (given : List ℕ) (next : ℕ
   count = col 0 (length given + 1)
 
   abbrev asks : Query
-  asks = query_of (draft_up_to table (entries table_def (all_column_indexes table_def)) (entries table_def (first_of table_def.keys)) asked count)
+  asks = query_of (draft_up_to table (entries table_def (all_column_indexes table_def)) (entries table_def by) asked count)
 
   module _ (values : Row) (rows : List Row) (shows : Shown text values old new rows) where
     answers : IsAnswer asks (overlay old.now.trees []) values rows
-    answers = page_asked schema table_def has.at has.tree has.declared given next text it old new refl values rows shows
+    answers = page_asked schema table_def has.at has.tree has.declared by given next text it old new refl values rows shows
 
     -- what is shown are the first of the rows with these values and one above another, in their order
-    pub page_shown : (most : ℕ) → IsDatabase old.now → AreBounds given most values → IsPage old.now table_def given next values most (take most rows) (nat_lt most (length rows))
+    pub page_shown : (most : ℕ) → IsDatabase old.now → AreBounds given most values → IsPage old.now table_def by given next values most (take most rows) (nat_lt most (length rows))
     page_shown most sound bounds =
-        let parts = readable table_def it.readable in
+        let parts = readable_by table_def by it.readable it.ordered in
+        let sorting = (and_parts (list_all (is_compared table_def) by) (nat_lt (length table_def.columns + length by + 12) max_budget) it.ordered).0 in
         let listed = has_got schema.tables has.at table has.declared.listed in
         let typed = all_has (λ (t : Table). AllByRecursion (λ row. passes Datatype schema old.now.trees t row ≡ true) (old.now.trees t.tree)) schema.tables table (sound.obeys.rules Datatype) listed in
         let known = (and_parts (nat_le (length given) 2) (list_all (is_compared table_def) given) it.compared).1 in
         let same = λ (r : Row). pass_page table_def has.tree 0 given next values values r known it.bounded bounds.long bounds.known refl in
         let rows_are = shown_rows schema old.now.trees table refl (passes_all values asked) (is_beyond given next values) same (old.now.trees has.tree) typed in
-        let ordered = ordered_rows table_def has.tree it.ordered parts.order parts.columns asked count old.now.trees values rows answers in
+        let ordered = ordered_rows table_def has.tree by sorting parts.order parts.columns asked count old.now.trees values rows answers in
         let whole = map (λ (o : Shows). o.1) answers.ordered in
         let shown_are = rw (places_are table_def has.tree (all_column_indexes table_def) parts.columns, rows_are) at ordered.0 in
         let cut : rows ≡ take (most + 1) whole = rw bounds.up_to at answers.shown in

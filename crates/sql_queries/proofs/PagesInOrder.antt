@@ -1,4 +1,4 @@
--- The rows that a query of a form's table answers stand in the order of its first key, as a store compares values.
+-- The rows that a query of a form's table answers stand in the order of the columns that it names, as a store compares values.
 use Rattle.std.proofs.Common.{◌≡◌, refl, sym, subst, ap, List, ℕ, zero, suc, ◌+◌, ◌-◌, ◌<◌, [], ◌∷◌, map, drop, true, false, length, arith, All, slice_index_or}
 use Rattle.std.specs.Prelude.{filter, IsPermutation, IsSorted}
 use Rattle.std.specs.List.{list_all}
@@ -21,7 +21,7 @@ use Rattle.sqlite_schema.specs.declared.schema.Table.{Table}
 use Rattle.sqlite_schema.specs.Names.{place_of}
 use Rattle.sqlite_draft.specs.Query.{query_of}
 use Rattle.sql_tables.specs.TableDefs.{TableDef, table_of}
-use Rattle.sql_queries.specs.Selects.{column_at, all_column_indexes, first_of, is_named, is_plain}
+use Rattle.sql_queries.specs.Selects.{column_at, all_column_indexes, is_named, is_plain}
 use Rattle.sql_queries.specs.Paging.{stored_order, is_compared}
 use Rattle.sql_tables.proofs.WhereGiven.{Entry}
 use Rattle.sql_queries.proofs.ShownRows.{at_places, passes_all}
@@ -59,16 +59,16 @@ module _ (table_def : TableDef) (tree : ℕ) where
       let rest = compares ps parts.1 (suc at) x y a b one.1 two.1 in
       rw (by_bytes table_def tree p this.1, one.0, two.0, shown_at table_def p a is, shown_at table_def p b is) (ap (ordering_then (value_cmp (column a p) (column b p))) rest)
 
-  module _ (ordered : list_all (is_compared table_def) (first_of table_def.keys) ≡ true) (known : list_all (is_named table_def) (first_of table_def.keys) ≡ true) (readable : list_all (is_named table_def) (all_column_indexes table_def) ≡ true) where
+  module _ (by : List ℕ) (ordered : list_all (is_compared table_def) by ≡ true) (known : list_all (is_named table_def) by ≡ true) (readable : list_all (is_named table_def) (all_column_indexes table_def) ≡ true) where
     abbrev table : Table
     table = table_of table_def tree
 
     abbrev IsOf : Output → Type 0
-    IsOf o = (r : Row) × (o.0 ≡ at_places (first_of table_def.keys) r) × (o.1 ≡ at_places (all_column_indexes table_def) r)
+    IsOf o = (r : Row) × (o.0 ≡ at_places by r) × (o.1 ≡ at_places (all_column_indexes table_def) r)
 
     module _ (terms : List Term) (count : Term) (db : Trees) (params : Row) where
       abbrev q : Query
-      q = query_of (draft_up_to table (entries table_def (all_column_indexes table_def)) (entries table_def (first_of table_def.keys)) terms count)
+      q = query_of (draft_up_to table (entries table_def (all_column_indexes table_def)) (entries table_def by) terms count)
 
       abbrev made : Row → Output
       made r = output q (params ∷ r ∷ [])
@@ -76,23 +76,23 @@ module _ (table_def : TableDef) (tree : ℕ) where
       is_of : (r : Row) → IsOf (made r)
       is_of r = (
         r,
-        rw (places_are table_def tree (first_of table_def.keys) known) at (keyed table params r (entries table_def (first_of table_def.keys))),
+        rw (places_are table_def tree by known) at (keyed table params r (entries table_def by)),
         rw (places_are table_def tree (all_column_indexes table_def) readable) at (shows table params r (entries table_def (all_column_indexes table_def))),
       )
 
       all_of : (rows : List Row) (a : IsAnswer q (overlay db []) params rows) → All IsOf a.ordered
       all_of rows a =
           let picked = filter (passes_all params terms) (db tree) in
-          let kept = kept_are table (entries table_def (all_column_indexes table_def)) (entries table_def (first_of table_def.keys)) terms count db params rows a in
+          let kept = kept_are table (entries table_def (all_column_indexes table_def)) (entries table_def by) terms count db params rows a in
           let all : All IsOf (map (output q) (map (λ (r : Row). params ∷ r ∷ []) picked)) =
           All-map IsOf (output q) (map (λ (r : Row). params ∷ r ∷ []) picked) (All-map (λ env. IsOf (output q env)) (λ (r : Row). params ∷ r ∷ []) picked (λ k d low. is_of (slice_index_or picked k d))) in
           All-permutation IsOf a.kept a.ordered a.same (subst (All IsOf) (sym kept) all)
 
       -- two outputs that are in order show rows in order
-      in_order : (x y : Output) → IsOf x → IsOf y → output_cmp q x y ≡ stored_order (first_of table_def.keys) x.1 y.1
-      in_order x y p r = rw (p.2, r.2) (compares (first_of table_def.keys) ordered 0 x.0 y.0 p.0 r.0 p.1 r.1)
+      in_order : (x y : Output) → IsOf x → IsOf y → output_cmp q x y ≡ stored_order by x.1 y.1
+      in_order x y p r = rw (p.2, r.2) (compares by ordered 0 x.0 y.0 p.0 r.0 p.1 r.1)
 
-      sorted_of : (all : List Output) → All IsOf all → IsSorted (output_cmp q) all → IsSorted (stored_order (first_of table_def.keys)) (map (λ (o : Output). o.1) all)
+      sorted_of : (all : List Output) → All IsOf all → IsSorted (output_cmp q) all → IsSorted (stored_order by) (map (λ (o : Output). o.1) all)
       sorted_of all are sorted k d from low =
           let none : Output = ([], []) in
           let long : k + 1 < length all = omega (arith, low, length-map all (λ (o : Output). o.1)) in
@@ -105,6 +105,6 @@ module _ (table_def : TableDef) (tree : ℕ) where
       -- what is put in order are the rows that pass, as they are shown, and they are in order
       pub ordered_rows : (rows : List Row) (a : IsAnswer q (overlay db []) params rows)
           → IsPermutation (map (at_places (places_of table (entries table_def (all_column_indexes table_def)))) (filter (passes_all params terms) (db tree))) (map (λ (o : Output). o.1) a.ordered)
-          × IsSorted (stored_order (first_of table_def.keys)) (map (λ (o : Output). o.1) a.ordered)
+          × IsSorted (stored_order by) (map (λ (o : Output). o.1) a.ordered)
       ordered_rows rows a =
-          (answer_lists table (entries table_def (all_column_indexes table_def)) (entries table_def (first_of table_def.keys)) terms count db params rows a, sorted_of a.ordered (all_of rows a) a.sorted)
+          (answer_lists table (entries table_def (all_column_indexes table_def)) (entries table_def by) terms count db params rows a, sorted_of a.ordered (all_of rows a) a.sorted)

@@ -27,7 +27,7 @@ use Rattle.sqlite.proofs.Callers.{IsPlain, command_of, reads_as}
 use Rattle.sql_tables.specs.TableDefs.{TableDef, table_of}
 use Rattle.sql_tables.specs.StoredRows.{IsDeclared}
 use Rattle.sql_queries.specs.Plain.{OnlyReads}
-use Rattle.sql_queries.specs.Selects.{names_at, all_column_indexes, first_of}
+use Rattle.sql_queries.specs.Selects.{names_at, all_column_indexes}
 use Rattle.sql_queries.specs.Written.{select_where, parsed_as}
 use Rattle.sql_tables.proofs.WhereGiven.{Entry}
 use Rattle.sql_tables.proofs.ColumnIsRead.{context_of, state_at}
@@ -51,21 +51,21 @@ pub record Lowered (s : Schema) (table_def : TableDef) (at budget : ℕ) (outs :
   pub left : budget ≤ after + 11
   pub tested : tests (lower_to 700) (context_of s table_def.name at outs false) [] test (state_at 2 budget last) ≡ Ok (terms, state_at 2 after later)
 
--- the text selects all columns by this WHERE, which is lowered to these terms, in the order of the first key, up to this limit
-module _ (s : Schema) (table_def : TableDef) (at tree : ℕ) (declared : IsDeclared s table_def at tree) (formed : Readable table_def) (test : Option Expr) (terms : List Term)
+-- the text selects all columns by this WHERE, which is lowered to these terms, in the order of these columns, up to this limit
+module _ (s : Schema) (table_def : TableDef) (at tree : ℕ) (declared : IsDeclared s table_def at tree) (by : List ℕ) (formed : Readable table_def by) (test : Option Expr) (terms : List Term)
     (lowers : (budget : ℕ) (outs : List Output) (last : Carried) → 11 < budget → Lowered s table_def at budget outs last test terms)
     (limit : Option Expr) (count : Term) (counted : constant_or s no_limit limit ≡ Ok count) (text : List ℕ) (parameters : List Name)
-    (written : first text ≡ Ok (parsed_as (select_where table_def.name (names_at table_def (all_column_indexes table_def)) test (names_at table_def (first_of table_def.keys)) limit) parameters (length text))) where
+    (written : first text ≡ Ok (parsed_as (select_where table_def.name (names_at table_def (all_column_indexes table_def)) test (names_at table_def by) limit) parameters (length text))) where
   abbrev shown : List Entry
   shown = entries table_def (all_column_indexes table_def)
 
   abbrev sorting : List Entry
-  sorting = entries table_def (first_of table_def.keys)
+  sorting = entries table_def by
 
   width : length shown ≡ length table_def.columns
   width = length-map-range_with_len (entry_at table_def) 1 (length table_def.columns)
 
-  room : length table_def.columns + length (first_of table_def.keys) + 12 < max_budget
+  room : length table_def.columns + length by + 12 < max_budget
   room = formed.few
 
   left_is : budget_after max_budget shown + length table_def.columns ≡ max_budget
@@ -79,24 +79,24 @@ module _ (s : Schema) (table_def : TableDef) (at tree : ℕ) (declared : IsDecla
 
   enough_left : length sorting < where_read.after
   enough_left =
-      let order : length sorting ≡ length (first_of table_def.keys) = length-map (first_of table_def.keys) (entry_at table_def) in
+      let order : length sorting ≡ length by = length-map by (entry_at table_def) in
       let left = where_read.left in
       omega (arith, left_is, room)
 
   read_as : first text ≡ Ok (parsed_as (select_where table_def.name (names_of shown) test (names_of sorting) limit) parameters (length text))
-  read_as = rw (names_are table_def (all_column_indexes table_def), names_are table_def (first_of table_def.keys)) written
+  read_as = rw (names_are table_def (all_column_indexes table_def), names_are table_def by) written
 
   abbrev compiled : Compiled
   compiled = compiled_to s (table_of table_def tree) table_def.name at declared.listed shown test sorting limit count counted where_read.after where_read.later terms declared.named
-      (are_columns table_def tree (all_column_indexes table_def) formed.columns) (are_columns table_def tree (first_of table_def.keys) formed.order) enough enough_left where_read.tested parameters (length text)
+      (are_columns table_def tree (all_column_indexes table_def) formed.columns) (are_columns table_def tree by formed.order) enough enough_left where_read.tested parameters (length text)
 
   text_is : (understood s text ≡ Ok compiled) ⊎ (understood s text ≡ Err Mismatch)
   text_is = text_understood s (table_of table_def tree) table_def.name at declared.listed shown test sorting limit count counted where_read.after where_read.later terms declared.named
-      (are_columns table_def tree (all_column_indexes table_def) formed.columns) (are_columns table_def tree (first_of table_def.keys) formed.order) enough enough_left where_read.tested text parameters (length text) read_as
+      (are_columns table_def tree (all_column_indexes table_def) formed.columns) (are_columns table_def tree by formed.order) enough enough_left where_read.tested text parameters (length text) read_as
 
   unlisted : reads_listing s text ≡ false
   unlisted = text_unlisted s (table_of table_def tree) table_def.name at declared.listed shown test sorting limit count counted where_read.after where_read.later terms declared.named
-      (are_columns table_def tree (all_column_indexes table_def) formed.columns) (are_columns table_def tree (first_of table_def.keys) formed.order) enough enough_left where_read.tested text parameters (length text) read_as
+      (are_columns table_def tree (all_column_indexes table_def) formed.columns) (are_columns table_def tree by formed.order) enough enough_left where_read.tested text parameters (length text) read_as
 
   -- it only reads
   pub only_asks : OnlyReads s text

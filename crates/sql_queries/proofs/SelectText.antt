@@ -84,11 +84,11 @@ module _ (s : Schema) (table_def : TableDef) (at tree : ℕ) (declared : IsDecla
 
     -- it only reads
     pub only_reads : OnlyReads s text
-    only_reads = only_asks s table_def at tree declared (readable table_def it.readable) test terms lowers None no_limit (no_limit_read s) text it.parameters written
+    only_reads = only_asks s table_def at tree declared (first_of table_def.keys) (readable table_def it.readable) test terms lowers None no_limit (no_limit_read s) text it.parameters written
 
     answers : (old new : State) → old.now.schema ≡ s → (values : Row) (rows : List Row) → Shown text values old new rows
         → IsAnswer (query_of (draft_of (table_of table_def tree) (entries table_def (all_column_indexes table_def)) (entries table_def (first_of table_def.keys)) terms)) (overlay old.now.trees []) values rows
-    answers = asks_for s table_def at tree declared (readable table_def it.readable) test terms lowers None no_limit (no_limit_read s) text it.parameters written
+    answers = asks_for s table_def at tree declared (first_of table_def.keys) (readable table_def it.readable) test terms lowers None no_limit (no_limit_read s) text it.parameters written
 
 module _ (old new : State) (table_def : TableDef) (given text : List ℕ) (it : Selects table_def given text) (has : HasTable old.now.schema table_def) where
   abbrev schema : Schema

@@ -29,6 +29,10 @@ abbrev pub key_order : List ℕ → Row → Row → Ordering
 key_order [] a b = Equal
 key_order (column_index ∷ column_indexes) a b = ordering_then (value_order (column (Null ∷ a) column_index) (column (Null ∷ b) column_index)) (key_order column_indexes a b)
 
+-- the row stands before the other by the columns at these places
+abbrev pub is_before : List ℕ → Row → Row → Bool
+is_before column_indexes a b = is_lt (key_order column_indexes a b)
+
 -- the row stands before the other by the first key of the form
 abbrev pub comes_before : TableDef → Row → Row → Bool
-comes_before table_def a b = is_lt (key_order (first_of table_def.keys) a b)
+comes_before table_def a b = is_before (first_of table_def.keys) a b

@@ -1,4 +1,4 @@
-//! The order of stored rows by the key of their table, whatever values stand in them.
+//! The order of stored rows by columns of their table, whatever values stand in them.
 
 ghost use Rattle.std.specs.Prelude.{◌≡◌, ◌∷◌};
 ghost use Rattle.sqlite.specs.Order.{column};
@@ -67,8 +67,8 @@ fn key_order(column_indexes: &[usize], a: &Row, b: &Row) -> Ordering
     Ordering::Equal
 }
 
-/// The places of the first key of a form.
-fn first_key<'a>(table_def: &TableDef<'a>) -> &'a [usize]
+/// The places of the first key of a form, the first column being 1; none where it has no key.
+pub fn first_key<'a>(table_def: &TableDef<'a>) -> &'a [usize]
     ensures { result.now ≡ first_of table_def.now.keys }
 {
     match table_def.keys {
@@ -77,9 +77,9 @@ fn first_key<'a>(table_def: &TableDef<'a>) -> &'a [usize]
     }
 }
 
-/// Whether the row stands before the other by the first key of the form.
-pub(crate) fn comes_before(table_def: &TableDef<'_>, a: &Row, b: &Row) -> bool
-    ensures { result ≡ key.comes_before table_def.now a.now b.now }
+/// Whether the row stands before the other by the columns at these places.
+pub(crate) fn is_before(column_indexes: &[usize], a: &Row, b: &Row) -> bool
+    ensures { result ≡ key.is_before column_indexes.now a.now b.now }
 {
-    key_order(first_key(table_def), a, b).is_lt()
+    key_order(column_indexes, a, b).is_lt()
 }

@@ -7,6 +7,7 @@ mod page;
 mod reading;
 mod table;
 
+pub use keys::first_key;
 pub use opening::{open_file, open_in_memory, open_over, reopen};
 pub use page::{Page, find_page};
 pub use reading::read_rows;

@@ -7,7 +7,7 @@ ghost use Rattle.sqlite.specs.Values.{bound};
 ghost use Rattle.sql_tables.specs.StoredRows.{HasTable};
 ghost use Rattle.sql_queries.specs.Calls.{AnswersUnchanged, BeginsNone, KeepsVisible};
 ghost use Rattle.sql_queries.specs.Given.{HasGivenRow};
-ghost use Rattle.sql_queries.specs.Keys.{comes_before};
+ghost use Rattle.sql_queries.specs.Keys.{is_before};
 ghost use Rattle.sql_queries.specs.Paging.{GivesPage, SelectsPage};
 ghost use Rattle.sql_queries.specs.Rises.{Rises};
 
@@ -20,29 +20,30 @@ use std::alloc::Global;
 /// Rows of a table, and whether more of those that were asked for stand behind them.
 #[derive(Drop)]
 pub struct Page {
-    /// The rows in the order of the table's first key.
+    /// The rows, in the order that was asked for.
     pub rows: Vec<Row>,
     /// Whether the store has more of the rows that were asked for, after these.
     pub has_more: bool,
 }
 
-/// The first rows in the order of the table's first key, so many at most, of those that have the given values and one
-/// above another in a further column, from a fixed text that selects them; the last value is one more than so many. Store
-/// where the table doesn't stand as it is declared, where a transaction is open, and where the store fails; Memory where
-/// there is none. Nothing is changed.
+/// The first rows in the order of the columns at these places, so many at most, of those that have the given values and
+/// one above another in a further column, from a fixed text that selects them; the last value is one more than so many.
+/// Store where the table doesn't stand as it is declared, where a transaction is open, where a row that is answered doesn't
+/// come after the one before it, and where the store fails; Memory where there is none. Nothing is changed.
 pub fn find_page<S: Alter>(
     alloc: Global,
     conn: &mut Connection<S>,
     table_def: &TableDef<'_>,
+    by: &[usize],
     sql: &str,
     values: &[ValueRef<'_>],
     most: usize,
 ) -> Result<Page, Fault>
-    requires { (column_indexes : List ℕ) × (next : ℕ) × SelectsPage table_def.now column_indexes next sql.now }
-    ensures page { GivesPage table_def.now sql.now (bound values.now) most (state S.Store conn.old)
+    requires { (column_indexes : List ℕ) × (next : ℕ) × SelectsPage table_def.now by.now column_indexes next sql.now }
+    ensures page { GivesPage table_def.now by.now sql.now (bound values.now) most (state S.Store conn.old)
         (state S.Store conn.new) result }
     ensures few { IfOk result (λ page. length page.rows.items ≤ most) }
-    ensures rising { IfOk result (λ page. Rises (comes_before table_def.now) page.rows.items) }
+    ensures rising { IfOk result (λ page. Rises (is_before by.now) page.rows.items) }
     ensures same { AnswersUnchanged (state S.Store conn.old) (state S.Store conn.new) result }
     ensures kept { KeepsVisible (state S.Store conn.old) (state S.Store conn.new) }
     ensures mode { BeginsNone (state S.Store conn.old) (state S.Store conn.new) }
@@ -56,7 +57,7 @@ pub fn find_page<S: Alter>(
     if !conn.is_autocommit() || !is_declared(conn.schema(), table_def) {
         return Err(Fault::Store);
     }
-    let mut rows = read_rows(alloc, conn, table_def, sql, values)?;
+    let mut rows = read_rows(alloc, conn, by, sql, values)?;
     let has_more = rows.len() > most;
     rows.truncate(most);
     Ok(Page { rows, has_more })

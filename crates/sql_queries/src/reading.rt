@@ -12,24 +12,24 @@ ghost use Rattle.sql_queries.specs.Given.{HasGivenRow};
 ghost use Rattle.sql_queries.specs.Keys as key;
 ghost use Rattle.sql_queries.specs.Rises.{Rises};
 
-use crate::keys::comes_before;
-use sql_tables::{Fault, TableDef, fault_of};
+use crate::keys::is_before;
+use sql_tables::{Fault, fault_of};
 use sqlite::types::ValueRef;
 use sqlite::{Alter, Connection, Row, Rows};
 use std::alloc::{AllocError, Global};
 
-/// Whether the row may follow the list.
-fn may_follow(table_def: &TableDef<'_>, list: &[Row], row: &Row) -> bool
+/// Whether the row may follow the list, in the order of the columns at these places.
+fn may_follow(by: &[usize], list: &[Row], row: &Row) -> bool
     ensures follows { IsTrue result → (d : Values) → 0 < length list.now
-        → key.comes_before table_def.now (slice_index_or list.now (length list.now - 1) d) row.now
+        → key.is_before by.now (slice_index_or list.now (length list.now - 1) d) row.now
         ≡ true }
     ensures stops { result ≡ false → (d : Values)
-        → key.comes_before table_def.now (slice_index_or list.now (length list.now - 1) d) row.now
+        → key.is_before by.now (slice_index_or list.now (length list.now - 1) d) row.now
         ≡ false }
     ensures first { list.now ≡ [] → result ≡ true }
 {
     match list.last() {
-        Some(last) => comes_before(table_def, last, row),
+        Some(last) => is_before(by, last, row),
         None => true,
     }
 }
@@ -83,13 +83,13 @@ fn keep(list: &mut Vec<Row>, row: Row) -> Result<(), Fault>
     }
 }
 
-/// All rows of the answer to a fixed text that only reads, one at a time and by the form's first key. Store where the
-/// store fails, or answers a row that doesn't come after the one before it; Memory where there is none. Nothing is
-/// changed.
+/// All rows of the answer to a fixed text that only reads, one at a time and in the order of the columns at these places.
+/// Store where the store fails, or answers a row that doesn't come after the one before it; Memory where there is none.
+/// Nothing is changed.
 pub fn read_rows<S: Alter>(
     alloc: Global,
     conn: &mut Connection<S>,
-    table_def: &TableDef<'_>,
+    by: &[usize],
     sql: &str,
     params: &[ValueRef<'_>],
 ) -> Result<Vec<Row>, Fault>
@@ -98,7 +98,7 @@ pub fn read_rows<S: Alter>(
     ensures rows { HasCleanDisk (state S.Store conn.new)
         → IfOk result (λ list. Shown sql.now (bound params.now) (state S.Store conn.old)
         (state S.Store conn.new) list.items) }
-    ensures rising { IfOk result (λ list. Rises (key.comes_before table_def.now) list.items) }
+    ensures rising { IfOk result (λ list. Rises (key.is_before by.now) list.items) }
     ensures same { AnswersUnchanged (state S.Store conn.old) (state S.Store conn.new) result }
     ensures kept { KeepsVisible (state S.Store conn.old) (state S.Store conn.new) }
     ensures mode { (state S.Store conn.new).in_transaction ≡ false }
@@ -117,7 +117,7 @@ pub fn read_rows<S: Alter>(
         let Some(row) = next_row(&mut rows)? else {
             return Ok(list);
         };
-        if !may_follow(table_def, list.as_slice(), &row) {
+        if !may_follow(by, list.as_slice(), &row) {
             return Err(Fault::Store);
         }
         keep(&mut list, row)?;

@@ -11,6 +11,7 @@ ghost use Rattle.sql_queries.specs.Keys.{comes_before};
 ghost use Rattle.sql_queries.specs.Rises.{Rises};
 ghost use Rattle.sql_queries.specs.Selects.{Selects};
 
+use crate::keys::first_key;
 use crate::reading::read_rows;
 use sql_tables::{Fault, TableDef, is_declared, is_free};
 use sqlite::types::ValueRef;
@@ -72,7 +73,7 @@ pub fn find_rows<S: Alter>(
     if !conn.is_autocommit() || !is_declared(conn.schema(), table_def) {
         return Err(Fault::Store);
     }
-    read_rows(alloc, conn, table_def, sql, values)
+    read_rows(alloc, conn, first_key(table_def), sql, values)
 }
 
 /// All rows of the table, by its first key, from the fixed text that selects them. Store where the table doesn't stand

@@ -9,7 +9,7 @@ use Rattle.sqlite_trees.specs.declared.store.Store.{Ghosts}
 use Rattle.sqlite.proofs.Callers.{unchanged_then}
 use Rattle.sqlite.proofs.StateLemmas.{survives_then}
 use Rattle.sql_queries.specs.Given.{HasGivenRow}
-use Rattle.sql_queries.specs.Keys.{comes_before}
+use Rattle.sql_queries.specs.Keys.{is_before}
 use Rattle.sql_queries.proofs.ReadingKeeps.{keeps_refused, commits_nothing, begun, shown_since}
 use Rattle.sql_queries.proofs.RisingLists.{rises_more}
 use Rattle.sql_queries.proofs.reading.read_rows.Goals as goal
@@ -46,7 +46,7 @@ rows-preserved g c =
     let passed : IsTrue c.may_follow.result = search rules in
     let same : c.as_slice.result.now ≡ c.rows.list.items = search rules in
     let next = rw same at (c.may_follow.ensures.follows passed) in (
-      rw pushed (rises_more (comes_before c.args.table_def.now) c.rows.list.items c.in-Some.row was.0 next),
+      rw pushed (rises_more (is_before c.args.by.now) c.rows.list.items c.in-Some.row was.0 next),
       moved.same_reference ∙ was.1,
       moved.mode was.2,
       survives_then old mid new _ _ _ (λ _ db none. none) (λ _ db none. none) was.3 moved.survives,

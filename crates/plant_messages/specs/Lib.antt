@@ -1,2 +1,3 @@
+pub mod Booked
 pub mod Faults
 pub mod Phases

@@ -1,7 +1,6 @@
 -- The batch record as a text: its sections, and what stands in each line.
-use Rattle.std.specs.Prelude.{ℕ, ◌-◌, ◌==◌, Bool, true, false, if◌then◌else◌, List, [], ◌∷◌, ◌++◌, length, replicate, codes, decimal, Option, Some, None, sum_by}
+use Rattle.std.specs.Prelude.{ℕ, ◌-◌, ◌==◌, Bool, true, false, if◌then◌else◌, List, [], ◌∷◌, ◌++◌, length, replicate, codes, decimal, Option, Some, None}
 use Rattle.std.specs.List.{flat_map}
-use Rattle.plant_base.specs.State.{same}
 use Rattle.plant_base.specs.Words.{job_state_name, batch_state_name, word_name}
 use Rattle.plant_base.specs.declared.rows.Batch.{Batch}
 use Rattle.plant_base.specs.declared.rows.BatchEvent.{BatchEvent}
@@ -13,6 +12,7 @@ use Rattle.plant_base.specs.declared.rows.RecipeLine.TheVariants as recipe_line
 use Rattle.plant_base.specs.declared.states.Event.{Event}
 use Rattle.plant_base.specs.declared.states.Event.TheVariants as event
 use Rattle.plant_recipe.specs.declared.progress.Progress.{Progress}
+use Rattle.plant_messages.specs.Booked.{booked_of}
 use Rattle.plant_messages.specs.Phases.{phases_in}
 use Rattle.plant_messages.specs.declared.question.BatchView.{BatchView}
 use Rattle.plant_messages.specs.declared.question.Booking.{Booking}
@@ -113,14 +113,6 @@ produced_text b = items (right_in 6 b.seq ∷ b.lot ∷ measured b.def b.amount 
     ∷ at_by b.at b.by b.note ∷ [])
 
 -- ---- totals
-
--- what a booking counts for a definition
-abbrev pub amount_of : List ℕ → Booking → ℕ
-amount_of def b = if same b.def def then b.amount else 0
-
--- how much of a definition was booked
-unfoldable pub booked_of : List ℕ → List Booking → ℕ
-booked_of def bookings = sum_by (amount_of def) bookings
 
 -- what the control recipe asks for of a definition, and what was booked of it
 abbrev pub asked_and_booked : List ℕ → ℕ → List Booking → List ℕ

@@ -1,37 +1,11 @@
 //! The totals of the record: what was asked for, and what was booked.
-ghost use Rattle.std.specs.Prelude.{◌≡◌, ◌≤◌, Some};
-ghost use Rattle.plant_base.specs.State.{same};
-ghost use Rattle.plant_base.specs.Values.{greatest_amount};
-ghost use Rattle.plant_record.specs.Record.{amount_of, asked_and_booked, booked_of, input_total};
+ghost use Rattle.std.specs.Prelude.{◌≡◌, Some};
+ghost use Rattle.plant_record.specs.Record.{asked_and_booked, input_total};
 ghost use Rattle.plant_record.specs.Record.{output_total, totals_text};
 
 use plant_base::{Amount, DisplayItem, Id, Joined, RecipeLine};
-use plant_messages::{BatchView, Booking, MeasuredLine};
+use plant_messages::{BatchView, Booking, MeasuredLine, booked_of};
 use std::fmt;
-
-/// The amount of a booking, if it is one of the definition.
-fn amount_of(def: Id, booking: &Booking) -> u64
-    ensures value { result ≡ amount_of def booking.now }
-    ensures small { result ≤ greatest_amount }
-{
-    if booking.def == def {
-        booking.amount.get()
-    } else {
-        0
-    }
-}
-
-/// How much of a definition was booked.
-#[tactic(auto, unfolding(crate::specs::Record::booked_of))]
-fn booked_of(def: Id, bookings: &[Booking]) -> u128
-    ensures { result ≡ booked_of def bookings.now }
-{
-    let mut booked: u128 = 0;
-    for booking in bookings {
-        booked += u128::from(amount_of(def, booking));
-    }
-    booked
-}
 
 /// What was asked for of a definition, and what was booked of it.
 #[derive(Clone, Copy)]

@@ -3,4 +3,5 @@ pub mod RowsOfLot
 pub mod PrefetchedPage
 pub mod PrefetchSteps
 pub mod MergedLists
+pub mod HoldsOfAllLots
 mod SmallNumbers

@@ -8,7 +8,8 @@ use Rattle.std.proofs.lemmas.Str.Parse.{digits_value_short, numerals_by_value, t
 use Rattle.std.proofs.Math.ListN.{drop_of_length-le}
 use Rattle.plant_base.specs.Digits.{digits_of}
 use Rattle.plant_base.specs.Values.{is_id, only}
-use Rattle.plant_worklists.specs.Cursors.{is_dot, recipe_cursor_of, recipe_cursor, movement_cursor_of, movement_cursor}
+use Rattle.plant_base.specs.Dates.{is_due}
+use Rattle.plant_worklists.specs.Cursors.{is_dot, due_cursor_of, due_cursor, hold_cursor_of, hold_cursor, recipe_cursor_of, recipe_cursor, movement_cursor_of, movement_cursor}
 
 abbrev or_zero : Option ℕ → ℕ
 or_zero None = 0
@@ -45,3 +46,17 @@ no_line (Some seq) = refl
 pub no_movement : (text : List ℕ) → position_or_len is_dot text ≡ length text → movement_cursor text ≡ None
 unfolding digits_of
 no_movement text none = rw (nothing_behind text none) (no_line (digits_of 16 (before_first is_dot text)))
+
+no_id : (o : Option (List ℕ)) → hold_cursor_of o None ≡ None
+no_id None = refl
+no_id (Some lot) = refl
+
+pub no_hold : (text : List ℕ) → position_or_len is_dot text ≡ length text → hold_cursor text ≡ None
+no_hold text none = rw (nothing_behind text none) (no_id (only is_id (before_first is_dot text)))
+
+no_order : (o : Option (List ℕ)) → due_cursor_of o None ≡ None
+no_order None = refl
+no_order (Some due) = refl
+
+pub no_due : (text : List ℕ) → position_or_len is_dot text ≡ length text → due_cursor text ≡ None
+no_due text none = rw (nothing_behind text none) (no_order (only is_due (before_first is_dot text)))

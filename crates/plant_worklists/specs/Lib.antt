@@ -3,4 +3,5 @@ pub mod Pages
 pub mod RisingIds
 pub mod Cursors
 pub mod FetchPolicy
+pub mod Sorting
 pub mod Worklists

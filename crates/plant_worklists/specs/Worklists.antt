@@ -1,10 +1,12 @@
 -- Which rows of a state each list means, in the order of their keys.
-use Rattle.std.specs.Prelude.{ℕ, Bool, not, ◌&&◌, ◌||◌, List, [], Option, Some, None, filter, map}
+use Rattle.std.specs.Prelude.{ℕ, Bool, not, ◌&&◌, ◌||◌, if◌then◌else◌, List, [], Option, Some, None, filter, map}
 use Rattle.std.specs.Ordering.{is_gt, nat_cmp, ordering_then}
+use Rattle.std.specs.declared.cmp.Ordering.{Ordering}
 use Rattle.plant_base.specs.Recalls.{is_open}
 use Rattle.plant_base.specs.State.{State, id_cmp, numbered_cmp, same}
 use Rattle.plant_base.specs.Words.{job_state_name, recipe_state_name}
 use Rattle.plant_base.specs.declared.rows.BatchRow.{BatchRow}
+use Rattle.plant_base.specs.declared.rows.Class.{Class}
 use Rattle.plant_base.specs.declared.rows.Definition.{Definition}
 use Rattle.plant_base.specs.declared.rows.Hold.{Hold}
 use Rattle.plant_base.specs.declared.rows.Job.{Job}
@@ -13,12 +15,16 @@ use Rattle.plant_base.specs.declared.rows.Movement.{Movement}
 use Rattle.plant_base.specs.declared.rows.MovementKind.{MovementKind}
 use Rattle.plant_base.specs.declared.rows.MovementKind.TheVariants as kind
 use Rattle.plant_base.specs.declared.rows.Recall.{Recall}
+use Rattle.plant_base.specs.declared.rows.Receipt.{Receipt}
 use Rattle.plant_base.specs.declared.rows.Recipe.{Recipe}
 use Rattle.plant_base.specs.declared.rows.Sublot.{Sublot}
 use Rattle.plant_base.specs.declared.states.JobState.{JobState}
 use Rattle.plant_base.specs.declared.states.RecipeState.{RecipeState}
 use Rattle.plant_view.specs.Tables.{batch_row, sublot_row}
 use Rattle.plant_view.specs.Views.{is_named}
+use Rattle.plant_worklists.specs.Sorting.{in_order}
+use Rattle.plant_worklists.specs.declared.cursors.DueCursor.{DueCursor}
+use Rattle.plant_worklists.specs.declared.cursors.HoldCursor.{HoldCursor}
 use Rattle.plant_worklists.specs.declared.cursors.MovementCursor.{MovementCursor}
 use Rattle.plant_worklists.specs.declared.cursors.RecipeCursor.{RecipeCursor}
 
@@ -38,12 +44,16 @@ is_order_in state cursor j = same (job_state_name j.state) (job_state_name state
 abbrev pub orders_in : State → JobState → Option (List ℕ) → List Job
 orders_in s state cursor = filter (is_order_in state cursor) s.jobs
 
-abbrev pub is_open_batch : Option (List ℕ) → BatchRow → Bool
-is_open_batch cursor r = not r.closed && is_after cursor r.batch.id
+-- both hold, or neither
+abbrev pub agree : Bool → Bool → Bool
+agree a b = if b then a else not a
 
--- the batches that aren't closed, with what their events made of them
-abbrev pub open_batches : State → Option (List ℕ) → List BatchRow
-open_batches s cursor = filter (is_open_batch cursor) (map (batch_row s.control_lines s.events) s.batches)
+abbrev pub is_batch_in : Bool → Option (List ℕ) → BatchRow → Bool
+is_batch_in closed cursor r = agree r.closed closed && is_after cursor r.batch.id
+
+-- the batches that are closed, or those that aren't, with what their events made of them
+abbrev pub batches_in : State → Bool → Option (List ℕ) → List BatchRow
+batches_in s closed cursor = filter (is_batch_in closed cursor) (map (batch_row s.control_lines s.events) s.batches)
 
 abbrev pub is_lot_of : List ℕ → Option (List ℕ) → Lot → Bool
 is_lot_of def cursor l = same l.def def && is_after cursor l.id
@@ -59,12 +69,16 @@ is_hold_on lot cursor h = same h.lot lot && is_after cursor h.id
 abbrev pub holds_on : State → List ℕ → Option (List ℕ) → List Hold
 holds_on s lot cursor = filter (is_hold_on lot cursor) s.holds
 
-abbrev pub is_open_recall : Option (List ℕ) → Recall → Bool
-is_open_recall cursor r = is_open r && is_after cursor r.id
+abbrev pub is_recall_in : Bool → Option (List ℕ) → Recall → Bool
+is_recall_in are_open cursor r = agree (is_open r) are_open && is_after cursor r.id
 
--- the recalls that weren't lifted
-abbrev pub open_recalls : State → Option (List ℕ) → List Recall
-open_recalls s cursor = filter (is_open_recall cursor) s.recalls
+-- the recalls that weren't lifted, or those that were
+abbrev pub recalls_in : State → Bool → Option (List ℕ) → List Recall
+recalls_in s are_open cursor = filter (is_recall_in are_open cursor) s.recalls
+
+-- the classes
+abbrev pub classes_after : State → Option (List ℕ) → List Class
+classes_after s cursor = filter (λ c. is_after cursor c.id) s.classes
 
 abbrev pub is_definition_in : List ℕ → Option (List ℕ) → Definition → Bool
 is_definition_in class cursor d = same d.class class && is_after cursor d.id
@@ -113,6 +127,45 @@ is_recipe_in state cursor r = same (recipe_state_name r.state) (recipe_state_nam
 abbrev pub recipes_in : State → RecipeState → Option RecipeCursor → List Recipe
 recipes_in s state cursor = filter (is_recipe_in state cursor) s.recipes
 
+-- the place that a list of orders by their due dates is to come after: where none is given, one that each order comes after
+abbrev pub due_after : Option DueCursor → DueCursor
+due_after None = record { due = []; order = [] }
+due_after (Some place) = place
+
+-- orders by their due dates, and those of one day by their ids
+abbrev pub due_order : Job → Job → Ordering
+due_order a b = ordering_then (id_cmp a.order.due b.order.due) (id_cmp a.order.order b.order.order)
+
+-- the order comes after this place
+abbrev pub is_due_after : Option DueCursor → Job → Bool
+is_due_after cursor j = is_gt (ordering_then (id_cmp j.order.due (due_after cursor).due) (id_cmp j.order.order (due_after cursor).order))
+
+abbrev pub is_due_in : JobState → Option DueCursor → Job → Bool
+is_due_in state cursor j = same (job_state_name j.state) (job_state_name state) && is_due_after cursor j
+
+-- the orders in a state by their due dates
+abbrev pub orders_by_due : State → JobState → Option DueCursor → List Job
+orders_by_due s state cursor = in_order due_order (filter (is_due_in state cursor) s.jobs)
+
+-- ---- receipts, by their numbers
+
+-- the number that receipts are to come after: where none is given 0, which each comes after
+abbrev pub number_after : Option ℕ → ℕ
+number_after None = 0
+number_after (Some seq) = seq
+
+abbrev pub number_order : Receipt → Receipt → Ordering
+number_order a b = nat_cmp a.seq b.seq
+
+abbrev pub is_number_after : Option ℕ → Receipt → Bool
+is_number_after cursor r = is_gt (nat_cmp r.seq (number_after cursor))
+
+-- the receipts of commands, by the numbers of these
+abbrev pub receipts_by_number : State → Option ℕ → List Receipt
+receipts_by_number s cursor = in_order number_order (filter (is_number_after cursor) s.receipts)
+
+-- ---- ledgers
+
 -- the place that a ledger is to come after: where none is given, one that each movement comes after
 abbrev pub movement_after : Option MovementCursor → MovementCursor
 movement_after None = record { seq = 0; line = 0 }
@@ -121,6 +174,15 @@ movement_after (Some place) = place
 -- the movement comes after this place
 abbrev pub is_movement_after : Option MovementCursor → Movement → Bool
 is_movement_after cursor m = is_gt (ordering_then (nat_cmp m.seq (movement_after cursor).seq) (nat_cmp m.line (movement_after cursor).line))
+
+-- the hold comes after this place; where none is given, after the front
+abbrev pub is_hold_after : Option HoldCursor → Hold → Bool
+is_hold_after None h = is_after None h.lot
+is_hold_after (Some place) h = is_gt (ordering_then (id_cmp h.lot place.lot) (id_cmp h.id place.hold))
+
+-- the holds of all lots
+abbrev pub all_holds : State → Option HoldCursor → List Hold
+all_holds s cursor = filter (is_hold_after cursor) s.holds
 
 -- the lot that a split or a part of a merge makes
 abbrev pub lot_made : MovementKind → Option (List ℕ)

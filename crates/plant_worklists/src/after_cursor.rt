@@ -1,10 +1,10 @@
 //! The place in a list from which a page goes on.
 ghost use Rattle.std.specs.Prelude.{◌≡◌};
 ghost use Rattle.plant_worklists.specs.Worklists.{text_after, is_after, recipe_after, is_recipe_after};
-ghost use Rattle.plant_worklists.specs.Worklists.{movement_after, is_movement_after};
+ghost use Rattle.plant_worklists.specs.Worklists.{movement_after, is_movement_after, due_after, is_due_after, number_after, is_number_after};
 
-use crate::cursors::{MovementCursor, RecipeCursor};
-use plant_base::{Id, Movement, Recipe};
+use crate::cursors::{DueCursor, MovementCursor, RecipeCursor};
+use plant_base::{Id, Job, Movement, Receipt, Recipe};
 
 /// The text that a list's ids are to come after: where no id is given the empty one, which each id comes after.
 pub fn text_after(cursor: &Option<Id>) -> &str
@@ -70,4 +70,47 @@ pub fn is_movement_after(row: &Movement, cursor: &Option<MovementCursor>) -> boo
     let place = movement_after(cursor);
     let by_seq = row.seq.cmp(&place.seq);
     by_seq.then(row.line.cmp(&place.line)).is_gt()
+}
+
+/// The due date that a list's orders are to come after, or be due on: the empty text where no place is given.
+pub fn due_text_after(cursor: &Option<DueCursor>) -> &str
+    ensures { result.now ≡ (due_after cursor.now).due }
+{
+    match cursor {
+        Some(place) => place.due.as_str(),
+        None => "",
+    }
+}
+
+/// The id of the order of that day that its further orders are to come after: the empty text where no place is given.
+pub fn order_text_after(cursor: &Option<DueCursor>) -> &str
+    ensures { result.now ≡ (due_after cursor.now).order }
+{
+    match cursor {
+        Some(place) => place.order.as_str(),
+        None => "",
+    }
+}
+
+/// Whether an order comes after this place in a list by due dates.
+pub fn is_due_after(row: &Job, cursor: &Option<DueCursor>) -> bool
+    ensures { result ≡ is_due_after cursor.now row.now }
+{
+    let by_due = row.order.due.as_str().cmp(due_text_after(cursor));
+    let by_order = row.order.order.as_str().cmp(order_text_after(cursor));
+    by_due.then(by_order).is_gt()
+}
+
+/// The number that a list's receipts are to come after: 0 where none is given.
+pub fn number_after(cursor: Option<u64>) -> u64
+    ensures { result ≡ number_after cursor }
+{
+    cursor.unwrap_or(0)
+}
+
+/// Whether a receipt comes after this number.
+pub fn is_number_after(row: &Receipt, cursor: Option<u64>) -> bool
+    ensures { result ≡ is_number_after cursor row.now }
+{
+    row.seq > number_after(cursor)
 }

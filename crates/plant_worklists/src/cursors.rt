@@ -1,9 +1,11 @@
 //! Places in lists whose rows have keys of two values, and how such a place is written.
 ghost use Rattle.std.specs.Prelude.{◌≡◌};
 ghost use Rattle.plant_base.specs.Digits.{digits_of};
-ghost use Rattle.plant_worklists.specs.Cursors.{recipe_cursor, movement_cursor};
+ghost use Rattle.plant_worklists.specs.Cursors.{due_cursor, hold_cursor, recipe_cursor, movement_cursor};
+ghost use Rattle.plant_base.specs.Dates.{is_due};
+ghost use Rattle.plant_base.specs.Values.{only};
 
-use plant_base::{Id, read_digits};
+use plant_base::{Due, Id, read_digits};
 
 /// A version of a recipe as a place in a list of recipes. It needn't be there.
 #[derive(Clone, Copy, Debug, PartialEq, Eq)]
@@ -12,6 +14,24 @@ pub struct RecipeCursor {
     pub recipe: Id,
     /// The version of the recipe, at most 3 digits as a text.
     pub version: u16,
+}
+
+/// An order as a place in a list of orders by their due dates. It needn't be there.
+#[derive(Clone, Copy, Debug, PartialEq, Eq)]
+pub struct DueCursor {
+    /// The due date, by which the list is ordered first.
+    pub due: Due,
+    /// The order.
+    pub order: Id,
+}
+
+/// A hold as a place in the list of the holds of all lots. It needn't be there.
+#[derive(Clone, Copy, Debug, PartialEq, Eq)]
+pub struct HoldCursor {
+    /// The lot, by which the list is ordered first.
+    pub lot: Id,
+    /// The hold of the lot.
+    pub hold: Id,
 }
 
 /// A movement as a place in the ledger of a lot: the number of its command, and its line. It needn't be there.
@@ -33,6 +53,41 @@ impl RecipeCursor {
         Some(RecipeCursor {
             recipe: Id::read(recipe.as_bytes())?,
             version: read_small(version)?,
+        })
+    }
+}
+
+impl DueCursor {
+    /// The place that a text names: a due date and an order, with a dot between them.
+    /// `None` where the text isn't of this form.
+    pub fn read(text: &str) -> Option<Self>
+        ensures { result ≡ due_cursor text.now }
+    {
+        let (due, order) = text.split_once('.')?;
+        Some(DueCursor {
+            due: read_due(due)?,
+            order: Id::read(order.as_bytes())?,
+        })
+    }
+}
+
+/// The due date that a text is.
+fn read_due(text: &str) -> Option<Due>
+    ensures { result ≡ only is_due text.now }
+{
+    Due::read(text.as_bytes()).ok()
+}
+
+impl HoldCursor {
+    /// The place that a text names: a lot and a hold, with a dot between them.
+    /// `None` where the text isn't of this form.
+    pub fn read(text: &str) -> Option<Self>
+        ensures { result ≡ hold_cursor text.now }
+    {
+        let (lot, hold) = text.split_once('.')?;
+        Some(HoldCursor {
+            lot: Id::read(lot.as_bytes())?,
+            hold: Id::read(hold.as_bytes())?,
         })
     }
 }

@@ -1,7 +1,7 @@
 //! Rows by the place that their key gives them.
 ghost use Rattle.std.specs.Prelude.{◌≡◌};
 
-use plant_base::{Movement, Recipe};
+use plant_base::{Hold, Job, Movement, Recipe};
 use std::cmp::Ordering;
 
 /// A row of a list that has an order.
@@ -27,6 +27,30 @@ impl HasKeyOrder for Recipe {
             .recipe
             .cmp(&other.header.recipe)
             .then(self.header.version.cmp(&other.header.version))
+    }
+}
+
+/// Orders by their due dates, and those of one day by their ids.
+impl HasKeyOrder for Job {
+    ghost use Rattle.plant_worklists.specs.Worklists.{due_order};
+
+    ghost order = { due_order };
+
+    fn compare(&self, other: &Self) -> Ordering {
+        self.order
+            .due
+            .cmp(&other.order.due)
+            .then(self.order.order.cmp(&other.order.order))
+    }
+}
+
+impl HasKeyOrder for Hold {
+    ghost use Rattle.plant_base.specs.State.{hold_order};
+
+    ghost order = { hold_order };
+
+    fn compare(&self, other: &Self) -> Ordering {
+        self.lot.cmp(&other.lot).then(self.id.cmp(&other.id))
     }
 }
 

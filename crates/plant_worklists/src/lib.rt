@@ -4,6 +4,7 @@
 
 mod after_cursor;
 mod cursors;
+mod hold_pages;
 mod key_order;
 mod list;
 mod lot_prefetch;
@@ -17,10 +18,11 @@ mod runs;
 mod view;
 
 pub use after_cursor::{
-    is_after, is_movement_after, is_recipe_after, movement_after, recipe_text_after, text_after,
-    version_after,
+    due_text_after, is_after, is_due_after, is_movement_after, is_number_after, is_recipe_after,
+    movement_after, number_after, order_text_after, recipe_text_after, text_after, version_after,
 };
-pub use cursors::{MovementCursor, RecipeCursor};
+pub use cursors::{DueCursor, HoldCursor, MovementCursor, RecipeCursor};
+pub use hold_pages::all_holds;
 pub use key_order::HasKeyOrder;
 pub use list::Worklist;
 pub use lot_prefetch::{prefetched_is_held, prefetched_lot, prefetched_sublots};

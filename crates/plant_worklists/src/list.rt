@@ -9,12 +9,18 @@ pub enum Worklist {
     Orders(JobState),
     /// The batches that aren't closed.
     OpenBatches,
+    /// The batches that are closed.
+    ClosedBatches,
     /// The lots of a definition.
     Lots(Id),
     /// The holds of a lot.
     Holds(Id),
     /// The recalls that weren't lifted.
     OpenRecalls,
+    /// The recalls that were lifted.
+    LiftedRecalls,
+    /// The classes.
+    Classes,
     /// The definitions of a class.
     Definitions(Id),
 }

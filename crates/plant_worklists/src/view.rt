@@ -1,8 +1,8 @@
-use crate::cursors::{MovementCursor, RecipeCursor};
+use crate::cursors::{DueCursor, MovementCursor, RecipeCursor};
 use crate::page::Page;
 use plant_base::{
-    BatchRow, Definition, Hold, Id, Job, JobState, Lot, Movement, Recall, Recipe, RecipeState,
-    Sublot,
+    BatchRow, Class, Definition, Hold, Id, Job, JobState, Lot, Movement, Recall, Receipt, Recipe,
+    RecipeState, Sublot,
 };
 use plant_view::View;
 
@@ -15,8 +15,8 @@ pub trait Worklists: View {
     ghost use Rattle.std.specs.Prelude.{◌≡◌, IfOk};
     ghost use Rattle.plant_trace.specs.HoldsIfHonest.{HoldsIfHonest};
     ghost use Rattle.plant_worklists.specs.Pages.{page_of};
-    ghost use Rattle.plant_worklists.specs.Worklists.{orders_in, open_batches, lots_of, holds_on, open_recalls, definitions_in};
-    ghost use Rattle.plant_worklists.specs.Worklists.{recipes_in, ledger_of, movements_into};
+    ghost use Rattle.plant_worklists.specs.Worklists.{orders_in, batches_in, lots_of, holds_on, recalls_in, classes_after, definitions_in};
+    ghost use Rattle.plant_worklists.specs.Worklists.{recipes_in, ledger_of, movements_into, orders_by_due, receipts_by_number};
     ghost use Rattle.plant_worklists.specs.Worklists.{lots_after, sublots_after, holds_after};
     ghost use Rattle.plant_view.specs.DecisionInvariant.{DecisionInvariant};
 
@@ -25,10 +25,28 @@ pub trait Worklists: View {
         ensures { HoldsIfHonest Self.honest Self.kept Self.frame self.old self.new
             (IfOk result (λ page. page ≡ page_of (orders_in (Self.state self.old) state cursor))) };
 
-    /// The batches that aren't closed, with the columns that are the fold of their events, by their ids.
-    fn open_batches(&mut self, cursor: Option<Id>) -> Result<Page<BatchRow>, Self::Fault>
+    /// The orders in a state by their due dates, and those of one day by their ids: what comes after a place.
+    fn orders_by_due(
+        &mut self,
+        state: JobState,
+        cursor: Option<DueCursor>,
+    ) -> Result<Page<Job>, Self::Fault>
         ensures { HoldsIfHonest Self.honest Self.kept Self.frame self.old self.new
-            (IfOk result (λ page. page ≡ page_of (open_batches (Self.state self.old) cursor))) };
+            (IfOk result (λ page. page ≡ page_of (orders_by_due (Self.state self.old) state cursor))) };
+
+    /// The receipts of commands, by the numbers of these: what comes after a number.
+    fn receipts_after(&mut self, cursor: Option<u64>) -> Result<Page<Receipt>, Self::Fault>
+        ensures { HoldsIfHonest Self.honest Self.kept Self.frame self.old self.new
+            (IfOk result (λ page. page ≡ page_of (receipts_by_number (Self.state self.old) cursor))) };
+
+    /// The batches that are closed, or those that aren't, with the columns that are the fold of their events, by their ids.
+    fn batches_in(
+        &mut self,
+        closed: bool,
+        cursor: Option<Id>,
+    ) -> Result<Page<BatchRow>, Self::Fault>
+        ensures { HoldsIfHonest Self.honest Self.kept Self.frame self.old self.new
+            (IfOk result (λ page. page ≡ page_of (batches_in (Self.state self.old) closed cursor))) };
 
     /// The lots of a definition, by their ids.
     fn lots_of(&mut self, def: Id, cursor: Option<Id>) -> Result<Page<Lot>, Self::Fault>
@@ -40,10 +58,19 @@ pub trait Worklists: View {
         ensures { HoldsIfHonest Self.honest Self.kept Self.frame self.old self.new
             (IfOk result (λ page. page ≡ page_of (holds_on (Self.state self.old) lot cursor))) };
 
-    /// The recalls that weren't lifted, by their ids.
-    fn open_recalls(&mut self, cursor: Option<Id>) -> Result<Page<Recall>, Self::Fault>
+    /// The recalls that weren't lifted, or those that were, by their ids.
+    fn recalls_in(
+        &mut self,
+        are_open: bool,
+        cursor: Option<Id>,
+    ) -> Result<Page<Recall>, Self::Fault>
         ensures { HoldsIfHonest Self.honest Self.kept Self.frame self.old self.new
-            (IfOk result (λ page. page ≡ page_of (open_recalls (Self.state self.old) cursor))) };
+            (IfOk result (λ page. page ≡ page_of (recalls_in (Self.state self.old) are_open cursor))) };
+
+    /// The classes, by their ids.
+    fn classes_after(&mut self, cursor: Option<Id>) -> Result<Page<Class>, Self::Fault>
+        ensures { HoldsIfHonest Self.honest Self.kept Self.frame self.old self.new
+            (IfOk result (λ page. page ≡ page_of (classes_after (Self.state self.old) cursor))) };
 
     /// The definitions of a class, by their ids.
     fn definitions_in(

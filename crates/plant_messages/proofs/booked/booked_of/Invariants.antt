@@ -1,7 +1,7 @@
 use Rattle.std.proofs.Common.{◌≡◌, ◌*◌, ◌≤◌, take}
 use Rattle.plant_base.specs.Values.{greatest_amount}
-use Rattle.plant_record.specs.Record.{booked_of}
-use Rattle.plant_record.proofs.totals.booked_of.Given as goal
+use Rattle.plant_messages.specs.Booked.{booked_of}
+use Rattle.plant_messages.proofs.booked.booked_of.Given as goal
 
 abbrev pub invariant-loop-booking : goal.invariant-loop-booking
 invariant-loop-booking l = record {

@@ -1,0 +1,34 @@
+-- The holds after a place are the further ones of its lot, and those of the lots after it.
+use Rattle.std.proofs.Common.{◌≡◌, ◌∙◌, Bool, true, false, ◌&&◌, ◌||◌, Some, refl, ap, filter}
+use Rattle.std.proofs.Math.Bool.{or-false}
+use Rattle.std.proofs.lemmas.Cmp.{then_total, on_total, nat_list_cmp_total}
+use Rattle.std.specs.Cmp.{IsTotalOrder}
+use Rattle.std.specs.Cmp.Lexicographic.{texts_ties}
+use Rattle.std.specs.Ordering.{is_eq, is_gt, ordering_then}
+use Rattle.std.specs.Set.{sorted_merge}
+use Rattle.std.specs.declared.cmp.Ordering.{Ordering}
+use Rattle.std.specs.declared.cmp.Ordering.TheVariants.{Less, Equal, Greater}
+use Rattle.plant_base.specs.State.{State, hold_order, id_cmp, same}
+use Rattle.plant_base.specs.declared.rows.Hold.{Hold}
+use Rattle.plant_view.specs.DecisionInvariant.{DecisionInvariant}
+use Rattle.plant_worklists.specs.Worklists.{all_holds, holds_after, holds_on, is_after, is_hold_after, is_hold_on}
+use Rattle.plant_worklists.specs.declared.cursors.HoldCursor.{HoldCursor}
+use Rattle.plant_worklists.proofs.MergedLists.{merged_filters}
+
+hold_order_total : IsTotalOrder hold_order
+hold_order_total = then_total (on_total (λ (h : Hold). h.lot) nat_list_cmp_total) (on_total (λ (h : Hold). h.id) nat_list_cmp_total)
+
+either : (o p : Ordering) → ((is_eq o && is_gt p) || is_gt o) ≡ is_gt (ordering_then o p)
+either Less p = refl
+either Equal p = or-false (is_gt p)
+either Greater p = refl
+
+after_place : (place : HoldCursor) (h : Hold) → (is_hold_on place.lot (Some place.hold) h || is_after (Some place.lot) h.lot) ≡ is_hold_after (Some place) h
+after_place place h =
+    ap (λ b. (b && is_after (Some place.hold) h.id) || is_after (Some place.lot) h.lot) (texts_ties h.lot place.lot)
+    ∙ either (id_cmp h.lot place.lot) (id_cmp h.id place.hold)
+
+pub all_merged : (s : State) (place : HoldCursor) → DecisionInvariant s → sorted_merge hold_order true (holds_on s place.lot (Some place.hold)) (holds_after s (Some place.lot)) ≡ all_holds s (Some place)
+all_merged s place sound =
+    merged_filters hold_order hold_order_total (is_hold_on place.lot (Some place.hold)) (λ h. is_after (Some place.lot) h.lot) s.holds sound.holds
+    ∙ (λ i. filter (λ h. after_place place h i) s.holds)

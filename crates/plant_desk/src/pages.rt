@@ -3,19 +3,22 @@ ghost use Rattle.std.specs.Prelude.{◌≡◌, ◌+◌, filter, map, take, IfOk}
 ghost use Rattle.plant_view.specs.Tables.{batch_row};
 ghost use Rattle.plant_view.specs.Views.{is_named};
 ghost use Rattle.plant_worklists.specs.Pages.{page_size};
-ghost use Rattle.plant_worklists.specs.Worklists.{is_after, is_open_batch};
-ghost use Rattle.plant_worklists.specs.Worklists.{lot_made};
+ghost use Rattle.plant_worklists.specs.Worklists.{is_after, is_batch_in, is_recall_in};
+ghost use Rattle.plant_worklists.specs.Worklists.{lot_made, due_order, is_due_in, number_order, is_number_after};
+ghost use Rattle.plant_worklists.specs.Sorting.{in_order};
 
 use crate::batches::batch_row;
+use crate::keys::copy_of;
 use crate::lots::{movements_into, stocked};
 use crate::view::ListsView;
 use plant_base::{
-    Batch, BatchEvent, BatchRow, ControlLine, Definition, Hold, Id, Job, JobState, Lot, Movement,
-    MovementKind, Place, Recall, Recipe, RecipeState, Sublot,
+    Batch, BatchEvent, BatchRow, Class, ControlLine, Definition, Hold, Id, Job, JobState, Lot,
+    Movement, MovementKind, Place, Recall, Receipt, Recipe, RecipeState, Sublot,
 };
+use plant_sorted::{ByDue, ByNumber, in_order};
 use plant_worklists::{
-    MovementCursor, PAGE_SIZE, Page, RecipeCursor, Worklists, first_page, is_after,
-    is_movement_after, is_recipe_after,
+    DueCursor, MovementCursor, PAGE_SIZE, Page, RecipeCursor, Worklists, first_page, is_after,
+    is_due_after, is_movement_after, is_number_after, is_recipe_after,
 };
 use std::alloc::{AllocError, Global};
 
@@ -31,13 +34,32 @@ impl<'a> Worklists for ListsView<'a> {
         Ok(first_page(rows))
     }
 
-    fn open_batches(&mut self, cursor: Option<Id>) -> Result<Page<BatchRow>, AllocError> {
+    fn orders_by_due(
+        &mut self,
+        state: JobState,
+        cursor: Option<DueCursor>,
+    ) -> Result<Page<Job>, AllocError> {
+        let rows = due_in(self.lists.alloc, &self.lists.jobs, state, cursor)?;
+        Ok(first_page(rows))
+    }
+
+    fn receipts_after(&mut self, cursor: Option<u64>) -> Result<Page<Receipt>, AllocError> {
+        let rows = receipts_behind(self.lists.alloc, &self.lists.receipts, cursor)?;
+        Ok(first_page(rows))
+    }
+
+    fn batches_in(
+        &mut self,
+        closed: bool,
+        cursor: Option<Id>,
+    ) -> Result<Page<BatchRow>, AllocError> {
         let lists = self.lists;
-        let rows = batches_open(
+        let rows = batches_in(
             lists.alloc,
             &lists.batches,
             &lists.control_lines,
             &lists.events,
+            closed,
             cursor,
         )?;
         Ok(first_page(rows))
@@ -65,13 +87,28 @@ impl<'a> Worklists for ListsView<'a> {
         Ok(first_page(rows))
     }
 
-    fn open_recalls(&mut self, cursor: Option<Id>) -> Result<Page<Recall>, AllocError> {
+    fn recalls_in(
+        &mut self,
+        are_open: bool,
+        cursor: Option<Id>,
+    ) -> Result<Page<Recall>, AllocError> {
         let rows = self
             .lists
             .recalls
             .iter()
             .copied()
-            .filter(|recall| recall.is_open() && is_after(&recall.id, &cursor))
+            .filter(|recall| is_recall_in(recall, are_open, &cursor))
+            .collect(self.lists.alloc)?;
+        Ok(first_page(rows))
+    }
+
+    fn classes_after(&mut self, cursor: Option<Id>) -> Result<Page<Class>, AllocError> {
+        let rows = self
+            .lists
+            .classes
+            .iter()
+            .copied()
+            .filter(|class| is_after(&class.id, &cursor))
             .collect(self.lists.alloc)?;
         Ok(first_page(rows))
     }
@@ -148,10 +185,16 @@ impl<'a> Worklists for ListsView<'a> {
 
 // ---- which rows a list means
 
-fn is_open_batch(row: &BatchRow, cursor: &Option<Id>) -> bool
-    ensures { result ≡ is_open_batch cursor.now row.now }
+fn is_batch_in(row: &BatchRow, closed: bool, cursor: &Option<Id>) -> bool
+    ensures { result ≡ is_batch_in closed cursor.now row.now }
 {
-    !row.closed && is_after(&row.batch.id, cursor)
+    row.closed == closed && is_after(&row.batch.id, cursor)
+}
+
+fn is_recall_in(row: &Recall, are_open: bool, cursor: &Option<Id>) -> bool
+    ensures { result ≡ is_recall_in are_open cursor.now row.now }
+{
+    row.is_open() == are_open && is_after(&row.id, cursor)
 }
 
 // Whether a split or a part of a merge makes this lot.
@@ -166,21 +209,109 @@ fn makes_lot(kind: MovementKind, lot: Id) -> bool
 
 // ---- what takes more than a filter, and what is of the lots that come after one
 
-fn batches_open(
+fn batches_in(
     alloc: Global,
     batches: &[Batch],
     lines: &[ControlLine],
     events: &[BatchEvent],
+    closed: bool,
     cursor: Option<Id>,
 ) -> Result<Vec<BatchRow>, AllocError>
     ensures { IfOk result (λ v. v.items
-        ≡ filter (is_open_batch cursor) (map (batch_row lines.now events.now) batches.now)) }
+        ≡ filter (is_batch_in closed cursor) (map (batch_row lines.now events.now) batches.now)) }
 {
     batches
         .iter()
         .map(|batch| batch_row(lines, events, *batch))
-        .filter(|row| is_open_batch(row, &cursor))
+        .filter(|row| is_batch_in(row, closed, &cursor))
         .collect(alloc)
+}
+
+// The orders in a state that come after a place, by their due dates.
+fn due_in(
+    alloc: Global,
+    jobs: &[Job],
+    state: JobState,
+    cursor: Option<DueCursor>,
+) -> Result<Vec<Job>, AllocError>
+    ensures { IfOk result (λ v. v.items ≡ in_order due_order (filter (is_due_in state cursor) jobs.now)) }
+{
+    let rows = jobs_due(alloc, jobs, state, cursor)?;
+    let sorted = in_order(alloc, rows)?;
+    jobs_of(alloc, sorted.as_slice())
+}
+
+fn jobs_due(
+    alloc: Global,
+    jobs: &[Job],
+    state: JobState,
+    cursor: Option<DueCursor>,
+) -> Result<Vec<ByDue>, AllocError>
+    ensures { IfOk result
+        (λ v. map (λ r. r.0) v.items ≡ filter (is_due_in state cursor) jobs.now) }
+{
+    let mut rows = Vec::new(alloc);
+    for job in jobs {
+        if is_due_in(job, state, &cursor) {
+            rows.push(ByDue(*job))?;
+        }
+    }
+    Ok(rows)
+}
+
+fn is_due_in(job: &Job, state: JobState, cursor: &Option<DueCursor>) -> bool
+    ensures { result ≡ is_due_in state cursor.now job.now }
+{
+    job.state.name() == state.name() && is_due_after(job, cursor)
+}
+
+fn jobs_of(alloc: Global, rows: &[ByDue]) -> Result<Vec<Job>, AllocError>
+    ensures { IfOk result (λ v. v.items ≡ map (λ r. r.0) rows.now) }
+{
+    rows.iter().map(|row| row.0).collect(alloc)
+}
+
+// The receipts that come after a number, by their numbers.
+fn receipts_behind(
+    alloc: Global,
+    receipts: &[Receipt],
+    cursor: Option<u64>,
+) -> Result<Vec<Receipt>, AllocError>
+    ensures { IfOk result
+        (λ v. v.items ≡ in_order number_order (filter (is_number_after cursor) receipts.now)) }
+{
+    let rows = copies_after(alloc, receipts, cursor)?;
+    let sorted = in_order(alloc, rows)?;
+    receipts_of(alloc, sorted.as_slice())
+}
+
+fn receipts_of(alloc: Global, rows: &[ByNumber]) -> Result<Vec<Receipt>, AllocError>
+    ensures { IfOk result (λ v. v.items ≡ map (λ r. r.0) rows.now) }
+{
+    let mut receipts = Vec::new(alloc);
+    for row in rows {
+        let receipt = copy_of(alloc, &row.0)?;
+        receipts.push(receipt)?;
+    }
+    Ok(receipts)
+}
+
+fn copies_after(
+    alloc: Global,
+    receipts: &[Receipt],
+    cursor: Option<u64>,
+) -> Result<Vec<ByNumber>, AllocError>
+    ensures { IfOk result
+        (λ v. map (λ r. r.0) v.items ≡ filter (is_number_after cursor) receipts.now) }
+{
+    let mut rows = Vec::new(alloc);
+    for receipt in receipts {
+        if is_number_after(receipt, cursor) {
+            let row = copy_of(alloc, receipt)?;
+            rows.push(ByNumber(row))?;
+        }
+    }
+    Ok(rows)
 }
 
 fn lots_beyond(alloc: Global, lots: &[Lot], cursor: Option<Id>) -> Result<Vec<Lot>, AllocError>

@@ -19,7 +19,7 @@ use Rattle.plant_invariant.specs.StateInvariant.{StateInvariant}
 use Rattle.sql_tables.specs.StoredRows.{AreFree}
 use Rattle.plant_tables.specs.DeskTableDefs.{desk_table_defs}
 use Rattle.plant_tables.specs.Keyed.{HoldsTablesOf, HoldsTables}
-use Rattle.plant_answers.specs.AnswerLaws.{StandsFrom, lot_answer_order}
+use Rattle.plant_answers.specs.AnswerLaws.{StandsFrom, standing_order}
 use Rattle.plant_answers.specs.Answers.{answer}
 use Rattle.plant_answers.specs.Traces.{missing}
 use Rattle.plant_messages.specs.declared.question.Question.{Question}
@@ -27,6 +27,7 @@ use Rattle.plant_messages.specs.declared.question.Question.TheVariants as Q
 use Rattle.plant_messages.specs.declared.question.Answer.{Answer}
 use Rattle.plant_messages.specs.declared.question.Answer.TheVariants as A
 use Rattle.plant_messages.specs.declared.question.LotAnswer.{LotAnswer}
+use Rattle.plant_messages.specs.declared.question.StandingLot.{StandingLot}
 use Rattle.plant_desk_store.specs.Calls.{IsAccounted, HasRefused, HasAsked}
 use Rattle.plant_desk_store.specs.Executions.{Attempt, PossibleOutcome, IsOpened, StorePhase, opened, desk, refused, Execution}
 use Rattle.plant_desk_store.specs.declared.adopting.AdoptFault.{AdoptFault}
@@ -41,7 +42,7 @@ IsTraceIn s direction start _ = ¬ (missing s start ≡ None)
 
 -- the lots that are told are just those with stock that the start is or leads to, ascending, each once, or it isn't there
 abbrev pub AreStandingIn : State → Node → Answer → Type 0
-AreStandingIn s start (A.Stands lots) = IsStrictlySortedBy lot_answer_order lots × ((a : LotAnswer) → Contains lots a ↔ StandsFrom s start a)
+AreStandingIn s start (A.Stands lots) = IsStrictlySortedBy standing_order lots × ((a : StandingLot) → Contains lots a ↔ StandsFrom s start a)
 AreStandingIn s start _ = ¬ (missing s start ≡ None)
 
 -- The stock of the lot is what entered it less what left it; its sublots are just those of the state, each at its place, and

@@ -11,15 +11,15 @@ use Rattle.plant_worklists.specs.Pages.{page_size}
 use Rattle.plant_worklists.specs.declared.page.Page.{Page}
 use Rattle.plant_keyed.specs.Paging.{IsPaged}
 
-pub paged_by : {R : Type 0} (row_from : Row → Option R) (db : Database) (t : TableDef) (places : List ℕ) (next : ℕ) (values : Row) (r : Result StoredPage Fault) (q : Result (Page R) Fault)
-    → IfOk r (λ p. IsPage db t places next values page_size p.rows.items p.has_more) → IfErr r (λ f. q ≡ Err f)
+pub paged_by : {R : Type 0} (row_from : Row → Option R) (db : Database) (t : TableDef) (by places : List ℕ) (next : ℕ) (values : Row) (r : Result StoredPage Fault) (q : Result (Page R) Fault)
+    → IfOk r (λ p. IsPage db t by places next values page_size p.rows.items p.has_more) → IfErr r (λ f. q ≡ Err f)
     → IfOk r (λ p. IfOk q (λ page. (all_from row_from p.rows.items ≡ Some page.rows) × (page.has_more ≡ p.has_more)))
-    → IfOk q (IsPaged db t row_from places next values)
-paged_by row_from db t places next values (Ok p) (Ok page) found failed decoded = record {
+    → IfOk q (IsPaged db t by row_from places next values)
+paged_by row_from db t by places next values (Ok p) (Ok page) found failed decoded = record {
   stored = p.rows.items;
-  paged = subst (λ more. IsPage db t places next values page_size p.rows.items more) (sym decoded.1) found;
+  paged = subst (λ more. IsPage db t by places next values page_size p.rows.items more) (sym decoded.1) found;
   read = decoded.0;
 }
-paged_by row_from db t places next values (Ok p) (Err f) found failed decoded = tt
-paged_by row_from db t places next values (Err e) (Ok page) found failed decoded = absurd (let is : Ok page ≡ Err e = failed in cc)
-paged_by row_from db t places next values (Err e) (Err f) found failed decoded = tt
+paged_by row_from db t by places next values (Ok p) (Err f) found failed decoded = tt
+paged_by row_from db t by places next values (Err e) (Ok page) found failed decoded = absurd (let is : Ok page ≡ Err e = failed in cc)
+paged_by row_from db t by places next values (Err e) (Err f) found failed decoded = tt

@@ -8,12 +8,13 @@ use Rattle.std.specs.List.{AllByRecursion}
 use Rattle.std.specs.List.Sorted.{IsStrictlySortedBy, IsPermutation}
 use Rattle.std.proofs.lemmas.Bool.{false≢true}
 use Rattle.std.proofs.lemmas.Cmp.{tied_itself}
+use Rattle.std.proofs.lemmas.List.Kept.{IsStrictlySortedBy-filter}
 use Rattle.std.proofs.lemmas.List.Sorted.{IsPermutation-refl, IsPermutation-trans, IsPermutation-sym, IsPermutation-cons, IsPermutation-middle, length_permutation}
 use Rattle.sqlite_trees.proofs.ListLemmas.{IsPermutation-filter, all-permutation}
 use Rattle.plant_base.specs.State.{put}
 use Rattle.plant_base.proofs.PutKeepsOrder.{sorted_put, all_weaker}
 use Rattle.plant_tables_read.proofs.SortedRowsAreUnique.{same_sorted}
-use Rattle.plant_keyed.specs.Sorting.{in_order}
+use Rattle.plant_worklists.specs.Sorting.{in_order}
 
 module _ {R : Type 0} (order : R → R → Ordering) (total : IsTotalOrder order) where
   abbrev ties : R → R → Bool
@@ -23,8 +24,8 @@ module _ {R : Type 0} (order : R → R → Ordering) (total : IsTotalOrder order
   abbrev IsApart : R → List R → Type 0
   IsApart r xs = AllByRecursion (λ x. ties r x ≡ false) xs
 
-  -- a key comes once at most
-  abbrev IsOnce : List R → Type 0
+  -- no two of the rows have one place in the order
+  abbrev pub IsOnce : List R → Type 0
   IsOnce xs = (r : R) → length (filter (ties r) xs) ≤ 1
 
   put_by : (r x : R) (xs : List R) → ties r x ≡ false → IsPermutation (r ∷ xs) (put order r xs) → (o : Ordering) → order r x ≡ o → IsPermutation (r ∷ x ∷ xs) (match_ordering o (r ∷ x ∷ xs) (r ∷ xs) (x ∷ put order r xs))
@@ -41,17 +42,26 @@ module _ {R : Type 0} (order : R → R → Ordering) (total : IsTotalOrder order
   none_ties r [] apart = refl
   none_ties r (x ∷ xs) apart = rw apart.0 (none_ties r xs apart.1)
 
-  by_tie : (r x : R) (xs : List R) → AllByRecursion (λ y. order x y ≡ Less) xs → length (filter (ties r) xs) ≤ 1 → (o : Ordering) → order r x ≡ o → length (filter (ties r) (x ∷ xs)) ≤ 1
-  by_tie r x xs cursor few Less e = rw e few
-  by_tie r x xs cursor few Greater e = rw e few
-  by_tie r x xs cursor few Equal e =
-      let none : filter (ties r) xs ≡ [] = none_ties r xs (all_weaker (λ y. order x y ≡ Less) (λ y. ties r y ≡ false) (λ y less. ap is_eq (total.congr r x y e ∙ less)) xs cursor) in
+  by_tie : (r x : R) (xs : List R) → IsApart x xs → length (filter (ties r) xs) ≤ 1 → (o : Ordering) → order r x ≡ o → length (filter (ties r) (x ∷ xs)) ≤ 1
+  by_tie r x xs apart few Less e = rw e few
+  by_tie r x xs apart few Greater e = rw e few
+  by_tie r x xs apart few Equal e =
+      let none : filter (ties r) xs ≡ [] = none_ties r xs (all_weaker (λ y. ties x y ≡ false) (λ y. ties r y ≡ false) (λ y none. ap is_eq (total.congr r x y e) ∙ none) xs apart) in
       rw (e, none) (omega arith)
 
-  sorted_once : (xs : List R) → IsStrictlySortedBy order xs → IsOnce xs
+  pub sorted_once : (xs : List R) → IsStrictlySortedBy order xs → IsOnce xs
   unfolding IsStrictlySortedBy
   sorted_once [] sorted r = omega arith
-  sorted_once (x ∷ xs) sorted r = by_tie r x xs sorted.0 (sorted_once xs sorted.1 r) (order r x) refl
+  sorted_once (x ∷ xs) sorted r = by_tie r x xs (all_weaker (λ y. order x y ≡ Less) (λ y. ties x y ≡ false) (λ y less. ap is_eq less) xs sorted.0) (sorted_once xs sorted.1 r) (order r x) refl
+
+  -- each row is at another place than those behind it
+  abbrev pub AreApart : List R → Type 0
+  AreApart [] = Unit {0}
+  AreApart (x ∷ xs) = IsApart x xs × AreApart xs
+
+  pub apart_once : (xs : List R) → AreApart xs → IsOnce xs
+  apart_once [] apart r = omega arith
+  apart_once (x ∷ xs) apart r = by_tie r x xs apart.0 (apart_once xs apart.1 r) (order r x) refl
 
   once_moved : (xs ys : List R) → IsPermutation xs ys → IsOnce xs → IsOnce ys
   once_moved xs ys same once r = omega (arith, length_permutation (filter (ties r) xs) (filter (ties r) ys) (IsPermutation-filter (ties r) xs ys same), once r)
@@ -74,7 +84,8 @@ module _ {R : Type 0} (order : R → R → Ordering) (total : IsTotalOrder order
       let few = rw itself at (once x) in
       apart_of x xs (omega (arith, few))
 
-  ordered : (ys : List R) → IsOnce ys → IsStrictlySortedBy order (in_order order ys) × IsPermutation ys (in_order order ys)
+  -- such rows stand in the order, each once, when they are put in order
+  pub ordered : (ys : List R) → IsOnce ys → IsStrictlySortedBy order (in_order order ys) × IsPermutation ys (in_order order ys)
   unfolding IsStrictlySortedBy
   ordered [] once = (tt, IsPermutation-refl [])
   ordered (y ∷ ys) once =
@@ -86,3 +97,45 @@ module _ {R : Type 0} (order : R → R → Ordering) (total : IsTotalOrder order
   again_in_order rs ys sorted same =
       let made = ordered ys (once_moved rs ys same (sorted_once rs sorted)) in
       same_sorted order total (in_order order ys) rs made.0 sorted (IsPermutation-sym rs (in_order order ys) (IsPermutation-trans rs ys (in_order order ys) same made.1))
+
+-- ---- the same of those that pass a test
+
+fewer_by : {R : Type 0} (t u : R → Bool) → ((r : R) → t r ≡ true → u r ≡ true) → (x : R) (xs : List R) → length (filter t xs) ≤ length (filter u xs) → (a b : Bool) → t x ≡ a → u x ≡ b → length (filter t (x ∷ xs)) ≤ length (filter u (x ∷ xs))
+fewer_by t u follows x xs less true true e f = rw (e, f) (omega (arith, less))
+fewer_by t u follows x xs less true false e f = absurd (false≢true (sym f ∙ follows x e))
+fewer_by t u follows x xs less false true e f = rw (e, f) (omega (arith, less))
+fewer_by t u follows x xs less false false e f = rw (e, f) less
+
+-- where one test follows from another, no fewer rows pass it
+fewer : {R : Type 0} (t u : R → Bool) → ((r : R) → t r ≡ true → u r ≡ true) → (xs : List R) → length (filter t xs) ≤ length (filter u xs)
+fewer t u follows [] = omega arith
+fewer t u follows (x ∷ xs) = fewer_by t u follows x xs (fewer t u follows xs) (t x) (u x) refl refl
+
+kept_by : {R : Type 0} (t p : R → Bool) (x : R) (xs : List R) → length (filter t (filter p xs)) ≤ length (filter t xs) → (a b : Bool) → p x ≡ a → t x ≡ b → length (filter t (filter p (x ∷ xs))) ≤ length (filter t (x ∷ xs))
+kept_by t p x xs less true true e f = rw (e, f) (omega (arith, less))
+kept_by t p x xs less true false e f = rw (e, f) less
+kept_by t p x xs less false true e f = rw (e, f) (omega (arith, less))
+kept_by t p x xs less false false e f = rw (e, f) less
+
+-- of the rows that pass a test no more pass another than of all
+fewer_kept : {R : Type 0} (t p : R → Bool) (xs : List R) → length (filter t (filter p xs)) ≤ length (filter t xs)
+fewer_kept t p [] = omega arith
+fewer_kept t p (x ∷ xs) = kept_by t p x xs (fewer_kept t p xs) (p x) (t x) refl refl
+
+pub once_kept : {R : Type 0} (order : R → R → Ordering) (total : IsTotalOrder order) (p : R → Bool) (xs : List R) → IsOnce order total xs → IsOnce order total (filter p xs)
+once_kept order total p xs once r = omega (arith, fewer_kept (ties order total r) p xs, once r)
+
+-- it is the same to put rows in order and to take those that pass
+pub kept_in_order : {R : Type 0} (order : R → R → Ordering) (total : IsTotalOrder order) (p : R → Bool) (xs : List R) → IsOnce order total xs → filter p (in_order order xs) ≡ in_order order (filter p xs)
+kept_in_order order total p xs once =
+    let all = in_order order xs in
+    let made = ordered order total xs once in
+    let some = ordered order total (filter p xs) (once_kept order total p xs once) in
+    same_sorted order total (filter p all) (in_order order (filter p xs)) (IsStrictlySortedBy-filter order p all made.0) some.0
+    (IsPermutation-trans (filter p all) (filter p xs) (in_order order (filter p xs)) (IsPermutation-filter p all xs (IsPermutation-sym xs all made.1)) some.1)
+
+-- ---- rows that ascend by a key, in another order
+
+-- they have no two at one place of an order that sets different keys apart
+pub once_by_key : {R : Type 0} (key order : R → R → Ordering) (total : IsTotalOrder key) (total' : IsTotalOrder order) → ((a b : R) → is_eq (order a b) ≡ true → is_eq (key a b) ≡ true) → (xs : List R) → IsStrictlySortedBy key xs → IsOnce order total' xs
+once_by_key key order total total' apart xs sorted r = omega (arith, fewer (ties order total' r) (ties key total r) (apart r) xs, sorted_once key total xs sorted r)

@@ -11,17 +11,16 @@ use Rattle.std.proofs.lemmas.Bool.{false≢true}
 use Rattle.std.proofs.lemmas.Cmp.{then_total, on_total}
 use Rattle.std.proofs.lemmas.List.{length-map}
 use Rattle.std.proofs.lemmas.List.Kept.{IsStrictlySortedBy-filter}
-use Rattle.std.proofs.lemmas.List.Sorted.{IsPermutation-sym, IsPermutation-trans, length_permutation}
+use Rattle.std.proofs.lemmas.List.Sorted.{IsPermutation-sym, IsPermutation-trans, IsPermutation-map, length_permutation}
 use Rattle.sqlite.specs.Effect.{Database}
 use Rattle.sqlite.specs.Order.{Row, column}
 use Rattle.sqlite.specs.declared.types.Value.TheVariants.{Null}
 use Rattle.sqlite_value.proofs.OrderLemmas.{value_cmp_total}
-use Rattle.sqlite_trees.proofs.ListLemmas.{IsPermutation-filter}
+use Rattle.sqlite_trees.proofs.ListLemmas.{IsPermutation-filter, all-permutation}
 use Rattle.plant_base.specs.State.{put}
 use Rattle.sql_tables.specs.TableDefs.{TableDef}
 use Rattle.sql_tables.specs.Rows.{columns_of}
 use Rattle.sql_tables.specs.StoredRows.{HasStoredRows}
-use Rattle.sql_queries.specs.Selects.{first_of}
 use Rattle.sql_queries.proofs.RowsUpToOrder.{one_tree}
 use Rattle.sql_queries.specs.Paging.{is_beyond, stored_order}
 use Rattle.plant_tables.proofs.RowChangeIsTableChange.{all_filter}
@@ -29,9 +28,9 @@ use Rattle.plant_tables_columns.specs.DecodedRows.{all_from}
 use Rattle.plant_tables_columns.proofs.OptionalValues.{some_same}
 use Rattle.plant_tables_read.proofs.SortedRowsAreUnique.{sorted_keys}
 use Rattle.plant_tables_read.proofs.AllRowsDecoded.{map_same, all_again}
-use Rattle.plant_keyed.specs.Sorting.{in_order}
+use Rattle.plant_worklists.specs.Sorting.{in_order}
 use Rattle.plant_keyed.specs.Paging.{IsPaged}
-use Rattle.plant_keyed.proofs.InOrderAgain.{again_in_order}
+use Rattle.plant_keyed.proofs.InOrderAgain.{IsOnce, again_in_order, kept_in_order, ordered}
 use Rattle.plant_worklists.proofs.FoundRows.{of_mapped, take_mapped}
 use Rattle.plant_worklists.specs.Pages.{page_size, page_of}
 use Rattle.plant_worklists.specs.declared.page.Page.{Page}
@@ -83,16 +82,16 @@ all_take P zero xs all = tt
 all_take P (suc n) [] all = tt
 all_take P (suc n) (x ∷ xs) all = (all.0, all_take P n xs all.1)
 
-module _ {R : Type 0} (row_from : Row → Option R) (written : R → Row) (P : R → Type 0) (again : (r : R) → P r → row_from (written r) ≡ Some r) (table_def : TableDef) (order : R → R → Ordering)
-    (by_key : (a b : R) → order a b ≡ stored_order (first_of table_def.keys) (written a) (written b))
+module _ {R : Type 0} (row_from : Row → Option R) (written : R → Row) (P : R → Type 0) (again : (r : R) → P r → row_from (written r) ≡ Some r) (table_def : TableDef) (by : List ℕ) (order : R → R → Ordering)
+    (by_columns : (a b : R) → order a b ≡ stored_order by (written a) (written b))
     (db : Database) (rs : List R) (represents : HasStoredRows db table_def (map written rs)) (sorted : IsStrictlySortedBy order rs) (all : AllByRecursion P rs)
     (places : List ℕ) (next : ℕ) (values : Row) (p : R → Bool) (tests : (r : R) → is_beyond places next values (written r) ≡ p r) where
-  -- the rows of a page are the first of those that pass, as they were written
-  pub page_again : (page : Page R) → IsPaged db table_def row_from places next values page → page ≡ page_of (filter p rs)
+  -- the rows of a page in the order of their list are the first of those that pass, as they were written
+  pub page_again : (page : Page R) → IsPaged db table_def by row_from places next values page → page ≡ page_of (filter p rs)
   page_again page is =
       let paged = is.paged in
-      let key = stored_order (first_of table_def.keys) in
-      let total = stored_total (first_of table_def.keys) in
+      let key = stored_order by in
+      let total = stored_total by in
       let here = map (columns_of table_def) (db.trees represents.tree) in
       let test = is_beyond places next values in
       let there : IsPermutation paged.whole (filter test here) = subst (λ tree. IsPermutation paged.whole (filter test (map (columns_of table_def) (db.trees tree)))) (one_tree db.schema table_def paged.at paged.tree represents.at represents.tree paged.declared represents.declared) paged.same in
@@ -100,7 +99,7 @@ module _ {R : Type 0} (row_from : Row → Option R) (written : R → Row) (P : R
       let list = map written (filter p rs) in
       let moved : IsPermutation paged.whole list = subst (IsPermutation paged.whole) (of_mapped written test p tests rs) (IsPermutation-trans paged.whole (filter test here) (filter test (map written rs)) there back) in
       let turned : IsPermutation list paged.whole = IsPermutation-sym paged.whole list moved in
-      let strict : IsStrictlySortedBy key list = sorted_keys written order key by_key (filter p rs) (IsStrictlySortedBy-filter order p rs sorted) in
+      let strict : IsStrictlySortedBy key list = sorted_keys written order key by_columns (filter p rs) (IsStrictlySortedBy-filter order p rs sorted) in
       let put_back : in_order key paged.whole ≡ list = again_in_order key total list paged.whole strict turned in
       let long : length (in_order key paged.whole) ≡ length paged.whole = ap length put_back ∙ length_permutation paged.whole list moved in
       let one : paged.whole ≡ list = sym (stays_in_order key total paged.whole paged.sorted long) ∙ put_back in
@@ -109,3 +108,27 @@ module _ {R : Type 0} (row_from : Row → Option R) (written : R → Row) (P : R
       let rows_are : page.rows ≡ take page_size (filter p rs) = some_same page.rows (map (λ r. r) (take page_size (filter p rs))) (sym is.read ∙ reported) ∙ map_same (take page_size (filter p rs)) in
       let more_is : page.has_more ≡ nat_lt page_size (length (filter p rs)) = paged.reported ∙ ap (λ l. nat_lt page_size (length l)) one ∙ ap (nat_lt page_size) (length-map (filter p rs) written) in
       λ i. record { rows = rows_are i; has_more = more_is i }
+
+-- ---- a page in another order than that of the list
+
+-- a table has its rows whatever order they are listed in
+pub relisted : {R : Type 0} (written : R → Row) (db : Database) (table_def : TableDef) (rs list : List R) → IsPermutation rs list → HasStoredRows db table_def (map written rs) → HasStoredRows db table_def (map written list)
+relisted written db table_def rs list moved has = record {
+  at = has.at;
+  tree = has.tree;
+  declared = has.declared;
+  shaped = has.shaped;
+  same = IsPermutation-trans (map written list) (map written rs) (map (columns_of table_def) (db.trees has.tree)) (IsPermutation-map written list rs (IsPermutation-sym rs list moved)) has.same;
+}
+
+module _ {R : Type 0} (row_from : Row → Option R) (written : R → Row) (P : R → Type 0) (again : (r : R) → P r → row_from (written r) ≡ Some r) (table_def : TableDef) (by : List ℕ) (order : R → R → Ordering) (total : IsTotalOrder order)
+    (by_columns : (a b : R) → order a b ≡ stored_order by (written a) (written b))
+    (db : Database) (rs : List R) (represents : HasStoredRows db table_def (map written rs)) (once : IsOnce order total rs) (all : AllByRecursion P rs)
+    (places : List ℕ) (next : ℕ) (values : Row) (p : R → Bool) (tests : (r : R) → is_beyond places next values (written r) ≡ p r) where
+  -- where no two rows have one place in the order, the rows of a page are the first of those that pass, as they are sorted
+  pub page_in_order : (page : Page R) → IsPaged db table_def by row_from places next values page → page ≡ page_of (in_order order (filter p rs))
+  page_in_order page is =
+      let list = in_order order rs in
+      let made = ordered order total rs once in
+      page_again row_from written P again table_def by order by_columns db list (relisted written db table_def rs list made.1 represents) made.0 (all-permutation P rs list made.1 all) places next values p tests page is
+      ∙ ap page_of (kept_in_order order total p rs once)

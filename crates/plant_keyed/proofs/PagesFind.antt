@@ -1,42 +1,56 @@
 -- What a page finds among the tables of a good state.
-use Rattle.std.proofs.Common.{◌≡◌, ◌∙◌, ℕ, ◌+◌, Bool, true, false, not, ◌&&◌, List, [], ◌∷◌, Option, Some, None, refl, sym, ap, ap₂, codes, pos}
+use Rattle.std.proofs.Common.{◌≡◌, ◌∙◌, ℕ, ◌+◌, Bool, true, false, ◌&&◌, ◌==◌, if◌then◌else◌, List, [], ◌∷◌, Option, Some, None, refl, sym, ap, ap₂, codes, pos}
+use Rattle.std.specs.Cmp.{IsTotalOrder, unsigned_ties}
+use Rattle.std.specs.List.{AllByRecursion}
 use Rattle.std.specs.Ordering.{is_eq, is_gt, nat_cmp, ordering_then}
 use Rattle.std.specs.declared.cmp.Ordering.{Ordering}
 use Rattle.std.specs.declared.cmp.Ordering.TheVariants.{Less, Equal, Greater}
+use Rattle.std.proofs.lemmas.Cmp.{nat_cmp_total, on_total}
 use Rattle.sqlite.specs.Effect.{Database}
 use Rattle.sqlite.specs.Order.{Row}
+use Rattle.sqlite.specs.Values.{bound_value}
 use Rattle.sqlite.specs.declared.types.Value.{Value}
 use Rattle.sqlite.specs.declared.types.Value.TheVariants.{Text}
+use Rattle.sqlite_sql.specs.Ops.{is_null}
 use Rattle.sqlite_value.specs.Order.{value_cmp}
 use Rattle.sqlite_value.proofs.OrderLemmas.{value_cmp-Int, value_cmp-Text}
-use Rattle.plant_base.specs.RowValues.{HasDefinitionValues, HasLotValues, HasHoldValues, HasRecallValues}
-use Rattle.plant_base.specs.State.{State, newest_schema, id_cmp, same, definition_order, job_order, lot_order, hold_order, recall_order}
+use Rattle.plant_base.specs.RowValues.{HasClassValues, HasDefinitionValues, HasLotValues, HasHoldValues, HasRecallValues}
+use Rattle.plant_base.specs.State.{State, newest_schema, id_cmp, same, class_order, definition_order, job_order, lot_order, hold_order, recall_order}
 use Rattle.plant_base.specs.Words.{job_state_name}
 use Rattle.plant_base.specs.declared.rows.BatchRow.{BatchRow}
+use Rattle.plant_base.specs.declared.rows.Class.{Class}
 use Rattle.plant_base.specs.declared.rows.Definition.{Definition}
 use Rattle.plant_base.specs.declared.rows.Hold.{Hold}
 use Rattle.plant_base.specs.declared.rows.Job.{Job}
 use Rattle.plant_base.specs.declared.rows.Lifting.{Lifting}
 use Rattle.plant_base.specs.declared.rows.Lot.{Lot}
 use Rattle.plant_base.specs.declared.rows.Recall.{Recall}
+use Rattle.plant_base.specs.declared.rows.Receipt.{Receipt}
 use Rattle.plant_base.specs.declared.rows.Sublot.{Sublot}
 use Rattle.plant_base.specs.declared.states.JobState.{JobState}
+use Rattle.plant_base.proofs.PutKeepsOrder.{all_weaker}
 use Rattle.plant_view.specs.Tables.{Tables, tables_of, batch_row_order, sublot_order}
+use Rattle.plant_invariant.specs.Receipts.{AreApart}
 use Rattle.plant_invariant.specs.StateInvariant.{StateInvariant}
-use Rattle.plant_tables.specs.DeskTableDefs.{definition_table, job_table, batch_table, lot_table, hold_table, recall_table, sublot_table}
+use Rattle.plant_tables.specs.DeskTableDefs.{class_table, definition_table, job_table, batch_table, lot_table, hold_table, receipt_table, recall_table, sublot_table}
 use Rattle.plant_tables.specs.Keyed.{HoldsTables}
 use Rattle.plant_tables_columns.specs.Kinds.{number, flag}
-use Rattle.plant_tables_columns.specs.ValidValues.{HasJobValues, HasBatchRowValues, HasSublotValues, HasValidValues}
-use Rattle.plant_tables_columns.specs.TableColumns.{row_of_definition, row_of_job, row_of_batch, row_of_lot, row_of_hold, row_of_recall, row_of_sublot, definition_from, job_from, batch_from, lot_from, hold_from, recall_read, sublot_from}
-use Rattle.plant_tables_columns.proofs.RowLaws.{definition_reads, job_reads, batch_reads, lot_reads, hold_reads, sublot_reads}
+use Rattle.plant_tables_columns.specs.Naming.{recall_state_name}
+use Rattle.plant_tables_columns.specs.declared.recalls.RecallState.{RecallState}
+use Rattle.plant_tables_columns.specs.declared.recalls.RecallState.TheVariants as state
+use Rattle.plant_tables_columns.specs.ValidValues.{HasJobValues, HasBatchRowValues, HasReceiptRowValues, HasSublotValues, HasValidValues}
+use Rattle.plant_tables_columns.specs.TableColumns.{row_of_class, row_of_definition, row_of_job, row_of_batch, row_of_lot, row_of_hold, row_of_receipt, row_of_recall, row_of_sublot, class_from, definition_from, job_from, batch_from, lot_from, hold_from, receipt_from, recall_read, sublot_from}
+use Rattle.plant_tables_columns.proofs.RowLaws.{class_reads, definition_reads, job_reads, batch_reads, lot_reads, hold_reads, receipt_again, sublot_reads}
 use Rattle.plant_tables_read.proofs.SortedRowsAreUnique.{int_cmp_pos}
 use Rattle.plant_invariant_tables.proofs.TablesHaveValidValues.{in_order, valid_values, newest_known}
 use Rattle.sql_queries.specs.Paging.{is_beyond}
+use Rattle.sql_queries.specs.Selects.{first_of}
 use Rattle.plant_worklists.specs.Pages.{page_size, page_of}
-use Rattle.plant_worklists.specs.Worklists.{text_after, is_after, is_order_in, orders_in, is_open_batch, open_batches, is_lot_of, lots_of, is_hold_on, holds_on, is_open_recall, open_recalls, is_definition_in, definitions_in, lots_after, sublots_after, holds_after}
+use Rattle.plant_worklists.specs.Worklists.{text_after, is_after, is_order_in, orders_in, agree, is_batch_in, batches_in, is_lot_of, lots_of, is_hold_on, holds_on, is_recall_in, recalls_in, classes_after, is_definition_in, definitions_in, lots_after, sublots_after, holds_after, number_after, number_order, is_number_after, receipts_by_number}
 use Rattle.plant_worklists.specs.declared.page.Page.{Page}
 use Rattle.plant_keyed.specs.Paging.{IsPaged}
-use Rattle.plant_keyed.proofs.PageIsFirstRows.{page_again}
+use Rattle.plant_keyed.proofs.InOrderAgain.{AreApart as ArePlacesApart, apart_once}
+use Rattle.plant_keyed.proofs.PageIsFirstRows.{page_again, page_in_order}
 use Rattle.plant_keyed.proofs.AbstractionIsState.{recall_again}
 use Rattle.plant_keyed.proofs.ComparisonTests.{text_is, number_is}
 
@@ -50,7 +64,7 @@ then_equal Greater = refl
 by_text : (a b : List ℕ) → id_cmp a b ≡ ordering_then (value_cmp (Text a) (Text b)) Equal
 by_text a b = sym (then_equal (value_cmp (Text a) (Text b)) ∙ value_cmp-Text a b)
 
-by_two_texts : (a b c d : List ℕ) → ordering_then (id_cmp a b) (id_cmp c d) ≡ ordering_then (value_cmp (Text a) (Text b)) (ordering_then (value_cmp (Text c) (Text d)) Equal)
+pub by_two_texts : (a b c d : List ℕ) → ordering_then (id_cmp a b) (id_cmp c d) ≡ ordering_then (value_cmp (Text a) (Text b)) (ordering_then (value_cmp (Text c) (Text d)) Equal)
 by_two_texts a b c d = λ i. ordering_then (sym (value_cmp-Text a b) i) (by_text c d i)
 
 pub number_cmp : (m n : ℕ) → value_cmp (number m) (number n) ≡ nat_cmp m n
@@ -62,6 +76,17 @@ by_number m n = sym (then_equal (value_cmp (number m) (number n)) ∙ number_cmp
 pub by_text_number : (a b : List ℕ) (m n : ℕ) → ordering_then (id_cmp a b) (nat_cmp m n) ≡ ordering_then (value_cmp (Text a) (Text b)) (ordering_then (value_cmp (number m) (number n)) Equal)
 by_text_number a b m n = ap₂ ordering_then (sym (value_cmp-Text a b)) (by_number m n)
 
+-- ---- receipts, by their numbers
+
+number_order_total : IsTotalOrder number_order
+number_order_total = on_total (λ r. r.seq) nat_cmp_total
+
+-- those of different numbers are at different places
+places_apart : (rs : List Receipt) → AreApart rs → ArePlacesApart number_order number_order_total rs
+places_apart [] apart = tt
+places_apart (r ∷ rs) apart =
+    (all_weaker (λ q. (r.seq == q.seq) ≡ false) (λ q. is_eq (number_order r q) ≡ false) (λ q other. sym (unsigned_ties r.seq q.seq) ∙ other) rs apart.0, places_apart rs apart.1)
+
 -- ---- the value that a list is of, and the place to go on from
 
 above_is : (cursor : Option (List ℕ)) (id : List ℕ) → is_gt (value_cmp (Text id) (Text (text_after cursor))) ≡ is_after cursor id
@@ -70,9 +95,26 @@ above_is cursor id = ap is_gt (value_cmp-Text id (text_after cursor))
 of_text : (cursor : Option (List ℕ)) (a b id : List ℕ) → (is_eq (value_cmp (Text a) (Text b)) && is_gt (value_cmp (Text id) (Text (text_after cursor)))) ≡ (same a b && is_after cursor id)
 of_text cursor a b id = ap₂ (λ x y. x && y) (text_is a b) (above_is cursor id)
 
-open_is : (closed : Bool) → is_eq (value_cmp (flag closed) (flag false)) ≡ not closed
-open_is true = number_is 1 0
-open_is false = number_is 0 0
+flags_are : (a b : Bool) → is_eq (value_cmp (flag a) (flag b)) ≡ agree a b
+flags_are true true = number_is 1 1
+flags_are true false = number_is 1 0
+flags_are false true = number_is 0 1
+flags_are false false = number_is 0 0
+
+pub flag_bound : (b : Bool) → bound_value (flag b) ≡ flag b
+flag_bound true = refl
+flag_bound false = refl
+
+pub flag_given : (b : Bool) → is_null (bound_value (flag b)) ≡ false
+flag_given true = refl
+flag_given false = refl
+
+-- the state of the recalls that are open, or of those that were lifted
+abbrev pub recall_state : Bool → RecallState
+recall_state are_open = if are_open then state.Open else state.Lifted
+
+abbrev name_of : Bool → Value
+name_of are_open = Text (recall_state_name (recall_state are_open))
 
 -- what a page is asked for
 abbrev pub asked_after : Option (List ℕ) → Row
@@ -90,54 +132,71 @@ module _ (db : Database) (s : State) (valid : StateInvariant s) (holds : HoldsTa
   values : HasValidValues t
   values = valid_values s valid newest_schema newest_known
 
-  pub orders_are : (state : JobState) (cursor : Option (List ℕ)) (page : Page Job) → IsPaged db job_table job_from (7 ∷ []) 1 (asked (Text (job_state_name state)) cursor) page → page ≡ page_of (orders_in s state cursor)
+  pub orders_are : (state : JobState) (cursor : Option (List ℕ)) (page : Page Job) → IsPaged db job_table (first_of job_table.keys) job_from (7 ∷ []) 1 (asked (Text (job_state_name state)) cursor) page → page ≡ page_of (orders_in s state cursor)
   orders_are state cursor =
-      page_again job_from row_of_job HasJobValues (λ r h. job_reads.again r h tt) job_table job_order (λ a b. by_text a.order.order b.order.order) db s.jobs (holds.each 5 job_table refl) (in_order newest_schema s valid).keyed.jobs values.jobs (7 ∷ []) 1 (asked (Text (job_state_name state)) cursor)
+      page_again job_from row_of_job HasJobValues (λ r h. job_reads.again r h tt) job_table (first_of job_table.keys) job_order (λ a b. by_text a.order.order b.order.order) db s.jobs (holds.each 5 job_table refl) (in_order newest_schema s valid).keyed.jobs values.jobs (7 ∷ []) 1 (asked (Text (job_state_name state)) cursor)
       (is_order_in state cursor) (λ r. of_text cursor (job_state_name r.state) (job_state_name state) r.order.order)
 
-  pub open_batches_are : (cursor : Option (List ℕ)) (page : Page BatchRow) → IsPaged db batch_table batch_from (9 ∷ []) 1 (asked (flag false) cursor) page → page ≡ page_of (open_batches s cursor)
-  open_batches_are cursor =
-      page_again batch_from row_of_batch HasBatchRowValues (λ r h. batch_reads.again r h tt) batch_table batch_row_order (λ a b. by_text a.batch.id b.batch.id) db t.batches (holds.each 6 batch_table refl) (in_order newest_schema s valid).keyed.batches values.batches (9 ∷ []) 1 (asked (flag false) cursor)
-      (is_open_batch cursor) (λ r. ap₂ (λ x y. x && y) (open_is r.closed) (above_is cursor r.batch.id))
+  pub batches_are : (closed : Bool) (cursor : Option (List ℕ)) (page : Page BatchRow) → IsPaged db batch_table (first_of batch_table.keys) batch_from (9 ∷ []) 1 (asked (flag closed) cursor) page → page ≡ page_of (batches_in s closed cursor)
+  batches_are closed cursor =
+      page_again batch_from row_of_batch HasBatchRowValues (λ r h. batch_reads.again r h tt) batch_table (first_of batch_table.keys) batch_row_order (λ a b. by_text a.batch.id b.batch.id) db t.batches (holds.each 6 batch_table refl) (in_order newest_schema s valid).keyed.batches values.batches (9 ∷ []) 1 (asked (flag closed) cursor)
+      (is_batch_in closed cursor) (λ r. ap₂ (λ x y. x && y) (flags_are r.closed closed) (above_is cursor r.batch.id))
 
-  pub lots_are : (def : List ℕ) (cursor : Option (List ℕ)) (page : Page Lot) → IsPaged db lot_table lot_from (2 ∷ []) 1 (asked (Text def) cursor) page → page ≡ page_of (lots_of s def cursor)
+  pub lots_are : (def : List ℕ) (cursor : Option (List ℕ)) (page : Page Lot) → IsPaged db lot_table (first_of lot_table.keys) lot_from (2 ∷ []) 1 (asked (Text def) cursor) page → page ≡ page_of (lots_of s def cursor)
   lots_are def cursor =
-      page_again lot_from row_of_lot HasLotValues (λ r h. lot_reads.again r h tt) lot_table lot_order (λ a b. by_text a.id b.id) db s.lots (holds.each 9 lot_table refl) (in_order newest_schema s valid).keyed.lots values.lots (2 ∷ []) 1 (asked (Text def) cursor)
+      page_again lot_from row_of_lot HasLotValues (λ r h. lot_reads.again r h tt) lot_table (first_of lot_table.keys) lot_order (λ a b. by_text a.id b.id) db s.lots (holds.each 9 lot_table refl) (in_order newest_schema s valid).keyed.lots values.lots (2 ∷ []) 1 (asked (Text def) cursor)
       (is_lot_of def cursor) (λ r. of_text cursor r.def def r.id)
 
-  pub holds_are : (lot : List ℕ) (cursor : Option (List ℕ)) (page : Page Hold) → IsPaged db hold_table hold_from (1 ∷ []) 2 (asked (Text lot) cursor) page → page ≡ page_of (holds_on s lot cursor)
+  pub holds_are : (lot : List ℕ) (cursor : Option (List ℕ)) (page : Page Hold) → IsPaged db hold_table (first_of hold_table.keys) hold_from (1 ∷ []) 2 (asked (Text lot) cursor) page → page ≡ page_of (holds_on s lot cursor)
   holds_are lot cursor =
-      page_again hold_from row_of_hold HasHoldValues (λ r h. hold_reads.again r h tt) hold_table hold_order (λ a b. by_two_texts a.lot b.lot a.id b.id) db s.holds (holds.each 12 hold_table refl) (in_order newest_schema s valid).keyed.holds values.holds (1 ∷ []) 2 (asked (Text lot) cursor)
+      page_again hold_from row_of_hold HasHoldValues (λ r h. hold_reads.again r h tt) hold_table (first_of hold_table.keys) hold_order (λ a b. by_two_texts a.lot b.lot a.id b.id) db s.holds (holds.each 12 hold_table refl) (in_order newest_schema s valid).keyed.holds values.holds (1 ∷ []) 2 (asked (Text lot) cursor)
       (is_hold_on lot cursor) (λ r. of_text cursor r.lot lot r.id)
 
-  pub recalls_are : (cursor : Option (List ℕ)) (page : Page Recall) → IsPaged db recall_table recall_read (3 ∷ []) 1 (asked (Text (codes "open")) cursor) page → page ≡ page_of (open_recalls s cursor)
-  recalls_are cursor =
-      page_again recall_read row_of_recall HasRecallValues recall_again recall_table recall_order (λ a b. by_text a.id b.id) db s.recalls (holds.each 15 recall_table refl) (in_order newest_schema s valid).keyed.recalls values.recalls (3 ∷ []) 1 (asked (Text (codes "open")) cursor)
-      (is_open_recall cursor) (λ r. stated r r.lifting)
+  pub recalls_are : (are_open : Bool) (cursor : Option (List ℕ)) (page : Page Recall) → IsPaged db recall_table (first_of recall_table.keys) recall_read (3 ∷ []) 1 (asked (name_of are_open) cursor) page → page ≡ page_of (recalls_in s are_open cursor)
+  recalls_are are_open cursor =
+      page_again recall_read row_of_recall HasRecallValues recall_again recall_table (first_of recall_table.keys) recall_order (λ a b. by_text a.id b.id) db s.recalls (holds.each 15 recall_table refl) (in_order newest_schema s valid).keyed.recalls values.recalls (3 ∷ []) 1 (asked (name_of are_open) cursor)
+      (is_recall_in are_open cursor) (λ r. stated r r.lifting are_open)
     where
-      stated : (r : Recall) (lifting : Option Lifting) → is_beyond (3 ∷ []) 1 (asked (Text (codes "open")) cursor) (row_of_recall (record r { lifting = lifting })) ≡ is_open_recall cursor (record r { lifting = lifting })
-      stated r None = ap₂ (λ x y. x && y) (text_is (codes "open") (codes "open")) (above_is cursor r.id)
-      stated r (Some l) = ap₂ (λ x y. x && y) (text_is (codes "lifted") (codes "open")) (above_is cursor r.id)
+      stated : (r : Recall) (lifting : Option Lifting) (are : Bool) → is_beyond (3 ∷ []) 1 (asked (name_of are) cursor) (row_of_recall (record r { lifting = lifting })) ≡ is_recall_in are cursor (record r { lifting = lifting })
+      stated r None true = ap₂ (λ x y. x && y) (text_is (codes "open") (codes "open")) (above_is cursor r.id)
+      stated r None false = ap₂ (λ x y. x && y) (text_is (codes "open") (codes "lifted")) (above_is cursor r.id)
+      stated r (Some l) true = ap₂ (λ x y. x && y) (text_is (codes "lifted") (codes "open")) (above_is cursor r.id)
+      stated r (Some l) false = ap₂ (λ x y. x && y) (text_is (codes "lifted") (codes "lifted")) (above_is cursor r.id)
 
-  pub definitions_are : (class : List ℕ) (cursor : Option (List ℕ)) (page : Page Definition) → IsPaged db definition_table definition_from (2 ∷ []) 1 (asked (Text class) cursor) page → page ≡ page_of (definitions_in s class cursor)
+  pub classes_are : (cursor : Option (List ℕ)) (page : Page Class) → IsPaged db class_table (first_of class_table.keys) class_from [] 1 (asked_after cursor) page → page ≡ page_of (classes_after s cursor)
+  classes_are cursor =
+      page_again class_from row_of_class HasClassValues (λ r h. class_reads.again r h tt) class_table (first_of class_table.keys) class_order (λ a b. by_text a.id b.id) db s.classes (holds.each 1 class_table refl) (in_order newest_schema s valid).keyed.classes values.classes [] 1 (asked_after cursor)
+      (λ r. is_after cursor r.id) (λ r. above_is cursor r.id)
+
+  pub definitions_are : (class : List ℕ) (cursor : Option (List ℕ)) (page : Page Definition) → IsPaged db definition_table (first_of definition_table.keys) definition_from (2 ∷ []) 1 (asked (Text class) cursor) page → page ≡ page_of (definitions_in s class cursor)
   definitions_are class cursor =
-      page_again definition_from row_of_definition HasDefinitionValues (λ r h. definition_reads.again r h tt) definition_table definition_order (λ a b. by_text a.id b.id) db s.definitions (holds.each 2 definition_table refl) (in_order newest_schema s valid).keyed.definitions values.definitions (2 ∷ []) 1 (asked (Text class) cursor)
+      page_again definition_from row_of_definition HasDefinitionValues (λ r h. definition_reads.again r h tt) definition_table (first_of definition_table.keys) definition_order (λ a b. by_text a.id b.id) db s.definitions (holds.each 2 definition_table refl) (in_order newest_schema s valid).keyed.definitions values.definitions (2 ∷ []) 1 (asked (Text class) cursor)
       (is_definition_in class cursor) (λ r. of_text cursor r.class class r.id)
 
   -- ---- what is of the lots that come after one
 
-  pub lots_after_are : (cursor : Option (List ℕ)) (page : Page Lot) → IsPaged db lot_table lot_from [] 1 (asked_after cursor) page → page ≡ page_of (lots_after s cursor)
+  pub lots_after_are : (cursor : Option (List ℕ)) (page : Page Lot) → IsPaged db lot_table (first_of lot_table.keys) lot_from [] 1 (asked_after cursor) page → page ≡ page_of (lots_after s cursor)
   lots_after_are cursor =
-      page_again lot_from row_of_lot HasLotValues (λ r h. lot_reads.again r h tt) lot_table lot_order (λ a b. by_text a.id b.id) db s.lots (holds.each 9 lot_table refl) (in_order newest_schema s valid).keyed.lots values.lots [] 1 (asked_after cursor)
+      page_again lot_from row_of_lot HasLotValues (λ r h. lot_reads.again r h tt) lot_table (first_of lot_table.keys) lot_order (λ a b. by_text a.id b.id) db s.lots (holds.each 9 lot_table refl) (in_order newest_schema s valid).keyed.lots values.lots [] 1 (asked_after cursor)
       (λ r. is_after cursor r.id) (λ r. above_is cursor r.id)
 
   -- the stocks are those of the column
-  pub sublots_after_are : (cursor : Option (List ℕ)) (page : Page Sublot) → IsPaged db sublot_table sublot_from [] 1 (asked_after cursor) page → page ≡ page_of (sublots_after s cursor)
+  pub sublots_after_are : (cursor : Option (List ℕ)) (page : Page Sublot) → IsPaged db sublot_table (first_of sublot_table.keys) sublot_from [] 1 (asked_after cursor) page → page ≡ page_of (sublots_after s cursor)
   sublots_after_are cursor =
-      page_again sublot_from row_of_sublot HasSublotValues (λ r h. sublot_reads.again r h tt) sublot_table sublot_order (λ a b. by_text_number a.lot b.lot a.number b.number) db t.sublots (holds.each 10 sublot_table refl) (in_order newest_schema s valid).keyed.sublots values.sublots [] 1 (asked_after cursor)
+      page_again sublot_from row_of_sublot HasSublotValues (λ r h. sublot_reads.again r h tt) sublot_table (first_of sublot_table.keys) sublot_order (λ a b. by_text_number a.lot b.lot a.number b.number) db t.sublots (holds.each 10 sublot_table refl) (in_order newest_schema s valid).keyed.sublots values.sublots [] 1 (asked_after cursor)
       (λ r. is_after cursor r.lot) (λ r. above_is cursor r.lot)
 
-  pub holds_after_are : (cursor : Option (List ℕ)) (page : Page Hold) → IsPaged db hold_table hold_from [] 1 (asked_after cursor) page → page ≡ page_of (holds_after s cursor)
+  pub holds_after_are : (cursor : Option (List ℕ)) (page : Page Hold) → IsPaged db hold_table (first_of hold_table.keys) hold_from [] 1 (asked_after cursor) page → page ≡ page_of (holds_after s cursor)
   holds_after_are cursor =
-      page_again hold_from row_of_hold HasHoldValues (λ r h. hold_reads.again r h tt) hold_table hold_order (λ a b. by_two_texts a.lot b.lot a.id b.id) db s.holds (holds.each 12 hold_table refl) (in_order newest_schema s valid).keyed.holds values.holds [] 1 (asked_after cursor)
+      page_again hold_from row_of_hold HasHoldValues (λ r h. hold_reads.again r h tt) hold_table (first_of hold_table.keys) hold_order (λ a b. by_two_texts a.lot b.lot a.id b.id) db s.holds (holds.each 12 hold_table refl) (in_order newest_schema s valid).keyed.holds values.holds [] 1 (asked_after cursor)
       (λ r. is_after cursor r.lot) (λ r. above_is cursor r.lot)
+
+  -- ---- in another order than that of a table's key
+
+  -- no two receipts have one place, since their numbers differ
+  pub receipts_are : (cursor : Option ℕ) (page : Page Receipt) → IsPaged db receipt_table (2 ∷ []) receipt_from [] 2 (number (number_after cursor) ∷ number (page_size + 1) ∷ []) page → page ≡ page_of (receipts_by_number s cursor)
+  receipts_are cursor =
+      let once = apart_once number_order number_order_total s.receipts (places_apart s.receipts valid.receipts.apart) in
+      page_in_order receipt_from row_of_receipt HasReceiptRowValues receipt_again receipt_table (2 ∷ []) number_order number_order_total (λ a b. by_number a.seq b.seq)
+      db s.receipts (holds.each 14 receipt_table refl) once values.receipts [] 2 (number (number_after cursor) ∷ number (page_size + 1) ∷ [])
+      (is_number_after cursor) (λ r. ap is_gt (number_cmp r.seq (number_after cursor)))

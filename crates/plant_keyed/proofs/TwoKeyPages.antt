@@ -6,19 +6,23 @@ use Rattle.std.specs.List.Sorted.{IsStrictlySortedBy}
 use Rattle.std.specs.Ordering.{is_eq, is_gt, nat_cmp, ordering_then}
 use Rattle.std.specs.declared.cmp.Ordering.{Ordering}
 use Rattle.std.specs.declared.cmp.Ordering.TheVariants.{Less, Equal, Greater}
-use Rattle.std.proofs.lemmas.Cmp.{nat_cmp_total, on_total, then_total}
+use Rattle.std.proofs.lemmas.Bool.{false≢true}
+use Rattle.std.proofs.lemmas.Cmp.{nat_cmp_total, nat_list_cmp_total, on_total, then_total}
 use Rattle.sqlite.specs.Effect.{Database}
 use Rattle.sqlite.specs.Order.{Row}
 use Rattle.sqlite.specs.declared.types.Value.{Value}
 use Rattle.sqlite.specs.declared.types.Value.TheVariants.{Text}
+use Rattle.sqlite_trees.proofs.ListLemmas.{all-permutation}
 use Rattle.sqlite_value.specs.Order.{value_cmp}
 use Rattle.sqlite_value.proofs.OrderLemmas.{value_cmp-Text}
-use Rattle.plant_base.specs.State.{State, newest_schema, id_cmp, same, recipe_order, movement_order}
-use Rattle.plant_base.specs.Words.{recipe_state_name}
+use Rattle.plant_base.specs.State.{State, newest_schema, id_cmp, same, recipe_order, movement_order, job_order}
+use Rattle.plant_base.specs.Words.{recipe_state_name, job_state_name}
+use Rattle.plant_base.specs.declared.rows.Job.{Job}
 use Rattle.plant_base.specs.declared.rows.Movement.{Movement}
 use Rattle.plant_base.specs.declared.rows.MovementKind.{MovementKind}
 use Rattle.plant_base.specs.declared.rows.MovementKind.TheVariants as kind
 use Rattle.plant_base.specs.declared.rows.Recipe.{Recipe}
+use Rattle.plant_base.specs.declared.states.JobState.{JobState}
 use Rattle.plant_base.specs.declared.states.RecipeState.{RecipeState}
 use Rattle.plant_view.specs.Tables.{tables_of}
 use Rattle.plant_view.specs.Views.{is_named}
@@ -28,23 +32,26 @@ use Rattle.sql_tables.specs.TableDefs.{TableDef}
 use Rattle.sql_tables.specs.StoredRows.{HasStoredRows}
 use Rattle.sql_queries.specs.Paging.{is_beyond, stored_order}
 use Rattle.sql_queries.specs.Selects.{first_of}
-use Rattle.plant_tables.specs.DeskTableDefs.{recipe_table, movement_table}
+use Rattle.plant_tables.specs.DeskTableDefs.{recipe_table, movement_table, job_table}
 use Rattle.plant_tables.specs.Keyed.{HoldsTables}
 use Rattle.plant_tables_columns.specs.Booked.{other_lot}
 use Rattle.plant_tables_columns.specs.Kinds.{number}
-use Rattle.plant_tables_columns.specs.ValidValues.{HasRecipeValues, HasMovementRowValues, HasValidValues}
-use Rattle.plant_tables_columns.specs.TableColumns.{row_of_recipe, row_of_movement, recipe_from, movement_read}
-use Rattle.plant_tables_columns.proofs.RowLaws.{recipe_reads}
+use Rattle.plant_tables_columns.specs.ValidValues.{HasRecipeValues, HasMovementRowValues, HasJobValues, HasValidValues}
+use Rattle.plant_tables_columns.specs.TableColumns.{row_of_recipe, row_of_movement, row_of_job, recipe_from, movement_read, job_from}
+use Rattle.plant_tables_columns.proofs.RowLaws.{recipe_reads, job_reads}
 use Rattle.plant_invariant_tables.proofs.TablesHaveValidValues.{in_order, valid_values, newest_known}
 use Rattle.plant_worklists.specs.Pages.{page_size, page_of}
-use Rattle.plant_worklists.specs.Worklists.{recipe_after, recipes_in, movement_after, is_movement_after, lot_made, is_in_ledger, ledger_of}
+use Rattle.plant_worklists.specs.Worklists.{recipe_after, recipes_in, movement_after, is_movement_after, lot_made, is_in_ledger, ledger_of, due_after, due_order, orders_by_due}
 use Rattle.plant_worklists.specs.declared.page.Page.{Page}
+use Rattle.plant_worklists.specs.declared.cursors.DueCursor.{DueCursor}
 use Rattle.plant_worklists.specs.declared.cursors.MovementCursor.{MovementCursor}
 use Rattle.plant_worklists.specs.declared.cursors.RecipeCursor.{RecipeCursor}
 use Rattle.plant_worklists.proofs.MergedLists.{merged_filters}
 use Rattle.plant_keyed.specs.Paging.{IsOfBoth, IsPagedBeyond}
-use Rattle.plant_keyed.proofs.PagesFind.{by_number, by_text_number, number_cmp}
-use Rattle.plant_keyed.proofs.PageIsFirstRows.{page_again}
+use Rattle.plant_worklists.specs.Sorting.{in_order as as_sorted}
+use Rattle.plant_keyed.proofs.InOrderAgain.{IsOnce, kept_in_order, once_by_key, ordered}
+use Rattle.plant_keyed.proofs.PagesFind.{by_number, by_text_number, by_two_texts, number_cmp}
+use Rattle.plant_keyed.proofs.PageIsFirstRows.{page_again, relisted}
 use Rattle.plant_keyed.proofs.AbstractionIsState.{movement_again}
 use Rattle.plant_keyed.proofs.ComparisonTests.{named_is, text_is}
 use Rattle.std.proofs.Math.Bool.{or-false, and-or_distrib_right}
@@ -56,8 +63,8 @@ after true Less p = refl
 after true Equal p = or-false (is_gt p)
 after true Greater p = refl
 
-module _ {R : Type 0} (row_from : Row → Option R) (written : R → Row) (P : R → Type 0) (again : (r : R) → P r → row_from (written r) ≡ Some r) (table_def : TableDef) (order : R → R → Ordering) (total : IsTotalOrder order)
-    (by_key : (a b : R) → order a b ≡ stored_order (first_of table_def.keys) (written a) (written b))
+module _ {R : Type 0} (row_from : Row → Option R) (written : R → Row) (P : R → Type 0) (again : (r : R) → P r → row_from (written r) ≡ Some r) (table_def : TableDef) (by : List ℕ) (order : R → R → Ordering) (total : IsTotalOrder order)
+    (by_columns : (a b : R) → order a b ≡ stored_order by (written a) (written b))
     (db : Database) (rs : List R) (represents : HasStoredRows db table_def (map written rs)) (sorted : IsStrictlySortedBy order rs) (all : AllByRecursion P rs)
     (place next last : ℕ) (given first second : Value) (s : R → Bool) (o p : R → Ordering)
     (near : (r : R) → is_beyond (place ∷ next ∷ []) last (given ∷ first ∷ second ∷ number (page_size + 1) ∷ []) (written r) ≡ (s r && (is_eq (o r) && is_gt (p r))))
@@ -69,12 +76,26 @@ module _ {R : Type 0} (row_from : Row → Option R) (written : R → Row) (P : R
   is_far r = s r && is_gt (o r)
 
   -- the rows of such a page are the first of those that come after the place
-  pub beyond_again : (page : Page R) → IsPagedBeyond db table_def row_from order place next last given first second page → page ≡ page_of (filter (λ r. s r && is_gt (ordering_then (o r) (p r))) rs)
+  pub beyond_again : (page : Page R) → IsPagedBeyond db table_def by row_from order place next last given first second page → page ≡ page_of (filter (λ r. s r && is_gt (ordering_then (o r) (p r))) rs)
   beyond_again page is =
-      let one = page_again row_from written P again table_def order by_key db rs represents sorted all (place ∷ next ∷ []) last (given ∷ first ∷ second ∷ number (page_size + 1) ∷ []) is_near near is.first is.of_first in
-      let other = page_again row_from written P again table_def order by_key db rs represents sorted all (place ∷ []) next (given ∷ first ∷ number (page_size + 1) ∷ []) is_far far is.second is.of_second in
+      let one = page_again row_from written P again table_def by order by_columns db rs represents sorted all (place ∷ next ∷ []) last (given ∷ first ∷ second ∷ number (page_size + 1) ∷ []) is_near near is.first is.of_first in
+      let other = page_again row_from written P again table_def by order by_columns db rs represents sorted all (place ∷ []) next (given ∷ first ∷ number (page_size + 1) ∷ []) is_far far is.second is.of_second in
       is.as_one (filter is_near rs) (filter is_far rs) one other
       ∙ ap page_of (merged_filters order total is_near is_far rs sorted ∙ (λ i. filter (λ r. after (s r) (o r) (p r) i) rs))
+
+-- the same in another order than that of the list, where no two rows have one place in it
+module _ {R : Type 0} (row_from : Row → Option R) (written : R → Row) (P : R → Type 0) (again : (r : R) → P r → row_from (written r) ≡ Some r) (table_def : TableDef) (by : List ℕ) (order : R → R → Ordering) (total : IsTotalOrder order)
+    (by_columns : (a b : R) → order a b ≡ stored_order by (written a) (written b))
+    (db : Database) (rs : List R) (represents : HasStoredRows db table_def (map written rs)) (once : IsOnce order total rs) (all : AllByRecursion P rs)
+    (place next last : ℕ) (given first second : Value) (s : R → Bool) (o p : R → Ordering)
+    (near : (r : R) → is_beyond (place ∷ next ∷ []) last (given ∷ first ∷ second ∷ number (page_size + 1) ∷ []) (written r) ≡ (s r && (is_eq (o r) && is_gt (p r))))
+    (far : (r : R) → is_beyond (place ∷ []) next (given ∷ first ∷ number (page_size + 1) ∷ []) (written r) ≡ (s r && is_gt (o r))) where
+  pub beyond_in_order : (page : Page R) → IsPagedBeyond db table_def by row_from order place next last given first second page → page ≡ page_of (as_sorted order (filter (λ r. s r && is_gt (ordering_then (o r) (p r))) rs))
+  beyond_in_order page is =
+      let list = as_sorted order rs in
+      let made = ordered order total rs once in
+      beyond_again row_from written P again table_def by order total by_columns db list (relisted written db table_def rs list made.1 represents) made.0 (all-permutation P rs list made.1 all) place next last given first second s o p near far page is
+      ∙ ap page_of (kept_in_order order total (λ r. s r && is_gt (ordering_then (o r) (p r))) rs once)
 
 -- ---- keys and places as a store compares them
 
@@ -83,6 +104,18 @@ by_two_numbers a b m n = ap₂ ordering_then (sym (number_cmp a b)) (by_number m
 
 movement_order_total : IsTotalOrder movement_order
 movement_order_total = then_total (on_total (λ m. m.seq) nat_cmp_total) (on_total (λ m. m.line) nat_cmp_total)
+
+job_order_total : IsTotalOrder job_order
+job_order_total = on_total (λ j. j.order.order) nat_list_cmp_total
+
+due_order_total : IsTotalOrder due_order
+due_order_total = then_total (on_total (λ j. j.order.due) nat_list_cmp_total) job_order_total
+
+-- what ties in two values ties in the second
+second_ties : (o p : Ordering) → is_eq (ordering_then o p) ≡ true → is_eq p ≡ true
+second_ties Less p e = absurd (false≢true e)
+second_ties Equal p e = e
+second_ties Greater p e = absurd (false≢true e)
 
 both_so : {a b c d : Bool} → a ≡ b → c ≡ d → (a && c) ≡ (b && d)
 both_so e f = ap₂ (λ x y. x && y) e f
@@ -142,28 +175,41 @@ module _ (db : Database) (s : State) (valid : StateInvariant s) (holds : HoldsTa
   values = valid_values s valid newest_schema newest_known
 
   pub recipes_are : (state : RecipeState) (cursor : Option RecipeCursor) (page : Page Recipe)
-      → IsPagedBeyond db recipe_table recipe_from recipe_order 8 1 2 (Text (recipe_state_name state)) (Text (recipe_after cursor).recipe) (number (recipe_after cursor).version) page → page ≡ page_of (recipes_in s state cursor)
+      → IsPagedBeyond db recipe_table (first_of recipe_table.keys) recipe_from recipe_order 8 1 2 (Text (recipe_state_name state)) (Text (recipe_after cursor).recipe) (number (recipe_after cursor).version) page → page ≡ page_of (recipes_in s state cursor)
   recipes_are state cursor =
       let place = recipe_after cursor in
-      beyond_again recipe_from row_of_recipe HasRecipeValues (λ r h. recipe_reads.again r h tt) recipe_table recipe_order recipe_order_total (λ a b. by_text_number a.header.recipe b.header.recipe a.header.version b.header.version)
+      beyond_again recipe_from row_of_recipe HasRecipeValues (λ r h. recipe_reads.again r h tt) recipe_table (first_of recipe_table.keys) recipe_order recipe_order_total (λ a b. by_text_number a.header.recipe b.header.recipe a.header.version b.header.version)
       db s.recipes (holds.each 3 recipe_table refl) (in_order newest_schema s valid).keyed.recipes values.recipes 8 1 2 (Text (recipe_state_name state)) (Text place.recipe) (number place.version)
       (λ r. same (recipe_state_name r.state) (recipe_state_name state)) (λ r. id_cmp r.header.recipe place.recipe) (λ r. nat_cmp r.header.version place.version)
       (λ r. both_so (text_is (recipe_state_name r.state) (recipe_state_name state)) (both_so (ap is_eq (value_cmp-Text r.header.recipe place.recipe)) (ap is_gt (number_cmp r.header.version place.version))))
       (λ r. both_so (text_is (recipe_state_name r.state) (recipe_state_name state)) (ap is_gt (value_cmp-Text r.header.recipe place.recipe)))
 
+  -- no two orders have one place, since their ids differ
+  pub orders_by_due_are : (state : JobState) (cursor : Option DueCursor) (page : Page Job)
+      → IsPagedBeyond db job_table (5 ∷ 1 ∷ []) job_from due_order 7 5 1 (Text (job_state_name state)) (Text (due_after cursor).due) (Text (due_after cursor).order) page → page ≡ page_of (orders_by_due s state cursor)
+  orders_by_due_are state cursor =
+      let place = due_after cursor in
+      let rising = (in_order newest_schema s valid).keyed.jobs in
+      let once = once_by_key job_order due_order job_order_total due_order_total (λ a b. second_ties (id_cmp a.order.due b.order.due) (job_order a b)) s.jobs rising in
+      beyond_in_order job_from row_of_job HasJobValues (λ r h. job_reads.again r h tt) job_table (5 ∷ 1 ∷ []) due_order due_order_total (λ a b. by_two_texts a.order.due b.order.due a.order.order b.order.order)
+      db s.jobs (holds.each 5 job_table refl) once values.jobs 7 5 1 (Text (job_state_name state)) (Text place.due) (Text place.order)
+      (λ r. same (job_state_name r.state) (job_state_name state)) (λ r. id_cmp r.order.due place.due) (λ r. id_cmp r.order.order place.order)
+      (λ r. both_so (text_is (job_state_name r.state) (job_state_name state)) (both_so (ap is_eq (value_cmp-Text r.order.due place.due)) (ap is_gt (value_cmp-Text r.order.order place.order))))
+      (λ r. both_so (text_is (job_state_name r.state) (job_state_name state)) (ap is_gt (value_cmp-Text r.order.due place.due)))
+
   -- movements that come after a place, by a column that names a lot
   pub movements_beyond : (place : ℕ) (lot : List ℕ) (cursor : Option MovementCursor) (names : Movement → Bool)
       → ((m : Movement) → IsNear place (names m) lot (movement_after cursor).seq (movement_after cursor).line m) → ((m : Movement) → IsFar place (names m) lot (movement_after cursor).seq m) → (page : Page Movement)
-      → IsPagedBeyond db movement_table movement_read movement_order place 1 2 (Text lot) (number (movement_after cursor).seq) (number (movement_after cursor).line) page → page ≡ page_of (filter (λ m. names m && is_movement_after cursor m) s.movements)
+      → IsPagedBeyond db movement_table (first_of movement_table.keys) movement_read movement_order place 1 2 (Text lot) (number (movement_after cursor).seq) (number (movement_after cursor).line) page → page ≡ page_of (filter (λ m. names m && is_movement_after cursor m) s.movements)
   movements_beyond place lot cursor names near far =
       let start = movement_after cursor in
-      beyond_again movement_read row_of_movement HasMovementRowValues movement_again movement_table movement_order movement_order_total (λ a b. by_two_numbers a.seq b.seq a.line b.line)
+      beyond_again movement_read row_of_movement HasMovementRowValues movement_again movement_table (first_of movement_table.keys) movement_order movement_order_total (λ a b. by_two_numbers a.seq b.seq a.line b.line)
       db s.movements (holds.each 11 movement_table refl) (in_order newest_schema s valid).movements values.movements place 1 2 (Text lot) (number start.seq) (number start.line)
       names (λ m. nat_cmp m.seq start.seq) (λ m. nat_cmp m.line start.line) near far
 
   pub ledger_is : (lot : List ℕ) (cursor : Option MovementCursor) (page : Page Movement)
-      → IsOfBoth movement_order (IsPagedBeyond db movement_table movement_read movement_order 4 1 2 (Text lot) (number (movement_after cursor).seq) (number (movement_after cursor).line))
-      (IsPagedBeyond db movement_table movement_read movement_order 6 1 2 (Text lot) (number (movement_after cursor).seq) (number (movement_after cursor).line)) page → page ≡ page_of (ledger_of s lot cursor)
+      → IsOfBoth movement_order (IsPagedBeyond db movement_table (first_of movement_table.keys) movement_read movement_order 4 1 2 (Text lot) (number (movement_after cursor).seq) (number (movement_after cursor).line))
+      (IsPagedBeyond db movement_table (first_of movement_table.keys) movement_read movement_order 6 1 2 (Text lot) (number (movement_after cursor).seq) (number (movement_after cursor).line)) page → page ≡ page_of (ledger_of s lot cursor)
   ledger_is lot cursor page is =
       let start = movement_after cursor in
       let first = movements_beyond 4 lot cursor (λ m. same m.lot lot) (near_first lot start.seq start.line) (far_first lot start.seq start.line) is.first is.of_first in

@@ -5,5 +5,4 @@ pub mod AbstractionLaws
 pub mod Paging
 pub mod EdgeCaching
 pub mod Abstraction
-pub mod Sorting
 pub mod Frames

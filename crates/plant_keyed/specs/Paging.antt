@@ -12,10 +12,10 @@ use Rattle.plant_tables_columns.specs.Kinds.{number}
 use Rattle.plant_worklists.specs.Pages.{page_size, page_of}
 use Rattle.plant_worklists.specs.declared.page.Page.{Page}
 
--- These rows of the desk were read of a page of the table's rows.
-pub record IsPaged (db : Database) (table_def : TableDef) {R : Type 0} (row_from : Row → Option R) (places : List ℕ) (next : ℕ) (values : Row) (page : Page R) : Type 0 where
+-- These rows of the desk were read of a page of the table's rows, in the order of the columns at these places.
+pub record IsPaged (db : Database) (table_def : TableDef) (by : List ℕ) {R : Type 0} (row_from : Row → Option R) (places : List ℕ) (next : ℕ) (values : Row) (page : Page R) : Type 0 where
   pub stored : List Row
-  pub paged : IsPage db table_def places next values page_size stored page.has_more
+  pub paged : IsPage db table_def by places next values page_size stored page.has_more
   pub read : all_from row_from stored ≡ Some page.rows
 
 -- The page is that of two lists in order as one, of which these are the first pages.
@@ -28,7 +28,7 @@ pub record IsOfBoth {R : Type 0} (order : R → R → Ordering) (is_first is_sec
 
 -- The rows with a given value in one column, and after a place of two values in two others: those with its first value and after its
 -- second, and those after its first.
-abbrev pub IsPagedBeyond : Database → TableDef → {R : Type 0} → (Row → Option R) → (R → R → Ordering) → ℕ → ℕ → ℕ → Value → Value → Value → Page R → Type 0
-IsPagedBeyond db table_def row_from order place next last given first second =
-    IsOfBoth order (IsPaged db table_def row_from (place ∷ next ∷ []) last (given ∷ first ∷ second ∷ number (page_size + 1) ∷ []))
-    (IsPaged db table_def row_from (place ∷ []) next (given ∷ first ∷ number (page_size + 1) ∷ []))
+abbrev pub IsPagedBeyond : Database → TableDef → List ℕ → {R : Type 0} → (Row → Option R) → (R → R → Ordering) → ℕ → ℕ → ℕ → Value → Value → Value → Page R → Type 0
+IsPagedBeyond db table_def by row_from order place next last given first second =
+    IsOfBoth order (IsPaged db table_def by row_from (place ∷ next ∷ []) last (given ∷ first ∷ second ∷ number (page_size + 1) ∷ []))
+    (IsPaged db table_def by row_from (place ∷ []) next (given ∷ first ∷ number (page_size + 1) ∷ []))

@@ -9,6 +9,7 @@ ghost use Rattle.sqlite_sql.specs.Ops.{is_null};
 ghost use Rattle.sqlite_value.specs.Value.{owned};
 ghost use Rattle.sql_queries.specs.Calls.{AnswersUnchanged, BeginsNone, KeepsVisible};
 ghost use Rattle.sql_queries.specs.Paging.{SelectsPage, AreBounds};
+ghost use Rattle.sql_queries.specs.Selects.{first_of};
 ghost use Rattle.plant_tables_columns.specs.DecodedRows.{all_from};
 ghost use Rattle.plant_tables_columns.specs.Kinds.{number};
 ghost use Rattle.plant_worklists.specs.Pages.{page_size};
@@ -23,7 +24,7 @@ use plant_base::{Id, Items};
 use plant_tables_columns::storing::{small, word};
 use plant_tables_columns::{Decoded, decode_all};
 use plant_worklists::{HasKeyOrder, PAGE_SIZE, Page, merge_pages, text_after};
-use sql_queries::find_page;
+use sql_queries::{find_page, first_key};
 use sql_tables::{Fault, TableDef};
 use sqlite::types::ValueRef;
 use sqlite::{Alter, Connection};
@@ -46,7 +47,7 @@ fn page_by<R: Decoded>(
 
 /// The page of rows that were decoded. Store where one of them has a value that breaks its rule, and Memory where memory was refused
 /// for them.
-fn decoded_page<R>(
+pub(crate) fn decoded_page<R>(
     decoded: Result<Option<Vec<R>>, AllocError>,
     has_more: bool,
 ) -> Result<Page<R>, Fault>
@@ -66,19 +67,20 @@ fn decoded_page<R>(
     }
 }
 
-/// A page of the rows of a table. Store where a value of a row breaks its rule, and as `find_page`; Memory where there is
-/// none. Nothing is changed.
+/// A page of the rows of a table, in the order of the columns at these places. Store where a value of a row breaks its rule,
+/// and as `find_page`; Memory where there is none. Nothing is changed.
 fn page_over<S: Alter, R: Decoded>(
     alloc: Global,
     conn: &mut Connection<S>,
     table_def: &TableDef<'_>,
+    by: &[usize],
     sql: &str,
     values: &[ValueRef<'_>],
 ) -> Result<Page<R>, Fault>
-    requires { (places : List ℕ) × (next : ℕ) × SelectsPage table_def.now places next sql.now }
-    ensures rows { (places : List ℕ) (next : ℕ) → SelectsPage table_def.now places next sql.now
+    requires { (places : List ℕ) × (next : ℕ) × SelectsPage table_def.now by.now places next sql.now }
+    ensures rows { (places : List ℕ) (next : ℕ) → SelectsPage table_def.now by.now places next sql.now
         → AreBounds places page_size (bound values.now) → HasCleanDisk (state S.Store conn.new)
-        → IfOk result (IsPaged (state S.Store conn.old).now table_def.now R.row_from places next
+        → IfOk result (IsPaged (state S.Store conn.old).now table_def.now by.now R.row_from places next
         (bound values.now)) }
     ensures same { AnswersUnchanged (state S.Store conn.old) (state S.Store conn.new) result }
     ensures kept { KeepsVisible (state S.Store conn.old) (state S.Store conn.new) }
@@ -86,7 +88,8 @@ fn page_over<S: Alter, R: Decoded>(
     ensures crash { Survives (state S.Store conn.old) (state S.Store conn.new) (λ _. ⊥) }
 {
     let most = usize::from(PAGE_SIZE);
-    page_by(alloc, find_page(alloc, conn, table_def, sql, values, most))
+    let read = find_page(alloc, conn, table_def, by, sql, values, most);
+    page_by(alloc, read)
 }
 
 impl<'a, S: Alter> Keyed<'a, S> {
@@ -94,21 +97,22 @@ impl<'a, S: Alter> Keyed<'a, S> {
     fn page_found<R: Decoded>(
         &mut self,
         table_def: &TableDef<'_>,
+        by: &[usize],
         sql: &str,
         values: &[ValueRef<'_>],
     ) -> Result<Page<R>, Fault>
-        requires { (places : List ℕ) × (next : ℕ) × SelectsPage table_def.now places next sql.now }
+        requires { (places : List ℕ) × (next : ℕ) × SelectsPage table_def.now by.now places next sql.now }
         ensures same_reference { self.new.conn.ghost_name ≡ self.old.conn.ghost_name }
-        ensures rows { (places : List ℕ) (next : ℕ) → SelectsPage table_def.now places next sql.now
+        ensures rows { (places : List ℕ) (next : ℕ) → SelectsPage table_def.now by.now places next sql.now
             → AreBounds places page_size (bound values.now)
             → HasCleanDisk (state S.Store self.new.conn.now)
-            → IfOk result (IsPaged (state S.Store self.old.conn.now).now table_def.now R.row_from
+            → IfOk result (IsPaged (state S.Store self.old.conn.now).now table_def.now by.now R.row_from
             places next (bound values.now)) }
         ensures frame { PreservesFrame (state S.Store self.old.conn.now) (state S.Store self.new.conn.now)
             self.old.has_failed self.new.has_failed }
         ensures cached { self.new.edges.now ≡ self.old.edges.now }
     {
-        match page_over(self.alloc, self.conn, table_def, sql, values) {
+        match page_over(self.alloc, self.conn, table_def, by, sql, values) {
             Ok(page) => Ok(page),
             Err(fault) => {
                 self.has_failed = true;
@@ -125,13 +129,15 @@ impl<'a, S: Alter> Keyed<'a, S> {
         given: ValueRef<'v>,
         cursor: &'v Option<Id>,
     ) -> Result<Page<R>, Fault>
-        requires { (place : ℕ) × (next : ℕ) × SelectsPage table_def.now (place ∷ []) next sql.now }
+        requires { (place : ℕ) × (next : ℕ)
+            × SelectsPage table_def.now (first_of table_def.now.keys) (place ∷ []) next sql.now }
         ensures same_reference { self.new.conn.ghost_name ≡ self.old.conn.ghost_name }
-        ensures rows { (place next : ℕ) → SelectsPage table_def.now (place ∷ []) next sql.now
+        ensures rows { (place next : ℕ)
+            → SelectsPage table_def.now (first_of table_def.now.keys) (place ∷ []) next sql.now
             → is_null (bound_value (owned given.entry)) ≡ false
             → HasCleanDisk (state S.Store self.new.conn.now)
-            → IfOk result (IsPaged (state S.Store self.old.conn.now).now table_def.now R.row_from
-            (place ∷ []) next
+            → IfOk result (IsPaged (state S.Store self.old.conn.now).now table_def.now
+            (first_of table_def.now.keys) R.row_from (place ∷ []) next
             (bound_value (owned given.entry) ∷ Text (text_after cursor.now)
             ∷ number (page_size + 1) ∷ [])) }
         ensures frame { PreservesFrame (state S.Store self.old.conn.now) (state S.Store self.new.conn.now)
@@ -139,7 +145,7 @@ impl<'a, S: Alter> Keyed<'a, S> {
         ensures cached { self.new.edges.now ≡ self.old.edges.now }
     {
         let bounds = [given, word(text_after(cursor)), small(PAGE_SIZE + 1)];
-        self.page_found(table_def, sql, &bounds)
+        self.page_found(table_def, first_key(table_def), sql, &bounds)
     }
 
     /// A page of the rows that have an id after this one in a column.
@@ -149,26 +155,28 @@ impl<'a, S: Alter> Keyed<'a, S> {
         sql: &str,
         cursor: &Option<Id>,
     ) -> Result<Page<R>, Fault>
-        requires { (next : ℕ) × SelectsPage table_def.now [] next sql.now }
+        requires { (next : ℕ) × SelectsPage table_def.now (first_of table_def.now.keys) [] next sql.now }
         ensures same_reference { self.new.conn.ghost_name ≡ self.old.conn.ghost_name }
-        ensures rows { (next : ℕ) → SelectsPage table_def.now [] next sql.now
+        ensures rows { (next : ℕ) → SelectsPage table_def.now (first_of table_def.now.keys) [] next sql.now
             → HasCleanDisk (state S.Store self.new.conn.now)
-            → IfOk result (IsPaged (state S.Store self.old.conn.now).now table_def.now R.row_from [] next
+            → IfOk result (IsPaged (state S.Store self.old.conn.now).now table_def.now
+            (first_of table_def.now.keys) R.row_from [] next
             (Text (text_after cursor.now) ∷ number (page_size + 1) ∷ [])) }
         ensures frame { PreservesFrame (state S.Store self.old.conn.now) (state S.Store self.new.conn.now)
             self.old.has_failed self.new.has_failed }
         ensures cached { self.new.edges.now ≡ self.old.edges.now }
     {
         let bounds = [word(text_after(cursor)), small(PAGE_SIZE + 1)];
-        self.page_found(table_def, sql, &bounds)
+        self.page_found(table_def, first_key(table_def), sql, &bounds)
     }
 
-    /// A page of the rows that have this value in one column, and come after a place of two values in two others: by one text
-    /// those with its first value and after its second, by another those after its first. The faults are those of each
-    /// look-up.
+    /// A page of the rows that have this value in one column, and come after a place of two values in two others, in the order
+    /// of the columns at these places: by one text those with its first value and after its second, by another those after its
+    /// first. The faults are those of each look-up.
     pub(crate) fn page_beyond<'v, R: Decoded + HasKeyOrder + Copy + Drop>(
         &mut self,
         table_def: &TableDef<'_>,
+        by: &[usize],
         at: &str,
         beyond: &str,
         given: ValueRef<'v>,
@@ -176,25 +184,27 @@ impl<'a, S: Alter> Keyed<'a, S> {
         second: ValueRef<'v>,
     ) -> Result<Page<R>, Fault>
         requires { (place : ℕ) × (next : ℕ) × (last : ℕ)
-            × SelectsPage table_def.now (place ∷ next ∷ []) last at.now
-            × SelectsPage table_def.now (place ∷ []) next beyond.now }
+            × SelectsPage table_def.now by.now (place ∷ next ∷ []) last at.now
+            × SelectsPage table_def.now by.now (place ∷ []) next beyond.now }
         ensures same_reference { self.new.conn.ghost_name ≡ self.old.conn.ghost_name }
-        ensures reported { (place next last : ℕ) → SelectsPage table_def.now (place ∷ next ∷ []) last at.now
-            → SelectsPage table_def.now (place ∷ []) next beyond.now
+        ensures reported { (place next last : ℕ)
+            → SelectsPage table_def.now by.now (place ∷ next ∷ []) last at.now
+            → SelectsPage table_def.now by.now (place ∷ []) next beyond.now
             → is_null (bound_value (owned given.entry)) ≡ false
             → is_null (bound_value (owned first.entry)) ≡ false
             → is_null (bound_value (owned second.entry)) ≡ false
             → IsReported (state S.Store self.old.conn.now) (state S.Store self.new.conn.now)
             self.old.has_failed self.new.has_failed
-            (IfOk result (IsPagedBeyond (state S.Store self.old.conn.now).now table_def.now R.row_from
-            R.order place next last (bound_value (owned given.entry))
+            (IfOk result (IsPagedBeyond (state S.Store self.old.conn.now).now table_def.now
+            by.now R.row_from R.order place next last (bound_value (owned given.entry))
             (bound_value (owned first.entry)) (bound_value (owned second.entry)))) }
         ensures frame { PreservesFrame (state S.Store self.old.conn.now) (state S.Store self.new.conn.now)
             self.old.has_failed self.new.has_failed }
         ensures cached { self.new.edges.now ≡ self.old.edges.now }
     {
-        let near = self.page_found(table_def, at, &[given, first, second, small(PAGE_SIZE + 1)])?;
-        let far = self.page_found(table_def, beyond, &[given, first, small(PAGE_SIZE + 1)])?;
+        let place = [given, first, second, small(PAGE_SIZE + 1)];
+        let near = self.page_found(table_def, by, at, &place)?;
+        let far = self.page_found(table_def, by, beyond, &[given, first, small(PAGE_SIZE + 1)])?;
         if_memory(merge_pages(self.alloc, &near, &far))
     }
 }

@@ -1,27 +1,34 @@
-//! The receipt of a reference.
+//! The receipt of a reference, and pages of receipts by their numbers.
 
-ghost use Rattle.std.specs.Prelude.{◌≡◌, ℕ, List, Some, None, Err, IfOk, IfErr, slice_get};
+ghost use Rattle.std.specs.Prelude.{◌≡◌, ◌+◌, [], ◌∷◌, ℕ, List, Some, None, Err, IfOk, IfErr, slice_get};
 ghost use Rattle.sqlite.specs.State.{HasCleanDisk, Survives};
 ghost use Rattle.sqlite.specs.Held.{state};
 ghost use Rattle.sqlite.specs.Values.{bound};
 ghost use Rattle.sql_queries.specs.Calls.{AnswersUnchanged, BeginsNone, KeepsVisible};
 ghost use Rattle.sql_queries.specs.Found.{AreGiven};
+ghost use Rattle.sql_queries.specs.Paging.{SelectsPage, AreBounds};
 ghost use Rattle.sql_queries.specs.Selects.{Selects};
 ghost use Rattle.plant_base.specs.State.{receipt_at};
 ghost use Rattle.plant_tables_columns.specs.DecodedRows.{all_from};
+ghost use Rattle.plant_tables_columns.specs.Kinds.{number};
 ghost use Rattle.plant_tables_columns.specs.TableColumns.{receipt_from};
+ghost use Rattle.plant_worklists.specs.Pages.{page_size};
+ghost use Rattle.plant_worklists.specs.Worklists.{number_after};
 ghost use Rattle.plant_keyed.specs.Decoding.{AreFound};
 ghost use Rattle.plant_keyed.specs.LookupOutcomes.{PreservesFrame, IsReported};
+ghost use Rattle.plant_keyed.specs.Paging.{IsPaged};
 ghost use Rattle.plant_keyed.specs.Abstraction.{abstraction};
 
 use crate::faults::if_memory;
 use crate::keyed::Keyed;
+use crate::pages::decoded_page;
 use crate::texts;
 use plant_base::{Id, Receipt};
 use plant_tables::table_defs::RECEIPT;
 use plant_tables_columns::decode_receipts;
-use plant_tables_columns::storing::id;
-use sql_queries::find_rows;
+use plant_tables_columns::storing::{id, large, small};
+use plant_worklists::{PAGE_SIZE, Page, number_after};
+use sql_queries::{find_page, find_rows};
 use sql_tables::{Fault, TableDef};
 use sqlite::types::ValueRef;
 use sqlite::{Alter, Connection, Row};
@@ -71,7 +78,100 @@ fn found_receipts<S: Alter>(
     receipts_by(alloc, find_rows(alloc, conn, table_def, sql, values))
 }
 
+/// The page of receipts that were read. The fault is that of the reading; Store where a value of a row breaks its rule, and
+/// Memory where there is none for the receipts and their contents.
+fn receipts_page_by(
+    alloc: Global,
+    read: Result<sql_queries::Page, Fault>,
+) -> Result<Page<Receipt>, Fault>
+    ensures handed { IfErr read (λ fault. result ≡ Err fault) }
+    ensures rows { IfOk read (λ stored. IfOk result
+        (λ page. (all_from receipt_from stored.rows.items ≡ Some page.rows)
+        × (page.has_more ≡ stored.has_more))) }
+{
+    let stored = read?;
+    decoded_page(
+        decode_receipts(alloc, stored.rows.as_slice()),
+        stored.has_more,
+    )
+}
+
+/// A page of the receipts of a table, in the order of the columns at these places, as that of the rows of any other.
+fn receipts_page_over<S: Alter>(
+    alloc: Global,
+    conn: &mut Connection<S>,
+    table_def: &TableDef<'_>,
+    by: &[usize],
+    sql: &str,
+    values: &[ValueRef<'_>],
+) -> Result<Page<Receipt>, Fault>
+    requires { (places : List ℕ) × (next : ℕ) × SelectsPage table_def.now by.now places next sql.now }
+    ensures rows { (places : List ℕ) (next : ℕ) → SelectsPage table_def.now by.now places next sql.now
+        → AreBounds places page_size (bound values.now) → HasCleanDisk (state S.Store conn.new)
+        → IfOk result (IsPaged (state S.Store conn.old).now table_def.now by.now receipt_from places next
+        (bound values.now)) }
+    ensures same { AnswersUnchanged (state S.Store conn.old) (state S.Store conn.new) result }
+    ensures kept { KeepsVisible (state S.Store conn.old) (state S.Store conn.new) }
+    ensures mode { BeginsNone (state S.Store conn.old) (state S.Store conn.new) }
+    ensures crash { Survives (state S.Store conn.old) (state S.Store conn.new) (λ _. ⊥) }
+{
+    let most = usize::from(PAGE_SIZE);
+    let read = find_page(alloc, conn, table_def, by, sql, values, most);
+    receipts_page_by(alloc, read)
+}
+
 impl<'a, S: Alter> Keyed<'a, S> {
+    /// The same page over the lent connection: whether the look-up failed is kept.
+    fn receipts_page_found(
+        &mut self,
+        table_def: &TableDef<'_>,
+        by: &[usize],
+        sql: &str,
+        values: &[ValueRef<'_>],
+    ) -> Result<Page<Receipt>, Fault>
+        requires { (places : List ℕ) × (next : ℕ) × SelectsPage table_def.now by.now places next sql.now }
+        ensures same_reference { self.new.conn.ghost_name ≡ self.old.conn.ghost_name }
+        ensures rows { (places : List ℕ) (next : ℕ) → SelectsPage table_def.now by.now places next sql.now
+            → AreBounds places page_size (bound values.now)
+            → HasCleanDisk (state S.Store self.new.conn.now)
+            → IfOk result (IsPaged (state S.Store self.old.conn.now).now table_def.now by.now receipt_from
+            places next (bound values.now)) }
+        ensures frame { PreservesFrame (state S.Store self.old.conn.now) (state S.Store self.new.conn.now)
+            self.old.has_failed self.new.has_failed }
+        ensures cached { self.new.edges.now ≡ self.old.edges.now }
+    {
+        match receipts_page_over(self.alloc, self.conn, table_def, by, sql, values) {
+            Ok(page) => Ok(page),
+            Err(fault) => {
+                self.has_failed = true;
+                Err(fault)
+            }
+        }
+    }
+
+    /// A page of the receipts of a table that have a number after this one in a column, in the order of the columns at these
+    /// places. Store also where the number is above those that a column holds.
+    pub(crate) fn receipts_page_after(
+        &mut self,
+        table_def: &TableDef<'_>,
+        by: &[usize],
+        sql: &str,
+        cursor: Option<u64>,
+    ) -> Result<Page<Receipt>, Fault>
+        requires { (next : ℕ) × SelectsPage table_def.now by.now [] next sql.now }
+        ensures same_reference { self.new.conn.ghost_name ≡ self.old.conn.ghost_name }
+        ensures rows { (next : ℕ) → SelectsPage table_def.now by.now [] next sql.now
+            → HasCleanDisk (state S.Store self.new.conn.now)
+            → IfOk result (IsPaged (state S.Store self.old.conn.now).now table_def.now by.now receipt_from
+            [] next (number (number_after cursor) ∷ number (page_size + 1) ∷ [])) }
+        ensures frame { PreservesFrame (state S.Store self.old.conn.now) (state S.Store self.new.conn.now)
+            self.old.has_failed self.new.has_failed }
+        ensures cached { self.new.edges.now ≡ self.old.edges.now }
+    {
+        let bounds = [large(number_after(cursor))?, small(PAGE_SIZE + 1)];
+        self.receipts_page_found(table_def, by, sql, &bounds)
+    }
+
     /// The receipts of a table that have the given values, by the first key of the table.
     fn receipts_found(
         &mut self,

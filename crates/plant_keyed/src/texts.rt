@@ -89,6 +89,11 @@ pub(crate) const RECALLS_IN_STATE: &str =
 pub(crate) const DEFINITIONS_OF_CLASS: &str =
     "SELECT id, class, name, unit FROM definition WHERE class = ?1 AND id > ?2 ORDER BY id LIMIT ?3";
 
+// ---- a page of all rows of a table
+
+pub(crate) const CLASSES_AFTER: &str =
+    "SELECT id, name FROM class WHERE id > ?1 ORDER BY id LIMIT ?2";
+
 // ---- pages of what lots have, lot by lot
 
 pub(crate) const LOTS_AFTER: &str = "SELECT id, def FROM lot WHERE id > ?1 ORDER BY id LIMIT ?2";
@@ -119,3 +124,14 @@ pub(crate) const LEDGER_BY_SECOND_AT: &str =
 
 pub(crate) const LEDGER_BY_SECOND: &str =
     "SELECT seq, line, kind, lot, sub, lot2, sub2, batch, amount, at, by_who, note FROM movement WHERE lot2 = ?1 AND seq > ?2 ORDER BY seq, line LIMIT ?3";
+
+// ---- pages in another order than that of a table's key
+
+pub(crate) const ORDERS_BY_DUE_AT: &str =
+    "SELECT id, recipe, version, size, due, priority, state FROM job WHERE state = ?1 AND due = ?2 AND id > ?3 ORDER BY due, id LIMIT ?4";
+
+pub(crate) const ORDERS_BY_DUE: &str =
+    "SELECT id, recipe, version, size, due, priority, state FROM job WHERE state = ?1 AND due > ?2 ORDER BY due, id LIMIT ?3";
+
+pub(crate) const RECEIPTS_AFTER: &str =
+    "SELECT id, seq, content FROM receipt WHERE seq > ?1 ORDER BY seq LIMIT ?2";

@@ -1,32 +1,68 @@
 // Pages of the desk's lists, each by a query with the value that the list is of, the place to go on from, and a limit; the
 // movements of a lot; and pages of what lots have.
 
+ghost use Rattle.std.specs.Prelude.{◌≡◌, if◌then◌else◌};
+
 use crate::faults::if_memory;
 use crate::keyed::Keyed;
 use crate::texts;
 use plant_base::{
-    BatchRow, Definition, Hold, Id, Job, JobState, Lot, Movement, Recall, Recipe, RecipeState,
-    Sublot,
+    BatchRow, Class, Definition, Hold, Id, Job, JobState, Lot, Movement, Recall, Receipt, Recipe,
+    RecipeState, Sublot,
 };
 use plant_tables::table_defs::{
-    BATCH, DEFINITION, HOLD, JOB, LOT, MOVEMENT, RECALL, RECIPE, SUBLOT,
+    BATCH, CLASS, DEFINITION, HOLD, JOB, LOT, MOVEMENT, RECALL, RECEIPT, RECIPE, SUBLOT,
 };
 use plant_tables_columns::RecallState;
 use plant_tables_columns::storing::{id as text_of, large, small, truth, word};
 use plant_worklists::{
-    MovementCursor, Page, RecipeCursor, Worklists, merge_pages, movement_after, recipe_text_after,
-    version_after,
+    DueCursor, MovementCursor, Page, RecipeCursor, Worklists, due_text_after, merge_pages,
+    movement_after, order_text_after, recipe_text_after, version_after,
 };
+use sql_queries::first_key;
 use sql_tables::Fault;
 use sqlite::Alter;
+
+/// The state of the recalls that are open, or of those that were lifted.
+fn recall_state(are_open: bool) -> RecallState
+    ensures { result ≡ (if are_open then RecallState.Open else RecallState.Lifted) }
+{
+    if are_open {
+        RecallState::Open
+    } else {
+        RecallState::Lifted
+    }
+}
 
 impl<'a, S: Alter> Worklists for Keyed<'a, S> {
     fn orders_in(&mut self, state: JobState, cursor: Option<Id>) -> Result<Page<Job>, Fault> {
         self.page_with(&JOB, texts::ORDERS_IN_STATE, word(state.name()), &cursor)
     }
 
-    fn open_batches(&mut self, cursor: Option<Id>) -> Result<Page<BatchRow>, Fault> {
-        self.page_with(&BATCH, texts::BATCHES_BY_CLOSED, truth(false), &cursor)
+    // By the columns due and id.
+    fn orders_by_due(
+        &mut self,
+        state: JobState,
+        cursor: Option<DueCursor>,
+    ) -> Result<Page<Job>, Fault> {
+        self.page_beyond(
+            &JOB,
+            &[5, 1],
+            texts::ORDERS_BY_DUE_AT,
+            texts::ORDERS_BY_DUE,
+            word(state.name()),
+            word(due_text_after(&cursor)),
+            word(order_text_after(&cursor)),
+        )
+    }
+
+    // By the column seq.
+    fn receipts_after(&mut self, cursor: Option<u64>) -> Result<Page<Receipt>, Fault> {
+        self.receipts_page_after(&RECEIPT, &[2], texts::RECEIPTS_AFTER, cursor)
+    }
+
+    fn batches_in(&mut self, closed: bool, cursor: Option<Id>) -> Result<Page<BatchRow>, Fault> {
+        self.page_with(&BATCH, texts::BATCHES_BY_CLOSED, truth(closed), &cursor)
     }
 
     fn lots_of(&mut self, def: Id, cursor: Option<Id>) -> Result<Page<Lot>, Fault> {
@@ -37,13 +73,17 @@ impl<'a, S: Alter> Worklists for Keyed<'a, S> {
         self.page_with(&HOLD, texts::HOLDS_ON_LOT, text_of(&lot), &cursor)
     }
 
-    fn open_recalls(&mut self, cursor: Option<Id>) -> Result<Page<Recall>, Fault> {
+    fn recalls_in(&mut self, are_open: bool, cursor: Option<Id>) -> Result<Page<Recall>, Fault> {
         self.page_with(
             &RECALL,
             texts::RECALLS_IN_STATE,
-            word(RecallState::Open.name()),
+            word(recall_state(are_open).name()),
             &cursor,
         )
+    }
+
+    fn classes_after(&mut self, cursor: Option<Id>) -> Result<Page<Class>, Fault> {
+        self.page_after(&CLASS, texts::CLASSES_AFTER, &cursor)
     }
 
     fn definitions_in(&mut self, class: Id, cursor: Option<Id>) -> Result<Page<Definition>, Fault> {
@@ -62,6 +102,7 @@ impl<'a, S: Alter> Worklists for Keyed<'a, S> {
     ) -> Result<Page<Recipe>, Fault> {
         self.page_beyond(
             &RECIPE,
+            first_key(&RECIPE),
             texts::RECIPES_IN_STATE_AT,
             texts::RECIPES_IN_STATE,
             word(state.name()),
@@ -78,8 +119,10 @@ impl<'a, S: Alter> Worklists for Keyed<'a, S> {
         let place = movement_after(&cursor);
         let seq = large(place.seq)?;
         let line = small(place.line);
+        let by = first_key(&MOVEMENT);
         let named = self.page_beyond(
             &MOVEMENT,
+            by,
             texts::LEDGER_AT,
             texts::LEDGER,
             text_of(&lot),
@@ -88,6 +131,7 @@ impl<'a, S: Alter> Worklists for Keyed<'a, S> {
         )?;
         let made = self.page_beyond(
             &MOVEMENT,
+            by,
             texts::LEDGER_BY_SECOND_AT,
             texts::LEDGER_BY_SECOND,
             text_of(&lot),

@@ -5,6 +5,6 @@ use Rattle.plant_keyed.proofs.pages.page_over.Goals as goal
 
 pub returns-clause-rows : goal.returns-clause-rows
 returns-clause-rows g c places next selects bounds clean =
-    let page = rw c.from-most.ensures at c.find_page.ensures.page in
-    paged_by g.R.Decoded.row_from (state g.S.Store c.args.conn.now).now c.args.table_def.now places next (bound c.args.values.now) c.find_page.result c.page_by.result
+    let page = rw c.from-most.ensures at c.find_page-read.ensures.page in
+    paged_by g.R.Decoded.row_from (state g.S.Store c.args.conn.now).now c.args.table_def.now c.args.by.now places next (bound c.args.values.now) c.find_page-read.result c.page_by.result
     (page places next selects bounds clean) c.page_by.ensures.handed c.page_by.ensures.rows

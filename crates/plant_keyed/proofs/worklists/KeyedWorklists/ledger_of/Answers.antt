@@ -5,6 +5,7 @@ use Rattle.sqlite.specs.Effect.{Database}
 use Rattle.sqlite.specs.Held.{state}
 use Rattle.sqlite.specs.declared.types.Value.TheVariants.{Text}
 use Rattle.plant_base.specs.State.{movement_order}
+use Rattle.sql_queries.specs.Selects.{first_of}
 use Rattle.plant_tables.specs.DeskTableDefs.{movement_table}
 use Rattle.plant_tables_columns.specs.Kinds.{number}
 use Rattle.plant_tables_columns.specs.TableColumns.{movement_read}
@@ -19,10 +20,10 @@ use Rattle.plant_keyed.proofs.LookupsReport.{valid_reported, view_reported}
 use Rattle.plant_keyed.proofs.worklists.KeyedWorklists.ledger_of.Goals as goal
 
 pub page_beyond-requires : goal.page_beyond-requires
-page_beyond-requires g c = (4, 1, 2, ledger_at, ledger)
+page_beyond-requires g c = (4, 1, 2, rw c.first_key-by.ensures ledger_at, rw c.first_key-by.ensures ledger)
 
 pub page_beyond-requires-2 : goal.page_beyond-requires-2
-page_beyond-requires-2 g c = (6, 1, 2, ledger_by_second_at, ledger_by_second)
+page_beyond-requires-2 g c = (6, 1, 2, rw c.first_key-by.ensures ledger_by_second_at, rw c.first_key-by.ensures ledger_by_second)
 
 pub returns-in_err-named : goal.returns-in_err-named
 returns-in_err-named g c = valid_reported g.S.Store c.page_beyond.ensures.same_reference c.page_beyond.ensures.frame c.page_beyond.ensures.cached (λ clean valid holds. search rules)
@@ -37,13 +38,13 @@ returns g c =
     let old = state g.S.Store c.args.self.now.conn.now in
     let mid = state g.S.Store c.page_beyond.new.self.conn.now in
     let new = state g.S.Store c.page_beyond-2.new.self.conn.now in
-    let first = rw (c.id.ensures, c.in_ok-seq.ensures.value, c.small-line.ensures, c.movement_after-place.ensures) at
-    (c.in_ok-named.ensures.reported 4 1 2 ledger_at ledger (rw c.id.ensures refl) (rw c.in_ok-seq.ensures.value refl) (rw c.small-line.ensures refl)) in
-    let second = rw (c.id-2.ensures, c.in_ok-seq.ensures.value, c.small-line.ensures, c.movement_after-place.ensures) at
-    (c.in_ok-made.ensures.reported 6 1 2 ledger_by_second_at ledger_by_second (rw c.id-2.ensures refl) (rw c.in_ok-seq.ensures.value refl) (rw c.small-line.ensures refl)) in
+    let first = rw (c.first_key-by.ensures, c.id.ensures, c.in_ok-seq.ensures.value, c.small-line.ensures, c.movement_after-place.ensures) at
+    (c.in_ok-named.ensures.reported 4 1 2 (rw c.first_key-by.ensures ledger_at) (rw c.first_key-by.ensures ledger) (rw c.id.ensures refl) (rw c.in_ok-seq.ensures.value refl) (rw c.small-line.ensures refl)) in
+    let second = rw (c.first_key-by.ensures, c.id-2.ensures, c.in_ok-seq.ensures.value, c.small-line.ensures, c.movement_after-place.ensures) at
+    (c.in_ok-made.ensures.reported 6 1 2 (rw c.first_key-by.ensures ledger_by_second_at) (rw c.first_key-by.ensures ledger_by_second) (rw c.id-2.ensures refl) (rw c.in_ok-seq.ensures.value refl) (rw c.small-line.ensures refl)) in
     let start = movement_after c.args.cursor in
     let both = reported_then old mid new c.args.self.now.has_failed c.page_beyond.new.self.has_failed c.page_beyond-2.new.self.has_failed
-    (λ (db : Database). IsPagedBeyond db movement_table movement_read movement_order 6 1 2 (Text c.args.lot) (number start.seq) (number start.line) c.in_ok-made.made) first.always second in
+    (λ (db : Database). IsPagedBeyond db movement_table (first_of movement_table.keys) movement_read movement_order 6 1 2 (Text c.args.lot) (number start.seq) (number start.line) c.in_ok-made.made) first.always second in
     view_reported g.S.Store (c.page_beyond-2.ensures.same_reference ∙ c.page_beyond.ensures.same_reference) (record {
       always = both.always;
       before = both.before;

@@ -1,0 +1,7 @@
+use Rattle.std.proofs.Common.{◌≡◌, filter, map, take}
+use Rattle.plant_worklists.specs.Worklists.{is_number_after}
+use Rattle.plant_desk.proofs.pages.copies_after.Given as goal
+
+-- those of the receipts so far
+abbrev pub invariant-loop-receipt : goal.invariant-loop-receipt
+invariant-loop-receipt l = map (λ r. r.0) l.rows.items ≡ filter (is_number_after l.cursor) (take l.receipt-index l.receipts)

@@ -19,11 +19,10 @@ use Rattle.plant_trace.proofs.NodeOrder.{node_exact}
 use Rattle.plant_view.specs.Genealogy.{edges_of}
 use Rattle.plant_view.proofs.Membership.{put_in, put_from, put_stays}
 use Rattle.plant_answers.specs.Surroundings.{nodes_around, stocked_if, stocked_at, lots_standing}
-use Rattle.plant_answers.specs.AnswerLaws.{IsAround, StandsFrom, lot_answer_order}
-use Rattle.plant_answers.specs.LotAnswers.{lot_answer}
+use Rattle.plant_answers.specs.AnswerLaws.{IsAround, StandsFrom, standing_order}
 use Rattle.plant_answers.specs.Traces.{trace_of}
-use Rattle.plant_answers.specs.Worklists.{if_stocked}
-use Rattle.plant_messages.specs.declared.question.LotAnswer.{LotAnswer}
+use Rattle.plant_answers.specs.Worklists.{if_stocked, standing_lot}
+use Rattle.plant_messages.specs.declared.question.StandingLot.{StandingLot}
 use Rattle.plant_answers.proofs.PickedRows.{picked_in, picked_from, picked_sorted}
 use Rattle.plant_answers.proofs.ReachedIsTrace.{trace_lists}
 
@@ -41,22 +40,22 @@ around_lists s direction start =
 
 -- ---- lots with stock
 
-by_stock : (x a : LotAnswer) (b : Bool) → nat_lt 0 x.stock ≡ b → (if b then Some x else None) ≡ Some a → (a ≡ x) × (0 < a.stock)
+by_stock : (x a : StandingLot) (b : Bool) → nat_lt 0 x.known.stock ≡ b → (if b then Some x else None) ≡ Some a → (a ≡ x) × (0 < a.known.stock)
 by_stock x a true e h =
     let is : x ≡ a = cc in
-    let more : 0 < x.stock = grind (arith, nat_tests) in
-    (sym is, subst (λ (z : LotAnswer). 0 < z.stock) is more)
+    let more : 0 < x.known.stock = grind (arith, nat_tests) in
+    (sym is, subst (λ (z : StandingLot). 0 < z.known.stock) is more)
 by_stock x a false e h = absurd (cc)
 
 -- a lot that is told is there
-lot_there : (s : State) (id : List ℕ) (a : LotAnswer) (o : Option Lot) → lot_at s id ≡ o → stocked_if s o ≡ Some a → (l : Lot) × ((lot_at s id ≡ Some l) × ((a.lot ≡ id) × ((a ≡ lot_answer s l) × (0 < a.stock))))
+lot_there : (s : State) (id : List ℕ) (a : StandingLot) (o : Option Lot) → lot_at s id ≡ o → stocked_if s o ≡ Some a → (l : Lot) × ((lot_at s id ≡ Some l) × ((a.known.lot ≡ id) × ((a ≡ standing_lot s l) × (0 < a.known.stock))))
 lot_there s id a None e h = absurd (cc)
 lot_there s id a (Some l) e h =
-    let reported = by_stock (lot_answer s l) a (nat_lt 0 (lot_answer s l).stock) refl h in
+    let reported = by_stock (standing_lot s l) a (nat_lt 0 (standing_lot s l).known.stock) refl h in
     let named : l.id ≡ id = same_id l.id id (found_passes (λ (r : Lot). same r.id id) s.lots l e) in
-    (l, (e, (ap (λ (x : LotAnswer). x.lot) reported.0 ∙ named, reported)))
+    (l, (e, (ap (λ (x : StandingLot). x.known.lot) reported.0 ∙ named, reported)))
 
-reported_by : (s : State) (start : Node) (a : LotAnswer) (y : Node) → IsAround s Forward start y → stocked_at s y ≡ Some a → StandsFrom s start a
+reported_by : (s : State) (start : Node) (a : StandingLot) (y : Node) → IsAround s Forward start y → stocked_at s y ≡ Some a → StandsFrom s start a
 reported_by s start a (node.Lot id) around h =
     let reported = lot_there s id a (lot_at s id) refl h in
     record {
@@ -68,17 +67,17 @@ reported_by s start a (node.Lot id) around h =
     }
 reported_by s start a (node.Batch id) around h = absurd (cc)
 
-stocked_reported : (x : LotAnswer) → 0 < x.stock → if_stocked x ≡ Some x
+stocked_reported : (x : StandingLot) → 0 < x.known.stock → if_stocked x ≡ Some x
 stocked_reported x more =
-    let yes : nat_lt 0 x.stock ≡ true = grind (arith, nat_tests) in
+    let yes : nat_lt 0 x.known.stock ≡ true = grind (arith, nat_tests) in
     ap (λ (b : Bool). if b then Some x else None) yes
 
-reported_of : (s : State) (start : Node) (a : LotAnswer) (r : StandsFrom s start a) → stocked_at s (node.Lot a.lot) ≡ Some a
+reported_of : (s : State) (start : Node) (a : StandingLot) (r : StandsFrom s start a) → stocked_at s (node.Lot a.known.lot) ≡ Some a
 reported_of s start a r =
-    let more : 0 < (lot_answer s r.lot).stock = subst (λ (z : LotAnswer). 0 < z.stock) r.reported r.stocked in
-    ap (stocked_if s) r.there ∙ stocked_reported (lot_answer s r.lot) more ∙ ap Some (sym r.reported)
+    let more : 0 < (standing_lot s r.lot).known.stock = subst (λ (z : StandingLot). 0 < z.known.stock) r.reported r.stocked in
+    ap (stocked_if s) r.there ∙ stocked_reported (standing_lot s r.lot) more ∙ ap Some (sym r.reported)
 
-in_order : (s : State) (a b : Node) (y z : LotAnswer) → node_cmp a b ≡ Less → stocked_at s a ≡ Some y → stocked_at s b ≡ Some z → lot_answer_order y z ≡ Less
+in_order : (s : State) (a b : Node) (y z : StandingLot) → node_cmp a b ≡ Less → stocked_at s a ≡ Some y → stocked_at s b ≡ Some z → standing_order y z ≡ Less
 in_order s (node.Lot i) (node.Lot j) y z less e f =
     let first = lot_there s i y (lot_at s i) refl e in
     let second = lot_there s j z (lot_at s j) refl f in
@@ -87,13 +86,13 @@ in_order s (node.Lot i) (node.Batch j) y z less e f = absurd (cc)
 in_order s (node.Batch i) b y z less e f = absurd (cc)
 
 module _ (s : State) (start : Node) where
-  pub standing_sorted : IsStrictlySortedBy lot_answer_order (lots_standing s start)
-  standing_sorted = picked_sorted (stocked_at s) node_cmp lot_answer_order (in_order s) (nodes_around s Forward start) (around_lists s Forward start).ascending
+  pub standing_sorted : IsStrictlySortedBy standing_order (lots_standing s start)
+  standing_sorted = picked_sorted (stocked_at s) node_cmp standing_order (in_order s) (nodes_around s Forward start) (around_lists s Forward start).ascending
 
-  pub standing_only : (a : LotAnswer) → Contains (lots_standing s start) a → StandsFrom s start a
+  pub standing_only : (a : StandingLot) → Contains (lots_standing s start) a → StandsFrom s start a
   standing_only a h =
       let from = picked_from (stocked_at s) (nodes_around s Forward start) a h in
       reported_by s start a from.0 ((around_lists s Forward start).only from.0 from.1.0) from.1.1
 
-  pub standing_all : (a : LotAnswer) → StandsFrom s start a → Contains (lots_standing s start) a
-  standing_all a r = picked_in (stocked_at s) (nodes_around s Forward start) (node.Lot a.lot) a ((around_lists s Forward start).all (node.Lot a.lot) r.reached) (reported_of s start a r)
+  pub standing_all : (a : StandingLot) → StandsFrom s start a → Contains (lots_standing s start) a
+  standing_all a r = picked_in (stocked_at s) (nodes_around s Forward start) (node.Lot a.known.lot) a ((around_lists s Forward start).all (node.Lot a.known.lot) r.reached) (reported_of s start a r)

@@ -23,13 +23,13 @@ use Rattle.plant_view.specs.DecisionInvariant.{DecisionInvariant}
 use Rattle.plant_view.specs.Tables.{state_without_kept, tables_of, IsWholeIn, sublot_row}
 use Rattle.plant_answers.specs.Answers.{answer}
 use Rattle.plant_answers.specs.Genealogy.{amount_of, named}
-use Rattle.plant_answers.specs.LotAnswers.{lot_answer}
 use Rattle.plant_answers.specs.Traces.{missing}
+use Rattle.plant_answers.specs.Worklists.{standing_lot}
 use Rattle.plant_messages.specs.declared.genealogy.BookedEdge.{BookedEdge}
 use Rattle.plant_messages.specs.declared.genealogy.Genealogy.{Genealogy}
 use Rattle.plant_messages.specs.declared.question.Question.TheVariants as Q
 use Rattle.plant_messages.specs.declared.question.Answer.TheVariants as A
-use Rattle.plant_messages.specs.declared.question.LotAnswer.{LotAnswer}
+use Rattle.plant_messages.specs.declared.question.StandingLot.{StandingLot}
 use Rattle.plant_messages.specs.declared.question.RecallAnswer.{RecallAnswer}
 
 -- The trace of a node that is there lists just what the least relation reaches: each such node once, ascending, and no other.
@@ -42,21 +42,21 @@ abbrev pub IsAround : State → Direction → Node → Node → Type 0
 IsAround s direction start y = (y ≡ start) ⊎ IsReached direction (edges_of s) start y
 
 -- what is known of a lot that is there, that the start is or leads to, and that has stock
-pub record StandsFrom (s : State) (start : Node) (a : LotAnswer) : Type 0 where
+pub record StandsFrom (s : State) (start : Node) (a : StandingLot) : Type 0 where
   pub lot : Lot
-  pub reached : IsAround s Forward start (node.Lot a.lot)
-  pub there : lot_at s a.lot ≡ Some lot
-  pub reported : a ≡ lot_answer s lot
-  pub stocked : 0 < a.stock
+  pub reached : IsAround s Forward start (node.Lot a.known.lot)
+  pub there : lot_at s a.known.lot ≡ Some lot
+  pub reported : a ≡ standing_lot s lot
+  pub stocked : 0 < a.known.stock
 
-abbrev pub lot_answer_order : LotAnswer → LotAnswer → Ordering
-lot_answer_order a b = id_cmp a.lot b.lot
+abbrev pub standing_order : StandingLot → StandingLot → Ordering
+standing_order a b = id_cmp a.known.lot b.known.lot
 
 -- Where the goods of a lot or batch stand that is there: what is told lists just such lots, ascending, each once, and no other.
 abbrev pub StandsListReached : Type 0
 StandsListReached = (k : ℕ) (s : State) (start : Node) → missing s start ≡ None
-    → (lots : List LotAnswer) × (answer k s (Q.Stands start) ≡ A.Stands lots) × IsStrictlySortedBy lot_answer_order lots
-    × ((a : LotAnswer) → Contains lots a ↔ StandsFrom s start a)
+    → (lots : List StandingLot) × (answer k s (Q.Stands start) ≡ A.Stands lots) × IsStrictlySortedBy standing_order lots
+    × ((a : StandingLot) → Contains lots a ↔ StandsFrom s start a)
 
 -- an edge between nodes around the start, with the amounts of all movements that make it
 pub record IsBooked (s : State) (direction : Direction) (start : Node) (b : BookedEdge) : Type 0 where

@@ -1,15 +1,17 @@
 -- What a question is answered.
 use Rattle.std.specs.Prelude.{ℕ, List, Option, Some, None, option_map}
-use Rattle.plant_base.specs.State.{State, lot_at, job_at, batch_at, batch_of, recall_at}
+use Rattle.plant_base.specs.State.{State, definition_at, recipe_at, lot_at, job_at, batch_at, batch_of, recall_at}
 use Rattle.plant_base.specs.declared.rows.Job.{Job}
 use Rattle.plant_base.specs.declared.refusal.Refusal.TheVariants.{UnknownOrder}
 use Rattle.plant_answers.specs.Surroundings.{answer_stands}
+use Rattle.plant_answers.specs.BatchLines.{answer_batch_lines}
 use Rattle.plant_answers.specs.BatchViews.{answer_batch}
 use Rattle.plant_answers.specs.Genealogy.{answer_edges}
 use Rattle.plant_answers.specs.LotAnswers.{answer_lot}
 use Rattle.plant_answers.specs.RecallAnswers.{answer_recall}
+use Rattle.plant_answers.specs.RecipeAnswers.{answer_definition, answer_recipe}
 use Rattle.plant_answers.specs.Traces.{missing, answer_trace}
-use Rattle.plant_answers.specs.Worklists.{answer_list, answer_recipes, answer_ledger}
+use Rattle.plant_answers.specs.Worklists.{answer_list, answer_recipes, answer_ledger, answer_all_holds, answer_by_due, answer_commands}
 use Rattle.plant_messages.specs.declared.question.Question.{Question}
 use Rattle.plant_messages.specs.declared.question.Question.TheVariants as Q
 use Rattle.plant_messages.specs.declared.question.Answer.{Answer}
@@ -37,3 +39,9 @@ answer k s Q.Moment = A.Moment s.at
 answer k s (Q.List list cursor) = answer_list s list cursor
 answer k s (Q.Recipes state cursor) = answer_recipes s state cursor
 answer k s (Q.Ledger lot cursor) = answer_ledger s lot cursor (lot_at s lot)
+answer k s (Q.AllHolds cursor) = answer_all_holds s cursor
+answer k s (Q.OrdersByDue state cursor) = answer_by_due s state cursor
+answer k s (Q.Commands cursor) = answer_commands s cursor
+answer k s (Q.Definition def) = answer_definition (definition_at s def)
+answer k s (Q.Recipe recipe version) = answer_recipe s (recipe_at s recipe version)
+answer k s (Q.BatchLines batch) = answer_batch_lines s (batch_at s batch)

@@ -1,7 +1,9 @@
 pub mod Answering
 pub mod Answers
 pub mod Surroundings
+pub mod BatchLines
 pub mod BatchViews
+pub mod CommandHeads
 pub mod Booked
 pub mod Genealogy
 pub mod AnswerLaws
@@ -10,3 +12,4 @@ pub mod LotAnswers
 pub mod RecallAnswers
 pub mod Traces
 pub mod Worklists
+pub mod RecipeAnswers

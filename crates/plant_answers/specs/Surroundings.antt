@@ -13,7 +13,7 @@ use Rattle.plant_answers.specs.Traces.{trace_of}
 use Rattle.plant_answers.specs.Worklists.{stocked_lot}
 use Rattle.plant_messages.specs.declared.question.Answer.{Answer}
 use Rattle.plant_messages.specs.declared.question.Answer.TheVariants as A
-use Rattle.plant_messages.specs.declared.question.LotAnswer.{LotAnswer}
+use Rattle.plant_messages.specs.declared.question.StandingLot.{StandingLot}
 
 -- the start and its trace: lots before batches, each ascending
 abbrev pub nodes_around : State → Direction → Node → List Node
@@ -22,17 +22,17 @@ nodes_around s direction start = put node_cmp start (trace_of s direction start)
 -- ---- where goods stand
 
 -- what is known of a lot that is there, where it has stock
-abbrev pub stocked_if : State → Option Lot → Option LotAnswer
+abbrev pub stocked_if : State → Option Lot → Option StandingLot
 stocked_if s None = None
 stocked_if s (Some l) = stocked_lot s l
 
 -- of a node that is a lot
-abbrev pub stocked_at : State → Node → Option LotAnswer
+abbrev pub stocked_at : State → Node → Option StandingLot
 stocked_at s (node.Lot id) = stocked_if s (lot_at s id)
 stocked_at s (node.Batch id) = None
 
 -- the lots that have stock, of the start and all that it leads to
-abbrev pub lots_standing : State → Node → List LotAnswer
+abbrev pub lots_standing : State → Node → List StandingLot
 lots_standing s start = filter_map (stocked_at s) (nodes_around s Forward start)
 
 abbrev pub answer_stands : State → Node → Option Refusal → Answer

@@ -1,5 +1,5 @@
 -- What is answered of a worklist.
-use Rattle.std.specs.Prelude.{ℕ, ◌-◌, List, Option, Some, None, length, map, nat_lt, option_map, slice_get, if◌then◌else◌}
+use Rattle.std.specs.Prelude.{ℕ, ◌-◌, true, false, List, Option, Some, None, length, map, nat_lt, option_map, slice_get, if◌then◌else◌}
 use Rattle.std.specs.List.{filter_map}
 use Rattle.plant_base.specs.State.{State, class_at, control_lines_of, definition_at, lot_at}
 use Rattle.plant_base.specs.declared.refusal.Refusal.TheVariants.{UnknownClass, UnknownDefinition, UnknownLot}
@@ -8,22 +8,29 @@ use Rattle.plant_base.specs.declared.rows.Class.{Class}
 use Rattle.plant_base.specs.declared.rows.Definition.{Definition}
 use Rattle.plant_base.specs.declared.rows.Lot.{Lot}
 use Rattle.plant_base.specs.declared.rows.RecipeLine.{RecipeLine}
+use Rattle.plant_base.specs.declared.rows.Receipt.{Receipt}
+use Rattle.plant_base.specs.declared.states.JobState.{JobState}
 use Rattle.plant_base.specs.declared.states.RecipeState.{RecipeState}
 use Rattle.plant_base.specs.declared.rows.RecipeLine.TheVariants.{In, Out, Parameter, Phase}
+use Rattle.plant_view.specs.Recalls.{is_blocked}
 use Rattle.plant_worklists.specs.Pages.{page_of}
-use Rattle.plant_worklists.specs.Worklists.{orders_in, open_batches, lots_of, holds_on, open_recalls, definitions_in, recipes_in, ledger_of}
+use Rattle.plant_worklists.specs.Worklists.{orders_in, orders_by_due, receipts_by_number, batches_in, lots_of, holds_on, recalls_in, classes_after, definitions_in, recipes_in, ledger_of, all_holds}
 use Rattle.plant_worklists.specs.declared.list.Worklist.{Worklist}
 use Rattle.plant_worklists.specs.declared.list.Worklist.TheVariants as list
 use Rattle.plant_worklists.specs.declared.page.Page.{Page}
+use Rattle.plant_worklists.specs.declared.cursors.DueCursor.{DueCursor}
+use Rattle.plant_worklists.specs.declared.cursors.HoldCursor.{HoldCursor}
 use Rattle.plant_worklists.specs.declared.cursors.MovementCursor.{MovementCursor}
 use Rattle.plant_worklists.specs.declared.cursors.RecipeCursor.{RecipeCursor}
+use Rattle.plant_answers.specs.CommandHeads.{head_of}
 use Rattle.plant_answers.specs.LotAnswers.{lot_answer}
+use Rattle.plant_messages.specs.declared.listed.BookedCommand.{BookedCommand}
 use Rattle.plant_messages.specs.declared.listed.Listed.TheVariants as listed
 use Rattle.plant_messages.specs.declared.listed.LotPage.{LotPage}
 use Rattle.plant_messages.specs.declared.listed.OpenBatch.{OpenBatch}
 use Rattle.plant_messages.specs.declared.question.Answer.{Answer}
 use Rattle.plant_messages.specs.declared.question.Answer.TheVariants as A
-use Rattle.plant_messages.specs.declared.question.LotAnswer.{LotAnswer}
+use Rattle.plant_messages.specs.declared.question.StandingLot.{StandingLot}
 
 -- ---- batches
 
@@ -49,12 +56,15 @@ batch_page s page = record { rows = map (open_batch s) page.rows; has_more = pag
 
 -- ---- lots
 
-abbrev pub if_stocked : LotAnswer → Option LotAnswer
-if_stocked a = if nat_lt 0 a.stock then Some a else None
+abbrev pub standing_lot : State → Lot → StandingLot
+standing_lot s l = record { known = lot_answer s l; recalled = is_blocked s l.id }
+
+abbrev pub if_stocked : StandingLot → Option StandingLot
+if_stocked a = if nat_lt 0 a.known.stock then Some a else None
 
 -- what is known of a lot, where it has stock
-abbrev pub stocked_lot : State → Lot → Option LotAnswer
-stocked_lot s l = if_stocked (lot_answer s l)
+abbrev pub stocked_lot : State → Lot → Option StandingLot
+stocked_lot s l = if_stocked (standing_lot s l)
 
 abbrev pub lot_page : State → Page Lot → LotPage
 lot_page s page = record { lots = filter_map (stocked_lot s) page.rows; last = option_map (λ l. l.id) (slice_get page.rows (length page.rows - 1)); has_more = page.has_more }
@@ -76,10 +86,13 @@ answer_definitions s class cursor (Some c) = A.List (listed.Definitions (page_of
 -- a page of what comes after this id, or of the front where none is given; where what the list is of isn't there, the refusal
 abbrev pub answer_list : State → Worklist → Option (List ℕ) → Answer
 answer_list s (list.Orders state) cursor = A.List (listed.Orders (page_of (orders_in s state cursor)))
-answer_list s list.OpenBatches cursor = A.List (listed.Batches (batch_page s (page_of (open_batches s cursor))))
+answer_list s list.OpenBatches cursor = A.List (listed.Batches (batch_page s (page_of (batches_in s false cursor))))
+answer_list s list.ClosedBatches cursor = A.List (listed.Batches (batch_page s (page_of (batches_in s true cursor))))
 answer_list s (list.Lots def) cursor = answer_lots s def cursor (definition_at s def)
 answer_list s (list.Holds lot) cursor = answer_holds s lot cursor (lot_at s lot)
-answer_list s list.OpenRecalls cursor = A.List (listed.Recalls (page_of (open_recalls s cursor)))
+answer_list s list.OpenRecalls cursor = A.List (listed.Recalls (page_of (recalls_in s true cursor)))
+answer_list s list.LiftedRecalls cursor = A.List (listed.LiftedRecalls (page_of (recalls_in s false cursor)))
+answer_list s list.Classes cursor = A.List (listed.Classes (page_of (classes_after s cursor)))
 answer_list s (list.Definitions class) cursor = answer_definitions s class cursor (class_at s class)
 
 -- a page of the versions of recipes in a state
@@ -90,3 +103,23 @@ answer_recipes s state cursor = A.List (listed.Recipes (page_of (recipes_in s st
 abbrev pub answer_ledger : State → List ℕ → Option MovementCursor → Option Lot → Answer
 answer_ledger s lot cursor None = A.Unknown UnknownLot
 answer_ledger s lot cursor (Some l) = A.List (listed.Ledger (page_of (ledger_of s lot cursor)))
+
+-- a page of the holds of all lots
+abbrev pub answer_all_holds : State → Option HoldCursor → Answer
+answer_all_holds s cursor = A.List (listed.AllHolds (page_of (all_holds s cursor)))
+
+-- a page of the orders in a state by their due dates
+abbrev pub answer_by_due : State → JobState → Option DueCursor → Answer
+answer_by_due s state cursor = A.List (listed.Orders (page_of (orders_by_due s state cursor)))
+
+-- ---- commands
+
+abbrev pub booked_command : Receipt → BookedCommand
+booked_command r = record { seq = r.seq; reference = r.reference; head = head_of r.content }
+
+abbrev pub command_page : Page Receipt → Page BookedCommand
+command_page page = record { rows = map booked_command page.rows; has_more = page.has_more }
+
+-- a page of the commands that had references, by their numbers
+abbrev pub answer_commands : State → Option ℕ → Answer
+answer_commands s cursor = A.List (listed.Commands (command_page (page_of (receipts_by_number s cursor))))

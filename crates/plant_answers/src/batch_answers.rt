@@ -140,7 +140,7 @@ fn progress_in(row: &BatchRow) -> Progress
 // ---- lines
 
 // The lines of the control recipe of a batch, by number, each with its unit.
-fn measured_lines<V: View>(
+pub(crate) fn measured_lines<V: View>(
     alloc: Global,
     view: &mut V,
     batch: Id,
@@ -183,7 +183,10 @@ fn measured_line<V: View>(
     Ok(MeasuredLine { line: *line, unit })
 }
 
-fn unit_among<V: View>(view: &mut V, def: Option<Id>) -> Result<Option<Unit>, ViewFault<V::Fault>>
+pub(crate) fn unit_among<V: View>(
+    view: &mut V,
+    def: Option<Id>,
+) -> Result<Option<Unit>, ViewFault<V::Fault>>
     ensures { HoldsIfHonest V.honest V.kept V.frame view.old view.new
         (IfOk result (λ unit. unit ≡ unit_among (V.state view.old).definitions def)) }
 {
@@ -196,7 +199,7 @@ fn unit_among<V: View>(view: &mut V, def: Option<Id>) -> Result<Option<Unit>, Vi
     }
 }
 
-fn material_of(line: RecipeLine) -> Option<Id>
+pub(crate) fn material_of(line: RecipeLine) -> Option<Id>
     ensures { result ≡ material_of line }
 {
     match line {

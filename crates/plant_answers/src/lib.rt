@@ -4,8 +4,10 @@
 mod answering;
 mod around;
 mod batch_answers;
+mod batch_lines;
 mod booked;
 mod bookings;
+mod commands;
 mod each_told;
 mod edge_answers;
 mod known_lots;
@@ -14,6 +16,7 @@ mod list_answers;
 mod lot_answers;
 mod open_batches;
 mod recalls;
+mod recipe_answers;
 mod standing;
 mod stocked_lots;
 mod traces;

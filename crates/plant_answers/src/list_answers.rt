@@ -1,11 +1,11 @@
 // What is answered of a worklist.
-ghost use Rattle.std.specs.Prelude.{◌≡◌, ℕ, List, Option, IfOk};
+ghost use Rattle.std.specs.Prelude.{◌≡◌, ℕ, true, false, List, Option, IfOk};
 ghost use Rattle.plant_base.specs.State.{State, class_at, lot_at};
 ghost use Rattle.plant_trace.specs.HoldsIfHonest.{HoldsIfHonest};
 ghost use Rattle.plant_view.specs.DecisionInvariant.{DecisionInvariant};
 ghost use Rattle.plant_worklists.specs.Pages.{page_of};
-ghost use Rattle.plant_worklists.specs.Worklists.{orders_in, holds_on, open_recalls, definitions_in, ledger_of};
-ghost use Rattle.plant_answers.specs.Worklists.{answer_list, answer_holds, answer_definitions, answer_recipes, answer_ledger};
+ghost use Rattle.plant_worklists.specs.Worklists.{orders_in, holds_on, recalls_in, classes_after, definitions_in, ledger_of};
+ghost use Rattle.plant_answers.specs.Worklists.{answer_list, answer_holds, answer_definitions, answer_recipes, answer_ledger, answer_all_holds, answer_by_due};
 ghost use Rattle.plant_worklists.specs.declared.cursors.MovementCursor.{MovementCursor};
 ghost use Rattle.plant_messages.specs.declared.listed.Listed.TheVariants as listed;
 ghost use Rattle.plant_messages.specs.declared.question.Answer.TheVariants as A;
@@ -15,7 +15,9 @@ use crate::stocked_lots::lots_answer;
 use plant_base::{Class, Definition, Hold, Id, JobState, Lot, Movement, RecipeState, Refusal};
 use plant_messages::{Answer, Listed};
 use plant_view::{ViewFault, lookup};
-use plant_worklists::{MovementCursor, Page, RecipeCursor, Worklist, Worklists};
+use plant_worklists::{
+    DueCursor, HoldCursor, MovementCursor, Page, RecipeCursor, Worklist, Worklists, all_holds,
+};
 use std::alloc::Global;
 
 /// A page of a worklist: what comes after an id, or its front where none is given.
@@ -31,10 +33,13 @@ pub(crate) fn list_answer<V: Worklists>(
 {
     match list {
         Worklist::Orders(state) => orders_answer(view, state, cursor),
-        Worklist::OpenBatches => batches_answer(alloc, view, cursor),
+        Worklist::OpenBatches => batches_answer(alloc, view, false, cursor),
+        Worklist::ClosedBatches => batches_answer(alloc, view, true, cursor),
         Worklist::Lots(def) => lots_answer(alloc, view, def, cursor),
         Worklist::Holds(lot) => holds_answer(view, lot, cursor),
         Worklist::OpenRecalls => recalls_answer(view, cursor),
+        Worklist::LiftedRecalls => lifted_answer(view, cursor),
+        Worklist::Classes => classes_answer(view, cursor),
         Worklist::Definitions(class) => definitions_answer(view, class, cursor),
     }
 }
@@ -58,10 +63,34 @@ fn recalls_answer<V: Worklists>(
 ) -> Result<Answer, ViewFault<V::Fault>>
     ensures { HoldsIfHonest V.honest V.kept V.frame view.old view.new
         (IfOk result (λ a. a
-        ≡ A.List (listed.Recalls (page_of (open_recalls (V.state view.old) cursor))))) }
+        ≡ A.List (listed.Recalls (page_of (recalls_in (V.state view.old) true cursor))))) }
 {
-    let page = view.open_recalls(cursor).map_err(ViewFault::View)?;
+    let page = view.recalls_in(true, cursor).map_err(ViewFault::View)?;
     Ok(Answer::List(Listed::Recalls(page)))
+}
+
+fn lifted_answer<V: Worklists>(
+    view: &mut V,
+    cursor: Option<Id>,
+) -> Result<Answer, ViewFault<V::Fault>>
+    ensures { HoldsIfHonest V.honest V.kept V.frame view.old view.new
+        (IfOk result (λ a. a
+        ≡ A.List (listed.LiftedRecalls (page_of (recalls_in (V.state view.old) false cursor))))) }
+{
+    let page = view.recalls_in(false, cursor).map_err(ViewFault::View)?;
+    Ok(Answer::List(Listed::LiftedRecalls(page)))
+}
+
+fn classes_answer<V: Worklists>(
+    view: &mut V,
+    cursor: Option<Id>,
+) -> Result<Answer, ViewFault<V::Fault>>
+    ensures { HoldsIfHonest V.honest V.kept V.frame view.old view.new
+        (IfOk result (λ a. a
+        ≡ A.List (listed.Classes (page_of (classes_after (V.state view.old) cursor))))) }
+{
+    let page = view.classes_after(cursor).map_err(ViewFault::View)?;
+    Ok(Answer::List(Listed::Classes(page)))
 }
 
 fn holds_answer<V: Worklists>(
@@ -125,6 +154,33 @@ pub(crate) fn recipes_answer<V: Worklists>(
 {
     let page = view.recipes_in(state, cursor).map_err(ViewFault::View)?;
     Ok(Answer::List(Listed::Recipes(page)))
+}
+
+/// A page of the holds of all lots.
+pub(crate) fn all_holds_answer<V: Worklists>(
+    alloc: Global,
+    view: &mut V,
+    cursor: Option<HoldCursor>,
+) -> Result<Answer, ViewFault<V::Fault>>
+    ensures { HoldsIfHonest V.honest V.kept V.frame view.old view.new
+        (DecisionInvariant (V.state view.old)
+        → IfOk result (λ a. a ≡ answer_all_holds (V.state view.old) cursor)) }
+{
+    let page = all_holds(alloc, view, cursor)?;
+    Ok(Answer::List(Listed::AllHolds(page)))
+}
+
+/// A page of the orders in a state by their due dates.
+pub(crate) fn due_answer<V: Worklists>(
+    view: &mut V,
+    state: JobState,
+    cursor: Option<DueCursor>,
+) -> Result<Answer, ViewFault<V::Fault>>
+    ensures { HoldsIfHonest V.honest V.kept V.frame view.old view.new
+        (IfOk result (λ a. a ≡ answer_by_due (V.state view.old) state cursor)) }
+{
+    let page = view.orders_by_due(state, cursor).map_err(ViewFault::View)?;
+    Ok(Answer::List(Listed::Orders(page)))
 }
 
 /// A page of the ledger of a lot.

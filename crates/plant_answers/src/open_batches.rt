@@ -1,9 +1,9 @@
-// What is answered of the batches that aren't closed.
+// What is answered of the batches that are closed, and of those that aren't.
 ghost use Rattle.std.specs.Prelude.{◌≡◌, IfOk, map};
 ghost use Rattle.std.specs.List.{filter_map};
 ghost use Rattle.plant_trace.specs.HoldsIfHonest.{HoldsIfHonest};
 ghost use Rattle.plant_worklists.specs.Pages.{page_of};
-ghost use Rattle.plant_worklists.specs.Worklists.{open_batches};
+ghost use Rattle.plant_worklists.specs.Worklists.{batches_in};
 ghost use Rattle.plant_answers.specs.Worklists.{batch_page, open_batch, opened, phase_of};
 ghost use Rattle.plant_messages.specs.declared.listed.Listed.TheVariants as listed;
 ghost use Rattle.plant_messages.specs.declared.question.Answer.TheVariants as A;
@@ -14,17 +14,18 @@ use plant_view::{View, ViewFault, lookup};
 use plant_worklists::{Page, Worklists};
 use std::alloc::{AllocError, Global};
 
-/// A page of the batches that aren't closed, each with the phase that is next.
+/// A page of the batches that are closed, or of those that aren't, each with the phase that is next.
 pub(crate) fn batches_answer<V: Worklists>(
     alloc: Global,
     view: &mut V,
+    closed: bool,
     cursor: Option<Id>,
 ) -> Result<Answer, ViewFault<V::Fault>>
     ensures { HoldsIfHonest V.honest V.kept V.frame view.old view.new
         (IfOk result (λ a. a ≡ A.List (listed.Batches (batch_page (V.state view.old)
-        (page_of (open_batches (V.state view.old) cursor)))))) }
+        (page_of (batches_in (V.state view.old) closed cursor)))))) }
 {
-    let page = view.open_batches(cursor).map_err(ViewFault::View)?;
+    let page = view.batches_in(closed, cursor).map_err(ViewFault::View)?;
     let rows = with_phases(alloc, view, page.rows.as_slice())?;
     Ok(Answer::List(Listed::Batches(Page {
         rows: Items::new(rows),

@@ -11,7 +11,7 @@ use crate::each_told::{RowOf, each_row};
 use crate::known_lots::{KnownLots, known_row};
 use crate::traces::missing;
 use plant_base::{Items, Lot};
-use plant_messages::{Answer, LotAnswer};
+use plant_messages::{Answer, StandingLot};
 use plant_trace::{Direction, Node};
 use plant_view::ViewFault;
 use plant_worklists::Worklists;
@@ -37,7 +37,7 @@ fn lots_standing<V: Worklists>(
     alloc: Global,
     view: &mut V,
     start: Node,
-) -> Result<Vec<LotAnswer>, ViewFault<V::Fault>>
+) -> Result<Vec<StandingLot>, ViewFault<V::Fault>>
     ensures { HoldsIfHonest V.honest V.kept V.frame view.old view.new
         (DecisionInvariant (V.state view.old)
         → IfOk result (λ v. v.items ≡ lots_standing (V.state view.old) start)) }
@@ -46,7 +46,7 @@ fn lots_standing<V: Worklists>(
     each_row(alloc, view, nodes.as_slice())
 }
 
-impl RowOf<LotAnswer> for Node {
+impl RowOf<StandingLot> for Node {
     ghost reported = { stocked_at };
 
     ghost known_after = { after_stocked_at };
@@ -56,7 +56,7 @@ impl RowOf<LotAnswer> for Node {
         alloc: Global,
         view: &mut V,
         known: &mut KnownLots,
-    ) -> Result<Option<LotAnswer>, ViewFault<V::Fault>> {
+    ) -> Result<Option<StandingLot>, ViewFault<V::Fault>> {
         match self {
             Node::Lot(id) => {
                 let lot = known_row(view, known, id)?;
@@ -72,7 +72,7 @@ fn stocked_if<V: Worklists>(
     view: &mut V,
     known: &mut KnownLots,
     lot: Option<Lot>,
-) -> Result<Option<LotAnswer>, ViewFault<V::Fault>>
+) -> Result<Option<StandingLot>, ViewFault<V::Fault>>
     ensures { HoldsIfHonest V.honest V.kept V.frame view.old view.new
         (DecisionInvariant (V.state view.old) → AreKnown (V.state view.old) known.old
         → IfOk result (λ found. found ≡ stocked_if (V.state view.old) lot)

@@ -3,6 +3,7 @@ ghost use Rattle.std.specs.Prelude.{◌≡◌, ◌-◌, ℕ, List, Option, IfOk,
 ghost use Rattle.plant_base.specs.State.{State, definition_at};
 ghost use Rattle.plant_trace.specs.HoldsIfHonest.{HoldsIfHonest};
 ghost use Rattle.plant_view.specs.DecisionInvariant.{DecisionInvariant};
+ghost use Rattle.plant_view.specs.Recalls.{is_blocked};
 ghost use Rattle.plant_worklists.specs.Pages.{page_of};
 ghost use Rattle.plant_worklists.specs.Worklists.{lots_of};
 ghost use Rattle.plant_answers.specs.KnownLots.{after_stocked};
@@ -11,8 +12,8 @@ ghost use Rattle.plant_answers.specs.Worklists.{answer_lots, lot_page, if_stocke
 use crate::each_told::{RowOf, each_row};
 use crate::known_lots::{KnownLots, known_lot};
 use plant_base::{Definition, Id, Items, Lot, Refusal};
-use plant_messages::{Answer, Listed, LotAnswer, LotPage};
-use plant_view::{ViewFault, lookup};
+use plant_messages::{Answer, Listed, LotAnswer, LotPage, StandingLot};
+use plant_view::{View, ViewFault, lookup};
 use plant_worklists::Worklists;
 use std::alloc::Global;
 
@@ -71,7 +72,7 @@ fn answer_of_lots(known: Option<Definition>, page: LotPage) -> Answer
     }
 }
 
-impl RowOf<LotAnswer> for Lot {
+impl RowOf<StandingLot> for Lot {
     ghost reported = { stocked_lot };
 
     ghost known_after = { after_stocked };
@@ -81,15 +82,23 @@ impl RowOf<LotAnswer> for Lot {
         alloc: Global,
         view: &mut V,
         known: &mut KnownLots,
-    ) -> Result<Option<LotAnswer>, ViewFault<V::Fault>> {
+    ) -> Result<Option<StandingLot>, ViewFault<V::Fault>> {
         let found = known_lot(alloc, view, known, self)?;
-        Ok(if_stocked(found))
+        standing_if(view, found)
     }
 }
 
-// What is known of a lot, where it has stock.
-fn if_stocked(answer: LotAnswer) -> Option<LotAnswer>
-    ensures { result ≡ if_stocked answer }
+// The lot where it has stock, with whether an open recall reaches it.
+fn standing_if<V: View>(
+    view: &mut V,
+    known: LotAnswer,
+) -> Result<Option<StandingLot>, ViewFault<V::Fault>>
+    ensures { HoldsIfHonest V.honest V.kept V.frame view.old view.new
+        (IfOk result (λ found. found ≡ if_stocked (record { known = known; recalled = is_blocked (V.state view.old) known.lot }))) }
 {
-    if answer.stock > 0 { Some(answer) } else { None }
+    if known.stock == 0 {
+        return Ok(None);
+    }
+    let recalled = lookup::is_blocked(view, known.lot)?;
+    Ok(Some(StandingLot { known, recalled }))
 }

@@ -1,0 +1,14 @@
+use Rattle.std.proofs.Common.{◌∙◌, ap, sym}
+use Rattle.plant_base.specs.State.{batch_at}
+use Rattle.plant_trace.proofs.HoldsIfHonest.{HoldsIfHonest-then}
+use Rattle.plant_messages.specs.declared.question.Answer.TheVariants as A
+use Rattle.plant_answers.proofs.FoundBatchRow.{row_found}
+use Rattle.plant_answers.proofs.batch_lines.batch_lines_answer.Goals as goal
+
+pub returns : goal.returns
+returns g c =
+    let s = g.V.View.state c.args.view.now in
+    HoldsIfHonest-then g.met.V.Edges.kept_trans g.met.V.Edges.frame_trans c.in_ok-row.ensures c.in_ok-batch_lines.ensures (λ k p q sound.
+    let found = row_found s c.in-Some.row (batch_at s c.args.id) (sym c.in-Some.is ∙ p sound) in
+    let here = rw (g.met.V.View.kept_state _ _ k) at q in
+    rw found.1 (ap A.BatchLines here))

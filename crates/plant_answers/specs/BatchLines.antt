@@ -1,0 +1,43 @@
+-- The control recipe of a batch, and what was booked of each line.
+use Rattle.std.specs.Prelude.{ℕ, ◌-◌, ◌^◌, min, List, Option, Some, None, map}
+use Rattle.std.specs.List.{filter_map}
+use Rattle.plant_base.specs.State.{State, control_lines_of}
+use Rattle.plant_base.specs.declared.refusal.Refusal.TheVariants.{UnknownBatch}
+use Rattle.plant_base.specs.declared.rows.Batch.{Batch}
+use Rattle.plant_base.specs.declared.rows.RecipeLine.{RecipeLine}
+use Rattle.plant_base.specs.declared.rows.RecipeLine.TheVariants.{In, Out, Parameter, Phase}
+use Rattle.plant_answers.specs.BatchViews.{consumption, measured_line, production}
+use Rattle.plant_messages.specs.Booked.{booked_of}
+use Rattle.plant_messages.specs.declared.question.Answer.{Answer}
+use Rattle.plant_messages.specs.declared.question.Answer.TheVariants as A
+use Rattle.plant_messages.specs.declared.question.BatchLines.{BatchLines}
+use Rattle.plant_messages.specs.declared.question.BookedLine.{BookedLine}
+use Rattle.plant_messages.specs.declared.question.Booking.{Booking}
+use Rattle.plant_messages.specs.declared.question.MeasuredLine.{MeasuredLine}
+
+-- a number, as far as 64 bits hold it
+abbrev pub in_64_bits : ℕ → ℕ
+in_64_bits n = min n (2 ^ 64 - 1)
+
+-- of an input what was consumed of its definition, of an output what was produced
+abbrev pub booked_in : List Booking → List Booking → RecipeLine → ℕ
+booked_in consumed produced (In def amount) = in_64_bits (booked_of def consumed)
+booked_in consumed produced (Out def amount) = in_64_bits (booked_of def produced)
+booked_in consumed produced (Parameter name value) = 0
+booked_in consumed produced (Phase unit_procedure operation phase) = 0
+
+abbrev pub booked_line : List Booking → List Booking → MeasuredLine → BookedLine
+booked_line consumed produced l = record { measured = l; booked = booked_in consumed produced l.line.line }
+
+-- by what the batch took and brought
+abbrev pub booked_lines : State → List ℕ → List BookedLine
+booked_lines s batch =
+    map (booked_line (filter_map (consumption s batch) s.movements) (filter_map (production s batch) s.movements))
+    (map (measured_line s.definitions) (control_lines_of s batch))
+
+abbrev pub batch_lines : State → List ℕ → BatchLines
+batch_lines s batch = record { batch = batch; lines = booked_lines s batch }
+
+abbrev pub answer_batch_lines : State → Option Batch → Answer
+answer_batch_lines s None = A.Unknown UnknownBatch
+answer_batch_lines s (Some b) = A.BatchLines (batch_lines s b.id)

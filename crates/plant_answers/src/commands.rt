@@ -1,0 +1,118 @@
+// What is answered of commands, from their receipts.
+ghost use Rattle.std.specs.Prelude.{◌≡◌, IfOk, map};
+ghost use Rattle.plant_base.specs.Values.{is_text, only};
+ghost use Rattle.plant_trace.specs.HoldsIfHonest.{HoldsIfHonest};
+ghost use Rattle.plant_worklists.specs.Pages.{page_of};
+ghost use Rattle.plant_worklists.specs.Worklists.{receipts_by_number};
+ghost use Rattle.plant_answers.specs.CommandHeads.{behind, head_of, line_in, moment_in, word_in};
+ghost use Rattle.plant_answers.specs.Worklists.{answer_commands, booked_command, command_page};
+
+use plant_base::{Items, Moment, Receipt, Text, read_digits};
+use plant_messages::{Answer, BookedCommand, CommandHead, Listed};
+use plant_view::ViewFault;
+use plant_worklists::{Page, Worklists};
+use std::alloc::{AllocError, Global};
+
+/// A page of the commands that had references, by their numbers.
+pub(crate) fn commands_answer<V: Worklists>(
+    alloc: Global,
+    view: &mut V,
+    cursor: Option<u64>,
+) -> Result<Answer, ViewFault<V::Fault>>
+    ensures { HoldsIfHonest V.honest V.kept V.frame view.old view.new
+        (IfOk result (λ a. a ≡ answer_commands (V.state view.old) cursor)) }
+{
+    let page = receipts_after(view, cursor)?;
+    match command_page(alloc, &page) {
+        Ok(page) => Ok(Answer::List(Listed::Commands(page))),
+        Err(_) => Err(ViewFault::Memory),
+    }
+}
+
+fn receipts_after<V: Worklists>(
+    view: &mut V,
+    cursor: Option<u64>,
+) -> Result<Page<Receipt>, ViewFault<V::Fault>>
+    ensures { HoldsIfHonest V.honest V.kept V.frame view.old view.new
+        (IfOk result (λ page. page ≡ page_of (receipts_by_number (V.state view.old) cursor))) }
+{
+    view.receipts_after(cursor).map_err(ViewFault::View)
+}
+
+fn command_page(alloc: Global, page: &Page<Receipt>) -> Result<Page<BookedCommand>, AllocError>
+    ensures { IfOk result (λ shown. shown ≡ command_page page.now) }
+{
+    let rows = booked_commands(alloc, page.rows.as_slice())?;
+    Ok(Page {
+        rows: Items::new(rows),
+        has_more: page.has_more,
+    })
+}
+
+fn booked_commands(alloc: Global, receipts: &[Receipt]) -> Result<Vec<BookedCommand>, AllocError>
+    ensures { IfOk result (λ v. v.items ≡ map booked_command receipts.now) }
+{
+    receipts
+        .iter()
+        .map(|receipt| booked_command(receipt))
+        .collect(alloc)
+}
+
+fn booked_command(receipt: &Receipt) -> BookedCommand
+    ensures { result ≡ booked_command receipt.now }
+{
+    BookedCommand {
+        seq: receipt.seq,
+        reference: receipt.reference,
+        head: head_of(receipt.content.as_str()),
+    }
+}
+
+// ---- what a content begins with
+
+fn head_of(content: &str) -> Option<CommandHead>
+    ensures { result ≡ head_of content.now }
+{
+    let (at, more) = cut(content);
+    let (by, more) = cut(more);
+    let (note, more) = cut(more);
+    let (word, _) = cut(more);
+    Some(CommandHead {
+        at: moment_in(at)?,
+        by: text_in(by)?,
+        note: text_in(note)?,
+        word: word_in(word)?,
+    })
+}
+
+// The first line of a text, and what is behind it.
+fn cut(text: &str) -> (&str, &str)
+    ensures first { result.0.now ≡ line_in text.now }
+    ensures more { result.1.now ≡ behind text.now }
+{
+    match text.split_once('\n') {
+        Some((first, more)) => (first, more),
+        None => (text, ""),
+    }
+}
+
+fn moment_in(text: &str) -> Option<Moment>
+    ensures { result ≡ moment_in text.now }
+{
+    Moment::new(read_digits(text.as_bytes(), 12)?)
+}
+
+fn text_in(text: &str) -> Option<Text>
+    ensures { result ≡ only is_text text.now }
+{
+    Text::read(text.as_bytes())
+}
+
+fn word_in(text: &str) -> Option<Text>
+    ensures { result ≡ word_in text.now }
+{
+    if text.is_empty() {
+        return None;
+    }
+    text_in(text)
+}

@@ -1,0 +1,116 @@
+// What is answered of a definition, and of a version of a master recipe.
+ghost use Rattle.std.specs.Prelude.{◌≡◌, IfOk, map};
+ghost use Rattle.plant_base.specs.State.{definition_at, recipe_at, master_lines_of};
+ghost use Rattle.plant_trace.specs.HoldsIfHonest.{HoldsIfHonest};
+ghost use Rattle.plant_answers.specs.RecipeAnswers.{answer_definition, answer_recipe, recipe_answer, recipe_line};
+
+use crate::batch_answers::{material_of, unit_among};
+use plant_base::{Definition, Id, Items, MasterLine, Recipe, Refusal};
+use plant_messages::{Answer, RecipeAnswer, RecipeLineAnswer};
+use plant_view::{View, ViewFault, lookup};
+use std::alloc::Global;
+
+/// What is known of a definition.
+pub(crate) fn definition_answer<V: View>(
+    view: &mut V,
+    def: Id,
+) -> Result<Answer, ViewFault<V::Fault>>
+    ensures { HoldsIfHonest V.honest V.kept V.frame view.old view.new
+        (IfOk result (λ a. a ≡ answer_definition (definition_at (V.state view.old) def))) }
+{
+    let known = lookup::definition(view, def)?;
+    Ok(answer_of_definition(known))
+}
+
+// The answer by what was found.
+fn answer_of_definition(known: Option<Definition>) -> Answer
+    ensures { result ≡ answer_definition known }
+{
+    match known {
+        None => Answer::Unknown(Refusal::UnknownDefinition),
+        Some(definition) => Answer::Definition(definition),
+    }
+}
+
+/// A version of a master recipe with its lines.
+pub(crate) fn recipe_answer<V: View>(
+    alloc: Global,
+    view: &mut V,
+    id: Id,
+    version: u16,
+) -> Result<Answer, ViewFault<V::Fault>>
+    ensures { HoldsIfHonest V.honest V.kept V.frame view.old view.new
+        (IfOk result (λ a. a ≡ answer_recipe (V.state view.old)
+        (recipe_at (V.state view.old) id version))) }
+{
+    let Some(recipe) = lookup::recipe(view, id, version)? else {
+        return Ok(Answer::Unknown(Refusal::UnknownRecipe));
+    };
+    Ok(Answer::Recipe(found_recipe(alloc, view, recipe)?))
+}
+
+fn found_recipe<V: View>(
+    alloc: Global,
+    view: &mut V,
+    recipe: Recipe,
+) -> Result<RecipeAnswer, ViewFault<V::Fault>>
+    ensures { HoldsIfHonest V.honest V.kept V.frame view.old view.new
+        (IfOk result (λ a. a ≡ recipe_answer (V.state view.old) recipe)) }
+{
+    let header = recipe.header;
+    let unit = unit_among(view, Some(header.product))?;
+    let lines = recipe_lines(alloc, view, header.recipe, header.version)?;
+    Ok(RecipeAnswer {
+        recipe,
+        unit,
+        lines: Items::new(lines),
+    })
+}
+
+// The lines of a recipe, by number, each with its unit.
+fn recipe_lines<V: View>(
+    alloc: Global,
+    view: &mut V,
+    recipe: Id,
+    version: u16,
+) -> Result<Vec<RecipeLineAnswer>, ViewFault<V::Fault>>
+    ensures { HoldsIfHonest V.honest V.kept V.frame view.old view.new
+        (IfOk result (λ v. v.items ≡ map (recipe_line (V.state view.old))
+        (master_lines_of (V.state view.old) recipe version))) }
+{
+    let lines = lookup::master_lines(view, recipe, version)?;
+    each_with_unit(alloc, view, lines.as_slice())
+}
+
+// These lines, each with its unit.
+fn each_with_unit<V: View>(
+    alloc: Global,
+    view: &mut V,
+    lines: &[MasterLine],
+) -> Result<Vec<RecipeLineAnswer>, ViewFault<V::Fault>>
+    ensures { HoldsIfHonest V.honest V.kept V.frame view.old view.new
+        (IfOk result (λ v. v.items ≡ map (recipe_line (V.state view.old)) lines.now)) }
+{
+    let mut rows = Vec::new(alloc);
+    for line in lines {
+        let row = recipe_line(view, line)?;
+        if rows.push(row).is_err() {
+            return Err(ViewFault::Memory);
+        }
+    }
+    Ok(rows)
+}
+
+fn recipe_line<V: View>(
+    view: &mut V,
+    line: &MasterLine,
+) -> Result<RecipeLineAnswer, ViewFault<V::Fault>>
+    ensures { HoldsIfHonest V.honest V.kept V.frame view.old view.new
+        (IfOk result (λ row. row ≡ recipe_line (V.state view.old) line.now)) }
+{
+    let unit = unit_among(view, material_of(line.line))?;
+    Ok(RecipeLineAnswer {
+        line: line.line,
+        unit,
+    })
+}

@@ -14,7 +14,7 @@ use Rattle.plant_message_schema.specs.declared.fields.Field.TheVariants as field
 use Rattle.plant_message_schema.specs.declared.format_errors.ShapeError.{ShapeError}
 use Rattle.plant_message_schema.specs.declared.format_errors.ShapeError.TheVariants as shape_error
 use Rattle.plant_message_schema.specs.Members.{name_of, rule_of, is_needed}
-use Rattle.plant_worklists.specs.Cursors.{recipe_cursor, movement_cursor}
+use Rattle.plant_worklists.specs.Cursors.{due_cursor, hold_cursor, recipe_cursor, movement_cursor}
 use Rattle.plant_message_schema.specs.Words.{command_kind, question_kind, line_kind, batch_word, order_state, recipe_state}
 use Rattle.plant_message_schema.specs.FormatErrors.{◌>>=◌, object, is_reported, format_error_is_reported}
 use Rattle.plant_message_schema.specs.Fields.{natural, is_between, field_of, by_rule, member_where, member_of, fields_of, first_other, other_where, none_other, exactly}
@@ -61,6 +61,8 @@ field_typed rule.Word d Q k = map_some field.Word (option_and_then batch_word (a
 field_typed rule.OrderState d Q k = map_some field.OrderState (option_and_then order_state (as_str d)) Q k
 field_typed rule.RecipeState d Q k = map_some field.RecipeState (option_and_then recipe_state (as_str d)) Q k
 field_typed rule.RecipeCursor d Q k = map_some field.RecipeCursor (option_and_then recipe_cursor (as_str d)) Q k
+field_typed rule.DueCursor d Q k = map_some field.DueCursor (option_and_then due_cursor (as_str d)) Q k
+field_typed rule.HoldCursor d Q k = map_some field.HoldCursor (option_and_then hold_cursor (as_str d)) Q k
 field_typed rule.MovementCursor d Q k = map_some field.MovementCursor (option_and_then movement_cursor (as_str d)) Q k
 field_typed rule.Command d Q k = map_some (λ w. field.Chosen) (option_and_then command_kind (as_str d)) Q (λ w. k tt)
 field_typed rule.Question d Q k = map_some (λ w. field.Chosen) (option_and_then question_kind (as_str d)) Q (λ w. k tt)

@@ -6,7 +6,7 @@ use Rattle.serde_json.specs.Data.{Data, Members, no_members, member}
 use Rattle.serde_json.specs.Find.{get, as_number, as_u64, as_str, as_array, as_object}
 use Rattle.plant_base.specs.Dates.{is_due}
 use Rattle.plant_base.specs.Values.{only, is_id, is_text, is_unit, is_amount, is_moment}
-use Rattle.plant_worklists.specs.Cursors.{recipe_cursor, movement_cursor}
+use Rattle.plant_worklists.specs.Cursors.{due_cursor, hold_cursor, recipe_cursor, movement_cursor}
 use Rattle.plant_message_schema.specs.declared.members.Member.{Member}
 use Rattle.plant_message_schema.specs.declared.members.Rule.{Rule}
 use Rattle.plant_message_schema.specs.declared.members.Rule.TheVariants as rule
@@ -45,6 +45,8 @@ field_of rule.Word d = option_map field.Word (option_and_then batch_word (as_str
 field_of rule.OrderState d = option_map field.OrderState (option_and_then order_state (as_str d))
 field_of rule.RecipeState d = option_map field.RecipeState (option_and_then recipe_state (as_str d))
 field_of rule.RecipeCursor d = option_map field.RecipeCursor (option_and_then recipe_cursor (as_str d))
+field_of rule.DueCursor d = option_map field.DueCursor (option_and_then due_cursor (as_str d))
+field_of rule.HoldCursor d = option_map field.HoldCursor (option_and_then hold_cursor (as_str d))
 field_of rule.MovementCursor d = option_map field.MovementCursor (option_and_then movement_cursor (as_str d))
 field_of rule.Command d = chosen (option_and_then command_kind (as_str d))
 field_of rule.Question d = chosen (option_and_then question_kind (as_str d))

@@ -53,7 +53,10 @@ entry_of m.State = (codes "state", rule.OrderState)
 entry_of m.Above = (codes "above", rule.Id)
 entry_of m.RecipeState = (codes "state", rule.RecipeState)
 entry_of m.AfterRecipe = (codes "above", rule.RecipeCursor)
+entry_of m.AfterDue = (codes "above", rule.DueCursor)
+entry_of m.AfterHold = (codes "above", rule.HoldCursor)
 entry_of m.AfterMovement = (codes "above", rule.MovementCursor)
+entry_of m.AfterNumber = (codes "above", rule.Amount)
 
 abbrev pub name_of : Member → List ℕ
 name_of which = (entry_of which).0
@@ -67,7 +70,10 @@ is_needed m.Note = false
 is_needed m.Reference = false
 is_needed m.Above = false
 is_needed m.AfterRecipe = false
+is_needed m.AfterDue = false
+is_needed m.AfterHold = false
 is_needed m.AfterMovement = false
+is_needed m.AfterNumber = false
 is_needed _ = true
 
 -- what a value is that obeys the rule
@@ -87,6 +93,8 @@ rule_text rule.Word = codes "one of start, hold, restart, stop, abort, reset, pa
 rule_text rule.OrderState = codes "one of open, cancelled, released and finished"
 rule_text rule.RecipeState = codes "one of draft, approved and withdrawn"
 rule_text rule.RecipeCursor = codes "a recipe and a version of at most 3 digits, with a dot between them"
+rule_text rule.DueCursor = codes "a due date and an order, with a dot between them"
+rule_text rule.HoldCursor = codes "a lot and a hold, with a dot between them"
 rule_text rule.MovementCursor = codes "a number of at most 16 digits and a line of at most 3, with a dot between them"
 rule_text rule.Command = codes "the word of a command"
 rule_text rule.Question = codes "the word of a question"

@@ -46,13 +46,19 @@ own_of c.Produce = m.Batch ∷ m.Lot ∷ m.Definition ∷ m.Amount ∷ m.Place �
 -- the members of a question for a page of a list: its word, what the list is of, and the place to go on from
 abbrev pub list_members : ListKind → List Member
 list_members list.Orders = m.Ask ∷ m.State ∷ m.Above ∷ []
+list_members list.OrdersByDue = m.Ask ∷ m.State ∷ m.AfterDue ∷ []
 list_members list.Batches = m.Ask ∷ m.Above ∷ []
+list_members list.ClosedBatches = m.Ask ∷ m.Above ∷ []
 list_members list.Lots = m.Ask ∷ m.Definition ∷ m.Above ∷ []
 list_members list.Holds = m.Ask ∷ m.Lot ∷ m.Above ∷ []
+list_members list.AllHolds = m.Ask ∷ m.AfterHold ∷ []
 list_members list.Recalls = m.Ask ∷ m.Above ∷ []
+list_members list.LiftedRecalls = m.Ask ∷ m.Above ∷ []
+list_members list.Classes = m.Ask ∷ m.Above ∷ []
 list_members list.Definitions = m.Ask ∷ m.Class ∷ m.Above ∷ []
 list_members list.Recipes = m.Ask ∷ m.RecipeState ∷ m.AfterRecipe ∷ []
 list_members list.Movements = m.Ask ∷ m.Lot ∷ m.AfterMovement ∷ []
+list_members list.Commands = m.Ask ∷ m.AfterNumber ∷ []
 
 -- the members of a row of a list
 abbrev pub row_own : Row → List Member

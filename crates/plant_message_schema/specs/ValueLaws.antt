@@ -3,6 +3,8 @@ use Rattle.std.specs.Prelude.{⊤, ℕ, List, [], ◌∷◌, Bool, true, false, 
 use Rattle.plant_base.specs.declared.states.JobState.{JobState}
 use Rattle.plant_base.specs.declared.states.RecipeState.{RecipeState}
 use Rattle.plant_base.specs.declared.states.Word.{Word}
+use Rattle.plant_worklists.specs.declared.cursors.DueCursor.{DueCursor}
+use Rattle.plant_worklists.specs.declared.cursors.HoldCursor.{HoldCursor}
 use Rattle.plant_worklists.specs.declared.cursors.MovementCursor.{MovementCursor}
 use Rattle.plant_worklists.specs.declared.cursors.RecipeCursor.{RecipeCursor}
 use Rattle.plant_message_schema.specs.declared.members.Member.{Member}
@@ -26,6 +28,8 @@ Means rule.Word = Word
 Means rule.OrderState = JobState
 Means rule.RecipeState = RecipeState
 Means rule.RecipeCursor = RecipeCursor
+Means rule.DueCursor = DueCursor
+Means rule.HoldCursor = HoldCursor
 Means rule.MovementCursor = MovementCursor
 Means rule.Command = ⊤
 Means rule.Question = ⊤
@@ -45,6 +49,8 @@ field_in rule.Word x = field.Word x
 field_in rule.OrderState x = field.OrderState x
 field_in rule.RecipeState x = field.RecipeState x
 field_in rule.RecipeCursor x = field.RecipeCursor x
+field_in rule.DueCursor x = field.DueCursor x
+field_in rule.HoldCursor x = field.HoldCursor x
 field_in rule.MovementCursor x = field.MovementCursor x
 field_in rule.Command x = field.Chosen
 field_in rule.Question x = field.Chosen

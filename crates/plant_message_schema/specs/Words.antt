@@ -57,15 +57,24 @@ question_kind word =
     if bytes_eq word (codes "back_edges") then Some q.BackEdges else (
     if bytes_eq word (codes "forward_edges") then Some q.ForwardEdges else (
     if bytes_eq word (codes "moment") then Some q.Moment else (
+    if bytes_eq word (codes "definition") then Some q.Definition else (
+    if bytes_eq word (codes "recipe") then Some q.Recipe else (
+    if bytes_eq word (codes "batch_lines") then Some q.BatchLines else (
     if bytes_eq word (codes "orders") then Some (q.List list.Orders) else (
+    if bytes_eq word (codes "orders_by_due") then Some (q.List list.OrdersByDue) else (
     if bytes_eq word (codes "batches") then Some (q.List list.Batches) else (
+    if bytes_eq word (codes "closed_batches") then Some (q.List list.ClosedBatches) else (
     if bytes_eq word (codes "lots") then Some (q.List list.Lots) else (
     if bytes_eq word (codes "holds") then Some (q.List list.Holds) else (
+    if bytes_eq word (codes "all_holds") then Some (q.List list.AllHolds) else (
     if bytes_eq word (codes "recalls") then Some (q.List list.Recalls) else (
+    if bytes_eq word (codes "lifted_recalls") then Some (q.List list.LiftedRecalls) else (
+    if bytes_eq word (codes "classes") then Some (q.List list.Classes) else (
     if bytes_eq word (codes "definitions") then Some (q.List list.Definitions) else (
     if bytes_eq word (codes "recipes") then Some (q.List list.Recipes) else (
     if bytes_eq word (codes "movements") then Some (q.List list.Movements) else (
-    None)))))))))))))))))))
+    if bytes_eq word (codes "commands") then Some (q.List list.Commands) else (
+    None))))))))))))))))))))))))))))
 
 -- the recipe's line of a kind
 abbrev pub line_kind : List ℕ → Option Row

@@ -15,7 +15,7 @@ use crate::members::{Member, Rule};
 use crate::words::{batch_word, command_kind, line_kind, order_state, question_kind, recipe_state};
 use arrayvec::ArrayVec;
 use plant_base::{Amount, Due, Id, JobState, Moment, RecipeState, Text, Unit, Word};
-use plant_worklists::{MovementCursor, RecipeCursor};
+use plant_worklists::{DueCursor, HoldCursor, MovementCursor, RecipeCursor};
 use serde_json::{Map, Value};
 use std::marker::Model;
 
@@ -46,6 +46,10 @@ pub enum Field {
     RecipeState(RecipeState),
     /// A place in a list of recipes.
     RecipeCursor(RecipeCursor),
+    /// A place in a list of orders by their due dates.
+    DueCursor(DueCursor),
+    /// A place in the list of the holds of all lots.
+    HoldCursor(HoldCursor),
     /// A place in a ledger.
     MovementCursor(MovementCursor),
     /// A word that chose the object's shape.
@@ -175,6 +179,8 @@ fn field_of(rule: Rule, value: &Value) -> Option<Field>
         Rule::OrderState => Some(Field::OrderState(order_state(value.as_str()?)?)),
         Rule::RecipeState => Some(Field::RecipeState(recipe_state(value.as_str()?)?)),
         Rule::RecipeCursor => Some(Field::RecipeCursor(RecipeCursor::read(value.as_str()?)?)),
+        Rule::DueCursor => Some(Field::DueCursor(DueCursor::read(value.as_str()?)?)),
+        Rule::HoldCursor => Some(Field::HoldCursor(HoldCursor::read(value.as_str()?)?)),
         Rule::MovementCursor => Some(Field::MovementCursor(MovementCursor::read(value.as_str()?)?)),
         Rule::Command => chosen(command_kind(value.as_str()?)),
         Rule::Question => chosen(question_kind(value.as_str()?)),

@@ -50,6 +50,8 @@ impl fmt::Display for ShapeError {
     }
 }
 
+impl std::error::Error for ShapeError {}
+
 /// What is wrong with a line.
 #[derive(Clone, Copy, Debug, PartialEq, Eq)]
 pub enum FormatError {
@@ -95,6 +97,8 @@ impl fmt::Display for FormatError {
         }
     }
 }
+
+impl std::error::Error for FormatError {}
 
 /// Why nothing was read.
 #[derive(Clone, Copy, Debug, PartialEq, Eq, Error)]

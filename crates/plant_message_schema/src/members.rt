@@ -35,6 +35,10 @@ pub enum Rule {
     RecipeState,
     /// A place in a list of recipes.
     RecipeCursor,
+    /// A place in a list of orders by their due dates.
+    DueCursor,
+    /// A place in the list of the holds of all lots.
+    HoldCursor,
     /// A place in a ledger.
     MovementCursor,
     /// The word of a command.
@@ -76,6 +80,8 @@ impl fmt::Display for Rule {
             Rule::RecipeCursor => {
                 f.write_str("a recipe and a version of at most 3 digits, with a dot between them")
             }
+            Rule::DueCursor => f.write_str("a due date and an order, with a dot between them"),
+            Rule::HoldCursor => f.write_str("a lot and a hold, with a dot between them"),
             Rule::MovementCursor => f.write_str(
                 "a number of at most 16 digits and a line of at most 3, with a dot between them",
             ),
@@ -180,8 +186,14 @@ pub enum Member {
     RecipeState,
     /// The place that the recipes of a page come after, which may be left out.
     AfterRecipe,
+    /// The place that the orders of a page by their due dates come after, which may be left out.
+    AfterDue,
+    /// The place that the holds of a page of all lots come after, which may be left out.
+    AfterHold,
     /// The place that the movements of a page come after, which may be left out.
     AfterMovement,
+    /// The number that the commands of a page come after, which may be left out.
+    AfterNumber,
 }
 
 impl Member {
@@ -236,7 +248,10 @@ impl Member {
             Member::Above => ("above", Rule::Id),
             Member::RecipeState => ("state", Rule::RecipeState),
             Member::AfterRecipe => ("above", Rule::RecipeCursor),
+            Member::AfterDue => ("above", Rule::DueCursor),
+            Member::AfterHold => ("above", Rule::HoldCursor),
             Member::AfterMovement => ("above", Rule::MovementCursor),
+            Member::AfterNumber => ("above", Rule::Amount),
         }
     }
 
@@ -260,7 +275,8 @@ impl Member {
     {
         match self {
             Member::Note | Member::Reference => false,
-            Member::Above | Member::AfterRecipe | Member::AfterMovement => false,
+            Member::Above | Member::AfterRecipe | Member::AfterHold => false,
+            Member::AfterMovement | Member::AfterDue | Member::AfterNumber => false,
             _ => true,
         }
     }

@@ -3,10 +3,11 @@ ghost use Rattle.std.specs.Prelude.{◌≡◌, ◌≤◌, length};
 ghost use Rattle.plant_message_schema.specs.Tables.{shared_members, own_of, list_members, row_own, most_members};
 
 use crate::members::Member::{
-    self, Above, AfterMovement, AfterRecipe, Amount, Ask, At, Base, Batch, By, Class, Definition,
-    Do, Due, Greatest, Hold, Kind, Least, Lines, Lot, Name, New, Note, Operation, Order, Orders,
-    Parameter, Parts, Phase, PhaseName, Place, Priority, Product, Quantity, Recall, Recipe,
-    RecipeState, Reference, Size, State, Sub, Title, Unit, UnitProcedure, Value, Version, Word,
+    self, Above, AfterDue, AfterHold, AfterMovement, AfterNumber, AfterRecipe, Amount, Ask, At,
+    Base, Batch, By, Class, Definition, Do, Due, Greatest, Hold, Kind, Least, Lines, Lot, Name,
+    New, Note, Operation, Order, Orders, Parameter, Parts, Phase, PhaseName, Place, Priority,
+    Product, Quantity, Recall, Recipe, RecipeState, Reference, Size, State, Sub, Title, Unit,
+    UnitProcedure, Value, Version, Word,
 };
 use crate::words::{CommandKind, ListKind, Row};
 
@@ -59,13 +60,19 @@ pub fn list_members(kind: ListKind) -> &'static [Member]
 {
     match kind {
         ListKind::Orders => &[Ask, State, Above],
+        ListKind::OrdersByDue => &[Ask, State, AfterDue],
         ListKind::Batches => &[Ask, Above],
+        ListKind::ClosedBatches => &[Ask, Above],
         ListKind::Lots => &[Ask, Definition, Above],
         ListKind::Holds => &[Ask, Lot, Above],
+        ListKind::AllHolds => &[Ask, AfterHold],
         ListKind::Recalls => &[Ask, Above],
+        ListKind::LiftedRecalls => &[Ask, Above],
+        ListKind::Classes => &[Ask, Above],
         ListKind::Definitions => &[Ask, Class, Above],
         ListKind::Recipes => &[Ask, RecipeState, AfterRecipe],
         ListKind::Movements => &[Ask, Lot, AfterMovement],
+        ListKind::Commands => &[Ask, AfterNumber],
     }
 }
 

@@ -46,6 +46,9 @@ pub enum QuestionKind {
     BackEdges,
     ForwardEdges,
     Moment,
+    Definition,
+    Recipe,
+    BatchLines,
     /// A page of a list.
     List(ListKind),
 }
@@ -55,20 +58,32 @@ pub enum QuestionKind {
 pub enum ListKind {
     /// The orders in a state.
     Orders,
+    /// The orders in a state by their due dates.
+    OrdersByDue,
     /// The batches that aren't closed.
     Batches,
+    /// The batches that are closed.
+    ClosedBatches,
     /// The lots of a definition.
     Lots,
     /// The holds of a lot.
     Holds,
+    /// The holds of all lots.
+    AllHolds,
     /// The recalls that weren't lifted.
     Recalls,
+    /// The recalls that were lifted.
+    LiftedRecalls,
+    /// The classes.
+    Classes,
     /// The definitions of a class.
     Definitions,
     /// The versions of recipes in a state.
     Recipes,
     /// The ledger of a lot.
     Movements,
+    /// The commands that had references.
+    Commands,
 }
 
 /// Which row of a list an object is.
@@ -138,14 +153,23 @@ pub fn question_kind(word: &str) -> Option<QuestionKind>
         "back_edges" => Some(QuestionKind::BackEdges),
         "forward_edges" => Some(QuestionKind::ForwardEdges),
         "moment" => Some(QuestionKind::Moment),
+        "definition" => Some(QuestionKind::Definition),
+        "recipe" => Some(QuestionKind::Recipe),
+        "batch_lines" => Some(QuestionKind::BatchLines),
         "orders" => Some(QuestionKind::List(ListKind::Orders)),
+        "orders_by_due" => Some(QuestionKind::List(ListKind::OrdersByDue)),
         "batches" => Some(QuestionKind::List(ListKind::Batches)),
+        "closed_batches" => Some(QuestionKind::List(ListKind::ClosedBatches)),
         "lots" => Some(QuestionKind::List(ListKind::Lots)),
         "holds" => Some(QuestionKind::List(ListKind::Holds)),
+        "all_holds" => Some(QuestionKind::List(ListKind::AllHolds)),
         "recalls" => Some(QuestionKind::List(ListKind::Recalls)),
+        "lifted_recalls" => Some(QuestionKind::List(ListKind::LiftedRecalls)),
+        "classes" => Some(QuestionKind::List(ListKind::Classes)),
         "definitions" => Some(QuestionKind::List(ListKind::Definitions)),
         "recipes" => Some(QuestionKind::List(ListKind::Recipes)),
         "movements" => Some(QuestionKind::List(ListKind::Movements)),
+        "commands" => Some(QuestionKind::List(ListKind::Commands)),
         _ => None,
     }
 }

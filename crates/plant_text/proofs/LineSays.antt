@@ -10,8 +10,11 @@ use Rattle.serde_json.specs.Find.{get}
 use Rattle.serde_json.specs.Read.{read}
 use Rattle.plant_worklists.specs.declared.list.Worklist.{Worklist}
 use Rattle.plant_worklists.specs.declared.list.Worklist.TheVariants as list
+use Rattle.plant_worklists.specs.declared.cursors.DueCursor.{DueCursor}
+use Rattle.plant_worklists.specs.declared.cursors.HoldCursor.{HoldCursor}
 use Rattle.plant_worklists.specs.declared.cursors.MovementCursor.{MovementCursor}
 use Rattle.plant_worklists.specs.declared.cursors.RecipeCursor.{RecipeCursor}
+use Rattle.plant_base.specs.declared.states.JobState.{JobState}
 use Rattle.plant_base.specs.declared.states.RecipeState.{RecipeState}
 use Rattle.plant_messages.specs.declared.question.Question.{Question}
 use Rattle.plant_messages.specs.declared.question.Question.TheVariants as Q
@@ -31,7 +34,7 @@ use Rattle.plant_message_schema.specs.ValueLaws.{Values, fields_in, may_in}
 use Rattle.plant_message_schema.specs.Tables.{list_members}
 use Rattle.plant_message_schema.proofs.FieldsAreTyped.{Good, valid_bind, valid_map, good_object, exactly_typed, only_fails, ask_fails}
 use Rattle.plant_text.specs.Lines.{value_says, longest_line, text_says, line_says, line_of}
-use Rattle.plant_text.specs.Questions.{asked_alone, one_id, id_named, node_named, page_asked, recipes_asked, ledger_asked, list_in, list_asked, question_for, kind_at, question_by, question_of}
+use Rattle.plant_text.specs.Questions.{asked_alone, one_id, id_named, node_named, recipe_in, recipe_asked, page_asked, whole_asked, recipes_asked, due_asked, ledger_asked, list_in, list_asked, question_for, kind_at, question_by, question_of}
 
 pub at_value : (bytes : List ℕ) (d : Data) → length bytes ≤ longest_line → IsUtf8 bytes → read bytes ≡ Some d → line_says bytes ≡ value_says d
 unfolding line_says
@@ -80,19 +83,37 @@ recipes_total : (state : RecipeState) (o : Option RecipeCursor) → Good is_repo
 recipes_total state None = tt
 recipes_total state (Some place) = tt
 
+due_total : (state : JobState) (o : Option DueCursor) → Good is_reported (λ x. ⊤) (or_malformed (due_asked (may_in true rule.OrderState state) (may_in false rule.DueCursor o)))
+due_total state None = tt
+due_total state (Some place) = tt
+
+commands_total : (o : Option ℕ) → Good is_reported (λ x. ⊤) (or_malformed (whole_asked k.Commands (may_in false rule.Amount o)))
+commands_total None = tt
+commands_total (Some number) = tt
+
+all_holds_total : (o : Option HoldCursor) → Good is_reported (λ x. ⊤) (or_malformed (whole_asked k.AllHolds (may_in false rule.HoldCursor o)))
+all_holds_total None = tt
+all_holds_total (Some place) = tt
+
 ledger_total : (lot : List ℕ) (o : Option MovementCursor) → Good is_reported (λ x. ⊤) (or_malformed (ledger_asked (may_in true rule.Id lot) (may_in false rule.MovementCursor o)))
 ledger_total lot None = tt
 ledger_total lot (Some place) = tt
 
 list_made : (kind : ListKind) (v : Values (list_members kind)) → Good is_reported (λ x. ⊤) (or_malformed (list_in kind (fields_in (list_members kind) v)))
 list_made k.Orders v = place_total (list.Orders v.1.0) v.1.1.0
+list_made k.OrdersByDue v = due_total v.1.0 v.1.1.0
 list_made k.Batches v = place_total list.OpenBatches v.1.0
+list_made k.ClosedBatches v = place_total list.ClosedBatches v.1.0
 list_made k.Lots v = place_total (list.Lots v.1.0) v.1.1.0
 list_made k.Holds v = place_total (list.Holds v.1.0) v.1.1.0
+list_made k.AllHolds v = all_holds_total v.1.0
 list_made k.Recalls v = place_total list.OpenRecalls v.1.0
+list_made k.LiftedRecalls v = place_total list.LiftedRecalls v.1.0
+list_made k.Classes v = place_total list.Classes v.1.0
 list_made k.Definitions v = place_total (list.Definitions v.1.0) v.1.1.0
 list_made k.Recipes v = recipes_total v.1.0 v.1.1.0
 list_made k.Movements v = ledger_total v.1.0 v.1.1.0
+list_made k.Commands v = commands_total v.1.0
 
 list_total : (kind : ListKind) (d : Data) → Good format_error_is_reported (λ x. ⊤) (list_asked kind d)
 list_total kind d = good_object _ (exactly (list_members kind) d >>= (λ fs. or_malformed (list_in kind fs))) (valid_bind is_reported _ (exactly (list_members kind) d) _ (exactly_typed (list_members kind) d _ (list_made kind)))
@@ -107,6 +128,11 @@ node_valid d =
     either_valid (is_some (get (codes "lot") d)) _ _ (then_made (id_named m.Lot d) _ (id_total m.Lot d (λ v. tt))) (
     either_valid (is_some (get (codes "batch") d)) _ _ (then_made (id_named m.Batch d) _ (id_total m.Batch d (λ v. tt))) refl)
 
+recipe_valid : (d : Data) → Good format_error_is_reported (λ x. ⊤) (recipe_asked d)
+recipe_valid d =
+    let members = m.Ask ∷ m.Recipe ∷ m.Version ∷ [] in
+    good_object _ (exactly members d >>= (λ fs. or_malformed (recipe_in fs))) (valid_bind is_reported _ (exactly members d) _ (exactly_typed members d _ (λ v. tt)))
+
 for_valid : (kind : QuestionKind) (d : Data) → Good format_error_is_reported (λ x. ⊤) (question_for kind d)
 for_valid q.Desk d = alone_valid Q.Desk d
 for_valid q.Moment d = alone_valid Q.Moment d
@@ -115,6 +141,9 @@ for_valid q.Lot d = then_made (id_named m.Lot d) _ (id_total m.Lot d (λ v. tt))
 for_valid q.Order d = then_made (id_named m.Order d) _ (id_total m.Order d (λ v. tt))
 for_valid q.Batch d = then_made (id_named m.Batch d) _ (id_total m.Batch d (λ v. tt))
 for_valid q.Recall d = then_made (id_named m.Recall d) _ (id_total m.Recall d (λ v. tt))
+for_valid q.Definition d = then_made (id_named m.Definition d) _ (id_total m.Definition d (λ v. tt))
+for_valid q.Recipe d = recipe_valid d
+for_valid q.BatchLines d = then_made (id_named m.Batch d) _ (id_total m.Batch d (λ v. tt))
 for_valid _ d = then_made (node_named d) _ (node_valid d)
 
 by_valid : (d : Data) (o : Option QuestionKind) → kind_at d ≡ o → Good format_error_is_reported (λ x. ⊤) (question_by o d)

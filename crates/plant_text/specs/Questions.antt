@@ -8,6 +8,8 @@ use Rattle.plant_trace.specs.declared.node.Node.{Node}
 use Rattle.plant_trace.specs.declared.node.Node.TheVariants.{Lot, Batch}
 use Rattle.plant_worklists.specs.declared.list.Worklist.{Worklist}
 use Rattle.plant_worklists.specs.declared.list.Worklist.TheVariants as list
+use Rattle.plant_worklists.specs.declared.cursors.DueCursor.{DueCursor}
+use Rattle.plant_worklists.specs.declared.cursors.HoldCursor.{HoldCursor}
 use Rattle.plant_worklists.specs.declared.cursors.MovementCursor.{MovementCursor}
 use Rattle.plant_worklists.specs.declared.cursors.RecipeCursor.{RecipeCursor}
 use Rattle.plant_messages.specs.declared.question.Question.{Question}
@@ -47,6 +49,20 @@ node_named d =
     if is_some (get (codes "batch") d) then id_named m.Batch d >>= (λ id. Ok (Batch id)) else
     Err format_error.NothingTraced)
 
+abbrev pub definition_asked : Data → Result Question FormatError
+definition_asked d = id_named m.Definition d >>= (λ id. Ok (Q.Definition id))
+
+abbrev pub lines_asked : Data → Result Question FormatError
+lines_asked d = id_named m.Batch d >>= (λ id. Ok (Q.BatchLines id))
+
+-- the question about a version of a recipe by the values of its members
+abbrev pub recipe_in : List Field → Option Question
+recipe_in (field.Chosen ∷ field.Id recipe ∷ field.Number version ∷ []) = Some (Q.Recipe recipe version)
+recipe_in _ = None
+
+abbrev pub recipe_asked : Data → Result Question FormatError
+recipe_asked d = object (exactly (m.Ask ∷ m.Recipe ∷ m.Version ∷ []) d >>= (λ fs. or_malformed (recipe_in fs)))
+
 abbrev pub trace_of : Direction → Data → Result Question FormatError
 trace_of direction d = node_named d >>= (λ node. Ok (Q.Trace direction node))
 
@@ -62,13 +78,19 @@ cursor_in _ = None
 -- the list of a kind that is of nothing
 abbrev pub whole_list : ListKind → Option Worklist
 whole_list k.Orders = None
+whole_list k.OrdersByDue = None
 whole_list k.Batches = Some list.OpenBatches
+whole_list k.ClosedBatches = Some list.ClosedBatches
 whole_list k.Lots = None
 whole_list k.Holds = None
+whole_list k.AllHolds = None
 whole_list k.Recalls = Some list.OpenRecalls
+whole_list k.LiftedRecalls = Some list.LiftedRecalls
+whole_list k.Classes = Some list.Classes
 whole_list k.Definitions = None
 whole_list k.Recipes = None
 whole_list k.Movements = None
+whole_list k.Commands = None
 
 -- the list of a kind that is of this
 abbrev pub list_of : ListKind → Field → Option Worklist
@@ -88,11 +110,34 @@ recipe_cursor_in field.Absent = Some None
 recipe_cursor_in (field.RecipeCursor place) = Some (Some place)
 recipe_cursor_in _ = None
 
+-- and of the place in a list of orders by their due dates
+abbrev pub due_cursor_in : Field → Option (Option DueCursor)
+due_cursor_in field.Absent = Some None
+due_cursor_in (field.DueCursor place) = Some (Some place)
+due_cursor_in _ = None
+
+-- and of the place in the list of the holds of all lots
+abbrev pub hold_cursor_in : Field → Option (Option HoldCursor)
+hold_cursor_in field.Absent = Some None
+hold_cursor_in (field.HoldCursor place) = Some (Some place)
+hold_cursor_in _ = None
+
 -- and of the place in a ledger
 abbrev pub movement_cursor_in : Field → Option (Option MovementCursor)
 movement_cursor_in field.Absent = Some None
 movement_cursor_in (field.MovementCursor place) = Some (Some place)
 movement_cursor_in _ = None
+
+-- and of the number of a command
+abbrev pub number_in : Field → Option (Option ℕ)
+number_in field.Absent = Some None
+number_in (field.Amount number) = Some (Some number)
+number_in _ = None
+
+-- the question for a page of the orders in a state by their due dates
+abbrev pub due_asked : Field → Field → Option Question
+due_asked (field.OrderState state) cursor = option_map (Q.OrdersByDue state) (due_cursor_in cursor)
+due_asked _ cursor = None
 
 -- the question for a page of the recipes in a state
 abbrev pub recipes_asked : Field → Field → Option Question
@@ -104,15 +149,22 @@ abbrev pub ledger_asked : Field → Field → Option Question
 ledger_asked (field.Id lot) cursor = option_map (Q.Ledger lot) (movement_cursor_in cursor)
 ledger_asked _ cursor = None
 
+-- the question for a page of a list that is of nothing
+abbrev pub whole_asked : ListKind → Field → Option Question
+whole_asked k.AllHolds cursor = option_map Q.AllHolds (hold_cursor_in cursor)
+whole_asked k.Commands cursor = option_map Q.Commands (number_in cursor)
+whole_asked kind cursor = page_asked (whole_list kind) cursor
+
 -- the question for a page of a list that is of this
 abbrev pub of_asked : ListKind → Field → Field → Option Question
 of_asked k.Recipes of cursor = recipes_asked of cursor
+of_asked k.OrdersByDue of cursor = due_asked of cursor
 of_asked k.Movements of cursor = ledger_asked of cursor
 of_asked kind of cursor = page_asked (list_of kind of) cursor
 
 -- the question for a page by the values of its members
 abbrev pub list_in : ListKind → List Field → Option Question
-list_in kind (field.Chosen ∷ cursor ∷ []) = page_asked (whole_list kind) cursor
+list_in kind (field.Chosen ∷ cursor ∷ []) = whole_asked kind cursor
 list_in kind (field.Chosen ∷ of ∷ cursor ∷ []) = of_asked kind of cursor
 list_in kind _ = None
 
@@ -123,6 +175,9 @@ list_asked kind d = object (exactly (list_members kind) d >>= (λ fs. or_malform
 abbrev pub question_for : QuestionKind → Data → Result Question FormatError
 question_for q.Desk d = asked_alone Q.Desk d
 question_for q.Moment d = asked_alone Q.Moment d
+question_for q.Definition d = definition_asked d
+question_for q.Recipe d = recipe_asked d
+question_for q.BatchLines d = lines_asked d
 question_for (q.List kind) d = list_asked kind d
 question_for q.Lot d = id_named m.Lot d >>= (λ id. Ok (Q.Lot id))
 question_for q.Order d = id_named m.Order d >>= (λ id. Ok (Q.Order id))

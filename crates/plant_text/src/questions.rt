@@ -2,8 +2,9 @@
 ghost use Rattle.std.specs.Prelude.{◌≡◌, true, IfErr};
 ghost use Rattle.serde_json.specs.View.{view};
 ghost use Rattle.plant_message_schema.specs.FormatErrors.{format_error_is_reported};
-ghost use Rattle.plant_text.specs.Questions.{asked_alone, id_named, node_named, trace_of, edges_of, cursor_in, whole_list, list_of, list_in};
-ghost use Rattle.plant_text.specs.Questions.{recipe_cursor_in, movement_cursor_in, recipes_asked, ledger_asked, of_asked};
+ghost use Rattle.plant_text.specs.Questions.{asked_alone, id_named, node_named, definition_asked, lines_asked, recipe_in, recipe_asked, trace_of, edges_of};
+ghost use Rattle.plant_text.specs.Questions.{cursor_in, whole_list, list_of, list_in, hold_cursor_in, whole_asked};
+ghost use Rattle.plant_text.specs.Questions.{recipe_cursor_in, due_cursor_in, movement_cursor_in, number_in, recipes_asked, due_asked, ledger_asked, of_asked};
 ghost use Rattle.plant_text.specs.Questions.{list_asked, question_for, kind_at, question_of};
 
 use plant_base::Id;
@@ -13,7 +14,7 @@ use plant_message_schema::{
 };
 use plant_messages::Question;
 use plant_trace::{Direction, Node};
-use plant_worklists::{MovementCursor, RecipeCursor, Worklist};
+use plant_worklists::{DueCursor, HoldCursor, MovementCursor, RecipeCursor, Worklist};
 use serde_json::Value;
 
 /// A question that names nothing.
@@ -49,6 +50,51 @@ fn node_named(value: &Value) -> Result<Node, FormatError>
         Ok(Node::Batch(id_named(value, Member::Batch)?))
     } else {
         Err(FormatError::NothingTraced)
+    }
+}
+
+/// The question about a definition.
+fn definition_asked(value: &Value) -> Result<Question, FormatError>
+    ensures { result ≡ definition_asked (view value.now) }
+{
+    match id_named(value, Member::Definition) {
+        Ok(def) => Ok(Question::Definition(def)),
+        Err(format_error) => Err(format_error),
+    }
+}
+
+/// The question about the lines of a batch.
+fn lines_asked(value: &Value) -> Result<Question, FormatError>
+    ensures { result ≡ lines_asked (view value.now) }
+{
+    match id_named(value, Member::Batch) {
+        Ok(batch) => Ok(Question::BatchLines(batch)),
+        Err(format_error) => Err(format_error),
+    }
+}
+
+/// The question about a version of a recipe by the values of its members.
+fn recipe_in(fields: &[Field]) -> Option<Question>
+    ensures { result ≡ recipe_in fields.now }
+{
+    match fields {
+        &[Field::Chosen, Field::Id(recipe), Field::Number(version)] => {
+            Some(Question::Recipe(recipe, version))
+        }
+        _ => None,
+    }
+}
+
+/// The question about a version of a recipe.
+fn recipe_asked(value: &Value) -> Result<Question, FormatError>
+    ensures { result ≡ recipe_asked (view value.now) }
+{
+    match exactly(value, &[Member::Ask, Member::Recipe, Member::Version]) {
+        Ok(fields) => match recipe_in(fields.as_slice()) {
+            Some(question) => Ok(question),
+            None => Err(FormatError::Object(ShapeError::Malformed)),
+        },
+        Err(shape_error) => Err(FormatError::Object(shape_error)),
     }
 }
 
@@ -89,13 +135,19 @@ fn whole_list(kind: ListKind) -> Option<Worklist>
 {
     match kind {
         ListKind::Batches => Some(Worklist::OpenBatches),
+        ListKind::ClosedBatches => Some(Worklist::ClosedBatches),
         ListKind::Recalls => Some(Worklist::OpenRecalls),
+        ListKind::LiftedRecalls => Some(Worklist::LiftedRecalls),
+        ListKind::Classes => Some(Worklist::Classes),
         ListKind::Orders
+        | ListKind::OrdersByDue
         | ListKind::Lots
         | ListKind::Holds
+        | ListKind::AllHolds
         | ListKind::Definitions
         | ListKind::Recipes
-        | ListKind::Movements => None,
+        | ListKind::Movements
+        | ListKind::Commands => None,
     }
 }
 
@@ -123,6 +175,28 @@ fn recipe_cursor_in(field: Field) -> Option<Option<RecipeCursor>>
     }
 }
 
+/// The place in a list of orders by their due dates that a page goes on from, nothing where none is given.
+fn due_cursor_in(field: Field) -> Option<Option<DueCursor>>
+    ensures { result ≡ due_cursor_in field }
+{
+    match field {
+        Field::Absent => Some(None),
+        Field::DueCursor(place) => Some(Some(place)),
+        _ => None,
+    }
+}
+
+/// The place in the list of the holds of all lots that a page goes on from, nothing where none is given.
+fn hold_cursor_in(field: Field) -> Option<Option<HoldCursor>>
+    ensures { result ≡ hold_cursor_in field }
+{
+    match field {
+        Field::Absent => Some(None),
+        Field::HoldCursor(place) => Some(Some(place)),
+        _ => None,
+    }
+}
+
 /// The place in a ledger that a page goes on from, nothing where none is given.
 fn movement_cursor_in(field: Field) -> Option<Option<MovementCursor>>
     ensures { result ≡ movement_cursor_in field }
@@ -130,6 +204,27 @@ fn movement_cursor_in(field: Field) -> Option<Option<MovementCursor>>
     match field {
         Field::Absent => Some(None),
         Field::MovementCursor(place) => Some(Some(place)),
+        _ => None,
+    }
+}
+
+/// The number of a command that a page goes on from, nothing where none is given.
+fn number_in(field: Field) -> Option<Option<u64>>
+    ensures { result ≡ number_in field }
+{
+    match field {
+        Field::Absent => Some(None),
+        Field::Amount(number) => Some(Some(number.get())),
+        _ => None,
+    }
+}
+
+/// The question for a page of the orders in a state by their due dates.
+fn due_asked(of: Field, cursor: Field) -> Option<Question>
+    ensures { result ≡ due_asked of cursor }
+{
+    match of {
+        Field::OrderState(state) => Some(Question::OrdersByDue(state, due_cursor_in(cursor)?)),
         _ => None,
     }
 }
@@ -154,12 +249,24 @@ fn ledger_asked(of: Field, cursor: Field) -> Option<Question>
     }
 }
 
+/// The question for a page of a list that is of nothing.
+fn whole_asked(kind: ListKind, cursor: Field) -> Option<Question>
+    ensures { result ≡ whole_asked kind cursor }
+{
+    match kind {
+        ListKind::AllHolds => Some(Question::AllHolds(hold_cursor_in(cursor)?)),
+        ListKind::Commands => Some(Question::Commands(number_in(cursor)?)),
+        _ => Some(Question::List(whole_list(kind)?, cursor_in(cursor)?)),
+    }
+}
+
 /// The question for a page of a list that is of this.
 fn of_asked(kind: ListKind, of: Field, cursor: Field) -> Option<Question>
     ensures { result ≡ of_asked kind of cursor }
 {
     match kind {
         ListKind::Recipes => recipes_asked(of, cursor),
+        ListKind::OrdersByDue => due_asked(of, cursor),
         ListKind::Movements => ledger_asked(of, cursor),
         _ => Some(Question::List(list_of(kind, of)?, cursor_in(cursor)?)),
     }
@@ -170,7 +277,7 @@ fn list_in(kind: ListKind, fields: &[Field]) -> Option<Question>
     ensures { result ≡ list_in kind fields.now }
 {
     match fields {
-        &[Field::Chosen, cursor] => Some(Question::List(whole_list(kind)?, cursor_in(cursor)?)),
+        &[Field::Chosen, cursor] => whole_asked(kind, cursor),
         &[Field::Chosen, of, cursor] => of_asked(kind, of, cursor),
         _ => None,
     }
@@ -196,6 +303,9 @@ fn question_for(value: &Value, kind: QuestionKind) -> Result<Question, FormatErr
     match kind {
         QuestionKind::Desk => asked_alone(value, Question::Desk),
         QuestionKind::Moment => asked_alone(value, Question::Moment),
+        QuestionKind::Definition => definition_asked(value),
+        QuestionKind::Recipe => recipe_asked(value),
+        QuestionKind::BatchLines => lines_asked(value),
         QuestionKind::List(list) => list_asked(value, list),
         QuestionKind::Lot => match id_named(value, Member::Lot) {
             Ok(lot) => Ok(Question::Lot(lot)),

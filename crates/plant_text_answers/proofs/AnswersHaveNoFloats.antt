@@ -5,20 +5,28 @@ use Rattle.serde_json.specs.declared.value.Value.{Value}
 use Rattle.serde_json.specs.View.{items_of, view}
 use Rattle.serde_json.specs.Written.{has_float, items_have_float, compact_text}
 use Rattle.plant_base.specs.declared.rows.Movement.{Movement}
-use Rattle.plant_base.specs.declared.rows.Sublot.{Sublot}
 use Rattle.plant_view.specs.Genealogy.{batch_by, ends_of}
 use Rattle.plant_messages.specs.declared.genealogy.BookedEdge.{BookedEdge}
 use Rattle.plant_messages.specs.declared.genealogy.Genealogy.{Genealogy}
 use Rattle.plant_messages.specs.declared.genealogy.NodeAnswer.{NodeAnswer}
 use Rattle.plant_messages.specs.declared.genealogy.NodeAnswer.TheVariants as known
+use Rattle.plant_messages.specs.declared.listed.CommandHead.{CommandHead}
 use Rattle.plant_messages.specs.declared.listed.Listed.{Listed}
 use Rattle.plant_messages.specs.declared.listed.Listed.TheVariants as listed
 use Rattle.plant_messages.specs.declared.listed.OpenBatch.{OpenBatch}
 use Rattle.plant_messages.specs.declared.question.LotAnswer.{LotAnswer}
+use Rattle.plant_messages.specs.declared.question.StandingLot.{StandingLot}
 use Rattle.plant_messages.specs.declared.question.OrderAnswer.{OrderAnswer}
 use Rattle.plant_messages.specs.declared.question.BatchView.{BatchView}
 use Rattle.plant_messages.specs.declared.question.Booking.{Booking}
 use Rattle.plant_messages.specs.declared.question.RecallAnswer.{RecallAnswer}
+use Rattle.plant_messages.specs.declared.question.BatchLines.{BatchLines}
+use Rattle.plant_messages.specs.declared.question.BookedLine.{BookedLine}
+use Rattle.plant_messages.specs.declared.question.RecipeAnswer.{RecipeAnswer}
+use Rattle.plant_base.specs.declared.rows.Lifting.{Lifting}
+use Rattle.plant_base.specs.declared.rows.Recall.{Recall}
+use Rattle.plant_base.specs.declared.rows.RecipeLine.{RecipeLine}
+use Rattle.plant_base.specs.declared.rows.RecipeLine.TheVariants as line
 use Rattle.plant_text_answers.specs.BatchAnswers.{booking_data, batch_data}
 use Rattle.plant_trace.specs.declared.node.Node.{Node}
 use Rattle.plant_trace.specs.declared.node.Node.TheVariants.{Lot, Batch}
@@ -26,10 +34,11 @@ use Rattle.plant_text_answers.specs.RecallAnswers.{recall_data}
 use Rattle.plant_text_answers.specs.EdgeAnswers.{node_item, edge_item, genealogy_data}
 use Rattle.plant_text_answers.specs.TraceAnswers.{node_data, trace_data}
 use Rattle.plant_text_answers.specs.Answers.{order_data}
-use Rattle.plant_text_answers.specs.LotAnswers.{lot_data, stands_data}
-use Rattle.plant_text_answers.specs.ListAnswers.{order_item, batch_item, lot_item, hold_item, recall_item, definition_item, recipe_item, movement_item, other_sub, listed_data}
+use Rattle.plant_text_answers.specs.LotAnswers.{lot_data, standing_data, stands_data}
+use Rattle.plant_text_answers.specs.ListAnswers.{order_item, batch_item, lot_item, hold_item, all_holds_item, recall_item, lifting_or_null, lifted_item, command_data, command_item, class_item, definition_item, recipe_item, movement_item, other_sub, listed_data}
 use Rattle.plant_worklists.specs.Worklists.{other_lot}
-use Rattle.plant_text_answers.specs.Parts.{id_or_null, number_or_null, sublot_data}
+use Rattle.plant_text_answers.specs.Parts.{id_or_null, unit_or_null, number_or_null, sublot_data}
+use Rattle.plant_text_answers.specs.RecipeAnswers.{recipe_line_data, recipe_line_item, booked_line_data, booked_line_item, recipe_data, batch_lines_data}
 use Rattle.std.proofs.lemmas.Result.{IfOk-weaker}
 
 -- the text of a value that shows this
@@ -68,8 +77,35 @@ no_float_in_trace nodes = rw (no_float_in_rows node_data no_float_in_node nodes)
 pub no_float_in_recall : (a : RecallAnswer) → has_float (recall_data a) ≡ false
 no_float_in_recall a = rw (no_float_in_rows node_data no_float_in_node a.nodes) refl
 
-pub no_float_in_stands : (lots : List LotAnswer) → has_float (stands_data lots) ≡ false
-no_float_in_stands lots = rw (no_float_in_rows lot_data no_float_in_lot lots) refl
+no_float_in_standing : (s : StandingLot) → has_float (standing_data s) ≡ false
+no_float_in_standing s = rw (no_float_in_rows sublot_data (λ s. refl) s.known.sublots) refl
+
+pub no_float_in_stands : (lots : List StandingLot) → has_float (stands_data lots) ≡ false
+no_float_in_stands lots = rw (no_float_in_rows standing_data no_float_in_standing lots) refl
+
+-- ---- recipes
+
+no_float_in_unit : (unit : Option (List ℕ)) → has_float (unit_or_null unit) ≡ false
+no_float_in_unit None = refl
+no_float_in_unit (Some unit) = refl
+
+no_float_in_line : (l : RecipeLine) (unit : Option (List ℕ)) → has_float (recipe_line_data l unit) ≡ false
+no_float_in_line (line.In def amount) unit = rw (no_float_in_unit unit) refl
+no_float_in_line (line.Out def amount) unit = rw (no_float_in_unit unit) refl
+no_float_in_line (line.Parameter name value) unit = refl
+no_float_in_line (line.Phase unit_procedure operation phase) unit = refl
+
+no_float_in_booked : (l : RecipeLine) (b : BookedLine) → has_float (booked_line_data l b) ≡ false
+no_float_in_booked (line.In def amount) b = rw (no_float_in_unit b.measured.unit) refl
+no_float_in_booked (line.Out def amount) b = rw (no_float_in_unit b.measured.unit) refl
+no_float_in_booked (line.Parameter name value) b = refl
+no_float_in_booked (line.Phase unit_procedure operation phase) b = refl
+
+pub no_float_in_recipe : (a : RecipeAnswer) → has_float (recipe_data a) ≡ false
+no_float_in_recipe a = rw (no_float_in_rows recipe_line_item (λ l. no_float_in_line l.line l.unit) a.lines, no_float_in_unit a.unit) refl
+
+pub no_float_in_batch_lines : (a : BatchLines) → has_float (batch_lines_data a) ≡ false
+no_float_in_batch_lines a = rw (no_float_in_rows booked_line_item (λ b. no_float_in_booked b.measured.line.line b) a.lines) refl
 
 -- ---- genealogy
 
@@ -88,8 +124,19 @@ no_float_in_genealogy g = rw (no_float_in_rows edge_item no_float_in_edge g.edge
 no_float_in_open : (b : OpenBatch) → has_float (batch_item b) ≡ false
 no_float_in_open b = rw (no_float_in_id b.next_phase) refl
 
-no_float_in_stocked : (a : LotAnswer) → has_float (lot_item a) ≡ false
-no_float_in_stocked a = rw (no_float_in_rows sublot_data (λ s. refl) a.sublots) refl
+no_float_in_stocked : (s : StandingLot) → has_float (lot_item s) ≡ false
+no_float_in_stocked s = rw (no_float_in_rows sublot_data (λ s. refl) s.known.sublots) refl
+
+no_float_in_lifting : (l : Option Lifting) → has_float (lifting_or_null l) ≡ false
+no_float_in_lifting None = refl
+no_float_in_lifting (Some l) = refl
+
+no_float_in_lifted : (r : Recall) → has_float (lifted_item r) ≡ false
+no_float_in_lifted r = rw (no_float_in_lifting r.lifting) refl
+
+no_float_in_command : (seq : ℕ) (reference : List ℕ) (head : Option CommandHead) → has_float (command_data seq reference head) ≡ false
+no_float_in_command seq reference None = refl
+no_float_in_command seq reference (Some head) = refl
 
 no_float_in_number : (n : Option ℕ) → has_float (number_or_null n) ≡ false
 no_float_in_number None = refl
@@ -104,6 +151,10 @@ no_float_in_listed (listed.Batches page) = rw (no_float_in_rows batch_item no_fl
 no_float_in_listed (listed.Lots page) = rw (no_float_in_id page.last, no_float_in_rows lot_item no_float_in_stocked page.lots) refl
 no_float_in_listed (listed.Holds page) = rw (no_float_in_rows hold_item (λ h. refl) page.rows) refl
 no_float_in_listed (listed.Recalls page) = rw (no_float_in_rows recall_item (λ r. refl) page.rows) refl
+no_float_in_listed (listed.LiftedRecalls page) = rw (no_float_in_rows lifted_item no_float_in_lifted page.rows) refl
+no_float_in_listed (listed.AllHolds page) = rw (no_float_in_rows all_holds_item (λ h. refl) page.rows) refl
+no_float_in_listed (listed.Commands page) = rw (no_float_in_rows command_item (λ c. no_float_in_command c.seq c.reference c.head) page.rows) refl
+no_float_in_listed (listed.Classes page) = rw (no_float_in_rows class_item (λ c. refl) page.rows) refl
 no_float_in_listed (listed.Definitions page) = rw (no_float_in_rows definition_item (λ d. refl) page.rows) refl
 no_float_in_listed (listed.Recipes page) = rw (no_float_in_rows recipe_item (λ r. refl) page.rows) refl
 no_float_in_listed (listed.Ledger page) = rw (no_float_in_rows movement_item no_float_in_movement page.rows) refl

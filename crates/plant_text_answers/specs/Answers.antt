@@ -13,6 +13,7 @@ use Rattle.plant_text_answers.specs.LotAnswers.{lot_data, stands_data}
 use Rattle.plant_text_answers.specs.Natural.{natural}
 use Rattle.plant_text_answers.specs.Parts.{id_or_null}
 use Rattle.plant_text_answers.specs.RecallAnswers.{recall_data}
+use Rattle.plant_text_answers.specs.RecipeAnswers.{definition_data, recipe_data, batch_lines_data}
 use Rattle.plant_text_answers.specs.TraceAnswers.{trace_data}
 use Rattle.plant_text_answers.specs.Replies.{refusal_text}
 
@@ -39,4 +40,7 @@ text_of_answer (A.Edges genealogy) = compact_text (genealogy_data genealogy)
 text_of_answer (A.Recall recall) = compact_text (recall_data recall)
 text_of_answer (A.Moment at) = compact_text (moment_data at)
 text_of_answer (A.List page) = compact_text (listed_data page)
+text_of_answer (A.Definition definition) = compact_text (definition_data definition)
+text_of_answer (A.Recipe recipe) = compact_text (recipe_data recipe)
+text_of_answer (A.BatchLines lines) = compact_text (batch_lines_data lines)
 text_of_answer (A.Unknown r) = refusal_text r

@@ -6,5 +6,6 @@ pub mod LotAnswers
 pub mod Natural
 pub mod Parts
 pub mod RecallAnswers
+pub mod RecipeAnswers
 pub mod Replies
 pub mod TraceAnswers

@@ -1,11 +1,13 @@
 -- The JSON trees of pages of worklists.
 use Rattle.std.specs.Prelude.{ℕ, List, Option, Some, None, map, codes}
-use Rattle.serde_json.specs.Data.{Data, boolean, string, array, object, member, no_members}
+use Rattle.serde_json.specs.Data.{Data, null, boolean, string, array, object, member, no_members}
 use Rattle.serde_json.specs.View.{items_of}
 use Rattle.plant_base.specs.Words.{batch_state_name}
+use Rattle.plant_base.specs.declared.rows.Class.{Class}
 use Rattle.plant_base.specs.declared.rows.Definition.{Definition}
 use Rattle.plant_base.specs.declared.rows.Hold.{Hold}
 use Rattle.plant_base.specs.declared.rows.Job.{Job}
+use Rattle.plant_base.specs.declared.rows.Lifting.{Lifting}
 use Rattle.plant_base.specs.declared.rows.Movement.{Movement}
 use Rattle.plant_base.specs.declared.rows.MovementKind.{MovementKind}
 use Rattle.plant_base.specs.declared.rows.MovementKind.TheVariants as kind
@@ -14,11 +16,13 @@ use Rattle.plant_base.specs.declared.rows.Recipe.{Recipe}
 use Rattle.plant_view.specs.Genealogy.{batch_by}
 use Rattle.plant_worklists.specs.Worklists.{other_lot}
 use Rattle.plant_worklists.specs.declared.page.Page.{Page}
+use Rattle.plant_messages.specs.declared.listed.BookedCommand.{BookedCommand}
+use Rattle.plant_messages.specs.declared.listed.CommandHead.{CommandHead}
 use Rattle.plant_messages.specs.declared.listed.Listed.{Listed}
 use Rattle.plant_messages.specs.declared.listed.Listed.TheVariants as listed
 use Rattle.plant_messages.specs.declared.listed.LotPage.{LotPage}
 use Rattle.plant_messages.specs.declared.listed.OpenBatch.{OpenBatch}
-use Rattle.plant_messages.specs.declared.question.LotAnswer.{LotAnswer}
+use Rattle.plant_messages.specs.declared.question.StandingLot.{StandingLot}
 use Rattle.plant_text_answers.specs.Natural.{natural}
 use Rattle.plant_text_answers.specs.Parts.{id_or_null, number_or_null, sublots_data}
 
@@ -35,16 +39,46 @@ batch_item b = object (member (codes "attempt") (natural b.row.attempt) (member 
     (member (codes "order") (string b.row.batch.job) (member (codes "phase") (id_or_null b.next_phase) (member (codes "phases") (natural b.phases)
     (member (codes "state") (string (batch_state_name b.row.state)) no_members)))))))
 
-abbrev pub lot_item : LotAnswer → Data
-lot_item a = object (member (codes "held") (boolean a.held) (member (codes "lot") (string a.lot) (member (codes "stock") (natural a.stock)
-    (member (codes "sublots") (array (sublots_data a.sublots)) no_members))))
+abbrev pub lot_item : StandingLot → Data
+lot_item s = object (member (codes "held") (boolean s.known.held) (member (codes "lot") (string s.known.lot) (member (codes "recalled") (boolean s.recalled)
+    (member (codes "stock") (natural s.known.stock) (member (codes "sublots") (array (sublots_data s.known.sublots)) no_members)))))
 
 abbrev pub hold_item : Hold → Data
 hold_item h = object (member (codes "at") (natural h.at) (member (codes "by") (string h.by) (member (codes "hold") (string h.id) (member (codes "note") (string h.note) no_members))))
 
+-- a hold among those of all lots
+abbrev pub all_holds_item : Hold → Data
+all_holds_item h = object (member (codes "at") (natural h.at) (member (codes "by") (string h.by) (member (codes "hold") (string h.id) (member (codes "lot") (string h.lot)
+    (member (codes "note") (string h.note) no_members)))))
+
 abbrev pub recall_item : Recall → Data
 recall_item r = object (member (codes "at") (natural r.at) (member (codes "by") (string r.by) (member (codes "lot") (string r.lot) (member (codes "note") (string r.note)
     (member (codes "recall") (string r.id) no_members)))))
+
+abbrev pub lifting_data : Lifting → Data
+lifting_data l = object (member (codes "at") (natural l.at) (member (codes "by") (string l.by) (member (codes "note") (string l.note) no_members)))
+
+-- how the recall was lifted, or null where it is open
+abbrev pub lifting_or_null : Option Lifting → Data
+lifting_or_null None = null
+lifting_or_null (Some l) = lifting_data l
+
+-- a recall among those that were lifted
+abbrev pub lifted_item : Recall → Data
+lifted_item r = object (member (codes "at") (natural r.at) (member (codes "by") (string r.by) (member (codes "lift") (lifting_or_null r.lifting) (member (codes "lot") (string r.lot)
+    (member (codes "note") (string r.note) (member (codes "recall") (string r.id) no_members))))))
+
+-- the number and the reference of a command, with what its content begins with where that is known
+abbrev pub command_data : ℕ → List ℕ → Option CommandHead → Data
+command_data seq reference None = object (member (codes "ref") (string reference) (member (codes "seq") (natural seq) no_members))
+command_data seq reference (Some head) = object (member (codes "at") (natural head.at) (member (codes "by") (string head.by) (member (codes "do") (string head.word)
+    (member (codes "note") (string head.note) (member (codes "ref") (string reference) (member (codes "seq") (natural seq) no_members))))))
+
+abbrev pub command_item : BookedCommand → Data
+command_item c = command_data c.seq c.reference c.head
+
+abbrev pub class_item : Class → Data
+class_item c = object (member (codes "class") (string c.id) (member (codes "name") (string c.name) no_members))
 
 abbrev pub definition_item : Definition → Data
 definition_item d = object (member (codes "def") (string d.id) (member (codes "name") (string d.name) (member (codes "unit") (string d.unit) no_members)))
@@ -91,8 +125,20 @@ lots_data page = object (member (codes "last") (id_or_null page.last) (member (c
 abbrev pub holds_data : Page Hold → Data
 holds_data page = object (member (codes "holds") (rows_data hold_item page.rows) (member (codes "more") (boolean page.has_more) no_members))
 
+abbrev pub all_holds_data : Page Hold → Data
+all_holds_data page = object (member (codes "holds") (rows_data all_holds_item page.rows) (member (codes "more") (boolean page.has_more) no_members))
+
 abbrev pub recalls_data : Page Recall → Data
 recalls_data page = object (member (codes "more") (boolean page.has_more) (member (codes "recalls") (rows_data recall_item page.rows) no_members))
+
+abbrev pub lifted_data : Page Recall → Data
+lifted_data page = object (member (codes "more") (boolean page.has_more) (member (codes "recalls") (rows_data lifted_item page.rows) no_members))
+
+abbrev pub commands_data : Page BookedCommand → Data
+commands_data page = object (member (codes "commands") (rows_data command_item page.rows) (member (codes "more") (boolean page.has_more) no_members))
+
+abbrev pub classes_data : Page Class → Data
+classes_data page = object (member (codes "classes") (rows_data class_item page.rows) (member (codes "more") (boolean page.has_more) no_members))
 
 abbrev pub definitions_data : Page Definition → Data
 definitions_data page = object (member (codes "definitions") (rows_data definition_item page.rows) (member (codes "more") (boolean page.has_more) no_members))
@@ -109,6 +155,10 @@ listed_data (listed.Batches page) = batches_data page
 listed_data (listed.Lots page) = lots_data page
 listed_data (listed.Holds page) = holds_data page
 listed_data (listed.Recalls page) = recalls_data page
+listed_data (listed.LiftedRecalls page) = lifted_data page
+listed_data (listed.AllHolds page) = all_holds_data page
+listed_data (listed.Commands page) = commands_data page
+listed_data (listed.Classes page) = classes_data page
 listed_data (listed.Definitions page) = definitions_data page
 listed_data (listed.Recipes page) = recipes_data page
 listed_data (listed.Ledger page) = ledger_data page

@@ -17,6 +17,11 @@ abbrev pub id_or_null : Option (List ℕ) → Data
 id_or_null None = null
 id_or_null (Some id) = string id
 
+-- the unit, or null where there is none
+abbrev pub unit_or_null : Option (List ℕ) → Data
+unit_or_null None = null
+unit_or_null (Some unit) = string unit
+
 -- the number, or null where there is none
 abbrev pub number_or_null : Option ℕ → Data
 number_or_null None = null

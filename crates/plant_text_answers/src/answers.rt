@@ -9,6 +9,7 @@ use crate::list_answers::listed_value;
 use crate::lot_answers::{lot_value, stands_value};
 use crate::parts::id_value;
 use crate::recall_answers::recall_value;
+use crate::recipe_answers::{batch_lines_value, definition_value, recipe_value};
 use crate::replies::refusal_line;
 use crate::trace_answers::trace_value;
 use plant_base::Moment;
@@ -49,17 +50,31 @@ fn order_value(alloc: Global, answer: &OrderAnswer) -> Result<Value, AllocError>
 ///   "next":N,"order":ID,"phases":N,"produced":[{"amount":N,"def":ID,"lot":ID,"seq":N}],"recipe":ID,"size":N,
 ///   "state":WORD,"version":N}`
 /// - of a trace `{"nodes":[{"lot":ID},{"batch":ID}]}`
-/// - of where goods stand `{"lots":[LOT]}`, each lot as that of a lot
+/// - of where goods stand `{"lots":[{"def":ID,"held":BOOL,"lot":ID,"recalled":BOOL,"stock":N,"sublots":[{"no":N,"place":TEXT,"stock":N}]}]}`
 /// - of the genealogy around a lot or batch `{"edges":[{"amount":N,"from":{"lot":ID},"to":{"batch":ID}}],
 ///   "nodes":[{"def":ID,"held":BOOL,"lot":ID,"recalled":BOOL,"stock":N,"unit":UNIT},{"batch":ID}]}`
 /// - of a recall `{"lot":ID,"nodes":[{"lot":ID},{"batch":ID}],"recall":ID,"state":WORD}`
 /// - of the desk's moment `{"at":N}`
-/// - of a page of orders `{"more":BOOL,"orders":[{"due":"YYYY-MM-DD","order":ID,"priority":N,"recipe":ID,"size":N,"version":N}]}`
-/// - of one of open batches `{"batches":[{"attempt":N,"batch":ID,"next":N,"order":ID,"phase":ID or null,"phases":N,"state":WORD}],"more":BOOL}`
-/// - of one of lots `{"last":ID or null,"lots":[{"held":BOOL,"lot":ID,"stock":N,"sublots":[{"no":N,"place":TEXT,"stock":N}]}],"more":BOOL}`
-/// - of one of holds `{"holds":[{"at":N,"by":TEXT,"hold":ID,"note":TEXT}],"more":BOOL}`
+/// - of a definition `{"class":ID,"def":ID,"name":TEXT,"unit":UNIT}`
+/// - of a recipe `{"base":N,"lines":[LINE],"max":N,"min":N,"product":ID,"recipe":ID,"state":WORD,"title":TEXT,
+///   "unit":UNIT or null,"version":N}`, each LINE, by number, `{"def":ID,"kind":"in","qty":N,"unit":UNIT or null}`, the same
+///   with `"out"`, `{"kind":"par","name":ID,"value":TEXT}` or `{"kind":"phase","oper":ID,"phase":ID,"unit":ID}`
+/// - of the lines of a batch `{"batch":ID,"lines":[LINE]}`, each LINE, by number,
+///   `{"asked":N,"booked":N,"def":ID,"kind":"in","unit":UNIT or null}`, the same with `"out"`, or a parameter or a phase as in a recipe
+/// - of a page of orders, by their ids or by their due dates, `{"more":BOOL,"orders":[{"due":"YYYY-MM-DD","order":ID,"priority":N,"recipe":ID,"size":N,"version":N}]}`
+/// - of one of open or of closed batches `{"batches":[{"attempt":N,"batch":ID,"next":N,"order":ID,"phase":ID or null,"phases":N,"state":WORD}],"more":BOOL}`
+/// - of one of lots `{"last":ID or null,"lots":[{"held":BOOL,"lot":ID,"recalled":BOOL,"stock":N,"sublots":[{"no":N,"place":TEXT,"stock":N}]}],"more":BOOL}`
+/// - of one of the holds of a lot `{"holds":[{"at":N,"by":TEXT,"hold":ID,"note":TEXT}],"more":BOOL}`
+/// - of one of the holds of all lots `{"holds":[{"at":N,"by":TEXT,"hold":ID,"lot":ID,"note":TEXT}],"more":BOOL}`
 /// - of one of open recalls `{"more":BOOL,"recalls":[{"at":N,"by":TEXT,"lot":ID,"note":TEXT,"recall":ID}]}`
+/// - of one of lifted recalls `{"more":BOOL,"recalls":[{"at":N,"by":TEXT,"lift":{"at":N,"by":TEXT,"note":TEXT},"lot":ID,"note":TEXT,"recall":ID}]}`
+/// - of one of the commands that had references `{"commands":[{"at":N,"by":TEXT,"do":WORD,"note":TEXT,"ref":ID,"seq":N}],"more":BOOL}`;
+///   of a command with no known head `{"ref":ID,"seq":N}`
+/// - of one of classes `{"classes":[{"class":ID,"name":TEXT}],"more":BOOL}`
 /// - of one of definitions `{"definitions":[{"def":ID,"name":TEXT,"unit":UNIT}],"more":BOOL}`
+/// - of one of recipes `{"more":BOOL,"recipes":[{"base":N,"max":N,"min":N,"product":ID,"recipe":ID,"title":TEXT,"version":N}]}`
+/// - of one of a ledger `{"more":BOOL,"movements":[{"amount":N,"at":N,"batch":ID or null,"by":TEXT,"kind":WORD,"line":N,"lot":ID,"note":TEXT,
+///   "seq":N,"sub":N,"to":ID or null,"to_sub":N or null}]}`
 /// - of an unknown id the refusal's text, as [`crate::reply_line`] gives it
 ///
 /// The only error is that memory was refused.
@@ -78,6 +93,9 @@ pub fn answer_text(alloc: Global, answer: &Answer) -> Result<String, AllocError>
         Answer::Recall(recall) => recall_value(alloc, recall)?.to_string(alloc),
         Answer::Moment { at } => moment_value(alloc, *at)?.to_string(alloc),
         Answer::List(listed) => listed_value(alloc, listed)?.to_string(alloc),
+        Answer::Definition(definition) => definition_value(alloc, definition)?.to_string(alloc),
+        Answer::Recipe(recipe) => recipe_value(alloc, recipe)?.to_string(alloc),
+        Answer::BatchLines(lines) => batch_lines_value(alloc, lines)?.to_string(alloc),
         Answer::Unknown(refusal) => String::from_str(alloc, refusal_line(*refusal).as_str()),
     }
 }

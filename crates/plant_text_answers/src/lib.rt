@@ -3,12 +3,15 @@
 
 mod answers;
 mod batch_answers;
+mod command_rows;
 mod edge_answers;
+mod further_rows;
 mod list_answers;
 mod listed_rows;
 mod lot_answers;
 mod parts;
 mod recall_answers;
+mod recipe_answers;
 mod replies;
 mod trace_answers;
 

@@ -2,13 +2,14 @@
 ghost use Rattle.std.specs.Prelude.{◌≡◌, map, IfOk};
 ghost use Rattle.serde_json.specs.Data.{array};
 ghost use Rattle.serde_json.specs.View.{view, items_of};
-ghost use Rattle.plant_text_answers.specs.ListAnswers.{orders_data, batches_data, lots_data, holds_data, recalls_data};
+ghost use Rattle.plant_text_answers.specs.ListAnswers.{orders_data, batches_data, lots_data, holds_data, recalls_data, commands_data, classes_data};
 ghost use Rattle.plant_text_answers.specs.ListAnswers.{definitions_data, recipes_data, ledger_data, listed_data};
 
+use crate::further_rows::{all_holds_value, lifted_value};
 use crate::listed_rows::Shown;
 use crate::parts::id_value;
-use plant_base::{Definition, Hold, Job, Movement, Recall, Recipe};
-use plant_messages::{Listed, LotPage, OpenBatch};
+use plant_base::{Class, Definition, Hold, Job, Movement, Recall, Recipe};
+use plant_messages::{BookedCommand, Listed, LotPage, OpenBatch};
 use plant_worklists::Page;
 use serde_json::{Value, json};
 use std::alloc::{AllocError, Global};
@@ -61,6 +62,20 @@ fn recalls_value(alloc: Global, page: &Page<Recall>) -> Result<Value, AllocError
     json!(in alloc; {"more": (page.has_more), "recalls": rows})
 }
 
+fn commands_value(alloc: Global, page: &Page<BookedCommand>) -> Result<Value, AllocError>
+    ensures { IfOk result (λ v. view v ≡ commands_data page.now) }
+{
+    let rows = rows_value(alloc, page.rows.as_slice())?;
+    json!(in alloc; {"commands": rows, "more": (page.has_more)})
+}
+
+fn classes_value(alloc: Global, page: &Page<Class>) -> Result<Value, AllocError>
+    ensures { IfOk result (λ v. view v ≡ classes_data page.now) }
+{
+    let rows = rows_value(alloc, page.rows.as_slice())?;
+    json!(in alloc; {"classes": rows, "more": (page.has_more)})
+}
+
 fn definitions_value(alloc: Global, page: &Page<Definition>) -> Result<Value, AllocError>
     ensures { IfOk result (λ v. view v ≡ definitions_data page.now) }
 {
@@ -92,6 +107,10 @@ pub(crate) fn listed_value(alloc: Global, listed: &Listed) -> Result<Value, Allo
         Listed::Lots(page) => lots_value(alloc, page),
         Listed::Holds(page) => holds_value(alloc, page),
         Listed::Recalls(page) => recalls_value(alloc, page),
+        Listed::LiftedRecalls(page) => lifted_value(alloc, page),
+        Listed::AllHolds(page) => all_holds_value(alloc, page),
+        Listed::Commands(page) => commands_value(alloc, page),
+        Listed::Classes(page) => classes_value(alloc, page),
         Listed::Definitions(page) => definitions_value(alloc, page),
         Listed::Recipes(page) => recipes_value(alloc, page),
         Listed::Ledger(page) => ledger_value(alloc, page),

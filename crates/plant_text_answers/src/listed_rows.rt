@@ -1,13 +1,13 @@
 //! What is shown of a row in a page of a worklist.
 ghost use Rattle.std.specs.Prelude.{◌≡◌};
 ghost use Rattle.plant_view.specs.Genealogy.{batch_by};
-ghost use Rattle.plant_text_answers.specs.ListAnswers.{order_item, batch_item, lot_item, hold_item, recall_item, definition_item};
+ghost use Rattle.plant_text_answers.specs.ListAnswers.{order_item, batch_item, lot_item, hold_item, recall_item, class_item, definition_item};
 ghost use Rattle.plant_text_answers.specs.ListAnswers.{recipe_item, movement_item, movement_kind_name, other_sub};
 
 use crate::list_answers::rows_value;
 use crate::parts::{id_value, number_value};
-use plant_base::{Definition, Hold, Id, Job, Movement, MovementKind, Recall, Recipe};
-use plant_messages::{LotAnswer, OpenBatch};
+use plant_base::{Class, Definition, Hold, Id, Job, Movement, MovementKind, Recall, Recipe};
+use plant_messages::{OpenBatch, StandingLot};
 use plant_worklists::other_lot;
 use serde_json::{Value, json};
 use std::alloc::{AllocError, Global};
@@ -51,13 +51,15 @@ impl Shown for OpenBatch {
     }
 }
 
-impl Shown for LotAnswer {
+impl Shown for StandingLot {
     ghost shows = { lot_item };
 
     fn value(&self, alloc: Global) -> Result<Value, AllocError> {
-        let sublots = rows_value(alloc, self.sublots.as_slice())?;
+        let known = &self.known;
+        let sublots = rows_value(alloc, known.sublots.as_slice())?;
         json!(in alloc; {
-            "held": (self.held), "lot": (self.lot.as_str()), "stock": (self.stock), "sublots": sublots
+            "held": (known.held), "lot": (known.lot.as_str()), "recalled": (self.recalled), "stock": (known.stock),
+            "sublots": sublots
         })
     }
 }
@@ -80,6 +82,14 @@ impl Shown for Recall {
             "at": (self.at.get()), "by": (self.by.as_str()), "lot": (self.lot.as_str()), "note": (self.note.as_str()),
             "recall": (self.id.as_str())
         })
+    }
+}
+
+impl Shown for Class {
+    ghost shows = { class_item };
+
+    fn value(&self, alloc: Global) -> Result<Value, AllocError> {
+        json!(in alloc; {"class": (self.id.as_str()), "name": (self.name.as_str())})
     }
 }
 

@@ -1,10 +1,10 @@
 //! Values that several answers have.
 ghost use Rattle.std.specs.Prelude.{◌≡◌, IfOk};
 ghost use Rattle.serde_json.specs.View.{view};
-ghost use Rattle.plant_text_answers.specs.Parts.{sublot_data, id_or_null, number_or_null};
+ghost use Rattle.plant_text_answers.specs.Parts.{sublot_data, id_or_null, unit_or_null, number_or_null};
 
 use crate::listed_rows::Shown;
-use plant_base::{Id, Sublot};
+use plant_base::{Id, Sublot, Unit};
 use serde_json::{Value, json};
 use std::alloc::{AllocError, Global};
 
@@ -23,6 +23,16 @@ pub(crate) fn id_value(alloc: Global, id: Option<Id>) -> Result<Value, AllocErro
     match id {
         None => Ok(Value::Null),
         Some(id) => json!(in alloc; (id.as_str())),
+    }
+}
+
+/// A unit, null where there is none.
+pub(crate) fn unit_value(alloc: Global, unit: Option<Unit>) -> Result<Value, AllocError>
+    ensures { IfOk result (λ v. view v ≡ unit_or_null unit) }
+{
+    match unit {
+        None => Ok(Value::Null),
+        Some(unit) => json!(in alloc; (unit.as_str())),
     }
 }
 

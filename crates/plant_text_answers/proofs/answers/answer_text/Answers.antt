@@ -2,7 +2,7 @@ use Rattle.std.proofs.Common.{string_bytes, ◌∙◌, ap}
 use Rattle.plant_text_answers.specs.Answers.{text_of_answer}
 use Rattle.plant_text_answers.specs.LotAnswers.{stands_data}
 use Rattle.plant_text_answers.specs.TraceAnswers.{trace_data}
-use Rattle.plant_text_answers.proofs.AnswersHaveNoFloats.{text_is, no_float_in_lot, no_float_in_batch, no_float_in_trace, no_float_in_stands, no_float_in_genealogy, no_float_in_recall, no_float_in_listed}
+use Rattle.plant_text_answers.proofs.AnswersHaveNoFloats.{text_is, no_float_in_lot, no_float_in_batch, no_float_in_trace, no_float_in_stands, no_float_in_genealogy, no_float_in_recall, no_float_in_listed, no_float_in_recipe, no_float_in_batch_lines}
 use Rattle.plant_text_answers.proofs.answers.answer_text.Goals as goal
 
 pub returns-in_ok-lot_value-in-Lot : goal.returns-in_ok-lot_value-in-Lot
@@ -32,3 +32,11 @@ returns-in_ok-recall_value-in-Recall c = rw c.in-Recall.is (text_is string_bytes
 pub returns-in_ok-listed_value-in-List : goal.returns-in_ok-listed_value-in-List
 unfolding text_of_answer
 returns-in_ok-listed_value-in-List c = rw c.in-List.is (text_is string_bytes _ _ _ c.in_ok-listed_value-in-List.ensures (no_float_in_listed c.in-List.listed) c.to_string-in-List.ensures.text)
+
+pub returns-in_ok-recipe_value-in-Recipe : goal.returns-in_ok-recipe_value-in-Recipe
+unfolding text_of_answer
+returns-in_ok-recipe_value-in-Recipe c = rw c.in-Recipe.is (text_is string_bytes _ _ _ c.in_ok-recipe_value-in-Recipe.ensures (no_float_in_recipe c.in-Recipe.recipe) c.to_string-in-Recipe.ensures.text)
+
+pub returns-in_ok-batch_lines_value-in-BatchLines : goal.returns-in_ok-batch_lines_value-in-BatchLines
+unfolding text_of_answer
+returns-in_ok-batch_lines_value-in-BatchLines c = rw c.in-BatchLines.is (text_is string_bytes _ _ _ c.in_ok-batch_lines_value-in-BatchLines.ensures (no_float_in_batch_lines c.in-BatchLines.lines) c.to_string-in-BatchLines.ensures.text)

@@ -63,6 +63,8 @@ fn question_of(kind: Kind, id: Id) -> Question
         Kind::LotForward => Question::Trace(Direction::Forward, Node::Lot(id)),
         Kind::Batch | Kind::Record => Question::Batch(id),
         Kind::Recall => Question::Recall(id),
+        Kind::Definition => Question::Definition(id),
+        Kind::BatchLines => Question::BatchLines(id),
         Kind::BatchBack => Question::Trace(Direction::Back, Node::Batch(id)),
         Kind::BatchForward => Question::Trace(Direction::Forward, Node::Batch(id)),
         Kind::LotStands => Question::Stands(Node::Lot(id)),
@@ -121,6 +123,13 @@ fn asked_step(question: Question, body_format: BodyFormat, method: &[u8]) -> Hea
     }
 }
 
+/// A path that is asked, and answered in JSON.
+fn json_step(question: Question, method: &[u8]) -> HeadStep
+    ensures { result ≡ asked_step question BodyFormat.Json method.now }
+{
+    asked_step(question, BodyFormat::Json, method)
+}
+
 fn target_step(
     head: &[u8],
     fields: &[HeaderSpan],
@@ -132,8 +141,8 @@ fn target_step(
     ensures { result ≡ target_step target method.now size (map (header_bytes head.now) fields.now) }
 {
     match target {
-        Target::Desk => asked_step(Question::Desk, BodyFormat::Json, method),
-        Target::Moment => asked_step(Question::Moment, BodyFormat::Json, method),
+        Target::Desk => json_step(Question::Desk, method),
+        Target::Moment => json_step(Question::Moment, method),
         Target::Commands => posted_step(Content::Command, method, size),
         Target::Orders => posted_step(
             Content::Orders(import_metadata_in(head, fields)),
@@ -141,19 +150,16 @@ fn target_step(
             size,
         ),
         Target::Named(kind, id) => asked_step(question_of(kind, id), body_format_of(kind), method),
-        Target::List(list, cursor) => asked_step(
-            Question::List(list, cursor),
-            BodyFormat::Json,
+        Target::List(list, cursor) => json_step(Question::List(list, cursor), method),
+        Target::OrdersByDue(state, cursor) => json_step(
+            Question::OrdersByDue(state, cursor),
             method,
         ),
-        Target::Recipes(state, cursor) => {
-            asked_step(Question::Recipes(state, cursor), BodyFormat::Json, method)
-        }
-        Target::Ledger(lot, cursor) => asked_step(
-            Question::Ledger(lot, cursor),
-            BodyFormat::Json,
-            method,
-        ),
+        Target::BookedCommands(cursor) => json_step(Question::Commands(cursor), method),
+        Target::AllHolds(cursor) => json_step(Question::AllHolds(cursor), method),
+        Target::Recipe(recipe, version) => json_step(Question::Recipe(recipe, version), method),
+        Target::Recipes(state, cursor) => json_step(Question::Recipes(state, cursor), method),
+        Target::Ledger(lot, cursor) => json_step(Question::Ledger(lot, cursor), method),
     }
 }
 

@@ -2,6 +2,7 @@
 use Rattle.std.proofs.Common.{◌≡◌, Some, None, codes, refl}
 use Rattle.matchit.proofs.OnLiterals.{matchit_on_literals}
 use Rattle.plant_http_routes.specs.Routes.{target_of, found_in}
+use Rattle.plant_base.specs.Dates.{two_of, is_due_day, due_day_of}
 use Rattle.plant_base.specs.Digits.{digits_of}
 use Rattle.plant_base.specs.declared.states.JobState.TheVariants.{Open}
 use Rattle.plant_base.specs.declared.states.RecipeState.TheVariants.{Approved}
@@ -52,6 +53,46 @@ no_version = refl
 pub recall : target_of (codes "/v1/recalls/R-1") ≡ Some (target.Named kind.Recall (codes "R-1"))
 unfolding matchit_on_literals found_in
 recall = refl
+
+pub definition : target_of (codes "/v1/definitions/FLOUR") ≡ Some (target.Named kind.Definition (codes "FLOUR"))
+unfolding matchit_on_literals found_in
+definition = refl
+
+pub recipe : target_of (codes "/v1/recipes/CAKE/12") ≡ Some (target.Recipe (codes "CAKE") 12)
+unfolding matchit_on_literals found_in digits_of
+recipe = refl
+
+pub recipe_without_version : target_of (codes "/v1/recipes/CAKE") ≡ None
+unfolding matchit_on_literals found_in
+recipe_without_version = refl
+
+pub batch_lines : target_of (codes "/v1/batches/B-1/lines") ≡ Some (target.Named kind.BatchLines (codes "B-1"))
+unfolding matchit_on_literals found_in
+batch_lines = refl
+
+pub further_holds : target_of (codes "/v1/lists/all_holds/F-1.H-2") ≡ Some (target.AllHolds (Some (record { lot = codes "F-1"; hold = codes "H-2" })))
+unfolding matchit_on_literals found_in
+further_holds = refl
+
+pub closed_batches : target_of (codes "/v1/lists/closed_batches") ≡ Some (target.List list.ClosedBatches None)
+unfolding matchit_on_literals found_in
+closed_batches = refl
+
+pub further_by_due : target_of (codes "/v1/lists/orders_by_due/open/2027-03-01.O-1") ≡ Some (target.OrdersByDue Open (Some (record { due = codes "2027-03-01"; order = codes "O-1" })))
+unfolding matchit_on_literals found_in two_of is_due_day due_day_of
+further_by_due = refl
+
+pub commands : target_of (codes "/v1/lists/commands") ≡ Some (target.BookedCommands None)
+unfolding matchit_on_literals found_in
+commands = refl
+
+pub further_commands : target_of (codes "/v1/lists/commands/12") ≡ Some (target.BookedCommands (Some 12))
+unfolding matchit_on_literals found_in digits_of
+further_commands = refl
+
+pub no_number : target_of (codes "/v1/lists/commands/0") ≡ None
+unfolding matchit_on_literals found_in digits_of
+no_number = refl
 
 -- the page stands at no route: which profile has it, and who may ask for it, is judged elsewhere
 pub page : target_of (codes "/") ≡ None

@@ -7,15 +7,18 @@ use Rattle.matchit.specs.Router.{RouteOf}
 use Rattle.matchit.specs.Order.{placed}
 use Rattle.matchit.specs.Params.{walk}
 use Rattle.matchit.specs.Seek.{first}
-use Rattle.plant_base.specs.Values.{is_id, only}
+use Rattle.plant_base.specs.Digits.{digits_of}
+use Rattle.plant_base.specs.Values.{is_amount, is_id, only}
 use Rattle.plant_message_schema.specs.Words.{order_state, recipe_state}
 use Rattle.plant_message_schema.specs.declared.words.ListKind.{ListKind}
 use Rattle.plant_message_schema.specs.declared.words.ListKind.TheVariants as k
 use Rattle.plant_worklists.specs.declared.list.Worklist.{Worklist}
 use Rattle.plant_worklists.specs.declared.list.Worklist.TheVariants as list
+use Rattle.plant_worklists.specs.declared.cursors.DueCursor.{DueCursor}
+use Rattle.plant_worklists.specs.declared.cursors.HoldCursor.{HoldCursor}
 use Rattle.plant_worklists.specs.declared.cursors.MovementCursor.{MovementCursor}
 use Rattle.plant_worklists.specs.declared.cursors.RecipeCursor.{RecipeCursor}
-use Rattle.plant_worklists.specs.Cursors.{recipe_cursor, movement_cursor}
+use Rattle.plant_worklists.specs.Cursors.{due_cursor, hold_cursor, recipe_cursor, movement_cursor}
 use Rattle.plant_http_routes.specs.declared.routes.Kind.{Kind}
 use Rattle.plant_http_routes.specs.declared.routes.Kind.TheVariants as kind
 use Rattle.plant_http_routes.specs.declared.routes.Route.{Route}
@@ -106,17 +109,34 @@ list_routes rows =
 -- the routes of lists whose places have two values
 abbrev pub cursor_routes : RowsOf (RouteOf Route) → RowsOf (RouteOf Route)
 cursor_routes rows =
-    routes_of (codes "/v1/lists/movements/") (codes "lot") k.Movements
-    (routes_of (codes "/v1/lists/recipes/") (codes "state") k.Recipes rows)
+    routes_of (codes "/v1/lists/orders_by_due/") (codes "state") k.OrdersByDue
+    (routes_of (codes "/v1/lists/movements/") (codes "lot") k.Movements
+    (routes_of (codes "/v1/lists/recipes/") (codes "state") k.Recipes rows))
+
+-- the routes of definitions, of recipes and of the control recipes of batches
+abbrev pub recipe_routes : RowsOf (RouteOf Route) → RowsOf (RouteOf Route)
+recipe_routes rows =
+    adds (with_id (codes "/v1/batches/") (codes "batch") (codes "/lines") kind.BatchLines)
+    (adds (with_two (codes "/v1/recipes/") (codes "recipe") (codes "version") route.Recipe)
+    (adds (with_id (codes "/v1/definitions/") (codes "def") [] kind.Definition) rows))
+
+-- the routes of further lists that are of nothing
+abbrev pub whole_list_routes : RowsOf (RouteOf Route) → RowsOf (RouteOf Route)
+whole_list_routes rows =
+    whole_routes (codes "/v1/lists/commands") k.Commands
+    (whole_routes (codes "/v1/lists/all_holds") k.AllHolds
+    (whole_routes (codes "/v1/lists/lifted_recalls") k.LiftedRecalls
+    (whole_routes (codes "/v1/lists/closed_batches") k.ClosedBatches
+    (whole_routes (codes "/v1/lists/classes") k.Classes rows))))
 
 -- all routes
 abbrev pub the_routes : RowsOf (RouteOf Route)
 the_routes =
-    cursor_routes (list_routes (around_routes (adds (plain (codes "/v1/moment") route.Moment)
+    whole_list_routes (recipe_routes (cursor_routes (list_routes (around_routes (adds (plain (codes "/v1/moment") route.Moment)
     (recall_routes (batch_routes (lot_routes (order_routes
     (adds (plain (codes "/v1/orders") route.Orders)
     (adds (plain (codes "/v1/commands") route.Commands)
-    (adds (plain (codes "/v1/desk") route.Desk) []))))))))))
+    (adds (plain (codes "/v1/desk") route.Desk) []))))))))))))
 
 -- what stands in the place of the first parameter
 abbrev pub first_part : List (List ℕ × List ℕ) → Option (List ℕ)
@@ -136,13 +156,19 @@ cursor_at (Some part) = option_map Some (only is_id part)
 -- the list of a kind that is of what this part names
 abbrev pub list_named : ListKind → List ℕ → Option Worklist
 list_named k.Orders part = option_map list.Orders (order_state part)
+list_named k.OrdersByDue part = None
 list_named k.Batches part = None
+list_named k.ClosedBatches part = None
 list_named k.Lots part = option_map list.Lots (only is_id part)
 list_named k.Holds part = option_map list.Holds (only is_id part)
+list_named k.AllHolds part = None
 list_named k.Recalls part = None
+list_named k.LiftedRecalls part = None
+list_named k.Classes part = None
 list_named k.Definitions part = option_map list.Definitions (only is_id part)
 list_named k.Recipes part = None
 list_named k.Movements part = None
+list_named k.Commands part = None
 
 -- a page of a list, from a place that is named or from its front
 abbrev pub page_at : Option Worklist → Option (List ℕ) → Option Target
@@ -154,29 +180,66 @@ abbrev pub recipe_cursor_at : Option (List ℕ) → Option (Option RecipeCursor)
 recipe_cursor_at None = Some None
 recipe_cursor_at (Some part) = option_map Some (recipe_cursor part)
 
+-- and in a list of orders by their due dates
+abbrev pub due_cursor_at : Option (List ℕ) → Option (Option DueCursor)
+due_cursor_at None = Some None
+due_cursor_at (Some part) = option_map Some (due_cursor part)
+
+-- and in the list of the holds of all lots
+abbrev pub hold_cursor_at : Option (List ℕ) → Option (Option HoldCursor)
+hold_cursor_at None = Some None
+hold_cursor_at (Some part) = option_map Some (hold_cursor part)
+
 -- and in a ledger
 abbrev pub movement_cursor_at : Option (List ℕ) → Option (Option MovementCursor)
 movement_cursor_at None = Some None
 movement_cursor_at (Some part) = option_map Some (movement_cursor part)
 
+-- and the number that a page of commands goes on from: 1 to 16 digits
+abbrev pub number_at : Option (List ℕ) → Option (Option ℕ)
+number_at None = Some None
+number_at (Some part) = option_map Some (option_and_then (only is_amount) (digits_of 16 part))
+
+-- a page of the orders in a state that is named, by their due dates
+abbrev pub due_at : List ℕ → Option (List ℕ) → Option Target
+due_at state cursor = option_and_then (λ s. option_map (target.OrdersByDue s) (due_cursor_at cursor)) (order_state state)
+
 -- a page of the recipes in a state that is named
 abbrev pub recipes_at : List ℕ → Option (List ℕ) → Option Target
 recipes_at state cursor = option_and_then (λ s. option_map (target.Recipes s) (recipe_cursor_at cursor)) (recipe_state state)
+
+-- a page of the holds of all lots
+abbrev pub holds_at : Option (List ℕ) → Option Target
+holds_at cursor = option_map target.AllHolds (hold_cursor_at cursor)
 
 -- a page of the ledger of a lot that is named
 abbrev pub ledger_at : List ℕ → Option (List ℕ) → Option Target
 ledger_at lot cursor = option_and_then (λ id. option_map (target.Ledger id) (movement_cursor_at cursor)) (only is_id lot)
 
+-- a page of the commands that had references
+abbrev pub commands_at : Option (List ℕ) → Option Target
+commands_at cursor = option_map target.BookedCommands (number_at cursor)
+
 -- the page that the parts of a path name: what the list is of, where it is of something, and the place to go on from
 abbrev pub listed_at : ListKind → Option (List ℕ) → Option (List ℕ) → Option Target
 listed_at k.Orders first second = page_at (option_and_then (list_named k.Orders) first) second
+listed_at k.OrdersByDue first second = option_and_then (λ state. due_at state second) first
 listed_at k.Batches first second = page_at (Some list.OpenBatches) first
+listed_at k.ClosedBatches first second = page_at (Some list.ClosedBatches) first
 listed_at k.Lots first second = page_at (option_and_then (list_named k.Lots) first) second
 listed_at k.Holds first second = page_at (option_and_then (list_named k.Holds) first) second
+listed_at k.AllHolds first second = holds_at first
 listed_at k.Recalls first second = page_at (Some list.OpenRecalls) first
+listed_at k.LiftedRecalls first second = page_at (Some list.LiftedRecalls) first
+listed_at k.Classes first second = page_at (Some list.Classes) first
 listed_at k.Definitions first second = page_at (option_and_then (list_named k.Definitions) first) second
 listed_at k.Recipes first second = option_and_then (λ state. recipes_at state second) first
 listed_at k.Movements first second = option_and_then (λ lot. ledger_at lot second) first
+listed_at k.Commands first second = commands_at first
+
+-- the version of a recipe that two parts of a path name
+abbrev pub recipe_named : Option (List ℕ) → Option (List ℕ) → Option Target
+recipe_named first second = option_and_then (λ id. option_map (target.Recipe id) (option_and_then (digits_of 3) second)) (option_and_then (only is_id) first)
 
 -- what a route makes of the parts of a path in the place of its parameters
 abbrev pub target_with : Route → List (List ℕ × List ℕ) → Option Target
@@ -185,6 +248,7 @@ target_with route.Moment parts = Some target.Moment
 target_with route.Commands parts = Some target.Commands
 target_with route.Orders parts = Some target.Orders
 target_with (route.Named kind) parts = option_map (λ id. target.Named kind id) (option_and_then (only is_id) (first_part parts))
+target_with route.Recipe parts = recipe_named (first_part parts) (second_part parts)
 target_with (route.List kind) parts = listed_at kind (first_part parts) (second_part parts)
 
 -- what a path asks for by a route

@@ -3,6 +3,7 @@
 
 mod lists;
 mod path;
+mod recipes;
 mod routes;
 
 pub use routes::{Kind, Routes, RoutesFault, Target};

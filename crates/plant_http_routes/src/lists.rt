@@ -1,16 +1,19 @@
 //! The list that a path names, and the place in it to go on from.
-ghost use Rattle.std.specs.Prelude.{◌≡◌, option_copied};
+ghost use Rattle.std.specs.Prelude.{◌≡◌, option_and_then, option_copied};
 ghost use Rattle.std.specs.Str.{IsAscii};
 ghost use Rattle.matchit.specs.Params.{walk};
+ghost use Rattle.plant_base.specs.Digits.{digits_of};
+ghost use Rattle.plant_base.specs.Values.{is_amount, only};
 ghost use Rattle.plant_http_routes.specs.Routes.{first_part, second_part, cursor_at, list_named, page_at, listed_at};
-ghost use Rattle.plant_http_routes.specs.Routes.{recipe_cursor_at, movement_cursor_at, recipes_at, ledger_at};
+ghost use Rattle.plant_http_routes.specs.Routes.{recipe_cursor_at, due_cursor_at, hold_cursor_at, movement_cursor_at, number_at};
+ghost use Rattle.plant_http_routes.specs.Routes.{recipes_at, due_at, holds_at, ledger_at, commands_at};
 
 use crate::path::{first_in, read_id, second_in};
 use crate::routes::Target;
 use matchit::Params;
-use plant_base::Id;
+use plant_base::{Amount, Id, read_digits};
 use plant_message_schema::{ListKind, order_state, recipe_state};
-use plant_worklists::{MovementCursor, RecipeCursor, Worklist};
+use plant_worklists::{DueCursor, HoldCursor, MovementCursor, RecipeCursor, Worklist};
 
 /// The place that a page goes on from, nothing where none is given.
 fn cursor_at(part: Option<&str>) -> Option<Option<Id>>
@@ -34,7 +37,10 @@ fn list_named(kind: ListKind, part: &str) -> Option<Worklist>
         ListKind::Lots => Some(Worklist::Lots(read_id(part.as_bytes())?)),
         ListKind::Holds => Some(Worklist::Holds(read_id(part.as_bytes())?)),
         ListKind::Definitions => Some(Worklist::Definitions(read_id(part.as_bytes())?)),
-        ListKind::Batches | ListKind::Recalls | ListKind::Recipes | ListKind::Movements => None,
+        ListKind::Batches | ListKind::ClosedBatches | ListKind::Recalls => None,
+        ListKind::LiftedRecalls | ListKind::Classes | ListKind::AllHolds => None,
+        ListKind::Recipes | ListKind::Movements => None,
+        ListKind::OrdersByDue | ListKind::Commands => None,
     }
 }
 
@@ -58,6 +64,32 @@ fn recipe_cursor_at(part: Option<&str>) -> Option<Option<RecipeCursor>>
     }
 }
 
+/// The place in a list of orders by their due dates that a page goes on from, nothing where none is given.
+fn due_cursor_at(part: Option<&str>) -> Option<Option<DueCursor>>
+    ensures { result ≡ due_cursor_at (option_copied part.entry) }
+{
+    match part {
+        None => Some(None),
+        Some(part) => match DueCursor::read(part) {
+            Some(place) => Some(Some(place)),
+            None => None,
+        },
+    }
+}
+
+/// The place in the list of the holds of all lots that a page goes on from, nothing where none is given.
+fn hold_cursor_at(part: Option<&str>) -> Option<Option<HoldCursor>>
+    ensures { result ≡ hold_cursor_at (option_copied part.entry) }
+{
+    match part {
+        None => Some(None),
+        Some(part) => match HoldCursor::read(part) {
+            Some(place) => Some(Some(place)),
+            None => None,
+        },
+    }
+}
+
 /// The place in a ledger that a page goes on from, nothing where none is given.
 fn movement_cursor_at(part: Option<&str>) -> Option<Option<MovementCursor>>
     ensures { result ≡ movement_cursor_at (option_copied part.entry) }
@@ -71,12 +103,48 @@ fn movement_cursor_at(part: Option<&str>) -> Option<Option<MovementCursor>>
     }
 }
 
+/// The number of a command that 1 to 16 digits spell.
+fn read_number(text: &str) -> Option<u64>
+    ensures { result ≡ option_and_then (only is_amount) (digits_of 16 text.now) }
+{
+    let number = Amount::new(read_digits(text.as_bytes(), 16)?)?;
+    Some(number.get())
+}
+
+/// The number that a page of commands goes on from, nothing where none is given.
+fn number_at(part: Option<&str>) -> Option<Option<u64>>
+    ensures { result ≡ number_at (option_copied part.entry) }
+{
+    match part {
+        None => Some(None),
+        Some(part) => match read_number(part) {
+            Some(number) => Some(Some(number)),
+            None => None,
+        },
+    }
+}
+
+/// A page of the orders in a state that is named by their due dates, from a place that is named or from the front.
+fn due_at(state: &str, cursor: Option<&str>) -> Option<Target>
+    ensures { result ≡ due_at state.now (option_copied cursor.entry) }
+{
+    let state = order_state(state)?;
+    Some(Target::OrdersByDue(state, due_cursor_at(cursor)?))
+}
+
 /// A page of the recipes in a state that is named, from a place that is named or from the front.
 fn recipes_at(state: &str, cursor: Option<&str>) -> Option<Target>
     ensures { result ≡ recipes_at state.now (option_copied cursor.entry) }
 {
     let state = recipe_state(state)?;
     Some(Target::Recipes(state, recipe_cursor_at(cursor)?))
+}
+
+/// A page of the holds of all lots, from a place that is named or from the front.
+fn holds_at(cursor: Option<&str>) -> Option<Target>
+    ensures { result ≡ holds_at (option_copied cursor.entry) }
+{
+    Some(Target::AllHolds(hold_cursor_at(cursor)?))
 }
 
 /// A page of the ledger of a lot that is named, from a place that is named or from its front.
@@ -87,18 +155,31 @@ fn ledger_at(lot: &str, cursor: Option<&str>) -> Option<Target>
     Some(Target::Ledger(lot, movement_cursor_at(cursor)?))
 }
 
+/// A page of the commands that had references, from a number that is named or from the front.
+fn commands_at(cursor: Option<&str>) -> Option<Target>
+    ensures { result ≡ commands_at (option_copied cursor.entry) }
+{
+    Some(Target::BookedCommands(number_at(cursor)?))
+}
+
 /// The page that the parts of a path name, in the place of the route's parameters.
 fn listed_at(kind: ListKind, first: Option<&str>, second: Option<&str>) -> Option<Target>
     ensures { result ≡ listed_at kind (option_copied first.entry) (option_copied second.entry) }
 {
     match kind {
         ListKind::Batches => page_at(Some(Worklist::OpenBatches), first),
+        ListKind::ClosedBatches => page_at(Some(Worklist::ClosedBatches), first),
         ListKind::Recalls => page_at(Some(Worklist::OpenRecalls), first),
+        ListKind::LiftedRecalls => page_at(Some(Worklist::LiftedRecalls), first),
+        ListKind::Classes => page_at(Some(Worklist::Classes), first),
+        ListKind::AllHolds => holds_at(first),
         ListKind::Orders | ListKind::Lots | ListKind::Holds | ListKind::Definitions => {
             page_at(list_named(kind, first?), second)
         }
         ListKind::Recipes => recipes_at(first?, second),
         ListKind::Movements => ledger_at(first?, second),
+        ListKind::OrdersByDue => due_at(first?, second),
+        ListKind::Commands => commands_at(first),
     }
 }
 

@@ -2,14 +2,16 @@
 ghost use Rattle.std.specs.Prelude.{◌≡◌, IfOk, OnOk, option_and_then};
 ghost use Rattle.std.specs.Str.{IsAscii};
 ghost use Rattle.matchit.specs.Seek.{first};
-ghost use Rattle.plant_http_routes.specs.Routes.{the_routes, around_routes, list_routes, cursor_routes, target_by, found_in, target_of};
+ghost use Rattle.plant_http_routes.specs.Routes.{the_routes, around_routes, list_routes, cursor_routes, recipe_routes, whole_list_routes};
+ghost use Rattle.plant_http_routes.specs.Routes.{target_by, found_in, target_of};
 
 use crate::lists::list_at;
 use crate::path::{ascii_text, id_in};
+use crate::recipes::recipe_at;
 use matchit::{InsertError, Router};
-use plant_base::{Id, RecipeState};
+use plant_base::{Id, JobState, RecipeState};
 use plant_message_schema::ListKind;
-use plant_worklists::{MovementCursor, RecipeCursor, Worklist};
+use plant_worklists::{DueCursor, HoldCursor, MovementCursor, RecipeCursor, Worklist};
 use std::alloc::Global;
 use std::marker::Model;
 use thiserror::Error;
@@ -47,6 +49,10 @@ pub enum Kind {
     BatchForwardEdges,
     /// `/v1/recalls/{recall}`: the recall, and whether it is lifted.
     Recall,
+    /// `/v1/definitions/{def}`: the definition.
+    Definition,
+    /// `/v1/batches/{batch}/lines`: the control recipe of the batch, and what was booked of it.
+    BatchLines,
 }
 
 /// A route, without what a path gives it.
@@ -57,6 +63,7 @@ pub enum Route {
     Commands,
     Orders,
     Named(Kind),
+    Recipe,
     List(ListKind),
 }
 
@@ -78,6 +85,14 @@ pub enum Target {
     List(Worklist, Option<Id>),
     /// A page of the versions of recipes in a state, `/v1/lists/recipes/{state}`, and behind it `/` and a place where one is given.
     Recipes(RecipeState, Option<RecipeCursor>),
+    /// A page of the orders in a state by their due dates, `/v1/lists/orders_by_due/{state}`, and behind it `/` and a place where one is given.
+    OrdersByDue(JobState, Option<DueCursor>),
+    /// A page of the holds of all lots, `/v1/lists/all_holds`, and behind it `/` and a place where one is given.
+    AllHolds(Option<HoldCursor>),
+    /// A page of the commands that had references, `/v1/lists/commands`, and behind it `/` and the number of a command, 1 to 16 digits, where one is given.
+    BookedCommands(Option<u64>),
+    /// The recipe of this id and version, `/v1/recipes/{recipe}/{version}`: the version is 1 to 3 digits.
+    Recipe(Id, u16),
     /// A page of the ledger of a lot, `/v1/lists/movements/{lot}`, and behind it `/` and a place where one is given.
     Ledger(Id, Option<MovementCursor>),
 }
@@ -132,6 +147,8 @@ fn desk_router(alloc: Global) -> Result<Router<Route>, InsertError>
     add_around(&mut router)?;
     add_lists(&mut router)?;
     add_cursor_routes(&mut router)?;
+    add_recipe_routes(&mut router)?;
+    add_whole_lists(&mut router)?;
     Ok(router)
 }
 
@@ -185,10 +202,47 @@ fn add_cursor_routes(router: &mut Router<Route>) -> Result<(), InsertError>
 {
     let recipes = Route::List(ListKind::Recipes);
     let movements = Route::List(ListKind::Movements);
+    let by_due = Route::List(ListKind::OrdersByDue);
     router.insert("/v1/lists/recipes/{state}", recipes)?;
     router.insert("/v1/lists/recipes/{state}/{above}", recipes)?;
     router.insert("/v1/lists/movements/{lot}", movements)?;
     router.insert("/v1/lists/movements/{lot}/{above}", movements)?;
+    router.insert("/v1/lists/orders_by_due/{state}", by_due)?;
+    router.insert("/v1/lists/orders_by_due/{state}/{above}", by_due)?;
+    Ok(())
+}
+
+/// Adds the routes of definitions, of recipes and of the control recipes of batches.
+fn add_recipe_routes(router: &mut Router<Route>) -> Result<(), InsertError>
+    ensures { OnOk result (router.new ≡ recipe_routes router.old) }
+{
+    let definition = Route::Named(Kind::Definition);
+    let batch_lines = Route::Named(Kind::BatchLines);
+    router.insert("/v1/definitions/{def}", definition)?;
+    router.insert("/v1/recipes/{recipe}/{version}", Route::Recipe)?;
+    router.insert("/v1/batches/{batch}/lines", batch_lines)?;
+    Ok(())
+}
+
+/// Adds the routes of further lists that are of nothing.
+fn add_whole_lists(router: &mut Router<Route>) -> Result<(), InsertError>
+    ensures { OnOk result (router.new ≡ whole_list_routes router.old) }
+{
+    let classes = Route::List(ListKind::Classes);
+    let closed = Route::List(ListKind::ClosedBatches);
+    let lifted = Route::List(ListKind::LiftedRecalls);
+    let holds = Route::List(ListKind::AllHolds);
+    let commands = Route::List(ListKind::Commands);
+    router.insert("/v1/lists/classes", classes)?;
+    router.insert("/v1/lists/classes/{above}", classes)?;
+    router.insert("/v1/lists/closed_batches", closed)?;
+    router.insert("/v1/lists/closed_batches/{above}", closed)?;
+    router.insert("/v1/lists/lifted_recalls", lifted)?;
+    router.insert("/v1/lists/lifted_recalls/{above}", lifted)?;
+    router.insert("/v1/lists/all_holds", holds)?;
+    router.insert("/v1/lists/all_holds/{above}", holds)?;
+    router.insert("/v1/lists/commands", commands)?;
+    router.insert("/v1/lists/commands/{above}", commands)?;
     Ok(())
 }
 
@@ -208,6 +262,7 @@ fn find_text(router: &Router<Route>, text: &str) -> Option<Target>
             Some(id) => Some(Target::Named(kind, id)),
             None => None,
         },
+        Route::Recipe => recipe_at(&found.params),
         Route::List(kind) => list_at(kind, &found.params),
     }
 }

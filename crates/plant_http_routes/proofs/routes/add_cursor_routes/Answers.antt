@@ -9,4 +9,6 @@ returns c =
     let a2 = c.in_ok-insert-2.ensures in
     let a3 = c.in_ok-insert-3.ensures in
     let a4 = c.in_ok-insert-4.ensures in
-    rw (a4.1, a3.1, a2.1, a1.1) refl
+    let a5 = c.in_ok-insert-5.ensures in
+    let a6 = c.in_ok-insert-6.ensures in
+    rw (a6.1, a5.1, a4.1, a3.1, a2.1, a1.1) refl

@@ -1,0 +1,11 @@
+use Rattle.std.proofs.Common.{refl}
+use Rattle.matchit.proofs.OnLiterals.{matchit_on_literals}
+use Rattle.plant_http_routes.proofs.routes.add_recipe_routes.Goals as goal
+
+pub returns : goal.returns
+unfolding matchit_on_literals
+returns c =
+    let a1 = c.in_ok-insert.ensures in
+    let a2 = c.in_ok-insert-2.ensures in
+    let a3 = c.in_ok-insert-3.ensures in
+    rw (a3.1, a2.1, a1.1) refl

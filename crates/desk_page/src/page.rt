@@ -268,7 +268,7 @@ const isId = (text) => /^[A-Z][A-Z0-9-]{0,23}$/.test(text);
 // An id of these parts, cut where it is too long.
 const idOf = (...parts) => parts.join("-").slice(0, 24);
 
-// ---- What the browser keeps: the operator, classes that were named, bookings without an answer
+// ---- What the browser keeps: the operator, bookings without an answer
 
 // What the browser's store doesn't take, since it may not be used or is full.
 const memory = new Map();
@@ -458,60 +458,58 @@ const desk = {
   foundBatch: (id) => found("/v1/batches/" + id),
   foundOrder: (id) => found("/v1/orders/" + id),
 
-  // What a recall reaches; null where it isn't there, or from a desk that doesn't answer that.
+  definition: (id) => found("/v1/definitions/" + id),
+  recipe: (id, version) => asked(`/v1/recipes/${id}/${version}`),
+
+  // What a recall reaches; null where it isn't there.
   recall: (id) => found("/v1/recalls/" + id),
 
-  // A batch, with its record and the lines of its control recipe, which have what was booked.
+  // A batch, with the lines of its control recipe, which have what was booked; and its record.
   async batch(id) {
-    const batch = await asked("/v1/batches/" + id);
-    const record = readRecord(await asked(`/v1/batches/${id}/record`, true));
-    const lines = record.lines.map((it) => ({ ...it,
-      booked: (record.totals.find((t) => t.kind === it.kind && t.def === it.def) || {}).booked }));
-    return { ...batch, record, lines };
+    const batch = await asked("/v1/batches/" + id), { lines } = await asked(`/v1/batches/${id}/lines`);
+    return { ...batch, lines: lines.map(withPath) };
   },
+  async record(id) { return readRecord(await asked(`/v1/batches/${id}/record`, true)); },
 
   // The lots that have stock of a lot's or a batch's goods, and the genealogy on either side of it. `kind` is lots or batches.
   async stands(kind, id) { return (await asked(`/v1/${kind}/${id}/stands`)).lots; },
   forward: (kind, id) => asked(`/v1/${kind}/${id}/forward_edges`),
   back: (kind, id) => asked(`/v1/${kind}/${id}/back_edges`),
 
-  // The unit of a lot, which the genealogy tells.
-  async unit(lot) { return (await this.back("lots", lot)).nodes.find((it) => it.lot === lot).unit; },
+  // What the genealogy has of a lot: its unit, and whether a recall reaches it.
+  async lotNode(lot) { return (await this.back("lots", lot)).nodes.find((it) => it.lot === lot); },
 
-  orders: (state, wanted) => list("orders/" + state, "orders", (it) => it.order, wanted),
+  orders: (state, wanted) => list("orders_by_due/" + state, "orders", (it) => `${it.due}.${it.order}`, wanted),
   batches: (wanted) => list("batches", "batches", (it) => it.batch, wanted),
+  closedBatches: (wanted) => list("closed_batches", "batches", (it) => it.batch, wanted),
   lots: (def, wanted) => list("lots/" + def, "lots", null, wanted),
   holds: (lot, wanted) => list("holds/" + lot, "holds", (it) => it.hold, wanted),
+  // The commands among the last so many that had references, as those of this page have, the last first.
+  async lastCommands(count) {
+    const behind = this.seq > count ? "/" + (this.seq - count) : "";
+    return [...(await asked("/v1/lists/commands" + behind)).commands].reverse();
+  },
+  allHolds: (wanted) => list("all_holds", "holds", (it) => `${it.lot}.${it.hold}`, wanted),
   recalls: (wanted) => list("recalls", "recalls", (it) => it.recall, wanted),
+  liftedRecalls: (wanted) => list("lifted_recalls", "recalls", (it) => it.recall, wanted),
   definitions: (group, wanted) => list("definitions/" + group, "definitions", (it) => it.def, wanted),
   recipes: (state, wanted) => list("recipes/" + state, "recipes", (it) => `${it.recipe}.${it.version}`, wanted),
   movements: (lot, wanted) => list("movements/" + lot, "movements", (it) => `${it.seq}.${it.line}`, wanted),
 
-  // The classes, each with its materials. No answer lists them: these are those that this browser was told of and the desk has.
+  // The classes, each with its materials.
   async classes() {
-    const classes = [];
-    for (const name of kept("classes", [])) {
-      try {
-        classes.push({ name, definitions: await this.definitions(name, want("definitions " + name)) });
-      } catch (error) {
-        if (!(error instanceof Refusal)) throw error;
-      }
+    const classes = await list("classes", "classes", (it) => it.class, want("classes"));
+    const known = [];
+    for (const it of classes) {
+      known.push({ id: it.class, name: it.name, definitions: await this.definitions(it.class, want("definitions " + it.class)) });
     }
-    return classes;
-  },
-
-  // The lots that open recalls reach; null where that isn't known, since the recalls are many or the desk doesn't answer it.
-  async recalled() {
-    const recalls = await this.recalls(PAGE), lots = new Set();
-    if (recalls.length > 10) return null;
-    for (const { recall } of recalls) {
-      const it = await this.recall(recall);
-      if (!it) return null;
-      for (const node of it.nodes) if (node.lot) lots.add(node.lot);
-    }
-    return lots;
+    known.more = classes.more;
+    return known;
   },
 };
+
+// A line of a recipe, which has a path where it is a phase.
+const withPath = (line) => (line.kind === "phase" ? { kind: "phase", phase: line.phase, path: `${line.unit} ${line.oper} ${line.phase}` } : line);
 
 // ---- The batch record, which the desk tells as a text
 
@@ -799,7 +797,6 @@ let orderState = "open", isWithdrawnShown = false;
 
 async function planner([id]) {
   const orders = await desk.orders(orderState, want("orders " + orderState));
-  if (orders.more && MAY_BE_LATE.includes(orderState)) readOrdersOn("orders " + orderState);
   const approved = await desk.recipes("approved", want("recipes")), drafts = await desk.recipes("draft", want("recipes"));
   const withdrawn = isWithdrawnShown ? await desk.recipes("withdrawn", want("recipes")) : [];
   const one = id && (await desk.foundOrder(id));
@@ -808,33 +805,19 @@ async function planner([id]) {
     h("div", { class: "stack" }, takeInCard(approved), recipesCard(approved, drafts, withdrawn))];
 }
 
-// Orders are listed by their ids, so that those that are due first are known once all are read. That is done behind the first page, which is shown
-// at once, and for up to 1,000 orders.
-const MOST_ORDERS = 10 * PAGE;
-function readOrdersOn(name) {
-  if (want(name) >= MOST_ORDERS) return;
-  wantedItems.set(name, MOST_ORDERS);
-  setTimeout(show, 50);
-}
-
 // Orders by their due date, and of one day those of a higher priority first.
 const bySooner = (a, b) => (a.due < b.due ? -1 : a.due > b.due ? 1 : b.priority - a.priority);
 
-// So many orders are drawn, those that are due first, until somebody asks for all.
-let ordersDrawn = 200;
 function ordersCard(orders, approved) {
   const recipes = new Map(approved.map((it) => [`${it.recipe}.${it.version}`, it])), sorted = [...orders].sort(bySooner);
-  const rows = sorted.slice(0, ordersDrawn).map((it) => orderRow(it, recipes.get(`${it.recipe}.${it.version}`)));
+  const rows = sorted.map((it) => orderRow(it, recipes.get(`${it.recipe}.${it.version}`)));
   const late = MAY_BE_LATE.includes(orderState) ? orders.filter((it) => it.due < day(new Date())).length : 0;
   const pick = (it) => { orderState = it; show(); };
   const states = choice("State of the orders", ["open", "released", "finished", "cancelled"], orderState, pick);
   const without = orderState === "open" ? "No order is open. Take an order file in, or one order by hand." : `No order is ${orderState}.`;
-  const isCut = sorted.length > ordersDrawn, drawAll = () => { ordersDrawn = Infinity; show(); };
-  const cut = () => h("div", { class: "more" }, `Of ${grouped(sorted.length)} those ${grouped(ordersDrawn)} are shown that are due first.`,
-    button("Show all", drawAll));
-  return card("Orders", [late > 0 && pill(`${grouped(late)} late`, "bad"), states],
-    table(["Order", "Due", "#Priority", "Recipe", "#Size", ""], rows, without),
-    isCut ? cut() : more(orders, "orders " + orderState, " by their ids, sorted by their due dates,"));
+  const isAll = late === orders.length && orders.more;
+  return card("Orders", [late > 0 && pill(`${grouped(late)}${isAll ? " and more" : ""} late`, "bad"), states],
+    table(["Order", "Due", "#Priority", "Recipe", "#Size", ""], rows, without), more(orders, "orders " + orderState, " by their due dates"));
 }
 function orderRow(order, recipe) {
   const isOpen = orderState === "open", name = `${order.recipe} ${order.version}`;
@@ -928,8 +911,19 @@ function recipeRow(it, state) {
   const mark = state !== "approved" && [" ", pill(state, state === "draft" ? "warn" : "")];
   const title = [h("b", {}, it.title || it.recipe), " ", h("span", { class: "soft small" }, name), mark];
   const sizes = h("div", { class: "soft small" }, `${grouped(it.min)} to ${grouped(it.max)} of ${it.product}`);
-  const buttons = [state === "draft" && button("Approve", approve), state === "approved" && button("Withdraw", () => withdraw(it), "bad")];
+  const buttons = [button("Lines", () => showRecipe(it)), state === "draft" && button("Approve", approve),
+    state === "approved" && button("Withdraw", () => withdraw(it), "bad")];
   return row(name, [cell(title, sizes), buttonsCell(...buttons)]);
+}
+async function showRecipe({ recipe, version }) {
+  let it;
+  try { it = await desk.recipe(recipe, version); } catch (error) { return notice("bad", error.message); }
+  const amount = (line) => (line.qty ? `${grouped(line.qty)} ${line.unit}` : line.value || "");
+  const rows = it.lines.map(withPath).map((line, k) => row("line " + k, [cell(line.kind), cell(line.def || line.name || line.path), cell(amount(line))]));
+  const away = button("Close", () => dialog.close());
+  const sizes = `For ${grouped(it.base)} ${it.unit} of ${it.product}; orders of ${grouped(it.min)} to ${grouped(it.max)} ${it.unit}.`;
+  openDialog(h("form", { method: "dialog" }, h("h2", { id: "title" }, `${it.title || it.recipe} (${it.recipe} ${it.version}), ${it.state}`),
+    h("p", { class: "soft" }, sizes), table(["Kind", "What", "Amount or value"], rows, ""), h("div", { class: "end" }, away)), away);
 }
 function withdraw(it) {
   form(`Withdraw recipe ${it.recipe} ${it.version}?`,
@@ -975,14 +969,19 @@ function recipeLine([kind, ...words]) {
 
 // ---- The shift's view: the open batches, and one of them
 
+let areClosedShown = false;
+
 async function shift([id]) {
-  const batches = await desk.batches(want("batches"));
+  const batches = areClosedShown ? await desk.closedBatches(want("closed")) : await desk.batches(want("batches"));
   const shown = id || (batches[0] && batches[0].batch);
   const rows = batches.map((it) => batchRow(it, it.batch === shown));
-  const open = table(["Batch", "State"], rows, "No batch is open. The planner releases an order, which makes its batch.", true);
+  const noneOpen = "No batch is open. The planner releases an order, which makes its batch.";
+  const listed = table(["Batch", "State"], rows, areClosedShown ? "No batch is closed." : noneOpen, true);
+  const pick = (it) => { areClosedShown = it === "closed"; show(); };
+  const which = choice("Which batches", ["open", "closed"], areClosedShown ? "closed" : "open", pick);
   const without = card("No batch", null, none("Once an order is released, its batch is started, booked and closed here."));
   const one = shown ? await batchCards(shown) : desk.seq === 0 ? firstSteps() : without;
-  return ["list", card("Open batches", null, open, more(batches, "batches")), h("div", { class: "stack" }, one)];
+  return ["list", card("Batches", which, listed, more(batches, areClosedShown ? "closed" : "batches")), h("div", { class: "stack" }, one)];
 }
 function batchRow(batch, isShown) {
   const next = batch.phase ? `next ${batch.phase}, ${batch.next} of ${batch.phases}` : "all phases done";
@@ -1050,9 +1049,9 @@ function materialsCard(batch) {
 }
 const isMaterial = (line) => line.kind === "in" || line.kind === "out";
 function materialRow(batch, line, isOpen) {
-  const isInput = line.kind === "in", left = Math.max(0, line.amount - line.booked);
+  const isInput = line.kind === "in", left = Math.max(0, line.asked - line.booked);
   const book = isInput ? button("Consume", () => consume(batch, line)) : button("Produce", () => produce(batch, line));
-  return row(`${line.kind} ${line.def}`, [cell(pill(line.kind, isInput ? "" : "good")), idCell(line.def), numberCell(line.amount, line.unit),
+  return row(`${line.kind} ${line.def}`, [cell(pill(line.kind, isInput ? "" : "good")), idCell(line.def), numberCell(line.asked, line.unit),
     numberCell(line.booked, line.unit), numberCell(left, line.unit), buttonsCell(isOpen && book)]);
 }
 function bookingsCard(batch) {
@@ -1067,15 +1066,15 @@ function bookingsCard(batch) {
 // The parts of lots that have stock, each with what bars it from being consumed.
 async function partsOf(def) {
   await desk.look();
-  const lots = await desk.lots(def, PAGE), recalled = lots.length ? await desk.recalled() : null;
+  const lots = await desk.lots(def, PAGE);
   const parts = lots.flatMap((lot) => lot.sublots.filter((it) => it.stock > 0).map((it) => ({ key: `${lot.lot}/${it.no}`, stock: it.stock,
-    place: it.place, barred: lot.held ? "on hold" : recalled && recalled.has(lot.lot) ? "recalled" : "" })));
+    place: it.place, barred: lot.held ? "on hold" : lot.recalled ? "recalled" : "" })));
   return [parts, lots.more];
 }
 async function consume(batch, line) {
   let parts, isMore;
   try { [parts, isMore] = await partsOf(line.def); } catch (error) { return notice("bad", error.message); }
-  const free = parts.filter((it) => !it.barred), left = Math.max(1, line.amount - line.booked);
+  const free = parts.filter((it) => !it.barred), left = Math.max(1, line.asked - line.booked);
   if (!free.length && !isMore) return notice("bad", parts.length ? `All ${line.def} in stock is on hold or recalled.`
     : `There is no ${line.def} in stock.`);
   const first = free.find((it) => it.stock >= left) || free[0];
@@ -1097,14 +1096,14 @@ async function consume(batch, line) {
   });
 }
 const PART_RULE = "([A-Za-z][A-Za-z0-9\\-]{0,23}/[0-9]{1,3})?";
-const sayBooked = (line) => say(`Asked ${grouped(line.amount)} ${line.unit}, booked ${grouped(line.booked)} ${line.unit}.`);
+const sayBooked = (line) => say(`Asked ${grouped(line.asked)} ${line.unit}, booked ${grouped(line.booked)} ${line.unit}.`);
 
 function produce(batch, line) {
   const before = batch.produced.filter((it) => it.def === line.def).length;
   form(`Produce ${line.def} of ${batch.batch}`,
     [sayBooked(line),
     idField("lot", "New lot", idOf(line.def, batch.batch, ...(before ? [before + 1] : []))),
-    amountField(line.unit, Math.max(1, line.amount - line.booked)), placeField(), noteField()], "Produce",
+    amountField(line.unit, Math.max(1, line.asked - line.booked)), placeField(), noteField()], "Produce",
   (v) => command(`${grouped(v.amount)} ${line.unit} as ${v.lot} produced`,
     noted({ do: "produce", batch: batch.batch, lot: v.lot, def: line.def, amount: v.amount, place: v.place }, v.note)));
 }
@@ -1121,58 +1120,47 @@ async function warehouse([id, lotId]) {
   if (def !== chosenOf) chosen.clear();
   chosenOf = def;
   const side = materialsSide(classes, def);
-  const without = card("Lots", null, none("Name a class to see its materials and their lots."));
+  const without = card("Lots", null, none("There is no material yet."));
   if (!def) return ["list", side, desk.seq === 0 ? firstSteps() : without];
-  const lots = await desk.lots(def, want("lots " + def)), recalled = lots.length ? await desk.recalled() : null;
-  const one = lotId && (await desk.foundLot(lotId));
-  const known = all.find((it) => it.def === def) || { def, name: "", unit: lots.length ? await desk.unit(lots[0].lot) : "" };
-  return ["list", side, h("div", { class: "stack" }, lotId && oneLotCard(lotId, one, known, recalled), lotsCard(known, lots, recalled))];
+  const known = all.find((it) => it.def === def) || (await desk.definition(def));
+  if (!known) return ["list", side, card("Lots", null, none("There is no such material."))];
+  const lots = await desk.lots(def, want("lots " + def)), one = lotId && (await desk.foundLot(lotId));
+  if (one) one.recalled = (await desk.lotNode(lotId)).recalled;
+  return ["list", side, h("div", { class: "stack" }, lotId && oneLotCard(lotId, one, known), lotsCard(known, lots))];
 }
 
 function materialsSide(classes, def) {
-  const field = h("input", { ...FIELDS.id, id: "class", placeholder: "as RAW", class: "grow", "aria-label": "Class" });
-  const submit = (event) => { event.preventDefault(); showClass(field.value.toUpperCase()); };
-  const other = h("form", { class: "body row", onsubmit: submit },
-    h("span", { class: "soft small full" }, "Classes that this browser hasn't seen are shown once they are named."), field, h("button", {},
-      "Show the class"));
   const tools = [button("New class", newClass), classes.length > 0 && button("New material", () => newMaterial(classes))];
-  return card("Materials", tools, classes.map((it) => classTable(it, def)), other);
+  const without = none("There is no class yet.");
+  return card("Materials", tools, classes.length ? classes.map((it) => classTable(it, def)) : without, more(classes, "classes"));
 }
-function classTable({ name, definitions }, def) {
+function classTable({ id, name, definitions }, def) {
   const cells = (it) => [idCell(link("warehouse/" + it.def, it.def)), cell(it.name), h("td", { class: "soft" }, it.unit)];
   const rows = definitions.map((it) => row(it.def, cells(it), "warehouse/" + it.def, it.def === def));
-  return [h("h3", {}, name), table(["Material", "Name", "Unit"], rows, "No material is in this class.", true),
-    more(definitions, "definitions " + name)];
+  return [h("h3", {}, name || id, name && [" ", h("span", { class: "soft small" }, id)]),
+    table(["Material", "Name", "Unit"], rows, "No material is in this class.", true), more(definitions, "definitions " + id)];
 }
-async function showClass(name) {
-  try { await desk.definitions(name, 1); } catch (error) { return notice("bad", error.message); }
-  keepClass(name);
-  show();
-}
-const keepClass = (name) => keep("classes", [...new Set([...kept("classes", []), name])].sort());
 
 function newClass() {
   form("New class", [say("A class is a group of materials, such as RAW or GOODS."), idField("group", "New class"),
-    textField("name", "Name")], "Make it", (v) => {
-    keepClass(v.group);
-    return command(`Class ${v.group} made`, { do: "add_class", class: v.group, name: v.name });
-  });
+    textField("name", "Name")], "Make it",
+  (v) => command(`Class ${v.group} made`, { do: "add_class", class: v.group, name: v.name }));
 }
 function newMaterial(classes) {
   form("New material", [idField("def", "New material"), textField("name", "Name"),
-    selectField("group", "Class", classes.map((it) => ({ value: it.name, label: it.name }))),
+    selectField("group", "Class", classes.map((it) => ({ value: it.id, label: it.name ? `${it.id} (${it.name})` : it.id }))),
     textField("unit", "Unit in which it is counted, such as kg or pcs",
       { pattern: "[A-Za-z0-9]{1,8}", title: "1 to 8 letters and digits", required: true })], "Make it",
   (v) => command(`Material ${v.def} made`, { do: "add_definition", def: v.def, class: v.group, name: v.name, unit: v.unit }));
 }
 
-function lotsCard(known, lots, recalled) {
-  const isFree = (it) => !it.held && !(recalled && recalled.has(it.lot)), shown = lots.more ? " of those shown" : "";
+function lotsCard(known, lots) {
+  const isFree = (it) => !it.held && !it.recalled, shown = lots.more ? " of those shown" : "";
   const total = (some) => [grouped(some.reduce((n, it) => n + it.stock, 0)), " ", known.unit];
   const bar = h("div", { class: "chosen", hidden: true }, h("span", {}), button("Merge\u2026", () => merge(known.unit), "main"),
     button("Let them go", () => { chosen.clear(); show(); }));
   const told = () => drawChosen(bar);
-  const rows = lots.flatMap((lot) => partRows(lot, known.unit, recalled, told));
+  const rows = lots.flatMap((lot) => partRows(lot, known.unit, told));
   told();
   const title = h("span", {}, known.name || known.def, known.name && [" ", h("span", { class: "soft small" }, known.def)]);
   const without = `There is no ${known.def} in stock. Receive a lot, or have one produced.`;
@@ -1189,9 +1177,9 @@ function drawChosen(bar) {
 }
 const PART_HEADS = ["Choose", "Lot", "#Part", "Place", "#Stock", ""];
 // A row for each part of a lot, with what can be done with it; `told` is called once a part is chosen for a merge.
-function partRows(lot, unit, recalled, told) {
-  const isRecalled = Boolean(recalled && recalled.has(lot.lot)), isBarred = lot.held || isRecalled;
-  const marks = [lot.held && [" ", pill("on hold", "warn")], isRecalled && [" ", pill("recalled", "bad")]];
+function partRows(lot, unit, told) {
+  const isBarred = lot.held || lot.recalled;
+  const marks = [lot.held && [" ", pill("on hold", "warn")], lot.recalled && [" ", pill("recalled", "bad")]];
   return lot.sublots.map((it) => {
     const key = `${lot.lot}/${it.no}`, part = { lot: lot.lot, sub: it.no, stock: it.stock, place: it.place };
     const buttons = [button("Divide", () => divide(part, unit)), button("Split", () => split(part, unit), null, { disabled: isBarred }),
@@ -1211,10 +1199,10 @@ function chooseBox(key, part, isBarred, told) {
   return h("input", { type: "checkbox", "aria-label": name, checked: chosen.has(key), disabled: !part.stock || isBarred, onchange: choose });
 }
 // One lot, which somebody looked for.
-function oneLotCard(id, lot, known, recalled) {
+function oneLotCard(id, lot, known) {
   const away = button("Close this", () => go("warehouse", known.def));
   if (!lot) return card(`Lot ${id}`, away, none("There is no such lot."));
-  return card(`Lot ${id}`, away, table(PART_HEADS, partRows(lot, known.unit, recalled, show), ""));
+  return card(`Lot ${id}`, away, table(PART_HEADS, partRows(lot, known.unit, show), ""));
 }
 
 const sayPart = (part, unit) => say(`${part.lot}/${part.sub} at ${part.place || "no place"}: ${grouped(part.stock)} ${unit}`);
@@ -1256,20 +1244,40 @@ function merge(unit) {
 
 // ---- The view of quality: a lot, a batch or a recall, and the recalls that are open
 
+let areLiftedShown = false;
+
 async function quality([kind, id]) {
-  const recalls = await desk.recalls(want("recalls"));
-  const side = recallsCard(recalls);
+  const recalls = areLiftedShown ? await desk.liftedRecalls(want("lifted")) : await desk.recalls(want("recalls"));
+  const side = h("div", { class: "stack" }, recallsCard(recalls), holdsCard(await desk.allHolds(want("all holds"))));
   const shown = { lot: lotCards, batch: batchRecordCards, recall: (it) => recallCards(it, recalls) }[kind];
   const hint = none("Find a lot, a batch or a recall by its id: at the top, or with ", h("kbd", {}, "/"),
     ". Its holds, genealogy, ledger and record are shown here.");
-  if (!id || !shown) return ["list", side, desk.seq === 0 ? firstSteps() : card("A lot, a batch or a recall", null, hint)];
+  if (!id || !shown) return ["list", side, desk.seq === 0 ? firstSteps()
+    : h("div", { class: "stack" }, card("A lot, a batch or a recall", null, hint), commandsCard(await desk.lastCommands(PAGE)))];
   return ["list", side, h("div", { class: "stack" }, await shown(id))];
+}
+// Who gave which command, also an approval or the end of a hold.
+function commandsCard(commands) {
+  const rows = commands.map((it) => row(it.seq, [numberCell(it.seq), momentCell(it.at), cell(it.by), cell(it.do), cell(it.note), cell(it.ref)]));
+  return card("The last commands with references", null, table(["#Number", "When", "By", "What", "Note", "Reference"], rows, "None."));
+}
+// The holds of all lots.
+function holdsCard(holds) {
+  const told = (it) => [it.hold, h("div", { class: "soft small" }, `${it.by}, ${moment(it.at)}`), it.note && h("div", { class: "small" }, it.note)];
+  const rows = holds.map((it) => row(`${it.lot}.${it.hold}`, [idCell(lotLink(it.lot)), cell(told(it)),
+    buttonsCell(button("Let go", () => unhold(it.lot, it.hold)))]));
+  return card("On hold", null, table(["Lot", "Hold", ""], rows, "No lot is on hold."), more(holds, "all holds"));
 }
 function recallsCard(recalls) {
   const told = (it) => [h("b", {}, link("quality/recall/" + it.recall, it.recall)), h("div", { class: "soft small" }, `${it.by}, ${moment(it.at)}`),
     it.note && h("div", { class: "small" }, it.note)];
-  const rows = recalls.map((it) => row(it.recall, [cell(told(it)), idCell(lotLink(it.lot)), buttonsCell(button("Lift", () => lift(it)))]));
-  return card("Open recalls", null, table(["Recall", "Lot", ""], rows, "No recall is open."), more(recalls, "recalls"));
+  const lifted = (it) => cell(`${it.lift.by}, ${moment(it.lift.at)}`, it.lift.note && h("div", { class: "small" }, it.lift.note));
+  const rows = recalls.map((it) => row(it.recall, [cell(told(it)), idCell(lotLink(it.lot)),
+    it.lift ? lifted(it) : buttonsCell(button("Lift", () => lift(it)))]));
+  const pick = (it) => { areLiftedShown = it === "lifted"; show(); };
+  const which = choice("Which recalls", ["open", "lifted"], areLiftedShown ? "lifted" : "open", pick);
+  return card("Recalls", which, table(["Recall", "Lot", areLiftedShown ? "Lifted" : ""], rows, `No recall is ${areLiftedShown ? "lifted" : "open"}.`),
+    more(recalls, areLiftedShown ? "lifted" : "recalls"));
 }
 
 async function lotCards(id) {
@@ -1333,8 +1341,7 @@ function lift(it) {
 
 async function recallCards(id, recalls) {
   const it = await desk.recall(id), open = recalls.find((other) => other.recall === id);
-  if (!it) return [card(`Recall ${id}`, null, open ? none("This desk doesn't answer what a recall reaches. See its lot: ", lotLink(open.lot))
-    : none("There is no such recall."))];
+  if (!it) return [card(`Recall ${id}`, null, none("There is no such recall."))];
   if (it.state === "lifted") return [card(`Recall ${id}`, pill("lifted"), facts(fact("Lot", lotLink(it.lot))),
     none("It is lifted, and reaches nothing any more."))];
   const since = open ? [fact("Since", moment(open.at)), fact("By", open.by), open.note && fact("Why", open.note)] : [];
@@ -1349,7 +1356,7 @@ async function recallCards(id, recalls) {
 }
 
 async function batchRecordCards(id) {
-  const batch = await desk.batch(id);
+  const batch = { ...(await desk.batch(id)), record: await desk.record(id) };
   const around = { back: await desk.back("batches", id), forward: await desk.forward("batches", id) };
   return [recordCard(batch), genealogyCard(around, "batch " + id)];
 }
@@ -1374,7 +1381,7 @@ function recordTables({ record, ...batch }) {
   const events = record.events.map((it) => row(it.seq, [number(it.seq), cell(it.what), ...stamp(it)]));
   const consumed = record.consumed.map((it) => row(it.seq, [number(it.seq), ...booking(it), ...stamp(it)]));
   const produced = record.produced.map((it) => row(it.seq, [number(it.seq), ...booking(it), numberCell(it.words[5], it.words[3]), ...stamp(it)]));
-  const total = (it) => [cell(it.kind), idCell(it.def), numberCell(it.amount, it.unit), numberCell(it.booked, it.unit)];
+  const total = (it) => [cell(it.kind), idCell(it.def), numberCell(it.asked, it.unit), numberCell(it.booked, it.unit)];
   const totals = batch.lines.filter(isMaterial).map((it) => row(`total ${it.kind} ${it.def}`, total(it)));
   return [recordFacts(batch, record.released),
     h("h3", {}, "Control recipe"), table(["#No", "Kind", "What", "#Amount", "Value"], recipe, ""),

@@ -279,8 +279,9 @@ class Texts(PackageTestCase):
         words = line.replace("/var/lib/desk/%i.db", "nowhere/plant.db").split()[1:]
         found = ran(self.tops["deb"] / "bin/desk", *words, cwd=self.folder, env=PLAIN)
         self.check("the words of the unit, over a file in no folder", found, (3, "", "fault: store\n"))
+        self.check("what the unit gives as it stops", re.findall(r"^ExecStopPost=(.*)$", text, re.M), ["-/usr/bin/desk verify /var/lib/desk/%i.db"])
         unit = self.folder / "desk@.service"
-        unit.write_text(text.replace("=/usr/bin/desk ", f"={self.tops['deb']}/bin/desk "))
+        unit.write_text(re.sub("=(-?)/usr/bin/desk ", rf"=\1{self.tops['deb']}/bin/desk ", text))
         if shutil.which("systemd-analyze"):
             status, _, errors = ran("systemd-analyze", "--man=no", "verify", unit)
             self.check("the unit", (status, [it for it in errors.splitlines() if "desk@" in it]), (0, []))

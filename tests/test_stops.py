@@ -11,11 +11,13 @@ import functools
 import itertools
 import pathlib
 import shutil
+import signal
 import tempfile
 
 from tests.support import faults, sqlite
 from tests.support.cases import DeskTestCase, good
 from tests.support.commands import EACH_COMMAND, GOODS, add_recipe, approve, import_orders, receive
+from tests.support.http import Server, posted
 from tests.support.program import Program
 from tests.support.sessions import Session, lines_of
 
@@ -303,3 +305,21 @@ class NoIndexes(CourseTests, ChangedFileTestCase):
     """A file without indexes gets them."""
 
     STATEMENTS = "".join(f"DROP INDEX {it};" for it in sqlite.INDEXES)
+
+
+class Backup(DeskTestCase):
+    """A copy of a desk that was served."""
+
+    def test_copy_behind_verify_has_all_that_was_answered_before_a_signal(self):
+        """Has a desk serve commands, stops it by a signal, verifies its file, and copies that alone."""
+        with Server(self.desk, "plant.db", 100) as server:
+            for number in range(1, 6):
+                body = b'{"at":100,"by":"anna","do":"add_class","class":"C-%d","name":""}' % number
+                reply = server.answered(posted("/v1/commands", body))
+                self.check_true(f"command {number} is answered its number", reply.endswith(b'{"ok":%d}' % number))
+            server.process.terminate()
+            self.check("the status of a desk that a signal stopped", server.end().status, -signal.SIGTERM)
+        self.check_verified("the file", "plant.db", 5)
+        shutil.copy(self.folder / "plant.db", self.folder / "backup.db")
+        self.check("the classes of the copy", sqlite.rows(self.folder / "backup.db", "SELECT id FROM class"), [(f"C-{it}",) for it in range(1, 6)])
+        self.check_verified("the copy", "backup.db", 5)

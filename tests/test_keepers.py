@@ -31,12 +31,24 @@ QUESTIONS = [
     '{"ask":"holds","lot":"%s"}',
     '{"ask":"holds","lot":"D-1","above":"%s"}',
     '{"ask":"recalls","above":"%s"}',
+    '{"ask":"definition","def":"%s"}',
+    '{"ask":"recipe","recipe":"%s","version":1}',
+    '{"ask":"batch_lines","batch":"%s"}',
+    '{"ask":"classes","above":"%s"}',
+    '{"ask":"closed_batches","above":"%s"}',
+    '{"ask":"lifted_recalls","above":"%s"}',
+    '{"ask":"orders_by_due","state":"open","above":"2027-03-02.%s"}',
+    '{"ask":"all_holds","above":"%s.H-1"}',
+    '{"ask":"all_holds","above":"D-1.%s"}',
     '{"ask":"definitions","class":"%s"}',
     '{"ask":"definitions","class":"RAW","above":"%s"}',
     '{"ask":"recipes","state":"approved","above":"%s.1"}',
     '{"ask":"movements","lot":"%s"}',
     '{"ask":"movements","lot":"%s","above":"9.1"}',
 ]
+
+# What is asked of nothing.
+FRONTS = ["desk", "moment", "batches", "recalls", "classes", "closed_batches", "lifted_recalls", "all_holds", "commands"]
 
 # Two recalls behind the twenty commands, what they refuse, and a lift.
 RECALLS = b"".join(
@@ -62,7 +74,7 @@ TOLD = b"""{"ok":21}
 def questions_about(commands):
     """Returns each question about each id of the commands, and about one that isn't there, and each list from its front."""
     ids = sorted(set(re.findall(rb'"([A-Z][A-Z0-9-]*)"', commands))) + [b"X-9"]
-    fronts = ['{"ask":"desk"}', '{"ask":"moment"}', '{"ask":"batches"}', '{"ask":"recalls"}']
+    fronts = [f'{{"ask":"{it}"}}' for it in FRONTS]
     return fronts + [question % name.decode() for name in ids for question in QUESTIONS]
 
 
@@ -96,10 +108,11 @@ class Questions(KeeperTestCase):
         self.check("the keeper of lists", self.lists.run(told=told), (1, answers, b""))
 
     def check_raised_file(self, questions, answers):
-        """Takes the file back to the first schema, and asks what was known there: it has no recalls, which the genealogy tells too."""
+        """Takes the file back to the first schema, and asks what was known there: it has no recalls, so that none reaches a lot, and no receipts."""
         sqlite.changed(self.folder / "twenty.db", sqlite.TO_SCHEMA_1)
-        lasting = [it for it in zip(questions, answers) if '"recall' not in it[0] and '_edges"' not in it[0]]
-        told, wanted = "".join(question + "\n" for question, _ in lasting).encode(), b"".join(answer for _, answer in lasting)
+        lasting = [(question, answer) for question, answer in zip(questions, answers) if "recall" not in question and '"commands"' not in question]
+        told = "".join(question + "\n" for question, _ in lasting).encode()
+        wanted = b"".join(answer.replace(b'"recalled":true', b'"recalled":false') for _, answer in lasting)
         self.check_run("the file raised from the first schema", ["run", "twenty.db"], (1, wanted, b""), told)
 
 

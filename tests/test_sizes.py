@@ -42,6 +42,7 @@ NAME = "a" * 60
 # The word of each question for a page, with the member that says of what, where it has one.
 LISTS = {
     "orders": "state", "batches": None, "lots": "def", "holds": "lot", "recalls": None, "definitions": "class", "recipes": "state", "movements": "lot",
+    "closed_batches": None, "lifted_recalls": None, "classes": None, "all_holds": None, "orders_by_due": "state", "commands": None,
 }
 
 REUSED = b'{"name":"RefReused","refused":31}\n'
@@ -49,7 +50,7 @@ REUSED = b'{"name":"RefReused","refused":31}\n'
 
 def lot_told(lot, stock, definition="SUGAR"):
     """Returns a lot of one sublot as it is answered."""
-    return {"def": definition, "held": False, "lot": lot, "stock": stock, "sublots": [{"no": 0, "place": "", "stock": stock}]}
+    return {"def": definition, "held": False, "lot": lot, "recalled": False, "stock": stock, "sublots": [{"no": 0, "place": "", "stock": stock}]}
 
 
 def node_told(lot, stock, definition="SUGAR", unit="g"):
@@ -135,7 +136,7 @@ class Pages(LimitTestCase):
     """Lists above a page."""
 
     def test_lists_above_a_page_are_told_alike_by_a_line_and_by_a_request(self):
-        for session in [*scenarios.above_a_page(), scenarios.lists(201)]:
+        for session in [*scenarios.above_a_page(), scenarios.lists(201), scenarios.by_due(201), scenarios.booked(201)]:
             file = "pages.db"
             self.check_run(session.name, ["run", file], session.ended(), session.told)
             asked = [json.loads(it) for it in sorted(set(lines_of(session.told))) if b'"ask":' in it]
@@ -151,7 +152,7 @@ class Pages(LimitTestCase):
 def path_of(asked):
     """Returns the path of HTTP of a question for a page."""
     member = LISTS[asked["ask"]]
-    return "/".join(["/v1/lists", asked["ask"], *([asked[member]] if member else []), *([asked["above"]] if "above" in asked else [])])
+    return "/".join(["/v1/lists", asked["ask"], *([asked[member]] if member else []), *([str(asked["above"])] if "above" in asked else [])])
 
 
 class Lines(LimitTestCase):

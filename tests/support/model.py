@@ -302,7 +302,7 @@ class Genealogy:
     def standing(self, nodes):
         """Returns what is answered of those of the nodes that are lots with stock."""
         lots = [name for kind, name in sorted(nodes) if kind == LOT and self.stock[name]]
-        return [{**self.known(it), "sublots": [{"no": 0, "place": "", "stock": self.stock[it]}]} for it in lots]
+        return [{**self.known(it), "recalled": False, "sublots": [{"no": 0, "place": "", "stock": self.stock[it]}]} for it in lots]
 
     def genealogy(self, nodes):
         """Returns what is answered of the nodes, and of the edges between them: from lots to batches, from batches to lots, from lots to lots."""

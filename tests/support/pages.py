@@ -23,9 +23,8 @@ BEGAN = 60_000
 # How many commands the mornings of the examples are.
 MORNINGS = 34
 
-# What the browser of a journey has kept: who works at it, and which classes it was told of.
-KEPT = """localStorage.getItem("desk.operator") || localStorage.setItem("desk.operator", '"anna"');
-localStorage.getItem("desk.classes") || localStorage.setItem("desk.classes", '["GOODS","RAW"]');"""
+# What the browser of a journey has kept: who works at it.
+KEPT = """localStorage.getItem("desk.operator") || localStorage.setItem("desk.operator", '"anna"');"""
 
 page_tool = loaded("make/page.py")
 

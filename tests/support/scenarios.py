@@ -140,13 +140,13 @@ def lot_standing(lots, at):
     if at % 7 == 0:
         sublots.append({"no": 1, "place": "A1", "stock": 1})
     total = sum(it["stock"] for it in sublots)
-    return {"def": "SUGAR", "held": at % 50 == 0, "lot": lots[at], "stock": total, "sublots": sublots}
+    return {"def": "SUGAR", "held": at % 50 == 0, "lot": lots[at], "recalled": False, "stock": total, "sublots": sublots}
 
 
 def genealogy_standing(lots, known):
     """Returns what is answered of the genealogy of that chain."""
     edges = [{"amount": 1000 - 3 * it, "from": {"lot": lots[it - 1]}, "to": {"lot": lots[it]}} for it in range(1, STANDING)]
-    nodes = [{**it, "recalled": False, "unit": "g"} for it in known]
+    nodes = [{**it, "unit": "g"} for it in known]
     for it in nodes:
         del it["sublots"]
     return {"edges": edges, "nodes": nodes}
@@ -166,10 +166,10 @@ def page(name, items):
     return compact({"more": len(items) > 100, name: items[:100]})
 
 
-def page_of_lots(lots):
+def page_of_lots(lots, is_recalled):
     """Returns the answer of a page of these lots, of which those with an odd number have one gram left."""
     told = [
-        {"held": False, "lot": it, "stock": 1, "sublots": [{"no": 0, "place": "", "stock": 1}]}
+        {"held": False, "lot": it, "recalled": is_recalled, "stock": 1, "sublots": [{"no": 0, "place": "", "stock": 1}]}
         for it in lots[:100]
         if int(it[2:]) % 2
     ]
@@ -177,23 +177,34 @@ def page_of_lots(lots):
 
 
 def lists(count):
-    """Returns a session of so many orders, lots, holds and recalls, asked for by the page and from each place around its ends."""
+    """Returns a session of so many classes, orders, lots, holds and recalls, asked for by the page and from each place around its ends; then the
+    recalls are lifted, and asked for again."""
     session = Session(f"a list of {count} is told by the page").accepted(*GOODS, add_recipe(1))
     session.accepted(approve(), import_orders(count))
     session.accepted(*[receive(f"L-{it}", it % 2 + 1) for it in range(count)])
     session.accepted(*[scrap(f"L-{it}", 1) for it in range(count)])
     session.accepted(*[hold("L-0", f"H-{it}") for it in range(count)])
     session.accepted(*[recall(f"L-{it}", f"RC-{it}") for it in range(count)])
+    session.accepted(*[f'"do":"add_class","class":"C-{it}","name":"{it}"' for it in range(count)])
     ask_for_orders(session, sorted(f"O-{it}" for it in range(count)))
     lots, holds, recalls = (sorted(f"{it}-{n}" for n in range(count)) for it in ("L", "H", "RC"))
     for at in [None, *holds[96:102]]:
         rest = [{"at": 100, "by": "", "hold": it, "note": ""} for it in holds if at is None or it > at]
         session.asked(question("holds", at, lot="L-0"), page("holds", rest))
+        session.asked(question("all_holds", at and f"L-0.{at}"), page("holds", [{**it, "lot": "L-0"} for it in rest]))
+    for at in [None, *sorted(f"C-{it}" for it in range(count))[96:102]]:
+        rest = sorted([("RAW", ""), *((f"C-{it}", str(it)) for it in range(count))])
+        session.asked(question("classes", at), page("classes", [{"class": it, "name": name} for it, name in rest if at is None or it > at]))
     for at in [None, *recalls[96:102]]:
         rest = [{"at": 100, "by": "", "lot": "L" + it[2:], "note": "", "recall": it} for it in recalls if at is None or it > at]
         session.asked(question("recalls", at), page("recalls", rest))
     for at in [None, *lots[96:102]]:
-        session.asked(question("lots", at, **{"def": "SUGAR"}), page_of_lots([it for it in lots if at is None or it > at]))
+        session.asked(question("lots", at, **{"def": "SUGAR"}), page_of_lots([it for it in lots if at is None or it > at], True))
+    session.accepted(*[lift(it) for it in recalls]).asked(question("lots", None, **{"def": "SUGAR"}), page_of_lots(lots, False))
+    for at in [None, *recalls[96:102]]:
+        shown = {"at": 100, "by": "", "lift": {"at": 100, "by": "", "note": ""}, "note": ""}
+        rest = [{**shown, "lot": "L" + it[2:], "recall": it} for it in recalls if at is None or it > at]
+        session.asked(question("lifted_recalls", at), page("recalls", rest))
     return session
 
 
@@ -224,6 +235,35 @@ def paired_lists(count):
     for at in [None, (0, 0), (first, 0), (first, 1), (first + 98, 1), (first + 99, 0), (first + 99, 1), (10**15, 999)]:
         rest = [it for it in moved if at is None or (it["seq"], it["line"]) > at]
         session.asked(question("movements", at and "%d.%d" % at, lot="L-1"), page("movements", rest))
+    return session
+
+
+def by_due(count):
+    """Returns a session of so many orders, due on seven days in turn, asked for by their due dates from each place around the ends of pages."""
+    session = Session(f"{count} orders are listed by their due dates").accepted(*GOODS, add_recipe(1), approve())
+    orders = [{"due": f"2027-03-0{1 + it * 5 % 7}", "order": f"O-{it}", "priority": 1 + it % 9, "recipe": "R", "size": 1, "version": 1} for it in range(count)]
+    session.accepted('"do":"import_orders","orders":' + compact(orders), *['"do":"cancel_order","order":"O-%d"' % it for it in range(0, count, 10)])
+    for state, some in ("open", [it for n, it in enumerate(orders) if n % 10]), ("cancelled", orders[::10]), ("released", []):
+        some.sort(key=lambda it: (it["due"], it["order"]))
+        around = [(it["due"], it["order"]) for n in (0, 98, 99, 100, 179) if n < len(some) for it in [some[n]]]
+        for at in [None, ("2000-01-01", "A"), ("2027-03-03", "A"), ("2027-03-03", "Z"), ("2099-12-31", "Z"), *around]:
+            rest = [it for it in some if at is None or (it["due"], it["order"]) > at]
+            session.asked(question("orders_by_due", at and "%s.%s" % at, state=state), page("orders", rest))
+    return session
+
+
+def booked(count):
+    """Returns a session of so many commands with references between those without, asked for from each place around the ends of pages."""
+    session = Session(f"{count} commands with references are listed by their numbers").accepted(*GOODS)
+    rows = []
+    for it in range(count):
+        session.accepted(f'"do":"add_class","class":"C-{it}","name":"","note":"as {it}","ref":"K-{count - it}"')
+        rows.append({"at": 100, "by": "", "do": "add_class", "note": f"as {it}", "ref": f"K-{count - it}", "seq": session.count()})
+        if it % 3 == 0:
+            session.accepted(f'"do":"add_class","class":"D-{it}","name":""')
+    for at in [None, 1, 10**15, *(it["seq"] + n for k in (0, 98, 99, 100, 199) if k < count for it in [rows[k]] for n in (0, 1))]:
+        rest = [it for it in rows if at is None or it["seq"] > at]
+        session.asked(question("commands", at), page("commands", rest))
     return session
 
 
@@ -430,6 +470,6 @@ def scraps():
 
 def every():
     """Returns all sessions, those that are written out and those that are made here."""
-    pages = [session(count) for count in COUNTS for session in (lists, paired_lists)]
+    pages = [session(count) for count in COUNTS for session in (lists, paired_lists, by_due, booked)]
     made = [*limits(), long_chain(), wide_fan(), standing(), *pages, *above_a_page(), *lines(), scraps()]
     return [*map(sessions.read, sessions.files()), *made]

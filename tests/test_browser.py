@@ -20,6 +20,9 @@ LOSE_ANSWERS = """(() => {
   globalThis.fetch = async (...told) => { const reply = await real(...told); return told[1].method === "POST" ? lost() : reply; };
 })()"""
 
+# Lasts until the page was drawn twice.
+TWO_FRAMES = "new Promise((then) => requestAnimationFrame(() => requestAnimationFrame(() => then(true))))"
+
 HEADER = "order,recipe,version,size,due,priority\n"
 
 
@@ -326,6 +329,19 @@ class Journeys(BrowserTestCase):
         tab.key("4")
         tab.has("No recall is open.")
         self.end(tab, 8)
+
+    def test_what_is_pressed_right_behind_a_form_counts(self):
+        """Until its next frame, which is when a browser tells that a form was closed, another form can be opened and a key pressed."""
+        self.serve(is_empty=True)
+        tab = self.open("planner")
+        opened = "form('%s', [textField('note', 'Note')], 'Send', () => null);"
+        tab.run(f"(() => {{ {opened % 'The first'} dialog.close(); {opened % 'The second'} }})()")
+        tab.run(TWO_FRAMES)
+        self.check("the form that is open", tab.run("[dialog.open, dialog.querySelector('h2').innerText]"), [True, "The second"])
+        self.check("where the keyboard is", tab.run("document.activeElement.name"), "note")
+        tab.run("dialog.close(); dispatchEvent(new KeyboardEvent('keydown', {key: '2'}));")
+        tab.has("No batch is open.")
+        self.end(tab, 0)
 
     def send_by_keys(self, tab, what, number):
         """Sends a form by Enter."""

@@ -1590,9 +1590,17 @@ function help() {
 }
 at("help").addEventListener("click", help);
 dialog.addEventListener("cancel", (event) => { if (sending) event.preventDefault(); });
-dialog.addEventListener("close", () => { dialog.replaceChildren(); focusAgain(focusBehind); });
+// A browser tells of a closed dialog with its next frame only. Until then a field of it can have the keyboard, a key can have led elsewhere, and
+// another dialog can be open.
+dialog.addEventListener("close", () => {
+  if (dialog.open) return;
+  const isLost = document.activeElement === document.body || dialog.contains(document.activeElement);
+  dialog.replaceChildren();
+  if (isLost) focusAgain(focusBehind);
+});
 
-const isWriting = () => /^(INPUT|SELECT|TEXTAREA)$/.test(document.activeElement.tagName);
+const isField = (it) => /^(INPUT|SELECT|TEXTAREA)$/.test(it.tagName);
+const isWriting = () => isField(document.activeElement) && !dialog.contains(document.activeElement);
 addEventListener("keydown", (event) => {
   if (event.ctrlKey || event.altKey || event.metaKey || dialog.open) return;
   if (event.key === "Escape" && document.activeElement === at("find")) return view.focus();

@@ -1,6 +1,8 @@
 """The page in a browser: journeys of the four roles in a headless Chromium, each over a desk of its own, which is verified at its end."""
 from __future__ import annotations
 
+import json
+import shutil
 import time
 
 from tests.support.pages import MORNINGS, BrowserTestCase
@@ -285,6 +287,38 @@ class Journeys(BrowserTestCase):
         tab.lacks("No answer came")
         self.check("the number behind a booking that was sent again", self.served.ask("/desk")["seq"], 37)
         self.check("the lot", self.served.ask("/lots/F-7")["stock"], 7)
+
+    def test_booking_without_an_answer_isnt_sent_to_another_desk(self):
+        """Desks that are served in turn at one address share what the browser keeps."""
+        other = self.other_desk()
+        self.serve()
+        self.served.told(at=int(time.time()), by="ben", do="unhold", lot="F-2", hold="H-1", ref="FIRST-1")
+        tab = self.open("warehouse/FLOUR")
+        self.served.kill()
+        tab.click("Divide", row="F-1/0")
+        self.send(tab, amount=20, place="A9")
+        tab.has("No answer came to \u201c20 kg of F-1 brought to A9\u201d.")
+        self.served.start_again(other)
+        tab.click("Send again")
+        tab.has("It was sent to another desk than the one that is served here now.")
+        tab.reload()
+        tab.until("desk.name !== undefined")
+        tab.lacks("No answer came")
+        self.check("the number of the other desk", self.served.ask("/desk")["seq"], MORNINGS + 1)
+        self.served.kill()
+        self.served.start_again()
+        tab.reload()
+        tab.click("Send again")
+        self.check_booked(tab, "20 kg of F-1 brought to A9.", 36)
+        self.end(tab, 36)
+
+    def other_desk(self):
+        """Makes a desk that began as this one did, and whose first command under a reference is another one."""
+        file = self.folder / "other.db"
+        shutil.copy(self.mornings, file)
+        command = {"at": int(time.time()), "by": "ben", "do": "add_class", "class": "OTHER", "name": "Other goods", "ref": "OTHER-1"}
+        self.desk.run("run", file.name, told=json.dumps(command).encode() + b"\n")
+        return file
 
     def test_clock_that_is_behind_takes_the_moment_of_the_desk(self):
         self.serve()

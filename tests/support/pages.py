@@ -87,9 +87,9 @@ class ServedDesk:
         self.server.process.kill()
         self.server.end()
 
-    def start_again(self):
-        """Starts the desk again at the port that it had."""
-        self.server = Server(self.desk, self.file, CONNECTIONS, "--page", port=self.server.port)
+    def start_again(self, file=None):
+        """Starts the desk again at the port that it had, or another desk there, whose file is given."""
+        self.server = Server(self.desk, file or self.file, CONNECTIONS, "--page", port=self.server.port)
 
     def end(self):
         """Ends the desk."""

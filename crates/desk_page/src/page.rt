@@ -438,14 +438,24 @@ const desk = {
   seq: null,
   moment: 0,
 
+  // By what it is known: the reference of its first command that had one, null where none had. Desks that are served in turn at one address share
+  // what the browser keeps.
+  name: undefined,
+
   // Looks how far it is, and says whether that has changed.
   async look() {
     const { seq } = await askedAnew("/v1/desk");
     if (seq === this.seq) return false;
     answers.clear();
     await this.lookAtMoment();
+    if (!this.name || seq < this.seq) await this.lookAtName();
     this.seq = seq;
     return true;
+  },
+  async lookAtName() {
+    const [first] = (await askedAnew("/v1/lists/commands")).commands;
+    this.name = first ? first.ref : null;
+    drawWaiting();
   },
   async lookAtMoment() { this.moment = (await askedAnew("/v1/moment")).at; },
 
@@ -566,7 +576,8 @@ const OTHERS_WAIT = 60;
 
 let sending = null;
 const unanswered = () => kept("bookings", []);
-const isOffered = (it) => it.ref !== sending && (it.tab === TAB || clock() - it.since > OTHERS_WAIT || clock() < it.since);
+const isOfAnother = (it) => Boolean(it.desk) && desk.name !== undefined && it.desk !== desk.name;
+const isOffered = (it) => it.ref !== sending && !isOfAnother(it) && (it.tab === TAB || clock() - it.since > OTHERS_WAIT || clock() < it.since);
 const keepBooking = (booking) => keep("bookings", [...unanswered().filter((it) => it.ref !== booking.ref), booking]);
 function forgetBooking(ref) { keep("bookings", unanswered().filter((it) => it.ref !== ref)); drawWaiting(); }
 
@@ -603,9 +614,9 @@ async function deliver(booking) {
 // Has something booked, told in plain words; gives null where all is well, else what is wrong.
 async function book(what, content) {
   if (sending) return "A booking is under way.";
-  if (unanswered().some((it) => it.tab === TAB)) return "An earlier booking has no answer yet. Send it again first: see the top of the page.";
+  if (unanswered().some((it) => it.tab === TAB && !isOfAnother(it))) return "An earlier booking has no answer yet. Send it again first: see the top of the page.";
   const answer = await deliver({ what, at: desk.now(), by: operator.value.trim(), ref: newReference(), tab: TAB, since: clock(),
-    ...content });
+    desk: desk.name, ...content });
   return settle(what, answer);
 }
 async function settle(what, answer) {
@@ -620,8 +631,15 @@ const LOST = "No answer came. The booking may have been taken or not: send it ag
 async function sendAgain(booking) {
   if (sending) return;
   notice("", "Sending again\u2026");
-  const wrong = await settle(booking.what, await deliver(booking));
+  const wrong = await sentAgain(booking);
   if (wrong) notice("bad", wrong === LOST ? "Still no answer." : `${booking.what}: ${wrong}`);
+}
+// What is wrong with a booking that is sent again, or null. Another desk than the one that it was sent to would take it a second time.
+async function sentAgain(booking) {
+  sending = booking.ref;
+  try { await desk.lookAtName(); } catch { return LOST; } finally { sending = null; drawWaiting(); }
+  if (isOfAnother(booking)) return "It was sent to another desk than the one that is served here now. It is kept until that one is back.";
+  return settle(booking.what, await deliver(booking));
 }
 
 // Bookings without an answer stand at the top of the page until they have one.

@@ -1,6 +1,5 @@
-# make look  shows what the desk answers to the batch in examples/, each line with its reply, by a quick run that proves nothing
-# make run   proves and builds the desk, and runs that batch over a file, build/plant.db, which is made anew
-# make desk  leaves the built program at build/desk; the crates that it stands on are proved side by side
+# make run   shows what the desk answers to README's session and to a batch, by a quick build that proves nothing
+# make desk  proves and builds the desk, and leaves the program at build/desk; the crates that it stands on are proved side by side
 # make order_check  leaves the built check of order files at build/order_check
 # make line_check  leaves the built check of lines at build/line_check
 # make desk_check  leaves the built check of a desk's file at build/desk_check
@@ -9,16 +8,10 @@
 # make dist  packs the built programs in build/ with pages of the manual, completions and a unit for systemd, as tar.gz and for Debian
 # make test  the gate (gate/test.sh): every proof, must-fail edit, test and program from nothing, then the tests of the built programs (tests/)
 # make edits has the prover try the edits that the gate doesn't, of all crates or of some: make edits NAMES="plant_tables"
-.PHONY: look run desk order_check line_check desk_check genealogy_picture bench_lists dist test edits
+.PHONY: run desk order_check line_check desk_check genealogy_picture bench_lists dist test edits
 
-look:
-	@make/look.py
-
-run: desk
-	rm -f build/plant.db build/plant.db-wal
-	build/desk init build/plant.db
-	build/desk run build/plant.db < examples/batch.jsonl
-	build/desk verify build/plant.db
+run:
+	@make/run.py
 
 desk order_check line_check desk_check genealogy_picture bench_lists:
 	@make/side_by_side.py $@

@@ -1,27 +1,48 @@
 #!/usr/bin/env python3
-"""Shows what the desk answers to a batch, by a quick run that proves nothing.
+"""Shows what the desk answers, by a quick build that proves nothing.
 
-    make/look.py
+    make/run.py
 
-Has `rt try` put the program together without a proof and run it on the lines of examples/batch.jsonl, and prints each with its reply
-beneath it. Says while it waits how long it has taken. Ends with the status of `rt try`.
+Has `rt try` put the program together without a proof and run it on the session of README and then on the batch of examples/, over one new
+state in memory, and prints each line with its reply beneath it. Says while it waits how long it has taken. Ends with the status of `rt try`.
 """
+import json
 import os
+import pathlib
 import subprocess
 import sys
 import tempfile
 
 FOLDER = "crates/desk"
-LINES = "examples/batch.jsonl"
+
+# The session of README, and the batch. The batch comes so many seconds later, since no command may lie before the last one.
+SESSION, BATCH = "crates/desk/stdin", "examples/batch.jsonl"
+LATER = 100
 
 # How often it says that it still waits, in seconds.
 TURN = 20
 
 
-def ran(output, errors):
-    """Runs the program, and gives its status."""
-    with open(LINES, "rb") as it:
-        process = subprocess.Popen(["rt", "try"], cwd=FOLDER, stdin=it, stdout=output, stderr=errors)
+def later(line):
+    """Returns a line of the batch, with its moment in the time behind the session."""
+    told = json.loads(line)
+    return json.dumps({**told, "at": told["at"] + LATER} if "at" in told else told, separators=(",", ":"))
+
+
+def lines_of_both(top):
+    """Returns the lines of the session, and those of the batch less what the session did already, which is to make the class."""
+    session = (top / SESSION).read_text().splitlines()
+    done = [json.loads(it) for it in session]
+    batch = [it for it in (top / BATCH).read_text().splitlines() if json.loads(it) not in done]
+    return session, [later(it) for it in batch]
+
+
+def run_lines(lines, output, errors):
+    """Runs the program on these lines, and returns its status."""
+    with tempfile.TemporaryFile("w+") as told:
+        told.write("".join(f"{it}\n" for it in lines))
+        told.seek(0)
+        process = subprocess.Popen(["rt", "try"], cwd=FOLDER, stdin=told, stdout=output, stderr=errors)
     waited = 0
     while True:
         try:
@@ -32,23 +53,25 @@ def ran(output, errors):
 
 
 def main():
-    os.chdir(os.path.dirname(os.path.dirname(os.path.realpath(__file__))))
-    with open(LINES) as it:
-        lines = it.read().splitlines()
-    print(f"The desk is put together without a proof, and told the {len(lines)} lines of {LINES} over a new state in memory.")
-    print("This takes three to five minutes and proves nothing; make run proves.", flush=True)
+    top = pathlib.Path(__file__).resolve().parent.parent
+    os.chdir(top)
+    session, batch = lines_of_both(top)
+    lines = session + batch
+    print(f"The desk is built without a proof, in three to five minutes, and answers README's {len(session)} lines and the {len(batch)} of a batch.")
+    print("This shows how it works and proves nothing: make desk proves and builds it, and make test proves and tests all.", flush=True)
     with tempfile.TemporaryFile("w+") as output, tempfile.TemporaryFile("w+") as errors:
         try:
-            status = ran(output, errors)
+            status = run_lines(lines, output, errors)
         except FileNotFoundError:
             print("there is no command rt: README says which toolchain is wanted", file=sys.stderr)
             return 2
         for it in (output, errors):
             it.seek(0)
         replies = output.read().splitlines()
-        print()
-        for line, reply in zip(lines, replies):
-            print(f"> {line}\n{reply}")
+        for part, answered in ((session, replies), (batch, replies[len(session):])):
+            print()
+            for line, reply in zip(part, answered):
+                print(f"> {line}\n{reply}")
         if status or len(replies) != len(lines):
             print(errors.read(), end="", file=sys.stderr)
             print(f"{len(replies)} of {len(lines)} lines have a reply; rt try ended with status {status}", file=sys.stderr)

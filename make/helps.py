@@ -4,6 +4,7 @@ A help is blocks of lines, as clap prints it: what it is about, a line `Usage: `
 """
 import re
 import subprocess
+import textwrap
 
 # How a page writes what groff would take for something else.
 GLYPHS = {"\\": r"\e", "-": r"\-", "'": r"\(aq", '"': r"\(dq", "`": r"\(ga", "^": r"\(ha", "~": r"\(ti"}
@@ -93,15 +94,50 @@ def section(word, told):
     return "".join([*parts, *(f".PP\n{plain(it)}\n" for it in told.notes)])
 
 
-def page(name, version, told, words, others):
-    """The page of a program with this help, the helps of its words, and the names of the other programs."""
+def statuses(note):
+    """The exit statuses that a note of a help tells, as lines of (status, what it means), and what else the note says."""
+    other, _, told = note.partition("Exit status: ")
+    found = re.split(r"; (?=\d )", " ".join(told.split()).rstrip(".")) if told else []
+    return [tuple(it.split(" ", 1)) for it in found], other.strip()
+
+
+def notes(told):
+    """What the notes of a help say, less examples and exit statuses, which a page of the manual has in sections of their own."""
+    kept = (re.sub(r"^Example: .*\n?", "", statuses(it)[1], flags=re.M).strip() for it in told.notes)
+    return [it for it in kept if it]
+
+
+def manual(text):
+    """The sections of a page that are written by hand. A block is a heading in capitals, a text, or a text that is set in: in FILES what a file
+    holds, whose name is the block in front of it, elsewhere lines to be typed."""
+    parts, heading = [], None
+    for block in filter(None, re.split(r"\n{2,}", text.strip("\n"))):
+        if block.isupper():
+            heading = block
+            parts.append(f".SH {heading}\n")
+        elif not block.startswith("    "):
+            parts.append(f".TP\n.B {plain(block)}\n" if heading == "FILES" else f".PP\n{plain(' '.join(block.split()))}\n")
+        elif heading == "FILES":
+            parts.append(f"{plain(' '.join(block.split()))}\n")
+        else:
+            typed = plain(textwrap.dedent(block)).replace("\n.br\n", "\n")
+            parts.append(f".PP\n.RS 4\n.nf\n{typed}\n.fi\n.RE\n")
+    return "".join(parts)
+
+
+def page(name, version, told, words, others, by_hand):
+    """The page of a program with this help, the helps of its words, the names of the other programs, and the sections that are written by hand."""
     parts = [f'.TH {name.upper()} 1 "" "desk {version}" "Manufacturing desk"\n']
     parts += [f".SH NAME\n{plain(name)} \\- {plain(told.about)}\n.SH SYNOPSIS\n{usages([told, *words.values()])}\n"]
-    if told.notes:
-        parts += [".SH DESCRIPTION\n", "\n.PP\n".join(plain(it) for it in told.notes), "\n"]
+    if notes(told):
+        parts += [".SH DESCRIPTION\n", "\n.PP\n".join(plain(it) for it in notes(told)), "\n"]
     if words:
         parts += [".SH COMMANDS\n", *(section(*it) for it in words.items())]
     for heading in [it for it in told.lists if it != "Commands"]:
         parts += [f".SH {heading.upper()}\n", listed(told.lists[heading])]
+    ended = [it for note in told.notes for it in statuses(note)[0]]
+    if ended:
+        parts += [".SH EXIT STATUS\n", *(f".TP\n.B {status}\n{plain(meaning)}\n" for status, meaning in ended)]
+    parts.append(manual(by_hand))
     parts += [".SH SEE ALSO\n", ",\n".join(f".BR {plain(it)} (1)" for it in others), f"\n.PP\n{plain(DOCUMENTS)}\n"]
     return "".join(parts)

@@ -128,7 +128,10 @@ def pages(programs, version, whole, words):
     told = {"desk": (whole, words)}
     for name in [it for it in programs if it != "desk"]:
         told[name] = (helps.Help(helps.said(programs[name], "--help", name=name)), {})
-    texts = {name: helps.page(name, version, *it, [other for other in programs if other != name]) for name, it in told.items()}
+    texts = {}
+    for name, it in told.items():
+        by_hand = (BESIDE / "manual" / f"{name}.txt").read_text()
+        texts[name] = helps.page(name, version, *it, [other for other in programs if other != name], by_hand)
     return {f"share/man/man1/{name}.1.gz": (pressed(text.encode()), 0o644) for name, text in texts.items()}
 
 
@@ -152,6 +155,7 @@ def tree(programs, version):
         "share/zsh/vendor-completions/_desk": completions.zsh(whole, words),
         "lib/systemd/system/desk@.service": (BESIDE / "desk@.service").read_text(),
         f"{DOC}/desk.conf": (BESIDE / "desk.conf").read_text(),
+        f"{DOC}/copyright": (BESIDE / "copyright").read_text(),
     }
     for name, told in alone.items():
         texts[f"share/bash-completion/completions/{name}"] = completions.bash_alone(name, told)

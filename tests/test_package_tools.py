@@ -82,9 +82,23 @@ class Helps(CountedTestCase):
             self.check(text, self.helps.plain(text), wanted)
 
     def test_page_has_a_section_of_each_list(self):
-        page = self.helps.page("line_check", "1.0.0", self.help, {}, ["desk"])
+        page = self.helps.page("line_check", "1.0.0", self.help, {}, ["desk"], "")
         for part in ('.TH LINE_CHECK 1 "" "desk 1.0.0"', ".SH ARGUMENTS\n", ".SH OPTIONS\n", ".SH SEE ALSO\n.BR desk (1)"):
             self.check_true(part, part in page)
+        self.check_true("no exit status that no help tells", "EXIT STATUS" not in page)
+
+    def test_exit_statuses_of_a_help_are_a_section(self):
+        told = self.helps.Help(HELP + "Exit status: 0 where it is\nwell; 1 where it isn't.\n")
+        page = self.helps.page("line_check", "1.0.0", told, {}, ["desk"], "")
+        wanted = ".SH EXIT STATUS\n.TP\n.B 0\nwhere it is well\n.TP\n.B 1\nwhere it isn\\(aqt\n.SH SEE ALSO\n"
+        self.check_true(f"the section, {page}", wanted in page)
+        self.check_true("neither an example nor a status in the description", ".SH DESCRIPTION" not in page)
+
+    def test_sections_by_hand_have_lines_to_type_and_files_with_their_contents(self):
+        text = "EXAMPLES\n\nA file\nis made:\n\n    desk init a\n    desk verify a\n\nFILES\n\nplant.db\n\n    The\n    records.\n"
+        wanted = [".SH EXAMPLES", ".PP", "A file is made:", ".PP", ".RS 4", ".nf", "desk init a", "desk verify a", ".fi", ".RE"]
+        wanted += [".SH FILES", ".TP", ".B plant.db", "The records."]
+        self.check("the sections", self.helps.manual(text).splitlines(), wanted)
 
 
 class Completions(FolderTestCase):

@@ -227,6 +227,19 @@ class Texts(PackageTestCase):
             if name == "desk":
                 self.check_names_all("the page", text, r"\bdesk {word}\b", r"(?<!\S){option}\b")
 
+    def test_examples_of_the_manual_run_as_printed(self):
+        """Runs what each page has to be typed, one block after the other, but for what serves without an end."""
+        for name in PACKED:
+            folder = self.folder / name
+            folder.mkdir()
+            examples = (TOP / f"make/packaged/manual/{name}.txt").read_text().partition("\nFILES\n")[0]
+            for block in re.findall(r"(?:^    .*\n)+", examples, re.M):
+                typed = block.replace("/usr/", f"{self.tops['deb']}/")
+                if "desk serve" in typed:
+                    continue
+                status, output, errors = ran("bash", "-ec", typed, cwd=folder, env={**PLAIN, "PATH": f"{self.tops['deb']}/bin:/usr/bin:/bin"})
+                self.check(f"the manual of {name}: {block.strip()}, {output}", (status, errors), (0, ""))
+
     def test_bash_completes_words_options_and_values(self):
         file = self.tops["deb"] / "share/bash-completion/completions/desk"
         cases = [("ver", ["verify"]), ("", [*self.words, "-h", "--help", "-V", "--version"]), ("trace plant.db ", ["back", "forward"])]
@@ -274,7 +287,7 @@ class Texts(PackageTestCase):
         self.check("PORT and COUNT", settings, [[("PORT", "8080"), ("COUNT", "1000000")]] * 2)
         for name, value in settings[0]:
             line = line.replace("${%s}" % name, value)
-        line = line.replace(" $HOSTS", "")
+        line = line.replace(" $HOSTS $LOG", "")
         self.check("the words of the unit", line, "/usr/bin/desk serve /var/lib/desk/%i.db 8080 1000000 --page")
         words = line.replace("/var/lib/desk/%i.db", "nowhere/plant.db").split()[1:]
         found = ran(self.tops["deb"] / "bin/desk", *words, cwd=self.folder, env=PLAIN)

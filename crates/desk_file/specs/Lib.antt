@@ -1,2 +1,3 @@
+pub mod NewFile
 pub mod Timing
 pub mod Working

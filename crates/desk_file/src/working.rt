@@ -7,6 +7,7 @@ ghost use Rattle.sqlite.specs.Steps.{over_memory};
 ghost use Rattle.sql_queries.specs.Opened.{IsNewlyOpened};
 ghost use Rattle.desk_file.specs.Working.{in_memory, WasDone};
 
+use crate::new_file::make_missing;
 use crate::timing::Progress;
 use sql_queries::{open_file, open_in_memory};
 use sqlite::{Alter, Connection, Error, ErrorCode, FileFrom, FileStore, MemStore, Start};
@@ -75,8 +76,8 @@ fn is_in_memory(file: &str) -> bool
     file == ":memory:"
 }
 
-/// Opens the file, does the work over it, and closes it: what its log holds is copied into it, so that the file alone holds what the
-/// work left. The file `:memory:` is a new store in memory. Where the opening takes long a terminal is told how far it is.
+/// Opens the file, which is made where it isn't there, does the work over it, and closes it: what its log holds is copied into it, so that
+/// the file alone holds what the work left. The file `:memory:` is a new store in memory. Where the opening takes long a terminal is told how far it is.
 ///
 /// `start` represents what the file holds before it is opened, whatever that is. The error is that of a store that didn't open, and
 /// gives the work back: it wasn't done.
@@ -102,6 +103,9 @@ pub fn work_over<W: StoreWork, S: Start>(
                 work,
             }),
         };
+    }
+    if let Err(error) = make_missing(rt, file) {
+        return Err(OpenRefused { error, work });
     }
     let progress = Progress::begin(rt, file);
     match open_file(rt, file, start) {

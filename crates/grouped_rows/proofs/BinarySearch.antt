@@ -51,12 +51,7 @@ eq_gt Less e = cc
 eq_gt Equal e = cc
 eq_gt Greater e = refl
 
-lt_le : (o : Ordering) → is_lt o ≡ true → is_le o ≡ false → ⊥
-lt_le Less e h = cc
-lt_le Equal e h = cc
-lt_le Greater e h = cc
-
-rising : {R K : Type 0} (cmp : K → K → Ordering) → IsTotalOrder cmp → (key_of : R → Option K) (rows : List R) (key : K) → Rises cmp key_of rows → IsNonDecreasingBy (λ r. ordering_index (adjacent cmp key_of key r)) rows
+pub rising : {R K : Type 0} (cmp : K → K → Ordering) → IsTotalOrder cmp → (key_of : R → Option K) (rows : List R) (key : K) → Rises cmp key_of rows → IsNonDecreasingBy (λ r. ordering_index (adjacent cmp key_of key r)) rows
 rising cmp o key_of rows key rises = searchable_from_sorted (options_total o) key_of rows (Some key) rises
 
 pub before_first : {R K : Type 0} (cmp : K → K → Ordering) → IsTotalOrder cmp → (key_of : R → Option K) (rows : List R) (key : K) → Rises cmp key_of rows → IsPartitionedBy (λ r. is_lt (adjacent cmp key_of key r)) rows
@@ -64,18 +59,6 @@ before_first cmp o key_of rows key rises i j d h l e = lt_down _ _ (rising cmp o
 
 pub upto_first : {R K : Type 0} (cmp : K → K → Ordering) → IsTotalOrder cmp → (key_of : R → Option K) (rows : List R) (key : K) → Rises cmp key_of rows → IsPartitionedBy (λ r. is_le (adjacent cmp key_of key r)) rows
 upto_first cmp o key_of rows key rises i j d h l e = le_down _ _ (rising cmp o key_of rows key rises i j d h l) e
-
--- the first row that isn't before the key stands no later than the first that is behind it
-pub in_turn : {R K : Type 0} (cmp : K → K → Ordering) (key_of : R → Option K) (rows : List R) (key : K) (start end : ℕ) → start ≤ length rows →
-    IsPartitionPoint (λ r. is_lt (adjacent cmp key_of key r) ≡ true) (λ r. is_lt (adjacent cmp key_of key r) ≡ false) rows start →
-    IsPartitionPoint (λ r. is_le (adjacent cmp key_of key r) ≡ true) (λ r. is_le (adjacent cmp key_of key r) ≡ false) rows end →
-    start ≤ end
-in_turn cmp key_of [] key start end within from till = omega arith
-in_turn {R} cmp key_of (r ∷ rows) key start end within from till = by (cases_lt end start)
-  where
-    by : (end < start) ⊎ (start ≤ end) → start ≤ end
-    by (inr h) = h
-    by (inl h) = absurd (lt_le _ (from.0 end r (omega arith) h) (till.1 end r (omega arith) (omega arith)))
 
 pub found_between : {R K : Type 0} (cmp : K → K → Ordering) (key_of : R → Option K) (rows : List R) (key : K) (start end : ℕ) → start ≤ end →
     IsPartitionPoint (λ r. is_lt (adjacent cmp key_of key r) ≡ true) (λ r. is_lt (adjacent cmp key_of key r) ≡ false) rows start →
@@ -93,7 +76,7 @@ gt_up Greater Less h e f = absurd (omega arith)
 gt_up Greater Equal h e f = absurd (omega arith)
 gt_up Greater Greater h e f = refl
 
-get_or-any : {R : Type 0} (rows : List R) (n : ℕ) (d e : R) → n < length rows → get_or rows n d ≡ get_or rows n e
+pub get_or-any : {R : Type 0} (rows : List R) (n : ℕ) (d e : R) → n < length rows → get_or rows n d ≡ get_or rows n e
 get_or-any [] n d e h = absurd (omega arith)
 get_or-any (r ∷ rows) zero d e h = refl
 get_or-any (r ∷ rows) (suc n) d e h = get_or-any rows n d e (omega arith)

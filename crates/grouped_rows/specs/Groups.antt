@@ -4,7 +4,7 @@ use Rattle.std.specs.declared.cmp.Ordering.{Ordering}
 use Rattle.std.specs.declared.alloc.Global.{Global}
 use Rattle.std.specs.List.Sorted.{IsPartitionPoint, IsSortedByKey}
 use Rattle.std.specs.Option.{option_cmp}
-use Rattle.std.specs.Ordering.{is_eq, is_lt}
+use Rattle.std.specs.Ordering.{is_eq, is_le, is_lt}
 
 -- the key that a row has, if it has one, is this one
 abbrev pub is_keyed : {K : Type 0} → (K → K → Ordering) → Option K → K → Bool
@@ -36,3 +36,7 @@ pub record Searchable {K R : Type 0} (cmp : K → K → Ordering) (key_of : R �
 -- the rows before this place have a lesser key, those from it on none
 abbrev pub StartsAt : {K R : Type 0} → (K → K → Ordering) → (R → Option K) → List R → K → ℕ → Type 0
 StartsAt cmp key_of rows key start = IsPartitionPoint (λ r. is_lt (option_cmp cmp (key_of r) (Some key)) ≡ true) (λ r. is_lt (option_cmp cmp (key_of r) (Some key)) ≡ false) rows start
+
+-- the rows before this place have no greater key, those from it on have one
+abbrev pub EndsAt : {K R : Type 0} → (K → K → Ordering) → (R → Option K) → List R → K → ℕ → Type 0
+EndsAt cmp key_of rows key end = IsPartitionPoint (λ r. is_le (option_cmp cmp (key_of r) (Some key)) ≡ true) (λ r. is_le (option_cmp cmp (key_of r) (Some key)) ≡ false) rows end

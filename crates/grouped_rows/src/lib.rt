@@ -6,7 +6,7 @@ ghost use Rattle.std.specs.Bool.{OnTrue};
 ghost use Rattle.std.specs.List.{list_any};
 ghost use Rattle.std.specs.Option.{is_some, option_cmp};
 ghost use Rattle.std.specs.Ordering.{is_le, is_lt};
-ghost use Rattle.grouped_rows.specs.Groups.{HasRows, StartsAt, Rises, Searchable, is_keyed, rows_of, searched};
+ghost use Rattle.grouped_rows.specs.Groups.{EndsAt, HasRows, StartsAt, Rises, Searchable, is_keyed, rows_of, searched};
 
 use std::alloc::{AllocError, Global};
 
@@ -121,14 +121,33 @@ fn start_of<G: Grouping>(rows: &[G::Row], key: G::Key) -> usize
     rows.partition_point(|row| is_before::<G>(row, key))
 }
 
+// How many rows come before a key or have it, where the keys rise: looked for among so many of the first rows, and where all of
+// these do among twice as many.
+fn end_of<G: Grouping>(rows: &[G::Row], key: G::Key, most: usize) -> usize
+    requires rises { Rises G.Key.cmp G.key_of rows.now }
+    requires some { 1 ≤ most }
+    ensures bound { result ≤ length rows.now }
+    ensures end { EndsAt G.Key.cmp G.key_of rows.now key result }
+{
+    if most >= rows.len() {
+        return rows.partition_point(|row| is_upto::<G>(row, key));
+    }
+    if is_upto::<G>(&rows[most], key) {
+        let more = most.min(rows.len() - most);
+        return end_of::<G>(rows, key, most + more);
+    }
+    rows[..most].partition_point(|row| is_upto::<G>(row, key))
+}
+
 // The rows of a key, where the keys rise.
 fn run_of<G: Grouping>(rows: &[G::Row], key: G::Key) -> &[G::Row]
     requires { Rises G.Key.cmp G.key_of rows.now }
     ensures { result.now ≡ rows_of G.Key.cmp G.key_of rows.now key }
 {
     let start = start_of::<G>(rows, key);
-    let end = rows.partition_point(|row| is_upto::<G>(row, key));
-    &rows[start..end]
+    let rest = &rows[start..];
+    let count = end_of::<G>(rest, key, 1);
+    &rest[..count]
 }
 
 // Whether a row has the key.

@@ -11,7 +11,6 @@ ghost use Rattle.plant_check.specs.Broken.{are_same_edges, are_kept_edges};
 use plant_base::{EdgeRow, Movement};
 use plant_view::edge_row;
 use std::alloc::{AllocError, Global};
-use std::collections::BTreeSet;
 
 /// Whether these are the edges that the movements make, in a schema that keeps them, and none in another. The only error
 /// is that memory was refused.
@@ -46,9 +45,9 @@ pub fn edges_in(
 fn edge_rows(alloc: Global, movements: &[Movement]) -> Result<Vec<EdgeRow>, AllocError>
     ensures { IfOk result (λ rows. rows.items ≡ edge_rows movements.now) }
 {
-    let edges = edges_of(alloc, movements)?;
-    let set = edge_set(alloc, edges.as_slice())?;
-    set.iter().copied().collect(alloc)
+    let mut edges = edges_of(alloc, movements)?;
+    put_in_order(&mut edges);
+    Ok(edges)
 }
 
 fn edges_of(alloc: Global, movements: &[Movement]) -> Result<Vec<EdgeRow>, AllocError>
@@ -57,13 +56,10 @@ fn edges_of(alloc: Global, movements: &[Movement]) -> Result<Vec<EdgeRow>, Alloc
     movements.iter().filter_map(|m| edge_row(m)).collect(alloc)
 }
 
-// The edges in their order, each once.
-fn edge_set(alloc: Global, edges: &[EdgeRow]) -> Result<BTreeSet<EdgeRow>, AllocError>
-    ensures { IfOk result (λ set. set.keys ≡ put_all edge_order edges.now []) }
+// Puts the edges in their order, each once.
+fn put_in_order(edges: &mut Vec<EdgeRow>)
+    ensures { edges.new.items ≡ put_all edge_order edges.old.items [] }
 {
-    let mut set = BTreeSet::new(alloc);
-    for edge in edges {
-        set.insert(*edge)?;
-    }
-    Ok(set)
+    edges.sort_unstable();
+    edges.dedup();
 }

@@ -30,8 +30,9 @@ use Rattle.std.specs.Bool.{⊤}
 use Rattle.std.proofs.lemmas.Bool.Decides.{nat_tests}
 use Rattle.sqlite_tied.specs.Compute.{everything}
 use Rattle.sql_tables.specs.Moves.{AreApart, AreCreateStatements}
+use Rattle.plant_tables.specs.PutStatements.{OnlyAdds}
 use Rattle.plant_tables.specs.DeskIndexes.{second_indexes, fourth_indexes, indexes_of, desk_indexes}
-use Rattle.plant_tables.specs.declared.table_defs.TheConstants.{CREATE_META, PUT_META, CREATE_CLASS, PUT_CLASS, CREATE_DEFINITION, PUT_DEFINITION, CREATE_RECIPE, PUT_RECIPE, CREATE_RECIPE_LINE, PUT_RECIPE_LINE, CREATE_JOB, PUT_JOB, CREATE_BATCH, PUT_BATCH, CREATE_CONTROL_LINE, PUT_CONTROL_LINE, CREATE_BATCH_EVENT, PUT_BATCH_EVENT, CREATE_LOT, PUT_LOT, CREATE_SUBLOT, PUT_SUBLOT, CREATE_MOVEMENT, PUT_MOVEMENT, CREATE_HOLD, PUT_HOLD, CREATE_EDGE, PUT_EDGE, CREATE_RECEIPT, PUT_RECEIPT, CREATE_RECALL, PUT_RECALL, CREATE_MARK, PUT_MARK, DELETE_HOLD, DELETE_MARKS, CREATE_BATCH_EVENT_BY_BATCH, CREATE_MOVEMENT_BY_LOT, CREATE_MOVEMENT_BY_BATCH, CREATE_EDGE_BY_END, CREATE_MARK_BY_NODE, CREATE_DEFINITION_BY_CLASS, CREATE_JOB_BY_STATE, CREATE_BATCH_BY_CLOSED, CREATE_LOT_BY_DEF, CREATE_RECALL_BY_STATE, CREATE_RECIPE_BY_STATE, CREATE_MOVEMENT_BY_LOT2, CREATE_JOB_BY_DUE, CREATE_RECEIPT_BY_SEQ}
+use Rattle.plant_tables.specs.declared.table_defs.TheConstants.{CREATE_META, PUT_META, CREATE_CLASS, PUT_CLASS, CREATE_DEFINITION, PUT_DEFINITION, CREATE_RECIPE, PUT_RECIPE, CREATE_RECIPE_LINE, PUT_RECIPE_LINE, CREATE_JOB, PUT_JOB, CREATE_BATCH, PUT_BATCH, CREATE_CONTROL_LINE, PUT_CONTROL_LINE, CREATE_BATCH_EVENT, PUT_BATCH_EVENT, CREATE_LOT, PUT_LOT, CREATE_SUBLOT, ADD_SUBLOT, PUT_SUBLOT, CREATE_MOVEMENT, PUT_MOVEMENT, CREATE_HOLD, PUT_HOLD, CREATE_EDGE, PUT_EDGE, CREATE_RECEIPT, PUT_RECEIPT, CREATE_RECALL, PUT_RECALL, CREATE_MARK, PUT_MARK, DELETE_HOLD, DELETE_MARKS, CREATE_BATCH_EVENT_BY_BATCH, CREATE_MOVEMENT_BY_LOT, CREATE_MOVEMENT_BY_BATCH, CREATE_EDGE_BY_END, CREATE_MARK_BY_NODE, CREATE_DEFINITION_BY_CLASS, CREATE_JOB_BY_STATE, CREATE_BATCH_BY_CLOSED, CREATE_LOT_BY_DEF, CREATE_RECALL_BY_STATE, CREATE_RECIPE_BY_STATE, CREATE_MOVEMENT_BY_LOT2, CREATE_JOB_BY_DUE, CREATE_RECEIPT_BY_SEQ}
 
 -- ---- what is computed of a text, and what it comes to
 
@@ -150,6 +151,22 @@ prefix_made n = each_makes (take n create_texts) (take n desk_table_defs) (prefi
 
 -- ---- those that put a row, or take rows away
 
+pub upserts_meta : IsUpsertStatement PUT_META.now meta_table
+unfolding everything
+upserts_meta = upserts PUT_META.now meta_table (1 ∷ []) refl (λ schema tree. refl) refl (λ tree. refl)
+
+pub upserts_recipe : IsUpsertStatement PUT_RECIPE.now recipe_table
+unfolding everything
+upserts_recipe = upserts PUT_RECIPE.now recipe_table (1 ∷ 2 ∷ []) refl (λ schema tree. refl) refl (λ tree. refl)
+
+pub upserts_job : IsUpsertStatement PUT_JOB.now job_table
+unfolding everything
+upserts_job = upserts PUT_JOB.now job_table (1 ∷ []) refl (λ schema tree. refl) refl (λ tree. refl)
+
+pub upserts_batch : IsUpsertStatement PUT_BATCH.now batch_table
+unfolding everything
+upserts_batch = upserts PUT_BATCH.now batch_table (1 ∷ []) refl (λ schema tree. refl) refl (λ tree. refl)
+
 pub upserts_sublot : IsUpsertStatement PUT_SUBLOT.now sublot_table
 unfolding everything
 upserts_sublot = upserts PUT_SUBLOT.now sublot_table (1 ∷ 2 ∷ []) refl (λ schema tree. refl) refl (λ tree. refl)
@@ -157,6 +174,54 @@ upserts_sublot = upserts PUT_SUBLOT.now sublot_table (1 ∷ 2 ∷ []) refl (λ s
 pub upserts_edge : IsUpsertStatement PUT_EDGE.now edge_table
 unfolding everything
 upserts_edge = upserts PUT_EDGE.now edge_table (1 ∷ 2 ∷ 3 ∷ []) refl (λ schema tree. refl) refl (λ tree. refl)
+
+pub upserts_recall : IsUpsertStatement PUT_RECALL.now recall_table
+unfolding everything
+upserts_recall = upserts PUT_RECALL.now recall_table (1 ∷ []) refl (λ schema tree. refl) refl (λ tree. refl)
+
+pub inserts_class : OnlyAdds PUT_CLASS.now class_table
+unfolding everything
+inserts_class = inserts PUT_CLASS.now class_table [] refl (λ schema tree. refl)
+
+pub inserts_definition : OnlyAdds PUT_DEFINITION.now definition_table
+unfolding everything
+inserts_definition = inserts PUT_DEFINITION.now definition_table [] refl (λ schema tree. refl)
+
+pub inserts_recipe_line : OnlyAdds PUT_RECIPE_LINE.now recipe_line_table
+unfolding everything
+inserts_recipe_line = inserts PUT_RECIPE_LINE.now recipe_line_table [] refl (λ schema tree. refl)
+
+pub inserts_control_line : OnlyAdds PUT_CONTROL_LINE.now control_line_table
+unfolding everything
+inserts_control_line = inserts PUT_CONTROL_LINE.now control_line_table [] refl (λ schema tree. refl)
+
+pub inserts_batch_event : OnlyAdds PUT_BATCH_EVENT.now batch_event_table
+unfolding everything
+inserts_batch_event = inserts PUT_BATCH_EVENT.now batch_event_table [] refl (λ schema tree. refl)
+
+pub inserts_lot : OnlyAdds PUT_LOT.now lot_table
+unfolding everything
+inserts_lot = inserts PUT_LOT.now lot_table [] refl (λ schema tree. refl)
+
+pub inserts_sublot : OnlyAdds ADD_SUBLOT.now sublot_table
+unfolding everything
+inserts_sublot = inserts ADD_SUBLOT.now sublot_table [] refl (λ schema tree. refl)
+
+pub inserts_movement : OnlyAdds PUT_MOVEMENT.now movement_table
+unfolding everything
+inserts_movement = inserts PUT_MOVEMENT.now movement_table [] refl (λ schema tree. refl)
+
+pub inserts_hold : OnlyAdds PUT_HOLD.now hold_table
+unfolding everything
+inserts_hold = inserts PUT_HOLD.now hold_table [] refl (λ schema tree. refl)
+
+pub inserts_receipt : OnlyAdds PUT_RECEIPT.now receipt_table
+unfolding everything
+inserts_receipt = inserts PUT_RECEIPT.now receipt_table [] refl (λ schema tree. refl)
+
+pub inserts_mark : OnlyAdds PUT_MARK.now mark_table
+unfolding everything
+inserts_mark = inserts PUT_MARK.now mark_table [] refl (λ schema tree. refl)
 
 abbrev put_texts : List (List ℕ)
 put_texts =
@@ -185,26 +250,30 @@ infixr 5 ◌⋆◌
 a ⋆ b = (a, b)
 
 texts_put : AllTexts IsPutStatement put_texts desk_table_defs
-unfolding everything
 texts_put =
-    inr (upserts PUT_META.now meta_table (1 ∷ []) refl (λ schema tree. refl) refl (λ tree. refl))
-    ⋆ inr (upserts PUT_CLASS.now class_table (1 ∷ []) refl (λ schema tree. refl) refl (λ tree. refl))
-    ⋆ inr (upserts PUT_DEFINITION.now definition_table (1 ∷ []) refl (λ schema tree. refl) refl (λ tree. refl))
-    ⋆ inr (upserts PUT_RECIPE.now recipe_table (1 ∷ 2 ∷ []) refl (λ schema tree. refl) refl (λ tree. refl))
-    ⋆ inr (upserts PUT_RECIPE_LINE.now recipe_line_table (1 ∷ 2 ∷ 3 ∷ []) refl (λ schema tree. refl) refl (λ tree. refl))
-    ⋆ inr (upserts PUT_JOB.now job_table (1 ∷ []) refl (λ schema tree. refl) refl (λ tree. refl))
-    ⋆ inr (upserts PUT_BATCH.now batch_table (1 ∷ []) refl (λ schema tree. refl) refl (λ tree. refl))
-    ⋆ inr (upserts PUT_CONTROL_LINE.now control_line_table (1 ∷ 2 ∷ []) refl (λ schema tree. refl) refl (λ tree. refl))
-    ⋆ inl (inserts PUT_BATCH_EVENT.now batch_event_table [] refl (λ schema tree. refl))
-    ⋆ inr (upserts PUT_LOT.now lot_table (1 ∷ []) refl (λ schema tree. refl) refl (λ tree. refl))
+    inr upserts_meta
+    ⋆ inl inserts_class
+    ⋆ inl inserts_definition
+    ⋆ inr upserts_recipe
+    ⋆ inl inserts_recipe_line
+    ⋆ inr upserts_job
+    ⋆ inr upserts_batch
+    ⋆ inl inserts_control_line
+    ⋆ inl inserts_batch_event
+    ⋆ inl inserts_lot
     ⋆ inr upserts_sublot
-    ⋆ inl (inserts PUT_MOVEMENT.now movement_table [] refl (λ schema tree. refl))
-    ⋆ inr (upserts PUT_HOLD.now hold_table (1 ∷ 2 ∷ []) refl (λ schema tree. refl) refl (λ tree. refl))
+    ⋆ inl inserts_movement
+    ⋆ inl inserts_hold
     ⋆ inr upserts_edge
-    ⋆ inr (upserts PUT_RECEIPT.now receipt_table (1 ∷ []) refl (λ schema tree. refl) refl (λ tree. refl))
-    ⋆ inr (upserts PUT_RECALL.now recall_table (1 ∷ []) refl (λ schema tree. refl) refl (λ tree. refl))
-    ⋆ inr (upserts PUT_MARK.now mark_table (1 ∷ 2 ∷ 3 ∷ []) refl (λ schema tree. refl) refl (λ tree. refl))
+    ⋆ inl inserts_receipt
+    ⋆ inr upserts_recall
+    ⋆ inl inserts_mark
     ⋆ tt
+
+-- a text that only adds, or else puts, puts a row
+pub puts_either : {text : List ℕ} {table_def : TableDef} (e : Bool) → (e ≡ true → OnlyAdds text table_def) → (e ≡ false → IsUpsertStatement text table_def) → IsPutStatement text table_def
+puts_either true added updated = inl (added refl)
+puts_either false added updated = inr (updated refl)
 
 at_place : {X : Type 0} (so : List ℕ → X → Type 0) (texts : List (List ℕ)) (xs : List X) → AllTexts so texts xs → (place : ℕ) (text : List ℕ) (x : X) → slice_get texts place ≡ Some text → slice_get xs place ≡ Some x → so text x
 at_place so [] xs all place text x is here = absurd cc

@@ -1,5 +1,6 @@
-//! How each table is declared, and the fixed texts that make it and put a row into it. Such a text adds the
-//! row, or updates each column of the one with its key; those of events of batches and of bookings only add.
+//! How each table is declared, and the fixed texts that make it and put a row into it. Where rows of a table change, such
+//! a text adds the row or updates each column of the one with its key; where they never do it only adds, and the
+//! store refuses a row whose key is taken.
 //! Tables that are looked up by other columns than those of their keys have indexes for it, which bar no row.
 ghost use Rattle.std.specs.Prelude.{◌≡◌, ◌≤◌, take, drop};
 ghost use Rattle.plant_tables.specs.DeskTableDefs.{desk_table_defs, table_defs_of, later_table_defs};
@@ -36,8 +37,7 @@ pub const CLASS: TableDef<'static> = TableDef {
 pub(crate) const CREATE_CLASS: &str =
     "CREATE TABLE class (id TEXT NOT NULL, name TEXT NOT NULL, UNIQUE (id)) STRICT";
 
-pub(crate) const PUT_CLASS: &str =
-    "INSERT INTO class (id, name) VALUES (?1, ?2) ON CONFLICT (id) DO UPDATE SET id = excluded.id, name = excluded.name";
+pub(crate) const PUT_CLASS: &str = "INSERT INTO class (id, name) VALUES (?1, ?2)";
 
 /// Material definitions.
 pub const DEFINITION: TableDef<'static> = TableDef {
@@ -54,7 +54,7 @@ pub(crate) const CREATE_DEFINITION_BY_CLASS: &str =
     "CREATE INDEX definition_by_class ON definition (class, id)";
 
 pub(crate) const PUT_DEFINITION: &str =
-    "INSERT INTO definition (id, class, name, unit) VALUES (?1, ?2, ?3, ?4) ON CONFLICT (id) DO UPDATE SET id = excluded.id, class = excluded.class, name = excluded.name, unit = excluded.unit";
+    "INSERT INTO definition (id, class, name, unit) VALUES (?1, ?2, ?3, ?4)";
 
 /// Versions of master recipes, without their lines.
 pub const RECIPE: TableDef<'static> = TableDef {
@@ -103,7 +103,7 @@ pub(crate) const CREATE_RECIPE_LINE: &str =
     "CREATE TABLE recipe_line (recipe TEXT NOT NULL, version INTEGER NOT NULL, no INTEGER NOT NULL, kind INTEGER NOT NULL, def TEXT, qty INTEGER NOT NULL, t1 TEXT NOT NULL, t2 TEXT NOT NULL, t3 TEXT NOT NULL, UNIQUE (recipe, version, no)) STRICT";
 
 pub(crate) const PUT_RECIPE_LINE: &str =
-    "INSERT INTO recipe_line (recipe, version, no, kind, def, qty, t1, t2, t3) VALUES (?1, ?2, ?3, ?4, ?5, ?6, ?7, ?8, ?9) ON CONFLICT (recipe, version, no) DO UPDATE SET recipe = excluded.recipe, version = excluded.version, no = excluded.no, kind = excluded.kind, def = excluded.def, qty = excluded.qty, t1 = excluded.t1, t2 = excluded.t2, t3 = excluded.t3";
+    "INSERT INTO recipe_line (recipe, version, no, kind, def, qty, t1, t2, t3) VALUES (?1, ?2, ?3, ?4, ?5, ?6, ?7, ?8, ?9)";
 
 /// Orders.
 pub const JOB: TableDef<'static> = TableDef {
@@ -179,7 +179,7 @@ pub(crate) const CREATE_CONTROL_LINE: &str =
     "CREATE TABLE control_line (batch TEXT NOT NULL, no INTEGER NOT NULL, kind INTEGER NOT NULL, def TEXT, qty INTEGER NOT NULL, t1 TEXT NOT NULL, t2 TEXT NOT NULL, t3 TEXT NOT NULL, UNIQUE (batch, no)) STRICT";
 
 pub(crate) const PUT_CONTROL_LINE: &str =
-    "INSERT INTO control_line (batch, no, kind, def, qty, t1, t2, t3) VALUES (?1, ?2, ?3, ?4, ?5, ?6, ?7, ?8) ON CONFLICT (batch, no) DO UPDATE SET batch = excluded.batch, no = excluded.no, kind = excluded.kind, def = excluded.def, qty = excluded.qty, t1 = excluded.t1, t2 = excluded.t2, t3 = excluded.t3";
+    "INSERT INTO control_line (batch, no, kind, def, qty, t1, t2, t3) VALUES (?1, ?2, ?3, ?4, ?5, ?6, ?7, ?8)";
 
 /// What happened to batches.
 pub const BATCH_EVENT: TableDef<'static> = TableDef {
@@ -219,8 +219,7 @@ pub(crate) const CREATE_LOT: &str =
 /// The index that finds the lots of a definition, by their ids.
 pub(crate) const CREATE_LOT_BY_DEF: &str = "CREATE INDEX lot_by_def ON lot (def, id)";
 
-pub(crate) const PUT_LOT: &str =
-    "INSERT INTO lot (id, def) VALUES (?1, ?2) ON CONFLICT (id) DO UPDATE SET id = excluded.id, def = excluded.def";
+pub(crate) const PUT_LOT: &str = "INSERT INTO lot (id, def) VALUES (?1, ?2)";
 
 /// Material sublots, with their stock.
 pub const SUBLOT: TableDef<'static> = TableDef {
@@ -236,6 +235,10 @@ pub const SUBLOT: TableDef<'static> = TableDef {
 
 pub(crate) const CREATE_SUBLOT: &str =
     "CREATE TABLE sublot (lot TEXT NOT NULL, no INTEGER NOT NULL, place TEXT NOT NULL, stock INTEGER NOT NULL, UNIQUE (lot, no)) STRICT";
+
+/// Adds a sublot of a lot that is added with it.
+pub(crate) const ADD_SUBLOT: &str =
+    "INSERT INTO sublot (lot, no, place, stock) VALUES (?1, ?2, ?3, ?4)";
 
 pub(crate) const PUT_SUBLOT: &str =
     "INSERT INTO sublot (lot, no, place, stock) VALUES (?1, ?2, ?3, ?4) ON CONFLICT (lot, no) DO UPDATE SET lot = excluded.lot, no = excluded.no, place = excluded.place, stock = excluded.stock";
@@ -295,7 +298,7 @@ pub(crate) const CREATE_HOLD: &str =
     "CREATE TABLE hold (lot TEXT NOT NULL, id TEXT NOT NULL, at INTEGER NOT NULL, by_who TEXT NOT NULL, note TEXT NOT NULL, UNIQUE (lot, id)) STRICT";
 
 pub(crate) const PUT_HOLD: &str =
-    "INSERT INTO hold (lot, id, at, by_who, note) VALUES (?1, ?2, ?3, ?4, ?5) ON CONFLICT (lot, id) DO UPDATE SET lot = excluded.lot, id = excluded.id, at = excluded.at, by_who = excluded.by_who, note = excluded.note";
+    "INSERT INTO hold (lot, id, at, by_who, note) VALUES (?1, ?2, ?3, ?4, ?5)";
 
 pub(crate) const DELETE_HOLD: &str = "DELETE FROM hold WHERE lot = ?1 AND id = ?2";
 
@@ -328,8 +331,7 @@ pub(crate) const CREATE_RECEIPT: &str =
 /// The index that finds the receipts of commands, by their numbers.
 pub(crate) const CREATE_RECEIPT_BY_SEQ: &str = "CREATE INDEX receipt_by_seq ON receipt (seq)";
 
-pub(crate) const PUT_RECEIPT: &str =
-    "INSERT INTO receipt (id, seq, content) VALUES (?1, ?2, ?3) ON CONFLICT (id) DO UPDATE SET id = excluded.id, seq = excluded.seq, content = excluded.content";
+pub(crate) const PUT_RECEIPT: &str = "INSERT INTO receipt (id, seq, content) VALUES (?1, ?2, ?3)";
 
 /// The recalls of lots.
 pub const RECALL: TableDef<'static> = TableDef {
@@ -371,8 +373,7 @@ pub(crate) const CREATE_MARK: &str =
 /// The index that finds the marks on a lot or batch.
 pub(crate) const CREATE_MARK_BY_NODE: &str = "CREATE INDEX mark_by_node ON mark (kind, id)";
 
-pub(crate) const PUT_MARK: &str =
-    "INSERT INTO mark (recall, kind, id) VALUES (?1, ?2, ?3) ON CONFLICT (recall, kind, id) DO UPDATE SET recall = excluded.recall, kind = excluded.kind, id = excluded.id";
+pub(crate) const PUT_MARK: &str = "INSERT INTO mark (recall, kind, id) VALUES (?1, ?2, ?3)";
 
 /// Takes all marks of a recall away.
 pub(crate) const DELETE_MARKS: &str = "DELETE FROM mark WHERE recall = ?1";

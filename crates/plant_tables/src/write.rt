@@ -1,17 +1,21 @@
-ghost use Rattle.std.specs.Prelude.{◌≡◌, ◌≤◌, ℕ, map, IfOk, OnOk, IsOkUnless};
+ghost use Rattle.std.specs.Prelude.{◌≡◌, ◌≤◌, ℕ, true, false, map, IfOk, OnOk, IsOkUnless};
+ghost use Rattle.std.specs.List.{list_any};
 ghost use Rattle.sqlite.specs.Effect.{IsDatabase};
 ghost use Rattle.sqlite.specs.State.{HasCleanDisk, Survives, KeepsCommit};
 ghost use Rattle.sqlite.specs.Held.{state};
 ghost use Rattle.sql_tables.specs.Moves.{Moves, Founds};
 ghost use Rattle.sql_tables.specs.Indexes.{AddsIndexes};
 ghost use Rattle.sql_tables.specs.StoredRows.{AreFree};
-ghost use Rattle.plant_tables.specs.DeskTableDefs.{table_defs_of};
+ghost use Rattle.sql_tables.specs.Texts.{IsUpsertStatement};
+ghost use Rattle.plant_tables.specs.DeskTableDefs.{table_defs_of, sublot_table};
 ghost use Rattle.plant_tables.specs.DeskIndexes.{indexes_of, HasIndexes};
 ghost use Rattle.plant_tables.specs.DeskTables.{rows_changed, all_rows_changed};
 ghost use Rattle.plant_tables.specs.Keyed.{MovesTablesOf, IsOfSchema, AreOfSchema};
+ghost use Rattle.plant_tables.specs.PutStatements.{OnlyAdds, adds_lot};
 ghost use Rattle.plant_base.specs.State.{newest_schema};
 
 use crate::table_defs;
+use plant_base::Sublot;
 use plant_tables_columns::storing::{id, large};
 use plant_tables_columns::{
     batch_values, class_values, control_line_values, definition_values, edge_values, event_values,
@@ -85,6 +89,64 @@ pub fn write_change<S: Alter>(tx: &mut Transaction<'_, S>, change: &RowChange) -
     }
 }
 
+/// Whether the change adds the lot of this sublot.
+fn adds_lot(change: &RowChange, row: &Sublot) -> bool
+    ensures { result ≡ adds_lot row.now.lot change.now }
+{
+    let _: Option<RowParts> = None;
+    match change {
+        RowChange::Lot(lot) => lot.id == row.lot,
+        _ => false,
+    }
+}
+
+/// Whether some change adds the lot of this sublot.
+fn add_lot_of(changes: &[RowChange], row: &Sublot) -> bool
+    ensures { result ≡ list_any (adds_lot row.now.lot) changes.now }
+{
+    changes.iter().any(|change| adds_lot(change, row))
+}
+
+/// The text that puts a sublot among changes: one that only adds where they add its lot, since a new lot has no sublots.
+fn sublot_text(row: &Sublot, changes: &[RowChange]) -> &'static str
+    ensures added { list_any (adds_lot row.now.lot) changes.now ≡ true
+        → OnlyAdds result.now sublot_table }
+    ensures updated { list_any (adds_lot row.now.lot) changes.now ≡ false
+        → IsUpsertStatement result.now sublot_table }
+{
+    if add_lot_of(changes, row) {
+        table_defs::ADD_SUBLOT
+    } else {
+        table_defs::PUT_SUBLOT
+    }
+}
+
+/// Makes one of some changes inside the transaction, as [`write_change`] does.
+fn write_among<S: Alter>(
+    tx: &mut Transaction<'_, S>,
+    change: &RowChange,
+    changes: &[RowChange],
+) -> Result<(), Fault>
+    ensures fault { IsOkUnless result Fault.Store }
+    ensures same_reference { tx.new.conn.ghost_name ≡ tx.old.conn.ghost_name }
+    ensures moved { HasCleanDisk (state S.Store tx.new.conn.now)
+        → (schema : ℕ) → IsOfSchema schema change.now
+        → OnOk result (Moves (table_defs_of schema) (state S.Store tx.old.conn.now)
+        (state S.Store tx.new.conn.now) (rows_changed change.now)) }
+    ensures kept { HasCleanDisk (state S.Store tx.new.conn.now)
+        → KeepsCommit (state S.Store tx.old.conn.now) (state S.Store tx.new.conn.now) }
+    ensures survives { Survives (state S.Store tx.old.conn.now) (state S.Store tx.new.conn.now) (λ _. ⊥) }
+{
+    let _: Option<RowParts> = None;
+    match change {
+        RowChange::Sublot(row) => {
+            let stock = large(row.stock)?;
+            put_row(tx, sublot_text(row, changes), &sublot_values(row, stock))
+        }
+        _ => write_change(tx, change),
+    }
+}
+
 /// Makes the changes in turn inside the transaction, up to the first that the store refuses. The fault is that of
 /// [`write_change`].
 pub fn write_changes<S: Alter>(
@@ -106,7 +168,7 @@ pub fn write_changes<S: Alter>(
     ensures survives { Survives (state S.Store tx.old.conn.now) (state S.Store tx.new.conn.now) (λ _. ⊥) }
 {
     for change in changes {
-        write_change(tx, change)?;
+        write_among(tx, change, changes)?;
     }
     Ok(())
 }

@@ -17,17 +17,17 @@ pub loop-change-preserved : goal.loop-change-preserved
 loop-change-preserved g c =
     let first = state g.S.Store c.args.tx.now.conn.now in
     let mid = state g.S.Store c.loop-change.tx.conn.now in
-    let last = state g.S.Store c.write_change.new.tx.conn.now in
+    let last = state g.S.Store c.write_among.new.tx.conn.now in
     let prefix = take c.loop-change.change-index c.args.changes.now in
     record {
-      same = c.write_change.ensures.same_reference ∙ c.loop-change.invariant.same;
-      wrote = survives_on first mid last c.loop-change.invariant.wrote c.write_change.ensures.survives;
-      kept = λ clean. kept_then first mid last (c.loop-change.invariant.kept (omega (arith, c.write_change.ensures.survives.clean))) (c.write_change.ensures.kept clean);
+      same = c.write_among.ensures.same_reference ∙ c.loop-change.invariant.same;
+      wrote = survives_on first mid last c.loop-change.invariant.wrote c.write_among.ensures.survives;
+      kept = λ clean. kept_then first mid last (c.loop-change.invariant.kept (omega (arith, c.write_among.ensures.survives.clean))) (c.write_among.ensures.kept clean);
       moved = λ clean schema of.
-          let was : HasCleanDisk mid = omega (arith, c.write_change.ensures.survives.clean) in
+          let was : HasCleanDisk mid = omega (arith, c.write_among.ensures.survives.clean) in
           let more : take (c.loop-change.change-index + 1) c.args.changes.now ≡ prefix ++ c.change-item.result ∷ [] = search (rules, take_more) in
           let item : IsOfSchema schema c.change-item.result = search (rules, All-from_recursion (IsOfSchema schema) c.args.changes.now of) in
-          let both = moves_then (table_defs_of schema) first mid last (all_rows_changed prefix) (rows_changed c.change-item.result) (c.loop-change.invariant.moved was schema of) (c.in_ok-write_change.ensures.moved clean schema item) in
+          let both = moves_then (table_defs_of schema) first mid last (all_rows_changed prefix) (rows_changed c.change-item.result) (c.loop-change.invariant.moved was schema of) (c.in_ok-write_among.ensures.moved clean schema item) in
           moves_as (table_defs_of schema) first last _ _ (λ (t : Contents). one_more_change prefix c.change-item.result t ∙ ap (λ cs. all_rows_changed cs t) (sym more)) both;
     }
 

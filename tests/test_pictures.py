@@ -24,8 +24,15 @@ MANY = 100_000
 BOTH = ("--dot", "--svg")
 
 # Where boxes stand, in pixels: the first corner, from layer to layer, from slot to slot, and the size of a box.
-CORNER, LAYER, SLOT = 20, 300, 80
+CORNER, TOP, LAYER, SLOT = 20, 60, 440, 80
 WIDE, HIGH = 180, 56
+
+# The gap in front of a layer, in which amounts stand, how far apart their lines are, and from how many nodes on they are left out.
+GAP, ROW, MANY_NODES = LAYER - WIDE, 16, 81
+NOTE = "Amounts are left out in a picture of more than 80 lots and batches."
+
+# How wide the longest amount is in a wide font: 20 digits, a space and a unit of 8 letters.
+LONGEST = 20 * 7.7 + 4 + 8 * 12
 
 
 # ---- answers
@@ -163,24 +170,31 @@ class PictureTestCase(ProgramTestCase):
         """Runs the program on a text."""
         return self.program.run(*words, told=told.encode() if isinstance(told, str) else told)
 
-    def check_drawn(self, case, *texts):
-        """Draws the answers in both formats and looks at both; returns the text in SVG."""
+    def check_drawn(self, case, *texts, asked=None):
+        """Draws the answers in both formats, in SVG with a node that is asked for, and looks at both; returns the text in SVG."""
         picture, told = Picture(*texts), "".join(texts)
-        self.check(f"{case}, in DOT", self.run_on(told, "--dot"), (0, picture.dot().encode(), b""))
-        ran = self.run_on(told)
+        words = [f"--{asked.split()[0]}", asked.split()[1]] if asked else []
+        self.check(f"{case}, in DOT", self.run_on(told, "--dot", *words), (0, picture.dot().encode(), b""))
+        ran = self.run_on(told, *words)
         if self.check(f"{case}, in SVG", (ran.status, ran.errors), (0, b"")):
-            self.check_svg(case, picture, ran.output)
+            self.check_svg(case, picture, ran.output, asked)
         return ran.output
 
-    def check_svg(self, case, picture, text):
+    def check_svg(self, case, picture, text, asked):
         """Looks at a text in SVG."""
         tree = xml.etree.ElementTree.fromstring(text)
+        heading = f"genealogy of {asked}" if asked else "genealogy"
+        wanted = [heading, NOTE] if len(picture.nodes) >= MANY_NODES and picture.edges else [heading]
+        self.check(f"{case}, the heading", [it.text for it in tree.findall(f"{SVG}text")], wanted)
+        self.check(f"{case}, the title", tree.find(f"{SVG}title").text, heading)
         self.check(f"{case}, a number that isn't whole", re.findall(rb'="-?\d+\.\d+"', text), [])
         drawn = {it.split(",")[0]: (it, *place) for it, place in places_of(tree).items()}
         if self.check(f"{case}, the nodes", sorted(drawn), sorted(picture.nodes)):
             self.check_boxes(case, picture, tree, {it: found[1] for it, found in drawn.items()})
             for node, (title, _, texts) in drawn.items():
                 self.check_box(f"{case}, {node}", picture.nodes[node], title, texts)
+            marked = [it for it, (_, box, _) in drawn.items() if box.get("stroke-width") == "4"]
+            self.check(f"{case}, what is marked", marked, [asked] if asked else [])
 
     def check_boxes(self, case, picture, tree, boxes):
         """Each node stands in its layer, in a place of its own, and each edge leads from box to box with its amount."""
@@ -188,7 +202,7 @@ class PictureTestCase(ProgramTestCase):
         self.check(f"{case}, the layers", {it: (int(box["x"]) - CORNER) / LAYER for it, box in boxes.items()}, layers)
         corners = [(box["x"], box["y"]) for box in boxes.values()]
         self.check(f"{case}, two nodes in one place", len(set(corners)), len(corners))
-        places = sorted((layers[it], (int(box["y"]) - CORNER) // SLOT) for it, box in boxes.items())
+        places = sorted((layers[it], (int(box["y"]) - TOP) // SLOT) for it, box in boxes.items())
         self.check(f"{case}, a gap in a layer", places, slots(layers))
         self.check_lines(case, picture, tree, boxes)
         wide, high = (int(tree.attrib[it]) for it in ("width", "height"))
@@ -196,14 +210,30 @@ class PictureTestCase(ProgramTestCase):
         self.check_true(f"{case}, all boxes are inside", inside)
 
     def check_lines(self, case, picture, tree, boxes):
-        """Each edge is a line from the right side of its first box to the left side of its last, and none leads to the left."""
-        lines = [tuple(int(it.attrib[side]) for side in ("x1", "y1", "x2", "y2")) for it in tree.iter(f"{SVG}line")]
+        """Each edge is an arrow from the right side of its first box to the left side of its last, and none leads to the left."""
+        ways = [[int(it) for it in re.findall(r"\d+", path.attrib["d"])] for path in tree.iter(f"{SVG}path")][1:]
         ends = [(boxes[first], boxes[last]) for first, last in picture.edges]
-        wanted = [(int(a["x"]) + WIDE, int(a["y"]) + HIGH // 2, int(b["x"]), int(b["y"]) + HIGH // 2) for a, b in ends]
-        self.check(f"{case}, the lines", lines, wanted)
-        self.check(f"{case}, a line that leads to the left", [it for it in lines if it[0] >= it[2]], [])
-        labels = [it.text for group in tree.findall(f"{SVG}g") if not group.findall(f"{SVG}title") for it in group.findall(f"{SVG}text")]
-        self.check(f"{case}, the amounts", labels, [picture.label(it) for it in picture.edges])
+        wanted = [[int(a["x"]) + WIDE, int(a["y"]) + HIGH // 2, int(b["x"]), int(b["y"]) + HIGH // 2] for a, b in ends]
+        self.check(f"{case}, the ends of the arrows", [way[:2] + way[-2:] for way in ways], wanted)
+        self.check(f"{case}, an arrow that leads to the left", [it for it in ways if it[0] >= it[-2]], [])
+        arrows = [it.attrib.get("marker-end") for it in tree.findall(f"{SVG}g") if it.findall(f"{SVG}path")]
+        self.check(f"{case}, the heads of the arrows", arrows, ["url(#arrow)"] if ways else [])
+        self.check_amounts(case, picture, tree, ways)
+
+    def check_amounts(self, case, picture, tree, ways):
+        """Each amount stands above the level part of its arrow, in a row of its own in the gap in front of a layer; in a large picture there is none."""
+        texts = [it for group in tree.findall(f"{SVG}g") if not group.findall(f"{SVG}title") for it in group.findall(f"{SVG}text")]
+        if len(picture.nodes) >= MANY_NODES:
+            self.check(f"{case}, amounts of a large picture", (texts, {len(way) for way in ways}), ([], {4}))
+            return
+        self.check(f"{case}, the amounts", [it.text for it in texts], [picture.label(it) for it in picture.edges])
+        places = [(int(it.attrib["x"]), int(it.attrib["y"])) for it in texts]
+        levels = [((way[2] + way[4]) // 2, way[3] - 4) for way in ways]
+        self.check(f"{case}, where the amounts stand", places, levels)
+        self.check(f"{case}, where arrows are level", {(way[5] - way[2], way[5] - way[4]) for way in ways} - {(GAP - 30, 30)}, set())
+        self.check(f"{case}, two amounts in one place", len(set(places)), len(places))
+        self.check(f"{case}, amounts between two rows", {(y - places[0][1]) % ROW for _, y in places} - {0}, set())
+        self.check_true(f"{case}, the longest amount fits into the gap", LONGEST < GAP)
 
     def check_box(self, case, node, title, texts):
         """A box tells what its node is."""
@@ -252,6 +282,26 @@ class SmallPictures(PictureTestCase):
         edges = [*map(edge, ways, ways[1:]), edge(ways[0], ways[4]), edge(ways[1], ways[3])]
         self.check_drawn("a short way beside a long one", answer(ways, edges))
 
+    def test_node_that_is_asked_for_is_named_and_marked(self):
+        self.check_drawn("a lot", BACK, FORWARD, asked="lot D-1")
+        self.check_drawn("a batch", BACK, FORWARD, asked="batch B-2")
+        both = self.run_on(BACK, "--batch", "B-1", "--lot", "F-1").output
+        self.check("a lot goes before a batch", both, self.run_on(BACK, "--lot", "F-1").output)
+        for words in (("--lot", "B-1"), ("--batch", "F-1"), ("--lot", "f-1"), ("--lot", "")):
+            why = b"the lot or batch that was asked for isn't there\n"
+            self.check(f"{words}, in SVG", self.run_on(BACK, *words), (1, b"", why))
+            self.check(f"{words}, in DOT", self.run_on(BACK, "--dot", *words), (0, Picture(BACK).dot().encode(), b""))
+
+    def test_many_edges_to_one_node_have_rows_of_their_own(self):
+        lots, others = [lot(f"L-{it:02}") for it in range(70)], [batch("B-1"), batch("B-2"), lot("Z")]
+        edges = [edge(it, others[k % 2], 10**15 - k) for k, it in enumerate(lots)]
+        self.check_drawn("70 lots of two batches", answer([*lots, *others], [*edges, *(edge(it, others[2]) for it in others[:2])]))
+
+    def test_amounts_are_shown_of_80_nodes_and_left_out_of_81(self):
+        for count in (80, 81):
+            lots = [lot(f"L-{it:02}") for it in range(count)]
+            self.check_drawn(f"{count} nodes", answer(lots, [edge(*it) for it in zip(lots, lots[1:])]))
+
     def test_300_nodes_by_chance_are_drawn(self):
         chance = random.Random(300)
         nodes = [lot(f"L-{it:03}", stock=it, held=it % 7 == 0, recalled=it % 11 == 0) if it % 3 else batch(f"B-{it:03}") for it in range(300)]
@@ -272,7 +322,7 @@ class LargePictures(PictureTestCase):
         picture = Picture(text)
         ran = self.run_soon(f"{case}, in SVG", text)
         if not ran.status:
-            lines = sum(1 for _ in xml.etree.ElementTree.fromstring(ran.output).iter(f"{SVG}line"))
+            lines = sum(1 for _ in xml.etree.ElementTree.fromstring(ran.output).iter(f"{SVG}path")) - 1
             self.check(f"{case}, its lines", lines, len(picture.edges))
         ran = self.run_soon(f"{case}, in DOT", text, "--dot")
         self.check_true(f"{case}, its text in DOT", ran.output == picture.dot().encode())

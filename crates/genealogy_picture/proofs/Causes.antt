@@ -1,5 +1,5 @@
 -- For which causes a picture has no text.
-use Rattle.std.proofs.Common.{◌≡◌, ℕ, List, String, IfOk, IfErr, Result, Ok, Err, inl, inr, ◌⊎◌, refl, subst, sym, Contains}
+use Rattle.std.proofs.Common.{◌≡◌, ℕ, List, Option, String, IfOk, IfErr, Result, Ok, Err, inl, inr, ◌⊎◌, refl, subst, sym, Contains}
 use Rattle.genealogy_graph.specs.Ends.{HasEnds, IsBetween, nodes_in}
 use Rattle.genealogy_graph.specs.United.{picture_of}
 use Rattle.genealogy_graph.specs.declared.model.Picture.{Picture}
@@ -13,7 +13,7 @@ use Rattle.plant_trace.specs.declared.node.Node.{Node}
 use Rattle.genealogy_picture.specs.Answers.{◌>>=◌}
 use Rattle.std.specs.declared.alloc.Global.{Global}
 use Rattle.std.specs.Prelude.{string_bytes}
-use Rattle.genealogy_picture.specs.Drawing.{picture_in, whole, Draws, IsLayoutError, IsRefused, IsTextError, IsTextOf}
+use Rattle.genealogy_picture.specs.Drawing.{picture_in, whole, Draws, IsLayoutError, IsNoSvg, IsRefused, IsTextError, IsTextOf}
 use Rattle.genealogy_picture.specs.Reading.{reported_of}
 use Rattle.genealogy_picture.specs.declared.ending.DrawError.{DrawError}
 use Rattle.genealogy_picture.specs.declared.ending.DrawError.TheVariants as stop
@@ -45,27 +45,34 @@ never_lost p node ends (k, e, h, is, at) = end_at at
     end_at (inl from) = subst (Contains (nodes_of p)) from between.0
     end_at (inr to) = subst (Contains (nodes_of p)) to between.1
 
-refused_for : (format : Format) (bytes : List ℕ) (p : Picture) (r : Refusal) → picture_in bytes ≡ Ok p → format ≡ Svg → IsLayoutError p (stop.Refused r) → IsRefused format bytes (stop.Refused r)
-refused_for format bytes p refusal.Circle made svg circle = inr (p, made, circle, svg, refl)
-refused_for format bytes p (refusal.Whole (graph_error.Lost node)) made svg lost = absurd (lost.1 (never_lost p node (ends_in bytes p made) lost.0))
-refused_for format bytes p (refusal.Whole (graph_error.Lot id)) made svg none = absurd none
-refused_for format bytes p (refusal.Whole (graph_error.Amounts from to)) made svg none = absurd none
-refused_for format bytes p (refusal.Whole (graph_error.Batches from to)) made svg none = absurd none
-refused_for format bytes p (refusal.Line number error) made svg none = absurd none
+-- why a picture isn't laid out is why it isn't drawn
+no_svg : (asked : Option Node) (bytes : List ℕ) (p : Picture) (r : Refusal) → picture_in bytes ≡ Ok p → IsLayoutError p (stop.Refused r) → IsNoSvg asked p r
+no_svg asked bytes p refusal.Circle made circle = circle
+no_svg asked bytes p refusal.Absent made none = absurd none
+no_svg asked bytes p (refusal.Whole (graph_error.Lost node)) made lost = absurd (lost.1 (never_lost p node (ends_in bytes p made) lost.0))
+no_svg asked bytes p (refusal.Whole (graph_error.Lot id)) made none = absurd none
+no_svg asked bytes p (refusal.Whole (graph_error.Amounts from to)) made none = absurd none
+no_svg asked bytes p (refusal.Whole (graph_error.Batches from to)) made none = absurd none
+no_svg asked bytes p (refusal.Line number error) made none = absurd none
 
-in_svg : (bytes : List ℕ) (p : Picture) (error : DrawError) → picture_in bytes ≡ Ok p → IsLayoutError p error → IsRefused Svg bytes error
-in_svg bytes p (stop.Refused r) made h = refused_for Svg bytes p r made refl h
-in_svg bytes p stop.Open made h = absurd h
-in_svg bytes p stop.Read made h = tt
-in_svg bytes p stop.Write made h = absurd h
-in_svg bytes p stop.Memory made h = tt
+not_laid_out : (asked : Option Node) (bytes : List ℕ) (p : Picture) (error : DrawError) → picture_in bytes ≡ Ok p → IsLayoutError p error → IsRefused Svg asked bytes error
+not_laid_out asked bytes p (stop.Refused r) made h = inr (p, made, refl, no_svg asked bytes p r made h)
+not_laid_out asked bytes p stop.Open made h = absurd h
+not_laid_out asked bytes p stop.Read made h = tt
+not_laid_out asked bytes p stop.Write made h = absurd h
+not_laid_out asked bytes p stop.Memory made h = tt
 
-pub no_text : (format : Format) (bytes : List ℕ) (p : Picture) (error : DrawError) → picture_in bytes ≡ Ok p → IsTextError format p error → IsRefused format bytes error
-no_text Dot bytes p error made h = subst (IsRefused Dot bytes) (sym h) tt
-no_text Svg bytes p error made h = in_svg bytes p error made h
+in_svg : (asked : Option Node) (bytes : List ℕ) (p : Picture) (error : DrawError) → picture_in bytes ≡ Ok p → IsTextError Svg asked p error → IsRefused Svg asked bytes error
+in_svg asked bytes p error made (inl (node, is, none, absent)) = subst (IsRefused Svg asked bytes) (sym absent) (inr (p, made, refl, (node, is, none)))
+in_svg asked bytes p error made (inr h) = not_laid_out asked bytes p error made h
+
+pub no_text : (format : Format) (asked : Option Node) (bytes : List ℕ) (p : Picture) (error : DrawError) → picture_in bytes ≡ Ok p → IsTextError format asked p error
+    → IsRefused format asked bytes error
+no_text Dot asked bytes p error made h = subst (IsRefused Dot asked bytes) (sym h) tt
+no_text Svg asked bytes p error made h = in_svg asked bytes p error made h
 
 -- the text of a picture, or why it has none, is that of the answers whose picture it is
-pub drawn_text : (format : Format) (bytes : List ℕ) (p : Picture) (r : Result (String Global) DrawError) → picture_in bytes ≡ Ok p
-    → IfOk r (λ text. IsTextOf format p (string_bytes text)) → IfErr r (IsTextError format p) → Draws format bytes r
-drawn_text format bytes p (Ok text) made written failed = (p, made, written)
-drawn_text format bytes p (Err error) made written failed = no_text format bytes p error made failed
+pub drawn_text : (format : Format) (asked : Option Node) (bytes : List ℕ) (p : Picture) (r : Result (String Global) DrawError) → picture_in bytes ≡ Ok p
+    → IfOk r (λ text. IsTextOf format asked p (string_bytes text)) → IfErr r (IsTextError format asked p) → Draws format asked bytes r
+drawn_text format asked bytes p (Ok text) made written failed = (p, made, written)
+drawn_text format asked bytes p (Err error) made written failed = no_text format asked bytes p error made failed

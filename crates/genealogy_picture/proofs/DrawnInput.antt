@@ -8,6 +8,7 @@ use Rattle.plant_base.specs.Inputs.{Agrees}
 use Rattle.genealogy_picture.specs.Drawing.{IsRefused, draw_error_of_kind, read_count}
 use Rattle.genealogy_picture.specs.declared.ending.DrawError.{DrawError}
 use Rattle.genealogy_picture.specs.declared.words.Format.{Format}
+use Rattle.plant_trace.specs.declared.node.Node.{Node}
 
 -- what was read into an empty room
 pub read_into_nothing : (known : Option (List ℕ)) (old new prefix : List ℕ) → old ≡ [] → prefix ≡ new → IfSome known (λ text. new ≡ old ++ text) → IfSome known (λ text. prefix ≡ text)
@@ -26,17 +27,17 @@ holds_of_input P None read holds is = (read, tt, holds)
 holds_of_input P (Some text) read holds is = (read, is, holds)
 
 -- a failed read and want of memory may be told of any bytes
-of_kind : (format : Format) (bytes : List ℕ) (kind : ErrorKind) → IsRefused format bytes (draw_error_of_kind kind)
-of_kind format bytes io.OutOfMemory = tt
-of_kind format bytes _ = tt
+of_kind : (format : Format) (asked : Option Node) (bytes : List ℕ) (kind : ErrorKind) → IsRefused format asked bytes (draw_error_of_kind kind)
+of_kind format asked bytes io.OutOfMemory = tt
+of_kind format asked bytes _ = tt
 
-unread : (format : Format) (r : Result ℕ Error) (e : DrawError) → read_count r ≡ Err e → (bytes : List ℕ) → IsRefused format bytes e
-unread format (Ok n) e is bytes = absurd (cc)
-unread format (Err error) e is bytes =
-    let same : draw_error_of_kind (error_kind error) ≡ e = cc in subst (λ f. IsRefused format bytes f) same (of_kind format bytes (error_kind error))
+unread : (format : Format) (asked : Option Node) (r : Result ℕ Error) (e : DrawError) → read_count r ≡ Err e → (bytes : List ℕ) → IsRefused format asked bytes e
+unread format asked (Ok n) e is bytes = absurd (cc)
+unread format asked (Err error) e is bytes =
+    let same : draw_error_of_kind (error_kind error) ≡ e = cc in subst (λ f. IsRefused format asked bytes f) same (of_kind format asked bytes (error_kind error))
 
 -- so also of an input that wasn't read to its end
-pub of_unread : (format : Format) (known : Option (List ℕ)) (r : Result ℕ Error) (e : DrawError) → read_count r ≡ Err e
-    → (bytes : List ℕ) × Agrees known bytes × IsRefused format bytes e
-of_unread format None r e is = ([], tt, unread format r e is [])
-of_unread format (Some text) r e is = (text, refl, unread format r e is text)
+pub of_unread : (format : Format) (asked : Option Node) (known : Option (List ℕ)) (r : Result ℕ Error) (e : DrawError) → read_count r ≡ Err e
+    → (bytes : List ℕ) × Agrees known bytes × IsRefused format asked bytes e
+of_unread format asked None r e is = ([], tt, unread format asked r e is [])
+of_unread format asked (Some text) r e is = (text, refl, unread format asked r e is text)

@@ -1,5 +1,7 @@
 -- The picture of an input, and its text.
-use Rattle.std.specs.Prelude.{◌≡◌, ◌⊎◌, ℕ, List, Contains, Result, Ok, Err, String, string_bytes, ⊤}
+use Rattle.std.specs.Prelude.{◌≡◌, ◌⊎◌, ℕ, Bool, false, List, Contains, Option, Some, Result, Ok, Err, String, string_bytes, ⊤}
+use Rattle.std.specs.List.{list_any}
+use Rattle.std.specs.Str.{bytes_eq}
 use Rattle.std.specs.declared.alloc.Global.{Global}
 use Rattle.std.specs.declared.io.Error.{Error}
 use Rattle.std.specs.declared.io.ErrorKind.{ErrorKind}
@@ -17,6 +19,8 @@ use Rattle.genealogy_svg.specs.declared.drawing.LayoutFault.TheVariants as layou
 use Rattle.genealogy_svg.specs.Layouts.{IsEndOf, IsLaidOut, nodes_of}
 use Rattle.genealogy_svg.specs.Layers.{HasCircle}
 use Rattle.genealogy_svg.specs.Svg.{svg_text}
+use Rattle.plant_trace.specs.declared.node.Node.{Node}
+use Rattle.plant_trace.specs.declared.node.Node.TheVariants.{Lot, Batch}
 use Rattle.genealogy_picture.specs.declared.words.Format.{Format}
 use Rattle.genealogy_picture.specs.declared.words.Format.TheVariants.{Dot, Svg}
 use Rattle.genealogy_graph.specs.United.{picture_of}
@@ -57,28 +61,49 @@ IsLayoutError p (stop.Refused (refusal.Whole (graph_error.Lost node))) = IsEndOf
 IsLayoutError p stop.Memory = ⊤
 IsLayoutError p _ = ⊥
 
--- why a picture has no text: in DOT because memory was refused, in SVG because it isn't laid out
-abbrev pub IsTextError : Format → Picture → DrawError → Type 0
-IsTextError Dot p error = error ≡ stop.Memory
-IsTextError Svg p error = IsLayoutError p error
+-- a lot of the picture, or a batch, has this id
+abbrev pub has_lot : Picture → List ℕ → Bool
+has_lot p id = list_any (λ lot. bytes_eq lot.id id) p.lots
+
+abbrev pub has_batch : Picture → List ℕ → Bool
+has_batch p id = list_any (λ batch. bytes_eq batch id) p.batches
+
+abbrev pub has_node : Picture → Node → Bool
+has_node p (Lot id) = has_lot p id
+has_node p (Batch id) = has_batch p id
+
+-- the node that was asked for is none of the picture
+abbrev pub IsAbsent : Picture → Option Node → DrawError → Type 0
+IsAbsent p asked error = (node : Node) × (asked ≡ Some node) × (has_node p node ≡ false) × (error ≡ stop.Refused refusal.Absent)
+
+-- why a picture has no text: in DOT because memory was refused, in SVG because the node that was asked for is none of it or it isn't laid out
+abbrev pub IsTextError : Format → Option Node → Picture → DrawError → Type 0
+IsTextError Dot asked p error = error ≡ stop.Memory
+IsTextError Svg asked p error = IsAbsent p asked error ⊎ IsLayoutError p error
 
 -- the text of a picture: in DOT this one, in SVG that of a layout
-abbrev pub IsTextOf : Format → Picture → List ℕ → Type 0
-IsTextOf Dot p text = text ≡ dot_text p
-IsTextOf Svg p text = (d : Drawing) × IsLaidOut p d × (text ≡ svg_text d)
+abbrev pub IsTextOf : Format → Option Node → Picture → List ℕ → Type 0
+IsTextOf Dot asked p text = text ≡ dot_text p
+IsTextOf Svg asked p text = (d : Drawing) × IsLaidOut p d × (text ≡ svg_text asked d)
 
--- the answers in the bytes have no picture, for this, or the edges of theirs lead in a circle, in SVG alone; or else a read failed, or memory was refused
-abbrev pub IsRefused : Format → List ℕ → DrawError → Type 0
-IsRefused format bytes (stop.Refused r) = (picture_in bytes ≡ Err r) ⊎ ((p : Picture) × (picture_in bytes ≡ Ok p) × HasCircle p.edges × (format ≡ Svg) × (r ≡ refusal.Circle))
-IsRefused format bytes stop.Open = ⊥
-IsRefused format bytes stop.Read = ⊤
-IsRefused format bytes stop.Write = ⊥
-IsRefused format bytes stop.Memory = ⊤
+-- why a picture isn't drawn in SVG: its edges lead in a circle, or the node that was asked for is none of it
+abbrev pub IsNoSvg : Option Node → Picture → Refusal → Type 0
+IsNoSvg asked p refusal.Circle = HasCircle p.edges
+IsNoSvg asked p refusal.Absent = (node : Node) × (asked ≡ Some node) × (has_node p node ≡ false)
+IsNoSvg asked p _ = ⊥
+
+-- the answers in the bytes have no picture, for this, or theirs isn't drawn in SVG, in SVG alone; or else a read failed, or memory was refused
+abbrev pub IsRefused : Format → Option Node → List ℕ → DrawError → Type 0
+IsRefused format asked bytes (stop.Refused r) = (picture_in bytes ≡ Err r) ⊎ ((p : Picture) × (picture_in bytes ≡ Ok p) × (format ≡ Svg) × IsNoSvg asked p r)
+IsRefused format asked bytes stop.Open = ⊥
+IsRefused format asked bytes stop.Read = ⊤
+IsRefused format asked bytes stop.Write = ⊥
+IsRefused format asked bytes stop.Memory = ⊤
 
 -- the text of the picture of the answers in the bytes, or why there is none
-abbrev pub Draws : Format → List ℕ → Result (String Global) DrawError → Type 0
-Draws format bytes (Ok text) = (p : Picture) × (picture_in bytes ≡ Ok p) × IsTextOf format p (string_bytes text)
-Draws format bytes (Err stop) = IsRefused format bytes stop
+abbrev pub Draws : Format → Option Node → List ℕ → Result (String Global) DrawError → Type 0
+Draws format asked bytes (Ok text) = (p : Picture) × (picture_in bytes ≡ Ok p) × IsTextOf format asked p (string_bytes text)
+Draws format asked bytes (Err stop) = IsRefused format asked bytes stop
 
 -- an error of a reading for want of memory is told as that, and every other as a read that failed
 abbrev pub draw_error_of_kind : ErrorKind → DrawError

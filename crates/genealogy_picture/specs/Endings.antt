@@ -12,6 +12,7 @@ abbrev pub refusal_text : Refusal → List ℕ
 refusal_text (refusal.Line number line_error) = codes "line " ++ (decimal number ++ (codes ": " ++ line_error_text line_error))
 refusal_text (refusal.Whole p) = graph_error_text p
 refusal_text refusal.Circle = codes "the edges lead in a circle"
+refusal_text refusal.Absent = codes "the lot or batch that was asked for isn't there"
 
 -- what is told on standard error, without its LF
 abbrev pub draw_error_text : DrawError → List ℕ

@@ -1,15 +1,18 @@
 //! The picture of an input.
-ghost use Rattle.std.specs.Prelude.{◌≡◌, ℕ, List, IfErr, IfOk, string_bytes};
+ghost use Rattle.std.specs.Prelude.{◌≡◌, ℕ, List, None, false, IfErr, IfOk, IfSome, string_bytes};
 ghost use Rattle.plant_base.specs.Inputs.{Agrees};
 ghost use Rattle.std.specs.IoError.{error_kind};
 ghost use Rattle.genealogy_picture.specs.Reading.{ReportsAs};
 ghost use Rattle.genealogy_svg.specs.Layouts.{IsLaidOut};
-ghost use Rattle.genealogy_picture.specs.Drawing.{of_whole, picture_in, of_layout, IsLayoutError, IsTextError, IsTextOf, Draws};
+ghost use Rattle.genealogy_picture.specs.Drawing.{of_whole, picture_in, of_layout, IsLayoutError, IsTextError, IsTextOf, Draws, IsAbsent, has_batch, has_lot};
+ghost use Rattle.genealogy_picture.specs.Words.{names};
+ghost use Rattle.genealogy_picture.specs.declared.words.Format.TheVariants.{Svg};
+ghost use Rattle.plant_trace.specs.declared.node.Node.TheVariants.{Lot, Batch};
 ghost use Rattle.genealogy_picture.specs.Drawing.{draw_error_of_kind, read_count};
 
 use crate::ending::{DrawError, Refusal};
 use crate::reading::reported_of;
-use crate::words::Format;
+use crate::words::{Asked, Format};
 use genealogy_graph::{GraphError, Picture, UnitedFault, dot, united};
 use genealogy_svg::{Drawing, LayoutFault, layout, svg};
 use plant_trace::Node;
@@ -61,26 +64,85 @@ fn drawing_of(alloc: Global, picture: &Picture) -> Result<Drawing, DrawError>
     of_layout(layout(alloc, picture))
 }
 
+/// The lot of an id, where the picture has it.
+fn lot_named(picture: &Picture, id: &str) -> Option<Node>
+    ensures found { IfSome result (λ node. node ≡ Lot id.now) }
+    ensures absent { result ≡ None → has_lot picture.now id.now ≡ false }
+{
+    for lot in picture.lots.as_slice() {
+        if lot.id.as_str() == id {
+            return Some(Node::Lot(lot.id));
+        }
+    }
+    None
+}
+
+/// The batch of an id, where the picture has it.
+fn batch_named(picture: &Picture, id: &str) -> Option<Node>
+    ensures found { IfSome result (λ node. node ≡ Batch id.now) }
+    ensures absent { result ≡ None → has_batch picture.now id.now ≡ false }
+{
+    for batch in picture.batches.as_slice() {
+        if batch.as_str() == id {
+            return Some(Node::Batch(*batch));
+        }
+    }
+    None
+}
+
+/// The node that was asked for, of those of the picture.
+fn node_asked(picture: &Picture, asked: Asked<'_>) -> Result<Option<Node>, DrawError>
+    ensures node { IfOk result (λ node. node ≡ names asked) }
+    ensures absent { IfErr result (IsAbsent picture.now (names asked)) }
+{
+    let found = match asked {
+        Asked::Nothing => return Ok(None),
+        Asked::Lot(id) => lot_named(picture, id),
+        Asked::Batch(id) => batch_named(picture, id),
+    };
+    match found {
+        Some(node) => Ok(Some(node)),
+        None => Err(DrawError::Refused(Refusal::Absent)),
+    }
+}
+
+/// The text of a picture in SVG.
+fn svg_of(alloc: Global, picture: &Picture, asked: Asked<'_>) -> Result<String, DrawError>
+    ensures text { IfOk result (λ text. IsTextOf Svg (names asked) picture.now (string_bytes text)) }
+    ensures refused { IfErr result (IsTextError Svg (names asked) picture.now) }
+{
+    let node = node_asked(picture, asked)?;
+    let drawing = drawing_of(alloc, picture)?;
+    Ok(svg(alloc, &drawing, node)?)
+}
+
 /// The text of a picture.
-fn text_of(alloc: Global, format: Format, picture: &Picture) -> Result<String, DrawError>
-    ensures text { IfOk result (λ text. IsTextOf format picture.now (string_bytes text)) }
-    ensures refused { IfErr result (IsTextError format picture.now) }
+fn text_of(
+    alloc: Global,
+    format: Format,
+    asked: Asked<'_>,
+    picture: &Picture,
+) -> Result<String, DrawError>
+    ensures text { IfOk result (λ text. IsTextOf format (names asked) picture.now (string_bytes text)) }
+    ensures refused { IfErr result (IsTextError format (names asked) picture.now) }
 {
     match format {
         Format::Dot => Ok(dot(alloc, picture)?),
-        Format::Svg => {
-            let drawing = drawing_of(alloc, picture)?;
-            Ok(svg(alloc, &drawing)?)
-        }
+        Format::Svg => svg_of(alloc, picture, asked),
     }
 }
 
 /// The text of the picture of the answers that the bytes are.
-fn drawn(alloc: Global, format: Format, bytes: &[u8]) -> Result<String, DrawError>
-    ensures { Draws format bytes.now result }
+fn drawn(
+    alloc: Global,
+    format: Format,
+    asked: Asked<'_>,
+    bytes: &[u8],
+) -> Result<String, DrawError>
+    ensures { Draws format (names asked) bytes.now result }
 {
     let picture = picture_in(alloc, bytes)?;
-    text_of(alloc, format, &picture)
+    text_of(alloc, format, asked, &picture)
 }
 
 /// What a failed reading to the end is told as.
@@ -105,19 +167,22 @@ fn read_count(reading: io::Result<usize>) -> Result<usize, DrawError>
 
 /// The text of the picture of the answers that a reader gives to its end.
 ///
-/// `Refused` reports why they make none; of a picture that they make it comes only where its edges lead in a circle, in SVG. `Read` comes where a read failed, and `Memory` where memory was refused. No other stop comes.
+/// In SVG the node that is asked for is named in the heading and marked; in DOT it changes nothing.
+///
+/// `Refused` reports why they make none; of a picture that they make it comes in SVG alone, where its edges lead in a circle or the node that is asked for is none of it. `Read` comes where a read failed, and `Memory` where memory was refused. No other stop comes.
 ///
 /// In the clause, `bytes` are those that the reader has left, where it tells them, and some bytes where it tells none.
 pub(crate) fn draw<R: Read>(
     alloc: Global,
     format: Format,
+    asked: Asked<'_>,
     reader: &mut R,
 ) -> Result<String, DrawError>
-    ensures { (bytes : List ℕ) × Agrees (R.remaining reader.old) bytes × Draws format bytes result }
+    ensures { (bytes : List ℕ) × Agrees (R.remaining reader.old) bytes × Draws format (names asked) bytes result }
 {
     let mut bytes = Vec::new(alloc);
     match read_count(reader.read_to_end(&mut bytes)) {
-        Ok(_count) => drawn(alloc, format, &bytes),
+        Ok(_count) => drawn(alloc, format, asked, &bytes),
         Err(fault) => Err(fault),
     }
 }

@@ -16,6 +16,8 @@ pub(crate) enum Refusal {
     Whole(GraphError),
     /// Its edges lead in a circle, so that it has no layers: only in SVG.
     Circle,
+    /// The lot or batch that was asked for is none of it: only in SVG.
+    Absent,
 }
 
 impl fmt::Display for Refusal {
@@ -26,6 +28,7 @@ impl fmt::Display for Refusal {
             Refusal::Line(number, line_error) => write!(f, "line {number}: {line_error}"),
             Refusal::Whole(graph_error) => write!(f, "{graph_error}"),
             Refusal::Circle => f.write_str("the edges lead in a circle"),
+            Refusal::Absent => f.write_str("the lot or batch that was asked for isn't there"),
         }
     }
 }

@@ -47,9 +47,9 @@ fn print_drawn(rt: &HostRuntime, words: Words<'_>) -> Result<(), DrawError> {
 
 fn draw_file(rt: &HostRuntime, words: Words<'_>) -> Result<String, DrawError> {
     match words.file {
-        None => draw(rt.alloc(), words.format, &mut rt.reader()),
+        None => draw(rt.alloc(), words.format, words.asked, &mut rt.reader()),
         Some(name) => match File::open(rt, name) {
-            Ok(mut opened) => draw(rt.alloc(), words.format, &mut opened),
+            Ok(mut opened) => draw(rt.alloc(), words.format, words.asked, &mut opened),
             Err(_) => Err(DrawError::Open),
         },
     }

@@ -2,7 +2,7 @@
 ghost use Rattle.std.specs.Prelude.{◌≡◌, IfErr, IfOk, [], codes, false, map, option_map};
 ghost use Rattle.clap.specs.Words.{app_of, fault_of, first_of, found_of, matches_of, rows_of, rule_of};
 ghost use Rattle.desk_cli.specs.Meaning.{IsRefusalOf, is_set};
-ghost use Rattle.genealogy_picture.specs.Words.{file_rule, format_of, flag_rule, picture_app};
+ghost use Rattle.genealogy_picture.specs.Words.{asked_of, file_rule, format_of, flag_rule, id_rule, names, picture_app};
 
 use clap::{Arg, ArgAction, ArgMatches, Command};
 use desk_cli::{WordsFault, refusal_of};
@@ -20,11 +20,24 @@ pub(crate) enum Format {
     Svg,
 }
 
+/// Which node the picture is of.
+#[derive(Clone, Copy)]
+pub(crate) enum Asked<'a> {
+    /// None is named.
+    Nothing,
+    /// The lot of this id.
+    Lot(&'a str),
+    /// The batch of this id.
+    Batch(&'a str),
+}
+
 /// What the program is told to do.
 #[derive(Clone, Copy)]
 pub(crate) struct Words<'a> {
     /// The name of the file, none for standard input.
     pub(crate) file: Option<&'a str>,
+    /// Which node the picture is of.
+    pub(crate) asked: Asked<'a>,
     /// In which format.
     pub(crate) format: Format,
 }
@@ -36,6 +49,17 @@ fn file_argument<'a>(alloc: Global) -> Arg<'a>
     Arg::new(alloc, "file").value_name("FILE").help(
         "The file of the answers; standard input where none is named",
     )
+}
+
+/// An id that may be given under this name.
+fn id_argument<'a>(alloc: Global, name: &'a str, shown: &'a str, help: &'a str) -> Arg<'a>
+    ensures rule { rule_of result ≡ id_rule name.entry.now }
+    ensures local { result.global ≡ false }
+{
+    Arg::new(alloc, name)
+        .long(name)
+        .value_name(shown)
+        .help(help)
 }
 
 /// A flag of this name.
@@ -56,13 +80,25 @@ fn command_line<'a>(alloc: Global) -> Result<Command<'a>, AllocError>
         .about("Draw the genealogy that answers of the desk with edges tell")
         .version(VERSION)
         .after_help(
-            "Example: genealogy_picture answers.jsonl > picture.svg\n\
+            "Example: genealogy_picture --lot L-1 answers.jsonl > picture.svg\n\
 A line of the file is the answer to back_edges or forward_edges. Several make one picture. SVG is meant for some 300 nodes, DOT for any number;\n\
 where both are asked for, it is DOT.\n\
 Exit status: 0 where the picture is drawn; 1 where the answers make none; 2 where these words aren't understood; 3 where a read or a write failed;\n\
 4 where memory was refused.",
         )
         .arg(file_argument(alloc))?
+        .arg(id_argument(
+            alloc,
+            "lot",
+            "LOT",
+            "Name this lot in the heading of SVG, and mark it",
+        ))?
+        .arg(id_argument(
+            alloc,
+            "batch",
+            "BATCH",
+            "The same of this batch; a lot goes before it",
+        ))?
         .arg(flag_argument(alloc, "dot", "Write DOT, which Graphviz draws"))?
         .arg(flag_argument(
             alloc,
@@ -87,6 +123,19 @@ fn is_set(matches: &ArgMatches<'_>, name: &str) -> bool
     }
 }
 
+/// Which node the words name.
+fn asked_of<'a>(matches: &ArgMatches<'a>) -> Asked<'a>
+    ensures { names result ≡ asked_of (rows_of (found_of matches.now)) }
+{
+    if let Some(lot) = value_of(matches, "lot") {
+        return Asked::Lot(lot);
+    }
+    match value_of(matches, "batch") {
+        Some(batch) => Asked::Batch(batch),
+        None => Asked::Nothing,
+    }
+}
+
 /// The format that the words ask for: SVG, where they don't ask for DOT.
 fn format_of(matches: &ArgMatches<'_>) -> Format
     ensures { result ≡ format_of (rows_of (found_of matches.now)) }
@@ -105,6 +154,7 @@ pub(crate) fn read_words<'a>(alloc: Global, words: &'a [&'a str]) -> Result<Word
     ensures named { IfOk result (λ w. option_map (λ s. s.now) w.file
         ≡ first_of (codes "file") (matches_of picture_app (map (λ s. s.now) words.entry.now))) }
     ensures format { IfOk result (λ w. w.format ≡ format_of (matches_of picture_app (map (λ s. s.now) words.entry.now))) }
+    ensures asked { IfOk result (λ w. names w.asked ≡ asked_of (matches_of picture_app (map (λ s. s.now) words.entry.now))) }
     ensures taken { IfOk result (λ _. fault_of picture_app (map (λ s. s.now) words.entry.now) ≡ []) }
     ensures refused { IfErr result
         (λ fault. IsRefusalOf (fault_of picture_app (map (λ s. s.now) words.entry.now)) fault) }
@@ -115,6 +165,7 @@ pub(crate) fn read_words<'a>(alloc: Global, words: &'a [&'a str]) -> Result<Word
     match command.try_get_matches_from(words) {
         Ok(matches) => Ok(Words {
             file: value_of(&matches, "file"),
+            asked: asked_of(&matches),
             format: format_of(&matches),
         }),
         Err(error) => Err(refusal_of(alloc, error)),

@@ -1,10 +1,10 @@
 -- Each edge leads to the right.
-use Rattle.std.proofs.Common.{◌≡◌, ◌∙◌, ℕ, ◌+◌, ◌<◌, ◌≤◌, Bool, true, false, cond, List, [], ◌∷◌, ◌++◌, Option, Some, None, Result, Ok, Err, refl, sym, ap, subst, ⊎_elim, max, arith, Contains}
+use Rattle.std.proofs.Common.{◌≡◌, ◌∙◌, ℕ, ◌+◌, ◌<◌, ◌≤◌, Bool, true, false, cond, List, [], ◌∷◌, ◌++◌, Option, Some, None, Result, Ok, Err, refl, sym, ap, subst, ⊎_elim, max, map, arith, Contains}
 use Rattle.std.specs.Prelude.{filter}
 use Rattle.std.specs.List.{All, fold}
 use Rattle.std.specs.BTreeMap.{get}
 use Rattle.std.proofs.lemmas.Bool.{false≢true}
-use Rattle.std.proofs.lemmas.List.Elements.{All-nil, All-push, All-tail, All-head, Contains-get_or}
+use Rattle.std.proofs.lemmas.List.Elements.{All-nil, All-push, All-tail, All-head, All-map, Contains-get_or}
 use Rattle.grouped_rows.specs.Groups.{is_keyed}
 use Rattle.genealogy_graph.specs.declared.model.Picture.{Picture}
 use Rattle.genealogy_graph.specs.declared.model.PictureEdge.{PictureEdge}
@@ -21,6 +21,8 @@ use Rattle.genealogy_svg.specs.declared.drawing.LayoutFault.{LayoutFault}
 use Rattle.genealogy_svg.specs.declared.drawing.BoxPosition.{BoxPosition}
 use Rattle.genealogy_svg.specs.Layouts.{◌>>=◌, placed, edges_in, IsLaidOut, LeadsRight}
 use Rattle.genealogy_svg.specs.Layers.{edges_to, IsLayered}
+use Rattle.genealogy_svg.specs.Rows.{IsSmall, without_row}
+use Rattle.genealogy_svg.proofs.RowsInTurn.{All-from_map, is_small_or_not}
 
 -- ---- the height is above each layer
 
@@ -77,12 +79,12 @@ module _ (p : Picture) (d : Drawing) (laid : IsLaidOut p d) where
   step : (done : List DrawnEdge) (x : PictureEdge) (es : List PictureEdge) (drawn : List DrawnEdge) (a b : Option BoxPosition) → get node_cmp laid.positions x.from ≡ a
       → get node_cmp laid.positions x.to ≡ b → Contains p.edges x → All LeadsRight done
       → ((now : List DrawnEdge) → All LeadsRight now → edges_in laid.positions now es ≡ Ok drawn → All LeadsRight drawn)
-      → (placed x.from a >>= (λ from. placed x.to b >>= (λ to. edges_in laid.positions (done ++ record { from = from; to = to; amount = x.amount; unit = x.unit } ∷ []) es))) ≡ Ok drawn
+      → (placed x.from a >>= (λ from. placed x.to b >>= (λ to. edges_in laid.positions (done ++ record { from = from; to = to; amount = x.amount; unit = x.unit; row = None } ∷ []) es))) ≡ Ok drawn
       → All LeadsRight drawn
   step done x es drawn None b f g h all later e = absurd cc
   step done x es drawn (Some a) None f g h all later e = absurd cc
   step done x es drawn (Some a) (Some b) f g h all later e =
-      let edge : DrawnEdge = record { from = a; to = b; amount = x.amount; unit = x.unit } in
+      let edge : DrawnEdge = record { from = a; to = b; amount = x.amount; unit = x.unit; row = None } in
       later (done ++ edge ∷ []) (All-push LeadsRight done edge all (right x a b h f g)) e
 
   each : (done : List DrawnEdge) (es : List PictureEdge) (drawn : List DrawnEdge) → All LeadsRight done → All (Contains p.edges) es → edges_in laid.positions done es ≡ Ok drawn → All LeadsRight drawn
@@ -92,11 +94,21 @@ module _ (p : Picture) (d : Drawing) (laid : IsLaidOut p d) where
       (λ now h f. each now es drawn h (All-tail (Contains p.edges) x es within) f) e
 
   edges_of : (lots : Result (List DrawnLot) LayoutFault) (batches : Result (List DrawnBatch) LayoutFault) (edges : Result (List DrawnEdge) LayoutFault)
-      → (lots >>= (λ ls. batches >>= (λ bs. edges >>= (λ es. Ok (record { lots = ls; batches = bs; edges = es }))))) ≡ Ok d → edges ≡ Ok d.edges
+      → (lots >>= (λ ls. batches >>= (λ bs. edges >>= (λ es. Ok (record { lots = ls; batches = bs; edges = es }))))) ≡ Ok laid.bare → edges ≡ Ok laid.bare.edges
   edges_of (Err f) batches edges e = absurd cc
   edges_of (Ok ls) (Err f) edges e = absurd cc
   edges_of (Ok ls) (Ok bs) (Err f) e = absurd cc
-  edges_of (Ok ls) (Ok bs) (Ok es) e = ap (edges_seen d) e
+  edges_of (Ok ls) (Ok bs) (Ok es) e = ap (edges_seen laid.bare) e
+
+  bare_right : All LeadsRight laid.bare.edges
+  bare_right = each [] p.edges laid.bare.edges (All-nil LeadsRight) (λ k x h. Contains-get_or p.edges k x h) (edges_of _ _ _ laid.drawn)
+
+  -- the rows of amounts change nothing
+  in_rows : (placed : List DrawnEdge) → map without_row placed ≡ map without_row laid.bare.edges → All LeadsRight placed
+  in_rows placed same = All-from_map LeadsRight without_row placed (subst (All LeadsRight) (sym same) (All-map LeadsRight without_row laid.bare.edges bare_right))
 
   pub leads_right : All LeadsRight d.edges
-  leads_right = each [] p.edges d.edges (All-nil LeadsRight) (λ k x h. Contains-get_or p.edges k x h) (edges_of _ _ _ laid.drawn)
+  leads_right = ⊎_elim
+      (λ small. in_rows d.edges (laid.amounts.small small).same)
+      (λ large. subst (All LeadsRight) (sym (laid.amounts.large large)) bare_right)
+      (is_small_or_not p)

@@ -15,17 +15,20 @@ use Rattle.genealogy_svg.specs.declared.drawing.LayoutFault.TheVariants as fault
 use Rattle.genealogy_svg.specs.Layouts.{nodes_of, drawing_in, IsLaidOut, IsOutside, IsUnpositioned}
 use Rattle.genealogy_svg.specs.Layers.{AreSettled, IsLayered}
 use Rattle.genealogy_svg.specs.Positions.{ArePositioned}
+use Rattle.genealogy_svg.specs.Rows.{HasAmounts}
 
-pub laid_out : (p : Picture) (d : Drawing) (layers : BTreeMap Node ℕ) (positions : BTreeMap Node BoxPosition) (nodes named : List Node) (edges : List PictureEdge)
+pub laid_out : (p : Picture) (bare d : Drawing) (layers : BTreeMap Node ℕ) (positions : BTreeMap Node BoxPosition) (nodes named : List Node) (edges : List PictureEdge)
     → nodes ≡ nodes_of p → named ≡ nodes_of p → edges ≡ p.edges → All (IsLayered layers) nodes → AreSettled edges layers → ArePositioned layers named positions
-    → drawing_in positions p ≡ Ok d → IsLaidOut p d
-laid_out p d layers positions nodes named edges is same of all settled placed drawn = record {
+    → drawing_in positions p ≡ Ok bare → HasAmounts p bare d → IsLaidOut p d
+laid_out p bare d layers positions nodes named edges is same of all settled placed drawn amounts = record {
   layers = layers;
   positions = positions;
   layered = λ v h. let every : All (IsLayered layers) (nodes_of p) = subst (All (IsLayered layers)) is all in All-contains (IsLayered layers) (nodes_of p) v every h;
   settled = let P : List PictureEdge → Type 0 = λ es. AreSettled es layers in subst P of settled;
   placed = let P : List Node → Type 0 = λ ns. ArePositioned layers ns positions in subst P same placed;
+  bare = bare;
   drawn = drawn;
+  amounts = amounts;
 }
 
 -- a node that has no position is none of these

@@ -57,9 +57,9 @@ module _ (positions : BTreeMap Node BoxPosition) (node : Node) where
       (λ a. end_first e more (inl (lost_is e.from node (get node_cmp positions e.from) a)))
       (λ from. ⊎_elim
       (λ b. end_first e more (inr (lost_is e.to node (get node_cmp positions e.to) b)))
-      (λ to. end_rest e more (edges_lost (done ++ record { from = from.0; to = to.0; amount = e.amount; unit = e.unit } ∷ []) more to.1))
-      (bind_error (position_at positions e.to) (λ to. edges_in positions (done ++ record { from = from.0; to = to; amount = e.amount; unit = e.unit } ∷ []) more) (fault.Lost node) from.1))
-      (bind_error (position_at positions e.from) (λ from. position_at positions e.to >>= (λ to. edges_in positions (done ++ record { from = from; to = to; amount = e.amount; unit = e.unit } ∷ []) more)) (fault.Lost node) h)
+      (λ to. end_rest e more (edges_lost (done ++ record { from = from.0; to = to.0; amount = e.amount; unit = e.unit; row = None } ∷ []) more to.1))
+      (bind_error (position_at positions e.to) (λ to. edges_in positions (done ++ record { from = from.0; to = to; amount = e.amount; unit = e.unit; row = None } ∷ []) more) (fault.Lost node) from.1))
+      (bind_error (position_at positions e.from) (λ from. position_at positions e.to >>= (λ to. edges_in positions (done ++ record { from = from; to = to; amount = e.amount; unit = e.unit; row = None } ∷ []) more)) (fault.Lost node) h)
 
   -- a lost node is one of the picture's or an end of an edge
   drawing_lost : (p : Picture) → drawing_in positions p ≡ Err (fault.Lost node) → Contains (nodes_of p) node ⊎ IsEndOf p.edges node

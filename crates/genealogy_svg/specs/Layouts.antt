@@ -6,6 +6,7 @@ use Rattle.genealogy_graph.specs.declared.model.PictureEdge.{PictureEdge}
 use Rattle.genealogy_graph.specs.declared.model.PictureLot.{PictureLot}
 use Rattle.genealogy_svg.specs.Layers.{AreSettled, IsLayered}
 use Rattle.genealogy_svg.specs.Positions.{ArePositioned}
+use Rattle.genealogy_svg.specs.Rows.{HasAmounts}
 use Rattle.genealogy_svg.specs.declared.drawing.Drawing.{Drawing}
 use Rattle.genealogy_svg.specs.declared.drawing.DrawnBatch.{DrawnBatch}
 use Rattle.genealogy_svg.specs.declared.drawing.DrawnEdge.{DrawnEdge}
@@ -78,9 +79,9 @@ edges_in positions done [] = Ok done
 edges_in positions done (e ∷ more) =
     position_at positions e.from >>= (λ from.
     position_at positions e.to >>= (λ to.
-    edges_in positions (done ++ record { from = from; to = to; amount = e.amount; unit = e.unit } ∷ []) more))
+    edges_in positions (done ++ record { from = from; to = to; amount = e.amount; unit = e.unit; row = None } ∷ []) more))
 
--- the picture, with its nodes in these places
+-- the picture, with its nodes in these places, and without its amounts
 abbrev pub drawing_in : BTreeMap Node BoxPosition → Picture → Result Drawing LayoutFault
 drawing_in positions p =
     lots_in positions [] p.lots >>= (λ lots.
@@ -94,11 +95,14 @@ LeadsRight e = e.from.layer < e.to.layer
 
 -- ---- the layout
 
--- the nodes stand in layers, and each in a place of its own there; the drawing is the picture in these places
+-- the nodes stand in layers, and each in a place of its own there; the drawing is the picture in these places, with its amounts, each in a row of
+-- its own, where it is small enough
 pub record IsLaidOut (picture : Picture) (drawing : Drawing) : Type 0 where
   pub layers : BTreeMap Node ℕ
   pub positions : BTreeMap Node BoxPosition
   pub layered : (v : Node) → Contains (nodes_of picture) v → IsLayered layers v
   pub settled : AreSettled picture.edges layers
   pub placed : ArePositioned layers (nodes_of picture) positions
-  pub drawn : drawing_in positions picture ≡ Ok drawing
+  pub bare : Drawing
+  pub drawn : drawing_in positions picture ≡ Ok bare
+  pub amounts : HasAmounts picture bare drawing

@@ -1,4 +1,5 @@
 pub mod Layouts
 pub mod Layers
 pub mod Positions
+pub mod Rows
 pub mod Svg

@@ -1,6 +1,6 @@
 //! The boxes of lots and batches.
 ghost use Rattle.std.specs.Prelude.{◌≡◌, ◌≤◌, Some};
-ghost use Rattle.genealogy_svg.specs.Svg.{box_text, outline, unless_empty, lot_mark, mark_end, lot_title, mark_text, lot_texts, lot_box};
+ghost use Rattle.genealogy_svg.specs.Svg.{batch_colour, border, box_text, is_asked, outline, unless_empty, lot_mark, mark_end, lot_title, mark_text, lot_texts, lot_box};
 ghost use Rattle.genealogy_svg.specs.Svg.{batch_title, batch_texts, batch_box};
 ghost use Rattle.genealogy_graph.specs.Dot.{stock_text};
 
@@ -8,6 +8,7 @@ use crate::drawing::{BoxPosition, DrawnBatch, DrawnLot};
 use crate::points::{Point, left_of, middle_of, top_of};
 use genealogy_graph::{PictureLot, StockText, mark_colour, mark_name};
 use plant_base::{DisplayItem, Id};
+use plant_trace::Node;
 use std::fmt;
 
 /// A line of a box, so far below its upper side.
@@ -48,16 +49,42 @@ impl fmt::Display for StockLine {
     }
 }
 
+/// The end of an outline, which has its border: that of the node that was asked for is thick.
+#[derive(Clone, Copy)]
+struct Border(bool);
+
+impl fmt::Display for Border {
+    ghost output = { λ b. Some (border b.0) };
+
+    fn fmt<W: fmt::Write>(&self, f: &mut fmt::Formatter<W>) -> fmt::Result {
+        match self.0 {
+            true => f.write_str("\" stroke=\"#0b5fa5\" stroke-width=\"4\"/>"),
+            false => f.write_str("\" stroke=\"#333333\"/>"),
+        }
+    }
+}
+
+/// Whether a node is the one that was asked for.
+fn is_asked(asked: Option<Node>, node: Node) -> bool
+    ensures { result ≡ is_asked asked node }
+{
+    match asked {
+        Some(it) => it == node,
+        None => false,
+    }
+}
+
 /// The outline of a box, with corners that are so round.
 #[derive(Clone, Copy)]
 struct Outline {
     position: BoxPosition,
     round: u8,
     colour: &'static str,
+    is_asked: bool,
 }
 
 impl fmt::Display for Outline {
-    ghost output = { λ o. Some (outline o.position o.round o.colour.now) };
+    ghost output = { λ o. Some (outline o.position o.round o.colour.now o.is_asked) };
 
     fn fmt<W: fmt::Write>(&self, f: &mut fmt::Formatter<W>) -> fmt::Result {
         let point = Point {
@@ -66,9 +93,10 @@ impl fmt::Display for Outline {
         };
         let round = self.round;
         let colour = self.colour;
+        let end = Border(self.is_asked);
         write!(
             f,
-            "<rect{point} width=\"180\" height=\"56\" rx=\"{round}\" fill=\"{colour}\" stroke=\"#333333\"/>"
+            "<rect{point} width=\"180\" height=\"56\" rx=\"{round}\" fill=\"{colour}{end}"
         )
     }
 }
@@ -152,12 +180,12 @@ impl fmt::Display for LotTexts {
     }
 }
 
-/// The box of a lot.
+/// The box of a lot, where this node was asked for.
 #[derive(Clone, Copy)]
-pub(crate) struct LotBox;
+pub(crate) struct LotBox(pub(crate) Option<Node>);
 
 impl DisplayItem<DrawnLot> for LotBox {
-    ghost text = { λ _. lot_box };
+    ghost text = { λ b. lot_box b.0 };
 
     #[tactic(auto, unfolding(crate::specs::Svg::lot_box))]
     fn show<W: fmt::Write>(&self, drawn: &DrawnLot, f: &mut fmt::Formatter<W>) -> fmt::Result {
@@ -166,6 +194,7 @@ impl DisplayItem<DrawnLot> for LotBox {
             position: drawn.position,
             round: 14,
             colour: mark_colour(drawn.lot.is_held, drawn.lot.is_recalled),
+            is_asked: is_asked(self.0, Node::Lot(drawn.lot.id)),
         };
         let texts = LotTexts(*drawn);
         write!(f, "<g>{title}{outline}{texts}</g>\n")
@@ -209,12 +238,20 @@ impl fmt::Display for BatchTexts {
     }
 }
 
-/// The box of a batch.
+/// What a batch is filled with.
+#[tactic(auto, unfolding(crate::specs::Svg::batch_colour))]
+fn batch_colour() -> &'static str
+    ensures { result.now ≡ batch_colour }
+{
+    "#e7f1ff"
+}
+
+/// The box of a batch, where this node was asked for.
 #[derive(Clone, Copy)]
-pub(crate) struct BatchBox;
+pub(crate) struct BatchBox(pub(crate) Option<Node>);
 
 impl DisplayItem<DrawnBatch> for BatchBox {
-    ghost text = { λ _. batch_box };
+    ghost text = { λ b. batch_box b.0 };
 
     #[tactic(auto, unfolding(crate::specs::Svg::batch_box))]
     fn show<W: fmt::Write>(&self, drawn: &DrawnBatch, f: &mut fmt::Formatter<W>) -> fmt::Result {
@@ -222,7 +259,8 @@ impl DisplayItem<DrawnBatch> for BatchBox {
         let outline = Outline {
             position: drawn.position,
             round: 0,
-            colour: "#e7f1ff",
+            colour: batch_colour(),
+            is_asked: is_asked(self.0, Node::Batch(drawn.batch)),
         };
         let texts = BatchTexts(*drawn);
         write!(f, "<g>{title}{outline}{texts}</g>\n")

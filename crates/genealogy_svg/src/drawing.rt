@@ -45,6 +45,8 @@ pub struct DrawnEdge {
     pub amount: u64,
     /// The unit.
     pub unit: Unit,
+    /// How many rows of amounts are above its own in the gap in front of the column where it ends; `None` where its amount is left out.
+    pub row: Option<u32>,
 }
 
 /// A picture whose nodes stand in their places.

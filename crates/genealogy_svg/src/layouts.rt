@@ -1,12 +1,14 @@
 //! The layout of a picture.
 ghost use Rattle.std.specs.Prelude.{◌≡◌, [], IfErr, IfOk, IsErrOf, Ok};
 ghost use Rattle.genealogy_svg.specs.Layouts.{position_at, nodes_of, lots_in, batches_in, edges_in, drawing_in, IsLaidOut, LeadsRight, IsUnpositioned, IsOutside, IsErrorOf, IsLostEnd};
+ghost use Rattle.genealogy_svg.specs.Rows.{HasAmounts};
 ghost use Rattle.std.specs.List.{All};
 ghost use Rattle.genealogy_svg.specs.Layers.{HasCircle};
 
 use crate::drawing::{BoxPosition, Drawing, DrawnBatch, DrawnEdge, DrawnLot, LayoutFault};
 use crate::layers::ByEnd;
 use crate::positions::{BoxPositions, positions_of};
+use crate::rows::{shows_amounts, with_rows};
 use crate::search::layers_of;
 use crate::wishes::wishes_of;
 use genealogy_graph::{Picture, PictureEdge, PictureLot};
@@ -106,6 +108,7 @@ fn edges_in(
             to,
             amount: edge.amount,
             unit: edge.unit,
+            row: None,
         };
         if drawn.push(edge).is_err() {
             return Err(LayoutFault::Memory);
@@ -133,9 +136,26 @@ fn drawing_in(
     })
 }
 
+/// The drawing with its amounts, where the picture is small enough.
+fn with_amounts(alloc: Global, picture: &Picture, bare: Drawing) -> Result<Drawing, LayoutFault>
+    ensures shown { IfOk result (HasAmounts picture.now bare) }
+    ensures error { IfErr result (λ fault. fault ≡ LayoutFault.Memory) }
+{
+    if !shows_amounts(picture) {
+        return Ok(bare);
+    }
+    let edges = with_rows(alloc, bare.edges.as_slice())?;
+    Ok(Drawing {
+        lots: bare.lots,
+        batches: bare.batches,
+        edges: Items::new(edges),
+    })
+}
+
 /// The drawing of a picture: each node has one place, no two nodes have the same, and each edge leads to the right: a node stands
 /// one to the right of the rightmost of those that lead to it, and at the left where none does. In a column nodes are wished in the order of the middle of
-/// what leads to them, then of their names.
+/// what leads to them, then of their names. Where there are at most [`MOST_WITH_AMOUNTS`](crate::MOST_WITH_AMOUNTS) nodes, each amount has a row in the gap in front of the
+/// column where its edge ends, and no two in one gap have the same; in a larger picture they are left out.
 ///
 /// `Circle` comes only where the edges lead in a circle; `Lost` reports a node where an edge begins or ends, and which the picture hasn't; `Memory` where memory was refused.
 pub fn layout(alloc: Global, picture: &Picture) -> Result<Drawing, LayoutFault>
@@ -151,7 +171,7 @@ pub fn layout(alloc: Global, picture: &Picture) -> Result<Drawing, LayoutFault>
     let wishes = wishes_of(alloc, &ends, &layers, &nodes)?;
     let positions = positions_of(alloc, &layers, &wishes, &nodes)?;
     match drawing_in(alloc, &positions, picture) {
-        Ok(drawing) => Ok(drawing),
+        Ok(bare) => with_amounts(alloc, picture, bare),
         Err(fault) => Err(fault),
     }
 }

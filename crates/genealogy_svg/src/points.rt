@@ -1,6 +1,6 @@
 //! Places as points, in whole numbers, and how they are written.
 ghost use Rattle.std.specs.Prelude.{◌≡◌, ◌<◌, ◌^◌, Some};
-ghost use Rattle.genealogy_svg.specs.Svg.{left_of, top_of, middle_of, point, first_end, last_end, size};
+ghost use Rattle.genealogy_svg.specs.Svg.{left_of, top_of, middle_of, row_line, point, way_point, size};
 
 use crate::drawing::BoxPosition;
 use std::fmt;
@@ -10,7 +10,7 @@ pub(crate) fn left_of(position: BoxPosition) -> u64
     ensures value { result ≡ left_of position }
     ensures small { result < 2 ^ 42 }
 {
-    20 + 300 * u64::from(position.layer)
+    20 + 440 * u64::from(position.layer)
 }
 
 /// The upper side of a box.
@@ -18,7 +18,7 @@ pub(crate) fn top_of(position: BoxPosition) -> u64
     ensures value { result ≡ top_of position }
     ensures small { result < 2 ^ 42 }
 {
-    20 + 80 * u64::from(position.slot)
+    60 + 80 * u64::from(position.slot)
 }
 
 /// The middle of a box, from left to right.
@@ -27,6 +27,14 @@ pub(crate) fn middle_of(position: BoxPosition) -> u64
     ensures small { result < 2 ^ 43 }
 {
     left_of(position) + 90
+}
+
+/// How far down the line of an amount of a row is.
+pub(crate) fn row_line(row: u32) -> u64
+    ensures value { result ≡ row_line row }
+    ensures small { result < 2 ^ 42 }
+{
+    72 + 16 * u64::from(row)
 }
 
 /// The attributes of a point.
@@ -46,37 +54,20 @@ impl fmt::Display for Point {
     }
 }
 
-/// The attributes of the beginning of a line.
+/// A point on the way of a line.
 #[derive(Clone, Copy)]
-pub(crate) struct FirstEnd {
+pub(crate) struct WayPoint {
     pub(crate) x: u64,
     pub(crate) y: u64,
 }
 
-impl fmt::Display for FirstEnd {
-    ghost output = { λ p. Some (first_end p.x p.y) };
+impl fmt::Display for WayPoint {
+    ghost output = { λ p. Some (way_point p.x p.y) };
 
     fn fmt<W: fmt::Write>(&self, f: &mut fmt::Formatter<W>) -> fmt::Result {
         let x = self.x;
         let y = self.y;
-        write!(f, " x1=\"{x}\" y1=\"{y}\"")
-    }
-}
-
-/// The attributes of the end of a line.
-#[derive(Clone, Copy)]
-pub(crate) struct LastEnd {
-    pub(crate) x: u64,
-    pub(crate) y: u64,
-}
-
-impl fmt::Display for LastEnd {
-    ghost output = { λ p. Some (last_end p.x p.y) };
-
-    fn fmt<W: fmt::Write>(&self, f: &mut fmt::Formatter<W>) -> fmt::Result {
-        let x = self.x;
-        let y = self.y;
-        write!(f, " x2=\"{x}\" y2=\"{y}\"")
+        write!(f, "{x} {y}")
     }
 }
 

@@ -1,11 +1,6 @@
 use Rattle.std.proofs.Common.{◌≡◌, take}
-use Rattle.genealogy_svg.specs.declared.drawing.DrawnBatch.{DrawnBatch}
-use Rattle.genealogy_svg.specs.declared.drawing.DrawnLot.{DrawnLot}
-use Rattle.genealogy_svg.specs.Svg.{greatest, lower_end}
+use Rattle.genealogy_svg.specs.Svg.{boxes_end, edge_end, greatest}
 use Rattle.genealogy_svg.proofs.scalable.height_of.Given as goal
 
-abbrev pub invariant-loop-lot : goal.invariant-loop-lot
-invariant-loop-lot l = l.height ≡ greatest (λ (x : DrawnLot). lower_end x.position) 96 (take l.lot-index l.drawing.lots)
-
-abbrev pub invariant-loop-batch : goal.invariant-loop-batch
-invariant-loop-batch l = l.height ≡ greatest (λ (x : DrawnBatch). lower_end x.position) (greatest (λ (x : DrawnLot). lower_end x.position) 96 l.drawing.lots) (take l.batch-index l.drawing.batches)
+abbrev pub invariant-loop-edge : goal.invariant-loop-edge
+invariant-loop-edge l = l.height ≡ greatest edge_end (boxes_end l.drawing) (take l.edge-index l.drawing.edges)

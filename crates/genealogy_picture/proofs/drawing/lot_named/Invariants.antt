@@ -1,0 +1,8 @@
+use Rattle.std.proofs.Common.{◌≡◌, false, take}
+use Rattle.std.specs.List.{list_any}
+use Rattle.std.specs.Str.{bytes_eq}
+use Rattle.genealogy_graph.specs.declared.model.PictureLot.{PictureLot}
+use Rattle.genealogy_picture.proofs.drawing.lot_named.Given as goal
+
+abbrev pub invariant-loop-lot : goal.invariant-loop-lot
+invariant-loop-lot l = list_any (λ (lot : PictureLot). bytes_eq lot.id l.id) (take l.lot-index l.picture.lots) ≡ false

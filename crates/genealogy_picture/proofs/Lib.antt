@@ -1,3 +1,4 @@
+pub mod AbsentNodes
 pub mod MembersCounted
 pub mod DrawnInput
 pub mod RefusalKinds

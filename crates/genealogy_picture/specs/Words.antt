@@ -32,10 +32,16 @@ bare_app =
     let plain = new_app (codes "genealogy_picture") in
     record plain { top = record plain.top { has_version = true } }
 
+-- the ids of nodes, and the flags of formats
+abbrev pub with_nodes : App → App
+with_nodes app = with_rule (with_rule app (id_rule (codes "lot"))) (id_rule (codes "batch"))
+
+abbrev pub with_formats : App → App
+with_formats app = with_rule (with_rule app (flag_rule (codes "dot"))) (flag_rule (codes "svg"))
+
 -- a program that has a version and takes a file, two ids and two flags
 abbrev pub picture_app : App
-picture_app = with_rule (with_rule (with_rule (with_rule (with_rule bare_app file_rule) (id_rule (codes "lot"))) (id_rule (codes "batch")))
-    (flag_rule (codes "dot"))) (flag_rule (codes "svg"))
+picture_app = with_formats (with_nodes (with_rule bare_app file_rule))
 
 -- DOT where it is asked for, else SVG
 abbrev pub format_of : List Row → Format

@@ -1,5 +1,5 @@
 //! The picture of an input.
-ghost use Rattle.std.specs.Prelude.{◌≡◌, ℕ, List, None, false, IfErr, IfOk, IfSome, string_bytes};
+ghost use Rattle.std.specs.Prelude.{◌≡◌, ℕ, List, None, Some, false, IfErr, IfOk, IfSome, string_bytes};
 ghost use Rattle.plant_base.specs.Inputs.{Agrees};
 ghost use Rattle.std.specs.IoError.{error_kind};
 ghost use Rattle.genealogy_picture.specs.Reading.{ReportsAs};
@@ -90,26 +90,46 @@ fn batch_named(picture: &Picture, id: &str) -> Option<Node>
     None
 }
 
-/// The node that was asked for, of those of the picture.
-fn node_asked(picture: &Picture, asked: Asked<'_>) -> Result<Option<Node>, DrawError>
-    ensures node { IfOk result (λ node. node ≡ names asked) }
-    ensures absent { IfErr result (IsAbsent picture.now (names asked)) }
+/// The lot that was asked for.
+#[tactic(auto, using(crate::proofs::AbsentNodes::absent_lot))]
+fn lot_asked(picture: &Picture, id: &str) -> Result<Option<Node>, DrawError>
+    ensures node { IfOk result (λ node. node ≡ Some (Lot id.now)) }
+    ensures absent { IfErr result (IsAbsent picture.now (Some (Lot id.now))) }
 {
-    let found = match asked {
-        Asked::Nothing => return Ok(None),
-        Asked::Lot(id) => lot_named(picture, id),
-        Asked::Batch(id) => batch_named(picture, id),
-    };
-    match found {
+    match lot_named(picture, id) {
         Some(node) => Ok(Some(node)),
         None => Err(DrawError::Refused(Refusal::Absent)),
     }
 }
 
+/// The batch that was asked for.
+#[tactic(auto, using(crate::proofs::AbsentNodes::absent_batch))]
+fn batch_asked(picture: &Picture, id: &str) -> Result<Option<Node>, DrawError>
+    ensures node { IfOk result (λ node. node ≡ Some (Batch id.now)) }
+    ensures absent { IfErr result (IsAbsent picture.now (Some (Batch id.now))) }
+{
+    match batch_named(picture, id) {
+        Some(node) => Ok(Some(node)),
+        None => Err(DrawError::Refused(Refusal::Absent)),
+    }
+}
+
+/// The node that was asked for, of those of the picture.
+fn node_asked(picture: &Picture, asked: Asked<'_>) -> Result<Option<Node>, DrawError>
+    ensures node { IfOk result (λ node. node ≡ names asked.entry) }
+    ensures absent { IfErr result (IsAbsent picture.now (names asked.entry)) }
+{
+    match asked {
+        Asked::Nothing => Ok(None),
+        Asked::Lot(id) => lot_asked(picture, id),
+        Asked::Batch(id) => batch_asked(picture, id),
+    }
+}
+
 /// The text of a picture in SVG.
 fn svg_of(alloc: Global, picture: &Picture, asked: Asked<'_>) -> Result<String, DrawError>
-    ensures text { IfOk result (λ text. IsTextOf Svg (names asked) picture.now (string_bytes text)) }
-    ensures refused { IfErr result (IsTextError Svg (names asked) picture.now) }
+    ensures text { IfOk result (λ text. IsTextOf Svg (names asked.entry) picture.now (string_bytes text)) }
+    ensures refused { IfErr result (IsTextError Svg (names asked.entry) picture.now) }
 {
     let node = node_asked(picture, asked)?;
     let drawing = drawing_of(alloc, picture)?;
@@ -123,8 +143,8 @@ fn text_of(
     asked: Asked<'_>,
     picture: &Picture,
 ) -> Result<String, DrawError>
-    ensures text { IfOk result (λ text. IsTextOf format (names asked) picture.now (string_bytes text)) }
-    ensures refused { IfErr result (IsTextError format (names asked) picture.now) }
+    ensures text { IfOk result (λ text. IsTextOf format (names asked.entry) picture.now (string_bytes text)) }
+    ensures refused { IfErr result (IsTextError format (names asked.entry) picture.now) }
 {
     match format {
         Format::Dot => Ok(dot(alloc, picture)?),
@@ -139,7 +159,7 @@ fn drawn(
     asked: Asked<'_>,
     bytes: &[u8],
 ) -> Result<String, DrawError>
-    ensures { Draws format (names asked) bytes.now result }
+    ensures { Draws format (names asked.entry) bytes.now result }
 {
     let picture = picture_in(alloc, bytes)?;
     text_of(alloc, format, asked, &picture)
@@ -178,7 +198,7 @@ pub(crate) fn draw<R: Read>(
     asked: Asked<'_>,
     reader: &mut R,
 ) -> Result<String, DrawError>
-    ensures { (bytes : List ℕ) × Agrees (R.remaining reader.old) bytes × Draws format (names asked) bytes result }
+    ensures { (bytes : List ℕ) × Agrees (R.remaining reader.old) bytes × Draws format (names asked.entry) bytes result }
 {
     let mut bytes = Vec::new(alloc);
     match read_count(reader.read_to_end(&mut bytes)) {

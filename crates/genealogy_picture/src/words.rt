@@ -1,8 +1,8 @@
 //! The words of the command line.
 ghost use Rattle.std.specs.Prelude.{◌≡◌, IfErr, IfOk, [], codes, false, map, option_map};
-ghost use Rattle.clap.specs.Words.{app_of, fault_of, first_of, found_of, matches_of, rows_of, rule_of};
+ghost use Rattle.clap.specs.Words.{app_of, fault_of, first_of, found_of, matches_of, rows_of, rule_of, with_rule};
 ghost use Rattle.desk_cli.specs.Meaning.{IsRefusalOf, is_set};
-ghost use Rattle.genealogy_picture.specs.Words.{asked_of, file_rule, format_of, flag_rule, id_rule, names, picture_app};
+ghost use Rattle.genealogy_picture.specs.Words.{asked_of, bare_app, file_rule, format_of, flag_rule, id_rule, names, picture_app, with_formats, with_nodes};
 
 use clap::{Arg, ArgAction, ArgMatches, Command};
 use desk_cli::{WordsFault, refusal_of};
@@ -73,8 +73,9 @@ fn flag_argument<'a>(alloc: Global, name: &'a str, help: &'a str) -> Arg<'a>
         .help(help)
 }
 
-fn command_line<'a>(alloc: Global) -> Result<Command<'a>, AllocError>
-    ensures { IfOk result (λ c. app_of c ≡ picture_app) }
+/// The command with its file.
+fn plain_command<'a>(alloc: Global) -> Result<Command<'a>, AllocError>
+    ensures app { IfOk result (λ c. app_of c ≡ with_rule bare_app file_rule) }
 {
     Command::new(alloc, "genealogy_picture")
         .about("Draw the genealogy that answers of the desk with edges tell")
@@ -86,7 +87,14 @@ where both are asked for, it is DOT.\n\
 Exit status: 0 where the picture is drawn; 1 where the answers make none; 2 where these words aren't understood; 3 where a read or a write failed;\n\
 4 where memory was refused.",
         )
-        .arg(file_argument(alloc))?
+        .arg(file_argument(alloc))
+}
+
+/// The command with the node that the picture is of.
+fn with_nodes<'a>(alloc: Global, command: Command<'a>) -> Result<Command<'a>, AllocError>
+    ensures app { IfOk result (λ c. app_of c ≡ with_nodes (app_of command.entry)) }
+{
+    command
         .arg(id_argument(
             alloc,
             "lot",
@@ -98,13 +106,28 @@ Exit status: 0 where the picture is drawn; 1 where the answers make none; 2 wher
             "batch",
             "BATCH",
             "The same of this batch; a lot goes before it",
-        ))?
+        ))
+}
+
+/// The command with the formats.
+fn with_formats<'a>(alloc: Global, command: Command<'a>) -> Result<Command<'a>, AllocError>
+    ensures app { IfOk result (λ c. app_of c ≡ with_formats (app_of command.entry)) }
+{
+    command
         .arg(flag_argument(alloc, "dot", "Write DOT, which Graphviz draws"))?
         .arg(flag_argument(
             alloc,
             "svg",
             "Write SVG, which a browser shows, as without this word",
         ))
+}
+
+fn command_line<'a>(alloc: Global) -> Result<Command<'a>, AllocError>
+    ensures { IfOk result (λ c. app_of c ≡ picture_app) }
+{
+    let plain = plain_command(alloc)?;
+    let named = with_nodes(alloc, plain)?;
+    with_formats(alloc, named)
 }
 
 fn value_of<'a>(matches: &ArgMatches<'a>, id: &str) -> Option<&'a str>

@@ -24,7 +24,7 @@ MANY = 100_000
 BOTH = ("--dot", "--svg")
 
 # Where boxes stand, in pixels: the first corner, from layer to layer, from slot to slot, and the size of a box.
-CORNER, TOP, LAYER, SLOT = 20, 60, 440, 80
+LEFT, UPPER, LAYER, SLOT = 20, 60, 440, 80
 WIDE, HIGH = 180, 56
 
 # The gap in front of a layer, in which amounts stand, how far apart their lines are, and from how many nodes on they are left out.
@@ -199,10 +199,10 @@ class PictureTestCase(ProgramTestCase):
     def check_boxes(self, case, picture, tree, boxes):
         """Each node stands in its layer, in a place of its own, and each edge leads from box to box with its amount."""
         layers = picture.layers()
-        self.check(f"{case}, the layers", {it: (int(box["x"]) - CORNER) / LAYER for it, box in boxes.items()}, layers)
+        self.check(f"{case}, the layers", {it: (int(box["x"]) - LEFT) / LAYER for it, box in boxes.items()}, layers)
         corners = [(box["x"], box["y"]) for box in boxes.values()]
         self.check(f"{case}, two nodes in one place", len(set(corners)), len(corners))
-        places = sorted((layers[it], (int(box["y"]) - TOP) // SLOT) for it, box in boxes.items())
+        places = sorted((layers[it], (int(box["y"]) - UPPER) // SLOT) for it, box in boxes.items())
         self.check(f"{case}, a gap in a layer", places, slots(layers))
         self.check_lines(case, picture, tree, boxes)
         wide, high = (int(tree.attrib[it]) for it in ("width", "height"))

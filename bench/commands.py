@@ -285,4 +285,5 @@ def main():
         measure(program, pathlib.Path(folder), int(count), is_in_memory == "memory", int(size), int(receipts or size))
 
 
-main()
+if __name__ == "__main__":
+    main()

@@ -14,8 +14,8 @@ import os
 import sqlite3
 import sys
 
-EDGES = {"consume": 1, "produce": 2, "split": 3}
-KINDS = {"receive": 1, "consume": 2, "produce": 3, "scrap": 4, "split": 6}
+EDGES = {"consume": 1, "produce": 2, "split": 3, "merge": 3}
+KINDS = {"receive": 1, "consume": 2, "produce": 3, "scrap": 4, "split": 6, "merge": 7}
 
 
 class Store:
@@ -69,8 +69,30 @@ class Store:
     def book(self, do, fields, reference, line):
         """Executes a command, and returns its number."""
         [(seq, _)] = self.rows("SELECT seq, at FROM meta WHERE k = 1")
-        seq, lot, batch, new = seq + 1, fields["lot"], fields.get("batch"), fields.get("new")
+        seq += 1
         self.rows("BEGIN IMMEDIATE")
+        if do == "import_orders":
+            self.import_orders(fields["orders"])
+        elif do == "merge":
+            self.merge(seq, fields)
+        else:
+            self.move(seq, do, fields)
+        if reference:
+            self.rows("INSERT INTO receipt VALUES (?, ?, ?)", reference, seq, line)
+        self.rows("UPDATE meta SET seq = ?, at = ? WHERE k = 1", seq, fields["at"])
+        self.commit(seq)
+        return seq
+
+    def import_orders(self, orders):
+        for it in orders:
+            assert not self.rows("SELECT * FROM job WHERE id = ?", it["order"])
+            assert self.rows("SELECT * FROM recipe WHERE id = ? AND version = ?", it["recipe"], it["version"])
+            self.rows("INSERT INTO job VALUES (?, ?, ?, ?, ?, ?, 'open')",
+                      it["order"], it["recipe"], it["version"], it["size"], it["due"], it["priority"])
+
+    def move(self, seq, do, fields):
+        """A booking of one movement."""
+        lot, batch, new = fields["lot"], fields.get("batch"), fields.get("new")
         if do in ("receive", "produce"):
             self.rows("SELECT id FROM definition WHERE id = ?", fields["def"])
             if batch:
@@ -80,16 +102,24 @@ class Store:
             definition = self.take(do, fields)
             if new:
                 self.make_lot(new, definition, fields["place"], fields["amount"])
-        self.rows("INSERT INTO movement VALUES (?, 1, ?, ?, 0, ?, ?, ?, ?, ?, ?, '')",
-                  seq, KINDS[do], lot, new, 0 if new else None, batch, fields["amount"], fields["at"], fields["by"])
+        self.write(seq, 1, do, fields, lot, new, fields["amount"])
+
+    def merge(self, seq, fields):
+        """A merge, with a movement for each of its parts."""
+        new, parts = fields["new"], fields["parts"]
+        definition = [self.take("merge", it) for it in parts][0]
+        self.make_lot(new, definition, fields["place"], sum(it["amount"] for it in parts))
+        for number, it in enumerate(parts, 1):
+            self.write(seq, number, "merge", fields, it["lot"], new, it["amount"])
+
+    def write(self, seq, number, do, fields, lot, new, amount):
+        """Writes a movement and its edge."""
+        batch = fields.get("batch")
+        self.rows("INSERT INTO movement VALUES (?, ?, ?, ?, 0, ?, ?, ?, ?, ?, ?, '')",
+                  seq, number, KINDS[do], lot, new, 0 if new else None, batch, amount, fields["at"], fields["by"])
         if do in EDGES:
-            ends = {"consume": (lot, batch), "produce": (batch, lot), "split": (lot, new)}[do]
+            ends = {1: (lot, batch), 2: (batch, lot), 3: (lot, new)}[EDGES[do]]
             self.rows("INSERT INTO edge VALUES (?, ?, ?) ON CONFLICT DO NOTHING", EDGES[do], *ends)
-        if reference:
-            self.rows("INSERT INTO receipt VALUES (?, ?, ?)", reference, seq, line)
-        self.rows("UPDATE meta SET seq = ?, at = ? WHERE k = 1", seq, fields["at"])
-        self.commit(seq)
-        return seq
 
     def commit(self, seq):
         self.rows("COMMIT")

@@ -1,6 +1,6 @@
-"""Faults that are brought about: files that stop, refused memory, streams that are narrow or fail, limits of the system.
+"""Faults that are brought about: files that stop, calls that fail, refused memory, streams that are narrow or fail, limits of the system.
 
-The first three are done by libraries of bench, which stand before a program by LD_PRELOAD. Each function returns what is added to the
+The first of these are done by libraries of bench, which stand before a program by LD_PRELOAD. Each function returns what is added to the
 environment of the program. A C compiler builds the libraries, each once.
 """
 from __future__ import annotations
@@ -43,6 +43,16 @@ def stopped_file(end, calls, error=None):
 def synced_files():
     """No file fails; what of the desk's files was synced is kept beside them."""
     return preloaded("stop")
+
+
+def failed_call(number, error, mark):
+    """Of the calls about a desk's file the one of this number fails, and then the file `mark` is made."""
+    return preloaded("at_call", AT_NAME=".db", AT_OPEN="-new", AT_CALL=number, AT_ERROR=error, AT_MET=mark)
+
+
+def met_call(number, sent, mark):
+    """Of the calls about a desk's file the program sends itself this signal before the one of this number, and then the file `mark` is made."""
+    return preloaded("at_call", AT_NAME=".db", AT_OPEN="-new", AT_CALL=number, AT_SIGNAL=int(sent), AT_MET=mark)
 
 
 def refused_memory(number, mark=None):

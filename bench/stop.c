@@ -46,10 +46,12 @@ static int passes(int file) {
     return 0;
 }
 
-/* Copies what stands in a file of a desk, which was synced. */
+/* Copies what stands in a file of a desk, which was synced; of one that is made, under the name that it gets next. */
 static void keep_synced(int file) {
     char name[PATH_MAX + 8];
-    if (!ends_in(file, ".db", name) && !ends_in(file, "-wal", name)) {
+    if (ends_in(file, ".db-new", name)) {
+        name[strlen(name) - strlen("-new")] = 0;
+    } else if (!ends_in(file, ".db", name) && !ends_in(file, "-wal", name)) {
         return;
     }
     strcat(name, ".synced");

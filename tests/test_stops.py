@@ -28,7 +28,7 @@ STORE = b"fault: store\n"
 LOG, DATABASE = "-wal", ".db"
 
 # So many receipts outgrow the log, which is copied into the database while the run goes on.
-MANY = 260
+MANY = 400
 
 # Of the calls of the log in a run that long each so many-th is stopped at.
 STRIDE = 61

@@ -30,8 +30,8 @@ LOG, DATABASE = "-wal", ".db"
 # So many receipts outgrow the log, which is copied into the database while the run goes on.
 MANY = 400
 
-# Of the calls of the log in a run that long each so many-th is stopped at.
-STRIDE = 61
+# Of the calls of the log, and of the database, in a run that long each so many-th is stopped at.
+STRIDE, DATABASE_STRIDE = 61, 5
 
 # How many stops of a run are followed by stops of the opening of what they left.
 FOLLOWED = 4
@@ -269,7 +269,7 @@ class LongRun(StopTestCase):
         self.check_stops(LOG, STRIDE)
 
     def test_what_a_stop_of_the_database_leaves_is_good(self):
-        self.check_stops(DATABASE)
+        self.check_stops(DATABASE, DATABASE_STRIDE)
 
 
 class ChangedFileTestCase(StopTestCase):

@@ -129,10 +129,11 @@ fn are_one(a: &Metadata, b: &Metadata) -> bool {
     a.dev() == b.dev() && a.ino() == b.ino()
 }
 
-/// Takes away the first name of a file that has the second, where a stop left it both.
+/// Takes away the first name of a file that has the second, where a stop left it both: it has a page then, and was never opened.
 fn end_naming(rt: &HostRuntime, beside: &str, named: Metadata) -> Result<(), Unmade> {
+    let is_new = named.len() == PAGE_SIZE as u64;
     match found_at(rt, beside)? {
-        Some(found) if are_one(&found, &named) => Ok(fs::remove_file(rt, beside)?),
+        Some(found) if is_new && are_one(&found, &named) => Ok(fs::remove_file(rt, beside)?),
         _ => Ok(()),
     }
 }

@@ -9,3 +9,4 @@ pub mod AllRowsDecoded
 pub mod RowsReadBack
 pub mod RowsRepresentTables
 pub mod TablesOfRows
+pub mod MovementsFirst

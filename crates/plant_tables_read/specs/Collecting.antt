@@ -21,6 +21,7 @@ use Rattle.plant_base.specs.declared.rows.EdgeRow.{EdgeRow}
 use Rattle.plant_base.specs.declared.rows.Receipt.{Receipt}
 use Rattle.plant_base.specs.declared.rows.Mark.{Mark}
 use Rattle.plant_view.specs.Tables.{Tables}
+use Rattle.sql_tables.specs.StoredRows.{Contents}
 use Rattle.plant_tables.specs.Keyed.{AreKeyed}
 use Rattle.plant_tables_columns.specs.DecodedRows.{all_from}
 use Rattle.plant_tables_read.specs.Loading.{contents_loaded}
@@ -73,6 +74,45 @@ rows_from x = do
   receipts ← all_from receipt_from (contents_loaded x 14)
   recalls ← all_from stated_from (contents_loaded x 15)
   marks ← all_from mark_from (contents_loaded x 16)
+  Some (record {
+    meta = meta;
+    classes = classes;
+    definitions = definitions;
+    recipes = recipes;
+    master_lines = master_lines;
+    jobs = jobs;
+    batches = batches;
+    control_lines = control_lines;
+    events = events;
+    lots = lots;
+    sublots = sublots;
+    movements = movements;
+    holds = holds;
+    edges = edges;
+    receipts = receipts;
+    recalls = recalls;
+    marks = marks;
+  })
+
+-- the rows of tables that are at these places, with these movements: those of table movement aren't looked at
+unfoldable pub rows_beside : Contents → List BookedRow → Option Rows
+rows_beside at movements = do
+  meta ← only_meta (at 0)
+  classes ← all_from class_from (at 1)
+  definitions ← all_from definition_from (at 2)
+  recipes ← all_from recipe_from (at 3)
+  master_lines ← all_from master_line_from (at 4)
+  jobs ← all_from job_from (at 5)
+  batches ← all_from batch_from (at 6)
+  control_lines ← all_from control_line_from (at 7)
+  events ← all_from batch_event_from (at 8)
+  lots ← all_from lot_from (at 9)
+  sublots ← all_from sublot_from (at 10)
+  holds ← all_from hold_from (at 12)
+  edges ← all_from edge_from (at 13)
+  receipts ← all_from receipt_from (at 14)
+  recalls ← all_from stated_from (at 15)
+  marks ← all_from mark_from (at 16)
   Some (record {
     meta = meta;
     classes = classes;

@@ -19,6 +19,10 @@ pub record Loads (db : Database) (table_def : TableDef) (list : List Row) : Type
 abbrev pub contents_loaded : Loaded → Contents
 contents_loaded x place = slice_index_or (map (λ table. table.items) x.tables.items) place []
 
+-- the tables at the other places are the same
+abbrev pub HasOthers : ℕ → Loaded → Loaded → Type 0
+HasOthers place x y = (at : ℕ) → ¬ (at ≡ place) → contents_loaded y at ≡ contents_loaded x at
+
 -- every row of every table of the schema, and nothing else
 pub record AreLoaded (schema : ℕ) (db : Database) (x : Loaded) : Type 0 where
   pub tables : (place : ℕ) (table_def : TableDef) → slice_get (table_defs_of schema) place ≡ Some table_def → Loads db table_def (contents_loaded x place)

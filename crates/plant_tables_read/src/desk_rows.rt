@@ -1,7 +1,8 @@
 ghost use Rattle.std.specs.Prelude.{◌≡◌, IfOk, is_some, option_map};
-ghost use Rattle.plant_tables_read.specs.Loading.{contents_loaded};
-ghost use Rattle.plant_tables_columns.specs.TableColumns.{only_meta};
-ghost use Rattle.plant_tables_read.specs.Collecting.{rows_listed, rows_from};
+ghost use Rattle.plant_tables_read.specs.Loading.{HasOthers, contents_loaded};
+ghost use Rattle.plant_tables_columns.specs.DecodedRows.{all_from};
+ghost use Rattle.plant_tables_columns.specs.TableColumns.{booked_from, only_meta};
+ghost use Rattle.plant_tables_read.specs.Collecting.{rows_beside, rows_listed, rows_from};
 ghost use Rattle.plant_tables_read.specs.ReadingLaws.{RowsRepresentTables, AreReadAgain, AreWholeRows, AreSameTables};
 ghost use Rattle.plant_tables_read.specs.ReadingLaws.{IsBookedAgain, IsStatedAgain};
 
@@ -85,9 +86,43 @@ macro_rules! read {
 
 /// The rows of the desk that the stored rows stand for. `None` exactly where a value breaks its rule, or meta hasn't
 /// one row; an error where there is no memory.
-#[tactic(auto, unfolding(crate::specs::Collecting::rows_from, crate::specs::Collecting::rows_listed))]
+#[tactic(auto, using(crate::proofs::MovementsFirst::unread, crate::proofs::MovementsFirst::with_movements))]
 pub fn rows_of(alloc: Global, loaded: &Loaded) -> Result<Option<DeskRows>, AllocError>
     ensures { IfOk result (λ rows. option_map rows_listed rows ≡ rows_from loaded.now) }
+{
+    let movements = read!(decode_all(alloc, loaded.rows(11))?);
+    rows_beside(alloc, loaded, movements)
+}
+
+/// The same of stored rows that are given up: those of table movement, which are the most, once the movements are read, and the
+/// others with them once all is read.
+#[tactic(auto, using(crate::proofs::MovementsFirst::unread))]
+pub fn take_rows(alloc: Global, mut loaded: Loaded) -> Result<Option<DeskRows>, AllocError>
+    ensures { IfOk result (λ rows. option_map rows_listed rows ≡ rows_from loaded) }
+{
+    let movements = read!(take_movements(alloc, &mut loaded)?);
+    rows_beside(alloc, &loaded, movements)
+}
+
+// The movements that the stored rows stand for, which are given up.
+fn take_movements(alloc: Global, loaded: &mut Loaded) -> Result<Option<Vec<BookedRow>>, AllocError>
+    ensures read { IfOk result (λ rows. option_map (λ list. list.items) rows
+        ≡ all_from booked_from (contents_loaded loaded.old 11)) }
+    ensures others { HasOthers 11 loaded.old loaded.new }
+{
+    let stored = loaded.take(alloc, 11);
+    decode_all(alloc, stored.as_slice())
+}
+
+// The rows of the desk that the stored rows of the other tables stand for, with these movements.
+#[tactic(auto, unfolding(crate::specs::Collecting::rows_beside, crate::specs::Collecting::rows_listed))]
+fn rows_beside(
+    alloc: Global,
+    loaded: &Loaded,
+    movements: Vec<BookedRow>,
+) -> Result<Option<DeskRows>, AllocError>
+    ensures { IfOk result (λ rows. option_map rows_listed rows
+        ≡ rows_beside (contents_loaded loaded.now) movements.items) }
 {
     Ok(Some(DeskRows {
         meta: read!(only_meta(loaded.rows(0))),
@@ -101,7 +136,7 @@ pub fn rows_of(alloc: Global, loaded: &Loaded) -> Result<Option<DeskRows>, Alloc
         events: read!(decode_all(alloc, loaded.rows(8))?),
         lots: read!(decode_all(alloc, loaded.rows(9))?),
         sublots: read!(decode_all(alloc, loaded.rows(10))?),
-        movements: read!(decode_all(alloc, loaded.rows(11))?),
+        movements,
         holds: read!(decode_all(alloc, loaded.rows(12))?),
         edges: read!(decode_all(alloc, loaded.rows(13))?),
         receipts: read!(decode_receipts(alloc, loaded.rows(14))?),

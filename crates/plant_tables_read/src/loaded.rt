@@ -3,7 +3,7 @@ ghost use Rattle.std.specs.Prelude.{IsOkUnless};
 ghost use Rattle.sqlite.specs.Held.{state};
 ghost use Rattle.sqlite.specs.State.{HasCleanDisk, Survives};
 ghost use Rattle.sql_queries.specs.Calls.{AnswersUnchanged, BeginsNone, FindsUnchanged, KeepsVisible};
-ghost use Rattle.plant_tables_read.specs.Loading.{AreLoaded, AreRising, contents_loaded};
+ghost use Rattle.plant_tables_read.specs.Loading.{AreLoaded, AreRising, HasOthers, contents_loaded};
 ghost use Rattle.plant_tables_read.specs.Version.{IsKnown, HasTablesOf};
 ghost use Rattle.plant_tables_read.specs.LoadingCalls.{FindsLoaded, FindsStored, ReportsLacking};
 
@@ -15,6 +15,7 @@ use sql_tables::Fault;
 use sqlite::{Alter, Connection, Row};
 use sqlite_schema::schema::Schema;
 use std::alloc::Global;
+use std::mem::replace;
 
 /// Every row of the desk's tables as it is stored: the rows of each table by its key, the tables in the order of their
 /// forms. Values that break a rule are kept as they are.
@@ -43,6 +44,19 @@ impl Loaded {
         match self.tables.get(place) {
             Some(rows) => rows.as_slice(),
             None => &[],
+        }
+    }
+
+    /// Takes the rows of the table at this place, the first being 0, out of those that were loaded: none where there is no such
+    /// table. Afterwards the table is empty, and the others are as they were.
+    #[tactic(auto, using(crate::proofs::MovementsFirst::table_kept))]
+    pub(crate) fn take(&mut self, alloc: Global, place: usize) -> Vec<Row>
+        ensures rows { result.items ≡ contents_loaded self.old place }
+        ensures others { HasOthers place self.old self.new }
+    {
+        match self.tables.get_mut(place) {
+            Some(rows) => replace(rows, Vec::new(alloc)),
+            None => Vec::new(alloc),
         }
     }
 

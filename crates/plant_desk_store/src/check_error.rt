@@ -4,7 +4,7 @@ ghost use Rattle.std.specs.Prelude.{IfOk, IfErr};
 ghost use Rattle.plant_desk_store.specs.Checks.{PassesChecks, FailsChecksBy, PassesChecksOf, FailsChecksOf};
 
 use plant_check::{Rule, check_rows};
-use plant_tables_read::{DeskRows, Loaded, has_meta, rows_of};
+use plant_tables_read::{DeskRows, Loaded, has_meta, take_rows};
 use std::alloc::Global;
 
 /// Why loaded rows aren't those of a desk of a schema.
@@ -19,7 +19,7 @@ pub(crate) enum CheckError {
 }
 
 /// The rows of a desk of a schema that loaded rows are: their values are judged and their rules checked. The
-/// adoption of a store and its test call this, and nothing else judges what a store holds. What was loaded is given up once
+/// adoption of a store and its test call this, and nothing else judges what a store holds. What was loaded is given up as
 /// its values are judged, so that no table is held twice while rules are checked.
 pub(crate) fn check_desk(alloc: Global, loaded: Loaded, schema: u64) -> Result<DeskRows, CheckError>
     ensures fit { IfOk result (PassesChecks loaded schema) }
@@ -28,9 +28,7 @@ pub(crate) fn check_desk(alloc: Global, loaded: Loaded, schema: u64) -> Result<D
     if !has_meta(&loaded) {
         return Err(CheckError::Broken(Rule::Tables));
     }
-    let rows = rows_of(alloc, &loaded);
-    drop(loaded);
-    match rows {
+    match take_rows(alloc, loaded) {
         Err(_) => Err(CheckError::Memory),
         Ok(None) => Err(CheckError::Broken(Rule::Values)),
         Ok(Some(rows)) => check_all(alloc, rows, schema),

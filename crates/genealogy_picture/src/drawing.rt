@@ -153,12 +153,7 @@ fn text_of(
 }
 
 /// The text of the picture of the answers that the bytes are.
-fn drawn(
-    alloc: Global,
-    format: Format,
-    asked: Asked<'_>,
-    bytes: &[u8],
-) -> Result<String, DrawError>
+fn drawn(alloc: Global, format: Format, asked: Asked<'_>, bytes: &[u8]) -> Result<String, DrawError>
     ensures { Draws format (names asked.entry) bytes.now result }
 {
     let picture = picture_in(alloc, bytes)?;

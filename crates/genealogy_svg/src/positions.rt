@@ -17,7 +17,11 @@ use std::collections::{BTreeMap, BTreeSet};
 pub(crate) type BoxPositions = BTreeMap<Node, BoxPosition>;
 
 /// The first free place of a layer from the wished one on.
-pub(crate) fn free_from(taken: &BTreeSet<BoxPosition>, layer: u32, wished: u32) -> Option<BoxPosition>
+pub(crate) fn free_from(
+    taken: &BTreeSet<BoxPosition>,
+    layer: u32,
+    wished: u32,
+) -> Option<BoxPosition>
     ensures layer { IfSome result (λ position. position.layer ≡ layer) }
     ensures free { IfSome result (λ position. contains position_cmp taken.now position ≡ false) }
 {
@@ -30,7 +34,10 @@ pub(crate) fn free_from(taken: &BTreeSet<BoxPosition>, layer: u32, wished: u32) 
     None
 }
 
-pub(crate) fn take(taken: &mut BTreeSet<BoxPosition>, position: BoxPosition) -> Result<(), AllocError>
+pub(crate) fn take(
+    taken: &mut BTreeSet<BoxPosition>,
+    position: BoxPosition,
+) -> Result<(), AllocError>
     ensures { OnOk result (sets.Updates position_cmp taken.old taken.new position true) }
 {
     taken.insert(position)?;

@@ -319,9 +319,10 @@ class Ladders(LimitTestCase):
         self.ladder("ladder.db", FEWER_RUNGS)
         told = self.desk.run("run", "ladder.db", told=b'{"ask":"forward_edges","batch":"B-1"}\n').output
         picture, edges = Program("genealogy_picture", self.folder), 3 * FEWER_RUNGS + 1
-        for word, mark in ("--dot", b" -> "), ("--svg", b"<line "):
+        # In SVG the head of an arrow is a path, too.
+        for word, mark, marks in ("--dot", b" -> ", edges), ("--svg", b"<path ", edges + 1):
             status, output, errors = picture.run(word, told=told, timeout=SECONDS)
-            self.check(f"a ladder, drawn by {word}", (status, output.count(mark), errors), (0, edges, b""))
+            self.check(f"a ladder, drawn by {word}", (status, output.count(mark), errors), (0, marks, b""))
 
     def make_circle(self, file, seq, last):
         """Lets the batch that made the first lot consume of the last one."""

@@ -266,7 +266,7 @@ class Texts(PackageTestCase):
             self.check_true(f"the options of {program}", known in options)
             for shell, place, form in (
                 ("bash", f"bash-completion/completions/{program}", r"[' ]{option}[' ]"),
-                ("zsh", f"zsh/vendor-completions/_{program}", r"{option}\["),
+                ("zsh", f"zsh/vendor-completions/_{program}", r"{option}=?\["),
                 ("fish", f"fish/vendor_completions.d/{program}.fish", r" -l {bare} "),
             ):
                 text = (share / place).read_text()

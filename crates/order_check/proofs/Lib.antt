@@ -1,1 +1,1 @@
-mod VerdictOfInput
+pub mod ConflictsInSequence

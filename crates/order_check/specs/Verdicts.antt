@@ -1,22 +1,55 @@
 -- What is told of an order file.
-use Rattle.std.specs.Prelude.{ℕ, List, length, ◌++◌, codes, decimal, Result, Ok, Err}
-use Rattle.plant_base.specs.declared.rows.OrderRow.{OrderRow}
-use Rattle.plant_orders.specs.declared.fault.CsvFault.{CsvFault}
+use Rattle.std.specs.Prelude.{ℕ, Bool, List, [], ◌∷◌, ◌++◌, length, codes, decimal, Option, None, Some, find, ◌&&◌, ◌==◌, if◌then◌else◌}
+use Rattle.plant_base.specs.State.{same}
+use Rattle.plant_orders.specs.EveryFault.{faults_of, numbered_orders_of}
 use Rattle.plant_orders.specs.FaultsOfFiles.{csv_text}
+use Rattle.plant_orders.specs.declared.examining.NumberedOrder.{NumberedOrder}
+use Rattle.plant_orders.specs.declared.fault.CsvFault.{CsvFault}
 use Rattle.plant_orders.specs.declared.fault.CsvKind.{CsvKind}
 use Rattle.plant_orders.specs.declared.fault.CsvKind.TheVariants as kind
+use Rattle.plant_rules_production.specs.Orders.{is_same_order}
 use Rattle.plant_message_schema.specs.FormatErrors.{shape_error_text}
 use Rattle.plant_message_schema.specs.declared.members.Member.TheVariants as member
 use Rattle.plant_message_schema.specs.declared.format_errors.ShapeError.TheVariants as shape_error
 use Rattle.order_check.specs.declared.reason.Reason.{Reason}
 use Rattle.order_check.specs.declared.reason.Reason.TheVariants as reason
+use Rattle.order_check.specs.declared.conflicts.Conflict.{Conflict}
 use Rattle.order_check.specs.declared.verdict.Verdict.{Verdict}
-use Rattle.order_check.specs.declared.verdict.Verdict.TheVariants as verdict
 
--- how many orders the file says, or its first fault
-abbrev pub verdict_of : Result (List OrderRow) CsvFault → Verdict
-verdict_of (Ok orders) = verdict.Orders (length orders)
-verdict_of (Err fault) = verdict.Fault fault
+-- ---- conflicts
+
+-- the first order of an id
+abbrev pub first_of : List NumberedOrder → List ℕ → Option NumberedOrder
+first_of orders id = find (λ o. same o.order.order id) orders
+
+-- the conflict of an order with the first of its id, where they differ in some field
+abbrev pub conflict_with : NumberedOrder → Option NumberedOrder → List Conflict
+conflict_with o None = []
+conflict_with o (Some first) = if is_same_order first.order o.order then [] else record { row = o.row; first = first.row } ∷ []
+
+abbrev pub conflict_in : List NumberedOrder → NumberedOrder → List Conflict
+conflict_in orders o = conflict_with o (first_of orders o.order.order)
+
+-- the conflicts of these with all orders of the file
+abbrev pub conflicts_among : List NumberedOrder → List NumberedOrder → List Conflict
+conflicts_among orders [] = []
+conflicts_among orders (o ∷ os) = conflict_in orders o ++ conflicts_among orders os
+
+-- the orders whose id stands in an earlier row, with another value in some field
+abbrev pub conflicts_of : List NumberedOrder → List Conflict
+conflicts_of orders = conflicts_among orders orders
+
+-- ---- the verdict
+
+-- every fault of the file, each order that conflicts with an earlier one, and how many orders there are
+abbrev pub verdict_of : List ℕ → Verdict
+verdict_of text = record { faults = faults_of text; conflicts = conflicts_of (numbered_orders_of text); orders = length (numbered_orders_of text) }
+
+-- whether it is an order file that an import takes, whatever is in the desk
+abbrev pub is_good : Verdict → Bool
+is_good v = (length v.faults == 0) && (length v.conflicts == 0)
+
+-- ---- texts
 
 -- why a file has a fault of this kind
 abbrev pub reason_of : CsvKind → Reason
@@ -40,6 +73,13 @@ reason_text (reason.Field f) = shape_error_text f
 reason_text reason.TooManyRows = codes "the file has more than 1000 orders"
 reason_text reason.Memory = codes "memory was refused"
 
-abbrev pub verdict_text : Verdict → List ℕ
-verdict_text (verdict.Orders count) = decimal count ++ codes " orders"
-verdict_text (verdict.Fault fault) = csv_text fault ++ (codes ": " ++ reason_text (reason_of fault.kind))
+-- what is told of a fault, before what stands there
+abbrev pub fault_text : CsvFault → List ℕ
+fault_text fault = csv_text fault ++ (codes ": " ++ reason_text (reason_of fault.kind))
+
+abbrev pub conflict_text : Conflict → List ℕ
+conflict_text c =
+    codes "csv row " ++ (decimal c.row ++ (codes " OrderConflict: row " ++ (decimal c.first ++ codes " has the same order with other values")))
+
+abbrev pub count_text : ℕ → List ℕ
+count_text count = decimal count ++ codes " orders"

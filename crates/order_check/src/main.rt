@@ -1,6 +1,7 @@
-//! Checks an order file before it is sent: how many orders it holds, or its first fault.
+//! Checks an order file before it is sent: how many orders it holds, or every fault and each order that conflicts with an earlier one.
 #![tactic(auto)]
 
+mod conflicts;
 mod ending;
 mod reason;
 mod verdict;
@@ -11,8 +12,9 @@ use desk_cli::{
 };
 use ending::{end_of, status_of};
 use std::fs::File;
+use std::io;
 use std::process::ExitCode;
-use verdict::{Verdict, judge};
+use verdict::{Count, FaultLine, Verdict, judge};
 
 fn main(rt: HostRuntime) -> ExitCode {
     let status = match check_named(&rt) {
@@ -28,7 +30,7 @@ fn check_named(rt: &HostRuntime) -> Result<u8, WordsFault> {
     let texts = texts_of(rt.alloc(), arguments.as_slice())?;
     let file = read_checked_file(rt.alloc(), CheckProgram::Orders, texts.as_slice())?;
     let end = match judge_file(rt, file) {
-        Ok(verdict) => end_of(verdict, println!(rt; "{verdict}").is_ok()),
+        Ok(verdict) => end_of(verdict.is_good(), write_verdict(rt, &verdict).is_ok()),
         Err(fault) => Err(fault),
     };
     if let Err(fault) = &end {
@@ -46,4 +48,20 @@ fn judge_file(rt: &HostRuntime, file: Option<&str>) -> Result<Verdict, CheckFaul
             Err(_) => Err(CheckFault::Open),
         },
     }
+}
+
+/// Tells a verdict: each fault and each conflict in a line, or how many orders there are.
+fn write_verdict(rt: &HostRuntime, verdict: &Verdict) -> io::Result<()> {
+    if verdict.is_good() {
+        let count = Count(verdict.orders);
+        return println!(rt; "{count}");
+    }
+    for fault in verdict.faults.as_slice() {
+        let line = FaultLine(fault);
+        println!(rt; "{line}")?;
+    }
+    for conflict in verdict.conflicts.as_slice() {
+        println!(rt; "{conflict}")?;
+    }
+    Ok(())
 }

@@ -1,37 +1,83 @@
 //! The verdict on an order file.
-ghost use Rattle.std.specs.Prelude.{◌≡◌, ◌⊎◌, ℕ, List, IfOk, IfErr, Some};
+ghost use Rattle.std.specs.Prelude.{◌≡◌, ◌⊎◌, ℕ, List, IfOk, IfErr, Some, codes, decimal};
 ghost use Rattle.plant_base.specs.Inputs.{Agrees};
-ghost use Rattle.plant_orders.specs.Orders.{orders_of};
-ghost use Rattle.order_check.specs.Endings.{judged_as};
-ghost use Rattle.order_check.specs.Verdicts.{verdict_of, verdict_text};
+ghost use Rattle.plant_orders.specs.EveryFault.{IsExaminedOf};
+ghost use Rattle.order_check.specs.Verdicts.{count_text, fault_text, is_good, verdict_of};
 
+use crate::conflicts::{Conflict, conflicts_among};
 use crate::reason::reason_of;
 use desk_cli::CheckFault;
-use plant_orders::{CsvFault, OrdersFault, orders_from};
-use std::alloc::Global;
+use plant_base::Items;
+use plant_orders::{CsvFault, Examined, OrdersFault, RowFault, examine_from};
+use std::alloc::{AllocError, Global};
 use std::fmt;
 use std::io::Read;
 
 /// What is told of an order file.
-#[derive(Clone, Copy, Debug, PartialEq, Eq)]
-pub(crate) enum Verdict {
-    /// It is one, of so many orders.
-    Orders(usize),
-    /// It is none, and this is its first fault.
-    Fault(CsvFault),
+#[derive(Drop)]
+pub(crate) struct Verdict {
+    /// Its faults, in the order of its rows and of their fields.
+    pub(crate) faults: Items<RowFault>,
+    /// The orders that conflict with earlier ones, among those rows that have no fault.
+    pub(crate) conflicts: Items<Conflict>,
+    /// How many rows are orders.
+    pub(crate) orders: usize,
 }
 
-impl fmt::Display for Verdict {
-    ghost output = { λ verdict. Some (verdict_text verdict) };
+impl Verdict {
+    /// Whether the file is one of orders that an import takes, whatever is in the desk.
+    pub(crate) fn is_good(&self) -> bool
+        ensures { result ≡ is_good self.now }
+    {
+        self.faults.as_slice().is_empty() && self.conflicts.as_slice().is_empty()
+    }
+}
+
+/// How many orders a good file has, as it is told.
+#[derive(Clone, Copy)]
+pub(crate) struct Count(pub(crate) usize);
+
+impl fmt::Display for Count {
+    ghost output = { λ count. Some (count_text count.0) };
 
     fn fmt<W: fmt::Write>(&self, f: &mut fmt::Formatter<W>) -> fmt::Result {
-        match self {
-            Verdict::Orders(count) => write!(f, "{count} orders"),
-            Verdict::Fault(fault) => {
-                let reason = reason_of(fault.kind);
-                write!(f, "{fault}: {reason}")
-            }
+        let count = self.0;
+        write!(f, "{count} orders")
+    }
+}
+
+/// What is wrong, as it is told.
+#[derive(Clone, Copy)]
+struct Wrong(CsvFault);
+
+impl fmt::Display for Wrong {
+    ghost output = { λ wrong. Some (fault_text wrong.0) };
+
+    fn fmt<W: fmt::Write>(&self, f: &mut fmt::Formatter<W>) -> fmt::Result {
+        let fault = self.0;
+        let reason = reason_of(fault.kind);
+        write!(f, "{fault}: {reason}")
+    }
+}
+
+/// The most bytes of a field that are shown.
+const MOST_SHOWN: usize = 60;
+
+/// A fault, as it is told: what is wrong, and of a field also what stands there, with `\x..` for a byte that isn't printable ASCII.
+#[derive(Clone, Copy)]
+pub(crate) struct FaultLine<'a>(pub(crate) &'a RowFault);
+
+impl fmt::Display for FaultLine<'_> {
+    fn fmt<W: fmt::Write>(&self, f: &mut fmt::Formatter<W>) -> fmt::Result {
+        let wrong = Wrong(self.0.fault);
+        write!(f, "{wrong}")?;
+        let found = self.0.found.as_slice();
+        if found.is_empty() {
+            return Ok(());
         }
+        let shown = found[..found.len().min(MOST_SHOWN)].escape_ascii();
+        let rest = if found.len() > MOST_SHOWN { " .." } else { "" };
+        write!(f, "; it is {shown}{rest}")
     }
 }
 
@@ -42,23 +88,29 @@ impl fmt::Display for Verdict {
 /// In the clauses, `bytes` are those that the reader has left, where it tells them, and some bytes where it tells none.
 pub(crate) fn judge<R: Read>(alloc: Global, reader: &mut R) -> Result<Verdict, CheckFault>
     ensures judged { IfOk result (λ verdict. (bytes : List ℕ) × Agrees (R.remaining reader.old) bytes
-        × (verdict ≡ verdict_of (orders_of bytes))) }
+        × (verdict ≡ verdict_of bytes)) }
     ensures cause { IfErr result (λ fault. (fault ≡ CheckFault.Read) ⊎ (fault ≡ CheckFault.Memory)) }
 {
-    match orders_from(alloc, reader) {
-        Ok(orders) => Ok(Verdict::Orders(orders.as_slice().len())),
-        Err(fault) => judged_as(fault),
+    match examine_from(alloc, reader) {
+        Ok(examined) => judge_examined(alloc, examined),
+        Err(OrdersFault::Memory) => Err(CheckFault::Memory),
+        Err(OrdersFault::Read) | Err(OrdersFault::Csv(_)) => Err(CheckFault::Read),
     }
 }
 
-/// What a fault of the reading is judged as.
-fn judged_as(fault: OrdersFault) -> Result<Verdict, CheckFault>
-    ensures value { result ≡ judged_as fault }
-    ensures cause { IfErr result (λ fault. (fault ≡ CheckFault.Read) ⊎ (fault ≡ CheckFault.Memory)) }
+/// The verdict on a file that was examined. The only fault is want of memory.
+fn judge_examined(alloc: Global, examined: Examined) -> Result<Verdict, CheckFault>
+    ensures judged { (bytes : List ℕ) → IsExaminedOf bytes examined
+        → IfOk result (λ verdict. verdict ≡ verdict_of bytes) }
+    ensures cause { IfErr result (λ fault. fault ≡ CheckFault.Memory) }
 {
-    match fault {
-        OrdersFault::Csv(fault) => Ok(Verdict::Fault(fault)),
-        OrdersFault::Read => Err(CheckFault::Read),
-        OrdersFault::Memory => Err(CheckFault::Memory),
+    let orders = examined.orders.as_slice();
+    match conflicts_among(alloc, orders, orders) {
+        Ok(conflicts) => Ok(Verdict {
+            orders: orders.len(),
+            conflicts: Items::new(conflicts),
+            faults: examined.faults,
+        }),
+        Err(AllocError) => Err(CheckFault::Memory),
     }
 }

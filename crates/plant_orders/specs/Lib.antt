@@ -3,3 +3,4 @@ pub mod Numbers
 pub mod Orders
 pub mod ReaderPosition
 pub mod FaultsOfFiles
+pub mod EveryFault

@@ -1,13 +1,15 @@
 //! Order files: the orders of a planner as comma-separated values (RFC 4180).
 #![tactic(auto)]
 
+mod examining;
 mod fault;
 mod importing;
 mod read;
 mod row;
 mod source;
 
+pub use examining::{Examined, NumberedOrder, RowFault, examine};
 pub use fault::{CsvFault, CsvKind};
 pub use importing::{ImportMetadata, import};
 pub use read::{LONGEST_FILE, read_orders};
-pub use source::{OrdersFault, orders_from};
+pub use source::{OrdersFault, examine_from, orders_from};

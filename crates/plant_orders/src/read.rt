@@ -67,7 +67,7 @@ pub fn read_orders(alloc: Global, bytes: &[u8]) -> Result<Items<OrderRow>, CsvFa
 
 // A reader at the start of a text, past a byte order mark. The header is a record like the others, and a record may
 // be of any length.
-fn reader(alloc: Global, bytes: &[u8]) -> Reader<&[u8]>
+pub(crate) fn reader(alloc: Global, bytes: &[u8]) -> Reader<&[u8]>
     ensures { ReaderIsAt result st.StartRecord (strip_bom bytes.entry.now) }
 {
     ReaderBuilder::new()
@@ -93,7 +93,10 @@ fn fault_of(error: &Error) -> CsvFault
 }
 
 // The next record. A reader that takes records of all lengths fails for want of memory alone.
-fn next<'t>(reader: &mut Reader<&'t [u8]>, row: &mut ByteRecord) -> Result<bool, CsvFault>
+pub(crate) fn next<'t>(
+    reader: &mut Reader<&'t [u8]>,
+    row: &mut ByteRecord,
+) -> Result<bool, CsvFault>
     ensures reads { IfOk result (λ found. (s : _) (text : List ℕ)
         → ReaderIsAt reader.old s text → NextOf s text found reader.new (fields_of row.new)) }
     ensures memory { IfErr result (λ e. (s : _) (text : List ℕ) → ReaderIsAt reader.old s text → e ≡ MEMORY) }

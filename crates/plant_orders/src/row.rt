@@ -1,7 +1,8 @@
 // The fields of one record.
-ghost use Rattle.std.specs.Prelude.{◌≡◌, ◌≤◌, IfSome, option_and_then};
+ghost use Rattle.std.specs.Prelude.{◌≡◌, ◌≤◌, ◌==◌, length, IfSome, option_and_then};
 ghost use Rattle.csv.specs.Records.{fields_of, field_at};
 ghost use Rattle.plant_base.specs.Values.{greatest_amount};
+ghost use Rattle.plant_orders.specs.EveryFault.{is_valid};
 ghost use Rattle.plant_orders.specs.Numbers.{bounded};
 ghost use Rattle.plant_orders.specs.Orders.{id_of, due_of, field_is, is_header, order_of};
 
@@ -16,6 +17,28 @@ const FIELDS: usize = 6;
 
 /// The most digits of a number.
 const MOST_DIGITS: usize = 16;
+
+/// Whether the record has as many fields as an order.
+pub(crate) fn has_all_fields(row: &ByteRecord) -> bool
+    ensures { result ≡ (length (fields_of row.now) == 6) }
+{
+    row.len() == FIELDS
+}
+
+/// Whether the field of which a kind of fault speaks keeps its rule; a fault of a row or of the file speaks of none.
+pub(crate) fn is_valid(row: &ByteRecord, kind: CsvKind) -> bool
+    ensures { result ≡ is_valid (fields_of row.now) kind }
+{
+    match kind {
+        CsvKind::Order => id_at(row, 0).is_some(),
+        CsvKind::Recipe => id_at(row, 1).is_some(),
+        CsvKind::Version => number_at(row, 2, u64::from(GREATEST_VERSION)).is_some(),
+        CsvKind::Size => amount_at(row, 3).is_some(),
+        CsvKind::Due => due_at(row, 4).is_some(),
+        CsvKind::Priority => number_at(row, 5, u64::from(GREATEST_PRIORITY)).is_some(),
+        _ => true,
+    }
+}
 
 /// Whether the record is the header.
 pub(crate) fn is_header(row: &ByteRecord) -> bool

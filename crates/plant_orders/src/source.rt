@@ -1,14 +1,16 @@
 //! The reading of an order file from a source, of which no more is read than has to be.
-ghost use Rattle.std.specs.Prelude.{◌≡◌, ◌≢◌, ℕ, List, IfOk, IfErr, Ok};
+ghost use Rattle.std.specs.Prelude.{◌≡◌, ◌≢◌, ◌⊎◌, ℕ, List, IfOk, IfErr, Ok};
 ghost use Rattle.std.specs.IoError.{error_kind};
 ghost use Rattle.plant_orders.specs.Orders.{orders_of};
+ghost use Rattle.plant_orders.specs.EveryFault.{IsExaminedOf};
 ghost use Rattle.plant_base.specs.Inputs.{Agrees};
 ghost use Rattle.plant_orders.specs.FaultsOfFiles.{FaultOfFile, fault_of_kind, read_count};
 
+use crate::examining::{Examined, examine};
 use crate::fault::{CsvFault, CsvKind};
 use crate::read::{LONGEST_FILE, read_orders};
 use plant_base::{Items, OrderRow};
-use std::alloc::Global;
+use std::alloc::{AllocError, Global};
 use std::io;
 use std::io::{ErrorKind, Read};
 use thiserror::Error;
@@ -75,6 +77,36 @@ pub fn orders_from<R: Read>(alloc: Global, reader: &mut R) -> Result<Items<Order
     match read_count(prefix.read_to_end(&mut bytes)) {
         Ok(_count) => orders_in(alloc, &bytes),
         Err(fault) => Err(fault),
+    }
+}
+
+/// What the order file holds that a reader gives to its end, good and bad, as [`examine`] says. No more is read of it than shows that it is too
+/// long: one byte more than the longest file.
+///
+/// `Read` comes where a read failed, and `Memory` where memory was refused. No other fault comes.
+///
+/// In the clauses, `bytes` are those that the reader has left, where it tells them, and some bytes where it tells none.
+pub fn examine_from<R: Read>(alloc: Global, reader: &mut R) -> Result<Examined, OrdersFault>
+    ensures examined { IfOk result (λ examined. (bytes : List ℕ) × Agrees (R.remaining reader.old) bytes
+        × IsExaminedOf bytes examined) }
+    ensures fault { IfErr result (λ fault. (fault ≡ OrdersFault.Read) ⊎ (fault ≡ OrdersFault.Memory)) }
+{
+    let mut bytes = Vec::new(alloc);
+    let mut prefix = reader.take(LONGEST_FILE as u64 + 1);
+    match read_count(prefix.read_to_end(&mut bytes)) {
+        Ok(_count) => examine_read(alloc, &bytes),
+        Err(fault) => Err(fault),
+    }
+}
+
+/// What a file holds that was read. The only fault is want of memory.
+fn examine_read(alloc: Global, bytes: &[u8]) -> Result<Examined, OrdersFault>
+    ensures examined { IfOk result (IsExaminedOf bytes.now) }
+    ensures memory { IfErr result (λ fault. fault ≡ OrdersFault.Memory) }
+{
+    match examine(alloc, bytes) {
+        Ok(examined) => Ok(examined),
+        Err(AllocError) => Err(OrdersFault::Memory),
     }
 }
 

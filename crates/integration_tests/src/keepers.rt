@@ -1,6 +1,6 @@
 //! Runs over a keeper that fails, and runs of so many reads.
 use plant_base::Envelope;
-use plant_desk::{Answer, DeskFault, Keeper, ListKeeper, Question, Reply};
+use plant_desk::{Answer, Checked, DeskFault, Keeper, ListKeeper, Question, Reply};
 use plant_text::{RunEnd, run_lines, run_lines_within};
 use std::process::Abort;
 use std::test::Fail;
@@ -55,6 +55,13 @@ impl Keeper for FailingKeeper {
         }
         self.commands -= 1;
         Keeper::execute(&mut self.desk, envelope)
+    }
+
+    fn check(&mut self, envelope: &Envelope) -> Result<Checked, DeskFault> {
+        if self.is_shut {
+            return Err(DeskFault::Shut);
+        }
+        self.desk.check(envelope)
     }
 
     fn ask(&mut self, question: &Question) -> Result<Answer, DeskFault> {

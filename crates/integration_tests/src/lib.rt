@@ -1,8 +1,10 @@
 //! What the crates do that no built program comes to: sources of edges that count, fail and lie, keepers that fail and runs whose reads
 //! run out, a list of commands run at once, a desk that a fault has shut, a row that no column holds, rows by any key, tables raised by a
-//! version, decisions by key and over lists, requests over readers that count, and tasks over both kinds of store.
+//! version, decisions and checks by key and over lists, requests over readers that count, and tasks over both kinds of store.
 #![tactic(auto)]
 
+#[cfg(test)]
+mod checks;
 #[cfg(test)]
 mod commands;
 #[cfg(test)]

@@ -3,6 +3,8 @@ use Rattle.std.specs.Prelude.{◌≡◌, ℕ, Bool, true, false, ◌⊎◌, Resu
 use Rattle.plant_base.specs.State.{State}
 use Rattle.plant_base.specs.declared.command.Envelope.{Envelope}
 use Rattle.plant_rules.specs.Step.{step}
+use Rattle.plant_causes.specs.Causes.{checked}
+use Rattle.plant_causes.specs.declared.checking.Checked.{Checked}
 use Rattle.plant_desk.specs.Replies.{reply}
 use Rattle.plant_answers.specs.Answers.{answer}
 use Rattle.plant_messages.specs.declared.question.Question.{Question}
@@ -22,6 +24,13 @@ Executes s represents crash_states e (Ok r) = (r ≡ reply s e) × represents (s
 Executes s represents crash_states e (Err Store) = represents s × crash_states (λ u. (u ≡ s) ⊎ (u ≡ step s e))
 Executes s represents crash_states e (Err Memory) = represents s
 Executes s represents crash_states e (Err Shut) = ⊥
+
+-- what comes of `check` at an open keeper that stood at s: what would become of the command, and where it stands afterwards
+abbrev pub Checks : State → States → Envelope → Result Checked DeskFault → Type 0
+Checks s represents e (Ok c) = (c ≡ checked s e) × represents s
+Checks s represents e (Err Store) = represents s
+Checks s represents e (Err Memory) = represents s
+Checks s represents e (Err Shut) = ⊥
 
 -- what comes of `ask` at an open keeper of schema k that stood at s: the answer, and where it stands afterwards
 abbrev pub Asks : ℕ → State → States → Question → Result Answer DeskFault → Type 0

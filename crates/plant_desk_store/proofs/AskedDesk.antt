@@ -1,16 +1,18 @@
--- Where a desk stands once it was asked.
+-- Where a desk stands once it was asked, or a command was checked.
 use Rattle.std.proofs.Common.{◌≡◌, Bool, Result, Ok, Err, refl}
 use Rattle.sqlite.specs.Effect.{Database}
 use Rattle.sqlite.specs.State as store
 use Rattle.sqlite.specs.State.{HasCleanDisk}
 use Rattle.plant_base.specs.State.{State, newest_schema}
 use Rattle.sql_tables.proofs.TransactionEnds.{IsStore}
-use Rattle.plant_desk.specs.Keepers.{Asks}
+use Rattle.plant_base.specs.declared.command.Envelope.{Envelope}
+use Rattle.plant_causes.specs.declared.checking.Checked.{Checked}
+use Rattle.plant_desk.specs.Keepers.{Checks, Asks}
 use Rattle.plant_messages.specs.declared.question.Question.{Question}
 use Rattle.plant_messages.specs.declared.question.Answer.{Answer}
 use Rattle.plant_messages.specs.declared.reply.DeskFault.{DeskFault}
 use Rattle.plant_messages.specs.declared.reply.DeskFault.TheVariants.{Store, Memory, Shut}
-use Rattle.plant_desk_store.specs.Parts.{OnlyReads, HasAnswered}
+use Rattle.plant_desk_store.specs.Parts.{OnlyReads, HasForeseen, HasAnswered}
 use Rattle.plant_desk_store.specs.DeskStates.{Represents, HasForeignTables}
 use Rattle.plant_desk_store.proofs.ForeignTablesKept.{others_kept}
 use Rattle.plant_desk_store.proofs.ReadingKeepsState.{still_represents, still_crash_states}
@@ -26,6 +28,12 @@ asked_foreign_tables before old new shut reads laws clean represented = record {
   represents = read_represents old new shut represented.state reads laws clean represented.represents;
   others = others_kept before old new represented.others clean (reads.kept clean) reads.crash;
 }
+
+pub checked_stands : (old new : store.State) (shut : Bool) (s : State) (e : Envelope) (r : Result Checked DeskFault) → HasForeseen old new e r → IsStore new → HasCleanDisk new → Represents old shut s → Checks s (Represents new shut) e r
+checked_stands old new shut s e (Ok c) did laws clean represented = (did.checks clean s represented.0, read_represents old new shut s did.reads laws clean represented)
+checked_stands old new shut s e (Err Store) did laws clean represented = read_represents old new shut s did.reads laws clean represented
+checked_stands old new shut s e (Err Memory) did laws clean represented = read_represents old new shut s did.reads laws clean represented
+checked_stands old new shut s e (Err Shut) did laws clean represented = absurd (did.unshut refl)
 
 pub asked_stands : (old new : store.State) (shut : Bool) (s : State) (q : Question) (r : Result Answer DeskFault) → HasAnswered old new q r → IsStore new → HasCleanDisk new → Represents old shut s → Asks newest_schema s (Represents new shut) q r
 asked_stands old new shut s q (Ok a) did laws clean represented = (did.answers clean s represented.0, read_represents old new shut s did.reads laws clean represented)

@@ -16,7 +16,8 @@ use Rattle.plant_rules.specs.Step.{step}
 use Rattle.plant_invariant.proofs.StepPreservesInvariant.{opening_is_valid}
 use Rattle.sql_tables.specs.StoredRows.{AreFree}
 use Rattle.plant_tables.specs.DeskTableDefs.{desk_table_defs}
-use Rattle.plant_desk.specs.Keepers.{States, Executes, Asks, shuts}
+use Rattle.plant_causes.specs.declared.checking.Checked.{Checked}
+use Rattle.plant_desk.specs.Keepers.{States, Executes, Checks, Asks, shuts}
 use Rattle.plant_desk.specs.Replies.{reply}
 use Rattle.plant_desk.specs.Runs.{fold, replies}
 use Rattle.plant_messages.specs.declared.question.Question.{Question}
@@ -28,7 +29,7 @@ use Rattle.plant_desk_store.specs.Adopting.{AdoptedFrom, Adopts, IsAdopted, IsRe
 use Rattle.plant_desk_store.specs.Calls.{HasAdopted, HasRefused}
 use Rattle.plant_desk_store.specs.Headline.{IsAtState, IsFoundAt, IsKeptAt, IsSoAt, HasOpenableCrashState, Headline}
 use Rattle.plant_desk_store.specs.DeskLaws.{IsAdoptable, IsOpenedAfter}
-use Rattle.plant_desk_store.specs.Executions.{Attempt, acknowledged, in_flight, PossibleOutcome, attempt_as, cut_off, IsOpened, StorePhase, opened, desk, refused, Execution, begun, found, adopted, unadopted, executed, ran, asked, verified, indexed, stopped, given_back}
+use Rattle.plant_desk_store.specs.Executions.{Attempt, acknowledged, in_flight, PossibleOutcome, attempt_as, cut_off, IsOpened, StorePhase, opened, desk, refused, Execution, begun, found, adopted, unadopted, executed, ran, foretold, asked, verified, indexed, stopped, given_back}
 use Rattle.plant_desk_store.specs.Runs.{RunEnds}
 use Rattle.plant_desk_store.specs.DeskStates.{IsDurablyAt, Represents, HasCrashStates}
 use Rattle.plant_desk_store.specs.declared.adopting.AdoptFault.{AdoptFault}
@@ -210,6 +211,13 @@ ended_at s t attempts list n new shut (Some Store) lead did =
 ended_at s t attempts list n new shut (Some Memory) lead did = subst (λ (b : Bool). Reached s (attempts ++ []) new (desk b)) (sym did.1) (t, leads_on s t t attempts [] lead refl, open_at new t (subst (λ (b : Bool). Represents new b t) did.1 did.0))
 ended_at s t attempts list n new shut (Some Shut) lead did = absurd did
 
+-- a check
+foretold_at : (s u : State) (attempts : List Attempt) (new : store.State) (e : Envelope) (r : Result Checked DeskFault) → PossibleOutcome s attempts u → Checks u (Represents new false) e r → Reached s attempts new (desk false)
+foretold_at s u attempts new e (Ok c) lead did = (u, lead, open_at new u did.1)
+foretold_at s u attempts new e (Err Store) lead did = (u, lead, open_at new u did)
+foretold_at s u attempts new e (Err Memory) lead did = (u, lead, open_at new u did)
+foretold_at s u attempts new e (Err Shut) lead did = absurd did
+
 -- a question
 asked_at : (s u : State) (attempts : List Attempt) (new : store.State) (q : Question) (r : Result Answer DeskFault) → PossibleOutcome s attempts u → Asks newest_schema u (Represents new false) q r → Reached s attempts new (desk false)
 asked_at s u attempts new q (Ok a) lead did = (u, lead, open_at new u did.1)
@@ -260,6 +268,10 @@ module _ {S : Type 0} (g : Ghosts S) where
         subst (λ (xs : List Attempt). Reached was.0 xs c (desk shut)) (append_assoc attempts taken (cut_off end (slice_get list n)))
             (ended_at was.0 (fold at.0 (take n list)) (attempts ++ taken) list n c shut end lead run.ended),
       )
+  execution first newly (foretold old new attempts e r before did) clean =
+      let was = execution first newly before (did.honest clean) in
+      let at = was.2 in
+      (was.0, was.1, foretold_at was.0 at.0 attempts (state g new) e r at.1 (did.checks clean at.0 (at.2.represents, λ _. at.2.crash_states)))
   execution first newly (asked old new attempts q r before did) clean =
       let was = execution first newly before (did.honest clean) in
       let at = was.2 in
@@ -300,6 +312,7 @@ module _ {S : Type 0} (g : Ghosts S) where
     valid = at.represents.valid;
     accounted = accounted_valid u at.represents.valid;
     tables = λ is_live. (at.represents.shows is_live).holds;
+    foretold = λ e said new did clean. (did.checks clean u (at.represents, λ _. at.crash_states)).0;
     reported = λ q a new did clean. (
         let it = did.asks clean u (at.represents, λ _. at.crash_states) in
         answered u at.represents.valid.sound q a it.0);

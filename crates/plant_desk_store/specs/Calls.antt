@@ -11,7 +11,8 @@ use Rattle.plant_view.specs.Conservation.{IsConserved, IsBalanced}
 use Rattle.plant_view.specs.Genealogy.{edges_of}
 use Rattle.plant_tables.specs.Missing.{AddsMissing, AreAllTaken}
 use Rattle.plant_check.specs.declared.rule.Rule.{Rule}
-use Rattle.plant_desk.specs.Keepers.{Executes, Asks, shuts, writes_nothing}
+use Rattle.plant_causes.specs.declared.checking.Checked.{Checked}
+use Rattle.plant_desk.specs.Keepers.{Executes, Checks, Asks, shuts, writes_nothing}
 use Rattle.plant_desk.specs.Runs.{fold}
 use Rattle.plant_messages.specs.declared.question.Question.{Question}
 use Rattle.plant_messages.specs.declared.question.Answer.{Answer}
@@ -66,6 +67,13 @@ pub record HasExecuted (old new : store.State) (shut : Bool) (e : Envelope) (r :
   -- written for it then
   pub no_crash_state_added : writes_nothing r ≡ true → Survives old new (λ _. ⊥)
   pub repeated : HasCleanDisk new → (s : State) → Represents old false s → IsRepeat s e → Survives old new (λ _. ⊥)
+
+-- A command was checked, which came to this.
+pub record HasForetold (old new : store.State) (e : Envelope) (r : Result Checked DeskFault) : Type 0 where
+  pub honest : HasCleanDisk new → HasCleanDisk old
+  pub checks : HasCleanDisk new → (s : State) → Represents old false s → Checks s (Represents new false) e r
+  -- a stop leaves what it left before
+  pub no_crash_state_added : Survives old new (λ _. ⊥)
 
 -- A question was asked, which came to this.
 pub record HasAsked (old new : store.State) (q : Question) (r : Result Answer DeskFault) : Type 0 where

@@ -12,13 +12,14 @@ use Rattle.sql_tables.specs.StoredRows.{AreFree}
 use Rattle.sql_queries.specs.Opened.{IsNewlyOpened}
 use Rattle.plant_tables.specs.DeskTableDefs.{desk_table_defs}
 use Rattle.plant_check.specs.declared.rule.Rule.{Rule}
+use Rattle.plant_causes.specs.declared.checking.Checked.{Checked}
 use Rattle.plant_desk.specs.Replies.{reply}
 use Rattle.plant_messages.specs.declared.question.Question.{Question}
 use Rattle.plant_messages.specs.declared.question.Answer.{Answer}
 use Rattle.plant_messages.specs.declared.reply.Reply.{Reply}
 use Rattle.plant_messages.specs.declared.reply.DeskFault.{DeskFault}
 use Rattle.plant_messages.specs.declared.reply.DeskFault.TheVariants.{Store, Memory, Shut}
-use Rattle.plant_desk_store.specs.Calls.{HasAdopted, HasRefused, HasExecuted, HasAsked, HasRun, HasVerified, HasIndexed}
+use Rattle.plant_desk_store.specs.Calls.{HasAdopted, HasRefused, HasExecuted, HasForetold, HasAsked, HasRun, HasVerified, HasIndexed}
 use Rattle.plant_desk_store.specs.DeskLaws.{IsAdoptable}
 use Rattle.plant_desk_store.specs.declared.adopting.AdoptFault.{AdoptFault}
 
@@ -79,6 +80,7 @@ pub data Execution {S : Type 0} (g : Ghosts S) (first : Held S) : Held S → Sto
   unadopted : (old new : Held S) (attempts : List Attempt) (f : AdoptFault) → Execution g first old opened attempts → HasRefused f (state g old) (state g new) → Execution g first new refused attempts
   executed : (old new : Held S) (shut : Bool) (attempts : List Attempt) (e : Envelope) (r : Result Reply DeskFault) → Execution g first old (desk false) attempts → HasExecuted (state g old) (state g new) shut e r → Execution g first new (desk shut) (attempts ++ attempt_as e r)
   ran : (old new : Held S) (shut : Bool) (attempts : List Attempt) (list : List Envelope) (answered : List Reply) (end : Option DeskFault) → Execution g first old (desk false) attempts → HasRun (state g old) (state g new) shut list answered end → Execution g first new (desk shut) (attempts ++ attempts_of list answered end)
+  foretold : (old new : Held S) (attempts : List Attempt) (e : Envelope) (r : Result Checked DeskFault) → Execution g first old (desk false) attempts → HasForetold (state g old) (state g new) e r → Execution g first new (desk false) attempts
   asked : (old new : Held S) (attempts : List Attempt) (q : Question) (r : Result Answer DeskFault) → Execution g first old (desk false) attempts → HasAsked (state g old) (state g new) q r → Execution g first new (desk false) attempts
   verified : (old new : Held S) (attempts : List Attempt) (r : Result (Option Rule) DeskFault) → Execution g first old (desk false) attempts → HasVerified (state g old) (state g new) r → Execution g first new (desk false) attempts
   indexed : (old new : Held S) (attempts : List Attempt) (r : Result (Unit {0}) DeskFault) → Execution g first old (desk false) attempts → HasIndexed (state g old) (state g new) r → Execution g first new (desk false) attempts

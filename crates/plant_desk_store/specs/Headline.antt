@@ -19,6 +19,9 @@ use Rattle.plant_invariant.specs.StateInvariant.{StateInvariant}
 use Rattle.sql_tables.specs.StoredRows.{AreFree}
 use Rattle.plant_tables.specs.DeskTableDefs.{desk_table_defs}
 use Rattle.plant_tables.specs.Keyed.{HoldsTablesOf, HoldsTables}
+use Rattle.plant_base.specs.declared.command.Envelope.{Envelope}
+use Rattle.plant_causes.specs.Causes.{checked}
+use Rattle.plant_causes.specs.declared.checking.Checked.{Checked}
 use Rattle.plant_answers.specs.AnswerLaws.{StandsFrom, standing_order}
 use Rattle.plant_answers.specs.Answers.{answer}
 use Rattle.plant_answers.specs.Traces.{missing}
@@ -28,7 +31,7 @@ use Rattle.plant_messages.specs.declared.question.Answer.{Answer}
 use Rattle.plant_messages.specs.declared.question.Answer.TheVariants as A
 use Rattle.plant_messages.specs.declared.question.LotAnswer.{LotAnswer}
 use Rattle.plant_messages.specs.declared.question.StandingLot.{StandingLot}
-use Rattle.plant_desk_store.specs.Calls.{IsAccounted, HasRefused, HasAsked}
+use Rattle.plant_desk_store.specs.Calls.{IsAccounted, HasRefused, HasForetold, HasAsked}
 use Rattle.plant_desk_store.specs.Executions.{Attempt, PossibleOutcome, IsOpened, StorePhase, opened, desk, refused, Execution}
 use Rattle.plant_desk_store.specs.declared.adopting.AdoptFault.{AdoptFault}
 use Rattle.plant_desk_store.specs.declared.adopting.AdoptFault.TheVariants.{Store, Memory}
@@ -87,11 +90,12 @@ pub record IsFoundAt {S : Type 0} (g : Ghosts S) (c : Held S) (s : State) : Type
   pub accepted : (f : AdoptFault) (new : Held S) → HasRefused f (state g c) (state g new) → HasCleanDisk (state g new) → (f ≡ Store) ⊎ (f ≡ Memory)
 
 -- The store of a desk that isn't shut, while it is open, holds the tables of the state, which is good: nothing in it is lost
--- or made. What is asked is told of it.
+-- or made. What is asked is told of it, and what would become of a command there.
 pub record IsKeptAt {S : Type 0} (g : Ghosts S) (c : Held S) (s : State) : Type 0 where
   pub valid : StateInvariant s
   pub accounted : IsAccounted s
   pub tables : IsTrue (state g c).is_open → HoldsTables (state g c).now (tables_of newest_schema s)
+  pub foretold : (e : Envelope) (said : Checked) (new : Held S) → HasForetold (state g c) (state g new) e (Ok said) → HasCleanDisk (state g new) → said ≡ checked s e
   pub reported : (q : Question) (a : Answer) (new : Held S) → HasAsked (state g c) (state g new) q (Ok a) → HasCleanDisk (state g new) → IsAnsweredIn s q a
 
 -- a stop leaves something that can be opened: the trees of a sound database

@@ -24,6 +24,8 @@ use Rattle.plant_migrate.specs.Raised.{edges_from}
 use Rattle.plant_migrate.specs.Steps.{IsRaisedBy}
 use Rattle.plant_check.specs.declared.rule.Rule.{Rule}
 use Rattle.plant_answers.specs.Answers.{answer}
+use Rattle.plant_causes.specs.Causes.{checked}
+use Rattle.plant_causes.specs.declared.checking.Checked.{Checked}
 use Rattle.plant_desk.specs.Keepers.{writes_nothing}
 use Rattle.plant_messages.specs.declared.question.Question.{Question}
 use Rattle.plant_messages.specs.declared.question.Answer.{Answer}
@@ -54,6 +56,12 @@ pub record HasDecided (old new : store.State) (e : Envelope) (r : Result Decided
   pub one_batch : IfOk r (λ d. PutsOneBatch d.decision)
   pub small : IfOk r (λ d. d.seq ≤ greatest_seq)
   pub is_live : HasCleanDisk new → OnOk r (IsTrue new.is_open)
+  pub unshut : IfErr r (λ f. f ≢ Shut)
+
+-- What would become of a command was said by look-ups.
+pub record HasForeseen (old new : store.State) (e : Envelope) (r : Result Checked DeskFault) : Type 0 where
+  pub reads : OnlyReads old new
+  pub checks : HasCleanDisk new → (s : State) → ShowsState old s → IfOk r (λ c. c ≡ checked s e)
   pub unshut : IfErr r (λ f. f ≢ Shut)
 
 -- A question was answered by look-ups.

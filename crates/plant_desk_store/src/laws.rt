@@ -2,7 +2,7 @@
 
 ghost use Rattle.std.specs.Prelude.{◌≡◌, false};
 ghost use Rattle.sqlite.specs.Held.{state};
-ghost use Rattle.plant_desk_store.specs.Calls.{HasExecuted, HasAsked};
+ghost use Rattle.plant_desk_store.specs.Calls.{HasExecuted, HasForetold, HasAsked};
 ghost use Rattle.plant_desk_store.specs.Headline.{Headline};
 ghost use Rattle.plant_desk_store.specs.DeskLaws.{StopsAreReopened, ValidIsNotRefused};
 ghost use Rattle.plant_desk_store.specs.DeskLaws.{ValidIsAdoptedAgain, OpeningIsAdopted, UnknownTablesAreKept};
@@ -11,6 +11,7 @@ ghost use Rattle.plant_desk_store.specs.Resent.{ExecutionsAreSendings, Execution
 
 use crate::stored::Desk;
 use plant_base::Envelope;
+use plant_causes::Checked;
 use plant_desk::Keeper;
 use plant_messages::{Answer, DeskFault, Question, Reply};
 use sqlite::Alter;
@@ -19,8 +20,8 @@ use sqlite::Alter;
 /// or of those and the ones under way; there each trace is exactly the least relation closed under recorded consumption,
 /// production, split and merge, and every lot's stock is what entered less what left.
 ///
-/// What it supposes of a call is what the call ensures: [`Desk::adopt`], [`Desk::run`], [`Desk::verify`], and `execute` and
-/// `ask` of a desk, as [`execute_with_outcome`] and [`ask_with_outcome`] tell them.
+/// What it supposes of a call is what the call ensures: [`Desk::adopt`], [`Desk::run`], [`Desk::verify`], and `execute`,
+/// `check` and `ask` of a desk, as [`execute_with_outcome`], [`check_with_outcome`] and [`ask_with_outcome`] tell them.
 pub fn headline_law<S: Alter>()
     ensures { Headline S.Store }
 {}
@@ -49,6 +50,20 @@ pub fn execute_with_outcome<S: Alter>(
         desk.new.is_shut envelope.now result }
 {
     desk.execute(envelope)
+}
+
+/// Checks a command at a desk that isn't shut: what comes of it, in the words of the headline.
+/// `Store` where the store failed; `Memory` where memory was refused. The desk isn't shut by either.
+pub fn check_with_outcome<S: Alter>(
+    desk: &mut Desk<S>,
+    envelope: &Envelope,
+) -> Result<Checked, DeskFault>
+    requires { desk.old.is_shut ≡ false }
+    ensures reported { HasForetold (state S.Store desk.old.connection) (state S.Store desk.new.connection)
+        envelope.now result }
+    ensures open { desk.new.is_shut ≡ false }
+{
+    desk.check(envelope)
 }
 
 /// Asks a desk that isn't shut: what comes of it, in the words of the headline.

@@ -15,5 +15,7 @@ mod tests;
 mod verifying;
 
 pub use adopting::{AdoptFault, AdoptRefused};
-pub use laws::{ask_with_outcome, desk_laws, execute_with_outcome, headline_law, resend_law};
+pub use laws::{
+    ask_with_outcome, check_with_outcome, desk_laws, execute_with_outcome, headline_law, resend_law,
+};
 pub use stored::Desk;

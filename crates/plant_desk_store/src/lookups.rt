@@ -1,4 +1,4 @@
-//! Decisions and answers by look-ups: of a store only the rows are read that a command or a question names.
+//! Decisions, checks and answers by look-ups: of a store only the rows are read that a command or a question names.
 
 ghost use Rattle.std.specs.Prelude.{◌≡◌, ◌≤◌, IfOk, OnOk, IsTrue};
 ghost use Rattle.sqlite.specs.Held.{state};
@@ -6,16 +6,18 @@ ghost use Rattle.sqlite.specs.State.{HasCleanDisk};
 ghost use Rattle.plant_base.specs.State.{State, newest_schema};
 ghost use Rattle.plant_base.specs.Values.{greatest_seq};
 ghost use Rattle.plant_view.specs.OneBatch.{PutsOneBatch};
+ghost use Rattle.plant_causes.specs.Causes.{checked};
 ghost use Rattle.plant_answers.specs.Answers.{answer};
 ghost use Rattle.plant_keyed.specs.LookupOutcomes.{PreservesFrame};
 ghost use Rattle.plant_keyed.specs.EdgeCaching.{AreEdgesOf};
 ghost use Rattle.plant_desk_store.specs.Lookups.{IsDecidedAt};
-ghost use Rattle.plant_desk_store.specs.Parts.{HasDecided, HasAnswered};
+ghost use Rattle.plant_desk_store.specs.Parts.{HasDecided, HasForeseen, HasAnswered};
 ghost use Rattle.plant_desk_store.specs.DeskStates.{ShowsState};
 
 use crate::faults::looked_up;
 use plant_answers::answer;
 use plant_base::Envelope;
+use plant_causes::{Checked, check};
 use plant_keyed::{EdgeCache, Keyed};
 use plant_messages::{Answer, DeskFault, Question};
 use plant_rules::decide;
@@ -80,6 +82,50 @@ fn decide_over<S: Alter>(
         return Err(ViewFault::View(Fault::Store));
     }
     Ok(Decided { seq, decision })
+}
+
+/// Says what would become of a command over the tables of a store, by the rows that it names. Store where a look-up fails,
+/// Memory where there is none. Nothing is changed.
+pub(crate) fn check_on<S: Alter>(
+    alloc: Global,
+    connection: &mut Connection<S>,
+    envelope: &Envelope,
+) -> Result<Checked, DeskFault>
+    ensures { HasForeseen (state S.Store connection.old) (state S.Store connection.new) envelope.now
+        result }
+{
+    let mut edges = EdgeCache::unread(alloc);
+    let mut view = Keyed::new(alloc, connection, &mut edges);
+    looked_up(check_over(alloc, &mut view, envelope))
+}
+
+/// Says what would become of a command by look-ups. The faults are those of [`decide_over`].
+fn check_over<S: Alter>(
+    alloc: Global,
+    view: &mut Keyed<'_, S>,
+    envelope: &Envelope,
+) -> Result<Checked, ViewFault<Fault>>
+    ensures same_reference { view.new.conn.ghost_name ≡ view.old.conn.ghost_name }
+    ensures frame { PreservesFrame (state S.Store view.old.conn.now) (state S.Store view.new.conn.now)
+        view.old.has_failed view.new.has_failed }
+    ensures checks { HasCleanDisk (state S.Store view.new.conn.now) → (s : State)
+        → ShowsState (state S.Store view.old.conn.now) s → AreEdgesOf s view.old.edges.now
+        → IfOk result (λ c. c ≡ checked s envelope.now) }
+{
+    // A position that was read shows that the connection is open.
+    let _position = match view.read_position() {
+        Ok(position) => position,
+        Err(fault) => return Err(ViewFault::View(fault)),
+    };
+    let checked = match check(alloc, view, envelope) {
+        Ok(checked) => checked,
+        Err(fault) => return Err(fault),
+    };
+    // That nothing is said after a look-up failed isn't a clause of `check`.
+    if view.has_failed {
+        return Err(ViewFault::View(Fault::Store));
+    }
+    Ok(checked)
 }
 
 /// Answers a question over the tables of a store: a trace reads the edges that it follows, or all of them once where they

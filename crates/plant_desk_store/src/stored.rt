@@ -3,10 +3,11 @@ ghost use Rattle.plant_desk.specs.Keepers.{shuts};
 
 use crate::executing::execute_on;
 use crate::indexing::index_on;
-use crate::lookups::answer_on;
+use crate::lookups::{answer_on, check_on};
 use crate::running::run_over;
 use crate::verifying::verify_on;
 use plant_base::{Envelope, Items};
+use plant_causes::Checked;
 use plant_check::Rule;
 use plant_desk::{Keeper, RunReport};
 use plant_messages::{Answer, DeskFault, Question, Reply};
@@ -158,6 +159,13 @@ impl<S: Alter> Keeper for Desk<S> {
         let answer = execute_on(self.alloc, &mut self.connection, envelope);
         self.is_shut = is_store_fault(&answer);
         answer
+    }
+
+    fn check(&mut self, envelope: &Envelope) -> Result<Checked, DeskFault> {
+        if self.is_shut {
+            return Err(DeskFault::Shut);
+        }
+        check_on(self.alloc, &mut self.connection, envelope)
     }
 
     fn ask(&mut self, question: &Question) -> Result<Answer, DeskFault> {

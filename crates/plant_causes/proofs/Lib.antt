@@ -1,0 +1,3 @@
+pub mod ChecksFollowConditions
+pub mod CausesAreTold
+pub mod ItemsAreFirst

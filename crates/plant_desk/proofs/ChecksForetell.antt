@@ -1,0 +1,19 @@
+-- A check says what the command would be answered.
+use Rattle.std.proofs.Common.{◌≡◌, ℕ, Option, Some, None, refl}
+use Rattle.plant_base.specs.State.{State}
+use Rattle.plant_base.specs.declared.command.Command.{Command}
+use Rattle.plant_base.specs.declared.command.Envelope.{Envelope}
+use Rattle.plant_base.specs.declared.refusal.Refusal.{Refusal}
+use Rattle.plant_rules.specs.Wrong.{wrong, kept_for}
+use Rattle.plant_rules.specs.Step.{step}
+use Rattle.plant_causes.specs.Causes.{checked, checked_by}
+use Rattle.plant_desk.specs.Foretold.{refusal_told, refusal_foretold}
+use Rattle.plant_desk.specs.Replies.{reply, reply_by, number_of}
+
+same_refusal : (s : State) (c : Command) (w : Option Refusal) (n : ℕ) → refusal_foretold (checked_by s c w) ≡ refusal_told (reply_by w n)
+same_refusal s c None n = refl
+same_refusal s c (Some r) n = refl
+
+pub checks_foretell : (s : State) (e : Envelope) → refusal_foretold (checked s e) ≡ refusal_told (reply s e)
+unfolding checked reply
+checks_foretell s e = same_refusal s e.body (wrong s e) (number_of (kept_for s e) (step s e))

@@ -11,7 +11,7 @@ use Rattle.plant_desk.specs.Keepers.{States}
 use Rattle.plant_messages.specs.declared.reply.DeskFault.{DeskFault}
 use Rattle.plant_messages.specs.declared.reply.DeskFault.TheVariants.{Store, Memory, Shut}
 use Rattle.plant_text.specs.CrashStates.{RepresentsDurably, RepresentsEither}
-use Rattle.plant_text.specs.Session.{Entry, nothing, bad, command, question, after, fold, CrashStatesOfFault, CrashStatesOfStoreFault}
+use Rattle.plant_text.specs.Session.{Entry, nothing, bad, command, question, check, after, fold, CrashStatesOfFault, CrashStatesOfStoreFault}
 use Rattle.plant_text.proofs.RunCrashStates.{CrashStateIsOwn}
 use Rattle.plant_http_requests.specs.declared.job.Job.{Job}
 use Rattle.plant_http_requests.specs.declared.profile.Profile.{Profile}
@@ -38,6 +38,7 @@ store_served profile s a bad is represents shut crash_states law same left = abs
 store_served profile s a (command c) is represents true crash_states law same (closed, either) = ([], a, omega arith, (same, rw is either))
 store_served profile s a (command c) is represents false crash_states law same (closed, either) = absurd (cc)
 store_served profile s a (question q) is represents shut crash_states law same is_live = open_served profile 1 s represents shut crash_states [] is_live (omega arith) (same, law is_live s same)
+store_served profile s a (check c) is represents shut crash_states law same (is_command, is_live) = open_served profile 1 s represents shut crash_states [] is_live (omega arith) (same, law is_live s same)
 
 fault_served : (profile : Profile) (f : DeskFault) (s : State) (a : Asked profile) (represents : States) (shut : Bool) (crash_states : States → Type 0) → CrashStateIsOwn represents shut crash_states
     → CrashStatesOfFault f s (entry_of a.job) represents shut crash_states → HasServed profile 1 s represents shut crash_states

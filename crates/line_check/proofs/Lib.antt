@@ -1,5 +1,3 @@
-pub mod NoErrorIfWhole
 pub mod VerdictOfLine
-pub mod IndexesInLists
 pub mod ReportedLines
 pub mod ReportEndsEarly

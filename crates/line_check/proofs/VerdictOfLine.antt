@@ -7,7 +7,7 @@ use Rattle.plant_text.specs.declared.read.Line.{Line}
 use Rattle.plant_text.specs.Lines.{longest_line, line_says}
 use Rattle.plant_text.proofs.LineSays.{says_long}
 use Rattle.line_check.specs.declared.judge.Verdict.TheVariants as verdict
-use Rattle.line_check.specs.declared.judge.LineError.TheVariants as line_error
+use Rattle.plant_command_errors.specs.declared.reason.Reason.TheVariants as reason
 use Rattle.line_check.specs.Verdicts.{verdict_where, verdict_of}
 
 pub verdict_empty : (line : List ℕ) → length line ≡ 0 → verdict_of line ≡ verdict.Nothing
@@ -22,7 +22,7 @@ verdict_said line r h e =
     let some : nat_eq (length line) 0 ≡ false = grind (arith, nat_tests) in
     rw (some, e) refl
 
-pub verdict_long : (line : List ℕ) → longest_line < length line → verdict_of line ≡ verdict.Bad (line_error.Shape format_error.TooLong)
+pub verdict_long : (line : List ℕ) → longest_line < length line → verdict_of line ≡ verdict.Bad (reason.Shape format_error.TooLong)
 verdict_long line h =
     let some : 0 < length line = omega (arith, h) in
     verdict_said line (Err format_error.TooLong) some (says_long line h)

@@ -1,4 +1,3 @@
 pub mod Endings
-pub mod CommandErrors
 pub mod Report
 pub mod Verdicts

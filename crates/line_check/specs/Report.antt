@@ -4,13 +4,14 @@ use Rattle.std.specs.Str.Lines.{lines}
 use Rattle.std.specs.Io.KnownBytes.{Appends}
 use Rattle.plant_text.specs.HeldLines.{ended_after}
 use Rattle.plant_text.specs.Writes.{with_lf, AppendsPrefix}
+use Rattle.plant_command_errors.specs.Reasons.{reason_text}
+use Rattle.plant_command_errors.specs.declared.reason.Reason.{Reason}
 use Rattle.desk_cli.specs.declared.check_fault.CheckFault.{CheckFault}
 use Rattle.desk_cli.specs.declared.check_fault.CheckFault.TheVariants as fault
 use Rattle.line_check.specs.declared.judge.Verdict.{Verdict}
 use Rattle.line_check.specs.declared.judge.Verdict.TheVariants as verdict
-use Rattle.line_check.specs.declared.judge.LineError.{LineError}
 use Rattle.line_check.specs.declared.lines.Tally.{Tally}
-use Rattle.line_check.specs.Verdicts.{verdict_of, line_error_text}
+use Rattle.line_check.specs.Verdicts.{verdict_of}
 
 -- ---- the report on an input
 
@@ -18,15 +19,15 @@ abbrev pub verdicts : List (List ℕ) → List Verdict
 verdicts ls = map verdict_of ls
 
 -- what is told of the line of a number, without its LF
-abbrev pub answer_lines : ℕ → LineError → List ℕ
-answer_lines number line_error = codes "line " ++ decimal number ++ codes ": " ++ line_error_text line_error
+abbrev pub answer_lines : ℕ → Reason → List ℕ
+answer_lines number reason = codes "line " ++ decimal number ++ codes ": " ++ reason_text reason
 
 -- a bad line is told, and no other
 abbrev pub line_text : ℕ → Verdict → List ℕ
 line_text number verdict.Nothing = []
 line_text number verdict.Command = []
 line_text number verdict.Question = []
-line_text number (verdict.Bad line_error) = with_lf (answer_lines number line_error)
+line_text number (verdict.Bad reason) = with_lf (answer_lines number reason)
 
 -- what is told of the lines behind so many
 abbrev pub texts : ℕ → List Verdict → List ℕ
@@ -38,7 +39,7 @@ abbrev pub tally_with : Tally → Verdict → Tally
 tally_with t verdict.Nothing = record { lines = t.lines + 1; commands = t.commands; questions = t.questions; bad = t.bad }
 tally_with t verdict.Command = record { lines = t.lines + 1; commands = t.commands + 1; questions = t.questions; bad = t.bad }
 tally_with t verdict.Question = record { lines = t.lines + 1; commands = t.commands; questions = t.questions + 1; bad = t.bad }
-tally_with t (verdict.Bad line_error) = record { lines = t.lines + 1; commands = t.commands; questions = t.questions; bad = true }
+tally_with t (verdict.Bad reason) = record { lines = t.lines + 1; commands = t.commands; questions = t.questions; bad = true }
 
 abbrev pub tally_after : Tally → List Verdict → Tally
 tally_after t [] = t

@@ -2,29 +2,30 @@
 use Rattle.std.specs.Prelude.{ℕ, ◌==◌, List, Bool, true, length, if◌then◌else◌, Option, Some, None, Result, Ok, Err}
 use Rattle.plant_base.specs.declared.command.Command.{Command}
 use Rattle.plant_message_schema.specs.declared.format_errors.FormatError.{FormatError}
-use Rattle.plant_message_schema.specs.FormatErrors.{format_error_text, format_error_is_reported}
+use Rattle.plant_message_schema.specs.FormatErrors.{format_error_is_reported}
 use Rattle.plant_text.specs.Lines.{line_says}
 use Rattle.plant_text.specs.declared.read.Line.{Line}
 use Rattle.plant_text.specs.declared.read.Line.TheVariants as L
-use Rattle.line_check.specs.CommandErrors.{command_error_of, command_error_text}
-use Rattle.line_check.specs.declared.command_errors.CommandError.{CommandError}
+use Rattle.plant_command_errors.specs.CommandErrors.{command_error_of}
+use Rattle.plant_command_errors.specs.declared.command_errors.CommandError.{CommandError}
+use Rattle.plant_command_errors.specs.declared.reason.Reason.TheVariants as reason
 use Rattle.line_check.specs.declared.judge.Verdict.{Verdict}
 use Rattle.line_check.specs.declared.judge.Verdict.TheVariants as verdict
-use Rattle.line_check.specs.declared.judge.LineError.{LineError}
-use Rattle.line_check.specs.declared.judge.LineError.TheVariants as line_error
 
 abbrev pub verdict_without : Option CommandError → Verdict
 verdict_without None = verdict.Command
-verdict_without (Some m) = verdict.Bad (line_error.Whole m)
+verdict_without (Some m) = verdict.Bad (reason.Whole m)
 
 -- a command is bad where the desk refuses it as BadForm whatever its state
 abbrev pub command_verdict : Command → Verdict
 command_verdict body = verdict_without (command_error_of body)
 
+-- a check is a question, be its command one or none
 abbrev pub verdict_where : Result Line FormatError → Verdict
 verdict_where (Ok (L.Command c)) = command_verdict c.body
 verdict_where (Ok (L.Question q)) = verdict.Question
-verdict_where (Err p) = verdict.Bad (line_error.Shape p)
+verdict_where (Ok (L.Check c)) = verdict.Question
+verdict_where (Err p) = verdict.Bad (reason.Shape p)
 
 -- an empty line is nothing, and any other that says nothing is bad
 unfoldable pub verdict_of : List ℕ → Verdict
@@ -32,9 +33,5 @@ verdict_of line = if length line == 0 then verdict.Nothing else verdict_where (l
 
 -- of a bad line the verdict tells what is wrong with it, and not only that it is bad
 abbrev pub has_reason : Verdict → Bool
-has_reason (verdict.Bad (line_error.Shape p)) = format_error_is_reported p
+has_reason (verdict.Bad (reason.Shape p)) = format_error_is_reported p
 has_reason _ = true
-
-abbrev pub line_error_text : LineError → List ℕ
-line_error_text (line_error.Shape p) = format_error_text p
-line_error_text (line_error.Whole m) = command_error_text m

@@ -1,33 +1,11 @@
 //! The verdict on a line.
 ghost use Rattle.std.specs.Prelude.{◌≡◌, true, IfOk};
-ghost use Rattle.std.specs.Prelude.{Some};
-ghost use Rattle.line_check.specs.Verdicts.{command_verdict, verdict_of, has_reason, line_error_text};
+ghost use Rattle.line_check.specs.Verdicts.{command_verdict, verdict_of, has_reason};
 
-use crate::command_errors::{CommandError, command_error_of};
 use plant_base::Command;
-use plant_text::{Fault, FormatError, Line, read_line_or_error};
+use plant_command_errors::{Reason, command_error_of};
+use plant_text::{Fault, Line, read_line_or_error};
 use std::alloc::Global;
-use std::fmt;
-
-/// Why a line is bad.
-#[derive(Clone, Copy, Debug, PartialEq, Eq)]
-pub(crate) enum LineError {
-    /// It has the shape of no command and of no question.
-    Shape(FormatError),
-    /// It is a command that the desk refuses as BadForm, whatever its state.
-    Whole(CommandError),
-}
-
-impl fmt::Display for LineError {
-    ghost output = { λ line_error. Some (line_error_text line_error) };
-
-    fn fmt<W: fmt::Write>(&self, f: &mut fmt::Formatter<W>) -> fmt::Result {
-        match self {
-            LineError::Shape(format_error) => write!(f, "{format_error}"),
-            LineError::Whole(command_error) => write!(f, "{command_error}"),
-        }
-    }
-}
 
 /// What a line is.
 #[derive(Clone, Copy, Debug, PartialEq, Eq)]
@@ -36,10 +14,10 @@ pub(crate) enum Verdict {
     Nothing,
     /// It is a command, whose lists and recipe are well formed.
     Command,
-    /// It is a question.
+    /// It is a question, or a check, be its command one or none.
     Question,
     /// It is neither, and this is why.
-    Bad(LineError),
+    Bad(Reason),
 }
 
 /// Memory was refused.
@@ -51,7 +29,7 @@ fn judge_command(body: &Command) -> Verdict
     ensures { result ≡ command_verdict body.now }
 {
     match command_error_of(body) {
-        Some(command_error) => Verdict::Bad(LineError::Whole(command_error)),
+        Some(command_error) => Verdict::Bad(Reason::Whole(command_error)),
         None => Verdict::Command,
     }
 }
@@ -68,7 +46,8 @@ pub(crate) fn judge(alloc: Global, line: &[u8]) -> Result<Verdict, MemoryError>
     match read_line_or_error(alloc, line) {
         Ok(Line::Command(envelope)) => Ok(judge_command(&envelope.body)),
         Ok(Line::Question(_)) => Ok(Verdict::Question),
-        Err(Fault::Reported(format_error)) => Ok(Verdict::Bad(LineError::Shape(format_error))),
+        Ok(Line::Check(_)) => Ok(Verdict::Question),
+        Err(Fault::Reported(format_error)) => Ok(Verdict::Bad(Reason::Shape(format_error))),
         Err(Fault::Memory) => Err(MemoryError),
     }
 }

@@ -10,8 +10,10 @@ ghost use Rattle.line_check.specs.Report.{answer_lines, line_text, tally_with, c
 ghost use Rattle.line_check.specs.Report.{report};
 ghost use Rattle.line_check.specs.Report.{some_bad, texts, verdicts_after, AreWrittenAndCounted, EndsEarly};
 
-use crate::judge::{LineError, MemoryError, Verdict, judge};
+use crate::hints::{MOST_HINTED, write_hint};
+use crate::judge::{MemoryError, Verdict, judge};
 use desk_cli::CheckFault;
+use plant_command_errors::Reason;
 use plant_text::{WriteError, write_line};
 use std::alloc::Global;
 use std::fmt;
@@ -38,16 +40,16 @@ const MOST_READS: u64 = 1_000_000_000;
 #[derive(Clone, Copy)]
 struct NumberedVerdict {
     number: u64,
-    line_error: LineError,
+    reason: Reason,
 }
 
 impl fmt::Display for NumberedVerdict {
-    ghost output = { λ reported. Some (answer_lines reported.number reported.line_error) };
+    ghost output = { λ reported. Some (answer_lines reported.number reported.reason) };
 
     fn fmt<W: fmt::Write>(&self, f: &mut fmt::Formatter<W>) -> fmt::Result {
         let number = self.number;
-        let line_error = self.line_error;
-        write!(f, "line {number}: {line_error}")
+        let reason = self.reason;
+        write!(f, "line {number}: {reason}")
     }
 }
 
@@ -80,14 +82,14 @@ fn write_verdict_line<W: Write>(
     alloc: Global,
     writer: &mut W,
     number: u64,
-    line_error: LineError,
+    reason: Reason,
 ) -> Result<(), CheckFault>
     ensures text { OnOk result (Appends (W.contents writer.old) (W.contents writer.new)
-        (with_lf (answer_lines number line_error))) }
+        (with_lf (answer_lines number reason))) }
     ensures early { IfErr result (λ fault. EndsEarly fault (W.contents writer.old) (W.contents writer.new)
-        (with_lf (answer_lines number line_error))) }
+        (with_lf (answer_lines number reason))) }
 {
-    let reported = NumberedVerdict { number, line_error };
+    let reported = NumberedVerdict { number, reason };
     match reported.to_string(alloc) {
         Ok(text) => write_verdict(writer, text.as_bytes()),
         Err(_) => Err(CheckFault::Memory),
@@ -149,12 +151,7 @@ fn take_verdict<W: Write>(
 {
     let now = tally_with(tally, verdict)?;
     match &verdict {
-        Verdict::Bad(line_error) => match write_verdict_line(
-            alloc,
-            writer,
-            now.lines,
-            *line_error,
-        ) {
+        Verdict::Bad(reason) => match write_verdict_line(alloc, writer, now.lines, *reason) {
             Ok(()) => Ok(now),
             Err(fault) => Err(fault),
         },
@@ -162,10 +159,40 @@ fn take_verdict<W: Write>(
     }
 }
 
-/// Takes one line.
-fn take_line<W: Write>(
+/// Gives a hint on the line behind so many, where it is a bad one among the first.
+fn give_hint<H: Write>(alloc: Global, hints: &mut H, before: u64, line: &[u8], verdict: &Verdict) {
+    if let Verdict::Bad(reason) = verdict {
+        if before < MOST_HINTED {
+            write_hint(alloc, hints, before.saturating_add(1), line, *reason);
+        }
+    }
+}
+
+/// Takes a line of this verdict, and gives a hint on it.
+fn take_judged<W: Write, H: Write>(
     alloc: Global,
     writer: &mut W,
+    hints: &mut H,
+    tally: Tally,
+    line: &[u8],
+    verdict: Verdict,
+) -> Result<Tally, CheckFault>
+    ensures tally { IfOk result (λ now. now ≡ tally_with tally verdict) }
+    ensures text { OnOk result (Appends (W.contents writer.old) (W.contents writer.new)
+        (line_text (tally.lines + 1) verdict)) }
+    ensures early { IfErr result (λ fault. EndsEarly fault (W.contents writer.old) (W.contents writer.new)
+        (line_text (tally.lines + 1) verdict)) }
+{
+    let before = tally.lines;
+    give_hint(alloc, hints, before, line, &verdict);
+    take_verdict(alloc, writer, tally, verdict)
+}
+
+/// Takes one line.
+fn take_line<W: Write, H: Write>(
+    alloc: Global,
+    writer: &mut W,
+    hints: &mut H,
     tally: Tally,
     line: &[u8],
 ) -> Result<Tally, CheckFault>
@@ -175,7 +202,7 @@ fn take_line<W: Write>(
         (texts tally.lines (verdict_of line.now ∷ []))) }
 {
     match judge(alloc, line) {
-        Ok(verdict) => take_verdict(alloc, writer, tally, verdict),
+        Ok(verdict) => take_judged(alloc, writer, hints, tally, line, verdict),
         Err(MemoryError) => Err(CheckFault::Memory),
     }
 }
@@ -193,9 +220,10 @@ fn without_carriage_return(line: &[u8]) -> &[u8]
 }
 
 /// Takes the line that is held, and forgets it.
-fn end_line<W: Write>(
+fn end_line<W: Write, H: Write>(
     alloc: Global,
     writer: &mut W,
+    hints: &mut H,
     held: &mut Vec<u8>,
     tally: Tally,
 ) -> Result<Tally, CheckFault>
@@ -206,7 +234,7 @@ fn end_line<W: Write>(
     ensures early { IfErr result (λ fault. EndsEarly fault (W.contents writer.old) (W.contents writer.new)
         (texts tally.lines (verdict_of (strip_carriage_return held.old.items) ∷ []))) }
 {
-    match take_line(alloc, writer, tally, without_carriage_return(held)) {
+    match take_line(alloc, writer, hints, tally, without_carriage_return(held)) {
         Ok(now) => {
             held.clear();
             Ok(now)
@@ -227,9 +255,10 @@ fn hold_byte(held: &mut Vec<u8>, b: u8) -> Result<(), CheckFault>
 }
 
 /// Takes one byte.
-fn take_byte<W: Write>(
+fn take_byte<W: Write, H: Write>(
     alloc: Global,
     writer: &mut W,
+    hints: &mut H,
     held: &mut Vec<u8>,
     tally: Tally,
     b: u8,
@@ -241,7 +270,7 @@ fn take_byte<W: Write>(
         (texts tally.lines (verdicts_after held.old.items (b ∷ [])))) }
 {
     if b == b'\n' {
-        return end_line(alloc, writer, held, tally);
+        return end_line(alloc, writer, hints, held, tally);
     }
     match hold_byte(held, b) {
         Ok(()) => Ok(tally),
@@ -250,9 +279,10 @@ fn take_byte<W: Write>(
 }
 
 /// Takes the bytes of one read: each line that ends in them is judged.
-fn take_piece<W: Write>(
+fn take_piece<W: Write, H: Write>(
     alloc: Global,
     writer: &mut W,
+    hints: &mut H,
     held: &mut Vec<u8>,
     tally: Tally,
     piece: &[u8],
@@ -265,7 +295,7 @@ fn take_piece<W: Write>(
 {
     let mut tally = tally;
     for b in piece {
-        match take_byte(alloc, writer, held, tally, *b) {
+        match take_byte(alloc, writer, hints, held, tally, *b) {
             Ok(now) => tally = now,
             Err(fault) => return Err(fault),
         }
@@ -291,9 +321,10 @@ fn write_end<W: Write>(alloc: Global, writer: &mut W, tally: Tally) -> Result<bo
 }
 
 /// Takes the last line, which no LF ended, and tells the end.
-fn end_input<W: Write>(
+fn end_input<W: Write, H: Write>(
     alloc: Global,
     writer: &mut W,
+    hints: &mut H,
     held: &[u8],
     tally: Tally,
 ) -> Result<bool, CheckFault>
@@ -303,17 +334,18 @@ fn end_input<W: Write>(
     ensures early { IfErr result (λ fault. EndsEarly fault (W.contents writer.old) (W.contents writer.new)
         (texts tally.lines (verdict_of held.now ∷ []) ++ end_text (tally_with tally (verdict_of held.now)))) }
 {
-    match take_line(alloc, writer, tally, held) {
+    match take_line(alloc, writer, hints, tally, held) {
         Ok(now) => write_end(alloc, writer, now),
         Err(fault) => Err(fault),
     }
 }
 
 /// Reads into `piece` and judges, up to the end of the input or so many reads.
-fn check_pieces<R: Read, W: Write>(
+fn check_pieces<R: Read, W: Write, H: Write>(
     alloc: Global,
     reader: &mut R,
     writer: &mut W,
+    hints: &mut H,
     piece: &mut [u8],
     most: u64,
 ) -> Result<bool, CheckFault>
@@ -335,10 +367,10 @@ fn check_pieces<R: Read, W: Write>(
     };
     'reads: for _made in 0..most {
         match reader.read(piece) {
-            Ok(0) => return end_input(alloc, writer, &held, tally),
+            Ok(0) => return end_input(alloc, writer, hints, &held, tally),
             Ok(n) => {
                 let (prefix, _) = piece.split_at(n);
-                match take_piece(alloc, writer, &mut held, tally, prefix) {
+                match take_piece(alloc, writer, hints, &mut held, tally, prefix) {
                     Ok(now) => tally = now,
                     Err(fault) => return Err(fault),
                 }
@@ -351,7 +383,7 @@ fn check_pieces<R: Read, W: Write>(
 
 /// Judges the lines of an input one after the other, and executes none: writes a line for each that is bad, with its
 /// number and its problem, and where there was none, how many commands and questions there were. `true` where some
-/// line is bad.
+/// line is bad. What may be meant by a bad line goes to `hints`, of which nothing is promised.
 ///
 /// A line ends with LF, and one CR before it is dropped; what stands behind the last LF counts as it stands. An empty
 /// line is passed over. Of a line at most 262,146 bytes are held.
@@ -361,10 +393,11 @@ fn check_pieces<R: Read, W: Write>(
 ///
 /// In the clauses, `bytes` are those that the reader has lost, to its end; after a fault those that it had left, where it tells them, and some bytes
 /// where it tells none.
-pub(crate) fn check_lines<R: Read, W: Write>(
+pub(crate) fn check_lines<R: Read, W: Write, H: Write>(
     alloc: Global,
     reader: &mut R,
     writer: &mut W,
+    hints: &mut H,
 ) -> Result<bool, CheckFault>
     ensures reported { IfOk result (λ bad. (bytes : List ℕ)
         × Consumes (R.remaining reader.old) (R.remaining reader.new) bytes
@@ -375,5 +408,5 @@ pub(crate) fn check_lines<R: Read, W: Write>(
         × EndsEarly fault (W.contents writer.old) (W.contents writer.new) (report bytes)) }
 {
     let mut piece = [0; 4096];
-    check_pieces(alloc, reader, writer, &mut piece, MOST_READS)
+    check_pieces(alloc, reader, writer, hints, &mut piece, MOST_READS)
 }

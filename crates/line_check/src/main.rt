@@ -1,8 +1,8 @@
 //! Checks lines before they are sent: what is wrong with each that the desk would answer BadForm.
 #![tactic(auto)]
 
-mod command_errors;
 mod ending;
+mod hints;
 mod judge;
 mod lines;
 
@@ -39,10 +39,11 @@ fn check_named(rt: &HostRuntime) -> Result<u8, WordsFault> {
 /// Checks the lines of the file of a name, of standard input where there is none.
 fn check_file(rt: &HostRuntime, file: Option<&str>) -> Result<bool, CheckFault> {
     let mut writer = io::writer(rt);
+    let mut hints = rt.stderr();
     match file {
-        None => check_lines(rt.alloc(), &mut rt.reader(), &mut writer),
+        None => check_lines(rt.alloc(), &mut rt.reader(), &mut writer, &mut hints),
         Some(name) => match File::open(rt, name) {
-            Ok(mut opened) => check_lines(rt.alloc(), &mut opened, &mut writer),
+            Ok(mut opened) => check_lines(rt.alloc(), &mut opened, &mut writer, &mut hints),
             Err(_) => Err(CheckFault::Open),
         },
     }

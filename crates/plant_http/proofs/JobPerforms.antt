@@ -1,5 +1,5 @@
 -- What comes of the keeper's replies, where a stop of an open keeper leaves the state that it stands at.
-use Rattle.std.proofs.Common.{◌≡◌, ℕ, Bool, true, false, Result, Ok, Err, refl, sym, ap, ◌∙◌, inl, inr}
+use Rattle.std.proofs.Common.{◌≡◌, ℕ, Bool, true, false, Result, Ok, Err, refl, sym, subst, ap, ◌∙◌, inl, inr}
 use Rattle.plant_base.specs.State.{State}
 use Rattle.plant_base.specs.declared.command.Envelope.{Envelope}
 use Rattle.plant_desk.specs.Keepers.{States, Executes, Asks, shuts}
@@ -14,8 +14,12 @@ use Rattle.plant_http_requests.specs.Jobs.{is_of_body, Reads}
 use Rattle.plant_http_requests.specs.declared.job.BodyFormat.{BodyFormat}
 use Rattle.plant_http_requests.specs.declared.job.Job.{Job}
 use Rattle.plant_http_requests.specs.declared.job.Job.TheVariants as J
-use Rattle.plant_http.specs.Answers.{Out, fault_out, reply_out, answer_out, shut_out, is_silent, rendered, Executed, Asked}
-use Rattle.plant_http.specs.Serving.{Performs, OutWhenShut}
+use Rattle.plant_text_commands.specs.declared.checks.ToCheck.{ToCheck}
+use Rattle.plant_text_commands.specs.declared.checks.ToCheck.TheVariants as to_check
+use Rattle.plant_text_checks.specs.declared.answers.CheckAnswer.{CheckAnswer}
+use Rattle.plant_text.specs.Checks.{ChecksAs, check_when_shut}
+use Rattle.plant_http.specs.Answers.{Out, fault_out, reply_out, answer_out, check_out, shut_out, is_silent, rendered, Executed, Asked, Checked}
+use Rattle.plant_http.specs.Serving.{Performs, OutWhenShut, DoneWhenShut}
 use Rattle.plant_http.specs.declared.answer.Answer.{Answer}
 
 pub command_performs : (k : ℕ) (s : State) (e : Envelope) (r : Result Reply DeskFault) (a : Answer) (represents : States) (shut : Bool) (crash_states : States → Type 0)
@@ -33,6 +37,18 @@ question_performs k s q body_format silent (Err Store) out represents shut crash
 question_performs k s q body_format silent (Err Memory) out represents shut crash_states law is_live same e = inr (Memory, refl, e, (same, is_live), (same, law is_live s same))
 question_performs k s q body_format silent (Err Shut) out represents shut crash_states law is_live none e = absurd none
 
+pub check_performs : (k : ℕ) (s : State) (c : ToCheck) (r : Result CheckAnswer DeskFault) (out : Out) (represents : States) (shut : Bool) (crash_states : States → Type 0)
+    → CrashStateIsOwn represents shut crash_states → shut ≡ false → ChecksAs s represents c r → Checked r out → Performs k s (J.Check c) out represents shut crash_states
+check_performs k s c (Ok a) out represents shut crash_states law is_live (is, same) (inl e) = inl (e ∙ ap check_out is, (same, law is_live s same), is_live)
+check_performs k s c (Ok a) out represents shut crash_states law is_live (is, same) (inr e) = inr (Memory, refl, e, (same, is_live), (same, law is_live s same))
+check_performs k s c (Err Store) out represents shut crash_states law is_live (is_command, same) e = inr (Store, refl, e, (same, (is_command, is_live)), inl (same, law is_live s same))
+check_performs k s c (Err Memory) out represents shut crash_states law is_live (is_command, same) e = inr (Memory, refl, e, (same, is_live), (same, law is_live s same))
+check_performs k s c (Err Shut) out represents shut crash_states law is_live none e = absurd none
+
+pub check_shut : (c : ToCheck) (r : Result CheckAnswer DeskFault) (out : Out) → r ≡ check_when_shut c → Checked r out → DoneWhenShut (J.Check c) out
+check_shut (to_check.Command e) r out is made = subst (λ (r : Result CheckAnswer DeskFault). Checked r out) is made
+check_shut (to_check.BadForm p) r out is made = subst (λ (r : Result CheckAnswer DeskFault). Checked r out) is made
+
 -- ---- want of memory in reading a body
 
 no_memory : (k : ℕ) (s : State) (j : Job) (out : Out) (represents : States) (shut : Bool) (crash_states : States → Type 0) → is_of_body j ≡ true → out ≡ fault_out Memory
@@ -41,6 +57,7 @@ no_memory k s (J.Refuse status allow silent) out represents shut crash_states h 
 no_memory k s (J.Ask q body_format silent) out represents shut crash_states h e alone is_live = absurd (cc)
 no_memory k s (J.Page silent) out represents shut crash_states h e alone is_live = absurd (cc)
 no_memory k s (J.Command c) out represents shut crash_states h e alone is_live = inr (Memory, refl, e, (alone.0, is_live), alone)
+no_memory k s (J.Check c) out represents shut crash_states h e alone is_live = inr (Memory, refl, e, (alone.0, is_live), alone)
 no_memory k s J.BadForm out represents shut crash_states h e alone is_live = inr (Memory, refl, e, (alone.0, is_live), alone)
 no_memory k s (J.BadFile f) out represents shut crash_states h e alone is_live = inr (Memory, refl, e, (alone.0, is_live), alone)
 no_memory k s J.MemoryError out represents shut crash_states h e alone is_live = absurd (cc)
@@ -68,6 +85,14 @@ pub reads_silent : (job j : Job) → Reads job j → is_silent job ≡ is_silent
 reads_silent J.MemoryError j h = body_is_loud j h
 reads_silent _ j h = ap is_silent h
 
-pub reads_shut : (job j : Job) → Reads job j → OutWhenShut j (shut_out job)
-reads_shut J.MemoryError j h = inr (h, refl)
-reads_shut _ j h = inl (ap shut_out h)
+pub reads_shut : (job j : Job) (out : Out) → Reads job j → DoneWhenShut job out → OutWhenShut j out
+reads_shut J.MemoryError j out h e = inr (h, e)
+reads_shut (J.Check (to_check.BadForm p)) j out h (inl e) = inl (e ∙ ap shut_out h)
+reads_shut (J.Check (to_check.BadForm p)) j out h (inr e) = inr (ap is_of_body (sym h), e)
+reads_shut (J.Check (to_check.Command c)) j out h e = inl (e ∙ ap shut_out h)
+reads_shut (J.Refuse status allow silent) j out h e = inl (e ∙ ap shut_out h)
+reads_shut (J.Ask q body_format silent) j out h e = inl (e ∙ ap shut_out h)
+reads_shut (J.Page silent) j out h e = inl (e ∙ ap shut_out h)
+reads_shut (J.Command c) j out h e = inl (e ∙ ap shut_out h)
+reads_shut J.BadForm j out h e = inl (e ∙ ap shut_out h)
+reads_shut (J.BadFile f) j out h e = inl (e ∙ ap shut_out h)

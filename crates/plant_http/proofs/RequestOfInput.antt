@@ -13,7 +13,6 @@ use Rattle.plant_http_requests.specs.declared.reading.HeadEnd.TheVariants as hea
 use Rattle.plant_http_requests.specs.Jobs.{AsksFor, EndJob}
 use Rattle.plant_http_requests.specs.declared.job.Job.{Job}
 use Rattle.plant_http_requests.specs.declared.profile.Profile.{Profile}
-use Rattle.plant_http.specs.Answers.{shut_out}
 use Rattle.plant_http.specs.Serving.{Serves, ServesShut, Answers, AnswersJobShut, end_of}
 use Rattle.plant_text.specs.CrashStates.{RepresentsDurably}
 use Rattle.plant_http_requests.specs.declared.reading.InputFault.{InputFault}
@@ -107,10 +106,10 @@ shut_by_job profile whole job old new (Err end.Endless) a h = absurd h
 shut_by_job profile whole job old new (Err end.Memory) a h = absurd h
 shut_by_job profile whole job old new (Ok (Answered code)) (None, is, reads) h = absurd reads
 shut_by_job profile whole job old new (Err end.Write) (None, is, reads) h = absurd reads
-shut_by_job profile whole job old new (Ok (Answered code)) (Some j, is, reads) (is_code, wrote) =
-    (j, is, shut_out job, reads_shut job j reads, (is_code, rw (sym (reads_silent job j reads)) wrote))
-shut_by_job profile whole job old new (Err end.Write) (Some j, is, reads) wrote =
-    (j, is, shut_out job, reads_shut job j reads, rw (sym (reads_silent job j reads)) wrote)
+shut_by_job profile whole job old new (Ok (Answered code)) (Some j, is, reads) (out, done, is_code, wrote) =
+    (j, is, out, reads_shut job j out reads done, (is_code, rw (sym (reads_silent job j reads)) wrote))
+shut_by_job profile whole job old new (Err end.Write) (Some j, is, reads) (out, done, wrote) =
+    (j, is, out, reads_shut job j out reads done, rw (sym (reads_silent job j reads)) wrote)
 
 -- ---- no job
 

@@ -19,6 +19,10 @@ use Rattle.plant_messages.specs.declared.question.BatchView.{BatchView}
 use Rattle.plant_record.specs.Record.{record_text}
 use Rattle.plant_text_answers.specs.Answers.{text_of_answer}
 use Rattle.plant_text_answers.specs.Replies.{reply_text, fault_text}
+use Rattle.plant_text_checks.specs.Answers.{check_text}
+use Rattle.plant_text_checks.specs.Checks.{check_answer}
+use Rattle.plant_text_checks.specs.declared.answers.CheckAnswer.{CheckAnswer}
+use Rattle.plant_text.specs.Checks.{check_when_shut}
 use Rattle.plant_http_requests.specs.declared.job.Job.{Job}
 use Rattle.plant_http_requests.specs.declared.job.Job.TheVariants as J
 use Rattle.plant_http_requests.specs.declared.job.BodyFormat.{BodyFormat}
@@ -162,6 +166,15 @@ text_in body_format a = text_of_answer a
 abbrev pub answer_out : BodyFormat → DeskAnswer → Out
 answer_out body_format a = record { status = answer_status a; allow = Unsaid; media_type = media_of (body_format_for body_format a); body = text_in body_format a }
 
+-- that a command would be refused is an answer as another is
+abbrev pub check_out : CheckAnswer → Out
+check_out a = json_out st.Success (check_text a)
+
+-- what came of a check
+abbrev pub checked_out : Result CheckAnswer DeskFault → Out
+checked_out (Ok a) = check_out a
+checked_out (Err f) = fault_out f
+
 -- the bytes of the page
 unfoldable pub page_text : List ℕ
 page_text = PAGE.now
@@ -177,6 +190,7 @@ out_of k s (J.Refuse status allow silent) = error_out status allow
 out_of k s (J.Ask question body_format silent) = answer_out body_format (answer k s question)
 out_of k s (J.Page silent) = page_out
 out_of k s (J.Command e) = reply_out (reply s e)
+out_of k s (J.Check c) = check_out (check_answer s c)
 out_of k s J.BadForm = reply_out (Refused BadForm)
 out_of k s (J.BadFile f) = csv_out f
 out_of k s J.MemoryError = fault_out fault.Memory
@@ -187,6 +201,7 @@ shut_out (J.Refuse status allow silent) = error_out status allow
 shut_out (J.Ask question body_format silent) = fault_out fault.Shut
 shut_out (J.Page silent) = page_out
 shut_out (J.Command e) = fault_out fault.Shut
+shut_out (J.Check c) = checked_out (check_when_shut c)
 shut_out J.BadForm = reply_out (Refused BadForm)
 shut_out (J.BadFile f) = csv_out f
 shut_out J.MemoryError = fault_out fault.Memory
@@ -223,3 +238,8 @@ Executed (Err f) a = Is (fault_out f) false a
 abbrev pub Asked : BodyFormat → Result DeskAnswer DeskFault → Out → Type 0
 Asked body_format (Ok x) out = (out ≡ answer_out body_format x) ⊎ (out ≡ fault_out fault.Memory)
 Asked body_format (Err f) out = out ≡ fault_out f
+
+-- the answer to what came of a check; memory may be refused for its text
+abbrev pub Checked : Result CheckAnswer DeskFault → Out → Type 0
+Checked (Ok a) out = (out ≡ check_out a) ⊎ (out ≡ fault_out fault.Memory)
+Checked (Err f) out = out ≡ fault_out f

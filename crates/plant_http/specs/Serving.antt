@@ -6,8 +6,9 @@ use Rattle.plant_desk.specs.Keepers.{States}
 use Rattle.plant_messages.specs.declared.reply.DeskFault.{DeskFault}
 use Rattle.plant_messages.specs.declared.reply.DeskFault.TheVariants as fault
 use Rattle.plant_text.specs.CrashStates.{RepresentsDurably, CrashStatesAtFault}
-use Rattle.plant_text.specs.Session.{Entry, nothing, command, question, after, CrashStatesOfFault}
+use Rattle.plant_text.specs.Session.{Entry, nothing, command, question, check, after, CrashStatesOfFault}
 use Rattle.plant_text.specs.Writes.{AppendsPrefix}
+use Rattle.plant_text_commands.specs.declared.checks.ToCheck.TheVariants as to_check
 use Rattle.plant_http_requests.specs.declared.reading.InputFault.{InputFault}
 use Rattle.plant_http_requests.specs.declared.reading.InputFault.TheVariants as input
 use Rattle.plant_http_requests.specs.Jobs.{JobOf, is_of_body}
@@ -26,6 +27,7 @@ entry_of (J.Refuse status allow silent) = nothing
 entry_of (J.Ask q body_format silent) = question q
 entry_of (J.Page silent) = nothing
 entry_of (J.Command e) = command e
+entry_of (J.Check c) = check c
 entry_of J.BadForm = nothing
 entry_of (J.BadFile f) = nothing
 entry_of J.MemoryError = nothing
@@ -80,6 +82,11 @@ IfUnasked (Err end.Memory) P = P
 abbrev pub OutWhenShut : Job → Out → Type 0
 OutWhenShut job out = (out ≡ shut_out job) ⊎ ((is_of_body job ≡ true) × (out ≡ fault_out fault.Memory))
 
+-- the same of a job that was read; only the text of an answer that no keeper gives takes memory still
+abbrev pub DoneWhenShut : Job → Out → Type 0
+DoneWhenShut (J.Check (to_check.BadForm p)) out = (out ≡ shut_out (J.Check (to_check.BadForm p))) ⊎ (out ≡ fault_out fault.Memory)
+DoneWhenShut job out = out ≡ shut_out job
+
 abbrev pub AnswersShut : Profile → (Out → List ℕ → Type 0) → List ℕ → Type 0
 AnswersShut profile Wrote whole = (job : Job) × JobOf profile whole (Some job) × (out : Out) × OutWhenShut job out × Wrote out (answer_bytes (is_silent job) out)
 
@@ -104,8 +111,8 @@ Answers k s job old new represents shut crash_states _ = ⊥
 
 -- the same by a keeper that is shut
 abbrev pub AnswersJobShut : Job → Option (List ℕ) → Option (List ℕ) → Result Served ServeFault → Type 0
-AnswersJobShut job old new (Ok (Answered code)) = (code ≡ code_of (shut_out job).status) × Appends old new (answer_bytes (is_silent job) (shut_out job))
-AnswersJobShut job old new (Err end.Write) = AppendsPrefix old new (answer_bytes (is_silent job) (shut_out job))
+AnswersJobShut job old new (Ok (Answered code)) = (out : Out) × DoneWhenShut job out × (code ≡ code_of out.status) × Appends old new (answer_bytes (is_silent job) out)
+AnswersJobShut job old new (Err end.Write) = (out : Out) × DoneWhenShut job out × AppendsPrefix old new (answer_bytes (is_silent job) out)
 AnswersJobShut job old new _ = ⊥
 
 abbrev pub end_of : InputFault → ServeFault

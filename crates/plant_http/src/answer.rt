@@ -3,7 +3,7 @@ ghost use Rattle.std.specs.Prelude.{◌≡◌, ◌⊎◌, false, IfOk, string_by
 ghost use Rattle.plant_base.specs.Refusals.{number_of};
 ghost use Rattle.plant_http.specs.Answers.{body_bytes, Is, error_out, fault_out, csv_out, reply_out};
 ghost use Rattle.plant_http.specs.Answers.{answer_out, text_in, refused_status, reply_status, answer_status};
-ghost use Rattle.plant_http.specs.Answers.{body_format_for, page_out};
+ghost use Rattle.plant_http.specs.Answers.{body_format_for, page_out, check_out};
 
 use crate::media::{MediaType, media_of};
 use crate::room::{Room, csv_text, status_text};
@@ -13,7 +13,7 @@ use plant_http_requests::{Allow, BodyFormat, Status};
 use plant_messages::{Answer as DeskAnswer, DeskFault, Reply};
 use plant_orders::CsvFault;
 use plant_record::record;
-use plant_text::{ReplyText, answer_text, fault_line, reply_line};
+use plant_text::{CheckAnswer, ReplyText, answer_text, check_text, fault_line, reply_line};
 use std::alloc::{AllocError, Global};
 
 /// The body of an answer. Only a long one takes memory, which is taken before anything is written.
@@ -188,5 +188,15 @@ pub(crate) fn asked_answer(
             silent,
         },
         Err(_) => fault_answer(DeskFault::Memory, silent),
+    }
+}
+
+/// The answer to a check. Its text is made before anything is written; where memory is refused for it, the answer tells that fault.
+pub(crate) fn check_answer(alloc: Global, answer: &CheckAnswer) -> Answer
+    ensures { Is (check_out answer.now) false result ⊎ Is (fault_out DeskFault.Memory) false result }
+{
+    match check_text(alloc, answer) {
+        Ok(text) => json(Status::Success, Body::Long(text), false),
+        Err(_) => fault_answer(DeskFault::Memory, false),
     }
 }

@@ -2,17 +2,19 @@
 ghost use Rattle.std.specs.Prelude.{◌≡◌, true, false};
 ghost use Rattle.plant_base.specs.State.{State};
 ghost use Rattle.plant_desk.specs.Keepers.{IsSameDesk};
-ghost use Rattle.plant_http.specs.Answers.{is_silent, rendered, shut_out, Executed, Asked};
-ghost use Rattle.plant_http.specs.Serving.{Performs};
+ghost use Rattle.plant_http.specs.Answers.{is_silent, rendered, shut_out, Executed, Asked, Checked};
+ghost use Rattle.plant_http.specs.Serving.{Performs, DoneWhenShut};
 ghost use Rattle.plant_http_requests.specs.declared.job.Job.TheVariants as J;
 
 use crate::answer::{
-    Answer, asked_answer, csv_answer, error_answer, fault_answer, page_answer, reply_answer,
+    Answer, asked_answer, check_answer, csv_answer, error_answer, fault_answer, page_answer,
+    reply_answer,
 };
 use plant_base::{Envelope, Refusal};
 use plant_desk::Keeper;
 use plant_http_requests::{BodyFormat, Job};
 use plant_messages::{Answer as DeskAnswer, DeskFault, Question, Reply};
+use plant_text::{CheckAnswer, ToCheck, answer_check};
 use std::alloc::Global;
 
 fn executed_answer(executed: &Result<Reply, DeskFault>) -> Answer
@@ -74,6 +76,30 @@ fn ask<K: Keeper>(
     reported_answer(alloc, &asked, body_format, silent)
 }
 
+fn checked_answer(alloc: Global, checked: &Result<CheckAnswer, DeskFault>) -> Answer
+    ensures reported { Checked checked.now (rendered result) }
+    ensures loud { result.silent ≡ false }
+{
+    match checked {
+        Ok(answer) => check_answer(alloc, answer),
+        Err(fault) => fault_answer(*fault, false),
+    }
+}
+
+/// Has a command checked, which isn't executed, and makes the text of the answer.
+fn check<K: Keeper>(alloc: Global, keeper: &mut K, to_check: &ToCheck) -> Answer
+    ensures same { IsSameDesk K.honest K.schema K.foreign_tables keeper.old keeper.new }
+    ensures performs { K.honest keeper.new → K.shut keeper.old ≡ false → (s : State) → K.represents keeper.old s
+        → Performs (K.schema keeper.old) s (J.Check to_check.now) (rendered result)
+        (K.represents keeper.new) (K.shut keeper.new) (K.crash_states keeper.new) }
+    ensures unchanged { K.shut keeper.old ≡ true → keeper.new ≡ keeper.old }
+    ensures shut { K.shut keeper.old ≡ true → DoneWhenShut (J.Check to_check.now) (rendered result) }
+    ensures loud { result.silent ≡ false }
+{
+    let checked = answer_check(keeper, to_check);
+    checked_answer(alloc, &checked)
+}
+
 /// Does a job, and gives its answer.
 pub(crate) fn perform<K: Keeper>(alloc: Global, keeper: &mut K, job: &Job) -> Answer
     ensures same { IsSameDesk K.honest K.schema K.foreign_tables keeper.old keeper.new }
@@ -81,7 +107,7 @@ pub(crate) fn perform<K: Keeper>(alloc: Global, keeper: &mut K, job: &Job) -> An
         → Performs (K.schema keeper.old) s job.now (rendered result)
         (K.represents keeper.new) (K.shut keeper.new) (K.crash_states keeper.new) }
     ensures unchanged { K.shut keeper.old ≡ true → keeper.new ≡ keeper.old }
-    ensures shut { K.shut keeper.old ≡ true → rendered result ≡ shut_out job.now }
+    ensures shut { K.shut keeper.old ≡ true → DoneWhenShut job.now (rendered result) }
     ensures silence { result.silent ≡ is_silent job.now }
 {
     match job {
@@ -91,6 +117,7 @@ pub(crate) fn perform<K: Keeper>(alloc: Global, keeper: &mut K, job: &Job) -> An
             silent,
         } => ask(alloc, keeper, question, *body_format, *silent),
         Job::Command(envelope) => execute(keeper, envelope),
+        Job::Check(to_check) => check(alloc, keeper, to_check),
         Job::Refuse {
             status,
             allow,

@@ -1,6 +1,7 @@
 -- What bodies ask for, and that an input asks for one thing.
 use Rattle.std.proofs.Common.{◌≡◌, ℕ, Bool, true, false, List, [], drop, take, Option, Some, None, Result, Ok, Err, refl, sym, ap, ◌∙◌}
-use Rattle.std.specs.Prelude.{nat_lt, IfOk, IsErrOf}
+use Rattle.std.specs.Prelude.{nat_lt, IfOk, IsErrOf, ◌↔◌}
+use Rattle.std.specs.Result.{result_ok}
 use Rattle.std.specs.Bool.{MatchBool}
 use Rattle.httparse.specs.Grammar.{RequestHead}
 use Rattle.httparse.proofs.GrammarLemmas.{request_unique}
@@ -19,8 +20,14 @@ use Rattle.plant_http_requests.specs.declared.reading.HeadEnd.TheVariants as end
 use Rattle.plant_http_requests.specs.HeadEnd.{end_of_head}
 use Rattle.plant_http_requests.specs.Heads.{field_lines, Parsed}
 use Rattle.plant_http_requests.specs.Steps.{fails}
-use Rattle.plant_http_requests.specs.Jobs.{command_job, command_of, file_job, fault_job_of, is_of_body, Reads, EndJob, JobOf, parsed_step, finish}
+use Rattle.plant_base.specs.declared.command.Envelope.{Envelope}
+use Rattle.plant_message_schema.specs.declared.format_errors.FormatError.{FormatError}
+use Rattle.plant_text_commands.specs.declared.checks.ToCheck.TheVariants as to_check
+use Rattle.plant_text.specs.Lines.{line_says}
+use Rattle.plant_http_requests.specs.Jobs.{command_job, command_of, check_job, file_job, fault_job_of, body_job, is_of_body, Reads, EndJob, JobOf, parsed_step, finish}
+use Rattle.plant_http_requests.specs.declared.job.Content.TheVariants as content
 use Rattle.plant_http_requests.specs.declared.job.Job.{Job}
+use Rattle.plant_http_requests.specs.declared.job.Job.TheVariants as J
 use Rattle.plant_http_requests.specs.declared.job.HeadStep.{HeadStep}
 use Rattle.plant_http_requests.specs.declared.profile.Profile.{Profile}
 use Rattle.plant_http_requests.specs.declared.status.Status.TheVariants.{HeadTooLarge}
@@ -29,12 +36,14 @@ command_is_of_body : (o : Option Line) → is_of_body (command_job o) ≡ true
 command_is_of_body None = refl
 command_is_of_body (Some (L.Command e)) = refl
 command_is_of_body (Some (L.Question q)) = refl
+command_is_of_body (Some (L.Check c)) = refl
 
 -- what was read of a line is what it asks for, want of memory aside
 pub command_reads : (read : Result Line LineFault) (o : Option Line) → IfOk read (λ said. o ≡ Some said) → (IsErrOf read line.BadForm → o ≡ None)
     → Reads (command_of read) (command_job o)
 command_reads (Ok (L.Command e)) o said bad = ap command_job (sym said)
 command_reads (Ok (L.Question q)) o said bad = ap command_job (sym said)
+command_reads (Ok (L.Check c)) o said bad = ap command_job (sym said)
 command_reads (Err line.BadForm) o said bad = ap command_job (sym (bad refl))
 command_reads (Err line.Memory) o said bad = command_is_of_body o
 
@@ -47,6 +56,17 @@ pub fault_reads : (kind : CsvKind) (e : CsvFault) (import_metadata : ImportMetad
 fault_reads csv.Memory e import_metadata read h = file_is_of_body import_metadata read
 fault_reads csv.TooLong e import_metadata read h = ap (file_job import_metadata) (sym h)
 fault_reads _ e import_metadata read h = ap (file_job import_metadata) (sym h)
+
+-- ---- a body is checked as it is executed
+
+said_so : (said : Result Line FormatError) (e : Envelope) → (command_job (result_ok said) ≡ J.Command e) ↔ (check_job said ≡ J.Check (to_check.Command e))
+said_so (Ok (L.Command c)) e = (λ h. cc, λ h. cc)
+said_so (Ok (L.Question q)) e = (λ h. absurd (cc), λ h. absurd (cc))
+said_so (Ok (L.Check c)) e = (λ h. absurd (cc), λ h. absurd (cc))
+said_so (Err p) e = (λ h. absurd (cc), λ h. absurd (cc))
+
+pub checked_as_executed : (body : List ℕ) (e : Envelope) → (body_job content.Command body ≡ J.Command e) ↔ (body_job content.Check body ≡ J.Check (to_check.Command e))
+checked_as_executed body e = said_so (line_says body) e
 
 -- ---- an input asks for one thing
 

@@ -10,7 +10,13 @@ use Rattle.plant_orders.specs.declared.fault.CsvFault.{CsvFault}
 use Rattle.plant_orders.specs.declared.fault.CsvKind.{CsvKind}
 use Rattle.plant_orders.specs.declared.fault.CsvKind.TheVariants as csv
 use Rattle.plant_orders.specs.declared.importing.ImportMetadata.{ImportMetadata}
-use Rattle.plant_text.specs.Lines.{line_of}
+use Rattle.plant_message_schema.specs.declared.members.Member.TheVariants as m
+use Rattle.plant_message_schema.specs.declared.format_errors.FormatError.{FormatError}
+use Rattle.plant_message_schema.specs.declared.format_errors.FormatError.TheVariants as format_error
+use Rattle.plant_message_schema.specs.declared.format_errors.ShapeError.TheVariants as shape_error
+use Rattle.plant_text_commands.specs.declared.checks.ToCheck.{ToCheck}
+use Rattle.plant_text_commands.specs.declared.checks.ToCheck.TheVariants as to_check
+use Rattle.plant_text.specs.Lines.{line_of, line_says}
 use Rattle.plant_text.specs.declared.read.Line.{Line}
 use Rattle.plant_text.specs.declared.read.Line.TheVariants as L
 use Rattle.plant_text.specs.declared.LineFault.{LineFault}
@@ -21,7 +27,7 @@ use Rattle.plant_http_requests.specs.declared.reading.HeadEnd.TheVariants as end
 use Rattle.plant_http_requests.specs.Heads.{field_lines, Parsed}
 use Rattle.plant_http_requests.specs.Steps.{refusal_of, fails, request_step}
 use Rattle.plant_http_requests.specs.declared.job.Job.{Job}
-use Rattle.plant_http_requests.specs.declared.job.Job.TheVariants.{Refuse, Ask, Page, Command, BadForm, BadFile, MemoryError}
+use Rattle.plant_http_requests.specs.declared.job.Job.TheVariants.{Refuse, Ask, Page, Command, Check, BadForm, BadFile, MemoryError}
 use Rattle.plant_http_requests.specs.declared.job.Content.{Content}
 use Rattle.plant_http_requests.specs.declared.job.Content.TheVariants as content
 use Rattle.plant_http_requests.specs.declared.job.HeadStep.{HeadStep}
@@ -35,18 +41,30 @@ most_reads = 4096
 
 -- ---- bodies
 
--- a question is no command
+-- a question or a check is no command
 abbrev pub command_job : Option Line → Job
 command_job None = BadForm
 command_job (Some (L.Command e)) = Command e
 command_job (Some (L.Question q)) = BadForm
+command_job (Some (L.Check c)) = BadForm
 
 -- what a body asks for that was read as a line; want of memory comes of nothing else
 abbrev pub command_of : Result Line LineFault → Job
 command_of (Ok (L.Command e)) = Command e
 command_of (Ok (L.Question q)) = BadForm
+command_of (Ok (L.Check c)) = BadForm
 command_of (Err line.BadForm) = BadForm
 command_of (Err line.Memory) = MemoryError
+
+-- what is to be checked of a body that says this as a line; a question or a check lacks the word of a command
+abbrev pub checked_as : Result Line FormatError → ToCheck
+checked_as (Ok (L.Command e)) = to_check.Command e
+checked_as (Ok (L.Question q)) = to_check.BadForm (format_error.Object (shape_error.Missing m.Do))
+checked_as (Ok (L.Check c)) = to_check.BadForm (format_error.Object (shape_error.Missing m.Do))
+checked_as (Err p) = to_check.BadForm p
+
+abbrev pub check_job : Result Line FormatError → Job
+check_job said = Check (checked_as said)
 
 abbrev pub file_job : ImportMetadata → Result (List OrderRow) CsvFault → Job
 file_job import_metadata (Ok orders) = Command (import import_metadata orders)
@@ -63,6 +81,7 @@ fault_job fault = fault_job_of fault.kind fault
 -- what a whole body asks for; the fields of an order file come before its text
 abbrev pub body_job : Content → List ℕ → Job
 body_job content.Command body = command_job (line_of body)
+body_job content.Check body = check_job (line_says body)
 body_job (content.Orders None) body = refusal_of BadRequest false
 body_job (content.Orders (Some import_metadata)) body = file_job import_metadata (orders_of body)
 
@@ -108,6 +127,7 @@ is_of_body (Refuse status allow silent) = false
 is_of_body (Ask question body_format silent) = false
 is_of_body (Page silent) = false
 is_of_body (Command e) = true
+is_of_body (Check c) = true
 is_of_body BadForm = true
 is_of_body (BadFile fault) = true
 is_of_body MemoryError = false
@@ -119,6 +139,7 @@ Reads (Refuse status allow silent) job = Refuse status allow silent ≡ job
 Reads (Ask question body_format silent) job = Ask question body_format silent ≡ job
 Reads (Page silent) job = Page silent ≡ job
 Reads (Command e) job = Command e ≡ job
+Reads (Check c) job = Check c ≡ job
 Reads BadForm job = BadForm ≡ job
 Reads (BadFile fault) job = BadFile fault ≡ job
 

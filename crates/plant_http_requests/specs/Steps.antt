@@ -78,6 +78,7 @@ abbrev pub target_step : Target → List ℕ → Option ℕ → Fields → HeadS
 target_step target.Desk method length fs = asked_step Q.Desk Json method
 target_step target.Moment method length fs = asked_step Q.Moment Json method
 target_step target.Commands method length fs = posted_step content.Command method length
+target_step target.Check method length fs = posted_step content.Check method length
 target_step target.Orders method length fs = posted_step (content.Orders (import_metadata_in fs)) method length
 target_step (target.Named k id) method length fs = asked_step (question_of k id) (body_format_of k) method
 target_step (target.List list cursor) method length fs = asked_step (Q.List list cursor) Json method

@@ -1,23 +1,24 @@
 //! What a body asks for.
-ghost use Rattle.std.specs.Prelude.{◌≡◌, Some, None, IfSome};
+ghost use Rattle.std.specs.Prelude.{◌≡◌, Ok, Some, None, IfSome};
 ghost use Rattle.plant_orders.specs.Orders.{orders_of};
-ghost use Rattle.plant_text.specs.Lines.{line_of};
-ghost use Rattle.plant_http_requests.specs.Jobs.{command_job, command_of, file_job, fault_job, body_job, Reads};
+ghost use Rattle.plant_text.specs.Lines.{line_of, line_says};
+ghost use Rattle.plant_http_requests.specs.Jobs.{command_job, command_of, checked_as, check_job, file_job, fault_job, body_job, Reads};
 
 use crate::job::{Content, Job};
 use crate::status::Status;
 use crate::steps::refusal_of;
+use plant_message_schema::{Member, ShapeError};
 use plant_orders::{CsvFault, CsvKind, ImportMetadata, import, read_orders};
-use plant_text::{Line, LineFault, read_line};
+use plant_text::{Fault, FormatError, Line, LineFault, ToCheck, read_line, read_line_or_error};
 use std::alloc::Global;
 
-/// What a body asks for that was read as a line. A question is no command.
+/// What a body asks for that was read as a line. A question or a check is no command.
 fn command_of(read: Result<Line, LineFault>) -> Job
     ensures { result ≡ command_of read }
 {
     match read {
         Ok(Line::Command(envelope)) => Job::Command(envelope),
-        Ok(Line::Question(_)) => Job::BadForm,
+        Ok(Line::Question(_) | Line::Check(_)) => Job::BadForm,
         Err(LineFault::BadForm) => Job::BadForm,
         Err(LineFault::Memory) => Job::MemoryError,
     }
@@ -27,6 +28,28 @@ fn command_job(alloc: Global, body: &[u8]) -> Job
     ensures { Reads result (command_job (line_of body.now)) }
 {
     command_of(read_line(alloc, body))
+}
+
+/// What is to be checked where this was read as a line. A question or a check lacks the word of a command.
+fn checked_as(line: Line) -> ToCheck
+    ensures { result ≡ checked_as (Ok line) }
+{
+    match line {
+        Line::Command(envelope) => ToCheck::Command(envelope),
+        Line::Question(_) | Line::Check(_) => {
+            ToCheck::BadForm(FormatError::Object(ShapeError::Missing(Member::Do)))
+        }
+    }
+}
+
+fn check_job(alloc: Global, body: &[u8]) -> Job
+    ensures { Reads result (check_job (line_says body.now)) }
+{
+    match read_line_or_error(alloc, body) {
+        Ok(line) => Job::Check(checked_as(line)),
+        Err(Fault::Reported(format_error)) => Job::Check(ToCheck::BadForm(format_error)),
+        Err(Fault::Memory) => Job::MemoryError,
+    }
 }
 
 fn fault_job(fault: CsvFault) -> Job
@@ -53,6 +76,7 @@ pub(crate) fn body_job(alloc: Global, content: Content, body: &[u8]) -> Job
 {
     match content {
         Content::Command => command_job(alloc, body),
+        Content::Check => check_job(alloc, body),
         Content::Orders(Some(import_metadata)) => file_job(alloc, import_metadata, body),
         Content::Orders(None) => refusal_of(Status::BadRequest, false),
     }

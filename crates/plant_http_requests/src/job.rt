@@ -2,6 +2,7 @@ use crate::status::{Allow, Status};
 use plant_base::Envelope;
 use plant_messages::Question;
 use plant_orders::{CsvFault, ImportMetadata};
+use plant_text::ToCheck;
 
 /// As what an answer is written.
 #[derive(Clone, Copy, Debug, PartialEq, Eq)]
@@ -40,6 +41,8 @@ pub enum Job {
     },
     /// A command for the desk to execute, be it the body itself or the import of an order file.
     Command(Envelope),
+    /// What is to be checked: the desk says what would become of it, and executes nothing.
+    Check(ToCheck),
     /// A body that is to be a command and is none.
     BadForm,
     /// An order file with this fault.
@@ -53,6 +56,8 @@ pub enum Job {
 pub(crate) enum Content {
     /// One command.
     Command,
+    /// One command, which is to be checked.
+    Check,
     /// An order file, to be taken with this moment and operator and under this reference; `None` where the fields of the
     /// head don't name them as they should.
     Orders(Option<ImportMetadata>),

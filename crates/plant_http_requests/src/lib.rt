@@ -18,7 +18,7 @@ mod steps;
 
 pub use head_end::head_length;
 pub use job::{BodyFormat, Job};
-pub use law::job_law;
+pub use law::{check_law, job_law};
 pub use profile::Profile;
 pub use read::{MOST_READS, read_job};
 pub use reading::{HeadEnd, InputFault, LONGEST_HEAD, read_head, read_to};

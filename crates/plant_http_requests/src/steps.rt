@@ -144,6 +144,7 @@ fn target_step(
         Target::Desk => json_step(Question::Desk, method),
         Target::Moment => json_step(Question::Moment, method),
         Target::Commands => posted_step(Content::Command, method, size),
+        Target::Check => posted_step(Content::Check, method, size),
         Target::Orders => posted_step(
             Content::Orders(import_metadata_in(head, fields)),
             method,

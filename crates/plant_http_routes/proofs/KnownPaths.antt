@@ -18,6 +18,10 @@ pub orders : target_of (codes "/v1/orders") ≡ Some target.Orders
 unfolding matchit_on_literals found_in
 orders = refl
 
+pub check : target_of (codes "/v1/check") ≡ Some target.Check
+unfolding matchit_on_literals found_in
+check = refl
+
 pub lower_case : target_of (codes "/v1/lots/l-1") ≡ None
 unfolding matchit_on_literals found_in
 lower_case = refl

@@ -132,11 +132,11 @@ whole_list_routes rows =
 -- all routes
 abbrev pub the_routes : RowsOf (RouteOf Route)
 the_routes =
-    whole_list_routes (recipe_routes (cursor_routes (list_routes (around_routes (adds (plain (codes "/v1/moment") route.Moment)
+    whole_list_routes (recipe_routes (cursor_routes (list_routes (around_routes (adds (plain (codes "/v1/check") route.Check) (adds (plain (codes "/v1/moment") route.Moment)
     (recall_routes (batch_routes (lot_routes (order_routes
     (adds (plain (codes "/v1/orders") route.Orders)
     (adds (plain (codes "/v1/commands") route.Commands)
-    (adds (plain (codes "/v1/desk") route.Desk) []))))))))))))
+    (adds (plain (codes "/v1/desk") route.Desk) [])))))))))))))
 
 -- what stands in the place of the first parameter
 abbrev pub first_part : List (List ℕ × List ℕ) → Option (List ℕ)
@@ -246,6 +246,7 @@ abbrev pub target_with : Route → List (List ℕ × List ℕ) → Option Target
 target_with route.Desk parts = Some target.Desk
 target_with route.Moment parts = Some target.Moment
 target_with route.Commands parts = Some target.Commands
+target_with route.Check parts = Some target.Check
 target_with route.Orders parts = Some target.Orders
 target_with (route.Named kind) parts = option_map (λ id. target.Named kind id) (option_and_then (only is_id) (first_part parts))
 target_with route.Recipe parts = recipe_named (first_part parts) (second_part parts)

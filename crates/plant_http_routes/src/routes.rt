@@ -61,6 +61,7 @@ pub enum Route {
     Desk,
     Moment,
     Commands,
+    Check,
     Orders,
     Named(Kind),
     Recipe,
@@ -76,6 +77,8 @@ pub enum Target {
     Moment,
     /// `/v1/commands`: the desk is to execute a command.
     Commands,
+    /// `/v1/check`: the desk is to say what would become of a command.
+    Check,
     /// `/v1/orders`: the desk is to take an order file.
     Orders,
     /// The thing of this id.
@@ -144,6 +147,7 @@ fn desk_router(alloc: Global) -> Result<Router<Route>, InsertError>
     router.insert("/v1/batches/{batch}/record", Route::Named(Kind::Record))?;
     router.insert("/v1/recalls/{recall}", Route::Named(Kind::Recall))?;
     router.insert("/v1/moment", Route::Moment)?;
+    router.insert("/v1/check", Route::Check)?;
     add_around(&mut router)?;
     add_lists(&mut router)?;
     add_cursor_routes(&mut router)?;
@@ -257,6 +261,7 @@ fn find_text(router: &Router<Route>, text: &str) -> Option<Target>
         Route::Desk => Some(Target::Desk),
         Route::Moment => Some(Target::Moment),
         Route::Commands => Some(Target::Commands),
+        Route::Check => Some(Target::Check),
         Route::Orders => Some(Target::Orders),
         Route::Named(kind) => match id_in(&found.params) {
             Some(id) => Some(Target::Named(kind, id)),

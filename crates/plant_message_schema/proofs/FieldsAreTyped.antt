@@ -15,7 +15,7 @@ use Rattle.plant_message_schema.specs.declared.format_errors.ShapeError.{ShapeEr
 use Rattle.plant_message_schema.specs.declared.format_errors.ShapeError.TheVariants as shape_error
 use Rattle.plant_message_schema.specs.Members.{name_of, rule_of, is_needed}
 use Rattle.plant_worklists.specs.Cursors.{due_cursor, hold_cursor, recipe_cursor, movement_cursor}
-use Rattle.plant_message_schema.specs.Words.{command_kind, question_kind, line_kind, batch_word, order_state, recipe_state}
+use Rattle.plant_message_schema.specs.Words.{command_kind, asked_kind, line_kind, batch_word, order_state, recipe_state}
 use Rattle.plant_message_schema.specs.FormatErrors.{◌>>=◌, object, is_reported, format_error_is_reported}
 use Rattle.plant_message_schema.specs.Fields.{natural, is_between, field_of, by_rule, member_where, member_of, fields_of, first_other, other_where, none_other, exactly}
 use Rattle.plant_message_schema.specs.ValueLaws.{Means, field_in, May, may_in, Values, fields_in}
@@ -65,9 +65,10 @@ field_typed rule.DueCursor d Q k = map_some field.DueCursor (option_and_then due
 field_typed rule.HoldCursor d Q k = map_some field.HoldCursor (option_and_then hold_cursor (as_str d)) Q k
 field_typed rule.MovementCursor d Q k = map_some field.MovementCursor (option_and_then movement_cursor (as_str d)) Q k
 field_typed rule.Command d Q k = map_some (λ w. field.Chosen) (option_and_then command_kind (as_str d)) Q (λ w. k tt)
-field_typed rule.Question d Q k = map_some (λ w. field.Chosen) (option_and_then question_kind (as_str d)) Q (λ w. k tt)
+field_typed rule.Question d Q k = map_some (λ w. field.Chosen) (option_and_then asked_kind (as_str d)) Q (λ w. k tt)
 field_typed rule.Kind d Q k = map_some (λ w. field.Chosen) (option_and_then line_kind (as_str d)) Q (λ w. k tt)
 field_typed rule.List d Q k = map_some (λ w. field.List) (as_array d) Q (λ w. k tt)
+field_typed rule.Object d Q k = map_some (λ w. field.Object) (as_object d) Q (λ w. k tt)
 
 by_rule-valid : (which : Member) (o : Option Field) (Q : Field → Type 0) → OnSome Q o → Good is_reported Q (by_rule which o)
 by_rule-valid which None Q h = refl
@@ -130,7 +131,7 @@ pub do_fails : (o : Option Data) → option_and_then command_kind (option_and_th
 do_fails None e = refl
 do_fails (Some v) e = rw e refl
 
-pub ask_fails : (o : Option Data) → option_and_then question_kind (option_and_then as_str o) ≡ None → Good is_reported (λ f. ⊥) (member_where m.Ask o)
+pub ask_fails : (o : Option Data) → option_and_then asked_kind (option_and_then as_str o) ≡ None → Good is_reported (λ f. ⊥) (member_where m.Ask o)
 ask_fails None e = refl
 ask_fails (Some v) e = rw e refl
 

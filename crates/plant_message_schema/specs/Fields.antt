@@ -15,7 +15,7 @@ use Rattle.plant_message_schema.specs.declared.fields.Field.TheVariants as field
 use Rattle.plant_message_schema.specs.declared.format_errors.ShapeError.{ShapeError}
 use Rattle.plant_message_schema.specs.declared.format_errors.ShapeError.TheVariants as shape_error
 use Rattle.plant_message_schema.specs.Members.{name_of, rule_of, is_needed}
-use Rattle.plant_message_schema.specs.Words.{command_kind, question_kind, line_kind, batch_word, order_state, recipe_state}
+use Rattle.plant_message_schema.specs.Words.{command_kind, asked_kind, line_kind, batch_word, order_state, recipe_state}
 use Rattle.plant_message_schema.specs.FormatErrors.{◌>>=◌}
 
 -- ---- values
@@ -49,9 +49,10 @@ field_of rule.DueCursor d = option_map field.DueCursor (option_and_then due_curs
 field_of rule.HoldCursor d = option_map field.HoldCursor (option_and_then hold_cursor (as_str d))
 field_of rule.MovementCursor d = option_map field.MovementCursor (option_and_then movement_cursor (as_str d))
 field_of rule.Command d = chosen (option_and_then command_kind (as_str d))
-field_of rule.Question d = chosen (option_and_then question_kind (as_str d))
+field_of rule.Question d = chosen (option_and_then asked_kind (as_str d))
 field_of rule.Kind d = chosen (option_and_then line_kind (as_str d))
 field_of rule.List d = option_map (λ ds. field.List) (as_array d)
+field_of rule.Object d = option_map (λ ms. field.Object) (as_object d)
 
 -- ---- members
 

@@ -57,6 +57,7 @@ entry_of m.AfterDue = (codes "above", rule.DueCursor)
 entry_of m.AfterHold = (codes "above", rule.HoldCursor)
 entry_of m.AfterMovement = (codes "above", rule.MovementCursor)
 entry_of m.AfterNumber = (codes "above", rule.Amount)
+entry_of m.Command = (codes "command", rule.Object)
 
 abbrev pub name_of : Member → List ℕ
 name_of which = (entry_of which).0
@@ -100,3 +101,4 @@ rule_text rule.Command = codes "the word of a command"
 rule_text rule.Question = codes "the word of a question"
 rule_text rule.Kind = codes "one of in, out, par and phase"
 rule_text rule.List = codes "a list"
+rule_text rule.Object = codes "a JSON object"

@@ -1,4 +1,4 @@
--- Which members commands, questions for lists and the rows of lists have, in the order in which problems are told.
+-- Which members commands, checks, questions for lists and the rows of lists have, in the order in which problems are told.
 use Rattle.std.specs.Prelude.{ℕ, List, [], ◌∷◌}
 use Rattle.plant_message_schema.specs.declared.members.Member.{Member}
 use Rattle.plant_message_schema.specs.declared.members.Member.TheVariants as m
@@ -59,6 +59,10 @@ list_members list.Definitions = m.Ask ∷ m.Class ∷ m.Above ∷ []
 list_members list.Recipes = m.Ask ∷ m.RecipeState ∷ m.AfterRecipe ∷ []
 list_members list.Movements = m.Ask ∷ m.Lot ∷ m.AfterMovement ∷ []
 list_members list.Commands = m.Ask ∷ m.AfterNumber ∷ []
+
+-- the members of the question what would become of a command: its word and the command
+abbrev pub check_members : List Member
+check_members = m.Ask ∷ m.Command ∷ []
 
 -- the members of a row of a list
 abbrev pub row_own : Row → List Member

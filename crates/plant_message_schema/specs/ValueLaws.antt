@@ -35,6 +35,7 @@ Means rule.Command = ⊤
 Means rule.Question = ⊤
 Means rule.Kind = ⊤
 Means rule.List = ⊤
+Means rule.Object = ⊤
 
 abbrev pub field_in : (r : Rule) → Means r → Field
 field_in rule.Id x = field.Id x
@@ -56,6 +57,7 @@ field_in rule.Command x = field.Chosen
 field_in rule.Question x = field.Chosen
 field_in rule.Kind x = field.Chosen
 field_in rule.List x = field.List
+field_in rule.Object x = field.Object
 
 -- the same of a member that may be left out
 abbrev pub May : Bool → Rule → Type 0

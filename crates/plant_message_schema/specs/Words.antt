@@ -1,5 +1,5 @@
 -- The words that choose a shape, those for a batch, and the states of orders and recipes.
-use Rattle.std.specs.Prelude.{ℕ, List, if◌then◌else◌, codes, Option, Some, None}
+use Rattle.std.specs.Prelude.{ℕ, List, if◌then◌else◌, codes, Option, Some, None, option_map}
 use Rattle.std.specs.Str.{bytes_eq}
 use Rattle.plant_base.specs.declared.states.JobState.{JobState}
 use Rattle.plant_base.specs.declared.states.JobState.TheVariants as job_state
@@ -7,6 +7,8 @@ use Rattle.plant_base.specs.declared.states.RecipeState.{RecipeState}
 use Rattle.plant_base.specs.declared.states.RecipeState.TheVariants as recipe
 use Rattle.plant_base.specs.declared.states.Word.{Word}
 use Rattle.plant_base.specs.declared.states.Word.TheVariants.{Start, Stop, Hold, Restart, Abort, Reset, Pause, Resume}
+use Rattle.plant_message_schema.specs.declared.words.AskedKind.{AskedKind}
+use Rattle.plant_message_schema.specs.declared.words.AskedKind.TheVariants as asked
 use Rattle.plant_message_schema.specs.declared.words.CommandKind.{CommandKind}
 use Rattle.plant_message_schema.specs.declared.words.CommandKind.TheVariants as c
 use Rattle.plant_message_schema.specs.declared.words.ListKind.TheVariants as list
@@ -75,6 +77,10 @@ question_kind word =
     if bytes_eq word (codes "movements") then Some (q.List list.Movements) else (
     if bytes_eq word (codes "commands") then Some (q.List list.Commands) else (
     None))))))))))))))))))))))))))))
+
+-- what a word asks for: what would become of a command, or the answer to a question
+abbrev pub asked_kind : List ℕ → Option AskedKind
+asked_kind word = if bytes_eq word (codes "check") then Some asked.Check else option_map asked.Question (question_kind word)
 
 -- the recipe's line of a kind
 abbrev pub line_kind : List ℕ → Option Row

@@ -12,7 +12,7 @@ ghost use Rattle.plant_message_schema.specs.declared.members.Rule.TheVariants as
 
 use crate::format_errors::ShapeError;
 use crate::members::{Member, Rule};
-use crate::words::{batch_word, command_kind, line_kind, order_state, question_kind, recipe_state};
+use crate::words::{asked_kind, batch_word, command_kind, line_kind, order_state, recipe_state};
 use arrayvec::ArrayVec;
 use plant_base::{Amount, Due, Id, JobState, Moment, RecipeState, Text, Unit, Word};
 use plant_worklists::{DueCursor, HoldCursor, MovementCursor, RecipeCursor};
@@ -56,6 +56,8 @@ pub enum Field {
     Chosen,
     /// A list is there, whose rows are read behind the other members.
     List,
+    /// An object is there, whose members are read behind the other members.
+    Object,
     /// Nothing is there.
     Absent,
 }
@@ -152,6 +154,15 @@ fn list_of(value: &Value) -> Option<Field>
     }
 }
 
+fn object_of(value: &Value) -> Option<Field>
+    ensures { result ≡ field_of rule.Object (view value.now) }
+{
+    match value.as_object() {
+        Some(_) => Some(Field::Object),
+        None => None,
+    }
+}
+
 /// The field of a word that chooses a shape, where it chooses one.
 fn chosen<T: Copy>(kind: Option<T>) -> Option<Field>
     ensures { result ≡ chosen kind }
@@ -183,9 +194,10 @@ fn field_of(rule: Rule, value: &Value) -> Option<Field>
         Rule::HoldCursor => Some(Field::HoldCursor(HoldCursor::read(value.as_str()?)?)),
         Rule::MovementCursor => Some(Field::MovementCursor(MovementCursor::read(value.as_str()?)?)),
         Rule::Command => chosen(command_kind(value.as_str()?)),
-        Rule::Question => chosen(question_kind(value.as_str()?)),
+        Rule::Question => chosen(asked_kind(value.as_str()?)),
         Rule::Kind => chosen(line_kind(value.as_str()?)),
         Rule::List => list_of(value),
+        Rule::Object => object_of(value),
     }
 }
 

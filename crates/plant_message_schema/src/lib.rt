@@ -11,8 +11,8 @@ mod words;
 pub use fields::{Field, Fields, exactly, fields_of, none_other};
 pub use format_errors::{Fault, FormatError, LineFault, ShapeError, made, object};
 pub use members::{Member, Rule};
-pub use tables::{list_members, own_of, row_own, shared_members};
+pub use tables::{check_members, list_members, own_of, row_own, shared_members};
 pub use words::{
-    CommandKind, ListKind, QuestionKind, Row, command_kind, line_kind, order_state, question_kind,
-    recipe_state,
+    AskedKind, CommandKind, ListKind, QuestionKind, Row, asked_kind, command_kind, line_kind,
+    order_state, recipe_state,
 };

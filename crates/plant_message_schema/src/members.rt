@@ -49,6 +49,8 @@ pub enum Rule {
     Kind,
     /// A list, whose rows have shapes of their own.
     List,
+    /// An object, which has a shape of its own.
+    Object,
 }
 
 impl fmt::Display for Rule {
@@ -89,6 +91,7 @@ impl fmt::Display for Rule {
             Rule::Question => f.write_str("the word of a question"),
             Rule::Kind => f.write_str("one of in, out, par and phase"),
             Rule::List => f.write_str("a list"),
+            Rule::Object => f.write_str("a JSON object"),
         }
     }
 }
@@ -194,6 +197,8 @@ pub enum Member {
     AfterMovement,
     /// The number that the commands of a page come after, which may be left out.
     AfterNumber,
+    /// The command that is to be checked.
+    Command,
 }
 
 impl Member {
@@ -252,6 +257,7 @@ impl Member {
             Member::AfterHold => ("above", Rule::HoldCursor),
             Member::AfterMovement => ("above", Rule::MovementCursor),
             Member::AfterNumber => ("above", Rule::Amount),
+            Member::Command => ("command", Rule::Object),
         }
     }
 

@@ -1,11 +1,11 @@
-//! Which members commands, questions for lists and the rows of lists have, in the order in which problems are told.
+//! Which members commands, checks, questions for lists and the rows of lists have, in the order in which problems are told.
 ghost use Rattle.std.specs.Prelude.{◌≡◌, ◌≤◌, length};
-ghost use Rattle.plant_message_schema.specs.Tables.{shared_members, own_of, list_members, row_own, most_members};
+ghost use Rattle.plant_message_schema.specs.Tables.{shared_members, own_of, list_members, check_members, row_own, most_members};
 
 use crate::members::Member::{
     self, Above, AfterDue, AfterHold, AfterMovement, AfterNumber, AfterRecipe, Amount, Ask, At,
-    Base, Batch, By, Class, Definition, Do, Due, Greatest, Hold, Kind, Least, Lines, Lot, Name,
-    New, Note, Operation, Order, Orders, Parameter, Parts, Phase, PhaseName, Place, Priority,
+    Base, Batch, By, Class, Command, Definition, Do, Due, Greatest, Hold, Kind, Least, Lines, Lot,
+    Name, New, Note, Operation, Order, Orders, Parameter, Parts, Phase, PhaseName, Place, Priority,
     Product, Quantity, Recall, Recipe, RecipeState, Reference, Size, State, Sub, Title, Unit,
     UnitProcedure, Value, Version, Word,
 };
@@ -74,6 +74,14 @@ pub fn list_members(kind: ListKind) -> &'static [Member]
         ListKind::Movements => &[Ask, Lot, AfterMovement],
         ListKind::Commands => &[Ask, AfterNumber],
     }
+}
+
+/// The members of the question what would become of a command: its word and the command.
+pub fn check_members() -> &'static [Member]
+    ensures members { result.now ≡ check_members }
+    ensures few { length result.now ≤ most_members }
+{
+    &[Ask, Command]
 }
 
 /// The members of a row of a list.

@@ -1,6 +1,6 @@
 //! The words that choose a shape, those for a batch, and the states of orders and recipes.
 ghost use Rattle.std.specs.Prelude.{◌≡◌};
-ghost use Rattle.plant_message_schema.specs.Words.{command_kind, question_kind, line_kind, batch_word, order_state, recipe_state};
+ghost use Rattle.plant_message_schema.specs.Words.{command_kind, question_kind, asked_kind, line_kind, batch_word, order_state, recipe_state};
 
 use plant_base::{JobState, RecipeState, Word};
 
@@ -51,6 +51,15 @@ pub enum QuestionKind {
     BatchLines,
     /// A page of a list.
     List(ListKind),
+}
+
+/// What an object asks for.
+#[derive(Clone, Copy, Debug, PartialEq, Eq)]
+pub enum AskedKind {
+    /// What would become of a command.
+    Check,
+    /// The answer to a question about the state.
+    Question(QuestionKind),
 }
 
 /// Which list an object asks for.
@@ -138,7 +147,7 @@ pub fn command_kind(word: &str) -> Option<CommandKind>
 
 /// The question of a word.
 /// `None` where no question has it.
-pub fn question_kind(word: &str) -> Option<QuestionKind>
+fn question_kind(word: &str) -> Option<QuestionKind>
     ensures { result ≡ question_kind word.now }
 {
     match word {
@@ -171,6 +180,20 @@ pub fn question_kind(word: &str) -> Option<QuestionKind>
         "movements" => Some(QuestionKind::List(ListKind::Movements)),
         "commands" => Some(QuestionKind::List(ListKind::Commands)),
         _ => None,
+    }
+}
+
+/// What a word asks for.
+/// `None` where it asks for nothing.
+pub fn asked_kind(word: &str) -> Option<AskedKind>
+    ensures { result ≡ asked_kind word.now }
+{
+    if word == "check" {
+        return Some(AskedKind::Check);
+    }
+    match question_kind(word) {
+        Some(kind) => Some(AskedKind::Question(kind)),
+        None => None,
     }
 }
 

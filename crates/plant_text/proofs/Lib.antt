@@ -1,3 +1,4 @@
+pub mod AnswersForetell
 pub mod RunEnds
 pub mod HeldLine
 pub mod KnownBytes

@@ -1,5 +1,5 @@
 -- What a line says, by what its bytes read as.
-use Rattle.std.proofs.Common.{◌≡◌, ℕ, ◌<◌, ◌≤◌, List, [], ◌∷◌, length, nat_lt, Bool, true, false, Option, Some, None, Result, Ok, Err, refl, cond, codes, ap, arith}
+use Rattle.std.proofs.Common.{◌≡◌, ℕ, ◌<◌, ◌≤◌, List, [], ◌∷◌, length, nat_lt, Bool, true, false, Option, Some, None, Result, Ok, Err, refl, cond, codes, ap, subst, arith}
 use Rattle.std.proofs.lemmas.Bool.Decides.{nat_tests}
 use Rattle.std.specs.Prelude.{⊤, is_some, IfErr}
 use Rattle.std.specs.Str.{IsUtf8, is_utf8}
@@ -21,6 +21,8 @@ use Rattle.plant_messages.specs.declared.question.Question.TheVariants as Q
 use Rattle.plant_message_schema.specs.declared.members.Member.{Member}
 use Rattle.plant_message_schema.specs.declared.members.Member.TheVariants as m
 use Rattle.plant_message_schema.specs.declared.members.Rule.TheVariants as rule
+use Rattle.plant_message_schema.specs.declared.words.AskedKind.{AskedKind}
+use Rattle.plant_message_schema.specs.declared.words.AskedKind.TheVariants as asked
 use Rattle.plant_message_schema.specs.declared.words.ListKind.{ListKind}
 use Rattle.plant_message_schema.specs.declared.words.ListKind.TheVariants as k
 use Rattle.plant_message_schema.specs.declared.words.QuestionKind.{QuestionKind}
@@ -28,13 +30,18 @@ use Rattle.plant_message_schema.specs.declared.words.QuestionKind.TheVariants as
 use Rattle.plant_message_schema.specs.declared.format_errors.ShapeError.TheVariants as shape_error
 use Rattle.plant_message_schema.specs.declared.format_errors.FormatError.{FormatError}
 use Rattle.plant_message_schema.specs.declared.format_errors.FormatError.TheVariants as format_error
-use Rattle.plant_message_schema.specs.FormatErrors.{◌>>=◌, object, or_malformed, is_reported, format_error_is_reported}
+use Rattle.plant_message_schema.specs.declared.format_errors.Fault.{Fault}
+use Rattle.plant_message_schema.specs.declared.format_errors.Fault.TheVariants as fault
+use Rattle.plant_message_schema.specs.FormatErrors.{◌>>=◌, Reports, IsReported, object, or_malformed, is_reported, format_error_is_reported}
 use Rattle.plant_message_schema.specs.Fields.{fields_of, exactly}
 use Rattle.plant_message_schema.specs.ValueLaws.{Values, fields_in, may_in}
 use Rattle.plant_message_schema.specs.Tables.{list_members}
 use Rattle.plant_message_schema.proofs.FieldsAreTyped.{Good, valid_bind, valid_map, good_object, exactly_typed, only_fails, ask_fails}
-use Rattle.plant_text.specs.Lines.{value_says, longest_line, text_says, line_says, line_of}
-use Rattle.plant_text.specs.Questions.{asked_alone, one_id, id_named, node_named, recipe_in, recipe_asked, page_asked, whole_asked, recipes_asked, due_asked, ledger_asked, list_in, list_asked, question_for, kind_at, question_by, question_of}
+use Rattle.plant_text_commands.specs.Checks.{check_of}
+use Rattle.plant_text_commands.proofs.ChecksAreTyped.{check_valid}
+use Rattle.plant_text.specs.Lines.{kind_at, asked_by, asked_of, value_says, longest_line, text_says, line_says, line_of}
+use Rattle.plant_text.specs.declared.read.Line.{Line}
+use Rattle.plant_text.specs.Questions.{asked_alone, one_id, id_named, node_named, recipe_in, recipe_asked, page_asked, whole_asked, recipes_asked, due_asked, ledger_asked, list_in, list_asked, question_of}
 
 pub at_value : (bytes : List ℕ) (d : Data) → length bytes ≤ longest_line → IsUtf8 bytes → read bytes ≡ Some d → line_says bytes ≡ value_says d
 unfolding line_says
@@ -133,7 +140,7 @@ recipe_valid d =
     let members = m.Ask ∷ m.Recipe ∷ m.Version ∷ [] in
     good_object _ (exactly members d >>= (λ fs. or_malformed (recipe_in fs))) (valid_bind is_reported _ (exactly members d) _ (exactly_typed members d _ (λ v. tt)))
 
-for_valid : (kind : QuestionKind) (d : Data) → Good format_error_is_reported (λ x. ⊤) (question_for kind d)
+for_valid : (kind : QuestionKind) (d : Data) → Good format_error_is_reported (λ x. ⊤) (question_of kind d)
 for_valid q.Desk d = alone_valid Q.Desk d
 for_valid q.Moment d = alone_valid Q.Moment d
 for_valid (q.List kind) d = list_total kind d
@@ -146,15 +153,27 @@ for_valid q.Recipe d = recipe_valid d
 for_valid q.BatchLines d = then_made (id_named m.Batch d) _ (id_total m.Batch d (λ v. tt))
 for_valid _ d = then_made (node_named d) _ (node_valid d)
 
-by_valid : (d : Data) (o : Option QuestionKind) → kind_at d ≡ o → Good format_error_is_reported (λ x. ⊤) (question_by o d)
-by_valid d None e = good_object {A = Question} (λ x. ⊤) (fields_of (m.Ask ∷ []) d >>= (λ fs. Err shape_error.Malformed)) (valid_bind is_reported (λ x. ⊤) (fields_of (m.Ask ∷ []) d) (λ fs. Err shape_error.Malformed)
-    (valid_map is_reported (λ fs. ⊥) (λ fs. Good {A = Question} is_reported (λ x. ⊤) (Err shape_error.Malformed)) (fields_of (m.Ask ∷ []) d) (λ fs z. absurd z) (only_fails m.Ask d (ask_fails (get (codes "ask") d) e))))
-by_valid d (Some kind) e = for_valid kind d
-
 reported_err : (r : Result Question FormatError) → Good format_error_is_reported (λ x. ⊤) r → IfErr r (λ p. format_error_is_reported p ≡ true)
 reported_err (Ok x) h = tt
 reported_err (Err p) h = h
 
--- where an object is no question, its problem says what is wrong
-pub question_reported : (d : Data) → IfErr (question_of d) (λ p. format_error_is_reported p ≡ true)
-question_reported d = reported_err (question_of d) (by_valid d (kind_at d) refl)
+-- where an object with the word of a question is none, its problem says what is wrong
+pub question_reported : (kind : QuestionKind) (d : Data) → IfErr (question_of kind d) (λ p. format_error_is_reported p ≡ true)
+question_reported kind d = reported_err (question_of kind d) (for_valid kind d)
+
+-- ---- all that is asked
+
+asked_valid : (d : Data) (o : Option AskedKind) → kind_at d ≡ o → Good format_error_is_reported (λ x. ⊤) (asked_by o d)
+asked_valid d None e = good_object {A = Line} (λ x. ⊤) (fields_of (m.Ask ∷ []) d >>= (λ fs. Err shape_error.Malformed)) (valid_bind is_reported (λ x. ⊤) (fields_of (m.Ask ∷ []) d) (λ fs. Err shape_error.Malformed)
+    (valid_map is_reported (λ fs. ⊥) (λ fs. Good {A = Line} is_reported (λ x. ⊤) (Err shape_error.Malformed)) (fields_of (m.Ask ∷ []) d) (λ fs z. absurd z) (only_fails m.Ask d (ask_fails (get (codes "ask") d) e))))
+asked_valid d (Some asked.Check) e = then_made (check_of d) _ (valid_map format_error_is_reported _ (λ x. ⊤) (check_of d) (λ x h. tt) (check_valid d))
+asked_valid d (Some (asked.Question kind)) e = then_made (question_of kind d) _ (for_valid kind d)
+
+reported_from : (r : Result Line Fault) (s : Result Line FormatError) → Reports r s → Good format_error_is_reported (λ x. ⊤) s → IsReported r
+reported_from (Ok x) s e h = tt
+reported_from (Err (fault.Reported p)) s e h = subst (λ (s : Result Line FormatError). Good format_error_is_reported (λ x. ⊤) s) e h
+reported_from (Err fault.Memory) s e h = tt
+
+-- where an object asks for nothing, its problem says what is wrong
+pub asked_reported : (d : Data) (r : Result Line Fault) → Reports r (asked_of d) → IsReported r
+asked_reported d r e = reported_from r (asked_of d) e (asked_valid d (kind_at d) refl)

@@ -4,7 +4,7 @@ use Rattle.plant_base.specs.State.{State}
 use Rattle.plant_desk.specs.Keepers.{States}
 use Rattle.plant_messages.specs.declared.reply.DeskFault.{DeskFault}
 use Rattle.plant_messages.specs.declared.reply.DeskFault.TheVariants.{Store, Memory, Shut}
-use Rattle.plant_text.specs.Session.{Entry, nothing, bad, command, question, after, fold, CrashStatesOfFault, StopsAt, RunStopped, StoppedAmong, EndsWithin}
+use Rattle.plant_text.specs.Session.{Entry, nothing, bad, command, question, check, after, fold, CrashStatesOfFault, StopsAt, RunStopped, StoppedAmong, EndsWithin}
 use Rattle.plant_text.specs.CrashStates.{CrashStatesAtFault, CrashStatesAtStop, CrashStatesAfterSome, CrashStatesAmong, CrashStatesOfRun}
 use Rattle.plant_text.specs.declared.run.RunEnd.{RunEnd}
 use Rattle.plant_text.specs.declared.run.RunEnd.TheVariants as E
@@ -21,6 +21,7 @@ fault_crash_states Store s nothing represents shut crash_states law (same, none)
 fault_crash_states Store s bad represents shut crash_states law (same, none) = absurd none
 fault_crash_states Store s (command c) represents shut crash_states law (same, (is_shut, either)) = inr (same, either)
 fault_crash_states Store s (question q) represents shut crash_states law (same, is_open) = inl (same, law is_open s same)
+fault_crash_states Store s (check c) represents shut crash_states law (same, (is_command, is_open)) = inl (same, law is_open s same)
 fault_crash_states Memory s e represents shut crash_states law (same, is_open) = (same, law is_open s same)
 fault_crash_states Shut s e represents shut crash_states law l = absurd l
 

@@ -15,10 +15,14 @@ use Rattle.plant_text_answers.specs.Replies.{fault_text}
 use Rattle.plant_text.specs.declared.read.Line.{Line}
 use Rattle.plant_text.specs.declared.turns.TurnError.{TurnError}
 use Rattle.plant_text.specs.declared.turns.TurnError.TheVariants as S
-use Rattle.plant_text.specs.Session.{Entry, nothing, bad, command, question, entry_of, entry_where, entry_text, after, is_unknown, CrashStatesOfFault, StopsAt}
+use Rattle.plant_text.specs.Checks.{ChecksAs}
+use Rattle.plant_text.specs.Session.{Entry, nothing, bad, command, question, check, entry_of, entry_where, entry_text, after, is_unknown, CrashStatesOfFault, StopsAt}
 use Rattle.plant_text.specs.Writes.{with_lf, AppendsPrefix}
 use Rattle.plant_text.specs.Turns.{TurnEnds, FaultWritten, AnswerWritten, BadWritten}
 use Rattle.plant_text_answers.specs.Answers.{text_of_answer}
+use Rattle.plant_text_checks.specs.Answers.{check_text}
+use Rattle.plant_text_checks.specs.declared.answers.CheckAnswer.{CheckAnswer}
+use Rattle.plant_text_commands.specs.declared.checks.ToCheck.{ToCheck}
 use Rattle.plant_messages.specs.declared.question.Answer.{Answer}
 use Rattle.std.specs.Prelude.{IfErr, IfOk, IsErrAnd}
 
@@ -44,7 +48,7 @@ question_faults k s represents crash_states shut q Shut p r = p
 
 -- the turn of a question, by what came of it and what was written of that
 pub question_ends : (k : ℕ) (s : State) (old new : Option (List ℕ)) (represents : States) (shut : Bool) (crash_states : States → Type 0) (q : Question) (asked : Result Answer DeskFault) (r : Result Bool TurnError)
-    → Asks k s represents q asked → shut ≡ false → IfOk asked (λ a. AnswerWritten a old new r) → IfErr asked (λ f. IsErrAnd r (FaultWritten f old new))
+    → Asks k s represents q asked → shut ≡ false → IfOk asked (λ a. AnswerWritten (text_of_answer a) (is_unknown a) old new r) → IfErr asked (λ f. IsErrAnd r (FaultWritten f old new))
     → TurnEnds k s (question q) old new represents shut crash_states r
 question_ends k s old new represents shut crash_states q (Ok a) (Ok refused) (same, represented) is_open w none =
     (subst (λ (b : Answer). Appends old new (with_lf (text_of_answer b))) same w.0, represented, subst (λ (b : Answer). refused ≡ is_unknown b) same w.1)
@@ -57,6 +61,27 @@ question_ends k s old new represents shut crash_states q (Ok a) (Err (S.Fault f)
 question_ends k s old new represents shut crash_states q (Err f) (Ok refused) asks is_open none w = absurd w
 question_ends k s old new represents shut crash_states q (Err f) (Err stop) asks is_open none w =
     stops_by_fault k s (question q) old new represents shut crash_states f stop w (question_faults k s represents crash_states shut q f asks is_open)
+
+check_faults : (s : State) (represents : States) (crash_states : States → Type 0) (shut : Bool) (c : ToCheck) (f : DeskFault) → ChecksAs s represents c (Err f) → shut ≡ false → CrashStatesOfFault f s (check c) represents shut crash_states
+check_faults s represents crash_states shut c Store p r = (p.1, (p.0, r))
+check_faults s represents crash_states shut c Memory p r = (p.1, r)
+check_faults s represents crash_states shut c Shut p r = p
+
+-- the same of a check
+pub check_ends : (k : ℕ) (s : State) (old new : Option (List ℕ)) (represents : States) (shut : Bool) (crash_states : States → Type 0) (c : ToCheck) (checked : Result CheckAnswer DeskFault) (r : Result Bool TurnError)
+    → ChecksAs s represents c checked → shut ≡ false → IfOk checked (λ a. AnswerWritten (check_text a) false old new r) → IfErr checked (λ f. IsErrAnd r (FaultWritten f old new))
+    → TurnEnds k s (check c) old new represents shut crash_states r
+check_ends k s old new represents shut crash_states c (Ok a) (Ok refused) (same, represented) is_open w none =
+    (subst (λ (b : CheckAnswer). Appends old new (with_lf (check_text b))) same w.0, represented, w.1)
+check_ends k s old new represents shut crash_states c (Ok a) (Err S.Write) (same, represented) is_open (inl prefix) none =
+    stops_by_write_error k s (check c) old new represents shut crash_states _ (ap (λ (b : CheckAnswer). with_lf (check_text b)) same) represented is_open prefix
+check_ends k s old new represents shut crash_states c (Ok a) (Err S.Write) (same, represented) is_open (inr w) none =
+    stops_by_fault k s (check c) old new represents shut crash_states Memory S.Write w (represented, is_open)
+check_ends k s old new represents shut crash_states c (Ok a) (Err (S.Fault f)) (same, represented) is_open w none =
+    stops_by_fault k s (check c) old new represents shut crash_states Memory (S.Fault f) w (represented, is_open)
+check_ends k s old new represents shut crash_states c (Err f) (Ok refused) checks is_open none w = absurd w
+check_ends k s old new represents shut crash_states c (Err f) (Err stop) checks is_open none w =
+    stops_by_fault k s (check c) old new represents shut crash_states f stop w (check_faults s represents crash_states shut c f checks is_open)
 
 pub bad_ends : (k : ℕ) (s : State) (old new : Option (List ℕ)) (represents : States) (shut : Bool) (crash_states : States → Type 0) (r : Result Bool TurnError)
     → BadWritten old new r → represents s → shut ≡ false → TurnEnds k s bad old new represents shut crash_states r

@@ -1,4 +1,5 @@
 pub mod HeldLines
+pub mod Checks
 pub mod CrashStates
 pub mod Lines
 pub mod Questions

@@ -1,24 +1,44 @@
 -- What a line says, and what is wrong with one that says nothing.
-use Rattle.std.specs.Prelude.{ℕ, List, length, nat_lt, if◌then◌else◌, codes, Option, Some, None, is_some, Result, Ok, Err}
+use Rattle.std.specs.Prelude.{ℕ, List, [], ◌∷◌, length, nat_lt, if◌then◌else◌, codes, Option, Some, None, option_and_then, is_some, Result, Ok, Err}
 use Rattle.std.specs.Result.{result_ok}
 use Rattle.std.specs.Str.{is_utf8}
 use Rattle.serde_json.specs.Data.{Data}
-use Rattle.serde_json.specs.Find.{get, as_object}
+use Rattle.serde_json.specs.Find.{get, as_object, as_str}
 use Rattle.serde_json.specs.Read.{read}
 use Rattle.plant_message_schema.specs.declared.format_errors.ShapeError.TheVariants as shape_error
 use Rattle.plant_message_schema.specs.declared.format_errors.FormatError.{FormatError}
 use Rattle.plant_message_schema.specs.declared.format_errors.FormatError.TheVariants as format_error
-use Rattle.plant_message_schema.specs.FormatErrors.{◌>>=◌}
+use Rattle.plant_message_schema.specs.declared.members.Member.TheVariants as m
+use Rattle.plant_message_schema.specs.declared.words.AskedKind.{AskedKind}
+use Rattle.plant_message_schema.specs.declared.words.AskedKind.TheVariants as asked
+use Rattle.plant_message_schema.specs.Words.{asked_kind}
+use Rattle.plant_message_schema.specs.Fields.{fields_of}
+use Rattle.plant_message_schema.specs.FormatErrors.{◌>>=◌, object}
+use Rattle.plant_text_commands.specs.Checks.{check_of}
 use Rattle.plant_text_commands.specs.Commands.{command_of}
 use Rattle.plant_text.specs.declared.read.Line.{Line}
 use Rattle.plant_text.specs.declared.read.Line.TheVariants as L
 use Rattle.plant_text.specs.Questions.{question_of}
 
--- the command or the question that an object is; with `do` and `ask` it would have a member too many for either
+-- what an object asks for by its word
+abbrev pub kind_at : Data → Option AskedKind
+kind_at d = option_and_then asked_kind (option_and_then as_str (get (codes "ask") d))
+
+-- an object without the word of a question or a check has at least that flaw
+abbrev pub asked_by : Option AskedKind → Data → Result Line FormatError
+asked_by None d = object (fields_of (m.Ask ∷ []) d >>= (λ fs. Err shape_error.Malformed))
+asked_by (Some asked.Check) d = check_of d >>= (λ c. Ok (L.Check c))
+asked_by (Some (asked.Question kind)) d = question_of kind d >>= (λ q. Ok (L.Question q))
+
+-- the question that an object is, or the check that it asks for, or its first problem
+abbrev pub asked_of : Data → Result Line FormatError
+asked_of d = asked_by (kind_at d) d
+
+-- the command that an object is, or what it asks for; with `do` and `ask` it would have a member too many for either
 abbrev pub object_says : Data → Result Line FormatError
 object_says d =
     if is_some (get (codes "do") d) then command_of d >>= (λ c. Ok (L.Command c)) else (
-    if is_some (get (codes "ask") d) then question_of d >>= (λ q. Ok (L.Question q)) else
+    if is_some (get (codes "ask") d) then asked_of d else
     Err format_error.Neither)
 
 -- what a JSON value says, or its first problem

@@ -1,7 +1,7 @@
--- Which objects are questions, and what is wrong with the others. They have no note and no reference.
-use Rattle.std.specs.Prelude.{ℕ, List, [], ◌∷◌, if◌then◌else◌, codes, Option, Some, None, option_and_then, option_map, is_some, Result, Ok, Err}
+-- Which objects with the word of a question are one, and what is wrong with the others. They have no note and no reference.
+use Rattle.std.specs.Prelude.{ℕ, List, [], ◌∷◌, if◌then◌else◌, codes, Option, Some, None, option_map, is_some, Result, Ok, Err}
 use Rattle.serde_json.specs.Data.{Data}
-use Rattle.serde_json.specs.Find.{get, as_str}
+use Rattle.serde_json.specs.Find.{get}
 use Rattle.plant_trace.specs.declared.direction.Direction.{Direction}
 use Rattle.plant_trace.specs.declared.direction.Direction.TheVariants.{Forward, Back}
 use Rattle.plant_trace.specs.declared.node.Node.{Node}
@@ -25,9 +25,8 @@ use Rattle.plant_message_schema.specs.declared.fields.Field.TheVariants as field
 use Rattle.plant_message_schema.specs.declared.format_errors.ShapeError.TheVariants as shape_error
 use Rattle.plant_message_schema.specs.declared.format_errors.FormatError.{FormatError}
 use Rattle.plant_message_schema.specs.declared.format_errors.FormatError.TheVariants as format_error
-use Rattle.plant_message_schema.specs.Words.{question_kind}
 use Rattle.plant_message_schema.specs.FormatErrors.{◌>>=◌, object, or_malformed}
-use Rattle.plant_message_schema.specs.Fields.{fields_of, exactly}
+use Rattle.plant_message_schema.specs.Fields.{exactly}
 use Rattle.plant_message_schema.specs.Tables.{list_members}
 
 -- a question that names nothing
@@ -172,31 +171,20 @@ list_in kind _ = None
 abbrev pub list_asked : ListKind → Data → Result Question FormatError
 list_asked kind d = object (exactly (list_members kind) d >>= (λ fs. or_malformed (list_in kind fs)))
 
-abbrev pub question_for : QuestionKind → Data → Result Question FormatError
-question_for q.Desk d = asked_alone Q.Desk d
-question_for q.Moment d = asked_alone Q.Moment d
-question_for q.Definition d = definition_asked d
-question_for q.Recipe d = recipe_asked d
-question_for q.BatchLines d = lines_asked d
-question_for (q.List kind) d = list_asked kind d
-question_for q.Lot d = id_named m.Lot d >>= (λ id. Ok (Q.Lot id))
-question_for q.Order d = id_named m.Order d >>= (λ id. Ok (Q.Order id))
-question_for q.Batch d = id_named m.Batch d >>= (λ id. Ok (Q.Batch id))
-question_for q.Recall d = id_named m.Recall d >>= (λ id. Ok (Q.Recall id))
-question_for q.Stands d = node_named d >>= (λ node. Ok (Q.Stands node))
-question_for q.BackEdges d = edges_of Back d
-question_for q.ForwardEdges d = edges_of Forward d
-question_for q.Back d = trace_of Back d
-question_for q.Forward d = trace_of Forward d
-
-abbrev pub kind_at : Data → Option QuestionKind
-kind_at d = option_and_then question_kind (option_and_then as_str (get (codes "ask") d))
-
--- an object without the word of a question has at least that flaw
-abbrev pub question_by : Option QuestionKind → Data → Result Question FormatError
-question_by None d = object (fields_of (m.Ask ∷ []) d >>= (λ fs. Err shape_error.Malformed))
-question_by (Some kind) d = question_for kind d
-
--- the question that the object is, or its first problem
-abbrev pub question_of : Data → Result Question FormatError
-question_of d = question_by (kind_at d) d
+-- the question that an object with the word of a kind is, or its first problem
+abbrev pub question_of : QuestionKind → Data → Result Question FormatError
+question_of q.Desk d = asked_alone Q.Desk d
+question_of q.Moment d = asked_alone Q.Moment d
+question_of q.Definition d = definition_asked d
+question_of q.Recipe d = recipe_asked d
+question_of q.BatchLines d = lines_asked d
+question_of (q.List kind) d = list_asked kind d
+question_of q.Lot d = id_named m.Lot d >>= (λ id. Ok (Q.Lot id))
+question_of q.Order d = id_named m.Order d >>= (λ id. Ok (Q.Order id))
+question_of q.Batch d = id_named m.Batch d >>= (λ id. Ok (Q.Batch id))
+question_of q.Recall d = id_named m.Recall d >>= (λ id. Ok (Q.Recall id))
+question_of q.Stands d = node_named d >>= (λ node. Ok (Q.Stands node))
+question_of q.BackEdges d = edges_of Back d
+question_of q.ForwardEdges d = edges_of Forward d
+question_of q.Back d = trace_of Back d
+question_of q.Forward d = trace_of Forward d

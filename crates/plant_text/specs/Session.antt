@@ -19,6 +19,10 @@ use Rattle.plant_messages.specs.declared.reply.DeskFault.TheVariants.{Store, Mem
 use Rattle.plant_text.specs.Lines.{line_of}
 use Rattle.plant_text_answers.specs.Replies.{reply_text, fault_text}
 use Rattle.plant_text_answers.specs.Answers.{text_of_answer}
+use Rattle.plant_text_checks.specs.Answers.{check_text}
+use Rattle.plant_text_checks.specs.Checks.{check_answer}
+use Rattle.plant_text_commands.specs.declared.checks.ToCheck.{ToCheck}
+use Rattle.plant_text.specs.Checks.{IsCommand}
 use Rattle.plant_text.specs.Writes.{with_lf, AppendsPrefix}
 use Rattle.plant_text.specs.declared.read.Line.{Line}
 use Rattle.plant_text.specs.declared.read.Line.TheVariants as L
@@ -54,11 +58,13 @@ pub data Entry : Type 0 where
   bad : Entry
   command : Envelope → Entry
   question : Question → Entry
+  check : ToCheck → Entry
 
 abbrev pub entry_where : Option Line → Entry
 entry_where None = bad
 entry_where (Some (L.Command c)) = command c
 entry_where (Some (L.Question q)) = question q
+entry_where (Some (L.Check c)) = check c
 
 -- an empty line is nothing, and any other that says nothing is bad
 unfoldable pub entry_of : List ℕ → Entry
@@ -75,12 +81,14 @@ entry_text k s nothing = []
 entry_text k s bad = with_lf (reply_text (Refused BadForm))
 entry_text k s (command c) = with_lf (reply_text (reply s c))
 entry_text k s (question q) = with_lf (text_of_answer (answer k s q))
+entry_text k s (check c) = with_lf (check_text (check_answer s c))
 
 abbrev pub after : State → Entry → State
 after s nothing = s
 after s bad = s
 after s (command c) = step s c
 after s (question q) = s
+after s (check c) = s
 
 abbrev pub is_refusal : Reply → Bool
 is_refusal (Accepted n) = false
@@ -90,12 +98,13 @@ abbrev pub is_unknown : Answer → Bool
 is_unknown (A.Unknown r) = true
 is_unknown _ = false
 
--- whether the reply is a refusal
+-- whether the reply is a refusal; that a command would be refused is an answer
 abbrev pub is_refused : ℕ → State → Entry → Bool
 is_refused k s nothing = false
 is_refused k s bad = true
 is_refused k s (command c) = is_refusal (reply s c)
 is_refused k s (question q) = is_unknown (answer k s q)
+is_refused k s (check c) = false
 
 -- the replies to entries, each in the state after those before it
 abbrev pub texts : ℕ → State → List Entry → List ℕ
@@ -122,13 +131,14 @@ pub record AreAnswered (k : ℕ) (s : State) (es : List Entry) (old new : Option
   pub state : represents (fold s es)
   pub refused : now ≡ (before || some_refused k s es)
 
--- what a fault of the store leaves, which comes from a command or a question alone: a command shuts the keeper, and a
--- stop leaves the state before it or after it
+-- what a fault of the store leaves, which comes from a command, a question or a check of a command alone: a command shuts
+-- the keeper, and a stop leaves the state before it or after it
 abbrev pub CrashStatesOfStoreFault : State → Entry → Bool → (States → Type 0) → Type 0
 CrashStatesOfStoreFault s nothing shut crash_states = ⊥
 CrashStatesOfStoreFault s bad shut crash_states = ⊥
 CrashStatesOfStoreFault s (command c) shut crash_states = (shut ≡ true) × crash_states (λ u. (u ≡ s) ⊎ (u ≡ step s c))
 CrashStatesOfStoreFault s (question q) shut crash_states = shut ≡ false
+CrashStatesOfStoreFault s (check c) shut crash_states = IsCommand c × (shut ≡ false)
 
 -- what a fault leaves a keeper at, which stood at s as the entry e came
 abbrev pub CrashStatesOfFault : DeskFault → State → Entry → States → Bool → (States → Type 0) → Type 0

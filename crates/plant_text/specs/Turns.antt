@@ -5,13 +5,11 @@ use Rattle.plant_base.specs.State.{State}
 use Rattle.plant_base.specs.declared.refusal.Refusal.TheVariants.{BadForm}
 use Rattle.plant_desk.specs.Keepers.{States}
 use Rattle.plant_messages.specs.declared.reply.Reply.TheVariants.{Refused}
-use Rattle.plant_messages.specs.declared.question.Answer.{Answer}
 use Rattle.plant_messages.specs.declared.reply.DeskFault.{DeskFault}
 use Rattle.plant_messages.specs.declared.reply.DeskFault.TheVariants.{Memory}
-use Rattle.plant_text_answers.specs.Answers.{text_of_answer}
 use Rattle.plant_text_answers.specs.Replies.{reply_text, fault_text}
 use Rattle.plant_text.specs.Writes.{with_lf, AppendsPrefix}
-use Rattle.plant_text.specs.Session.{Entry, entry_text, after, is_refused, is_unknown, AreAnswered, StopsAt, RunStopped}
+use Rattle.plant_text.specs.Session.{Entry, entry_text, after, is_refused, AreAnswered, StopsAt, RunStopped}
 use Rattle.plant_text.specs.declared.run.RunEnd.{RunEnd}
 use Rattle.plant_text.specs.declared.run.RunEnd.TheVariants as E
 use Rattle.plant_text.specs.declared.turns.TurnError.{TurnError}
@@ -27,11 +25,11 @@ abbrev pub FaultWritten : DeskFault → Option (List ℕ) → Option (List ℕ) 
 FaultWritten f old new S.Write = AppendsPrefix old new (with_lf (fault_text f))
 FaultWritten f old new (S.Fault g) = (g ≡ f) × Appends old new (with_lf (fault_text f))
 
--- what was written of an answer: its text, or the line of want of memory where its text couldn't be made
-abbrev pub AnswerWritten : Answer → Option (List ℕ) → Option (List ℕ) → Result Bool TurnError → Type 0
-AnswerWritten a old new (Ok refused) = Appends old new (with_lf (text_of_answer a)) × (refused ≡ is_unknown a)
-AnswerWritten a old new (Err S.Write) = AppendsPrefix old new (with_lf (text_of_answer a)) ⊎ FaultWritten Memory old new S.Write
-AnswerWritten a old new (Err (S.Fault f)) = FaultWritten Memory old new (S.Fault f)
+-- what was written of an answer of this text: it, or the line of want of memory where it couldn't be made
+abbrev pub AnswerWritten : List ℕ → Bool → Option (List ℕ) → Option (List ℕ) → Result Bool TurnError → Type 0
+AnswerWritten text unknown old new (Ok refused) = Appends old new (with_lf text) × (refused ≡ unknown)
+AnswerWritten text unknown old new (Err S.Write) = AppendsPrefix old new (with_lf text) ⊎ FaultWritten Memory old new S.Write
+AnswerWritten text unknown old new (Err (S.Fault f)) = FaultWritten Memory old new (S.Fault f)
 
 -- what was written of a bad line's reply
 abbrev pub BadWritten : Option (List ℕ) → Option (List ℕ) → Result Bool TurnError → Type 0

@@ -2,16 +2,20 @@
 //! lines of an input; and the batch record, which is no JSON.
 #![tactic(auto)]
 
+mod checks;
 mod questions;
 mod read;
 mod run;
 mod turns;
 mod writes;
 
+pub use checks::{answer_check, foretelling_law};
 pub use plant_message_schema::{Fault, FormatError, LineFault};
 pub use plant_orders::{CsvFault, CsvKind, read_orders};
 pub use plant_record::record;
 pub use plant_text_answers::{ReplyText, answer_text, fault_line, reply_line};
+pub use plant_text_checks::{CheckAnswer, check_text};
+pub use plant_text_commands::ToCheck;
 pub use read::{Line, read_line, read_line_or_error};
 pub use run::{RunEnd, run_lines, run_lines_within};
 pub use turns::{TurnError, is_unknown, take_command, write_fault};

@@ -1,16 +1,15 @@
-//! Questions as JSON: which objects are questions, and what is wrong with the others.
+//! Questions as JSON: which objects with the word of a question are one, and what is wrong with the others.
 ghost use Rattle.std.specs.Prelude.{◌≡◌, true, IfErr};
 ghost use Rattle.serde_json.specs.View.{view};
 ghost use Rattle.plant_message_schema.specs.FormatErrors.{format_error_is_reported};
 ghost use Rattle.plant_text.specs.Questions.{asked_alone, id_named, node_named, definition_asked, lines_asked, recipe_in, recipe_asked, trace_of, edges_of};
 ghost use Rattle.plant_text.specs.Questions.{cursor_in, whole_list, list_of, list_in, hold_cursor_in, whole_asked};
 ghost use Rattle.plant_text.specs.Questions.{recipe_cursor_in, due_cursor_in, movement_cursor_in, number_in, recipes_asked, due_asked, ledger_asked, of_asked};
-ghost use Rattle.plant_text.specs.Questions.{list_asked, question_for, kind_at, question_of};
+ghost use Rattle.plant_text.specs.Questions.{list_asked, question_of};
 
 use plant_base::Id;
 use plant_message_schema::{
-    Field, FormatError, ListKind, Member, QuestionKind, ShapeError, exactly, fields_of,
-    list_members, question_kind,
+    Field, FormatError, ListKind, Member, QuestionKind, ShapeError, exactly, list_members,
 };
 use plant_messages::Question;
 use plant_trace::{Direction, Node};
@@ -296,9 +295,8 @@ fn list_asked(value: &Value, kind: ListKind) -> Result<Question, FormatError>
     }
 }
 
-/// The question of a kind.
-fn question_for(value: &Value, kind: QuestionKind) -> Result<Question, FormatError>
-    ensures { result ≡ question_for kind (view value.now) }
+fn read_question(value: &Value, kind: QuestionKind) -> Result<Question, FormatError>
+    ensures { result ≡ question_of kind (view value.now) }
 {
     match kind {
         QuestionKind::Desk => asked_alone(value, Question::Desk),
@@ -334,28 +332,10 @@ fn question_for(value: &Value, kind: QuestionKind) -> Result<Question, FormatErr
     }
 }
 
-fn kind_at(value: &Value) -> Option<QuestionKind>
-    ensures { result ≡ kind_at (view value.now) }
-{
-    question_kind(value.get("ask")?.as_str()?)
-}
-
-fn read_question(value: &Value) -> Result<Question, FormatError>
-    ensures { result ≡ question_of (view value.now) }
-{
-    match kind_at(value) {
-        Some(kind) => question_for(value, kind),
-        None => match fields_of(value, &[Member::Ask]) {
-            Ok(_) => Err(FormatError::Object(ShapeError::Malformed)),
-            Err(shape_error) => Err(FormatError::Object(shape_error)),
-        },
-    }
-}
-
-/// The question that the object is, or its first problem.
-pub(crate) fn question_of(value: &Value) -> Result<Question, FormatError>
-    ensures reads { result ≡ question_of (view value.now) }
+/// The question that an object with the word of this kind is, or its first problem, which has a text of its own.
+pub(crate) fn question_of(value: &Value, kind: QuestionKind) -> Result<Question, FormatError>
+    ensures reads { result ≡ question_of kind (view value.now) }
     ensures reported { IfErr result (λ format_error. format_error_is_reported format_error ≡ true) }
 {
-    read_question(value)
+    read_question(value, kind)
 }

@@ -4,13 +4,16 @@ ghost use Rattle.serde_json.specs.Errors.{IsMemory};
 ghost use Rattle.serde_json.specs.View.{view};
 ghost use Rattle.plant_message_schema.specs.FormatErrors.{Reports, IsReported};
 ghost use Rattle.plant_message_schema.specs.declared.format_errors.FormatError.TheVariants as format_error;
-ghost use Rattle.plant_text.specs.Lines.{longest_line, object_says, value_says, line_says, line_of};
+ghost use Rattle.plant_text.specs.Lines.{longest_line, kind_at, asked_of, object_says, value_says, line_says};
+ghost use Rattle.plant_text.specs.Lines.{line_of};
 
 use crate::questions::question_of;
 use plant_base::Envelope;
-use plant_message_schema::{Fault, FormatError, LineFault, ShapeError};
+use plant_message_schema::{
+    AskedKind, Fault, FormatError, LineFault, Member, ShapeError, asked_kind, fields_of,
+};
 use plant_messages::Question;
-use plant_text_commands::command_of;
+use plant_text_commands::{ToCheck, check_of, command_of};
 use serde_json::Value;
 use std::alloc::Global;
 
@@ -21,6 +24,8 @@ pub enum Line {
     Command(Envelope),
     /// A question about the desk's state.
     Question(Question),
+    /// The question what would become of a command.
+    Check(ToCheck),
 }
 
 /// Whether a read failed for its text, and not for want of memory.
@@ -31,7 +36,40 @@ fn is_refusal(error: &serde_json::Error) -> bool
     if error.is_memory() { false } else { true }
 }
 
-/// The command or the question that an object is, or its first problem.
+fn kind_at(value: &Value) -> Option<AskedKind>
+    ensures { result ≡ kind_at (view value.now) }
+{
+    asked_kind(value.get("ask")?.as_str()?)
+}
+
+fn read_asked(alloc: Global, value: &Value) -> Result<Line, Fault>
+    ensures { Reports result (asked_of (view value.now)) }
+{
+    match kind_at(value) {
+        Some(AskedKind::Check) => match check_of(alloc, value) {
+            Ok(to_check) => Ok(Line::Check(to_check)),
+            Err(fault) => Err(fault),
+        },
+        Some(AskedKind::Question(kind)) => match question_of(value, kind) {
+            Ok(question) => Ok(Line::Question(question)),
+            Err(format_error) => Err(Fault::Reported(format_error)),
+        },
+        None => match fields_of(value, &[Member::Ask]) {
+            Ok(_) => Err(Fault::Reported(FormatError::Object(ShapeError::Malformed))),
+            Err(shape_error) => Err(Fault::Reported(FormatError::Object(shape_error))),
+        },
+    }
+}
+
+/// The question that an object is, or the check that it asks for, or its first problem.
+fn asked_of(alloc: Global, value: &Value) -> Result<Line, Fault>
+    ensures reads { Reports result (asked_of (view value.now)) }
+    ensures reported { IsReported result }
+{
+    read_asked(alloc, value)
+}
+
+/// The command that an object is, or what it asks for, or its first problem.
 fn object_says(alloc: Global, value: &Value) -> Result<Line, Fault>
     ensures reads { Reports result (object_says (view value.now)) }
     ensures reported { IsReported result }
@@ -42,10 +80,7 @@ fn object_says(alloc: Global, value: &Value) -> Result<Line, Fault>
             Err(fault) => Err(fault),
         }
     } else if value.get("ask").is_some() {
-        match question_of(value) {
-            Ok(question) => Ok(Line::Question(question)),
-            Err(format_error) => Err(Fault::Reported(format_error)),
-        }
+        asked_of(alloc, value)
     } else {
         Err(Fault::Reported(FormatError::Neither))
     }
@@ -74,7 +109,8 @@ const LONGEST_LINE: usize = 262_144;
 /// what each may be, stands in the tables of `plant_message_schema`. Another with `ask` is a question: exactly `{"ask":"desk"}`;
 /// `{"ask":"lot","lot":ID}` and likewise with `order`, `batch` and `recall`; `{"ask":"back","lot":ID}` or
 /// `{"ask":"back","batch":ID}` and likewise with `forward`; `{"ask":"moment"}`; or one for a page of a list, with its word and what it is of, and
-/// with the id that it goes on from where one is given.
+/// with the id that it goes on from where one is given. `{"ask":"check","command":OBJECT}` asks what would become of a command, and is taken
+/// also where its OBJECT is none.
 ///
 /// - `Reported`: the line is longer or has none of these shapes, and this is the first thing that is wrong with it, in the order of the
 ///   formats, with a text of its own.

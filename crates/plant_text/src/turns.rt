@@ -1,11 +1,14 @@
 //! One line: what it says, what the keeper does, what is written.
-ghost use Rattle.std.specs.Prelude.{◌≡◌, false, IfErr, IfOk, IsErrAnd, OnOk};
+ghost use Rattle.std.specs.Prelude.{◌≡◌, ℕ, Bool, List, false, string_bytes, IfErr, IfOk, IsErrAnd, OnOk};
 ghost use Rattle.plant_base.specs.State.{State};
 ghost use Rattle.plant_desk.specs.Keepers.{IsSameDesk};
 ghost use Rattle.plant_text.specs.Session.{entry_of, is_refusal, is_unknown, command as command_entry};
-ghost use Rattle.plant_text.specs.Session.{question as question_entry};
+ghost use Rattle.plant_text.specs.Session.{question as question_entry, check as check_entry};
+ghost use Rattle.plant_text_answers.specs.Answers.{text_of_answer};
+ghost use Rattle.plant_text_checks.specs.Answers.{check_text};
 ghost use Rattle.plant_text.specs.Turns.{TurnEnds, FaultWritten, AnswerWritten, BadWritten};
 
+use crate::checks::answer_check;
 use crate::read::{Line, read_line};
 use crate::writes::write_line;
 use plant_base::{Envelope, Refusal};
@@ -13,7 +16,9 @@ use plant_desk::Keeper;
 use plant_message_schema::LineFault;
 use plant_messages::{Answer, DeskFault, Question, Reply};
 use plant_text_answers::{answer_text, fault_line, reply_line};
-use std::alloc::Global;
+use plant_text_checks::{CheckAnswer, check_text};
+use plant_text_commands::ToCheck;
+use std::alloc::{AllocError, Global};
 use std::io::Write;
 use thiserror::Error;
 
@@ -98,6 +103,26 @@ pub fn take_command<W: Write, K: Keeper>(
     }
 }
 
+/// Writes an answer's text, and says whether the answer names something that isn't there.
+///
+/// Where memory was refused for the text, that fault's line is written in its place.
+fn write_made<W: Write>(
+    writer: &mut W,
+    made: Result<String, AllocError>,
+    unknown: bool,
+) -> Result<bool, TurnError>
+    ensures { (text : List ℕ) → IfOk made (λ s. string_bytes s ≡ text)
+        → AnswerWritten text unknown (W.contents writer.old) (W.contents writer.new) result }
+{
+    match made {
+        Ok(text) => match write_line(writer, text.as_bytes()) {
+            Ok(()) => Ok(unknown),
+            Err(_) => Err(TurnError::Write),
+        },
+        Err(_) => Err(write_fault(writer, DeskFault::Memory)),
+    }
+}
+
 /// Writes what came of a question: the answer's text, which may be a refusal, or the line of the fault.
 ///
 /// Where memory is refused for the text, that fault's line is written in its place.
@@ -106,19 +131,13 @@ fn write_answer<W: Write>(
     writer: &mut W,
     asked: Result<Answer, DeskFault>,
 ) -> Result<bool, TurnError>
-    ensures answered { IfOk asked (λ answer. AnswerWritten answer (W.contents writer.old)
-        (W.contents writer.new) result) }
+    ensures answered { IfOk asked (λ answer. AnswerWritten (text_of_answer answer) (is_unknown answer)
+        (W.contents writer.old) (W.contents writer.new) result) }
     ensures faulted { IfErr asked (λ fault. IsErrAnd result
         (FaultWritten fault (W.contents writer.old) (W.contents writer.new))) }
 {
     match asked {
-        Ok(answer) => match answer_text(alloc, &answer) {
-            Ok(text) => match write_line(writer, text.as_bytes()) {
-                Ok(()) => Ok(is_unknown(&answer)),
-                Err(_) => Err(TurnError::Write),
-            },
-            Err(_) => Err(write_fault(writer, DeskFault::Memory)),
-        },
+        Ok(answer) => write_made(writer, answer_text(alloc, &answer), is_unknown(&answer)),
         Err(cause) => Err(write_fault(writer, cause)),
     }
 }
@@ -139,6 +158,43 @@ fn take_question<W: Write, K: Keeper>(
         (K.represents keeper.new) (K.shut keeper.new) (K.crash_states keeper.new) result }
 {
     write_answer(alloc, writer, keeper.ask(question))
+}
+
+/// Writes what came of a check: the answer's text, or the line of the fault.
+///
+/// Where memory is refused for the text, that fault's line is written in its place.
+fn write_check<W: Write>(
+    alloc: Global,
+    writer: &mut W,
+    checked: Result<CheckAnswer, DeskFault>,
+) -> Result<bool, TurnError>
+    ensures answered { IfOk checked (λ answer. AnswerWritten (check_text answer) false
+        (W.contents writer.old) (W.contents writer.new) result) }
+    ensures faulted { IfErr checked (λ fault. IsErrAnd result
+        (FaultWritten fault (W.contents writer.old) (W.contents writer.new))) }
+{
+    match checked {
+        Ok(answer) => write_made(writer, check_text(alloc, &answer), false),
+        Err(desk_fault) => Err(write_fault(writer, desk_fault)),
+    }
+}
+
+/// Checks a command, and writes what would become of it.
+fn take_check<W: Write, K: Keeper>(
+    alloc: Global,
+    writer: &mut W,
+    keeper: &mut K,
+    to_check: &ToCheck,
+) -> Result<bool, TurnError>
+    requires { K.shut keeper.old ≡ false }
+    ensures same { IsSameDesk K.honest K.schema K.foreign_tables keeper.old keeper.new }
+    ensures open { OnOk result (K.shut keeper.new ≡ false) }
+    ensures ends { K.honest keeper.new → (s : State) → K.represents keeper.old s
+        → TurnEnds (K.schema keeper.old) s (check_entry to_check.now)
+        (W.contents writer.old) (W.contents writer.new)
+        (K.represents keeper.new) (K.shut keeper.new) (K.crash_states keeper.new) result }
+{
+    write_check(alloc, writer, answer_check(keeper, to_check))
 }
 
 /// Takes one line. `true` where its reply is a refusal.
@@ -162,6 +218,7 @@ pub(crate) fn take_line<W: Write, K: Keeper>(
     match read_line(alloc, line) {
         Ok(Line::Command(envelope)) => take_command(writer, keeper, &envelope),
         Ok(Line::Question(question)) => take_question(alloc, writer, keeper, &question),
+        Ok(Line::Check(to_check)) => take_check(alloc, writer, keeper, &to_check),
         Err(LineFault::BadForm) => write_bad_form(writer),
         Err(LineFault::Memory) => Err(write_fault(writer, DeskFault::Memory)),
     }

@@ -1,1 +1,2 @@
+pub mod ChecksAreTyped
 pub mod StepsAreTyped

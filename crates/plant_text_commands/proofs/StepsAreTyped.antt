@@ -126,11 +126,15 @@ command_where : (d : Data) (o : Option CommandKind) → kind_at d ≡ o → Good
 command_where d None e = valid_bind format_error_is_reported _ (object (fields_of shared_members d)) _ (good_object _ (fields_of shared_members d) (valid_map is_reported (λ fs. ⊥) _ (fields_of shared_members d) (λ fs z. absurd z) (shared_fails d e)))
 command_where d (Some kind) e = valid_bind format_error_is_reported _ (object (fields_of shared_members d)) _ (good_object _ (fields_of shared_members d) (fields_typed shared_members d _ (λ v. command_with d kind v)))
 
+-- where an object is no command, its problem says what is wrong
+pub command_valid : (d : Data) → Good format_error_is_reported (λ x. ⊤) (command_of d)
+command_valid d = command_where d (kind_at d) refl
+
 reported_from : (r : Result Envelope Fault) (s : Result Envelope FormatError) → Reports r s → Good format_error_is_reported (λ x. ⊤) s → IsReported r
 reported_from (Ok x) s e h = tt
 reported_from (Err (fault.Reported p)) s e h = subst (λ (s : Result Envelope FormatError). Good format_error_is_reported (λ x. ⊤) s) e h
 reported_from (Err fault.Memory) s e h = tt
 
--- where an object is no command, its problem says what is wrong
+-- the same of what was read
 pub command_reported : (d : Data) (r : Result Envelope Fault) → Reports r (command_of d) → IsReported r
-command_reported d r e = reported_from r (command_of d) e (command_where d (kind_at d) refl)
+command_reported d r e = reported_from r (command_of d) e (command_valid d)

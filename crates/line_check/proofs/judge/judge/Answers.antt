@@ -18,6 +18,11 @@ returns-in-Ok-Question-clause-verdict c =
     let some : 0 < length c.args.line.now = grind (arith, nat_tests) in
     sym (verdict_said c.args.line.now _ some (c.in-Ok-Question.ensures.reads ∙ ap Ok c.in-Ok-Question.field-0-is))
 
+pub returns-in-Ok-Check-clause-verdict : goal.returns-in-Ok-Check-clause-verdict
+returns-in-Ok-Check-clause-verdict c =
+    let some : 0 < length c.args.line.now = grind (arith, nat_tests) in
+    sym (verdict_said c.args.line.now _ some (c.in-Ok-Check.ensures.reads ∙ ap Ok c.in-Ok-Check.field-0-is))
+
 pub returns-in-Err-Reported-clause-verdict : goal.returns-in-Err-Reported-clause-verdict
 returns-in-Err-Reported-clause-verdict c =
     let some : 0 < length c.args.line.now = grind (arith, nat_tests) in

@@ -18,9 +18,10 @@ returns c =
     let a11 = c.in_ok-insert-11.ensures in
     let a12 = c.in_ok-insert-12.ensures in
     let a13 = c.in_ok-insert-13.ensures in
+    let a14 = c.in_ok-insert-14.ensures in
     let whole = c.in_ok-add_whole_lists.ensures in
     let recipes = c.in_ok-add_recipe_routes.ensures in
     let placed = c.in_ok-add_cursor_routes.ensures in
     let lists = c.in_ok-add_lists.ensures in
     let around = c.in_ok-add_around.ensures in
-    rw (whole, recipes, placed, lists, around, a13.1, a12.1, a11.1, a10.1, a9.1, a8.1, a7.1, a6.1, a5.1, a4.1, a3.1, a2.1, a1.1, c.new-router.ensures) refl
+    rw (whole, recipes, placed, lists, around, a14.1, a13.1, a12.1, a11.1, a10.1, a9.1, a8.1, a7.1, a6.1, a5.1, a4.1, a3.1, a2.1, a1.1, c.new-router.ensures) refl

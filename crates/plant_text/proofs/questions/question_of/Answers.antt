@@ -3,4 +3,4 @@ use Rattle.plant_text.proofs.LineSays.{question_reported}
 use Rattle.plant_text.proofs.questions.question_of.Goals as goal
 
 pub returns-clause-reported : goal.returns-clause-reported
-returns-clause-reported c = rw c.read_question.ensures (question_reported (view c.args.value.now))
+returns-clause-reported c = rw c.read_question.ensures (question_reported c.args.kind (view c.args.value.now))

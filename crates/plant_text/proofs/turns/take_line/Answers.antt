@@ -26,6 +26,12 @@ returns-in-Ok-Question-clause-ends g c = λ honest s represented.
     let says : line_of c.args.line.now ≡ Some (L.Question c.in-Ok-Question.question) = c.in-Ok-Question.ensures.ok ∙ ap Some c.in-Ok-Question.field-0-is in
     rw (entry_read c.args.line.now _ some says) (c.take_question.ensures.ends honest s represented)
 
+pub returns-in-Ok-Check-clause-ends : goal.returns-in-Ok-Check-clause-ends
+returns-in-Ok-Check-clause-ends g c = λ honest s represented.
+    let some : 0 < length c.args.line.now = grind (arith, nat_tests) in
+    let says : line_of c.args.line.now ≡ Some (L.Check c.in-Ok-Check.to_check) = c.in-Ok-Check.ensures.ok ∙ ap Some c.in-Ok-Check.field-0-is in
+    rw (entry_read c.args.line.now _ some says) (c.take_check.ensures.ends honest s represented)
+
 pub returns-in-Err-BadForm-clause-ends : goal.returns-in-Err-BadForm-clause-ends
 returns-in-Err-BadForm-clause-ends g c = λ honest s represented.
     let keeper = g.K.Keeper in

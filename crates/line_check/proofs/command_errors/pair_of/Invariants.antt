@@ -1,8 +1,0 @@
-use Rattle.std.proofs.Common.{◌≡◌, drop}
-use Rattle.line_check.specs.CommandErrors.{pair_of}
-use Rattle.line_check.proofs.IndexesInLists.{pair_on}
-use Rattle.line_check.proofs.command_errors.pair_of.Given as goal
-
--- none of the items so far is repeated
-abbrev pub invariant-loop-index : goal.invariant-loop-index
-invariant-loop-index g l = pair_of g.T.Once.again l.items ≡ pair_on l.index (pair_of g.T.Once.again (drop l.index l.items))

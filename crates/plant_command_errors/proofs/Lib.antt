@@ -1,0 +1,2 @@
+pub mod IndexesInLists
+pub mod NoErrorIfWhole

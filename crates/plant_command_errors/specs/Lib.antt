@@ -1,0 +1,2 @@
+pub mod CommandErrors
+pub mod Reasons

@@ -1,0 +1,31 @@
+-- The answer to a check of a command is what the command would be answered.
+use Rattle.std.proofs.Common.{◌≡◌, ◌∙◌, Bool, true, false, Option, Some, None, refl, ap}
+use Rattle.std.specs.Prelude.{is_none}
+use Rattle.std.proofs.lemmas.Bool.{false≢true}
+use Rattle.plant_base.specs.State.{State}
+use Rattle.plant_base.specs.declared.command.Envelope.{Envelope}
+use Rattle.plant_rules.specs.Wrong.{is_whole, wrong}
+use Rattle.plant_causes.specs.Causes.{checked}
+use Rattle.plant_causes.specs.declared.checking.Checked.{Checked}
+use Rattle.plant_causes.specs.declared.checking.Checked.TheVariants.{Accepted, Refused}
+use Rattle.plant_command_errors.specs.CommandErrors.{command_error_of}
+use Rattle.plant_command_errors.specs.declared.command_errors.CommandError.{CommandError}
+use Rattle.plant_command_errors.proofs.NoErrorIfWhole.{reported_unless_whole}
+use Rattle.plant_desk.specs.Foretold.{refusal_told, refusal_foretold}
+use Rattle.plant_desk.specs.Replies.{reply}
+use Rattle.plant_desk.proofs.ChecksForetell.{checks_foretell}
+use Rattle.plant_text_checks.specs.Checks.{answer_by}
+use Rattle.plant_text.specs.Checks.{refusal_answered, AnswersForetell}
+
+by_state : (c : Checked) → refusal_answered (answer_by None c) ≡ refusal_foretold c
+by_state Accepted = refl
+by_state (Refused r item) = refl
+
+by_error : (s : State) (e : Envelope) (o : Option CommandError) → o ≡ command_error_of e.body → (whole : Bool) → is_whole e.body ≡ whole → refusal_answered (answer_by o (checked s e)) ≡ refusal_told (reply s e)
+unfolding reply wrong
+by_error s e (Some m) is true whole = absurd (false≢true (ap is_none ((reported_unless_whole e.body (Some m) is).1 whole)))
+by_error s e (Some m) is false whole = rw whole refl
+by_error s e None is w whole = by_state (checked s e) ∙ checks_foretell s e
+
+pub answers_foretell : AnswersForetell
+answers_foretell s e = by_error s e (command_error_of e.body) refl (is_whole e.body) refl

@@ -1,0 +1,50 @@
+-- What asks to check no command says what is wrong with it, and so does an object that asks for no check.
+use Rattle.std.proofs.Common.{◌≡◌, true, Option, Some, None, Result, Ok, Err, refl, subst}
+use Rattle.std.specs.Prelude.{⊤, IfOk}
+use Rattle.serde_json.specs.Data.{Data}
+use Rattle.serde_json.specs.Find.{get}
+use Rattle.plant_base.specs.declared.command.Envelope.{Envelope}
+use Rattle.plant_message_schema.specs.declared.members.Member.TheVariants as m
+use Rattle.plant_message_schema.specs.declared.format_errors.FormatError.{FormatError}
+use Rattle.plant_message_schema.specs.declared.format_errors.Fault.{Fault}
+use Rattle.plant_message_schema.specs.declared.format_errors.Fault.TheVariants as fault
+use Rattle.plant_message_schema.specs.Members.{name_of}
+use Rattle.plant_message_schema.specs.Tables.{check_members}
+use Rattle.plant_message_schema.specs.FormatErrors.{Reports, object, format_error_is_reported, IsReported}
+use Rattle.plant_message_schema.specs.Fields.{exactly}
+use Rattle.plant_message_schema.proofs.FieldsAreTyped.{Good, valid_bind, good_object, exactly_typed}
+use Rattle.plant_text_commands.specs.Commands.{command_of}
+use Rattle.plant_text_commands.specs.Checks.{checked_as, check_in, check_of, has_reason}
+use Rattle.plant_text_commands.specs.declared.checks.ToCheck.{ToCheck}
+use Rattle.plant_text_commands.proofs.StepsAreTyped.{command_valid}
+
+-- what was read has a reason where it is no command, and else its problem says what is wrong
+abbrev pub Reasoned : Result ToCheck FormatError → Type 0
+Reasoned r = Good format_error_is_reported (λ t. has_reason t ≡ true) r
+
+as_read : (r : Result Envelope FormatError) → Good format_error_is_reported (λ x. ⊤) r → has_reason (checked_as r) ≡ true
+as_read (Ok e) h = refl
+as_read (Err p) h = h
+
+within : (o : Option Data) → Reasoned (check_in o)
+within None = refl
+within (Some d) = as_read (command_of d) (command_valid d)
+
+pub check_valid : (d : Data) → Reasoned (check_of d)
+check_valid d = valid_bind format_error_is_reported _ (object (exactly check_members d)) _ (good_object _ (exactly check_members d) (exactly_typed check_members d _ (λ v. within (get (name_of m.Command) d))))
+
+reported_from : (r : Result ToCheck Fault) (s : Result ToCheck FormatError) → Reports r s → Reasoned s → IsReported r
+reported_from (Ok x) s e h = tt
+reported_from (Err (fault.Reported p)) s e h = subst Reasoned e h
+reported_from (Err fault.Memory) s e h = tt
+
+reason_from : (r : Result ToCheck Fault) (s : Result ToCheck FormatError) → Reports r s → Reasoned s → IfOk r (λ t. has_reason t ≡ true)
+reason_from (Ok x) s e h = subst Reasoned e h
+reason_from (Err (fault.Reported p)) s e h = tt
+reason_from (Err fault.Memory) s e h = tt
+
+pub check_reported : (d : Data) (r : Result ToCheck Fault) → Reports r (check_of d) → IsReported r
+check_reported d r e = reported_from r (check_of d) e (check_valid d)
+
+pub check_has_reason : (d : Data) (r : Result ToCheck Fault) → Reports r (check_of d) → IfOk r (λ t. has_reason t ≡ true)
+check_has_reason d r e = reason_from r (check_of d) e (check_valid d)

@@ -1,0 +1,58 @@
+//! Which objects ask what would become of a command.
+ghost use Rattle.std.specs.Prelude.{◌≡◌, true, Ok, IfOk};
+ghost use Rattle.serde_json.specs.View.{view};
+ghost use Rattle.plant_message_schema.specs.FormatErrors.{Reports, IsReported};
+ghost use Rattle.plant_text_commands.specs.Commands.{command_of};
+ghost use Rattle.plant_text_commands.specs.Checks.{checked_as, check_of, has_reason};
+
+use crate::commands::command_of;
+use plant_base::Envelope;
+use plant_message_schema::{
+    Fault, FormatError, Member, ShapeError, check_members, exactly, object,
+};
+use serde_json::Value;
+use std::alloc::Global;
+
+/// What is to be checked: of a command, what would become of it.
+#[derive(Drop)]
+pub enum ToCheck {
+    /// A command, with its moment, operator, note and reference.
+    Command(Envelope),
+    /// What has the shape of no command, and the first thing that is wrong with it.
+    BadForm(FormatError),
+}
+
+/// The command that an object is, or why it is none.
+fn checked_as(alloc: Global, value: &Value) -> Result<ToCheck, Fault>
+    ensures { Reports result (Ok (checked_as (command_of (view value.now)))) }
+{
+    match command_of(alloc, value) {
+        Ok(envelope) => Ok(ToCheck::Command(envelope)),
+        Err(Fault::Reported(format_error)) => Ok(ToCheck::BadForm(format_error)),
+        Err(Fault::Memory) => Err(Fault::Memory),
+    }
+}
+
+fn read_check(alloc: Global, value: &Value) -> Result<ToCheck, Fault>
+    ensures { Reports result (check_of (view value.now)) }
+{
+    object(exactly(value, check_members()))?;
+    match value.get(Member::Command.name()) {
+        Some(command) => checked_as(alloc, command),
+        None => Err(Fault::Reported(FormatError::Object(ShapeError::Missing(Member::Command)))),
+    }
+}
+
+/// What the object asks to check: `{"ask":"check","command":OBJECT}`, whose OBJECT needs to be no command.
+///
+/// - `Reported`: the object has another shape, and this is the first thing that is wrong with it, which has a text of its own.
+/// - `Memory`: memory was refused while the command's list was read. Nothing is said of the object.
+///
+/// Where its OBJECT is no command, what is wrong with that has a text of its own, too.
+pub fn check_of(alloc: Global, value: &Value) -> Result<ToCheck, Fault>
+    ensures reads { Reports result (check_of (view value.now)) }
+    ensures reported { IsReported result }
+    ensures reason { IfOk result (λ checked. has_reason checked ≡ true) }
+{
+    read_check(alloc, value)
+}

@@ -165,7 +165,7 @@ dialog h2 { margin: 0; font-size: 17px; } dialog p { margin: 0; }
 dialog label { display: grid; gap: 3px; font-size: 13.5px; color: var(--soft); }
 dialog label input, dialog label select, dialog label textarea { color: var(--ink); font-size: 15px; }
 dialog .wrong { color: var(--bad); background: var(--bad-ground); border-radius: 6px; padding: 8px 12px; }
-dialog .wrong:empty { display: none; }
+dialog .foreseen { color: var(--soft); margin: 0; } dialog .wrong:empty, dialog .foreseen:empty { display: none; }
 dialog .end { display: flex; justify-content: flex-end; gap: 8px; }
 
 .picture { overflow-x: auto; padding: 12px 16px 8px; }
@@ -714,10 +714,43 @@ function valuesOf(fields, inputs) {
   return Object.fromEntries(fields.filter((it) => it.name).map((it) => [it.name, value(it)]));
 }
 
+// A form that books: `take` has its command told, and gives what is wrong with the values, or null. The same is done without booking as the form is
+// filled, so that the desk is asked what would become of the command.
+function bookingForm(title, fields, label, take, isGrave) {
+  form(title, fields, label, (v) => take(v, command), isGrave, (v) => {
+    let content = null;
+    take(v, (what, told) => { content = told; return LOST; });
+    return content;
+  });
+}
+
+// What the desk says against a command before it is booked, in plain words. Nothing where it would take it, and where there is no answer: that is seen
+// once it is booked. MomentBack isn't told, since the moment of a booking is looked up again.
+async function foreseen(content, by, signal) {
+  const body = JSON.stringify({ at: desk.now(), by, ...content });
+  const reply = await fetch("/v1/check", { method: "POST", body, headers: { "Content-Type": "application/json" }, cache: "no-store", signal });
+  const { accepted, name, item, reason } = reply.status === 200 ? await reply.json() : { accepted: true };
+  if (accepted || name === "MomentBack") return "";
+  const list = content.parts || content.lines || content.orders || [];
+  return `As it stands, this would be refused${item && list.length > 1 ? `, for number ${item} of the list` : ""}. ${reason ? `It can't be read: ${reason}.`
+    : REFUSALS[name] || ""} (${name})`;
+}
+const PAUSE = 400;
+
 // Opens a form. `take` gets its values, and gives what is wrong with them, or null. A booking that is lost closes the form: it is offered at the top.
-function form(title, fields, label, take, isGrave) {
+// `contentOf` gives the command that complete values make: some time after the last key the desk is asked what would become of it.
+function form(title, fields, label, take, isGrave, contentOf) {
   const all = hasOperator() ? fields : [...fields, operatorField];
   const inputs = {}, wrong = h("p", { class: "wrong", role: "alert" }), ok = h("button", { class: isGrave ? "main bad" : "main" }, label);
+  const told = h("p", { class: "foreseen", role: "status" });
+  let pause, asking = new AbortController();
+  const forget = () => { clearTimeout(pause); asking.abort(); told.textContent = ""; };
+  const ask = async () => {
+    const { operator: name, ...values } = valuesOf(all, inputs);
+    const content = dialog.open && it.checkValidity() ? contentOf(values) : null, { signal } = (asking = new AbortController());
+    const text = content && await foreseen(content, (name || operator.value).trim(), signal).catch(() => "");
+    if (text && !signal.aborted) told.textContent = text;
+  };
   const rows = all.map((field) => {
     if (field.kind === "say") return h("p", { class: "soft" }, field.label);
     const it = (inputs[field.name] = input(field));
@@ -727,6 +760,7 @@ function form(title, fields, label, take, isGrave) {
   const submit = async (event) => {
     event.preventDefault();
     if (ok.disabled) return;
+    forget();
     const { operator: name, ...values } = valuesOf(all, inputs);
     if (name !== undefined) nameOperator(name);
     ok.disabled = true;
@@ -735,7 +769,8 @@ function form(title, fields, label, take, isGrave) {
     ok.disabled = false;
     if (what && what !== LOST) { wrong.textContent = what; ok.focus(); } else if (dialog.firstChild === it) dialog.close();
   };
-  const it = h("form", { method: "dialog", onsubmit: submit }, h("h2", { id: "title" }, title), rows, wrong,
+  const fill = () => { forget(); if (contentOf) pause = setTimeout(ask, PAUSE); };
+  const it = h("form", { method: "dialog", onsubmit: submit, oninput: fill }, h("h2", { id: "title" }, title), rows, told, wrong,
     h("div", { class: "end" }, button("Cancel", () => sending || dialog.close()), ok));
   openDialog(it, Object.values(inputs).find((field) => !field.value) || ok);
 }
@@ -872,12 +907,12 @@ function orderCard(id, order) {
 function release(order) {
   const text = `${order.recipe} ${order.version}, size ${grouped(order.size)}, due ${order.due}. The shift can start its batch at once.`;
   const batch = idField("batch", "New batch", idOf("B", order.order.replace(/^O-?(?=.)/, "")));
-  form(`Release order ${order.order}`, [say(text), batch, noteField()], "Release",
-    (v) => command(`Order ${order.order} released as ${v.batch}`, noted({ do: "release", order: order.order, batch: v.batch }, v.note)));
+  bookingForm(`Release order ${order.order}`, [say(text), batch, noteField()], "Release",
+    (v, tell) => tell(`Order ${order.order} released as ${v.batch}`, noted({ do: "release", order: order.order, batch: v.batch }, v.note)));
 }
 function cancelOrder(order) {
-  form(`Cancel order ${order.order}?`, [say("A cancelled order stays cancelled."), noteField("Why")], "Cancel the order",
-    (v) => command(`Order ${order.order} cancelled`, noted({ do: "cancel_order", order: order.order }, v.note)), true);
+  bookingForm(`Cancel order ${order.order}?`, [say("A cancelled order stays cancelled."), noteField("Why")], "Cancel the order",
+    (v, tell) => tell(`Order ${order.order} cancelled`, noted({ do: "cancel_order", order: order.order }, v.note)), true);
 }
 
 const FILE_HINT = "An order file has comma-separated values, with the first line order,recipe,version,size,due,priority. "
@@ -908,10 +943,10 @@ function oneOrder(approved) {
     halfField("due", "date", "Due", { value: day(new Date(Date.now() + 7 * 86400e3)) }),
     halfField("priority", "select", "Priority, 9 before 1", { value: 5, options: priorities }),
   ];
-  form("One order", fields, "Take it in", (v) => {
+  bookingForm("One order", fields, "Take it in", (v, tell) => {
     const [recipe, version] = v.recipe.split(".");
     const order = { order: v.order, recipe, version: Number(version), size: v.size, due: v.due, priority: Number(v.priority) };
-    return command(`Order ${v.order} taken in`, { do: "import_orders", orders: [order] });
+    return tell(`Order ${v.order} taken in`, { do: "import_orders", orders: [order] });
   });
 }
 
@@ -944,9 +979,9 @@ async function showRecipe({ recipe, version }) {
     h("p", { class: "soft" }, sizes), table(["Kind", "What", "Amount or value"], rows, ""), h("div", { class: "end" }, away)), away);
 }
 function withdraw(it) {
-  form(`Withdraw recipe ${it.recipe} ${it.version}?`,
+  bookingForm(`Withdraw recipe ${it.recipe} ${it.version}?`,
     [say("No order of this version can be released any more. Batches that are released go on."), noteField("Why")], "Withdraw",
-    (v) => command(`Recipe ${it.recipe} ${it.version} withdrawn`,
+    (v, tell) => tell(`Recipe ${it.recipe} ${it.version} withdrawn`,
       noted({ do: "withdraw", recipe: it.recipe, version: it.version }, v.note)), true);
 }
 
@@ -961,9 +996,9 @@ function newRecipe() {
     halfField("min", "amount", "Least size of an order"), halfField("max", "amount", "Greatest size"),
     { name: "lines", kind: "lines", label: "Lines", hint: LINES_HINT, more: { placeholder: LINES_EXAMPLE } },
   ];
-  form("New recipe", fields, "Make a draft", ({ lines: text, ...header }) => {
+  bookingForm("New recipe", fields, "Make a draft", ({ lines: text, ...header }, tell) => {
     const [lines, wrong] = recipeLines(text);
-    return wrong || command(`Recipe ${header.recipe} ${header.version} drafted`, { do: "add_recipe", ...header, lines });
+    return wrong || tell(`Recipe ${header.recipe} ${header.version} drafted`, { do: "add_recipe", ...header, lines });
   });
 }
 // The lines of a recipe as they are written in the form, or what is wrong with one.
@@ -1051,12 +1086,12 @@ const GRAVE = {
 function move(id, word) {
   const fields = { do: "batch", batch: id, word }, what = `Batch ${id}: ${word}`;
   if (!GRAVE[word] && word !== "hold") return act(what, fields);
-  form(`${capital(word)} batch ${id}?`, [GRAVE[word] && say(GRAVE[word]), noteField("Why")].filter(Boolean), capital(word),
-    (v) => command(what, noted(fields, v.note)), Boolean(GRAVE[word]));
+  bookingForm(`${capital(word)} batch ${id}?`, [GRAVE[word] && say(GRAVE[word]), noteField("Why")].filter(Boolean), capital(word),
+    (v, tell) => tell(what, noted(fields, v.note)), Boolean(GRAVE[word]));
 }
 function closeBatch(id) {
-  form(`Close batch ${id}?`, [say("A closed batch takes no more bookings, and its order is finished."), noteField()], "Close it",
-    (v) => command(`Batch ${id} closed`, noted({ do: "close_batch", batch: id }, v.note)));
+  bookingForm(`Close batch ${id}?`, [say("A closed batch takes no more bookings, and its order is finished."), noteField()], "Close it",
+    (v, tell) => tell(`Batch ${id} closed`, noted({ do: "close_batch", batch: id }, v.note)));
 }
 
 function materialsCard(batch) {
@@ -1107,10 +1142,10 @@ async function consume(batch, line) {
     amountField(line.unit, first ? Math.min(first.stock, left) : left),
     noteField(),
   ];
-  form(`Consume ${line.def} in ${batch.batch}`, fields.filter(Boolean), "Consume", (v) => {
+  bookingForm(`Consume ${line.def} in ${batch.batch}`, fields.filter(Boolean), "Consume", (v, tell) => {
     const [lot, sub] = (v.other || v.from).toUpperCase().split("/");
     const fields = { do: "consume", batch: batch.batch, lot, sub: Number(sub), amount: v.amount };
-    return command(`${grouped(v.amount)} ${line.unit} of ${lot} consumed`, noted(fields, v.note));
+    return tell(`${grouped(v.amount)} ${line.unit} of ${lot} consumed`, noted(fields, v.note));
   });
 }
 const PART_RULE = "([A-Za-z][A-Za-z0-9\\-]{0,23}/[0-9]{1,3})?";
@@ -1118,11 +1153,11 @@ const sayBooked = (line) => say(`Asked ${grouped(line.asked)} ${line.unit}, book
 
 function produce(batch, line) {
   const before = batch.produced.filter((it) => it.def === line.def).length;
-  form(`Produce ${line.def} of ${batch.batch}`,
+  bookingForm(`Produce ${line.def} of ${batch.batch}`,
     [sayBooked(line),
     idField("lot", "New lot", idOf(line.def, batch.batch, ...(before ? [before + 1] : []))),
     amountField(line.unit, Math.max(1, line.asked - line.booked)), placeField(), noteField()], "Produce",
-  (v) => command(`${grouped(v.amount)} ${line.unit} as ${v.lot} produced`,
+  (v, tell) => tell(`${grouped(v.amount)} ${line.unit} as ${v.lot} produced`,
     noted({ do: "produce", batch: batch.batch, lot: v.lot, def: line.def, amount: v.amount, place: v.place }, v.note)));
 }
 
@@ -1160,16 +1195,16 @@ function classTable({ id, name, definitions }, def) {
 }
 
 function newClass() {
-  form("New class", [say("A class is a group of materials, such as RAW or GOODS."), idField("group", "New class"),
+  bookingForm("New class", [say("A class is a group of materials, such as RAW or GOODS."), idField("group", "New class"),
     textField("name", "Name")], "Make it",
-  (v) => command(`Class ${v.group} made`, { do: "add_class", class: v.group, name: v.name }));
+  (v, tell) => tell(`Class ${v.group} made`, { do: "add_class", class: v.group, name: v.name }));
 }
 function newMaterial(classes) {
-  form("New material", [idField("def", "New material"), textField("name", "Name"),
+  bookingForm("New material", [idField("def", "New material"), textField("name", "Name"),
     selectField("group", "Class", classes.map((it) => ({ value: it.id, label: it.name ? `${it.id} (${it.name})` : it.id }))),
     textField("unit", "Unit in which it is counted, such as kg or pcs",
       { pattern: "[A-Za-z0-9]{1,8}", title: "1 to 8 letters and digits", required: true })], "Make it",
-  (v) => command(`Material ${v.def} made`, { do: "add_definition", def: v.def, class: v.group, name: v.name, unit: v.unit }));
+  (v, tell) => tell(`Material ${v.def} made`, { do: "add_definition", def: v.def, class: v.group, name: v.name, unit: v.unit }));
 }
 
 function lotsCard(known, lots) {
@@ -1226,38 +1261,38 @@ function oneLotCard(id, lot, known) {
 const sayPart = (part, unit) => say(`${part.lot}/${part.sub} at ${part.place || "no place"}: ${grouped(part.stock)} ${unit}`);
 
 function receive({ def, unit }) {
-  form(`Receive ${def}`, [idField("lot", "New lot"), amountField(unit), placeField(), noteField()], "Receive",
-    (v) => command(`${grouped(v.amount)} ${unit} as ${v.lot} received`,
+  bookingForm(`Receive ${def}`, [idField("lot", "New lot"), amountField(unit), placeField(), noteField()], "Receive",
+    (v, tell) => tell(`${grouped(v.amount)} ${unit} as ${v.lot} received`,
       noted({ do: "receive", lot: v.lot, def, amount: v.amount, place: v.place }, v.note)));
 }
 function scrap(part, unit) {
-  form(`Scrap of ${part.lot}`, [sayPart(part, unit), amountField(unit), noteField("Why")], "Scrap",
-    (v) => command(`${grouped(v.amount)} ${unit} of ${part.lot} scrapped`,
+  bookingForm(`Scrap of ${part.lot}`, [sayPart(part, unit), amountField(unit), noteField("Why")], "Scrap",
+    (v, tell) => tell(`${grouped(v.amount)} ${unit} of ${part.lot} scrapped`,
       noted({ do: "scrap", lot: part.lot, sub: part.sub, amount: v.amount }, v.note)), true);
 }
 function divide(part, unit) {
-  form(`Divide ${part.lot}`, [sayPart(part, unit), say("The amount becomes another part of the same lot, at a place of its own."),
+  bookingForm(`Divide ${part.lot}`, [sayPart(part, unit), say("The amount becomes another part of the same lot, at a place of its own."),
     amountField(unit), placeField("New place"), noteField()], "Divide",
-    (v) => command(`${grouped(v.amount)} ${unit} of ${part.lot} brought to ${v.place || "no place"}`,
+    (v, tell) => tell(`${grouped(v.amount)} ${unit} of ${part.lot} brought to ${v.place || "no place"}`,
       noted({ do: "divide", lot: part.lot, sub: part.sub, amount: v.amount, place: v.place }, v.note)));
 }
 function split(part, unit) {
-  form(`Split ${part.lot}`, [sayPart(part, unit), say("The amount becomes a lot of its own."), amountField(unit), idField("new", "New lot"),
+  bookingForm(`Split ${part.lot}`, [sayPart(part, unit), say("The amount becomes a lot of its own."), amountField(unit), idField("new", "New lot"),
     placeField(), noteField()], "Split",
-    (v) => command(`${grouped(v.amount)} ${unit} of ${part.lot} split off as ${v.new}`,
+    (v, tell) => tell(`${grouped(v.amount)} ${unit} of ${part.lot} split off as ${v.new}`,
       noted({ do: "split", lot: part.lot, sub: part.sub, amount: v.amount, new: v.new, place: v.place }, v.note)));
 }
 function merge(unit) {
   const parts = [...chosen.values()];
   const label = (it) => `Of ${it.lot}/${it.sub} at ${it.place || "no place"}, ${unit}`;
   const amounts = parts.map((it, k) => ({ ...amountField(unit, it.stock), name: "part" + k, label: label(it) }));
-  const take = async (v) => {
+  const take = async (v, tell) => {
     const taken = parts.map((it, k) => ({ lot: it.lot, sub: it.sub, amount: v["part" + k] }));
-    const wrong = await command(`Merged as ${v.new}`, noted({ do: "merge", new: v.new, place: v.place, parts: taken }, v.note));
+    const wrong = await tell(`Merged as ${v.new}`, noted({ do: "merge", new: v.new, place: v.place, parts: taken }, v.note));
     if (!wrong) { chosen.clear(); show(); }
     return wrong;
   };
-  form(`Merge ${counted(parts.length, "part", "parts")}`, [...amounts, idField("new", "New lot"), placeField(), noteField()], "Merge", take);
+  bookingForm(`Merge ${counted(parts.length, "part", "parts")}`, [...amounts, idField("new", "New lot"), placeField(), noteField()], "Merge", take);
 }
 
 // ---- The view of quality: a lot, a batch or a recall, and the recalls that are open
@@ -1335,26 +1370,26 @@ function ledgerCard(id, ledger, unit) {
 // A word of the clock, by which the ids of holds and recalls differ.
 const stampWord = () => clock().toString(36).toUpperCase();
 function hold(id) {
-  form(`Hold lot ${id}`, [say("It can't be consumed, split or merged until the hold is taken away."),
+  bookingForm(`Hold lot ${id}`, [say("It can't be consumed, split or merged until the hold is taken away."),
     idField("hold", "New hold", idOf("H", stampWord())), noteField("Why")], "Hold",
-    (v) => command(`Lot ${id} is on hold`, noted({ do: "hold", lot: id, hold: v.hold }, v.note)));
+    (v, tell) => tell(`Lot ${id} is on hold`, noted({ do: "hold", lot: id, hold: v.hold }, v.note)));
 }
 function unhold(id, name) {
-  form(`Let lot ${id} go?`, [say(`Hold ${name} is taken away.`), noteField("Why")], "Let go",
-    (v) => command(`Hold ${name} of ${id} is taken away`, noted({ do: "unhold", lot: id, hold: name }, v.note)));
+  bookingForm(`Let lot ${id} go?`, [say(`Hold ${name} is taken away.`), noteField("Why")], "Let go",
+    (v, tell) => tell(`Hold ${name} of ${id} is taken away`, noted({ do: "unhold", lot: id, hold: name }, v.note)));
 }
 function recall(id, forward) {
   const lots = forward.nodes.filter((it) => it.lot).length, batches = forward.nodes.length - lots;
   const reaches = `It reaches ${counted(lots, "lot", "lots")} and ${counted(batches, "batch", "batches")} now, and all that comes of them.`;
   const fields = [say(`${reaches} No lot of these can be consumed, split or merged until the recall is lifted.`),
     idField("recall", "New recall", idOf("RC", stampWord())), noteField("Why")];
-  form(`Recall lot ${id}`, fields, "Recall",
-    (v) => command(`Lot ${id} is recalled`, noted({ do: "recall", recall: v.recall, lot: id }, v.note)), true);
+  bookingForm(`Recall lot ${id}`, fields, "Recall",
+    (v, tell) => tell(`Lot ${id} is recalled`, noted({ do: "recall", recall: v.recall, lot: id }, v.note)), true);
 }
 function lift(it) {
   const text = `Lot ${it.lot} and all that came of it is free again, but for other recalls and holds. A lifted recall stays lifted.`;
-  form(`Lift recall ${it.recall}?`, [say(text), noteField("Why")], "Lift",
-    (v) => command(`Recall ${it.recall} is lifted`, noted({ do: "lift", recall: it.recall }, v.note)));
+  bookingForm(`Lift recall ${it.recall}?`, [say(text), noteField("Why")], "Lift",
+    (v, tell) => tell(`Recall ${it.recall} is lifted`, noted({ do: "lift", recall: it.recall }, v.note)));
 }
 
 async function recallCards(id, recalls) {

@@ -4,7 +4,7 @@ ghost use Rattle.std.specs.Prelude.{◌≡◌, ◌≤◌, length};
 /// The value of the field Content-Security-Policy that the page is served with: its own style and script and what the same server answers, and
 /// nothing else.
 pub const POLICY: &str =
-    "default-src 'none'; script-src 'sha256-bcDKfJ+vXz53VSiV7F55LIkWCL/jHtZdGljphEI0BmU='; style-src 'sha256-8gFX0GpAW/zLYecbYkO1PLJ2U55zMz6x5z5fzPI0R78='; connect-src 'self'; img-src data:; base-uri 'none'; form-action 'none'; frame-ancestors 'none'";
+    "default-src 'none'; script-src 'sha256-cVFzB82O3CPsvcQfM2MRNWtH2R95rZ6m3k181AsBbVk='; style-src 'sha256-WHEa5s3ZjJT/5LbaryRIQlY/jHJ6G2+ZnOfk4EkroBM='; connect-src 'self'; img-src data:; base-uri 'none'; form-action 'none'; frame-ancestors 'none'";
 
 /// The policy of the page, at most 400 bytes.
 pub fn policy_text() -> &'static str

@@ -6,7 +6,7 @@ ghost use Rattle.desk_program.specs.Performs.{after_closing};
 ghost use Rattle.desk.specs.Worked.{ExitsOver};
 
 use crate::working::do_work;
-use desk_cli::{Words, Work};
+use desk_cli::{Task, Words, Work};
 use desk_file::{Ended, StoreWork, Worked, work_over};
 use desk_program::{Fault, Performed, after_closing, write_opening, write_outcome};
 use sqlite::{Alter, Connection, FileFrom, FileStore, Start};
@@ -47,7 +47,9 @@ pub(crate) fn perform_over<S: Start>(rt: &HostRuntime, words: &Words<'_>, start:
     ensures file { words.now.file.now ≢ in_memory
         → ExitsOver ⟦<FileStore<FileFrom<S>> as Store>⟧ words.now.work result }
 {
-    match work_over(rt, words.file, start, DeskWork(words.work)) {
+    // That a file is made by another word may come of a slip in its name.
+    let is_wanted = matches!(words.work, Work::Task(Task::Init));
+    match work_over(rt, words.file, is_wanted, start, DeskWork(words.work)) {
         Ok(ended) => write_outcome(outcome_of(ended), &mut rt.stderr()),
         Err(refused) => write_opening(&refused.error, &mut rt.stderr()),
     }

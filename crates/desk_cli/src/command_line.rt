@@ -126,7 +126,7 @@ fn at_argument<'a>(alloc: Global) -> Arg<'a>
     Arg::new(alloc, "at")
         .long("at")
         .required(true)
-        .value_name("N")
+        .value_name("SECONDS")
         .help("When the orders came, in seconds since 1970-01-01T00:00:00Z")
         .value_parser(value_parser!(u64).range(..=GREATEST_MOMENT as i64))
 }

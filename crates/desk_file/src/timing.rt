@@ -60,9 +60,13 @@ impl<'a> Progress<'a> {
         progress
     }
 
-    /// Tells that the file is open, where that took long.
-    pub(crate) fn note_opened(self) {
-        if is_long(seconds_since(self.rt, self.began)) {
+    /// Tells that the file is open, where that took long; and that it was made, where that may come of a slip in its name.
+    pub(crate) fn note_opened(self, file: &str, is_slip: bool) {
+        let rt = self.rt;
+        if is_slip && rt.stderr().is_terminal() {
+            let _ = eprintln!(rt; "new desk: {file}");
+        }
+        if is_long(seconds_since(rt, self.began)) {
             self.write_report(Stage::Tables);
         }
     }

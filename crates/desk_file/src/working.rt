@@ -13,6 +13,7 @@ use sql_queries::{open_file, open_in_memory};
 use sqlite::{Alter, Connection, Error, ErrorCode, FileFrom, FileStore, MemStore, Start};
 use sqlite_trees::store::Store;
 use std::alloc::AllocError;
+use std::fs;
 
 /// Work over an opened store, whichever it is.
 ///
@@ -77,13 +78,15 @@ fn is_in_memory(file: &str) -> bool
 }
 
 /// Opens the file, which is made where it isn't there, does the work over it, and closes it: what its log holds is copied into it, so that
-/// the file alone holds what the work left. The file `:memory:` is a new store in memory. Where the opening takes long a terminal is told how far it is.
+/// the file alone holds what the work left. The file `:memory:` is a new store in memory. Where the opening takes long a terminal is told how far it is,
+/// and where a file is made that isn't wanted new, that it is.
 ///
 /// `start` represents what the file holds before it is opened, whatever that is. The error is that of a store that didn't open, and
 /// gives the work back: it wasn't done.
 pub fn work_over<W: StoreWork, S: Start>(
     rt: &HostRuntime,
     file: &str,
+    is_wanted_new: bool,
     start: S,
     work: W,
 ) -> Result<Ended<W::Outcome>, OpenRefused<W>>
@@ -104,17 +107,23 @@ pub fn work_over<W: StoreWork, S: Start>(
             }),
         };
     }
+    let is_slip = may_be_slip(rt, file, is_wanted_new);
     if let Err(error) = make_missing(rt, file) {
         return Err(OpenRefused { error, work });
     }
     let progress = Progress::begin(rt, file);
     match open_file(rt, file, start) {
         Ok(connection) => {
-            progress.note_opened();
+            progress.note_opened(file, is_slip);
             Ok(work_in_file(rt, work, connection))
         }
         Err(error) => Err(OpenRefused { error, work }),
     }
+}
+
+/// Whether nothing has the name of a file that isn't wanted new, as where there is a slip in the name.
+fn may_be_slip(rt: &HostRuntime, file: &str, is_wanted_new: bool) -> bool {
+    !is_wanted_new && matches!(fs::exists(rt, file), Ok(false))
 }
 
 /// The error of a store in memory that doesn't open: memory was refused.

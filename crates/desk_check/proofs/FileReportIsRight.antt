@@ -108,7 +108,7 @@ reported_on db (held.Newer n) s held reported = subst (IsFileReportOf db) (sym r
 reported_on db held.Lacking s held reported = subst (IsFileReportOf db) (sym reported) held
 reported_on db (held.Tables x bars) (file_report.Nothing barred) held reported = absurd reported
 reported_on db (held.Tables x bars) (file_report.Newer n) held reported = absurd reported
-reported_on db (held.Tables x bars) file_report.Lacking held reported = absurd reported
+reported_on db (held.Tables x bars) (file_report.Lacking b) held reported = absurd reported
 reported_on db (held.Tables x bars) (file_report.Desk summary barred findings) held reported = record { loaded = x; rows = subst (HoldsRows db x) (sym reported.1) held; reported = reported.0 }
 
 by_first : (db : Database) (x : Loaded) (barred : Option DeskIndex) (o : Option Rule) → HoldsRows db x barred → o ≡ first_broken x → IfSome o (IsDamaged db)
@@ -118,7 +118,7 @@ by_first db x barred (Some r) rows is = rows_damaged db x barred r rows (sym is)
 pub first_damaged : (db : Database) (s : FileReport) → IsFileReportOf db s → IfSome (first_reported s) (IsDamaged db)
 first_damaged db (file_report.Nothing barred) reported = tt
 first_damaged db (file_report.Newer n) reported = tt
-first_damaged db file_report.Lacking reported = reported
+first_damaged db (file_report.Lacking b) reported = reported
 first_damaged db (file_report.Desk summary barred findings) reported =
     by_first db reported.loaded barred (first_rule findings) reported.rows (first_found reported.loaded findings reported.reported.breaks)
 

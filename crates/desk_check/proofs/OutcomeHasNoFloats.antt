@@ -57,7 +57,8 @@ of_file_report : (s : Option FileReport) → has_float (file_report_data s) ≡ 
 of_file_report None = refl
 of_file_report (Some (file_report.Nothing barred)) = refl
 of_file_report (Some (file_report.Newer n)) = refl
-of_file_report (Some file_report.Lacking) = refl
+of_file_report (Some (file_report.Lacking None)) = refl
+of_file_report (Some (file_report.Lacking (Some b))) = refl
 of_file_report (Some (file_report.Desk summary barred found)) = rw (of_findings found) refl
 
 of_index : (i : Option DeskIndex) → has_float (index_data i) ≡ false
@@ -68,7 +69,7 @@ of_taken : (s : Option FileReport) → has_float (taken_data s) ≡ false
 of_taken None = refl
 of_taken (Some (file_report.Nothing barred)) = of_index barred
 of_taken (Some (file_report.Newer n)) = refl
-of_taken (Some file_report.Lacking) = refl
+of_taken (Some (file_report.Lacking b)) = refl
 of_taken (Some (file_report.Desk summary barred found)) = of_index barred
 
 of_sentence : (reported : Option (List ℕ)) → has_float (sentence_data reported) ≡ false

@@ -85,14 +85,14 @@ pub record IsDesk (x : Loaded) (summary : DeskSummary) (found : Findings) : Type
 abbrev pub ReportsDesk : Loaded → Option DeskIndex → FileReport → Type 0
 ReportsDesk x bars (file_report.Nothing barred) = ⊥
 ReportsDesk x bars (file_report.Newer n) = ⊥
-ReportsDesk x bars file_report.Lacking = ⊥
+ReportsDesk x bars (file_report.Lacking b) = ⊥
 ReportsDesk x bars (file_report.Desk summary barred found) = IsDesk x summary found × (barred ≡ bars)
 
 -- this is told of what is held
 abbrev pub IsReportOf : Held → FileReport → Type 0
 IsReportOf (held.Nothing barred) s = s ≡ file_report.Nothing barred
 IsReportOf (held.Newer n) s = s ≡ file_report.Newer n
-IsReportOf held.Lacking s = s ≡ file_report.Lacking
+IsReportOf held.Lacking s = s ≡ file_report.Lacking None
 IsReportOf (held.Tables x barred) s = ReportsDesk x barred s
 
 -- the database has such rows
@@ -105,12 +105,12 @@ pub record HoldsDesk (db : Database) (summary : DeskSummary) (barred : Option De
 abbrev pub IsFileReportOf : Database → FileReport → Type 0
 IsFileReportOf db (file_report.Nothing barred) = AreFree desk_table_defs db.schema × (barred ≡ barred_index db.schema 0)
 IsFileReportOf db (file_report.Newer n) = IsVersion db (pos n) × (newest_schema < n)
-IsFileReportOf db file_report.Lacking = IsDamaged db rule.Tables
+IsFileReportOf db (file_report.Lacking b) = IsDamaged db rule.Tables
 IsFileReportOf db (file_report.Desk summary barred found) = HoldsDesk db summary barred found
 
 -- the first rule that is told
 abbrev pub first_reported : FileReport → Option Rule
 first_reported (file_report.Nothing barred) = None
 first_reported (file_report.Newer n) = None
-first_reported file_report.Lacking = Some rule.Tables
+first_reported (file_report.Lacking b) = Some rule.Tables
 first_reported (file_report.Desk summary barred found) = first_rule found

@@ -6,3 +6,4 @@ pub mod Rooms
 pub mod Outcomes
 pub mod Objects
 pub mod Endings
+pub mod Bound

@@ -20,6 +20,7 @@ use Rattle.desk_check.specs.Barred.{index_name}
 use Rattle.desk_check.specs.OpenErrors.{open_error_name, cause_text, advice_text}
 use Rattle.desk_check.specs.Reports.{found_in}
 use Rattle.desk_check.specs.declared.barred.DeskIndex.{DeskIndex}
+use Rattle.desk_check.specs.declared.bound.Binder.{Binder}
 use Rattle.desk_check.specs.declared.open_error.OpenError.{OpenError}
 use Rattle.desk_check.specs.declared.outcome.Outcome.{Outcome}
 use Rattle.desk_check.specs.declared.file_report.DeskSummary.{DeskSummary}
@@ -93,11 +94,16 @@ desk_data s found = object
     (member (codes "schema") (count s.schema)
     (member (codes "seq") (count s.seq) no_members))))))))
 
+-- the name of what keeps a table from standing
+abbrev pub bound_data : Option Binder → Data
+bound_data None = null
+bound_data (Some b) = string b.name
+
 abbrev pub file_report_data : Option FileReport → Data
 file_report_data None = null
 file_report_data (Some (file_report.Nothing barred)) = null
 file_report_data (Some (file_report.Newer n)) = object (member (codes "newer") (count n) no_members)
-file_report_data (Some file_report.Lacking) = object (member (codes "broken") (findings_data findings.NoMeta) no_members)
+file_report_data (Some (file_report.Lacking b)) = object (member (codes "bound") (bound_data b) (member (codes "broken") (findings_data findings.NoMeta) no_members))
 file_report_data (Some (file_report.Desk summary barred found)) = desk_data summary found
 
 abbrev pub index_data : Option DeskIndex → Data
@@ -108,7 +114,7 @@ abbrev pub taken_data : Option FileReport → Data
 taken_data None = null
 taken_data (Some (file_report.Nothing barred)) = index_data barred
 taken_data (Some (file_report.Newer n)) = null
-taken_data (Some file_report.Lacking) = null
+taken_data (Some (file_report.Lacking b)) = null
 taken_data (Some (file_report.Desk summary barred found)) = index_data barred
 
 -- ---- the whole, with the toolkit's own sentence, where there is one

@@ -40,7 +40,7 @@ status_unless (Some i) status = 3
 abbrev pub file_report_status : FileReport → ℕ
 file_report_status (file_report.Nothing barred) = status_unless barred 1
 file_report_status (file_report.Newer n) = 3
-file_report_status file_report.Lacking = 3
+file_report_status (file_report.Lacking b) = 3
 file_report_status (file_report.Desk summary barred found) = status_unless barred (findings_status found)
 
 abbrev pub held_status : Option FileReport → ℕ

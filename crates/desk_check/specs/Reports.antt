@@ -15,6 +15,8 @@ use Rattle.plant_check_rows.specs.declared.finding.Tested.{Tested}
 use Rattle.desk_check.specs.Barred.{index_name}
 use Rattle.desk_check.specs.OpenErrors.{cause_text, advice_text}
 use Rattle.desk_check.specs.declared.barred.DeskIndex.{DeskIndex}
+use Rattle.desk_check.specs.declared.bound.Binder.{Binder}
+use Rattle.plant_check_rows.specs.Naming.{table_name}
 use Rattle.desk_check.specs.declared.open_error.OpenError.{OpenError}
 use Rattle.desk_check.specs.declared.file_report.DeskSummary.{DeskSummary}
 use Rattle.desk_check.specs.declared.file_report.FileReport.{FileReport}
@@ -74,13 +76,22 @@ abbrev pub nothing_text : Option DeskIndex → List ℕ
 nothing_text None = with_lf (codes "It holds no desk: the next word of the desk over it makes one.")
 nothing_text (Some i) = with_lf (codes "It holds no desk, and none can be made in it.") ++ with_lf (index_text i)
 
+-- what somebody else gave a table of the desk
+abbrev pub binder_text : Binder → List ℕ
+binder_text b =
+    codes "table " ++ (table_name b.table ++ (codes ": somebody else's trigger or index " ++ (b.name ++ codes " keeps it from standing as it is declared: drop it with sqlite3.")))
+
+abbrev pub bound_text : Option Binder → List ℕ
+bound_text None = []
+bound_text (Some b) = with_lf (binder_text b)
+
 abbrev pub desk_text : DeskSummary → List ℕ
 desk_text s = with_lf (summary_text s) ++ with_lf (counts_text s)
 
 abbrev pub file_report_text : FileReport → List ℕ
 file_report_text (file_report.Nothing barred) = nothing_text barred
 file_report_text (file_report.Newer schema) = with_lf (newer_text schema)
-file_report_text file_report.Lacking = with_lf (rule_line rule.Tables)
+file_report_text (file_report.Lacking b) = with_lf (rule_line rule.Tables) ++ bound_text b
 file_report_text (file_report.Desk summary barred found) = desk_text summary ++ (findings_text found ++ barred_text barred)
 
 abbrev pub open_error_text : OpenError → List ℕ

@@ -8,6 +8,7 @@ ghost use Rattle.desk_check.specs.FileReports.{IsHeldBy, IsHeldIn, IsReadAs, IsR
 ghost use Rattle.desk_check.specs.FileReports.{ReportsDesk, first_reported, summary_of};
 
 use crate::barred::{DeskIndex, barred_index};
+use crate::bound::Binder;
 use plant_base::{Meta, NEWEST_SCHEMA};
 use plant_check_rows::{Findings, test_loaded};
 use plant_tables_read::{FoundTables, Loaded, found, only_meta};
@@ -48,8 +49,9 @@ pub(crate) enum FileReport {
     Nothing(Option<DeskIndex>),
     /// It holds one in tables of this schema, which is above the newest.
     Newer(u64),
-    /// It holds some of a desk's tables: not all are there that its schema asks for, or they don't stand as they are declared.
-    Lacking,
+    /// It holds some of a desk's tables: not all are there that its schema asks for, or they don't stand as they are declared; and what keeps one
+    /// from standing, where that is known.
+    Lacking(Option<Binder>),
     /// It holds a desk, which breaks these rules; and this index can't be made as it is raised, where there is such.
     Desk {
         summary: DeskSummary,
@@ -179,7 +181,7 @@ fn file_report_of(alloc: Global, held: &Held) -> Result<FileReport, Fault>
     match held {
         Held::Nothing(barred) => Ok(FileReport::Nothing(*barred)),
         Held::Newer(schema) => Ok(FileReport::Newer(*schema)),
-        Held::Lacking => Ok(FileReport::Lacking),
+        Held::Lacking => Ok(FileReport::Lacking(None)),
         Held::Tables(loaded, barred) => match report_on_rows(alloc, loaded, *barred) {
             Ok(file_report) => Ok(file_report),
             Err(_) => Err(Fault::Memory),

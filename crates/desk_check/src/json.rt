@@ -10,6 +10,7 @@ ghost use Rattle.desk_check.specs.OpenErrors.{HasWords, HasWordsOf, error_of};
 ghost use Rattle.desk_check.specs.Outcomes.{WritesObject};
 
 use crate::barred::DeskIndex;
+use crate::bound::Binder;
 use crate::ending::ReportError;
 use crate::file_report::{DeskSummary, FileReport};
 use crate::open_error::OpenError;
@@ -156,11 +157,22 @@ fn desk_value(
 }
 
 /// What is told of a desk whose tables don't stand.
-fn lacking_value(alloc: Global) -> Result<Value, AllocError>
-    ensures { IfOk result (λ v. view v ≡ spec.file_report_data (Some FileReport.Lacking)) }
+fn lacking_value(alloc: Global, binder: Option<Binder>) -> Result<Value, AllocError>
+    ensures { IfOk result (λ v. view v ≡ spec.file_report_data (Some (FileReport.Lacking binder))) }
 {
+    let bound = bound_value(alloc, binder)?;
     let broken = findings_value(alloc, &Findings::NoMeta)?;
-    json!(in alloc; {"broken": broken})
+    json!(in alloc; {"bound": bound, "broken": broken})
+}
+
+/// The name of what keeps a table from standing, where that is known.
+fn bound_value(alloc: Global, binder: Option<Binder>) -> Result<Value, AllocError>
+    ensures { IfOk result (λ v. view v ≡ spec.bound_data binder) }
+{
+    match binder {
+        None => Ok(Value::Null),
+        Some(binder) => json!(in alloc; (binder.name.as_str())),
+    }
 }
 
 fn file_report_value(alloc: Global, file_report: &Option<FileReport>) -> Result<Value, AllocError>
@@ -169,7 +181,7 @@ fn file_report_value(alloc: Global, file_report: &Option<FileReport>) -> Result<
     match file_report {
         None | Some(FileReport::Nothing(_)) => Ok(Value::Null),
         Some(FileReport::Newer(schema)) => json!(in alloc; {"newer": (*schema)}),
-        Some(FileReport::Lacking) => lacking_value(alloc),
+        Some(FileReport::Lacking(binder)) => lacking_value(alloc, *binder),
         Some(
             FileReport::Desk {
                 summary,
@@ -196,7 +208,7 @@ fn taken_value(alloc: Global, file_report: &Option<FileReport>) -> Result<Value,
     match file_report {
         Some(FileReport::Nothing(barred)) => index_value(alloc, *barred),
         Some(FileReport::Desk { barred, .. }) => index_value(alloc, *barred),
-        None | Some(FileReport::Newer(_)) | Some(FileReport::Lacking) => Ok(Value::Null),
+        None | Some(FileReport::Newer(_)) | Some(FileReport::Lacking(_)) => Ok(Value::Null),
     }
 }
 

@@ -3,6 +3,7 @@
 #![tactic(auto)]
 
 mod barred;
+mod bound;
 mod copying;
 mod ending;
 mod file_report;

@@ -2,6 +2,7 @@
 ghost use Rattle.std.specs.Prelude.{IfOk, IsTrue};
 ghost use Rattle.sqlite_disk.specs.Memory.{memory_is_usable};
 
+use crate::bound::with_binder;
 use crate::file_report::{FileReport, report_on_store};
 use crate::open_error::{OpenError, open_error_in, open_error_of};
 use sqlite::{Connection, FileStore, Files, Options};
@@ -45,7 +46,7 @@ pub(crate) fn report_on_bytes(
 ) -> Result<FileReport, OpenError> {
     let mut connection = store_over(alloc, log, db)?;
     match report_on_store(alloc, &mut connection) {
-        Ok(file_report) => Ok(file_report),
+        Ok(file_report) => Ok(with_binder(file_report, connection.schema())),
         Err(fault) => Err(open_error_in(fault)),
     }
 }

@@ -80,7 +80,7 @@ fn file_report_status(file_report: &FileReport) -> u8
 {
     match file_report {
         FileReport::Nothing(barred) => status_unless(*barred, 1),
-        FileReport::Newer(_) | FileReport::Lacking => 3,
+        FileReport::Newer(_) | FileReport::Lacking(_) => 3,
         FileReport::Desk {
             barred,
             findings,

@@ -7,6 +7,7 @@ ghost use Rattle.desk_check.specs.Outcomes.{WritesOpening};
 ghost use Rattle.desk_check.specs.Reports as spec;
 
 use crate::barred::DeskIndex;
+use crate::bound::Binder;
 use crate::ending::ReportError;
 use crate::file_report::{DeskSummary, FileReport};
 use crate::open_error::OpenError;
@@ -118,6 +119,19 @@ impl fmt::Display for TakenName {
         write!(
             f,
             "Something else has the name {name}, which the desk needs for an index: give it another name with sqlite3."
+        )
+    }
+}
+
+impl fmt::Display for Binder {
+    ghost output = { λ binder. Some (spec.binder_text binder) };
+
+    fn fmt<W: fmt::Write>(&self, f: &mut fmt::Formatter<W>) -> fmt::Result {
+        let table = self.table.name();
+        let name = self.name.as_str();
+        write!(
+            f,
+            "table {table}: somebody else's trigger or index {name} keeps it from standing as it is declared: drop it with sqlite3."
         )
     }
 }
@@ -249,6 +263,34 @@ fn write_nothing<W: Write>(
     }
 }
 
+/// Tells what keeps a table of the desk from standing, where that is known.
+fn write_bound<W: Write>(
+    alloc: Global,
+    writer: &mut W,
+    binder: Option<Binder>,
+) -> Result<(), ReportError>
+    ensures { OnOk result (Appends (W.contents writer.old) (W.contents writer.new)
+        (spec.bound_text binder)) }
+{
+    match binder {
+        None => Ok(()),
+        Some(binder) => write_shown(alloc, writer, &binder),
+    }
+}
+
+/// Tells that a desk's tables don't stand, and what keeps one from it.
+fn write_lacking<W: Write>(
+    alloc: Global,
+    writer: &mut W,
+    binder: Option<Binder>,
+) -> Result<(), ReportError>
+    ensures { OnOk result (Appends (W.contents writer.old) (W.contents writer.new)
+        (with_lf (spec.rule_line Rule.Tables) ++ spec.bound_text binder)) }
+{
+    write_shown(alloc, writer, &BrokenRule(Rule::Tables))?;
+    write_bound(alloc, writer, binder)
+}
+
 /// Tells where a desk stands, and how many rows it has.
 fn write_summary<W: Write>(
     alloc: Global,
@@ -288,7 +330,7 @@ pub(crate) fn write_file_report<W: Write>(
     match file_report {
         FileReport::Nothing(barred) => write_nothing(alloc, writer, *barred),
         FileReport::Newer(schema) => write_shown(alloc, writer, &Later(*schema)),
-        FileReport::Lacking => write_shown(alloc, writer, &BrokenRule(Rule::Tables)),
+        FileReport::Lacking(binder) => write_lacking(alloc, writer, *binder),
         FileReport::Desk {
             summary,
             barred,

@@ -13,5 +13,8 @@ pub mod Numbers
 pub mod Edges
 pub mod Receipts
 pub mod Recalls
+pub mod ValueRules
+pub mod ColumnRules
+pub mod Stored
 pub mod Values
 pub mod Findings

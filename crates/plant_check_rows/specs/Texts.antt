@@ -1,5 +1,6 @@
 -- The texts of rows that break rules.
 use Rattle.std.specs.Prelude.{ℕ, ◌-◌, nat_lt, if◌then◌else◌, List, ◌++◌, codes, decimal, Option, Some, None}
+use Rattle.std.specs.Fmt.{signed_decimal}
 use Rattle.plant_base.specs.Refusals.{name_of}
 use Rattle.plant_base.specs.Words.{batch_state_name, job_state_name}
 use Rattle.plant_tables_columns.specs.declared.booked.MovementKindCode.{MovementKindCode}
@@ -13,6 +14,8 @@ use Rattle.plant_check_rows.specs.declared.fault.Found.TheVariants as found
 use Rattle.plant_check_rows.specs.declared.fault.Wanted.{Wanted}
 use Rattle.plant_check_rows.specs.declared.fault.Wanted.TheVariants as wanted
 use Rattle.plant_check_rows.specs.declared.fault.RowFault.{RowFault}
+use Rattle.plant_check_rows.specs.declared.value_rule.ValueRule.{ValueRule}
+use Rattle.plant_check_rows.specs.declared.value_rule.ValueRule.TheVariants as rule
 
 abbrev pub key_text : Key → List ℕ
 key_text (key.Id id) = id
@@ -40,6 +43,13 @@ found_text (found.Number n) = decimal n
 found_text (found.Order s) = job_state_name s
 found_text (found.State s) = batch_state_name s
 found_text (found.Sort s) = kind_code_name s
+found_text (found.Integer n) = signed_decimal n
+found_text (found.Text text) = codes "'" ++ text ++ codes "'"
+found_text found.LongText = codes "a text of more than 60 bytes"
+found_text found.OtherText = codes "a text with a byte that isn't from the space to ~"
+found_text found.Real = codes "a real number"
+found_text found.Blob = codes "a blob"
+found_text found.Null = codes "NULL"
 found_text found.Row = codes "the row"
 found_text found.Nothing = codes "no row"
 
@@ -72,6 +82,30 @@ stock_text entered left = if nat_lt entered left
     then codes "no less to have left than entered: " ++ decimal entered ++ codes " entered and " ++ decimal left ++ codes " left"
     else decimal (entered - left) ++ codes ", for " ++ decimal entered ++ codes " entered and " ++ decimal left ++ codes " left"
 
+-- what a rule asks for, where that is always the same
+abbrev pub plain_rule : ValueRule → List ℕ
+plain_rule rule.Id = codes "an id"
+plain_rule rule.IdOrNull = codes "an id or NULL"
+plain_rule rule.IdOrEmpty = codes "an id or the empty text"
+plain_rule rule.Text = codes "a text of at most 60 bytes from the space to ~"
+plain_rule rule.TextOrNull = codes "a text of at most 60 bytes from the space to ~, or NULL"
+plain_rule rule.AnyText = codes "a text"
+plain_rule rule.Unit = codes "a unit of 1 to 8 letters and digits"
+plain_rule rule.Due = codes "a date as 2026-11-30, of the years 2000 to 2099"
+plain_rule rule.Whole = codes "a whole number"
+plain_rule rule.RecipeState = codes "draft, approved or withdrawn"
+plain_rule rule.JobState = codes "open, cancelled, released or finished"
+plain_rule rule.BatchState = codes "idle, running, complete, pausing, paused, holding, held, restarting, stopping, stopped, aborting or aborted"
+plain_rule rule.RecallState = codes "open or lifted"
+plain_rule rule.EventWord = codes "start, stop, hold, restart, abort, reset, pause, resume, done, phase or close"
+plain_rule (rule.Number low high) = codes ""
+plain_rule (rule.NumberOrNull low high) = codes ""
+
+abbrev pub rule_text : ValueRule → List ℕ
+rule_text (rule.Number low high) = codes "a whole number from " ++ decimal low ++ codes " to " ++ decimal high
+rule_text (rule.NumberOrNull low high) = codes "a whole number from " ++ decimal low ++ codes " to " ++ decimal high ++ codes ", or NULL"
+rule_text r = plain_rule r
+
 abbrev pub wanted_text : Wanted → List ℕ
 wanted_text (wanted.Key t) = codes "the key of a row of table " ++ table_name t ++ codes ", one that fits"
 wanted_text (wanted.Stock entered left) = stock_text entered left
@@ -84,6 +118,7 @@ wanted_text (wanted.Given greatest) = codes "the number of a command, 1 to " ++ 
 wanted_text (wanted.NotAfter at) = codes "no moment after " ++ decimal at ++ codes ", which is the desk's"
 wanted_text (wanted.NotBefore at) = codes "no moment before " ++ decimal at ++ codes ", which stands with a lower number"
 wanted_text (wanted.EdgeOf seq line) = codes "the edge that movement " ++ decimal seq ++ codes " " ++ decimal line ++ codes " makes"
+wanted_text (wanted.Value r) = rule_text r
 wanted_text w = plain_wanted w
 
 abbrev pub column_text : Option Column → List ℕ

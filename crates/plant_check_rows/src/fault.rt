@@ -2,7 +2,8 @@
 ghost use Rattle.std.specs.Prelude.{◌≡◌};
 ghost use Rattle.plant_check_rows.specs.Naming.{column_name, table_name};
 
-use plant_base::{Amount, BatchState, Id, JobState, Refusal};
+use crate::value_rule::ValueRule;
+use plant_base::{Amount, BatchState, Id, JobState, Refusal, Text};
 use plant_tables_read::MovementKindCode;
 
 /// A table of the desk.
@@ -52,27 +53,57 @@ impl Table {
     }
 }
 
-/// A column of the desk's tables, of those that rules speak of alone.
+/// A column of the desk's tables.
 #[derive(Clone, Copy, Debug, PartialEq, Eq)]
 pub enum Column {
+    A,
+    Amount,
     At,
     Attempt,
+    B,
+    Base,
     Batch,
+    ByWho,
     Class,
     Closed,
     Content,
     Def,
+    Due,
+    High,
+    Id,
     Job,
     Kind,
+    LiftAt,
+    LiftBy,
+    LiftNote,
     Line,
     Lot,
+    Lot2,
+    Low,
+    Name,
     Next,
+    No,
+    Note,
+    Phase,
+    Place,
+    Priority,
     Product,
+    Qty,
+    Recall,
     Recipe,
     Seq,
     Size,
     State,
     Stock,
+    Sub,
+    Sub2,
+    T1,
+    T2,
+    T3,
+    Title,
+    Unit,
+    Version,
+    Word,
 }
 
 impl Column {
@@ -81,24 +112,54 @@ impl Column {
         ensures { result.now ≡ column_name self }
     {
         match self {
+            Column::A => "a",
+            Column::Amount => "amount",
             Column::At => "at",
             Column::Attempt => "attempt",
+            Column::B => "b",
+            Column::Base => "base",
             Column::Batch => "batch",
+            Column::ByWho => "by_who",
             Column::Class => "class",
             Column::Closed => "closed",
             Column::Content => "content",
             Column::Def => "def",
+            Column::Due => "due",
+            Column::High => "high",
+            Column::Id => "id",
             Column::Job => "job",
             Column::Kind => "kind",
+            Column::LiftAt => "lift_at",
+            Column::LiftBy => "lift_by",
+            Column::LiftNote => "lift_note",
             Column::Line => "line",
             Column::Lot => "lot",
+            Column::Lot2 => "lot2",
+            Column::Low => "low",
+            Column::Name => "name",
             Column::Next => "next",
+            Column::No => "no",
+            Column::Note => "note",
+            Column::Phase => "phase",
+            Column::Place => "place",
+            Column::Priority => "priority",
             Column::Product => "product",
+            Column::Qty => "qty",
+            Column::Recall => "recall",
             Column::Recipe => "recipe",
             Column::Seq => "seq",
             Column::Size => "size",
             Column::State => "state",
             Column::Stock => "stock",
+            Column::Sub => "sub",
+            Column::Sub2 => "sub2",
+            Column::T1 => "t1",
+            Column::T2 => "t2",
+            Column::T3 => "t3",
+            Column::Title => "title",
+            Column::Unit => "unit",
+            Column::Version => "version",
+            Column::Word => "word",
         }
     }
 }
@@ -140,6 +201,20 @@ pub enum Found {
     State(BatchState),
     /// The kind of a movement.
     Sort(MovementKindCode),
+    /// This whole number of the file.
+    Integer(i64),
+    /// This text of the file.
+    Text(Text),
+    /// A text of more than 60 bytes.
+    LongText,
+    /// A text of at most 60 bytes, not all of them from the space to `~`.
+    OtherText,
+    /// A real number.
+    Real,
+    /// A blob.
+    Blob,
+    /// NULL.
+    Null,
     /// The row as a whole.
     Row,
     /// No row.
@@ -208,6 +283,8 @@ pub enum Wanted {
     OwnNumber,
     /// One or more bytes from the space to `~` and LFs.
     Content,
+    /// A value that obeys this rule.
+    Value(ValueRule),
     /// Values that each obey their rule.
     Values,
 }

@@ -1,6 +1,7 @@
 //! The broken rules, each with the first row that breaks it.
 ghost use Rattle.std.specs.Prelude.{◌≡◌, IfOk, filter};
 ghost use Rattle.plant_tables_read.specs.Collecting.{rows_listed};
+ghost use Rattle.plant_check_rows.specs.Values.{AreUnreadIfBad};
 ghost use Rattle.plant_check_rows.specs.Findings as spec;
 ghost use Rattle.plant_check_rows.specs.Findings.{AreFindingsOf, IsFoundWhereBroken, IsFirstFound, IsTestOf};
 
@@ -244,7 +245,9 @@ pub fn test_loaded(alloc: Global, loaded: &Loaded) -> Result<Findings, AllocErro
 ///
 /// - `broken`: of rows whose values obey their rules each other rule is found exactly where they don't obey it.
 /// - `first`: the first rule that is found of loaded rows is the first that they break.
+/// - `unread`: no row is read of which a value breaks the rule of its column.
 pub fn findings_law()
     ensures broken { IsFoundWhereBroken }
     ensures first { IsFirstFound }
+    ensures unread { AreUnreadIfBad }
 {}

@@ -1,6 +1,7 @@
 //! The rows that break the rules of good tables: of each rule the first of them, with what stands there and what the rule wants.
 #![tactic(auto)]
 
+mod column_rules;
 mod edges;
 mod events;
 mod fault;
@@ -16,8 +17,11 @@ mod recalls;
 mod receipts;
 mod recipes;
 mod stocks;
+mod stored;
 mod texts;
+mod value_rule;
 mod values;
 
 pub use fault::{Column, Found, Key, RowFault, Table, Wanted};
 pub use finding::{Finding, Findings, Tested, findings_law, rule_text, test_loaded, test_rows};
+pub use value_rule::ValueRule;

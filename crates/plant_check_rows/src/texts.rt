@@ -1,9 +1,10 @@
 //! The texts of rows that break rules.
 ghost use Rattle.std.specs.Prelude.{◌≡◌, Some};
 ghost use Rattle.plant_check_rows.specs.Texts.{fault_text, found_text, key_text, plain_wanted};
-ghost use Rattle.plant_check_rows.specs.Texts.{kind_code_name, stock_text, wanted_text};
+ghost use Rattle.plant_check_rows.specs.Texts.{kind_code_name, plain_rule, rule_text, stock_text, wanted_text};
 
 use crate::fault::{Found, Key, RowFault, Wanted};
+use crate::value_rule::ValueRule;
 use plant_tables_read::MovementKindCode;
 use std::fmt;
 
@@ -86,6 +87,19 @@ impl fmt::Display for Found {
             Found::Order(state) => f.write_str(state.name()),
             Found::State(state) => f.write_str(state.name()),
             Found::Sort(kind_code) => f.write_str(kind_code_name(*kind_code)),
+            Found::Integer(number) => {
+                let number = *number;
+                write!(f, "{number}")
+            }
+            Found::Text(text) => {
+                let text = text.as_str();
+                write!(f, "'{text}'")
+            }
+            Found::LongText => f.write_str("a text of more than 60 bytes"),
+            Found::OtherText => f.write_str("a text with a byte that isn't from the space to ~"),
+            Found::Real => f.write_str("a real number"),
+            Found::Blob => f.write_str("a blob"),
+            Found::Null => f.write_str("NULL"),
             Found::Row => f.write_str("the row"),
             Found::Nothing => f.write_str("no row"),
         }
@@ -149,6 +163,53 @@ impl fmt::Display for StockText {
     }
 }
 
+/// What a rule asks for, where that is always the same.
+fn plain_rule(rule: ValueRule) -> &'static str
+    ensures { result.now ≡ plain_rule rule }
+{
+    match rule {
+        ValueRule::Id => "an id",
+        ValueRule::IdOrNull => "an id or NULL",
+        ValueRule::IdOrEmpty => "an id or the empty text",
+        ValueRule::Text => "a text of at most 60 bytes from the space to ~",
+        ValueRule::TextOrNull => "a text of at most 60 bytes from the space to ~, or NULL",
+        ValueRule::AnyText => "a text",
+        ValueRule::Unit => "a unit of 1 to 8 letters and digits",
+        ValueRule::Due => "a date as 2026-11-30, of the years 2000 to 2099",
+        ValueRule::Whole => "a whole number",
+        ValueRule::RecipeState => "draft, approved or withdrawn",
+        ValueRule::JobState => "open, cancelled, released or finished",
+        ValueRule::BatchState => {
+            "idle, running, complete, pausing, paused, holding, held, restarting, stopping, stopped, aborting or aborted"
+        }
+        ValueRule::RecallState => "open or lifted",
+        ValueRule::EventWord => {
+            "start, stop, hold, restart, abort, reset, pause, resume, done, phase or close"
+        }
+        ValueRule::Number(_, _) | ValueRule::NumberOrNull(_, _) => "",
+    }
+}
+
+impl fmt::Display for ValueRule {
+    ghost output = { λ rule. Some (rule_text rule) };
+
+    fn fmt<W: fmt::Write>(&self, f: &mut fmt::Formatter<W>) -> fmt::Result {
+        match self {
+            ValueRule::Number(low, high) => {
+                let low = *low;
+                let high = *high;
+                write!(f, "a whole number from {low} to {high}")
+            }
+            ValueRule::NumberOrNull(low, high) => {
+                let low = *low;
+                let high = *high;
+                write!(f, "a whole number from {low} to {high}, or NULL")
+            }
+            plain => f.write_str(plain_rule(*plain)),
+        }
+    }
+}
+
 impl fmt::Display for Wanted {
     ghost output = { λ wanted. Some (wanted_text wanted) };
 
@@ -200,6 +261,10 @@ impl fmt::Display for Wanted {
                 let seq = *seq;
                 let line = *line;
                 write!(f, "the edge that movement {seq} {line} makes")
+            }
+            Wanted::Value(rule) => {
+                let rule = *rule;
+                write!(f, "{rule}")
             }
             plain => f.write_str(plain_wanted(plain)),
         }

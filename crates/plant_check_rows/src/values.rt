@@ -3,8 +3,11 @@ ghost use Rattle.std.specs.Prelude.{◌≡◌, IfOk, is_some};
 ghost use Rattle.plant_tables_columns.specs.TableColumns.{receipt_from};
 ghost use Rattle.plant_check_rows.specs.Values as spec;
 
-use crate::fault::{Key, RowFault, Table, Wanted};
-use crate::first::{as_a_whole, or_fault};
+use crate::column_rules::rules_of;
+use crate::fault::{Column, Found, Key, RowFault, Table, Wanted};
+use crate::first::{as_a_whole, in_column, or_fault};
+use crate::stored::{found_in, key_or_place, value};
+use crate::value_rule::{ValueRule, obeys};
 use plant_base::{
     BatchEvent, BatchRow, Class, ControlLine, Definition, EdgeRow, Hold, Job, Lot, Mark,
     MasterLine, Recipe, Sublot,
@@ -15,33 +18,62 @@ use sqlite::Row;
 use std::alloc::{AllocError, Global};
 use std::slice;
 
-/// The place of the first row that stands for nothing, counted from 1 on.
-fn first_unread<R: Decoded>(rows: &[Row]) -> Option<u64>
-    ensures { result ≡ spec.first_unread R.row_from 1 rows.now }
+/// A stored value that breaks the rule of its column.
+#[derive(Clone, Copy, Debug, PartialEq, Eq)]
+struct BadValue {
+    column: Column,
+    found: Found,
+    rule: ValueRule,
+}
+
+/// The value of the first column that breaks its rule.
+fn first_bad_value(rules: &[(Column, ValueRule)], row: &Row) -> Option<BadValue>
+    ensures { result ≡ spec.first_bad_value rules.now 0 row.now }
 {
-    for at in 0..rows.len() {
-        if R::decode(&rows[at]).is_none() {
-            return Some(at as u64 + 1);
+    for at in 0..rules.len() {
+        let (column, rule) = rules[at];
+        let value = value(row, at);
+        if !obeys(rule, value) {
+            let found = found_in(value);
+            return Some(BadValue {
+                column,
+                found,
+                rule,
+            });
         }
     }
     None
 }
 
-/// The row of the table that has this place, where one is given.
-fn column_fault(table: Table, place: Option<u64>) -> Option<RowFault>
-    ensures { result ≡ spec.column_fault table place }
+/// The row of this table and key, where this value breaks its rule; as a whole, where each value alone obeys its rule.
+fn fault_of_values(place: (Table, Key), bad: Option<BadValue>) -> RowFault
+    ensures { result ≡ spec.fault_of_values place bad }
 {
-    match place {
-        None => None,
-        Some(place) => Some(as_a_whole((table, Key::Place(place)), Wanted::Values)),
+    match bad {
+        None => as_a_whole(place, Wanted::Values),
+        Some(bad) => in_column(place, bad.column, bad.found, Wanted::Value(bad.rule)),
     }
+}
+
+/// A row of the table, which stands for nothing and has this place in the order of the key.
+#[tactic(auto, unfolding(crate::specs::Values::unread_fault))]
+fn unread_fault(table: Table, place: u64, row: &Row) -> RowFault
+    ensures { result ≡ spec.unread_fault table place row.now }
+{
+    let key = key_or_place(table, place, row);
+    fault_of_values((table, key), first_bad_value(rules_of(table), row))
 }
 
 /// The first row of the table that stands for nothing.
 fn value_fault<R: Decoded>(table: Table, rows: &[Row]) -> Option<RowFault>
     ensures { result ≡ spec.value_fault table R.row_from rows.now }
 {
-    column_fault(table, first_unread::<R>(rows))
+    for at in 0..rows.len() {
+        if R::decode(&rows[at]).is_none() {
+            return Some(unread_fault(table, at as u64 + 1, &rows[at]));
+        }
+    }
+    None
 }
 
 /// Whether the row stands for a receipt. The only error is that memory was refused.
@@ -52,24 +84,16 @@ fn is_receipt(alloc: Global, row: &Row) -> Result<bool, AllocError>
     Ok(receipts.is_some())
 }
 
-/// The place of the first row that stands for no receipt, counted from 1 on. The only error is that memory was refused.
-fn first_unread_receipt(alloc: Global, rows: &[Row]) -> Result<Option<u64>, AllocError>
-    ensures { IfOk result (λ place. place ≡ spec.first_unread receipt_from 1 rows.now) }
-{
-    for at in 0..rows.len() {
-        if !is_receipt(alloc, &rows[at])? {
-            return Ok(Some(at as u64 + 1));
-        }
-    }
-    Ok(None)
-}
-
 /// The first row of table receipt that stands for nothing. The only error is that memory was refused.
 fn receipt_value_fault(alloc: Global, rows: &[Row]) -> Result<Option<RowFault>, AllocError>
     ensures { IfOk result (λ reported. reported ≡ spec.value_fault Table.Receipt receipt_from rows.now) }
 {
-    let place = first_unread_receipt(alloc, rows)?;
-    Ok(column_fault(Table::Receipt, place))
+    for at in 0..rows.len() {
+        if !is_receipt(alloc, &rows[at])? {
+            return Ok(Some(unread_fault(Table::Receipt, at as u64 + 1, &rows[at])));
+        }
+    }
+    Ok(None)
 }
 
 fn plan_value_fault(loaded: &Loaded) -> Option<RowFault>
@@ -110,8 +134,9 @@ fn recall_value_fault(loaded: &Loaded) -> Option<RowFault>
     or_fault(recall, mark)
 }
 
-/// The first stored row that stands for nothing, since a value of it breaks its rule, of all tables but meta. It is told by its place
-/// in its table, in the order of the key. The only error is that memory was refused.
+/// The first stored row that stands for nothing, since a value of it breaks its rule, of all tables but meta. It is told by its key, or
+/// by its place in the order of the key where that can't be read, and with the first column whose value breaks its rule, where there is
+/// one. The only error is that memory was refused.
 pub(crate) fn value_fault_in(alloc: Global, loaded: &Loaded) -> Result<Option<RowFault>, AllocError>
     ensures { IfOk result (λ reported. reported ≡ spec.value_fault_in loaded.now) }
 {

@@ -1,9 +1,11 @@
 use Rattle.plant_check_rows.proofs.FoundIfDisobeyed.{found_where_broken}
 use Rattle.plant_check_rows.proofs.FirstFoundIsFirstBroken.{first_found}
+use Rattle.plant_check_rows.proofs.ObeyedColumns.{all_unread}
 use Rattle.plant_check_rows.proofs.finding.findings_law.Goals as goal
 
 pub returns : goal.returns
 returns c = record {
   broken = found_where_broken;
   first = first_found;
+  unread = all_unread;
 }

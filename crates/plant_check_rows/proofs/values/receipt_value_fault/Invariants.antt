@@ -1,8 +1,9 @@
 use Rattle.std.proofs.Common.{◌≡◌, ◌+◌, drop}
 use Rattle.plant_tables_columns.specs.TableColumns.{receipt_from}
 use Rattle.plant_check_rows.specs.Values.{first_unread}
-use Rattle.plant_check_rows.proofs.values.first_unread_receipt.Given as goal
+use Rattle.plant_check_rows.specs.declared.fault.Table.TheVariants as table
+use Rattle.plant_check_rows.proofs.values.receipt_value_fault.Given as goal
 
 -- the rows so far stand for something: the first that doesn't is one of those that are left
 abbrev pub invariant-loop-at : goal.invariant-loop-at
-invariant-loop-at l = first_unread receipt_from (l.at + 1) (drop l.at l.rows) ≡ first_unread receipt_from 1 l.rows
+invariant-loop-at l = first_unread table.Receipt receipt_from (l.at + 1) (drop l.at l.rows) ≡ first_unread table.Receipt receipt_from 1 l.rows

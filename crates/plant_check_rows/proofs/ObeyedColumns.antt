@@ -1,0 +1,228 @@
+-- No row is read of which a value breaks the rule of its column.
+use Rattle.std.proofs.Common.{◌≡◌, refl, sym, ◌∙◌, subst, ℕ, suc, ◌+◌, List, [], ◌∷◌, ◌++◌, length, take, drop, Bool, true, false, ◌&&◌, ◌==◌, Option, Some, None, nat_le, arith}
+use Rattle.std.proofs.lemmas.Bool.{and_parts}
+use Rattle.std.proofs.lemmas.List.{length-append}
+use Rattle.sqlite.specs.Order.{Row, column}
+use Rattle.plant_base.specs.Values.{greatest_amount, greatest_moment, greatest_phase, greatest_priority, greatest_seq, greatest_sublot, greatest_version}
+use Rattle.plant_base.specs.WellFormedCommands.{HasLineValues}
+use Rattle.plant_base.specs.RowValues.{HasPhaseNumber}
+use Rattle.plant_base.specs.declared.rows.RecipeLine.{RecipeLine}
+use Rattle.plant_base.specs.declared.rows.RecipeLine.TheVariants as line
+use Rattle.plant_base.specs.declared.states.Event.{Event}
+use Rattle.plant_base.specs.declared.states.Event.TheVariants as event
+use Rattle.plant_base.specs.declared.states.Word.{Word}
+use Rattle.plant_base.specs.declared.states.Word.TheVariants as word
+use Rattle.plant_base.specs.Words.{word_name}
+use Rattle.plant_recipe.specs.Progress.{greatest_attempt}
+use Rattle.plant_tables_columns.specs.Columns.{Columns, Kind, one, ◌⊗◌, made, read_row}
+use Rattle.plant_tables_columns.specs.TableColumns.{columns_of_line, line_columns, event_columns, class_columns, definition_columns, header_columns, recipe_columns, master_line_columns, control_line_columns, order_columns, job_columns, released_columns, batch_columns, batch_event_columns, lot_columns, sublot_columns, booked_columns, hold_columns, edge_columns, receipt_columns, stated_columns, mark_columns, class_from, definition_from, recipe_from, master_line_from, control_line_from, job_from, batch_from, batch_event_from, lot_from, sublot_from, booked_from, hold_from, edge_from, receipt_from, stated_from, mark_from}
+use Rattle.plant_tables_columns.proofs.ColumnLaws.{StoredFrom}
+use Rattle.plant_tables_columns.proofs.LineLaws.{line_lawful}
+use Rattle.plant_tables_columns.proofs.OptionalValues.{bound, mapped, where_true}
+use Rattle.plant_tables_columns.proofs.TableLaws.{event_lawful}
+use Rattle.plant_check_rows.specs.ColumnRules.{rules_of}
+use Rattle.plant_check_rows.specs.ValueRules.{obeys, is_event_word}
+use Rattle.plant_check_rows.specs.Values.{bad_value, unless_obeyed, first_bad_value, IsUnreadIfBad, AreUnreadIfBad}
+use Rattle.plant_check_rows.specs.declared.fault.Column.{Column}
+use Rattle.plant_check_rows.specs.declared.fault.Table.TheVariants as table
+use Rattle.plant_check_rows.specs.declared.value_rule.ValueRule.{ValueRule}
+use Rattle.plant_check_rows.specs.declared.values.BadValue.{BadValue}
+use Rattle.plant_check_rows.proofs.ObeyedValues.{IsObeyed, id_obeyed, text_obeyed, unit_obeyed, due_obeyed, content_obeyed, id_or_null_obeyed, text_or_null_obeyed, number_obeyed, line_number_obeyed, amount_is_quantity, up_to, sublot_or_null_obeyed, moment_or_null_obeyed, flag_obeyed, recipe_state_obeyed, job_state_obeyed, batch_state_obeyed, recall_state_obeyed, movement_kind_obeyed, edge_kind_obeyed, mark_kind_obeyed, id_is_text}
+
+abbrev Rules : Type 0
+Rules = List (Column × ValueRule)
+
+-- ---- columns side by side
+
+-- what is read of the columns obeys their rules
+record AreObeyed {A : Type 0} (c : Columns A) (rules : Rules) : Type 0 where
+  pub wide : length rules ≡ length c.declared
+  pub obeyed : (row : Row) (at : ℕ) (a : A) → c.read row at ≡ Some a → first_bad_value rules at row ≡ None
+
+joined : (rs ss : Rules) (at : ℕ) (row : Row) → first_bad_value rs at row ≡ None → first_bad_value ss (at + length rs) row ≡ None → first_bad_value (rs ++ ss) at row ≡ None
+joined [] ss at row h k = let same : at + 0 ≡ at = omega arith in subst (λ n. first_bad_value ss n row ≡ None) same k
+joined (r ∷ rs) ss at row h k =
+    let next : at + suc (length rs) ≡ (at + 1) + length rs = omega arith in
+    let rest = subst (λ n. first_bad_value ss n row ≡ None) next k in
+    elim (obeys r.1 (column row at)) as (λ b. unless_obeyed b (bad_value r (column row at)) (first_bad_value rs (at + 1) row) ≡ None
+    → unless_obeyed b (bad_value r (column row at)) (first_bad_value (rs ++ ss) (at + 1) row) ≡ None) [
+      | true ↦ λ e. joined rs ss (at + 1) row e rest
+      | false ↦ λ e. absurd (cc)
+    ] h
+
+single : {A : Type 0} {name : List ℕ} {kind : Kind A} {c : Column} {r : ValueRule} → IsObeyed kind r → AreObeyed (one name kind) ((c, r) ∷ [])
+single is = record { wide = refl; obeyed = λ row at a h. rw (is.obeyed (column row at) a h) refl }
+
+infixr 11 ◌⊞◌
+◌⊞◌ : {A B : Type 0} {a : Columns A} {b : Columns B} {rs ss : Rules} → AreObeyed a rs → AreObeyed b ss → AreObeyed (a ⊗ b) (rs ++ ss)
+◌⊞◌ {A} {B} {a} {b} {rs} {ss} left right = record {
+  wide = length-append rs ss ∙ (λ i. left.wide i + right.wide i) ∙ sym (length-append a.declared b.declared);
+  obeyed = λ row at p h.
+      let x = bound (a.read row at) _ p h in
+      let y = bound (b.read row (at + length a.declared)) _ p x.2 in
+      joined rs ss at row (left.obeyed row at x.0 x.1)
+      (subst (λ n. first_bad_value ss (at + n) row ≡ None) (sym left.wide) (right.obeyed row (at + length a.declared) y.0 y.1));
+}
+
+same_for : {A B : Type 0} {c : Columns A} {rules : Rules} (make : A → B) (parts : B → A) → AreObeyed c rules → AreObeyed (made make parts c) rules
+same_for {A} {B} {c} {rules} make parts laws = record {
+  wide = laws.wide;
+  obeyed = λ row at b h. let p = mapped make (c.read row at) b h in laws.obeyed row at p.0 p.1;
+}
+
+-- ---- columns that say something together
+
+abbrev all_obey : Rules → Row → Bool
+all_obey [] vs = true
+all_obey (r ∷ rs) [] = false
+all_obey (r ∷ rs) (v ∷ vs) = obeys r.1 v && all_obey rs vs
+
+stored_obey : (rules : Rules) (vs row : Row) (at : ℕ) → StoredFrom row at vs → all_obey rules vs ≡ true → first_bad_value rules at row ≡ None
+stored_obey [] vs row at s h = refl
+stored_obey (r ∷ rs) [] row at s h = absurd (cc)
+stored_obey (r ∷ rs) (v ∷ vs) row at s h =
+    let parts = and_parts (obeys r.1 v) (all_obey rs vs) h in
+    let here : obeys r.1 (column row at) ≡ true = subst (λ w. obeys r.1 w ≡ true) (sym s.0) parts.0 in
+    let next : suc at ≡ at + 1 = omega arith in
+    let rest = subst (λ n. first_bad_value rs n row ≡ None) next (stored_obey rs vs row (suc at) s.1 parts.1) in
+    rw (here, rest) refl
+
+abbrev line_rules : Rules
+line_rules = drop 3 (rules_of table.RecipeLine)
+
+line_obeys : (l : RecipeLine) → HasLineValues l → all_obey line_rules (columns_of_line l) ≡ true
+line_obeys (line.In def amount) h = rw (h.0, amount_is_quantity amount h.1) refl
+line_obeys (line.Out def amount) h = rw (h.0, amount_is_quantity amount h.1) refl
+line_obeys (line.Parameter name value) h = rw (h.0, h.1) refl
+line_obeys (line.Phase unit_procedure operation phase) h = rw (h.0, id_is_text operation h.1, h.2) refl
+
+line_obeyed : AreObeyed line_columns line_rules
+line_obeyed = record {
+  wide = refl;
+  obeyed = λ row at l h. stored_obey line_rules (columns_of_line l) row at (line_lawful.back row at l h tt) (line_obeys l (line_lawful.keeps row at l h));
+}
+
+abbrev event_rules : Rules
+event_rules = take 2 (drop 2 (rules_of table.BatchEvent))
+
+word_obeys : (w : Word) → is_event_word (word_name w) ≡ true
+word_obeys word.Start = refl
+word_obeys _ = refl
+
+event_obeys : (e : Event) → HasPhaseNumber e → all_obey event_rules (event_columns.stored e) ≡ true
+event_obeys (event.Moved w) h = rw (word_obeys w) refl
+event_obeys (event.PhaseDone phase) h = rw (up_to greatest_phase phase (and_parts (nat_le 1 phase) (nat_le phase greatest_phase) h).1) refl
+event_obeys event.Closed h = refl
+
+event_obeyed : AreObeyed event_columns event_rules
+event_obeyed = record {
+  wide = refl;
+  obeyed = λ row at e h. stored_obey event_rules (event_columns.stored e) row at (event_lawful.back row at e h tt) (event_obeys e (event_lawful.keeps row at e h));
+}
+
+-- ---- tables
+
+unread : {A : Type 0} (c : Columns A) (rules : Rules) → AreObeyed c rules → (row : Row) (bad : BadValue) → first_bad_value rules 0 row ≡ Some bad → read_row c row ≡ None
+unread {A} c rules laws row bad h = go (read_row c row) refl
+  where
+    go : (o : Option A) → read_row c row ≡ o → o ≡ None
+    go None e = refl
+    go (Some a) e =
+        let p = where_true (length row == length c.declared) (c.read row 0) a e in
+        absurd (let both = sym h ∙ laws.obeyed row 0 a p.1 in cc)
+
+class_unread : IsUnreadIfBad table.Class class_from
+unfolding class_from
+class_unread = unread class_columns (rules_of table.Class) (same_for _ _ (single id_obeyed ⊞ single text_obeyed))
+
+definition_unread : IsUnreadIfBad table.Definition definition_from
+unfolding definition_from
+definition_unread = unread definition_columns (rules_of table.Definition) (same_for _ _ (single id_obeyed ⊞ single id_obeyed ⊞ single text_obeyed ⊞ single unit_obeyed))
+
+header_obeyed : AreObeyed header_columns (take 7 (rules_of table.Recipe))
+header_obeyed = same_for _ _ (single id_obeyed ⊞ single (number_obeyed 1 greatest_version) ⊞ single id_obeyed ⊞ single (number_obeyed 1 greatest_amount) ⊞ single (number_obeyed 1 greatest_amount) ⊞ single (number_obeyed 1 greatest_amount) ⊞ single text_obeyed)
+
+recipe_unread : IsUnreadIfBad table.Recipe recipe_from
+unfolding recipe_from
+recipe_unread = unread recipe_columns (rules_of table.Recipe) (same_for _ _ (header_obeyed ⊞ single recipe_state_obeyed))
+
+recipe_line_unread : IsUnreadIfBad table.RecipeLine master_line_from
+unfolding master_line_from
+recipe_line_unread = unread master_line_columns (rules_of table.RecipeLine) (same_for _ _ (single id_obeyed ⊞ single (number_obeyed 1 greatest_version) ⊞ single line_number_obeyed ⊞ line_obeyed))
+
+order_obeyed : AreObeyed order_columns (take 6 (rules_of table.Job))
+order_obeyed = same_for _ _ (single id_obeyed ⊞ single id_obeyed ⊞ single (number_obeyed 1 greatest_version) ⊞ single (number_obeyed 1 greatest_amount) ⊞ single due_obeyed ⊞ single (number_obeyed 1 greatest_priority))
+
+job_unread : IsUnreadIfBad table.Job job_from
+unfolding job_from
+job_unread = unread job_columns (rules_of table.Job) (same_for _ _ (order_obeyed ⊞ single job_state_obeyed))
+
+released_obeyed : AreObeyed released_columns (take 5 (rules_of table.Batch))
+released_obeyed = same_for _ _ (single id_obeyed ⊞ single id_obeyed ⊞ single (number_obeyed 0 greatest_moment) ⊞ single text_obeyed ⊞ single text_obeyed)
+
+batch_unread : IsUnreadIfBad table.Batch batch_from
+unfolding batch_from
+batch_unread = unread batch_columns (rules_of table.Batch) (same_for _ _ (released_obeyed ⊞ single batch_state_obeyed ⊞ single (number_obeyed 1 greatest_attempt) ⊞ single (number_obeyed 1 greatest_phase) ⊞ single flag_obeyed))
+
+control_line_unread : IsUnreadIfBad table.ControlLine control_line_from
+unfolding control_line_from
+control_line_unread = unread control_line_columns (rules_of table.ControlLine) (same_for _ _ (single id_obeyed ⊞ single line_number_obeyed ⊞ line_obeyed))
+
+batch_event_unread : IsUnreadIfBad table.BatchEvent batch_event_from
+unfolding batch_event_from
+batch_event_unread = unread batch_event_columns (rules_of table.BatchEvent) (same_for _ _ (single (number_obeyed 0 greatest_seq) ⊞ single id_obeyed ⊞ event_obeyed ⊞ single (number_obeyed 0 greatest_moment) ⊞ single text_obeyed ⊞ single text_obeyed))
+
+lot_unread : IsUnreadIfBad table.Lot lot_from
+unfolding lot_from
+lot_unread = unread lot_columns (rules_of table.Lot) (same_for _ _ (single id_obeyed ⊞ single id_obeyed))
+
+sublot_unread : IsUnreadIfBad table.Sublot sublot_from
+unfolding sublot_from
+sublot_unread = unread sublot_columns (rules_of table.Sublot) (same_for _ _ (single id_obeyed ⊞ single (number_obeyed 0 greatest_sublot) ⊞ single text_obeyed ⊞ single (number_obeyed 0 greatest_amount)))
+
+movement_unread : IsUnreadIfBad table.Movement booked_from
+unfolding booked_from
+movement_unread = unread booked_columns (rules_of table.Movement)
+    (same_for _ _ (single (number_obeyed 0 greatest_seq) ⊞ single line_number_obeyed ⊞ single movement_kind_obeyed ⊞ single id_obeyed ⊞ single (number_obeyed 0 greatest_sublot) ⊞ single id_or_null_obeyed ⊞ single sublot_or_null_obeyed ⊞ single id_or_null_obeyed
+    ⊞ single (number_obeyed 1 greatest_amount) ⊞ single (number_obeyed 0 greatest_moment) ⊞ single text_obeyed ⊞ single text_obeyed))
+
+hold_unread : IsUnreadIfBad table.Hold hold_from
+unfolding hold_from
+hold_unread = unread hold_columns (rules_of table.Hold) (same_for _ _ (single id_obeyed ⊞ single id_obeyed ⊞ single (number_obeyed 0 greatest_moment) ⊞ single text_obeyed ⊞ single text_obeyed))
+
+edge_unread : IsUnreadIfBad table.Edge edge_from
+unfolding edge_from
+edge_unread = unread edge_columns (rules_of table.Edge) (same_for _ _ (single edge_kind_obeyed ⊞ single id_obeyed ⊞ single id_obeyed))
+
+receipt_unread : IsUnreadIfBad table.Receipt receipt_from
+unfolding receipt_from
+receipt_unread = unread receipt_columns (rules_of table.Receipt) (same_for _ _ (single id_obeyed ⊞ single (number_obeyed 0 greatest_seq) ⊞ single content_obeyed))
+
+recall_unread : IsUnreadIfBad table.Recall stated_from
+unfolding stated_from
+recall_unread = unread stated_columns (rules_of table.Recall)
+    (same_for _ _ (single id_obeyed ⊞ single id_obeyed ⊞ single recall_state_obeyed ⊞ single (number_obeyed 0 greatest_moment) ⊞ single text_obeyed ⊞ single text_obeyed ⊞ single moment_or_null_obeyed ⊞ single text_or_null_obeyed ⊞ single text_or_null_obeyed))
+
+mark_unread : IsUnreadIfBad table.Mark mark_from
+unfolding mark_from
+mark_unread = unread mark_columns (rules_of table.Mark) (same_for _ _ (single id_obeyed ⊞ single mark_kind_obeyed ⊞ single id_obeyed))
+
+pub all_unread : AreUnreadIfBad
+all_unread = record {
+  class = class_unread;
+  definition = definition_unread;
+  recipe = recipe_unread;
+  recipe_line = recipe_line_unread;
+  job = job_unread;
+  batch = batch_unread;
+  control_line = control_line_unread;
+  batch_event = batch_event_unread;
+  lot = lot_unread;
+  sublot = sublot_unread;
+  movement = movement_unread;
+  hold = hold_unread;
+  edge = edge_unread;
+  receipt = receipt_unread;
+  recall = recall_unread;
+  mark = mark_unread;
+}

@@ -22,6 +22,24 @@ LOSE_ANSWERS = """(() => {
   globalThis.fetch = async (...told) => { const reply = await real(...told); return told[1].method === "POST" ? lost() : reply; };
 })()"""
 
+# Has the answers to checks lost, and counts them.
+LOSE_CHECKS = """(() => {
+  const real = fetch;
+  globalThis.lostChecks = 0;
+  globalThis.fetch = (...told) => { if (told[0] !== "/v1/check") return real(...told); lostChecks += 1; return lost(); };
+})()"""
+
+# Counts the checks that were answered.
+ANSWERED_CHECK = """(() => {
+  const real = fetch;
+  globalThis.answeredChecks = 0;
+  globalThis.fetch = async (...told) => {
+    const reply = await real(...told);
+    if (told[0] === "/v1/check") answeredChecks += 1;
+    return reply;
+  };
+})()"""
+
 # Lasts until the page was drawn twice.
 TWO_FRAMES = "new Promise((then) => requestAnimationFrame(() => requestAnimationFrame(() => then(true))))"
 
@@ -179,6 +197,40 @@ class Journeys(BrowserTestCase):
         self.check_booked(tab, "20 kg of F-5 scrapped.", 39)
         tab.lacks("F-5", "document.getElementById('view')")
         self.end(tab, 39)
+
+    def test_form_says_why_it_would_be_refused_before_it_is_sent(self):
+        self.serve()
+        tab = self.open("warehouse/FLOUR")
+        form, said = "document.querySelector('dialog[open]')", "As it stands, this would be refused"
+        tab.click("Receive a lot")
+        tab.fill("lot", "f-1")
+        tab.fill("amount", 5)
+        tab.has(f"{said}. That id is taken already. Take another one. (Exists)", form)
+        self.check("the number behind a form that is filled", self.served.ask("/desk")["seq"], MORNINGS)
+        tab.fill("lot", "f-5")
+        tab.lacks(said, form)
+        tab.run(ANSWERED_CHECK)
+        tab.fill("amount", 6)
+        tab.until("answeredChecks === 1", "the answer to a check")
+        tab.run(TWO_FRAMES)
+        self.check_true("nothing is said against a form that would be taken", said not in tab.text(form))
+        self.check("the number behind checks", self.served.ask("/desk")["seq"], MORNINGS)
+        tab.key("Enter")
+        self.check_booked(tab, "6 kg as F-5 received.", 35)
+        self.end(tab, 35)
+
+    def test_form_is_sent_where_its_check_has_no_answer(self):
+        self.serve()
+        tab = self.open("warehouse/FLOUR")
+        tab.run(f"globalThis.lost = () => new Promise(() => {{}}); {LOSE_CHECKS}")
+        tab.click("Receive a lot")
+        tab.fill("lot", "f-1")
+        tab.fill("amount", 5)
+        tab.until("lostChecks === 1", "a check")
+        tab.fill("lot", "f-5")
+        tab.key("Enter")
+        self.check_booked(tab, "5 kg as F-5 received.", 35)
+        self.end(tab, 35)
 
     def test_recall_in_the_middle_of_a_batch_bars_what_came_of_its_lot(self):
         self.serve()

@@ -18,7 +18,27 @@ FAULTY_ORDERS = b"""order,recipe,version,size,due,priority
 O-1,CAKE,1,500,2027-03-01,5
 O-2,CAKE,1,500,2027-02-29,5
 """
-FAULT = b"csv row 2 Due: due is not a date like 2027-03-01, of the years 2000 to 2099\n"
+FAULT = b"csv row 2 Due: due is not a date like 2027-03-01, of the years 2000 to 2099; it is 2027-02-29\n"
+
+# Each kind of fault of a row, and two orders that conflict with the first.
+MANY_FAULTS = "order,recipe,version,size,due,priority\n" + \
+    "O-1,CAKE,1,500,2027-03-01,5\n" + \
+    "Ö-2,CAKE,0,12.5,01.03.2027,\n" + \
+    "O-3,CAKE,1\n" + \
+    "O-1,CAKE,1,500,2027-03-02,5\n" + \
+    "O-1,CAKE,1,500,2027-03-01,5\n" + \
+    f"O-1,{'x' * 70},1,500,2027-03-01,5\n" + \
+    "O-1,CAKE,2,500,2027-03-01,5\n"
+THEIR_TEXTS = rb"""csv row 2 Order: order is not an id: 1 to 24 of A to Z, 0 to 9 and -, the first a letter; it is \xc3\x96-2
+csv row 2 Version: version is not a whole number from 1 to 999; it is 0
+csv row 2 Size: size is not a whole number from 1 to 1000000000000000; it is 12.5
+csv row 2 Due: due is not a date like 2027-03-01, of the years 2000 to 2099; it is 01.03.2027
+csv row 2 Priority: priority is not a whole number from 1 to 9
+csv row 3 Shape: the row hasn't six fields with commas between
+csv row 6 Recipe: recipe is not an id: 1 to 24 of A to Z, 0 to 9 and -, the first a letter; it is """ + b"x" * 60 + rb""" ..
+csv row 4 OrderConflict: row 1 has the same order with other values
+csv row 7 OrderConflict: row 1 has the same order with other values
+"""
 
 HEADER = b"""csv row 0 Header: the first line isn't order,recipe,version,size,due,priority, with commas between and neither semicolons nor tabs
 """
@@ -35,6 +55,35 @@ GOOD_LINES = b"""{"ask":"desk"}
 
 {"at":1,"by":"","do":"settle","batch":"B"}
 {"ask":"lot","lot":"L"}"""
+
+
+# Bad lines, each with its hint.
+HINTS = [
+    (b'{"at":1,"by":"","do":"recieve","lot":"F-1","def":"F","amount":1,"place":""}', b"perhaps receive is meant"),
+    (b'{"at":1,"by":"","do":"receive","lott":"F-1","def":"F","amount":1,"place":""}', b"perhaps lot is meant"),
+    (b'{"at":1,"by":"","do":"receive","lot":"F-1","def":"F","amount":1,"place":"","plac":""}', b"perhaps place is meant"),
+    (b'{"ask":"lotts","def":"F"}', b"perhaps lots is meant"),
+    (b'{"at":"2027-03-01T08:00:00Z","by":"","do":"settle","batch":"B"}', b"at is a number of seconds since 1970-01-01T00:00:00Z, here 1803888000"),
+    (b'{"at":1803888000000,"by":"","do":"settle","batch":"B"}', b"at is a number of seconds since 1970-01-01T00:00:00Z, here 1803888000"),
+    (b'{"at":"2027-03-01","by":"","do":"settle","batch":"B"}', b"at is a number of seconds since 1970-01-01T00:00:00Z"),
+    (b"{'ask':'desk'}", b"at byte 2: texts and names stand in double quotes"),
+    (b'{"ask":"desk",}', b"at byte 15: nothing follows the comma before it"),
+    (b'{"ask":"desk"}{"ask":"desk"}', b"at byte 15: a second object begins, and a line is one"),
+    (b'{"ask":"desk"', b"at byte 13: the text ends too soon: a bracket or a quote is missing"),
+    (b'{"at":1,"by":"a\tb","do":"settle","batch":"B"}', b"at byte 14: a control character in a text is written as an escape, as \\t"),
+    (b'{"ask" "desk"}', b"at byte 8: something else is expected"),
+    (b'\xef\xbb\xbf{"ask":"desk"}', b"a mark of byte order goes before the line: save the file as UTF-8 without one"),
+    (b'{"at":1,"by":"M\xfcller","do":"settle","batch":"B"}', b"byte 16 is no UTF-8: save the file as UTF-8"),
+]
+
+# Bad lines without a hint: nothing that may stand there is near, or the words are long.
+UNHINTED = [
+    b'{"at":1,"by":"","do":"wait"}', b'{"at":1,"by":"","do":1}', b'{"ask":""}', b'{"ask":"%s"}' % (b"lots" * 20), b"[]", b"{}",
+    b'{"at":1,"by":"","do":"settle","batch":"b"}', b'{"at":1,"by":"","do":"settle","batch":"B","colour":1}',
+]
+
+# So many lines of an input have hints.
+MOST_HINTED = 1000
 
 
 class CheckTests:
@@ -102,6 +151,20 @@ class OrderCheck(CheckTests, ProgramTestCase):
     def test_fault_is_told_in_words(self):
         self.check_tells("a fault in words", FAULTY_ORDERS, 1, FAULT)
 
+    def test_every_fault_is_told_with_what_stands_there(self):
+        self.check_tells("faults of each kind", MANY_FAULTS.encode(), 1, THEIR_TEXTS)
+        rows = b"".join(b"O-%d,CAKE,1,500,2027-03-01,0\n" % it for it in range(1000))
+        told = b"".join(b"csv row %d Priority: priority is not a whole number from 1 to 9; it is 0\n" % it for it in range(1, 1001))
+        self.check_tells("a fault in each of a thousand rows", ORDER_HEAD + rows, 1, told)
+        self.check_tells("one row more", ORDER_HEAD + rows + b"O\n", 1, told + b"csv row 1001 TooManyRows: the file has more than 1000 orders\n")
+
+    def test_order_that_stands_twice_conflicts_where_it_differs(self):
+        rows = b"O-1,CAKE,1,500,2027-03-01,5\n" * 999
+        self.check_tells("alike", ORDER_HEAD + rows, 0, b"999 orders\n")
+        told = b"csv row 1000 OrderConflict: row 1 has the same order with other values\n"
+        for row in b"O-1,CAKO,1,500,2027-03-01,5", b"O-1,CAKE,2,500,2027-03-01,5", b"O-1,CAKE,1,501,2027-03-01,5", b"O-1,CAKE,1,500,2027-03-02,5", b"O-1,CAKE,1,500,2027-03-01,4":
+            self.check_tells(f"another {row}", ORDER_HEAD + rows + row, 1, told)
+
     def test_header_alone_is_an_order_file(self):
         for head in ORDER_HEAD, ORDER_HEAD[:-1], b"\xef\xbb\xbf" + ORDER_HEAD, b"\n" + ORDER_HEAD.replace(b"\n", b"\r\n\r\n"):
             self.check_tells(f"a header alone, {head}", head, 0, b"0 orders\n")
@@ -131,6 +194,28 @@ class LineCheck(CheckTests, ProgramTestCase):
     PROGRAMS = ("line_check",)
     INPUT, STATUS, OUTPUT = GOOD_LINES, 0, b"1 commands, 2 questions\n"
     SHORT = b"{}\n"
+
+    def check_tells(self, case, told, status, output):
+        """Runs the check on these bytes; hints on bad lines may go to standard error."""
+        ended = self.program.run(told=told)
+        self.check(case, (ended.status, ended.output), (status, output))
+        self.check_true(f"{case}, hints alone", all(it.startswith(b"hint on line ") for it in ended.errors.splitlines()))
+
+    def test_hint_names_what_is_meant(self):
+        for line, hint in HINTS:
+            ended = self.program.run(told=line)
+            self.check(f"{line}: {ended.output}", (ended.status, ended.output.count(b"\n"), ended.errors), (1, 1, b"hint on line 1: " + hint + b"\n"))
+        for line in UNHINTED:
+            ended = self.program.run(told=line)
+            self.check(f"{line}: {ended.output}", (ended.status, ended.errors), (1, b""))
+        self.check("good lines", self.program.run(told=GOOD_LINES).errors, b"")
+
+    def test_first_thousand_lines_have_hints(self):
+        line, hint = HINTS[0]
+        errors = self.program.run(told=(line + b"\n") * (MOST_HINTED + 9)).errors
+        self.check("many bad lines", errors, b"".join(b"hint on line %d: %s\n" % (it, hint) for it in range(1, MOST_HINTED + 1)))
+        errors = self.program.run(told=b"\n" * (MOST_HINTED - 1) + (line + b"\n") * 9).errors
+        self.check("empty lines before", errors, b"hint on line %d: %s\n" % (MOST_HINTED, hint))
 
     def test_good_lines_are_counted(self):
         self.check_tells("good lines", GOOD_LINES, 0, b"1 commands, 2 questions\n")

@@ -48,7 +48,7 @@ table receipt, row K-1, column seq: 99 stands there, wanted is the number of a c
 
 # What is told of the first row that the statements of sqlite.DAMAGES break, by the number of the rule; of rule 1 no row is told.
 ROWS = {
-    2: ("batch", {"place": 1}, None, "the row"),
+    2: ("batch", ["B-1"], "state", "'walking'"),
     3: ("definition", ["FLOUR"], "class", "NONE"),
     4: ("recipe", ["CAKE", 1], None, "the row"),
     5: ("job", ["O-1"], "size", "99"),
@@ -65,11 +65,90 @@ ROWS = {
 
 # What the rule wants there.
 WANTED = {
+    2: "idle, running, complete, pausing, paused, holding, held, restarting, stopping, stopped, aborting or aborted",
     7: "40, for 100 entered and 60 left",
     10: "1",
     12: "the edge that movement 12 1 makes",
     14: "the mark of an open recall that reaches it",
 }
+
+# The rules of columns by a name of ours: values of the column's type that break it, as SQL writes them, with what the check tells of each; and
+# what it wants. Any whole number is a line's, and any text is read as a receipt's content.
+A_TEXT = "a text of at most 60 bytes from the space to ~"
+LONG, ODD = "a text of more than 60 bytes", "a text with a byte that isn't from the space to ~"
+NO_TEXTS = [("printf('%61s', 'x')", LONG), ("'Brot' || char(9)", ODD), ("'Käse'", ODD)]
+
+
+def from_to(low, high, wanted=""):
+    """Returns the rule of whole numbers from one to another."""
+    return [(it, it) for it in (f"{low - 1}", f"{high + 1}", "-9223372036854775808")], f"a whole number from {low} to {high}{wanted}"
+
+
+VALUE_RULES = {
+    "id": ([("'f-1'", "'f-1'"), ("''", "''"), ("'F-12345678901234567890123'", "'F-12345678901234567890123'"), *NO_TEXTS], "an id"),
+    "id?": ([("'f-1'", "'f-1'"), ("''", "''")], "an id or NULL"),
+    "id or ''": ([("'mix'", "'mix'"), ("' '", "' '")], "an id or the empty text"),
+    "text": (NO_TEXTS, A_TEXT),
+    "text?": (NO_TEXTS, f"{A_TEXT}, or NULL"),
+    "unit": ([("'k g'", "'k g'"), ("''", "''"), ("'kilograms'", "'kilograms'")], "a unit of 1 to 8 letters and digits"),
+    "due": ([("'2027-02-29'", "'2027-02-29'"), ("'1999-12-31'", "'1999-12-31'")], "a date as 2026-11-30, of the years 2000 to 2099"),
+    "version": from_to(1, 999),
+    "amount": from_to(1, 10**15),
+    "quantity": from_to(0, 10**15),
+    "priority": from_to(1, 9),
+    "moment": from_to(0, 253402300799),
+    "moment?": from_to(0, 253402300799, ", or NULL"),
+    "seq": from_to(0, 10**15),
+    "sub": from_to(0, 999),
+    "sub?": from_to(0, 999, ", or NULL"),
+    "attempt": from_to(1, 99),
+    "next": from_to(1, 128),
+    "phase": from_to(0, 128),
+    "flag": from_to(0, 1),
+    **{f"1-{it}": from_to(1, it) for it in (2, 3, 4, 7)},
+    "recipe state": ([("'Draft'", "'Draft'")], "draft, approved or withdrawn"),
+    "order state": ([("'done'", "'done'")], "open, cancelled, released or finished"),
+    "batch state": ([("''", "''")], WANTED[2]),
+    "recall state": ([("'closed'", "'closed'")], "open or lifted"),
+    "event": ([("'halt'", "'halt'")], "start, stop, hold, restart, abort, reset, pause, resume, done, phase or close"),
+}
+
+# The rules of the columns of each table, where a value of the column's type can break one.
+LINE_RULES = {"kind": "1-4", "def": "id?", "qty": "quantity", "t1": "id or ''", "t2": "text", "t3": "id or ''"}
+GIVEN_RULES = {"at": "moment", "by_who": "text", "note": "text"}
+COLUMN_RULES = {
+    "class": {"id": "id", "name": "text"},
+    "definition": {"id": "id", "class": "id", "name": "text", "unit": "unit"},
+    "recipe": {
+        "id": "id", "version": "version", "product": "id", "base": "amount", "low": "amount", "high": "amount", "title": "text",
+        "state": "recipe state",
+    },
+    "recipe_line": {"recipe": "id", "version": "version", **LINE_RULES},
+    "job": {"id": "id", "recipe": "id", "version": "version", "size": "amount", "due": "due", "priority": "priority", "state": "order state"},
+    "batch": {"id": "id", "job": "id", **GIVEN_RULES, "state": "batch state", "attempt": "attempt", "next": "next", "closed": "flag"},
+    "control_line": {"batch": "id", **LINE_RULES},
+    "batch_event": {"seq": "seq", "batch": "id", "word": "event", "phase": "phase", **GIVEN_RULES},
+    "lot": {"id": "id", "def": "id"},
+    "sublot": {"lot": "id", "no": "sub", "place": "text", "stock": "quantity"},
+    "movement": {
+        "seq": "seq", "kind": "1-7", "lot": "id", "sub": "sub", "lot2": "id?", "sub2": "sub?", "batch": "id?", "amount": "amount", **GIVEN_RULES,
+    },
+    "hold": {"lot": "id", "id": "id", **GIVEN_RULES},
+    "edge": {"kind": "1-3", "a": "id", "b": "id"},
+    "receipt": {"id": "id", "seq": "seq"},
+    "recall": {"id": "id", "lot": "id", "state": "recall state", **GIVEN_RULES, "lift_at": "moment?", "lift_by": "text?", "lift_note": "text?"},
+    "mark": {"recall": "id", "kind": "1-2", "id": "id"},
+}
+
+# Statements behind which several values of good_desk.sql are broken, or none by itself, with what is told: table, key, column, what stands there.
+SEVERAL_VALUES = [
+    ("UPDATE job SET size = -5, priority = 0 WHERE id <> 'O-1'", ("job", ["O-2"], "size", "-5")),
+    ("UPDATE job SET size = -5 WHERE id = 'O-3'; UPDATE job SET priority = 0 WHERE id = 'O-2'", ("job", ["O-2"], "priority", "0")),
+    ("UPDATE lot SET def = '' WHERE id = 'S-1'; UPDATE batch SET closed = 2 WHERE id = 'B-2'", ("batch", ["B-2"], "closed", "2")),
+    ("UPDATE recipe_line SET def = NULL WHERE no = 2", ("recipe_line", ["CAKE", 2, 2], None, "the row")),
+    ("UPDATE control_line SET t3 = 'STIR' WHERE batch = 'B-2' AND no = 4", ("control_line", ["B-2", 4], None, "the row")),
+    ("UPDATE batch_event SET phase = 3 WHERE seq = 12", ("batch_event", [12], None, "the row")),
+]
 
 # The toolkit's own error for each cause that it has one for; of a file that isn't there and of a limit it has none.
 UNOPENED = "unable to open database file"
@@ -234,6 +313,22 @@ class Desks(FileCheckTestCase):
             self.check(f"{name}: in sentences", self.checked(file.name).output.decode().splitlines()[-1], sentence)
             self.check_run(f"{name}: the desk", ["init", file.name], (3, b"", b"fault: store\n"))
 
+    def test_trigger_or_index_that_keeps_a_table_from_standing_is_named(self):
+        for table, name, statement in [
+            ("lot", "watch", "CREATE TRIGGER watch AFTER INSERT ON lot BEGIN DELETE FROM lot WHERE id = 'none'; END"),
+            ("movement", "large", "CREATE INDEX large ON movement (seq) WHERE amount > 100"),
+            ("job", "lower", "CREATE INDEX lower ON job (lower(id))"),
+        ]:
+            self.copy("bound.db", statement)
+            sentence = f"table {table}: somebody else's trigger or index {name} keeps it from standing as it is declared: drop it with sqlite3."
+            self.check(f"{name}, in sentences", self.checked("bound.db").output.decode().splitlines()[2:], [sentence])
+            status, told = self.object("bound.db")
+            self.check(f"{name}, the object", (status, told["desk"]["bound"]), (3, name))
+            self.copy("bound.db", f"{statement}; DROP {statement.split()[1]} {name}")
+            self.check(f"{name}, dropped", self.checked("bound.db").status, 0)
+        self.copy("bound.db", "ALTER TABLE lot RENAME TO lots")
+        self.check("a table that isn't there", self.object("bound.db")[1]["desk"]["bound"], None)
+
     def test_log_of_a_killed_program_is_read(self):
         """Checks a desk whose program was killed, so that its commands stand in the log."""
         self.killed("killed.db")
@@ -370,6 +465,54 @@ class Rules(FileCheckTestCase):
             if row and number in WANTED:
                 self.check(f"{statement}: what is wanted", row["wanted"], WANTED[number])
             self.check(f"{statement}: verify", self.desk.run("verify", file.name).errors, b"fault: damaged G%d\n" % number)
+
+    def test_value_that_breaks_its_rule_is_told_with_key_and_column(self):
+        """Breaks each column of each table in the last row of its key."""
+        first = self.good_desk()
+        for table, rules in COLUMN_RULES.items():
+            key_columns = sqlite.TABLES[table][1][0].split()
+            order = ", ".join(key_columns)
+            number = sqlite.rows(first, f"SELECT rowid FROM {table} ORDER BY {order}")[-1][0]
+            for column, rule in rules.items():
+                broken, wanted = VALUE_RULES[rule]
+                for value, told in broken:
+                    file = self.folder / "value.db"
+                    shutil.copyfile(first, file)
+                    sqlite.changed(file, f"UPDATE {table} SET {column} = {value} WHERE rowid = {number}")
+                    key = self.key_of(file, table, order, number, column in key_columns and (rule == "id" or value[0] == "-"))
+                    self.check_row(f"{table}, {column} = {value}", file, (table, key, column, told, wanted))
+
+    def test_first_row_and_column_of_several_are_told(self):
+        first = self.good_desk()
+        for statement, wanted in SEVERAL_VALUES:
+            file = self.folder / "value.db"
+            shutil.copyfile(first, file)
+            sqlite.changed(file, statement)
+            self.check_row(statement, file, wanted)
+        file = self.copy("size.db", "UPDATE job SET size = -5")
+        sentence = "table job, row O-1, column size: -5 stands there, wanted is a whole number from 1 to 1000000000000000"
+        self.check("in sentences", self.checked(file).output.decode().splitlines()[-1], sentence)
+
+    def good_desk(self):
+        """Returns a file of the rows of good_desk.sql."""
+        first = self.folder / "good.db"
+        self.desk.run("init", first.name)
+        sqlite.good_desk(first)
+        return first
+
+    def key_of(self, file, table, order, number, unreadable):
+        """Returns the key of the row of this rowid, or its place in the order of the key."""
+        rows = sqlite.rows(file, f"SELECT rowid, {order} FROM {table} ORDER BY {order}")
+        at = [row[0] for row in rows].index(number)
+        return {"place": at + 1} if unreadable else list(rows[at][1:])
+
+    def check_row(self, case, file, wanted):
+        """Checks what is told of the first row of a file that breaks rule 2: so much as is wanted."""
+        broken = self.object(file.name)[1]["desk"]["broken"]
+        self.check(f"{case}: the rule", [it["rule"] for it in broken], [2])
+        row = broken[0]["row"] or {}
+        found = tuple(row.get(it) for it in ("table", "key", "column", "found", "wanted"))
+        self.check(f"{case}: the row", found[:len(wanted)], wanted)
 
     def test_row_of_the_same_number_is_not_told_as_one_whose_moment_falls(self):
         """Gives the two movements of a merge two moments, which breaks no rule; then an event has one that falls."""

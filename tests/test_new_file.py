@@ -89,6 +89,29 @@ class NewFileTestCase(DeskTestCase):
 class Pages(NewFileTestCase):
     """What a new file is, and files that are there."""
 
+    def told_on_a_terminal(self, *words):
+        """Runs the desk with a terminal as its standard error, and returns what that is told."""
+        ours, theirs = os.openpty()
+        with open(theirs, "wb", buffering=0) as terminal:
+            subprocess.run([self.desk.path, *words], cwd=self.folder, stdin=subprocess.DEVNULL, stdout=subprocess.DEVNULL, stderr=terminal, timeout=60)
+        told = b""
+        # A terminal that nobody writes to any more ends with an error.
+        with open(ours, "rb", buffering=0) as terminal, contextlib.suppress(OSError):
+            while part := terminal.read(4096):
+                told += part
+        return told.replace(b"\r\n", b"\n")
+
+    def test_terminal_is_told_which_file_is_made(self):
+        for word, *others in WORDS:
+            self.clear()
+            told = self.told_on_a_terminal(word, "plant.db", *others)
+            self.check_true(f"{word}, told {told}", told.startswith(b"new desk: plant.db\n") if word != "init" else b"new desk" not in told)
+            told = self.told_on_a_terminal(word, "plant.db", *others)
+            self.check_true(f"{word} once more, told {told}", b"new desk" not in told)
+        self.check("a desk in memory", self.told_on_a_terminal("run", ":memory:"), b"")
+        told = self.told_on_a_terminal("run", "no folder/plant.db")
+        self.check_true(f"a folder that isn't there, told {told}", b"new desk" not in told)
+
     def test_each_word_makes_a_file_of_small_pages(self):
         for word, *others in WORDS:
             self.clear()

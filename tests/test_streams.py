@@ -221,7 +221,7 @@ class Outputs(StreamTestCase):
     def test_check_or_picture_whose_output_fails_within_it_tells_it(self):
         self.check_failed_writes("order_check", told=b"order,recipe,version,size,due,priority\n" + b"O-1,R,1,1,2027-03-01,5\n" * 9)
         self.check_failed_writes("order_check", told=b"order\n")
-        self.check_failed_writes("line_check", told=b"x\n" * 9)
+        self.check_failed_writes("line_check", told=b"{}\n" * 9)
         self.check_failed_writes("line_check", told=b'{"ask":"desk"}\n' * 9)
         for words in [], ["--json"]:
             self.check_failed_writes("desk_check", *words, "copy.db", copied="batch")
@@ -236,7 +236,7 @@ class Outputs(StreamTestCase):
         for name, words, told in [
             ("desk", [], b'{"ask":"desk"}\n'),
             ("desk", ["run", "copy.db"], b'{"ask":"lot","lot":"F-1"}\n'),
-            ("line_check", [], b"x\n"),
+            ("line_check", [], b"{}\n"),
         ]:
             (self.folder / "lines").write_bytes(told * MANY_LINES)
             with open(self.folder / "lines", "rb") as lines, self.program(name).start(*words, stdin=lines) as run:

@@ -20,7 +20,7 @@ STORE = (3, b"", b"fault: store\n")
 USAGES = {
     "init": "init <FILE>",
     "run": "run <FILE>",
-    "import": "import [OPTIONS] --at <N> <FILE>",
+    "import": "import [OPTIONS] --at <SECONDS> <FILE>",
     "trace": "trace <FILE> <DIRECTION> <LOT>",
     "record": "record <FILE> <BATCH>",
     "verify": "verify <FILE>",
@@ -197,7 +197,7 @@ class Help(DeskTestCase):
             text = output.decode()
             self.check(f"{word} --help", (status, errors), (0, b""))
             self.check(f"the usage of {word}", re.findall(r"^Usage: (.*)$", text, re.M), [f"{self.desk.path.name} {usage}"])
-            self.check(f"the arguments of {word}", listed(text), re.findall(r"<\w+>", usage.split("--at <N>")[-1]))
+            self.check(f"the arguments of {word}", listed(text), re.findall(r"<\w+>", usage.split("--at <SECONDS>")[-1]))
             [example] = re.findall(r"^Example: desk (.*)$", text, re.M)
             self.check_example(word, *example.split(" < "))
 

@@ -59,8 +59,8 @@ class Session:
         return len({it for it in self.wanted.split(b"\n") if it.startswith(b'{"ok":')})
 
     def status(self):
-        """Returns with which status a run of the session ends: 1 where a line is refused."""
-        return int(any(b'"refused":' in it for it in self.wanted.split(b"\n")))
+        """Returns with which status a run of the session ends: 1 where a line is refused. That a command would be refused is an answer."""
+        return int(any(b'"refused":' in it for it in self.wanted.split(b"\n") if not it.startswith(b'{"accepted":')))
 
     def ended(self):
         """Returns how a run of the session ends."""

@@ -1,7 +1,7 @@
 #!/usr/bin/env python3
-"""Prints docs/READING.md: the definitions that the headline rests on, file by file, each behind those that it builds on.
+"""Prints docs/READING.md: the definitions that the main theorem rests on, crate by crate, each file after those that it builds on.
 
-It begins at the law that is the headline, and follows each definition to those that it names, through the files of definitions of
+It begins at the law that is the main theorem, and follows each definition to those that it names, through the files of definitions of
 this repository. It doesn't follow the relations that are the contracts of the calls: the law supposes them as the calls ensure
 them, and says of them nothing else. It leaves out how columns are read, the fields `read`, which no definition on the list takes.
 Usage: bench/reading_list.py > docs/READING.md, at the root of the repository."""
@@ -10,21 +10,20 @@ import glob
 import re
 
 LAW = ("plant_desk_store.specs.Headline", "Headline")
-CONTRACTS = ["HasAdopted", "HasRefused", "HasExecuted", "HasAsked", "HasRun", "HasVerified", "HasIndexed"]
+CONTRACTS = ["HasAdopted", "HasRefused", "HasExecuted", "HasForetold", "HasAsked", "HasRun", "HasVerified", "HasIndexed"]
 CALLS = "plant_desk_store.specs.Calls"
 
-HEAD = """# What to read to believe the headline
+HEAD = """# What to read to believe the main theorem
 
-The headline is one law, the clause of `headline_law` of plant_desk_store: `Headline`, at the end of the list. Whoever agrees with the
-definitions below and with the premises in [ASSUMPTIONS](ASSUMPTIONS.md) needs to read neither code nor proofs. The files stand
-in the order in which each builds on those before it; lines are those of the definitions with their comments, without imports.
-A file's other definitions are those of other contracts. Made by bench/reading_list.py.
+The main theorem is `Headline`, the clause of `headline_law` of plant_desk_store. Whoever agrees with the definitions below and with the premises in
+[ASSUMPTIONS](ASSUMPTIONS.md) needs to read neither code nor proofs. They are listed crate by crate and file by file of `specs/`, each after those
+that it builds on; lines are those of the definitions with their comments. The other definitions of a file belong to other contracts. The words for a
+store, such as `HasCleanDisk`, `IsDatabase` and `may_leave`, are the kit's (specs of sqlite). Made by bench/reading_list.py.
 
-Not on the list are the relations of plant_desk_store/specs/Calls, `HasAdopted`, `HasRefused`, `HasExecuted`, `HasAsked`, `HasRun`,
-`HasVerified` and `HasIndexed`: the law supposes of each call of a desk one of them, and the call ensures it word for word (`Desk::adopt`,
-`Desk::run`, `Desk::verify`, `Desk::add_indexes`, and `execute_with_outcome` and `ask_with_outcome`, which do nothing but call `execute` and `ask`). How a
-relation takes the store before and after a call, its arguments and its result is read in the clause of that call. Nor is how columns are read again (the fields `read` of `Kind` and `Columns`), which the law
-doesn't speak of.
+Not listed are the relations `HasAdopted`, `HasRefused`, `HasExecuted`, `HasForetold`, `HasAsked`, `HasRun`, `HasVerified` and `HasIndexed` of
+plant_desk_store/specs/Calls: the law supposes them of each call of a desk, and the call ensures them word for word (`Desk::adopt`, `Desk::run`,
+`Desk::verify`, `Desk::add_indexes`, `execute_with_outcome`, `check_with_outcome`, `ask_with_outcome`). Nor is how columns are decoded (the fields `read` of `Kind` and
+`Columns`), of which the law doesn't speak.
 """
 
 
@@ -101,17 +100,19 @@ def main():
         raise SystemExit(f"these take how columns are read: {taken}")
     with open("crates.txt", encoding="utf-8") as it:
         crates = [line.split(":")[0] for line in it if ":" in line and not line.startswith("#")]
-    rows = []
+    rows = {}
     for module in in_order({module for module, _ in found}, files, crates):
         names = [name for of, name in found if of == module]
         lines = sum(files[module].defined[name][1] for name in names)
         crate, _, file = module.split(".", 2)
-        rows.append((f"{crate}/specs/{file.replace('.', '/')}", len(names), len(files[module].defined), lines))
+        rows.setdefault(crate, []).append((file.replace(".", "/"), len(names), len(files[module].defined), lines))
     print(HEAD)
-    print(f"In all {len(found)} definitions in {len(rows)} files, {sum(it[3] for it in rows)} lines.\n")
-    print("| file | definitions | of | lines |\n|---|---|---|---|")
-    for file, names, of, lines in rows:
-        print(f"| {file} | {names} | {of} | {lines} |")
+    total = sum(it[3] for row in rows.values() for it in row)
+    print(f"In all {len(found)} definitions in {sum(map(len, rows.values()))} files, {total} lines.\n")
+    print("| crate | files | definitions, of all in them | lines |\n|---|---|---|---|")
+    for crate, row in rows.items():
+        names, of, lines = (sum(it[at] for it in row) for at in (1, 2, 3))
+        print(f"| {crate} | {', '.join(it[0] for it in row)} | {names} of {of} | {lines} |")
 
 
 main()

@@ -161,8 +161,8 @@ fn add_row(
     Ok(())
 }
 
-/// Every fault of an order file, and the orders among its rows: the first fault is that of [`read_orders`](crate::read_orders), and there is none
-/// exactly where that gives the orders. A file that is longer than 262,144 bytes, and one without the header, has that fault alone; behind the
+/// Every fault of an order file, and the orders among its rows. That the first fault is that of [`read_orders`](crate::read_orders), and that there is
+/// none exactly where that gives the orders, is only tested. A file that is longer than 262,144 bytes, and one without the header, has that fault alone; behind the
 /// 1,000th row no more is looked at than whether there is one.
 ///
 /// The error is want of memory.

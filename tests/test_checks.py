@@ -65,6 +65,7 @@ HINTS = [
     (b'{"ask":"lotts","def":"F"}', b"perhaps lots is meant"),
     (b'{"at":"2027-03-01T08:00:00Z","by":"","do":"settle","batch":"B"}', b"at is a number of seconds since 1970-01-01T00:00:00Z, here 1803888000"),
     (b'{"at":1803888000000,"by":"","do":"settle","batch":"B"}', b"at is a number of seconds since 1970-01-01T00:00:00Z, here 1803888000"),
+    (b'{"at":1803888000000000,"by":"","do":"settle","batch":"B"}', b"at is a number of seconds since 1970-01-01T00:00:00Z"),
     (b'{"at":"2027-03-01","by":"","do":"settle","batch":"B"}', b"at is a number of seconds since 1970-01-01T00:00:00Z"),
     (b"{'ask':'desk'}", b"at byte 2: texts and names stand in double quotes"),
     (b'{"ask":"desk",}', b"at byte 15: nothing follows the comma before it"),
@@ -157,6 +158,15 @@ class OrderCheck(CheckTests, ProgramTestCase):
         told = b"".join(b"csv row %d Priority: priority is not a whole number from 1 to 9; it is 0\n" % it for it in range(1, 1001))
         self.check_tells("a fault in each of a thousand rows", ORDER_HEAD + rows, 1, told)
         self.check_tells("one row more", ORDER_HEAD + rows + b"O\n", 1, told + b"csv row 1001 TooManyRows: the file has more than 1000 orders\n")
+
+    def test_first_fault_is_the_one_of_an_import(self):
+        desk = Program("desk", self.folder)
+        row = b"O-1,CAKE,1,500,2027-03-01,5\n"
+        bad = [b"o,CAKE,1,500,2027-03-01,5\n", b"O-1,,1,500,2027-03-01,5\n", b"O-1,CAKE,1000,0,2027-03-01,5\n", b"O-1,CAKE,1,0,2027-02-29,5\n", b"O-1\n", b"O-1,CAKE,1,500,2027-03-01,10"]
+        for told in [b"", ORDER_HEAD[1:], b"\n" * (LONGEST + 1), ORDER_HEAD + row * 1001, MANY_FAULTS.encode()] + [ORDER_HEAD + row * n + it for n in (0, 2) for it in bad]:
+            first = self.program.run(told=told).output.split(b":")[0]
+            self.check(f"{told[-80:]}", desk.run("import", ":memory:", "--at", "1", told=told).output, first + b"\n")
+        self.check("no fault", desk.run("import", ":memory:", "--at", "1", told=ORDER_HEAD).output, b'{"ok":1}\n')
 
     def test_order_that_stands_twice_conflicts_where_it_differs(self):
         rows = b"O-1,CAKE,1,500,2027-03-01,5\n" * 999

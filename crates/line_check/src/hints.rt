@@ -76,7 +76,7 @@ const QUESTIONS: [&str; 29] = [
 /// Words with more letters are taken for no slip.
 const LONGEST_SLIP: usize = 40;
 
-/// The greatest moment, and the first that is taken for one in milliseconds.
+/// The greatest moment. A greater number is taken for milliseconds where these are a moment.
 const GREATEST_SECONDS: u64 = 253_402_300_799;
 
 /// What is probably meant.
@@ -274,7 +274,8 @@ fn moment_hint(value: &Value) -> Hint {
         return Hint::Seconds;
     };
     if let Some(number) = at.as_u64() {
-        return if number > GREATEST_SECONDS {
+        let is_milliseconds = GREATEST_SECONDS < number && number / 1000 <= GREATEST_SECONDS;
+        return if is_milliseconds {
             Hint::SecondsAre(number / 1000)
         } else {
             Hint::Seconds
